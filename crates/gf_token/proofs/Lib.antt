@@ -1,0 +1,4 @@
+pub mod Steps
+pub mod Spelled
+pub mod Spans
+pub mod Labels

@@ -1,0 +1,18 @@
+-- Indices: counts, and the numbers of players, information sets and outcomes.
+use Rattle.std.specs.Prelude.{◌≡◌, ℕ, ◌<◌, ◌≤◌, ◌^◌, List, length}
+use Rattle.std.specs.Str.Parse.{AllDigits, digits_value}
+use Rattle.gf_token.specs.declared.index.IndexFault.{IndexFault}
+use Rattle.gf_token.specs.declared.index.IndexFault.TheVariants.{NotDigits, TooLarge}
+
+-- digits alone, one at least
+abbrev pub IsDigits : List ℕ → Type 0
+IsDigits bytes = (0 < length bytes) × AllDigits 10 bytes
+
+-- digits of value n, which is at most 4,294,967,295
+abbrev pub IsIndex : List ℕ → ℕ → Type 0
+IsIndex bytes n = IsDigits bytes × (digits_value 10 bytes ≡ n) × (n < 2 ^ 32)
+
+-- why bytes are no index
+abbrev pub IsNoIndex : List ℕ → IndexFault → Type 0
+IsNoIndex bytes NotDigits = ¬ (IsDigits bytes)
+IsNoIndex bytes TooLarge = IsDigits bytes × (2 ^ 32 ≤ digits_value 10 bytes)

@@ -1,0 +1,19 @@
+-- How a label is spelled between its quotes.
+use Rattle.std.specs.Prelude.{◌≡◌, ℕ, Bool, ◌&&◌, ◌||◌, not, List, [], ◌∷◌, ◌++◌, ◌==◌}
+
+-- behind the byte `before`, each `"` directly follows a backslash, and the last byte is no backslash
+abbrev pub is_spelling_after : ℕ → List ℕ → Bool
+is_spelling_after before [] = not (before == 92)
+is_spelling_after before (b ∷ bytes) = (not (b == 34) || before == 92) && is_spelling_after b bytes
+
+-- a label's spelling, behind its opening quote
+abbrev pub is_spelling : List ℕ → Bool
+is_spelling bytes = is_spelling_after 34 bytes
+
+-- the last of the bytes is a backslash
+abbrev pub EndsInBackslash : List ℕ → Type 0
+EndsInBackslash bytes = (front : List ℕ) × (bytes ≡ front ++ 92 ∷ [])
+
+-- each `"` directly follows a backslash
+abbrev pub EscapesQuotes : List ℕ → Type 0
+EscapesQuotes bytes = (front back : List ℕ) → bytes ≡ front ++ 34 ∷ back → EndsInBackslash front

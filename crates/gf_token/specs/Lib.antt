@@ -1,0 +1,10 @@
+pub mod Byte
+pub mod LabelSpelling
+pub mod Token
+pub mod TokenSpelling
+pub mod Index
+pub mod Code
+pub mod Label
+pub mod Cursor
+pub mod Lexing
+pub mod Finding

@@ -1,0 +1,164 @@
+//! The cursor, which finds the tokens of an input one after another.
+
+ghost use Rattle.std.specs.Prelude.{◌≡◌, ◌<◌, ◌≤◌, ◌+◌, [], ◌∷◌, length, slice_range, slice_index, MatchOption, true, false};
+ghost use Rattle.gf_token.specs.Byte.{is_space, is_bare};
+ghost use Rattle.gf_token.specs.Finding.{lexed, ClosesText, Finds};
+ghost use Rattle.gf_token.specs.Token.{lexeme};
+ghost use Rattle.gf_token.specs.Token.Token.{Bare, Broken};
+ghost use Rattle.gf_token.specs.TokenSpelling.{Spells};
+ghost use Rattle.gf_token.specs.Cursor.{Nexts};
+
+use crate::fault::{Fault, Span, Why};
+use crate::label::Label;
+use crate::token::{Kind, Token};
+use std::marker::Model;
+
+/// A place in an input, seen as the tokens that are still to come.
+///
+/// Whitespace has no meaning between tokens (Gambit documentation, "Game representation formats");
+/// it is the bytes 9 to 13 and 32, and other bytes that begin nothing else are those of a bare token
+/// (this project's profile).
+#[derive(Debug, Drop)]
+pub struct Cursor<'a> {
+    input: &'a [u8],
+    at: usize,
+}
+
+impl<'a> Model for Cursor<'a> {
+    ghost use Rattle.std.specs.Prelude.{◌≤◌, List, length};
+    ghost use Rattle.gf_token.specs.Token.{Lexeme};
+    ghost use Rattle.gf_token.specs.Finding.{lexed};
+
+    ghost Value = { List Lexeme };
+
+    ghost view = { λ cursor. lexed cursor.input.now cursor.at };
+
+    ghost invariant = { λ cursor. cursor.at ≤ length cursor.input.now };
+}
+
+fn is_space(byte: u8) -> bool
+    ensures { result ≡ is_space byte }
+{
+    matches!(byte, b'\t'..=b'\r' | b' ')
+}
+
+fn is_bare(byte: u8) -> bool
+    ensures { result ≡ is_bare byte }
+{
+    !matches!(byte, b'\t'..=b'\r' | b' ' | b'"' | b',' | b'{' | b'}')
+}
+
+/// Where the gap ends that begins at `from`.
+#[tactic(auto, using(crate::proofs::Steps::gap_more))]
+fn gap_end(input: &[u8], from: usize) -> usize
+    requires { from ≤ length input.now }
+    ensures within { result ≤ length input.now }
+    ensures same { lexed input.now from ≡ lexed input.now result }
+    ensures ends { result < length input.now → is_space (slice_index input.now result) ≡ false }
+{
+    let mut at = from;
+    while at < input.len() && is_space(input[at]) {
+        at += 1;
+    }
+    at
+}
+
+/// Where the bare token ends that begins at `start`.
+#[tactic(auto, using(crate::proofs::Steps::bare_steps))]
+fn bare_end(input: &[u8], start: usize) -> usize
+    requires within { start < length input.now }
+    requires bare { is_bare (slice_index input.now start) ≡ true }
+    ensures within { (start < result) × (result ≤ length input.now) }
+    ensures found { lexed input.now start
+        ≡ lexeme start result (Bare (slice_range input.now start result))
+        ∷ lexed input.now result }
+{
+    let mut at = start + 1;
+    while at < input.len() && is_bare(input[at]) {
+        at += 1;
+    }
+    at
+}
+
+/// The quote that closes the text which the quote at `start` opens.
+#[tactic(auto, using(crate::proofs::Steps::text_steps))]
+fn closing_quote(input: &[u8], start: usize) -> Option<usize>
+    requires within { start < length input.now }
+    requires quote { slice_index input.now start ≡ 34 }
+    ensures { MatchOption result
+        (lexed input.now start ≡ lexeme start (start + 1) Broken ∷ [])
+        (ClosesText input.now start) }
+{
+    let mut at = start + 1;
+    while at < input.len() {
+        if input[at] == b'"' && input[at - 1] != b'\\' {
+            return Some(at);
+        }
+        at += 1;
+    }
+    None
+}
+
+/// The token that begins at `start`.
+#[tactic(auto, using(crate::proofs::Steps::token_steps))]
+fn token_at(input: &[u8], start: usize) -> Result<Token<'_>, Fault>
+    requires within { start < length input.now }
+    requires no_gap { is_space (slice_index input.now start) ≡ false }
+    ensures { Finds input.entry.now start result }
+{
+    let (end, kind) = match input[start] {
+        b'{' => (start + 1, Kind::Opening),
+        b'}' => (start + 1, Kind::Closing),
+        b',' => (start + 1, Kind::Comma),
+        b'"' => match closing_quote(input, start) {
+            Some(quote) => (
+                quote + 1,
+                Kind::Text(Label::of_spelling(&input[start + 1..quote])),
+            ),
+            None => {
+                let span = Span {
+                    start,
+                    end: start + 1,
+                };
+                return Err(Fault {
+                    span,
+                    why: Why::Unterminated,
+                });
+            }
+        },
+        _ => {
+            let end = bare_end(input, start);
+            (end, Kind::Bare(&input[start..end]))
+        }
+    };
+    Ok(Token {
+        span: Span { start, end },
+        kind,
+    })
+}
+
+impl<'a> Cursor<'a> {
+    /// The cursor before the first token of `input`.
+    pub fn new(input: &'a [u8]) -> Cursor<'a>
+        ensures { Spells 0 input.entry.now result }
+    {
+        Cursor { input, at: 0 }
+    }
+
+    /// The next token, or `None` at the end, also where it is asked for again.
+    ///
+    /// A text that has no end is refused with [`Why::Unterminated`], at its opening quote. The cursor
+    /// then stays before that quote, and refuses it again.
+    #[tactic(auto, using(crate::proofs::Steps::lex_all))]
+    pub fn next(&mut self) -> Result<Option<Token<'a>>, Fault>
+        ensures { Nexts self.old result self.new }
+    {
+        let start = gap_end(self.input, self.at);
+        if start == self.input.len() {
+            return Ok(None);
+        }
+        let token = token_at(self.input, start)?;
+        self.at = token.span.end;
+        Ok(Some(token))
+    }
+}

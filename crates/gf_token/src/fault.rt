@@ -1,0 +1,138 @@
+//! Places in a file, and why a file is refused there.
+
+ghost use Rattle.std.specs.Prelude.{◌≡◌};
+ghost use Rattle.gf_token.specs.Code.{code_of};
+ghost use Rattle.gf_token.specs.declared.fault.Why.TheVariants.{Memory};
+
+use std::alloc::{AllocError, AllocFailed};
+
+/// A part of an input: its first byte, and one past its last. Bytes are counted from 0.
+///
+/// At the end of an input both are its length.
+#[derive(Clone, Copy, Debug, PartialEq, Eq, Hash)]
+pub struct Span {
+    pub start: usize,
+    pub end: usize,
+}
+
+/// What a file may go on with, at a place where it does not.
+#[derive(Clone, Copy, Debug, PartialEq, Eq, Hash)]
+pub enum What {
+    /// The name of the format, `NFG` or `EFG`.
+    Format,
+    /// The version of the format, `1` of `NFG` and `2` of `EFG`.
+    Version,
+    /// The letter `R` or `D`.
+    Letter,
+    /// A text.
+    Text,
+    /// An opening brace.
+    Opening,
+    /// A closing brace.
+    Closing,
+    /// A number.
+    Number,
+    /// A count, or the number of a player, an information set or an outcome.
+    Index,
+    /// The strategies' counts or lists.
+    Strategies,
+    /// The letter of a node, `c`, `p` or `t`.
+    Node,
+    /// The end of the file.
+    End,
+}
+
+/// Why a file is refused, and the place that a [`Fault`] names then (this project's profile).
+#[derive(Clone, Copy, Debug, PartialEq, Eq, Hash)]
+pub enum Why {
+    /// E1: the file is longer than a program reads; at the limit.
+    TooLong,
+    /// E2: a text has no end; at its opening quote, one byte long.
+    Unterminated,
+    /// E3: a token of the wrong kind, or the end; there.
+    Expected(What),
+    /// E4: a bare token in a number's place that spells none; at the token.
+    NotANumber,
+    /// E5: a rational number whose denominator is zero; at the token.
+    ZeroDenominator,
+    /// E6: a number past 128 bits, or with too many digits behind its point; at the token.
+    NumberTooLarge,
+    /// E7: a bare token in an index's place that is none, or is zero where a positive one is asked;
+    /// at the token.
+    BadIndex,
+    /// E8: a player's number above the number of players, at the number; or a personal node where
+    /// there are no players, at its letter.
+    UnknownPlayer,
+    /// E9: the first use of an information set or outcome, with no description; at the token behind
+    /// its number, or the end.
+    NotDescribed,
+    /// E10: a repeated description that differs; at the first token that does.
+    Mismatch,
+    /// E11: a probability below zero; at the number.
+    NegativeProbability,
+    /// E12: the probabilities of an information set so far add to more than one; at the number.
+    SumAboveOne,
+    /// E13: the probabilities of an information set add to less than one; at the closing brace.
+    SumBelowOne,
+    /// E14: the sum of the probabilities so far does not fit 128 bits; at the number.
+    SumOverflow,
+    /// E15: an empty list of actions or of a player's strategies; at the closing brace.
+    NoEntry,
+    /// E16: an outcome's number above the number of outcomes of a strategic file; at the number.
+    UnknownOutcome,
+    /// E18: more profiles than a table may have; at the count, or the closing brace of the labels.
+    TooManyProfiles,
+    /// E19: memory ran out; at the token that was read, or the end.
+    Memory,
+}
+
+impl Why {
+    /// The number that users see behind the `E`: 1 to 16, 18 or 19.
+    pub fn code(&self) -> u8
+        ensures { result ≡ code_of self.now }
+    {
+        match self {
+            Why::TooLong => 1,
+            Why::Unterminated => 2,
+            Why::Expected(_) => 3,
+            Why::NotANumber => 4,
+            Why::ZeroDenominator => 5,
+            Why::NumberTooLarge => 6,
+            Why::BadIndex => 7,
+            Why::UnknownPlayer => 8,
+            Why::NotDescribed => 9,
+            Why::Mismatch => 10,
+            Why::NegativeProbability => 11,
+            Why::SumAboveOne => 12,
+            Why::SumBelowOne => 13,
+            Why::SumOverflow => 14,
+            Why::NoEntry => 15,
+            Why::UnknownOutcome => 16,
+            Why::TooManyProfiles => 18,
+            Why::Memory => 19,
+        }
+    }
+}
+
+impl From<AllocError> for Why {
+    ghost from_gives = { λ _ why. why ≡ Memory };
+
+    fn from(_: AllocError) -> Why {
+        Why::Memory
+    }
+}
+
+impl<T: Drop> From<AllocFailed<T>> for Why {
+    ghost from_gives = { λ _ why. why ≡ Memory };
+
+    fn from(_: AllocFailed<T>) -> Why {
+        Why::Memory
+    }
+}
+
+/// The refusal of a file: the place of the token that is refused, or the end, and why.
+#[derive(Clone, Copy, Debug, PartialEq, Eq, Hash)]
+pub struct Fault {
+    pub span: Span,
+    pub why: Why,
+}

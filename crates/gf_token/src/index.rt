@@ -1,0 +1,39 @@
+//! Indices: counts, and the numbers of players, information sets and outcomes.
+
+ghost use Rattle.std.specs.Prelude.{MatchResult};
+ghost use Rattle.gf_token.specs.Index.{IsIndex, IsNoIndex};
+
+/// Why a text is no index.
+#[derive(Clone, Copy, Debug, PartialEq, Eq, Hash)]
+pub enum IndexFault {
+    /// The text is empty, or has a byte that is no digit.
+    NotDigits,
+    /// The text is digits alone, of a value above 4,294,967,295.
+    TooLarge,
+}
+
+/// The index that `text` spells by digits alone, in base ten; any number of zeros may lead (this
+/// project's profile).
+///
+/// `NotDigits` where the text is empty or has a byte that is no digit, also behind a number that is
+/// too large; `TooLarge` where it is digits alone and their value is above 4,294,967,295.
+pub fn read_index(text: &[u8]) -> Result<u32, IndexFault>
+    ensures { MatchResult result (IsIndex text.now) (IsNoIndex text.now) }
+{
+    if text.is_empty() {
+        return Err(IndexFault::NotDigits);
+    }
+    let mut value: u64 = 0;
+    for byte in text {
+        if !byte.is_ascii_digit() {
+            return Err(IndexFault::NotDigits);
+        }
+        value = value
+            .saturating_mul(10)
+            .saturating_add(u64::from(*byte - b'0'));
+    }
+    match u32::try_from(value) {
+        Ok(index) => Ok(index),
+        Err(_) => Err(IndexFault::TooLarge),
+    }
+}

@@ -1,0 +1,23 @@
+//! Tokens of Gambit's game files: labels, tokens with their spans, indices, and the faults that
+//! name a place in a file.
+//!
+//! The rules are those of the Gambit documentation, "Game representation formats", and where that
+//! text leaves a choice, of this project's profile.
+#![tactic(auto)]
+
+mod cursor;
+mod fault;
+mod index;
+mod label;
+pub mod laws;
+#[cfg(test)]
+mod tests;
+mod token;
+mod write;
+
+pub use cursor::Cursor;
+pub use fault::{Fault, Span, What, Why};
+pub use index::{IndexFault, read_index};
+pub use label::Label;
+pub use token::{Kind, Token};
+pub use write::write_label;
