@@ -1,0 +1,66 @@
+-- How an input is read.
+use Rattle.std.specs.Prelude.{◌≡◌, ℕ, ◌+◌, ◌≤◌, List, length, Option, Result}
+use Rattle.std.specs.Io.KnownBytes.{Consumes, IsAtEnd}
+use Rattle.std.specs.declared.io.Error.{Error}
+use Rattle.gf_token.specs.declared.fault.Fault.{Fault}
+use Rattle.gf_token.specs.declared.fault.Why.TheVariants.{TooLong}
+use Rattle.gamefile.specs.declared.fault.RunFault.{RunFault}
+use Rattle.gamefile.specs.declared.fault.RunFault.TheVariants.{Refused, Read, Write, Memory}
+use Rattle.gamefile.specs.declared.fault.Which.{Which}
+use Rattle.gamefile.specs.Failures.{HasRisen}
+use Rattle.gamefile.specs.Turns.{GivesUp, Moves, MovesInAll}
+
+-- the most bytes that an input has
+abbrev pub limit : ℕ
+limit = 16777216
+
+-- the refusal of an input that has one more
+abbrev pub too_long : Fault
+too_long = record { span = record { start = limit; end = limit }; why = TooLong }
+
+-- of a reader: the bytes that it has left, where it tells them, and what a request gives
+module _ {S : Type 0} (remaining : S → Option (List ℕ)) (gives : S → Result ℕ Error → S → Type 0) where
+  -- these bytes came, in turns
+  pub record IsRead (old new : S) (bytes : List ℕ) : Type 0 where
+    pub consumed : Consumes (remaining old) (remaining new) bytes
+    pub turns : MovesInAll gives (length bytes) old new
+
+  -- these bytes came, no more than the limit, and then the end
+  pub record IsReadWhole (old new : S) (bytes : List ℕ) : Type 0 where
+    pub within : length bytes ≤ limit
+    pub consumed : Consumes (remaining old) (remaining new) bytes
+    pub at_end : IsAtEnd (remaining new)
+    pub mid : S
+    pub turns : MovesInAll gives (length bytes) old mid
+    pub last : Moves gives 0 mid new
+
+  -- no more bytes came than the limit
+  pub record IsReadInPart (old new : S) : Type 0 where
+    pub bytes : List ℕ
+    pub within : length bytes ≤ limit
+    pub read : IsRead old new bytes
+
+  -- one byte more than the limit came, and no other was taken
+  pub record IsTooLong (old new : S) : Type 0 where
+    pub bytes : List ℕ
+    pub one_more : length bytes ≡ limit + 1
+    pub read : IsRead old new bytes
+
+-- of a reader: its count of failures too
+module _ {S : Type 0} (remaining : S → Option (List ℕ)) (count : S → ℕ) (gives : S → Result ℕ Error → S → Type 0) where
+  -- no more bytes came than the limit, and then the reader failed, which was counted
+  pub record IsReadFault (old new : S) : Type 0 where
+    pub bytes : List ℕ
+    pub within : length bytes ≤ limit
+    pub consumed : Consumes (remaining old) (remaining new) bytes
+    pub counted : HasRisen (count old) (count new)
+    pub mid : S
+    pub turns : MovesInAll gives (length bytes) old mid
+    pub last : GivesUp gives mid new
+
+  -- an input could not be read whole: how far it was read, at each fault
+  abbrev pub IsNotRead : Which → RunFault → S → S → Type 0
+  IsNotRead input (Refused which fault) old new = (which ≡ input) × (fault ≡ too_long) × IsTooLong remaining gives old new
+  IsNotRead input (Read which) old new = (which ≡ input) × IsReadFault old new
+  IsNotRead input Write old new = ⊥
+  IsNotRead input Memory old new = IsReadInPart remaining gives old new

@@ -1,0 +1,105 @@
+//! Readers that count their failures, and how an input is read whole.
+
+ghost use Rattle.std.specs.Prelude.{◌≡◌, ℕ, ◌<◌, ◌≤◌, ◌^◌, Result, MatchResult, IfOk, IfErr, ⊤};
+ghost use Rattle.std.specs.Io.{ReadsAtMost};
+ghost use Rattle.std.specs.Io.KnownBytes.{ReadConsumes};
+ghost use Rattle.std.specs.declared.io.Error.{Error};
+ghost use Rattle.gamefile.specs.Failures.{CountsPull, HasRisen};
+ghost use Rattle.gamefile.specs.Input.{IsReadWhole, IsNotRead, too_long};
+ghost use Rattle.gamefile.specs.Turns.{GivesUp, Moves};
+
+use crate::fault::{RunFault, Which};
+use gf_token::{Fault, Span, Why};
+use std::alloc::Global;
+use std::io;
+use std::io::{ErrorKind, Read};
+
+/// The most bytes that an input has.
+pub const LIMIT: usize = 16_777_216;
+
+/// How many bytes are asked for at once.
+const CHUNK: usize = 65_536;
+
+/// How many interruptions in a row end a turn.
+pub const PATIENCE: u32 = 16;
+
+/// A reader that counts the errors that it answers.
+pub trait Source: Read {
+    /// The failures so far, up to `u64::MAX`.
+    ghost count: { Self → ℕ };
+
+    /// Holds of the state before a pull, its answer and the state after.
+    ghost pull_gives: { Self → Result ℕ Error → Self → Type 0 } = { λ _ _ _. ⊤ };
+
+    /// Does what `read` does.
+    fn pull(&mut self, to: &mut [u8]) -> Result<usize, io::Error>
+        ensures bound { ReadsAtMost result to.new }
+        ensures bytes { ReadConsumes (Self.remaining self.old) (Self.remaining self.new) result to.new }
+        ensures given { pull_gives self.old result self.new }
+        ensures counted { CountsPull (count self.old) result (count self.new) };
+
+    /// How many errors `pull` has answered, up to `u64::MAX`.
+    fn failures(&self) -> u64
+        ensures { result ≡ count self.now };
+}
+
+/// A pull that is asked again after an interruption. The sixteenth in a row is a read fault.
+fn pull_again<R: Source>(input: &mut R, to: &mut [u8], which: Which) -> Result<usize, RunFault>
+    ensures bound { ReadsAtMost result to.new }
+    ensures bytes { ReadConsumes (R.remaining input.old) (R.remaining input.new) result to.new }
+    ensures turn { MatchResult result
+        (λ n. Moves R.pull_gives n input.old input.new)
+        (λ fault. (fault ≡ RunFault.Read which) × GivesUp R.pull_gives input.old input.new) }
+    ensures counted { MatchResult result
+        (λ _. R.count input.old ≤ R.count input.new)
+        (λ _. HasRisen (R.count input.old) (R.count input.new)) }
+{
+    for _turn in 0..PATIENCE {
+        match input.pull(to) {
+            Ok(count) => return Ok(count),
+            Err(error) => {
+                if error.kind() != ErrorKind::Interrupted {
+                    return Err(RunFault::Read(which));
+                }
+            }
+        }
+    }
+    Err(RunFault::Read(which))
+}
+
+/// The refusal of an input that has a byte past the limit.
+fn too_long(which: Which) -> RunFault
+    ensures { result ≡ RunFault.Refused which too_long }
+{
+    let span = Span {
+        start: LIMIT,
+        end: LIMIT,
+    };
+    let why = Why::TooLong;
+    RunFault::Refused {
+        which,
+        fault: Fault { span, why },
+    }
+}
+
+/// Reads an input whole. No more than one byte past the limit is taken.
+pub fn load<R: Source>(alloc: Global, input: &mut R, which: Which) -> Result<Vec<u8>, RunFault>
+    ensures whole { IfOk result (λ bytes.
+        IsReadWhole R.remaining R.pull_gives input.old input.new bytes.items) }
+    ensures part { IfErr result (λ fault.
+        IsNotRead R.remaining R.count R.pull_gives which fault input.old input.new) }
+{
+    let mut bytes = Vec::new(alloc);
+    let mut buffer = [0; CHUNK];
+    loop {
+        let room = (LIMIT - bytes.len() + 1).min(CHUNK);
+        let count = pull_again(input, &mut buffer[..room], which)?;
+        if count == 0 {
+            return Ok(bytes);
+        }
+        if LIMIT - bytes.len() < count {
+            return Err(too_long(which));
+        }
+        bytes.extend_from_slice(&buffer[..count])?;
+    }
+}

@@ -1,0 +1,203 @@
+//! Runs with readers and writers that answer in pieces, are interrupted or fail.
+
+use crate::counted::Counted;
+use crate::fault::{RunFault, Which, WriteFault, status, write_fault};
+use crate::run::run_canon;
+use crate::sink::Sink;
+use crate::source::{LIMIT, Source};
+use gf_token::{Fault, Span, What, Why};
+use script::{
+    ALL, INTERRUPTED, ScriptReader, ScriptWriter, Spaces, Step, interrupted_steps, steps,
+};
+use std::alloc::{AllocError, Global};
+use std::io::ErrorKind;
+use std::test::Fail;
+
+mod script;
+
+const INPUT: &[u8] = b"NFG 1 R \"\" { } { }";
+
+const OUTPUT: &[u8] = b"NFG 1 R \"\" { }\n{ }\n\"\"\n\n\n";
+
+/// What a run answered, what it wrote, and how many failures its reader and its writer counted.
+#[derive(Drop)]
+struct Outcome {
+    answer: Result<(), RunFault>,
+    output: Vec<u8>,
+    read_failures: u64,
+    write_failures: u64,
+}
+
+/// A run of `INPUT`.
+fn run(alloc: Global, reads: &[Step], writes: &[Step]) -> Outcome {
+    let mut input = Counted::new(ScriptReader {
+        steps: reads,
+        text: INPUT,
+    });
+    let mut writer = ScriptWriter {
+        steps: writes,
+        taken: Vec::new(alloc),
+    };
+    let mut output = Counted::new(&mut writer);
+    let answer = run_canon(alloc, &mut input, &mut output);
+    let read_failures = Source::failures(&input);
+    let write_failures = Sink::failures(&output);
+    Outcome {
+        answer,
+        output: writer.taken,
+        read_failures,
+        write_failures,
+    }
+}
+
+#[test]
+fn goes_on_after_short_and_interrupted_answers(rt: HostRuntime) -> Result<(), Fail> {
+    let alloc = rt.alloc();
+    // One more read finds the end.
+    let reads = interrupted_steps(alloc, INPUT.len() + 1)?;
+    let writes = interrupted_steps(alloc, OUTPUT.len())?;
+    let rows = [
+        (&[ALL][..], &[ALL][..], 0, 0),
+        (&[Step::Move(1)][..], &[Step::Move(1)][..], 0, 0),
+        (reads.as_slice(), writes.as_slice(), 15 * 19, 15 * 24),
+    ];
+    for (reads, writes, read_failures, write_failures) in rows {
+        let run = run(alloc, reads, writes);
+        assert_eq!(rt; run.answer, Ok(()));
+        assert_eq!(rt; run.output.as_slice(), OUTPUT);
+        assert_eq!(rt; run.read_failures, read_failures);
+        assert_eq!(rt; run.write_failures, write_failures);
+    }
+    Ok(())
+}
+
+#[test]
+fn stops_where_the_reader_fails(rt: HostRuntime) -> Result<(), Fail> {
+    let alloc = rt.alloc();
+    let broken = Step::Fail(ErrorKind::ConnectionReset);
+    for before in 0..=INPUT.len() {
+        let rows = [
+            (steps(alloc, before, Step::Move(1), broken)?, 1),
+            (steps(alloc, before, Step::Move(1), INTERRUPTED)?, 16),
+        ];
+        for (reads, failures) in &rows {
+            let run = run(alloc, reads.as_slice(), &[ALL]);
+            assert_eq!(rt;
+                run.answer,
+                Err(RunFault::Read(Which::Only)),
+                "after {before}"
+            );
+            assert_eq!(rt; run.read_failures, *failures, "after {before}");
+            assert!(rt; run.output.is_empty(), "after {before}");
+        }
+    }
+    Ok(())
+}
+
+#[test]
+fn stops_where_the_writer_fails(rt: HostRuntime) -> Result<(), Fail> {
+    let alloc = rt.alloc();
+    let broken = Step::Fail(ErrorKind::StorageFull);
+    for before in 0..OUTPUT.len() {
+        let rows = [
+            (steps(alloc, before, Step::Move(1), broken)?, 1),
+            (steps(alloc, before, Step::Move(1), Step::Move(0))?, 1),
+            (steps(alloc, before, Step::Move(1), INTERRUPTED)?, 16),
+        ];
+        for (writes, failures) in &rows {
+            let run = run(alloc, &[ALL], writes.as_slice());
+            assert_eq!(rt; run.answer, Err(RunFault::Write), "after {before}");
+            assert_eq!(rt; run.write_failures, *failures, "after {before}");
+            assert_eq!(rt; run.output.as_slice(), &OUTPUT[..before]);
+        }
+    }
+    Ok(())
+}
+
+fn refused(which: Which, start: usize, end: usize, why: Why) -> RunFault {
+    let span = Span { start, end };
+    RunFault::Refused {
+        which,
+        fault: Fault { span, why },
+    }
+}
+
+#[test]
+fn refuses_what_is_too_long(rt: HostRuntime) -> Result<(), Fail> {
+    let alloc = rt.alloc();
+    let no_format = Why::Expected(What::Format);
+    let too_long = refused(Which::Only, LIMIT, LIMIT, Why::TooLong);
+    let rows = [
+        (0, refused(Which::Only, 0, 0, no_format), 0),
+        (LIMIT, refused(Which::Only, LIMIT, LIMIT, no_format), 0),
+        (LIMIT + 1, too_long, 0),
+        (usize::MAX, too_long, usize::MAX - LIMIT - 1),
+    ];
+    for (count, fault, left) in rows {
+        let mut spaces = Spaces { left: count };
+        let mut output = Vec::new(alloc);
+        let answer = run_canon(
+            alloc,
+            &mut Counted::new(&mut spaces),
+            &mut Counted::new(&mut output),
+        );
+        assert_eq!(rt; answer, Err(fault), "{count} spaces");
+        assert_eq!(rt; spaces.left, left, "{count} spaces");
+        assert!(rt; output.is_empty(), "{count} spaces");
+    }
+    Ok(())
+}
+
+/// The line that is written of a fault.
+fn line(alloc: Global, fault: &RunFault) -> Result<Vec<u8>, WriteFault> {
+    let mut line = Vec::new(alloc);
+    write_fault(fault, &mut Counted::new(&mut line))?;
+    Ok(line)
+}
+
+#[test]
+fn tells_each_fault(rt: HostRuntime) -> Result<(), Fail> {
+    let alloc = rt.alloc();
+    let most = usize::MAX;
+    let rows = [
+        (
+            refused(Which::Only, 41, 44, Why::SumAboveOne),
+            "E12 at 41..44\n",
+            2,
+        ),
+        (
+            refused(Which::First, LIMIT, LIMIT, Why::TooLong),
+            "A: E1 at 16777216..16777216\n",
+            2,
+        ),
+        (
+            refused(Which::Second, 0, 3, Why::Expected(What::Format)),
+            "B: E3 at 0..3\n",
+            2,
+        ),
+        (refused(Which::Only, 7, 7, Why::Memory), "E19 at 7..7\n", 5),
+        (
+            refused(Which::First, most, most, Why::TooManyProfiles),
+            "A: E18 at 18446744073709551615..18446744073709551615\n",
+            2,
+        ),
+        (RunFault::Read(Which::Only), "E20\n", 4),
+        (RunFault::Read(Which::First), "A: E20\n", 4),
+        (RunFault::Read(Which::Second), "B: E20\n", 4),
+        (RunFault::Write, "E21\n", 4),
+        (RunFault::Memory, "E19\n", 5),
+    ];
+    for (fault, text, number) in rows {
+        assert_eq!(rt; line(alloc, &fault)?.as_slice(), text.as_bytes());
+        assert_eq!(rt; status(&fault), number, "{text}");
+    }
+
+    let mut writer = ScriptWriter {
+        steps: &[Step::Move(1), Step::Move(1), Step::Move(0)],
+        taken: Vec::new(alloc),
+    };
+    let answer = write_fault(&RunFault::Write, &mut Counted::new(&mut writer));
+    assert_eq!(rt; answer, Err(WriteFault));
+    assert_eq!(rt; writer.taken.as_slice(), b"E2".as_slice());
+    Ok(())
+}
