@@ -4,7 +4,7 @@ use Rattle.std.specs.Prelude.{decimal}
 use Rattle.std.specs.List.{AllByRecursion, flat_map}
 use Rattle.std.proofs.Math.Nat.{mul-suc}
 use Rattle.gf_token.specs.Token.{Token}
-use Rattle.gamefile.specs.Number.{Number}
+use Rattle.gf_fraction.specs.Ratio.{Ratio}
 use Rattle.gamefile.specs.Profiles.{numbers_from, positions, profiles, product}
 use Rattle.gamefile.specs.Table.{IsTable, rows}
 use Rattle.gamefile.specs.Machine.{Content}
@@ -45,17 +45,17 @@ length-profiles [] = refl
 length-profiles (n ∷ counts) =
     length-flat_map-map (positions n) (profiles counts) ∙ rw (length-numbers_from, length-profiles counts) refl
 
-length-rows_of : (size n : ℕ) (numbers : List Number) → length (rows_of size n numbers) ≡ n
+length-rows_of : (size n : ℕ) (numbers : List Ratio) → length (rows_of size n numbers) ≡ n
 length-rows_of size zero numbers = refl
 length-rows_of size (suc n) numbers = ap suc (length-rows_of size n (drop size numbers))
 
-profiles-entries_of : (ps : List (List ℕ)) (rs : List (List Number)) → length ps ≡ length rs → map (λ e. e.profile) (entries_of ps rs) ≡ ps
+profiles-entries_of : (ps : List (List ℕ)) (rs : List (List Ratio)) → length ps ≡ length rs → map (λ e. e.profile) (entries_of ps rs) ≡ ps
 profiles-entries_of [] [] h = refl
 profiles-entries_of [] (r ∷ rs) h = refl
 profiles-entries_of (p ∷ ps) [] h = absurd (omega arith)
 profiles-entries_of (p ∷ ps) (r ∷ rs) h = ap (λ qs. p ∷ qs) (profiles-entries_of ps rs (omega arith))
 
-payoffs-entries_of : (ps : List (List ℕ)) (rs : List (List Number)) → length ps ≡ length rs → map (λ e. e.payoffs) (entries_of ps rs) ≡ rs
+payoffs-entries_of : (ps : List (List ℕ)) (rs : List (List Ratio)) → length ps ≡ length rs → map (λ e. e.payoffs) (entries_of ps rs) ≡ rs
 payoffs-entries_of [] [] h = refl
 payoffs-entries_of [] (r ∷ rs) h = absurd (omega arith)
 payoffs-entries_of (p ∷ ps) [] h = absurd (omega arith)
@@ -65,7 +65,7 @@ all_labelled : (counts : List ℕ) → AllByRecursion (λ n. 0 < n) counts → A
 all_labelled [] h = tt
 all_labelled (n ∷ counts) h = (rw length-counted_labels h.0, all_labelled counts h.1)
 
-rows_full : (size n : ℕ) (numbers : List Number) → length numbers ≡ size * n → AllByRecursion (λ row. length row ≡ size) (rows_of size n numbers)
+rows_full : (size n : ℕ) (numbers : List Ratio) → length numbers ≡ size * n → AllByRecursion (λ row. length row ≡ size) (rows_of size n numbers)
 rows_full size zero numbers h = tt
 rows_full size (suc n) numbers h =
     (omega (arith, h, length-take size numbers, mul-suc size n), rows_full size n (drop size numbers) (omega (arith, h, length-drop size numbers, mul-suc size n)))
@@ -85,14 +85,14 @@ is_table c h = record {
 }
 
 -- payoffs in turn are rows in turn
-record Split (tokens : List Token) (size : ℕ) (numbers : List Number) : Type 0 where
+record Split (tokens : List Token) (size : ℕ) (numbers : List Ratio) : Type 0 where
   first : List Token
   others : List Token
   parts : tokens ≡ first ++ others
   row : Each IsPayoff first (take size numbers)
   rest : Each IsPayoff others (drop size numbers)
 
-split : (size : ℕ) (numbers : List Number) (tokens : List Token) → Each IsPayoff tokens numbers → Split tokens size numbers
+split : (size : ℕ) (numbers : List Ratio) (tokens : List Token) → Each IsPayoff tokens numbers → Split tokens size numbers
 split zero numbers tokens h = record { first = []; others = tokens; parts = refl; row = refl; rest = h }
 split (suc size) [] tokens h = record { first = []; others = tokens; parts = refl; row = refl; rest = h }
 split (suc size) (n ∷ numbers) tokens h =
@@ -105,7 +105,7 @@ split (suc size) (n ∷ numbers) tokens h =
       rest = s.rest;
     }
 
-pub rows_each : (size n : ℕ) (numbers : List Number) (tokens : List Token) → length numbers ≡ size * n → Each IsPayoff tokens numbers → Each (Each IsPayoff) tokens (rows_of size n numbers)
+pub rows_each : (size n : ℕ) (numbers : List Ratio) (tokens : List Token) → length numbers ≡ size * n → Each IsPayoff tokens numbers → Each (Each IsPayoff) tokens (rows_of size n numbers)
 rows_each size zero [] tokens e h = h
 rows_each size zero (x ∷ numbers) tokens e h = absurd (omega arith)
 rows_each size (suc n) numbers tokens e h =

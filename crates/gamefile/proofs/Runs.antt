@@ -13,8 +13,10 @@ use Rattle.gf_token.specs.declared.fault.What.TheVariants as what
 use Rattle.gf_token.specs.declared.fault.Why.{Why}
 use Rattle.gf_token.specs.declared.fault.Why.TheVariants.{Expected}
 use Rattle.gamefile.specs.declared.strategic.reader.Position.TheVariants as p
-use Rattle.gamefile.specs.Number.{Number}
-use Rattle.gamefile.specs.Readings.{count_of, number_of}
+use Rattle.gf_fraction.specs.Ratio.{Ratio}
+use Rattle.gf_fraction.specs.Computed.{number_of}
+use Rattle.gf_fraction.specs.declared.fraction.NumberFault.{NumberFault}
+use Rattle.gamefile.specs.Readings.{count_of}
 use Rattle.gamefile.specs.Profiles.{product}
 use Rattle.gamefile.specs.Sentence.{Each, IsCount, IsPayoff, Sentence, braced}
 use Rattle.gamefile.specs.Machine.{State, Content, content, at, run, start, counted, paid, with_count, with_payoff, at_strategies_end, ◌>>=◌}
@@ -68,7 +70,7 @@ only_letter (Bare b ∷ rest) due c r e =
     (b, rest, refl, either_letter b (pointwise nat_eq b (codes "R")) (pointwise nat_eq b (codes "D")) refl refl h.0, h.1)
 only_letter _ due c r e = absurd cc
 
-only_title : (ts : List Token) (due : ℕ) (title : List ℕ) (players : List (List ℕ)) (counts : List ℕ) (profiles : ℕ) (payoffs : List Number) (r : Content)
+only_title : (ts : List Token) (due : ℕ) (title : List ℕ) (players : List (List ℕ)) (counts : List ℕ) (profiles : ℕ) (payoffs : List Ratio) (r : Content)
     → run (at p.Title due (content title players counts profiles payoffs)) ts ≡ Ok r
     → (label : List ℕ) × (rest : List Token) × (ts ≡ Text label ∷ rest) × (run (at p.BeforePlayers due (content label players counts profiles payoffs)) rest ≡ Ok r)
 only_title (Text label ∷ rest) due title players counts profiles payoffs r e = (label, rest, refl, e)
@@ -80,7 +82,7 @@ only_before_players (Opening ∷ rest) due c r e = (rest, refl, e)
 only_before_players _ due c r e = absurd cc
 
 -- Text* Closing
-players_found : (ts : List Token) (due : ℕ) (title : List ℕ) (players : List (List ℕ)) (counts : List ℕ) (profiles : ℕ) (payoffs : List Number) (r : Content)
+players_found : (ts : List Token) (due : ℕ) (title : List ℕ) (players : List (List ℕ)) (counts : List ℕ) (profiles : ℕ) (payoffs : List Ratio) (r : Content)
     → run (at p.InPlayers due (content title players counts profiles payoffs)) ts ≡ Ok r
     → (labels : List (List ℕ)) × (rest : List Token) × (ts ≡ map Text labels ++ Closing ∷ rest)
     × (run (at p.BeforeStrategies (length (players ++ labels)) (content title (players ++ labels) counts profiles payoffs)) rest ≡ Ok r)
@@ -102,17 +104,17 @@ counted_found s (Some n) ts r e = (n, refl, e)
 counted_found s None ts r e = absurd cc
 
 -- a payoff that was read
-paid_found : (s : State) (o : Result Number Why) (ts : List Token) (r : Content) → (paid s o >>= λ after. run after ts) ≡ Ok r
-    → (n : Number) × (o ≡ Ok n) × (run (at p.Payoffs (s.due - 1) (with_payoff s.content n)) ts ≡ Ok r)
+paid_found : (s : State) (o : Result Ratio NumberFault) (ts : List Token) (r : Content) → (paid s o >>= λ after. run after ts) ≡ Ok r
+    → (n : Ratio) × (o ≡ Ok n) × (run (at p.Payoffs (s.due - 1) (with_payoff s.content n)) ts ≡ Ok r)
 paid_found s (Ok n) ts r e = (n, refl, e)
-paid_found s (Err why) ts r e = absurd cc
+paid_found s (Err fault) ts r e = absurd cc
 
 -- the end of the strategies
 end_found : (s : State) (ts : List Token) (r : Content) → (at_strategies_end s Closing >>= λ after. run after ts) ≡ Ok r → run (at p.Payoffs (length s.content.players * s.content.profiles) s.content) ts ≡ Ok r
 end_found s ts r e = e
 
 -- what the counts still due and the closing brace read
-record Counts (ts : List Token) (due : ℕ) (title : List ℕ) (players : List (List ℕ)) (counts : List ℕ) (profiles : ℕ) (payoffs : List Number) (r : Content) : Type 0 where
+record Counts (ts : List Token) (due : ℕ) (title : List ℕ) (players : List (List ℕ)) (counts : List ℕ) (profiles : ℕ) (payoffs : List Ratio) (r : Content) : Type 0 where
   inner : List Token
   rest : List Token
   more : List ℕ
@@ -122,13 +124,13 @@ record Counts (ts : List Token) (due : ℕ) (title : List ℕ) (players : List (
   positive : AllByRecursion (λ n. 0 < n) more
   goes_on : run (at p.Payoffs (length players * (profiles * product more)) (content title players (counts ++ more) (profiles * product more) payoffs)) rest ≡ Ok r
 
-counts_end : (ts : List Token) (title : List ℕ) (players : List (List ℕ)) (counts : List ℕ) (profiles : ℕ) (payoffs : List Number) (r : Content)
+counts_end : (ts : List Token) (title : List ℕ) (players : List (List ℕ)) (counts : List ℕ) (profiles : ℕ) (payoffs : List Ratio) (r : Content)
     → run (at p.Payoffs (length players * profiles) (content title players counts profiles payoffs)) ts ≡ Ok r
     → Counts (Closing ∷ ts) 0 title players counts profiles payoffs r
 counts_end ts title players counts profiles payoffs r e =
     record { inner = []; rest = ts; more = []; parts = refl; each = refl; count = refl; positive = tt; goes_on = rw (mul-one, append-nil) e }
 
-count_more : (b : List ℕ) (n : ℕ) (ts : List Token) (due : ℕ) (title : List ℕ) (players : List (List ℕ)) (counts : List ℕ) (profiles : ℕ) (payoffs : List Number) (r : Content)
+count_more : (b : List ℕ) (n : ℕ) (ts : List Token) (due : ℕ) (title : List ℕ) (players : List (List ℕ)) (counts : List ℕ) (profiles : ℕ) (payoffs : List Ratio) (r : Content)
     → count_of b ≡ Some n → Counts ts due title players (counts ++ n ∷ []) (profiles * n) payoffs r → Counts (Bare b ∷ ts) (suc due) title players counts profiles payoffs r
 count_more b n ts due title players counts profiles payoffs r e h =
     let k = count_is b n e in
@@ -143,7 +145,7 @@ count_more b n ts due title players counts profiles payoffs r e h =
       goes_on = rw (append_assoc, mul_assoc) at h.goes_on;
     }
 
-counts_found : (ts : List Token) (due : ℕ) (title : List ℕ) (players : List (List ℕ)) (counts : List ℕ) (profiles : ℕ) (payoffs : List Number) (r : Content)
+counts_found : (ts : List Token) (due : ℕ) (title : List ℕ) (players : List (List ℕ)) (counts : List ℕ) (profiles : ℕ) (payoffs : List Ratio) (r : Content)
     → run (at p.Counts due (content title players counts profiles payoffs)) ts ≡ Ok r → Counts ts due title players counts profiles payoffs r
 counts_found [] zero title players counts profiles payoffs r e = absurd cc
 counts_found [] (suc due) title players counts profiles payoffs r e = let f = rw not_zero at e in absurd cc
@@ -157,7 +159,7 @@ counts_found (_ ∷ ts) zero title players counts profiles payoffs r e = absurd 
 counts_found (_ ∷ ts) (suc due) title players counts profiles payoffs r e = let f = rw not_zero at e in absurd cc
 
 -- the first of them, where a list might begin as well
-strategies_found : (ts : List Token) (due : ℕ) (title : List ℕ) (players : List (List ℕ)) (counts : List ℕ) (profiles : ℕ) (payoffs : List Number) (r : Content)
+strategies_found : (ts : List Token) (due : ℕ) (title : List ℕ) (players : List (List ℕ)) (counts : List ℕ) (profiles : ℕ) (payoffs : List Ratio) (r : Content)
     → run (at p.FirstStrategies due (content title players counts profiles payoffs)) ts ≡ Ok r → Counts ts due title players counts profiles payoffs r
 strategies_found [] zero title players counts profiles payoffs r e = absurd cc
 strategies_found [] (suc due) title players counts profiles payoffs r e = let f = rw not_zero at e in absurd cc
@@ -171,9 +173,9 @@ strategies_found (_ ∷ ts) zero title players counts profiles payoffs r e = abs
 strategies_found (_ ∷ ts) (suc due) title players counts profiles payoffs r e = let f = rw not_zero at e in absurd cc
 
 -- number^due
-payoffs_found : (ts : List Token) (due : ℕ) (title : List ℕ) (players : List (List ℕ)) (counts : List ℕ) (profiles : ℕ) (payoffs : List Number) (r : Content)
+payoffs_found : (ts : List Token) (due : ℕ) (title : List ℕ) (players : List (List ℕ)) (counts : List ℕ) (profiles : ℕ) (payoffs : List Ratio) (r : Content)
     → run (at p.Payoffs due (content title players counts profiles payoffs)) ts ≡ Ok r
-    → (numbers : List Number) × Each IsPayoff ts numbers × (length numbers ≡ due) × (r ≡ content title players counts profiles (payoffs ++ numbers))
+    → (numbers : List Ratio) × Each IsPayoff ts numbers × (length numbers ≡ due) × (r ≡ content title players counts profiles (payoffs ++ numbers))
 payoffs_found [] zero title players counts profiles payoffs r e =
     ([], refl, refl, sym (ok_is _ r e) ∙ ap (content title players counts profiles) (sym (append-nil payoffs)))
 payoffs_found [] (suc due) title players counts profiles payoffs r e = let f = rw not_zero at e in absurd cc
@@ -201,7 +203,7 @@ pub record Read (ts : List Token) (r : Content) : Type 0 where
   pub sentence : Sentence ts (table_of r)
   pub complete : IsComplete r
 
-read_of : (ts : List Token) (letter title : List ℕ) (players : List (List ℕ)) (inner rest : List Token) (counts : List ℕ) (numbers : List Number)
+read_of : (ts : List Token) (letter title : List ℕ) (players : List (List ℕ)) (inner rest : List Token) (counts : List ℕ) (numbers : List Ratio)
     → ts ≡ Bare (codes "NFG") ∷ Bare (codes "1") ∷ Bare letter ∷ Text title ∷ (braced (map Text players) ++ (braced inner ++ ([] ++ rest)))
     → (letter ≡ codes "R") ⊎ (letter ≡ codes "D") → Each IsCount inner (map counted_labels counts) → Each IsPayoff rest numbers
     → (complete : IsComplete (content title players counts (1 * product counts) numbers)) → Read ts (content title players counts (1 * product counts) numbers)

@@ -7,7 +7,8 @@ use Rattle.gf_token.specs.declared.label.Label.{Label}
 use Rattle.gf_token.specs.Label.{label_of}
 use Rattle.gf_token.specs.Token.{spelling}
 use Rattle.gf_token.specs.Token.Token.{Text}
-use Rattle.gamefile.specs.Number.{Number, number_text}
+use Rattle.gf_fraction.specs.Ratio.{Ratio}
+use Rattle.gf_fraction.specs.NumberText.{number_text}
 use Rattle.gamefile.specs.Profiles.{numbers_from}
 use Rattle.gamefile.specs.CanonicalText.{list_text, quoted, spaced, lines_text, table_text}
 use Rattle.gamefile.specs.Machine.{Content}
@@ -67,24 +68,24 @@ strategies_more counts i h = at_drop_more strategies_rest counts i 0 h
 pub strategies_all : (counts : List ℕ) (i : ℕ) → length counts ≤ i → strategies_rest (drop i counts) ≡ codes "}"
 strategies_all counts i h = at_drop_all strategies_rest counts i h
 
-abbrev pub payoffs_rest : List Number → List ℕ
+abbrev pub payoffs_rest : List Ratio → List ℕ
 payoffs_rest payoffs = others_text (map number_text payoffs)
 
-pub others_more : (payoffs : List Number) (i : ℕ) (d : Number) → i < length payoffs → payoffs_rest (drop i payoffs) ≡ 32 ∷ (number_text (get_or payoffs i d) ++ payoffs_rest (drop (i + 1) payoffs))
+pub others_more : (payoffs : List Ratio) (i : ℕ) (d : Ratio) → i < length payoffs → payoffs_rest (drop i payoffs) ≡ 32 ∷ (number_text (get_or payoffs i d) ++ payoffs_rest (drop (i + 1) payoffs))
 others_more payoffs i d h = at_drop_more payoffs_rest payoffs i d h
 
-pub others_all : (payoffs : List Number) (i : ℕ) → length payoffs ≤ i → payoffs_rest (drop i payoffs) ≡ []
+pub others_all : (payoffs : List Ratio) (i : ℕ) → length payoffs ≤ i → payoffs_rest (drop i payoffs) ≡ []
 others_all payoffs i h = at_drop_all payoffs_rest payoffs i h
 
 -- the lines of so many rows
-abbrev pub rows_text : ℕ → ℕ → List Number → List ℕ
+abbrev pub rows_text : ℕ → ℕ → List Ratio → List ℕ
 rows_text players n payoffs = lines_text (map (λ row. spaced (map number_text row)) (rows_of players n payoffs))
 
-pub rows_more : (players n profiles : ℕ) (payoffs : List Number) → n < profiles → rows_text players (profiles - n) payoffs ≡ (spaced (map number_text (take players payoffs)) ++ 10 ∷ []) ++ rows_text players (profiles - (n + 1)) (drop players payoffs)
+pub rows_more : (players n profiles : ℕ) (payoffs : List Ratio) → n < profiles → rows_text players (profiles - n) payoffs ≡ (spaced (map number_text (take players payoffs)) ++ 10 ∷ []) ++ rows_text players (profiles - (n + 1)) (drop players payoffs)
 rows_more players n profiles payoffs h =
     let e : profiles - n ≡ suc (profiles - (n + 1)) = omega (arith, h) in rw e refl
 
-pub rows_all : (players profiles : ℕ) (payoffs : List Number) → rows_text players (profiles - profiles) payoffs ≡ []
+pub rows_all : (players profiles : ℕ) (payoffs : List Ratio) → rows_text players (profiles - profiles) payoffs ≡ []
 rows_all players profiles payoffs = let e : profiles - profiles ≡ 0 = omega arith in rw e refl
 
 pub labels_closed : (labels : List Label) (old opened out : List ℕ) (i : ℕ) → opened ≡ old ++ codes "{ " → length labels ≤ i
@@ -112,7 +113,7 @@ counted_appended out out1 out2 out3 total before count h e1 e2 e3 f =
     let m : (((out ++ 34 ∷ []) ++ a) ++ 34 ∷ 32 ∷ []) ++ r ≡ ((out ++ 34 ∷ []) ++ a) ++ (34 ∷ 32 ∷ r) = append_assoc ((out ++ 34 ∷ []) ++ a) (34 ∷ 32 ∷ []) r in
     rw (e3, e2, e1) (m ∙ k ∙ ap (λ (bs : List ℕ). out ++ bs) (sym (counted_more before count h)) ∙ f)
 
-pub rows_appended : (out out1 out2 total : List ℕ) (players done profiles : ℕ) (others : List Number) → done < profiles → out1 ≡ out ++ spaced (map number_text (take players others)) → out2 ≡ out1 ++ 10 ∷ []
+pub rows_appended : (out out1 out2 total : List ℕ) (players done profiles : ℕ) (others : List Ratio) → done < profiles → out1 ≡ out ++ spaced (map number_text (take players others)) → out2 ≡ out1 ++ 10 ∷ []
     → out ++ rows_text players (profiles - done) others ≡ total → out2 ++ rows_text players (profiles - (done + 1)) (drop players others) ≡ total
 rows_appended out out1 out2 total players done profiles others h e1 e2 f =
     let row = spaced (map number_text (take players others)) in
@@ -128,7 +129,7 @@ drop_least n xs =
       | inr le ↦ let e : min n (length xs) ≡ length xs = omega (arith, le) in ap (λ k. drop k xs) e ∙ drop_all (length xs) xs (omega arith) ∙ sym (drop_all n xs le)
     ]
 
-pub row_written : (payoffs others : List Number) (first : Number) (old out1 out2 : List ℕ) → payoffs ≡ first ∷ others → out1 ≡ old ++ number_text first → out2 ≡ out1 ++ others_text (map number_text others) → out2 ≡ old ++ spaced (map number_text payoffs)
+pub row_written : (payoffs others : List Ratio) (first : Ratio) (old out1 out2 : List ℕ) → payoffs ≡ first ∷ others → out1 ≡ old ++ number_text first → out2 ≡ out1 ++ others_text (map number_text others) → out2 ≡ old ++ spaced (map number_text payoffs)
 row_written payoffs others first old out1 out2 e f g =
     rw (g, f, e) (append_assoc old (number_text first) (others_text (map number_text others)) ∙ ap (λ (bs : List ℕ). old ++ bs) (sym (spaced_is (number_text first) (map number_text others))))
 
@@ -148,8 +149,8 @@ pub text_joined : (c : Content) (a0 a1 a2 a3 a4 a5 a6 a7 : List ℕ) → IsCompl
 text_joined c a0 a1 a2 a3 a4 a5 a6 a7 h e0 e1 e2 e3 e4 e5 e6 e7 =
     let players = list_text (map quoted c.players) in
     let strategies = list_text (map (λ n. list_text (map quoted (counted_labels n))) c.counts) in
-    let line : List Number → List ℕ = λ row. spaced (map number_text row) in
+    let line : List Ratio → List ℕ = λ row. spaced (map number_text row) in
     let all = lines_joined c.title players strategies (map line (rows_of (length c.players) c.profiles c.payoffs)) in
     rw (e7, e6, e5, e4, e3, e2, e1, e0) (sym all
     ∙ ap (λ (s : List (List ℕ)). lines_text (spaced (codes "NFG" ∷ codes "1" ∷ codes "R" ∷ quoted c.title ∷ players ∷ []) ∷ list_text s ∷ quoted [] ∷ [] ∷ map line (rows_of (length c.players) c.profiles c.payoffs))) (sym (same_strategies c.counts))
-    ∙ ap (λ (rs : List (List Number)). lines_text (spaced (codes "NFG" ∷ codes "1" ∷ codes "R" ∷ quoted c.title ∷ players ∷ []) ∷ list_text (map (λ labels. list_text (map quoted labels)) (map counted_labels c.counts)) ∷ quoted [] ∷ [] ∷ map line rs)) (sym (rows-table_of c h)))
+    ∙ ap (λ (rs : List (List Ratio)). lines_text (spaced (codes "NFG" ∷ codes "1" ∷ codes "R" ∷ quoted c.title ∷ players ∷ []) ∷ list_text (map (λ labels. list_text (map quoted labels)) (map counted_labels c.counts)) ∷ quoted [] ∷ [] ∷ map line rs)) (sym (rows-table_of c h)))

@@ -5,7 +5,7 @@ use Rattle.gf_token.specs.Token.{Lexeme}
 use Rattle.gf_token.specs.declared.fault.Fault.{Fault}
 use Rattle.gf_token.specs.declared.fault.Why.TheVariants.{TooLong}
 use Rattle.gf_token.specs.TokenSpelling.{Spells}
-use Rattle.gamefile.specs.Number.{number_text}
+use Rattle.gf_fraction.specs.NumberText.{number_text}
 use Rattle.gamefile.specs.Table.{Table, rows}
 use Rattle.gamefile.specs.Sentence.{Sentence}
 

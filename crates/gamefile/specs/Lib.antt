@@ -4,7 +4,6 @@ pub mod Failures
 pub mod Input
 pub mod Machine
 pub mod Meaning
-pub mod Number
 pub mod Output
 pub mod Profiles
 pub mod ReaderState

@@ -7,8 +7,11 @@ use Rattle.gf_token.specs.declared.fault.What.{What}
 use Rattle.gf_token.specs.declared.fault.What.TheVariants as what
 use Rattle.gf_token.specs.declared.fault.Why.{Why}
 use Rattle.gf_token.specs.declared.fault.Why.TheVariants.{Expected, BadIndex, Memory, TooManyProfiles, TooLong}
-use Rattle.gamefile.specs.Number.{Number}
-use Rattle.gamefile.specs.Readings.{count_of, number_of}
+use Rattle.gf_fraction.specs.Ratio.{Ratio}
+use Rattle.gf_fraction.specs.Computed.{number_of}
+use Rattle.gf_fraction.specs.declared.fraction.NumberFault.{NumberFault}
+use Rattle.gf_token.specs.NumberWhy.{why_of}
+use Rattle.gamefile.specs.Readings.{count_of}
 use Rattle.gamefile.specs.declared.strategic.reader.Position.{Position}
 use Rattle.gamefile.specs.declared.strategic.reader.Position.TheVariants as p
 
@@ -18,7 +21,7 @@ pub record Content : Type 0 where
   pub players : List (List ℕ)
   pub counts : List ℕ
   pub profiles : ℕ
-  pub payoffs : List Number
+  pub payoffs : List Ratio
 
 -- where the reader stands, how many counts or payoffs are still due, and what was read
 pub record State : Type 0 where
@@ -26,7 +29,7 @@ pub record State : Type 0 where
   pub due : ℕ
   pub content : Content
 
-abbrev pub content : List ℕ → List (List ℕ) → List ℕ → ℕ → List Number → Content
+abbrev pub content : List ℕ → List (List ℕ) → List ℕ → ℕ → List Ratio → Content
 content title players counts profiles payoffs = record { title = title; players = players; counts = counts; profiles = profiles; payoffs = payoffs }
 
 abbrev pub at : Position → ℕ → Content → State
@@ -94,12 +97,12 @@ at_first_strategies s t = if s.due == 0 then at_strategies_end s t else at_count
 abbrev pub at_counts : State → Token → Result State Why
 at_counts s t = if s.due == 0 then at_strategies_end s t else at_count what.Index s t
 
-abbrev pub with_payoff : Content → Number → Content
+abbrev pub with_payoff : Content → Ratio → Content
 with_payoff c n = content c.title c.players c.counts c.profiles (c.payoffs ++ n ∷ [])
 
 -- a payoff was due, and bytes stood there
-abbrev pub paid : State → Result Number Why → Result State Why
-paid s (Err why) = Err why
+abbrev pub paid : State → Result Ratio NumberFault → Result State Why
+paid s (Err fault) = Err (why_of fault)
 paid s (Ok n) = Ok (at p.Payoffs (s.due - 1) (with_payoff s.content n))
 
 abbrev pub at_payoff : State → Token → Result State Why

@@ -1,18 +1,18 @@
 -- The table that what was read means.
 use Rattle.std.specs.Prelude.{◌≡◌, ℕ, zero, suc, ◌*◌, ◌<◌, List, [], ◌∷◌, ◌++◌, length, map, take, drop, decimal}
 use Rattle.std.specs.List.{AllByRecursion}
-use Rattle.gamefile.specs.Number.{Number}
+use Rattle.gf_fraction.specs.Ratio.{Ratio}
 use Rattle.gamefile.specs.Profiles.{positions, profiles, product}
 use Rattle.gamefile.specs.Table.{Entry, Table}
 use Rattle.gamefile.specs.Machine.{Content}
 
 -- so many rows of this length, from the numbers in turn
-abbrev pub rows_of : ℕ → ℕ → List Number → List (List Number)
+abbrev pub rows_of : ℕ → ℕ → List Ratio → List (List Ratio)
 rows_of size zero numbers = []
 rows_of size (suc n) numbers = take size numbers ∷ rows_of size n (drop size numbers)
 
 -- a row at each profile
-abbrev pub entries_of : List (List ℕ) → List (List Number) → List Entry
+abbrev pub entries_of : List (List ℕ) → List (List Ratio) → List Entry
 entries_of (p ∷ ps) (row ∷ rows) = record { profile = p; payoffs = row } ∷ entries_of ps rows
 entries_of _ _ = []
 

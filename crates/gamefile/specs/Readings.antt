@@ -3,9 +3,6 @@ use Rattle.std.specs.Prelude.{ℕ, zero, suc, ◌^◌, Bool, false, ◌&&◌, �
 use Rattle.std.specs.List.{list_all}
 use Rattle.std.specs.Char.{is_ascii_digit}
 use Rattle.std.specs.Str.Parse.{digits_value}
-use Rattle.gf_token.specs.declared.fault.Why.{Why}
-use Rattle.gf_token.specs.declared.fault.Why.TheVariants.{NotANumber, NumberTooLarge}
-use Rattle.gamefile.specs.Number.{Number, signed}
 
 -- digits alone, one at least
 abbrev pub is_numeral : List ℕ → Bool
@@ -18,18 +15,3 @@ positive (suc n) = Some (suc n)
 -- the count that the bytes stand for, if they are a positive index
 unfoldable pub count_of : List ℕ → Option ℕ
 count_of bytes = if is_numeral bytes then (if nat_lt (digits_value 10 bytes) (2 ^ 32) then positive (digits_value 10 bytes) else None) else None
-
-abbrev pub is_negative : List ℕ → Bool
-is_negative [] = false
-is_negative (c ∷ cs) = c == 45
-
-abbrev pub after_sign : List ℕ → List ℕ
-after_sign [] = []
-after_sign (c ∷ cs) = if (c == 43) || (c == 45) then cs else c ∷ cs
-
--- the number that the bytes spell, or why they spell none
-unfoldable pub number_of : List ℕ → Result Number Why
-number_of bytes =
-    if is_numeral (after_sign bytes)
-    then (if nat_lt (digits_value 10 (after_sign bytes)) (2 ^ 127) then Ok (signed (is_negative bytes) (digits_value 10 (after_sign bytes))) else Err NumberTooLarge)
-    else Err NotANumber

@@ -22,8 +22,8 @@ pub record Refuses (read : List ℕ → Type 0) (fault : Fault) : Type 0 where
   pub input : read bytes
   pub refused : IsRefusal bytes fault
 
--- of a reader: the bytes that it has left, where it tells them, its count of failures, and what a request gives
-module _ {S : Type 0} (remaining : S → Option (List ℕ)) (count : S → ℕ) (gives : S → Result ℕ Error → S → Type 0) where
+-- of a reader: the bytes that it has left, where it tells them, its count of failures, and what a pull gives
+module _ {S : Type 0} (remaining : S → Option (List ℕ)) (count : S → ℕ) (gives : S → List ℕ → Result ℕ Error → S → Type 0) where
   -- a run had no answer: how far it read its input, at each fault
   abbrev pub ReadsUntil : Which → RunFault → S → S → Type 0
   ReadsUntil input (Refused which fault) old new = (which ≡ input)

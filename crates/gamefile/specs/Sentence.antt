@@ -1,9 +1,10 @@
 -- Which lists of tokens are strategic files, and the table that each of them means.
-use Rattle.std.specs.Prelude.{◌≡◌, ℕ, zero, suc, ◌⊎◌, List, [], ◌∷◌, ◌++◌, length, map, codes, decimal, Some, slice_get, replicate}
+use Rattle.std.specs.Prelude.{◌≡◌, ℕ, zero, suc, ◌⊎◌, List, [], ◌∷◌, ◌++◌, length, map, codes, decimal, Some, slice_get, replicate, pos}
 use Rattle.gf_token.specs.Token.{Token}
 use Rattle.gf_token.specs.Token.Token.{Opening, Closing, Comma, Text, Bare}
 use Rattle.gf_token.specs.Index.{IsIndex}
-use Rattle.gamefile.specs.Number.{Number, IsNumber, zero_payoff}
+use Rattle.gf_fraction.specs.Ratio.{Ratio, whole}
+use Rattle.gf_fraction.specs.NumberSpelling.{IsNumber}
 use Rattle.gamefile.specs.Profiles.{positions}
 use Rattle.gamefile.specs.Table.{Table, IsTable, rows}
 
@@ -33,37 +34,37 @@ abbrev pub IsComment : List Token → List ℕ → Type 0
 IsComment tokens comment = ((tokens ≡ []) × (comment ≡ [])) ⊎ (tokens ≡ Text comment ∷ [])
 
 -- a number by itself
-abbrev pub IsPayoff : List Token → Number → Type 0
+abbrev pub IsPayoff : List Token → Ratio → Type 0
 IsPayoff tokens number = (bytes : List ℕ) × (tokens ≡ Bare bytes ∷ []) × IsNumber bytes number
 
 -- a number in braces: one comma may follow it
-abbrev pub IsPayoffInBraces : List Token → Number → Type 0
+abbrev pub IsPayoffInBraces : List Token → Ratio → Type 0
 IsPayoffInBraces tokens number =
     (bytes : List ℕ) × (comma : List Token) × (tokens ≡ Bare bytes ∷ comma) × IsNumber bytes number × ((comma ≡ []) ⊎ (comma ≡ Comma ∷ []))
 
 -- Opening Text payoffs Closing
-abbrev pub IsOutcome : ℕ → List Token → List Number → Type 0
+abbrev pub IsOutcome : ℕ → List Token → List Ratio → Type 0
 IsOutcome players tokens payoffs =
     (name : List ℕ) × (inner : List Token) × (tokens ≡ braced (Text name ∷ inner)) × Each IsPayoffInBraces inner payoffs × (length payoffs ≡ players)
 
 -- what outcome number k pays: outcomes are numbered from 1 in their order, and 0, the null outcome, pays every player zero
-abbrev pub Pays : ℕ → List (List Number) → ℕ → List Number → Type 0
-Pays players outcomes zero payoffs = payoffs ≡ replicate players zero_payoff
+abbrev pub Pays : ℕ → List (List Ratio) → ℕ → List Ratio → Type 0
+Pays players outcomes zero payoffs = payoffs ≡ replicate players (whole (pos 0))
 Pays players outcomes (suc k) payoffs = slice_get outcomes k ≡ Some payoffs
 
 -- an outcome's number
-abbrev pub IsOutcomeNumber : ℕ → List (List Number) → List Token → List Number → Type 0
+abbrev pub IsOutcomeNumber : ℕ → List (List Ratio) → List Token → List Ratio → Type 0
 IsOutcomeNumber players outcomes tokens payoffs = (bytes : List ℕ) × (k : ℕ) × (tokens ≡ Bare bytes ∷ []) × IsIndex bytes k × Pays players outcomes k payoffs
 
 -- the body of the payoff version: the payoffs at each profile in turn
-abbrev pub IsPayoffBody : List Token → List (List Number) → Type 0
+abbrev pub IsPayoffBody : List Token → List (List Ratio) → Type 0
 IsPayoffBody tokens rows = Each (Each IsPayoff) tokens rows
 
 -- the body of the outcome version: the outcomes in braces, and the number of one for each profile in turn
-pub record IsOutcomeBody (players : ℕ) (tokens : List Token) (rows : List (List Number)) : Type 0 where
+pub record IsOutcomeBody (players : ℕ) (tokens : List Token) (rows : List (List Ratio)) : Type 0 where
   pub list : List Token
   pub numbers : List Token
-  pub outcomes : List (List Number)
+  pub outcomes : List (List Ratio)
   pub parts : tokens ≡ braced list ++ numbers
   pub listed : Each (IsOutcome players) list outcomes
   pub chosen : Each (IsOutcomeNumber players outcomes) numbers rows

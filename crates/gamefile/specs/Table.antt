@@ -1,13 +1,13 @@
 -- The table that a strategic file means.
 use Rattle.std.specs.Prelude.{◌≡◌, ℕ, ◌<◌, List, length, map}
 use Rattle.std.specs.List.{AllByRecursion}
-use Rattle.gamefile.specs.Number.{Number}
+use Rattle.gf_fraction.specs.Ratio.{Ratio}
 use Rattle.gamefile.specs.Profiles.{profiles}
 
 -- what each player is paid at a profile
 pub record Entry : Type 0 where
   pub profile : List ℕ
-  pub payoffs : List Number
+  pub payoffs : List Ratio
 
 -- Labels are lists of bytes. `entries` is the finite map from profiles to payoffs.
 pub record Table : Type 0 where
@@ -17,7 +17,7 @@ pub record Table : Type 0 where
   pub strategies : List (List (List ℕ))
   pub entries : List Entry
 
-abbrev pub rows : Table → List (List Number)
+abbrev pub rows : Table → List (List Ratio)
 rows t = map (λ e. e.payoffs) t.entries
 
 -- each player has a nonempty list of strategies, each profile one entry, and each entry one payoff for each player

@@ -1,11 +1,11 @@
 //! Writers that count their failures, and how an output is written whole.
 
-ghost use Rattle.std.specs.Prelude.{◌≡◌, ℕ, ◌<◌, ◌≤◌, length, Result, MatchResult, OnOk, OnErr, ⊤};
+ghost use Rattle.std.specs.Prelude.{◌≡◌, ℕ, ◌<◌, ◌≤◌, List, Result, MatchResult, OnOk, OnErr, ⊤};
 ghost use Rattle.std.specs.Io.{WritesAtMost};
 ghost use Rattle.std.specs.Io.KnownBytes.{WriteAppends};
 ghost use Rattle.std.specs.declared.io.Error.{Error};
 ghost use Rattle.gamefile.specs.Failures.{CountsPush, HasRisen};
-ghost use Rattle.gamefile.specs.Output.{IsWriteFault, IsWritten, Stops};
+ghost use Rattle.gamefile.specs.Output.{IsOffer, IsWriteFault, IsWritten, Stops};
 ghost use Rattle.gamefile.specs.Turns.{Moves};
 
 use crate::fault::WriteFault;
@@ -18,14 +18,14 @@ pub trait Sink: Write {
     /// The failures so far, up to `u64::MAX`.
     ghost count: { Self → ℕ };
 
-    /// Holds of the state before a push, its answer and the state after.
-    ghost push_gives: { Self → Result ℕ Error → Self → Type 0 } = { λ _ _ _. ⊤ };
+    /// Holds of the state before a push, the bytes that it offers, its answer and the state after.
+    ghost push_gives: { Self → List ℕ → Result ℕ Error → Self → Type 0 } = { λ _ _ _ _. ⊤ };
 
     /// Does what `write` does.
     fn push(&mut self, from: &[u8]) -> Result<usize, io::Error>
         ensures bound { WritesAtMost result from.now }
         ensures bytes { WriteAppends (Self.contents self.old) (Self.contents self.new) result from.now }
-        ensures given { push_gives self.old result self.new }
+        ensures given { push_gives self.old from.now result self.new }
         ensures counted { CountsPush (count self.old) result (count self.new) };
 
     /// How many errors `push` has answered, and how many pushes took nothing, up to `u64::MAX`.
@@ -39,8 +39,8 @@ fn push_again<W: Sink>(output: &mut W, from: &[u8]) -> Result<usize, WriteFault>
     ensures bound { WritesAtMost result from.now }
     ensures bytes { WriteAppends (W.contents output.old) (W.contents output.new) result from.now }
     ensures turn { MatchResult result
-        (λ n. (0 < n) × Moves W.push_gives n output.old output.new)
-        (λ _. Stops W.push_gives output.old output.new) }
+        (λ n. (0 < n) × Moves W.push_gives (IsOffer from.now) from.now n output.old output.new)
+        (λ _. Stops W.push_gives (IsOffer from.now) output.old output.new) }
     ensures counted { MatchResult result
         (λ _. W.count output.old ≤ W.count output.new)
         (λ _. HasRisen (W.count output.old) (W.count output.new)) }
@@ -66,9 +66,10 @@ pub fn push_all<W: Sink>(output: &mut W, text: &[u8]) -> Result<(), WriteFault>
     ensures part { OnErr result
         (IsWriteFault W.contents W.count W.push_gives output.old output.new text.now) }
 {
-    let mut done = 0;
-    while done < text.len() {
-        done += push_again(output, &text[done..])?;
+    let mut rest = text;
+    while !rest.is_empty() {
+        let count = push_again(output, rest)?;
+        rest = &rest[count..];
     }
     Ok(())
 }

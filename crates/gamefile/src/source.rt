@@ -1,11 +1,11 @@
 //! Readers that count their failures, and how an input is read whole.
 
-ghost use Rattle.std.specs.Prelude.{◌≡◌, ℕ, ◌<◌, ◌≤◌, ◌^◌, Result, MatchResult, IfOk, IfErr, ⊤};
+ghost use Rattle.std.specs.Prelude.{◌≡◌, ℕ, ◌≤◌, List, length, Result, MatchResult, IfOk, IfErr, ⊤};
 ghost use Rattle.std.specs.Io.{ReadsAtMost};
 ghost use Rattle.std.specs.Io.KnownBytes.{ReadConsumes};
 ghost use Rattle.std.specs.declared.io.Error.{Error};
 ghost use Rattle.gamefile.specs.Failures.{CountsPull, HasRisen};
-ghost use Rattle.gamefile.specs.Input.{IsReadWhole, IsNotRead, too_long};
+ghost use Rattle.gamefile.specs.Input.{HasLength, IsNotRead, IsReadWhole, too_long};
 ghost use Rattle.gamefile.specs.Turns.{GivesUp, Moves};
 
 use crate::fault::{RunFault, Which};
@@ -28,14 +28,14 @@ pub trait Source: Read {
     /// The failures so far, up to `u64::MAX`.
     ghost count: { Self → ℕ };
 
-    /// Holds of the state before a pull, its answer and the state after.
-    ghost pull_gives: { Self → Result ℕ Error → Self → Type 0 } = { λ _ _ _. ⊤ };
+    /// Holds of the state before a pull, its buffer as it leaves it, its answer and the state after.
+    ghost pull_gives: { Self → List ℕ → Result ℕ Error → Self → Type 0 } = { λ _ _ _ _. ⊤ };
 
     /// Does what `read` does.
     fn pull(&mut self, to: &mut [u8]) -> Result<usize, io::Error>
         ensures bound { ReadsAtMost result to.new }
         ensures bytes { ReadConsumes (Self.remaining self.old) (Self.remaining self.new) result to.new }
-        ensures given { pull_gives self.old result self.new }
+        ensures given { pull_gives self.old to.new result self.new }
         ensures counted { CountsPull (count self.old) result (count self.new) };
 
     /// How many errors `pull` has answered, up to `u64::MAX`.
@@ -48,8 +48,9 @@ fn pull_again<R: Source>(input: &mut R, to: &mut [u8], which: Which) -> Result<u
     ensures bound { ReadsAtMost result to.new }
     ensures bytes { ReadConsumes (R.remaining input.old) (R.remaining input.new) result to.new }
     ensures turn { MatchResult result
-        (λ n. Moves R.pull_gives n input.old input.new)
-        (λ fault. (fault ≡ RunFault.Read which) × GivesUp R.pull_gives input.old input.new) }
+        (λ n. Moves R.pull_gives (HasLength (length to.old)) to.new n input.old input.new)
+        (λ fault. (fault ≡ RunFault.Read which)
+        × GivesUp R.pull_gives (HasLength (length to.old)) input.old input.new) }
     ensures counted { MatchResult result
         (λ _. R.count input.old ≤ R.count input.new)
         (λ _. HasRisen (R.count input.old) (R.count input.new)) }

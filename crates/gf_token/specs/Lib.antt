@@ -8,3 +8,4 @@ pub mod Label
 pub mod Cursor
 pub mod Lexing
 pub mod Finding
+pub mod NumberWhy

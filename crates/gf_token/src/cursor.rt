@@ -8,6 +8,7 @@ ghost use Rattle.gf_token.specs.Token.Token.{Bare, Broken};
 ghost use Rattle.gf_token.specs.TokenSpelling.{Spells};
 ghost use Rattle.gf_token.specs.Cursor.{Nexts};
 
+use crate::byte::{is_bare, is_space};
 use crate::fault::{Fault, Span, Why};
 use crate::label::Label;
 use crate::token::{Kind, Token};
@@ -34,18 +35,6 @@ impl<'a> Model for Cursor<'a> {
     ghost view = { λ cursor. lexed cursor.input.now cursor.at };
 
     ghost invariant = { λ cursor. cursor.at ≤ length cursor.input.now };
-}
-
-fn is_space(byte: u8) -> bool
-    ensures { result ≡ is_space byte }
-{
-    matches!(byte, b'\t'..=b'\r' | b' ')
-}
-
-fn is_bare(byte: u8) -> bool
-    ensures { result ≡ is_bare byte }
-{
-    !matches!(byte, b'\t'..=b'\r' | b' ' | b'"' | b',' | b'{' | b'}')
 }
 
 /// Where the gap ends that begins at `from`.

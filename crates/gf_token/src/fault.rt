@@ -2,8 +2,10 @@
 
 ghost use Rattle.std.specs.Prelude.{◌≡◌};
 ghost use Rattle.gf_token.specs.Code.{code_of};
+ghost use Rattle.gf_token.specs.NumberWhy.{why_of};
 ghost use Rattle.gf_token.specs.declared.fault.Why.TheVariants.{Memory};
 
+use gf_fraction::NumberFault;
 use std::alloc::{AllocError, AllocFailed};
 
 /// A part of an input: its first byte, and one past its last. Bytes are counted from 0.
@@ -110,6 +112,19 @@ impl Why {
             Why::UnknownOutcome => 16,
             Why::TooManyProfiles => 18,
             Why::Memory => 19,
+        }
+    }
+}
+
+/// A text in a number's place that spells none is refused for the same cause.
+impl From<NumberFault> for Why {
+    ghost from_gives = { λ fault why. why ≡ why_of fault };
+
+    fn from(fault: NumberFault) -> Why {
+        match fault {
+            NumberFault::NotANumber => Why::NotANumber,
+            NumberFault::ZeroDenominator => Why::ZeroDenominator,
+            NumberFault::TooLarge => Why::NumberTooLarge,
         }
     }
 }

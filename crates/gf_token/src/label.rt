@@ -3,10 +3,11 @@
 ghost use Rattle.std.specs.Prelude.{◌≡◌, ◌↔◌, IsTrue, IsSome, IfSome};
 ghost use Rattle.gf_token.specs.LabelSpelling.{is_spelling, is_spelling_after};
 
-/// A label as a file spells it, between its quotes: each `"` directly follows a backslash, and the
-/// last byte is no backslash. Labels are equal where their bytes are.
+/// A label as a file spells it, between its quotes. Labels are equal where their bytes are.
 ///
-/// The bytes are of any kind, also such as are no UTF-8 (this project's profile).
+/// A quotation mark in a label is written `\"` (Gambit documentation, "Game representation
+/// formats"). A backslash before any other byte stands for itself, a label does not end in one, and
+/// its bytes need not be UTF-8 (this project's profile).
 #[derive(Clone, Copy, Debug, PartialEq, Eq, Hash)]
 pub struct Label<'a> {
     raw: &'a [u8],

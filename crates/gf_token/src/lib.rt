@@ -5,6 +5,7 @@
 //! text leaves a choice, of this project's profile.
 #![tactic(auto)]
 
+mod byte;
 mod cursor;
 mod fault;
 mod index;

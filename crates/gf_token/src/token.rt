@@ -14,11 +14,12 @@ pub enum Kind<'a> {
     Comma,
     /// A label between quotes.
     Text(Label<'a>),
-    /// As many bytes as follow one another and are neither whitespace nor `{`, `}`, `,` or `"`.
+    /// A longest run of bytes that are neither whitespace nor `{`, `}`, `,` or `"` (this project's
+    /// profile).
     Bare(&'a [u8]),
 }
 
-/// A token, and the bytes that spell it, a text's quotes among them.
+/// A token, and where the bytes stand that spell it; a text's quotes are among them.
 #[derive(Clone, Copy, Debug, PartialEq, Eq)]
 pub struct Token<'a> {
     pub span: Span,

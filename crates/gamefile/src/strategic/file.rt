@@ -3,6 +3,7 @@
 ghost use Rattle.std.specs.Prelude.{◌≡◌, []};
 ghost use Rattle.gamefile.specs.Machine.{content};
 
+use gf_fraction::Fraction;
 use gf_token::Label;
 use std::alloc::Global;
 
@@ -16,7 +17,7 @@ pub struct StrategicFile<'a> {
     /// The product of the counts.
     pub profiles: u32,
     /// The payoffs at each profile in turn, the first player's strategy fastest.
-    pub payoffs: Vec<i128>,
+    pub payoffs: Vec<Fraction>,
 }
 
 impl<'a> StrategicFile<'a> {

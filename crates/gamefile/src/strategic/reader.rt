@@ -3,16 +3,17 @@
 //! Each variant of `Position` is a row of the table of positions in docs/FORMATS.md.
 
 ghost use Rattle.std.specs.Prelude.{◌≡◌, ◌≢◌, ◌<◌, ◌≤◌, IfOk, IfErr};
+ghost use Rattle.gf_fraction.specs.Computed.{number_of};
 ghost use Rattle.gf_token.specs.Cursor.{token_of};
 ghost use Rattle.gf_token.specs.declared.fault.Why.TheVariants.{TooLong};
-ghost use Rattle.gamefile.specs.Readings.{count_of, number_of};
+ghost use Rattle.gamefile.specs.Readings.{count_of};
 ghost use Rattle.gamefile.specs.Machine.{Steps, Finishes, Fails, at_format, at_version, at_letter, at_title, at_before_players, at_players, at_before_strategies, at_strategies_end, at_count, at_first_strategies, at_counts, at_payoff, at_payoffs, counted, paid, step, start, finish};
 ghost use Rattle.gamefile.specs.ReaderState.{answer_of, content_of, state_of};
 ghost use Rattle.gamefile.specs.CanonicalText.{SpellsTable};
 ghost use Rattle.gamefile.specs.Meaning.{IsComplete, table_of};
 
 use crate::strategic::file::StrategicFile;
-use crate::strategic::number::{read_count, read_number};
+use crate::strategic::number::{read_count, read_payoff};
 use gf_token::{Cursor, Fault, Kind, Span, What, Why};
 use std::alloc::Global;
 
@@ -216,15 +217,11 @@ impl<'a> Reader<'a> {
         requires { 0 < self.old.due }
         ensures { Steps (paid (state_of self.old) (number_of text.entry.now)) result (state_of self.new) }
     {
-        match read_number(text) {
-            Ok(number) => {
-                self.file.payoffs.push(number)?;
-                self.due -= 1;
-                self.position = Position::Payoffs;
-                Ok(())
-            }
-            Err(why) => Err(why),
-        }
+        let payoff = read_payoff(text)?;
+        self.file.payoffs.push(payoff)?;
+        self.due -= 1;
+        self.position = Position::Payoffs;
+        Ok(())
     }
 
     fn at_payoffs(&mut self, kind: Kind<'a>) -> Result<(), Why>

@@ -6,7 +6,7 @@ use std::test::Fail;
 
 #[test]
 fn writes_canonical_texts(rt: HostRuntime) -> Result<(), Fail> {
-    let rows: [(&[u8], &[u8]); 7] = [
+    let rows: [(&[u8], &[u8]); 8] = [
         (
             b"NFG 1 R \"Selten\" { \"Player 1\" \"Player 2\" } { 3 2 } 1 1 0 2 0 2 1 1 0 3 2 0",
             b"NFG 1 R \"Selten\" { \"Player 1\" \"Player 2\" }\n{ { \"1\" \"2\" \"3\" } { \"1\" \"2\" } }\n\"\"\n\n1 1\n0 2\n0 2\n1 1\n0 3\n2 0\n",
@@ -30,6 +30,10 @@ fn writes_canonical_texts(rt: HostRuntime) -> Result<(), Fail> {
         (
             b"NFG 1 R \"z\" { \"A\" } { 2 } -0 +3",
             b"NFG 1 R \"z\" { \"A\" }\n{ { \"1\" \"2\" } }\n\"\"\n\n0\n3\n",
+        ),
+        (
+            b"NFG 1 R \"f\" { \"A\" } { 2 } 0.5 -6/4",
+            b"NFG 1 R \"f\" { \"A\" }\n{ { \"1\" \"2\" } }\n\"\"\n\n1/2\n-3/2\n",
         ),
         (
             b"NFG 1 R \"z\" { \"A\" } { 1 } -170141183460469231731687303715884105727",
@@ -118,10 +122,10 @@ fn refuses_at_the_first_offending_token(rt: HostRuntime) -> Result<(), Fail> {
         ),
         (b"NFG 1 R \"z\" { \"A\" } { 1 } x", 26, 27, Why::NotANumber),
         (
-            b"NFG 1 R \"z\" { \"A\" } { 1 } 1/2",
+            b"NFG 1 R \"z\" { \"A\" } { 1 } 1/0",
             26,
             29,
-            Why::NotANumber,
+            Why::ZeroDenominator,
         ),
         (b"NFG 1 R \"z\" { \"A\" } { 1 } -", 26, 27, Why::NotANumber),
         (

@@ -2,12 +2,13 @@
 
 ghost use Rattle.std.specs.Prelude.{◌≡◌, ◌++◌, ◌+◌, map, length, codes, decimal, IfOk, OnOk};
 ghost use Rattle.gf_token.specs.Label.{label_of};
-ghost use Rattle.gamefile.specs.Number.{number_text};
+ghost use Rattle.gf_fraction.specs.NumberText.{number_text};
 ghost use Rattle.gamefile.specs.CanonicalText.{list_text, quoted, spaced, lines_text, table_text};
 ghost use Rattle.gamefile.specs.Meaning.{IsComplete, counted_labels, others_text, rows_of, table_of};
 ghost use Rattle.gamefile.specs.ReaderState.{content_of, labels_of};
 
 use crate::strategic::file::StrategicFile;
+use gf_fraction::Fraction;
 use gf_token::{Label, write_label};
 use itoa::Buffer;
 use std::alloc::{AllocError, Global};
@@ -56,34 +57,26 @@ fn write_strategies(counts: &[u32], out: &mut Vec<u8>) -> Result<(), AllocError>
     Ok(())
 }
 
-fn write_number(number: &i128, out: &mut Vec<u8>) -> Result<(), AllocError>
-    ensures { OnOk result (out.new.items ≡ out.old.items ++ number_text number.now) }
-{
-    let mut buffer = Buffer::new();
-    out.extend_from_slice(buffer.format(*number).as_bytes())?;
-    Ok(())
-}
-
 /// Appends payoffs, each behind a space.
 #[tactic(auto, using(crate::proofs::Texts::others_more))]
-fn write_others(payoffs: &[i128], out: &mut Vec<u8>) -> Result<(), AllocError>
+fn write_others(payoffs: &[Fraction], out: &mut Vec<u8>) -> Result<(), AllocError>
     ensures { OnOk result (out.new.items ≡ out.old.items ++ others_text (map number_text payoffs.now)) }
 {
     for payoff in payoffs {
         out.push(b' ')?;
-        write_number(payoff, out)?;
+        payoff.write(out)?;
     }
     Ok(())
 }
 
 /// Appends the payoffs at one profile, with a space between any two.
-fn write_row(payoffs: &[i128], out: &mut Vec<u8>) -> Result<(), AllocError>
+fn write_row(payoffs: &[Fraction], out: &mut Vec<u8>) -> Result<(), AllocError>
     ensures { OnOk result (out.new.items ≡ out.old.items ++ spaced (map number_text payoffs.now)) }
 {
     match payoffs.split_first() {
         None => Ok(()),
         Some((first, others)) => {
-            write_number(first, out)?;
+            first.write(out)?;
             write_others(others, out)?;
             Ok(())
         }
@@ -95,7 +88,7 @@ fn write_row(payoffs: &[i128], out: &mut Vec<u8>) -> Result<(), AllocError>
 fn write_rows(
     players: usize,
     profiles: u32,
-    payoffs: &[i128],
+    payoffs: &[Fraction],
     out: &mut Vec<u8>,
 ) -> Result<(), AllocError>
     ensures { OnOk result (out.new.items ≡ out.old.items ++ lines_text (map (λ row. spaced (map number_text row)) (rows_of players profiles payoffs.now))) }

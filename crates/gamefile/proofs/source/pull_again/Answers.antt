@@ -6,7 +6,7 @@ use Rattle.gamefile.proofs.source.pull_again.Goals as goal
 pub loop-turn-init : goal.loop-turn-init
 loop-turn-init g c = record {
   kept = Keeps-refl _;
-  interrupted = Interruptions-none _ _;
+  interrupted = Interruptions-none _ _ _;
   grown = omega arith;
   counted = λ h. absurd (omega arith);
 }
@@ -16,7 +16,7 @@ loop-turn-preserved g c =
     let risen = HasRisen-next _ _ _ c.loop-turn.invariant.grown c.in-Err.ensures.counted in
     record {
       kept = Keeps-trans _ _ _ c.loop-turn.invariant.kept c.in-Err.ensures.bytes;
-      interrupted = Interruptions-more _ _ _ _ _ _ c.loop-turn.invariant.interrupted c.in-Err.ensures.given (search rules);
+      interrupted = Interruptions-more _ _ _ _ _ _ c.loop-turn.invariant.interrupted (search rules);
       grown = omega arith;
       counted = λ _. risen;
     }

@@ -1,6 +1,7 @@
-use Rattle.std.proofs.Common.{◌<◌, ◌≤◌}
+use Rattle.std.proofs.Common.{◌<◌, ◌≤◌, length}
 use Rattle.std.specs.Io.KnownBytes.{Keeps}
 use Rattle.gamefile.specs.Failures.{HasRisen}
+use Rattle.gamefile.specs.Input.{HasLength}
 use Rattle.gamefile.specs.Turns.{Interruptions}
 use Rattle.gamefile.proofs.source.pull_again.Given as goal
 
@@ -8,7 +9,7 @@ use Rattle.gamefile.proofs.source.pull_again.Given as goal
 abbrev pub invariant-loop-turn : goal.invariant-loop-turn
 invariant-loop-turn g l = record {
   kept : Keeps (g.R.Read.remaining l.fn.input) (g.R.Read.remaining l.input);
-  interrupted : Interruptions g.R.Source.pull_gives l._turn l.fn.input l.input;
+  interrupted : Interruptions g.R.Source.pull_gives (HasLength (length l.fn.to)) l._turn l.fn.input l.input;
   grown : g.R.Source.count l.fn.input ≤ g.R.Source.count l.input;
   counted : 0 < l._turn → HasRisen (g.R.Source.count l.fn.input) (g.R.Source.count l.input);
 }

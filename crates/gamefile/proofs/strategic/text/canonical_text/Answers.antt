@@ -1,6 +1,6 @@
 use Rattle.std.proofs.Common.{◌≡◌, ◌∙◌, ◌++◌, ℕ, List, ap, sym, length, map}
 use Rattle.gf_token.specs.declared.label.Label.{Label}
-use Rattle.gamefile.specs.Number.{Number}
+use Rattle.gf_fraction.specs.Ratio.{Ratio}
 use Rattle.gamefile.specs.CanonicalText.{list_text, quoted}
 use Rattle.gamefile.specs.Meaning.{counted_labels}
 use Rattle.gamefile.specs.ReaderState.{content_of, labels_of}
@@ -22,4 +22,4 @@ returns c =
     (c.in_ok-write_strategies.ensures ∙ ap (λ (ns : List ℕ). c.push-2.new.self.items ++ list_text (map (λ n. list_text (map quoted (counted_labels n))) ns)) c.deref-2.ensures.value)
     c.in_ok-extend_from_slice.ensures.items
     (c.in_ok-write_rows.ensures ∙ ap (λ (n : ℕ). c.extend_from_slice.new.self.items ++ rows_text n c.args.file.now.profiles c.deref-3.result.now) players
-    ∙ ap (λ (ns : List Number). c.extend_from_slice.new.self.items ++ rows_text (length f.players) c.args.file.now.profiles ns) c.deref-3.ensures.value)
+    ∙ ap (λ (ns : List Ratio). c.extend_from_slice.new.self.items ++ rows_text (length f.players) c.args.file.now.profiles ns) c.deref-3.ensures.value)

@@ -1,0 +1,14 @@
+pub mod Integers
+pub mod Digits
+pub mod Divisors
+pub mod Lowest
+pub mod Views
+pub mod Powers
+pub mod Scans
+pub mod Founds
+pub mod Readings
+pub mod Texts
+pub mod Computes
+pub mod Numbers
+pub mod Sums
+pub mod Products

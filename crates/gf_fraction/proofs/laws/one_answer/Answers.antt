@@ -1,0 +1,5 @@
+use Rattle.gf_fraction.proofs.Texts.{one_answer}
+use Rattle.gf_fraction.proofs.laws.one_answer.Goals as goal
+
+pub returns : goal.returns
+returns c = one_answer

@@ -1,0 +1,5 @@
+use Rattle.gf_fraction.proofs.Lowest.{one_fraction}
+use Rattle.gf_fraction.proofs.laws.one_fraction.Goals as goal
+
+pub returns : goal.returns
+returns c = one_fraction

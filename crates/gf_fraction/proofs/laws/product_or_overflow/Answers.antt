@@ -1,0 +1,5 @@
+use Rattle.gf_fraction.proofs.Computes.{product_or_overflow}
+use Rattle.gf_fraction.proofs.laws.product_or_overflow.Goals as goal
+
+pub returns : goal.returns
+returns c = product_or_overflow

@@ -1,0 +1,7 @@
+pub mod Ratio
+pub mod Fits
+pub mod NumberSpelling
+pub mod NumberText
+pub mod NumberScan
+pub mod Computed
+pub mod Steps

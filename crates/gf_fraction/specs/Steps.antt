@@ -1,0 +1,26 @@
+-- What the steps of an addition and a multiplication give. Contracts inside this crate cite it, and
+-- no public one.
+use Rattle.std.specs.Prelude.{◌≡◌, ℕ, ℤ, pos, ◌+ℤ◌, ◌*ℤ◌, ◌*◌, ◌^◌, ◌<◌}
+use Rattle.std.specs.Int.{IsGcd, ◌∣◌}
+use Rattle.gf_fraction.specs.Ratio.{IsWithin}
+
+-- each common divisor of n and d divides k, and k divides d
+pub record HoldsCommon (n d k : ℕ) : Type 0 where
+  pub above_zero : 0 < k
+  pub part : k ∣ d
+  pub all : (c : ℕ) → c ∣ n → c ∣ d → c ∣ k
+
+-- p over q is n over d in lowest terms
+pub record IsLowest (n d p q : ℕ) : Type 0 where
+  pub by : ℕ
+  pub num : p * by ≡ n
+  pub den : q * by ≡ d
+  pub apart : IsGcd p q 1
+
+-- with the denominator b * p, that number, the numerators a * p and c * q and their sum are at most
+-- 2^127 - 1 in size
+pub record PartsFit (a c : ℤ) (b p q : ℕ) : Type 0 where
+  pub den : b * p < 2 ^ 127
+  pub left : IsWithin (a *ℤ pos p)
+  pub right : IsWithin (c *ℤ pos q)
+  pub sum : IsWithin (a *ℤ pos p +ℤ c *ℤ pos q)

@@ -1,0 +1,131 @@
+//! The steps of exact arithmetic on numbers of 128 bits.
+
+ghost use Rattle.std.specs.Prelude.{◌≡◌, ℤ, pos, ◌+◌, ◌*◌, ◌/◌, ◌^◌, ◌<◌, ◌≤◌, ◌+ℤ◌, ◌*ℤ◌, unsigned_abs, MatchResult};
+ghost use Rattle.std.specs.Int.{IsGcd};
+ghost use Rattle.gf_fraction.specs.Ratio.{IsWithin, signed};
+ghost use Rattle.gf_fraction.specs.Steps.{HoldsCommon, IsLowest, PartsFit};
+
+/// The result does not fit.
+#[derive(Clone, Copy, Debug, PartialEq, Eq, Hash)]
+pub struct Overflow;
+
+/// The greatest denominator, and the greatest size of a numerator.
+pub const LARGEST: u128 = i128::MAX as u128;
+
+/// The greatest number of 64 bits. Up to it a division is quick.
+const WORD: u128 = u64::MAX as u128;
+
+/// The greatest common divisor of two numbers of 64 bits.
+fn word_gcd(a: u64, b: u64) -> u64
+    ensures { IsGcd a b result }
+{
+    let mut x = a;
+    let mut y = b;
+    while y > 1 {
+        let rest = x % y;
+        x = y;
+        y = rest;
+    }
+    if y == 0 { x } else { 1 }
+}
+
+/// The greatest common divisor. Steps are of 64 bits as soon as both numbers are.
+pub fn gcd(a: u128, b: u128) -> u128
+    ensures { IsGcd a b result }
+{
+    if a == 1 || b == 1 {
+        return 1;
+    }
+    let mut x = a;
+    let mut y = b;
+    while x > WORD || y > WORD {
+        if y == 0 {
+            return x;
+        }
+        let rest = x % y;
+        x = y;
+        y = rest;
+    }
+    u128::from(word_gcd(x as u64, y as u64))
+}
+
+/// The quotient, by a division of 64 bits where both numbers allow it, and by none where the divisor
+/// is 1.
+pub fn quotient(n: u128, by: u128) -> u128
+    requires { 0 < by }
+    ensures { result ≡ n / by }
+{
+    if by == 1 {
+        n
+    } else if n <= WORD && by <= WORD {
+        u128::from(n as u64 / by as u64)
+    } else {
+        n / by
+    }
+}
+
+/// A numerator's size and a denominator in lowest terms. What they share is sought in `common`
+/// alone.
+pub fn lowest(size: u128, den: u128, common: u128) -> (u128, u128)
+    requires { HoldsCommon size den common }
+    ensures { IsLowest size den result.0 result.1 }
+{
+    let shared = gcd(size, common);
+    (quotient(size, shared), quotient(den, shared))
+}
+
+/// A size with its sign.
+pub fn with_sign(negative: bool, size: u128) -> i128
+    requires { size < 2 ^ 127 }
+    ensures { result ≡ signed negative size }
+{
+    let size = size as i128;
+    if negative { -size } else { size }
+}
+
+/// The product of two sizes.
+pub fn product(a: u128, b: u128) -> Result<u128, Overflow>
+    ensures { MatchResult result (λ n. (n ≡ a * b) × (n < 2 ^ 127)) (λ _. 2 ^ 127 ≤ a * b) }
+{
+    let product = if a <= WORD && b <= WORD {
+        Some(u128::from(a as u64) * u128::from(b as u64))
+    } else {
+        a.checked_mul(b)
+    };
+    match product {
+        Some(product) if product <= LARGEST => Ok(product),
+        _ => Err(Overflow),
+    }
+}
+
+/// The sum of two numerators over one denominator.
+pub fn total(a: i128, b: i128) -> Result<i128, Overflow>
+    ensures { MatchResult result (λ n. (n ≡ a +ℤ b) × IsWithin n)
+        (λ _. 2 ^ 127 ≤ unsigned_abs (a +ℤ b)) }
+{
+    match a.checked_add(b) {
+        Some(sum) if sum != i128::MIN => Ok(sum),
+        _ => Err(Overflow),
+    }
+}
+
+/// A numerator times a factor.
+fn scaled(num: i128, by: u128) -> Result<i128, Overflow>
+    ensures { MatchResult result (λ n. (n ≡ num *ℤ pos by) × IsWithin n)
+        (λ _. 2 ^ 127 ≤ unsigned_abs (num *ℤ pos by)) }
+{
+    let size = product(num.unsigned_abs(), by)?;
+    Ok(with_sign(num < 0, size))
+}
+
+/// The sum of `a / b` and `c / d` over their common denominator, to which `p` and `q` scale them.
+pub fn sum_over(a: i128, c: i128, b: u128, p: u128, q: u128) -> Result<(i128, u128), Overflow>
+    ensures { MatchResult result
+        (λ r. PartsFit a c b p q × (r.0 ≡ a *ℤ pos p +ℤ c *ℤ pos q) × (r.1 ≡ b * p))
+        (λ _. ¬ (PartsFit a c b p q)) }
+{
+    let den = product(b, p)?;
+    let left = scaled(a, p)?;
+    let right = scaled(c, q)?;
+    Ok((total(left, right)?, den))
+}

@@ -1,0 +1,278 @@
+//! The texts of numbers.
+
+ghost use Rattle.std.specs.Prelude.{◌≡◌, ◌≤◌, ◌<◌, ◌^◌, length, unsigned_abs, MatchResult};
+ghost use Rattle.gf_fraction.specs.NumberSpelling.{Reads, scaled_digits};
+ghost use Rattle.gf_fraction.specs.NumberSpelling.Reading.{decimal, rational};
+ghost use Rattle.gf_fraction.specs.NumberScan.{HasReadingFault, IsScaled, IsValueOf, after_sign, behind, capped, is_minus, leading, leading_value, reading_of, scan, scan_decimal, scan_exponent, scan_fraction};
+
+use crate::arithmetic::{LARGEST, product, with_sign};
+use crate::fraction::{Fraction, NumberFault};
+
+/// Stands for any number above `LARGEST`, since what is too large need only be known to be so.
+const TOO_LARGE: u128 = LARGEST + 1;
+
+/// The greatest exponent, the greatest count of digits behind a point, and the greatest power of ten.
+const POWER: i32 = 38;
+
+/// What a text of one of the shapes says behind its sign.
+#[derive(Clone, Copy)]
+enum Spelling {
+    /// Digits, of which `places` stand behind the point, and an exponent.
+    Decimal {
+        digits: u128,
+        places: usize,
+        exponent: i32,
+    },
+    Rational {
+        num: u128,
+        den: u128,
+    },
+}
+
+/// The digits at the head of a text.
+#[derive(Clone, Copy)]
+struct Run<'a> {
+    /// Their value, behind the digits before them.
+    value: u128,
+    /// How many there are.
+    len: usize,
+    /// What follows them.
+    rest: &'a [u8],
+}
+
+/// Whether a text begins with a minus, and the text behind its sign.
+fn split_sign(text: &[u8]) -> (bool, &[u8])
+    ensures negative { result.0 ≡ is_minus text.entry.now }
+    ensures rest { result.1.now ≡ after_sign text.entry.now }
+{
+    match text {
+        [b'+', rest @ ..] => (false, rest),
+        [b'-', rest @ ..] => (true, rest),
+        _ => (false, text),
+    }
+}
+
+/// Reads digits while their value leaves room for one more in 64 bits.
+fn word_digits(from: u64, text: &[u8]) -> (u64, &[u8])
+    ensures value { leading_value from text.entry.now ≡ leading_value result.0 result.1.now }
+    ensures rest { behind text.entry.now ≡ behind result.1.now }
+    ensures shorter { length result.1.now ≤ length text.entry.now }
+{
+    let mut value = from;
+    for (i, byte) in text.iter().enumerate() {
+        if !byte.is_ascii_digit() || value >= u64::MAX / 10 {
+            return (value, &text[i..]);
+        }
+        value = value * 10 + u64::from(*byte - b'0');
+    }
+    (value, &[])
+}
+
+/// Reads digits, behind digits of the value `from`.
+fn wide_digits(from: u128, text: &[u8]) -> (u128, &[u8])
+    requires { from ≤ 2 ^ 127 }
+    ensures value { result.0 ≡ capped (leading_value from text.entry.now) }
+    ensures rest { result.1.now ≡ behind text.entry.now }
+{
+    let mut value = from;
+    for (i, byte) in text.iter().enumerate() {
+        if !byte.is_ascii_digit() {
+            return (value, &text[i..]);
+        }
+        value = if value > LARGEST / 10 {
+            TOO_LARGE
+        } else {
+            TOO_LARGE.min(value * 10 + u128::from(*byte - b'0'))
+        };
+    }
+    (value, &[])
+}
+
+/// The digits at the head of a text, behind digits of the value `from`. The first steps are of 64
+/// bits.
+#[tactic(auto, using(crate::proofs::Digits::length_leading, crate::proofs::Digits::length_behind))]
+fn digits(from: u128, text: &[u8]) -> Run<'_>
+    requires { from ≤ 2 ^ 127 }
+    ensures value { result.value ≡ capped (leading_value from text.entry.now) }
+    ensures len { result.len ≡ length (leading text.entry.now) }
+    ensures rest { result.rest.now ≡ behind text.entry.now }
+{
+    let (value, rest) = match u64::try_from(from) {
+        Ok(word) => {
+            let (value, rest) = word_digits(word, text);
+            wide_digits(u128::from(value), rest)
+        }
+        Err(_) => wide_digits(from, text),
+    };
+    Run {
+        value,
+        len: text.len() - rest.len(),
+        rest,
+    }
+}
+
+/// The exponent behind its mark. Past 38 all are alike.
+fn scan_exponent(text: &[u8]) -> Option<i32>
+    ensures { result ≡ scan_exponent text.now }
+{
+    let (negative, text) = split_sign(text);
+    let size = digits(0, text);
+    if size.len == 0 || !size.rest.is_empty() {
+        return None;
+    }
+    let size = size.value.min(POWER as u128 + 1) as i32;
+    Some(if negative { -size } else { size })
+}
+
+/// What follows digits with or without a point: nothing, or an exponent.
+fn scan_decimal(digits: u128, has_digits: bool, places: usize, rest: &[u8]) -> Option<Spelling>
+    ensures { result ≡ scan_decimal digits has_digits places rest.now }
+{
+    if !has_digits {
+        return None;
+    }
+    let exponent = match rest {
+        [] => 0,
+        [b'e' | b'E', text @ ..] => scan_exponent(text)?,
+        _ => return None,
+    };
+    Some(Spelling::Decimal {
+        digits,
+        places,
+        exponent,
+    })
+}
+
+/// The denominator behind a slash.
+fn scan_fraction(num: u128, has_digits: bool, text: &[u8]) -> Option<Spelling>
+    ensures { result ≡ scan_fraction num has_digits text.now }
+{
+    let den = digits(0, text);
+    if has_digits && den.len > 0 && den.rest.is_empty() {
+        Some(Spelling::Rational {
+            num,
+            den: den.value,
+        })
+    } else {
+        None
+    }
+}
+
+/// What a text says behind its sign, if it has one of the shapes.
+fn scan(text: &[u8]) -> Option<Spelling>
+    ensures { result ≡ scan text.now }
+{
+    let whole = digits(0, text);
+    let has_digits = whole.len > 0;
+    match whole.rest {
+        [b'/', under @ ..] => scan_fraction(whole.value, has_digits, under),
+        [b'.', behind @ ..] => {
+            let all = digits(whole.value, behind);
+            scan_decimal(all.value, has_digits || all.len > 0, all.len, all.rest)
+        }
+        rest => scan_decimal(whole.value, has_digits, 0, rest),
+    }
+}
+
+/// A numerator over a denominator as they are spelled.
+fn rational(negative: bool, num: u128, den: u128) -> Result<Fraction, NumberFault>
+    ensures { MatchResult result (λ f. IsValueOf negative (rational num den) f)
+        (λ fault. HasReadingFault (rational num den) fault) }
+{
+    if den == 0 {
+        return Err(NumberFault::ZeroDenominator);
+    }
+    if num > LARGEST || den > LARGEST {
+        return Err(NumberFault::TooLarge);
+    }
+    Ok(Fraction::reduced(with_sign(negative, num), den, den))
+}
+
+/// Ten to a power of at most 38, which is below `M`.
+#[tactic(auto, using(crate::proofs::Powers::pow_above_zero, crate::proofs::Powers::pow_within))]
+fn power_of_ten(power: u32) -> u128
+    requires { power ≤ 38 }
+    ensures value { result ≡ 10 ^ power }
+    ensures above_zero { 0 < result }
+    ensures within { result < 2 ^ 127 }
+{
+    10u128.pow(power)
+}
+
+/// Digits over ten to a power, or times ten to the negated power where it is negative.
+fn scaled(negative: bool, digits: u128, power: i32) -> Result<Fraction, NumberFault>
+    requires digits_within { digits < 2 ^ 127 }
+    requires power_within { unsigned_abs power ≤ 38 }
+    ensures { MatchResult result (λ f. IsScaled negative digits power f)
+        (λ fault. (fault ≡ NumberFault.TooLarge) × (2 ^ 127 ≤ scaled_digits digits power)) }
+{
+    let ten = power_of_ten(power.unsigned_abs());
+    if power >= 0 {
+        return Ok(Fraction::reduced(with_sign(negative, digits), ten, ten));
+    }
+    match product(digits, ten) {
+        Ok(size) => Ok(Fraction::reduced(with_sign(negative, size), 1, 1)),
+        Err(_) => Err(NumberFault::TooLarge),
+    }
+}
+
+/// Digits with a point and an exponent as they are spelled.
+fn decimal(
+    negative: bool,
+    digits: u128,
+    places: usize,
+    exponent: i32,
+) -> Result<Fraction, NumberFault>
+    ensures { MatchResult result (λ f. IsValueOf negative (decimal digits places exponent) f)
+        (λ fault. HasReadingFault (decimal digits places exponent) fault) }
+{
+    if digits > LARGEST || places > POWER as usize || exponent > POWER || exponent < -POWER {
+        return Err(NumberFault::TooLarge);
+    }
+    let power = places as i32 - exponent;
+    if power > POWER {
+        return Err(NumberFault::TooLarge);
+    }
+    scaled(negative, digits, power)
+}
+
+impl Spelling {
+    /// The value with its sign, where no bound is broken.
+    fn value(self, negative: bool) -> Result<Fraction, NumberFault>
+        ensures { MatchResult result (λ f. IsValueOf negative (reading_of self) f)
+            (λ fault. HasReadingFault (reading_of self) fault) }
+    {
+        match self {
+            Spelling::Decimal {
+                digits,
+                places,
+                exponent,
+            } => decimal(negative, digits, places, exponent),
+            Spelling::Rational { num, den } => rational(negative, num, den),
+        }
+    }
+}
+
+impl Fraction {
+    /// The number that a text spells: an optional sign `+` or `-`, and then
+    /// - digits;
+    /// - digits with one point, of which one side may be empty;
+    /// - either of these, then `e` or `E`, an optional sign and digits;
+    /// - or digits, `/` and digits.
+    ///
+    /// `NotANumber` for any other text, else `ZeroDenominator` where the denominator is zero, else
+    /// `TooLarge` where a bound is broken. With `M` for `2^127 - 1`, both parts of a rational are at
+    /// most `M`. Elsewhere, with `p` digits behind the point and an exponent `e`, the digits without
+    /// the point are at most `M`, `p` and `p - e` at most 38, `e` is -38 to 38, and where `e` is above
+    /// `p`, the digits times `10^(e - p)` are at most `M`. Leading zeros count nowhere (this project's
+    /// profile).
+    pub fn read(text: &[u8]) -> Result<Fraction, NumberFault>
+        ensures { Reads text.now result }
+    {
+        let (negative, rest) = split_sign(text);
+        match scan(rest) {
+            Some(spelling) => spelling.value(negative),
+            None => Err(NumberFault::NotANumber),
+        }
+    }
+}

@@ -1,0 +1,11 @@
+-- Why a token in a number's place is refused.
+use Rattle.gf_fraction.specs.declared.fraction.NumberFault.{NumberFault}
+use Rattle.gf_fraction.specs.declared.fraction.NumberFault.TheVariants as fault
+use Rattle.gf_token.specs.declared.fault.Why.{Why}
+use Rattle.gf_token.specs.declared.fault.Why.TheVariants.{NotANumber, ZeroDenominator, NumberTooLarge}
+
+-- the refusal of a text that spells no number
+abbrev pub why_of : NumberFault → Why
+why_of fault.NotANumber = NotANumber
+why_of fault.ZeroDenominator = ZeroDenominator
+why_of fault.TooLarge = NumberTooLarge
