@@ -1,0 +1,32 @@
+mod LabelsCounted
+mod TableAgrees
+mod TableNames
+mod TablePieces
+mod TablePlaces
+mod TableRows
+mod Texts
+pub mod BackLists
+pub mod BackProfiles
+pub mod BackSame
+pub mod BackTables
+pub mod BackWorked
+pub mod MeaningLists
+pub mod MeaningTables
+pub mod PlacesJudged
+pub mod PlacesLed
+pub mod PlacesLimit
+pub mod ReadingIndices
+pub mod ReadingNumbers
+pub mod RunsBody
+pub mod RunsCommon
+pub mod RunsEnds
+pub mod RunsHeading
+pub mod RunsOutcomes
+pub mod RunsPayoffs
+pub mod RunsRows
+pub mod RunsSentence
+pub mod RunsStrategies
+pub mod SentencesOnce
+pub mod SpelledNumbers
+pub mod SpelledTables
+pub mod SpelledTexts

@@ -1,0 +1,119 @@
+-- Lists that are cut into pieces.
+use Rattle.std.proofs.Common.{◌≡◌, ℕ, zero, suc, ◌+◌, ◌-◌, ◌<◌, ◌≤◌, List, [], ◌∷◌, ◌++◌, length, take, drop, get_or, Some, slice_get, refl, sym, ap, ◌∙◌, arith, true}
+use Rattle.std.specs.List.{AllByRecursion}
+use Rattle.std.proofs.lemmas.List.{take-append-le, drop-append-le, length-drop, length-append, take_all, drop_at}
+use Rattle.gf_token.specs.LabelSpelling.{is_spelling}
+use Rattle.gf_nfg.specs.TableParts.{pieces, start_of, RisesTo, IsCut}
+
+pub start_of_suc : (from : ℕ) (ends : List ℕ) (k d : ℕ) → k < length ends → start_of from ends (suc k) ≡ get_or ends k d
+start_of_suc from [] k d h = absurd (omega (arith, h))
+start_of_suc from (end ∷ ends) zero d h = refl
+start_of_suc from (end ∷ ends) (suc k) d h = start_of_suc end ends k d (omega (arith, h))
+
+pub start_of-more : (from : ℕ) (ends : List ℕ) (number d : ℕ) → number < length ends → start_of from ends (number + 1) ≡ get_or ends number d
+start_of-more from ends number d h = let e : number + 1 ≡ suc number = omega arith in rw e (start_of_suc from ends number d h)
+
+pub length-pieces : {A : Type 0} (from : ℕ) (ends : List ℕ) (items : List A) → length (pieces from ends items) ≡ length ends
+length-pieces from [] items = refl
+length-pieces from (end ∷ ends) items = ap suc (length-pieces end ends items)
+
+-- each piece lies between its start and its end
+pub piece_at : {A : Type 0} (from : ℕ) (ends : List ℕ) (items : List A) (k d : ℕ) → k < length ends
+    → slice_get (pieces from ends items) k ≡ Some (take (get_or ends k d - start_of from ends k) (drop (start_of from ends k) items))
+piece_at from [] items k d h = absurd (omega (arith, h))
+piece_at from (end ∷ ends) items zero d h = refl
+piece_at from (end ∷ ends) items (suc k) d h = piece_at end ends items k d (omega (arith, h))
+
+pub rises_within : (whole from : ℕ) (ends : List ℕ) → RisesTo whole from ends → from ≤ whole
+rises_within whole from [] h = omega (arith, h)
+rises_within whole from (end ∷ ends) h = omega (arith, h.0, rises_within whole end ends h.1)
+
+pub start_before_end : (whole from : ℕ) (ends : List ℕ) (k d : ℕ) → RisesTo whole from ends → k < length ends → start_of from ends k ≤ get_or ends k d
+start_before_end whole from [] k d r h = absurd (omega (arith, h))
+start_before_end whole from (end ∷ ends) zero d r h = r.0
+start_before_end whole from (end ∷ ends) (suc k) d r h = start_before_end whole end ends k d r.1 (omega (arith, h))
+
+pub end_within : (whole from : ℕ) (ends : List ℕ) (k d : ℕ) → RisesTo whole from ends → k < length ends → get_or ends k d ≤ whole
+end_within whole from [] k d r h = absurd (omega (arith, h))
+end_within whole from (end ∷ ends) zero d r h = rises_within whole end ends r.1
+end_within whole from (end ∷ ends) (suc k) d r h = end_within whole end ends k d r.1 (omega (arith, h))
+
+take_part : {A : Type 0} (n m : ℕ) (xs ys : List A) → m + n ≤ length xs → take n (drop m (xs ++ ys)) ≡ take n (drop m xs)
+take_part n m xs ys h =
+    let inside : n ≤ length (drop m xs) = omega (arith, length-drop m xs) in
+    rw (drop-append-le m xs ys (omega (arith, h))) (take-append-le n (drop m xs) ys inside)
+
+-- a piece more at the end
+pub pieces-push : {A : Type 0} (from : ℕ) (ends : List ℕ) (items more : List A) → RisesTo (length items) from ends
+    → pieces from (ends ++ (length items + length more) ∷ []) (items ++ more) ≡ pieces from ends items ++ more ∷ []
+pieces-push from [] items more h =
+    let size : length items + length more - from ≡ length more = omega (arith, h) in
+    let rest : drop from (items ++ more) ≡ more = drop_at items more from (sym h) in
+    rw (size, rest, take_all (length more) more (omega arith)) refl
+pieces-push from (end ∷ ends) items more h =
+    let within = rises_within (length items) end ends h.1 in
+    let part : take (end - from) (drop from (items ++ more)) ≡ take (end - from) (drop from items) = take_part (end - from) from items more (omega (arith, h.0, within)) in
+    rw (part, pieces-push end ends items more h.1) refl
+
+pub rises-push : (from : ℕ) (ends : List ℕ) (whole more : ℕ) → RisesTo whole from ends → RisesTo (whole + more) from (ends ++ (whole + more) ∷ [])
+rises-push from [] whole more h = (omega (arith, h), refl)
+rises-push from (end ∷ ends) whole more h = (h.0, rises-push end ends whole more h.1)
+
+pub all-push : {A : Type 0} (P : A → Type 0) (xs : List A) (x : A) → AllByRecursion P xs → P x → AllByRecursion P (xs ++ x ∷ [])
+all-push P [] x h p = (p, tt)
+all-push P (y ∷ ys) x h p = (h.0, all-push P ys x h.1 p)
+
+pub all_at : {A : Type 0} (P : A → Type 0) (xs : List A) (k : ℕ) (x : A) → AllByRecursion P xs → slice_get xs k ≡ Some x → P x
+all_at P [] k x h e = absurd (cc)
+all_at P (y ∷ ys) zero x h e = let same : y ≡ x = cc in rw (sym same) h.0
+all_at P (y ∷ ys) (suc k) x h e = all_at P ys k x h.1 e
+
+-- a list that was cut, and a piece more
+pub record IsMore (ends bytes more ends' bytes' : List ℕ) : Type 0 where
+  pub is_cut : IsCut ends bytes
+  pub more_spelled : is_spelling more ≡ true
+  pub bytes_are : bytes' ≡ bytes ++ more
+  pub ends_are : ends' ≡ ends ++ length bytes' ∷ []
+
+pub pieces-more : (ends bytes more ends' bytes' : List ℕ) → IsMore ends bytes more ends' bytes' → pieces 0 ends' bytes' ≡ pieces 0 ends bytes ++ more ∷ []
+pieces-more ends bytes more ends' bytes' m =
+    let e : ends' ≡ ends ++ (length bytes + length more) ∷ [] = m.ends_are ∙ ap (λ (bs : List ℕ). ends ++ length bs ∷ []) m.bytes_are ∙ ap (λ (n : ℕ). ends ++ n ∷ []) (length-append bytes more) in
+    rw (e, m.bytes_are) (pieces-push 0 ends bytes more m.is_cut.rises)
+
+pub cut_more : (ends bytes more ends' bytes' : List ℕ) → IsMore ends bytes more ends' bytes' → IsCut ends' bytes'
+cut_more ends bytes more ends' bytes' m =
+    let e : ends' ≡ ends ++ (length bytes + length more) ∷ [] = m.ends_are ∙ ap (λ (bs : List ℕ). ends ++ length bs ∷ []) m.bytes_are ∙ ap (λ (n : ℕ). ends ++ n ∷ []) (length-append bytes more) in
+    let whole : length bytes' ≡ length bytes + length more = ap length m.bytes_are ∙ length-append bytes more in
+    record {
+      rises = rw (whole, e) (rises-push 0 ends (length bytes) (length more) m.is_cut.rises);
+      spelled = rw (pieces-more ends bytes more ends' bytes' m) (all-push (λ label. is_spelling label ≡ true) (pieces 0 ends bytes) more m.is_cut.spelled m.more_spelled);
+    }
+
+-- a place in a list that was cut
+pub record IsAt (ends bytes : List ℕ) (labels : List (List ℕ)) (at start end : ℕ) : Type 0 where
+  pub is_cut : IsCut ends bytes
+  pub view_is : pieces 0 ends bytes ≡ labels
+  pub within : at < length labels
+  pub start_is : start ≡ start_of 0 ends at
+  pub end_is : end ≡ get_or ends at 0
+
+pub within_ends : (ends bytes : List ℕ) (labels : List (List ℕ)) (at : ℕ) → pieces 0 ends bytes ≡ labels → at < length labels → at < length ends
+within_ends ends bytes labels at v h = let e : length labels ≡ length ends = ap length (sym v) ∙ length-pieces 0 ends bytes in omega (arith, h, e)
+
+pub at_ordered : (ends bytes : List ℕ) (labels : List (List ℕ)) (at start end : ℕ) → IsAt ends bytes labels at start end → start ≤ end
+at_ordered ends bytes labels at start end h =
+    omega (arith, h.start_is, h.end_is, start_before_end (length bytes) 0 ends at 0 h.is_cut.rises (within_ends ends bytes labels at h.view_is h.within))
+
+pub at_within : (ends bytes : List ℕ) (labels : List (List ℕ)) (at start end : ℕ) → IsAt ends bytes labels at start end → end ≤ length bytes
+at_within ends bytes labels at start end h =
+    omega (arith, h.end_is, end_within (length bytes) 0 ends at 0 h.is_cut.rises (within_ends ends bytes labels at h.view_is h.within))
+
+pub at_piece : (ends bytes : List ℕ) (labels : List (List ℕ)) (at start end : ℕ) → IsAt ends bytes labels at start end
+    → slice_get (pieces 0 ends bytes) at ≡ Some (take (end - start) (drop start bytes))
+at_piece ends bytes labels at start end h =
+    let here = piece_at 0 ends bytes at 0 (within_ends ends bytes labels at h.view_is h.within) in
+    here ∙ ap (λ (n : ℕ). Some (take (n - start_of 0 ends at) (drop (start_of 0 ends at) bytes))) (sym h.end_is) ∙ ap (λ (n : ℕ). Some (take (end - n) (drop n bytes))) (sym h.start_is)
+
+pub at_spelled : (ends bytes : List ℕ) (labels : List (List ℕ)) (at start end : ℕ) → IsAt ends bytes labels at start end
+    → is_spelling (take (end - start) (drop start bytes)) ≡ true
+at_spelled ends bytes labels at start end h = all_at (λ label. is_spelling label ≡ true) (pieces 0 ends bytes) at _ h.is_cut.spelled (at_piece ends bytes labels at start end h)

@@ -1,0 +1,258 @@
+-- The rows of a table.
+use Rattle.std.proofs.Common.{◌≡◌, ℕ, zero, suc, ◌+◌, ◌*◌, ◌<◌, ◌≤◌, List, [], ◌∷◌, ◌++◌, length, map, take, drop, Option, Some, None, slice_get, option_map, refl, sym, ap, ◌∙◌, arith}
+use Rattle.std.specs.Prelude.{pos, replicate, IsSome, SomeIff, unwrap_or, vec_len, Vec, ◌/◌}
+use Rattle.std.specs.List.{AllByRecursion, flat_map}
+use Rattle.std.proofs.lemmas.List.{length-take, length-drop, length-append, length-map, length-replicate, take_all, drop-drop}
+use Rattle.std.proofs.Math.Nat.{mul-div_cancel, mul-le-mul_left, mul-le-mul_right, one-le-mul}
+use Rattle.std.proofs.lemmas.Option.{slice_get-map}
+use Rattle.gf_nfg.proofs.TablePieces.{all_at}
+use Rattle.gf_fraction.specs.Ratio.{Ratio, whole}
+use Rattle.gf_nfg.specs.Profiles.{numbers_from, positions, product, profiles}
+use Rattle.gf_nfg.specs.Table.{Table, IsTable, rows}
+use Rattle.gf_nfg.specs.TableAccess.{IsTableOf}
+use Rattle.gf_nfg.specs.TableParts.{Names, entries_of, table_with, row_of, number_in, numbers_of, IsNamed, HasRows}
+
+pub length-numbers_from : (first n : ℕ) → length (numbers_from first n) ≡ n
+length-numbers_from first zero = refl
+length-numbers_from first (suc n) = ap suc (length-numbers_from (first + 1) n)
+
+length-flat_map-map : {A B C : Type 0} (f : B → A → C) (xs : List A) (ys : List B) → length (flat_map (λ y. map (f y) xs) ys) ≡ length xs * length ys
+length-flat_map-map f xs [] = omega arith
+length-flat_map-map f xs (y ∷ ys) =
+    length-append (map (f y) xs) (flat_map (λ y. map (f y) xs) ys) ∙ omega (arith, length-map xs (f y), length-flat_map-map f xs ys)
+
+-- there are as many profiles as the product of the counts
+pub length-profiles : (counts : List ℕ) → length (profiles counts) ≡ product counts
+length-profiles [] = refl
+length-profiles (n ∷ counts) =
+    length-flat_map-map (λ others s. s ∷ others) (positions n) (profiles counts) ∙ rw (length-numbers_from 1 n, length-profiles counts) refl
+
+pub length-entries_of : (ps : List (List ℕ)) (rs : List (List Ratio)) → length ps ≡ length rs → length (entries_of ps rs) ≡ length rs
+length-entries_of [] [] h = refl
+length-entries_of [] (r ∷ rs) h = absurd (omega (arith, h))
+length-entries_of (p ∷ ps) [] h = refl
+length-entries_of (p ∷ ps) (r ∷ rs) h = ap suc (length-entries_of ps rs (omega (arith, h)))
+
+pub profiles-entries_of : (ps : List (List ℕ)) (rs : List (List Ratio)) → length ps ≡ length rs → map (λ e. e.profile) (entries_of ps rs) ≡ ps
+profiles-entries_of [] [] h = refl
+profiles-entries_of [] (r ∷ rs) h = refl
+profiles-entries_of (p ∷ ps) [] h = absurd (omega (arith, h))
+profiles-entries_of (p ∷ ps) (r ∷ rs) h = ap (λ qs. p ∷ qs) (profiles-entries_of ps rs (omega (arith, h)))
+
+pub payoffs-entries_of : (ps : List (List ℕ)) (rs : List (List Ratio)) → length ps ≡ length rs → map (λ e. e.payoffs) (entries_of ps rs) ≡ rs
+payoffs-entries_of [] [] h = refl
+payoffs-entries_of [] (r ∷ rs) h = absurd (omega (arith, h))
+payoffs-entries_of (p ∷ ps) [] h = refl
+payoffs-entries_of (p ∷ ps) (r ∷ rs) h = ap (λ qs. r ∷ qs) (payoffs-entries_of ps rs (omega (arith, h)))
+
+-- a table whose rows are kept
+pub record IsKept (names : Names) (count : ℕ) (payoffs zeros : List Ratio) (numbers : List ℕ) : Type 0 where
+  pub named : IsNamed names count
+  pub kept : HasRows (length names.players) count payoffs zeros numbers
+
+abbrev pub kept_rows : Names → List Ratio → List ℕ → List (List Ratio)
+kept_rows names payoffs numbers = map (row_of (length names.players) payoffs) numbers
+
+pub matched : (names : Names) (count : ℕ) (payoffs zeros : List Ratio) (numbers : List ℕ) → IsKept names count payoffs zeros numbers
+    → length (profiles (map length names.strategies)) ≡ length (kept_rows names payoffs numbers)
+matched names count payoffs zeros numbers k =
+    length-profiles (map length names.strategies) ∙ sym k.named.counted ∙ sym k.kept.one_number_each ∙ sym (length-map numbers (row_of (length names.players) payoffs))
+
+pub length-entries : (names : Names) (count : ℕ) (payoffs zeros : List Ratio) (numbers : List ℕ) → IsKept names count payoffs zeros numbers
+    → length (table_with names (kept_rows names payoffs numbers)).entries ≡ count
+length-entries names count payoffs zeros numbers k =
+    length-entries_of (profiles (map length names.strategies)) (kept_rows names payoffs numbers) (matched names count payoffs zeros numbers k)
+    ∙ length-map numbers (row_of (length names.players) payoffs) ∙ k.kept.one_number_each
+
+pub rows-table_with : (names : Names) (count : ℕ) (payoffs zeros : List Ratio) (numbers : List ℕ) → IsKept names count payoffs zeros numbers
+    → rows (table_with names (kept_rows names payoffs numbers)) ≡ kept_rows names payoffs numbers
+rows-table_with names count payoffs zeros numbers k =
+    payoffs-entries_of (profiles (map length names.strategies)) (kept_rows names payoffs numbers) (matched names count payoffs zeros numbers k)
+
+length-row_of : (players : ℕ) (payoffs : List Ratio) (number : ℕ) → number * players ≤ length payoffs → length (row_of players payoffs number) ≡ players
+length-row_of players payoffs zero h = length-replicate players (whole (pos 0))
+length-row_of players payoffs (suc k) h =
+    let more : suc k * players ≡ k * players + players = omega arith in
+    length-take players (drop (k * players) payoffs) ∙ omega (arith, length-drop (k * players) payoffs, h, more)
+
+full_rows : (players : ℕ) (payoffs : List Ratio) (numbers : List ℕ) → AllByRecursion (λ number. number * players ≤ length payoffs) numbers
+    → AllByRecursion (λ row. length row ≡ players) (map (row_of players payoffs) numbers)
+full_rows players payoffs [] h = tt
+full_rows players payoffs (number ∷ numbers) h = (length-row_of players payoffs number h.0, full_rows players payoffs numbers h.1)
+
+pub is_table : (names : Names) (count : ℕ) (payoffs zeros : List Ratio) (numbers : List ℕ) → IsKept names count payoffs zeros numbers
+    → IsTable (table_with names (kept_rows names payoffs numbers))
+is_table names count payoffs zeros numbers k = record {
+  one_list_each = k.named.one_list_each;
+  some_strategy = k.named.some_strategy;
+  one_entry_each = profiles-entries_of (profiles (map length names.strategies)) (kept_rows names payoffs numbers) (matched names count payoffs zeros numbers k);
+  one_payoff_each = rw (rows-table_with names count payoffs zeros numbers k) (full_rows (length names.players) payoffs numbers k.kept.rows_kept);
+}
+
+-- ---- rows of the profiles in turn
+
+positions_kept : (players whole first n : ℕ) → (first + n) * players ≤ whole + players → AllByRecursion (λ number. number * players ≤ whole) (numbers_from first n)
+positions_kept players whole first zero h = tt
+positions_kept players whole first (suc n) h =
+    let here : (first + 1) * players ≤ (first + suc n) * players = mul-le-mul_right players (omega arith) in
+    let split : (first + 1) * players ≡ first * players + players = omega arith in
+    let moved : first + 1 + n ≡ first + suc n = omega arith in
+    (omega (arith, here, split, h), positions_kept players whole (first + 1) n (rw moved h))
+
+positions_above : (A : Type 0) (first n : ℕ) → 0 < first → AllByRecursion (λ number. number ≡ 0 → A) (numbers_from first n)
+positions_above A first zero h = tt
+positions_above A first (suc n) h = (λ e. absurd (omega (arith, h, e)), positions_above A (first + 1) n (omega arith))
+
+pub positions_have_rows : (players count : ℕ) (payoffs zeros : List Ratio) → length payoffs ≡ count * players → HasRows players count payoffs zeros (positions count)
+positions_have_rows players count payoffs zeros h = record {
+  one_number_each = length-numbers_from 1 count;
+  rows_kept = positions_kept players (length payoffs) 1 count (let split : (1 + count) * players ≡ players + count * players = omega arith in omega (arith, h, split));
+  zeros_kept = positions_above (zeros ≡ replicate players (whole (pos 0))) 1 count (omega arith);
+}
+
+take-nil : {A : Type 0} (n : ℕ) → take {A = A} n [] ≡ []
+take-nil zero = refl
+take-nil (suc n) = refl
+
+take_two : {A : Type 0} (m n : ℕ) (xs : List A) → take m xs ++ take n (drop m xs) ≡ take (m + n) xs
+take_two zero n xs = let e : 0 + n ≡ n = omega arith in ap (λ (k : ℕ). take k xs) (sym e)
+take_two (suc m) n [] = let e : suc m + n ≡ suc (m + n) = omega arith in take-nil n ∙ ap (λ (k : ℕ). take k []) (sym e)
+take_two (suc m) n (x ∷ xs) = let e : suc m + n ≡ suc (m + n) = omega arith in ap (λ ys. x ∷ ys) (take_two m n xs) ∙ ap (λ (k : ℕ). take k (x ∷ xs)) (sym e)
+
+numbered_from : (players : ℕ) (payoffs : List Ratio) (k n : ℕ) → flat_map (λ row. row) (map (row_of players payoffs) (numbers_from (suc k) n)) ≡ take (n * players) (drop (k * players) payoffs)
+numbered_from players payoffs k zero = let none : 0 * players ≡ 0 = omega arith in rw none refl
+numbered_from players payoffs k (suc n) =
+    let next : suc k + 1 ≡ suc (suc k) = omega arith in
+    let more : suc k * players ≡ k * players + players = omega arith in
+    let all : suc n * players ≡ players + n * players = omega arith in
+    ap (λ (m : ℕ). take players (drop (k * players) payoffs) ++ flat_map (λ row. row) (map (row_of players payoffs) (numbers_from m n))) next
+    ∙ ap (λ (rest : List Ratio). take players (drop (k * players) payoffs) ++ rest) (numbered_from players payoffs (suc k) n)
+    ∙ ap (λ (m : ℕ). take players (drop (k * players) payoffs) ++ take (n * players) (drop m payoffs)) more
+    ∙ ap (λ (rest : List Ratio). take players (drop (k * players) payoffs) ++ take (n * players) rest) (sym (drop-drop players (k * players) payoffs))
+    ∙ take_two players (n * players) (drop (k * players) payoffs) ∙ ap (λ (m : ℕ). take m (drop (k * players) payoffs)) (sym all)
+
+-- rows of the profiles in turn are the payoffs
+pub rows_in_turn : (players count : ℕ) (payoffs : List Ratio) → length payoffs ≡ count * players → flat_map (λ row. row) (map (row_of players payoffs) (positions count)) ≡ payoffs
+rows_in_turn players count payoffs h =
+    let none : 0 * players ≡ 0 = omega arith in
+    numbered_from players payoffs 0 count ∙ ap (λ (m : ℕ). take (count * players) (drop m payoffs)) none ∙ take_all (count * players) payoffs (omega (arith, h))
+
+-- ---- one row
+
+-- the number of the row of the profile with this place
+pub record IsNumber (names : Names) (count : ℕ) (payoffs zeros : List Ratio) (numbers : List ℕ) (place number : ℕ) : Type 0 where
+  pub kept : IsKept names count payoffs zeros numbers
+  pub number_is : slice_get numbers place ≡ Some number
+
+pub number_within : (names : Names) (count : ℕ) (payoffs zeros : List Ratio) (numbers : List ℕ) (place number : ℕ) → IsNumber names count payoffs zeros numbers place number
+    → number * length names.players ≤ length payoffs
+number_within names count payoffs zeros numbers place number h = all_at (λ n. n * length names.players ≤ length payoffs) numbers place number h.kept.kept.rows_kept h.number_is
+
+pub number_zero : (names : Names) (count : ℕ) (payoffs zeros : List Ratio) (numbers : List ℕ) (place number : ℕ) → IsNumber names count payoffs zeros numbers place number
+    → number ≡ 0 → zeros ≡ replicate (length names.players) (whole (pos 0))
+number_zero names count payoffs zeros numbers place number h = all_at (λ n. n ≡ 0 → zeros ≡ replicate (length names.players) (whole (pos 0))) numbers place number h.kept.kept.zeros_kept h.number_is
+
+pub row_is : (names : Names) (count : ℕ) (payoffs zeros : List Ratio) (numbers : List ℕ) (place number : ℕ) → IsNumber names count payoffs zeros numbers place number
+    → slice_get (rows (table_with names (kept_rows names payoffs numbers))) place ≡ Some (row_of (length names.players) payoffs number)
+row_is names count payoffs zeros numbers place number h =
+    ap (λ (rs : List (List Ratio)). slice_get rs place) (rows-table_with names count payoffs zeros numbers h.kept)
+    ∙ slice_get-map (row_of (length names.players) payoffs) numbers place ∙ ap (λ (o : Option ℕ). option_map (row_of (length names.players) payoffs) o) h.number_is
+
+slice_get-numbers_from : (first n k : ℕ) → k < n → slice_get (numbers_from first n) k ≡ Some (first + k)
+slice_get-numbers_from first zero k h = absurd (omega (arith, h))
+slice_get-numbers_from first (suc n) zero h = let e : first ≡ first + 0 = omega arith in ap Some e
+slice_get-numbers_from first (suc n) (suc k) h = let e : first + 1 + k ≡ first + suc k = omega arith in slice_get-numbers_from (first + 1) n k (omega (arith, h)) ∙ ap Some e
+
+pub number_found : (count : ℕ) (choices : Option (List ℕ)) (place : ℕ) → place < count → number_in choices place ≡ slice_get (numbers_of count choices) place
+number_found count None place h = let e : place + 1 ≡ 1 + place = omega arith in ap Some e ∙ sym (slice_get-numbers_from 1 count place h)
+number_found count (Some choices) place h = refl
+
+pub some_from : {A : Type 0} (xs : List A) (k : ℕ) → k < length xs → IsSome (slice_get xs k)
+some_from [] k h = absurd (omega (arith, h))
+some_from (x ∷ xs) zero h = refl
+some_from (x ∷ xs) (suc k) h = some_from xs k (omega (arith, h))
+
+-- ---- a table's counts
+
+pub product_above : (strategies : List (List (List ℕ))) → AllByRecursion (λ own. 0 < length own) strategies → 1 ≤ product (map length strategies)
+product_above [] h = omega arith
+product_above (own ∷ others) h = one-le-mul h.0 (product_above others h.1)
+
+-- where each has a strategy, nobody has more than there are profiles
+pub count_at_most : (strategies : List (List (List ℕ))) (k : ℕ) (own : List (List ℕ)) → AllByRecursion (λ own. 0 < length own) strategies → slice_get strategies k ≡ Some own
+    → length own ≤ product (map length strategies)
+count_at_most [] k own h e = absurd (cc)
+count_at_most (first ∷ others) zero own h e =
+    let same : first ≡ own = cc in
+    let some = product_above others h.1 in
+    let more = mul-le-mul_left (length first) some in
+    omega (arith, ap length same, more)
+count_at_most (first ∷ others) (suc k) own h e =
+    let below = count_at_most others k own h.1 e in
+    let more = mul-le-mul_right (product (map length others)) h.0 in
+    omega (arith, below, more)
+
+-- ---- a table made of its parts
+
+pub counts_of_lists : {A B Z : Type 0} (f : A → B) (lists : List (Vec A Z)) → map length (map (λ own. map f own.items) lists) ≡ map vec_len lists
+counts_of_lists f [] = refl
+counts_of_lists f (own ∷ lists) =
+    let size : length (map f own.items) ≡ vec_len own = length-map own.items f ∙ sym own.ok.0 in
+    rw (size, counts_of_lists f lists) refl
+
+pub some_in_lists : {A B Z : Type 0} (f : A → B) (lists : List (Vec A Z)) → AllByRecursion (λ own. 0 < vec_len own) lists → AllByRecursion (λ own. 0 < length own) (map (λ own. map f own.items) lists)
+some_in_lists f [] h = tt
+some_in_lists f (own ∷ lists) h = (let size : length (map f own.items) ≡ vec_len own = length-map own.items f ∙ sym own.ok.0 in omega (arith, size, h.0), some_in_lists f lists h.1)
+
+-- as many rows as there are profiles
+pub profiles_counted : (rows players : ℕ) (counts : List ℕ) (quotient : Option ℕ) → SomeIff quotient (0 < players) (rows / players) → length counts ≡ players → rows ≡ product counts * players
+    → unwrap_or quotient 1 ≡ product counts
+profiles_counted rows zero [] None is one h = refl
+profiles_counted rows zero [] (Some q) is one h = absurd (omega (arith, is.0))
+profiles_counted rows zero (count ∷ counts) quotient is one h = absurd (omega (arith, one))
+profiles_counted rows (suc n) counts None is one h = absurd (is (omega arith))
+profiles_counted rows (suc n) counts (Some q) is one h = is.1 ∙ ap (λ (m : ℕ). m / suc n) h ∙ mul-div_cancel (product counts) (omega arith)
+
+-- the names of a table of lists
+pub named_by_lists : {B Z : Type 0} (f : B → List ℕ) (names : Names) (title comment : List ℕ) (players : List (List ℕ)) (lists : List (Vec B Z)) (count : ℕ)
+    → names ≡ record { title = title; comment = comment; players = players; strategies = map (λ own. map f own.items) lists }
+    → length lists ≡ length players → AllByRecursion (λ own. 0 < vec_len own) lists → count ≡ product (map vec_len lists) → count ≤ 1048576 → IsNamed names count
+named_by_lists f names title comment players lists count is one some counted within = rw is (record {
+  one_list_each = length-map lists (λ own. map f own.items) ∙ one;
+  some_strategy = some_in_lists f lists some;
+  counted = counted ∙ ap product (sym (counts_of_lists f lists));
+  within = within;
+})
+
+pub counted_own : (o : Option (List (List ℕ))) (n : ℕ) → option_map length o ≡ Some n → (own : List (List ℕ)) × (o ≡ Some own) × (length own ≡ n)
+counted_own None n e = absurd (cc)
+counted_own (Some own) n e = let same : length own ≡ n = cc in (own, refl, same)
+
+pub own_count_within : (names : Names) (count k n : ℕ) → IsNamed names count → option_map length (slice_get names.strategies k) ≡ Some n → n ≤ 1048576
+own_count_within names count k n h e =
+    let own = counted_own (slice_get names.strategies k) n e in
+    omega (arith, own.2, h.counted, h.within, count_at_most names.strategies k own.0 h.some_strategy own.1)
+
+pub place_within : (names : Names) (count : ℕ) (payoffs zeros : List Ratio) (numbers : List ℕ) (t : Table) (place : ℕ) → IsKept names count payoffs zeros numbers → table_with names (kept_rows names payoffs numbers) ≡ t
+    → place < length t.entries → place < count
+place_within names count payoffs zeros numbers t place k view h =
+    let size : length t.entries ≡ count = ap (λ (u : Table). length u.entries) (sym view) ∙ length-entries names count payoffs zeros numbers k in omega (arith, h, size)
+
+pub numbered : (names : Names) (count : ℕ) (payoffs zeros : List Ratio) (choices : Option (List ℕ)) (t : Table) (place number : ℕ) → IsKept names count payoffs zeros (numbers_of count choices)
+    → table_with names (kept_rows names payoffs (numbers_of count choices)) ≡ t → place < length t.entries → number_in choices place ≡ Some number → IsNumber names count payoffs zeros (numbers_of count choices) place number
+numbered names count payoffs zeros choices t place number k view h e =
+    record { kept = k; number_is = sym (number_found count choices place (place_within names count payoffs zeros (numbers_of count choices) t place k view h)) ∙ e }
+
+pub made_of_parts : (t : Table) (names : Names) (title comment : List ℕ) (players : List (List ℕ)) (strategies : List (List (List ℕ))) (count : ℕ) (payoffs given : List Ratio)
+    → names ≡ record { title = title; comment = comment; players = players; strategies = strategies } → IsNamed names count → payoffs ≡ given → length payoffs ≡ count * length names.players
+    → t ≡ table_with names (kept_rows names payoffs (positions count)) → IsTableOf t title comment players strategies given
+made_of_parts t names title comment players strategies count payoffs given is named same whole made =
+    let kept : IsKept names count payoffs [] (positions count) = record { named = named; kept = positions_have_rows (length names.players) count payoffs [] whole } in
+    record {
+      title_is = ap (λ (u : Table). u.title) made ∙ ap (λ (n : Names). n.title) is;
+      comment_is = ap (λ (u : Table). u.comment) made ∙ ap (λ (n : Names). n.comment) is;
+      players_are = ap (λ (u : Table). u.players) made ∙ ap (λ (n : Names). n.players) is;
+      strategies_are = ap (λ (u : Table). u.strategies) made ∙ ap (λ (n : Names). n.strategies) is;
+      payoffs_are = ap (λ (u : Table). flat_map (λ row. row) (rows u)) made ∙ ap (λ (rs : List (List Ratio)). flat_map (λ row. row) rs) (rows-table_with names count payoffs [] (positions count) kept) ∙ rows_in_turn (length names.players) count payoffs whole ∙ same;
+      is_table = rw made (is_table names count payoffs [] (positions count) kept);
+    }

@@ -1,0 +1,19 @@
+use Rattle.std.proofs.Common.{◌≡◌, ◌∙◌, ◌++◌, ◌+◌, ◌<◌, ◌^◌, true, arith}
+use Rattle.std.specs.Prelude.{decimal}
+use Rattle.gf_token.specs.LabelSpelling.{is_spelling}
+use Rattle.gf_token.specs.Label.{label_of}
+use Rattle.gf_nfg.proofs.LabelsCounted.{is_spelling-decimal, counted_appended, counted_rest}
+use Rattle.gf_nfg.proofs.labels.Labels.extend_counted.Goals as goal
+
+pub unwrap-requires : goal.unwrap-requires
+unwrap-requires c =
+    let small : c.loop-before.before + 1 < 2 ^ 64 = omega (arith, c.ranges.count.fits) in
+    let number : c.as_bytes-number.result.now ≡ decimal (c.loop-before.before + 1) = c.as_bytes-number.ensures.value ∙ c.format.ensures.text in
+    let spelled : is_spelling c.as_bytes-number.result.now ≡ true = rw number (is_spelling-decimal (c.loop-before.before + 1) (omega arith) small) in
+    c.new.ensures.spelled.1 spelled
+
+pub loop-before-preserved : goal.loop-before-preserved
+loop-before-preserved c =
+    let same : label_of c.unwrap.result ≡ c.as_bytes-number.result.now = rw c.unwrap.ensures at c.new.ensures.same in
+    let is : label_of c.unwrap.result ≡ decimal (c.loop-before.before + 1) = same ∙ c.as_bytes-number.ensures.value ∙ c.format.ensures.text in
+    counted_appended (c.args.self.now ++ counted_rest 0 c.args.count) c.loop-before.self c.push.new.self (label_of c.unwrap.result) c.loop-before.before c.args.count c.loop-before-test.true is c.in_ok-push.ensures.ok c.loop-before.invariant

@@ -1,0 +1,17 @@
+pub mod Judgement
+pub mod Limit
+pub mod Machine
+pub mod Meaning
+pub mod Place
+pub mod ProfilePlaces
+pub mod Profiles
+pub mod ReaderState
+pub mod Readings
+pub mod SameTable
+pub mod Sentence
+pub mod Table
+pub mod TableAccess
+pub mod TableParts
+pub mod TableText
+pub mod TextParts
+pub mod WorkedTables

@@ -1,0 +1,38 @@
+-- The table that a strategic file means.
+use Rattle.std.specs.Prelude.{◌≡◌, ℕ, ◌<◌, true, List, ◌∷◌, ◌++◌, length, map}
+use Rattle.std.specs.List.{AllByRecursion, flat_map}
+use Rattle.gf_fraction.specs.Ratio.{Ratio, IsFraction}
+use Rattle.gf_token.specs.LabelSpelling.{is_spelling}
+use Rattle.gf_nfg.specs.Profiles.{profiles}
+
+-- what each player is paid at a profile
+pub record Entry : Type 0 where
+  pub profile : List ℕ
+  pub payoffs : List Ratio
+
+-- Labels are lists of bytes. `entries` is the finite map from profiles to payoffs.
+pub record Table : Type 0 where
+  pub title : List ℕ
+  pub comment : List ℕ
+  pub players : List (List ℕ)
+  pub strategies : List (List (List ℕ))
+  pub entries : List Entry
+
+abbrev pub rows : Table → List (List Ratio)
+rows t = map (λ e. e.payoffs) t.entries
+
+-- each player has a nonempty list of strategies, each profile one entry, and each entry one payoff for each player
+pub record IsTable (t : Table) : Type 0 where
+  pub one_list_each : length t.strategies ≡ length t.players
+  pub some_strategy : AllByRecursion (λ labels. 0 < length labels) t.strategies
+  pub one_entry_each : map (λ e. e.profile) t.entries ≡ profiles (map length t.strategies)
+  pub one_payoff_each : AllByRecursion (λ row. length row ≡ length t.players) (rows t)
+
+-- title, comment, the players' names and the strategies'
+abbrev pub labels : Table → List (List ℕ)
+labels t = t.title ∷ t.comment ∷ (t.players ++ flat_map (λ names. names) t.strategies)
+
+-- a file can hold it: its labels are spellings of labels, and its payoffs fractions
+pub record IsSpellable (t : Table) : Type 0 where
+  pub labels_spelled : AllByRecursion (λ label. is_spelling label ≡ true) (labels t)
+  pub payoffs_are_fractions : AllByRecursion (λ row. AllByRecursion IsFraction row) (rows t)

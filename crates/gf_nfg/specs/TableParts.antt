@@ -1,0 +1,121 @@
+-- How the parts of a table are kept.
+use Rattle.std.specs.Prelude.{◌≡◌, ℕ, zero, suc, pos, ◌+◌, ◌-◌, ◌*◌, ◌<◌, ◌≤◌, true, List, [], ◌∷◌, take, drop, length, slice_get, replicate, Option, Some, None, option_map, unwrap_or, decimal, map, nat_lt, if◌then◌else◌}
+use Rattle.std.specs.List.{AllByRecursion}
+use Rattle.gf_fraction.specs.Ratio.{Ratio, whole}
+use Rattle.gf_token.specs.LabelSpelling.{is_spelling}
+use Rattle.gf_nfg.specs.Profiles.{positions, product, profiles}
+use Rattle.gf_nfg.specs.Table.{Entry, Table}
+
+-- a list cut at these ends, from this place on
+abbrev pub pieces : {A : Type 0} → ℕ → List ℕ → List A → List (List A)
+pieces from [] items = []
+pieces from (end ∷ ends) items = take (end - from) (drop from items) ∷ pieces end ends items
+
+-- where the piece with this number, from 0, begins
+abbrev pub start_of : ℕ → List ℕ → ℕ → ℕ
+start_of from ends zero = from
+start_of from [] (suc n) = from
+start_of from (end ∷ ends) (suc n) = start_of end ends n
+
+-- the ends rise from this place, and the last of them is the whole
+abbrev pub RisesTo : ℕ → ℕ → List ℕ → Type 0
+RisesTo whole from [] = from ≡ whole
+RisesTo whole from (end ∷ ends) = (from ≤ end) × RisesTo whole end ends
+
+-- each is the spelling of a label
+abbrev pub AreSpellings : List (List ℕ) → Type 0
+AreSpellings labels = AllByRecursion (λ label. is_spelling label ≡ true) labels
+
+-- bytes that are cut into labels at these ends
+pub record IsCut (ends : List ℕ) (bytes : List ℕ) : Type 0 where
+  pub rises : RisesTo (length bytes) 0 ends
+  pub spelled : AreSpellings (pieces 0 ends bytes)
+
+-- so many items, then so many of the others, and so on
+abbrev pub groups : {A : Type 0} → List ℕ → List A → List (List A)
+groups [] items = []
+groups (size ∷ sizes) items = take size items ∷ groups sizes (drop size items)
+
+-- the labels "1" to n
+abbrev pub counted_labels : ℕ → List (List ℕ)
+counted_labels n = map decimal (positions n)
+
+-- a table but for its payoffs
+pub record Names : Type 0 where
+  pub title : List ℕ
+  pub comment : List ℕ
+  pub players : List (List ℕ)
+  pub strategies : List (List (List ℕ))
+
+-- the strategies of the player at this place
+abbrev pub own_of : Names → ℕ → List (List ℕ)
+own_of names at = unwrap_or (slice_get names.strategies at) []
+
+-- The labels are the title, the comment, the players' names, then the strategies' of each player, which end at these places.
+abbrev pub names_of : List (List ℕ) → List ℕ → Names
+names_of labels ends = record {
+  title = unwrap_or (slice_get labels 0) [];
+  comment = unwrap_or (slice_get labels 1) [];
+  players = take (length ends) (drop 2 labels);
+  strategies = pieces (2 + length ends) ends labels;
+}
+
+-- Behind the labels `before` stand the strategies of some players, and each player's end at one of these ends.
+pub record AreStrategies (before labels : List (List ℕ)) (ends : List ℕ) (strategies : List (List (List ℕ))) : Type 0 where
+  pub begin : take (length before) labels ≡ before
+  pub rises : RisesTo (length labels) (length before) ends
+  pub are : pieces (length before) ends labels ≡ strategies
+
+-- ---- rows
+
+-- each profile with its row
+abbrev pub entries_of : List (List ℕ) → List (List Ratio) → List Entry
+entries_of [] rows = []
+entries_of (profile ∷ profiles) [] = []
+entries_of (profile ∷ profiles) (row ∷ rows) = record { profile = profile; payoffs = row } ∷ entries_of profiles rows
+
+-- the table with these names, and these rows at the profiles in turn
+abbrev pub table_with : Names → List (List Ratio) → Table
+table_with names rows = record {
+  title = names.title;
+  comment = names.comment;
+  players = names.players;
+  strategies = names.strategies;
+  entries = entries_of (profiles (map length names.strategies)) rows;
+}
+
+-- the row with this number, from 1, of rows that stand one behind the other; at 0 each player is paid zero
+abbrev pub row_of : ℕ → List Ratio → ℕ → List Ratio
+row_of players payoffs zero = replicate players (whole (pos 0))
+row_of players payoffs (suc k) = take players (drop (k * players) payoffs)
+
+-- the number of the row of each profile: without a choice they are the profiles' own
+abbrev pub numbers_of : ℕ → Option (List ℕ) → List ℕ
+numbers_of count None = positions count
+numbers_of count (Some choices) = choices
+
+-- one of them
+abbrev pub number_in : Option (List ℕ) → ℕ → Option ℕ
+number_in None place = Some (place + 1)
+number_in (Some choices) place = slice_get choices place
+
+-- there are names for a table of so many profiles
+pub record IsNamed (names : Names) (count : ℕ) : Type 0 where
+  pub one_list_each : length names.strategies ≡ length names.players
+  pub some_strategy : AllByRecursion (λ own. 0 < length own) names.strategies
+  pub counted : count ≡ product (map length names.strategies)
+  pub within : count ≤ 1048576
+
+-- there is a row with the number of each profile, and one of zeros if a number is 0
+pub record HasRows (players count : ℕ) (payoffs zeros : List Ratio) (numbers : List ℕ) : Type 0 where
+  pub one_number_each : length numbers ≡ count
+  pub rows_kept : AllByRecursion (λ number. number * players ≤ length payoffs) numbers
+  pub zeros_kept : AllByRecursion (λ number. number ≡ 0 → zeros ≡ replicate players (whole (pos 0))) numbers
+
+-- ---- profiles
+
+-- the place of a profile, from 0, among those of players with so many strategies; none if it is not one of them
+abbrev pub place_of : List ℕ → List ℕ → Option ℕ
+place_of [] [] = Some 0
+place_of (count ∷ counts) (suc k ∷ others) = if nat_lt k count then option_map (λ place. place * count + k) (place_of counts others) else None
+place_of _ _ = None

@@ -1,0 +1,36 @@
+-- The canonical text of a table.
+use Rattle.std.specs.Prelude.{ℕ, List, [], ◌∷◌, ◌++◌, map, codes}
+use Rattle.std.specs.List.{join_with_byte, flat_map}
+use Rattle.gf_token.specs.Token.{Lexeme}
+use Rattle.gf_token.specs.TokenSpelling.{Spells}
+use Rattle.gf_fraction.specs.NumberText.{number_text}
+use Rattle.gf_nfg.specs.Table.{Table, rows}
+use Rattle.gf_nfg.specs.Sentence.{Sentence}
+
+-- tokens joined by one space
+abbrev pub spaced : List (List ℕ) → List ℕ
+spaced tokens = join_with_byte 32 tokens
+
+-- a list in braces, `{ }` where it is empty
+abbrev pub list_text : List (List ℕ) → List ℕ
+list_text items = spaced (codes "{" ∷ (items ++ codes "}" ∷ []))
+
+abbrev pub quoted : List ℕ → List ℕ
+quoted label = 34 ∷ (label ++ 34 ∷ [])
+
+-- each line ends in one line feed
+abbrev pub lines_text : List (List ℕ) → List ℕ
+lines_text lines = flat_map (λ line. line ++ 10 ∷ []) lines
+
+-- format, title and players; the strategies; the comment; an empty line; the payoffs at each profile
+abbrev pub table_text : Table → List ℕ
+table_text t = lines_text
+    (spaced (codes "NFG" ∷ codes "1" ∷ codes "R" ∷ quoted t.title ∷ list_text (map quoted t.players) ∷ [])
+    ∷ list_text (map (λ labels. list_text (map quoted labels)) t.strategies)
+    ∷ quoted t.comment
+    ∷ []
+    ∷ map (λ row. spaced (map number_text row)) (rows t))
+
+-- the bytes of a strategic file that means this table
+abbrev pub SpellsTable : List ℕ → Table → Type 0
+SpellsTable bytes t = (lexemes : List Lexeme) × Spells 0 bytes lexemes × Sentence (map (λ l. l.token) lexemes) t

@@ -1,0 +1,21 @@
+//! Strategic files of Gambit: their tables, their reader and their canonical text.
+#![tactic(auto)]
+
+mod agree;
+mod labels;
+pub mod laws;
+mod limit;
+mod names;
+mod parts;
+mod position;
+mod read;
+mod reader;
+mod readings;
+mod table;
+mod write;
+
+pub use table::Table;
+pub use write::write_nfg;
+
+#[cfg(test)]
+mod tests;

@@ -1,0 +1,154 @@
+//! Everything of a table but its payoffs: its title, its comment, its players and their strategies.
+
+ghost use Rattle.std.specs.Prelude.{◌≡◌, ◌<◌, ◌∷◌, Some, IfOk, length, map, IsSomeAnd, option_and_then, option_map, slice_get};
+ghost use Rattle.gf_token.specs.Label.{label_of};
+ghost use Rattle.gf_nfg.specs.TableParts.{AreStrategies, counted_labels};
+
+use crate::labels::{Labels, piece_at};
+use gf_token::Label;
+use std::alloc::{AllocError, Global};
+use std::marker::Model;
+
+/// The title, the comment, the players' names and the labels of their strategies.
+#[derive(Debug, Drop)]
+pub(crate) struct Names {
+    /// The title, the comment, the players' names, then each player's strategies.
+    labels: Labels,
+    /// Where each player's strategies end among the labels.
+    ends: Vec<usize>,
+}
+
+impl Model for Names {
+    ghost use Rattle.std.specs.Prelude.{◌+◌, length};
+    ghost use Rattle.gf_nfg.specs.TableParts.{Names, RisesTo, names_of};
+
+    ghost Value = { Names };
+
+    ghost view = { λ n. names_of n.labels n.ends.items };
+
+    ghost invariant = { λ n. RisesTo (length n.labels) (2 + length n.ends.items) n.ends.items };
+}
+
+/// The title, the comment and the players' names.
+fn heading(
+    alloc: Global,
+    title: Label<'_>,
+    comment: Label<'_>,
+    players: &[Label<'_>],
+) -> Result<Labels, AllocError>
+    ensures { IfOk result (λ labels. labels ≡ label_of title.entry ∷ label_of comment.entry ∷ map label_of players.now) }
+{
+    let mut labels = Labels::new(alloc);
+    labels.push(title)?;
+    labels.push(comment)?;
+    labels.extend(players)?;
+    Ok(labels)
+}
+
+/// Adds the strategies of each player, and answers where they end.
+fn add_lists(
+    alloc: Global,
+    strategies: &[Vec<Label<'_>>],
+    labels: &mut Labels,
+) -> Result<Vec<usize>, AllocError>
+    ensures { IfOk result (λ ends. AreStrategies labels.old labels.new ends.items (map (λ own. map label_of own.items) strategies.now)) }
+{
+    let mut ends = Vec::new(alloc);
+    for own in strategies {
+        labels.extend(own)?;
+        ends.push(labels.len())?;
+    }
+    Ok(ends)
+}
+
+/// Adds the labels "1" to a count for each player, and answers where they end.
+fn add_counted(alloc: Global, counts: &[u32], labels: &mut Labels) -> Result<Vec<usize>, AllocError>
+    ensures { IfOk result (λ ends. AreStrategies labels.old labels.new ends.items (map counted_labels counts.now)) }
+{
+    let mut ends = Vec::new(alloc);
+    for count in counts {
+        labels.extend_counted(*count)?;
+        ends.push(labels.len())?;
+    }
+    Ok(ends)
+}
+
+impl Names {
+    /// The strategies are these lists of labels, one for each player.
+    pub(crate) fn new(
+        alloc: Global,
+        title: Label<'_>,
+        comment: Label<'_>,
+        players: &[Label<'_>],
+        strategies: &[Vec<Label<'_>>],
+    ) -> Result<Names, AllocError>
+        requires { length strategies.now ≡ length players.now }
+        ensures { IfOk result (λ names. names ≡ record { title = label_of title.entry; comment = label_of comment.entry; players = map label_of players.now; strategies = map (λ own. map label_of own.items) strategies.now }) }
+    {
+        let mut labels = heading(alloc, title, comment, players)?;
+        let ends = add_lists(alloc, strategies, &mut labels)?;
+        Ok(Names { labels, ends })
+    }
+
+    /// A count of n strategies stands for the labels "1" to n.
+    pub(crate) fn counted(
+        alloc: Global,
+        title: Label<'_>,
+        comment: Label<'_>,
+        players: &[Label<'_>],
+        counts: &[u32],
+    ) -> Result<Names, AllocError>
+        requires { length counts.now ≡ length players.now }
+        ensures { IfOk result (λ names. names ≡ record { title = label_of title.entry; comment = label_of comment.entry; players = map label_of players.now; strategies = map counted_labels counts.now }) }
+    {
+        let mut labels = heading(alloc, title, comment, players)?;
+        let ends = add_counted(alloc, counts, &mut labels)?;
+        Ok(Names { labels, ends })
+    }
+
+    pub(crate) fn title(&self) -> Label<'_>
+        ensures { label_of result ≡ self.now.title }
+    {
+        self.labels.label(0)
+    }
+
+    pub(crate) fn comment(&self) -> Label<'_>
+        ensures { label_of result ≡ self.now.comment }
+    {
+        self.labels.label(1)
+    }
+
+    /// How many players there are.
+    pub(crate) fn players(&self) -> usize
+        ensures players { result ≡ length self.now.players }
+        ensures one_list_each { length self.now.strategies ≡ length self.now.players }
+    {
+        self.ends.len()
+    }
+
+    /// The name of the player at this place, from 0.
+    pub(crate) fn player(&self, at: usize) -> Label<'_>
+        requires { at < length self.now.players }
+        ensures { slice_get self.now.players at ≡ Some (label_of result) }
+    {
+        self.labels.label(2 + at)
+    }
+
+    /// How many strategies the player at this place has.
+    pub(crate) fn strategies(&self, at: usize) -> usize
+        requires { at < length self.now.players }
+        ensures { option_map length (slice_get self.now.strategies at) ≡ Some result }
+    {
+        let own = piece_at(2 + self.ends.len(), &self.ends, at);
+        own.end - own.start
+    }
+
+    /// The label of a strategy of the player at this place.
+    pub(crate) fn strategy(&self, at: usize, strategy: usize) -> Label<'_>
+        requires { IsSomeAnd (slice_get self.now.strategies at) (λ own. strategy < length own) }
+        ensures { option_and_then (λ own. slice_get own strategy) (slice_get self.now.strategies at) ≡ Some (label_of result) }
+    {
+        let own = piece_at(2 + self.ends.len(), &self.ends, at);
+        self.labels.label(own.start + strategy)
+    }
+}

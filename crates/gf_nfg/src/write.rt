@@ -1,0 +1,120 @@
+//! The canonical text of a table: Gambit's strategic format in payoff version, laid out by this project's profile.
+
+ghost use Rattle.std.specs.Prelude.{◌≡◌, ◌<◌, ◌++◌, OnErr, OnOk, length, map};
+ghost use Rattle.gf_fraction.specs.NumberText.{number_text};
+ghost use Rattle.gf_nfg.specs.Table.{rows};
+ghost use Rattle.gf_nfg.specs.TableParts.{own_of};
+ghost use Rattle.gf_nfg.specs.TableText.{lines_text, list_text, quoted, spaced, table_text};
+ghost use Rattle.gf_nfg.specs.TextParts.{heading_text, others_text, row_text};
+
+use crate::names::Names;
+use crate::table::Table;
+use gf_fraction::Fraction;
+use gf_token::write_label;
+use std::alloc::AllocError;
+
+/// Appends the players' names in braces.
+fn write_players(names: &Names, out: &mut Vec<u8>) -> Result<(), AllocError>
+    ensures { OnOk result (out.new.items ≡ out.old.items ++ list_text (map quoted names.now.players)) }
+{
+    out.extend_from_slice(b"{ ")?;
+    for at in 0..names.players() {
+        write_label(names.player(at), out)?;
+        out.push(b' ')?;
+    }
+    out.push(b'}')?;
+    Ok(())
+}
+
+/// Appends the strategies of the player at this place in braces.
+fn write_own(names: &Names, at: usize, out: &mut Vec<u8>) -> Result<(), AllocError>
+    requires { at < length names.now.players }
+    ensures { OnOk result (out.new.items ≡ out.old.items ++ list_text (map quoted (own_of names.now at))) }
+{
+    out.extend_from_slice(b"{ ")?;
+    for strategy in 0..names.strategies(at) {
+        write_label(names.strategy(at, strategy), out)?;
+        out.push(b' ')?;
+    }
+    out.push(b'}')?;
+    Ok(())
+}
+
+/// Appends the strategies of each player in braces, and all of them in braces.
+fn write_strategies(names: &Names, out: &mut Vec<u8>) -> Result<(), AllocError>
+    ensures { OnOk result (out.new.items ≡ out.old.items ++ list_text (map (λ own. list_text (map quoted own)) names.now.strategies)) }
+{
+    out.extend_from_slice(b"{ ")?;
+    for at in 0..names.players() {
+        write_own(names, at, out)?;
+        out.push(b' ')?;
+    }
+    out.push(b'}')?;
+    Ok(())
+}
+
+/// Appends all that stands before the payoffs.
+fn write_heading(names: &Names, out: &mut Vec<u8>) -> Result<(), AllocError>
+    ensures { OnOk result (out.new.items ≡ out.old.items ++ heading_text names.now) }
+{
+    out.extend_from_slice(b"NFG 1 R ")?;
+    write_label(names.title(), out)?;
+    out.push(b' ')?;
+    write_players(names, out)?;
+    out.push(b'\n')?;
+    write_strategies(names, out)?;
+    out.push(b'\n')?;
+    write_label(names.comment(), out)?;
+    out.extend_from_slice(b"\n\n")?;
+    Ok(())
+}
+
+/// Appends payoffs, each behind a space.
+#[tactic(auto, using(crate::proofs::Texts::others_more))]
+fn write_others(payoffs: &[Fraction], out: &mut Vec<u8>) -> Result<(), AllocError>
+    ensures { OnOk result (out.new.items ≡ out.old.items ++ others_text (map number_text payoffs.now)) }
+{
+    for payoff in payoffs {
+        out.push(b' ')?;
+        payoff.write(out)?;
+    }
+    Ok(())
+}
+
+/// Appends the payoffs at one profile, with a space between any two.
+fn write_row(payoffs: &[Fraction], out: &mut Vec<u8>) -> Result<(), AllocError>
+    ensures { OnOk result (out.new.items ≡ out.old.items ++ row_text payoffs.now) }
+{
+    match payoffs.split_first() {
+        None => Ok(()),
+        Some((first, others)) => {
+            first.write(out)?;
+            write_others(others, out)?;
+            Ok(())
+        }
+    }
+}
+
+/// Appends a line of payoffs for each profile.
+fn write_rows(t: &Table, out: &mut Vec<u8>) -> Result<(), AllocError>
+    ensures { OnOk result (out.new.items ≡ out.old.items ++ lines_text (map row_text (rows t.now))) }
+{
+    for place in 0..t.profiles() {
+        write_row(t.row(place as usize), out)?;
+        out.push(b'\n')?;
+    }
+    Ok(())
+}
+
+/// Appends the canonical text of the table: payoff version, each number in lowest terms, one line for each profile.
+///
+/// `AllocError` where memory is refused, and then the vector's items are as they were.
+pub fn write_nfg(t: &Table, out: &mut Vec<u8>) -> Result<(), AllocError>
+    ensures ok { OnOk result (out.new.items ≡ out.old.items ++ table_text t.now) }
+    ensures err { OnErr result (out.new.items ≡ out.old.items) }
+{
+    let mut text = Vec::new(*out.allocator());
+    write_heading(t.names(), &mut text)?;
+    write_rows(t, &mut text)?;
+    out.extend_from_slice(&text)
+}
