@@ -1,8 +1,8 @@
 //! Everything of a table but its payoffs: its title, its comment, its players and their strategies.
 
-ghost use Rattle.std.specs.Prelude.{◌≡◌, ◌<◌, ◌∷◌, Some, IfOk, length, map, IsSomeAnd, option_and_then, option_map, slice_get};
+ghost use Rattle.std.specs.Prelude.{◌≡◌, ◌+◌, ◌<◌, ◌^◌, ◌∷◌, Some, IfOk, length, map, IsSomeAnd, option_and_then, option_map, slice_get, sum};
 ghost use Rattle.gf_token.specs.Label.{label_of};
-ghost use Rattle.gf_nfg.specs.TableParts.{AreStrategies, counted_labels};
+ghost use Rattle.gf_nfg.specs.TableParts.{AreStrategies, counted_labels, ends_from, groups};
 
 use crate::labels::{Labels, piece_at};
 use gf_token::Label;
@@ -73,6 +73,20 @@ fn add_counted(alloc: Global, counts: &[u32], labels: &mut Labels) -> Result<Vec
     Ok(ends)
 }
 
+/// The ends of pieces of these sizes.
+fn ends_from(alloc: Global, first: usize, sizes: &[u32]) -> Result<Vec<usize>, AllocError>
+    requires { first + sum sizes.now < 2 ^ 64 }
+    ensures { IfOk result (λ ends. ends.items ≡ ends_from first sizes.now) }
+{
+    let mut ends = Vec::new(alloc);
+    let mut end = first;
+    for size in sizes {
+        end += *size as usize;
+        ends.push(end)?;
+    }
+    Ok(ends)
+}
+
 impl Names {
     /// The strategies are these lists of labels, one for each player.
     pub(crate) fn new(
@@ -103,6 +117,27 @@ impl Names {
     {
         let mut labels = heading(alloc, title, comment, players)?;
         let ends = add_counted(alloc, counts, &mut labels)?;
+        Ok(Names { labels, ends })
+    }
+
+    /// The strategies' labels stand one behind the other, so many for each player.
+    pub(crate) fn grouped(
+        alloc: Global,
+        title: Label<'_>,
+        comment: Label<'_>,
+        players: &[Label<'_>],
+        counts: &[u32],
+        strategies: &[Label<'_>],
+    ) -> Result<Names, AllocError>
+        requires one_count_each { length counts.now ≡ length players.now }
+        requires one_label_each { sum counts.now ≡ length strategies.now }
+        ensures { IfOk result (λ names. names ≡ record { title = label_of title.entry; comment = label_of comment.entry; players = map label_of players.now; strategies = groups counts.now (map label_of strategies.now) }) }
+    {
+        let mut labels = heading(alloc, title, comment, players)?;
+        let first = labels.len();
+        labels.extend(strategies)?;
+        let whole = labels.len();
+        let ends = ends_from(alloc, first, counts)?;
         Ok(Names { labels, ends })
     }
 

@@ -1,82 +1,139 @@
-//! Tables made of their parts, and what their accessors give.
+//! Tables made of parts, their accessors, their texts, and which of them are the same to play.
 
-use crate::{Table, write_nfg};
+use crate::table::Table;
+use crate::write::write_nfg;
 use gf_fraction::Fraction;
 use gf_token::Label;
+use std::alloc::{AllocError, Global};
+use std::process::Abort;
 use std::test::Fail;
 
-fn label(text: &[u8]) -> Option<Label<'_>> {
-    Label::new(text)
+const SELTEN: &[u8] = b"NFG 1 R \"Selten\" { \"Player 1\" \"Player 2\" }
+{ { \"1\" \"2\" \"3\" } { \"1\" \"2\" } }
+\"\"
+
+1 1
+0 2
+0 2
+1 1
+0 3
+2 0
+";
+
+fn label<'a>(rt: &impl Abort, raw: &'a [u8]) -> Label<'a> {
+    Label::new(raw).expect(rt, "a spelling")
+}
+
+fn whole(rt: &impl Abort, n: i128) -> Fraction {
+    Fraction::new(n, 1).expect(rt, "a whole number")
+}
+
+/// A table of two players, who have three strategies and two.
+fn two_players(
+    rt: &impl Abort,
+    alloc: Global,
+    title: &[u8],
+    last: &[u8],
+    numbers: [i128; 12],
+) -> Result<Table, AllocError> {
+    let players = [label(rt, b"Player 1"), label(rt, b"Player 2")];
+    let strategies = [
+        vec![in alloc; label(rt, b"1"), label(rt, b"2"), label(rt, b"3")]?,
+        vec![in alloc; label(rt, b"1"), label(rt, last)]?,
+    ];
+    let rows = numbers.map(|n| whole(rt, n));
+    Table::new(
+        alloc,
+        label(rt, title),
+        label(rt, b""),
+        &players,
+        &strategies,
+        &rows,
+    )
+}
+
+/// The table whose canonical text is `SELTEN`.
+fn selten(rt: &impl Abort, alloc: Global) -> Result<Table, AllocError> {
+    let numbers = [1, 1, 0, 2, 0, 2, 1, 1, 0, 3, 2, 0];
+    two_players(rt, alloc, b"Selten", b"2", numbers)
 }
 
 #[test]
-fn gives_the_parts_of_a_table(rt: HostRuntime) -> Result<(), Fail> {
-    let alloc = rt.alloc();
-    let (Some(title), Some(comment), Some(first), Some(second)) = (
-        label(b"Selten"),
-        label(b""),
-        label(b"Player 1"),
-        label(b"Player 2"),
-    ) else {
-        return Err("no labels".into());
-    };
-    let (Some(one), Some(two)) = (label(b"1"), label(b"2")) else {
-        return Err("no labels".into());
-    };
-    let players = [first, second];
-    let strategies = [vec![in alloc; one, two]?, vec![in alloc; one]?];
-    let rows = [
-        Fraction::zero(),
-        Fraction::one(),
-        Fraction::one(),
-        Fraction::zero(),
-    ];
-    let table = Table::new(alloc, title, comment, &players, &strategies, &rows)?;
-    assert!(rt; table.title() == title && table.comment() == comment);
-    assert_eq!(rt; table.players(), 2);
-    assert_eq!(rt; table.profiles(), 2);
-    assert!(rt; table.player(0).is_none() && table.player(3).is_none());
-    assert_eq!(rt; table.player(2), Some(second));
-    assert_eq!(rt; table.strategies(1), Some(2));
-    assert_eq!(rt; table.strategies(3), None);
-    assert_eq!(rt; table.strategy(1, 2), Some(two));
-    assert!(rt; table.strategy(2, 2).is_none() && table.strategy(2, 0).is_none());
+fn writes_a_text_behind_another(rt: HostRuntime) -> Result<(), Fail> {
+    let t = selten(&rt, rt.alloc())?;
+    let mut text = Vec::from_slice(rt.alloc(), b"# ")?;
+    write_nfg(&t, &mut text)?;
+    assert_eq!(rt; &text[..2], b"# ".as_slice());
+    assert_eq!(rt; &text[2..], SELTEN);
     Ok(())
 }
 
 #[test]
-fn writes_the_table_of_selten(rt: HostRuntime) -> Result<(), Fail> {
-    let alloc = rt.alloc();
-    let (Some(title), Some(comment), Some(first), Some(second)) = (
-        label(b"Selten"),
-        label(b""),
-        label(b"Player 1"),
-        label(b"Player 2"),
-    ) else {
-        return Err("no labels".into());
-    };
-    let (Some(one), Some(two), Some(three)) = (label(b"1"), label(b"2"), label(b"3")) else {
-        return Err("no labels".into());
-    };
-    let players = [first, second];
-    let strategies = [vec![in alloc; one, two, three]?, vec![in alloc; one, two]?];
-    let mut rows = Vec::new(alloc);
-    for n in [1, 1, 0, 2, 0, 2, 1, 1, 0, 3, 2, 0] {
-        rows.push(Fraction::new(n, 1).unwrap_or(Fraction::zero()))?;
+fn keeps_its_names(rt: HostRuntime) -> Result<(), Fail> {
+    let t = selten(&rt, rt.alloc())?;
+    assert_eq!(rt; t.title().raw(), b"Selten".as_slice());
+    assert_eq!(rt; t.comment().raw(), b"".as_slice());
+    assert_eq!(rt; (t.players(), t.profiles()), (2, 6));
+    let names: [(u32, Option<&[u8]>); 4] = [
+        (0, None),
+        (1, Some(b"Player 1")),
+        (2, Some(b"Player 2")),
+        (3, None),
+    ];
+    for (i, name) in names {
+        assert_eq!(rt; t.player(i).map(Label::raw), name);
     }
-    assert_eq!(rt; rows.len(), 12);
-    let table = Table::new(alloc, title, comment, &players, &strategies, &rows)?;
-    assert!(rt; table.play_agrees(&table));
-    let Some(payoffs) = table.payoffs(&[2, 2]) else {
-        return Err("no payoffs".into());
-    };
-    assert_eq!(rt; payoffs, &rows[8..10]);
-    assert!(rt; table.payoffs(&[2]).is_none() && table.payoffs(&[2, 3]).is_none());
-    assert!(rt; table.payoffs(&[0, 1]).is_none() && table.payoffs(&[1, 1, 1]).is_none());
-    let mut text = Vec::new(alloc);
-    write_nfg(&table, &mut text)?;
-    let selten =
-        b"NFG 1 R \"Selten\" { \"Player 1\" \"Player 2\" }\n{ { \"1\" \"2\" \"3\" } { \"1\" \"2\" } }\n\"\"\n\n1 1\n0 2\n0 2\n1 1\n0 3\n2 0\n";
-    assert_eq!(rt; text.as_slice(), selten.as_slice());
+    Ok(())
+}
+
+#[test]
+fn keeps_its_strategies(rt: HostRuntime) -> Result<(), Fail> {
+    let t = selten(&rt, rt.alloc())?;
+    assert_eq!(rt;
+        (t.strategies(0), t.strategies(1), t.strategies(3)),
+        (None, Some(3), None)
+    );
+    let labels: [(u32, u32, Option<&[u8]>); 4] = [
+        (1, 3, Some(b"3")),
+        (2, 3, None),
+        (2, 0, None),
+        (0, 1, None),
+    ];
+    for (i, s, label) in labels {
+        assert_eq!(rt; t.strategy(i, s).map(Label::raw), label);
+    }
+    Ok(())
+}
+
+#[test]
+fn keeps_its_payoffs(rt: HostRuntime) -> Result<(), Fail> {
+    let t = selten(&rt, rt.alloc())?;
+    assert_eq!(rt;
+        t.payoffs(&[2, 2]),
+        Some([whole(&rt, 0), whole(&rt, 3)].as_slice())
+    );
+    let others: [&[u32]; 4] = [&[2], &[2, 2, 1], &[0, 1], &[1, 3]];
+    for profile in others {
+        assert!(rt; t.payoffs(profile).is_none());
+    }
+    Ok(())
+}
+
+#[test]
+fn tells_which_are_the_same_to_play(rt: HostRuntime) -> Result<(), Fail> {
+    let alloc = rt.alloc();
+    let numbers = [1, 1, 0, 2, 0, 2, 1, 1, 0, 3, 2, 0];
+    let t = selten(&rt, alloc)?;
+    let titled = two_players(&rt, alloc, b"", b"2", numbers)?;
+    let named = two_players(&rt, alloc, b"Selten", b"02", numbers)?;
+    let paid = two_players(
+        &rt,
+        alloc,
+        b"Selten",
+        b"2",
+        [1, 1, 0, 2, 0, 2, 1, 1, 0, 3, 2, 1],
+    )?;
+    assert!(rt; t.play_agrees(&t) && t.play_agrees(&titled));
+    assert!(rt; !t.play_agrees(&named) && !t.play_agrees(&paid));
     Ok(())
 }
