@@ -5,8 +5,9 @@ use Rattle.std.specs.List.{AllByRecursion, flat_map}
 use Rattle.std.proofs.Math.Nat.{mul-suc}
 use Rattle.std.proofs.lemmas.List.{length-append, length-map}
 use Rattle.std.proofs.lemmas.List.Sums.{sum_by-cons}
-use Rattle.gf_nfg.specs.Profiles.{numbers_from, positions, profiles, product}
-use Rattle.gf_nfg.specs.Meaning.{counted_labels, grouped}
+use Rattle.gf_nfg.specs.Profiles.{positions, product}
+use Rattle.gf_nfg.specs.TableParts.{counted_labels, groups}
+use Rattle.gf_nfg.proofs.TableRows.{length-numbers_from}
 
 abbrev pub joined : {A : Type 0} → List (List A) → List A
 joined lists = flat_map (λ items. items) lists
@@ -30,10 +31,6 @@ drop-more : {A : Type 0} (n m : ℕ) (xs ys : List A) → length xs ≡ n → dr
 drop-more n m [] ys e = let f : n + m ≡ m = omega (arith, e) in ap (λ k. drop k ys) f
 drop-more n m (x ∷ xs) ys e = let f : n + m ≡ suc (length xs + m) = omega (arith, e) in ap (λ k. drop k (x ∷ (xs ++ ys))) f ∙ drop-more (length xs) m xs ys refl
 
-length-numbers_from : (first n : ℕ) → length (numbers_from first n) ≡ n
-length-numbers_from first zero = refl
-length-numbers_from first (suc n) = ap suc (length-numbers_from (first + 1) n)
-
 pub length-counted_labels : (n : ℕ) → length (counted_labels n) ≡ n
 length-counted_labels n = length-map (positions n) decimal ∙ length-numbers_from 1 n
 
@@ -46,10 +43,10 @@ pub sum-cons : (n : ℕ) (ns : List ℕ) → sum (n ∷ ns) ≡ n + sum ns
 sum-cons n ns = sum_by-cons (λ (x : ℕ). x) n ns
 
 -- lists one behind the other are parted by their lengths
-pub grouped-joined : {A : Type 0} (lists : List (List A)) → grouped (map length lists) (joined lists) ≡ lists
-grouped-joined [] = refl
-grouped-joined (xs ∷ lists) =
-    let rest : grouped (map length lists) (drop (length xs) (xs ++ joined lists)) ≡ lists = ap (grouped (map length lists)) (drop-front xs (joined lists)) ∙ grouped-joined lists in
+pub groups-joined : {A : Type 0} (lists : List (List A)) → groups (map length lists) (joined lists) ≡ lists
+groups-joined [] = refl
+groups-joined (xs ∷ lists) =
+    let rest : groups (map length lists) (drop (length xs) (xs ++ joined lists)) ≡ lists = ap (groups (map length lists)) (drop-front xs (joined lists)) ∙ groups-joined lists in
     (λ i. take-front xs (joined lists) i ∷ rest i)
 
 pub length-joined : {A : Type 0} (lists : List (List A)) → length (joined lists) ≡ sum (map length lists)
@@ -75,19 +72,6 @@ get-joined size (xs ∷ lists) (suc k) h less =
     let more : suc k * size ≡ size + k * size = omega arith in
     let same : drop (suc k * size) (xs ++ joined lists) ≡ drop (k * size) (joined lists) = ap (λ n. drop n (xs ++ joined lists)) more ∙ drop-more size (k * size) xs (joined lists) h.0 in
     get-joined size lists k h.1 (omega arith) ∙ ap (λ ys. Some (take size ys)) (sym same)
-
-length-flat_map-map : (heads : List ℕ) (tails : List (List ℕ)) → length (flat_map (λ others. map (λ s. s ∷ others) heads) tails) ≡ length heads * length tails
-length-flat_map-map heads [] = omega arith
-length-flat_map-map heads (others ∷ tails) =
-    let first = length-map heads (λ (s : ℕ). s ∷ others) in
-    let rest = length-flat_map-map heads tails in
-    let both = length-append (map (λ (s : ℕ). s ∷ others) heads) (flat_map (λ others'. map (λ s. s ∷ others') heads) tails) in
-    omega (arith, first, rest, both, mul-suc (length heads) (length tails))
-
--- there are as many profiles as the product of the counts
-pub length-profiles : (counts : List ℕ) → length (profiles counts) ≡ product counts
-length-profiles [] = refl
-length-profiles (n ∷ counts) = length-flat_map-map (positions n) (profiles counts) ∙ rw (length-numbers_from, length-profiles counts) refl
 
 -- of positive counts there are some
 pub product_above_zero : (counts : List ℕ) → AllByRecursion (λ n. 0 < n) counts → 0 < product counts

@@ -2,108 +2,94 @@
 use Rattle.std.proofs.Common.{◌≡◌, ℕ, zero, suc, ◌+◌, ◌*◌, ◌<◌, ◌≤◌, List, [], ◌∷◌, ◌++◌, length, map, take, drop, refl, sym, ap, subst, ◌∙◌, arith, length-take, length-drop}
 use Rattle.std.specs.Prelude.{sum, replicate, pos}
 use Rattle.std.specs.List.{AllByRecursion}
-use Rattle.std.proofs.Math.Nat.{mul-suc}
-use Rattle.std.proofs.lemmas.List.{length-map}
+use Rattle.std.proofs.Math.Nat.{mul_comm, mul-le-mul_right}
+use Rattle.std.proofs.lemmas.List.{drop-drop, length-map}
 use Rattle.gf_fraction.specs.Ratio.{Ratio, whole}
-use Rattle.gf_nfg.specs.Profiles.{profiles}
+use Rattle.gf_nfg.specs.Profiles.{numbers_from, positions, product}
 use Rattle.gf_nfg.specs.Table.{Entry, IsTable, rows}
+use Rattle.gf_nfg.specs.TableParts.{Names, groups, row_of, entries_of, table_with, IsNamed, HasRows}
 use Rattle.gf_nfg.specs.Machine.{Content}
-use Rattle.gf_nfg.specs.Meaning.{grouped, strategies_of, paid_by, rows_of, rows_by, entries_of, table_of, HasRows, HasLabels, IsComplete}
-use Rattle.gf_nfg.proofs.MeaningLists.{joined, sum-cons, counts_back, length-profiles, grouped-joined, take-by, drop-by}
+use Rattle.gf_nfg.specs.Meaning.{names_in, numbers_by, strategies_of, rows_by, table_of, HasPayoffs, HasLabels, IsComplete}
+use Rattle.gf_nfg.proofs.MeaningLists.{joined, sum-cons, counts_back, groups-joined, take-by, drop-by}
+use Rattle.gf_nfg.proofs.TableRows as kept
 
 -- ---- strategies
 
-length-grouped : {A : Type 0} (sizes : List ℕ) (items : List A) → length items ≡ sum sizes → map length (grouped sizes items) ≡ sizes
-length-grouped [] items e = refl
-length-grouped (n ∷ sizes) items e =
+length-groups : {A : Type 0} (sizes : List ℕ) (items : List A) → length items ≡ sum sizes → map length (groups sizes items) ≡ sizes
+length-groups [] items e = refl
+length-groups (n ∷ sizes) items e =
     let all = sum-cons n sizes in
     let first : length (take n items) ≡ n = omega (arith, e, all, length-take n items) in
-    let rest = length-grouped sizes (drop n items) (omega (arith, e, all, length-drop n items)) in
+    let rest = length-groups sizes (drop n items) (omega (arith, e, all, length-drop n items)) in
     (λ i. first i ∷ rest i)
 
 -- the strategies are as many as the counts say
 pub counts-strategies_of : (counts : List ℕ) (labels : List (List ℕ)) → HasLabels counts labels → map length (strategies_of counts labels) ≡ counts
 counts-strategies_of counts [] h = counts_back counts
-counts-strategies_of counts (label ∷ labels) h = length-grouped counts (label ∷ labels) h
+counts-strategies_of counts (label ∷ labels) h = length-groups counts (label ∷ labels) h
 
 pub strategies_of-joined : (lists : List (List (List ℕ))) → AllByRecursion (λ n. 0 < n) (map length lists) → strategies_of (map length lists) (joined lists) ≡ lists
 strategies_of-joined [] h = refl
 strategies_of-joined ([] ∷ lists) h = absurd (let some : 0 < 0 = h.0 in omega arith)
-strategies_of-joined ((label ∷ labels) ∷ lists) h = grouped-joined ((label ∷ labels) ∷ lists)
+strategies_of-joined ((label ∷ labels) ∷ lists) h = groups-joined ((label ∷ labels) ∷ lists)
 
 -- ---- rows
 
-length-rows_of : (players n : ℕ) (payoffs : List Ratio) → length (rows_of players n payoffs) ≡ n
-length-rows_of players zero payoffs = refl
-length-rows_of players (suc n) payoffs = ap suc (length-rows_of players n (drop players payoffs))
+-- so many rows of this length, from the payoffs in turn
+abbrev pub rows_of : ℕ → ℕ → List Ratio → List (List Ratio)
+rows_of players zero payoffs = []
+rows_of players (suc n) payoffs = take players payoffs ∷ rows_of players n (drop players payoffs)
 
-rows_full : (players n : ℕ) (payoffs : List Ratio) → length payoffs ≡ players * n → AllByRecursion (λ row. length row ≡ players) (rows_of players n payoffs)
-rows_full players zero payoffs h = tt
-rows_full players (suc n) payoffs h =
-    (omega (arith, h, length-take players payoffs, mul-suc players n), rows_full players n (drop players payoffs) (omega (arith, h, length-drop players payoffs, mul-suc players n)))
+numbered_rows : (players k n : ℕ) (payoffs : List Ratio) → map (row_of players payoffs) (numbers_from (suc k) n) ≡ rows_of players n (drop (k * players) payoffs)
+numbered_rows players k zero payoffs = refl
+numbered_rows players k (suc n) payoffs =
+    let next : suc k + 1 ≡ suc (suc k) = omega arith in
+    let more : suc k * players ≡ k * players + players = omega arith in
+    let rest : map (row_of players payoffs) (numbers_from (suc k + 1) n) ≡ rows_of players n (drop players (drop (k * players) payoffs)) =
+    ap (λ (m : ℕ). map (row_of players payoffs) (numbers_from m n)) next ∙ numbered_rows players (suc k) n payoffs
+    ∙ ap (λ (m : ℕ). rows_of players n (drop m payoffs)) more ∙ ap (rows_of players n) (sym (drop-drop players (k * players) payoffs)) in
+    ap (λ (rs : List (List Ratio)). take players (drop (k * players) payoffs) ∷ rs) rest
+
+-- rows with the numbers from 1 are the rows in turn
+pub rows_in_turn : (players n : ℕ) (payoffs : List Ratio) → map (row_of players payoffs) (positions n) ≡ rows_of players n payoffs
+rows_in_turn players n payoffs = let none : 0 * players ≡ 0 = omega arith in numbered_rows players 0 n payoffs ∙ ap (λ (m : ℕ). rows_of players n (drop m payoffs)) none
 
 -- rows one behind the other are parted again
-pub rows_of-joined : (players : ℕ) (rs : List (List Ratio)) → AllByRecursion (λ row. length row ≡ players) rs → rows_of players (length rs) (joined rs) ≡ rs
+rows_of-joined : (players : ℕ) (rs : List (List Ratio)) → AllByRecursion (λ row. length row ≡ players) rs → rows_of players (length rs) (joined rs) ≡ rs
 rows_of-joined players [] h = refl
 rows_of-joined players (row ∷ rs) h =
     let rest : rows_of players (length rs) (drop players (row ++ joined rs)) ≡ rs = ap (rows_of players (length rs)) (drop-by players row (joined rs) h.0) ∙ rows_of-joined players rs h.1 in
     (λ i. take-by players row (joined rs) h.0 i ∷ rest i)
 
-length-replicate : {A : Type 0} (n : ℕ) (x : A) → length (replicate n x) ≡ n
-length-replicate zero x = refl
-length-replicate (suc n) x = ap suc (length-replicate n x)
+pub rows_again : (players : ℕ) (rs : List (List Ratio)) → AllByRecursion (λ row. length row ≡ players) rs → map (row_of players (joined rs)) (positions (length rs)) ≡ rs
+rows_again players rs h = rows_in_turn players (length rs) (joined rs) ∙ rows_of-joined players rs h
 
-within : (players outcomes k : ℕ) → suc k ≤ outcomes → k * players + players ≤ players * outcomes
-within players zero k h = absurd (omega arith)
-within players (suc outcomes) zero h = omega (arith, mul-suc players outcomes)
-within players (suc outcomes) (suc k) h =
-    let less : k * players + players ≤ players * outcomes = within players outcomes k (omega arith) in
-    omega (arith, less, mul-suc players outcomes)
+choices_within : (players outcomes : ℕ) (choices : List ℕ) (payoffs : List Ratio) → length payoffs ≡ players * outcomes → AllByRecursion (λ k. k ≤ outcomes) choices → AllByRecursion (λ k. k * players ≤ length payoffs) choices
+choices_within players outcomes [] payoffs e h = tt
+choices_within players outcomes (k ∷ choices) payoffs e h =
+    (let fits = mul-le-mul_right players h.0 in omega (arith, e, fits, mul_comm players outcomes), choices_within players outcomes choices payoffs e h.1)
 
-row_full : (players outcomes k : ℕ) (payoffs : List Ratio) → length payoffs ≡ players * outcomes → k ≤ outcomes → length (paid_by players payoffs k) ≡ players
-row_full players outcomes zero payoffs e h = length-replicate players (whole (pos 0))
-row_full players outcomes (suc k) payoffs e h =
-    let fits = within players outcomes k h in
-    let rest = length-drop (k * players) payoffs in
-    let row = length-take players (drop (k * players) payoffs) in
-    omega (arith, e, fits, rest, row)
+zeros_kept : {A : Type 0} (zeros : List A) (numbers : List ℕ) → AllByRecursion (λ number. number ≡ 0 → zeros ≡ zeros) numbers
+zeros_kept zeros [] = tt
+zeros_kept zeros (number ∷ numbers) = (λ e. refl, zeros_kept zeros numbers)
 
-choices_full : (players outcomes : ℕ) (choices : List ℕ) (payoffs : List Ratio) → length payoffs ≡ players * outcomes → AllByRecursion (λ k. k ≤ outcomes) choices → AllByRecursion (λ row. length row ≡ players) (map (paid_by players payoffs) choices)
-choices_full players outcomes [] payoffs e h = tt
-choices_full players outcomes (k ∷ choices) payoffs e h = (row_full players outcomes k payoffs e h.0, choices_full players outcomes choices payoffs e h.1)
+has_rows : (c : Content) (choices : List ℕ) → HasPayoffs c choices → HasRows (length c.players) c.profiles c.payoffs (replicate (length c.players) (whole (pos 0))) (numbers_by c.profiles choices)
+has_rows c [] h = kept.positions_have_rows (length c.players) c.profiles c.payoffs (replicate (length c.players) (whole (pos 0))) (h ∙ mul_comm (length c.players) c.profiles)
+has_rows c (k ∷ choices) h = record {
+  one_number_each = h.2;
+  rows_kept = choices_within (length c.players) h.0 (k ∷ choices) c.payoffs h.1 h.3;
+  zeros_kept = zeros_kept (replicate (length c.players) (whole (pos 0))) (k ∷ choices);
+}
 
-pub length-rows_by : (c : Content) (choices : List ℕ) → HasRows c choices → length (rows_by c choices) ≡ c.profiles
-length-rows_by c [] h = length-rows_of (length c.players) c.profiles c.payoffs
-length-rows_by c (k ∷ choices) h = length-map (k ∷ choices) (paid_by (length c.players) c.payoffs) ∙ h.2
-
-rows_by_full : (c : Content) (choices : List ℕ) → HasRows c choices → AllByRecursion (λ row. length row ≡ length c.players) (rows_by c choices)
-rows_by_full c [] h = rows_full (length c.players) c.profiles c.payoffs h
-rows_by_full c (k ∷ choices) h = choices_full (length c.players) h.0 (k ∷ choices) c.payoffs h.1 h.3
+pub length-rows_by : (c : Content) (choices : List ℕ) → HasPayoffs c choices → length (rows_by c choices) ≡ c.profiles
+length-rows_by c choices h = length-map (numbers_by c.profiles choices) (row_of (length c.players) c.payoffs) ∙ (has_rows c choices h).one_number_each
 
 -- ---- entries
-
-profiles-entries_of : (ps : List (List ℕ)) (rs : List (List Ratio)) → length ps ≡ length rs → map (λ e. e.profile) (entries_of ps rs) ≡ ps
-profiles-entries_of [] [] h = refl
-profiles-entries_of [] (r ∷ rs) h = refl
-profiles-entries_of (p ∷ ps) [] h = absurd (omega arith)
-profiles-entries_of (p ∷ ps) (r ∷ rs) h = ap (λ qs. p ∷ qs) (profiles-entries_of ps rs (omega arith))
-
-payoffs-entries_of : (ps : List (List ℕ)) (rs : List (List Ratio)) → length ps ≡ length rs → map (λ e. e.payoffs) (entries_of ps rs) ≡ rs
-payoffs-entries_of [] [] h = refl
-payoffs-entries_of [] (r ∷ rs) h = absurd (omega arith)
-payoffs-entries_of (p ∷ ps) [] h = absurd (omega arith)
-payoffs-entries_of (p ∷ ps) (r ∷ rs) h = ap (λ qs. r ∷ qs) (payoffs-entries_of ps rs (omega arith))
 
 -- entries are found again from their profiles and their payoffs
 pub entries_again : (entries : List Entry) → entries_of (map (λ e. e.profile) entries) (map (λ e. e.payoffs) entries) ≡ entries
 entries_again [] = refl
 entries_again (e ∷ entries) = ap (λ es. e ∷ es) (entries_again entries)
-
-matched : (c : Content) → IsComplete c → length (profiles c.counts) ≡ length (rows_by c c.choices)
-matched c h = length-profiles c.counts ∙ sym h.profiles_are ∙ sym (length-rows_by c c.choices h.has_rows)
-
-pub rows-table_of : (c : Content) → IsComplete c → rows (table_of c) ≡ rows_by c c.choices
-rows-table_of c h = payoffs-entries_of (profiles c.counts) (rows_by c c.choices) (matched c h)
 
 -- ---- the table
 
@@ -115,12 +101,54 @@ pub all_counts : (strategies : List (List (List ℕ))) → AllByRecursion (λ la
 all_counts [] h = tt
 all_counts (labels ∷ strategies) h = (h.0, all_counts strategies h.1)
 
-pub is_table : (c : Content) → IsComplete c → IsTable (table_of c)
-is_table c h =
+pub named : (c : Content) → IsComplete c → IsNamed (names_in c) c.profiles
+named c h =
     let same = counts-strategies_of c.counts c.labels h.has_labels in
     record {
       one_list_each = sym (length-map (strategies_of c.counts c.labels) length) ∙ ap length same ∙ h.one_count_each;
       some_strategy = all_some (strategies_of c.counts c.labels) (subst (λ ns. AllByRecursion (λ n. 0 < n) ns) (sym same) h.some_strategy);
-      one_entry_each = profiles-entries_of (profiles c.counts) (rows_by c c.choices) (matched c h) ∙ ap profiles (sym same);
-      one_payoff_each = subst (λ rs. AllByRecursion (λ row. length row ≡ length c.players) rs) (sym (rows-table_of c h)) (rows_by_full c c.choices h.has_rows);
+      counted = h.profiles_are ∙ ap product (sym same);
     }
+
+is_kept : (c : Content) → IsComplete c → kept.IsKept (names_in c) c.profiles c.payoffs (replicate (length c.players) (whole (pos 0))) (numbers_by c.profiles c.choices)
+is_kept c h = record { named = named c h; kept = has_rows c c.choices h.has_rows }
+
+pub is_table : (c : Content) → IsComplete c → IsTable (table_of c)
+is_table c h = kept.is_table _ _ _ _ _ (is_kept c h)
+
+pub rows-table_of : (c : Content) → IsComplete c → rows (table_of c) ≡ rows_by c c.choices
+rows-table_of c h = kept.rows-table_with _ _ _ _ _ (is_kept c h)
+
+pub length-entries : (c : Content) → IsComplete c → length (table_of c).entries ≡ c.profiles
+length-entries c h = kept.length-entries _ _ _ _ _ (is_kept c h)
+
+-- ---- the table as it is made
+
+pub named_by : (c : Content) (names : Names) → names ≡ names_in c → IsComplete c → IsNamed names c.profiles
+named_by c names is h = rw is (named c h)
+
+none_chosen : (profiles : ℕ) (choices : List ℕ) → length choices ≡ 0 → numbers_by profiles choices ≡ positions profiles
+none_chosen profiles [] h = refl
+none_chosen profiles (k ∷ choices) h = absurd (omega (arith, h))
+
+some_chosen : (profiles : ℕ) (choices : List ℕ) → 0 < length choices → numbers_by profiles choices ≡ choices
+some_chosen profiles [] h = absurd (omega (arith, h))
+some_chosen profiles (k ∷ choices) h = refl
+
+pub rows_of_profiles : (c : Content) (names : Names) → names ≡ names_in c → length c.choices ≡ 0
+    → table_with names (map (row_of (length names.players) c.payoffs) (positions c.profiles)) ≡ table_of c
+rows_of_profiles c names is none = rw is (ap (λ (ns : List ℕ). table_with (names_in c) (map (row_of (length c.players) c.payoffs) ns)) (sym (none_chosen c.profiles c.choices none)))
+
+pub rows_of_outcomes : (c : Content) (names : Names) → names ≡ names_in c → 0 < length c.choices
+    → table_with names (map (row_of (length names.players) c.payoffs) c.choices) ≡ table_of c
+rows_of_outcomes c names is some = rw is (ap (λ (ns : List ℕ). table_with (names_in c) (map (row_of (length c.players) c.payoffs) ns)) (sym (some_chosen c.profiles c.choices some)))
+
+pub count_chosen : (c : Content) (choices : List ℕ) → HasPayoffs c choices → 0 < length choices → length choices ≡ c.profiles
+count_chosen c [] h some = absurd (omega (arith, some))
+count_chosen c (k ∷ choices) h some = h.2
+
+pub named_by_outcomes : (c : Content) (names : Names) → names ≡ names_in c → IsComplete c → 0 < length c.choices → IsNamed names (length c.choices)
+named_by_outcomes c names is h some = rw (count_chosen c c.choices h.has_rows some) (named_by c names is h)
+
+pub rows_kept_by : (c : Content) (names : Names) → names ≡ names_in c → IsComplete c → 0 < length c.choices → AllByRecursion (λ number. number * length names.players ≤ length c.payoffs) c.choices
+rows_kept_by c names is h some = rw is (subst (λ (ns : List ℕ). AllByRecursion (λ number. number * length c.players ≤ length c.payoffs) ns) (some_chosen c.profiles c.choices some) (has_rows c c.choices h.has_rows).rows_kept)

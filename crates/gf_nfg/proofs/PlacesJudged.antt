@@ -15,7 +15,8 @@ use Rattle.gf_nfg.specs.Sentence.{Sentence}
 use Rattle.gf_nfg.specs.TableText.{SpellsTable}
 use Rattle.gf_nfg.specs.Place.{tokens_of, Begins, IsOffendingPlace, IsPastLimit, IsWithinLimit}
 use Rattle.gf_nfg.specs.Machine.{State, Content, step, finish, due_at, ended, Fails}
-use Rattle.gf_nfg.specs.Judgement.{IsJudged, IsReadAs}
+use Rattle.gf_nfg.specs.Judgement.{IsJudged}
+use Rattle.gf_nfg.specs.ReaderState.{ArePartsOf}
 use Rattle.gf_nfg.specs.declared.parts.Parts.{Parts}
 use Rattle.gf_nfg.proofs.RunsEnds.{broken_refused}
 use Rattle.gf_nfg.proofs.PlacesLed.{Led, led_more, begun, stops_at, stops_at_end, no_sentence, spelled_as}
@@ -121,6 +122,6 @@ answer_judged (Err e) fault bytes is why place =
     let P : Why → Type 0 = λ w. IsJudged w bytes fault.span in
     subst (λ (f : Fault). IsJudged f.why bytes f.span) (sym is) (subst P (sym why) place)
 
-pub answer_only : (r : Result Parts Fault) (fault : Fault) (bytes : List ℕ) (t : Table) → IsErrAnd r (λ e. e ≡ fault) → IsOffendingPlace bytes fault.span → SpellsTable bytes t → IsReadAs r t
+pub answer_only : (r : Result Parts Fault) (fault : Fault) (bytes : List ℕ) (t : Table) → IsErrAnd r (λ e. e ≡ fault) → IsOffendingPlace bytes fault.span → SpellsTable bytes t → ArePartsOf r t
 answer_only (Ok x) fault bytes t is place k = absurd is
 answer_only (Err e) fault bytes t is place k = absurd (none_spelled bytes fault.span t place k)

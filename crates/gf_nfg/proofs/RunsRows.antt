@@ -6,8 +6,9 @@ use Rattle.std.proofs.lemmas.Option.{slice_get_within}
 use Rattle.gf_token.specs.Token.{Token}
 use Rattle.gf_fraction.specs.Ratio.{Ratio}
 use Rattle.gf_nfg.specs.Sentence.{Each, IsPayoff, IsOutcome, IsOutcomeNumber, Pays}
-use Rattle.gf_nfg.specs.Meaning.{rows_of, paid_by}
+use Rattle.gf_nfg.specs.TableParts.{row_of}
 use Rattle.gf_nfg.proofs.MeaningLists.{joined, get-joined}
+use Rattle.gf_nfg.proofs.MeaningTables.{rows_of}
 use Rattle.gf_nfg.proofs.RunsOutcomes.{IsChoice, greatest}
 
 -- ---- the payoff version
@@ -57,12 +58,12 @@ outcomes_full players [] list h = tt
 outcomes_full players (row ∷ outcomes) list h = (h.3.4, outcomes_full players outcomes h.1 h.4)
 
 module _ (players : ℕ) (outcomes : List (List Ratio)) (full : AllByRecursion (λ row. length row ≡ players) outcomes) where
-  pays : (k : ℕ) → k ≤ greatest (length outcomes) → Pays players outcomes k (paid_by players (joined outcomes) k)
+  pays : (k : ℕ) → k ≤ greatest (length outcomes) → Pays players outcomes k (row_of players (joined outcomes) k)
   pays zero h = refl
   pays (suc k) h = get-joined players outcomes k full (omega arith)
 
   pub choices_pay : (choices : List ℕ) (tokens : List Token) → Each IsChoice tokens choices → AllByRecursion (λ k. k ≤ greatest (length outcomes)) choices
-      → Each (IsOutcomeNumber players outcomes) tokens (map (paid_by players (joined outcomes)) choices)
+      → Each (IsOutcomeNumber players outcomes) tokens (map (row_of players (joined outcomes)) choices)
   choices_pay [] tokens h known = h
   choices_pay (k ∷ choices) tokens h known =
       (h.0, h.1, h.2, (h.3.0, k, h.3.1, h.3.2, pays k known.0), choices_pay choices h.1 h.4 known.1)
@@ -72,10 +73,10 @@ module _ (players : ℕ) (outcomes : List (List Ratio)) (full : AllByRecursion (
     pub choices : List ℕ
     pub each : Each IsChoice tokens choices
     pub known : AllByRecursion (λ k. k ≤ greatest (length outcomes)) choices
-    pub rows : map (paid_by players (joined outcomes)) choices ≡ rs
+    pub rows : map (row_of players (joined outcomes)) choices ≡ rs
     pub count : length choices ≡ length rs
 
-  paid : (k : ℕ) (row : List Ratio) → k < 2 ^ 32 → Pays players outcomes k row → (k ≤ greatest (length outcomes)) × (paid_by players (joined outcomes) k ≡ row)
+  paid : (k : ℕ) (row : List Ratio) → k < 2 ^ 32 → Pays players outcomes k row → (k ≤ greatest (length outcomes)) × (row_of players (joined outcomes) k ≡ row)
   paid zero row small h = (omega arith, sym h)
   paid (suc k) row small h =
       let less : k < length outcomes = slice_get_within outcomes k row h in

@@ -7,13 +7,15 @@ use Rattle.gf_token.specs.Token.{Token}
 use Rattle.gf_token.specs.Token.Token.{Opening, Closing, Text, Bare}
 use Rattle.gf_fraction.specs.Ratio.{Ratio}
 use Rattle.gf_nfg.specs.declared.position.Position.TheVariants as p
-use Rattle.gf_nfg.specs.Profiles.{profiles, product}
+use Rattle.gf_nfg.specs.Profiles.{positions, profiles, product}
 use Rattle.gf_nfg.specs.Table.{Table, IsTable, rows}
 use Rattle.gf_nfg.specs.Sentence.{Each, Sentence, IsStrategies, IsComment, IsPayoff, IsOutcome, IsPayoffBody, IsOutcomeBody, IsOutcomeNumber, IsCount, IsLabelList, braced}
 use Rattle.gf_nfg.specs.Machine.{Content, at, run, start}
-use Rattle.gf_nfg.specs.Meaning.{counted_labels, strategies_of, paid_by, rows_of, rows_by, entries_of, table_of, HasRows, HasLabels, IsComplete}
-use Rattle.gf_nfg.proofs.MeaningLists.{joined, length-counted_labels, length-joined, length-joined_rows, length-profiles, product_above_zero}
-use Rattle.gf_nfg.proofs.MeaningTables.{is_table, rows-table_of, strategies_of-joined, all_counts, rows_of-joined, entries_again}
+use Rattle.gf_nfg.specs.TableParts.{counted_labels, entries_of, row_of}
+use Rattle.gf_nfg.specs.Meaning.{strategies_of, rows_by, table_of, HasPayoffs, HasLabels, IsComplete}
+use Rattle.gf_nfg.proofs.MeaningLists.{joined, length-counted_labels, length-joined, length-joined_rows, product_above_zero}
+use Rattle.gf_nfg.proofs.MeaningTables.{is_table, rows-table_of, strategies_of-joined, all_counts, rows_in_turn, rows_again, entries_again}
+use Rattle.gf_nfg.proofs.TableRows.{length-profiles}
 use Rattle.gf_nfg.proofs.RunsCommon.{ok_why, ok_is}
 use Rattle.gf_nfg.proofs.RunsHeading.{heading, heading_found, heading_again}
 use Rattle.gf_nfg.proofs.RunsStrategies.{with_counts, ended, first_found, first_counts_again, first_lists_again}
@@ -91,14 +93,14 @@ whole title comment players counts labels payoffs choices =
 
 -- its body
 record BodyRead (body : List Token) (c : Content) : Type 0 where
-  has_rows : HasRows c c.choices
+  has_rows : HasPayoffs c c.choices
   spelled : IsPayoffBody body (rows_by c c.choices) ⊎ IsOutcomeBody (length c.players) body (rows_by c c.choices)
 
-rows_chosen : (c : Content) (choices : List ℕ) → 0 < length choices → rows_by c choices ≡ map (paid_by (length c.players) c.payoffs) choices
+rows_chosen : (c : Content) (choices : List ℕ) → 0 < length choices → rows_by c choices ≡ map (row_of (length c.players) c.payoffs) choices
 rows_chosen c [] some = absurd (omega arith)
 rows_chosen c (k ∷ choices) some = refl
 
-has_chosen : (c : Content) (outcomes : ℕ) (choices : List ℕ) → 0 < length choices → length c.payoffs ≡ length c.players * outcomes → length choices ≡ c.profiles → AllByRecursion (λ k. k ≤ outcomes) choices → HasRows c choices
+has_chosen : (c : Content) (outcomes : ℕ) (choices : List ℕ) → 0 < length choices → length c.payoffs ≡ length c.players * outcomes → length choices ≡ c.profiles → AllByRecursion (λ k. k ≤ outcomes) choices → HasPayoffs c choices
 has_chosen c outcomes [] some fits count known = absurd (omega arith)
 has_chosen c outcomes (k ∷ choices) some fits count known = (outcomes, fits, count, known)
 
@@ -109,7 +111,7 @@ known_all n (k ∷ choices) h = (let small = h.0 in omega (arith, small), known_
 flat_read : (body : List Token) (title comment : List ℕ) (players : List (List ℕ)) (counts : List ℕ) (labels : List (List ℕ)) (numbers : List Ratio)
     → Each IsPayoff body numbers → length numbers ≡ length players * (1 * product counts) → BodyRead body (whole title comment players counts labels numbers [])
 flat_read body title comment players counts labels numbers each count =
-    record { has_rows = count; spelled = inl (rows_each (length players) (1 * product counts) numbers body count each) }
+    record { has_rows = count; spelled = inl (subst (λ (rs : List (List Ratio)). IsPayoffBody body rs) (sym (rows_in_turn (length players) (1 * product counts) numbers)) (rows_each (length players) (1 * product counts) numbers body count each)) }
 
 outcome_read : (list numbers : List Token) (title comment : List ℕ) (players : List (List ℕ)) (counts : List ℕ) (labels : List (List ℕ)) (outcomes : List (List Ratio)) (choices : List ℕ)
     → Each (IsOutcome (length players)) list outcomes → Each IsChoice numbers choices → AllByRecursion (λ k. k ≤ greatest (length outcomes)) choices → length choices ≡ 1 * product counts → AllByRecursion (λ n. 0 < n) counts
@@ -251,7 +253,7 @@ body_kept t comment body counts labels from h lengths is_comment (inl each) =
     record {
       payoffs = joined (rows t);
       choices = [];
-      means = ap (λ (n : ℕ). rows_of (length t.players) n (joined (rows t))) (sym all) ∙ rows_of-joined (length t.players) (rows t) h.one_payoff_each;
+      means = ap (λ (n : ℕ). map (row_of (length t.players) (joined (rows t))) (positions n)) (sym all) ∙ rows_again (length t.players) (rows t) h.one_payoff_each;
       goes_on = flat_body_again comment body t.comment from (with_counts (heading t.title t.players) counts labels) (joined (rows t)) refl is_comment (rows_joined (rows t) body each) size;
     }
 body_kept t comment body counts labels from h lengths is_comment (inr b) =
@@ -271,12 +273,11 @@ body_kept t comment body counts labels from h lengths is_comment (inr b) =
           ∙ outcome_body_again comment b.list b.numbers b.outcomes k.choices t.comment from (with_counts (heading t.title t.players) counts labels) refl is_comment b.listed k.each k.known (k.count ∙ all);
     }
 
-table_again : (t : Table) (counts : List ℕ) (labels : List (List ℕ)) (payoffs : List Ratio) (choices : List ℕ) → IsTable t → counts ≡ map length t.strategies → strategies_of counts labels ≡ t.strategies
+table_again : (t : Table) (counts : List ℕ) (labels : List (List ℕ)) (payoffs : List Ratio) (choices : List ℕ) → IsTable t → strategies_of counts labels ≡ t.strategies
     → rows_by (whole t.title t.comment t.players counts labels payoffs choices) choices ≡ rows t → table_of (whole t.title t.comment t.players counts labels payoffs choices) ≡ t
-table_again t counts labels payoffs choices h lengths strategies means =
-    let ps : profiles counts ≡ map (λ e. e.profile) t.entries = ap profiles lengths ∙ sym h.one_entry_each in
-    let entries : entries_of (profiles counts) (rows_by (whole t.title t.comment t.players counts labels payoffs choices) choices) ≡ t.entries =
-    (λ i. entries_of (ps i) (means i)) ∙ entries_again t.entries in
+table_again t counts labels payoffs choices h strategies means =
+    let entries : entries_of (profiles (map length (strategies_of counts labels))) (rows_by (whole t.title t.comment t.players counts labels payoffs choices) choices) ≡ t.entries =
+    (λ i. entries_of (profiles (map length (strategies i))) (means i)) ∙ ap (λ (ps : List (List ℕ)). entries_of ps (rows t)) (sym h.one_entry_each) ∙ entries_again t.entries in
     (λ i. record { title = t.title; comment = t.comment; players = t.players; strategies = strategies i; entries = entries i })
 
 parts_of : (ts : List Token) (t : Table) (letter : List ℕ) (inner comment body : List Token)
@@ -292,7 +293,7 @@ parts_of ts t letter inner comment body parts is_letter h k body_of =
           ∙ ap (λ (n : ℕ). run (at p.FirstStrategies n 0 0 (heading t.title t.players)) (inner ++ Closing ∷ (comment ++ body))) (sym h.one_list_each)
           ∙ k.goes_on
           ∙ b.goes_on;
-      means = table_again t k.counts k.labels b.payoffs b.choices h k.lengths k.means b.means;
+      means = table_again t k.counts k.labels b.payoffs b.choices h k.means b.means;
     }
 
 pub sentence_again : (ts : List Token) (t : Table) → Sentence ts t → Parts ts t

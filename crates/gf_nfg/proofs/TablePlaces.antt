@@ -8,6 +8,7 @@ use Rattle.std.proofs.lemmas.Option.{slice_get-map, slice_get_within, get_or_fro
 use Rattle.std.proofs.lemmas.Bool.Decides.{nat_tests}
 use Rattle.std.proofs.Math.Nat.{mul-le-mul_right, one-le-mul}
 use Rattle.gf_fraction.specs.Ratio.{Ratio}
+use Rattle.gf_nfg.specs.Limit.{profile_limit}
 use Rattle.gf_nfg.specs.Profiles.{numbers_from, positions, product, profiles}
 use Rattle.gf_nfg.specs.Table.{Table, rows}
 use Rattle.gf_nfg.specs.TableAccess.{payoffs_at}
@@ -215,7 +216,7 @@ counts_positive (own ∷ strategies) h = (h.0, counts_positive strategies h.1)
 pub record AtPlayer (names : Names) (profile : List ℕ) (at place count : ℕ) : Type 0 where
   pub one_list_each : length names.strategies ≡ length names.players
   pub some_strategy : AllByRecursion (λ own. 0 < length own) names.strategies
-  pub within : product (map length names.strategies) ≤ 1048576
+  pub within : product (map length names.strategies) ≤ profile_limit
   pub one_number_each : length profile ≡ length names.players
   pub player : at < length names.players
   pub found : place_of (drop (at + 1) (map length names.strategies)) (drop (at + 1) profile) ≡ Some place
@@ -240,7 +241,7 @@ strategy_in names profile at place count a above within =
     place_more (map length names.strategies) profile at count (get_or profile at 0) place here.0 long here.1 refl above within a.found
 
 pub strategy_fits : (names : Names) (profile : List ℕ) (at place count : ℕ) → AtPlayer names profile at place count → 0 < get_or profile at 0 → get_or profile at 0 ≤ count
-    → place * count + (get_or profile at 0 - 1) < 1048576
+    → place * count + (get_or profile at 0 - 1) < profile_limit
 strategy_fits names profile at place count a above within =
     let below = place_below (drop at (map length names.strategies)) (drop at profile) _ (strategy_in names profile at place count a above within) in
     let whole = product_drop (map length names.strategies) at (counts_positive names.strategies a.some_strategy) in

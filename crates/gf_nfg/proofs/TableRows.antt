@@ -7,6 +7,7 @@ use Rattle.std.proofs.Math.Nat.{mul-div_cancel, mul-le-mul_left, mul-le-mul_righ
 use Rattle.std.proofs.lemmas.Option.{slice_get-map}
 use Rattle.gf_nfg.proofs.TablePieces.{all_at}
 use Rattle.gf_fraction.specs.Ratio.{Ratio, whole}
+use Rattle.gf_nfg.specs.Limit.{profile_limit}
 use Rattle.gf_nfg.specs.Profiles.{numbers_from, positions, product, profiles}
 use Rattle.gf_nfg.specs.Table.{Table, IsTable, rows}
 use Rattle.gf_nfg.specs.TableAccess.{IsTableOf}
@@ -216,22 +217,21 @@ profiles_counted rows (suc n) counts (Some q) is one h = is.1 ∙ ap (λ (m : �
 -- the names of a table of lists
 pub named_by_lists : {B Z : Type 0} (f : B → List ℕ) (names : Names) (title comment : List ℕ) (players : List (List ℕ)) (lists : List (Vec B Z)) (count : ℕ)
     → names ≡ record { title = title; comment = comment; players = players; strategies = map (λ own. map f own.items) lists }
-    → length lists ≡ length players → AllByRecursion (λ own. 0 < vec_len own) lists → count ≡ product (map vec_len lists) → count ≤ 1048576 → IsNamed names count
-named_by_lists f names title comment players lists count is one some counted within = rw is (record {
+    → length lists ≡ length players → AllByRecursion (λ own. 0 < vec_len own) lists → count ≡ product (map vec_len lists) → IsNamed names count
+named_by_lists f names title comment players lists count is one some counted = rw is (record {
   one_list_each = length-map lists (λ own. map f own.items) ∙ one;
   some_strategy = some_in_lists f lists some;
   counted = counted ∙ ap product (sym (counts_of_lists f lists));
-  within = within;
 })
 
 pub counted_own : (o : Option (List (List ℕ))) (n : ℕ) → option_map length o ≡ Some n → (own : List (List ℕ)) × (o ≡ Some own) × (length own ≡ n)
 counted_own None n e = absurd (cc)
 counted_own (Some own) n e = let same : length own ≡ n = cc in (own, refl, same)
 
-pub own_count_within : (names : Names) (count k n : ℕ) → IsNamed names count → option_map length (slice_get names.strategies k) ≡ Some n → n ≤ 1048576
-own_count_within names count k n h e =
+pub own_count_within : (names : Names) (count k n : ℕ) → IsNamed names count → count ≤ profile_limit → option_map length (slice_get names.strategies k) ≡ Some n → n ≤ profile_limit
+own_count_within names count k n h within e =
     let own = counted_own (slice_get names.strategies k) n e in
-    omega (arith, own.2, h.counted, h.within, count_at_most names.strategies k own.0 h.some_strategy own.1)
+    omega (arith, own.2, h.counted, within, count_at_most names.strategies k own.0 h.some_strategy own.1)
 
 pub place_within : (names : Names) (count : ℕ) (payoffs zeros : List Ratio) (numbers : List ℕ) (t : Table) (place : ℕ) → IsKept names count payoffs zeros numbers → table_with names (kept_rows names payoffs numbers) ≡ t
     → place < length t.entries → place < count

@@ -104,12 +104,11 @@ abbrev pub number_in : Option (List ℕ) → ℕ → Option ℕ
 number_in None place = Some (place + 1)
 number_in (Some choices) place = slice_get choices place
 
--- there are names for a table of so many profiles
+-- these are names of a table with so many profiles
 pub record IsNamed (names : Names) (count : ℕ) : Type 0 where
   pub one_list_each : length names.strategies ≡ length names.players
   pub some_strategy : AllByRecursion (λ own. 0 < length own) names.strategies
   pub counted : count ≡ product (map length names.strategies)
-  pub within : count ≤ 1048576
 
 -- there is a row with the number of each profile, and one of zeros if a number is 0
 pub record HasRows (players count : ℕ) (payoffs zeros : List Ratio) (numbers : List ℕ) : Type 0 where

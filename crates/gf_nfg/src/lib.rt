@@ -14,6 +14,7 @@ mod readings;
 mod table;
 mod write;
 
+pub use read::read_nfg;
 pub use table::Table;
 pub use write::write_nfg;
 

@@ -1,59 +1,15 @@
-//! What a strategic file holds, as it was read.
+//! What a strategic file holds, as it was read, and the table that it means.
 
-ghost use Rattle.std.specs.Prelude.{◌≡◌};
-ghost use Rattle.gf_nfg.specs.ReaderState.{labels_of, counts_in, labels_in, choices_in};
+ghost use Rattle.std.specs.Prelude.{◌≡◌, ◌≤◌, IfOk};
+ghost use Rattle.gf_nfg.specs.Limit.{profile_limit};
+ghost use Rattle.gf_nfg.specs.Meaning.{IsComplete, names_in, table_of};
+ghost use Rattle.gf_nfg.specs.ReaderState.{content_of};
 
+use crate::names::Names;
+use crate::table::Table;
 use gf_fraction::Fraction;
 use gf_token::Label;
-
-/// The strategies of the players, in their order.
-#[derive(Debug, Drop)]
-pub enum Strategies<'a> {
-    /// How many each player has: a count of n stands for the labels `1` to n.
-    Counts(Vec<u32>),
-    /// How many each player has, and the labels of all of them in turn.
-    Lists {
-        counts: Vec<u32>,
-        labels: Vec<Label<'a>>,
-    },
-}
-
-impl<'a> Strategies<'a> {
-    /// Lists, or counts where there are no labels.
-    pub fn of(counts: Vec<u32>, labels: Vec<Label<'a>>) -> Strategies<'a>
-        ensures counts { counts_in result ≡ counts.items }
-        ensures labels { labels_in result ≡ labels_of labels.entry.items }
-    {
-        if labels.is_empty() {
-            Strategies::Counts(counts)
-        } else {
-            Strategies::Lists { counts, labels }
-        }
-    }
-}
-
-/// Which rows the payoffs are.
-#[derive(Debug, Drop)]
-pub enum Rows {
-    /// Those of the profiles in turn, the first player's strategy fastest.
-    OfProfiles,
-    /// Those of the outcomes in turn. For each profile there is the number of its outcome, from 1; at 0 each
-    /// player is paid zero.
-    OfOutcomes(Vec<u32>),
-}
-
-impl Rows {
-    /// Of outcomes, or of profiles where none is chosen.
-    pub fn of(choices: Vec<u32>) -> Rows
-        ensures { choices_in result ≡ choices.items }
-    {
-        if choices.is_empty() {
-            Rows::OfProfiles
-        } else {
-            Rows::OfOutcomes(choices)
-        }
-    }
-}
+use std::alloc::{AllocError, Global};
 
 /// What a strategic file holds. Its labels are slices of the input; outcomes' names are not kept.
 #[derive(Debug, Drop)]
@@ -62,10 +18,51 @@ pub struct Parts<'a> {
     /// Empty where the file has none.
     pub comment: Label<'a>,
     pub players: Vec<Label<'a>>,
-    pub strategies: Strategies<'a>,
+    /// How many strategies each player has.
+    pub counts: Vec<u32>,
+    /// The strategies' labels in turn; none where the file gives counts alone.
+    pub labels: Vec<Label<'a>>,
     /// The number of profiles.
     pub profiles: u32,
-    /// Rows of one payoff for each player, one row behind the other.
+    /// Rows of one payoff for each player, one row behind the other: those of the profiles in turn, the first player's
+    /// strategy fastest, or those of the outcomes.
     pub payoffs: Vec<Fraction>,
-    pub rows: Rows,
+    /// For each profile the number of its outcome, from 1, or 0 where each player is paid zero; none in the payoff
+    /// version.
+    pub choices: Vec<u32>,
+}
+
+impl<'a> Parts<'a> {
+    /// Everything of the table but its payoffs.
+    fn names(&self, alloc: Global) -> Result<Names, AllocError>
+        requires { IsComplete (content_of self.now) }
+        ensures { IfOk result (λ names. names ≡ names_in (content_of self.now)) }
+    {
+        if self.labels.is_empty() {
+            Names::counted(alloc, self.title, self.comment, &self.players, &self.counts)
+        } else {
+            Names::grouped(
+                alloc,
+                self.title,
+                self.comment,
+                &self.players,
+                &self.counts,
+                &self.labels,
+            )
+        }
+    }
+
+    /// The table that the parts mean. The payoffs are not copied.
+    pub(crate) fn into_table(self, alloc: Global) -> Result<Table, AllocError>
+        requires complete { IsComplete (content_of self) }
+        requires within { self.profiles ≤ profile_limit }
+        ensures { IfOk result (λ t. t ≡ table_of (content_of self.entry)) }
+    {
+        let names = self.names(alloc)?;
+        if self.choices.is_empty() {
+            Ok(Table::of_rows(alloc, names, self.profiles, self.payoffs))
+        } else {
+            Table::of_outcomes(names, self.payoffs, self.choices)
+        }
+    }
 }

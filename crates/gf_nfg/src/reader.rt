@@ -10,7 +10,7 @@ mod heading;
 mod strategies;
 
 use crate::limit::ProfileCount;
-use crate::parts::{Parts, Rows, Strategies};
+use crate::parts::Parts;
 use crate::position::Position;
 use gf_fraction::Fraction;
 use gf_token::{Kind, Label, What, Why};
@@ -136,10 +136,11 @@ impl<'a> Reader<'a> {
             title: self.title,
             comment: self.comment,
             players: self.players,
-            strategies: Strategies::of(self.counts, self.labels),
+            counts: self.counts,
+            labels: self.labels,
             profiles: self.profiles.count,
             payoffs: self.payoffs,
-            rows: Rows::of(self.choices),
+            choices: self.choices,
         }
     }
 

@@ -3,6 +3,7 @@
 ghost use Rattle.std.specs.Prelude.{◌≡◌, ◌*◌, ◌<◌, ◌≤◌, ◌^◌, Some, IfOk, IsSome, length, map, min, option_and_then, option_map, slice_get, vec_len};
 ghost use Rattle.std.specs.List.{AllByRecursion};
 ghost use Rattle.gf_token.specs.Label.{label_of};
+ghost use Rattle.gf_nfg.specs.Limit.{profile_limit};
 ghost use Rattle.gf_nfg.specs.Profiles.{positions, product};
 ghost use Rattle.gf_nfg.specs.Table.{IsTable, rows};
 ghost use Rattle.gf_nfg.specs.TableAccess.{IsTableOf, at_position, payoffs_at};
@@ -31,11 +32,12 @@ pub struct Table {
 }
 
 impl Model for Table {
-    ghost use Rattle.std.specs.Prelude.{length, map, option_map};
+    ghost use Rattle.std.specs.Prelude.{◌≤◌, length, map, option_map};
     ghost use Rattle.gf_nfg.specs.Table.{Table};
 
     ghost Value = { Table };
 
+    ghost use Rattle.gf_nfg.specs.Limit.{profile_limit};
     ghost use Rattle.gf_nfg.specs.TableParts.{HasRows, IsNamed, numbers_of, row_of, table_with};
 
     ghost view = { λ t. table_with t.names (map (row_of (length t.names.players) t.payoffs.items)
@@ -43,7 +45,8 @@ impl Model for Table {
 
     ghost invariant = { λ t. IsNamed t.names t.profiles
         × HasRows (length t.names.players) t.profiles t.payoffs.items t.zeros.items
-        (numbers_of t.profiles (option_map (λ v. v.items) t.choices)) };
+        (numbers_of t.profiles (option_map (λ v. v.items) t.choices))
+        × (t.profiles ≤ profile_limit) };
 }
 
 /// The number of the row of the profile with this place.
@@ -80,7 +83,7 @@ fn row_at<'t>(
 fn place_of(names: &Names, profile: &[u32]) -> Option<usize>
     requires one_list_each { length names.now.strategies ≡ length names.now.players }
     requires some_strategy { AllByRecursion (λ own. 0 < length own) names.now.strategies }
-    requires within { product (map length names.now.strategies) ≤ 1048576 }
+    requires within { product (map length names.now.strategies) ≤ profile_limit }
     ensures { result ≡ place_of (map length names.now.strategies) profile.now }
 {
     let players = names.players();
@@ -108,6 +111,7 @@ impl Table {
         payoffs: Vec<Fraction>,
     ) -> Table
         requires named { IsNamed names profiles }
+        requires within { profiles ≤ profile_limit }
         requires rows { length payoffs.items ≡ profiles * length names.players }
         ensures { result ≡ table_with names (map (row_of (length names.players) payoffs.items) (positions profiles)) }
     {
@@ -127,6 +131,7 @@ impl Table {
         choices: Vec<u32>,
     ) -> Result<Table, AllocError>
         requires named { IsNamed names (length choices.items) }
+        requires within { length choices.items ≤ profile_limit }
         requires rows { AllByRecursion (λ number. number * length names.players ≤ length payoffs.items) choices.items }
         ensures { IfOk result (λ t. t ≡ table_with names (map (row_of (length names.players) payoffs.items) choices.items)) }
     {
@@ -156,7 +161,7 @@ impl Table {
         requires players { length players.now ≤ 4294967295 }
         requires one_list_each { length strategies.now ≡ length players.now }
         requires some_strategy { AllByRecursion (λ own. 0 < vec_len own) strategies.now }
-        requires profiles { product (map vec_len strategies.now) ≤ 1048576 }
+        requires profiles { product (map vec_len strategies.now) ≤ profile_limit }
         requires rows { length rows.now ≡ product (map vec_len strategies.now) * length players.now }
         ensures { IfOk result (λ t. IsTableOf t (label_of title.entry) (label_of comment.entry) (map label_of players.now)
             (map (λ own. map label_of own.items) strategies.now) rows.now) }

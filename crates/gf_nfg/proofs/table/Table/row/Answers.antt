@@ -7,7 +7,7 @@ use Rattle.gf_nfg.proofs.table.Table.row.Goals as goal
 pub number_in-number-requires-clause-place : goal.number_in-number-requires-clause-place
 number_in-number-requires-clause-place c =
     let within = place_within c.self.inside.names c.self.inside.profiles c.self.inside.payoffs.items c.self.inside.zeros.items (numbers_of c.self.inside.profiles (option_map (λ v. v.items) c.self.inside.choices)) c.args.self.now c.args.place (record { named = c.self.invariant.0; kept = c.self.invariant.1 }) c.self.view_is c.requires in
-    omega (arith, within, c.self.invariant.0.within)
+    omega (arith, within, c.self.invariant.2)
 
 pub number_in-number-requires-clause-number : goal.number_in-number-requires-clause-number
 number_in-number-requires-clause-number c =
