@@ -1,6 +1,6 @@
 //! Strategic files as they are read from bytes.
 
-ghost use Rattle.std.specs.Prelude.{◌≡◌, ◌≤◌, IfOk, IfErr};
+ghost use Rattle.std.specs.Prelude.{◌≡◌, ◌≤◌, IfOk, IfErr, length};
 ghost use Rattle.gf_nfg.specs.Limit.{profile_limit};
 ghost use Rattle.gf_nfg.specs.TableText.{SpellsTable};
 ghost use Rattle.gf_nfg.specs.Meaning.{IsComplete, table_of};
@@ -13,6 +13,15 @@ use crate::reader::Reader;
 use crate::table::Table;
 use gf_token::{Cursor, Fault, Span, Why};
 use std::alloc::Global;
+
+/// A refusal at the end of the input.
+fn at_end(input: &[u8], why: Why) -> Fault
+    ensures { result ≡ record { span = record { start = length input.now; end = length input.now }; why = why } }
+{
+    let end = input.len();
+    let span = Span { start: end, end };
+    Fault { span, why }
+}
 
 /// Reads the parts of the strategic file that bytes spell.
 pub(crate) fn read_parts<'a>(alloc: Global, input: &'a [u8]) -> Result<Parts<'a>, Fault>
@@ -34,21 +43,25 @@ pub(crate) fn read_parts<'a>(alloc: Global, input: &'a [u8]) -> Result<Parts<'a>
     }
     match reader.finish() {
         Ok(parts) => Ok(parts),
-        Err(why) => {
-            let end = input.len();
-            let span = Span { start: end, end };
-            Err(Fault { span, why })
-        }
+        Err(why) => Err(at_end(input, why)),
     }
 }
 
-/// Reads the table of a strategic file from its bytes (Gambit documentation, "Game representation formats"), with at
-/// most 1,048,576 profiles (this project's profile). Payoffs are in the file's units; outcomes' names are not kept.
+/// Reads the table of a strategic file from its bytes, in payoff version or in outcome version (Gambit documentation,
+/// "Game representation formats"). The table has at most 1,048,576 profiles (this project's profile), and the names of
+/// outcomes are not kept.
 ///
-/// A file is refused at the first token with which no strategic file goes on, or at the end where more is due: E2 where
-/// a text has no end, and E3 to E7, E15 and E16 by what is wrong with that token or missing there. With E18 it is refused
-/// at the first count or closing brace at which the product of the counts so far passes the limit, and with E19 where
-/// memory is refused. The fault's span counts the input's bytes from 0.
+/// A file is refused at the first token with which no strategic file goes on, or at the end where more is due. Spans
+/// are in bytes of the input, from 0. What is wrong there:
+/// - E2: a text has no end; at its opening quote.
+/// - E3: a token of the wrong kind, or the end.
+/// - E4, E5, E6: where a payoff is due, a bare token that spells no number, has a zero denominator, or is past 128 bits.
+/// - E7: a bare token where a count or the number of an outcome is due, and it is none.
+/// - E15: the closing brace of a list without strategies.
+/// - E16: the number of an outcome above the number of outcomes.
+///
+/// With E18 it is refused at the first count, or closing brace of a list, at which the product of the players' strategies
+/// so far passes the limit; with E19 where memory is refused.
 pub fn read_nfg(alloc: Global, input: &[u8]) -> Result<Table, Fault>
     ensures spelled { IfOk result (λ t. SpellsTable input.now t) }
     ensures within { IfOk result (λ t. IsWithinLimit t) }
@@ -58,12 +71,7 @@ pub fn read_nfg(alloc: Global, input: &[u8]) -> Result<Table, Fault>
     let parts = read_parts(alloc, input)?;
     match parts.into_table(alloc) {
         Ok(table) => Ok(table),
-        Err(error) => {
-            let end = input.len();
-            let span = Span { start: end, end };
-            let why = Why::from(error);
-            Err(Fault { span, why })
-        }
+        Err(error) => Err(at_end(input, Why::from(error))),
     }
 }
 

@@ -71,11 +71,11 @@ returns-in-Err-finish-clause-judged c =
     let all = c.new-cursor.result in
     let s = state_of c.loop-reader.reader in
     let led : Led all [] s = subst (λ (ls : List Lexeme). Led all ls s) (rw c.in_default.is at c.in_ok-token.ensures).0 c.loop-reader.invariant in
-    judged_end c.args.input.now all s c.in-Err-finish.why c.new-cursor.ensures led (sym c.in-Err-finish.ensures)
+    rw c.at_end.ensures (judged_end c.args.input.now all s c.in-Err-finish.why c.new-cursor.ensures led (sym c.in-Err-finish.ensures))
 
 pub returns-in-Err-finish-clause-only : goal.returns-in-Err-finish-clause-only
 returns-in-Err-finish-clause-only c = λ t.
     let all = c.new-cursor.result in
     let s = state_of c.loop-reader.reader in
     let led : Led all [] s = subst (λ (ls : List Lexeme). Led all ls s) (rw c.in_default.is at c.in_ok-token.ensures).0 c.loop-reader.invariant in
-    only_memory c.in-Err-finish.why c.args.input.now _ t (judged_end c.args.input.now all s c.in-Err-finish.why c.new-cursor.ensures led (sym c.in-Err-finish.ensures))
+    rw c.at_end.ensures (only_memory c.in-Err-finish.why c.args.input.now _ t (judged_end c.args.input.now all s c.in-Err-finish.why c.new-cursor.ensures led (sym c.in-Err-finish.ensures)))
