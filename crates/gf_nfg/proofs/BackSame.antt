@@ -6,7 +6,7 @@ use Rattle.std.proofs.lemmas.List.{length-map, get_or-map, get_or_default, same_
 use Rattle.gf_nfg.specs.Profiles.{profiles}
 use Rattle.gf_nfg.specs.Table.{Entry, Table, IsTable, rows}
 use Rattle.gf_nfg.specs.SameTable.{SamePlay, SameTable}
-use Rattle.gf_nfg.proofs.SentencesOnce.{entries_once}
+use Rattle.gf_nfg.proofs.TableAgrees as agrees
 use Rattle.gf_nfg.proofs.BackProfiles.{profiles_distinct}
 
 -- an entry for each profile, and each of the entries among the others: the same entries
@@ -46,7 +46,7 @@ same_play_by_rows t u ht hu = (to, from)
 
     from : (t.players ≡ u.players) × (t.strategies ≡ u.strategies) × (rows t ≡ rows u) → SamePlay t u
     from h =
-        let same = entries_once t.entries u.entries (ht.one_entry_each ∙ ap (λ s. profiles (map length s)) h.1 ∙ sym hu.one_entry_each) h.2 in
+        let same = agrees.same_entries t u ht hu h.1 h.2 in
         record {
           players = h.0;
           strategies = h.1;

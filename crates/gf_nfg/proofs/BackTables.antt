@@ -13,7 +13,7 @@ use Rattle.gf_nfg.specs.Table.{Table, IsTable, IsSpellable, rows}
 use Rattle.gf_nfg.specs.Sentence.{Each, braced, IsLabelList, IsPayoff, IsPayoffBody, Sentence}
 use Rattle.gf_nfg.specs.TableText.{spaced, list_text, quoted, table_text, SpellsTable}
 use Rattle.gf_nfg.specs.SameTable.{SameTable}
-use Rattle.gf_nfg.proofs.SentencesOnce.{spells_one_table}
+use Rattle.gf_nfg.proofs.PlacesLed.{spells_one_table}
 use Rattle.gf_nfg.proofs.SpelledTexts.{Tells, Says, says_label, says_bare, says_both, says_spaced, says_list, tells_line, tells_lines}
 use Rattle.gf_nfg.proofs.SpelledNumbers.{number_spelled}
 use Rattle.gf_nfg.proofs.SpelledTables.{spelled_is_spellable}

@@ -26,7 +26,6 @@ pub mod RunsPayoffs
 pub mod RunsRows
 pub mod RunsSentence
 pub mod RunsStrategies
-pub mod SentencesOnce
 pub mod SpelledNumbers
 pub mod SpelledTables
 pub mod SpelledTexts

@@ -84,13 +84,6 @@ has_rows c (k ∷ choices) h = record {
 pub length-rows_by : (c : Content) (choices : List ℕ) → HasPayoffs c choices → length (rows_by c choices) ≡ c.profiles
 length-rows_by c choices h = length-map (numbers_by c.profiles choices) (row_of (length c.players) c.payoffs) ∙ (has_rows c choices h).one_number_each
 
--- ---- entries
-
--- entries are found again from their profiles and their payoffs
-pub entries_again : (entries : List Entry) → entries_of (map (λ e. e.profile) entries) (map (λ e. e.payoffs) entries) ≡ entries
-entries_again [] = refl
-entries_again (e ∷ entries) = ap (λ es. e ∷ es) (entries_again entries)
-
 -- ---- the table
 
 all_some : (strategies : List (List (List ℕ))) → AllByRecursion (λ n. 0 < n) (map length strategies) → AllByRecursion (λ labels. 0 < length labels) strategies

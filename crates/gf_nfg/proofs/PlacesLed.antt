@@ -49,6 +49,9 @@ same_tokens bytes ls others h k = sym (spelled ls 0 bytes h) ∙ spelled others 
 pub spelled_as : (bytes : List ℕ) (all : List Lexeme) (t : Table) → Spells 0 bytes all → SpellsTable bytes t → Sentence (tokens_of all) t
 spelled_as bytes all t h k = subst (λ (ls : List Lexeme). Sentence (tokens_of ls) t) (same_tokens bytes k.0 all k.1 h) k.2
 
+pub spells_one_table : (bytes : List ℕ) (t u : Table) → SpellsTable bytes t → SpellsTable bytes u → t ≡ u
+spells_one_table bytes t u h k = one_table (tokens_of h.0) t u h.2 (spelled_as bytes h.0 u h.1 k)
+
 pub only_table : (bytes : List ℕ) (all : List Lexeme) (r : Content) (t : Table) → Spells 0 bytes all → Read (tokens_of all) r → SpellsTable bytes t → table_of r ≡ t
 only_table bytes all r t h read k = one_table (tokens_of all) (table_of r) t read.sentence (spelled_as bytes all t h k)
 

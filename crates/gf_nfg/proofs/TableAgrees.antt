@@ -9,6 +9,8 @@ use Rattle.std.specs.Ordering.{int_eq}
 use Rattle.gf_fraction.specs.Ratio.{Ratio}
 use Rattle.gf_nfg.specs.Profiles.{profiles}
 use Rattle.gf_nfg.specs.Table.{Entry, Table, IsTable, rows}
+use Rattle.gf_nfg.specs.TableParts.{entries_of}
+use Rattle.gf_nfg.proofs.TableRows.{entries_again}
 use Rattle.std.specs.Cmp.Lexicographic.{pointwise}
 
 pub take_next : {A : Type 0} (xs : List A) (k : ℕ) (x : A) → slice_get xs k ≡ Some x → take (k + 1) xs ≡ take (suc k) xs
@@ -60,16 +62,7 @@ Decides-ratio a b = (
 )
 
 joined : (xs ys : List Entry) → map (λ e. e.profile) xs ≡ map (λ e. e.profile) ys → map (λ e. e.payoffs) xs ≡ map (λ e. e.payoffs) ys → xs ≡ ys
-joined [] [] p q = refl
-joined [] (y ∷ ys) p q = absurd (cc)
-joined (x ∷ xs) [] p q = absurd (cc)
-joined (x ∷ xs) (y ∷ ys) p q =
-    let profile : x.profile ≡ y.profile = cc in
-    let payoffs : x.payoffs ≡ y.payoffs = cc in
-    let others : map (λ e. e.profile) xs ≡ map (λ e. e.profile) ys = cc in
-    let rest : map (λ e. e.payoffs) xs ≡ map (λ e. e.payoffs) ys = cc in
-    let same : x ≡ y = ap (λ (ps : List ℕ). let e : Entry = record { profile = ps; payoffs = x.payoffs } in e) profile ∙ ap (λ (rs : List Ratio). let e : Entry = record { profile = y.profile; payoffs = rs } in e) payoffs in
-    ap (λ e. e ∷ xs) same ∙ ap (λ es. y ∷ es) (joined xs ys others rest)
+joined xs ys p q = sym (entries_again xs) ∙ (λ i. entries_of (p i) (q i)) ∙ entries_again ys
 
 pub same_entries : (t u : Table) → IsTable t → IsTable u → t.strategies ≡ u.strategies → rows t ≡ rows u → t.entries ≡ u.entries
 same_entries t u h g s r = joined t.entries u.entries (h.one_entry_each ∙ ap (λ (ss : List (List (List ℕ))). profiles (map length ss)) s ∙ sym g.one_entry_each) r

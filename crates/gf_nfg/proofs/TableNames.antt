@@ -1,10 +1,11 @@
 -- The names of a table in one list of labels.
 use Rattle.std.proofs.Common.{◌≡◌, ℕ, zero, suc, ◌+◌, ◌-◌, ◌<◌, ◌≤◌, List, [], ◌∷◌, ◌++◌, length, map, take, drop, get_or, Option, Some, None, slice_get, option_map, refl, sym, ap, subst, ◌∙◌, arith}
 use Rattle.std.specs.Prelude.{IsSomeAnd, option_and_then, sum, unwrap_or}
-use Rattle.std.proofs.lemmas.List.{length-take, length-drop, length-append, take_all, take_at, take-append-le, drop_at, drop-drop, take_more, take-append-drop, map-append}
-use Rattle.std.proofs.lemmas.List.Sums.{sum_by-cons, sum_by_push, sum_by_more_le}
+use Rattle.std.proofs.lemmas.List.{length-take, length-drop, length-append, take_all, take_at, take-append-le, drop-drop, drop-map, take-map, take_more, take-append-drop, map-append}
+use Rattle.std.proofs.lemmas.List.Sums.{sum_by_push, sum_by_more_le}
 use Rattle.std.proofs.lemmas.Option.{slice_get_within}
-use Rattle.gf_nfg.specs.TableParts.{Names, ends_from, groups, names_of, pieces, start_of, RisesTo, AreStrategies}
+use Rattle.gf_nfg.specs.TableParts.{Names, groups, names_of, pieces, start_of, RisesTo, AreStrategies}
+use Rattle.gf_nfg.proofs.MeaningLists.{sum-cons}
 use Rattle.gf_nfg.proofs.TablePieces.{length-pieces, piece_at, pieces-push, rises-push, rises_within, start_before_end, end_within}
 
 -- ---- reading
@@ -170,50 +171,35 @@ strategy_has_player labels ends names at strategy rises view h =
 
 -- ---- groups of so many
 
-sum-cons : (size : ℕ) (sizes : List ℕ) → sum (size ∷ sizes) ≡ size + sum sizes
-sum-cons size sizes = sum_by-cons (λ n. n) size sizes
-
 sum-push : (sizes : List ℕ) (size : ℕ) → sum (sizes ++ size ∷ []) ≡ sum sizes + size
 sum-push sizes size = sum_by_push (λ n. n) sizes size
-
-pub ends_from-push : (from : ℕ) (sizes : List ℕ) (size : ℕ) → ends_from from (sizes ++ size ∷ []) ≡ ends_from from sizes ++ (from + sum sizes + size) ∷ []
-ends_from-push from [] size = let e : from + size ≡ from + 0 + size = omega arith in ap (λ (n : ℕ). n ∷ []) e
-ends_from-push from (n ∷ sizes) size =
-    let e : from + n + sum sizes + size ≡ from + sum (n ∷ sizes) + size = omega (arith, sum-cons n sizes) in
-    ap (λ (es : List ℕ). (from + n) ∷ es) (ends_from-push (from + n) sizes size ∙ ap (λ (m : ℕ). ends_from (from + n) sizes ++ m ∷ []) e)
-
-pub pieces_are_groups : {A : Type 0} (from : ℕ) (sizes : List ℕ) (items : List A) → pieces from (ends_from from sizes) items ≡ groups sizes (drop from items)
-pieces_are_groups from [] items = refl
-pieces_are_groups from (n ∷ sizes) items =
-    let e : from + n - from ≡ n = omega arith in
-    rw (e, pieces_are_groups (from + n) sizes items, drop-drop n from items) refl
-
-pub ends_rise : (from : ℕ) (sizes : List ℕ) → RisesTo (from + sum sizes) from (ends_from from sizes)
-ends_rise from [] = omega arith
-ends_rise from (n ∷ sizes) = let e : from + sum (n ∷ sizes) ≡ from + n + sum sizes = omega (arith, sum-cons n sizes) in (omega arith, let P : ℕ → Type 0 = λ whole. RisesTo whole (from + n) (ends_from (from + n) sizes) in subst P (sym e) (ends_rise (from + n) sizes))
 
 pub length-groups : {A : Type 0} (sizes : List ℕ) (items : List A) → length (groups sizes items) ≡ length sizes
 length-groups [] items = refl
 length-groups (n ∷ sizes) items = ap suc (length-groups sizes (drop n items))
 
-pub grouped_strategies : (before labels own : List (List ℕ)) (counts ends : List ℕ) (first : ℕ) → labels ≡ before ++ own → first ≡ length before → sum counts ≡ length own → ends ≡ ends_from first counts
-    → AreStrategies before labels ends (groups counts own)
-grouped_strategies before labels own counts ends first e f s g =
-    let whole : length before + sum counts ≡ length labels = omega (arith, ap length e, length-append before own, s) in
-    let is : ends ≡ ends_from (length before) counts = g ∙ ap (λ (n : ℕ). ends_from n counts) f in
+groups-push : {A : Type 0} (sizes : List ℕ) (size : ℕ) (items : List A) → groups (sizes ++ size ∷ []) items ≡ groups sizes items ++ take size (drop (sum sizes) items) ∷ []
+groups-push [] size items = refl
+groups-push (n ∷ sizes) size items =
+    let behind : drop (sum sizes) (drop n items) ≡ drop (sum (n ∷ sizes)) items = drop-drop (sum sizes) n items ∙ ap (λ (m : ℕ). drop m items) (sym (sum-cons n sizes)) in
+    ap (λ gs. take n items ∷ gs) (groups-push sizes size (drop n items) ∙ ap (λ xs. groups sizes (drop n items) ++ take size xs ∷ []) behind)
+
+-- the labels of so many players are added
+pub record AreAdded {A : Type 0} (f : A → List ℕ) (before labels : List (List ℕ)) (ends sizes : List ℕ) (items : List A) (start : ℕ) : Type 0 where
+  pub strategies : AreStrategies before labels ends (groups sizes (map f items))
+  pub start_is : start ≡ sum sizes
+
+pub more_added : {A : Type 0} (f : A → List ℕ) (before labels labels' : List (List ℕ)) (ends ends' sizes : List ℕ) (items own : List A) (start i size : ℕ) → i < length sizes → size ≡ get_or sizes i 0
+    → AreAdded f before labels ends (take i sizes) items start → own ≡ take size (drop start items) → labels' ≡ labels ++ map f own → ends' ≡ ends ++ length labels' ∷ []
+    → AreAdded f before labels' ends' (take (i + 1) sizes) items (start + size)
+more_added f before labels labels' ends ends' sizes items own start i size h is a cut e g =
+    let next : take (i + 1) sizes ≡ take i sizes ++ size ∷ [] = take_more sizes i 0 h ∙ ap (λ (n : ℕ). take i sizes ++ n ∷ []) (sym is) in
+    let total : sum (take (i + 1) sizes) ≡ sum (take i sizes) + size = ap (λ (ns : List ℕ). sum ns) next ∙ sum-push (take i sizes) size in
+    let named : map f own ≡ take size (drop (sum (take i sizes)) (map f items)) =
+    ap (λ xs. map f xs) cut ∙ sym (take-map f size (drop start items)) ∙ ap (λ xs. take size xs) (sym (drop-map f start items)) ∙ ap (λ (n : ℕ). take size (drop n (map f items))) a.start_is in
+    let grown : groups (take (i + 1) sizes) (map f items) ≡ groups (take i sizes) (map f items) ++ map f own ∷ [] =
+    ap (λ (ns : List ℕ). groups ns (map f items)) next ∙ groups-push (take i sizes) size (map f items) ∙ ap (λ (ls : List (List ℕ)). groups (take i sizes) (map f items) ++ ls ∷ []) (sym named) in
     record {
-      begin = rw e (take_at before own (length before) refl);
-      rises = rw (is, ← whole) (ends_rise (length before) counts);
-      are = rw (is, pieces_are_groups (length before) counts labels, e, drop_at before own (length before) refl) refl;
+      strategies = rw grown (strategies_more before labels labels' (map f own) ends ends' (groups (take i sizes) (map f items)) a.strategies e g);
+      start_is = omega (arith, total, a.start_is);
     }
-
-pub ends_more : (from : ℕ) (sizes : List ℕ) (i size : ℕ) (ends ends' : List ℕ) (end : ℕ) → i < length sizes → size ≡ get_or sizes i 0 → ends ≡ ends_from from (take i sizes) → end ≡ from + sum (take i sizes) → ends' ≡ ends ++ (end + size) ∷ []
-    → (ends' ≡ ends_from from (take (i + 1) sizes)) × (end + size ≡ from + sum (take (i + 1) sizes))
-ends_more from sizes i size ends ends' end h is e f g =
-    let next : take (i + 1) sizes ≡ take i sizes ++ size ∷ [] = take_more sizes i 0 h ∙ ap (λ (n : ℕ). take i sizes ++ n ∷ []) (sym is) in (
-      g ∙ ap (λ (es : List ℕ). es ++ (end + size) ∷ []) e ∙ ap (λ (n : ℕ). ends_from from (take i sizes) ++ (n + size) ∷ []) f ∙ sym (ends_from-push from (take i sizes) size) ∙ ap (λ (ns : List ℕ). ends_from from ns) (sym next),
-      let total : sum (take (i + 1) sizes) ≡ sum (take i sizes) + size = ap (λ (ns : List ℕ). sum ns) next ∙ sum-push (take i sizes) size in omega (arith, f, total),
-    )
-
-pub sum_at : (sizes : List ℕ) (i : ℕ) → i < length sizes → sum (take i sizes) + get_or sizes i 0 ≤ sum sizes
-sum_at sizes i h = sum_by_more_le (λ n. n) sizes i 0 h

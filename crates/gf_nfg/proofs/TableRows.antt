@@ -9,7 +9,7 @@ use Rattle.gf_nfg.proofs.TablePieces.{all_at}
 use Rattle.gf_fraction.specs.Ratio.{Ratio, whole}
 use Rattle.gf_nfg.specs.Limit.{profile_limit}
 use Rattle.gf_nfg.specs.Profiles.{numbers_from, positions, product, profiles}
-use Rattle.gf_nfg.specs.Table.{Table, IsTable, rows}
+use Rattle.gf_nfg.specs.Table.{Entry, Table, IsTable, rows}
 use Rattle.gf_nfg.specs.TableAccess.{IsTableOf}
 use Rattle.gf_nfg.specs.TableParts.{Names, entries_of, table_with, row_of, number_in, numbers_of, IsNamed, HasRows}
 
@@ -45,6 +45,11 @@ payoffs-entries_of [] [] h = refl
 payoffs-entries_of [] (r ∷ rs) h = absurd (omega (arith, h))
 payoffs-entries_of (p ∷ ps) [] h = refl
 payoffs-entries_of (p ∷ ps) (r ∷ rs) h = ap (λ qs. r ∷ qs) (payoffs-entries_of ps rs (omega (arith, h)))
+
+-- entries are found again from their profiles and their payoffs
+pub entries_again : (entries : List Entry) → entries_of (map (λ e. e.profile) entries) (map (λ e. e.payoffs) entries) ≡ entries
+entries_again [] = refl
+entries_again (e ∷ entries) = ap (λ es. e ∷ es) (entries_again entries)
 
 -- a table whose rows are kept
 pub record IsKept (names : Names) (count : ℕ) (payoffs zeros : List Ratio) (numbers : List ℕ) : Type 0 where

@@ -11,11 +11,6 @@ abbrev pub pieces : {A : Type 0} → ℕ → List ℕ → List A → List (List 
 pieces from [] items = []
 pieces from (end ∷ ends) items = take (end - from) (drop from items) ∷ pieces end ends items
 
--- the ends of pieces of these sizes
-abbrev pub ends_from : ℕ → List ℕ → List ℕ
-ends_from from [] = []
-ends_from from (size ∷ sizes) = (from + size) ∷ ends_from (from + size) sizes
-
 -- where the piece with this number, from 0, begins
 abbrev pub start_of : ℕ → List ℕ → ℕ → ℕ
 start_of from ends zero = from

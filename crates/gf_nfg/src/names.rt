@@ -1,8 +1,8 @@
 //! Everything of a table but its payoffs: its title, its comment, its players and their strategies.
 
-ghost use Rattle.std.specs.Prelude.{◌≡◌, ◌+◌, ◌<◌, ◌^◌, ◌∷◌, Some, IfOk, length, map, IsSomeAnd, option_and_then, option_map, slice_get, sum};
+ghost use Rattle.std.specs.Prelude.{◌≡◌, ◌<◌, ◌∷◌, Some, IfOk, length, map, IsSomeAnd, option_and_then, option_map, slice_get, sum};
 ghost use Rattle.gf_token.specs.Label.{label_of};
-ghost use Rattle.gf_nfg.specs.TableParts.{AreStrategies, counted_labels, ends_from, groups};
+ghost use Rattle.gf_nfg.specs.TableParts.{AreStrategies, counted_labels, groups};
 
 use crate::labels::{Labels, piece_at};
 use gf_token::Label;
@@ -73,16 +73,23 @@ fn add_counted(alloc: Global, counts: &[u32], labels: &mut Labels) -> Result<Vec
     Ok(ends)
 }
 
-/// The ends of pieces of these sizes.
-fn ends_from(alloc: Global, first: usize, sizes: &[u32]) -> Result<Vec<usize>, AllocError>
-    requires { first + sum sizes.now < 2 ^ 64 }
-    ensures { IfOk result (λ ends. ends.items ≡ ends_from first sizes.now) }
+/// Adds labels that stand one behind the other, so many for each player, and answers where each player's end.
+fn add_grouped(
+    alloc: Global,
+    counts: &[u32],
+    strategies: &[Label<'_>],
+    labels: &mut Labels,
+) -> Result<Vec<usize>, AllocError>
+    requires { sum counts.now ≡ length strategies.now }
+    ensures { IfOk result (λ ends. AreStrategies labels.old labels.new ends.items (groups counts.now (map label_of strategies.now))) }
 {
     let mut ends = Vec::new(alloc);
-    let mut end = first;
-    for size in sizes {
-        end += *size as usize;
-        ends.push(end)?;
+    let mut start = 0;
+    for count in counts {
+        let end = start + *count as usize;
+        labels.extend(&strategies[start..end])?;
+        ends.push(labels.len())?;
+        start = end;
     }
     Ok(ends)
 }
@@ -134,10 +141,7 @@ impl Names {
         ensures { IfOk result (λ names. names ≡ record { title = label_of title.entry; comment = label_of comment.entry; players = map label_of players.now; strategies = groups counts.now (map label_of strategies.now) }) }
     {
         let mut labels = heading(alloc, title, comment, players)?;
-        let first = labels.len();
-        labels.extend(strategies)?;
-        let whole = labels.len();
-        let ends = ends_from(alloc, first, counts)?;
+        let ends = add_grouped(alloc, counts, strategies, &mut labels)?;
         Ok(Names { labels, ends })
     }
 
