@@ -15,3 +15,6 @@ pub mod TableParts
 pub mod TableText
 pub mod TextParts
 pub mod WorkedTables
+pub use Rattle.gf_fraction.specs.Ratio
+pub use Rattle.gf_token.specs.Label
+pub use Rattle.gf_token.specs.Token
