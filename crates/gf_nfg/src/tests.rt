@@ -1,14 +1,14 @@
 //! Tables made of parts, their accessors, their texts, and which of them are the same to play.
 
-use crate::table::Table;
-use crate::write::write_nfg;
+use crate::{Table, read_nfg, write_nfg};
 use gf_fraction::Fraction;
 use gf_token::Label;
 use std::alloc::{AllocError, Global};
 use std::process::Abort;
 use std::test::Fail;
 
-const SELTEN: &[u8] = b"NFG 1 R \"Selten\" { \"Player 1\" \"Player 2\" }
+/// The canonical text of the table of Selten.
+pub(crate) const SELTEN: &[u8] = b"NFG 1 R \"Selten\" { \"Player 1\" \"Player 2\" }
 { { \"1\" \"2\" \"3\" } { \"1\" \"2\" } }
 \"\"
 
@@ -28,34 +28,20 @@ fn whole(rt: &impl Abort, n: i128) -> Fraction {
     Fraction::new(n, 1).expect(rt, "a whole number")
 }
 
-/// A table of two players, who have three strategies and two.
-fn two_players(
-    rt: &impl Abort,
-    alloc: Global,
-    title: &[u8],
-    last: &[u8],
-    numbers: [i128; 12],
-) -> Result<Table, AllocError> {
+/// The table of Selten, made of its parts.
+fn selten(rt: &impl Abort, alloc: Global) -> Result<Table, AllocError> {
+    let (one, two, three) = (label(rt, b"1"), label(rt, b"2"), label(rt, b"3"));
     let players = [label(rt, b"Player 1"), label(rt, b"Player 2")];
-    let strategies = [
-        vec![in alloc; label(rt, b"1"), label(rt, b"2"), label(rt, b"3")]?,
-        vec![in alloc; label(rt, b"1"), label(rt, last)]?,
-    ];
-    let rows = numbers.map(|n| whole(rt, n));
+    let strategies = [vec![in alloc; one, two, three]?, vec![in alloc; one, two]?];
+    let rows = [1, 1, 0, 2, 0, 2, 1, 1, 0, 3, 2, 0].map(|n| whole(rt, n));
     Table::new(
         alloc,
-        label(rt, title),
+        label(rt, b"Selten"),
         label(rt, b""),
         &players,
         &strategies,
         &rows,
     )
-}
-
-/// The table whose canonical text is `SELTEN`.
-fn selten(rt: &impl Abort, alloc: Global) -> Result<Table, AllocError> {
-    let numbers = [1, 1, 0, 2, 0, 2, 1, 1, 0, 3, 2, 0];
-    two_players(rt, alloc, b"Selten", b"2", numbers)
 }
 
 #[test]
@@ -107,33 +93,59 @@ fn keeps_its_strategies(rt: HostRuntime) -> Result<(), Fail> {
 
 #[test]
 fn keeps_its_payoffs(rt: HostRuntime) -> Result<(), Fail> {
-    let t = selten(&rt, rt.alloc())?;
-    assert_eq!(rt;
-        t.payoffs(&[2, 2]),
-        Some([whole(&rt, 0), whole(&rt, 3)].as_slice())
-    );
-    let others: [&[u32]; 4] = [&[2], &[2, 2, 1], &[0, 1], &[1, 3]];
-    for profile in others {
-        assert!(rt; t.payoffs(profile).is_none());
+    let made = selten(&rt, rt.alloc())?;
+    let read = read_nfg(rt.alloc(), SELTEN).expect(&rt, "a strategic file");
+    for t in [made, read] {
+        assert_eq!(rt;
+            t.payoffs(&[2, 2]),
+            Some([whole(&rt, 0), whole(&rt, 3)].as_slice())
+        );
+        let others: [&[u32]; 4] = [&[2], &[2, 2, 1], &[0, 1], &[1, 3]];
+        for profile in others {
+            assert!(rt; t.payoffs(profile).is_none());
+        }
     }
     Ok(())
 }
 
 #[test]
 fn tells_which_are_the_same_to_play(rt: HostRuntime) -> Result<(), Fail> {
-    let alloc = rt.alloc();
-    let numbers = [1, 1, 0, 2, 0, 2, 1, 1, 0, 3, 2, 0];
-    let t = selten(&rt, alloc)?;
-    let titled = two_players(&rt, alloc, b"", b"2", numbers)?;
-    let named = two_players(&rt, alloc, b"Selten", b"02", numbers)?;
-    let paid = two_players(
-        &rt,
-        alloc,
-        b"Selten",
-        b"2",
-        [1, 1, 0, 2, 0, 2, 1, 1, 0, 3, 2, 1],
-    )?;
-    assert!(rt; t.play_agrees(&t) && t.play_agrees(&titled));
-    assert!(rt; !t.play_agrees(&named) && !t.play_agrees(&paid));
+    let rows: [(&[u8], &[u8], bool); 6] = [
+        (
+            b"NFG 1 R \"z\" { \"A\" \"B\" } { 2 1 } { { \"u\" 1 2 } } 1 0",
+            b"NFG 1 R \"z\" { \"A\" \"B\" } { 2 1 } 1 2 0 0",
+            true,
+        ),
+        (
+            b"NFG 1 R \"z\" { \"A\" \"B\" } { 2 1 } 1 2 0 0",
+            b"NFG 1 R \"\" { \"A\" \"B\" } { { \"1\" \"2\" } { \"1\" } } \"c\" 1 2 0 0",
+            true,
+        ),
+        (
+            b"NFG 1 R \"z\" { \"A\" \"B\" } { 2 1 } 1 2 0 0",
+            SELTEN,
+            false,
+        ),
+        (
+            b"NFG 1 R \"z\" { \"A\" \"B\" } { 2 1 } 1 2 0 0",
+            b"NFG 1 R \"z\" { \"A\" \"C\" } { 2 1 } 1 2 0 0",
+            false,
+        ),
+        (
+            b"NFG 1 R \"z\" { \"A\" \"B\" } { 2 1 } 1 2 0 0",
+            b"NFG 1 R \"z\" { \"A\" \"B\" } { { \"1\" \"02\" } { \"1\" } } 1 2 0 0",
+            false,
+        ),
+        (
+            b"NFG 1 R \"z\" { \"A\" \"B\" } { 2 1 } 1 2 0 0",
+            b"NFG 1 R \"z\" { \"A\" \"B\" } { 2 1 } 1 2 0 1",
+            false,
+        ),
+    ];
+    for (a, b, same) in rows {
+        let a = read_nfg(rt.alloc(), a).expect(&rt, "a strategic file");
+        let b = read_nfg(rt.alloc(), b).expect(&rt, "a strategic file");
+        assert_eq!(rt; (a.play_agrees(&b), b.play_agrees(&a)), (same, same));
+    }
     Ok(())
 }

@@ -1,6 +1,7 @@
 //! Strategic files as they are read, and where they are refused.
 
-use crate::read::read_parts;
+use crate::tests::SELTEN;
+use crate::{read_nfg, write_nfg};
 use gf_token::{Fault, Span, What, Why};
 use std::test::Fail;
 
@@ -254,21 +255,61 @@ fn refuses_at_the_first_offending_token(rt: HostRuntime) -> Result<(), Fail> {
     ];
     for (input, start, end, why) in rows {
         let span = Span { start, end };
-        let answer = read_parts(rt.alloc(), input);
+        let answer = read_nfg(rt.alloc(), input);
         assert_eq!(rt; answer.err(), Some(Fault { span, why }));
     }
     Ok(())
 }
 
-#[test]
-fn reads_both_versions(rt: HostRuntime) -> Result<(), Fail> {
-    let rows: [&[u8]; 3] = [
-        b"NFG 1 R \"z\" { \"A\" \"B\" } { 2 1 } 1 .5 0 -6/4",
-        b"NFG 1 D \"z\" { \"A\" \"B\" } { { \"u\" \"v\" } { \"w\" } } \"c\" { { \"\" 1, 2, } } 0 1",
+/// Files with the canonical texts of their tables.
+const FILES: [(&[u8], &[u8]); 9] = [
+    (
+        b"NFG 1 R \"Selten\" { \"Player 1\" \"Player 2\" } { 3 2 } 1 1 0 2 0 2 1 1 0 3 2 0",
+        SELTEN,
+    ),
+    (
+        b"NFG 1 D \"Selten\" { \"Player 1\" \"Player 2\" } { { \"1\" \"2\" \"3\" } { \"1\" \"2\" } } \"\" { { \"a\" 1, 1, } { \"b\" 0, 2 } { \"c\" 0 2 } { \"d\" 1 1 } { \"e\" 0 3 } { \"f\" 2 0 } } 1 2 3 4 5 6",
+        SELTEN,
+    ),
+    (
+        b"NFG 1 R \"z\" { \"A\" \"B\" } { 2 1 } { { \"u\" 1 2 } } 1 0",
+        b"NFG 1 R \"z\" { \"A\" \"B\" }\n{ { \"1\" \"2\" } { \"1\" } }\n\"\"\n\n1 2\n0 0\n",
+    ),
+    (
+        b"NFG 1 R \"z\" { \"A\" \"B\" } { 2 1 } 1 2 0 0",
+        b"NFG 1 R \"z\" { \"A\" \"B\" }\n{ { \"1\" \"2\" } { \"1\" } }\n\"\"\n\n1 2\n0 0\n",
+    ),
+    (
+        b"NFG 1 D \"\" { \"A\" \"B\" }\t{{\"up\" \"\"}{\"\\\"\"}}\"said\nso\" +.5 007 -6/4 1e-1",
+        b"NFG 1 R \"\" { \"A\" \"B\" }\n{ { \"up\" \"\" } { \"\\\"\" } }\n\"said\nso\"\n\n1/2 7\n-3/2 1/10\n",
+    ),
+    (
+        b"NFG 1 R \"\" { } { }",
+        b"NFG 1 R \"\" { }\n{ }\n\"\"\n\n\n",
+    ),
+    (
         b"NFG 1 R \"\" { } { } { { \"a\" } } 1",
-    ];
-    for input in rows {
-        assert!(rt; read_parts(rt.alloc(), input).is_ok());
+        b"NFG 1 R \"\" { }\n{ }\n\"\"\n\n\n",
+    ),
+    (
+        b"NFG 1 R \"say \\\"hi\\\" \\a\" { } { }",
+        b"NFG 1 R \"say \\\"hi\\\" \\a\" { }\n{ }\n\"\"\n\n\n",
+    ),
+    (
+        b"NFG 1 R \"a\n\xffb\" { } { }",
+        b"NFG 1 R \"a\n\xffb\" { }\n{ }\n\"\"\n\n\n",
+    ),
+];
+
+#[test]
+fn reads_what_the_canonical_text_says(rt: HostRuntime) -> Result<(), Fail> {
+    for (file, text) in FILES {
+        for input in [file, text] {
+            let table = read_nfg(rt.alloc(), input).expect(&rt, "a strategic file");
+            let mut written = Vec::new(rt.alloc());
+            write_nfg(&table, &mut written)?;
+            assert_eq!(rt; written.as_slice(), text);
+        }
     }
     Ok(())
 }
