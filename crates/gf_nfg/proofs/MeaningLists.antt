@@ -6,7 +6,8 @@ use Rattle.std.proofs.Math.Nat.{mul-suc}
 use Rattle.std.proofs.lemmas.List.{length-append, length-map}
 use Rattle.std.proofs.lemmas.List.Sums.{sum_by-cons}
 use Rattle.gf_nfg.specs.Profiles.{positions, product}
-use Rattle.gf_nfg.specs.TableParts.{counted_labels, groups}
+use Rattle.gf_nfg.specs.Sentence.{counted_labels}
+use Rattle.gf_nfg.specs.TableParts.{groups}
 use Rattle.gf_nfg.proofs.TableRows.{length-numbers_from}
 
 abbrev pub joined : {A : Type 0} → List (List A) → List A

@@ -9,9 +9,9 @@ use Rattle.gf_fraction.specs.Ratio.{Ratio}
 use Rattle.gf_nfg.specs.declared.position.Position.TheVariants as p
 use Rattle.gf_nfg.specs.Profiles.{positions, profiles, product}
 use Rattle.gf_nfg.specs.Table.{Table, IsTable, rows}
-use Rattle.gf_nfg.specs.Sentence.{Each, Sentence, IsStrategies, IsComment, IsPayoff, IsOutcome, IsPayoffBody, IsOutcomeBody, IsOutcomeNumber, IsCount, IsLabelList, braced}
+use Rattle.gf_nfg.specs.Sentence.{Each, Sentence, IsStrategies, IsComment, IsPayoff, IsOutcome, IsPayoffBody, IsOutcomeBody, IsOutcomeNumber, IsCount, IsLabelList, braced, counted_labels}
 use Rattle.gf_nfg.specs.Machine.{Content, at, run, start}
-use Rattle.gf_nfg.specs.TableParts.{counted_labels, entries_of, row_of}
+use Rattle.gf_nfg.specs.TableParts.{entries_of, row_of}
 use Rattle.gf_nfg.specs.Meaning.{strategies_of, rows_by, table_of, HasPayoffs, HasLabels, IsComplete}
 use Rattle.gf_nfg.proofs.MeaningLists.{joined, length-counted_labels, length-joined, length-joined_rows, product_above_zero}
 use Rattle.gf_nfg.proofs.MeaningTables.{is_table, rows-table_of, strategies_of-joined, all_counts, rows_in_turn, rows_again}

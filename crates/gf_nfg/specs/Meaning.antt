@@ -4,7 +4,8 @@ use Rattle.std.specs.List.{AllByRecursion}
 use Rattle.gf_fraction.specs.Ratio.{Ratio}
 use Rattle.gf_nfg.specs.Profiles.{positions, product}
 use Rattle.gf_nfg.specs.Table.{Table}
-use Rattle.gf_nfg.specs.TableParts.{Names, counted_labels, groups, row_of, table_with}
+use Rattle.gf_nfg.specs.Sentence.{counted_labels}
+use Rattle.gf_nfg.specs.TableParts.{Names, groups, row_of, table_with}
 use Rattle.gf_nfg.specs.Machine.{Content}
 
 -- of so many strategies for each player, and their labels in turn, or none where there are counts alone

@@ -17,9 +17,13 @@ Each P tokens (x ∷ xs) = (first : List Token) × (others : List Token) × (tok
 abbrev pub braced : List Token → List Token
 braced tokens = Opening ∷ (tokens ++ Closing ∷ [])
 
+-- the labels "1" to n
+abbrev pub counted_labels : ℕ → List (List ℕ)
+counted_labels n = map decimal (positions n)
+
 -- a count of n stands for the labels "1" to n; that it is positive, `IsTable` says
 abbrev pub IsCount : List Token → List (List ℕ) → Type 0
-IsCount tokens labels = (bytes : List ℕ) × (n : ℕ) × (tokens ≡ Bare bytes ∷ []) × IsIndex bytes n × (labels ≡ map decimal (positions n))
+IsCount tokens labels = (bytes : List ℕ) × (n : ℕ) × (tokens ≡ Bare bytes ∷ []) × IsIndex bytes n × (labels ≡ counted_labels n)
 
 -- Opening Text* Closing
 abbrev pub IsLabelList : List Token → List (List ℕ) → Type 0

@@ -1,5 +1,5 @@
 -- How the parts of a table are kept.
-use Rattle.std.specs.Prelude.{◌≡◌, ℕ, zero, suc, pos, ◌+◌, ◌-◌, ◌*◌, ◌<◌, ◌≤◌, true, List, [], ◌∷◌, take, drop, length, slice_get, replicate, Option, Some, None, option_map, unwrap_or, decimal, map, nat_lt, if◌then◌else◌}
+use Rattle.std.specs.Prelude.{◌≡◌, ℕ, zero, suc, pos, ◌+◌, ◌-◌, ◌*◌, ◌<◌, ◌≤◌, true, List, [], ◌∷◌, take, drop, length, slice_get, replicate, Option, Some, None, option_map, unwrap_or, map, nat_lt, if◌then◌else◌}
 use Rattle.std.specs.List.{AllByRecursion}
 use Rattle.gf_fraction.specs.Ratio.{Ratio, whole}
 use Rattle.gf_token.specs.LabelSpelling.{is_spelling}
@@ -35,10 +35,6 @@ pub record IsCut (ends : List ℕ) (bytes : List ℕ) : Type 0 where
 abbrev pub groups : {A : Type 0} → List ℕ → List A → List (List A)
 groups [] items = []
 groups (size ∷ sizes) items = take size items ∷ groups sizes (drop size items)
-
--- the labels "1" to n
-abbrev pub counted_labels : ℕ → List (List ℕ)
-counted_labels n = map decimal (positions n)
 
 -- a table but for its payoffs
 pub record Names : Type 0 where

@@ -3,7 +3,8 @@
 ghost use Rattle.std.specs.Prelude.{◌≡◌, ◌-◌, ◌<◌, ◌≤◌, ◌++◌, ◌∷◌, [], Some, drop, length, map, slice_get, slice_index, take, IsTrue, OnErr, OnOk};
 ghost use Rattle.gf_token.specs.Label.{label_of};
 ghost use Rattle.gf_token.specs.LabelSpelling.{is_spelling};
-ghost use Rattle.gf_nfg.specs.TableParts.{AreSpellings, counted_labels, start_of};
+ghost use Rattle.gf_nfg.specs.Sentence.{counted_labels};
+ghost use Rattle.gf_nfg.specs.TableParts.{AreSpellings, start_of};
 
 use gf_token::Label;
 use itoa::Buffer;

@@ -2,7 +2,8 @@
 
 ghost use Rattle.std.specs.Prelude.{◌≡◌, ◌<◌, ◌∷◌, Some, IfOk, length, map, IsSomeAnd, option_and_then, option_map, slice_get, sum};
 ghost use Rattle.gf_token.specs.Label.{label_of};
-ghost use Rattle.gf_nfg.specs.TableParts.{AreStrategies, counted_labels, groups};
+ghost use Rattle.gf_nfg.specs.Sentence.{counted_labels};
+ghost use Rattle.gf_nfg.specs.TableParts.{AreStrategies, groups};
 
 use crate::labels::{Labels, piece_at};
 use gf_token::Label;

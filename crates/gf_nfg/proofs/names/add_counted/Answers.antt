@@ -1,5 +1,5 @@
 use Rattle.std.proofs.Common.{◌∙◌, ◌++◌, ◌∷◌, [], ap, refl, get_or, ℕ}
-use Rattle.gf_nfg.specs.TableParts.{counted_labels}
+use Rattle.gf_nfg.specs.Sentence.{counted_labels}
 use Rattle.gf_nfg.proofs.TableNames.{strategies_of_more, strategies_of_all}
 use Rattle.gf_nfg.proofs.names.add_counted.Goals as goal
 

@@ -1,5 +1,6 @@
 use Rattle.std.proofs.Common.{map, take}
-use Rattle.gf_nfg.specs.TableParts.{AreStrategies, counted_labels}
+use Rattle.gf_nfg.specs.Sentence.{counted_labels}
+use Rattle.gf_nfg.specs.TableParts.{AreStrategies}
 use Rattle.gf_nfg.proofs.names.add_counted.Given as goal
 
 abbrev pub invariant-loop-count : goal.invariant-loop-count

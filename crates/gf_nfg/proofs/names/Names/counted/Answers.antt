@@ -1,7 +1,7 @@
 use Rattle.std.proofs.Common.{◌∙◌, sym, map}
 use Rattle.std.proofs.lemmas.List.{length-map}
 use Rattle.gf_token.specs.Label.{label_of}
-use Rattle.gf_nfg.specs.TableParts.{counted_labels}
+use Rattle.gf_nfg.specs.Sentence.{counted_labels}
 use Rattle.gf_nfg.proofs.TableNames.{IsMade, made_rises, made_is}
 use Rattle.gf_nfg.proofs.names.Names.counted.Goals as goal
 
