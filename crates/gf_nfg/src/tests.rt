@@ -108,44 +108,32 @@ fn keeps_its_payoffs(rt: HostRuntime) -> Result<(), Fail> {
     Ok(())
 }
 
+/// Files, and whether their tables agree in play with that of `NFG 1 R "z" { "A" "B" } { 2 1 } 1 2 0 0`.
+const AGREEING: [(&[u8], bool); 6] = [
+    (
+        b"NFG 1 R \"z\" { \"A\" \"B\" } { 2 1 } { { \"u\" 1 2 } } 1 0",
+        true,
+    ),
+    (
+        b"NFG 1 R \"\" { \"A\" \"B\" } { { \"1\" \"2\" } { \"1\" } } \"c\" 1 2 0 0",
+        true,
+    ),
+    (SELTEN, false),
+    (b"NFG 1 R \"z\" { \"A\" \"C\" } { 2 1 } 1 2 0 0", false),
+    (
+        b"NFG 1 R \"z\" { \"A\" \"B\" } { { \"1\" \"02\" } { \"1\" } } 1 2 0 0",
+        false,
+    ),
+    (b"NFG 1 R \"z\" { \"A\" \"B\" } { 2 1 } 1 2 0 1", false),
+];
+
 #[test]
 fn tells_which_are_the_same_to_play(rt: HostRuntime) -> Result<(), Fail> {
-    let rows: [(&[u8], &[u8], bool); 6] = [
-        (
-            b"NFG 1 R \"z\" { \"A\" \"B\" } { 2 1 } { { \"u\" 1 2 } } 1 0",
-            b"NFG 1 R \"z\" { \"A\" \"B\" } { 2 1 } 1 2 0 0",
-            true,
-        ),
-        (
-            b"NFG 1 R \"z\" { \"A\" \"B\" } { 2 1 } 1 2 0 0",
-            b"NFG 1 R \"\" { \"A\" \"B\" } { { \"1\" \"2\" } { \"1\" } } \"c\" 1 2 0 0",
-            true,
-        ),
-        (
-            b"NFG 1 R \"z\" { \"A\" \"B\" } { 2 1 } 1 2 0 0",
-            SELTEN,
-            false,
-        ),
-        (
-            b"NFG 1 R \"z\" { \"A\" \"B\" } { 2 1 } 1 2 0 0",
-            b"NFG 1 R \"z\" { \"A\" \"C\" } { 2 1 } 1 2 0 0",
-            false,
-        ),
-        (
-            b"NFG 1 R \"z\" { \"A\" \"B\" } { 2 1 } 1 2 0 0",
-            b"NFG 1 R \"z\" { \"A\" \"B\" } { { \"1\" \"02\" } { \"1\" } } 1 2 0 0",
-            false,
-        ),
-        (
-            b"NFG 1 R \"z\" { \"A\" \"B\" } { 2 1 } 1 2 0 0",
-            b"NFG 1 R \"z\" { \"A\" \"B\" } { 2 1 } 1 2 0 1",
-            false,
-        ),
-    ];
-    for (a, b, same) in rows {
-        let a = read_nfg(rt.alloc(), a).expect(&rt, "a strategic file");
-        let b = read_nfg(rt.alloc(), b).expect(&rt, "a strategic file");
-        assert_eq!(rt; (a.play_agrees(&b), b.play_agrees(&a)), (same, same));
+    let file = b"NFG 1 R \"z\" { \"A\" \"B\" } { 2 1 } 1 2 0 0";
+    let t = read_nfg(rt.alloc(), file).expect(&rt, "a strategic file");
+    for (other, same) in AGREEING {
+        let u = read_nfg(rt.alloc(), other).expect(&rt, "a strategic file");
+        assert_eq!(rt; (t.play_agrees(&u), u.play_agrees(&t)), (same, same));
     }
     Ok(())
 }
