@@ -6,8 +6,8 @@ use Rattle.std.proofs.Math.Nat.{mul_comm, mul-le-mul_right}
 use Rattle.std.proofs.lemmas.List.{drop-drop, length-map}
 use Rattle.gf_fraction.specs.Ratio.{Ratio, whole}
 use Rattle.gf_nfg.specs.Profiles.{numbers_from, positions, product}
-use Rattle.gf_nfg.specs.Table.{Entry, IsTable, rows}
-use Rattle.gf_nfg.specs.TableParts.{Names, groups, row_of, entries_of, table_with, IsNamed, HasRows}
+use Rattle.gf_nfg.specs.Table.{IsTable, rows}
+use Rattle.gf_nfg.specs.TableParts.{Names, groups, row_of, table_with, IsNamed, HasRows}
 use Rattle.gf_nfg.specs.Machine.{Content}
 use Rattle.gf_nfg.specs.Meaning.{names_in, numbers_by, strategies_of, rows_by, table_of, HasPayoffs, HasLabels, IsComplete}
 use Rattle.gf_nfg.proofs.MeaningLists.{joined, sum-cons, counts_back, groups-joined, take-by, drop-by}

@@ -1,8 +1,8 @@
 -- The names of a table in one list of labels.
-use Rattle.std.proofs.Common.{◌≡◌, ℕ, zero, suc, ◌+◌, ◌-◌, ◌<◌, ◌≤◌, List, [], ◌∷◌, ◌++◌, length, map, take, drop, get_or, Option, Some, None, slice_get, option_map, refl, sym, ap, subst, ◌∙◌, arith}
+use Rattle.std.proofs.Common.{◌≡◌, ℕ, zero, suc, ◌+◌, ◌-◌, ◌<◌, ◌≤◌, List, [], ◌∷◌, ◌++◌, length, map, take, drop, get_or, Option, Some, None, slice_get, option_map, refl, sym, ap, ◌∙◌, arith}
 use Rattle.std.specs.Prelude.{IsSomeAnd, option_and_then, sum, unwrap_or}
 use Rattle.std.proofs.lemmas.List.{length-take, length-drop, length-append, take_all, take_at, take-append-le, drop-drop, drop-map, take-map, take_more, take-append-drop, map-append}
-use Rattle.std.proofs.lemmas.List.Sums.{sum_by_push, sum_by_more_le}
+use Rattle.std.proofs.lemmas.List.Sums.{sum_by_push}
 use Rattle.std.proofs.lemmas.Option.{slice_get_within}
 use Rattle.gf_nfg.specs.TableParts.{Names, groups, names_of, pieces, start_of, RisesTo, AreStrategies}
 use Rattle.gf_nfg.proofs.MeaningLists.{sum-cons}
