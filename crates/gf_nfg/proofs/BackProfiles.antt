@@ -4,7 +4,7 @@ use Rattle.std.specs.Prelude.{◌↔◌}
 use Rattle.std.specs.List.{AllByRecursion, Contains, flat_map}
 use Rattle.std.proofs.Math.Nat.{mul-suc}
 use Rattle.std.proofs.lemmas.Grind.{flat_map-append}
-use Rattle.std.proofs.lemmas.List.{length-map, map-append, get_or-map, get_or_at, get_or_default}
+use Rattle.std.proofs.lemmas.List.{length-map, map-append, get_or-map, get_or_at}
 use Rattle.std.proofs.lemmas.List.Elements.{All-contains, All-from_recursion}
 use Rattle.gf_nfg.specs.Profiles.{numbers_from, positions, profiles, product}
 use Rattle.gf_nfg.specs.ProfilePlaces.{IsProfile, place}
@@ -137,10 +137,3 @@ every_profile counts profile = (
   λ h. All-contains (IsProfile counts) (profiles counts) profile (All-from_recursion (IsProfile counts) (profiles counts) (are_profiles counts)) h,
   λ h. contains_in (profiles counts) profile (profile_in counts profile h),
 )
-
--- a profile stands at its place
-pub at_place : (counts profile d : List ℕ) → IsProfile counts profile → (place counts profile < length (profiles counts)) × (get_or (profiles counts) (place counts profile) d ≡ profile)
-at_place counts profile d h =
-    let c = (every_profile counts profile).1 h in
-    let e : place counts profile ≡ c.0 = ap (place counts) (sym c.2) ∙ place_at counts c.0 profile c.1 in
-    (omega (arith, e, c.1), ap (λ (i : ℕ). get_or (profiles counts) i d) e ∙ get_or_default (profiles counts) c.0 d profile c.1 ∙ c.2)

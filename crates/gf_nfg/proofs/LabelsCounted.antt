@@ -1,5 +1,5 @@
 -- Numbers as labels.
-use Rattle.std.proofs.Common.{◌≡◌, ℕ, suc, ◌+◌, ◌-◌, ◌<◌, ◌≤◌, ◌^◌, true, false, List, [], ◌∷◌, ◌++◌, map, refl, sym, ap, ◌∙◌, arith, append_assoc}
+use Rattle.std.proofs.Common.{◌≡◌, ℕ, suc, ◌+◌, ◌-◌, ◌<◌, ◌^◌, true, false, List, [], ◌∷◌, ◌++◌, map, refl, sym, ap, ◌∙◌, arith, append_assoc}
 use Rattle.std.proofs.lemmas.Bool.Decides.{nat_tests}
 use Rattle.std.specs.Prelude.{decimal, ◌==◌}
 use Rattle.std.specs.Int.Digits.{AllBelowBase, digits_of}
@@ -31,12 +31,6 @@ counted_step before count n e =
 
 pub counted_more : (before count : ℕ) → before < count → counted_rest before count ≡ decimal (before + 1) ∷ counted_rest (before + 1) count
 counted_more before count h = let e : count - before ≡ suc (count - before - 1) = omega (arith, h) in counted_step before count (count - before - 1) e
-
-pub counted_all : (before count : ℕ) → count ≤ before → counted_rest before count ≡ []
-counted_all before count h = let e : count - before ≡ 0 = omega (arith, h) in rw e refl
-
-pub counted_none : (count : ℕ) → counted_rest 0 count ≡ map decimal (numbers_from 1 count)
-counted_none count = let e : count - 0 ≡ count = omega arith in ap (λ (n : ℕ). map decimal (numbers_from 1 n)) e
 
 pub counted_appended : (old labels labels' : List (List ℕ)) (label : List ℕ) (before count : ℕ) → before < count → label ≡ decimal (before + 1) → labels' ≡ labels ++ label ∷ []
     → labels ++ counted_rest before count ≡ old → labels' ++ counted_rest (before + 1) count ≡ old

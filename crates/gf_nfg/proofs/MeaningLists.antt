@@ -2,7 +2,7 @@
 use Rattle.std.proofs.Common.{◌≡◌, ℕ, zero, suc, ◌+◌, ◌*◌, ◌<◌, List, [], ◌∷◌, ◌++◌, length, map, take, drop, Some, refl, sym, ap, subst, ◌∙◌, arith}
 use Rattle.std.specs.Prelude.{decimal, sum, slice_get}
 use Rattle.std.specs.List.{AllByRecursion, flat_map}
-use Rattle.std.proofs.Math.Nat.{mul-suc}
+use Rattle.std.proofs.Math.Nat.{mul-suc, one-le-mul}
 use Rattle.std.proofs.lemmas.List.{length-append, length-map}
 use Rattle.std.proofs.lemmas.List.Sums.{sum_by-cons}
 use Rattle.gf_nfg.specs.Profiles.{positions, product}
@@ -77,9 +77,4 @@ get-joined size (xs ∷ lists) (suc k) h less =
 -- of positive counts there are some
 pub product_above_zero : (counts : List ℕ) → AllByRecursion (λ n. 0 < n) counts → 0 < product counts
 product_above_zero [] h = omega arith
-product_above_zero (n ∷ counts) h = above n (product counts) h.0 (product_above_zero counts h.1)
-  where
-    above : (m n : ℕ) → 0 < m → 0 < n → 0 < m * n
-    above zero n h k = absurd (omega arith)
-    above (suc m) zero h k = absurd (omega arith)
-    above (suc m) (suc n) h k = omega arith
+product_above_zero (n ∷ counts) h = one-le-mul h.0 (product_above_zero counts h.1)

@@ -19,9 +19,6 @@ pub record Led (all rest : List Lexeme) (s : State) : Type 0 where
   pub parts : all ≡ seen ++ rest
   pub goes : (more : List Token) → run start (tokens_of seen ++ more) ≡ run s more
 
-pub led_none : (all : List Lexeme) → Led all all start
-led_none all = record { seen = []; parts = refl; goes = λ more. refl }
-
 unfoldable pub led_more : (all rest : List Lexeme) (l : Lexeme) (s after : State) → Led all (l ∷ rest) s → step s l.token ≡ Ok after → Led all rest after
 led_more all rest l s after h e = record {
   seen = h.seen ++ l ∷ [];

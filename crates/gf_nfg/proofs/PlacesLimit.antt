@@ -26,9 +26,6 @@ use Rattle.gf_nfg.proofs.PlacesLed.{Led}
 abbrev Grows : State → Result State Why → Type 0
 Grows s o = (after : State) → o ≡ Ok after → s.content.profiles ≤ after.content.profiles
 
-abbrev ok_state : State → Result State Why
-ok_state s = Ok s
-
 refuses : (s : State) (why : Why) → Grows s (Err why)
 refuses s why = λ after e. absurd cc
 

@@ -13,9 +13,6 @@ use Rattle.gf_nfg.specs.TableParts.{entries_of}
 use Rattle.gf_nfg.proofs.TableRows.{entries_again}
 use Rattle.std.specs.Cmp.Lexicographic.{pointwise}
 
-pub take_next : {A : Type 0} (xs : List A) (k : ℕ) (x : A) → slice_get xs k ≡ Some x → take (k + 1) xs ≡ take (suc k) xs
-take_next xs k x h = let e : k + 1 ≡ suc k = omega arith in ap (λ n. take n xs) e
-
 same_next : {A : Type 0} (xs ys : List A) (k : ℕ) (x y : A) → slice_get xs k ≡ Some x → slice_get ys k ≡ Some y → x ≡ y → take k xs ≡ take k ys → take (suc k) xs ≡ take (suc k) ys
 same_next [] ys k x y h g e s = absurd (cc)
 same_next (a ∷ xs) [] k x y h g e s = absurd (cc)
@@ -32,11 +29,6 @@ same_more xs ys k x y h g e s = let n : k + 1 ≡ suc k = omega arith in rw n (s
 -- at the end
 pub same_all : {A : Type 0} (xs ys : List A) (k : ℕ) → length xs ≤ k → length ys ≤ k → take k xs ≡ take k ys → xs ≡ ys
 same_all xs ys k h g s = sym (take_all k xs h) ∙ s ∙ take_all k ys g
-
-pub differ_at : {A : Type 0} (xs ys : List A) (k : ℕ) (x y : A) → slice_get xs k ≡ Some x → slice_get ys k ≡ Some y → (x ≡ y → ⊥) → xs ≡ ys → ⊥
-differ_at xs ys k x y h g d e =
-    let same : Some x ≡ Some y = sym h ∙ ap (λ zs. slice_get zs k) e ∙ g in
-    d (cc)
 
 -- what a test of two labels says
 passed : (b : Bool) → not b ≡ false → b ≡ true

@@ -89,9 +89,6 @@ strategy_is labels ends names at start end strategy h k =
 
 -- ---- making
 
-pub no_strategies : (labels : List (List ℕ)) → AreStrategies labels labels [] []
-no_strategies labels = record { begin = take_all (length labels) labels (omega arith); rises = refl; are = refl }
-
 pub strategies_more : (before labels labels' own : List (List ℕ)) (ends ends' : List ℕ) (strategies : List (List (List ℕ)))
     → AreStrategies before labels ends strategies → labels' ≡ labels ++ own → ends' ≡ ends ++ length labels' ∷ [] → AreStrategies before labels' ends' (strategies ++ own ∷ [])
 strategies_more before labels labels' own ends ends' strategies a e f =

@@ -10,9 +10,6 @@ start_of_suc from [] k d h = absurd (omega (arith, h))
 start_of_suc from (end ∷ ends) zero d h = refl
 start_of_suc from (end ∷ ends) (suc k) d h = start_of_suc end ends k d (omega (arith, h))
 
-pub start_of-more : (from : ℕ) (ends : List ℕ) (number d : ℕ) → number < length ends → start_of from ends (number + 1) ≡ get_or ends number d
-start_of-more from ends number d h = let e : number + 1 ≡ suc number = omega arith in rw e (start_of_suc from ends number d h)
-
 pub length-pieces : {A : Type 0} (from : ℕ) (ends : List ℕ) (items : List A) → length (pieces from ends items) ≡ length ends
 length-pieces from [] items = refl
 length-pieces from (end ∷ ends) items = ap suc (length-pieces end ends items)

@@ -6,7 +6,7 @@ use Rattle.std.specs.Cmp.Lexicographic.{pointwise}
 use Rattle.std.proofs.lemmas.List.{length-map, drop_more}
 use Rattle.std.proofs.lemmas.Option.{slice_get-map, slice_get_within, get_or_from_slice_get}
 use Rattle.std.proofs.lemmas.Bool.Decides.{nat_tests}
-use Rattle.std.proofs.Math.Nat.{mul-le-mul_right, one-le-mul}
+use Rattle.std.proofs.Math.Nat.{mul-le-mul_right}
 use Rattle.gf_fraction.specs.Ratio.{Ratio}
 use Rattle.gf_nfg.specs.Limit.{profile_limit}
 use Rattle.gf_nfg.specs.Profiles.{numbers_from, positions, product, profiles}
@@ -195,10 +195,6 @@ place_below (n ∷ counts) (suc k ∷ ss) place h =
       | inl e ↦ let l : k < n = grind (arith, nat_tests, e) in place_below_by n k (product counts) (place_of counts ss) place l (λ m f. place_below counts ss m f) (rw e at h)
       | inr e ↦ let none : None ≡ Some place = rw e at h in absurd (cc)
     ]
-
-product_positive : (counts : List ℕ) → AllByRecursion (λ n. 0 < n) counts → 0 < product counts
-product_positive [] h = omega arith
-product_positive (n ∷ counts) h = one-le-mul h.0 (product_positive counts h.1)
 
 pub product_drop : (counts : List ℕ) (at : ℕ) → AllByRecursion (λ n. 0 < n) counts → product (drop at counts) ≤ product counts
 product_drop counts zero h = omega arith
