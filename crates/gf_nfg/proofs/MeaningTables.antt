@@ -7,9 +7,9 @@ use Rattle.std.proofs.lemmas.List.{drop-drop, length-map}
 use Rattle.gf_fraction.specs.Ratio.{Ratio, whole}
 use Rattle.gf_nfg.specs.Profiles.{numbers_from, positions, product}
 use Rattle.gf_nfg.specs.Table.{IsTable, rows}
-use Rattle.gf_nfg.specs.TableParts.{Names, groups, row_of, table_with, IsNamed, HasRows}
+use Rattle.gf_nfg.specs.TableParts.{Names, groups, numbers_of, row_of, table_with, IsNamed, HasRows}
 use Rattle.gf_nfg.specs.Machine.{Content}
-use Rattle.gf_nfg.specs.Meaning.{names_in, numbers_by, strategies_of, rows_by, table_of, HasPayoffs, HasLabels, IsComplete}
+use Rattle.gf_nfg.specs.Meaning.{names_in, choices_of, strategies_of, rows_by, table_of, HasPayoffs, HasLabels, IsComplete}
 use Rattle.gf_nfg.proofs.MeaningLists.{joined, sum-cons, counts_back, groups-joined, take-by, drop-by}
 use Rattle.gf_nfg.proofs.TableRows as kept
 
@@ -73,7 +73,7 @@ zeros_kept : {A : Type 0} (zeros : List A) (numbers : List ℕ) → AllByRecursi
 zeros_kept zeros [] = tt
 zeros_kept zeros (number ∷ numbers) = (λ e. refl, zeros_kept zeros numbers)
 
-has_rows : (c : Content) (choices : List ℕ) → HasPayoffs c choices → HasRows (length c.players) c.profiles c.payoffs (replicate (length c.players) (whole (pos 0))) (numbers_by c.profiles choices)
+has_rows : (c : Content) (choices : List ℕ) → HasPayoffs c choices → HasRows (length c.players) c.profiles c.payoffs (replicate (length c.players) (whole (pos 0))) (numbers_of c.profiles (choices_of choices))
 has_rows c [] h = kept.positions_have_rows (length c.players) c.profiles c.payoffs (replicate (length c.players) (whole (pos 0))) (h ∙ mul_comm (length c.players) c.profiles)
 has_rows c (k ∷ choices) h = record {
   one_number_each = h.2;
@@ -82,7 +82,7 @@ has_rows c (k ∷ choices) h = record {
 }
 
 pub length-rows_by : (c : Content) (choices : List ℕ) → HasPayoffs c choices → length (rows_by c choices) ≡ c.profiles
-length-rows_by c choices h = length-map (numbers_by c.profiles choices) (row_of (length c.players) c.payoffs) ∙ (has_rows c choices h).one_number_each
+length-rows_by c choices h = length-map (numbers_of c.profiles (choices_of choices)) (row_of (length c.players) c.payoffs) ∙ (has_rows c choices h).one_number_each
 
 -- ---- the table
 
@@ -103,7 +103,7 @@ named c h =
       counted = h.profiles_are ∙ ap product (sym same);
     }
 
-is_kept : (c : Content) → IsComplete c → kept.IsKept (names_in c) c.profiles c.payoffs (replicate (length c.players) (whole (pos 0))) (numbers_by c.profiles c.choices)
+is_kept : (c : Content) → IsComplete c → kept.IsKept (names_in c) c.profiles c.payoffs (replicate (length c.players) (whole (pos 0))) (numbers_of c.profiles (choices_of c.choices))
 is_kept c h = record { named = named c h; kept = has_rows c c.choices h.has_rows }
 
 pub is_table : (c : Content) → IsComplete c → IsTable (table_of c)
@@ -120,11 +120,11 @@ length-entries c h = kept.length-entries _ _ _ _ _ (is_kept c h)
 pub named_by : (c : Content) (names : Names) → names ≡ names_in c → IsComplete c → IsNamed names c.profiles
 named_by c names is h = rw is (named c h)
 
-none_chosen : (profiles : ℕ) (choices : List ℕ) → length choices ≡ 0 → numbers_by profiles choices ≡ positions profiles
+none_chosen : (profiles : ℕ) (choices : List ℕ) → length choices ≡ 0 → numbers_of profiles (choices_of choices) ≡ positions profiles
 none_chosen profiles [] h = refl
 none_chosen profiles (k ∷ choices) h = absurd (omega (arith, h))
 
-some_chosen : (profiles : ℕ) (choices : List ℕ) → 0 < length choices → numbers_by profiles choices ≡ choices
+some_chosen : (profiles : ℕ) (choices : List ℕ) → 0 < length choices → numbers_of profiles (choices_of choices) ≡ choices
 some_chosen profiles [] h = absurd (omega (arith, h))
 some_chosen profiles (k ∷ choices) h = refl
 

@@ -1,11 +1,11 @@
 -- The table that what was read means.
-use Rattle.std.specs.Prelude.{◌≡◌, ℕ, ◌*◌, ◌<◌, ◌≤◌, List, [], ◌∷◌, length, map, sum}
+use Rattle.std.specs.Prelude.{◌≡◌, ℕ, ◌*◌, ◌<◌, ◌≤◌, List, [], ◌∷◌, length, map, sum, Option, None, Some}
 use Rattle.std.specs.List.{AllByRecursion}
 use Rattle.gf_fraction.specs.Ratio.{Ratio}
-use Rattle.gf_nfg.specs.Profiles.{positions, product}
+use Rattle.gf_nfg.specs.Profiles.{product}
 use Rattle.gf_nfg.specs.Table.{Table}
 use Rattle.gf_nfg.specs.Sentence.{counted_labels}
-use Rattle.gf_nfg.specs.TableParts.{Names, groups, row_of, table_with}
+use Rattle.gf_nfg.specs.TableParts.{Names, groups, numbers_of, row_of, table_with}
 use Rattle.gf_nfg.specs.Machine.{Content}
 
 -- of so many strategies for each player, and their labels in turn, or none where there are counts alone
@@ -16,14 +16,14 @@ strategies_of counts (label ∷ labels) = groups counts (label ∷ labels)
 abbrev pub names_in : Content → Names
 names_in c = record { title = c.title; comment = c.comment; players = c.players; strategies = strategies_of c.counts c.labels }
 
--- the number of the row of each profile: their own in turn, or those of the outcomes that are chosen
-abbrev pub numbers_by : ℕ → List ℕ → List ℕ
-numbers_by profiles [] = positions profiles
-numbers_by profiles (k ∷ choices) = k ∷ choices
+-- the outcomes that are chosen, if this is the outcome version
+abbrev pub choices_of : List ℕ → Option (List ℕ)
+choices_of [] = None
+choices_of (k ∷ choices) = Some (k ∷ choices)
 
 -- the rows of the profiles
 abbrev pub rows_by : Content → List ℕ → List (List Ratio)
-rows_by c choices = map (row_of (length c.players) c.payoffs) (numbers_by c.profiles choices)
+rows_by c choices = map (row_of (length c.players) c.payoffs) (numbers_of c.profiles (choices_of choices))
 
 abbrev pub table_of : Content → Table
 table_of c = table_with (names_in c) (rows_by c c.choices)
