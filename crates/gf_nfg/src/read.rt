@@ -24,7 +24,7 @@ fn at_end(input: &[u8], why: Why) -> Fault
 }
 
 /// Reads the parts of the strategic file that bytes spell.
-pub(crate) fn read_parts<'a>(alloc: Global, input: &'a [u8]) -> Result<Parts<'a>, Fault>
+fn read_parts<'a>(alloc: Global, input: &'a [u8]) -> Result<Parts<'a>, Fault>
     ensures spelled { IfOk result (λ parts. SpellsTable input.entry.now (table_of (content_of parts))) }
     ensures complete { IfOk result (λ parts. IsComplete (content_of parts)) }
     ensures within { IfOk result (λ parts. parts.profiles ≤ profile_limit) }
@@ -55,13 +55,14 @@ pub(crate) fn read_parts<'a>(alloc: Global, input: &'a [u8]) -> Result<Parts<'a>
 /// are in bytes of the input, from 0. What is wrong there:
 /// - E2: a text has no end; at its opening quote.
 /// - E3: a token of the wrong kind, or the end.
-/// - E4, E5, E6: where a payoff is due, a bare token that spells no number, has a zero denominator, or is past 128 bits.
+/// - E4, E5, E6: a bare token where a payoff is due, that spells no number, has a zero denominator, or is past 128 bits
+///   or has too many digits behind its point.
 /// - E7: a bare token where a count or the number of an outcome is due, and it is none.
 /// - E15: the closing brace of a list without strategies.
 /// - E16: the number of an outcome above the number of outcomes.
 ///
 /// With E18 it is refused at the first count, or closing brace of a list, at which the product of the players' strategies
-/// so far passes the limit; with E19 where memory is refused.
+/// so far passes the limit; with E19 where memory is refused: at the token that asks for it, or at the end.
 pub fn read_nfg(alloc: Global, input: &[u8]) -> Result<Table, Fault>
     ensures spelled { IfOk result (λ t. SpellsTable input.now t) }
     ensures within { IfOk result (λ t. IsWithinLimit t) }
