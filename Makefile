@@ -1,8 +1,8 @@
-# `make` builds the proved program as ./gamefile; `make test` passes the gate.
+# `make` builds the proved program as ./gamefile; `make test` passes the gate; `make bench` times the program.
 
 RT ?= rt
 
-.PHONY: all test
+.PHONY: all test bench
 
 all:
 	cd crates/gamefile && $(RT) run gamefile < stdin > /dev/null
@@ -11,3 +11,7 @@ all:
 test: all
 	tests/cli
 	$(RT) ci
+
+bench:
+	bench/generate
+	bench/run

@@ -1,7 +1,2 @@
-pub mod Meaning
 pub mod Moving
-pub mod Numerals
-pub mod Reading
-pub mod Runs
-pub mod Texts
 pub mod Waiting

@@ -1,24 +1,9 @@
 -- Steps of a reader or a writer that is interrupted and asked again.
-use Rattle.std.proofs.Common.{◌≡◌, ℕ, ◌+◌, ◌≤◌, List, Option, None, Some, Result, zero, suc, inl, inr, refl, sym, ◌∙◌, add-one, arith}
-use Rattle.std.specs.Io.KnownBytes.{Keeps, Consumes, Appends}
+use Rattle.std.proofs.Common.{◌≡◌, ℕ, ◌+◌, ◌≤◌, List, Result, zero, suc, inl, inr, refl, add-one, arith}
 use Rattle.std.specs.declared.io.Error.{Error}
 use Rattle.gamefile.specs.Failures.{HasRisen, next_count}
 use Rattle.gamefile.specs.Output.{Stops}
-use Rattle.gamefile.specs.Turns.{GivesUp, Interruptions, IsFailed, IsInterrupted, IsTurn, Moves}
-
--- nothing was consumed, and then some bytes were
-pub Consumes-after_keep : (a b c : Option (List ℕ)) (bs : List ℕ) → Keeps a b → Consumes b c bs → Consumes a c bs
-Consumes-after_keep None b c bs kept consumed = tt
-Consumes-after_keep (Some xs) None c bs kept consumed = absurd kept
-Consumes-after_keep (Some xs) (Some ys) None bs kept consumed = absurd consumed
-Consumes-after_keep (Some xs) (Some ys) (Some zs) bs kept consumed = sym kept ∙ consumed
-
--- nothing was written, and then some bytes were
-pub Appends-after_keep : (a b c : Option (List ℕ)) (bs : List ℕ) → Keeps a b → Appends b c bs → Appends a c bs
-Appends-after_keep None b c bs kept appended = tt
-Appends-after_keep (Some xs) None c bs kept appended = absurd kept
-Appends-after_keep (Some xs) (Some ys) None bs kept appended = absurd appended
-Appends-after_keep (Some xs) (Some ys) (Some zs) bs kept appended = rw kept at appended
+use Rattle.gamefile.specs.Turns.{GivesUp, Interruptions, IsFailed, IsInterrupted, Moves}
 
 -- a failure after others, which were counted
 pub HasRisen-next : (a b c : ℕ) → a ≤ b → c ≡ next_count b → HasRisen a c

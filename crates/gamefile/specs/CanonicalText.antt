@@ -1,46 +1,24 @@
--- The canonical text of a table.
-use Rattle.std.specs.Prelude.{◌≡◌, ◌≢◌, ℕ, List, [], ◌∷◌, ◌++◌, map, codes}
-use Rattle.std.specs.List.{join_with_byte, flat_map}
-use Rattle.gf_token.specs.Token.{Lexeme}
+-- What a run answers to the bytes of a game file.
+use Rattle.std.specs.Prelude.{◌≡◌, ℕ, List}
 use Rattle.gf_token.specs.declared.fault.Fault.{Fault}
-use Rattle.gf_token.specs.declared.fault.Why.TheVariants.{TooLong}
-use Rattle.gf_token.specs.TokenSpelling.{Spells}
-use Rattle.gf_fraction.specs.NumberText.{number_text}
-use Rattle.gamefile.specs.Table.{Table, rows}
-use Rattle.gamefile.specs.Sentence.{Sentence}
+use Rattle.gf_token.specs.declared.fault.Why.TheVariants.{Memory}
+use Rattle.gf_nfg.specs.Judgement.{IsJudged}
+use Rattle.gf_nfg.specs.Place.{IsWithinLimit}
+use Rattle.gf_nfg.specs.Table.{Table}
+use Rattle.gf_nfg.specs.TableText.{SpellsTable, table_text}
 
--- tokens joined by one space
-abbrev pub spaced : List (List ℕ) → List ℕ
-spaced tokens = join_with_byte 32 tokens
-
--- a list in braces, `{ }` where it is empty
-abbrev pub list_text : List (List ℕ) → List ℕ
-list_text items = spaced (codes "{" ∷ (items ++ codes "}" ∷ []))
-
-abbrev pub quoted : List ℕ → List ℕ
-quoted label = 34 ∷ (label ++ 34 ∷ [])
-
--- each line ends in one line feed
-abbrev pub lines_text : List (List ℕ) → List ℕ
-lines_text lines = flat_map (λ line. line ++ 10 ∷ []) lines
-
--- format, title and players; the strategies; the comment; an empty line; the payoffs at each profile
-abbrev pub table_text : Table → List ℕ
-table_text t = lines_text
-    (spaced (codes "NFG" ∷ codes "1" ∷ codes "R" ∷ quoted t.title ∷ list_text (map quoted t.players) ∷ [])
-    ∷ list_text (map (λ labels. list_text (map quoted labels)) t.strategies)
-    ∷ quoted t.comment
-    ∷ []
-    ∷ map (λ row. spaced (map number_text row)) (rows t))
-
--- the bytes of a strategic file that means this table
-abbrev pub SpellsTable : List ℕ → Table → Type 0
-SpellsTable bytes t = (lexemes : List Lexeme) × Spells 0 bytes lexemes × Sentence (map (λ l. l.token) lexemes) t
+-- the bytes spell this table, and it is within the limit
+pub record SpellsWithin (bytes : List ℕ) (t : Table) : Type 0 where
+  pub spelled : SpellsTable bytes t
+  pub within : IsWithinLimit t
 
 -- the bytes spell a table, and this is its canonical text
-abbrev pub IsCanonicalText : List ℕ → List ℕ → Type 0
-IsCanonicalText bytes text = (t : Table) × SpellsTable bytes t × (text ≡ table_text t)
+pub record IsCanonicalText (bytes text : List ℕ) : Type 0 where
+  pub table : Table
+  pub spelled : SpellsWithin bytes table
+  pub is_text : text ≡ table_text table
 
--- what is said of a refusal: the file is not too long
-abbrev pub IsRefusal : List ℕ → Fault → Type 0
-IsRefusal bytes fault = fault.why ≢ TooLong
+-- the fault names the reason and the place of the refusal; and where memory suffices, the bytes spell no table
+pub record IsRefusal (bytes : List ℕ) (fault : Fault) : Type 0 where
+  pub judged : IsJudged fault.why bytes fault.span
+  pub unless_memory : (t : Table) → SpellsWithin bytes t → fault.why ≡ Memory

@@ -2,14 +2,7 @@ pub mod CanonicalText
 pub mod Counted
 pub mod Failures
 pub mod Input
-pub mod Machine
-pub mod Meaning
 pub mod Output
-pub mod Profiles
-pub mod ReaderState
-pub mod Readings
 pub mod Run
 pub mod RunFault
-pub mod Sentence
-pub mod Table
 pub mod Turns

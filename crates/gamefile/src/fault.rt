@@ -11,11 +11,14 @@ use gf_token::{Fault, Why};
 use std::alloc::AllocError;
 use thiserror::Error;
 
-/// The input that a fault is about: the only one, or one of two.
+/// The input that a fault is about.
 #[derive(Clone, Copy, Debug, PartialEq, Eq, Hash)]
 pub enum Which {
+    /// The one input of a run.
     Only,
+    /// The first of two.
     First,
+    /// The second of two.
     Second,
 }
 

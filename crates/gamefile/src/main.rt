@@ -5,13 +5,13 @@
 use counted::Counted;
 use std::process::ExitCode;
 
+mod canonical;
 mod counted;
 mod fault;
 mod line;
 mod run;
 mod sink;
 mod source;
-mod strategic;
 
 fn main(rt: HostRuntime) -> ExitCode {
     let mut input = Counted::new(rt.stdin());

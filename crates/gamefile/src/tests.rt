@@ -13,6 +13,7 @@ use std::alloc::{AllocError, Global};
 use std::io::ErrorKind;
 use std::test::Fail;
 
+mod canon;
 mod script;
 
 const INPUT: &[u8] = b"NFG 1 R \"\" { } { }";

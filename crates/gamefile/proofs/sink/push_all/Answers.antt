@@ -1,9 +1,9 @@
-use Rattle.std.proofs.Common.{ℕ, ◌≡◌, ◌<◌, List, ◌++◌, length, take, refl, ap, ◌∙◌, rules, arith}
+use Rattle.std.proofs.Common.{ℕ, ◌<◌, List, ◌++◌, length, take, refl, ap, ◌∙◌, rules, arith}
 use Rattle.std.proofs.KnownBytes.{Appends-kept, Appends-nil, Appends-trans}
 use Rattle.gamefile.specs.Output.{IsOffer, IsRest, IsWriteFault}
 use Rattle.gamefile.specs.Turns.{none, more}
 use Rattle.gamefile.proofs.Moving.{IsRest-more, OnErr-always}
-use Rattle.gamefile.proofs.Waiting.{GivesUp-weaker, Moves-weaker, Stops-weaker}
+use Rattle.gamefile.proofs.Waiting.{Moves-weaker, Stops-weaker}
 use Rattle.gamefile.proofs.sink.push_all.Goals as goal
 
 pub loop-rest-init : goal.loop-rest-init

@@ -1,8 +1,8 @@
-use Rattle.std.proofs.Common.{ℕ, ◌≡◌, ◌+◌, ◌<◌, ◌≤◌, List, ◌++◌, length, take, vec_len, refl, sym, subst, rules, arith, length-take}
+use Rattle.std.proofs.Common.{◌≡◌, ◌+◌, ◌<◌, ◌≤◌, ◌++◌, length, take, refl, sym, rules, arith, length-take}
 use Rattle.std.proofs.KnownBytes.{Consumes-kept, Consumes-nil}
 use Rattle.std.proofs.lemmas.List.{take-append-le}
 use Rattle.gamefile.specs.Failures.{HasRisen}
-use Rattle.gamefile.specs.Input.{HasLength, HasRoom, limit}
+use Rattle.gamefile.specs.Input.{limit}
 use Rattle.gamefile.specs.Turns.{none}
 use Rattle.gamefile.proofs.Moving.{HasRoom-front, IfErr-only, IsRead-more, length-more}
 use Rattle.gamefile.proofs.Waiting.{GivesUp-weaker, Moves-weaker}
