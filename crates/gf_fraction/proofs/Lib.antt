@@ -3,6 +3,7 @@ pub mod Digits
 pub mod Divisors
 pub mod Lowest
 pub mod Views
+pub mod Words
 pub mod Powers
 pub mod Scans
 pub mod Founds

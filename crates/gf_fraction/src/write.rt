@@ -1,11 +1,45 @@
 //! The text of a fraction.
 
-ghost use Rattle.std.specs.Prelude.{◌≡◌, ◌++◌, OnErr, OnOk};
+ghost use Rattle.std.specs.Prelude.{◌≡◌, ◌++◌, ◌∷◌, ◌≤◌, [], drop, length, codes, decimal, pos, OnErr, OnOk, if◌then◌else◌, ◌==◌};
+ghost use Rattle.std.specs.Fmt.{signed_decimal};
 ghost use Rattle.gf_fraction.specs.NumberText.{number_text};
 
 use crate::fraction::Fraction;
-use itoa::Buffer;
+use itoa::{Buffer, write_digits};
 use std::alloc::AllocError;
+
+/// The longest text of parts of 64 bits: a sign, nineteen digits, a slash and twenty digits.
+const WORDS_LEN: usize = 41;
+
+/// Writes a slash and a denominator to the end of a text, or nothing where it is 1. Answers where
+/// they begin.
+fn write_under(den: u64, text: &mut [u8; WORDS_LEN]) -> usize
+    ensures within { (20 ≤ result) × (result ≤ 41) }
+    ensures written { drop result text.new ≡ (if den == 1 then [] else codes "/" ++ decimal den) }
+{
+    if den == 1 {
+        return WORDS_LEN;
+    }
+    let at = write_digits(den, text, WORDS_LEN) - 1;
+    text[at] = b'/';
+    at
+}
+
+/// Writes `n`, or `n/d` where the denominator is above 1, to the end of a text. Answers where it
+/// begins.
+#[tactic(auto, unfolding(crate::specs::NumberText::number_text))]
+fn write_words(num: i64, den: u64, text: &mut [u8; WORDS_LEN]) -> usize
+    ensures within { result ≤ 41 }
+    ensures written { drop result text.new ≡ number_text (record { num = num; den = den }) }
+{
+    let under = write_under(den, text);
+    let start = write_digits(num.unsigned_abs(), text, under);
+    if num >= 0 {
+        return start;
+    }
+    text[start - 1] = b'-';
+    start - 1
+}
 
 impl Fraction {
     /// Appends `n`, or `n/d` where the denominator is above 1, in decimal digits. `Fraction::read`
@@ -17,6 +51,11 @@ impl Fraction {
         ensures ok { OnOk result (out.new.items ≡ out.old.items ++ number_text self) }
         ensures err { OnErr result (out.new.items ≡ out.old.items) }
     {
+        if let (Ok(num), Ok(den)) = (i64::try_from(self.num()), u64::try_from(self.den())) {
+            let mut text = [0; WORDS_LEN];
+            let start = write_words(num, den, &mut text);
+            return out.extend_from_slice(&text[start..]);
+        }
         let mut buffer = Buffer::new();
         let num = buffer.format(self.num()).as_bytes();
         if self.den() == 1 {
