@@ -4,6 +4,7 @@ pub mod Divisors
 pub mod Lowest
 pub mod Views
 pub mod Words
+pub mod Shorts
 pub mod Powers
 pub mod Scans
 pub mod Founds

@@ -78,6 +78,15 @@ impl Fraction {
         }
     }
 
+    /// An integer.
+    pub(crate) fn whole(num: i128) -> Fraction
+        requires { IsWithin num }
+        ensures value { result ≡ whole num }
+        ensures fraction { IsFraction result }
+    {
+        Fraction { num, den: 1 }
+    }
+
     /// Zero, which is `0 / 1`.
     pub fn zero() -> Fraction
         ensures value { result ≡ whole (pos 0) }

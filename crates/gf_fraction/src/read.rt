@@ -1,9 +1,10 @@
 //! The texts of numbers.
 
-ghost use Rattle.std.specs.Prelude.{◌≡◌, ◌≤◌, ◌<◌, ◌^◌, length, unsigned_abs, MatchResult};
+ghost use Rattle.std.specs.Prelude.{◌≡◌, ◌≤◌, ◌<◌, ◌^◌, length, pos, unsigned_abs, IfSome, MatchResult, Some};
 ghost use Rattle.gf_fraction.specs.NumberSpelling.{Reads, scaled_digits};
 ghost use Rattle.gf_fraction.specs.NumberSpelling.Reading.{decimal, rational};
 ghost use Rattle.gf_fraction.specs.NumberScan.{HasReadingFault, IsScaled, IsValueOf, after_sign, behind, capped, is_minus, leading, leading_value, reading_of, scan, scan_decimal, scan_exponent, scan_fraction};
+ghost use Rattle.gf_fraction.specs.declared.read.Spelling.TheVariants.{Decimal};
 
 use crate::arithmetic::{LARGEST, product, with_sign};
 use crate::fraction::{Fraction, NumberFault};
@@ -66,6 +67,19 @@ fn word_digits(from: u64, text: &[u8]) -> (u64, &[u8])
         value = value * 10 + u64::from(*byte - b'0');
     }
     (value, &[])
+}
+
+/// The number that digits alone spell, where 64 bits have room for one digit more.
+#[tactic(auto, using(crate::proofs::Shorts::short_scanned))]
+fn short_whole(text: &[u8]) -> Option<u64>
+    ensures { IfSome result (λ n. scan text.now ≡ Some (Decimal n 0 (pos 0))) }
+{
+    let (value, rest) = word_digits(0, text);
+    if rest.is_empty() && !text.is_empty() {
+        Some(value)
+    } else {
+        None
+    }
 }
 
 /// Reads digits, behind digits of the value `from`.
@@ -253,6 +267,13 @@ impl Spelling {
     }
 }
 
+/// A short whole number with its sign.
+fn short_value(negative: bool, size: u64) -> Fraction
+    ensures { IsValueOf negative (decimal size 0 (pos 0)) result }
+{
+    Fraction::whole(with_sign(negative, u128::from(size)))
+}
+
 impl Fraction {
     /// The number that a text spells: an optional sign `+` or `-`, and then
     /// - digits;
@@ -270,6 +291,9 @@ impl Fraction {
         ensures { Reads text.now result }
     {
         let (negative, rest) = split_sign(text);
+        if let Some(size) = short_whole(rest) {
+            return Ok(short_value(negative, size));
+        }
         match scan(rest) {
             Some(spelling) => spelling.value(negative),
             None => Err(NumberFault::NotANumber),

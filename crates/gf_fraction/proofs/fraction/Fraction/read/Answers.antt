@@ -1,20 +1,35 @@
-use Rattle.std.proofs.Common.{◌≡◌, ◌∙◌, ap, sym, subst, Some}
+use Rattle.std.proofs.Common.{◌≡◌, ◌∙◌, ℕ, List, Bool, ap, sym, subst, Some}
 use Rattle.std.proofs.lemmas.Result.{MatchResult-weaker}
-use Rattle.gf_fraction.specs.NumberScan.{after_sign, scan}
+use Rattle.std.specs.Prelude.{pos}
+use Rattle.gf_fraction.specs.NumberScan.{after_sign, is_minus, scan}
+use Rattle.gf_fraction.specs.declared.read.Spelling.{Spelling}
+use Rattle.gf_fraction.specs.declared.read.Spelling.TheVariants.{Decimal}
 use Rattle.gf_fraction.proofs.Founds.{FoundNumber, found_number}
 use Rattle.gf_fraction.proofs.Readings.{number_from_value, fault_from_reading, unspelled}
 use Rattle.gf_fraction.proofs.fraction.Fraction.read.Goals as goal
 
+-- what is found behind the sign
+found : (text rest : List ℕ) (negative : Bool) (s : Spelling) → negative ≡ is_minus text → rest ≡ after_sign text → scan rest ≡ Some s → FoundNumber text negative s
+found text rest negative s sign behind scanned =
+    subst (λ b. FoundNumber text b s) (sym sign) (found_number text s (ap scan (sym behind) ∙ scanned))
+
 pub returns-in-Some : goal.returns-in-Some
 returns-in-Some c =
     let text = c.args.text.now in
-    let scanned : scan (after_sign text) ≡ Some c.in-Some.spelling =
-    ap scan (sym c.split_sign-negative.ensures.rest) ∙ sym c.scan.ensures ∙ c.in-Some.is in
-    let f : FoundNumber text c.split_sign-negative.result.0 c.in-Some.spelling =
-    subst (λ b. FoundNumber text b c.in-Some.spelling) (sym c.split_sign-negative.ensures.negative) (found_number text c.in-Some.spelling scanned) in
+    let sign = c.split_sign-negative in
+    let s = Decimal c.in-Some.size 0 (pos 0) in
+    number_from_value text sign.result.0 s c.short_value.result
+    (found text sign.result.1.now sign.result.0 s sign.ensures.negative sign.ensures.rest c.in-Some.ensures) c.short_value.ensures
+
+pub returns-in-Some-scan : goal.returns-in-Some-scan
+returns-in-Some-scan c =
+    let text = c.args.text.now in
+    let sign = c.split_sign-negative in
+    let s = c.in-Some-scan.spelling in
+    let f = found text sign.result.1.now sign.result.0 s sign.ensures.negative sign.ensures.rest (sym c.scan.ensures ∙ c.in-Some-scan.is) in
     MatchResult-weaker c.value.result c.value.ensures
-    (λ r v. number_from_value text c.split_sign-negative.result.0 c.in-Some.spelling r f v)
-    (λ fault h. fault_from_reading text c.split_sign-negative.result.0 c.in-Some.spelling fault f h)
+    (λ r v. number_from_value text sign.result.0 s r f v)
+    (λ fault h. fault_from_reading text sign.result.0 s fault f h)
 
 pub returns-in-None : goal.returns-in-None
 returns-in-None c =
