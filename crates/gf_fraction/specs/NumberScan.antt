@@ -83,6 +83,15 @@ abbrev pub reading_of : Spelling → Reading
 reading_of (Decimal digits places exponent) = decimal digits places exponent
 reading_of (Rational num den) = rational num den
 
+-- a text behind its sign that says a numerator over a denominator, within the bounds
+pub record IsShort (text : List ℕ) (num den : ℕ) : Type 0 where
+  pub spelling : Spelling
+  pub scanned : scan text ≡ Some spelling
+  pub num_is : size_of (reading_of spelling) ≡ num
+  pub den_is : den_of (reading_of spelling) ≡ den
+  pub den_above_zero : 0 < den
+  pub bounded : IsBounded (reading_of spelling)
+
 -- the value of a reading within its bounds, and what is wrong with another one
 pub record IsValueOf (negative : Bool) (reading : Reading) (r : Ratio) : Type 0 where
   pub den_above_zero : 0 < den_of reading

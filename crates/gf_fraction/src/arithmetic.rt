@@ -74,6 +74,21 @@ pub fn lowest(size: u128, den: u128, common: u128) -> (u128, u128)
     (quotient(size, shared), quotient(den, shared))
 }
 
+/// The same of numbers of 64 bits.
+pub fn lowest_words(size: u64, den: u64) -> (u64, u64)
+    requires { 0 < den }
+    ensures { IsLowest size den result.0 result.1 }
+{
+    if den == 1 {
+        return (size, 1);
+    }
+    let shared = word_gcd(size, den);
+    if shared == 1 {
+        return (size, den);
+    }
+    (size / shared, den / shared)
+}
+
 /// A size with its sign.
 pub fn with_sign(negative: bool, size: u128) -> i128
     requires { size < 2 ^ 127 }

@@ -1,12 +1,12 @@
 //! Fractions.
 
 ghost use Rattle.std.specs.Prelude.{◌≡◌, ◌⊎◌, ◌↔◌, ◌^◌, ◌<◌, ◌≤◌, ◌<ℤ◌, pos, unsigned_abs, IsTrue, IfOk, IsOkAnd, MatchResult};
-ghost use Rattle.gf_fraction.specs.Ratio.{HasValue, IsFraction, IsWithin, whole};
+ghost use Rattle.gf_fraction.specs.Ratio.{HasValue, IsFraction, IsWithin, signed, whole};
 ghost use Rattle.gf_fraction.specs.Fits.{IsProduct, IsSum, ProductFits, SumFits};
 ghost use Rattle.gf_fraction.specs.Steps.{HoldsCommon};
 
 use crate::arithmetic::{
-    LARGEST, Overflow, gcd, lowest, product, quotient, sum_over, total, with_sign,
+    LARGEST, Overflow, gcd, lowest, lowest_words, product, quotient, sum_over, total, with_sign,
 };
 use std::marker::Model;
 
@@ -78,13 +78,17 @@ impl Fraction {
         }
     }
 
-    /// An integer.
-    pub(crate) fn whole(num: i128) -> Fraction
-        requires { IsWithin num }
-        ensures value { result ≡ whole num }
+    /// `num` over `den` with a sign, in lowest terms.
+    pub(crate) fn of_words(negative: bool, num: u64, den: u64) -> Fraction
+        requires { 0 < den }
         ensures fraction { IsFraction result }
+        ensures value { HasValue result (signed negative num) den }
     {
-        Fraction { num, den: 1 }
+        let (num, den) = lowest_words(num, den);
+        Fraction {
+            num: with_sign(negative, u128::from(num)),
+            den: u128::from(den),
+        }
     }
 
     /// Zero, which is `0 / 1`.

@@ -1,10 +1,9 @@
 //! The texts of numbers.
 
-ghost use Rattle.std.specs.Prelude.{◌≡◌, ◌≤◌, ◌<◌, ◌^◌, length, pos, unsigned_abs, IfSome, MatchResult, Some};
+ghost use Rattle.std.specs.Prelude.{◌≡◌, ◌≤◌, ◌<◌, ◌^◌, length, unsigned_abs, IfSome, MatchResult};
 ghost use Rattle.gf_fraction.specs.NumberSpelling.{Reads, scaled_digits};
 ghost use Rattle.gf_fraction.specs.NumberSpelling.Reading.{decimal, rational};
-ghost use Rattle.gf_fraction.specs.NumberScan.{HasReadingFault, IsScaled, IsValueOf, after_sign, behind, capped, is_minus, leading, leading_value, reading_of, scan, scan_decimal, scan_exponent, scan_fraction};
-ghost use Rattle.gf_fraction.specs.declared.read.Spelling.TheVariants.{Decimal};
+ghost use Rattle.gf_fraction.specs.NumberScan.{HasReadingFault, IsScaled, IsShort, IsValueOf, after_sign, behind, capped, is_minus, leading, leading_value, reading_of, scan, scan_decimal, scan_exponent, scan_fraction};
 
 use crate::arithmetic::{LARGEST, product, with_sign};
 use crate::fraction::{Fraction, NumberFault};
@@ -14,6 +13,9 @@ const TOO_LARGE: u128 = LARGEST + 1;
 
 /// The greatest exponent, the greatest count of digits behind a point, and the greatest power of ten.
 const POWER: i32 = 38;
+
+/// The greatest power of ten of 64 bits.
+const WORD_PLACES: usize = 19;
 
 /// What a text of one of the shapes says behind its sign.
 #[derive(Clone, Copy)]
@@ -69,16 +71,31 @@ fn word_digits(from: u64, text: &[u8]) -> (u64, &[u8])
     (value, &[])
 }
 
-/// The number that digits alone spell, where 64 bits have room for one digit more.
-#[tactic(auto, using(crate::proofs::Shorts::short_scanned))]
-fn short_whole(text: &[u8]) -> Option<u64>
-    ensures { IfSome result (λ n. scan text.now ≡ Some (Decimal n 0 (pos 0))) }
+/// A numerator and a denominator above zero, where a text has no exponent and 64 bits have room for
+/// both and for one digit more. Most numbers are read so.
+fn short(text: &[u8]) -> Option<(u64, u64)>
+    ensures { IfSome result (λ r. IsShort text.now r.0 r.1) }
 {
-    let (value, rest) = word_digits(0, text);
-    if rest.is_empty() && !text.is_empty() {
-        Some(value)
-    } else {
-        None
+    let (num, rest) = word_digits(0, text);
+    match rest {
+        [] if !text.is_empty() => Some((num, 1)),
+        [b'/', under @ ..] if rest.len() < text.len() => {
+            let (den, rest) = word_digits(0, under);
+            if rest.is_empty() && den > 0 {
+                Some((num, den))
+            } else {
+                None
+            }
+        }
+        [b'.', behind @ ..] if text.len() > 1 && behind.len() <= WORD_PLACES => {
+            let (digits, rest) = word_digits(num, behind);
+            if rest.is_empty() {
+                Some((digits, 10u64.pow(behind.len() as u32)))
+            } else {
+                None
+            }
+        }
+        _ => None,
     }
 }
 
@@ -267,13 +284,6 @@ impl Spelling {
     }
 }
 
-/// A short whole number with its sign.
-fn short_value(negative: bool, size: u64) -> Fraction
-    ensures { IsValueOf negative (decimal size 0 (pos 0)) result }
-{
-    Fraction::whole(with_sign(negative, u128::from(size)))
-}
-
 impl Fraction {
     /// The number that a text spells: an optional sign `+` or `-`, and then
     /// - digits;
@@ -291,8 +301,8 @@ impl Fraction {
         ensures { Reads text.now result }
     {
         let (negative, rest) = split_sign(text);
-        if let Some(size) = short_whole(rest) {
-            return Ok(short_value(negative, size));
+        if let Some((num, den)) = short(rest) {
+            return Ok(Fraction::of_words(negative, num, den));
         }
         match scan(rest) {
             Some(spelling) => spelling.value(negative),

@@ -1,11 +1,10 @@
 use Rattle.std.proofs.Common.{◌≡◌, ◌∙◌, ℕ, List, Bool, ap, sym, subst, Some}
 use Rattle.std.proofs.lemmas.Result.{MatchResult-weaker}
-use Rattle.std.specs.Prelude.{pos}
-use Rattle.gf_fraction.specs.NumberScan.{after_sign, is_minus, scan}
+use Rattle.gf_fraction.specs.NumberScan.{after_sign, is_minus, scan, IsShort}
 use Rattle.gf_fraction.specs.declared.read.Spelling.{Spelling}
-use Rattle.gf_fraction.specs.declared.read.Spelling.TheVariants.{Decimal}
 use Rattle.gf_fraction.proofs.Founds.{FoundNumber, found_number}
 use Rattle.gf_fraction.proofs.Readings.{number_from_value, fault_from_reading, unspelled}
+use Rattle.gf_fraction.proofs.Shorts.{value_from_short}
 use Rattle.gf_fraction.proofs.fraction.Fraction.read.Goals as goal
 
 -- what is found behind the sign
@@ -17,9 +16,10 @@ pub returns-in-Some : goal.returns-in-Some
 returns-in-Some c =
     let text = c.args.text.now in
     let sign = c.split_sign-negative in
-    let s = Decimal c.in-Some.size 0 (pos 0) in
-    number_from_value text sign.result.0 s c.short_value.result
-    (found text sign.result.1.now sign.result.0 s sign.ensures.negative sign.ensures.rest c.in-Some.ensures) c.short_value.ensures
+    let h : IsShort sign.result.1.now c.in-Some.num c.in-Some.den = c.in-Some.ensures in
+    number_from_value text sign.result.0 h.spelling c.of_words.result
+    (found text sign.result.1.now sign.result.0 h.spelling sign.ensures.negative sign.ensures.rest h.scanned)
+    (value_from_short _ _ _ _ _ h c.of_words.ensures.fraction c.of_words.ensures.value)
 
 pub returns-in-Some-scan : goal.returns-in-Some-scan
 returns-in-Some-scan c =
