@@ -4,6 +4,7 @@ mod TableNames
 mod TablePieces
 mod TablePlaces
 mod TableRows
+mod TextShared
 mod Texts
 pub mod BackLists
 pub mod BackProfiles

@@ -35,7 +35,7 @@ end_within whole from [] k d r h = absurd (omega (arith, h))
 end_within whole from (end ∷ ends) zero d r h = rises_within whole end ends r.1
 end_within whole from (end ∷ ends) (suc k) d r h = end_within whole end ends k d r.1 (omega (arith, h))
 
-take_part : {A : Type 0} (n m : ℕ) (xs ys : List A) → m + n ≤ length xs → take n (drop m (xs ++ ys)) ≡ take n (drop m xs)
+pub take_part : {A : Type 0} (n m : ℕ) (xs ys : List A) → m + n ≤ length xs → take n (drop m (xs ++ ys)) ≡ take n (drop m xs)
 take_part n m xs ys h =
     let inside : n ≤ length (drop m xs) = omega (arith, length-drop m xs) in
     rw (drop-append-le m xs ys (omega (arith, h))) (take-append-le n (drop m xs) ys inside)

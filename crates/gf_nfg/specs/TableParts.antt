@@ -4,7 +4,7 @@ use Rattle.std.specs.List.{AllByRecursion}
 use Rattle.gf_fraction.specs.Ratio.{Ratio, whole}
 use Rattle.gf_token.specs.LabelSpelling.{is_spelling}
 use Rattle.gf_nfg.specs.Profiles.{positions, product, profiles}
-use Rattle.gf_nfg.specs.Table.{Entry, Table}
+use Rattle.gf_nfg.specs.Table.{Entry, Table, rows}
 
 -- a list cut at these ends, from this place on
 abbrev pub pieces : {A : Type 0} → ℕ → List ℕ → List A → List (List A)
@@ -94,6 +94,12 @@ numbers_of count (Some choices) = choices
 abbrev pub number_in : Option (List ℕ) → ℕ → Option ℕ
 number_in None place = Some (place + 1)
 number_in (Some choices) place = slice_get choices place
+
+-- a number for each profile, below a bound: profiles with one number have one row
+pub record AreNumbers (t : Table) (numbers : List ℕ) (bound : ℕ) : Type 0 where
+  pub row : ℕ → List Ratio
+  pub rows_are : rows t ≡ map row numbers
+  pub below : AllByRecursion (λ number. number < bound) numbers
 
 -- these are names of a table with so many profiles
 pub record IsNamed (names : Names) (count : ℕ) : Type 0 where

@@ -1,5 +1,5 @@
 -- The pieces of a canonical text, for the functions that append them.
-use Rattle.std.specs.Prelude.{ℕ, List, [], ◌∷◌, ◌++◌, map, codes}
+use Rattle.std.specs.Prelude.{◌≡◌, ℕ, List, length, [], ◌∷◌, ◌++◌, map, codes}
 use Rattle.gf_fraction.specs.Ratio.{Ratio}
 use Rattle.gf_fraction.specs.NumberText.{number_text}
 use Rattle.gf_nfg.specs.TableParts.{Names}
@@ -22,3 +22,9 @@ heading_text names = lines_text
     ∷ quoted names.comment
     ∷ []
     ∷ [])
+
+-- the line of a row was added at the end of a text, at this place
+pub record IsLineAdded (row : List Ratio) (before after : List ℕ) (place : ℕ × ℕ) : Type 0 where
+  pub added : after ≡ before ++ (row_text row ++ 10 ∷ [])
+  pub begins : place.0 ≡ length before
+  pub ends : place.1 ≡ length after

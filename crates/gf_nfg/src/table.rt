@@ -1,13 +1,13 @@
 //! Strategic files in memory: the players, their strategies, and the payoffs at each profile.
 
-ghost use Rattle.std.specs.Prelude.{◌≡◌, ◌*◌, ◌<◌, ◌≤◌, ◌^◌, Some, IfOk, IsSome, length, map, min, option_and_then, option_map, slice_get, vec_len};
+ghost use Rattle.std.specs.Prelude.{◌≡◌, ◌*◌, ◌<◌, ◌≤◌, ◌^◌, Some, IfOk, IfSome, IsSome, length, map, min, option_and_then, option_map, slice_get, vec_len};
 ghost use Rattle.std.specs.List.{AllByRecursion};
 ghost use Rattle.gf_token.specs.Label.{label_of};
 ghost use Rattle.gf_nfg.specs.Limit.{profile_limit};
 ghost use Rattle.gf_nfg.specs.Profiles.{positions, product};
 ghost use Rattle.gf_nfg.specs.Table.{IsTable, rows};
 ghost use Rattle.gf_nfg.specs.TableAccess.{IsTableOf, at_position, payoffs_at};
-ghost use Rattle.gf_nfg.specs.TableParts.{IsNamed, number_in, place_of, row_of, table_with};
+ghost use Rattle.gf_nfg.specs.TableParts.{AreNumbers, IsNamed, number_in, place_of, row_of, table_with};
 
 use crate::names::Names;
 use gf_fraction::Fraction;
@@ -47,6 +47,14 @@ impl Model for Table {
         × HasRows (length t.names.players) t.profiles t.payoffs.items t.zeros.items
         (numbers_of t.profiles (option_map (λ v. v.items) t.choices))
         × (t.profiles ≤ profile_limit) };
+}
+
+/// The number of its row for each profile: equal numbers have equal rows.
+#[derive(Clone, Copy, Debug)]
+pub(crate) struct Shared<'t> {
+    pub numbers: &'t [u32],
+    /// More than the greatest number.
+    pub rows: usize,
 }
 
 /// The number of the row of the profile with this place.
@@ -187,6 +195,20 @@ impl Table {
     {
         let number = number_in(&self.choices, place);
         row_at(self.names.players(), &self.payoffs, &self.zeros, number)
+    }
+
+    /// The number of its row for each profile, where profiles may share rows.
+    pub(crate) fn shared(&self) -> Option<Shared<'_>>
+        ensures { IfSome result (λ s. AreNumbers self.now s.numbers.now s.rows) }
+    {
+        let players = self.names.players();
+        match &self.choices {
+            Some(choices) if players > 0 => Some(Shared {
+                numbers: choices,
+                rows: self.payoffs.len() / players + 1,
+            }),
+            _ => None,
+        }
     }
 
     pub fn title(&self) -> Label<'_>

@@ -1,14 +1,14 @@
 //! The canonical text of a table: Gambit's strategic format in payoff version, laid out by this project's profile.
 
-ghost use Rattle.std.specs.Prelude.{◌≡◌, ◌<◌, ◌++◌, OnErr, OnOk, length, map};
+ghost use Rattle.std.specs.Prelude.{◌≡◌, ◌<◌, ◌++◌, IfOk, OnErr, OnOk, length, map};
 ghost use Rattle.gf_fraction.specs.NumberText.{number_text};
 ghost use Rattle.gf_nfg.specs.Table.{rows};
-ghost use Rattle.gf_nfg.specs.TableParts.{own_of};
+ghost use Rattle.gf_nfg.specs.TableParts.{AreNumbers, own_of};
 ghost use Rattle.gf_nfg.specs.TableText.{lines_text, list_text, quoted, spaced, table_text};
-ghost use Rattle.gf_nfg.specs.TextParts.{heading_text, others_text, row_text};
+ghost use Rattle.gf_nfg.specs.TextParts.{IsLineAdded, heading_text, others_text, row_text};
 
 use crate::names::Names;
-use crate::table::Table;
+use crate::table::{Shared, Table};
 use gf_fraction::Fraction;
 use gf_token::write_label;
 use std::alloc::AllocError;
@@ -95,10 +95,46 @@ fn write_row(payoffs: &[Fraction], out: &mut Vec<u8>) -> Result<(), AllocError>
     }
 }
 
+/// Appends the line of a row. Answers where it begins and ends.
+fn write_line(row: &[Fraction], out: &mut Vec<u8>) -> Result<(usize, usize), AllocError>
+    ensures { IfOk result (λ place. IsLineAdded row.now out.old.items out.new.items place) }
+{
+    let start = out.len();
+    write_row(row, out)?;
+    out.push(b'\n')?;
+    Ok((start, out.len()))
+}
+
+/// Appends a line of payoffs for each profile, where profiles share rows: the line of a row is made once.
+fn write_shared(t: &Table, shared: Shared<'_>, out: &mut Vec<u8>) -> Result<(), AllocError>
+    requires { AreNumbers t.now shared.numbers.now shared.rows }
+    ensures { OnOk result (out.new.items ≡ out.old.items ++ lines_text (map row_text (rows t.now))) }
+{
+    let alloc = *out.allocator();
+    let mut lines = Vec::new(alloc);
+    // Where the line of each row lies among the lines; it ends at 0 where it is not made yet.
+    let mut places = vec![in alloc; (0, 0); shared.rows]?;
+    for at in 0..shared.numbers.len() {
+        let number = shared.numbers[at] as usize;
+        if places[number].1 == 0 {
+            places[number] = write_line(t.row(at), &mut lines)?;
+        }
+        let (start, end) = places[number];
+        out.extend_from_slice(&lines[start..end])?;
+    }
+    Ok(())
+}
+
 /// Appends a line of payoffs for each profile.
 fn write_rows(t: &Table, out: &mut Vec<u8>) -> Result<(), AllocError>
     ensures { OnOk result (out.new.items ≡ out.old.items ++ lines_text (map row_text (rows t.now))) }
 {
+    match t.shared() {
+        Some(shared) if shared.rows <= shared.numbers.len() => {
+            return write_shared(t, shared, out);
+        }
+        _ => {}
+    }
     for place in 0..t.profiles() {
         write_row(t.row(place as usize), out)?;
         out.push(b'\n')?;
@@ -116,5 +152,9 @@ pub fn write_nfg(t: &Table, out: &mut Vec<u8>) -> Result<(), AllocError>
     let mut text = Vec::new(*out.allocator());
     write_heading(t.names(), &mut text)?;
     write_rows(t, &mut text)?;
+    if out.is_empty() {
+        *out = text;
+        return Ok(());
+    }
     out.extend_from_slice(&text)
 }
