@@ -56,6 +56,16 @@ impl Fraction {
             let start = write_words(num, den, &mut text);
             return out.extend_from_slice(&text[start..]);
         }
+        self.write_wide(out)
+    }
+
+    /// The same of parts of any size.
+    #[inline(never)]
+    #[tactic(auto, unfolding(crate::specs::NumberText::number_text))]
+    fn write_wide(self, out: &mut Vec<u8>) -> Result<(), AllocError>
+        ensures ok { OnOk result (out.new.items ≡ out.old.items ++ number_text self) }
+        ensures err { OnErr result (out.new.items ≡ out.old.items) }
+    {
         let mut buffer = Buffer::new();
         let num = buffer.format(self.num()).as_bytes();
         if self.den() == 1 {

@@ -12,6 +12,9 @@ pub enum IndexFault {
     TooLarge,
 }
 
+/// Stands for any number above the greatest index.
+const TOO_LARGE: u64 = u32::MAX as u64 + 1;
+
 /// The index that `text` spells by digits alone, in base ten; any number of zeros may lead (this
 /// project's profile).
 ///
@@ -28,9 +31,7 @@ pub fn read_index(text: &[u8]) -> Result<u32, IndexFault>
         if !byte.is_ascii_digit() {
             return Err(IndexFault::NotDigits);
         }
-        value = value
-            .saturating_mul(10)
-            .saturating_add(u64::from(*byte - b'0'));
+        value = TOO_LARGE.min(value * 10 + u64::from(*byte - b'0'));
     }
     match u32::try_from(value) {
         Ok(index) => Ok(index),

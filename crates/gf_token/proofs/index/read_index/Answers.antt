@@ -19,5 +19,5 @@ loop-byte-preserved c =
     let value = digit_value_digit (get_or text i 0) (digit_from_value (get_or text i 0) digit) in
     record {
       digits = digits_more 10 text i (omega arith) c.loop-byte.invariant.digits digit;
-      value = omega (arith, more, value, c.saturating_mul.ensures, c.from.ensures, c.saturating_add-value.ensures, c.loop-byte.invariant.value);
+      value = omega (arith, more, value, c.from.ensures, c.loop-byte.invariant.value);
     }

@@ -1,9 +1,9 @@
-use Rattle.std.proofs.Common.{◌≡◌, ◌-◌, ◌^◌, take, min}
+use Rattle.std.proofs.Common.{◌≡◌, ◌^◌, take, min}
 use Rattle.std.specs.Str.Parse.{AllDigits, digits_value}
 use Rattle.gf_token.proofs.index.read_index.Given as goal
 
 abbrev pub invariant-loop-byte : goal.invariant-loop-byte
 invariant-loop-byte l = record {
   digits : AllDigits 10 (take l.byte-index l.text);
-  value : l.value ≡ min (digits_value 10 (take l.byte-index l.text)) (2 ^ 64 - 1);
+  value : l.value ≡ min (digits_value 10 (take l.byte-index l.text)) (2 ^ 32);
 }
