@@ -1,7 +1,8 @@
 -- No token makes the profiles fewer, so that past their limit they stay.
-use Rattle.std.proofs.Common.{◌≡◌, ℕ, zero, suc, ◌-◌, ◌*◌, ◌<◌, ◌≤◌, Bool, true, false, cond, List, [], ◌∷◌, ◌++◌, length, Option, Some, None, Result, Ok, Err, refl, sym, ap, subst, ◌∙◌, arith}
+use Rattle.std.proofs.Common.{◌≡◌, ℕ, zero, suc, ◌-◌, ◌*◌, ◌<◌, ◌≤◌, Bool, true, false, cond, List, [], ◌∷◌, ◌++◌, length, Option, Some, None, Result, Ok, Err, refl, sym, ap, subst, ◌∙◌, arith, nat_eq}
+use Rattle.std.specs.Prelude.{nat_le}
 use Rattle.std.proofs.lemmas.List.{length-map}
-use Rattle.gf_token.specs.Token.{Token, Lexeme}
+use Rattle.gf_token.specs.Token.{Token}
 use Rattle.gf_token.specs.Token.Token.{Opening, Closing, Comma, Text, Bare, Broken}
 use Rattle.gf_token.specs.declared.fault.What.{What}
 use Rattle.gf_token.specs.declared.fault.Why.{Why}
@@ -13,124 +14,125 @@ use Rattle.gf_fraction.specs.Computed.{number_of}
 use Rattle.gf_nfg.specs.Readings.{index_of, count_of}
 use Rattle.gf_nfg.specs.Table.{Table}
 use Rattle.gf_nfg.specs.Sentence.{Sentence}
-use Rattle.gf_nfg.specs.Machine.{State, Content, at, step, run, counted, listed, settled, paid, chosen, with_count, at_strategies_end, at_first, at_count, at_list_opening, at_payoff, at_flat_payoffs, at_after_comment, at_outcome_end, at_braced_payoff, at_outcome_number, due_at, ended, ◌>>=◌}
+use Rattle.gf_nfg.specs.Machine.{State, Content, at, step, run, start, counted, listed, settled, paid, chosen, at_strategies_end, at_first, at_count, at_list_opening, at_payoff, at_flat_payoffs, at_after_comment, at_outcome_end, at_braced_payoff, at_outcome_number, due_at, ended, ◌>>=◌}
 use Rattle.gf_nfg.specs.Meaning.{table_of, IsComplete}
-use Rattle.gf_nfg.specs.Place.{tokens_of}
+use Rattle.gf_nfg.specs.Limit.{profile_limit}
+use Rattle.gf_nfg.specs.Place.{BeginsWithinLimit, StaysWithinLimit, IsBareOrClosing}
 use Rattle.gf_nfg.proofs.ReadingIndices.{count_is}
 use Rattle.gf_nfg.proofs.MeaningTables.{rows-table_of, length-rows_by}
 use Rattle.gf_nfg.proofs.RunsCommon.{ok_is}
 use Rattle.gf_nfg.proofs.RunsSentence.{sentence_found, sentence_again}
-use Rattle.gf_nfg.proofs.PlacesLed.{Led}
+use Rattle.gf_nfg.proofs.RunsEnds.{IsSettled, settled_ends}
+use Rattle.gf_nfg.proofs.PlacesWalk.{Leads, walk, walk_split, walk_step, leads_more, leads_run}
 
--- where it leads, there are no fewer profiles
-abbrev Grows : State → Result State Why → Type 0
-Grows s o = (after : State) → o ≡ Ok after → s.content.profiles ≤ after.content.profiles
+-- what a token does to the profiles: a bare one or a closing brace makes them no fewer and leaves no list open, and another keeps them
+abbrev Grown : Token → State → State → Type 0
+Grown (Bare b) s after = (s.content.profiles ≤ after.content.profiles) × IsSettled after.position
+Grown Closing s after = (s.content.profiles ≤ after.content.profiles) × IsSettled after.position
+Grown _ s after = s.content.profiles ≡ after.content.profiles
 
-refuses : (s : State) (why : Why) → Grows s (Err why)
-refuses s why = λ after e. absurd cc
+abbrev Grows : Token → State → Result State Why → Type 0
+Grows t s (Ok after) = Grown t s after
+Grows t s (Err why) = Unit {0}
 
-keeps : (s next : State) → s.content.profiles ≡ next.content.profiles → Grows s (Ok next)
-keeps s next same = λ after e.
-    let is : next ≡ after = ok_is next after e in
-    subst (λ (x : State). s.content.profiles ≤ x.content.profiles) is (omega (arith, same))
+same : (n : ℕ) → n ≤ n
+same n = omega arith
 
-by_test : (s : State) (b : Bool) (x y : Result State Why) → Grows s x → Grows s y → Grows s (cond b x y)
-by_test s true x y h k = h
-by_test s false x y h k = k
+by_test : (t : Token) (s : State) (b : Bool) (x y : Result State Why) → Grows t s x → Grows t s y → Grows t s (cond b x y)
+by_test t s true x y h k = h
+by_test t s false x y h k = k
+
+tested : (s next : State) (b : List ℕ) (test : Bool) (why : Why) → Grown (Bare b) s next → Grows (Bare b) s (cond test (Ok next) (Err why))
+tested s next b true why grown = grown
+tested s next b false why grown = tt
 
 times : (m n : ℕ) → 0 < n → m ≤ m * n
 times zero n h = omega arith
 times (suc m) zero h = absurd (omega arith)
 times (suc m) (suc n) h = omega arith
 
-settles : (s before : State) (n : ℕ) → s.content.profiles ≡ before.content.profiles → 0 < n → Grows s (settled before n)
-settles s before n same some = λ after e.
-    let is : at before.position before.due before.list_start before.outcomes (with_count before.content n) ≡ after = ok_is _ after e in
-    let more = times before.content.profiles n some in
-    subst (λ (x : State). s.content.profiles ≤ x.content.profiles) is (omega (arith, same, more))
+counts : (s : State) (b : List ℕ) (o : Option ℕ) → count_of b ≡ o → Grows (Bare b) s (counted s o)
+counts s b None e = tt
+counts s b (Some n) e = (times s.content.profiles n (count_is b n e).0, tt)
 
-counts : (s : State) (b : List ℕ) (o : Option ℕ) → count_of b ≡ o → Grows s (counted s o)
-counts s b None e = refuses s _
-counts s b (Some n) e = settles s (at p.Counts (s.due - 1) s.list_start s.outcomes s.content) n refl (count_is b n e).0
+lists : (s : State) (n : ℕ) → Grows Closing s (listed s n)
+lists s zero = tt
+lists s (suc n) = (times s.content.profiles (suc n) (omega arith), tt)
 
-lists : (s : State) (n : ℕ) → Grows s (listed s n)
-lists s zero = refuses s _
-lists s (suc n) = settles s (at p.BeforeList s.due s.list_start s.outcomes s.content) (suc n) refl (omega arith)
+pays : (q : Position) → IsSettled q → (s : State) (b : List ℕ) (o : Result Ratio NumberFault) → Grows (Bare b) s (paid q s o)
+pays q settled s b (Ok n) = (same s.content.profiles, settled)
+pays q settled s b (Err fault) = tt
 
-pays : (q : Position) (s : State) (o : Result Ratio NumberFault) → Grows s (paid q s o)
-pays q s (Ok n) = keeps s _ refl
-pays q s (Err fault) = refuses s _
+chooses : (s : State) (b : List ℕ) (o : Option ℕ) → Grows (Bare b) s (chosen s o)
+chooses s b None = tt
+chooses s b (Some k) = by_test (Bare b) s (nat_le k s.outcomes) _ _ (same s.content.profiles, tt) tt
 
-chooses : (s : State) (o : Option ℕ) → Grows s (chosen s o)
-chooses s None = refuses s _
-chooses s (Some k) = by_test s _ _ _ (keeps s _ refl) (refuses s _)
+ends_strategies : (s : State) (t : Token) → Grows t s (at_strategies_end s t)
+ends_strategies s Closing = (same s.content.profiles, tt)
+ends_strategies s _ = tt
 
-ends_strategies : (s : State) (t : Token) → Grows s (at_strategies_end s t)
-ends_strategies s Closing = keeps s _ refl
-ends_strategies s _ = refuses s _
-
-firsts : (s : State) (t : Token) → Grows s (at_first s t)
-firsts s Opening = keeps s _ refl
+firsts : (s : State) (t : Token) → Grows t s (at_first s t)
+firsts s Opening = refl
 firsts s (Bare b) = counts s b (count_of b) refl
-firsts s _ = refuses s _
+firsts s _ = tt
 
-later_counts : (s : State) (t : Token) → Grows s (at_count s t)
+later_counts : (s : State) (t : Token) → Grows t s (at_count s t)
 later_counts s (Bare b) = counts s b (count_of b) refl
-later_counts s _ = refuses s _
+later_counts s _ = tt
 
-opens : (s : State) (t : Token) → Grows s (at_list_opening s t)
-opens s Opening = keeps s _ refl
-opens s _ = refuses s _
+opens : (s : State) (t : Token) → Grows t s (at_list_opening s t)
+opens s Opening = refl
+opens s _ = tt
 
-payoffs : (q : Position) (s : State) (t : Token) → Grows s (at_payoff q s t)
-payoffs q s (Bare b) = pays q s (number_of b)
-payoffs q s _ = refuses s _
+payoffs : (q : Position) → IsSettled q → (s : State) (t : Token) → Grows t s (at_payoff q s t)
+payoffs q settled s (Bare b) = pays q settled s b (number_of b)
+payoffs q settled s _ = tt
 
-flats : (s : State) (t : Token) → Grows s (at_flat_payoffs s t)
-flats s t = by_test s _ _ _ (refuses s _) (payoffs p.FlatPayoffs s t)
+flats : (s : State) (t : Token) → Grows t s (at_flat_payoffs s t)
+flats s t = by_test t s (nat_eq s.due 0) _ _ tt (payoffs p.FlatPayoffs tt s t)
 
-bodies : (s : State) (t : Token) → Grows s (at_after_comment s t)
-bodies s Opening = keeps s _ refl
+bodies : (s : State) (t : Token) → Grows t s (at_after_comment s t)
+bodies s Opening = refl
 bodies s Closing = flats s Closing
 bodies s Comma = flats s Comma
 bodies s (Text label) = flats s (Text label)
 bodies s (Bare b) = flats s (Bare b)
 bodies s Broken = flats s Broken
 
-ends_outcome : (s : State) (t : Token) → Grows s (at_outcome_end s t)
-ends_outcome s Closing = keeps s _ refl
-ends_outcome s _ = refuses s _
+ends_outcome : (s : State) (t : Token) → Grows t s (at_outcome_end s t)
+ends_outcome s Closing = (same s.content.profiles, tt)
+ends_outcome s _ = tt
 
-braced_payoffs : (s : State) (t : Token) → Grows s (at_braced_payoff s t)
-braced_payoffs s t = by_test s _ _ _ (ends_outcome s t) (payoffs p.AfterBracedPayoff s t)
+braced_payoffs : (s : State) (t : Token) → Grows t s (at_braced_payoff s t)
+braced_payoffs s t = by_test t s (nat_eq s.due 0) _ _ (ends_outcome s t) (payoffs p.AfterBracedPayoff tt s t)
 
-numbers : (s : State) (t : Token) → Grows s (at_outcome_number s t)
-numbers s (Bare b) = chooses s (index_of b)
-numbers s _ = refuses s _
+numbers : (s : State) (t : Token) → Grows t s (at_outcome_number s t)
+numbers s (Bare b) = chooses s b (index_of b)
+numbers s _ = tt
 
-grows_at : (q : Position) (due from outcomes : ℕ) (c : Content) (t : Token) → Grows (at q due from outcomes c) (step (at q due from outcomes c) t)
-grows_at p.Format due from outcomes c (Bare b) = let s = at p.Format due from outcomes c in by_test s _ _ _ (keeps s _ refl) (refuses s _)
-grows_at p.Format due from outcomes c _ = refuses (at p.Format due from outcomes c) _
-grows_at p.Version due from outcomes c (Bare b) = let s = at p.Version due from outcomes c in by_test s _ _ _ (keeps s _ refl) (refuses s _)
-grows_at p.Version due from outcomes c _ = refuses (at p.Version due from outcomes c) _
-grows_at p.Letter due from outcomes c (Bare b) = let s = at p.Letter due from outcomes c in by_test s _ _ _ (keeps s _ refl) (refuses s _)
-grows_at p.Letter due from outcomes c _ = refuses (at p.Letter due from outcomes c) _
-grows_at p.Title due from outcomes c (Text label) = keeps (at p.Title due from outcomes c) _ refl
-grows_at p.Title due from outcomes c _ = refuses (at p.Title due from outcomes c) _
-grows_at p.BeforePlayers due from outcomes c Opening = keeps (at p.BeforePlayers due from outcomes c) _ refl
-grows_at p.BeforePlayers due from outcomes c _ = refuses (at p.BeforePlayers due from outcomes c) _
-grows_at p.InPlayers due from outcomes c (Text label) = keeps (at p.InPlayers due from outcomes c) _ refl
-grows_at p.InPlayers due from outcomes c Closing = keeps (at p.InPlayers due from outcomes c) _ refl
-grows_at p.InPlayers due from outcomes c _ = refuses (at p.InPlayers due from outcomes c) _
-grows_at p.BeforeStrategies due from outcomes c Opening = keeps (at p.BeforeStrategies due from outcomes c) _ refl
-grows_at p.BeforeStrategies due from outcomes c _ = refuses (at p.BeforeStrategies due from outcomes c) _
-grows_at p.FirstStrategies due from outcomes c t = let s = at p.FirstStrategies due from outcomes c in by_test s _ _ _ (ends_strategies s t) (firsts s t)
-grows_at p.Counts due from outcomes c t = let s = at p.Counts due from outcomes c in by_test s _ _ _ (ends_strategies s t) (later_counts s t)
-grows_at p.BeforeList due from outcomes c t = let s = at p.BeforeList due from outcomes c in by_test s _ _ _ (ends_strategies s t) (opens s t)
-grows_at p.InList due from outcomes c (Text label) = keeps (at p.InList due from outcomes c) _ refl
+grows_at : (q : Position) (due from outcomes : ℕ) (c : Content) (t : Token) → Grows t (at q due from outcomes c) (step (at q due from outcomes c) t)
+grows_at p.Format due from outcomes c (Bare b) = tested (at p.Format due from outcomes c) (at p.Version due from outcomes c) b _ _ (same c.profiles, tt)
+grows_at p.Format due from outcomes c _ = tt
+grows_at p.Version due from outcomes c (Bare b) = tested (at p.Version due from outcomes c) (at p.Letter due from outcomes c) b _ _ (same c.profiles, tt)
+grows_at p.Version due from outcomes c _ = tt
+grows_at p.Letter due from outcomes c (Bare b) = tested (at p.Letter due from outcomes c) (at p.Title due from outcomes c) b _ _ (same c.profiles, tt)
+grows_at p.Letter due from outcomes c _ = tt
+grows_at p.Title due from outcomes c (Text label) = refl
+grows_at p.Title due from outcomes c _ = tt
+grows_at p.BeforePlayers due from outcomes c Opening = refl
+grows_at p.BeforePlayers due from outcomes c _ = tt
+grows_at p.InPlayers due from outcomes c (Text label) = refl
+grows_at p.InPlayers due from outcomes c Closing = (same c.profiles, tt)
+grows_at p.InPlayers due from outcomes c _ = tt
+grows_at p.BeforeStrategies due from outcomes c Opening = refl
+grows_at p.BeforeStrategies due from outcomes c _ = tt
+grows_at p.FirstStrategies due from outcomes c t = by_test t (at p.FirstStrategies due from outcomes c) (nat_eq due 0) _ _ (ends_strategies (at p.FirstStrategies due from outcomes c) t) (firsts (at p.FirstStrategies due from outcomes c) t)
+grows_at p.Counts due from outcomes c t = by_test t (at p.Counts due from outcomes c) (nat_eq due 0) _ _ (ends_strategies (at p.Counts due from outcomes c) t) (later_counts (at p.Counts due from outcomes c) t)
+grows_at p.BeforeList due from outcomes c t = by_test t (at p.BeforeList due from outcomes c) (nat_eq due 0) _ _ (ends_strategies (at p.BeforeList due from outcomes c) t) (opens (at p.BeforeList due from outcomes c) t)
+grows_at p.InList due from outcomes c (Text label) = refl
 grows_at p.InList due from outcomes c Closing = lists (at p.InList due from outcomes c) (length c.labels - from)
-grows_at p.InList due from outcomes c _ = refuses (at p.InList due from outcomes c) _
-grows_at p.AfterStrategies due from outcomes c (Text label) = keeps (at p.AfterStrategies due from outcomes c) _ refl
+grows_at p.InList due from outcomes c _ = tt
+grows_at p.AfterStrategies due from outcomes c (Text label) = refl
 grows_at p.AfterStrategies due from outcomes c Opening = bodies (at p.AfterStrategies due from outcomes c) Opening
 grows_at p.AfterStrategies due from outcomes c Closing = bodies (at p.AfterStrategies due from outcomes c) Closing
 grows_at p.AfterStrategies due from outcomes c Comma = bodies (at p.AfterStrategies due from outcomes c) Comma
@@ -138,19 +140,45 @@ grows_at p.AfterStrategies due from outcomes c (Bare b) = bodies (at p.AfterStra
 grows_at p.AfterStrategies due from outcomes c Broken = bodies (at p.AfterStrategies due from outcomes c) Broken
 grows_at p.AfterComment due from outcomes c t = bodies (at p.AfterComment due from outcomes c) t
 grows_at p.FlatPayoffs due from outcomes c t = flats (at p.FlatPayoffs due from outcomes c) t
-grows_at p.InOutcomes due from outcomes c Opening = keeps (at p.InOutcomes due from outcomes c) _ refl
-grows_at p.InOutcomes due from outcomes c Closing = keeps (at p.InOutcomes due from outcomes c) _ refl
-grows_at p.InOutcomes due from outcomes c _ = refuses (at p.InOutcomes due from outcomes c) _
-grows_at p.OutcomeName due from outcomes c (Text label) = keeps (at p.OutcomeName due from outcomes c) _ refl
-grows_at p.OutcomeName due from outcomes c _ = refuses (at p.OutcomeName due from outcomes c) _
+grows_at p.InOutcomes due from outcomes c Opening = refl
+grows_at p.InOutcomes due from outcomes c Closing = (same c.profiles, tt)
+grows_at p.InOutcomes due from outcomes c _ = tt
+grows_at p.OutcomeName due from outcomes c (Text label) = refl
+grows_at p.OutcomeName due from outcomes c _ = tt
 grows_at p.BracedPayoff due from outcomes c t = braced_payoffs (at p.BracedPayoff due from outcomes c) t
-grows_at p.AfterBracedPayoff due from outcomes c Comma = keeps (at p.AfterBracedPayoff due from outcomes c) _ refl
+grows_at p.AfterBracedPayoff due from outcomes c Comma = refl
 grows_at p.AfterBracedPayoff due from outcomes c Opening = braced_payoffs (at p.AfterBracedPayoff due from outcomes c) Opening
 grows_at p.AfterBracedPayoff due from outcomes c Closing = braced_payoffs (at p.AfterBracedPayoff due from outcomes c) Closing
 grows_at p.AfterBracedPayoff due from outcomes c (Text label) = braced_payoffs (at p.AfterBracedPayoff due from outcomes c) (Text label)
 grows_at p.AfterBracedPayoff due from outcomes c (Bare b) = braced_payoffs (at p.AfterBracedPayoff due from outcomes c) (Bare b)
 grows_at p.AfterBracedPayoff due from outcomes c Broken = braced_payoffs (at p.AfterBracedPayoff due from outcomes c) Broken
-grows_at p.OutcomeNumbers due from outcomes c t = let s = at p.OutcomeNumbers due from outcomes c in by_test s _ _ _ (refuses s _) (numbers s t)
+grows_at p.OutcomeNumbers due from outcomes c t = by_test t (at p.OutcomeNumbers due from outcomes c) (nat_eq due 0) _ _ tt (numbers (at p.OutcomeNumbers due from outcomes c) t)
+
+grows : (s after : State) (t : Token) → step s t ≡ Ok after → Grown t s after
+grows s after t e = subst (Grows t s) e (grows_at s.position s.due s.list_start s.outcomes s.content t)
+
+no_fewer : (s after : State) (t : Token) → Grown t s after → s.content.profiles ≤ after.content.profiles
+no_fewer s after (Bare b) h = h.0
+no_fewer s after Closing h = h.0
+no_fewer s after _ h = omega (arith, h)
+
+more_by : (s after : State) (t : Token) → Grown t s after → s.content.profiles < after.content.profiles → IsBareOrClosing t
+more_by s after (Bare b) h more = tt
+more_by s after Closing h more = tt
+more_by s after _ h more = absurd (omega (arith, h, more))
+
+settled_by : (s after : State) (t : Token) → Grown t s after → IsBareOrClosing t → IsSettled after.position
+settled_by s after (Bare b) h k = h.1
+settled_by s after Closing h k = h.1
+settled_by s after _ h k = absurd k
+
+-- where it makes them more, it is one of these
+pub makes_more : (s after : State) (t : Token) → step s t ≡ Ok after → s.content.profiles < after.content.profiles → IsBareOrClosing t
+makes_more s after t e more = more_by s after t (grows s after t e) more
+
+-- behind one of these no list is open
+pub settles : (s after : State) (t : Token) → step s t ≡ Ok after → IsBareOrClosing t → IsSettled after.position
+settles s after t e h = settled_by s after t (grows s after t e) h
 
 ended_keeps : (c : Content) (o : Option What) (r : Content) → ended c o ≡ Ok r → c.profiles ≤ r.profiles
 ended_keeps c None r e = let is : c ≡ r = ok_is c r e in subst (λ (x : Content). c.profiles ≤ x.profiles) is (omega arith)
@@ -166,19 +194,47 @@ pub run_grows : (ts : List Token) (s : State) (r : Content) → run s ts ≡ Ok 
 run_grows [] s r e = ended_keeps s.content (due_at s.position s.due) r e
 run_grows (t ∷ ts) s r e =
     let h = run_step ts (step s t) r e in
-    let first = grows_at s.position s.due s.list_start s.outcomes s.content t h.0 h.1 in
+    let first = no_fewer s h.0 t (grows s h.0 t h.1) in
     let rest = run_grows ts h.0 r h.2 in
     omega (arith, first, rest)
 
 -- ---- past the limit
 
-entries_count : (c : Content) → IsComplete c → length (table_of c).entries ≡ c.profiles
+pub entries_count : (c : Content) → IsComplete c → length (table_of c).entries ≡ c.profiles
 entries_count c h = sym (length-map (table_of c).entries (λ e. e.payoffs)) ∙ ap length (rows-table_of c h) ∙ length-rows_by c c.choices h.has_rows
 
-pub read_past : (all rest : List Lexeme) (s : State) (h : Led all rest s) (more : List Token) (t : Table) → Sentence (tokens_of h.seen ++ more) t → s.content.profiles ≤ length t.entries
-read_past all rest s h more t sentence =
-    let p = sentence_again (tokens_of h.seen ++ more) t sentence in
-    let complete = (sentence_found (tokens_of h.seen ++ more) p.content p.read).complete in
-    let grown = run_grows more s p.content (sym (h.goes more) ∙ p.read) in
-    let size : length t.entries ≡ p.content.profiles = ap (λ (u : Table). length u.entries) (sym p.means) ∙ entries_count p.content complete in
+-- a walk makes them no fewer
+walk_grows : (ts : List Token) (s after : State) → walk s ts ≡ Ok after → s.content.profiles ≤ after.content.profiles
+walk_grows [] s after e = let is : s ≡ after = ok_is s after e in subst (λ (x : State). s.content.profiles ≤ x.content.profiles) is (same s.content.profiles)
+walk_grows (t ∷ ts) s after e =
+    let h = walk_step t ts s after e in
+    let first = no_fewer s h.0 t (grows s h.0 t h.1) in
+    let rest = walk_grows ts h.0 after h.2 in
+    omega (arith, first, rest)
+
+-- a file has the profiles that were read
+size_read : (ts : List Token) (r : Content) → run start ts ≡ Ok r → length (table_of r).entries ≡ r.profiles
+size_read ts r e = entries_count r (sentence_found ts r e).complete
+
+pub read_past : (ts : List Token) (s : State) → Leads ts s → (more : List Token) (t : Table) → Sentence (ts ++ more) t → s.content.profiles ≤ length t.entries
+read_past ts s h more t sentence =
+    let p = sentence_again (ts ++ more) t sentence in
+    let grown = run_grows more s p.content (sym (leads_run ts more s h) ∙ p.read) in
+    let size : length t.entries ≡ p.content.profiles = ap (λ (u : Table). length u.entries) (sym p.means) ∙ size_read (ts ++ more) p.content p.read in
     omega (arith, grown, size)
+
+begins_within : (ts : List Token) (s : State) → Leads ts s → IsSettled s.position → s.content.profiles ≤ profile_limit → BeginsWithinLimit ts
+begins_within ts s h settled within =
+    let e = settled_ends s settled in
+    let all : run start (ts ++ e.0) ≡ Ok e.1 = leads_run ts e.0 s h ∙ e.2 in
+    let size = size_read (ts ++ e.0) e.1 all in
+    let same_profiles = e.3 in
+    (e.0, table_of e.1, (sentence_found (ts ++ e.0) e.1 all).sentence, omega (arith, size, same_profiles, within))
+
+-- up to there the limit was not passed
+pub stays_within : (ts : List Token) (s : State) → Leads ts s → s.content.profiles ≤ profile_limit → StaysWithinLimit ts
+stays_within ts s h within front back token parts is =
+    let a = walk_split front (token ∷ back) start s (subst (λ (x : List Token). Leads x s) parts h) in
+    let b = walk_step token back a.0 s a.2 in
+    let grown = walk_grows back b.0 s b.2 in
+    begins_within (front ++ token ∷ []) b.0 (leads_more front token a.0 b.0 a.1 b.1) (settles a.0 b.0 token b.1 is) (omega (arith, grown, within))

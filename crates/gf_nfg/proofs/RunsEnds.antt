@@ -1,6 +1,7 @@
 -- Each state of the machine can be completed.
-use Rattle.std.proofs.Common.{◌≡◌, ℕ, zero, suc, ◌+◌, ◌-◌, ◌*◌, ◌<◌, Bool, true, false, cond, List, [], ◌∷◌, length, Some, Result, Ok, Err, refl, arith, nat_eq}
-use Rattle.std.specs.Prelude.{codes, pos, nat_le}
+use Rattle.std.proofs.Common.{◌≡◌, ℕ, zero, suc, ◌+◌, ◌-◌, ◌*◌, ◌<◌, Bool, true, false, cond, List, [], ◌∷◌, length, Some, Result, Ok, Err, refl, sym, ap, subst, ◌∙◌, arith, nat_eq, inl, inr}
+use Rattle.std.specs.Prelude.{◌⊎◌, codes, pos, nat_le}
+use Rattle.std.proofs.Math.Nat.{mul-one}
 use Rattle.std.proofs.lemmas.Bool.{le-leb}
 use Rattle.std.proofs.lemmas.List.{length-append}
 use Rattle.gf_token.specs.Token.{Token}
@@ -16,24 +17,29 @@ use Rattle.gf_nfg.specs.Readings.{index_of, count_of}
 use Rattle.gf_nfg.specs.Machine.{State, Content, at, step, run, listed, with_title, with_labels, with_count, with_payoffs, with_choices, next_outcome}
 use Rattle.gf_nfg.proofs.RunsCommon.{not_zero, pred_suc}
 
+-- it can be completed, to so many profiles
+abbrev pub EndsWith : State → ℕ → Type 0
+EndsWith s profiles = (more : List Token) × (r : Content) × (run s more ≡ Ok r) × (r.profiles ≡ profiles)
+
+-- to no more profiles than there are
 abbrev Ends : State → Type 0
-Ends s = (more : List Token) × (r : Content) × (run s more ≡ Ok r)
+Ends s = EndsWith s s.content.profiles
 
 -- by a token that leads to a state that can be completed
-then : (s after : State) (t : Token) → step s t ≡ Ok after → Ends after → Ends s
-then s after t e h = (t ∷ h.0, h.1, rw e h.2)
+then : {profiles : ℕ} (s after : State) (t : Token) → step s t ≡ Ok after → EndsWith after profiles → EndsWith s profiles
+then s after t e h = (t ∷ h.0, h.1, rw e h.2, h.3)
 
-abbrev zero_text : List ℕ
+abbrev pub zero_text : List ℕ
 zero_text = codes "0"
 
-abbrev zero_number : Ratio
+abbrev pub zero_number : Ratio
 zero_number = whole (pos 0)
 
-zero_is_number : number_of zero_text ≡ Ok zero_number
+pub zero_is_number : number_of zero_text ≡ Ok zero_number
 unfolding number_of lowest_of gcd_within
 zero_is_number = refl
 
-zero_is_index : index_of zero_text ≡ Some 0
+pub zero_is_index : index_of zero_text ≡ Some 0
 unfolding index_of
 zero_is_index = refl
 
@@ -47,28 +53,28 @@ flat_step : (due from outcomes : ℕ) (c : Content) → step (at p.FlatPayoffs (
 flat_step due from outcomes c = rw (not_zero, zero_is_number, pred_suc) refl
 
 flat_ends : (due from outcomes : ℕ) (c : Content) → Ends (at p.FlatPayoffs due from outcomes c)
-flat_ends zero from outcomes c = ([], c, refl)
+flat_ends zero from outcomes c = ([], c, refl, refl)
 flat_ends (suc due) from outcomes c = then _ _ (Bare zero_text) (flat_step due from outcomes c) (flat_ends due from outcomes (with_payoffs c (zero_number ∷ [])))
 
 comment_step : (due from outcomes : ℕ) (c : Content) → step (at p.AfterComment (suc due) from outcomes c) (Bare zero_text) ≡ Ok (at p.FlatPayoffs due from outcomes (with_payoffs c (zero_number ∷ [])))
 comment_step due from outcomes c = rw (not_zero, zero_is_number, pred_suc) refl
 
 comment_ends : (due from outcomes : ℕ) (c : Content) → Ends (at p.AfterComment due from outcomes c)
-comment_ends zero from outcomes c = ([], c, refl)
+comment_ends zero from outcomes c = ([], c, refl, refl)
 comment_ends (suc due) from outcomes c = then _ _ (Bare zero_text) (comment_step due from outcomes c) (flat_ends due from outcomes (with_payoffs c (zero_number ∷ [])))
 
 body_step : (due from outcomes : ℕ) (c : Content) → step (at p.AfterStrategies (suc due) from outcomes c) (Bare zero_text) ≡ Ok (at p.FlatPayoffs due from outcomes (with_payoffs c (zero_number ∷ [])))
 body_step due from outcomes c = rw (not_zero, zero_is_number, pred_suc) refl
 
 body_ends : (due from outcomes : ℕ) (c : Content) → Ends (at p.AfterStrategies due from outcomes c)
-body_ends zero from outcomes c = ([], c, refl)
+body_ends zero from outcomes c = ([], c, refl, refl)
 body_ends (suc due) from outcomes c = then _ _ (Bare zero_text) (body_step due from outcomes c) (flat_ends due from outcomes (with_payoffs c (zero_number ∷ [])))
 
 number_step : (due from outcomes : ℕ) (c : Content) → step (at p.OutcomeNumbers (suc due) from outcomes c) (Bare zero_text) ≡ Ok (at p.OutcomeNumbers due from outcomes (with_choices c (0 ∷ [])))
 number_step due from outcomes c = let known : nat_le 0 outcomes ≡ true = le-leb 0 outcomes (omega arith) in rw (not_zero, zero_is_index, known, pred_suc) refl
 
 numbers_ends : (due from outcomes : ℕ) (c : Content) → Ends (at p.OutcomeNumbers due from outcomes c)
-numbers_ends zero from outcomes c = ([], c, refl)
+numbers_ends zero from outcomes c = ([], c, refl, refl)
 numbers_ends (suc due) from outcomes c = then _ _ (Bare zero_text) (number_step due from outcomes c) (numbers_ends due from outcomes (with_choices c (0 ∷ [])))
 
 outcomes_ends : (due from outcomes : ℕ) (c : Content) → Ends (at p.InOutcomes due from outcomes c)
@@ -93,19 +99,23 @@ name_ends due from outcomes c = then _ (at p.BracedPayoff (length c.players) fro
 
 -- ---- strategies
 
+-- one strategy makes no more profiles
+by_one : (s : State) (profiles n : ℕ) → n ≡ 1 → EndsWith s (profiles * n) → EndsWith s profiles
+by_one s profiles n e h = subst (EndsWith s) (ap (λ (k : ℕ). profiles * k) e ∙ mul-one profiles) h
+
 count_step : (due from outcomes : ℕ) (c : Content) → step (at p.Counts (suc due) from outcomes c) (Bare (codes "1")) ≡ Ok (at p.Counts due from outcomes (with_count c 1))
 count_step due from outcomes c = rw (not_zero, one_is_count, pred_suc) refl
 
 counts_ends : (due from outcomes : ℕ) (c : Content) → Ends (at p.Counts due from outcomes c)
 counts_ends zero from outcomes c = then _ (at p.AfterStrategies (length c.players * c.profiles) from outcomes c) Closing refl (body_ends (length c.players * c.profiles) from outcomes c)
-counts_ends (suc due) from outcomes c = then _ _ (Bare (codes "1")) (count_step due from outcomes c) (counts_ends due from outcomes (with_count c 1))
+counts_ends (suc due) from outcomes c = then _ _ (Bare (codes "1")) (count_step due from outcomes c) (by_one (at p.Counts due from outcomes (with_count c 1)) c.profiles 1 refl (counts_ends due from outcomes (with_count c 1)))
 
 first_step : (due from outcomes : ℕ) (c : Content) → step (at p.FirstStrategies (suc due) from outcomes c) (Bare (codes "1")) ≡ Ok (at p.Counts due from outcomes (with_count c 1))
 first_step due from outcomes c = rw (not_zero, one_is_count, pred_suc) refl
 
 first_ends : (due from outcomes : ℕ) (c : Content) → Ends (at p.FirstStrategies due from outcomes c)
 first_ends zero from outcomes c = then _ (at p.AfterStrategies (length c.players * c.profiles) from outcomes c) Closing refl (body_ends (length c.players * c.profiles) from outcomes c)
-first_ends (suc due) from outcomes c = then _ _ (Bare (codes "1")) (first_step due from outcomes c) (counts_ends due from outcomes (with_count c 1))
+first_ends (suc due) from outcomes c = then _ _ (Bare (codes "1")) (first_step due from outcomes c) (by_one (at p.Counts due from outcomes (with_count c 1)) c.profiles 1 refl (counts_ends due from outcomes (with_count c 1)))
 
 listed_step : (s : State) (n : ℕ) → 0 < n → listed s n ≡ Ok (at p.BeforeList s.due s.list_start s.outcomes (with_count s.content n))
 listed_step s zero some = absurd (omega arith)
@@ -126,18 +136,20 @@ lists_ends zero from outcomes c = then _ (at p.AfterStrategies (length c.players
 lists_ends (suc due) from outcomes c =
     let d = with_labels c ([] ∷ []) in
     let n = length d.labels - length c.labels in
-    let some : 0 < n = let more = longer c in omega (arith, more) in
+    let one : n ≡ 1 = let more = longer c in omega (arith, more) in
+    let some : 0 < n = omega (arith, one) in
     then _ _ Opening (open_step due from outcomes c)
     (then _ _ (Text []) (text_step due (length c.labels) outcomes c)
     (then _ _ Closing (listed_step (at p.InList due (length c.labels) outcomes d) n some)
-    (lists_ends due (length c.labels) outcomes (with_count d n))))
+    (by_one (at p.BeforeList due (length c.labels) outcomes (with_count d n)) c.profiles n one (lists_ends due (length c.labels) outcomes (with_count d n)))))
 
-list_ends : (n due from outcomes : ℕ) (c : Content) → from < length c.labels + n → Ends (at p.InList due from outcomes c)
+list_ends : (n due from outcomes : ℕ) (c : Content) → from < length c.labels + n → (profiles : ℕ) × EndsWith (at p.InList due from outcomes c) profiles
 list_ends zero due from outcomes c h =
     let n = length c.labels - from in
-    then _ _ Closing (listed_step (at p.InList due from outcomes c) n (omega arith)) (lists_ends due from outcomes (with_count c n))
+    (c.profiles * n, then _ _ Closing (listed_step (at p.InList due from outcomes c) n (omega arith)) (lists_ends due from outcomes (with_count c n)))
 list_ends (suc n) due from outcomes c h =
-    then _ _ (Text []) (text_step due from outcomes c) (list_ends n due from outcomes (with_labels c ([] ∷ [])) (let more = longer c in omega (arith, more)))
+    let h = list_ends n due from outcomes (with_labels c ([] ∷ [])) (let more = longer c in omega (arith, more)) in
+    (h.0, then _ _ (Text []) (text_step due from outcomes c) h.1)
 
 -- ---- headings
 
@@ -162,29 +174,48 @@ version_ends due from outcomes c = then _ (at p.Letter due from outcomes c) (Bar
 format_ends : (due from outcomes : ℕ) (c : Content) → Ends (at p.Format due from outcomes c)
 format_ends due from outcomes c = then _ (at p.Version due from outcomes c) (Bare (codes "NFG")) refl (version_ends due from outcomes c)
 
-ends_at : (q : Position) (due from outcomes : ℕ) (c : Content) → Ends (at q due from outcomes c)
-ends_at p.Format = format_ends
-ends_at p.Version = version_ends
-ends_at p.Letter = letter_ends
-ends_at p.Title = title_ends
-ends_at p.BeforePlayers = before_players_ends
-ends_at p.InPlayers = players_ends
-ends_at p.BeforeStrategies = before_strategies_ends
-ends_at p.FirstStrategies = first_ends
-ends_at p.Counts = counts_ends
-ends_at p.BeforeList = lists_ends
-ends_at p.InList = λ due from outcomes c. list_ends (from + 1) due from outcomes c (omega arith)
-ends_at p.AfterStrategies = body_ends
-ends_at p.AfterComment = comment_ends
-ends_at p.FlatPayoffs = flat_ends
-ends_at p.InOutcomes = outcomes_ends
-ends_at p.OutcomeName = name_ends
-ends_at p.BracedPayoff = braced_ends
-ends_at p.AfterBracedPayoff = after_braced_ends
-ends_at p.OutcomeNumbers = numbers_ends
+-- no list is open
+abbrev pub IsSettled : Position → Type 0
+IsSettled p.InList = ⊥
+IsSettled _ = Unit {0}
+
+ends_at : (q : Position) → IsSettled q → (due from outcomes : ℕ) (c : Content) → Ends (at q due from outcomes c)
+ends_at p.Format h = format_ends
+ends_at p.Version h = version_ends
+ends_at p.Letter h = letter_ends
+ends_at p.Title h = title_ends
+ends_at p.BeforePlayers h = before_players_ends
+ends_at p.InPlayers h = players_ends
+ends_at p.BeforeStrategies h = before_strategies_ends
+ends_at p.FirstStrategies h = first_ends
+ends_at p.Counts h = counts_ends
+ends_at p.BeforeList h = lists_ends
+ends_at p.InList h = absurd h
+ends_at p.AfterStrategies h = body_ends
+ends_at p.AfterComment h = comment_ends
+ends_at p.FlatPayoffs h = flat_ends
+ends_at p.InOutcomes h = outcomes_ends
+ends_at p.OutcomeName h = name_ends
+ends_at p.BracedPayoff h = braced_ends
+ends_at p.AfterBracedPayoff h = after_braced_ends
+ends_at p.OutcomeNumbers h = numbers_ends
+
+pub settled_ends : (s : State) → IsSettled s.position → EndsWith s s.content.profiles
+settled_ends s h = ends_at s.position h s.due s.list_start s.outcomes s.content
+
+settled_or_not : (q : Position) → IsSettled q ⊎ (q ≡ p.InList)
+settled_or_not p.InList = inr refl
+settled_or_not _ = inl tt
+
+ends_by : (s : State) → IsSettled s.position ⊎ (s.position ≡ p.InList) → (more : List Token) × (r : Content) × (run s more ≡ Ok r)
+ends_by s (inl h) = let e = settled_ends s h in (e.0, e.1, e.2)
+ends_by s (inr h) =
+    let P : Position → Type 0 = λ q. (more : List Token) × (r : Content) × (run (at q s.due s.list_start s.outcomes s.content) more ≡ Ok r) in
+    let e = list_ends (s.list_start + 1) s.due s.list_start s.outcomes s.content (omega arith) in
+    subst P (sym h) (e.1.0, e.1.1, e.1.2)
 
 pub ends : (s : State) → (more : List Token) × (r : Content) × (run s more ≡ Ok r)
-ends s = ends_at s.position s.due s.list_start s.outcomes s.content
+ends s = ends_by s (settled_or_not s.position)
 
 -- ---- a text without an end is refused in each state
 

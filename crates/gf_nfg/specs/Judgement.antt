@@ -5,14 +5,25 @@ use Rattle.gf_token.specs.declared.fault.Span.{Span}
 use Rattle.gf_token.specs.declared.fault.Why.{Why}
 use Rattle.gf_token.specs.declared.fault.Why.TheVariants.{TooLong, TooManyProfiles, Memory}
 use Rattle.gf_nfg.specs.Table.{Table}
-use Rattle.gf_nfg.specs.Place.{IsOffendingPlace, IsPastLimit}
+use Rattle.gf_nfg.specs.Place.{tokens_of, IsOffendingPlace, IsLimitPlace, StaysWithinLimit}
+use Rattle.gf_nfg.specs.Reason.{IsReason}
 
--- the place of a refusal, by its reason. Of want of memory nothing is said
+-- the span is that of the offending place, the refusal is for what stands there, and there is no limit place before
+pub record IsRefusal (why : Why) (bytes : List ℕ) (span : Span) : Type 0 where
+  pub place : IsOffendingPlace bytes span
+  pub reason : IsReason why (tokens_of place.before) (tokens_of place.after)
+  pub within : StaysWithinLimit (tokens_of place.before)
+
+-- A refusal, by its reason. Of want of memory nothing is said.
 abbrev pub IsJudged : Why → List ℕ → Span → Type 0
 IsJudged Memory bytes span = Unit {0}
-IsJudged TooManyProfiles bytes span = IsPastLimit bytes span
+IsJudged TooManyProfiles bytes span = IsLimitPlace bytes span
 IsJudged TooLong bytes span = ⊥
-IsJudged _ bytes span = IsOffendingPlace bytes span
+IsJudged why bytes span = IsRefusal why bytes span
+
+-- a refusal for another cause than want of memory
+abbrev pub IsRefused : Why → List ℕ → Span → Type 0
+IsRefused why bytes span = ¬ (why ≡ Memory) × IsJudged why bytes span
 
 -- this table, or want of memory
 abbrev pub IsReadAs : Result Table Fault → Table → Type 0

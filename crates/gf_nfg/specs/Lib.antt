@@ -1,3 +1,4 @@
+pub mod Due
 pub mod Judgement
 pub mod Limit
 pub mod Machine
@@ -7,6 +8,7 @@ pub mod ProfilePlaces
 pub mod Profiles
 pub mod ReaderState
 pub mod Readings
+pub mod Reason
 pub mod SameTable
 pub mod Sentence
 pub mod Table
@@ -16,5 +18,6 @@ pub mod TableText
 pub mod TextParts
 pub mod WorkedTables
 pub use Rattle.gf_fraction.specs.Ratio
+pub use Rattle.gf_token.specs.Code
 pub use Rattle.gf_token.specs.Label
 pub use Rattle.gf_token.specs.Token

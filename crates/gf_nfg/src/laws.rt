@@ -1,20 +1,33 @@
 //! Laws of the definitions, each as the contract of a function that does nothing.
 
-ghost use Rattle.std.specs.Prelude.{◌≡◌, ◌↔◌, List, ℕ, map};
+ghost use Rattle.std.specs.Prelude.{◌≡◌, ◌↔◌, ◌⊎◌, List, ℕ, map};
 ghost use Rattle.std.specs.List.{Contains};
 ghost use Rattle.gf_token.specs.Token.{Token};
+ghost use Rattle.gf_token.specs.Code.{code_of};
+ghost use Rattle.gf_token.specs.declared.fault.Span.{Span};
+ghost use Rattle.gf_token.specs.declared.fault.Why.{Why};
 ghost use Rattle.gf_nfg.specs.Table.{Table, IsTable, IsSpellable, rows};
 ghost use Rattle.gf_nfg.specs.Sentence.{Sentence};
 ghost use Rattle.gf_nfg.specs.Profiles.{numbers_from, product, profiles};
 ghost use Rattle.gf_nfg.specs.ProfilePlaces.{IsProfile, place};
 ghost use Rattle.gf_nfg.specs.SameTable.{SamePlay, SameTable};
 ghost use Rattle.gf_nfg.specs.TableText.{table_text, SpellsTable};
+ghost use Rattle.gf_nfg.specs.Place.{IsWithinLimit};
+ghost use Rattle.gf_nfg.specs.Judgement.{IsRefused};
 ghost use Rattle.gf_nfg.specs.WorkedTables.{no_players, no_players_text, selten, selten_by_counts, selten_by_outcomes, selten_text};
 
 /// Tokens mean one table at most, and so do bytes.
 pub fn means_one_table()
     ensures of_tokens { (tokens : List Token) (t u : Table) → Sentence tokens t → Sentence tokens u → t ≡ u }
     ensures of_bytes { (bytes : List ℕ) (t u : Table) → SpellsTable bytes t → SpellsTable bytes u → t ≡ u }
+{}
+
+/// Each list of bytes spells a table within the limit of profiles, or it is refused. None does both, and none is refused
+/// at two places or with two codes.
+pub fn read_or_refused()
+    ensures one_of_both { (bytes : List ℕ) → ((t : Table) × SpellsTable bytes t × IsWithinLimit t) ⊎ ((why : Why) × (span : Span) × IsRefused why bytes span) }
+    ensures not_both { (bytes : List ℕ) (t : Table) (why : Why) (span : Span) → SpellsTable bytes t → IsWithinLimit t → ¬ (IsRefused why bytes span) }
+    ensures once { (bytes : List ℕ) (why other : Why) (span place : Span) → IsRefused why bytes span → IsRefused other bytes place → (span ≡ place) × (code_of why ≡ code_of other) }
 {}
 
 /// Files mean the tables with labels that can be spelled and with fractions as payoffs, all of them and no others.

@@ -315,3 +315,6 @@ fn reads_what_the_canonical_text_says(rt: HostRuntime) -> Result<(), Fail> {
     }
     Ok(())
 }
+
+mod cuts;
+mod rows;

@@ -1,0 +1,55 @@
+-- Why a strategic file is refused at its offending place.
+use Rattle.std.specs.Prelude.{ℕ, ◌<◌, ◌≤◌, ◌⊎◌, List, [], ◌∷◌, ◌++◌, map}
+use Rattle.gf_token.specs.Token.{Token}
+use Rattle.gf_token.specs.Token.Token.{Closing, Text, Bare, Broken}
+use Rattle.gf_token.specs.Index.{IsIndex}
+use Rattle.gf_token.specs.Code.{code_of}
+use Rattle.gf_token.specs.declared.fault.Why.{Why}
+use Rattle.gf_token.specs.declared.fault.Why.TheVariants.{Unterminated, Expected, NotANumber, ZeroDenominator, NumberTooLarge, BadIndex, NoEntry, UnknownOutcome}
+use Rattle.gf_fraction.specs.NumberSpelling.{HasNumberFault}
+use Rattle.gf_fraction.specs.declared.fraction.NumberFault.{NumberFault}
+use Rattle.gf_fraction.specs.declared.fraction.NumberFault.TheVariants as number
+use Rattle.gf_nfg.specs.Place.{Begins}
+use Rattle.gf_nfg.specs.Due.{MayFollow, Suits, RoleIsDue, IsDue}
+use Rattle.gf_nfg.specs.Due.Role.{Count, Payoff, OutcomeNumber}
+
+-- a payoff is due, and the bytes are no number for this cause
+abbrev pub IsNoPayoff : List Token → List ℕ → NumberFault → Type 0
+IsNoPayoff before bytes fault = RoleIsDue before Payoff × HasNumberFault bytes fault
+
+-- a count is due, and the bytes are no index above zero
+abbrev pub IsNoCount : List Token → List ℕ → Type 0
+IsNoCount before bytes = RoleIsDue before Count × ¬ (Suits Count bytes)
+
+-- the number of one of so many outcomes is due, and the bytes are no index
+abbrev pub IsNoOutcomeNumber : List Token → List ℕ → ℕ → Type 0
+IsNoOutcomeNumber before bytes outcomes = RoleIsDue before (OutcomeNumber outcomes) × ((n : ℕ) → ¬ (IsIndex bytes n))
+
+-- the number of one of so many outcomes is due, and the bytes are a greater index
+abbrev pub IsPastOutcomes : List Token → List ℕ → ℕ → Type 0
+IsPastOutcomes before bytes outcomes = RoleIsDue before (OutcomeNumber outcomes) × ((n : ℕ) × IsIndex bytes n × (outcomes < n))
+
+-- a player's list of labels has been opened, and nothing is in it: labels may follow, as many as one likes, but no closing brace
+abbrev pub OpensLabels : List Token → Type 0
+OpensLabels before = ((labels : List (List ℕ)) → Begins (before ++ map Text labels)) × ¬ (MayFollow before Closing)
+
+-- where each code but E3 applies, by the tokens before a place and the one that stands there
+abbrev pub Applies : Why → List Token → Token → Type 0
+Applies Unterminated before Broken = Unit {0}
+Applies NotANumber before (Bare bytes) = IsNoPayoff before bytes number.NotANumber
+Applies ZeroDenominator before (Bare bytes) = IsNoPayoff before bytes number.ZeroDenominator
+Applies NumberTooLarge before (Bare bytes) = IsNoPayoff before bytes number.TooLarge
+Applies BadIndex before (Bare bytes) = IsNoCount before bytes ⊎ ((outcomes : ℕ) × IsNoOutcomeNumber before bytes outcomes)
+Applies NoEntry before Closing = OpensLabels before
+Applies UnknownOutcome before (Bare bytes) = (outcomes : ℕ) × IsPastOutcomes before bytes outcomes
+Applies _ before token = ⊥
+
+-- the same by the tokens before a place and those from there on: no code but E3 applies at the end
+abbrev pub Holds : Why → List Token → List Token → Type 0
+Holds why before [] = ⊥
+Holds why before (token ∷ after) = Applies why before token
+
+-- The reason is the lowest code that holds; where none does, it is E3, which names something that is due.
+abbrev pub IsReason : Why → List Token → List Token → Type 0
+IsReason (Expected what) before after = IsDue before what × ((why : Why) → ¬ (Holds why before after))
+IsReason why before after = Holds why before after × ((other : Why) → Holds other before after → code_of why ≤ code_of other)
