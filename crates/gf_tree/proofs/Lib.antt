@@ -1,0 +1,18 @@
+pub mod FilesOfGames
+pub mod FirstUses
+pub mod Games
+mod Groups
+pub mod LearnedGames
+pub mod Learning
+pub mod Prefix
+mod SentencesOnce
+pub mod SpelledGames
+mod SpelledNumbers
+pub mod TreesOnce
+pub mod Uses
+mod Worked
+pub mod WorkedGames
+pub mod WorkedNone
+pub mod WrittenGames
+pub mod WrittenNodes
+pub mod WrittenTokens

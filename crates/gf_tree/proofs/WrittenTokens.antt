@@ -1,0 +1,79 @@
+-- Bytes that spell given tokens: one space stands behind each.
+use Rattle.std.proofs.Common.{◌≡◌, ℕ, ◌+◌, List, [], ◌∷◌, ◌++◌, length, map, refl, ap, append_assoc, arith}
+use Rattle.std.specs.List.{AllByRecursion, flat_map}
+use Rattle.gf_token.specs.Token.{Token, Lexeme, lexeme, spelling}
+use Rattle.gf_token.specs.Token.Token.{Opening, Closing, Comma, Text, Bare, Broken}
+use Rattle.gf_token.specs.TokenSpelling.{IsSpelled, MayPrecede, GoesOn, Spells}
+
+-- a token that is spelled and not broken
+abbrev pub IsWhole : Token → Type 0
+IsWhole Broken = ⊥
+IsWhole t = IsSpelled t
+
+abbrev pub bytes_of : List Token → List ℕ
+bytes_of tokens = flat_map (λ t. spelling t ++ 32 ∷ []) tokens
+
+wider : (ls : List Lexeme) (at : ℕ) (bytes : List ℕ) → Spells (at + 1) bytes ls → Spells at (32 ∷ bytes) ls
+wider [] at bytes h = (refl, h)
+wider (l ∷ ls) at bytes h =
+    let first = h.0 in (
+      record {
+        gap = 32 ∷ first.gap;
+        rest = first.rest;
+        parts = ap (λ (x : List ℕ). 32 ∷ x) first.parts;
+        is_gap = (refl, first.is_gap);
+        is_spelled = first.is_spelled;
+        may_precede = first.may_precede;
+        start = omega (arith, first.start);
+        end = first.end;
+      },
+      h.1,
+    )
+
+is_spelled : (t : Token) → IsWhole t → IsSpelled t
+is_spelled Opening h = tt
+is_spelled Closing h = tt
+is_spelled Comma h = tt
+is_spelled (Text l) h = h
+is_spelled (Bare b) h = h
+is_spelled Broken h = absurd h
+
+precedes_space : (t : Token) (rest : List ℕ) → IsWhole t → MayPrecede t (32 ∷ rest)
+precedes_space Opening rest h = tt
+precedes_space Closing rest h = tt
+precedes_space Comma rest h = tt
+precedes_space (Text l) rest h = tt
+precedes_space (Bare b) rest h = refl
+precedes_space Broken rest h = absurd h
+
+goes_on : (t : Token) (ls : List Lexeme) (A : Type 0) → IsWhole t → A → GoesOn t ls A
+goes_on Opening ls A h a = a
+goes_on Closing ls A h a = a
+goes_on Comma ls A h a = a
+goes_on (Text l) ls A h a = a
+goes_on (Bare b) ls A h a = a
+goes_on Broken ls A h a = absurd h
+
+pub spell : (tokens : List Token) (at : ℕ) → AllByRecursion IsWhole tokens → (lexemes : List Lexeme) × Spells at (bytes_of tokens) lexemes × (map (λ l. l.token) lexemes ≡ tokens)
+spell [] at h = ([], tt, refl)
+spell (t ∷ ts) at h =
+    let end = at + length (spelling t) in
+    let more = spell ts (end + 1) h.1 in
+    let rest = 32 ∷ bytes_of ts in
+    let behind = wider more.0 end (bytes_of ts) more.1 in (
+      lexeme at end t ∷ more.0,
+      (
+        record {
+          gap = [];
+          rest = rest;
+          parts = append_assoc (spelling t) (32 ∷ []) (bytes_of ts);
+          is_gap = tt;
+          is_spelled = is_spelled t h.0;
+          may_precede = precedes_space t (bytes_of ts) h.0;
+          start = omega arith;
+          end = refl;
+        },
+        goes_on t more.0 (Spells end rest more.0) h.0 behind,
+      ),
+      ap (λ (us : List Token). t ∷ us) more.2,
+    )

@@ -1,0 +1,5 @@
+use Rattle.gf_tree.proofs.LearnedGames.{game_learned_once}
+use Rattle.gf_tree.proofs.laws.game_learned_once.Goals as goal
+
+pub returns : goal.returns
+returns c = game_learned_once

@@ -1,0 +1,5 @@
+use Rattle.gf_tree.proofs.WrittenGames.{games_of_files}
+use Rattle.gf_tree.proofs.laws.games_of_files.Goals as goal
+
+pub returns : goal.returns
+returns c = games_of_files

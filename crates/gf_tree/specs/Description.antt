@@ -1,0 +1,53 @@
+-- Information sets and outcomes: what describes them, and by which numbers a file names them.
+use Rattle.std.specs.Prelude.{◌≡◌, ℕ, zero, suc, pos, ◌≤ℤ◌, ◌<◌, ◌≤◌, ◌==◌, ◌&&◌, Bool, List, [], ◌∷◌, length, map, Option, Some, None}
+use Rattle.std.specs.List.{AllByRecursion}
+use Rattle.gf_fraction.specs.Ratio.{Ratio, IsFraction, whole}
+use Rattle.gf_fraction.specs.Fits.{IsSum, SumFits}
+
+-- an action's label, and the probability of chance taking it; a player's action has none
+pub record Action : Type 0 where
+  pub label : List ℕ
+  pub probability : Option Ratio
+
+pub record InformationSet : Type 0 where
+  pub name : List ℕ
+  pub actions : List Action
+
+-- one payoff for each player, in their order
+pub record Outcome : Type 0 where
+  pub name : List ℕ
+  pub payoffs : List Ratio
+
+-- Each player numbers his sets, from 1. Chance is player 0.
+pub record SetKey : Type 0 where
+  pub player : ℕ
+  pub number : ℕ
+
+abbrev pub same_set : SetKey → SetKey → Bool
+same_set a b = a.player == b.player && a.number == b.number
+
+-- added to this sum in their order, probabilities have sums that fit, and the last sum is one; none is negative
+abbrev pub AddToOne : Ratio → List Ratio → Type 0
+AddToOne sum [] = sum ≡ whole (pos 1)
+AddToOne sum (p ∷ ps) = (pos 0 ≤ℤ p.num) × SumFits sum p × ((next : Ratio) × IsFraction next × IsSum next sum p × AddToOne next ps)
+
+-- each action has a probability, and they add to one
+abbrev pub IsLottery : List Action → Type 0
+IsLottery actions = (probabilities : List Ratio) × (map (λ a. a.probability) actions ≡ map Some probabilities) × AddToOne (whole (pos 0)) probabilities
+
+-- the actions of this player, who is chance if he is player 0
+abbrev pub AreActions : ℕ → List Action → Type 0
+AreActions zero actions = IsLottery actions
+AreActions (suc player) actions = AllByRecursion (λ a. a.probability ≡ None) actions
+
+-- among so many players: a set of one of them or of chance, its number from 1, and with at least one action
+pub record IsSet (players : ℕ) (key : SetKey) (set : InformationSet) : Type 0 where
+  pub player : key.player ≤ players
+  pub number : 0 < key.number
+  pub some_action : 0 < length set.actions
+  pub actions : AreActions key.player set.actions
+
+-- an outcome, its number from 1, with a payoff for each player
+pub record IsOutcome (players : ℕ) (number : ℕ) (outcome : Outcome) : Type 0 where
+  pub number_from_one : 0 < number
+  pub one_payoff_each : length outcome.payoffs ≡ players

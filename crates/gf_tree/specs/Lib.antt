@@ -1,0 +1,13 @@
+pub mod Consistent
+pub mod Description
+pub mod FileTree
+pub mod FiniteMap
+pub mod Game
+pub mod GameOf
+pub mod Grown
+pub mod Learned
+pub mod PrefixOrder
+pub mod Sentence
+pub mod Spellable
+pub mod Tree
+pub mod WorkedTrees

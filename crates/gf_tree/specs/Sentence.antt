@@ -1,0 +1,87 @@
+-- Which lists of tokens are extensive files, and what each of them says.
+use Rattle.std.specs.Prelude.{◌≡◌, ℕ, zero, suc, ◌⊎◌, ◌<◌, List, [], ◌∷◌, ◌++◌, length, map, codes, Option, Some, None}
+use Rattle.gf_token.specs.Token.{Token}
+use Rattle.gf_token.specs.Token.Token.{Opening, Closing, Comma, Text, Bare}
+use Rattle.gf_token.specs.Index.{IsIndex}
+use Rattle.gf_fraction.specs.Ratio.{Ratio}
+use Rattle.gf_fraction.specs.NumberSpelling.{IsNumber}
+use Rattle.gf_tree.specs.PrefixOrder.{flatten}
+use Rattle.gf_tree.specs.Description.{Action, InformationSet, Outcome, SetKey}
+use Rattle.gf_tree.specs.FileTree.{Use, FileNode, FileTree}
+
+-- tokens that stand one group behind the other, a group for each of these values
+abbrev pub Each : {A : Type 0} → (List Token → A → Type 0) → List Token → List A → Type 0
+Each P tokens [] = tokens ≡ []
+Each P tokens (x ∷ xs) = (first : List Token) × (others : List Token) × (tokens ≡ first ++ others) × P first x × Each P others xs
+
+-- Opening tokens Closing
+abbrev pub braced : List Token → List Token
+braced tokens = Opening ∷ (tokens ++ Closing ∷ [])
+
+-- [Text]: an absent comment is the empty one
+abbrev pub IsComment : List Token → List ℕ → Type 0
+IsComment tokens comment = ((tokens ≡ []) × (comment ≡ [])) ⊎ (tokens ≡ Text comment ∷ [])
+
+-- an index above 0
+abbrev pub IsPositive : List ℕ → ℕ → Type 0
+IsPositive bytes n = IsIndex bytes n × (0 < n)
+
+-- [Text Opening .. Closing]: a description, or none
+abbrev pub IsDescription : {D : Type 0} → (List Token → D → Type 0) → List Token → Option D → Type 0
+IsDescription P tokens None = tokens ≡ []
+IsDescription P tokens (Some d) = P tokens d
+
+-- Text number, where chance moves, and Text, where a player does
+abbrev pub IsAction : ℕ → List Token → Action → Type 0
+IsAction zero tokens a = (bytes : List ℕ) × (p : Ratio) × (tokens ≡ Text a.label ∷ Bare bytes ∷ []) × IsNumber bytes p × (a.probability ≡ Some p)
+IsAction (suc player) tokens a = (tokens ≡ Text a.label ∷ []) × (a.probability ≡ None)
+
+-- Text Opening action* Closing
+abbrev pub IsInformationSet : ℕ → List Token → InformationSet → Type 0
+IsInformationSet player tokens set = (inner : List Token) × (tokens ≡ Text set.name ∷ braced inner) × Each (IsAction player) inner set.actions
+
+-- chance moves at `c`, and another player at `p`, which has his number behind the node's name
+abbrev pub IsMover : List ℕ → List Token → ℕ → Type 0
+IsMover letter tokens zero = (letter ≡ codes "c") × (tokens ≡ [])
+IsMover letter tokens (suc player) = (bytes : List ℕ) × (letter ≡ codes "p") × (tokens ≡ Bare bytes ∷ []) × IsIndex bytes (suc player)
+
+-- nothing at `t`; else the player, and the number and the description of his set
+abbrev pub IsStep : List ℕ → List Token → Option (Use SetKey InformationSet) → Type 0
+IsStep letter tokens None = (letter ≡ codes "t") × (tokens ≡ [])
+IsStep letter tokens (Some u) =
+    (player : List Token) × (number : List ℕ) × (description : List Token) × (tokens ≡ player ++ Bare number ∷ description)
+    × IsMover letter player u.key.player × IsPositive number u.key.number × IsDescription (IsInformationSet u.key.player) description u.description
+
+-- number [Comma]
+abbrev pub IsPayoff : List Token → Ratio → Type 0
+IsPayoff tokens payoff = (bytes : List ℕ) × (comma : List Token) × (tokens ≡ Bare bytes ∷ comma) × IsNumber bytes payoff × ((comma ≡ []) ⊎ (comma ≡ Comma ∷ []))
+
+-- Text Opening payoffs Closing, a payoff for each player
+abbrev pub IsOutcome : ℕ → List Token → Outcome → Type 0
+IsOutcome players tokens outcome =
+    (inner : List Token) × (tokens ≡ Text outcome.name ∷ braced inner) × Each IsPayoff inner outcome.payoffs × (length outcome.payoffs ≡ players)
+
+-- the number 0 alone; else the number and the description of the outcome
+abbrev pub IsResult : ℕ → List Token → Option (Use ℕ Outcome) → Type 0
+IsResult players tokens None = (bytes : List ℕ) × (tokens ≡ Bare bytes ∷ []) × IsIndex bytes 0
+IsResult players tokens (Some u) =
+    (number : List ℕ) × (description : List Token) × (tokens ≡ Bare number ∷ description) × IsPositive number u.key × IsDescription (IsOutcome players) description u.description
+
+-- letter Text step result
+pub record IsNode (players : ℕ) (tokens : List Token) (n : FileNode) : Type 0 where
+  pub letter : List ℕ
+  pub step : List Token
+  pub result : List Token
+  pub parts : tokens ≡ Bare letter ∷ Text n.name ∷ (step ++ result)
+  pub is_step : IsStep letter step n.set
+  pub is_result : IsResult players result n.outcome
+
+-- `EFG` `2` letter Text players [Text] node*, the nodes in prefix order
+pub record Sentence (tokens : List Token) (f : FileTree) : Type 0 where
+  pub letter : List ℕ
+  pub comment : List Token
+  pub nodes : List Token
+  pub parts : tokens ≡ Bare (codes "EFG") ∷ Bare (codes "2") ∷ Bare letter ∷ Text f.title ∷ (braced (map Text f.players) ++ (comment ++ nodes))
+  pub is_letter : (letter ≡ codes "R") ⊎ (letter ≡ codes "D")
+  pub is_comment : IsComment comment f.comment
+  pub are_nodes : Each (IsNode (length f.players)) nodes (map (λ e. e.node) (flatten f.tree))

@@ -1,0 +1,104 @@
+-- Worked games, with files that mean them, and files that mean none.
+use Rattle.std.specs.Prelude.{ℕ, List, [], ◌∷◌, map, codes, pos, Option, Some, None}
+use Rattle.gf_fraction.specs.Ratio.{Ratio, whole}
+use Rattle.gf_tree.specs.Tree.{Tree, Trees}
+use Rattle.gf_tree.specs.Tree.Tree.{branch}
+use Rattle.gf_tree.specs.Tree.Trees.{none, more}
+use Rattle.gf_tree.specs.Description.{InformationSet, Outcome, SetKey}
+use Rattle.gf_tree.specs.FiniteMap.{Described}
+use Rattle.gf_tree.specs.Game.{Node, Game}
+
+-- the set with this number of this player, who is chance if he is player 0
+abbrev pub set_of : ℕ → ℕ → SetKey
+set_of player number = record { player = player; number = number }
+
+-- a node without a name at a set, and its branches
+abbrev pub moves : SetKey → Option ℕ → Trees Node → Tree Node
+moves key outcome branches = branch (record { name = []; set = Some key; outcome = outcome }) branches
+
+-- a terminal node without a name
+abbrev pub ends : Option ℕ → Tree Node
+ends outcome = branch (record { name = []; set = None; outcome = outcome }) none
+
+-- a player's set with actions of these labels
+abbrev pub choice : List ℕ → List (List ℕ) → InformationSet
+choice name labels = record { name = name; actions = map (λ label. record { label = label; probability = None }) labels }
+
+abbrev pub half : Ratio
+half = record { num = pos 1; den = 2 }
+
+-- heads or tails
+abbrev pub toss : List ℕ → InformationSet
+toss name = record { name = name; actions = record { label = codes "h"; probability = Some half } ∷ record { label = codes "t"; probability = Some half } ∷ [] }
+
+abbrev pub described : {K D : Type 0} → K → D → Described K D
+described key description = record { key = key; description = description }
+
+-- ---- a set of chance met twice on a path, and an outcome used twice
+
+abbrev pub five : Game
+five = record {
+  title = codes "five";
+  comment = [];
+  players = codes "A" ∷ [];
+  tree = moves (set_of 0 9) None (more (moves (set_of 1 7) None (more (moves (set_of 0 9) None (more (ends None) (more (ends None) none))) none)) (more (moves (set_of 1 3) (Some 4) (more (ends (Some 4)) none)) none));
+  sets = described (set_of 0 9) (toss (codes "n")) ∷ described (set_of 1 7) (choice (codes "i") (codes "L" ∷ [])) ∷ described (set_of 1 3) (choice (codes "j") (codes "R" ∷ [])) ∷ [];
+  outcomes = described 4 (record { name = codes "w"; payoffs = record { num = pos 1; den = 10 } ∷ [] }) ∷ [];
+}
+
+-- the set of chance is described again with its probabilities in other spellings
+abbrev pub five_file : List ℕ
+five_file =
+    codes "EFG 2 R \"five\" { \"A\" }\nc \"\" 9 \"n\" { \"h\" 0.5 \"t\" 1/2 } 0\np \"\" 1 7 \"i\" { \"L\" } 0\nc \"\" 9 \"n\" { \"h\" 1/2 \"t\" 0.50 } 0\nt \"\" 0\nt \"\" 0\np \"\" 1 3 \"j\" { \"R\" } 4 \"w\" { 1e-1 }\nt \"\" 4\n"
+
+-- ---- an outcome at an inner node, and a set with two nodes
+
+abbrev pub two_paid : List ℕ → ℕ → ℕ → Outcome
+two_paid name x y = record { name = name; payoffs = whole (pos x) ∷ whole (pos y) ∷ [] }
+
+abbrev pub bonus : Game
+bonus = record {
+  title = codes "g";
+  comment = [];
+  players = codes "A" ∷ codes "B" ∷ [];
+  tree = moves (set_of 0 1) None (more (moves (set_of 1 1) (Some 1) (more (ends (Some 2)) (more (ends None) none))) (more (moves (set_of 1 1) None (more (ends None) (more (ends (Some 3)) none))) none));
+  sets = described (set_of 0 1) (toss (codes "n")) ∷ described (set_of 1 1) (choice (codes "i") (codes "L" ∷ codes "R" ∷ [])) ∷ [];
+  outcomes = described 1 (two_paid (codes "bonus") 1 0) ∷ described 2 (two_paid (codes "x") 2 0) ∷ described 3 (two_paid (codes "y") 3 1) ∷ [];
+}
+
+abbrev pub bonus_file : List ℕ
+bonus_file =
+    codes "EFG 2 R \"g\" { \"A\" \"B\" }\nc \"\" 1 \"n\" { \"h\" 1/2 \"t\" 1/2 } 0\np \"\" 1 1 \"i\" { \"L\" \"R\" } 1 \"bonus\" { 1 0 }\nt \"\" 2 \"x\" { 2 0 }\nt \"\" 0\np \"\" 1 1 0\nt \"\" 0\nt \"\" 3 \"y\" { 3 1 }\n"
+
+-- ---- a player who forgets what he chose
+
+abbrev pub forgetful : Game
+forgetful = record {
+  title = codes "w";
+  comment = [];
+  players = codes "A" ∷ [];
+  tree = moves (set_of 1 1) None (more (moves (set_of 1 2) None (more (ends None) (more (ends None) none))) (more (moves (set_of 1 2) None (more (ends None) (more (ends None) none))) none));
+  sets = described (set_of 1 1) (choice (codes "i") (codes "a" ∷ codes "b" ∷ [])) ∷ described (set_of 1 2) (choice (codes "j") (codes "c" ∷ codes "d" ∷ [])) ∷ [];
+  outcomes = [];
+}
+
+abbrev pub forgetful_file : List ℕ
+forgetful_file = codes "EFG 2 R \"w\" { \"A\" } p \"\" 1 1 \"i\" { \"a\" \"b\" } 0 p \"\" 1 2 \"j\" { \"c\" \"d\" } 0 t \"\" 0 t \"\" 0 p \"\" 1 2 0 t \"\" 0 t \"\" 0"
+
+-- ---- files that mean no game
+
+-- a set that is used first without a description
+abbrev pub undescribed_file : List ℕ
+undescribed_file = codes "EFG 2 R \"m\" { \"A\" } p \"\" 1 1 0 t \"\" 0"
+
+-- a set that is described again with another action
+abbrev pub mismatched_file : List ℕ
+mismatched_file = codes "EFG 2 R \"m\" { \"A\" } p \"\" 1 1 \"i\" { \"L\" } 0 p \"\" 1 1 \"i\" { \"X\" } 0 t \"\" 0"
+
+-- a player's number above the number of players
+abbrev pub unknown_player_file : List ℕ
+unknown_player_file = codes "EFG 2 R \"m\" { \"A\" } p \"\" 2 1 \"i\" { \"L\" } 0 t \"\" 0"
+
+-- probabilities that add to more than one
+abbrev pub too_likely_file : List ℕ
+too_likely_file = codes "EFG 2 R \"m\" { \"A\" } c \"\" 1 \"n\" { \"h\" 0.6 \"t\" 0.6 } 0 t \"\" 0 t \"\" 0"
