@@ -1,0 +1,192 @@
+-- A file tree of each game: each set and each outcome is described at its first use, and not again.
+use Rattle.std.proofs.Common.{◌≡◌, ℕ, zero, suc, ◌+◌, Bool, true, false, List, [], ◌∷◌, ◌++◌, map, Option, None, Some, refl, sym, ap, subst, ◌∙◌, inl, inr, append-nil}
+use Rattle.std.specs.Prelude.{nat_eq, option_map, if◌then◌else◌}
+use Rattle.std.specs.List.{AllByRecursion, filter_map, cons_option, list_any}
+use Rattle.std.proofs.lemmas.Bool.{cases_Bool, or_from}
+use Rattle.std.proofs.lemmas.Bool.Decides.{Decides-eqb}
+use Rattle.std.proofs.lemmas.List.Folds.{list_any-append}
+use Rattle.std.proofs.lemmas.List.Elements.{filter_map-append}
+use Rattle.gf_tree.specs.Tree.{map_tree}
+use Rattle.gf_tree.specs.PrefixOrder.{Entry, flatten, Fills}
+use Rattle.gf_tree.specs.Description.{same_set}
+use Rattle.gf_tree.specs.FiniteMap.{Described, description_at, first_uses}
+use Rattle.gf_tree.specs.FileTree.{Use, FileTree, set_uses, outcome_uses}
+use Rattle.gf_tree.specs.Consistent.{Describes, AreConsistent}
+use Rattle.gf_tree.specs.Game.{Node, Game, IsGame, used_sets, used_outcomes, set_at, outcome_at}
+use Rattle.gf_tree.specs.GameOf.{keys_alone}
+use Rattle.gf_tree.specs.Learned.{Learns, LearnsGame}
+use Rattle.gf_tree.proofs.Prefix.{flatten_once, one_tree, fills_one}
+use Rattle.gf_tree.proofs.Uses.{Has, IsEquality, has, contains, has_map, all_of_each, differ}
+use Rattle.gf_tree.proofs.FirstUses.{AreDistinct, found, is_used, was_used, first_uses_distinct}
+use Rattle.gf_tree.proofs.TreesOnce.{same_set_equality}
+use Rattle.gf_tree.proofs.Games.{map_entry, flatten_map}
+use Rattle.gf_tree.proofs.Learning.{learned_once}
+use Rattle.gf_canon.specs.FirstDescribed.{use_behind, node_behind, entries_behind, file_entries}
+use Rattle.gf_canon.proofs.Lookups.{entry_at}
+
+-- ---- uses
+
+-- the uses of these keys behind those
+abbrev pub uses_behind : {K D : Type 0} → (K → K → Bool) → (K → Option D) → List K → List K → List (Use K D)
+uses_behind same at before [] = []
+uses_behind same at before (key ∷ keys) = use_behind same at before key ∷ uses_behind same at (before ++ key ∷ []) keys
+
+pub uses_keys : {K D : Type 0} (same : K → K → Bool) (at : K → Option D) (before keys : List K) → map (λ u. u.key) (uses_behind same at before keys) ≡ keys
+uses_keys same at before [] = refl
+uses_keys same at before (key ∷ keys) = ap (λ ks. key ∷ ks) (uses_keys same at (before ++ key ∷ []) keys)
+
+-- a key that is none of these is none of these and another
+still_new : {K : Type 0} (same : K → K → Bool) (before : List K) (key k : K) → list_any (same key) before ≡ false → same key k ≡ false → list_any (same key) (before ++ k ∷ []) ≡ false
+still_new same before key k h e = list_any-append (same key) before (k ∷ []) ∙ or_from (list_any (same key) before) (list_any (same key) (k ∷ [])) h (rw e refl)
+
+-- what a use says is what is at its key
+says_at : {K D : Type 0} (same : K → K → Bool) (at : K → Option D) (before : List K) (k key : K) (d : D) → use_behind same at before k ≡ record { key = key; description = Some d } → at key ≡ Some d
+says_at {K} {D} same at before k key d e = go (list_any (same k) before) (ap (λ (u : Use K D). u.description) e)
+  where
+    same_key : k ≡ key
+    same_key = ap (λ (u : Use K D). u.key) e
+
+    go : (b : Bool) → (if b then None else at k) ≡ Some d → at key ≡ Some d
+    go true q = absurd cc
+    go false q = ap at (sym same_key) ∙ q
+
+pub use_says : {K D : Type 0} (same : K → K → Bool) (at : K → Option D) (before keys : List K) (key : K) (d : D) → Has (uses_behind same at before keys) (record { key = key; description = Some d }) → at key ≡ Some d
+use_says same at before [] key d h = absurd h
+use_says same at before (k ∷ keys) key d (inl e) = says_at same at before k key d e
+use_says same at before (k ∷ keys) key d (inr h) = use_says same at (before ++ k ∷ []) keys key d h
+
+-- a new key is described
+new_described : {K D : Type 0} (same : K → K → Bool) → IsEquality same → (at : K → Option D) (before keys : List K) (key : K) (d : D) → Has keys key → at key ≡ Some d → list_any (same key) before ≡ false
+    → Has (uses_behind same at before keys) (record { key = key; description = Some d })
+new_described same equality at before [] key d h e new = absurd h
+new_described {K} {D} same equality at before (k ∷ keys) key d h e new =
+    elim (cases_Bool (same key k)) [
+      | inl q ↦ inl (here ((equality key k).0 q))
+      | inr q ↦ inr (new_described same equality at (before ++ k ∷ []) keys key d (later q h) e (still_new same before key k new q))
+    ]
+  where
+    here : key ≡ k → use_behind same at before k ≡ record { key = key; description = Some d }
+    here q = ap (use_behind same at before) (sym q) ∙ rw new (λ i. record { key = key; description = e i })
+
+    later : same key k ≡ false → Has (k ∷ keys) key → Has keys key
+    later q (inl p) = absurd (differ same equality key k q (sym p))
+    later q (inr m) = m
+
+first_is_described : {K D : Type 0} (same : K → K → Bool) → IsEquality same → (at : K → Option D) (known : List K) → ((k : K) → Has known k → (d : D) × (at k ≡ Some d))
+    → (before keys : List K) (front after : List (Use K D)) (u : Use K D) → ((k : K) → Has keys k → Has known k) → list_any (same u.key) before ≡ false → uses_behind same at before keys ≡ front ++ u ∷ after
+    → AllByRecursion (λ v. ¬ (v.key ≡ u.key)) front → (d : D) × (u.description ≡ Some d)
+first_is_described same equality at known at_known before [] [] after u among new e first = absurd cc
+first_is_described same equality at known at_known before [] (v ∷ front) after u among new e first = absurd cc
+first_is_described {K} {D} same equality at known at_known before (k ∷ keys) [] after u among new e first =
+    let is : use_behind same at before k ≡ u = cc in
+    let key : k ≡ u.key = ap (λ (v : Use K D). v.key) is in
+    let d = at_known k (among k (inl refl)) in
+    let fresh : list_any (same k) before ≡ false = ap (λ x. list_any (same x) before) key ∙ new in
+    (d.0, ap (λ (v : Use K D). v.description) (sym is) ∙ rw fresh d.1)
+first_is_described {K} {D} same equality at known at_known before (k ∷ keys) (v ∷ front) after u among new e first =
+    let is : use_behind same at before k ≡ v = cc in
+    let rest : uses_behind same at (before ++ k ∷ []) keys ≡ front ++ u ∷ after = cc in
+    let key : k ≡ v.key = ap (λ (w : Use K D). w.key) is in
+    let other : same u.key k ≡ false = elim (cases_Bool (same u.key k)) [ inl q ↦ absurd (first.0 (sym key ∙ sym ((equality u.key k).0 q))) | inr q ↦ q ] in
+    first_is_described same equality at known at_known (before ++ k ∷ []) keys front after u (λ j m. among j (inr m)) (still_new same before u.key k new other) rest first.1
+
+pub uses_consistent : {K D : Type 0} (same : K → K → Bool) → IsEquality same → (at : K → Option D) (keys : List K) → ((k : K) → Has keys k → (d : D) × (at k ≡ Some d)) → AreConsistent (uses_behind same at [] keys)
+uses_consistent same equality at keys known = record {
+  first_described = λ front after u e first. first_is_described same equality at keys known [] keys front after u (λ k m. m) refl e first;
+  described_alike = λ key c d h k.
+      let p = use_says same at [] keys key c (has (uses_behind same at [] keys) (record { key = key; description = Some c }) h) in
+      let q = use_says same at [] keys key d (has (uses_behind same at [] keys) (record { key = key; description = Some d }) k) in
+      cc;
+}
+
+pub key_described : {K D : Type 0} (same : K → K → Bool) → IsEquality same → (at : K → Option D) (keys : List K) (key : K) (d : D) → Has keys key → at key ≡ Some d → Describes (uses_behind same at [] keys) key d
+key_described same equality at keys key d h e = contains (uses_behind same at [] keys) (record { key = key; description = Some d }) (new_described same equality at [] keys key d h e refl)
+
+-- ---- entries
+
+same_keys : {K D : Type 0} (use_of : K → Use K D) → ((k : K) → (use_of k).key ≡ k) → (o : Option K) → option_map (λ u. u.key) (option_map use_of o) ≡ o
+same_keys use_of h None = refl
+same_keys use_of h (Some k) = ap Some (h k)
+
+option_keys : {K D : Type 0} (use_of : K → Use K D) → ((k : K) → (use_of k).key ≡ k) → (o : Option K) → option_map (λ u. u.key) (option_map use_of o) ≡ o
+option_keys use_of h None = refl
+option_keys use_of h (Some k) = ap Some (h k)
+
+node_keys : (g : Game) (before : List (Entry Node)) (n : Node) → keys_alone (node_behind g before n) ≡ n
+node_keys g before n =
+    let set = option_keys (use_behind same_set (set_at g) (filter_map (λ (e : Entry Node). e.node.set) before)) (λ k. refl) n.set in
+    let outcome = option_keys (use_behind nat_eq (outcome_at g) (filter_map (λ (e : Entry Node). e.node.outcome) before)) (λ k. refl) n.outcome in
+    λ i. record { name = n.name; set = set i; outcome = outcome i }
+
+entries_keys : (g : Game) (before es : List (Entry Node)) → map (map_entry keys_alone) (entries_behind g before es) ≡ es
+entries_keys g before [] = refl
+entries_keys g before (e ∷ es) = λ i. record { node = node_keys g before e.node i; children = e.children } ∷ entries_keys g (before ++ e ∷ []) es i
+
+entries_fill : (g : Game) (before es : List (Entry Node)) (due : ℕ) → Fills due es → Fills due (entries_behind g before es)
+entries_fill g before [] zero h = h
+entries_fill g before [] (suc due) h = h
+entries_fill g before (e ∷ es) zero h = h
+entries_fill g before (e ∷ es) (suc due) h = entries_fill g (before ++ e ∷ []) es (e.children + due) h
+
+-- the uses of the entries
+used_behind : {K D : Type 0} (same : K → K → Bool) (at : K → Option D) (o : Option K) (before rest : List K) → cons_option (option_map (use_behind same at before) o) (uses_behind same at (before ++ cons_option o []) rest) ≡ uses_behind same at before (cons_option o rest)
+used_behind same at None before rest = ap (λ ks. uses_behind same at ks rest) (append-nil before)
+used_behind same at (Some k) before rest = refl
+
+set_uses_are : (g : Game) (before es : List (Entry Node))
+    → set_uses (entries_behind g before es) ≡ uses_behind same_set (set_at g) (filter_map (λ e. e.node.set) before) (filter_map (λ e. e.node.set) es)
+set_uses_are g before [] = refl
+set_uses_are g before (e ∷ es) =
+    let sets = filter_map (λ (d : Entry Node). d.node.set) in
+    ap (cons_option (option_map (use_behind same_set (set_at g) (sets before)) e.node.set))
+    (set_uses_are g (before ++ e ∷ []) es ∙ ap (λ ks. uses_behind same_set (set_at g) ks (sets es)) (filter_map-append (λ (d : Entry Node). d.node.set) before (e ∷ [])))
+    ∙ used_behind same_set (set_at g) e.node.set (sets before) (sets es)
+
+outcome_uses_are : (g : Game) (before es : List (Entry Node))
+    → outcome_uses (entries_behind g before es) ≡ uses_behind nat_eq (outcome_at g) (filter_map (λ e. e.node.outcome) before) (filter_map (λ e. e.node.outcome) es)
+outcome_uses_are g before [] = refl
+outcome_uses_are g before (e ∷ es) =
+    let outcomes = filter_map (λ (d : Entry Node). d.node.outcome) in
+    ap (cons_option (option_map (use_behind nat_eq (outcome_at g) (outcomes before)) e.node.outcome))
+    (outcome_uses_are g (before ++ e ∷ []) es ∙ ap (λ ks. uses_behind nat_eq (outcome_at g) ks (outcomes es)) (filter_map-append (λ (d : Entry Node). d.node.outcome) before (e ∷ [])))
+    ∙ used_behind nat_eq (outcome_at g) e.node.outcome (outcomes before) (outcomes es)
+
+-- ---- the file tree
+
+-- what is learned of these uses
+learned : {K D : Type 0} (same : K → K → Bool) → IsEquality same → (keys : List K) (es : List (Described K D)) → map (λ e. e.key) es ≡ first_uses same keys → Learns same [] (uses_behind same (description_at same es) [] keys) es
+learned {K} {D} same equality keys es q =
+    (learned_once same equality (uses_behind same (description_at same es) [] keys) es).1 (
+      uses_consistent same equality (description_at same es) keys known,
+      q ∙ ap (first_uses same) (sym (uses_keys same (description_at same es) [] keys)),
+      all_of_each (λ (e : Described K D). Describes (uses_behind same (description_at same es) [] keys) e.key e.description) es entry,
+    )
+  where
+    known : (k : K) → Has keys k → (d : D) × (description_at same es k ≡ Some d)
+    known k h = let f = found same equality es k (subst (λ ks. Has ks k) (sym q) (is_used same equality keys k h)) in (f.description, f.is_at)
+
+    entry : (e : Described K D) → Has es e → Describes (uses_behind same (description_at same es) [] keys) e.key e.description
+    entry e h =
+        let used = was_used same keys e.key (subst (λ ks. Has ks e.key) q (has_map (λ (d : Described K D). d.key) es e h)) in
+        key_described same equality (description_at same es) keys e.key e.description used (entry_at same equality es e (subst AreDistinct (sym q) (first_uses_distinct same equality keys)) h)
+
+pub file_of : (g : Game) → IsGame g → (f : FileTree) × LearnsGame f g × (flatten f.tree ≡ file_entries g)
+file_of g game =
+    let tree = one_tree (file_entries g) (entries_fill g [] (flatten g.tree) 1 (fills_one g.tree)) in
+    let f : FileTree = record { title = g.title; comment = g.comment; players = g.players; tree = tree.0 } in
+    let sets = learned same_set same_set_equality (used_sets g.tree) g.sets game.one_entry_each_set in
+    let outcomes = learned nat_eq Decides-eqb (used_outcomes g.tree) g.outcomes game.one_entry_each_outcome in (
+      f,
+      record {
+        title = refl;
+        comment = refl;
+        players = refl;
+        tree = flatten_once (map_tree keys_alone tree.0) g.tree (flatten_map keys_alone tree.0 ∙ ap (map (map_entry keys_alone)) tree.1 ∙ entries_keys g [] (flatten g.tree));
+        sets = subst (λ us. Learns same_set [] us g.sets) (sym (ap set_uses tree.1 ∙ set_uses_are g [] (flatten g.tree))) sets;
+        outcomes = subst (λ us. Learns nat_eq [] us g.outcomes) (sym (ap outcome_uses tree.1 ∙ outcome_uses_are g [] (flatten g.tree))) outcomes;
+        each_set = game.each_set;
+        each_outcome = game.each_outcome;
+        children = game.children;
+      },
+      tree.1,
+    )

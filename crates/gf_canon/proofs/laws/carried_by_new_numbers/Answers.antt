@@ -1,0 +1,5 @@
+use Rattle.gf_canon.proofs.CanonicalGames.{carried_by_new_numbers}
+use Rattle.gf_canon.proofs.laws.carried_by_new_numbers.Goals as goal
+
+pub returns : goal.returns
+returns c = carried_by_new_numbers

@@ -1,0 +1,8 @@
+use Rattle.gf_canon.proofs.SameGames.{only_sets, only_outcomes}
+use Rattle.gf_canon.proofs.laws.one_renumbering.Goals as goal
+
+pub returns-clause-sets : goal.returns-clause-sets
+returns-clause-sets c = only_sets
+
+pub returns-clause-outcomes : goal.returns-clause-outcomes
+returns-clause-outcomes c = only_outcomes

@@ -1,0 +1,8 @@
+use Rattle.gf_canon.proofs.Unnamed.{same_is_so_aside, equal_texts_aside}
+use Rattle.gf_canon.proofs.laws.same_aside_names.Goals as goal
+
+pub returns-clause-aside : goal.returns-clause-aside
+returns-clause-aside c = same_is_so_aside
+
+pub returns-clause-equal : goal.returns-clause-equal
+returns-clause-equal c = equal_texts_aside

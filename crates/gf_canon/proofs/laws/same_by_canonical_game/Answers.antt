@@ -1,0 +1,9 @@
+use Rattle.gf_canon.proofs.CanonicalGames.{same_by_canonical}
+use Rattle.gf_canon.proofs.Files.{same_by_canonical_file}
+use Rattle.gf_canon.proofs.laws.same_by_canonical_game.Goals as goal
+
+pub returns-clause-games : goal.returns-clause-games
+returns-clause-games c = same_by_canonical
+
+pub returns-clause-files : goal.returns-clause-files
+returns-clause-files c = same_by_canonical_file

@@ -1,0 +1,34 @@
+-- Numbers in order of first use, in prefix order.
+use Rattle.std.specs.Prelude.{ℕ, nat_eq, ◌==◌, Bool, List, [], ◌∷◌, length, if◌then◌else◌}
+use Rattle.std.specs.List.{filter}
+use Rattle.gf_tree.specs.Description.{SetKey, same_set}
+use Rattle.gf_tree.specs.FiniteMap.{first_uses}
+use Rattle.gf_tree.specs.Game.{Game, used_sets, used_outcomes}
+use Rattle.gf_canon.specs.Renumbering.{Renumbering}
+
+-- the uses through the first one of this key
+abbrev pub through_first_use : {K : Type 0} → (K → K → Bool) → K → List K → List K
+through_first_use same key [] = []
+through_first_use same key (used ∷ uses) = used ∷ (if same used key then [] else through_first_use same key uses)
+
+-- how many different keys are used until then
+abbrev pub first_use_number : {K : Type 0} → (K → K → Bool) → List K → K → ℕ
+first_use_number same uses key = length (first_uses same (through_first_use same key uses))
+
+-- the uses of a player's sets
+abbrev pub sets_of : ℕ → List SetKey → List SetKey
+sets_of player uses = filter (λ key. key.player == player) uses
+
+-- the number of each player's set, chance's too, among that player's sets, and that of each outcome
+abbrev pub first_use_numbers : Game → Renumbering
+first_use_numbers g = record {
+  set = λ player number. first_use_number same_set (sets_of player (used_sets g.tree)) (record { player = player; number = number });
+  outcome = λ number. first_use_number nat_eq (used_outcomes g.tree) number;
+}
+
+-- a player's sets in order of first use, and the outcomes
+abbrev pub player_sets : Game → ℕ → List SetKey
+player_sets g player = first_uses same_set (sets_of player (used_sets g.tree))
+
+abbrev pub game_outcomes : Game → List ℕ
+game_outcomes g = first_uses nat_eq (used_outcomes g.tree)

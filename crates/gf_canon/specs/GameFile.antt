@@ -1,0 +1,44 @@
+-- Game files of both kinds: when they mean the same, and their canonical text.
+use Rattle.std.specs.Prelude.{ℕ, List}
+use Rattle.gf_nfg.specs.Table.{Table, IsTable}
+use Rattle.gf_nfg.specs.SameTable.{SameTable}
+use Rattle.gf_nfg.specs.TableText.{table_text, SpellsTable}
+use Rattle.gf_tree.specs.Game.{Game, IsGame}
+use Rattle.gf_tree.specs.GameOf.{SpellsGame}
+use Rattle.gf_canon.specs.SameGame.{SameGame}
+use Rattle.gf_canon.specs.CanonicalGame.{canonical_game}
+use Rattle.gf_canon.specs.GameText.{game_text}
+
+-- what a file means
+pub data GameFile : Type 0 where
+  extensive : Game → GameFile
+  strategic : Table → GameFile
+
+abbrev pub IsGameFile : GameFile → Type 0
+IsGameFile (extensive g) = IsGame g
+IsGameFile (strategic t) = IsTable t
+
+-- these bytes mean it
+abbrev pub SpellsFile : List ℕ → GameFile → Type 0
+SpellsFile bytes (extensive g) = SpellsGame bytes g
+SpellsFile bytes (strategic t) = SpellsTable bytes t
+
+-- a game and a table never are the same
+abbrev pub SameFile : GameFile → GameFile → Type 0
+SameFile (extensive g) (extensive h) = SameGame g h
+SameFile (strategic t) (strategic u) = SameTable t u
+SameFile _ _ = ⊥
+
+-- a table has no numbers of sets or outcomes
+abbrev pub canonical_file : GameFile → GameFile
+canonical_file (extensive g) = extensive (canonical_game g)
+canonical_file (strategic t) = strategic t
+
+-- by the numbers that it has
+abbrev pub file_text : GameFile → List ℕ
+file_text (extensive g) = game_text g
+file_text (strategic t) = table_text t
+
+-- by its first-use numbers
+abbrev pub canonical_text : GameFile → List ℕ
+canonical_text x = file_text (canonical_file x)
