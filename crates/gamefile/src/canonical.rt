@@ -10,16 +10,18 @@ use std::alloc::Global;
 /// The canonical text of the strategic file that bytes spell.
 ///
 /// Refused as `read_nfg` refuses them; and with `Memory` at the end where memory for the text is refused.
-pub fn canonical(alloc: Global, input: &[u8]) -> Result<Vec<u8>, Fault>
-    ensures text { IfOk result (λ text. IsCanonicalText input.now text.items) }
-    ensures refused { IfErr result (λ fault. IsRefusal input.now fault) }
+pub fn canonical(alloc: Global, input: Vec<u8>) -> Result<Vec<u8>, Fault>
+    ensures text { IfOk result (λ text. IsCanonicalText input.items text.items) }
+    ensures refused { IfErr result (λ fault. IsRefusal input.items fault) }
 {
-    let table = read_nfg(alloc, input)?;
+    let end = input.len();
+    let table = read_nfg(alloc, &input)?;
+    // The table keeps nothing of the input, whose memory the text can have.
+    drop(input);
     let mut text = Vec::new(alloc);
     match write_nfg(&table, &mut text) {
         Ok(()) => Ok(text),
         Err(error) => {
-            let end = input.len();
             let span = Span { start: end, end };
             let why = error.into();
             Err(Fault { span, why })

@@ -40,7 +40,7 @@ pub fn run_canon<R: Source, W: Sink>(
         (IsWriteFault W.contents W.count W.push_gives output.old output.new) }
 {
     let bytes = load(alloc, input, Which::Only)?;
-    let text = canonical(alloc, bytes.as_slice()).map_err(|fault| RunFault::Refused {
+    let text = canonical(alloc, bytes).map_err(|fault| RunFault::Refused {
         which: Which::Only,
         fault,
     })?;
