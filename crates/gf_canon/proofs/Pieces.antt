@@ -15,10 +15,10 @@ use Rattle.gf_fraction.proofs.Divisors.{IsGcd-one_right}
 use Rattle.gf_nfg.specs.TableText.{spaced, list_text, quoted}
 use Rattle.gf_nfg.proofs.BackLists.{all_both}
 use Rattle.gf_nfg.proofs.SpelledTexts.{Says, says_label, says_bare, says_spaced, says_list}
-use Rattle.gf_nfg.proofs.SpelledNumbers.{number_spelled}
+use Rattle.gf_token.proofs.SpelledNumbers.{number_spelled}
 use Rattle.gf_tree.specs.Description.{Action, SetKey, InformationSet, Outcome, IsSet, IsOutcome}
 use Rattle.gf_tree.specs.FileTree.{Use, FileNode}
-use Rattle.gf_tree.specs.Sentence.{braced}
+use Rattle.gf_token.specs.Grammar.{braced}
 use Rattle.gf_tree.specs.Spellable.{IsLabel, IsSpellableAction, IsSpellableSet, IsSpellableOutcome}
 use Rattle.gf_tree.proofs.WrittenNodes.{action_tokens, set_tokens, outcome_tokens, mover_letter, mover_tokens, letter, step_tokens, result_tokens, node_tokens, IsSetUse, IsOutcomeUse, IsWritable}
 use Rattle.gf_canon.specs.GameText.{action_fields, set_fields, outcome_fields, described_fields, mover_fields, step_fields, result_fields, node_text}

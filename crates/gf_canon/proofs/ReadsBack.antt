@@ -11,7 +11,8 @@ use Rattle.gf_nfg.proofs.SpelledTexts.{Tells, Says, says_label, says_bare, says_
 use Rattle.gf_tree.specs.PrefixOrder.{Entry, flatten}
 use Rattle.gf_tree.specs.Description.{SetKey, InformationSet, Outcome, same_set, IsSet, IsOutcome}
 use Rattle.gf_tree.specs.FileTree.{FileNode, FileTree}
-use Rattle.gf_tree.specs.Sentence.{Each, braced, IsNode, Sentence}
+use Rattle.gf_token.specs.Grammar.{Each, braced}
+use Rattle.gf_tree.specs.Sentence.{IsNode, Sentence}
 use Rattle.gf_tree.specs.Game.{Node, Game, IsGame, used_sets, used_outcomes, set_at, outcome_at}
 use Rattle.gf_tree.specs.Consistent.{IsConsistent}
 use Rattle.gf_tree.specs.GameOf.{IsGameOf, SpellsGame}

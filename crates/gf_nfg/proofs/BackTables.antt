@@ -6,25 +6,21 @@ use Rattle.std.proofs.lemmas.List.Concat.{flat_map_single}
 use Rattle.gf_token.specs.LabelSpelling.{is_spelling}
 use Rattle.gf_token.specs.Token.{Token}
 use Rattle.gf_token.specs.Token.Token.{Text, Bare}
+use Rattle.gf_token.specs.Grammar.{Each, braced}
+use Rattle.gf_token.proofs.Grammar.{each_group}
+use Rattle.gf_token.proofs.SpelledNumbers.{number_spelled}
 use Rattle.gf_fraction.specs.Ratio.{Ratio, IsFraction}
 use Rattle.gf_fraction.specs.NumberText.{number_text}
 use Rattle.gf_fraction.proofs.Texts.{written_is_read}
 use Rattle.gf_nfg.specs.Table.{Table, IsTable, IsSpellable, rows}
-use Rattle.gf_nfg.specs.Sentence.{Each, braced, IsLabelList, IsPayoff, IsPayoffBody, Sentence}
+use Rattle.gf_nfg.specs.Sentence.{IsLabelList, IsPayoff, IsPayoffBody, Sentence}
 use Rattle.gf_nfg.specs.TableText.{spaced, list_text, quoted, table_text, SpellsTable}
 use Rattle.gf_nfg.specs.SameTable.{SameTable}
 use Rattle.gf_nfg.proofs.PlacesLed.{spells_one_table}
 use Rattle.gf_nfg.proofs.SpelledTexts.{Tells, Says, says_label, says_bare, says_both, says_spaced, says_list, tells_line, tells_lines}
-use Rattle.gf_nfg.proofs.SpelledNumbers.{number_spelled}
 use Rattle.gf_nfg.proofs.SpelledTables.{spelled_is_spellable}
 use Rattle.gf_nfg.proofs.BackLists.{all_weaker, all_parts, all_lists}
 use Rattle.gf_nfg.proofs.BackSame.{same_is_equal}
-
--- ---- groups of tokens
-
-each_group : {X : Type 0} (P : List Token → X → Type 0) (g : X → List Token) (xs : List X) → AllByRecursion (λ x. P (g x) x) xs → Each P (flat_map g xs) xs
-each_group P g [] h = refl
-each_group P g (x ∷ xs) h = (g x, flat_map g xs, refl, h.0, each_group P g xs h.1)
 
 -- ---- lists of labels
 

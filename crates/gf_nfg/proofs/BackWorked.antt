@@ -3,20 +3,20 @@ use Rattle.std.proofs.Common.{◌≡◌, ℕ, pos, ◌^◌, ◌<◌, List, [], �
 use Rattle.std.specs.Prelude.{◌⊎◌, codes, decimal}
 use Rattle.std.specs.List.{AllByRecursion, flat_map}
 use Rattle.std.specs.Fmt.{digits}
-use Rattle.std.proofs.lemmas.Fmt.{decimal_is_IsNumeral}
 use Rattle.gf_token.specs.Token.{Token}
 use Rattle.gf_token.specs.Token.Token.{Comma, Text, Bare}
 use Rattle.gf_token.specs.Lexing.{lex}
 use Rattle.gf_token.specs.Lexing.Mode.{Gap}
-use Rattle.gf_token.specs.Index.{IsIndex}
+use Rattle.gf_token.specs.Grammar.{Each, braced, IsPayoffInBraces}
 use Rattle.gf_token.proofs.Spelled.{found}
+use Rattle.gf_token.proofs.SpelledNumbers.{decimal_is_index}
 use Rattle.gf_fraction.specs.Ratio.{Ratio, IsFraction, whole}
 use Rattle.gf_fraction.specs.NumberSpelling.{IsNumber}
 use Rattle.gf_fraction.specs.NumberText.{number_text}
 use Rattle.gf_fraction.proofs.Divisors.{IsGcd-one_right}
 use Rattle.gf_fraction.proofs.Texts.{written_is_read}
 use Rattle.gf_nfg.specs.Table.{IsTable, rows}
-use Rattle.gf_nfg.specs.Sentence.{Each, braced, IsCount, IsPayoffInBraces, IsOutcome, Pays, IsOutcomeNumber, Sentence}
+use Rattle.gf_nfg.specs.Sentence.{IsCount, IsOutcome, Pays, IsOutcomeNumber, Sentence}
 use Rattle.gf_nfg.specs.TableText.{table_text, SpellsTable}
 use Rattle.gf_nfg.specs.WorkedTables.{selten, selten_by_counts, selten_by_outcomes, selten_text, no_players, no_players_text}
 use Rattle.gf_nfg.specs.Profiles.{positions}
@@ -32,9 +32,6 @@ pub text_of_no_players : table_text no_players ≡ no_players_text
 text_of_no_players = refl
 
 -- ---- files
-
-index : (n : ℕ) → n < 2 ^ 32 → IsIndex (decimal n) n
-index n h = let d = decimal_is_IsNumeral n (omega arith) in (d.0, d.1, h)
 
 small : (n : ℕ) → n < 2 ^ 127 → IsFraction (whole (pos n))
 small n h = record { den_above_zero = omega arith; den_within = omega arith; num_within = h; lowest = IsGcd-one_right n }
@@ -69,8 +66,8 @@ are_counts = (
   Bare (codes "3") ∷ [],
   _,
   refl,
-  (codes "3", 3, refl, index 3 (omega arith), refl),
-  (Bare (codes "2") ∷ [], [], refl, (codes "2", 2, refl, index 2 (omega arith), refl), refl),
+  (codes "3", 3, refl, decimal_is_index 3 (omega arith), refl),
+  (Bare (codes "2") ∷ [], [], refl, (codes "2", 2, refl, decimal_is_index 2 (omega arith), refl), refl),
 )
 
 two : (x y : ℕ) → x < 2 ^ 127 → y < 2 ^ 127 → AllByRecursion IsFraction (whole (pos x) ∷ whole (pos y) ∷ [])
@@ -179,7 +176,7 @@ are_outcomes = (
 )
 
 is_chosen : (k : ℕ) (row : List Ratio) → k < 2 ^ 32 → Pays 2 (rows selten) k row → IsOutcomeNumber 2 (rows selten) (Bare (decimal k) ∷ []) row
-is_chosen k row h pays = (decimal k, k, refl, index k h, pays)
+is_chosen k row h pays = (decimal k, k, refl, decimal_is_index k h, pays)
 
 are_chosen : Each (IsOutcomeNumber 2 (rows selten)) numbers (rows selten)
 are_chosen = (

@@ -33,6 +33,5 @@ pub mod RunsPayoffs
 pub mod RunsRows
 pub mod RunsSentence
 pub mod RunsStrategies
-pub mod SpelledNumbers
 pub mod SpelledTables
 pub mod SpelledTexts

@@ -4,9 +4,10 @@ use Rattle.std.specs.Prelude.{◌⊎◌}
 use Rattle.std.specs.List.{AllByRecursion}
 use Rattle.gf_token.specs.Token.{Token}
 use Rattle.gf_token.specs.Token.Token.{Opening, Closing, Text, Bare}
+use Rattle.gf_token.specs.Grammar.{Each, braced, IsComment}
 use Rattle.gf_fraction.specs.Ratio.{Ratio}
 use Rattle.gf_nfg.specs.declared.position.Position.TheVariants as p
-use Rattle.gf_nfg.specs.Sentence.{Each, IsPayoff, IsOutcome, IsComment, braced}
+use Rattle.gf_nfg.specs.Sentence.{IsPayoff, IsOutcome}
 use Rattle.gf_nfg.specs.Machine.{Content, at, run, with_comment, with_payoffs, with_choices}
 use Rattle.gf_nfg.proofs.MeaningLists.{joined}
 use Rattle.gf_nfg.proofs.RunsPayoffs.{flat_found, flat_again}

@@ -8,10 +8,11 @@ use Rattle.gf_token.specs.Token.{Token}
 use Rattle.gf_token.specs.Token.Token.{Opening, Closing, Text, Bare}
 use Rattle.gf_token.specs.Index.{IsIndex}
 use Rattle.gf_token.specs.declared.fault.Why.{Why}
+use Rattle.gf_token.specs.Grammar.{Each, braced, IsPayoffInBraces}
 use Rattle.gf_fraction.specs.Ratio.{Ratio}
 use Rattle.gf_nfg.specs.declared.position.Position.TheVariants as p
 use Rattle.gf_nfg.specs.Readings.{index_of}
-use Rattle.gf_nfg.specs.Sentence.{Each, IsPayoffInBraces, IsOutcome, braced}
+use Rattle.gf_nfg.specs.Sentence.{IsOutcome}
 use Rattle.gf_nfg.specs.Machine.{State, Content, at, run, chosen, with_payoffs, with_choices, next_outcome, ◌>>=◌}
 use Rattle.gf_nfg.proofs.ReadingIndices.{index_is, index_again}
 use Rattle.gf_nfg.proofs.MeaningLists.{joined}

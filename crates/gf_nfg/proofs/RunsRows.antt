@@ -4,8 +4,9 @@ use Rattle.std.specs.List.{AllByRecursion}
 use Rattle.std.proofs.Math.Nat.{mul-suc}
 use Rattle.std.proofs.lemmas.Option.{slice_get_within}
 use Rattle.gf_token.specs.Token.{Token}
+use Rattle.gf_token.specs.Grammar.{Each}
 use Rattle.gf_fraction.specs.Ratio.{Ratio}
-use Rattle.gf_nfg.specs.Sentence.{Each, IsPayoff, IsOutcome, IsOutcomeNumber, Pays}
+use Rattle.gf_nfg.specs.Sentence.{IsPayoff, IsOutcome, IsOutcomeNumber, Pays}
 use Rattle.gf_nfg.specs.TableParts.{row_of}
 use Rattle.gf_nfg.proofs.MeaningLists.{joined, get-joined}
 use Rattle.gf_nfg.proofs.MeaningTables.{rows_of}

@@ -5,11 +5,12 @@ use Rattle.std.specs.List.{AllByRecursion}
 use Rattle.std.proofs.lemmas.List.{length-map}
 use Rattle.gf_token.specs.Token.{Token}
 use Rattle.gf_token.specs.Token.Token.{Opening, Closing, Text, Bare}
+use Rattle.gf_token.specs.Grammar.{Each, braced, IsComment}
 use Rattle.gf_fraction.specs.Ratio.{Ratio}
 use Rattle.gf_nfg.specs.declared.position.Position.TheVariants as p
 use Rattle.gf_nfg.specs.Profiles.{positions, profiles, product}
 use Rattle.gf_nfg.specs.Table.{Table, IsTable, rows}
-use Rattle.gf_nfg.specs.Sentence.{Each, Sentence, IsStrategies, IsComment, IsPayoff, IsOutcome, IsPayoffBody, IsOutcomeBody, IsOutcomeNumber, IsCount, IsLabelList, braced, counted_labels}
+use Rattle.gf_nfg.specs.Sentence.{Sentence, IsStrategies, IsPayoff, IsOutcome, IsPayoffBody, IsOutcomeBody, IsOutcomeNumber, IsCount, IsLabelList, counted_labels}
 use Rattle.gf_nfg.specs.Machine.{Content, at, run, start}
 use Rattle.gf_nfg.specs.TableParts.{entries_of, row_of}
 use Rattle.gf_nfg.specs.Meaning.{strategies_of, rows_by, table_of, HasPayoffs, HasLabels, IsComplete}

@@ -7,10 +7,11 @@ use Rattle.std.proofs.lemmas.List.{append-nil, length-append}
 use Rattle.gf_token.specs.Token.{Token}
 use Rattle.gf_token.specs.Token.Token.{Opening, Closing, Text, Bare}
 use Rattle.gf_token.specs.declared.fault.Why.{Why}
+use Rattle.gf_token.specs.Grammar.{Each, braced}
 use Rattle.gf_nfg.specs.declared.position.Position.TheVariants as p
 use Rattle.gf_nfg.specs.Profiles.{product}
 use Rattle.gf_nfg.specs.Readings.{count_of}
-use Rattle.gf_nfg.specs.Sentence.{Each, IsCount, IsLabelList, braced, counted_labels}
+use Rattle.gf_nfg.specs.Sentence.{IsCount, IsLabelList, counted_labels}
 use Rattle.gf_nfg.specs.Machine.{State, Content, at, run, counted, listed, opened, with_count, with_labels, ◌>>=◌}
 use Rattle.gf_nfg.proofs.ReadingIndices.{count_is, count_again}
 use Rattle.gf_nfg.proofs.MeaningLists.{joined, length-counted_labels}

@@ -6,36 +6,21 @@ use Rattle.std.specs.Str.Parse.{AllDigits}
 use Rattle.std.proofs.lemmas.Bool.Decides.{nat_tests}
 use Rattle.std.proofs.lemmas.Fmt.{decimal_is_IsNumeral_wide}
 use Rattle.gf_token.specs.LabelSpelling.{is_spelling, is_spelling_after}
-use Rattle.gf_token.specs.Token.{Token, Lexeme}
-use Rattle.gf_token.specs.Token.Token.{Opening, Closing, Comma, Text, Bare, Broken}
-use Rattle.gf_token.specs.TokenSpelling.{IsSpelled, GoesOn, Spells}
+use Rattle.gf_token.specs.Token.{Token}
+use Rattle.gf_token.specs.Token.Token.{Closing, Text}
+use Rattle.gf_token.specs.TokenSpelling.{IsSpelled}
+use Rattle.gf_token.specs.Grammar.{Each, braced, IsComment, IsPayoffInBraces}
+use Rattle.gf_token.proofs.SpelledTokens.{AllSpelled, all_spelled}
 use Rattle.gf_fraction.specs.Ratio.{Ratio, IsFraction, whole}
 use Rattle.gf_fraction.proofs.Divisors.{IsGcd-one_right}
 use Rattle.gf_nfg.specs.Profiles.{numbers_from}
 use Rattle.gf_nfg.specs.Table.{Table, IsTable, IsSpellable, rows}
-use Rattle.gf_nfg.specs.Sentence.{Each, braced, IsCount, IsLabelList, IsComment, IsPayoff, IsPayoffInBraces, IsOutcome, Pays, IsOutcomeNumber, IsPayoffBody, IsOutcomeBody, Sentence}
+use Rattle.gf_nfg.specs.Sentence.{IsCount, IsLabelList, IsPayoff, IsOutcome, Pays, IsOutcomeNumber, IsPayoffBody, IsOutcomeBody, Sentence}
 use Rattle.gf_nfg.specs.TableText.{SpellsTable}
 use Rattle.gf_nfg.proofs.BackLists.{all_parts, all_both, all_joined, all_mapped}
 
 abbrev IsLabel : List ℕ → Type 0
 IsLabel label = is_spelling label ≡ true
-
-abbrev AllSpelled : List Token → Type 0
-AllSpelled tokens = AllByRecursion IsSpelled tokens
-
--- ---- the tokens of a text
-
-on_spelled : (t : Token) (others : List Lexeme) (A : Type 0) → (A → AllSpelled (map (λ l. l.token) others)) → GoesOn t others A → AllSpelled (map (λ l. l.token) others)
-on_spelled Opening others A f g = f g
-on_spelled Closing others A f g = f g
-on_spelled Comma others A f g = f g
-on_spelled (Text l) others A f g = f g
-on_spelled (Bare l) others A f g = f g
-on_spelled Broken others A f g = subst (λ ls. AllSpelled (map (λ l. l.token) ls)) (sym g) tt
-
-all_spelled : (ls : List Lexeme) (at : ℕ) (bytes : List ℕ) → Spells at bytes ls → AllSpelled (map (λ l. l.token) ls)
-all_spelled [] at bytes h = tt
-all_spelled (l ∷ ls) at bytes h = (h.0.is_spelled, on_spelled l.token ls (Spells l.end h.0.rest ls) (all_spelled ls l.end h.0.rest) h.1)
 
 -- ---- labels
 

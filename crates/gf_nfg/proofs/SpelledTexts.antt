@@ -7,7 +7,7 @@ use Rattle.gf_token.specs.LabelSpelling.{is_spelling}
 use Rattle.gf_token.specs.Token.{Token, Lexeme, lexeme, spelling}
 use Rattle.gf_token.specs.Token.Token.{Opening, Closing, Text, Bare}
 use Rattle.gf_token.specs.TokenSpelling.{IsSpelled, MayPrecede, GoesOn, Spells}
-use Rattle.gf_nfg.specs.Sentence.{braced}
+use Rattle.gf_token.specs.Grammar.{braced}
 use Rattle.gf_nfg.specs.TableText.{spaced, list_text, quoted, lines_text}
 
 -- from any place on, the bytes spell these tokens

@@ -1,21 +1,13 @@
 -- Which lists of tokens are strategic files, and the table that each of them means.
 use Rattle.std.specs.Prelude.{◌≡◌, ℕ, zero, suc, ◌⊎◌, List, [], ◌∷◌, ◌++◌, length, map, codes, decimal, Some, slice_get, replicate, pos}
 use Rattle.gf_token.specs.Token.{Token}
-use Rattle.gf_token.specs.Token.Token.{Opening, Closing, Comma, Text, Bare}
+use Rattle.gf_token.specs.Token.Token.{Text, Bare}
 use Rattle.gf_token.specs.Index.{IsIndex}
+use Rattle.gf_token.specs.Grammar.{Each, braced, IsComment, IsPayoffInBraces}
 use Rattle.gf_fraction.specs.Ratio.{Ratio, whole}
 use Rattle.gf_fraction.specs.NumberSpelling.{IsNumber}
 use Rattle.gf_nfg.specs.Profiles.{positions}
 use Rattle.gf_nfg.specs.Table.{Table, IsTable, rows}
-
--- tokens that stand one group behind the other, a group for each of these values
-abbrev pub Each : {A : Type 0} → (List Token → A → Type 0) → List Token → List A → Type 0
-Each P tokens [] = tokens ≡ []
-Each P tokens (x ∷ xs) = (first : List Token) × (others : List Token) × (tokens ≡ first ++ others) × P first x × Each P others xs
-
--- Opening tokens Closing
-abbrev pub braced : List Token → List Token
-braced tokens = Opening ∷ (tokens ++ Closing ∷ [])
 
 -- the labels "1" to n
 abbrev pub counted_labels : ℕ → List (List ℕ)
@@ -33,18 +25,9 @@ IsLabelList tokens labels = tokens ≡ braced (map Text labels)
 abbrev pub IsStrategies : List Token → List (List (List ℕ)) → Type 0
 IsStrategies tokens strategies = (inner : List Token) × (tokens ≡ braced inner) × (Each IsCount inner strategies ⊎ Each IsLabelList inner strategies)
 
--- [Text]: an absent comment is the empty one
-abbrev pub IsComment : List Token → List ℕ → Type 0
-IsComment tokens comment = ((tokens ≡ []) × (comment ≡ [])) ⊎ (tokens ≡ Text comment ∷ [])
-
 -- a number by itself
 abbrev pub IsPayoff : List Token → Ratio → Type 0
 IsPayoff tokens number = (bytes : List ℕ) × (tokens ≡ Bare bytes ∷ []) × IsNumber bytes number
-
--- a number in braces: one comma may follow it
-abbrev pub IsPayoffInBraces : List Token → Ratio → Type 0
-IsPayoffInBraces tokens number =
-    (bytes : List ℕ) × (comma : List Token) × (tokens ≡ Bare bytes ∷ comma) × IsNumber bytes number × ((comma ≡ []) ⊎ (comma ≡ Comma ∷ []))
 
 -- Opening Text payoffs Closing
 abbrev pub IsOutcome : ℕ → List Token → List Ratio → Type 0

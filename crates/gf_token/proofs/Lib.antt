@@ -2,3 +2,6 @@ pub mod Steps
 pub mod Spelled
 pub mod Spans
 pub mod Labels
+pub mod Grammar
+pub mod SpelledNumbers
+pub mod SpelledTokens

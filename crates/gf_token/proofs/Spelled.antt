@@ -14,7 +14,7 @@ use Rattle.gf_token.specs.Lexing.{Mode, lex, single, begins}
 use Rattle.gf_token.specs.Lexing.Mode.{Gap, InText, InBare}
 use Rattle.gf_token.proofs.Steps.{space_out, space_after, bare_out}
 
-abbrev AllBare : List ℕ → Type 0
+abbrev pub AllBare : List ℕ → Type 0
 AllBare bytes = AllByRecursion (λ b. is_bare b ≡ true) bytes
 
 -- no label behind the byte `before` is closed by a quote

@@ -3,6 +3,7 @@ pub mod LabelSpelling
 pub mod Token
 pub mod TokenSpelling
 pub mod Index
+pub mod Grammar
 pub mod Code
 pub mod Label
 pub mod Cursor

@@ -3,10 +3,11 @@ use Rattle.std.proofs.Common.{◌≡◌, ℕ, List, [], ◌∷◌, ◌++◌, map
 use Rattle.std.specs.Prelude.{◌⊎◌, Option, Some, None}
 use Rattle.gf_token.specs.Token.{Token}
 use Rattle.gf_token.specs.Token.Token.{Closing, Comma, Text, Bare}
+use Rattle.gf_token.specs.Grammar.{Each, braced, IsPayoffInBraces}
 use Rattle.gf_fraction.specs.Ratio.{Ratio}
 use Rattle.gf_fraction.specs.NumberSpelling.{IsNumber}
 use Rattle.gf_fraction.proofs.Texts.{one_answer}
-use Rattle.gf_tree.specs.Sentence.{Each, braced, IsDescription, IsPayoff}
+use Rattle.gf_tree.specs.Sentence.{IsDescription}
 
 -- what P says of the front of one list is one thing, and leaves one rest
 abbrev pub Agree : {A : Type 0} → (List Token → A → Type 0) → Type 0
@@ -85,16 +86,16 @@ comma_gone comma comma' rest rest' (inr a) (inl b) n m e = absurd (m rest (sym (
 comma_gone comma comma' rest rest' (inr a) (inr b) n m e = ap (drop 1) (in_front comma comma' rest rest' (Comma ∷ []) (Comma ∷ []) a b e)
 
 -- where a payoff or the closing brace is due stands no comma
-no_comma : (xs : List Ratio) (inner rest : List Token) → Each IsPayoff inner xs → NoComma (inner ++ Closing ∷ rest)
+no_comma : (xs : List Ratio) (inner rest : List Token) → Each IsPayoffInBraces inner xs → NoComma (inner ++ Closing ∷ rest)
 no_comma [] inner rest h = λ others e. let whole : Closing ∷ rest ≡ Comma ∷ others = ap (λ (ts : List Token). ts ++ Closing ∷ rest) (sym h) ∙ e in absurd cc
 no_comma (x ∷ xs) inner rest h = λ others e.
     let whole = ap (λ (ts : List Token). ts ++ (h.1 ++ Closing ∷ rest)) (sym h.3.2) ∙ sym (regroup inner h.0 h.1 (Closing ∷ rest) h.2) ∙ e in
     absurd cc
 
-payoffs_begun : Begun IsPayoff
+payoffs_begun : Begun IsPayoffInBraces
 payoffs_begun first rest others x h e = let whole = ap (λ (ts : List Token). ts ++ rest) (sym h.2) ∙ e in absurd cc
 
-pub payoffs_once : (xs ys : List Ratio) (inner inner' rest rest' : List Token) → Each IsPayoff inner xs → Each IsPayoff inner' ys
+pub payoffs_once : (xs ys : List Ratio) (inner inner' rest rest' : List Token) → Each IsPayoffInBraces inner xs → Each IsPayoffInBraces inner' ys
     → inner ++ Closing ∷ rest ≡ inner' ++ Closing ∷ rest' → (xs ≡ ys) × (rest ≡ rest')
 payoffs_once [] [] inner inner' rest rest' h k e = (refl, ap (drop 1) (in_front inner inner' (Closing ∷ rest) (Closing ∷ rest') [] [] h k e))
 payoffs_once [] (y ∷ ys) inner inner' rest rest' h k e =

@@ -7,7 +7,6 @@ pub mod Learning
 pub mod Prefix
 mod SentencesOnce
 pub mod SpelledGames
-mod SpelledNumbers
 pub mod TreesOnce
 pub mod Uses
 mod Worked

@@ -5,11 +5,12 @@ use Rattle.std.specs.Str.Parse.{digits_value}
 use Rattle.gf_token.specs.Token.{Token}
 use Rattle.gf_token.specs.Token.Token.{Text, Bare}
 use Rattle.gf_token.specs.Index.{IsIndex}
+use Rattle.gf_token.specs.Grammar.{Each, braced, IsComment}
 use Rattle.gf_fraction.specs.Ratio.{Ratio}
 use Rattle.gf_tree.specs.PrefixOrder.{flatten}
 use Rattle.gf_tree.specs.Description.{SetKey, InformationSet, Outcome}
 use Rattle.gf_tree.specs.FileTree.{Use, FileNode, FileTree}
-use Rattle.gf_tree.specs.Sentence.{Each, braced, IsComment, IsAction, IsInformationSet, IsMover, IsStep, IsOutcome, IsResult, IsNode, IsDescription, Sentence}
+use Rattle.gf_tree.specs.Sentence.{IsAction, IsInformationSet, IsMover, IsStep, IsOutcome, IsResult, IsNode, IsDescription, Sentence}
 use Rattle.gf_tree.proofs.Groups.{Agree, Begun, BeginsText, NoText, in_front, closed_once, opened, texts_once, numbers_once, descriptions_once, payoffs_once}
 
 -- ---- descriptions

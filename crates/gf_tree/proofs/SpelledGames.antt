@@ -1,37 +1,21 @@
 -- What a file means is a game that a file can hold.
 use Rattle.std.proofs.Common.{◌≡◌, ℕ, zero, suc, ◌^◌, ◌<◌, List, [], ◌∷◌, ◌++◌, length, map, Some, None, Option, MatchOption, refl, sym, ap, subst, ◌∙◌, arith, inl, inr}
 use Rattle.std.specs.List.{AllByRecursion, cons_option}
-use Rattle.gf_token.specs.Token.{Token, Lexeme}
-use Rattle.gf_token.specs.Token.Token.{Opening, Closing, Comma, Text, Bare, Broken}
-use Rattle.gf_token.specs.TokenSpelling.{IsSpelled, GoesOn, Spells}
+use Rattle.gf_token.specs.Token.{Token}
+use Rattle.gf_token.specs.Token.Token.{Closing, Text, Bare}
+use Rattle.gf_token.specs.Grammar.{Each, braced, IsComment, IsPayoffInBraces}
+use Rattle.gf_token.proofs.SpelledTokens.{AllSpelled, all_spelled}
 use Rattle.gf_fraction.specs.Ratio.{IsFraction}
 use Rattle.gf_tree.specs.PrefixOrder.{Entry, flatten}
 use Rattle.gf_tree.specs.Description.{Action, SetKey, InformationSet, Outcome}
 use Rattle.gf_tree.specs.FileTree.{Use, FileNode, FileTree, set_uses, outcome_uses}
 use Rattle.gf_tree.specs.Consistent.{Describes}
-use Rattle.gf_tree.specs.Sentence.{Each, braced, IsComment, IsDescription, IsAction, IsInformationSet, IsMover, IsStep, IsPayoff, IsOutcome, IsResult, IsNode, Sentence}
+use Rattle.gf_tree.specs.Sentence.{IsDescription, IsAction, IsInformationSet, IsMover, IsStep, IsOutcome, IsResult, IsNode, Sentence}
 use Rattle.gf_tree.specs.Game.{Game, IsGame}
 use Rattle.gf_tree.specs.GameOf.{keys_alone, IsGameOf, SpellsGame}
 use Rattle.gf_tree.specs.Spellable.{IsLabel, IsSpellableAction, IsSpellableSet, IsSpellableOutcome, IsSpellable}
 use Rattle.gf_tree.proofs.Uses.{each, all_of_each, has}
 use Rattle.gf_tree.proofs.Games.{map_entry, flatten_map, is_game}
-
-abbrev AllSpelled : List Token → Type 0
-AllSpelled tokens = AllByRecursion IsSpelled tokens
-
--- ---- the tokens of a text
-
-on_spelled : (t : Token) (others : List Lexeme) (A : Type 0) → (A → AllSpelled (map (λ l. l.token) others)) → GoesOn t others A → AllSpelled (map (λ l. l.token) others)
-on_spelled Opening others A f g = f g
-on_spelled Closing others A f g = f g
-on_spelled Comma others A f g = f g
-on_spelled (Text l) others A f g = f g
-on_spelled (Bare l) others A f g = f g
-on_spelled Broken others A f g = subst (λ ls. AllSpelled (map (λ l. l.token) ls)) (sym g) tt
-
-all_spelled : (ls : List Lexeme) (at : ℕ) (bytes : List ℕ) → Spells at bytes ls → AllSpelled (map (λ l. l.token) ls)
-all_spelled [] at bytes h = tt
-all_spelled (l ∷ ls) at bytes h = (h.0.is_spelled, on_spelled l.token ls (Spells l.end h.0.rest ls) (all_spelled ls l.end h.0.rest) h.1)
 
 all_parts : (xs ys : List Token) → AllSpelled (xs ++ ys) → AllSpelled xs × AllSpelled ys
 all_parts [] ys h = (tt, h)
@@ -88,7 +72,7 @@ outcome_spelled players key None tokens n h all = tt
 outcome_spelled players key (Some d) tokens n h all =
     let k = subst AllSpelled h.1 all in
     let payoffs = all_parts h.0 (Closing ∷ []) k.1.1 in
-    record { number = n; name = k.0; payoffs = each_spelled IsPayoff IsFraction (λ ts r one spelled. one.3.fraction) d.payoffs h.0 h.2 payoffs.0 }
+    record { number = n; name = k.0; payoffs = each_spelled IsPayoffInBraces IsFraction (λ ts r one spelled. one.3.fraction) d.payoffs h.0 h.2 payoffs.0 }
 
 result_spelled : (players : ℕ) (tokens : List Token) (o : Option (Use ℕ Outcome)) → IsResult players tokens o → AllSpelled tokens → MatchOption o (Unit {0}) OutcomeSpelled
 result_spelled players tokens None h all = tt

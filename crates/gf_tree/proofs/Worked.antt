@@ -4,12 +4,12 @@ use Rattle.std.specs.Prelude.{codes, decimal, nat_lt, ◌&&◌, true}
 use Rattle.std.proofs.lemmas.Bool.Decides.{Decides-and, Decides-ltb}
 use Rattle.std.specs.List.{AllByRecursion, flat_map}
 use Rattle.std.specs.Fmt.{digits}
-use Rattle.std.proofs.lemmas.Fmt.{decimal_is_IsNumeral}
 use Rattle.std.proofs.lemmas.Nat.Gcd.{dvd_refl}
 use Rattle.std.proofs.Math.Nat.{one-dvd}
 use Rattle.gf_token.specs.Token.{Token}
 use Rattle.gf_token.specs.Token.Token.{Text, Bare}
-use Rattle.gf_token.specs.Index.{IsIndex}
+use Rattle.gf_token.specs.Grammar.{Each, braced}
+use Rattle.gf_token.proofs.SpelledNumbers.{decimal_is_index}
 use Rattle.gf_fraction.specs.Ratio.{Ratio, IsFraction, whole}
 use Rattle.gf_fraction.specs.Fits.{SumFits}
 use Rattle.gf_fraction.specs.NumberSpelling.{IsNumber, Reads}
@@ -22,7 +22,7 @@ use Rattle.gf_tree.specs.PrefixOrder.{Entry, flatten}
 use Rattle.gf_tree.specs.Grown.{grow, root}
 use Rattle.gf_tree.specs.Description.{Action, SetKey, InformationSet, Outcome, AddToOne, IsLottery, IsSet}
 use Rattle.gf_tree.specs.FileTree.{Use, FileNode, FileTree}
-use Rattle.gf_tree.specs.Sentence.{Each, braced, IsDescription, IsAction, IsInformationSet, IsPositive, IsMover, IsStep, IsOutcome, IsResult, IsNode, Sentence}
+use Rattle.gf_tree.specs.Sentence.{IsDescription, IsAction, IsInformationSet, IsPositive, IsMover, IsStep, IsOutcome, IsResult, IsNode, Sentence}
 use Rattle.gf_tree.specs.WorkedTrees.{half, toss, choice, set_of, two_paid}
 
 -- ---- numbers
@@ -128,15 +128,12 @@ said_choice {player} name labels = record { tokens = Text name ∷ braced (map T
 
 -- ---- outcomes and the tokens that say them
 
-pub index : (n : ℕ) → n < 2 ^ 32 → IsIndex (decimal n) n
-index n h = let d = decimal_is_IsNumeral n (omega arith) in (d.0, d.1, h)
-
 -- a number of two digits at most, from 1
 abbrev pub IsSmall : ℕ → Type 0
 IsSmall n = (nat_lt 0 n && nat_lt n 100) ≡ true
 
 pub numbered : (n : ℕ) → IsSmall n → IsPositive (decimal n) n
-numbered n h = let d = (Decides-and (nat_lt 0 n) (nat_lt n 100) (Decides-ltb 0 n) (Decides-ltb n 100)).0 h in (index n (omega (arith, d.1)), d.0)
+numbered n h = let d = (Decides-and (nat_lt 0 n) (nat_lt n 100) (Decides-ltb 0 n) (Decides-ltb n 100)).0 h in (decimal_is_index n (omega (arith, d.1)), d.0)
 
 pub record SaidResult (players : ℕ) : Type 0 where
   pub tokens : List Token
@@ -144,7 +141,7 @@ pub record SaidResult (players : ℕ) : Type 0 where
   pub says : IsResult players tokens outcome
 
 abbrev pub no_outcome : {players : ℕ} → SaidResult players
-no_outcome = record { tokens = Bare (decimal 0) ∷ []; outcome = None; says = (decimal 0, refl, index 0 (omega arith)) }
+no_outcome = record { tokens = Bare (decimal 0) ∷ []; outcome = None; says = (decimal 0, refl, decimal_is_index 0 (omega arith)) }
 
 abbrev pub again : {players : ℕ} → (n : ℕ) → IsSmall n → SaidResult players
 again n h = record { tokens = Bare (decimal n) ∷ []; outcome = Some (record { key = n; description = None }); says = (decimal n, [], refl, numbered n h, refl) }

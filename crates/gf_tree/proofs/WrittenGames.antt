@@ -6,6 +6,8 @@ use Rattle.std.specs.Option.{option_to_list}
 use Rattle.std.proofs.lemmas.Bool.Decides.{Decides-eqb}
 use Rattle.gf_token.specs.Token.{Token}
 use Rattle.gf_token.specs.Token.Token.{Closing, Text, Bare}
+use Rattle.gf_token.specs.Grammar.{braced}
+use Rattle.gf_token.proofs.SpelledNumbers.{number_spelled, index_spelled}
 use Rattle.gf_fraction.specs.Ratio.{Ratio, IsFraction}
 use Rattle.gf_fraction.specs.NumberText.{number_text}
 use Rattle.gf_tree.specs.PrefixOrder.{Entry, flatten}
@@ -13,7 +15,7 @@ use Rattle.gf_tree.specs.Description.{Action, SetKey, InformationSet, Outcome, s
 use Rattle.gf_tree.specs.Description as description
 use Rattle.gf_tree.specs.FileTree.{Use, FileNode, FileTree}
 use Rattle.gf_tree.specs.FiniteMap.{Described, description_at, first_uses}
-use Rattle.gf_tree.specs.Sentence.{braced, Sentence}
+use Rattle.gf_tree.specs.Sentence.{Sentence}
 use Rattle.gf_tree.specs.Game.{Game, IsGame, used_sets, used_outcomes, set_at, outcome_at}
 use Rattle.gf_tree.specs.GameOf.{SpellsGame}
 use Rattle.gf_tree.specs.Spellable.{IsLabel, IsSpellableAction, IsSpellableSet, IsSpellableOutcome, IsSpellable}
@@ -23,7 +25,6 @@ use Rattle.gf_tree.proofs.TreesOnce.{same_set_equality}
 use Rattle.gf_tree.proofs.Games.{map_entry, flatten_map}
 use Rattle.gf_tree.proofs.FilesOfGames.{use_at, told, file_of, file_is_of}
 use Rattle.gf_tree.proofs.SpelledGames.{spelled_is_spellable}
-use Rattle.gf_tree.proofs.SpelledNumbers.{number_spelled, index_spelled}
 use Rattle.gf_tree.proofs.WrittenNodes.{action_tokens, set_tokens, outcome_tokens, mover_letter, mover_tokens, letter, step_tokens, result_tokens, node_tokens, IsSetUse, IsOutcomeUse, IsWritable, nodes_written}
 use Rattle.gf_tree.proofs.WrittenTokens.{IsWhole, bytes_of, spell}
 

@@ -1,20 +1,21 @@
 -- The tokens of a node in the spelling of canonical text, and that they say this node.
-use Rattle.std.proofs.Common.{◌≡◌, ℕ, zero, suc, ◌^◌, ◌<◌, ◌≤◌, List, [], ◌∷◌, ◌++◌, length, map, drop, Some, None, Option, MatchOption, refl, ap, arith, inl}
+use Rattle.std.proofs.Common.{◌≡◌, ℕ, zero, suc, ◌^◌, ◌<◌, List, [], ◌∷◌, ◌++◌, length, map, drop, Some, None, Option, MatchOption, refl, ap, arith, inl}
 use Rattle.std.specs.Prelude.{codes, decimal}
 use Rattle.std.specs.List.{AllByRecursion, flat_map}
 use Rattle.std.specs.Option.{option_to_list}
-use Rattle.std.proofs.lemmas.Fmt.{decimal_is_IsNumeral}
 use Rattle.std.proofs.lemmas.List.{append-nil}
 use Rattle.gf_token.specs.Token.{Token}
 use Rattle.gf_token.specs.Token.Token.{Text, Bare}
-use Rattle.gf_token.specs.Index.{IsIndex}
+use Rattle.gf_token.specs.Grammar.{Each, braced, IsPayoffInBraces}
+use Rattle.gf_token.proofs.Grammar.{each_group}
+use Rattle.gf_token.proofs.SpelledNumbers.{decimal_is_index}
 use Rattle.gf_fraction.specs.Ratio.{Ratio, IsFraction}
 use Rattle.gf_fraction.specs.NumberText.{number_text}
 use Rattle.gf_fraction.proofs.Texts.{written_is_read}
 use Rattle.gf_tree.specs.Description.{Action, SetKey, InformationSet, Outcome, IsSet, AreActions}
 use Rattle.gf_tree.specs.Description as description
 use Rattle.gf_tree.specs.FileTree.{Use, FileNode}
-use Rattle.gf_tree.specs.Sentence.{Each, braced, IsDescription, IsAction, IsInformationSet, IsMover, IsStep, IsPayoff, IsOutcome, IsResult, IsNode}
+use Rattle.gf_tree.specs.Sentence.{IsDescription, IsAction, IsInformationSet, IsMover, IsStep, IsOutcome, IsResult, IsNode}
 use Rattle.gf_tree.specs.Spellable.{IsSpellableAction, IsSpellableSet, IsSpellableOutcome}
 
 -- ---- tokens
@@ -71,13 +72,6 @@ pub record IsWritable (players : ℕ) (n : FileNode) : Type 0 where
 
 -- ---- descriptions
 
-index : (n : ℕ) → n < 2 ^ 32 → IsIndex (decimal n) n
-index n h = let d = decimal_is_IsNumeral n (let wide : 2 ^ 32 ≤ 10 ^ 20 = omega arith in omega (arith, h, wide)) in (d.0, d.1, h)
-
-each_more : {A : Type 0} (P : List Token → A → Type 0) (f : A → List Token) (xs : List A) → AllByRecursion (λ x. P (f x) x) xs → Each P (flat_map f xs) xs
-each_more P f [] h = refl
-each_more P f (x ∷ xs) h = (f x, flat_map f xs, refl, h.0, each_more P f xs h.1)
-
 chance_action : (label : List ℕ) (o : Option Ratio) (p : Ratio) → o ≡ Some p → MatchOption o (Unit {0}) IsFraction → IsAction 0 (action_tokens (record { label = label; probability = o })) (record { label = label; probability = o })
 chance_action label None p e h = absurd cc
 chance_action label (Some q) p e h = (number_text q, q, refl, written_is_read q h, refl)
@@ -102,9 +96,9 @@ actions_written zero actions h k = lottery_actions actions h.0 h.1 k
 actions_written (suc player) actions h k = personal_actions player actions h
 
 set_written : (player : ℕ) (set : InformationSet) → AreActions player set.actions → AllByRecursion IsSpellableAction set.actions → IsInformationSet player (set_tokens set) set
-set_written player set h k = (flat_map action_tokens set.actions, refl, each_more (IsAction player) action_tokens set.actions (actions_written player set.actions h k))
+set_written player set h k = (flat_map action_tokens set.actions, refl, each_group (IsAction player) action_tokens set.actions (actions_written player set.actions h k))
 
-payoffs_written : (rs : List Ratio) → AllByRecursion IsFraction rs → Each IsPayoff (map (λ r. Bare (number_text r)) rs) rs
+payoffs_written : (rs : List Ratio) → AllByRecursion IsFraction rs → Each IsPayoffInBraces (map (λ r. Bare (number_text r)) rs) rs
 payoffs_written [] h = refl
 payoffs_written (r ∷ rs) h = (Bare (number_text r) ∷ [], map (λ s. Bare (number_text s)) rs, refl, (number_text r, [], refl, written_is_read r h.0, inl refl), payoffs_written rs h.1)
 
@@ -115,7 +109,7 @@ outcome_written players outcome n h = (map (λ r. Bare (number_text r)) outcome.
 
 mover_written : (player : ℕ) → player < 2 ^ 32 → IsMover (mover_letter player) (mover_tokens player) player
 mover_written zero h = (refl, refl)
-mover_written (suc player) h = (decimal (suc player), refl, refl, index (suc player) h)
+mover_written (suc player) h = (decimal (suc player), refl, refl, decimal_is_index (suc player) h)
 
 set_described : (players : ℕ) (key : SetKey) (o : Option InformationSet) → MatchOption o (Unit {0}) (λ d. IsSet players key d × IsSpellableSet (record { key = key; description = d }))
     → IsDescription (IsInformationSet key.player) (flat_map set_tokens (option_to_list o)) o
@@ -130,7 +124,7 @@ step_written players (Some u) h = (
   flat_map set_tokens (option_to_list u.description),
   refl,
   mover_written u.key.player h.player,
-  (index u.key.number h.number, h.above),
+  (decimal_is_index u.key.number h.number, h.above),
   set_described players u.key u.description h.set,
 )
 
@@ -140,8 +134,8 @@ outcome_described players key None h = refl
 outcome_described players key (Some d) h = rw (append-nil (outcome_tokens d)) (outcome_written players d h.0.one_payoff_each h.1.payoffs)
 
 result_written : (players : ℕ) (o : Option (Use ℕ Outcome)) → MatchOption o (Unit {0}) (IsOutcomeUse players) → IsResult players (result_tokens o) o
-result_written players None h = (decimal 0, refl, index 0 (omega arith))
-result_written players (Some u) h = (decimal u.key, flat_map outcome_tokens (option_to_list u.description), refl, (index u.key h.number, h.above), outcome_described players u.key u.description h.outcome)
+result_written players None h = (decimal 0, refl, decimal_is_index 0 (omega arith))
+result_written players (Some u) h = (decimal u.key, flat_map outcome_tokens (option_to_list u.description), refl, (decimal_is_index u.key h.number, h.above), outcome_described players u.key u.description h.outcome)
 
 node_written : (players : ℕ) (n : FileNode) → IsWritable players n → IsNode players (node_tokens n) n
 node_written players n h = record {

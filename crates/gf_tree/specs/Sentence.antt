@@ -1,26 +1,14 @@
 -- Which lists of tokens are extensive files, and what each of them says.
 use Rattle.std.specs.Prelude.{◌≡◌, ℕ, zero, suc, ◌⊎◌, ◌<◌, List, [], ◌∷◌, ◌++◌, length, map, codes, Option, Some, None}
 use Rattle.gf_token.specs.Token.{Token}
-use Rattle.gf_token.specs.Token.Token.{Opening, Closing, Comma, Text, Bare}
+use Rattle.gf_token.specs.Token.Token.{Text, Bare}
 use Rattle.gf_token.specs.Index.{IsIndex}
+use Rattle.gf_token.specs.Grammar.{Each, braced, IsComment, IsPayoffInBraces}
 use Rattle.gf_fraction.specs.Ratio.{Ratio}
 use Rattle.gf_fraction.specs.NumberSpelling.{IsNumber}
 use Rattle.gf_tree.specs.PrefixOrder.{flatten}
 use Rattle.gf_tree.specs.Description.{Action, InformationSet, Outcome, SetKey}
 use Rattle.gf_tree.specs.FileTree.{Use, FileNode, FileTree}
-
--- tokens that stand one group behind the other, a group for each of these values
-abbrev pub Each : {A : Type 0} → (List Token → A → Type 0) → List Token → List A → Type 0
-Each P tokens [] = tokens ≡ []
-Each P tokens (x ∷ xs) = (first : List Token) × (others : List Token) × (tokens ≡ first ++ others) × P first x × Each P others xs
-
--- Opening tokens Closing
-abbrev pub braced : List Token → List Token
-braced tokens = Opening ∷ (tokens ++ Closing ∷ [])
-
--- [Text]: an absent comment is the empty one
-abbrev pub IsComment : List Token → List ℕ → Type 0
-IsComment tokens comment = ((tokens ≡ []) × (comment ≡ [])) ⊎ (tokens ≡ Text comment ∷ [])
 
 -- an index above 0
 abbrev pub IsPositive : List ℕ → ℕ → Type 0
@@ -52,14 +40,10 @@ IsStep letter tokens (Some u) =
     (player : List Token) × (number : List ℕ) × (description : List Token) × (tokens ≡ player ++ Bare number ∷ description)
     × IsMover letter player u.key.player × IsPositive number u.key.number × IsDescription (IsInformationSet u.key.player) description u.description
 
--- number [Comma]
-abbrev pub IsPayoff : List Token → Ratio → Type 0
-IsPayoff tokens payoff = (bytes : List ℕ) × (comma : List Token) × (tokens ≡ Bare bytes ∷ comma) × IsNumber bytes payoff × ((comma ≡ []) ⊎ (comma ≡ Comma ∷ []))
-
 -- Text Opening payoffs Closing, a payoff for each player
 abbrev pub IsOutcome : ℕ → List Token → Outcome → Type 0
 IsOutcome players tokens outcome =
-    (inner : List Token) × (tokens ≡ Text outcome.name ∷ braced inner) × Each IsPayoff inner outcome.payoffs × (length outcome.payoffs ≡ players)
+    (inner : List Token) × (tokens ≡ Text outcome.name ∷ braced inner) × Each IsPayoffInBraces inner outcome.payoffs × (length outcome.payoffs ≡ players)
 
 -- the number 0 alone; else the number and the description of the outcome
 abbrev pub IsResult : ℕ → List Token → Option (Use ℕ Outcome) → Type 0

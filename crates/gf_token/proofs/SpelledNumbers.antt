@@ -1,20 +1,18 @@
--- The text of a fraction is the bytes of a bare token.
+-- The texts of fractions and of indices are the bytes of bare tokens, and the texts of indices are read as indices.
 use Rattle.std.proofs.Common.{◌≡◌, ℕ, ℤ, pos, negsuc, suc, ◌^◌, ◌<◌, ◌≤◌, Bool, true, false, List, [], ◌∷◌, ◌++◌, length, refl, arith, length-append}
 use Rattle.std.specs.Prelude.{◌==◌, decimal, unsigned_abs, if◌then◌else◌}
-use Rattle.std.specs.List.{AllByRecursion}
 use Rattle.std.specs.Fmt.{signed_decimal}
 use Rattle.std.specs.Char.{digit_value}
 use Rattle.std.specs.Str.Parse.{AllDigits}
 use Rattle.std.proofs.lemmas.Bool.Decides.{nat_tests}
-use Rattle.std.proofs.lemmas.Fmt.{decimal_is_IsNumeral_wide}
+use Rattle.std.proofs.lemmas.Fmt.{decimal_is_IsNumeral, decimal_is_IsNumeral_wide}
 use Rattle.gf_token.specs.Byte.{is_bare}
 use Rattle.gf_token.specs.Token.Token.{Bare}
 use Rattle.gf_token.specs.TokenSpelling.{IsSpelled}
+use Rattle.gf_token.specs.Index.{IsIndex}
+use Rattle.gf_token.proofs.Spelled.{AllBare}
 use Rattle.gf_fraction.specs.Ratio.{Ratio, IsFraction}
 use Rattle.gf_fraction.specs.NumberText.{number_text}
-
-abbrev AllBare : List ℕ → Type 0
-AllBare bytes = AllByRecursion (λ b. is_bare b ≡ true) bytes
 
 -- bytes of bare tokens, one at least
 record IsBareText (bytes : List ℕ) : Type 0 where
@@ -61,3 +59,9 @@ spelled_bare (b ∷ bytes) h = h.bare
 
 pub number_spelled : (r : Ratio) → IsFraction r → IsSpelled (Bare (number_text r))
 number_spelled r h = spelled_bare (number_text r) (number_bare r h)
+
+pub index_spelled : (n : ℕ) → n < 2 ^ 32 → IsSpelled (Bare (decimal n))
+index_spelled n h = spelled_bare (decimal n) (decimal_bare n (let wide : 2 ^ 32 ≤ 2 ^ 127 = omega arith in omega (arith, wide, h)))
+
+pub decimal_is_index : (n : ℕ) → n < 2 ^ 32 → IsIndex (decimal n) n
+decimal_is_index n h = let d = decimal_is_IsNumeral n (let wide : 2 ^ 32 ≤ 10 ^ 20 = omega arith in omega (arith, h, wide)) in (d.0, d.1, h)
