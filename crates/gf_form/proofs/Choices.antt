@@ -1,0 +1,143 @@
+-- All choices at sets with so many actions each: every one stands in the list, once and at its place.
+use Rattle.std.proofs.Common.{◌≡◌, ℕ, zero, suc, ◌+◌, ◌-◌, ◌*◌, ◌<◌, ◌≤◌, List, [], ◌∷◌, ◌++◌, length, map, get_or, refl, sym, ap, ◌∙◌, append_assoc, arith, length-append}
+use Rattle.std.specs.Prelude.{◌↔◌}
+use Rattle.std.specs.List.{AllByRecursion, AllZip, Contains, flat_map}
+use Rattle.std.proofs.lemmas.Grind.{flat_map-append}
+use Rattle.std.proofs.lemmas.List.{length-map, map-append, get_or-map, get_or_at}
+use Rattle.std.proofs.lemmas.List.Elements.{All-contains, All-from_recursion}
+use Rattle.gf_nfg.specs.Profiles.{numbers_from, product}
+use Rattle.gf_nfg.proofs.BackLists.{all_both}
+use Rattle.gf_form.specs.Strategies.{all_choices}
+
+-- the choices that begin with this action
+abbrev behind : ℕ → List (List ℕ) → List (List ℕ)
+behind action all = map (λ others. action ∷ others) all
+
+-- the place of a choice, from 0
+abbrev place : List ℕ → List ℕ → ℕ
+place (count ∷ counts) (action ∷ others) = (action - 1) * product counts + place counts others
+place _ _ = 0
+
+-- ---- numbers in turn
+
+numbers_joined : (first m n : ℕ) → numbers_from first m ++ numbers_from (first + m) n ≡ numbers_from first (m + n)
+numbers_joined first zero n = let e : first + 0 ≡ first = omega arith in let f : 0 + n ≡ n = omega arith in rw (e, f) refl
+numbers_joined first (suc m) n =
+    let e : first + suc m ≡ first + 1 + m = omega arith in
+    let f : suc m + n ≡ suc (m + n) = omega arith in
+    rw (e, f) (ap (λ (ns : List ℕ). first ∷ ns) (numbers_joined (first + 1) m n))
+
+numbers_above : (by first n : ℕ) → map (λ k. by + k) (numbers_from first n) ≡ numbers_from (by + first) n
+numbers_above by first zero = refl
+numbers_above by first (suc n) =
+    let e : by + (first + 1) ≡ by + first + 1 = omega arith in
+    λ i. (by + first) ∷ (numbers_above by (first + 1) n ∙ ap (λ (k : ℕ). numbers_from k n) e) i
+
+pub length-numbers_from : (first n : ℕ) → length (numbers_from first n) ≡ n
+length-numbers_from first zero = refl
+length-numbers_from first (suc n) = ap suc (length-numbers_from (first + 1) n)
+
+get_or-numbers_from : (first n i d : ℕ) → i < n → get_or (numbers_from first n) i d ≡ first + i
+get_or-numbers_from first zero i d h = absurd (omega arith)
+get_or-numbers_from first (suc n) zero d h = omega arith
+get_or-numbers_from first (suc n) (suc i) d h = get_or-numbers_from (first + 1) n i d (omega arith) ∙ (let e : first + 1 + i ≡ first + suc i = omega arith in e)
+
+-- ---- places
+
+map-twice : {A B C : Type 0} (f : B → C) (g : A → B) (xs : List A) → map f (map g xs) ≡ map (λ x. f (g x)) xs
+map-twice f g [] = refl
+map-twice f g (x ∷ xs) = ap (λ rest. f (g x) ∷ rest) (map-twice f g xs)
+
+places_behind : (count : ℕ) (counts : List ℕ) (action n : ℕ) (all : List (List ℕ)) → map (place counts) all ≡ numbers_from 0 n
+    → map (place (count ∷ counts)) (behind action all) ≡ numbers_from ((action - 1) * product counts) n
+places_behind count counts action n all h =
+    let by = (action - 1) * product counts in
+    let e : by + 0 ≡ by = omega arith in
+    map-twice (place (count ∷ counts)) (λ others. action ∷ others) all ∙ sym (map-twice (λ (k : ℕ). by + k) (place counts) all) ∙ ap (map (λ k. by + k)) h
+    ∙ numbers_above by 0 n ∙ ap (λ (k : ℕ). numbers_from k n) e
+
+places_all : (count : ℕ) (counts : List ℕ) (all : List (List ℕ)) → map (place counts) all ≡ numbers_from 0 (product counts) → (s n : ℕ) → 1 ≤ s
+    → map (place (count ∷ counts)) (flat_map (λ action. behind action all) (numbers_from s n)) ≡ numbers_from ((s - 1) * product counts) (n * product counts)
+places_all count counts all h s zero above = let e : 0 * product counts ≡ 0 = omega arith in rw e refl
+places_all count counts all h s (suc n) above =
+    let p = product counts in
+    let on : (s + 1 - 1) * p ≡ (s - 1) * p + p = let less : s + 1 - 1 ≡ s - 1 + 1 = omega arith in ap (λ (k : ℕ). k * p) less ∙ (let e : (s - 1 + 1) * p ≡ (s - 1) * p + p = omega arith in e) in
+    let size : p + n * p ≡ suc n * p = omega arith in
+    map-append (place (count ∷ counts)) (behind s all) (flat_map (λ action. behind action all) (numbers_from (s + 1) n))
+    ∙ (λ i. places_behind count counts s p all h i ++ (places_all count counts all h (s + 1) n (omega arith) ∙ ap (λ (k : ℕ). numbers_from k (n * p)) on) i)
+    ∙ numbers_joined ((s - 1) * p) p (n * p) ∙ ap (numbers_from ((s - 1) * p)) size
+
+places_are : (counts : List ℕ) → map (place counts) (all_choices counts) ≡ numbers_from 0 (product counts)
+places_are [] = refl
+places_are (count ∷ counts) = let e : (1 - 1) * product counts ≡ 0 = omega arith in places_all count counts (all_choices counts) (places_are counts) 1 count (omega arith) ∙ ap (λ (k : ℕ). numbers_from k (count * product counts)) e
+
+pub length-all_choices : (counts : List ℕ) → length (all_choices counts) ≡ product counts
+length-all_choices counts = sym (length-map (all_choices counts) (place counts)) ∙ ap length (places_are counts) ∙ length-numbers_from 0 (product counts)
+
+place_at : (counts : List ℕ) (i : ℕ) (d : List ℕ) → i < length (all_choices counts) → place counts (get_or (all_choices counts) i d) ≡ i
+place_at counts i d h =
+    let within : i < product counts = omega (arith, length-all_choices counts) in
+    sym (get_or-map (place counts) (all_choices counts) i d 0 h) ∙ ap (λ (ns : List ℕ). get_or ns i 0) (places_are counts) ∙ get_or-numbers_from 0 (product counts) i 0 within ∙ (let e : 0 + i ≡ i = omega arith in e)
+
+-- no choice stands twice
+pub choices_distinct : (counts : List ℕ) (i j : ℕ) (d : List ℕ) → i < length (all_choices counts) → j < length (all_choices counts) → get_or (all_choices counts) i d ≡ get_or (all_choices counts) j d → i ≡ j
+choices_distinct counts i j d hi hj e = sym (place_at counts i d hi) ∙ ap (place counts) e ∙ place_at counts j d hj
+
+-- ---- every choice
+
+-- one of so many actions at each set
+abbrev pub IsChoice : List ℕ → List ℕ → Type 0
+IsChoice counts choice = AllZip (λ action count. (1 ≤ action) × (action ≤ count)) choice counts
+
+abbrev IsIn : {X : Type 0} → List X → X → Type 0
+IsIn {X} xs x = (before after : List X) × (xs ≡ before ++ x ∷ after)
+
+number_in : (first n s : ℕ) → first ≤ s → s < first + n → IsIn (numbers_from first n) s
+number_in first n s h k =
+    let a = s - first in
+    let e : n ≡ a + suc (n - a - 1) = omega arith in
+    let f : first + a ≡ s = omega arith in
+    (numbers_from first a, numbers_from (s + 1) (n - a - 1), ap (numbers_from first) e ∙ sym (numbers_joined first a (suc (n - a - 1))) ∙ ap (λ (i : ℕ). numbers_from first a ++ numbers_from i (suc (n - a - 1))) f)
+
+choice_in : (counts choice : List ℕ) → IsChoice counts choice → IsIn (all_choices counts) choice
+choice_in [] [] h = ([], [], refl)
+choice_in [] (action ∷ others) h = absurd h
+choice_in (count ∷ counts) [] h = absurd h
+choice_in (count ∷ counts) (action ∷ others) h =
+    let r = choice_in counts others h.1 in
+    let n = number_in 1 count action h.0.0 (omega (arith, h.0.1)) in
+    let all = all_choices counts in
+    let f = λ (a : ℕ). behind a all in
+    let here : f action ≡ behind action r.0 ++ (action ∷ others) ∷ behind action r.1 = ap (behind action) r.2 ∙ map-append (λ rest. action ∷ rest) r.0 (others ∷ r.1) in (
+      flat_map f n.0 ++ behind action r.0,
+      behind action r.1 ++ flat_map f n.1,
+      ap (flat_map f) n.2 ∙ flat_map-append f n.0 (action ∷ n.1) ∙ ap (λ (cs : List (List ℕ)). flat_map f n.0 ++ (cs ++ flat_map f n.1)) here
+          ∙ ap (λ (cs : List (List ℕ)). flat_map f n.0 ++ cs) (append_assoc (behind action r.0) ((action ∷ others) ∷ behind action r.1) (flat_map f n.1))
+          ∙ sym (append_assoc (flat_map f n.0) (behind action r.0) ((action ∷ others) ∷ (behind action r.1 ++ flat_map f n.1))),
+    )
+
+contains_in : {X : Type 0} (xs : List X) (x : X) → IsIn xs x → Contains xs x
+contains_in xs x h =
+    let n = length-append h.0 (x ∷ h.1) in
+    let m : length xs ≡ length (h.0 ++ x ∷ h.1) = ap length h.2 in
+    (length h.0, omega (arith, n, m), ap (λ ys. get_or ys (length h.0) x) h.2 ∙ get_or_at h.0 x h.1 x (length h.0) refl)
+
+all_behind : (count : ℕ) (counts : List ℕ) (action : ℕ) (all : List (List ℕ)) → 1 ≤ action → action ≤ count → AllByRecursion (IsChoice counts) all → AllByRecursion (IsChoice (count ∷ counts)) (behind action all)
+all_behind count counts action [] above within h = tt
+all_behind count counts action (others ∷ all) above within h = (((above, within), h.0), all_behind count counts action all above within h.1)
+
+all_first : (count : ℕ) (counts : List ℕ) (all : List (List ℕ)) → AllByRecursion (IsChoice counts) all → (s n : ℕ) → 1 ≤ s → s + n ≤ count + 1 → AllByRecursion (IsChoice (count ∷ counts)) (flat_map (λ action. behind action all) (numbers_from s n))
+all_first count counts all h s zero above within = tt
+all_first count counts all h s (suc n) above within =
+    all_both (IsChoice (count ∷ counts)) (behind s all) (flat_map (λ action. behind action all) (numbers_from (s + 1) n)) (all_behind count counts s all above (omega arith) h)
+    (all_first count counts all h (s + 1) n (omega arith) (omega arith))
+
+pub are_choices : (counts : List ℕ) → AllByRecursion (IsChoice counts) (all_choices counts)
+are_choices [] = (tt, tt)
+are_choices (count ∷ counts) = all_first count counts (all_choices counts) (are_choices counts) 1 count (omega arith) (omega arith)
+
+pub every_choice : (counts choice : List ℕ) → Contains (all_choices counts) choice ↔ IsChoice counts choice
+every_choice counts choice = (
+  λ h. All-contains (IsChoice counts) (all_choices counts) choice (All-from_recursion (IsChoice counts) (all_choices counts) (are_choices counts)) h,
+  λ h. contains_in (all_choices counts) choice (choice_in counts choice h),
+)

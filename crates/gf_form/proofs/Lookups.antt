@@ -1,0 +1,41 @@
+-- What is found in a list of which each element has a property.
+use Rattle.std.proofs.Common.{◌≡◌, ℕ, zero, suc, Bool, true, false, cond, List, [], ◌∷◌, Option, Some, None, MatchOption, refl}
+use Rattle.std.specs.Prelude.{option_map, unwrap_or, option_and_then, slice_get, ⊤}
+use Rattle.std.specs.List.{AllByRecursion, find}
+
+-- a property of what there is, if there is something
+abbrev pub Each : {A : Type 0} → (A → Type 0) → Option A → Type 0
+Each P o = MatchOption o ⊤ P
+
+pub each_got : {A : Type 0} (P : A → Type 0) (xs : List A) (i : ℕ) → AllByRecursion P xs → Each P (slice_get xs i)
+each_got P [] i h = tt
+each_got P (x ∷ xs) zero h = h.0
+each_got P (x ∷ xs) (suc i) h = each_got P xs i h.1
+
+pub each_found : {A : Type 0} (P : A → Type 0) (test : A → Bool) (xs : List A) → AllByRecursion P xs → Each (λ x. P x × (test x ≡ true)) (find test xs)
+each_found P test [] h = tt
+each_found {A} P test (x ∷ xs) h = by_test (test x) refl (each_found P test xs h.1)
+  where
+    by_test : (b : Bool) → test x ≡ b → Each (λ y. P y × (test y ≡ true)) (find test xs) → Each (λ y. P y × (test y ≡ true)) (cond b (Some x) (find test xs))
+    by_test true e others = (h.0, e)
+    by_test false e others = others
+
+pub each_mapped : {A B : Type 0} (P : B → Type 0) (f : A → B) (o : Option A) → Each (λ x. P (f x)) o → Each P (option_map f o)
+each_mapped P f None h = tt
+each_mapped P f (Some x) h = h
+
+pub each_then : {A B : Type 0} (P : A → Type 0) (Q : B → Type 0) (f : A → Option B) (o : Option A) → ((x : A) → P x → Each Q (f x)) → Each P o → Each Q (option_and_then f o)
+each_then P Q f None each h = tt
+each_then P Q f (Some x) each h = each x h
+
+pub each_weaker : {A : Type 0} (P Q : A → Type 0) (o : Option A) → ((x : A) → P x → Q x) → Each P o → Each Q o
+each_weaker P Q None weaker h = tt
+each_weaker P Q (Some x) weaker h = weaker x h
+
+pub each_or : {A : Type 0} (P : A → Type 0) (o : Option A) (default : A) → P default → Each P o → P (unwrap_or o default)
+each_or P None default d h = d
+each_or P (Some x) default d h = h
+
+pub each_any : {A : Type 0} (o : Option A) → Each (λ _. ⊤) o
+each_any None = tt
+each_any (Some x) = tt

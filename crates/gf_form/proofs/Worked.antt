@@ -1,0 +1,143 @@
+-- Worked games: their plays and payoffs, and what is left out of their strategies.
+use Rattle.std.proofs.Common.{◌≡◌, ℕ, ℤ, pos, ◌+◌, ◌-◌, ◌*◌, ◌^◌, ◌<◌, true, false, Option, None, List, [], ◌∷◌, map, get_or, refl, ap, subst, arith}
+use Rattle.std.specs.Prelude.{codes, nat_eq, nat_lt, unwrap_or, unsigned_abs, ◌*ℤ◌}
+use Rattle.std.specs.List.{AllByRecursion, Contains}
+use Rattle.std.specs.Fmt.{digits}
+use Rattle.std.proofs.lemmas.List.Elements.{All-contains, All-from_recursion}
+use Rattle.std.proofs.lemmas.Bool.{ltb-true, eqb-false}
+use Rattle.gf_fraction.specs.Ratio.{Ratio, IsFraction, whole}
+use Rattle.gf_fraction.specs.Fits.{SumFits}
+use Rattle.gf_fraction.specs.Computed.{lowest_of, gcd_within, sum_of}
+use Rattle.gf_fraction.proofs.Computes.{lowest_of-fraction, sum_is_computed}
+use Rattle.gf_form.specs.Rational.{IsEqual}
+use Rattle.gf_form.specs.Strategies.{choices_by, strategies_at}
+use Rattle.gf_form.specs.Plays.{plays}
+use Rattle.gf_form.specs.Payoff.{payoff}
+use Rattle.gf_form.specs.BottomUp.{IsValue}
+use Rattle.gf_form.specs.StrategicForm.{ArePayoffs, IsStrategicForm}
+use Rattle.gf_form.specs.Reduced.{full_profiles, reduced_at, reduced_by, reduced_label, reduced_strategies, IsReducedForm}
+use Rattle.gf_tree.specs.WorkedTrees.{bonus, forgetful, half}
+use Rattle.gf_form.proofs.WorkedGames.{integer}
+use Rattle.gf_form.specs.WorkedForms.{greatest, bonus_form, overflowing, second, unlikely, only, ending, ending_form, ending_reduced, contradicted}
+
+-- ---- fractions
+
+fraction : (z : ℤ) (d : ℕ) (r : Ratio) → 0 < d → d < 2 ^ 127 → unsigned_abs z < 2 ^ 127 → lowest_of z d ≡ r → IsFraction r
+fraction z d r above den num is = subst IsFraction is (lowest_of-fraction z d above den num)
+
+small : (n : ℕ) → n < 4 → IsFraction (whole (pos n))
+small n h = integer n (omega arith)
+
+equal : (x y : Ratio) → nat_lt 0 x.den ≡ true → nat_lt 0 y.den ≡ true → x.num *ℤ pos y.den ≡ y.num *ℤ pos x.den → IsEqual x y
+equal x y left right crosswise = record { left = ltb-true _ _ left; right = ltb-true _ _ right; crosswise = crosswise }
+
+half_fraction : IsFraction half
+unfolding lowest_of gcd_within
+half_fraction = fraction (pos 1) 2 half (omega arith) (omega arith) (omega arith) refl
+
+three_halves : IsFraction (record { num = pos 3; den = 2 })
+unfolding lowest_of gcd_within
+three_halves = fraction (pos 3) 2 _ (omega arith) (omega arith) (omega arith) refl
+
+-- ---- the bonus
+
+pub plays_of_bonus : map (λ play. map (λ s. s.taken) play.steps) (plays bonus.tree) ≡ (1 ∷ 1 ∷ []) ∷ (1 ∷ 2 ∷ []) ∷ (2 ∷ 1 ∷ []) ∷ (2 ∷ 2 ∷ []) ∷ []
+plays_of_bonus = refl
+
+pub form_of_bonus : IsStrategicForm bonus bonus_form
+unfolding digits
+form_of_bonus = record {
+  title = refl;
+  comment = refl;
+  players = refl;
+  strategies = refl;
+  profiles = refl;
+  payoffs = (
+    ((three_halves, equal _ _ refl refl refl), ((small 0 (omega arith), equal _ _ refl refl refl), tt)),
+    (((small 2 (omega arith), equal _ _ refl refl refl), ((half_fraction, equal _ _ refl refl refl), tt)), tt),
+  );
+}
+
+-- ---- the overflow
+
+pub greatest_payoff : IsEqual greatest (payoff overflowing (choices_by overflowing second) 1)
+greatest_payoff = record { left = omega arith; right = omega arith; crosswise = refl }
+
+no_sum : ¬ (SumFits greatest (whole (pos 1)))
+unfolding sum_of gcd_within
+no_sum = sum_is_computed greatest (whole (pos 1)) (integer (2 ^ 127 - 1) (omega arith)) (small 1 (omega arith))
+
+greatest_and_one : (r : Ratio) → r ≡ whole (pos 1) → ¬ (SumFits greatest r)
+greatest_and_one r is fits = no_sum (subst (SumFits greatest) is fits)
+
+pub no_value : ¬ ((value : Ratio) × IsValue overflowing (choices_by overflowing second) 1 overflowing.tree value)
+no_value h = greatest_and_one h.1.1.0 h.1.1.1 h.1.1.2.0
+
+pub unlikely_payoff : IsEqual (whole (pos 1)) (payoff unlikely (choices_by unlikely only) 1)
+unlikely_payoff = equal _ _ refl refl refl
+
+-- the second child is evaluated, though chance never comes to it
+pub no_value_either : ¬ ((value : Ratio) × IsValue unlikely (choices_by unlikely only) 1 unlikely.tree value)
+no_value_either h = let child = h.1.1.6.3 in greatest_and_one child.0 child.1 child.2.0
+
+-- ---- the action that ends the play
+
+paid : (n : ℕ) (r : Ratio) → n < 4 → nat_lt 0 r.den ≡ true → pos n *ℤ pos r.den ≡ r.num *ℤ pos 1 → IsFraction (whole (pos n)) × IsEqual (whole (pos n)) r
+paid n r h above crosswise = (small n h, equal (whole (pos n)) r refl above crosswise)
+
+pub form_of_ending : IsStrategicForm ending ending_form
+unfolding digits
+form_of_ending = record {
+  title = refl;
+  comment = refl;
+  players = refl;
+  strategies = refl;
+  profiles = refl;
+  payoffs = (
+    (paid 1 _ (omega arith) refl refl, tt),
+    ((paid 1 _ (omega arith) refl refl, tt), ((paid 2 _ (omega arith) refl refl, tt), ((paid 3 _ (omega arith) refl refl, tt), tt))),
+  );
+}
+
+-- ---- its reduced form
+
+-- tells the reduced strategies of the one player apart
+abbrev code : List (List (Option ℕ)) → ℕ
+code all = unwrap_or (get_or (get_or all 0 []) 0 None) 0 * 3 + unwrap_or (get_or (get_or all 0 []) 1 None) 0
+
+abbrev Pays : List ℕ → List Ratio → List ℕ → Type 0
+Pays profile payoffs full = reduced_by ending full ≡ reduced_at ending profile → ArePayoffs ending (choices_by ending (strategies_at ending full)) payoffs
+
+-- this full profile reduces to another profile
+other : {P : Type 0} (a b : List (List (Option ℕ))) → nat_eq (code a) (code b) ≡ false → a ≡ b → P
+other a b h e = absurd (eqb-false _ _ h (ap code e))
+
+of_each : (profile : List ℕ) (payoffs : List Ratio) → AllByRecursion (Pays profile payoffs) (full_profiles ending) → (full : List ℕ) → Contains (full_profiles ending) full → Pays profile payoffs full
+of_each profile payoffs h full c = All-contains (Pays profile payoffs) (full_profiles ending) full (All-from_recursion (Pays profile payoffs) (full_profiles ending) h) c
+
+pub reduced_of_ending : IsReducedForm ending ending_reduced
+unfolding digits
+reduced_of_ending = record {
+  title = refl;
+  comment = refl;
+  players = refl;
+  strategies = refl;
+  profiles = refl;
+  payoffs = (
+    of_each (1 ∷ []) (whole (pos 1) ∷ []) (λ _. (paid 1 _ (omega arith) refl refl, tt), (λ _. (paid 1 _ (omega arith) refl refl, tt), (other _ _ refl, (other _ _ refl, tt)))),
+    (
+      of_each (2 ∷ []) (whole (pos 2) ∷ []) (other _ _ refl, (other _ _ refl, (λ _. (paid 2 _ (omega arith) refl refl, tt), (other _ _ refl, tt)))),
+      (of_each (3 ∷ []) (whole (pos 3) ∷ []) (other _ _ refl, (other _ _ refl, (other _ _ refl, (λ _. (paid 3 _ (omega arith) refl refl, tt), tt)))), tt),
+    ),
+  );
+}
+
+-- ---- reduced strategies
+
+pub both_strategies : map reduced_label (reduced_strategies forgetful 1) ≡ codes "1-1" ∷ codes "1-2" ∷ codes "2-1" ∷ codes "2-2" ∷ []
+unfolding digits
+both_strategies = refl
+
+pub contradicted_strategies : map reduced_label (reduced_strategies contradicted 1) ≡ codes "1-*" ∷ codes "2-*" ∷ []
+unfolding digits
+contradicted_strategies = refl

@@ -1,0 +1,150 @@
+-- The worked games are games, and files can hold them.
+use Rattle.std.proofs.Common.{◌≡◌, ℕ, pos, ◌-◌, ◌^◌, ◌<◌, List, [], ◌∷◌, None, map, refl, arith}
+use Rattle.std.specs.Prelude.{codes, neg_ℤ}
+use Rattle.std.specs.List.{AllByRecursion}
+use Rattle.std.proofs.lemmas.Nat.Gcd.{dvd_refl}
+use Rattle.gf_fraction.specs.Ratio.{IsFraction, whole}
+use Rattle.gf_fraction.specs.Fits.{SumFits}
+use Rattle.gf_fraction.specs.Computed.{lowest_of, gcd_within}
+use Rattle.gf_fraction.proofs.Computes.{lowest_of-fraction}
+use Rattle.gf_fraction.proofs.Divisors.{IsGcd-one_right}
+use Rattle.gf_tree.specs.Description.{Action, AddToOne, IsSet}
+use Rattle.gf_tree.specs.Game.{IsGame}
+use Rattle.gf_tree.specs.Spellable.{IsSpellable}
+use Rattle.gf_tree.specs.WorkedTrees.{set_of, choice}
+use Rattle.gf_form.specs.WorkedForms.{greatest, sure, overflowing, unlikely, ending, contradicted}
+
+pub integer : (n : ℕ) → n < 2 ^ 127 → IsFraction (whole (pos n))
+integer n h = record { den_above_zero = omega arith; den_within = omega arith; num_within = h; lowest = IsGcd-one_right n }
+
+minus_one : IsFraction (whole (neg_ℤ (pos 1)))
+unfolding lowest_of gcd_within
+minus_one = lowest_of-fraction (neg_ℤ (pos 1)) 1 (omega arith) (omega arith) (omega arith)
+
+greatest_is : IsFraction greatest
+greatest_is = integer (2 ^ 127 - 1) (omega arith)
+
+-- ---- the sure action
+
+whole_fits : (m n : ℕ) → m < 2 → n < 2 → SumFits (whole (pos m)) (whole (pos n))
+whole_fits m n hm hn = record {
+  den = 1;
+  least = record { left = dvd_refl 1; right = dvd_refl 1; least = λ k p q. p };
+  den_within = omega arith;
+  left_within = omega arith;
+  right_within = omega arith;
+  sum_within = omega arith;
+}
+
+sure_adds : AddToOne (whole (pos 0)) (whole (pos 1) ∷ whole (pos 0) ∷ [])
+sure_adds = (omega arith, whole_fits 0 1 (omega arith) (omega arith), (whole (pos 1), integer 1 (omega arith), refl, (omega arith, whole_fits 1 0 (omega arith) (omega arith), (whole (pos 1), integer 1 (omega arith), refl, refl))))
+
+sure_is_set : IsSet 1 (set_of 0 1) (sure (codes "a") (codes "b"))
+sure_is_set = record { player = omega arith; number = omega arith; some_action = omega arith; actions = (whole (pos 1) ∷ whole (pos 0) ∷ [], refl, sure_adds) }
+
+-- ---- sets of the player
+
+no_probabilities : (labels : List (List ℕ)) → AllByRecursion (λ (a : Action). a.probability ≡ None) (map (λ label. record { label = label; probability = None }) labels)
+no_probabilities [] = tt
+no_probabilities (l ∷ ls) = (refl, no_probabilities ls)
+
+own_set : (n : ℕ) (name label : List ℕ) (labels : List (List ℕ)) → 0 < n → IsSet 1 (set_of 1 n) (choice name (label ∷ labels))
+own_set n name label labels above = record { player = omega arith; number = above; some_action = omega arith; actions = (refl, no_probabilities labels) }
+
+-- ---- games
+
+overflowing_is_game : IsGame overflowing
+overflowing_is_game = record {
+  one_entry_each_set = refl;
+  one_entry_each_outcome = refl;
+  each_set = (own_set 1 (codes "i") (codes "a") (codes "b" ∷ []) (omega arith), (own_set 2 (codes "j") (codes "c") [] (omega arith), tt));
+  each_outcome = (record { number_from_one = omega arith; one_payoff_each = refl }, (record { number_from_one = omega arith; one_payoff_each = refl }, (record { number_from_one = omega arith; one_payoff_each = refl }, tt)));
+  children = (refl, (refl, (refl, (refl, tt))));
+}
+
+unlikely_is_game : IsGame unlikely
+unlikely_is_game = record {
+  one_entry_each_set = refl;
+  one_entry_each_outcome = refl;
+  each_set = (sure_is_set, (own_set 1 (codes "k") (codes "e") [] (omega arith), tt));
+  each_outcome = (record { number_from_one = omega arith; one_payoff_each = refl }, (record { number_from_one = omega arith; one_payoff_each = refl }, tt));
+  children = (refl, (refl, (refl, (refl, tt))));
+}
+
+ending_is_game : IsGame ending
+ending_is_game = record {
+  one_entry_each_set = refl;
+  one_entry_each_outcome = refl;
+  each_set = (own_set 1 (codes "i") (codes "a") (codes "b" ∷ []) (omega arith), (own_set 2 (codes "j") (codes "c") (codes "d" ∷ []) (omega arith), tt));
+  each_outcome = (record { number_from_one = omega arith; one_payoff_each = refl }, (record { number_from_one = omega arith; one_payoff_each = refl }, (record { number_from_one = omega arith; one_payoff_each = refl }, tt)));
+  children = (refl, (refl, (refl, (refl, (refl, tt)))));
+}
+
+contradicted_is_game : IsGame contradicted
+contradicted_is_game = record {
+  one_entry_each_set = refl;
+  one_entry_each_outcome = refl;
+  each_set = (own_set 1 [] [] ([] ∷ []) (omega arith), (own_set 2 [] [] ([] ∷ []) (omega arith), tt));
+  each_outcome = tt;
+  children = (refl, (refl, (refl, (refl, (refl, (refl, (refl, tt)))))));
+}
+
+-- ---- files
+
+overflowing_is_spellable : IsSpellable overflowing
+overflowing_is_spellable = record {
+  title = refl;
+  comment = refl;
+  players = (refl, tt);
+  nodes = (refl, (refl, (refl, (refl, tt))));
+  sets = (record { player = omega arith; number = omega arith; name = refl; actions = ((refl, tt), ((refl, tt), tt)) }, (record { player = omega arith; number = omega arith; name = refl; actions = ((refl, tt), tt) }, tt));
+  outcomes = (
+    record { number = omega arith; name = refl; payoffs = (minus_one, tt) },
+    (record { number = omega arith; name = refl; payoffs = (greatest_is, tt) }, (record { number = omega arith; name = refl; payoffs = (integer 1 (omega arith), tt) }, tt)),
+  );
+}
+
+unlikely_is_spellable : IsSpellable unlikely
+unlikely_is_spellable = record {
+  title = refl;
+  comment = refl;
+  players = (refl, tt);
+  nodes = (refl, (refl, (refl, (refl, tt))));
+  sets = (
+    record { player = omega arith; number = omega arith; name = refl; actions = ((refl, integer 1 (omega arith)), ((refl, integer 0 (omega arith)), tt)) },
+    (record { player = omega arith; number = omega arith; name = refl; actions = ((refl, tt), tt) }, tt),
+  );
+  outcomes = (record { number = omega arith; name = refl; payoffs = (integer 1 (omega arith), tt) }, (record { number = omega arith; name = refl; payoffs = (greatest_is, tt) }, tt));
+}
+
+ending_is_spellable : IsSpellable ending
+ending_is_spellable = record {
+  title = refl;
+  comment = refl;
+  players = (refl, tt);
+  nodes = (refl, (refl, (refl, (refl, (refl, tt)))));
+  sets = (
+    record { player = omega arith; number = omega arith; name = refl; actions = ((refl, tt), ((refl, tt), tt)) },
+    (record { player = omega arith; number = omega arith; name = refl; actions = ((refl, tt), ((refl, tt), tt)) }, tt),
+  );
+  outcomes = (
+    record { number = omega arith; name = refl; payoffs = (integer 1 (omega arith), tt) },
+    (record { number = omega arith; name = refl; payoffs = (integer 2 (omega arith), tt) }, (record { number = omega arith; name = refl; payoffs = (integer 3 (omega arith), tt) }, tt)),
+  );
+}
+
+contradicted_is_spellable : IsSpellable contradicted
+contradicted_is_spellable = record {
+  title = refl;
+  comment = refl;
+  players = (refl, tt);
+  nodes = (refl, (refl, (refl, (refl, (refl, (refl, (refl, tt)))))));
+  sets = (
+    record { player = omega arith; number = omega arith; name = refl; actions = ((refl, tt), ((refl, tt), tt)) },
+    (record { player = omega arith; number = omega arith; name = refl; actions = ((refl, tt), ((refl, tt), tt)) }, tt),
+  );
+  outcomes = tt;
+}
+
+pub worked_games : AllByRecursion (λ g. IsGame g × IsSpellable g) (overflowing ∷ unlikely ∷ ending ∷ contradicted ∷ [])
+worked_games = ((overflowing_is_game, overflowing_is_spellable), ((unlikely_is_game, unlikely_is_spellable), ((ending_is_game, ending_is_spellable), ((contradicted_is_game, contradicted_is_spellable), tt))))

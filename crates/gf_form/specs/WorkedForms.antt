@@ -1,0 +1,97 @@
+-- Worked games, with their strategic and reduced forms.
+use Rattle.std.specs.Prelude.{ℕ, ◌^◌, ◌-◌, pos, neg_ℤ, List, [], ◌∷◌, codes, Some, None}
+use Rattle.gf_fraction.specs.Ratio.{Ratio, whole}
+use Rattle.gf_nfg.specs.Table.{Entry, Table}
+use Rattle.gf_tree.specs.Tree.{Tree, Trees}
+use Rattle.gf_tree.specs.Tree.Trees.{none, more}
+use Rattle.gf_tree.specs.Description.{InformationSet, Outcome, SetKey}
+use Rattle.gf_tree.specs.FiniteMap.{Described}
+use Rattle.gf_tree.specs.Game.{Node, Game}
+use Rattle.gf_tree.specs.WorkedTrees.{set_of, moves, ends, choice, half, described}
+
+-- 2^127 - 1, the greatest payoff
+abbrev pub greatest : Ratio
+greatest = whole (pos (2 ^ 127 - 1))
+
+abbrev pub one : Tree Node → Trees Node
+one t = more t none
+
+abbrev pub two : Tree Node → Tree Node → Trees Node
+two t u = more t (one u)
+
+-- an outcome of one player
+abbrev pub paying : List ℕ → Ratio → Outcome
+paying name payoff = record { name = name; payoffs = payoff ∷ [] }
+
+-- a game, and a table, of the player "A"
+abbrev pub game : List ℕ → Tree Node → List (Described SetKey InformationSet) → List (Described ℕ Outcome) → Game
+game title tree sets outcomes = record { title = title; comment = []; players = codes "A" ∷ []; tree = tree; sets = sets; outcomes = outcomes }
+
+abbrev pub table : List ℕ → List (List ℕ) → List Entry → Table
+table title strategies entries = record { title = title; comment = []; players = codes "A" ∷ []; strategies = strategies ∷ []; entries = entries }
+
+abbrev pub entry : List ℕ → List Ratio → Entry
+entry profile payoffs = record { profile = profile; payoffs = payoffs }
+
+-- at this strategy this whole payoff
+abbrev pub pays : ℕ → ℕ → Entry
+pays strategy payoff = entry (strategy ∷ []) (whole (pos payoff) ∷ [])
+
+-- ---- the form of the game "bonus", in which the second player has no set
+
+abbrev pub bonus_form : Table
+bonus_form = record {
+  title = codes "g";
+  comment = [];
+  players = codes "A" ∷ codes "B" ∷ [];
+  strategies = (codes "1" ∷ codes "2" ∷ []) ∷ ([] ∷ []) ∷ [];
+  entries = entry (1 ∷ 1 ∷ []) (record { num = pos 3; den = 2 } ∷ whole (pos 0) ∷ []) ∷ entry (2 ∷ 1 ∷ []) (whole (pos 2) ∷ half ∷ []) ∷ [];
+}
+
+-- ---- a payoff that fits, by a sum on its way that does not
+
+abbrev pub overflowing : Game
+overflowing = game (codes "o")
+    (moves (set_of 1 1) (Some 1) (two (ends None) (moves (set_of 1 2) (Some 2) (one (ends (Some 3))))))
+    (described (set_of 1 1) (choice (codes "i") (codes "a" ∷ codes "b" ∷ [])) ∷ described (set_of 1 2) (choice (codes "j") (codes "c" ∷ [])) ∷ [])
+    (described 1 (paying (codes "x") (whole (neg_ℤ (pos 1)))) ∷ described 2 (paying (codes "y") greatest) ∷ described 3 (paying (codes "z") (whole (pos 1))) ∷ [])
+
+-- its player's second strategy
+abbrev pub second : List (List ℕ)
+second = (2 ∷ 1 ∷ []) ∷ []
+
+-- ---- a payoff that overflows where chance never comes
+
+abbrev pub sure : List ℕ → List ℕ → InformationSet
+sure first other = record { name = []; actions = record { label = first; probability = Some (whole (pos 1)) } ∷ record { label = other; probability = Some (whole (pos 0)) } ∷ [] }
+
+abbrev pub unlikely : Game
+unlikely = game (codes "q")
+    (moves (set_of 0 1) None (two (ends (Some 1)) (moves (set_of 1 1) (Some 2) (one (ends (Some 1))))))
+    (described (set_of 0 1) (sure (codes "a") (codes "b")) ∷ described (set_of 1 1) (choice (codes "k") (codes "e" ∷ [])) ∷ [])
+    (described 1 (paying (codes "x") (whole (pos 1))) ∷ described 2 (paying (codes "y") greatest) ∷ [])
+
+abbrev pub only : List (List ℕ)
+only = (1 ∷ []) ∷ []
+
+-- ---- a choice that does not matter behind an action that ends the play
+
+abbrev pub ending : Game
+ending = game (codes "r")
+    (moves (set_of 1 1) None (two (ends (Some 1)) (moves (set_of 1 2) None (two (ends (Some 2)) (ends (Some 3))))))
+    (described (set_of 1 1) (choice (codes "i") (codes "a" ∷ codes "b" ∷ [])) ∷ described (set_of 1 2) (choice (codes "j") (codes "c" ∷ codes "d" ∷ [])) ∷ [])
+    (described 1 (paying (codes "x") (whole (pos 1))) ∷ described 2 (paying (codes "y") (whole (pos 2))) ∷ described 3 (paying (codes "z") (whole (pos 3))) ∷ [])
+
+abbrev pub ending_form : Table
+ending_form = table (codes "r") (codes "1-1" ∷ codes "1-2" ∷ codes "2-1" ∷ codes "2-2" ∷ []) (pays 1 1 ∷ pays 2 1 ∷ pays 3 2 ∷ pays 4 3 ∷ [])
+
+abbrev pub ending_reduced : Table
+ending_reduced = table (codes "r") (codes "1-*" ∷ codes "2-1" ∷ codes "2-2" ∷ []) (pays 1 1 ∷ pays 2 2 ∷ pays 3 3 ∷ [])
+
+-- ---- a set behind both actions of one that is met twice, which no strategy chooses
+
+abbrev pub contradicted : Game
+contradicted = game []
+    (moves (set_of 1 1) None (two (moves (set_of 1 1) None (two (ends None) (moves (set_of 1 2) None (two (ends None) (ends None))))) (ends None)))
+    (described (set_of 1 1) (choice [] ([] ∷ [] ∷ [])) ∷ described (set_of 1 2) (choice [] ([] ∷ [] ∷ [])) ∷ [])
+    []
