@@ -154,8 +154,11 @@ impl Table {
     }
 
     /// The table of these parts. The rows are the payoffs at each profile in the order of a file: the first player's
-    /// strategy advances fastest, and each profile has one payoff for each player (Gambit documentation, Game
-    /// representation formats). There are at most 1,048,576 profiles (this project's profile).
+    /// strategy advances fastest, and each profile has one payoff for each player (Gambit documentation, "Game
+    /// representation formats").
+    ///
+    /// The caller sees to it that there are at most 4,294,967,295 players, one list of at least one strategy for each,
+    /// at most 1,048,576 profiles (this project's profile), and as many payoffs as profiles times players.
     ///
     /// `AllocError` where memory is refused.
     pub fn new(
@@ -211,12 +214,14 @@ impl Table {
         }
     }
 
+    /// The title.
     pub fn title(&self) -> Label<'_>
         ensures { label_of result ≡ self.now.title }
     {
         self.names.title()
     }
 
+    /// The comment, which is empty where a file has none.
     pub fn comment(&self) -> Label<'_>
         ensures { label_of result ≡ self.now.comment }
     {
