@@ -11,7 +11,7 @@ use Rattle.gf_nfg.specs.Limit.{profile_limit}
 use Rattle.gf_nfg.specs.Profiles.{numbers_from, positions, product, profiles}
 use Rattle.gf_nfg.specs.Table.{Entry, Table, IsTable, rows}
 use Rattle.gf_nfg.specs.TableAccess.{IsTableOf}
-use Rattle.gf_nfg.specs.TableParts.{Names, entries_of, table_with, row_of, number_in, numbers_of, IsNamed, HasRows}
+use Rattle.gf_nfg.specs.TableParts.{Names, entries_of, kept_row, table_with, row_of, number_in, numbers_of, IsNamed, HasRows}
 
 pub length-numbers_from : (first n : ℕ) → length (numbers_from first n) ≡ n
 length-numbers_from first zero = refl
@@ -157,6 +157,10 @@ number_within names count payoffs zeros numbers place number h = all_at (λ n. n
 pub number_zero : (names : Names) (count : ℕ) (payoffs zeros : List Ratio) (numbers : List ℕ) (place number : ℕ) → IsNumber names count payoffs zeros numbers place number
     → number ≡ 0 → zeros ≡ replicate (length names.players) (whole (pos 0))
 number_zero names count payoffs zeros numbers place number h = all_at (λ n. n ≡ 0 → zeros ≡ replicate (length names.players) (whole (pos 0))) numbers place number h.kept.kept.zeros_kept h.number_is
+
+pub kept_row_is : (players : ℕ) (payoffs zeros : List Ratio) (number : ℕ) → (number ≡ 0 → zeros ≡ row_of players payoffs 0) → kept_row players payoffs zeros number ≡ row_of players payoffs number
+kept_row_is players payoffs zeros zero h = h refl
+kept_row_is players payoffs zeros (suc k) h = refl
 
 pub row_is : (names : Names) (count : ℕ) (payoffs zeros : List Ratio) (numbers : List ℕ) (place number : ℕ) → IsNumber names count payoffs zeros numbers place number
     → slice_get (rows (table_with names (kept_rows names payoffs numbers))) place ≡ Some (row_of (length names.players) payoffs number)

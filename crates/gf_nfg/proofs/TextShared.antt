@@ -1,14 +1,15 @@
 -- Lines of rows that profiles share.
-use Rattle.std.proofs.Common.{◌≡◌, ℕ, ◌+◌, ◌-◌, ◌*◌, ◌/◌, ◌<◌, ◌≤◌, List, [], ◌∷◌, ◌++◌, length, map, take, drop, get_or, Option, Some, slice_get, option_map, append_assoc, eqb, true, false, inl, inr, refl, sym, ap, ◌∙◌, subst, arith}
-use Rattle.std.specs.Prelude.{◌⊎◌, ◌≢◌}
+use Rattle.std.proofs.Common.{◌≡◌, ℕ, ◌+◌, ◌-◌, ◌*◌, ◌/◌, ◌<◌, ◌≤◌, List, [], ◌∷◌, ◌++◌, length, map, take, drop, get_or, Option, Some, slice_get, option_map, append_assoc, inl, inr, refl, sym, ap, ◌∙◌, subst, arith}
+use Rattle.std.specs.Prelude.{◌⊎◌}
+use Rattle.std.proofs.lemmas.Bool.{cases_lt}
 use Rattle.std.specs.List.{AllByRecursion}
-use Rattle.std.proofs.Math.ListN.{set}
 use Rattle.std.proofs.Math.Nat.{le-div_iff_mul-le}
-use Rattle.std.proofs.lemmas.List.{get_or-set_same, get_or-set_other, length-append, length-set, drop_at, take_all}
+use Rattle.std.proofs.lemmas.List.{get_or_append_left, get_or_push, length-append, drop_at, take_all}
 use Rattle.std.proofs.lemmas.Option.{slice_get-get_or, slice_get-map}
-use Rattle.std.proofs.lemmas.Bool.Decides.{eqb_tells}
 use Rattle.gf_fraction.specs.Ratio.{Ratio}
-use Rattle.gf_nfg.specs.TextParts.{IsLineAdded, row_text}
+use Rattle.gf_nfg.specs.TextParts.{AreLines, IsLine, row_text}
+use Rattle.gf_nfg.specs.TableParts.{kept_row, row_of}
+use Rattle.gf_nfg.proofs.TableRows.{kept_row_is}
 use Rattle.gf_nfg.proofs.TablePieces.{all_at, take_part}
 use Rattle.gf_nfg.proofs.Texts.{line_written, lines_rest}
 
@@ -18,16 +19,17 @@ rows_below players size (number ∷ numbers) some h =
     let below : number ≤ size / players = (le-div_iff_mul-le some).1 h.0 in
     (omega (arith, below), rows_below players size numbers some h.1)
 
+pub rows_kept : (players size : ℕ) → 0 < players → (number : ℕ) → number < size / players + 1 → number * players ≤ size
+rows_kept players size some number h = (le-div_iff_mul-le some).0 (omega (arith, h))
+
+-- a row is kept with its number if that of zeros is kept where a number is 0
+pub kept_rows_are : (players : ℕ) (payoffs zeros : List Ratio) (numbers : List ℕ) → AllByRecursion (λ number. number ≡ 0 → zeros ≡ row_of players payoffs 0) numbers
+    → map (row_of players payoffs) numbers ≡ map (kept_row players payoffs zeros) numbers
+kept_rows_are players payoffs zeros [] h = refl
+kept_rows_are players payoffs zeros (number ∷ numbers) h = rw (kept_row_is players payoffs zeros number h.0, kept_rows_are players payoffs zeros numbers h.1) refl
+
 abbrev pub line_text : List Ratio → List ℕ
 line_text row = row_text row ++ 10 ∷ []
-
--- the line of a row stands at this place, if it ends behind 0
-abbrev pub IsLine : List ℕ → List Ratio → ℕ × ℕ → Type 0
-IsLine lines row place = 0 < place.1 → (place.0 ≤ place.1) × (place.1 ≤ length lines) × (take (place.1 - place.0) (drop place.0 lines) ≡ line_text row)
-
--- the same of each row by its number
-abbrev pub AreLines : (ℕ → List Ratio) → List ℕ → List (ℕ × ℕ) → Type 0
-AreLines row lines places = (k : ℕ) → k < length places → IsLine lines (row k) (get_or places k (0, 0))
 
 -- the row at a place is that of its number
 pub row_numbered : (rs : List (List Ratio)) (row : ℕ → List Ratio) (numbers : List ℕ) (at : ℕ) → rs ≡ map row numbers → at < length numbers → slice_get rs at ≡ Some (row (get_or numbers at 0))
@@ -37,61 +39,68 @@ row_numbered rs row numbers at e h =
 pub number_below : (numbers : List ℕ) (bound at : ℕ) → AllByRecursion (λ number. number < bound) numbers → at < length numbers → get_or numbers at 0 < bound
 number_below numbers bound at below h = all_at (λ number. number < bound) numbers at (get_or numbers at 0) below (slice_get-get_or numbers at 0 h)
 
--- a line stays where it is when lines are added
-line_kept : (lines more : List ℕ) (row : List Ratio) (place : ℕ × ℕ) → IsLine lines row place → IsLine (lines ++ more) row place
-line_kept lines more row place h made =
-    let l = h made in
-    let longer : length (lines ++ more) ≡ length lines + length more = length-append lines more in
-    (l.0, omega (arith, l.1, longer), take_part (place.1 - place.0) place.0 lines more (omega (arith, l.0, l.1)) ∙ l.2)
+-- lines stay where they are when a line is added behind them
+line_kept : (row : List Ratio) (text more : List ℕ) (start end : ℕ) → IsLine row text start end → IsLine row (text ++ more) start end
+line_kept row text more start end l =
+    let longer : length (text ++ more) ≡ length text + length more = length-append text more in
+    record { rises = l.rises; within = omega (arith, l.within, longer); line = take_part (end - start) start text more (omega (arith, l.rises, l.within)) ∙ l.line }
 
-pub line_ends : (row : List Ratio) (before after : List ℕ) (place : ℕ × ℕ) → IsLineAdded row before after place → 0 < place.1
-line_ends row before after place h =
-    let size : length after ≡ length before + length (line_text row) = ap length h.added ∙ length-append before (line_text row) in
-    let line : length (line_text row) ≡ length (row_text row) + 1 = length-append (row_text row) (10 ∷ []) in
-    omega (arith, size, line, h.ends)
+line_there : (row : List Ratio) (text : List ℕ) → IsLine row (text ++ line_text row) (length text) (length (text ++ line_text row))
+line_there row text =
+    let size : length (text ++ line_text row) ≡ length text + length (line_text row) = length-append text (line_text row) in
+    let long : length (text ++ line_text row) - length text ≡ length (line_text row) = omega (arith, size) in
+    let rest : drop (length text) (text ++ line_text row) ≡ line_text row = drop_at text (line_text row) (length text) refl in
+    record { rises = omega (arith, size); within = omega arith; line = rw (rest, long) (take_all (length (line_text row)) (line_text row) (omega arith)) }
 
-line_there : (row : List Ratio) (before after : List ℕ) (place : ℕ × ℕ) → IsLineAdded row before after place → IsLine after row place
-line_there row before after place h made =
-    let size : length after ≡ length before + length (line_text row) = ap length h.added ∙ length-append before (line_text row) in
-    let long : place.1 - place.0 ≡ length (line_text row) = omega (arith, size, h.begins, h.ends) in
-    let rest : drop place.0 after ≡ line_text row = ap (λ (bs : List ℕ). drop place.0 bs) h.added ∙ drop_at before (line_text row) place.0 (sym h.begins) in
-    (omega (arith, size, h.begins, h.ends), omega (arith, h.ends), rw (rest, long) (take_all (length (line_text row)) (line_text row) (omega arith)))
+-- the lines of the rows below this number are made
+pub record AreMade (row : ℕ → List Ratio) (text starts : List ℕ) (number : ℕ) : Type 0 where
+  pub lines : AreLines row text starts
+  pub counted : length starts ≡ number + 1
+  pub last : get_or starts number 0 ≡ length text
+
+pub none_made : (row : ℕ → List Ratio) → AreMade row [] (0 ∷ []) 0
+none_made row = record { lines = λ k h. absurd (omega (arith, h)); counted = refl; last = refl }
 
 -- the line of one row more
-pub line_made : (row : ℕ → List Ratio) (lines lines' : List ℕ) (places : List (ℕ × ℕ)) (k : ℕ) (place : ℕ × ℕ) → AreLines row lines places → k < length places → IsLineAdded (row k) lines lines' place
-    → AreLines row lines' (set places k place)
-line_made row lines lines' places k place are within added j h =
-    by_number (eqb_tells j k)
+line_more : (row : ℕ → List Ratio) (text starts : List ℕ) (number : ℕ) → AreMade row text starts number
+    → AreMade row (text ++ line_text (row number)) (starts ++ length (text ++ line_text (row number)) ∷ []) (number + 1)
+line_more row text starts number m = record {
+  lines = λ k h. by_number k (omega (arith, h, size)) (cases_lt k number);
+  counted = size;
+  last = get_or_push starts end 0 (number + 1) m.counted;
+}
   where
-    by_number : ((eqb j k ≡ true) × (j ≡ k)) ⊎ ((eqb j k ≡ false) × (j ≢ k)) → IsLine lines' (row j) (get_or (set places k place) j (0, 0))
-    by_number (inl e) =
-        let here : get_or (set places k place) j (0, 0) ≡ place = ap (λ (n : ℕ). get_or (set places k place) n (0, 0)) e.1 ∙ get_or-set_same places k place (0, 0) within in
-        subst (λ p. IsLine lines' (row j) p) (sym here) (subst (λ n. IsLine lines' (row n) place) (sym e.1) (line_there (row k) lines lines' place added))
-    by_number (inr e) =
-        let there : get_or (set places k place) j (0, 0) ≡ get_or places j (0, 0) = get_or-set_other places k j place (0, 0) e.1 in
-        subst (λ p. IsLine lines' (row j) p) (sym there)
-        (subst (λ ls. IsLine ls (row j) (get_or places j (0, 0))) (sym added.added) (line_kept lines (line_text (row k)) (row j) (get_or places j (0, 0)) (are j (omega (arith, h, length-set places k place)))))
+    more : List ℕ
+    more = text ++ line_text (row number)
 
--- the lines and their places where the line with this number is made
-abbrev pub AreReady : (ℕ → List Ratio) → ℕ → ℕ → List ℕ → List (ℕ × ℕ) → Type 0
-AreReady row count k lines places = AreLines row lines places × (length places ≡ count) × (0 < (get_or places k (0, 0)).1)
+    end : ℕ
+    end = length more
 
-pub ready_made : (row : ℕ → List Ratio) (count k : ℕ) (lines lines' : List ℕ) (places : List (ℕ × ℕ)) (place : ℕ × ℕ) (r : List Ratio) → AreLines row lines places → length places ≡ count → k < count → r ≡ row k
-    → IsLineAdded r lines lines' place → AreReady row count k lines' (set places k place)
-ready_made row count k lines lines' places place r are size within is added =
-    let added' : IsLineAdded (row k) lines lines' place = subst (λ x. IsLineAdded x lines lines' place) is added in
-    let here : get_or (set places k place) k (0, 0) ≡ place = get_or-set_same places k place (0, 0) (omega (arith, size, within)) in
-    (line_made row lines lines' places k place are (omega (arith, size, within)) added', length-set places k place ∙ size, subst (λ p. 0 < p.1) (sym here) (line_ends r lines lines' place added))
+    size : length (starts ++ end ∷ []) ≡ number + 1 + 1
+    size = length-append starts (end ∷ []) ∙ omega (arith, m.counted)
 
-pub get_or_any : {A : Type 0} (xs : List A) (i : ℕ) (x d : A) → x ≡ get_or xs i x → i < length xs → x ≡ get_or xs i d
-get_or_any xs i x d is h =
-    let a = slice_get-get_or xs i x h in
-    let b = slice_get-get_or xs i d h in
-    cc
+    by_number : (k : ℕ) → k ≤ number → (k < number) ⊎ (number ≤ k) → IsLine (row k) more (get_or (starts ++ end ∷ []) k 0) (get_or (starts ++ end ∷ []) (k + 1) 0)
+    by_number k h (inl below) =
+        let here = get_or_append_left starts (end ∷ []) 0 k (omega (arith, below, m.counted)) in
+        let next = get_or_append_left starts (end ∷ []) 0 (k + 1) (omega (arith, below, m.counted)) in
+        subst (λ (p : ℕ × ℕ). IsLine (row k) more p.0 p.1) (λ i. (sym here i, sym next i)) (line_kept (row k) text (line_text (row number)) (get_or starts k 0) (get_or starts (k + 1) 0) (m.lines k (omega (arith, below, m.counted))))
+    by_number k h (inr above) =
+        let same : number ≡ k = omega (arith, h, above) in
+        let here = get_or_append_left starts (end ∷ []) 0 number (omega (arith, m.counted)) ∙ m.last in
+        let next = get_or_push starts end 0 (number + 1) m.counted in
+        subst (λ (j : ℕ). IsLine (row j) more (get_or (starts ++ end ∷ []) j 0) (get_or (starts ++ end ∷ []) (j + 1) 0)) same
+        (subst (λ (p : ℕ × ℕ). IsLine (row number) more p.0 p.1) (λ i. (sym here i, sym next i)) (line_there (row number) text))
+
+pub line_made : (row : ℕ → List Ratio) (text text1 text2 starts starts' : List ℕ) (number start : ℕ) (r : List Ratio) → r ≡ row number → text1 ≡ text ++ row_text r → text2 ≡ text1 ++ 10 ∷ [] → start ≡ length text2
+    → starts' ≡ starts ++ start ∷ [] → AreMade row text starts number → AreMade row text2 starts' (number + 1)
+line_made row text text1 text2 starts starts' number start r is e1 e2 here e3 m =
+    let added : text2 ≡ text ++ line_text (row number) = e2 ∙ ap (λ (bs : List ℕ). bs ++ 10 ∷ []) e1 ∙ append_assoc text (row_text r) (10 ∷ []) ∙ ap (λ (x : List Ratio). text ++ line_text x) is in
+    let grown : starts' ≡ starts ++ length (text ++ line_text (row number)) ∷ [] = e3 ∙ ap (λ (n : ℕ). starts ++ n ∷ []) (here ∙ ap length added) in
+    subst (λ (p : List ℕ × List ℕ). AreMade row p.0 p.1 (number + 1)) (λ i. (sym added i, sym grown i)) (line_more row text starts number m)
 
 -- the line of the row at a place is copied
-pub line_copied : (rs : List (List Ratio)) (at : ℕ) (row : List Ratio) (lines : List ℕ) (place : ℕ × ℕ) (out out' total : List ℕ) → slice_get rs at ≡ Some row → IsLine lines row place → 0 < place.1
-    → out' ≡ out ++ take (place.1 - place.0) (drop place.0 lines) → out ++ lines_rest rs at ≡ total → out' ++ lines_rest rs (at + 1) ≡ total
-line_copied rs at row lines place out out' total here line made copied h =
-    let text : out' ≡ (out ++ row_text row) ++ 10 ∷ [] = copied ∙ ap (λ (bs : List ℕ). out ++ bs) (line made).2 ∙ sym (append_assoc out (row_text row) (10 ∷ [])) in
+pub line_copied : (rs : List (List Ratio)) (at : ℕ) (row : List Ratio) (lines : List ℕ) (start end : ℕ) (out out' total : List ℕ) → slice_get rs at ≡ Some row → IsLine row lines start end
+    → out' ≡ out ++ take (end - start) (drop start lines) → out ++ lines_rest rs at ≡ total → out' ++ lines_rest rs (at + 1) ≡ total
+line_copied rs at row lines start end out out' total here made copied h =
+    let text : out' ≡ (out ++ row_text row) ++ 10 ∷ [] = copied ∙ ap (λ (bs : List ℕ). out ++ bs) made.line ∙ sym (append_assoc out (row_text row) (10 ∷ [])) in
     line_written rs at row out (out ++ row_text row) out' total here refl text h

@@ -95,11 +95,16 @@ abbrev pub number_in : Option (List ℕ) → ℕ → Option ℕ
 number_in None place = Some (place + 1)
 number_in (Some choices) place = slice_get choices place
 
--- a number for each profile, below a bound: profiles with one number have one row
-pub record AreNumbers (t : Table) (numbers : List ℕ) (bound : ℕ) : Type 0 where
-  pub row : ℕ → List Ratio
-  pub rows_are : rows t ≡ map row numbers
+-- the row with this number as it is kept: at 0 that of zeros
+abbrev pub kept_row : ℕ → List Ratio → List Ratio → ℕ → List Ratio
+kept_row players payoffs zeros zero = zeros
+kept_row players payoffs zeros (suc k) = take players (drop (k * players) payoffs)
+
+-- a number for each profile, below a bound: profiles with one number have one row, and each number has a row
+pub record AreShared (t : Table) (numbers : List ℕ) (players : ℕ) (payoffs zeros : List Ratio) (bound : ℕ) : Type 0 where
+  pub rows_are : rows t ≡ map (kept_row players payoffs zeros) numbers
   pub below : AllByRecursion (λ number. number < bound) numbers
+  pub kept : (number : ℕ) → number < bound → number * players ≤ length payoffs
 
 -- these are names of a table with so many profiles
 pub record IsNamed (names : Names) (count : ℕ) : Type 0 where

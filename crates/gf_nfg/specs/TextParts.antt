@@ -1,5 +1,5 @@
 -- The pieces of a canonical text, for the functions that append them.
-use Rattle.std.specs.Prelude.{◌≡◌, ℕ, List, length, [], ◌∷◌, ◌++◌, map, codes}
+use Rattle.std.specs.Prelude.{◌≡◌, ℕ, ◌+◌, ◌-◌, ◌<◌, ◌≤◌, List, length, [], ◌∷◌, ◌++◌, map, codes, drop, get_or, take}
 use Rattle.gf_fraction.specs.Ratio.{Ratio}
 use Rattle.gf_fraction.specs.NumberText.{number_text}
 use Rattle.gf_nfg.specs.TableParts.{Names}
@@ -23,8 +23,12 @@ heading_text names = lines_text
     ∷ []
     ∷ [])
 
--- the line of a row was added at the end of a text, at this place
-pub record IsLineAdded (row : List Ratio) (before after : List ℕ) (place : ℕ × ℕ) : Type 0 where
-  pub added : after ≡ before ++ (row_text row ++ 10 ∷ [])
-  pub begins : place.0 ≡ length before
-  pub ends : place.1 ≡ length after
+-- the line of a row is the part of a text from `start` to `end`
+pub record IsLine (row : List Ratio) (text : List ℕ) (start end : ℕ) : Type 0 where
+  pub rises : start ≤ end
+  pub within : end ≤ length text
+  pub line : take (end - start) (drop start text) ≡ row_text row ++ 10 ∷ []
+
+-- the lines of the rows with these numbers: each begins at its start and ends where the next begins
+abbrev pub AreLines : (ℕ → List Ratio) → List ℕ → List ℕ → Type 0
+AreLines row text starts = (k : ℕ) → k + 1 < length starts → IsLine (row k) text (get_or starts k 0) (get_or starts (k + 1) 0)

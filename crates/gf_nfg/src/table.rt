@@ -7,7 +7,7 @@ ghost use Rattle.gf_nfg.specs.Limit.{profile_limit};
 ghost use Rattle.gf_nfg.specs.Profiles.{positions, product};
 ghost use Rattle.gf_nfg.specs.Table.{IsTable, rows};
 ghost use Rattle.gf_nfg.specs.TableAccess.{IsTableOf, at_position, payoffs_at};
-ghost use Rattle.gf_nfg.specs.TableParts.{AreNumbers, IsNamed, number_in, place_of, row_of, table_with};
+ghost use Rattle.gf_nfg.specs.TableParts.{AreShared, IsNamed, kept_row, number_in, place_of, row_of, table_with};
 
 use crate::names::Names;
 use gf_fraction::Fraction;
@@ -49,12 +49,16 @@ impl Model for Table {
         × (t.profiles ≤ profile_limit) };
 }
 
-/// The number of its row for each profile: equal numbers have equal rows.
+/// Rows with numbers, from 0, that profiles share.
 #[derive(Clone, Copy, Debug)]
 pub(crate) struct Shared<'t> {
+    /// The number of its row for each profile.
     pub numbers: &'t [u32],
-    /// More than the greatest number.
+    /// How many rows there are.
     pub rows: usize,
+    players: usize,
+    payoffs: &'t [Fraction],
+    zeros: &'t [Fraction],
 }
 
 /// The number of the row of the profile with this place.
@@ -76,9 +80,8 @@ fn row_at<'t>(
     zeros: &'t [Fraction],
     number: usize,
 ) -> &'t [Fraction]
-    requires kept { number * players ≤ length payoffs.now }
-    requires zero { number ≡ 0 → zeros.now ≡ row_of players payoffs.now 0 }
-    ensures { result.now ≡ row_of players payoffs.entry.now number }
+    requires { number * players ≤ length payoffs.now }
+    ensures { result.now ≡ kept_row players payoffs.entry.now zeros.entry.now number }
 {
     if number == 0 {
         zeros
@@ -108,6 +111,16 @@ fn place_of(names: &Names, profile: &[u32]) -> Option<usize>
         place = place * count + (strategy - 1);
     }
     Some(place)
+}
+
+impl<'t> Shared<'t> {
+    /// The row with this number.
+    pub(crate) fn row(self, number: usize) -> &'t [Fraction]
+        requires { number * self.players ≤ length self.payoffs.now }
+        ensures { result.now ≡ kept_row self.entry.players self.entry.payoffs.now self.entry.zeros.now number }
+    {
+        row_at(self.players, self.payoffs, self.zeros, number)
+    }
 }
 
 impl Table {
@@ -200,15 +213,18 @@ impl Table {
         row_at(self.names.players(), &self.payoffs, &self.zeros, number)
     }
 
-    /// The number of its row for each profile, where profiles may share rows.
+    /// The rows and their numbers, where profiles may share them.
     pub(crate) fn shared(&self) -> Option<Shared<'_>>
-        ensures { IfSome result (λ s. AreNumbers self.now s.numbers.now s.rows) }
+        ensures { IfSome result (λ s. AreShared self.now s.numbers.now s.players s.payoffs.now s.zeros.now s.rows) }
     {
         let players = self.names.players();
         match &self.choices {
             Some(choices) if players > 0 => Some(Shared {
                 numbers: choices,
                 rows: self.payoffs.len() / players + 1,
+                players,
+                payoffs: &self.payoffs,
+                zeros: &self.zeros,
             }),
             _ => None,
         }

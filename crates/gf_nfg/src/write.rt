@@ -1,17 +1,17 @@
 //! The canonical text of a table: Gambit's strategic format in payoff version, laid out by this project's profile.
 
-ghost use Rattle.std.specs.Prelude.{◌≡◌, ◌<◌, ◌++◌, IfOk, OnErr, OnOk, length, map};
+ghost use Rattle.std.specs.Prelude.{◌≡◌, ℕ, ◌+◌, ◌*◌, ◌<◌, ◌≤◌, ◌++◌, IfOk, OnErr, OnOk, length, map};
 ghost use Rattle.gf_fraction.specs.NumberText.{number_text};
 ghost use Rattle.gf_nfg.specs.Table.{rows};
-ghost use Rattle.gf_nfg.specs.TableParts.{AreNumbers, own_of};
+ghost use Rattle.gf_nfg.specs.TableParts.{AreShared, kept_row, own_of};
 ghost use Rattle.gf_nfg.specs.TableText.{lines_text, list_text, quoted, spaced, table_text};
-ghost use Rattle.gf_nfg.specs.TextParts.{IsLineAdded, heading_text, others_text, row_text};
+ghost use Rattle.gf_nfg.specs.TextParts.{AreLines, heading_text, others_text, row_text};
 
 use crate::names::Names;
 use crate::table::{Shared, Table};
 use gf_fraction::Fraction;
 use gf_token::write_label;
-use std::alloc::AllocError;
+use std::alloc::{AllocError, Global};
 
 /// Appends the players' names in braces.
 fn write_players(names: &Names, out: &mut Vec<u8>) -> Result<(), AllocError>
@@ -95,32 +95,41 @@ fn write_row(payoffs: &[Fraction], out: &mut Vec<u8>) -> Result<(), AllocError>
     }
 }
 
-/// Appends the line of a row. Answers where it begins and ends.
-fn write_line(row: &[Fraction], out: &mut Vec<u8>) -> Result<(usize, usize), AllocError>
-    ensures { IfOk result (λ place. IsLineAdded row.now out.old.items out.new.items place) }
+/// The lines of rows, one behind the other.
+#[derive(Drop)]
+struct Lines {
+    text: Vec<u8>,
+    /// Where each line begins, and where the last one ends.
+    starts: Vec<usize>,
+}
+
+/// The line of each row that profiles share, made in the order in which the rows lie in memory.
+fn lines_of(alloc: Global, shared: Shared<'_>) -> Result<Lines, AllocError>
+    requires { (number : ℕ) → number < shared.rows → number * shared.players ≤ length shared.payoffs.now }
+    ensures lines { IfOk result (λ lines. AreLines (kept_row shared.entry.players shared.entry.payoffs.now shared.entry.zeros.now) lines.text.items lines.starts.items) }
+    ensures all { IfOk result (λ lines. length lines.starts.items ≡ shared.entry.rows + 1) }
 {
-    let start = out.len();
-    write_row(row, out)?;
-    out.push(b'\n')?;
-    Ok((start, out.len()))
+    let mut text = Vec::new(alloc);
+    let mut starts = Vec::new(alloc);
+    starts.push(0)?;
+    for number in 0..shared.rows {
+        write_row(shared.row(number), &mut text)?;
+        text.push(b'\n')?;
+        starts.push(text.len())?;
+    }
+    Ok(Lines { text, starts })
 }
 
 /// Appends a line of payoffs for each profile, where profiles share rows: the line of a row is made once.
 fn write_shared(t: &Table, shared: Shared<'_>, out: &mut Vec<u8>) -> Result<(), AllocError>
-    requires { AreNumbers t.now shared.numbers.now shared.rows }
+    requires { AreShared t.now shared.numbers.now shared.players shared.payoffs.now shared.zeros.now shared.rows }
     ensures { OnOk result (out.new.items ≡ out.old.items ++ lines_text (map row_text (rows t.now))) }
 {
-    let alloc = *out.allocator();
-    let mut lines = Vec::new(alloc);
-    // Where the line of each row lies among the lines; it ends at 0 where it is not made yet.
-    let mut places = vec![in alloc; (0, 0); shared.rows]?;
-    for at in 0..shared.numbers.len() {
-        let number = shared.numbers[at] as usize;
-        if places[number].1 == 0 {
-            places[number] = write_line(t.row(at), &mut lines)?;
-        }
-        let (start, end) = places[number];
-        out.extend_from_slice(&lines[start..end])?;
+    let lines = lines_of(*out.allocator(), shared)?;
+    for number in shared.numbers {
+        let number = *number as usize;
+        let (start, end) = (lines.starts[number], lines.starts[number + 1]);
+        out.extend_from_slice(&lines.text[start..end])?;
     }
     Ok(())
 }
