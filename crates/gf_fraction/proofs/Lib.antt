@@ -1,6 +1,7 @@
 pub mod Integers
 pub mod Digits
 pub mod Divisors
+pub mod Decimals
 pub mod Lowest
 pub mod Views
 pub mod Words

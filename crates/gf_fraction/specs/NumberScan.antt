@@ -4,6 +4,7 @@ use Rattle.std.specs.Prelude.{◌≡◌, ◌<◌, ℕ, ℤ, Bool, true, false, L
 use Rattle.std.specs.Char.{is_ascii_digit}
 use Rattle.std.specs.Str.Parse.{digits_value_after}
 use Rattle.gf_fraction.specs.Ratio.{Ratio, IsFraction, HasValue, signed}
+use Rattle.gf_fraction.specs.Steps.{IsLowest}
 use Rattle.gf_fraction.specs.NumberSpelling.{Reading, size_of, den_of, scaled_digits, power_of_ten, IsBounded}
 use Rattle.gf_fraction.specs.NumberSpelling.Reading.{decimal, rational}
 use Rattle.gf_fraction.specs.declared.fraction.NumberFault.{NumberFault}
@@ -91,6 +92,13 @@ pub record IsShort (text : List ℕ) (num den : ℕ) : Type 0 where
   pub den_is : den_of (reading_of spelling) ≡ den
   pub den_above_zero : 0 < den
   pub bounded : IsBounded (reading_of spelling)
+
+-- the same in lowest terms
+pub record IsShortLowest (text : List ℕ) (p q : ℕ) : Type 0 where
+  pub num : ℕ
+  pub den : ℕ
+  pub said : IsShort text num den
+  pub lowest : IsLowest num den p q
 
 -- the value of a reading within its bounds, and what is wrong with another one
 pub record IsValueOf (negative : Bool) (reading : Reading) (r : Ratio) : Type 0 where

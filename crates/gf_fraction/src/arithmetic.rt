@@ -89,6 +89,24 @@ pub fn lowest_words(size: u64, den: u64) -> (u64, u64)
     (size / shared, den / shared)
 }
 
+/// Digits over ten to a power, in lowest terms. They can share no more than twos and fives, which
+/// takes no division by a number that is only known as the program runs.
+pub fn lowest_decimal(digits: u64, places: u32) -> (u64, u64)
+    requires { places ≤ 19 }
+    ensures { IsLowest digits (10 ^ places) result.0 result.1 }
+{
+    let twos = digits.trailing_zeros().min(places);
+    let mut num = digits >> twos;
+    let mut den = 10u64.pow(places) >> twos;
+    let mut fives = places;
+    while fives > 0 && num % 5 == 0 {
+        num /= 5;
+        den /= 5;
+        fives -= 1;
+    }
+    (num, den)
+}
+
 /// A size with its sign.
 pub fn with_sign(negative: bool, size: u128) -> i128
     requires { size < 2 ^ 127 }

@@ -1,12 +1,13 @@
 //! Fractions.
 
 ghost use Rattle.std.specs.Prelude.{◌≡◌, ◌⊎◌, ◌↔◌, ◌^◌, ◌<◌, ◌≤◌, ◌<ℤ◌, pos, unsigned_abs, IsTrue, IfOk, IsOkAnd, MatchResult};
+ghost use Rattle.std.specs.Int.{IsGcd};
 ghost use Rattle.gf_fraction.specs.Ratio.{HasValue, IsFraction, IsWithin, signed, whole};
 ghost use Rattle.gf_fraction.specs.Fits.{IsProduct, IsSum, ProductFits, SumFits};
 ghost use Rattle.gf_fraction.specs.Steps.{HoldsCommon};
 
 use crate::arithmetic::{
-    LARGEST, Overflow, gcd, lowest, lowest_words, product, quotient, sum_over, total, with_sign,
+    LARGEST, Overflow, gcd, lowest, product, quotient, sum_over, total, with_sign,
 };
 use std::marker::Model;
 
@@ -78,13 +79,13 @@ impl Fraction {
         }
     }
 
-    /// `num` over `den` with a sign, in lowest terms.
+    /// `num` over `den` with a sign, where they are in lowest terms.
     pub(crate) fn of_words(negative: bool, num: u64, den: u64) -> Fraction
-        requires { 0 < den }
+        requires den_above_zero { 0 < den }
+        requires lowest { IsGcd num den 1 }
         ensures fraction { IsFraction result }
-        ensures value { HasValue result (signed negative num) den }
+        ensures value { result ≡ record { num = signed negative num; den = den } }
     {
-        let (num, den) = lowest_words(num, den);
         Fraction {
             num: with_sign(negative, u128::from(num)),
             den: u128::from(den),

@@ -3,9 +3,9 @@
 ghost use Rattle.std.specs.Prelude.{◌≡◌, ◌≤◌, ◌<◌, ◌^◌, length, unsigned_abs, IfSome, MatchResult};
 ghost use Rattle.gf_fraction.specs.NumberSpelling.{Reads, scaled_digits};
 ghost use Rattle.gf_fraction.specs.NumberSpelling.Reading.{decimal, rational};
-ghost use Rattle.gf_fraction.specs.NumberScan.{HasReadingFault, IsScaled, IsShort, IsValueOf, after_sign, behind, capped, is_minus, leading, leading_value, reading_of, scan, scan_decimal, scan_exponent, scan_fraction};
+ghost use Rattle.gf_fraction.specs.NumberScan.{HasReadingFault, IsScaled, IsShortLowest, IsValueOf, after_sign, behind, capped, is_minus, leading, leading_value, reading_of, scan, scan_decimal, scan_exponent, scan_fraction};
 
-use crate::arithmetic::{LARGEST, product, with_sign};
+use crate::arithmetic::{LARGEST, lowest_decimal, lowest_words, product, with_sign};
 use crate::fraction::{Fraction, NumberFault};
 
 /// Stands for any number above `LARGEST`, since what is too large need only be known to be so.
@@ -71,10 +71,10 @@ fn word_digits(from: u64, text: &[u8]) -> (u64, &[u8])
     (value, &[])
 }
 
-/// A numerator and a denominator above zero, where a text has no exponent and 64 bits have room for
-/// both and for one digit more. Most numbers are read so.
+/// A numerator and a denominator in lowest terms, where a text has no exponent and 64 bits have room
+/// for both as spelled and for one digit more. Most numbers are read so.
 fn short(text: &[u8]) -> Option<(u64, u64)>
-    ensures { IfSome result (λ r. IsShort text.now r.0 r.1) }
+    ensures { IfSome result (λ r. IsShortLowest text.now r.0 r.1) }
 {
     let (num, rest) = word_digits(0, text);
     match rest {
@@ -82,7 +82,7 @@ fn short(text: &[u8]) -> Option<(u64, u64)>
         [b'/', under @ ..] if rest.len() < text.len() => {
             let (den, rest) = word_digits(0, under);
             if rest.is_empty() && den > 0 {
-                Some((num, den))
+                Some(lowest_words(num, den))
             } else {
                 None
             }
@@ -90,7 +90,7 @@ fn short(text: &[u8]) -> Option<(u64, u64)>
         [b'.', behind @ ..] if text.len() > 1 && behind.len() <= WORD_PLACES => {
             let (digits, rest) = word_digits(num, behind);
             if rest.is_empty() {
-                Some((digits, 10u64.pow(behind.len() as u32)))
+                Some(lowest_decimal(digits, behind.len() as u32))
             } else {
                 None
             }
