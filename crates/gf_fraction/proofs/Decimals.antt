@@ -1,16 +1,22 @@
--- A decimal in lowest terms: what is left when the twos and fives that it shares are divided out.
-use Rattle.std.proofs.Common.{◌≡◌, ℕ, zero, suc, ◌+◌, ◌-◌, ◌*◌, ◌/◌, ◌%◌, ◌^◌, ◌<◌, ◌≤◌, min, arith, refl, ap, sym, ◌∙◌, subst, lit<}
+-- A decimal in lowest terms: what is left when the twos and fives that its digits share with the power
+-- of ten are divided out.
+use Rattle.std.proofs.Common.{◌≡◌, ℕ, ℤ, Bool, pos, negsuc, zero, suc, ◌+◌, ◌-◌, ◌*◌, ◌/◌, ◌%◌, ◌^◌, ◌<◌, ◌≤◌, min, arith, ap, sym, ◌∙◌, subst}
+use Rattle.std.specs.Prelude.{unsigned_abs, ◌≤ℤ◌}
+use Rattle.std.proofs.lemmas.Int.{ints}
 use Rattle.std.specs.Int.{IsGcd, ◌∣◌, trailing_zeros, bit_at, w64}
-use Rattle.std.proofs.lemmas.Nat.{pow-add, mul-pow, shl-shr, shr_split, mod-pow-add, pow_pos}
+use Rattle.std.proofs.lemmas.Nat.{pow-add, mul-pow, shl-shr, shr_split, mod-pow-add}
 use Rattle.std.specs.Int.Count.{trailing_of_zero}
 use Rattle.std.proofs.lemmas.Nat.Bits.{bit_at-zero, bit_at-trailing_zeros}
 use Rattle.std.proofs.lemmas.Nat.Gcd.{dvd_refl, IsGcd-from_mod, IsGcd-swap}
 use Rattle.std.proofs.Math.Nat.{dvd-mul_right, pow-succ', pow-zero}
+use Rattle.gf_fraction.specs.Ratio.{Ratio, IsFraction, HasValue, signed}
 use Rattle.gf_fraction.specs.Steps.{IsLowest}
-use Rattle.gf_fraction.proofs.Divisors.{IsGcd-one_left, IsGcd-one_right, coprime-mul, coprime_parts}
+use Rattle.gf_fraction.specs.NumberScan.{IsScaled}
+use Rattle.gf_fraction.proofs.Lowest.{value_from}
+use Rattle.gf_fraction.proofs.Divisors.{IsGcd-one_right, coprime-mul, coprime_parts}
 
 -- a number that is coprime to b is coprime to its powers
-pub coprime-pow : (n b k : ℕ) → IsGcd n b 1 → IsGcd n (b ^ k) 1
+coprime-pow : (n b k : ℕ) → IsGcd n b 1 → IsGcd n (b ^ k) 1
 coprime-pow n b zero h = subst (λ x. IsGcd n x 1) (sym (pow-zero b)) (IsGcd-one_right n)
 coprime-pow n b (suc k) h =
     subst (λ x. IsGcd n x 1) (sym (pow-succ' b k)) (IsGcd-swap (b * b ^ k) n 1 (coprime-mul b (b ^ k) n (IsGcd-swap n b 1 h) (IsGcd-swap n (b ^ k) 1 (coprime-pow n b k h))))
@@ -39,9 +45,9 @@ pub record IsLeft (n d p q fives : ℕ) : Type 0 where
   pub apart : IsGcd p rest 1
 
 pub next_left : (n d p q f : ℕ) → 0 < f → p % 5 ≡ 0 → IsLeft n d p q f → IsLeft n d (p / 5) (q / 5) (f - 1)
-next_left n d p q zero some even h = absurd (omega arith)
-next_left n d p q (suc f) some even h =
-    let p_is : p / 5 * 5 ≡ p = omega (arith, even) in
+next_left n d p q zero some whole h = absurd (omega arith)
+next_left n d p q (suc f) some whole h =
+    let p_is : p / 5 * 5 ≡ p = omega (arith, whole) in
     let grown : 5 * (5 ^ f * h.rest) ≡ q = omega (arith, h.parts, ap (λ x. x * h.rest) (pow-succ' 5 f)) in
     let q_is : 5 ^ f * h.rest ≡ q / 5 = omega (arith, grown) in
     let q_whole : q / 5 * 5 ≡ q = omega (arith, grown, q_is) in
@@ -54,7 +60,7 @@ next_left n d p q (suc f) some even h =
       apart = coprime_parts p h.rest (p / 5) h.rest h.apart (subst (λ x. p / 5 ∣ x) p_is (dvd-mul_right (p / 5) 5)) (dvd_refl h.rest);
     }
 
-pub lowest_left : (n d p q f : ℕ) → IsGcd p (5 ^ f) 1 → IsLeft n d p q f → IsLowest n d p q
+lowest_left : (n d p q f : ℕ) → IsGcd p (5 ^ f) 1 → IsLeft n d p q f → IsLowest n d p q
 lowest_left n d p q f fives h =
     record {
       by = h.by;
@@ -113,3 +119,16 @@ first_left (suc n) p t fits short is =
     let some : 0 < suc n = omega arith in
     let zeros = (bit_at-trailing_zeros w64 (suc n) some fits).2 in
     from_parts (suc n) p t (p - t) parts (low_bits (suc n) t (λ i b. zeros i (omega (arith, b, is)))) (of_some (suc n) p t (p - t) some fits parts is)
+
+-- the fraction of digits over a power of ten
+pub scaled_from_lowest : (negative : Bool) (digits word p q k : ℕ) (power : ℤ) (r : Ratio) → pos 0 ≤ℤ power → unsigned_abs power ≡ k → word ≡ digits → digits < 2 ^ 127 → IsLowest word (10 ^ k) p q
+    → IsFraction r → r ≡ record { num = signed negative p; den = q } → IsScaled negative digits power r
+scaled_from_lowest negative digits word p q k (pos m) r above size same within low fraction is =
+    let value : HasValue r (signed negative word) (10 ^ k) = subst (λ x. HasValue x (signed negative word) (10 ^ k)) (sym is) (value_from negative word (10 ^ k) p q low) in
+    let F : (ℕ × ℕ) → Type 0 = λ t. HasValue r (signed negative t.0) (10 ^ t.1) in
+    record {
+      within = within;
+      fraction = fraction;
+      value = subst F (λ i. (same i, sym size i)) value;
+    }
+scaled_from_lowest negative digits word p q k (negsuc m) r above size same within low fraction is = absurd (omega (arith, ints, above))

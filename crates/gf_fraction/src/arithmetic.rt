@@ -89,8 +89,8 @@ pub fn lowest_words(size: u64, den: u64) -> (u64, u64)
     (size / shared, den / shared)
 }
 
-/// Digits over ten to a power, in lowest terms. They can share no more than twos and fives, which
-/// takes no division by a number that is only known as the program runs.
+/// Digits over ten to a power, in lowest terms. They share twos and fives alone, and to find these
+/// takes a shift and divisions by a constant.
 pub fn lowest_decimal(digits: u64, places: u32) -> (u64, u64)
     requires { places ≤ 19 }
     ensures { IsLowest digits (10 ^ places) result.0 result.1 }

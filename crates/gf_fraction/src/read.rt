@@ -237,13 +237,22 @@ fn scaled(negative: bool, digits: u128, power: i32) -> Result<Fraction, NumberFa
     ensures { MatchResult result (λ f. IsScaled negative digits power f)
         (λ fault. (fault ≡ NumberFault.TooLarge) × (2 ^ 127 ≤ scaled_digits digits power)) }
 {
-    let ten = power_of_ten(power.unsigned_abs());
-    if power >= 0 {
-        return Ok(Fraction::reduced(with_sign(negative, digits), ten, ten));
+    let places = power.unsigned_abs();
+    if power < 0 {
+        return match product(digits, power_of_ten(places)) {
+            Ok(size) => Ok(Fraction::reduced(with_sign(negative, size), 1, 1)),
+            Err(_) => Err(NumberFault::TooLarge),
+        };
     }
-    match product(digits, ten) {
-        Ok(size) => Ok(Fraction::reduced(with_sign(negative, size), 1, 1)),
-        Err(_) => Err(NumberFault::TooLarge),
+    match u64::try_from(digits) {
+        Ok(word) if places <= WORD_PLACES as u32 => {
+            let (num, den) = lowest_decimal(word, places);
+            Ok(Fraction::of_words(negative, num, den))
+        }
+        _ => {
+            let ten = power_of_ten(places);
+            Ok(Fraction::reduced(with_sign(negative, digits), ten, ten))
+        }
     }
 }
 

@@ -1,4 +1,4 @@
-use Rattle.std.proofs.Common.{arith, ◌≡◌, ◌^◌, ◌<◌, ◌%◌}
+use Rattle.std.proofs.Common.{arith}
 use Rattle.gf_fraction.proofs.Decimals.{first_left, next_left, no_fives, not_by_five}
 use Rattle.gf_fraction.proofs.arithmetic.lowest_decimal.Goals as goal
 

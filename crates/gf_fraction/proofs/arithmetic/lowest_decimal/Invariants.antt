@@ -1,4 +1,4 @@
-use Rattle.std.proofs.Common.{◌^◌, ◌≤◌}
+use Rattle.std.proofs.Common.{◌^◌}
 use Rattle.gf_fraction.proofs.Decimals.{IsLeft}
 use Rattle.gf_fraction.proofs.arithmetic.lowest_decimal.Given as goal
 
