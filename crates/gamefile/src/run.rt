@@ -18,8 +18,9 @@ use std::alloc::Global;
 /// is written. So only after `Write` has a front of the text gone out, and before any other fault
 /// nothing is asked of the output.
 ///
-/// - `Refused`: the file is refused, or it has a byte past the first 16,777,216, which is the last
-///   one that is read.
+/// - `Refused`: the file is refused as `read_nfg` refuses it, or it has a byte past the first
+///   16,777,216, which is the last one that is read. With E19, memory ran out for the table or the
+///   text.
 /// - `Read`, `Write`: the reader or the writer failed, or was interrupted sixteen times in a row,
 ///   or the writer took nothing. `failures` has counted it.
 /// - `Memory`: memory ran out while the input was read.
