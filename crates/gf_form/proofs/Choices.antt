@@ -1,12 +1,13 @@
 -- All choices at sets with so many actions each: every one stands in the list, once and at its place.
-use Rattle.std.proofs.Common.{◌≡◌, ℕ, zero, suc, ◌+◌, ◌-◌, ◌*◌, ◌<◌, ◌≤◌, List, [], ◌∷◌, ◌++◌, length, map, get_or, refl, sym, ap, ◌∙◌, append_assoc, arith, length-append}
+use Rattle.std.proofs.Common.{◌≡◌, ℕ, zero, suc, ◌+◌, ◌-◌, ◌*◌, ◌<◌, ◌≤◌, List, [], ◌∷◌, ◌++◌, length, map, get_or, refl, sym, ap, ◌∙◌, append_assoc, arith}
 use Rattle.std.specs.Prelude.{◌↔◌}
 use Rattle.std.specs.List.{AllByRecursion, AllZip, Contains, flat_map}
 use Rattle.std.proofs.lemmas.Grind.{flat_map-append}
-use Rattle.std.proofs.lemmas.List.{length-map, map-append, get_or-map, get_or_at}
+use Rattle.std.proofs.lemmas.List.{length-map, map-append, get_or-map}
 use Rattle.std.proofs.lemmas.List.Elements.{All-contains, All-from_recursion}
 use Rattle.gf_nfg.specs.Profiles.{numbers_from, product}
 use Rattle.gf_nfg.proofs.BackLists.{all_both}
+use Rattle.gf_nfg.proofs.NumbersInTurn.{numbers_joined, length-numbers_from, get_or-numbers_from, IsIn, number_in, contains_in}
 use Rattle.gf_form.specs.Strategies.{all_choices}
 
 -- the choices that begin with this action
@@ -20,27 +21,11 @@ place _ _ = 0
 
 -- ---- numbers in turn
 
-numbers_joined : (first m n : ℕ) → numbers_from first m ++ numbers_from (first + m) n ≡ numbers_from first (m + n)
-numbers_joined first zero n = let e : first + 0 ≡ first = omega arith in let f : 0 + n ≡ n = omega arith in rw (e, f) refl
-numbers_joined first (suc m) n =
-    let e : first + suc m ≡ first + 1 + m = omega arith in
-    let f : suc m + n ≡ suc (m + n) = omega arith in
-    rw (e, f) (ap (λ (ns : List ℕ). first ∷ ns) (numbers_joined (first + 1) m n))
-
 numbers_above : (by first n : ℕ) → map (λ k. by + k) (numbers_from first n) ≡ numbers_from (by + first) n
 numbers_above by first zero = refl
 numbers_above by first (suc n) =
     let e : by + (first + 1) ≡ by + first + 1 = omega arith in
     λ i. (by + first) ∷ (numbers_above by (first + 1) n ∙ ap (λ (k : ℕ). numbers_from k n) e) i
-
-pub length-numbers_from : (first n : ℕ) → length (numbers_from first n) ≡ n
-length-numbers_from first zero = refl
-length-numbers_from first (suc n) = ap suc (length-numbers_from (first + 1) n)
-
-get_or-numbers_from : (first n i d : ℕ) → i < n → get_or (numbers_from first n) i d ≡ first + i
-get_or-numbers_from first zero i d h = absurd (omega arith)
-get_or-numbers_from first (suc n) zero d h = omega arith
-get_or-numbers_from first (suc n) (suc i) d h = get_or-numbers_from (first + 1) n i d (omega arith) ∙ (let e : first + 1 + i ≡ first + suc i = omega arith in e)
 
 -- ---- places
 
@@ -89,16 +74,6 @@ choices_distinct counts i j d hi hj e = sym (place_at counts i d hi) ∙ ap (pla
 abbrev pub IsChoice : List ℕ → List ℕ → Type 0
 IsChoice counts choice = AllZip (λ action count. (1 ≤ action) × (action ≤ count)) choice counts
 
-abbrev IsIn : {X : Type 0} → List X → X → Type 0
-IsIn {X} xs x = (before after : List X) × (xs ≡ before ++ x ∷ after)
-
-number_in : (first n s : ℕ) → first ≤ s → s < first + n → IsIn (numbers_from first n) s
-number_in first n s h k =
-    let a = s - first in
-    let e : n ≡ a + suc (n - a - 1) = omega arith in
-    let f : first + a ≡ s = omega arith in
-    (numbers_from first a, numbers_from (s + 1) (n - a - 1), ap (numbers_from first) e ∙ sym (numbers_joined first a (suc (n - a - 1))) ∙ ap (λ (i : ℕ). numbers_from first a ++ numbers_from i (suc (n - a - 1))) f)
-
 choice_in : (counts choice : List ℕ) → IsChoice counts choice → IsIn (all_choices counts) choice
 choice_in [] [] h = ([], [], refl)
 choice_in [] (action ∷ others) h = absurd h
@@ -115,12 +90,6 @@ choice_in (count ∷ counts) (action ∷ others) h =
           ∙ ap (λ (cs : List (List ℕ)). flat_map f n.0 ++ cs) (append_assoc (behind action r.0) ((action ∷ others) ∷ behind action r.1) (flat_map f n.1))
           ∙ sym (append_assoc (flat_map f n.0) (behind action r.0) ((action ∷ others) ∷ (behind action r.1 ++ flat_map f n.1))),
     )
-
-contains_in : {X : Type 0} (xs : List X) (x : X) → IsIn xs x → Contains xs x
-contains_in xs x h =
-    let n = length-append h.0 (x ∷ h.1) in
-    let m : length xs ≡ length (h.0 ++ x ∷ h.1) = ap length h.2 in
-    (length h.0, omega (arith, n, m), ap (λ ys. get_or ys (length h.0) x) h.2 ∙ get_or_at h.0 x h.1 x (length h.0) refl)
 
 all_behind : (count : ℕ) (counts : List ℕ) (action : ℕ) (all : List (List ℕ)) → 1 ≤ action → action ≤ count → AllByRecursion (IsChoice counts) all → AllByRecursion (IsChoice (count ∷ counts)) (behind action all)
 all_behind count counts action [] above within h = tt

@@ -6,12 +6,13 @@ use Rattle.std.proofs.lemmas.List.{length-map}
 use Rattle.gf_fraction.proofs.Products.{mul_above}
 use Rattle.gf_nfg.specs.Profiles.{product}
 use Rattle.gf_nfg.specs.Table.{Entry, Table, IsTable}
+use Rattle.gf_nfg.proofs.NumbersInTurn.{length-numbers_from}
 use Rattle.gf_tree.specs.Description.{SetKey, InformationSet, IsSet}
 use Rattle.gf_tree.specs.FiniteMap.{Described}
 use Rattle.gf_tree.specs.Game.{Game, IsGame}
 use Rattle.gf_form.specs.Strategies.{action_counts, strategies, strategy_label, players_of, strategies_at, choices_by}
 use Rattle.gf_form.specs.StrategicForm.{ArePayoffs, IsStrategicForm}
-use Rattle.gf_form.proofs.Choices.{length-all_choices, length-numbers_from}
+use Rattle.gf_form.proofs.Choices.{length-all_choices}
 
 as_many : {A B : Type 0} (R : A → B → Type 0) (xs : List A) (ys : List B) → AllZip R xs ys → length xs ≡ length ys
 as_many R [] [] h = refl

@@ -5,6 +5,7 @@ use Rattle.std.specs.List.{AllZip, Contains, list_all}
 use Rattle.std.specs.Option.{option_map_or}
 use Rattle.std.proofs.lemmas.Bool.{and_parts, and_from, eqb-true, eqb-false, eq-eqb, ne_eqb}
 use Rattle.gf_nfg.specs.Profiles.{numbers_from}
+use Rattle.gf_nfg.proofs.NumbersInTurn.{length-numbers_from}
 use Rattle.gf_tree.specs.Description.{SetKey}
 use Rattle.gf_tree.specs.Game.{Game}
 use Rattle.gf_tree.proofs.Uses.{Has, contains}
@@ -13,7 +14,6 @@ use Rattle.gf_form.specs.Plays.{Step, Play, plays, is_chosen, follows}
 use Rattle.gf_form.specs.Payoff.{payoff, play_probability, play_payoff}
 use Rattle.gf_form.specs.Rational.{times, total}
 use Rattle.gf_form.specs.Reduced.{is_own_choice, full_profiles, reduced, reduced_by}
-use Rattle.gf_form.proofs.Choices.{length-numbers_from}
 use Rattle.gf_form.proofs.Chosen.{profile_strategies}
 use Rattle.gf_form.proofs.Reducing.{reduced_agree, same_answer}
 

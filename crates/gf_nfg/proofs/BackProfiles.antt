@@ -4,24 +4,18 @@ use Rattle.std.specs.Prelude.{◌↔◌}
 use Rattle.std.specs.List.{AllByRecursion, Contains, flat_map}
 use Rattle.std.proofs.Math.Nat.{mul-suc}
 use Rattle.std.proofs.lemmas.Grind.{flat_map-append}
-use Rattle.std.proofs.lemmas.List.{length-map, map-append, get_or-map, get_or_at}
+use Rattle.std.proofs.lemmas.List.{length-map, map-append, get_or-map}
 use Rattle.std.proofs.lemmas.List.Elements.{All-contains, All-from_recursion}
 use Rattle.gf_nfg.specs.Profiles.{numbers_from, positions, profiles, product}
 use Rattle.gf_nfg.specs.ProfilePlaces.{IsProfile, place}
 use Rattle.gf_nfg.proofs.BackLists.{all_both}
+use Rattle.gf_nfg.proofs.NumbersInTurn.{numbers_joined, length-numbers_from, get_or-numbers_from, IsIn, number_in, contains_in}
 
 -- a profile for each strategy of the first player, with these of the others
 abbrev firsts : ℕ → List ℕ → List (List ℕ)
 firsts count others = map (λ s. s ∷ others) (positions count)
 
 -- ---- places
-
-numbers_joined : (first m n : ℕ) → numbers_from first m ++ numbers_from (first + m) n ≡ numbers_from first (m + n)
-numbers_joined first zero n = let e : first + 0 ≡ first = omega arith in let f : 0 + n ≡ n = omega arith in rw (e, f) refl
-numbers_joined first (suc m) n =
-    let e : first + suc m ≡ first + 1 + m = omega arith in
-    let f : suc m + n ≡ suc (m + n) = omega arith in
-    rw (e, f) (ap (λ (ns : List ℕ). first ∷ ns) (numbers_joined (first + 1) m n))
 
 places_first : (count : ℕ) (counts others : List ℕ) (k n s : ℕ) → place counts others ≡ k → 1 ≤ s
     → map (place (count ∷ counts)) (map (λ i. i ∷ others) (numbers_from s n)) ≡ numbers_from (s - 1 + count * k) n
@@ -46,10 +40,6 @@ places_all count counts (others ∷ tails) k e =
     ∙ ap (λ (ns : List ℕ). numbers_from (count * k) count ++ ns) (rest ∙ ap (λ (n : ℕ). numbers_from n (count * length tails)) on)
     ∙ numbers_joined (count * k) count (count * length tails) ∙ ap (numbers_from (count * k)) all
 
-length-numbers_from : (first n : ℕ) → length (numbers_from first n) ≡ n
-length-numbers_from first zero = refl
-length-numbers_from first (suc n) = ap suc (length-numbers_from (first + 1) n)
-
 length-firsts : (count : ℕ) (tails : List (List ℕ)) → length (flat_map (firsts count) tails) ≡ count * length tails
 length-firsts count [] = omega arith
 length-firsts count (others ∷ tails) =
@@ -72,11 +62,6 @@ places_are (count ∷ counts) =
 pub profiles_in_order : (counts : List ℕ) → map (place counts) (profiles counts) ≡ numbers_from 0 (product counts)
 profiles_in_order counts = places_are counts ∙ ap (numbers_from 0) (length-profiles counts)
 
-get_or-numbers_from : (first n i d : ℕ) → i < n → get_or (numbers_from first n) i d ≡ first + i
-get_or-numbers_from first zero i d h = absurd (omega arith)
-get_or-numbers_from first (suc n) zero d h = omega arith
-get_or-numbers_from first (suc n) (suc i) d h = get_or-numbers_from (first + 1) n i d (omega arith) ∙ (let e : first + 1 + i ≡ first + suc i = omega arith in e)
-
 place_at : (counts : List ℕ) (i : ℕ) (d : List ℕ) → i < length (profiles counts) → place counts (get_or (profiles counts) i d) ≡ i
 place_at counts i d h =
     sym (get_or-map (place counts) (profiles counts) i d 0 h) ∙ ap (λ (ns : List ℕ). get_or ns i 0) (places_are counts) ∙ get_or-numbers_from 0 (length (profiles counts)) i 0 h ∙ (let e : 0 + i ≡ i = omega arith in e)
@@ -86,16 +71,6 @@ pub profiles_distinct : (counts : List ℕ) (i j : ℕ) (d : List ℕ) → i < l
 profiles_distinct counts i j d hi hj e = sym (place_at counts i d hi) ∙ ap (place counts) e ∙ place_at counts j d hj
 
 -- ---- all choices
-
-abbrev IsIn : {X : Type 0} → List X → X → Type 0
-IsIn {X} xs x = (before after : List X) × (xs ≡ before ++ x ∷ after)
-
-number_in : (first n s : ℕ) → first ≤ s → s < first + n → IsIn (numbers_from first n) s
-number_in first n s h k =
-    let a = s - first in
-    let e : n ≡ a + suc (n - a - 1) = omega arith in
-    let f : first + a ≡ s = omega arith in
-    (numbers_from first a, numbers_from (s + 1) (n - a - 1), ap (numbers_from first) e ∙ sym (numbers_joined first a (suc (n - a - 1))) ∙ ap (λ (i : ℕ). numbers_from first a ++ numbers_from i (suc (n - a - 1))) f)
 
 profile_in : (counts profile : List ℕ) → IsProfile counts profile → IsIn (profiles counts) profile
 profile_in [] [] h = ([], [], refl)
@@ -112,12 +87,6 @@ profile_in (count ∷ counts) (s ∷ others) h =
       ap g r.2 ∙ flat_map-append (firsts count) r.0 (others ∷ r.1) ∙ ap (λ (ps : List (List ℕ)). g r.0 ++ (ps ++ g r.1)) first
           ∙ ap (λ (ps : List (List ℕ)). g r.0 ++ ps) (append_assoc (map f n.0) ((s ∷ others) ∷ map f n.1) (g r.1)) ∙ sym (append_assoc (g r.0) (map f n.0) ((s ∷ others) ∷ (map f n.1 ++ g r.1))),
     )
-
-contains_in : {X : Type 0} (xs : List X) (x : X) → IsIn xs x → Contains xs x
-contains_in xs x h =
-    let n = length-append h.0 (x ∷ h.1) in
-    let m : length xs ≡ length (h.0 ++ x ∷ h.1) = ap length h.2 in
-    (length h.0, omega (arith, n, m), ap (λ ys. get_or ys (length h.0) x) h.2 ∙ get_or_at h.0 x h.1 x (length h.0) refl)
 
 all_first : (count : ℕ) (counts others : List ℕ) → IsProfile counts others → (s n : ℕ) → 1 ≤ s → s + n ≤ count + 1 → AllByRecursion (IsProfile (count ∷ counts)) (map (λ i. i ∷ others) (numbers_from s n))
 all_first count counts others p s zero h k = tt

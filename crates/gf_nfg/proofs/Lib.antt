@@ -15,6 +15,7 @@ pub mod DueRows
 pub mod DueTable
 pub mod MeaningLists
 pub mod MeaningTables
+pub mod NumbersInTurn
 pub mod PlacesAll
 pub mod PlacesJudged
 pub mod PlacesLed

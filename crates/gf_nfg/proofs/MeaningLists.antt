@@ -8,7 +8,7 @@ use Rattle.std.proofs.lemmas.List.Sums.{sum_by-cons}
 use Rattle.gf_nfg.specs.Profiles.{positions, product}
 use Rattle.gf_nfg.specs.Sentence.{counted_labels}
 use Rattle.gf_nfg.specs.TableParts.{groups}
-use Rattle.gf_nfg.proofs.TableRows.{length-numbers_from}
+use Rattle.gf_nfg.proofs.NumbersInTurn.{length-numbers_from}
 
 abbrev pub joined : {A : Type 0} → List (List A) → List A
 joined lists = flat_map (λ items. items) lists

@@ -16,7 +16,8 @@ use Rattle.gf_nfg.specs.TableParts.{entries_of, row_of}
 use Rattle.gf_nfg.specs.Meaning.{strategies_of, rows_by, table_of, HasPayoffs, HasLabels, IsComplete}
 use Rattle.gf_nfg.proofs.MeaningLists.{joined, length-counted_labels, length-joined, length-joined_rows, product_above_zero}
 use Rattle.gf_nfg.proofs.MeaningTables.{is_table, rows-table_of, strategies_of-joined, all_counts, rows_in_turn, rows_again}
-use Rattle.gf_nfg.proofs.TableRows.{length-profiles, entries_again}
+use Rattle.gf_nfg.proofs.BackProfiles.{length-profiles}
+use Rattle.gf_nfg.proofs.TableRows.{entries_again}
 use Rattle.gf_nfg.proofs.RunsCommon.{ok_why, ok_is}
 use Rattle.gf_nfg.proofs.RunsHeading.{heading, heading_found, heading_again}
 use Rattle.gf_nfg.proofs.RunsStrategies.{with_counts, ended, first_found, first_counts_again, first_lists_again}

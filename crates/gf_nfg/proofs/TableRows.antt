@@ -2,9 +2,11 @@
 use Rattle.std.proofs.Common.{◌≡◌, ℕ, zero, suc, ◌+◌, ◌*◌, ◌<◌, ◌≤◌, List, [], ◌∷◌, ◌++◌, length, map, take, drop, Option, Some, None, slice_get, option_map, refl, sym, ap, ◌∙◌, arith}
 use Rattle.std.specs.Prelude.{pos, replicate, IsSome, SomeIff, unwrap_or, vec_len, Vec, ◌/◌}
 use Rattle.std.specs.List.{AllByRecursion, flat_map}
-use Rattle.std.proofs.lemmas.List.{length-take, length-drop, length-append, length-map, length-replicate, take_all, drop-drop}
+use Rattle.std.proofs.lemmas.List.{length-take, length-drop, length-map, length-replicate, take_all, drop-drop}
 use Rattle.std.proofs.Math.Nat.{mul-div_cancel, mul-le-mul_left, mul-le-mul_right, one-le-mul}
 use Rattle.std.proofs.lemmas.Option.{slice_get-map}
+use Rattle.gf_nfg.proofs.BackProfiles.{length-profiles}
+use Rattle.gf_nfg.proofs.NumbersInTurn.{length-numbers_from}
 use Rattle.gf_nfg.proofs.TablePieces.{all_at}
 use Rattle.gf_fraction.specs.Ratio.{Ratio, whole}
 use Rattle.gf_nfg.specs.Limit.{profile_limit}
@@ -12,21 +14,6 @@ use Rattle.gf_nfg.specs.Profiles.{numbers_from, positions, product, profiles}
 use Rattle.gf_nfg.specs.Table.{Entry, Table, IsTable, rows}
 use Rattle.gf_nfg.specs.TableAccess.{IsTableOf}
 use Rattle.gf_nfg.specs.TableParts.{Names, entries_of, kept_row, table_with, row_of, number_in, numbers_of, IsNamed, HasRows}
-
-pub length-numbers_from : (first n : ℕ) → length (numbers_from first n) ≡ n
-length-numbers_from first zero = refl
-length-numbers_from first (suc n) = ap suc (length-numbers_from (first + 1) n)
-
-length-flat_map-map : {A B C : Type 0} (f : B → A → C) (xs : List A) (ys : List B) → length (flat_map (λ y. map (f y) xs) ys) ≡ length xs * length ys
-length-flat_map-map f xs [] = omega arith
-length-flat_map-map f xs (y ∷ ys) =
-    length-append (map (f y) xs) (flat_map (λ y. map (f y) xs) ys) ∙ omega (arith, length-map xs (f y), length-flat_map-map f xs ys)
-
--- there are as many profiles as the product of the counts
-pub length-profiles : (counts : List ℕ) → length (profiles counts) ≡ product counts
-length-profiles [] = refl
-length-profiles (n ∷ counts) =
-    length-flat_map-map (λ others s. s ∷ others) (positions n) (profiles counts) ∙ rw (length-numbers_from 1 n, length-profiles counts) refl
 
 pub length-entries_of : (ps : List (List ℕ)) (rs : List (List Ratio)) → length ps ≡ length rs → length (entries_of ps rs) ≡ length rs
 length-entries_of [] [] h = refl
