@@ -5,24 +5,24 @@ use Rattle.std.specs.List.{AllByRecursion}
 use Rattle.std.proofs.lemmas.Bool.{eq-eqb, eqb-true}
 use Rattle.gf_nfg.specs.Profiles.{positions}
 use Rattle.gf_tree.specs.PrefixOrder.{Entry, flatten}
-use Rattle.gf_tree.specs.Description.{SetKey, InformationSet, Outcome, same_set, IsSet, IsOutcome}
+use Rattle.gf_tree.specs.Description.{SetKey, InformationSet, Outcome, same_set, IsSet, IsOutcome, set_of}
 use Rattle.gf_tree.specs.FiniteMap.{Described, first_uses}
 use Rattle.gf_tree.specs.Game.{Node, Game, IsGame, HasChildren, used_sets, used_outcomes, set_at, outcome_at}
 use Rattle.gf_canon.specs.Renumbering.{Renumbering, IsRenumbering, HasSet, HasOutcome, renumbered_set, renumbered_node, renumbered}
 use Rattle.gf_canon.specs.SameGame.{Carries, SameGame}
 use Rattle.gf_canon.specs.FirstUse.{first_use_number, sets_of, first_use_numbers, player_sets, game_outcomes}
 use Rattle.gf_canon.specs.CanonicalGame.{canonical_game}
-use Rattle.gf_canon.proofs.Members.{in_filter, of_filter, filter_of_map, map_same}
+use Rattle.gf_canon.proofs.Members.{filter_of_map, map_same}
 use Rattle.gf_canon.proofs.FirstUses.{numbered_in_order, number_kept, numbers_apart, number_positive}
 use Rattle.gf_canon.proofs.Lookups.{at_images}
-use Rattle.gf_canon.proofs.Carried.{of_keys, image_keys, image_lookup, carried_map}
+use Rattle.gf_canon.proofs.Carried.{image_keys, image_lookup, carried_map, entry_used}
 use Rattle.gf_canon.proofs.Trees.{held}
 use Rattle.gf_canon.proofs.Renumberings.{used_sets_of, used_outcomes_of, Agree, agreed_games, composed, composed_games, sets_apart, outcomes_apart}
 use Rattle.gf_canon.proofs.SameGames.{carried_sets, carried_outcomes, same_back, same_on}
-use Rattle.gf_tree.proofs.FirstUses.{was_used}
+use Rattle.gf_tree.proofs.FirstUses.{was_used, in_filter, of_filter}
 use Rattle.gf_tree.proofs.Games.{map_entry, flatten_map}
 use Rattle.gf_tree.proofs.TreesOnce.{same_set_equality}
-use Rattle.gf_tree.proofs.Uses.{Has, has, contains, has_map, mapped_from, each, all_of_each}
+use Rattle.gf_tree.proofs.Uses.{Has, has, contains, mapped_from, each, all_of_each}
 use Rattle.std.proofs.lemmas.Bool.Decides.{Decides-eqb}
 
 -- ---- a game by new numbers
@@ -51,7 +51,7 @@ renumbered_is_game g r game h = record {
     set s i =
         let k = mapped_from (λ (t : Described SetKey InformationSet). record { key = renumbered_set r t.key; description = t.description }) g.sets s i in
         let was = each (λ (t : Described SetKey InformationSet). IsSet (length g.players) t.key t.description) g.sets k.0 game.each_set k.1 in
-        let used = of_keys same_set (used_sets g.tree) g.sets k.0.key game.one_entry_each_set (has_map (λ (t : Described SetKey InformationSet). t.key) g.sets k.0 k.1) in
+        let used = entry_used same_set (used_sets g.tree) g.sets k.0 game.one_entry_each_set k.1 in
         subst
         (λ (t : Described SetKey InformationSet). IsSet (length g.players) t.key t.description)
         k.2
@@ -61,7 +61,7 @@ renumbered_is_game g r game h = record {
     outcome o i =
         let k = mapped_from (λ (t : Described ℕ Outcome). record { key = r.outcome t.key; description = t.description }) g.outcomes o i in
         let was = each (λ (t : Described ℕ Outcome). IsOutcome (length g.players) t.key t.description) g.outcomes k.0 game.each_outcome k.1 in
-        let used = of_keys nat_eq (used_outcomes g.tree) g.outcomes k.0.key game.one_entry_each_outcome (has_map (λ (t : Described ℕ Outcome). t.key) g.outcomes k.0 k.1) in
+        let used = entry_used nat_eq (used_outcomes g.tree) g.outcomes k.0 game.one_entry_each_outcome k.1 in
         subst
         (λ (t : Described ℕ Outcome). IsOutcome (length g.players) t.key t.description)
         k.2
@@ -125,20 +125,20 @@ own_set g key i = in_filter (λ (k : SetKey). nat_eq k.player key.player) (used_
 
 pub first_use_is_renumbering : (g : Game) → IsRenumbering g (first_use_numbers g)
 first_use_is_renumbering g = record {
-  positive_sets = λ player number h. number_positive same_set same_set_equality (sets_of player (used_sets g.tree)) (record { player = player; number = number }) (own player number h);
+  positive_sets = λ player number h. number_positive same_set same_set_equality (sets_of player (used_sets g.tree)) (set_of player number) (own player number h);
   positive_outcomes = λ number h. number_positive nat_eq Decides-eqb (used_outcomes g.tree) number (has (used_outcomes g.tree) number h);
   sets_apart = λ player a b h k e.
-      ap (λ (key : SetKey). key.number) (numbers_apart same_set same_set_equality (sets_of player (used_sets g.tree)) (record { player = player; number = a }) (record { player = player; number = b }) (own player a h) (own player b k) e);
+      ap (λ (key : SetKey). key.number) (numbers_apart same_set same_set_equality (sets_of player (used_sets g.tree)) (set_of player a) (set_of player b) (own player a h) (own player b k) e);
   outcomes_apart = λ a b h k e. numbers_apart nat_eq Decides-eqb (used_outcomes g.tree) a b (has (used_outcomes g.tree) a h) (has (used_outcomes g.tree) b k) e;
 }
   where
-    own : (player number : ℕ) → HasSet g player number → Has (sets_of player (used_sets g.tree)) (record { player = player; number = number })
-    own player number h = own_set g (record { player = player; number = number }) (has (used_sets g.tree) (record { player = player; number = number }) h)
+    own : (player number : ℕ) → HasSet g player number → Has (sets_of player (used_sets g.tree)) (set_of player number)
+    own player number h = own_set g (set_of player number) (has (used_sets g.tree) (set_of player number) h)
 
 pub set_number_kept : (r : Renumbering) (g h : Game) → Carries r g h → (player number : ℕ) → HasSet g player number
     → (first_use_numbers h).set player (r.set player number) ≡ (first_use_numbers g).set player number
 set_number_kept r g h c player number i =
-    let key : SetKey = record { player = player; number = number } in
+    let key = set_of player number in
     let own = sets_of player (used_sets g.tree) in
     let mine = λ (k : SetKey). nat_eq k.player player in
     let carried : sets_of player (used_sets h.tree) ≡ map (renumbered_set r) own = ap (sets_of player) (carried_sets r g h c) ∙ filter_of_map mine mine (renumbered_set r) (used_sets g.tree) (λ k j. refl) in

@@ -13,6 +13,9 @@ use Rattle.gf_tree.proofs.Uses.{Has, has_map, mapped_from, IsEquality}
 pub of_keys : {K D : Type 0} (same : K → K → Bool) (us : List K) (es : List (Described K D)) (k : K) → keys es ≡ first_uses same us → Has (keys es) k → Has us k
 of_keys same us es k q i = was_used same us k (subst (λ ks. Has ks k) q i)
 
+pub entry_used : {K D : Type 0} (same : K → K → Bool) (us : List K) (es : List (Described K D)) (e : Described K D) → keys es ≡ first_uses same us → Has es e → Has us e.key
+entry_used same us es e q i = of_keys same us es e.key q (has_map (λ (d : Described _ _). d.key) es e i)
+
 pub in_keys : {K D : Type 0} (same : K → K → Bool) → IsEquality same → (us : List K) (es : List (Described K D)) (k : K) → keys es ≡ first_uses same us → Has us k → Has (keys es) k
 in_keys same tells us es k q i = subst (λ ks. Has ks k) (sym q) (is_used same tells us k i)
 

@@ -3,7 +3,7 @@ use Rattle.std.proofs.Common.{◌≡◌, ℕ, List, [], ◌∷◌, map, get_or, 
 use Rattle.std.specs.Prelude.{◌↔◌, codes}
 use Rattle.gf_token.specs.Token.{Token, Lexeme}
 use Rattle.gf_token.specs.Token.Token.{Bare}
-use Rattle.gf_token.proofs.Spelled.{spelled}
+use Rattle.gf_token.proofs.Spelled.{same_tokens}
 use Rattle.gf_nfg.specs.Table.{Table}
 use Rattle.gf_nfg.specs.TableText.{SpellsTable}
 use Rattle.gf_nfg.proofs.BackSame.{same_is_equal}
@@ -52,7 +52,7 @@ first_word _ = []
 of_two_kinds : (bytes : List ℕ) (g : Game) (t : Table) → SpellsGame bytes g → SpellsTable bytes t → ⊥
 unfolding first_word
 of_two_kinds bytes g t p q =
-    let same : p.0 ≡ q.0 = sym (spelled p.0 0 bytes p.1) ∙ spelled q.0 0 bytes q.1 in
+    let same = same_tokens bytes p.0 q.0 p.1 q.1 in
     let words : codes "EFG" ≡ codes "NFG" = ap first_word (sym p.2.1.parts ∙ ap (map (λ (l : Lexeme). l.token)) same ∙ q.2.parts) in
     let letters : 69 ≡ 78 = ap (λ bs. get_or bs 0 0) words in
     omega (arith, letters)

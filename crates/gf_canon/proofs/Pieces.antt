@@ -1,5 +1,5 @@
 -- The text of a node piece by piece, with the tokens of each piece.
-use Rattle.std.proofs.Common.{◌≡◌, ℕ, zero, suc, pos, ◌^◌, ◌<◌, List, [], ◌∷◌, ◌++◌, map, Option, Some, None, refl, ap, subst, ◌∙◌, arith}
+use Rattle.std.proofs.Common.{◌≡◌, ℕ, zero, suc, ◌^◌, ◌<◌, List, [], ◌∷◌, ◌++◌, map, Option, Some, None, refl, ap, subst, ◌∙◌}
 use Rattle.std.specs.Prelude.{codes, decimal, MatchOption, ⊤}
 use Rattle.std.specs.List.{AllByRecursion, flat_map}
 use Rattle.std.specs.Option.{option_to_list}
@@ -8,18 +8,17 @@ use Rattle.std.proofs.lemmas.Grind.{flat_map-append}
 use Rattle.std.proofs.lemmas.List.{map-append, append-nil}
 use Rattle.gf_token.specs.Token.{Token}
 use Rattle.gf_token.specs.Token.Token.{Text, Bare}
-use Rattle.gf_token.specs.TokenSpelling.{IsSpelled}
-use Rattle.gf_fraction.specs.Ratio.{Ratio, IsFraction, whole}
+use Rattle.gf_fraction.specs.Ratio.{Ratio, IsFraction}
 use Rattle.gf_fraction.specs.NumberText.{number_text}
-use Rattle.gf_fraction.proofs.Divisors.{IsGcd-one_right}
+use Rattle.gf_fraction.proofs.AllElements.{all_both}
 use Rattle.gf_nfg.specs.TableText.{spaced, list_text, quoted}
-use Rattle.gf_nfg.proofs.BackLists.{all_both}
 use Rattle.gf_nfg.proofs.SpelledTexts.{Says, says_label, says_bare, says_spaced, says_list}
-use Rattle.gf_token.proofs.SpelledNumbers.{number_spelled}
+use Rattle.gf_token.proofs.SpelledNumbers.{number_spelled, index_spelled}
 use Rattle.gf_tree.specs.Description.{Action, SetKey, InformationSet, Outcome, IsSet, IsOutcome}
 use Rattle.gf_tree.specs.FileTree.{Use, FileNode}
 use Rattle.gf_token.specs.Grammar.{braced}
-use Rattle.gf_tree.specs.Spellable.{IsLabel, IsSpellableAction, IsSpellableSet, IsSpellableOutcome}
+use Rattle.gf_token.specs.LabelSpelling.{IsLabel}
+use Rattle.gf_tree.specs.Spellable.{IsSpellableAction, IsSpellableSet, IsSpellableOutcome}
 use Rattle.gf_tree.proofs.WrittenNodes.{action_tokens, set_tokens, outcome_tokens, mover_letter, mover_tokens, letter, step_tokens, result_tokens, node_tokens, IsSetUse, IsOutcomeUse, IsWritable}
 use Rattle.gf_canon.specs.GameText.{action_fields, set_fields, outcome_fields, described_fields, mover_fields, step_fields, result_fields, node_text}
 
@@ -161,15 +160,8 @@ node_tokens_are n = flat_map-append (λ (p : Piece). p.tokens) (step_pieces n.na
 
 -- ---- each piece says its tokens
 
-decimal_spelled : (n : ℕ) → n < 2 ^ 32 → IsSpelled (Bare (decimal n))
-unfolding number_text
-decimal_spelled n h = number_spelled (whole (pos n)) (record { den_above_zero = omega arith; den_within = omega arith; num_within = omega (arith, h); lowest = IsGcd-one_right n })
-
-said_label : (l : List ℕ) → IsLabel l → Says (quoted l) (Text l ∷ [])
-said_label l h = says_label l h
-
 said_index : (n : ℕ) → n < 2 ^ 32 → Says (decimal n) (Bare (decimal n) ∷ [])
-said_index n h = says_bare (decimal n) (decimal_spelled n h)
+said_index n h = says_bare (decimal n) (index_spelled n h)
 
 said_numbers : (rs : List Ratio) → AllByRecursion IsFraction rs → AllSaid (flat_map number rs)
 said_numbers [] h = tt
@@ -184,24 +176,24 @@ said_probability (Some r) h = said_numbers (r ∷ []) (h, tt)
 
 said_actions : (acts : List Action) → AllByRecursion IsSpellableAction acts → AllSaid (flat_map action_pieces acts)
 said_actions [] h = tt
-said_actions (a ∷ acts) h = all_both IsSaid (action_pieces a) (flat_map action_pieces acts) (said_label a.label h.0.0, said_probability a.probability h.0.1) (said_actions acts h.1)
+said_actions (a ∷ acts) h = all_both IsSaid (action_pieces a) (flat_map action_pieces acts) (says_label a.label h.0.0, said_probability a.probability h.0.1) (said_actions acts h.1)
 
 said_set : (set : InformationSet) → IsLabel set.name → AllByRecursion IsSpellableAction set.actions → AllSaid (set_pieces set)
-said_set set name actions = (said_label set.name name, (said_list (flat_map action_pieces set.actions) (said_actions set.actions actions), tt))
+said_set set name actions = (says_label set.name name, (said_list (flat_map action_pieces set.actions) (said_actions set.actions actions), tt))
 
 said_outcome : (outcome : Outcome) → IsLabel outcome.name → AllByRecursion IsFraction outcome.payoffs → AllSaid (outcome_pieces outcome)
-said_outcome outcome name payoffs = (said_label outcome.name name, (said_list (flat_map number outcome.payoffs) (said_numbers outcome.payoffs payoffs), tt))
+said_outcome outcome name payoffs = (says_label outcome.name name, (said_list (flat_map number outcome.payoffs) (said_numbers outcome.payoffs payoffs), tt))
 
 said_described : {D : Type 0} (f : D → List Piece) (P : D → Type 0) → ((d : D) → P d → AllSaid (f d)) → (n : ℕ) (o : Option D) → n < 2 ^ 32 → MatchOption o ⊤ P → AllSaid (described_pieces f n o)
 said_described f P h n None small is = (said_index n small, tt)
 said_described f P h n (Some d) small is = (said_index n small, all_both IsSaid (f d) [] (h d is) tt)
 
 said_mover : (name : List ℕ) (player : ℕ) → IsLabel name → player < 2 ^ 32 → AllSaid (mover_pieces name player)
-said_mover name zero h small = (says_bare (codes "c") (refl, tt), (said_label name h, tt))
-said_mover name (suc player) h small = (says_bare (codes "p") (refl, tt), (said_label name h, (said_index (suc player) small, tt)))
+said_mover name zero h small = (says_bare (codes "c") (refl, tt), (says_label name h, tt))
+said_mover name (suc player) h small = (says_bare (codes "p") (refl, tt), (says_label name h, (said_index (suc player) small, tt)))
 
 said_step : (players : ℕ) (name : List ℕ) (o : Option (Use SetKey InformationSet)) → IsLabel name → MatchOption o ⊤ (IsSetUse players) → AllSaid (step_pieces name o)
-said_step players name None h is = (says_bare (codes "t") (refl, tt), (said_label name h, tt))
+said_step players name None h is = (says_bare (codes "t") (refl, tt), (says_label name h, tt))
 said_step players name (Some u) h is =
     all_both IsSaid (mover_pieces name u.key.player) (described_pieces set_pieces u.key.number u.description) (said_mover name u.key.player h is.player)
     (said_described set_pieces (λ d. IsSet players u.key d × IsSpellableSet (record { key = u.key; description = d })) (λ d s. said_set d s.1.name s.1.actions) u.key.number u.description is.number is.set)

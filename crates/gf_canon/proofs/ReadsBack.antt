@@ -12,11 +12,12 @@ use Rattle.gf_tree.specs.PrefixOrder.{Entry, flatten}
 use Rattle.gf_tree.specs.Description.{SetKey, InformationSet, Outcome, same_set, IsSet, IsOutcome}
 use Rattle.gf_tree.specs.FileTree.{FileNode, FileTree}
 use Rattle.gf_token.specs.Grammar.{Each, braced}
+use Rattle.gf_token.specs.LabelSpelling.{IsLabel}
 use Rattle.gf_tree.specs.Sentence.{IsNode, Sentence}
 use Rattle.gf_tree.specs.Game.{Node, Game, IsGame, used_sets, used_outcomes, set_at, outcome_at}
 use Rattle.gf_tree.specs.Consistent.{IsConsistent}
 use Rattle.gf_tree.specs.GameOf.{IsGameOf, SpellsGame}
-use Rattle.gf_tree.specs.Spellable.{IsLabel, IsSpellable, IsSpellableSet, IsSpellableOutcome}
+use Rattle.gf_tree.specs.Spellable.{IsSpellable, IsSpellableSet, IsSpellableOutcome}
 use Rattle.gf_tree.proofs.Uses.{Has, each}
 use Rattle.gf_tree.proofs.FirstUses.{found}
 use Rattle.gf_tree.proofs.TreesOnce.{same_set_equality}

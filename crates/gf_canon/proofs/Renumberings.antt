@@ -4,7 +4,7 @@ use Rattle.std.specs.Prelude.{nat_eq, option_map}
 use Rattle.std.specs.List.{filter_map}
 use Rattle.gf_tree.specs.Tree.{Tree, map_tree}
 use Rattle.gf_tree.specs.PrefixOrder.{Entry, flatten}
-use Rattle.gf_tree.specs.Description.{SetKey, same_set}
+use Rattle.gf_tree.specs.Description.{SetKey, same_set, set_of}
 use Rattle.gf_tree.specs.Game.{Node, Game, IsGame, used_sets, used_outcomes}
 use Rattle.gf_canon.specs.Renumbering.{Renumbering, IsRenumbering, HasSet, renumbered_set, renumbered_node, renumbered}
 use Rattle.gf_canon.proofs.FirstUses.{AreApart}
@@ -102,16 +102,16 @@ outcomes_apart g r h a b i j e = h.outcomes_apart a b (contains (used_outcomes g
 pub is_renumbering : (g : Game) (r : Renumbering) → ((key : SetKey) → Has (used_sets g.tree) key → 0 < r.set key.player key.number) → ((number : ℕ) → Has (used_outcomes g.tree) number → 0 < r.outcome number)
     → AreApart (renumbered_set r) (used_sets g.tree) → AreApart r.outcome (used_outcomes g.tree) → IsRenumbering g r
 is_renumbering g r positive positive' apart apart' = record {
-  positive_sets = λ player number h. positive (record { player = player; number = number }) (has (used_sets g.tree) (record { player = player; number = number }) h);
+  positive_sets = λ player number h. positive (set_of player number) (has (used_sets g.tree) (set_of player number) h);
   positive_outcomes = λ number h. positive' number (has (used_outcomes g.tree) number h);
   sets_apart = λ player a b h k e.
       ap (λ (key : SetKey). key.number)
       (apart
-      (record { player = player; number = a })
-      (record { player = player; number = b })
-      (has (used_sets g.tree) (record { player = player; number = a }) h)
-      (has (used_sets g.tree) (record { player = player; number = b }) k)
-      (λ i. record { player = player; number = e i }));
+      (set_of player a)
+      (set_of player b)
+      (has (used_sets g.tree) (set_of player a) h)
+      (has (used_sets g.tree) (set_of player b) k)
+      (λ i. set_of player (e i)));
   outcomes_apart = λ a b h k e. apart' a b (has (used_outcomes g.tree) a h) (has (used_outcomes g.tree) b k) e;
 }
 

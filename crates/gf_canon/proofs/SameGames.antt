@@ -2,7 +2,7 @@
 use Rattle.std.proofs.Common.{◌≡◌, ℕ, ◌<◌, List, [], ◌∷◌, map, refl, sym, ap, subst, ◌∙◌, inl, inr}
 use Rattle.std.specs.Prelude.{nat_eq}
 use Rattle.gf_tree.specs.Tree.{map_tree}
-use Rattle.gf_tree.specs.Description.{SetKey, same_set}
+use Rattle.gf_tree.specs.Description.{SetKey, same_set, set_of}
 use Rattle.gf_tree.specs.Game.{Game, IsGame, used_sets, used_outcomes, set_at, outcome_at}
 use Rattle.gf_canon.specs.Renumbering.{Renumbering, HasSet, HasOutcome, renumbered_set, renumbered_node}
 use Rattle.gf_canon.specs.SameGame.{Carries, SameGame}
@@ -76,7 +76,7 @@ same_on g h k c d = (composed c.0 d.0, carries_on c.0 d.0 g h k c.1 d.1)
 
 abbrev pub inverse : Renumbering → Game → Renumbering
 inverse r g = record {
-  set = λ player number. (undo same_set (renumbered_set r) (used_sets g.tree) (record { player = player; number = number })).number;
+  set = λ player number. (undo same_set (renumbered_set r) (used_sets g.tree) (set_of player number)).number;
   outcome = λ number. undo nat_eq r.outcome (used_outcomes g.tree) number;
 }
 
@@ -152,7 +152,7 @@ images_told {X} {Y} f g (y ∷ xs) e x i = go i (images_told f g xs rest x)
 
 pub only_sets : (r s : Renumbering) (g h : Game) → Carries r g h → Carries s g h → (player number : ℕ) → HasSet g player number → r.set player number ≡ s.set player number
 only_sets r s g h c d player number i =
-    let key : SetKey = record { player = player; number = number } in
+    let key = set_of player number in
     ap (λ (k : SetKey). k.number) (images_told (renumbered_set r) (renumbered_set s) (used_sets g.tree) (sym (carried_sets r g h c) ∙ carried_sets s g h d) key (has (used_sets g.tree) key i))
 
 pub only_outcomes : (r s : Renumbering) (g h : Game) → Carries r g h → Carries s g h → (number : ℕ) → HasOutcome g number → r.outcome number ≡ s.outcome number

@@ -6,22 +6,22 @@ use Rattle.std.proofs.lemmas.Bool.{eqb-true, ne_eqb, or_cases}
 use Rattle.std.proofs.lemmas.Bool.Decides.{Decides-eqb}
 use Rattle.std.proofs.lemmas.List.{length-map}
 use Rattle.std.proofs.lemmas.Map.Steps.{length-le_from_distinct_below}
+use Rattle.gf_token.specs.LabelSpelling.{IsLabel}
 use Rattle.gf_tree.specs.PrefixOrder.{Entry, flatten}
 use Rattle.gf_tree.specs.Description.{SetKey, InformationSet, Outcome, same_set}
 use Rattle.gf_tree.specs.FiniteMap.{Described, first_uses}
 use Rattle.gf_tree.specs.Game.{Node, Game, IsGame, used_sets, used_outcomes}
-use Rattle.gf_tree.specs.Spellable.{IsLabel, IsSpellable, IsSpellableSet, IsSpellableOutcome}
-use Rattle.gf_tree.proofs.Uses.{Has, IsEquality, mapped_from, has_map, each, all_of_each}
-use Rattle.gf_tree.proofs.FirstUses.{AreDistinct, was_used, first_uses_distinct}
+use Rattle.gf_tree.specs.Spellable.{IsSpellable, IsSpellableSet, IsSpellableOutcome}
+use Rattle.gf_tree.proofs.Uses.{Has, IsEquality, mapped_from, each, all_of_each}
+use Rattle.gf_tree.proofs.FirstUses.{AreDistinct, was_used, first_uses_distinct, of_filter}
 use Rattle.gf_tree.proofs.TreesOnce.{same_set_equality}
 use Rattle.gf_tree.proofs.Games.{map_entry, flatten_map}
 use Rattle.gf_canon.specs.Renumbering.{renumbered_set, renumbered_node}
 use Rattle.gf_canon.specs.FirstUse.{first_use_number, sets_of, first_use_numbers}
 use Rattle.gf_canon.specs.CanonicalGame.{canonical_game}
-use Rattle.gf_canon.proofs.Members.{of_filter}
 use Rattle.gf_canon.proofs.FirstUses.{AreApart, number_at_most}
 use Rattle.gf_canon.proofs.Lookups.{at_images}
-use Rattle.gf_canon.proofs.Carried.{of_keys, in_keys}
+use Rattle.gf_canon.proofs.Carried.{in_keys, entry_used}
 use Rattle.gf_canon.proofs.Renumberings.{set_number_positive, outcome_number_positive}
 use Rattle.gf_canon.proofs.CanonicalGames.{own_set}
 
@@ -102,7 +102,7 @@ canonical_is_spellable g game can = record {
         let k = mapped_from (λ (t : Described SetKey InformationSet). record { key = renumbered_set (first_use_numbers g) t.key; description = t.description }) g.sets s i in
         let was = each IsSpellableSet g.sets k.0 can.sets k.1 in
         let player = k.0.key.player in
-        let used = of_keys same_set (used_sets g.tree) g.sets k.0.key game.one_entry_each_set (has_map (λ (t : Described SetKey InformationSet). t.key) g.sets k.0 k.1) in
+        let used = entry_used same_set (used_sets g.tree) g.sets k.0 game.one_entry_each_set k.1 in
         let apart : AreApart (λ (key : SetKey). key.number) (sets_of player (used_sets g.tree)) = λ a b p q e.
         let same : a.player ≡ b.player = (own player a p).1 ∙ sym (own player b q).1 in
         λ j. record { player = same j; number = e j } in
@@ -113,6 +113,6 @@ canonical_is_spellable g game can = record {
     outcome o i =
         let k = mapped_from (λ (t : Described ℕ Outcome). record { key = (first_use_numbers g).outcome t.key; description = t.description }) g.outcomes o i in
         let was = each IsSpellableOutcome g.outcomes k.0 can.outcomes k.1 in
-        let used = of_keys nat_eq (used_outcomes g.tree) g.outcomes k.0.key game.one_entry_each_outcome (has_map (λ (t : Described ℕ Outcome). t.key) g.outcomes k.0 k.1) in
+        let used = entry_used nat_eq (used_outcomes g.tree) g.outcomes k.0 game.one_entry_each_outcome k.1 in
         let number = number_below nat_eq Decides-eqb (λ n. n) (used_outcomes g.tree) k.0.key (2 ^ 32) (omega arith) used (λ a b p q e. e) outcome_small in
         subst IsSpellableOutcome k.2 (record { number = number; name = was.name; payoffs = was.payoffs })

@@ -2,14 +2,15 @@
 use Rattle.std.proofs.Common.{◌≡◌, ℕ, Bool, true, false, cond, List, [], ◌∷◌, length, map, Option, Some, None, refl, sym, ap, subst, ◌∙◌}
 use Rattle.std.specs.Prelude.{nat_eq, option_map, MatchOption, ◌↔◌}
 use Rattle.std.specs.List.{AllByRecursion, Contains, filter_map, cons_option, find}
+use Rattle.gf_token.specs.LabelSpelling.{IsLabel}
 use Rattle.gf_nfg.proofs.BackTables.{text_reads_back as table_reads_back}
 use Rattle.gf_nfg.proofs.SpelledTables.{spelled_is_spellable as spelled_table}
 use Rattle.gf_tree.specs.Tree.{map_tree}
 use Rattle.gf_tree.specs.PrefixOrder.{Entry, flatten}
-use Rattle.gf_tree.specs.Description.{SetKey, InformationSet, Outcome, same_set, IsSet, IsOutcome}
+use Rattle.gf_tree.specs.Description.{SetKey, InformationSet, Outcome, same_set, IsSet, IsOutcome, set_of}
 use Rattle.gf_tree.specs.FiniteMap.{Described, description_at, first_uses}
 use Rattle.gf_tree.specs.Game.{Node, Game, IsGame, HasChildren, used_sets, used_outcomes, set_at, outcome_at}
-use Rattle.gf_tree.specs.Spellable.{IsLabel, IsSpellable, IsSpellableSet, IsSpellableOutcome}
+use Rattle.gf_tree.specs.Spellable.{IsSpellable, IsSpellableSet, IsSpellableOutcome}
 use Rattle.gf_tree.proofs.Games.{map_entry, flatten_map}
 use Rattle.gf_tree.proofs.SpelledGames.{spelled_is_spellable as spelled_game}
 use Rattle.gf_canon.specs.Renumbering.{Renumbering, IsRenumbering, HasSet, HasOutcome, renumbered_set, renumbered_node}
@@ -122,7 +123,7 @@ renumbering_still g r h = record {
 }
   where
     set : (player number : ℕ) → HasSet (unnamed_game g) player number → HasSet g player number
-    set player number i = subst (λ ks. Contains ks (record { player = player; number = number })) (unnamed_sets g) i
+    set player number i = subst (λ ks. Contains ks (set_of player number)) (unnamed_sets g) i
 
     outcome : (number : ℕ) → HasOutcome (unnamed_game g) number → HasOutcome g number
     outcome number i = subst (λ ns. Contains ns number) (unnamed_outcomes g) i

@@ -2,9 +2,9 @@
 use Rattle.std.proofs.Common.{◌≡◌, List, get_or, refl, sym, ap, arith}
 use Rattle.std.specs.Fmt.{digits}
 use Rattle.gf_fraction.specs.NumberText.{number_text}
-use Rattle.gf_tree.specs.Description.{SetKey}
+use Rattle.gf_tree.specs.Description.{SetKey, set_of}
 use Rattle.gf_tree.specs.Game.{IsGame}
-use Rattle.gf_tree.specs.WorkedTrees.{set_of, five, five_file, bonus}
+use Rattle.gf_tree.specs.WorkedTrees.{five, five_file, bonus}
 use Rattle.gf_tree.proofs.SpelledGames.{spelled_is_spellable}
 use Rattle.gf_tree.proofs.WorkedGames.{five_is_meant}
 use Rattle.gf_canon.specs.Renumbering.{Renumbering}

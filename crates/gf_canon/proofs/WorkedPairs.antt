@@ -1,9 +1,8 @@
 -- Worked games that are not the same, and some that are aside from names.
 use Rattle.std.proofs.Common.{◌≡◌, ℕ, List, [], ◌∷◌, length, map, get_or, Option, Some, None, refl, sym, ap, subst, ◌∙◌, arith, inl}
 use Rattle.std.specs.List.{flat_map}
-use Rattle.gf_tree.specs.Description.{SetKey, InformationSet}
+use Rattle.gf_tree.specs.Description.{SetKey, InformationSet, set_of}
 use Rattle.gf_tree.specs.Game.{Game, IsGame, used_sets, set_at}
-use Rattle.gf_tree.specs.WorkedTrees.{set_of}
 use Rattle.gf_canon.specs.Renumbering.{renumbered_set}
 use Rattle.gf_canon.specs.SameGame.{SameGame}
 use Rattle.gf_canon.specs.GameFile.GameFile.{extensive}

@@ -1,7 +1,7 @@
 -- Numbers in order of first use, in prefix order.
 use Rattle.std.specs.Prelude.{ℕ, nat_eq, ◌==◌, Bool, List, [], ◌∷◌, length, if◌then◌else◌}
 use Rattle.std.specs.List.{filter}
-use Rattle.gf_tree.specs.Description.{SetKey, same_set}
+use Rattle.gf_tree.specs.Description.{SetKey, same_set, set_of}
 use Rattle.gf_tree.specs.FiniteMap.{first_uses}
 use Rattle.gf_tree.specs.Game.{Game, used_sets, used_outcomes}
 use Rattle.gf_canon.specs.Renumbering.{Renumbering}
@@ -22,7 +22,7 @@ sets_of player uses = filter (λ key. key.player == player) uses
 -- the number of each player's set, chance's too, among that player's sets, and that of each outcome
 abbrev pub first_use_numbers : Game → Renumbering
 first_use_numbers g = record {
-  set = λ player number. first_use_number same_set (sets_of player (used_sets g.tree)) (record { player = player; number = number });
+  set = λ player number. first_use_number same_set (sets_of player (used_sets g.tree)) (set_of player number);
   outcome = λ number. first_use_number nat_eq (used_outcomes g.tree) number;
 }
 

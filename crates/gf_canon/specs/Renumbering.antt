@@ -2,7 +2,7 @@
 use Rattle.std.specs.Prelude.{◌≡◌, ℕ, ◌<◌, map, option_map}
 use Rattle.std.specs.List.{Contains}
 use Rattle.gf_tree.specs.Tree.{map_tree}
-use Rattle.gf_tree.specs.Description.{SetKey}
+use Rattle.gf_tree.specs.Description.{SetKey, set_of}
 use Rattle.gf_tree.specs.Game.{Node, Game, used_sets, used_outcomes}
 
 -- The new number of each player's set, chance being player 0, and that of each outcome. The null outcome is no outcome of a node, and so it stays as it is.
@@ -12,7 +12,7 @@ pub record Renumbering : Type 0 where
 
 -- the player has a set with this number, and the game an outcome
 abbrev pub HasSet : Game → ℕ → ℕ → Type 0
-HasSet g player number = Contains (used_sets g.tree) (record { player = player; number = number })
+HasSet g player number = Contains (used_sets g.tree) (set_of player number)
 
 abbrev pub HasOutcome : Game → ℕ → Type 0
 HasOutcome g number = Contains (used_outcomes g.tree) number

@@ -1,27 +1,10 @@
 -- Worked games: a canonical text, and which of them are the same.
 use Rattle.std.specs.Prelude.{ℕ, pos, List, [], ◌∷◌, codes, Some, None}
-use Rattle.gf_fraction.specs.Ratio.{Ratio, whole}
-use Rattle.gf_tree.specs.Tree.{Tree, Trees}
+use Rattle.gf_fraction.specs.Ratio.{whole}
 use Rattle.gf_tree.specs.Tree.Tree.{branch}
-use Rattle.gf_tree.specs.Tree.Trees.{none, more}
-use Rattle.gf_tree.specs.Description.{SetKey, InformationSet, Outcome}
-use Rattle.gf_tree.specs.FiniteMap.{Described}
-use Rattle.gf_tree.specs.Game.{Node, Game}
-use Rattle.gf_tree.specs.WorkedTrees.{set_of, moves, ends, choice, toss, described}
-
--- an outcome of one player
-abbrev pub paying : List ℕ → Ratio → Outcome
-paying name payoff = record { name = name; payoffs = payoff ∷ [] }
-
-abbrev pub one : Tree Node → Trees Node
-one t = more t none
-
-abbrev pub two : Tree Node → Tree Node → Trees Node
-two t u = more t (one u)
-
--- a game of the player "A"
-abbrev pub game : List ℕ → Tree Node → List (Described SetKey InformationSet) → List (Described ℕ Outcome) → Game
-game title tree sets outcomes = record { title = title; comment = []; players = codes "A" ∷ []; tree = tree; sets = sets; outcomes = outcomes }
+use Rattle.gf_tree.specs.Description.{set_of}
+use Rattle.gf_tree.specs.Game.{Game}
+use Rattle.gf_tree.specs.WorkedTrees.{moves, ends, choice, toss, described, one, two, paying, game}
 
 -- ---- one game by many numbers
 

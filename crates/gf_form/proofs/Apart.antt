@@ -4,19 +4,18 @@ use Rattle.std.specs.Prelude.{◌⊎◌, ◌==◌, ◌||◌, ◌&&◌, not, if�
 use Rattle.std.specs.List.{AllByRecursion, Contains, list_all, list_any}
 use Rattle.std.specs.Option.{option_map_or}
 use Rattle.std.proofs.lemmas.Bool.{and_parts, and_from, cases_Bool, eqb-true, eq-eqb, ne_eqb, false≢true}
-use Rattle.gf_nfg.proofs.BackLists.{all_parts}
+use Rattle.gf_fraction.proofs.AllElements.{all_parts}
 use Rattle.gf_tree.specs.Tree.{Tree, Trees}
 use Rattle.gf_tree.specs.Tree.Tree.{branch}
 use Rattle.gf_tree.specs.Tree.Trees.{none, more}
 use Rattle.gf_tree.specs.PrefixOrder.{flatten, flatten_all}
-use Rattle.gf_tree.specs.Description.{SetKey, InformationSet, same_set}
+use Rattle.gf_tree.specs.Description.{SetKey, same_set}
 use Rattle.gf_tree.specs.Game.{Node, Game, IsGame, HasChildren}
 use Rattle.gf_tree.proofs.TreesOnce.{same_set_equality}
 use Rattle.gf_tree.specs.Spellable.{IsSpellable}
-use Rattle.gf_tree.proofs.Uses.{Has, contains, has_map, mapped_from}
-use Rattle.gf_tree.specs.FiniteMap.{Described}
-use Rattle.gf_canon.proofs.Members.{map_same, of_filter}
-use Rattle.gf_form.specs.Strategies.{keys_of, sets_of, choice_at, strategies}
+use Rattle.gf_tree.proofs.Uses.{Has, contains, has_map}
+use Rattle.gf_canon.proofs.Members.{map_same}
+use Rattle.gf_form.specs.Strategies.{keys_of, choice_at, strategies}
 use Rattle.gf_form.specs.Plays.{Step, Play, after, is_chosen, plays, plays_from, HasActions}
 use Rattle.gf_form.specs.Reduced.{is_own_choice, agrees, comes_to, is_relevant, reduced}
 use Rattle.gf_form.proofs.Chosen.{his_actions}
@@ -24,6 +23,7 @@ use Rattle.gf_form.proofs.Following.{IsPlayOf, play_of, taken_child}
 use Rattle.gf_form.proofs.Lotteries.{actions_at}
 use Rattle.gf_form.proofs.Whole.{some_play_in}
 use Rattle.gf_form.proofs.Reducing.{or_left, or_right, any_has}
+use Rattle.gf_form.proofs.KnownSets.{own_set}
 
 -- the steps go through a node of this set, and this child is taken there
 abbrev PassesBy : SetKey → List Step → Type 0
@@ -182,17 +182,11 @@ module _ (g : Game) (game : IsGame g) (spellable : IsSpellable g) (player : ℕ)
         chosen_through player (chosen s) key own one.3.1 one.3.2 one.3.3 one.3.5 before by_s ∙ sym (chosen_through player (chosen t) key own one.3.1 one.3.2 one.3.3 one.3.5 before by_t),
       )
 
-  his_key : (key : SetKey) → Has (keys_of g player) key → key.player ≡ player
-  his_key key i =
-      let m = mapped_from (λ (s : Described SetKey InformationSet). s.key) (sets_of g player) key i in
-      let there = of_filter (λ s. s.key.player == player) g.sets m.0 m.1 in
-      subst (λ (k : SetKey). k.player ≡ player) m.2 (eqb-true m.0.key.player player there.1)
-
   pub agree_reduced : (s t : List ℕ) → Contains (strategies g player) s → Contains (strategies g player) t → AgreeAlike s t → reduced g player s ≡ reduced g player t
   agree_reduced s t hs ht alike =
       map_same
       (λ key. if is_relevant g (chosen s) key then Some (chosen s key) else None)
       (λ key. if is_relevant g (chosen t) key then Some (chosen t key) else None)
       (keys_of g player)
-      (λ key i. shown_same (is_relevant g (chosen s) key) (is_relevant g (chosen t) key) (chosen s key) (chosen t key) (relevant_too s t hs alike key (his_key key i))
-      (λ r. (relevant_too t s ht (λ play j. sym (alike play j)) key (his_key key i) r).0))
+      (λ key i. shown_same (is_relevant g (chosen s) key) (is_relevant g (chosen t) key) (chosen s key) (chosen t key) (relevant_too s t hs alike key (own_set g player key i).3)
+      (λ r. (relevant_too t s ht (λ play j. sym (alike play j)) key (own_set g player key i).3 r).0))

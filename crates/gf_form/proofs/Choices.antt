@@ -5,9 +5,10 @@ use Rattle.std.specs.List.{AllByRecursion, AllZip, Contains, flat_map}
 use Rattle.std.proofs.lemmas.Grind.{flat_map-append}
 use Rattle.std.proofs.lemmas.List.{length-map, map-append, get_or-map}
 use Rattle.std.proofs.lemmas.List.Elements.{All-contains, All-from_recursion}
+use Rattle.gf_fraction.proofs.AllElements.{all_both}
 use Rattle.gf_nfg.specs.Profiles.{numbers_from, product}
-use Rattle.gf_nfg.proofs.BackLists.{all_both}
 use Rattle.gf_nfg.proofs.NumbersInTurn.{numbers_joined, length-numbers_from, get_or-numbers_from, IsIn, number_in, contains_in}
+use Rattle.gf_canon.proofs.Members.{map_twice}
 use Rattle.gf_form.specs.Strategies.{all_choices}
 
 -- the choices that begin with this action
@@ -29,16 +30,12 @@ numbers_above by first (suc n) =
 
 -- ---- places
 
-map-twice : {A B C : Type 0} (f : B → C) (g : A → B) (xs : List A) → map f (map g xs) ≡ map (λ x. f (g x)) xs
-map-twice f g [] = refl
-map-twice f g (x ∷ xs) = ap (λ rest. f (g x) ∷ rest) (map-twice f g xs)
-
 places_behind : (count : ℕ) (counts : List ℕ) (action n : ℕ) (all : List (List ℕ)) → map (place counts) all ≡ numbers_from 0 n
     → map (place (count ∷ counts)) (behind action all) ≡ numbers_from ((action - 1) * product counts) n
 places_behind count counts action n all h =
     let by = (action - 1) * product counts in
     let e : by + 0 ≡ by = omega arith in
-    map-twice (place (count ∷ counts)) (λ others. action ∷ others) all ∙ sym (map-twice (λ (k : ℕ). by + k) (place counts) all) ∙ ap (map (λ k. by + k)) h
+    map_twice (place (count ∷ counts)) (λ others. action ∷ others) all ∙ sym (map_twice (λ (k : ℕ). by + k) (place counts) all) ∙ ap (map (λ k. by + k)) h
     ∙ numbers_above by 0 n ∙ ap (λ (k : ℕ). numbers_from k n) e
 
 places_all : (count : ℕ) (counts : List ℕ) (all : List (List ℕ)) → map (place counts) all ≡ numbers_from 0 (product counts) → (s n : ℕ) → 1 ≤ s

@@ -2,20 +2,20 @@
 use Rattle.std.proofs.Common.{◌≡◌, ℕ, zero, suc, ◌+◌, ◌-◌, ◌<◌, ◌≤◌, Bool, true, false, cond, List, [], ◌∷◌, Some, length, map, get_or, refl, sym, ap, ◌∙◌, subst, arith, true≢false}
 use Rattle.std.specs.Prelude.{◌==◌, option_map, unwrap_or, zip, filter, find, if◌then◌else◌}
 use Rattle.std.specs.List.{AllZip, Contains}
-use Rattle.std.proofs.lemmas.Bool.{and_parts, eqb-true}
+use Rattle.std.proofs.lemmas.Bool.{and_parts}
 use Rattle.std.proofs.lemmas.List.{get_or_default}
 use Rattle.std.proofs.lemmas.Option.{none-some}
 use Rattle.gf_nfg.specs.Profiles.{numbers_from}
 use Rattle.gf_nfg.specs.ProfilePlaces.{IsProfile}
 use Rattle.gf_nfg.proofs.BackProfiles.{every_profile}
-use Rattle.gf_tree.specs.Description.{SetKey, InformationSet, same_set, IsSet}
+use Rattle.gf_tree.specs.Description.{SetKey, InformationSet, same_set}
 use Rattle.gf_tree.specs.FiniteMap.{Described, description_at}
 use Rattle.gf_tree.specs.Game.{Game, IsGame, set_at}
 use Rattle.gf_form.specs.Strategies.{keys_of, sets_of, action_counts, strategies, players_of, strategies_at, choice_at, choices_by}
 use Rattle.gf_form.specs.Plays.{HasActions}
 use Rattle.gf_form.specs.Reduced.{full_profiles}
 use Rattle.gf_form.proofs.Choices.{IsChoice, every_choice}
-use Rattle.gf_form.proofs.Lookups.{Each, each_found, each_mapped, each_weaker}
+use Rattle.gf_form.proofs.KnownSets.{set_is}
 
 -- ---- a choice at each set of a list
 
@@ -58,15 +58,6 @@ strategy_of g (strategy ∷ all) k (suc n) (suc i) h less =
     let e : k + 1 + i ≡ k + suc i = omega arith in subst (λ p. Contains (strategies g p) (get_or all i [])) e (strategy_of g all (k + 1) n i h.1 (omega arith))
 
 module _ (g : Game) (game : IsGame g) where
-  owner_known : (key : SetKey) → Each (λ _. key.player ≤ length g.players) (set_at g key)
-  owner_known key =
-      let P = λ (s : Described SetKey InformationSet). IsSet (length g.players) s.key s.description in
-      let test = λ (s : Described SetKey InformationSet). same_set s.key key in
-      each_mapped (λ _. key.player ≤ length g.players) (λ s. s.description) (find test g.sets)
-      (each_weaker (λ s. P s × (test s ≡ true)) (λ _. key.player ≤ length g.players) (find test g.sets)
-      (λ s h. subst (λ p. p ≤ length g.players) (eqb-true _ _ (and_parts (s.key.player == key.player) (s.key.number == key.number) h.1).0) h.0.player)
-      (each_found P test g.sets game.each_set))
-
   pub his_actions : (strategy : List ℕ) (key : SetKey) (set : InformationSet) → Contains (strategies g key.player) strategy → set_at g key ≡ Some set
       → (1 ≤ choice_at (keys_of g key.player) strategy key) × (choice_at (keys_of g key.player) strategy key ≤ length set.actions)
   his_actions strategy key set his is =
@@ -79,7 +70,7 @@ module _ (g : Game) (game : IsGame g) where
 
   pub have_actions : (all : List (List ℕ)) → AreStrategies g all (players_of g) → HasActions g (choices_by g all)
   have_actions all h key set is above =
-      let known : key.player ≤ length g.players = subst (Each (λ _. key.player ≤ length g.players)) is (owner_known key) in
+      let known = (set_is g game key set is).player in
       let player : 1 + (key.player - 1) ≡ key.player = omega arith in
       let his : Contains (strategies g key.player) (get_or all (key.player - 1) []) =
       subst (λ p. Contains (strategies g p) (get_or all (key.player - 1) [])) player (strategy_of g all 1 (length g.players) (key.player - 1) h (omega arith)) in

@@ -3,7 +3,7 @@ use Rattle.std.proofs.Common.{ℕ, ◌-◌, ◌<◌, List, [], ◌∷◌, map, a
 use Rattle.std.specs.Prelude.{option_and_then, slice_get, ⊤, ◌==◌}
 use Rattle.std.specs.List.{AllByRecursion, find}
 use Rattle.gf_fraction.specs.Ratio.{Ratio, IsFraction}
-use Rattle.gf_fraction.proofs.Divisors.{IsGcd-one_right}
+use Rattle.gf_fraction.proofs.WholeNumbers.{whole_fraction}
 use Rattle.gf_fraction.proofs.Products.{mul_above}
 use Rattle.gf_tree.specs.Description.{SetKey, InformationSet, Outcome, same_set}
 use Rattle.gf_tree.specs.FiniteMap.{Described}
@@ -56,7 +56,7 @@ module _ (g : Game) (spellable : IsSpellable g) where
 
   pub payoff_fraction : (player : ℕ) (n : Node) → IsFraction (payoff_at g player n)
   payoff_fraction player n =
-      each_or IsFraction _ zero_ratio (record { den_above_zero = omega arith; den_within = omega arith; num_within = omega arith; lowest = IsGcd-one_right 0 })
+      each_or IsFraction _ zero_ratio (whole_fraction 0 (omega arith))
       (each_then (λ _. ⊤) IsFraction (λ number. option_and_then (λ outcome. slice_get outcome.payoffs (player - 1)) (outcome_at g number)) n.outcome
       (λ number _. each_then (λ outcome. AllByRecursion IsFraction outcome.payoffs) IsFraction (λ outcome. slice_get outcome.payoffs (player - 1)) (outcome_at g number)
       (λ outcome h. each_got IsFraction outcome.payoffs (player - 1) h) (payoffs_of number))

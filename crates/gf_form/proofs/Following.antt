@@ -5,7 +5,7 @@ use Rattle.std.specs.List.{AllByRecursion, list_all}
 use Rattle.std.specs.Option.{option_map_or}
 use Rattle.std.proofs.lemmas.Bool.{and_parts, and_from, eqb-true, eqb-false, eq-eqb}
 use Rattle.std.proofs.lemmas.Option.{none-some}
-use Rattle.gf_nfg.proofs.BackLists.{all_parts}
+use Rattle.gf_fraction.proofs.AllElements.{all_parts}
 use Rattle.gf_tree.specs.Tree.{Tree, Trees, count}
 use Rattle.gf_tree.specs.Tree.Tree.{branch}
 use Rattle.gf_tree.specs.Tree.Trees.{none, more}

@@ -8,6 +8,7 @@ pub mod Denominators
 pub mod Followed
 pub mod Following
 pub mod FormTables
+pub mod KnownSets
 pub mod Lookups
 pub mod Lotteries
 pub mod PlaySums

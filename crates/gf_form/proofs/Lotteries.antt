@@ -1,13 +1,11 @@
 -- The probabilities of an information set: of chance they add to one, and a player's actions have none.
-use Rattle.std.proofs.Common.{◌≡◌, ℕ, zero, suc, ◌+◌, ◌-◌, ◌<◌, true, false, List, [], ◌∷◌, Option, Some, None, length, map, get_or, drop, refl, sym, ap, subst, ◌∙◌, arith, true≢false}
+use Rattle.std.proofs.Common.{◌≡◌, ℕ, zero, suc, ◌+◌, ◌-◌, ◌<◌, false, List, [], ◌∷◌, Option, Some, None, length, map, get_or, drop, refl, sym, ap, subst, ◌∙◌, arith, true≢false}
 use Rattle.std.specs.Prelude.{◌==◌, option_and_then, unwrap_or, slice_get}
-use Rattle.std.specs.List.{AllByRecursion, find}
-use Rattle.std.proofs.lemmas.Bool.{and_parts, eqb-true}
+use Rattle.std.specs.List.{AllByRecursion}
 use Rattle.std.proofs.lemmas.List.{length-map}
 use Rattle.gf_fraction.specs.Ratio.{Ratio}
 use Rattle.gf_nfg.specs.Profiles.{numbers_from}
-use Rattle.gf_tree.specs.Description.{Action, SetKey, InformationSet, same_set, AddToOne, IsLottery, AreActions, IsSet}
-use Rattle.gf_tree.specs.FiniteMap.{Described}
+use Rattle.gf_tree.specs.Description.{Action, SetKey, InformationSet, AddToOne, IsLottery, AreActions, IsSet}
 use Rattle.gf_tree.specs.Game.{Node, Game, IsGame, set_at}
 use Rattle.gf_tree.specs.Spellable.{IsSpellable}
 use Rattle.gf_form.specs.Rational.{IsEqual, zero_ratio, one_ratio, plus, total}
@@ -15,7 +13,8 @@ use Rattle.gf_form.specs.Payoff.{action_at, probability}
 use Rattle.gf_form.proofs.Rationals.{equal_refl, plus_zero, plus_comm, plus_assoc}
 use Rattle.gf_form.proofs.Chains.{◌then◌, back, plus_left}
 use Rattle.gf_form.proofs.Denominators.{IsAbove, plus_above, probability_above}
-use Rattle.gf_form.proofs.Lookups.{Each, each_got, each_found, each_mapped, each_weaker}
+use Rattle.gf_form.proofs.Lookups.{Each, each_got, each_weaker}
+use Rattle.gf_form.proofs.KnownSets.{each_set}
 
 total_list : (ps : List Ratio) → AllByRecursion IsAbove ps → IsAbove (total ps)
 total_list [] h = omega arith
@@ -59,13 +58,7 @@ module _ (g : Game) (game : IsGame g) (spellable : IsSpellable g) where
   -- the actions of a set are those of its player
   sets_have : (key : SetKey) → Each (λ set. AreActions key.player set.actions × (0 < length set.actions)) (set_at g key)
   sets_have key =
-      let P = λ (s : Described SetKey InformationSet). IsSet (length g.players) s.key s.description in
-      let test = λ (s : Described SetKey InformationSet). same_set s.key key in
-      let Q = λ (set : InformationSet). AreActions key.player set.actions × (0 < length set.actions) in
-      each_mapped Q (λ s. s.description) (find test g.sets)
-      (each_weaker (λ s. P s × (test s ≡ true)) (λ s. Q s.description) (find test g.sets)
-      (λ s h. (subst (λ p. AreActions p s.description.actions) (eqb-true _ _ (and_parts (s.key.player == key.player) (s.key.number == key.number) h.1).0) h.0.actions, h.0.some_action))
-      (each_found P test g.sets game.each_set))
+      each_weaker (IsSet (length g.players) key) (λ set. AreActions key.player set.actions × (0 < length set.actions)) (set_at g key) (λ set is. (is.actions, is.some_action)) (each_set g game key)
 
   -- what is so of each set is so of this one
   pub actions_at : (key : SetKey) (set : InformationSet) → set_at g key ≡ Some set → AreActions key.player set.actions × (0 < length set.actions)

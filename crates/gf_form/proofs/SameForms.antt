@@ -4,19 +4,19 @@ use Rattle.std.specs.Prelude.{◌↔◌, ◌==◌, ◌||◌, zip, option_map, op
 use Rattle.std.specs.List.{AllZip}
 use Rattle.std.specs.Option.{option_map_or}
 use Rattle.gf_fraction.specs.Ratio.{Ratio, IsFraction}
-use Rattle.gf_nfg.proofs.BackLists.{all_weaker}
+use Rattle.gf_fraction.proofs.AllElements.{all_weaker}
 use Rattle.gf_nfg.specs.Table.{Table}
 use Rattle.gf_tree.specs.PrefixOrder.{Entry, flatten}
 use Rattle.gf_tree.specs.Description.{SetKey, InformationSet, same_set}
 use Rattle.gf_tree.specs.FiniteMap.{Described}
 use Rattle.gf_tree.specs.Game.{Node, Game, IsGame, used_sets, set_at, outcome_at}
 use Rattle.gf_tree.proofs.TreesOnce.{same_set_equality}
-use Rattle.gf_tree.proofs.Uses.{Has, has_map, mapped_from, all_of_each}
+use Rattle.gf_tree.proofs.Uses.{Has, all_of_each}
 use Rattle.gf_canon.specs.Renumbering.{Renumbering, IsRenumbering, renumbered_set, renumbered_node, renumbered}
 use Rattle.gf_canon.specs.SameGame.{SameGame}
-use Rattle.gf_canon.proofs.Members.{filter_of_map, map_twice, of_filter}
+use Rattle.gf_canon.proofs.Members.{filter_of_map, map_twice}
 use Rattle.gf_canon.proofs.FirstUses.{same_tests}
-use Rattle.gf_canon.proofs.Carried.{of_keys}
+use Rattle.gf_canon.proofs.Carried.{entry_used}
 use Rattle.gf_canon.proofs.Trees.{held}
 use Rattle.gf_canon.proofs.Renumberings.{sets_apart}
 use Rattle.gf_canon.proofs.SameGames.{same_back}
@@ -27,6 +27,7 @@ use Rattle.gf_form.specs.Payoff.{payoff}
 use Rattle.gf_form.specs.BottomUp.{IsValue}
 use Rattle.gf_form.specs.StrategicForm.{ArePayoffs, IsStrategicForm}
 use Rattle.gf_form.proofs.Alike.{IsAlike, AreAlike, same_payoff, same_value}
+use Rattle.gf_form.proofs.KnownSets.{own_set}
 
 -- what a strategy chooses at a set, by the new numbers
 choice_carried : (f : SetKey → SetKey) (keys : List SetKey) (strategy : List ℕ) (key : SetKey) → ((k : SetKey) → Has keys k → same_set (f k) (f key) ≡ same_set k key) → choice_at (map f keys) strategy (f key) ≡ choice_at keys strategy key
@@ -51,9 +52,8 @@ module _ (g : Game) (r : Renumbering) (game : IsGame g) (is : IsRenumbering g r)
 
   key_used : (player : ℕ) (key : SetKey) → Has (keys_of g player) key → Has (used_sets g.tree) key
   key_used player key i =
-      let m = mapped_from (λ (s : Described SetKey InformationSet). s.key) (sets_of g player) key i in
-      let there = of_filter (λ s. s.key.player == player) g.sets m.0 m.1 in
-      subst (Has (used_sets g.tree)) m.2 (of_keys same_set (used_sets g.tree) g.sets m.0.key game.one_entry_each_set (has_map (λ (s : Described SetKey InformationSet). s.key) g.sets m.0 there.0))
+      let own = own_set g player key i in
+      subst (Has (used_sets g.tree)) own.2 (entry_used same_set (used_sets g.tree) g.sets own.0 game.one_entry_each_set own.1)
 
   counts_carried : (player : ℕ) → action_counts h player ≡ action_counts g player
   counts_carried player = ap (map (λ s. length s.description.actions)) (sets_carried player) ∙ map_twice (λ (s : Described SetKey InformationSet). length s.description.actions) image (sets_of g player)

@@ -4,7 +4,7 @@ use Rattle.std.specs.Prelude.{decimal}
 use Rattle.std.specs.List.{AllByRecursion}
 use Rattle.std.proofs.lemmas.Fmt.{decimal_injective, decimal_by_steps}
 use Rattle.std.proofs.lemmas.List.{get_or_default}
-use Rattle.gf_nfg.proofs.BackLists.{all_both}
+use Rattle.gf_fraction.proofs.AllElements.{all_both}
 use Rattle.gf_form.specs.Strategies.{all_choices, strategy_label}
 use Rattle.gf_form.proofs.Choices.{IsChoice, every_choice, choices_distinct}
 

@@ -5,8 +5,8 @@ use Rattle.std.specs.List.{AllByRecursion, Contains}
 use Rattle.std.proofs.lemmas.Bool.{eqb-true, eqb-false}
 use Rattle.std.proofs.lemmas.Option.{none-some}
 use Rattle.gf_fraction.specs.Ratio.{Ratio}
+use Rattle.gf_fraction.proofs.AllElements.{all_parts}
 use Rattle.gf_nfg.specs.Profiles.{numbers_from}
-use Rattle.gf_nfg.proofs.BackLists.{all_parts}
 use Rattle.gf_tree.specs.Tree.{Tree, Trees, count}
 use Rattle.gf_tree.specs.Tree.Tree.{branch}
 use Rattle.gf_tree.specs.Tree.Trees.{none, more}
@@ -15,7 +15,7 @@ use Rattle.gf_tree.specs.Description.{SetKey, InformationSet}
 use Rattle.gf_tree.specs.Game.{Node, Game, IsGame, HasChildren, set_at}
 use Rattle.gf_tree.specs.Spellable.{IsSpellable}
 use Rattle.gf_tree.proofs.Uses.{Has, contains}
-use Rattle.gf_canon.proofs.Members.{of_filter}
+use Rattle.gf_tree.proofs.FirstUses.{of_filter}
 use Rattle.gf_form.specs.Rational.{IsEqual, zero_ratio, one_ratio, times, total}
 use Rattle.gf_form.specs.Plays.{Play, after, is_chosen, follows, plays, HasActions}
 use Rattle.gf_form.specs.Payoff.{probability, play_probability}

@@ -9,6 +9,7 @@ use Rattle.gf_fraction.specs.Ratio.{Ratio, IsFraction, whole}
 use Rattle.gf_fraction.specs.Fits.{SumFits}
 use Rattle.gf_fraction.specs.Computed.{lowest_of, gcd_within, sum_of}
 use Rattle.gf_fraction.proofs.Computes.{lowest_of-fraction, sum_is_computed}
+use Rattle.gf_fraction.proofs.WholeNumbers.{whole_fraction, part_fraction}
 use Rattle.gf_form.specs.Rational.{IsEqual}
 use Rattle.gf_form.specs.Strategies.{choices_by, strategies_at}
 use Rattle.gf_form.specs.Plays.{plays}
@@ -16,8 +17,7 @@ use Rattle.gf_form.specs.Payoff.{payoff}
 use Rattle.gf_form.specs.BottomUp.{IsValue}
 use Rattle.gf_form.specs.StrategicForm.{ArePayoffs, IsStrategicForm}
 use Rattle.gf_form.specs.Reduced.{full_profiles, reduced_at, reduced_by, reduced_label, reduced_strategies, IsReducedForm}
-use Rattle.gf_tree.specs.WorkedTrees.{bonus, forgetful, half}
-use Rattle.gf_form.proofs.WorkedGames.{integer}
+use Rattle.gf_tree.specs.WorkedTrees.{bonus, forgetful}
 use Rattle.gf_form.specs.WorkedForms.{greatest, bonus_form, overflowing, second, unlikely, only, ending, ending_form, ending_reduced, contradicted}
 
 -- ---- fractions
@@ -26,14 +26,10 @@ fraction : (z : ℤ) (d : ℕ) (r : Ratio) → 0 < d → d < 2 ^ 127 → unsigne
 fraction z d r above den num is = subst IsFraction is (lowest_of-fraction z d above den num)
 
 small : (n : ℕ) → n < 4 → IsFraction (whole (pos n))
-small n h = integer n (omega arith)
+small n h = whole_fraction n (omega arith)
 
 equal : (x y : Ratio) → nat_lt 0 x.den ≡ true → nat_lt 0 y.den ≡ true → x.num *ℤ pos y.den ≡ y.num *ℤ pos x.den → IsEqual x y
 equal x y left right crosswise = record { left = ltb-true _ _ left; right = ltb-true _ _ right; crosswise = crosswise }
-
-half_fraction : IsFraction half
-unfolding lowest_of gcd_within
-half_fraction = fraction (pos 1) 2 half (omega arith) (omega arith) (omega arith) refl
 
 three_halves : IsFraction (record { num = pos 3; den = 2 })
 unfolding lowest_of gcd_within
@@ -54,7 +50,7 @@ form_of_bonus = record {
   profiles = refl;
   payoffs = (
     ((three_halves, equal _ _ refl refl refl), ((small 0 (omega arith), equal _ _ refl refl refl), tt)),
-    (((small 2 (omega arith), equal _ _ refl refl refl), ((half_fraction, equal _ _ refl refl refl), tt)), tt),
+    (((small 2 (omega arith), equal _ _ refl refl refl), ((part_fraction 2 (omega arith) (omega arith), equal _ _ refl refl refl), tt)), tt),
   );
 }
 
@@ -65,7 +61,7 @@ greatest_payoff = record { left = omega arith; right = omega arith; crosswise = 
 
 no_sum : ¬ (SumFits greatest (whole (pos 1)))
 unfolding sum_of gcd_within
-no_sum = sum_is_computed greatest (whole (pos 1)) (integer (2 ^ 127 - 1) (omega arith)) (small 1 (omega arith))
+no_sum = sum_is_computed greatest (whole (pos 1)) (whole_fraction (2 ^ 127 - 1) (omega arith)) (small 1 (omega arith))
 
 greatest_and_one : (r : Ratio) → r ≡ whole (pos 1) → ¬ (SumFits greatest r)
 greatest_and_one r is fits = no_sum (subst (SumFits greatest) is fits)

@@ -1,5 +1,5 @@
 -- The worked games are games, and files can hold them.
-use Rattle.std.proofs.Common.{◌≡◌, ℕ, pos, ◌-◌, ◌^◌, ◌<◌, List, [], ◌∷◌, None, map, refl, arith}
+use Rattle.std.proofs.Common.{ℕ, pos, ◌-◌, ◌^◌, ◌<◌, [], ◌∷◌, refl, arith}
 use Rattle.std.specs.Prelude.{codes, neg_ℤ}
 use Rattle.std.specs.List.{AllByRecursion}
 use Rattle.std.proofs.lemmas.Nat.Gcd.{dvd_refl}
@@ -7,22 +7,19 @@ use Rattle.gf_fraction.specs.Ratio.{IsFraction, whole}
 use Rattle.gf_fraction.specs.Fits.{SumFits}
 use Rattle.gf_fraction.specs.Computed.{lowest_of, gcd_within}
 use Rattle.gf_fraction.proofs.Computes.{lowest_of-fraction}
-use Rattle.gf_fraction.proofs.Divisors.{IsGcd-one_right}
-use Rattle.gf_tree.specs.Description.{Action, AddToOne, IsSet}
+use Rattle.gf_fraction.proofs.WholeNumbers.{whole_fraction}
+use Rattle.gf_tree.specs.Description.{AddToOne, IsSet, set_of}
 use Rattle.gf_tree.specs.Game.{IsGame}
 use Rattle.gf_tree.specs.Spellable.{IsSpellable}
-use Rattle.gf_tree.specs.WorkedTrees.{set_of, choice}
+use Rattle.gf_tree.proofs.Worked.{choice_is_set}
 use Rattle.gf_form.specs.WorkedForms.{greatest, sure, overflowing, unlikely, ending, contradicted}
-
-pub integer : (n : ℕ) → n < 2 ^ 127 → IsFraction (whole (pos n))
-integer n h = record { den_above_zero = omega arith; den_within = omega arith; num_within = h; lowest = IsGcd-one_right n }
 
 minus_one : IsFraction (whole (neg_ℤ (pos 1)))
 unfolding lowest_of gcd_within
 minus_one = lowest_of-fraction (neg_ℤ (pos 1)) 1 (omega arith) (omega arith) (omega arith)
 
 greatest_is : IsFraction greatest
-greatest_is = integer (2 ^ 127 - 1) (omega arith)
+greatest_is = whole_fraction (2 ^ 127 - 1) (omega arith)
 
 -- ---- the sure action
 
@@ -37,19 +34,10 @@ whole_fits m n hm hn = record {
 }
 
 sure_adds : AddToOne (whole (pos 0)) (whole (pos 1) ∷ whole (pos 0) ∷ [])
-sure_adds = (omega arith, whole_fits 0 1 (omega arith) (omega arith), (whole (pos 1), integer 1 (omega arith), refl, (omega arith, whole_fits 1 0 (omega arith) (omega arith), (whole (pos 1), integer 1 (omega arith), refl, refl))))
+sure_adds = (omega arith, whole_fits 0 1 (omega arith) (omega arith), (whole (pos 1), whole_fraction 1 (omega arith), refl, (omega arith, whole_fits 1 0 (omega arith) (omega arith), (whole (pos 1), whole_fraction 1 (omega arith), refl, refl))))
 
 sure_is_set : IsSet 1 (set_of 0 1) (sure (codes "a") (codes "b"))
 sure_is_set = record { player = omega arith; number = omega arith; some_action = omega arith; actions = (whole (pos 1) ∷ whole (pos 0) ∷ [], refl, sure_adds) }
-
--- ---- sets of the player
-
-no_probabilities : (labels : List (List ℕ)) → AllByRecursion (λ (a : Action). a.probability ≡ None) (map (λ label. record { label = label; probability = None }) labels)
-no_probabilities [] = tt
-no_probabilities (l ∷ ls) = (refl, no_probabilities ls)
-
-own_set : (n : ℕ) (name label : List ℕ) (labels : List (List ℕ)) → 0 < n → IsSet 1 (set_of 1 n) (choice name (label ∷ labels))
-own_set n name label labels above = record { player = omega arith; number = above; some_action = omega arith; actions = (refl, no_probabilities labels) }
 
 -- ---- games
 
@@ -57,7 +45,7 @@ overflowing_is_game : IsGame overflowing
 overflowing_is_game = record {
   one_entry_each_set = refl;
   one_entry_each_outcome = refl;
-  each_set = (own_set 1 (codes "i") (codes "a") (codes "b" ∷ []) (omega arith), (own_set 2 (codes "j") (codes "c") [] (omega arith), tt));
+  each_set = (choice_is_set 1 0 1 (codes "i") (codes "a") (codes "b" ∷ []) (omega arith) (omega arith), (choice_is_set 1 0 2 (codes "j") (codes "c") [] (omega arith) (omega arith), tt));
   each_outcome = (record { number_from_one = omega arith; one_payoff_each = refl }, (record { number_from_one = omega arith; one_payoff_each = refl }, (record { number_from_one = omega arith; one_payoff_each = refl }, tt)));
   children = (refl, (refl, (refl, (refl, tt))));
 }
@@ -66,7 +54,7 @@ unlikely_is_game : IsGame unlikely
 unlikely_is_game = record {
   one_entry_each_set = refl;
   one_entry_each_outcome = refl;
-  each_set = (sure_is_set, (own_set 1 (codes "k") (codes "e") [] (omega arith), tt));
+  each_set = (sure_is_set, (choice_is_set 1 0 1 (codes "k") (codes "e") [] (omega arith) (omega arith), tt));
   each_outcome = (record { number_from_one = omega arith; one_payoff_each = refl }, (record { number_from_one = omega arith; one_payoff_each = refl }, tt));
   children = (refl, (refl, (refl, (refl, tt))));
 }
@@ -75,7 +63,7 @@ ending_is_game : IsGame ending
 ending_is_game = record {
   one_entry_each_set = refl;
   one_entry_each_outcome = refl;
-  each_set = (own_set 1 (codes "i") (codes "a") (codes "b" ∷ []) (omega arith), (own_set 2 (codes "j") (codes "c") (codes "d" ∷ []) (omega arith), tt));
+  each_set = (choice_is_set 1 0 1 (codes "i") (codes "a") (codes "b" ∷ []) (omega arith) (omega arith), (choice_is_set 1 0 2 (codes "j") (codes "c") (codes "d" ∷ []) (omega arith) (omega arith), tt));
   each_outcome = (record { number_from_one = omega arith; one_payoff_each = refl }, (record { number_from_one = omega arith; one_payoff_each = refl }, (record { number_from_one = omega arith; one_payoff_each = refl }, tt)));
   children = (refl, (refl, (refl, (refl, (refl, tt)))));
 }
@@ -84,7 +72,7 @@ contradicted_is_game : IsGame contradicted
 contradicted_is_game = record {
   one_entry_each_set = refl;
   one_entry_each_outcome = refl;
-  each_set = (own_set 1 [] [] ([] ∷ []) (omega arith), (own_set 2 [] [] ([] ∷ []) (omega arith), tt));
+  each_set = (choice_is_set 1 0 1 [] [] ([] ∷ []) (omega arith) (omega arith), (choice_is_set 1 0 2 [] [] ([] ∷ []) (omega arith) (omega arith), tt));
   each_outcome = tt;
   children = (refl, (refl, (refl, (refl, (refl, (refl, (refl, tt)))))));
 }
@@ -100,7 +88,7 @@ overflowing_is_spellable = record {
   sets = (record { player = omega arith; number = omega arith; name = refl; actions = ((refl, tt), ((refl, tt), tt)) }, (record { player = omega arith; number = omega arith; name = refl; actions = ((refl, tt), tt) }, tt));
   outcomes = (
     record { number = omega arith; name = refl; payoffs = (minus_one, tt) },
-    (record { number = omega arith; name = refl; payoffs = (greatest_is, tt) }, (record { number = omega arith; name = refl; payoffs = (integer 1 (omega arith), tt) }, tt)),
+    (record { number = omega arith; name = refl; payoffs = (greatest_is, tt) }, (record { number = omega arith; name = refl; payoffs = (whole_fraction 1 (omega arith), tt) }, tt)),
   );
 }
 
@@ -111,10 +99,10 @@ unlikely_is_spellable = record {
   players = (refl, tt);
   nodes = (refl, (refl, (refl, (refl, tt))));
   sets = (
-    record { player = omega arith; number = omega arith; name = refl; actions = ((refl, integer 1 (omega arith)), ((refl, integer 0 (omega arith)), tt)) },
+    record { player = omega arith; number = omega arith; name = refl; actions = ((refl, whole_fraction 1 (omega arith)), ((refl, whole_fraction 0 (omega arith)), tt)) },
     (record { player = omega arith; number = omega arith; name = refl; actions = ((refl, tt), tt) }, tt),
   );
-  outcomes = (record { number = omega arith; name = refl; payoffs = (integer 1 (omega arith), tt) }, (record { number = omega arith; name = refl; payoffs = (greatest_is, tt) }, tt));
+  outcomes = (record { number = omega arith; name = refl; payoffs = (whole_fraction 1 (omega arith), tt) }, (record { number = omega arith; name = refl; payoffs = (greatest_is, tt) }, tt));
 }
 
 ending_is_spellable : IsSpellable ending
@@ -128,8 +116,8 @@ ending_is_spellable = record {
     (record { player = omega arith; number = omega arith; name = refl; actions = ((refl, tt), ((refl, tt), tt)) }, tt),
   );
   outcomes = (
-    record { number = omega arith; name = refl; payoffs = (integer 1 (omega arith), tt) },
-    (record { number = omega arith; name = refl; payoffs = (integer 2 (omega arith), tt) }, (record { number = omega arith; name = refl; payoffs = (integer 3 (omega arith), tt) }, tt)),
+    record { number = omega arith; name = refl; payoffs = (whole_fraction 1 (omega arith), tt) },
+    (record { number = omega arith; name = refl; payoffs = (whole_fraction 2 (omega arith), tt) }, (record { number = omega arith; name = refl; payoffs = (whole_fraction 3 (omega arith), tt) }, tt)),
   );
 }
 

@@ -2,31 +2,15 @@
 use Rattle.std.specs.Prelude.{ℕ, ◌^◌, ◌-◌, pos, neg_ℤ, List, [], ◌∷◌, codes, Some, None}
 use Rattle.gf_fraction.specs.Ratio.{Ratio, whole}
 use Rattle.gf_nfg.specs.Table.{Entry, Table}
-use Rattle.gf_tree.specs.Tree.{Tree, Trees}
-use Rattle.gf_tree.specs.Tree.Trees.{none, more}
-use Rattle.gf_tree.specs.Description.{InformationSet, Outcome, SetKey}
-use Rattle.gf_tree.specs.FiniteMap.{Described}
-use Rattle.gf_tree.specs.Game.{Node, Game}
-use Rattle.gf_tree.specs.WorkedTrees.{set_of, moves, ends, choice, half, described}
+use Rattle.gf_tree.specs.Description.{InformationSet, set_of}
+use Rattle.gf_tree.specs.Game.{Game}
+use Rattle.gf_tree.specs.WorkedTrees.{moves, ends, choice, half, described, one, two, paying, game}
 
 -- 2^127 - 1, the greatest payoff
 abbrev pub greatest : Ratio
 greatest = whole (pos (2 ^ 127 - 1))
 
-abbrev pub one : Tree Node → Trees Node
-one t = more t none
-
-abbrev pub two : Tree Node → Tree Node → Trees Node
-two t u = more t (one u)
-
--- an outcome of one player
-abbrev pub paying : List ℕ → Ratio → Outcome
-paying name payoff = record { name = name; payoffs = payoff ∷ [] }
-
--- a game, and a table, of the player "A"
-abbrev pub game : List ℕ → Tree Node → List (Described SetKey InformationSet) → List (Described ℕ Outcome) → Game
-game title tree sets outcomes = record { title = title; comment = []; players = codes "A" ∷ []; tree = tree; sets = sets; outcomes = outcomes }
-
+-- a table of the player "A"
 abbrev pub table : List ℕ → List (List ℕ) → List Entry → Table
 table title strategies entries = record { title = title; comment = []; players = codes "A" ∷ []; strategies = strategies ∷ []; entries = entries }
 

@@ -1,3 +1,4 @@
+pub mod AllElements
 pub mod Integers
 pub mod Digits
 pub mod Divisors
@@ -13,5 +14,6 @@ pub mod Readings
 pub mod Texts
 pub mod Computes
 pub mod Numbers
+pub mod WholeNumbers
 pub mod Sums
 pub mod Products

@@ -5,7 +5,7 @@ use Rattle.std.proofs.lemmas.Int.{ints}
 use Rattle.std.proofs.lemmas.Bool.{ltb-true, lt-ltb, leb-true, le-leb, eqb-true, eqb-false, and_parts, and_from}
 use Rattle.std.proofs.lemmas.Result.{MatchResult-weaker}
 use Rattle.gf_fraction.specs.Ratio.{Ratio, IsWithin, signed}
-use Rattle.gf_fraction.specs.NumberSpelling.{Reading, Reads, IsBounded, size_of, den_of, power_of_ten}
+use Rattle.gf_fraction.specs.NumberSpelling.{Reading, Reads, IsNumber, IsBounded, size_of, den_of, power_of_ten}
 use Rattle.gf_fraction.specs.NumberSpelling.Reading.{decimal, rational}
 use Rattle.gf_fraction.specs.NumberScan.{IsValueOf, HasReadingFault, scan, after_sign, is_minus, reading_of}
 use Rattle.gf_fraction.specs.Computed.{lowest_of, is_bounded, value_of, answer_of, number_of}
@@ -91,3 +91,10 @@ some_answer text = (number_of text, number_is_computed text)
 -- so whatever reading answers is what is computed
 pub answer_is : (text : List ℕ) (a : Result Ratio NumberFault) → Reads text a → a ≡ number_of text
 answer_is text a h = one_answer text a (number_of text) h (number_is_computed text)
+
+-- the number that a text spells is the one that is computed of it
+pub number_again : (text : List ℕ) (n : Ratio) → IsNumber text n → number_of text ≡ Ok n
+number_again text n h = sym (answer_is text (Ok n) h)
+
+pub number_is : (text : List ℕ) (n : Ratio) → number_of text ≡ Ok n → IsNumber text n
+number_is text n e = subst (Reads text) e (number_is_computed text)

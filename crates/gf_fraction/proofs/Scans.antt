@@ -22,7 +22,7 @@ use Rattle.gf_fraction.proofs.Digits.{capped-after}
 pub ascii_from_digit : (c : ℕ) → digit_value c < 10 → is_ascii_digit c ≡ true
 ascii_from_digit c h = grind (arith, nat_tests)
 
-digit_from_ascii : (c : ℕ) → is_ascii_digit c ≡ true → digit_value c < 10
+pub digit_from_ascii : (c : ℕ) → is_ascii_digit c ≡ true → digit_value c < 10
 digit_from_ascii c h = grind (arith, nat_tests)
 
 -- no digit stands first

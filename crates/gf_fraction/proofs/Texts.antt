@@ -54,7 +54,7 @@ not_both text r ZeroDenominator a h =
     let above = a.den_above_zero in omega (arith, z, above)
 not_both text r TooLarge a h = h.unbounded (bounded_too text a.negative h.negative a.reading h.reading a.spelled h.spelled a.bounded)
 
-same_fault : (text : List ℕ) (f g : NumberFault) → HasNumberFault text f → HasNumberFault text g → f ≡ g
+pub same_fault : (text : List ℕ) (f g : NumberFault) → HasNumberFault text f → HasNumberFault text g → f ≡ g
 same_fault text NotANumber NotANumber a b = refl
 same_fault text NotANumber ZeroDenominator a b = absurd (a b.negative b.reading b.spelled)
 same_fault text NotANumber TooLarge a b = absurd (a b.negative b.reading b.spelled)

@@ -6,9 +6,9 @@ use Rattle.std.proofs.Math.Nat.{mul-suc}
 use Rattle.std.proofs.lemmas.Grind.{flat_map-append}
 use Rattle.std.proofs.lemmas.List.{length-map, map-append, get_or-map}
 use Rattle.std.proofs.lemmas.List.Elements.{All-contains, All-from_recursion}
+use Rattle.gf_fraction.proofs.AllElements.{all_both}
 use Rattle.gf_nfg.specs.Profiles.{numbers_from, positions, profiles, product}
 use Rattle.gf_nfg.specs.ProfilePlaces.{IsProfile, place}
-use Rattle.gf_nfg.proofs.BackLists.{all_both}
 use Rattle.gf_nfg.proofs.NumbersInTurn.{numbers_joined, length-numbers_from, get_or-numbers_from, IsIn, number_in, contains_in}
 
 -- a profile for each strategy of the first player, with these of the others

@@ -1,9 +1,9 @@
 -- The canonical text of a table spells that table, so that two tables have two texts.
-use Rattle.std.proofs.Common.{◌≡◌, ℕ, true, List, [], ◌∷◌, ◌++◌, map, refl, sym, ap, subst, inl, inr}
+use Rattle.std.proofs.Common.{◌≡◌, ℕ, List, [], ◌∷◌, ◌++◌, map, refl, sym, ap, subst, inl, inr}
 use Rattle.std.specs.Prelude.{◌↔◌, codes}
 use Rattle.std.specs.List.{AllByRecursion, flat_map}
 use Rattle.std.proofs.lemmas.List.Concat.{flat_map_single}
-use Rattle.gf_token.specs.LabelSpelling.{is_spelling}
+use Rattle.gf_token.specs.LabelSpelling.{IsLabel}
 use Rattle.gf_token.specs.Token.{Token}
 use Rattle.gf_token.specs.Token.Token.{Text, Bare}
 use Rattle.gf_token.specs.Grammar.{Each, braced}
@@ -12,20 +12,18 @@ use Rattle.gf_token.proofs.SpelledNumbers.{number_spelled}
 use Rattle.gf_fraction.specs.Ratio.{Ratio, IsFraction}
 use Rattle.gf_fraction.specs.NumberText.{number_text}
 use Rattle.gf_fraction.proofs.Texts.{written_is_read}
+use Rattle.gf_fraction.proofs.AllElements.{all_weaker, all_parts, all_lists}
 use Rattle.gf_nfg.specs.Table.{Table, IsTable, IsSpellable, rows}
 use Rattle.gf_nfg.specs.Sentence.{IsLabelList, IsPayoff, IsPayoffBody, Sentence}
+use Rattle.gf_nfg.specs.TextParts.{row_text}
 use Rattle.gf_nfg.specs.TableText.{spaced, list_text, quoted, table_text, SpellsTable}
 use Rattle.gf_nfg.specs.SameTable.{SameTable}
 use Rattle.gf_nfg.proofs.PlacesLed.{spells_one_table}
 use Rattle.gf_nfg.proofs.SpelledTexts.{Tells, Says, says_label, says_bare, says_both, says_spaced, says_list, tells_line, tells_lines}
 use Rattle.gf_nfg.proofs.SpelledTables.{spelled_is_spellable}
-use Rattle.gf_nfg.proofs.BackLists.{all_weaker, all_parts, all_lists}
 use Rattle.gf_nfg.proofs.BackSame.{same_is_equal}
 
 -- ---- lists of labels
-
-abbrev IsLabel : List ℕ → Type 0
-IsLabel label = is_spelling label ≡ true
 
 abbrev names_text : List (List ℕ) → List ℕ
 names_text names = list_text (map quoted names)
@@ -42,9 +40,6 @@ says_names names h =
 
 abbrev payoff_tokens : Ratio → List Token
 payoff_tokens r = Bare (number_text r) ∷ []
-
-abbrev row_text : List Ratio → List ℕ
-row_text row = spaced (map number_text row)
 
 abbrev pub row_tokens : List Ratio → List Token
 row_tokens row = flat_map payoff_tokens row

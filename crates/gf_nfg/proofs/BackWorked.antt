@@ -11,10 +11,8 @@ use Rattle.gf_token.specs.Grammar.{Each, braced, IsPayoffInBraces}
 use Rattle.gf_token.proofs.Spelled.{found}
 use Rattle.gf_token.proofs.SpelledNumbers.{decimal_is_index}
 use Rattle.gf_fraction.specs.Ratio.{Ratio, IsFraction, whole}
-use Rattle.gf_fraction.specs.NumberSpelling.{IsNumber}
 use Rattle.gf_fraction.specs.NumberText.{number_text}
-use Rattle.gf_fraction.proofs.Divisors.{IsGcd-one_right}
-use Rattle.gf_fraction.proofs.Texts.{written_is_read}
+use Rattle.gf_fraction.proofs.WholeNumbers.{whole_fraction, whole_spelled}
 use Rattle.gf_nfg.specs.Table.{IsTable, rows}
 use Rattle.gf_nfg.specs.Sentence.{IsCount, IsOutcome, Pays, IsOutcomeNumber, Sentence}
 use Rattle.gf_nfg.specs.TableText.{table_text, SpellsTable}
@@ -32,12 +30,6 @@ pub text_of_no_players : table_text no_players ≡ no_players_text
 text_of_no_players = refl
 
 -- ---- files
-
-small : (n : ℕ) → n < 2 ^ 127 → IsFraction (whole (pos n))
-small n h = record { den_above_zero = omega arith; den_within = omega arith; num_within = h; lowest = IsGcd-one_right n }
-
-number : (n : ℕ) → n < 2 ^ 127 → IsNumber (number_text (whole (pos n))) (whole (pos n))
-number n h = written_is_read (whole (pos n)) (small n h)
 
 is_table : IsTable selten
 is_table = record { one_list_each = refl; some_strategy = (omega arith, (omega arith, tt)); one_entry_each = refl; one_payoff_each = (refl, (refl, (refl, (refl, (refl, (refl, tt)))))) }
@@ -71,7 +63,7 @@ are_counts = (
 )
 
 two : (x y : ℕ) → x < 2 ^ 127 → y < 2 ^ 127 → AllByRecursion IsFraction (whole (pos x) ∷ whole (pos y) ∷ [])
-two x y h k = (small x h, (small y k, tt))
+two x y h k = (whole_fraction x h, (whole_fraction y k, tt))
 
 fractions : AllByRecursion (λ row. AllByRecursion IsFraction row) (rows selten)
 fractions = (
@@ -130,7 +122,7 @@ outcomes_file_tokens = refl
 
 in_braces : (n : ℕ) (comma : List Token) → n < 2 ^ 127 → ((comma ≡ []) ⊎ (comma ≡ Comma ∷ [])) → IsPayoffInBraces (Bare (decimal n) ∷ comma) (whole (pos n))
 unfolding digits number_text
-in_braces n comma h c = (decimal n, comma, refl, number n h, c)
+in_braces n comma h c = (decimal n, comma, refl, whole_spelled n h, c)
 
 is_outcome : (name : List ℕ) (x y : ℕ) (comma comma' : List Token) → x < 2 ^ 127 → y < 2 ^ 127 → ((comma ≡ []) ⊎ (comma ≡ Comma ∷ [])) → ((comma' ≡ []) ⊎ (comma' ≡ Comma ∷ []))
     → IsOutcome 2 (outcome name x comma y comma') (whole (pos x) ∷ whole (pos y) ∷ [])

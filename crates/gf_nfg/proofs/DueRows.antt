@@ -15,7 +15,7 @@ use Rattle.gf_fraction.specs.Ratio.{Ratio}
 use Rattle.gf_fraction.specs.NumberSpelling.{HasNumberFault, Reads}
 use Rattle.gf_fraction.specs.Computed.{number_of}
 use Rattle.gf_fraction.specs.declared.fraction.NumberFault.{NumberFault}
-use Rattle.gf_fraction.proofs.Numbers.{number_is_computed}
+use Rattle.gf_fraction.proofs.Numbers.{number_is_computed, number_is, number_again}
 use Rattle.gf_nfg.specs.declared.position.Position.{Position}
 use Rattle.gf_nfg.specs.declared.position.Position.TheVariants as p
 use Rattle.gf_nfg.specs.Due.{Role, Suits}
@@ -23,7 +23,6 @@ use Rattle.gf_nfg.specs.Due.Role.{Format, Version, Letter, Count, Payoff, Outcom
 use Rattle.gf_nfg.specs.Readings.{index_of, count_of}
 use Rattle.gf_nfg.specs.Machine.{State, Content, at, step, counted, listed, paid, chosen, at_strategies_end, at_first, at_count, at_list_opening}
 use Rattle.gf_nfg.proofs.ReadingIndices.{index_is, index_again, count_is, count_again}
-use Rattle.gf_nfg.proofs.ReadingNumbers.{number_is, number_again}
 use Rattle.gf_nfg.proofs.RunsCommon.{not_zero, same_bytes}
 
 -- Which tokens a row accepts, bare ones by their role; the `What` of its E3; and whether a closing brace would leave a list of labels empty.

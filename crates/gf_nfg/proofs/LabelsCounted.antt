@@ -2,23 +2,21 @@
 use Rattle.std.proofs.Common.{◌≡◌, ℕ, suc, ◌+◌, ◌-◌, ◌<◌, ◌^◌, true, false, List, [], ◌∷◌, ◌++◌, map, refl, sym, ap, ◌∙◌, arith, append_assoc}
 use Rattle.std.proofs.lemmas.Bool.Decides.{nat_tests}
 use Rattle.std.specs.Prelude.{decimal, ◌==◌}
-use Rattle.std.specs.Int.Digits.{AllBelowBase, digits_of}
-use Rattle.std.proofs.lemmas.Fmt.{decimal-digits_of}
-use Rattle.std.proofs.lemmas.Int.Digits.{all_below_base_digits_of}
-use Rattle.gf_token.specs.LabelSpelling.{is_spelling, is_spelling_after}
+use Rattle.std.specs.Str.Parse.{AllDigits}
+use Rattle.std.proofs.lemmas.Fmt.{decimal_is_IsNumeral_wide}
+use Rattle.gf_token.specs.LabelSpelling.{is_spelling_after, IsLabel}
 use Rattle.gf_nfg.specs.Profiles.{numbers_from}
 
-digits_spell : (before : ℕ) (digits : List ℕ) → AllBelowBase 10 digits → (before == 92) ≡ false → is_spelling_after before (map (λ d. 48 + d) digits) ≡ true
-digits_spell before [] below other = rw other refl
-digits_spell before (d ∷ digits) below other =
-    let small : d < 10 = below.0 in
-    let no_quote : (48 + d == 34) ≡ false = grind (arith, nat_tests) in
-    let no_backslash : (48 + d == 92) ≡ false = grind (arith, nat_tests) in
-    rw (no_quote, digits_spell (48 + d) digits below.1 no_backslash) refl
+digits_label : (before : ℕ) (bytes : List ℕ) → (before == 92) ≡ false → AllDigits 10 bytes → is_spelling_after before bytes ≡ true
+digits_label before [] e h = rw e refl
+digits_label before (b ∷ bytes) e h =
+    let no_quote : (b == 34) ≡ false = let d = h.0 in grind (arith, nat_tests) in
+    let no_backslash : (b == 92) ≡ false = let d = h.0 in grind (arith, nat_tests) in
+    rw no_quote (digits_label b bytes no_backslash h.1)
 
 -- a number is the spelling of a label
-pub is_spelling-decimal : (n : ℕ) → 0 < n → n < 2 ^ 64 → is_spelling (decimal n) ≡ true
-is_spelling-decimal n above small = rw (decimal-digits_of n above small) (digits_spell 34 (digits_of 10 n) (all_below_base_digits_of 10 n (omega arith)) refl)
+pub decimal_label : (n : ℕ) → n < 10 ^ 64 → IsLabel (decimal n)
+decimal_label n h = digits_label 34 (decimal n) refl (decimal_is_IsNumeral_wide n h).0.1
 
 -- the labels of the numbers behind this one
 abbrev pub counted_rest : ℕ → ℕ → List (List ℕ)

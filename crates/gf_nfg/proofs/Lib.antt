@@ -6,7 +6,6 @@ mod TablePlaces
 mod TableRows
 mod TextShared
 mod Texts
-pub mod BackLists
 pub mod BackProfiles
 pub mod BackSame
 pub mod BackTables
@@ -23,7 +22,6 @@ pub mod PlacesLimit
 pub mod PlacesOnce
 pub mod PlacesWalk
 pub mod ReadingIndices
-pub mod ReadingNumbers
 pub mod ReasonFound
 pub mod RunsBody
 pub mod RunsCommon

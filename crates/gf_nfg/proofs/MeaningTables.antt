@@ -5,6 +5,7 @@ use Rattle.std.specs.List.{AllByRecursion}
 use Rattle.std.proofs.Math.Nat.{mul_comm, mul-le-mul_right}
 use Rattle.std.proofs.lemmas.List.{drop-drop, length-map}
 use Rattle.gf_fraction.specs.Ratio.{Ratio, whole}
+use Rattle.gf_fraction.proofs.AllElements.{all_mapped}
 use Rattle.gf_nfg.specs.Profiles.{numbers_from, positions, product}
 use Rattle.gf_nfg.specs.Table.{IsTable, rows}
 use Rattle.gf_nfg.specs.TableParts.{Names, groups, numbers_of, row_of, table_with, IsNamed, HasRows}
@@ -86,20 +87,12 @@ length-rows_by c choices h = length-map (numbers_of c.profiles (choices_of choic
 
 -- ---- the table
 
-all_some : (strategies : List (List (List ℕ))) → AllByRecursion (λ n. 0 < n) (map length strategies) → AllByRecursion (λ labels. 0 < length labels) strategies
-all_some [] h = tt
-all_some (labels ∷ strategies) h = (h.0, all_some strategies h.1)
-
-pub all_counts : (strategies : List (List (List ℕ))) → AllByRecursion (λ labels. 0 < length labels) strategies → AllByRecursion (λ n. 0 < n) (map length strategies)
-all_counts [] h = tt
-all_counts (labels ∷ strategies) h = (h.0, all_counts strategies h.1)
-
 pub named : (c : Content) → IsComplete c → IsNamed (names_in c) c.profiles
 named c h =
     let same = counts-strategies_of c.counts c.labels h.has_labels in
     record {
       one_list_each = sym (length-map (strategies_of c.counts c.labels) length) ∙ ap length same ∙ h.one_count_each;
-      some_strategy = all_some (strategies_of c.counts c.labels) (subst (λ ns. AllByRecursion (λ n. 0 < n) ns) (sym same) h.some_strategy);
+      some_strategy = all_mapped (λ n. 0 < n) length (strategies_of c.counts c.labels) (subst (λ ns. AllByRecursion (λ n. 0 < n) ns) (sym same) h.some_strategy);
       counted = h.profiles_are ∙ ap product (sym same);
     }
 

@@ -20,7 +20,7 @@ use Rattle.gf_nfg.specs.Machine.{State, Content, step, finish, start, due_at, en
 use Rattle.gf_nfg.specs.Meaning.{table_of}
 use Rattle.gf_nfg.proofs.RunsCommon.{ok_is}
 use Rattle.gf_nfg.proofs.PlacesLed.{Led, led_none, led_more, read_whole}
-use Rattle.gf_nfg.proofs.PlacesLimit.{entries_count}
+use Rattle.gf_nfg.proofs.MeaningTables.{length-entries}
 use Rattle.gf_nfg.proofs.PlacesJudged.{span_of, end_of, err, refusal, refusal_end, broken, limit, only_expected}
 
 -- read, or refused
@@ -50,7 +50,7 @@ ended_is c r (Some expected) e = absurd cc
 at_end : (bytes : List ℕ) (all : List Lexeme) (s : State) (o : Result Content Why) → Spells 0 bytes all → Led all [] s → s.content.profiles ≤ profile_limit → finish s ≡ o → Answered bytes
 at_end bytes all s (Ok r) spelled h within e =
     let read = read_whole all s r h e in
-    let size = entries_count r read.complete in
+    let size = length-entries r read.complete in
     let same : s.content.profiles ≡ r.profiles = ap (λ (c : Content). c.profiles) (ended_is s.content r (due_at s.position s.due) e) in
     inl (table_of r, (all, spelled, read.sentence), omega (arith, size, same, within))
 at_end bytes all s (Err why) spelled h within e =

@@ -4,7 +4,7 @@ use Rattle.std.proofs.lemmas.List.{append-nil, map-append}
 use Rattle.gf_token.specs.Token.{Token, Lexeme}
 use Rattle.gf_token.specs.TokenSpelling.{Spells}
 use Rattle.gf_token.specs.declared.fault.Why.{Why}
-use Rattle.gf_token.proofs.Spelled.{spelled}
+use Rattle.gf_token.proofs.Spelled.{same_tokens}
 use Rattle.gf_nfg.specs.Table.{Table}
 use Rattle.gf_nfg.specs.Sentence.{Sentence}
 use Rattle.gf_nfg.specs.TableText.{SpellsTable}
@@ -38,10 +38,6 @@ all_read all s o h e =
 
 pub read_whole : (all : List Lexeme) (s : State) (r : Content) → Led all [] s → finish s ≡ Ok r → Read (tokens_of all) r
 read_whole all s r h e = sentence_found (tokens_of all) r (all_read all s (Ok r) h e)
-
--- a byte list spells one list of tokens
-pub same_tokens : (bytes : List ℕ) (ls others : List Lexeme) → Spells 0 bytes ls → Spells 0 bytes others → ls ≡ others
-same_tokens bytes ls others h k = sym (spelled ls 0 bytes h) ∙ spelled others 0 bytes k
 
 -- and so one table at most
 pub spelled_as : (bytes : List ℕ) (all : List Lexeme) (t : Table) → Spells 0 bytes all → SpellsTable bytes t → Sentence (tokens_of all) t

@@ -1,7 +1,6 @@
 -- No token makes the profiles fewer, so that past their limit they stay.
 use Rattle.std.proofs.Common.{◌≡◌, ℕ, zero, suc, ◌-◌, ◌*◌, ◌<◌, ◌≤◌, Bool, true, false, cond, List, [], ◌∷◌, ◌++◌, length, Option, Some, None, Result, Ok, Err, refl, sym, ap, subst, ◌∙◌, arith, nat_eq}
 use Rattle.std.specs.Prelude.{nat_le}
-use Rattle.std.proofs.lemmas.List.{length-map}
 use Rattle.gf_token.specs.Token.{Token}
 use Rattle.gf_token.specs.Token.Token.{Opening, Closing, Comma, Text, Bare, Broken}
 use Rattle.gf_token.specs.declared.fault.What.{What}
@@ -15,11 +14,11 @@ use Rattle.gf_nfg.specs.Readings.{index_of, count_of}
 use Rattle.gf_nfg.specs.Table.{Table}
 use Rattle.gf_nfg.specs.Sentence.{Sentence}
 use Rattle.gf_nfg.specs.Machine.{State, Content, at, step, run, start, counted, listed, settled, paid, chosen, at_strategies_end, at_first, at_count, at_list_opening, at_payoff, at_flat_payoffs, at_after_comment, at_outcome_end, at_braced_payoff, at_outcome_number, due_at, ended, ◌>>=◌}
-use Rattle.gf_nfg.specs.Meaning.{table_of, IsComplete}
+use Rattle.gf_nfg.specs.Meaning.{table_of}
 use Rattle.gf_nfg.specs.Limit.{profile_limit}
 use Rattle.gf_nfg.specs.Place.{BeginsWithinLimit, StaysWithinLimit, IsBareOrClosing}
 use Rattle.gf_nfg.proofs.ReadingIndices.{count_is}
-use Rattle.gf_nfg.proofs.MeaningTables.{rows-table_of, length-rows_by}
+use Rattle.gf_nfg.proofs.MeaningTables.{length-entries}
 use Rattle.gf_nfg.proofs.RunsCommon.{ok_is}
 use Rattle.gf_nfg.proofs.RunsSentence.{sentence_found, sentence_again}
 use Rattle.gf_nfg.proofs.RunsEnds.{IsSettled, settled_ends}
@@ -200,9 +199,6 @@ run_grows (t ∷ ts) s r e =
 
 -- ---- past the limit
 
-pub entries_count : (c : Content) → IsComplete c → length (table_of c).entries ≡ c.profiles
-entries_count c h = sym (length-map (table_of c).entries (λ e. e.payoffs)) ∙ ap length (rows-table_of c h) ∙ length-rows_by c c.choices h.has_rows
-
 -- a walk makes them no fewer
 walk_grows : (ts : List Token) (s after : State) → walk s ts ≡ Ok after → s.content.profiles ≤ after.content.profiles
 walk_grows [] s after e = let is : s ≡ after = ok_is s after e in subst (λ (x : State). s.content.profiles ≤ x.content.profiles) is (same s.content.profiles)
@@ -214,7 +210,7 @@ walk_grows (t ∷ ts) s after e =
 
 -- a file has the profiles that were read
 size_read : (ts : List Token) (r : Content) → run start ts ≡ Ok r → length (table_of r).entries ≡ r.profiles
-size_read ts r e = entries_count r (sentence_found ts r e).complete
+size_read ts r e = length-entries r (sentence_found ts r e).complete
 
 pub read_past : (ts : List Token) (s : State) → Leads ts s → (more : List Token) (t : Table) → Sentence (ts ++ more) t → s.content.profiles ≤ length t.entries
 read_past ts s h more t sentence =

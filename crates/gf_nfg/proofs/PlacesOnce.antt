@@ -7,13 +7,13 @@ use Rattle.gf_token.specs.Code.{code_of}
 use Rattle.gf_token.specs.declared.fault.Span.{Span}
 use Rattle.gf_token.specs.declared.fault.Why.{Why}
 use Rattle.gf_token.specs.declared.fault.Why.TheVariants.{Expected, Memory, TooManyProfiles, TooLong}
+use Rattle.gf_token.proofs.Spelled.{same_tokens}
 use Rattle.gf_nfg.specs.Table.{Table}
 use Rattle.gf_nfg.specs.Sentence.{Sentence}
 use Rattle.gf_nfg.specs.TableText.{SpellsTable}
 use Rattle.gf_nfg.specs.Place.{tokens_of, Begins, Stops, IsSpanOf, IsOffendingPlace, IsWithinLimit, BeginsPastLimit, IsBareOrClosing, StaysWithinLimit, IsLimitPlace}
 use Rattle.gf_nfg.specs.Reason.{Holds, IsReason}
 use Rattle.gf_nfg.specs.Judgement.{IsRefusal, IsJudged, IsRefused}
-use Rattle.gf_nfg.proofs.PlacesLed.{same_tokens}
 use Rattle.gf_nfg.proofs.PlacesJudged.{only_memory}
 
 -- ---- two ways to part a list

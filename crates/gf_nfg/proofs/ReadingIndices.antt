@@ -1,36 +1,28 @@
 -- The reading of an index, as a function, is the index that a text is.
 use Rattle.std.proofs.Common.{◌≡◌, ℕ, zero, suc, ◌<◌, ◌^◌, Bool, true, false, cond, List, [], ◌∷◌, length, arith, refl, Option, Some, None}
-use Rattle.std.specs.Prelude.{◌&&◌, nat_lt}
+use Rattle.std.specs.Prelude.{nat_lt}
 use Rattle.std.specs.List.{list_all}
-use Rattle.std.specs.Char.{digit_value, is_ascii_digit}
+use Rattle.std.specs.Char.{is_ascii_digit}
 use Rattle.std.specs.Str.Parse.{AllDigits, digits_value}
+use Rattle.std.proofs.lemmas.Bool.{and_parts}
 use Rattle.std.proofs.lemmas.Bool.Decides.{nat_tests}
+use Rattle.gf_fraction.proofs.Scans.{ascii_from_digit, digit_from_ascii}
 use Rattle.gf_token.specs.Index.{IsDigits, IsIndex, IsNoIndex}
 use Rattle.gf_token.specs.declared.index.IndexFault.{IndexFault}
 use Rattle.gf_token.specs.declared.index.IndexFault.TheVariants.{NotDigits, TooLarge}
 use Rattle.gf_nfg.specs.Readings.{is_numeral, index_of, count_of, positive}
 
-digit_is_small : (c : ℕ) → is_ascii_digit c ≡ true → digit_value c < 10
-digit_is_small c h = grind (arith, nat_tests)
-
-small_is_digit : (c : ℕ) → digit_value c < 10 → is_ascii_digit c ≡ true
-small_is_digit c h = grind (arith, nat_tests)
-
-and_true : (a b : Bool) → (a && b) ≡ true → (a ≡ true) × (b ≡ true)
-and_true true b h = (refl, h)
-and_true false b h = absurd cc
-
 all_digits : (ds : List ℕ) → list_all is_ascii_digit ds ≡ true → AllDigits 10 ds
 all_digits [] h = tt
-all_digits (c ∷ cs) h = let k = and_true (is_ascii_digit c) (list_all is_ascii_digit cs) h in (digit_is_small c k.0, all_digits cs k.1)
+all_digits (c ∷ cs) h = let k = and_parts (is_ascii_digit c) (list_all is_ascii_digit cs) h in (digit_from_ascii c k.0, all_digits cs k.1)
 
 digits_all : (ds : List ℕ) → AllDigits 10 ds → list_all is_ascii_digit ds ≡ true
 digits_all [] h = refl
-digits_all (c ∷ cs) h = rw (small_is_digit c h.0, digits_all cs h.1) refl
+digits_all (c ∷ cs) h = rw (ascii_from_digit c h.0, digits_all cs h.1) refl
 
 IsDigits-numeral : (bs : List ℕ) → is_numeral bs ≡ true → IsDigits bs
 IsDigits-numeral bs h =
-    let k = and_true (nat_lt 0 (length bs)) (list_all is_ascii_digit bs) h in
+    let k = and_parts (nat_lt 0 (length bs)) (list_all is_ascii_digit bs) h in
     let some = k.0 in
     (grind (arith, nat_tests), all_digits bs k.1)
 

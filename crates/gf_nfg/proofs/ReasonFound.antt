@@ -15,7 +15,8 @@ use Rattle.gf_fraction.specs.NumberSpelling.{HasNumberFault}
 use Rattle.gf_fraction.specs.Computed.{number_of, lowest_of, gcd_within}
 use Rattle.gf_fraction.specs.declared.fraction.NumberFault.{NumberFault}
 use Rattle.gf_fraction.specs.declared.fraction.NumberFault.TheVariants as number
-use Rattle.gf_fraction.proofs.Numbers.{answer_is}
+use Rattle.gf_fraction.proofs.Numbers.{number_is}
+use Rattle.gf_fraction.proofs.Texts.{same_fault}
 use Rattle.gf_nfg.specs.Place.{Begins}
 use Rattle.gf_nfg.specs.Due.{Role, Suits, MayFollow, RoleIsDue, IsDue}
 use Rattle.gf_nfg.specs.Due.Role.{Format, Version, Letter, Count, Payoff, OutcomeNumber}
@@ -23,7 +24,6 @@ use Rattle.gf_nfg.specs.Reason.{Applies, IsReason}
 use Rattle.gf_nfg.specs.Readings.{index_of, count_of}
 use Rattle.gf_nfg.specs.Machine.{State, step, finish}
 use Rattle.gf_nfg.proofs.ReadingIndices.{index_is, index_again, count_is, count_again}
-use Rattle.gf_nfg.proofs.ReadingNumbers.{number_is}
 use Rattle.gf_nfg.proofs.RunsEnds.{zero_text, zero_number, zero_is_number, zero_is_index}
 use Rattle.gf_nfg.proofs.PlacesWalk.{Leads, leads_on, begins, stops}
 use Rattle.gf_nfg.proofs.DueRows.{Accepts, AcceptsBare, RefusesBare, RefusesClosing, Refuses, Answers, no}
@@ -79,9 +79,6 @@ not_payoff_and_outcome ts outcomes h k =
     absurd cc
 
 -- ---- the lowest code
-
-same_fault : (b : List ℕ) (f g : NumberFault) → HasNumberFault b f → HasNumberFault b g → f ≡ g
-same_fault b f g h k = let x = answer_is b (Err f) h in let y = answer_is b (Err g) k in cc
 
 abbrev Lowest : Why → List Token → Token → Type 0
 Lowest why ts t = (other : Why) → Applies other ts t → code_of why ≤ code_of other

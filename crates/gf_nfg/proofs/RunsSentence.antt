@@ -7,6 +7,7 @@ use Rattle.gf_token.specs.Token.{Token}
 use Rattle.gf_token.specs.Token.Token.{Opening, Closing, Text, Bare}
 use Rattle.gf_token.specs.Grammar.{Each, braced, IsComment}
 use Rattle.gf_fraction.specs.Ratio.{Ratio}
+use Rattle.gf_fraction.proofs.AllElements.{all_images}
 use Rattle.gf_nfg.specs.declared.position.Position.TheVariants as p
 use Rattle.gf_nfg.specs.Profiles.{positions, profiles, product}
 use Rattle.gf_nfg.specs.Table.{Table, IsTable, rows}
@@ -15,7 +16,7 @@ use Rattle.gf_nfg.specs.Machine.{Content, at, run, start}
 use Rattle.gf_nfg.specs.TableParts.{entries_of, row_of}
 use Rattle.gf_nfg.specs.Meaning.{strategies_of, rows_by, table_of, HasPayoffs, HasLabels, IsComplete}
 use Rattle.gf_nfg.proofs.MeaningLists.{joined, length-counted_labels, length-joined, length-joined_rows, product_above_zero}
-use Rattle.gf_nfg.proofs.MeaningTables.{is_table, rows-table_of, strategies_of-joined, all_counts, rows_in_turn, rows_again}
+use Rattle.gf_nfg.proofs.MeaningTables.{is_table, rows-table_of, strategies_of-joined, rows_in_turn, rows_again}
 use Rattle.gf_nfg.proofs.BackProfiles.{length-profiles}
 use Rattle.gf_nfg.proofs.TableRows.{entries_again}
 use Rattle.gf_nfg.proofs.RunsCommon.{ok_why, ok_is}
@@ -228,7 +229,7 @@ kept t inner rest h (inr each) =
       labels = joined t.strategies;
       from = k.from;
       lengths = refl;
-      means = strategies_of-joined t.strategies (all_counts t.strategies h.some_strategy);
+      means = strategies_of-joined t.strategies (all_images (λ n. 0 < n) length t.strategies h.some_strategy);
       goes_on = k.goes_on;
     }
 
@@ -262,7 +263,7 @@ body_kept t comment body counts labels from h lengths is_comment (inr b) =
     let all : length (rows t) ≡ 1 * product counts = rows_count t h ∙ ap (λ ns. 1 * product ns) (sym lengths) in
     let full = outcomes_full (length t.players) b.outcomes b.list b.listed in
     let k = choices_chosen (length t.players) b.outcomes full (rows t) b.numbers b.chosen in
-    let positive : AllByRecursion (λ n. 0 < n) (map length t.strategies) = all_counts t.strategies h.some_strategy in
+    let positive : AllByRecursion (λ n. 0 < n) (map length t.strategies) = all_images (λ n. 0 < n) length t.strategies h.some_strategy in
     let above = product_above_zero (map length t.strategies) positive in
     let count = rows_count t h in
     let some : 0 < length k.choices = omega (arith, k.count, count, above) in

@@ -1,38 +1,23 @@
 -- What a file means is a table that a file can hold.
-use Rattle.std.proofs.Common.{◌≡◌, ℕ, zero, suc, pos, ◌+◌, ◌^◌, ◌<◌, true, false, List, [], ◌∷◌, ◌++◌, length, map, replicate, refl, sym, ap, subst, ◌∙◌, arith, inl, inr}
-use Rattle.std.specs.Prelude.{◌⊎◌, ◌==◌, decimal, slice_get, Some}
+use Rattle.std.proofs.Common.{ℕ, zero, suc, pos, ◌+◌, ◌^◌, ◌<◌, List, [], ◌∷◌, ◌++◌, length, map, replicate, sym, ap, subst, ◌∙◌, arith, inl, inr}
+use Rattle.std.specs.Prelude.{◌⊎◌, decimal}
 use Rattle.std.specs.List.{AllByRecursion, flat_map}
-use Rattle.std.specs.Str.Parse.{AllDigits}
-use Rattle.std.proofs.lemmas.Bool.Decides.{nat_tests}
-use Rattle.std.proofs.lemmas.Fmt.{decimal_is_IsNumeral_wide}
-use Rattle.gf_token.specs.LabelSpelling.{is_spelling, is_spelling_after}
+use Rattle.gf_token.specs.LabelSpelling.{IsLabel}
 use Rattle.gf_token.specs.Token.{Token}
 use Rattle.gf_token.specs.Token.Token.{Closing, Text}
 use Rattle.gf_token.specs.TokenSpelling.{IsSpelled}
-use Rattle.gf_token.specs.Grammar.{Each, braced, IsComment, IsPayoffInBraces}
-use Rattle.gf_token.proofs.SpelledTokens.{AllSpelled, all_spelled}
+use Rattle.gf_token.specs.Grammar.{Each, braced, IsPayoffInBraces}
+use Rattle.gf_token.proofs.SpelledTokens.{AllSpelled, all_spelled, braced_spelled, comment_spelled}
 use Rattle.gf_fraction.specs.Ratio.{Ratio, IsFraction, whole}
-use Rattle.gf_fraction.proofs.Divisors.{IsGcd-one_right}
+use Rattle.gf_fraction.proofs.WholeNumbers.{whole_fraction}
+use Rattle.gf_fraction.proofs.AllElements.{all_at, all_parts, all_both, all_joined, all_mapped}
 use Rattle.gf_nfg.specs.Profiles.{numbers_from}
 use Rattle.gf_nfg.specs.Table.{Table, IsTable, IsSpellable, rows}
 use Rattle.gf_nfg.specs.Sentence.{IsCount, IsLabelList, IsPayoff, IsOutcome, Pays, IsOutcomeNumber, IsPayoffBody, IsOutcomeBody, Sentence}
 use Rattle.gf_nfg.specs.TableText.{SpellsTable}
-use Rattle.gf_nfg.proofs.BackLists.{all_parts, all_both, all_joined, all_mapped}
-
-abbrev IsLabel : List ℕ → Type 0
-IsLabel label = is_spelling label ≡ true
+use Rattle.gf_nfg.proofs.LabelsCounted.{decimal_label}
 
 -- ---- labels
-
-digits_label : (before : ℕ) (bytes : List ℕ) → (before == 92) ≡ false → AllDigits 10 bytes → is_spelling_after before bytes ≡ true
-digits_label before [] e h = rw e refl
-digits_label before (b ∷ bytes) e h =
-    let no_quote : (b == 34) ≡ false = let d = h.0 in grind (arith, nat_tests) in
-    let no_backslash : (b == 92) ≡ false = let d = h.0 in grind (arith, nat_tests) in
-    rw no_quote (digits_label b bytes no_backslash h.1)
-
-decimal_label : (n : ℕ) → n < 10 ^ 64 → IsLabel (decimal n)
-decimal_label n h = digits_label 34 (decimal n) refl (decimal_is_IsNumeral_wide n h).0.1
 
 counted_labels : (first n : ℕ) → first + n < 10 ^ 64 → AllByRecursion IsLabel (map decimal (numbers_from first n))
 counted_labels first zero h = tt
@@ -40,8 +25,8 @@ counted_labels first (suc n) h = (decimal_label first (omega (arith, h)), counte
 
 texts_spelled : (names : List (List ℕ)) (rest : List Token) → AllSpelled (braced (map Text names) ++ rest) → AllByRecursion IsLabel names × AllSpelled rest
 texts_spelled names rest h =
-    let k = all_parts IsSpelled (map Text names ++ Closing ∷ []) rest h.1 in
-    (all_mapped IsSpelled Text names (all_parts IsSpelled (map Text names) (Closing ∷ []) k.0).0, k.1)
+    let k = braced_spelled (map Text names) rest h in
+    (all_mapped IsSpelled Text names k.0, k.1)
 
 label_lists_spelled : (strategies : List (List (List ℕ))) (inner : List Token) → Each IsLabelList inner strategies → AllSpelled inner → AllByRecursion (λ names. AllByRecursion IsLabel names) strategies
 label_lists_spelled [] inner h all = tt
@@ -60,30 +45,18 @@ each_value : {A : Type 0} (P : List Token → A → Type 0) (Q : A → Type 0) �
 each_value P Q f [] tokens h = tt
 each_value P Q f (x ∷ xs) tokens h = (f h.0 x h.3, each_value P Q f xs h.1 h.4)
 
-comment_spelled : (tokens rest : List Token) (comment : List ℕ) → IsComment tokens comment → AllSpelled (tokens ++ rest) → IsLabel comment
-comment_spelled tokens rest comment (inl h) all = subst IsLabel (sym h.1) refl
-comment_spelled tokens rest comment (inr h) all = (subst (λ ts. AllSpelled (ts ++ rest)) h all).0
-
 -- ---- payoffs
-
-zero_fraction : IsFraction (whole (pos 0))
-zero_fraction = record { den_above_zero = omega arith; den_within = omega arith; num_within = omega arith; lowest = IsGcd-one_right 0 }
 
 zeros : (n : ℕ) → AllByRecursion IsFraction (replicate n (whole (pos 0)))
 zeros zero = tt
-zeros (suc n) = (zero_fraction, zeros n)
-
-at_index : {A : Type 0} (P : A → Type 0) (xs : List A) (k : ℕ) (x : A) → AllByRecursion P xs → slice_get xs k ≡ Some x → P x
-at_index P [] k x h e = absurd cc
-at_index P (y ∷ xs) zero x h e = let same : y ≡ x = cc in subst P same h.0
-at_index P (y ∷ xs) (suc k) x h e = at_index P xs k x h.1 e
+zeros (suc n) = (whole_fraction 0 (omega arith), zeros n)
 
 abbrev AreFractions : List Ratio → Type 0
 AreFractions row = AllByRecursion IsFraction row
 
 paid : (players k : ℕ) (outcomes : List (List Ratio)) (row : List Ratio) → AllByRecursion AreFractions outcomes → Pays players outcomes k row → AreFractions row
 paid players zero outcomes row all h = subst AreFractions (sym h) (zeros players)
-paid players (suc k) outcomes row all h = at_index AreFractions outcomes k row all h
+paid players (suc k) outcomes row all h = all_at AreFractions outcomes k row all h
 
 payoffs_spelled : (players : ℕ) (tokens : List Token) (rs : List (List Ratio)) → (IsPayoffBody tokens rs ⊎ IsOutcomeBody players tokens rs) → AllByRecursion AreFractions rs
 payoffs_spelled players tokens rs (inl h) =
@@ -106,7 +79,7 @@ is_spellable tokens t all h =
       | inr lists ↦ label_lists_spelled t.strategies inner lists inside
     ] in
     record {
-      labels_spelled = (whole.1.1.1.0, (comment_spelled h.comment h.body t.comment h.is_comment more.1, all_both IsLabel t.players (flat_map (λ ls. ls) t.strategies) heading.0 (all_joined IsLabel t.strategies names)));
+      labels_spelled = (whole.1.1.1.0, (comment_spelled h.comment t.comment h.is_comment (all_parts IsSpelled h.comment h.body more.1).0, all_both IsLabel t.players (flat_map (λ ls. ls) t.strategies) heading.0 (all_joined IsLabel t.strategies names)));
       payoffs_are_fractions = payoffs_spelled (length t.players) h.body (rows t) h.is_body;
     }
 

@@ -3,11 +3,12 @@ use Rattle.std.proofs.Common.{◌≡◌, ℕ, ◌+◌, true, false, List, [], �
 use Rattle.std.specs.Prelude.{codes}
 use Rattle.std.specs.List.{AllByRecursion, flat_map}
 use Rattle.gf_token.specs.Byte.{is_space, is_bare}
-use Rattle.gf_token.specs.LabelSpelling.{is_spelling}
+use Rattle.gf_token.specs.LabelSpelling.{IsLabel}
 use Rattle.gf_token.specs.Token.{Token, Lexeme, lexeme, spelling}
 use Rattle.gf_token.specs.Token.Token.{Opening, Closing, Text, Bare}
 use Rattle.gf_token.specs.TokenSpelling.{IsSpelled, MayPrecede, GoesOn, Spells}
 use Rattle.gf_token.specs.Grammar.{braced}
+use Rattle.gf_token.proofs.Spelled.{wider}
 use Rattle.gf_nfg.specs.TableText.{spaced, list_text, quoted, lines_text}
 
 -- from any place on, the bytes spell these tokens
@@ -27,23 +28,6 @@ Says piece tokens = (rest : List ℕ) (others : List Token) → IsApart rest →
 
 pub tells_nothing : Tells [] []
 tells_nothing at = ([], tt, refl)
-
-wider : (ls : List Lexeme) (b at : ℕ) (bytes : List ℕ) → is_space b ≡ true → Spells (at + 1) bytes ls → Spells at (b ∷ bytes) ls
-wider [] b at bytes s h = (s, h)
-wider (l ∷ ls) b at bytes s h =
-    let first = h.0 in (
-      record {
-        gap = b ∷ first.gap;
-        rest = first.rest;
-        parts = ap (λ (x : List ℕ). b ∷ x) first.parts;
-        is_gap = (s, first.is_gap);
-        is_spelled = first.is_spelled;
-        may_precede = first.may_precede;
-        start = omega (arith, first.start);
-        end = first.end;
-      },
-      h.1,
-    )
 
 tells_space : (b : ℕ) (rest : List ℕ) (tokens : List Token) → is_space b ≡ true → Tells rest tokens → Tells (b ∷ rest) tokens
 tells_space b rest tokens s h at = let k = h (at + 1) in (k.0, wider k.0 b at rest s k.1, k.2)
@@ -65,7 +49,7 @@ says_opening = says_token Opening tt (λ rest apart. tt) (λ ls A a. a)
 says_closing : Says (codes "}") (Closing ∷ [])
 says_closing = says_token Closing tt (λ rest apart. tt) (λ ls A a. a)
 
-pub says_label : (label : List ℕ) → is_spelling label ≡ true → Says (quoted label) (Text label ∷ [])
+pub says_label : (label : List ℕ) → IsLabel label → Says (quoted label) (Text label ∷ [])
 says_label label h = says_token (Text label) h (λ rest apart. tt) (λ ls A a. a)
 
 no_bare : (b : ℕ) → is_space b ≡ true → is_bare b ≡ false

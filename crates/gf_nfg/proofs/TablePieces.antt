@@ -1,8 +1,8 @@
 -- Lists that are cut into pieces.
 use Rattle.std.proofs.Common.{◌≡◌, ℕ, zero, suc, ◌+◌, ◌-◌, ◌<◌, ◌≤◌, List, [], ◌∷◌, ◌++◌, length, take, drop, get_or, Some, slice_get, refl, sym, ap, ◌∙◌, arith, true}
-use Rattle.std.specs.List.{AllByRecursion}
 use Rattle.std.proofs.lemmas.List.{take-append-le, drop-append-le, length-drop, length-append, take_all, drop_at}
-use Rattle.gf_token.specs.LabelSpelling.{is_spelling}
+use Rattle.gf_fraction.proofs.AllElements.{all_at, all_both}
+use Rattle.gf_token.specs.LabelSpelling.{is_spelling, IsLabel}
 use Rattle.gf_nfg.specs.TableParts.{pieces, start_of, RisesTo, IsCut}
 
 pub start_of_suc : (from : ℕ) (ends : List ℕ) (k d : ℕ) → k < length ends → start_of from ends (suc k) ≡ get_or ends k d
@@ -56,15 +56,6 @@ pub rises-push : (from : ℕ) (ends : List ℕ) (whole more : ℕ) → RisesTo w
 rises-push from [] whole more h = (omega (arith, h), refl)
 rises-push from (end ∷ ends) whole more h = (h.0, rises-push end ends whole more h.1)
 
-pub all-push : {A : Type 0} (P : A → Type 0) (xs : List A) (x : A) → AllByRecursion P xs → P x → AllByRecursion P (xs ++ x ∷ [])
-all-push P [] x h p = (p, tt)
-all-push P (y ∷ ys) x h p = (h.0, all-push P ys x h.1 p)
-
-pub all_at : {A : Type 0} (P : A → Type 0) (xs : List A) (k : ℕ) (x : A) → AllByRecursion P xs → slice_get xs k ≡ Some x → P x
-all_at P [] k x h e = absurd (cc)
-all_at P (y ∷ ys) zero x h e = let same : y ≡ x = cc in rw (sym same) h.0
-all_at P (y ∷ ys) (suc k) x h e = all_at P ys k x h.1 e
-
 -- a list that was cut, and a piece more
 pub record IsMore (ends bytes more ends' bytes' : List ℕ) : Type 0 where
   pub is_cut : IsCut ends bytes
@@ -83,7 +74,7 @@ cut_more ends bytes more ends' bytes' m =
     let whole : length bytes' ≡ length bytes + length more = ap length m.bytes_are ∙ length-append bytes more in
     record {
       rises = rw (whole, e) (rises-push 0 ends (length bytes) (length more) m.is_cut.rises);
-      spelled = rw (pieces-more ends bytes more ends' bytes' m) (all-push (λ label. is_spelling label ≡ true) (pieces 0 ends bytes) more m.is_cut.spelled m.more_spelled);
+      spelled = rw (pieces-more ends bytes more ends' bytes' m) (all_both IsLabel (pieces 0 ends bytes) (more ∷ []) m.is_cut.spelled (m.more_spelled, tt));
     }
 
 -- a place in a list that was cut
@@ -113,4 +104,4 @@ at_piece ends bytes labels at start end h =
 
 pub at_spelled : (ends bytes : List ℕ) (labels : List (List ℕ)) (at start end : ℕ) → IsAt ends bytes labels at start end
     → is_spelling (take (end - start) (drop start bytes)) ≡ true
-at_spelled ends bytes labels at start end h = all_at (λ label. is_spelling label ≡ true) (pieces 0 ends bytes) at _ h.is_cut.spelled (at_piece ends bytes labels at start end h)
+at_spelled ends bytes labels at start end h = all_at IsLabel (pieces 0 ends bytes) at _ h.is_cut.spelled (at_piece ends bytes labels at start end h)

@@ -8,6 +8,7 @@ use Rattle.std.proofs.lemmas.Option.{slice_get-map, slice_get_within, get_or_fro
 use Rattle.std.proofs.lemmas.Bool.Decides.{nat_tests}
 use Rattle.std.proofs.Math.Nat.{mul-le-mul_right}
 use Rattle.gf_fraction.specs.Ratio.{Ratio}
+use Rattle.gf_fraction.proofs.AllElements.{all_images}
 use Rattle.gf_nfg.specs.Limit.{profile_limit}
 use Rattle.gf_nfg.specs.Profiles.{numbers_from, positions, product, profiles}
 use Rattle.gf_nfg.specs.Table.{Table, rows}
@@ -205,10 +206,6 @@ product_drop (n ∷ counts) (suc at) h =
     let more : 1 * product counts ≤ n * product counts = mul-le-mul_right (product counts) h.0 in
     omega (arith, below, more)
 
-pub counts_positive : (strategies : List (List (List ℕ))) → AllByRecursion (λ own. 0 < length own) strategies → AllByRecursion (λ n. 0 < n) (map length strategies)
-counts_positive [] h = tt
-counts_positive (own ∷ strategies) h = (h.0, counts_positive strategies h.1)
-
 -- what is known of a player whose strategy is looked at
 pub record AtPlayer (names : Names) (profile : List ℕ) (at place count : ℕ) : Type 0 where
   pub one_list_each : length names.strategies ≡ length names.players
@@ -241,7 +238,7 @@ pub strategy_fits : (names : Names) (profile : List ℕ) (at place count : ℕ) 
     → place * count + (get_or profile at 0 - 1) < profile_limit
 strategy_fits names profile at place count a above within =
     let below = place_below (drop at (map length names.strategies)) (drop at profile) _ (strategy_in names profile at place count a above within) in
-    let whole = product_drop (map length names.strategies) at (counts_positive names.strategies a.some_strategy) in
+    let whole = product_drop (map length names.strategies) at (all_images (λ n. 0 < n) length names.strategies a.some_strategy) in
     omega (arith, below, whole, a.within)
 
 pub payoffs_found : (names : Names) (count : ℕ) (payoffs zeros : List Ratio) (numbers : List ℕ) (t : Table) (profile : List ℕ) → IsKept names count payoffs zeros numbers → table_with names (kept_rows names payoffs numbers) ≡ t

@@ -7,8 +7,8 @@ use Rattle.std.proofs.Math.Nat.{mul-div_cancel, mul-le-mul_left, mul-le-mul_righ
 use Rattle.std.proofs.lemmas.Option.{slice_get-map}
 use Rattle.gf_nfg.proofs.BackProfiles.{length-profiles}
 use Rattle.gf_nfg.proofs.NumbersInTurn.{length-numbers_from}
-use Rattle.gf_nfg.proofs.TablePieces.{all_at}
 use Rattle.gf_fraction.specs.Ratio.{Ratio, whole}
+use Rattle.gf_fraction.proofs.AllElements.{all_at}
 use Rattle.gf_nfg.specs.Limit.{profile_limit}
 use Rattle.gf_nfg.specs.Profiles.{numbers_from, positions, product, profiles}
 use Rattle.gf_nfg.specs.Table.{Entry, Table, IsTable, rows}

@@ -7,10 +7,11 @@ use Rattle.std.proofs.Math.Nat.{le-div_iff_mul-le}
 use Rattle.std.proofs.lemmas.List.{get_or_append_left, get_or_push, length-append, drop_at, take_all}
 use Rattle.std.proofs.lemmas.Option.{slice_get-get_or, slice_get-map}
 use Rattle.gf_fraction.specs.Ratio.{Ratio}
+use Rattle.gf_fraction.proofs.AllElements.{all_at}
 use Rattle.gf_nfg.specs.TextParts.{AreLines, IsLine, row_text}
 use Rattle.gf_nfg.specs.TableParts.{kept_row, row_of}
 use Rattle.gf_nfg.proofs.TableRows.{kept_row_is}
-use Rattle.gf_nfg.proofs.TablePieces.{all_at, take_part}
+use Rattle.gf_nfg.proofs.TablePieces.{take_part}
 use Rattle.gf_nfg.proofs.Texts.{line_written, lines_rest}
 
 pub rows_below : (players size : ℕ) (numbers : List ℕ) → 0 < players → AllByRecursion (λ number. number * players ≤ size) numbers → AllByRecursion (λ number. number < size / players + 1) numbers

@@ -1,8 +1,8 @@
 -- The table that a strategic file means.
-use Rattle.std.specs.Prelude.{◌≡◌, ℕ, ◌<◌, true, List, ◌∷◌, ◌++◌, length, map}
+use Rattle.std.specs.Prelude.{◌≡◌, ℕ, ◌<◌, List, ◌∷◌, ◌++◌, length, map}
 use Rattle.std.specs.List.{AllByRecursion, flat_map}
 use Rattle.gf_fraction.specs.Ratio.{Ratio, IsFraction}
-use Rattle.gf_token.specs.LabelSpelling.{is_spelling}
+use Rattle.gf_token.specs.LabelSpelling.{IsLabel}
 use Rattle.gf_nfg.specs.Profiles.{profiles}
 
 -- what each player is paid at a profile
@@ -34,5 +34,5 @@ labels t = t.title ∷ t.comment ∷ (t.players ++ flat_map (λ names. names) t.
 
 -- a file can hold it: its labels are spellings of labels, and its payoffs fractions
 pub record IsSpellable (t : Table) : Type 0 where
-  pub labels_spelled : AllByRecursion (λ label. is_spelling label ≡ true) (labels t)
+  pub labels_spelled : AllByRecursion IsLabel (labels t)
   pub payoffs_are_fractions : AllByRecursion (λ row. AllByRecursion IsFraction row) (rows t)

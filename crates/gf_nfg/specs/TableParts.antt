@@ -1,8 +1,8 @@
 -- How the parts of a table are kept.
-use Rattle.std.specs.Prelude.{◌≡◌, ℕ, zero, suc, pos, ◌+◌, ◌-◌, ◌*◌, ◌<◌, ◌≤◌, true, List, [], ◌∷◌, take, drop, length, slice_get, replicate, Option, Some, None, option_map, unwrap_or, map, nat_lt, if◌then◌else◌}
+use Rattle.std.specs.Prelude.{◌≡◌, ℕ, zero, suc, pos, ◌+◌, ◌-◌, ◌*◌, ◌<◌, ◌≤◌, List, [], ◌∷◌, take, drop, length, slice_get, replicate, Option, Some, None, option_map, unwrap_or, map, nat_lt, if◌then◌else◌}
 use Rattle.std.specs.List.{AllByRecursion}
 use Rattle.gf_fraction.specs.Ratio.{Ratio, whole}
-use Rattle.gf_token.specs.LabelSpelling.{is_spelling}
+use Rattle.gf_token.specs.LabelSpelling.{IsLabel}
 use Rattle.gf_nfg.specs.Profiles.{positions, product, profiles}
 use Rattle.gf_nfg.specs.Table.{Entry, Table, rows}
 
@@ -24,7 +24,7 @@ RisesTo whole from (end ∷ ends) = (from ≤ end) × RisesTo whole end ends
 
 -- each is the spelling of a label
 abbrev pub AreSpellings : List (List ℕ) → Type 0
-AreSpellings labels = AllByRecursion (λ label. is_spelling label ≡ true) labels
+AreSpellings labels = AllByRecursion IsLabel labels
 
 -- bytes that are cut into labels at these ends
 pub record IsCut (ends : List ℕ) (bytes : List ℕ) : Type 0 where

@@ -1,6 +1,7 @@
 -- The spellings of labels, said of their quotes and their last byte.
-use Rattle.std.proofs.Common.{◌≡◌, ℕ, Bool, true, false, ◌==◌, ◌&&◌, ◌||◌, List, [], ◌∷◌, ◌++◌, refl, ap, ◌∙◌, arith, IsTrue, ◌↔◌}
+use Rattle.std.proofs.Common.{◌≡◌, ℕ, true, ◌==◌, ◌||◌, List, [], ◌∷◌, ◌++◌, refl, ap, ◌∙◌, arith, IsTrue, ◌↔◌}
 use Rattle.std.specs.Prelude.{not}
+use Rattle.std.proofs.lemmas.Bool.{and_parts}
 use Rattle.std.proofs.lemmas.Bool.Decides.{nat_tests}
 use Rattle.gf_token.specs.LabelSpelling.{is_spelling, is_spelling_after, EndsInBackslash, EscapesQuotes}
 
@@ -8,10 +9,6 @@ use Rattle.gf_token.specs.LabelSpelling.{is_spelling, is_spelling_after, EndsInB
 last_of : ℕ → List ℕ → ℕ
 last_of before [] = before
 last_of before (b ∷ bytes) = last_of b bytes
-
-and_true : (a b : Bool) → (a && b) ≡ true → (a ≡ true) × (b ≡ true)
-and_true true b h = (refl, h)
-and_true false b h = absurd cc
 
 quote_escaped : (before : ℕ) → (not (34 == 34) || before == 92) ≡ true → before ≡ 92
 quote_escaped before h = grind (arith, nat_tests)
@@ -22,16 +19,16 @@ quotes_escaped [] [] back before h e = absurd cc
 quotes_escaped [] (c ∷ front) back before h e = absurd cc
 quotes_escaped (b ∷ bytes) [] back before h e =
     let quote : b ≡ 34 = cc in
-    quote_escaped before (rw quote at (and_true (not (b == 34) || before == 92) (is_spelling_after b bytes) h).0)
+    quote_escaped before (rw quote at (and_parts (not (b == 34) || before == 92) (is_spelling_after b bytes) h).0)
 quotes_escaped (b ∷ bytes) (c ∷ front) back before h e =
     let same : c ≡ b = cc in
     let tail : bytes ≡ front ++ 34 ∷ back = cc in
-    rw same (quotes_escaped bytes front back b (and_true (not (b == 34) || before == 92) (is_spelling_after b bytes) h).1 tail)
+    rw same (quotes_escaped bytes front back b (and_parts (not (b == 34) || before == 92) (is_spelling_after b bytes) h).1 tail)
 
 last_not_escape : (bytes : List ℕ) (before : ℕ) → is_spelling_after before bytes ≡ true → last_of before bytes ≡ 92 → ⊥
 unfolding last_of
 last_not_escape [] before h e = grind (arith, nat_tests)
-last_not_escape (b ∷ bytes) before h e = last_not_escape bytes b (and_true (not (b == 34) || before == 92) (is_spelling_after b bytes) h).1 e
+last_not_escape (b ∷ bytes) before h e = last_not_escape bytes b (and_parts (not (b == 34) || before == 92) (is_spelling_after b bytes) h).1 e
 
 spelling_back : (bytes : List ℕ) (before : ℕ) → ((front back : List ℕ) → bytes ≡ front ++ 34 ∷ back → last_of before front ≡ 92) → (last_of before bytes ≡ 92 → ⊥) → is_spelling_after before bytes ≡ true
 unfolding last_of

@@ -2,7 +2,7 @@
 use Rattle.std.proofs.Common.{◌≡◌, ℕ, suc, ◌+◌, Bool, true, false, ◌==◌, ◌&&◌, ◌||◌, cond, List, [], ◌∷◌, ◌++◌, length, refl, sym, ap, subst, ◌∙◌, append_assoc, arith, inl, inr}
 use Rattle.std.specs.Prelude.{not}
 use Rattle.std.specs.List.{AllByRecursion}
-use Rattle.std.proofs.lemmas.Bool.{cases_Bool}
+use Rattle.std.proofs.lemmas.Bool.{cases_Bool, and_parts}
 use Rattle.std.proofs.lemmas.Bool.Decides.{Decides-eqb, nat_tests}
 use Rattle.std.proofs.lemmas.List.{append-nil, length-append}
 use Rattle.gf_token.specs.Byte.{is_space, is_bare}
@@ -42,10 +42,6 @@ unfolding lex
 bare_ends text [] start at h = refl
 bare_ends text (c ∷ rest) start at h = rw h refl
 
-and_true : (a b : Bool) → (a && b) ≡ true → (a ≡ true) × (b ≡ true)
-and_true true b h = (refl, h)
-and_true false b h = absurd cc
-
 -- a byte of a label does not close it, and a byte that does not close it may be one of its bytes
 goes_on : (quote escaped : Bool) → (not quote || escaped) ≡ true → (quote && not escaped) ≡ false
 goes_on true true h = refl
@@ -57,10 +53,6 @@ goes_on_back true true h = refl
 goes_on_back true false h = absurd cc
 goes_on_back false escaped h = refl
 
-closing_here : (quote escaped : Bool) → (quote && not escaped) ≡ true → (quote ≡ true) × (not escaped ≡ true)
-closing_here true escaped h = (refl, h)
-closing_here false escaped h = absurd cc
-
 text_again : (l acc rest : List ℕ) (start at before : ℕ) → is_spelling_after before l ≡ true
     → lex (InText start before acc) at (l ++ 34 ∷ rest) ≡ lexeme start (at + length l + 1) (Text (acc ++ l)) ∷ lex Gap (at + length l + 1) rest
 unfolding lex
@@ -68,7 +60,7 @@ text_again [] acc rest start at before h =
     let e : at + 1 ≡ at + 0 + 1 = omega arith in
     rw (h, append-nil) (ap (λ (i : ℕ). lexeme start i (Text acc) ∷ lex Gap i rest) e)
 text_again (b ∷ l) acc rest start at before h =
-    let k = and_true (not (b == 34) || before == 92) (is_spelling_after b l) h in
+    let k = and_parts (not (b == 34) || before == 92) (is_spelling_after b l) h in
     let e : at + 1 + length l + 1 ≡ at + suc (length l) + 1 = omega arith in
     rw (goes_on (b == 34) (before == 92) k.0) (text_again l (acc ++ b ∷ []) rest start (at + 1) b k.1
     ∙ ap (λ (i : ℕ). lexeme start i (Text ((acc ++ b ∷ []) ++ l)) ∷ lex Gap i rest) e
@@ -84,7 +76,7 @@ text_breaks [] acc start at before h = refl
 text_breaks (b ∷ bs) acc start at before h =
     elim (cases_Bool ((b == 34) && not (before == 92))) [
       | inl s ↦
-          let q = closing_here (b == 34) (before == 92) s in
+          let q = and_parts (b == 34) (not (before == 92)) s in
           absurd (h [] bs q.1 (ap (λ (x : ℕ). x ∷ bs) ((Decides-eqb b 34).0 q.0)))
       | inr s ↦ rw s (text_breaks bs (acc ++ b ∷ []) start (at + 1) b (closes_never_on b before bs s h))
     ]
@@ -176,7 +168,7 @@ class_of : (b : ℕ) → Class b
 class_of b = class_by b (is_space b) (b == 123) (b == 125) (b == 44) (b == 34) refl refl refl refl refl
 
 -- a gap with a byte of whitespace before it
-wider : (ls : List Lexeme) (b at : ℕ) (bs : List ℕ) → is_space b ≡ true → Spells (at + 1) bs ls → Spells at (b ∷ bs) ls
+pub wider : (ls : List Lexeme) (b at : ℕ) (bs : List ℕ) → is_space b ≡ true → Spells (at + 1) bs ls → Spells at (b ∷ bs) ls
 wider [] b at bs s h = (s, h)
 wider (l ∷ ls) b at bs s h =
     let first = h.0 in (
@@ -279,7 +271,7 @@ closes_never_back b before bs s h [] rest spelled parts =
     absurd (grind (arith, nat_tests))
 closes_never_back b before bs s h (c ∷ label) rest spelled parts =
     let same : b ≡ c = cc in
-    let k = and_true (not (c == 34) || before == 92) (is_spelling_after c label) spelled in
+    let k = and_parts (not (c == 34) || before == 92) (is_spelling_after c label) spelled in
     let tail : bs ≡ label ++ 34 ∷ rest = cc in
     h label rest (rw same k.1) tail
 
@@ -295,7 +287,7 @@ text_on b at start before text bs ls s (never none first) = never (closes_never_
 text_step : (b at start before : ℕ) (text bs : List ℕ) (c : Bool) → ((b == 34) && not (before == 92)) ≡ c → Known (at + 1) bs
     → TextEnds start before text at (b ∷ bs) (cond c (lexeme start (at + 1) (Text text) ∷ []) [] ++ lex (cond c Gap (InText start b (text ++ b ∷ []))) (at + 1) bs)
 text_step b at start before text bs true s ih =
-    let q = closing_here (b == 34) (before == 92) s in
+    let q = and_parts (b == 34) (not (before == 92)) s in
     let e : at + 1 ≡ at + 0 + 1 = omega arith in
     closed [] bs (lex Gap (at + 1) bs) (ap (λ (x : ℕ). x ∷ bs) ((Decides-eqb b 34).0 q.0)) q.1
     (ap (λ (x : List ℕ). lexeme start (at + 1) (Text x) ∷ lex Gap (at + 1) bs) (sym (append-nil text)) ∙ ap (λ (i : ℕ). lexeme start i (Text (text ++ [])) ∷ lex Gap (at + 1) bs) e)
@@ -331,6 +323,9 @@ pub found : (bytes : List ℕ) (at : ℕ) → Spells at bytes (lex Gap at bytes)
 found bytes at = means bytes at Gap
 
 -- ---- the law
+
+pub same_tokens : (bytes : List ℕ) (ls others : List Lexeme) → Spells 0 bytes ls → Spells 0 bytes others → ls ≡ others
+same_tokens bytes ls others h k = sym (spelled ls 0 bytes h) ∙ spelled others 0 bytes k
 
 pub spelled_once : (bytes : List ℕ) → (ls : List Lexeme) × Spells 0 bytes ls × ((others : List Lexeme) → Spells 0 bytes others → others ≡ ls)
 spelled_once bytes = (lex Gap 0 bytes, found bytes 0, λ others h. sym (spelled others 0 bytes h))

@@ -13,6 +13,7 @@ use Rattle.gf_token.specs.Index.{IsIndex}
 use Rattle.gf_token.proofs.Spelled.{AllBare}
 use Rattle.gf_fraction.specs.Ratio.{Ratio, IsFraction}
 use Rattle.gf_fraction.specs.NumberText.{number_text}
+use Rattle.gf_fraction.proofs.AllElements.{all_both}
 
 -- bytes of bare tokens, one at least
 record IsBareText (bytes : List ℕ) : Type 0 where
@@ -25,10 +26,6 @@ bare_digit b h = grind (arith, nat_tests)
 bare_digits : (bytes : List ℕ) → AllDigits 10 bytes → AllBare bytes
 bare_digits [] h = tt
 bare_digits (b ∷ bytes) h = (bare_digit b h.0, bare_digits bytes h.1)
-
-bare_both : (front back : List ℕ) → AllBare front → AllBare back → AllBare (front ++ back)
-bare_both [] back h k = k
-bare_both (b ∷ front) back h k = (h.0, bare_both front back h.1 k)
 
 decimal_bare : (n : ℕ) → n < 2 ^ 127 → IsBareText (decimal n)
 decimal_bare n h =
@@ -50,7 +47,7 @@ number_bare r h = by_den (r.den == 1)
         let d = decimal_bare r.den h.den_within in
         record {
           some = omega (arith, n.some, length-append (signed_decimal r.num) (47 ∷ []), length-append (signed_decimal r.num ++ 47 ∷ []) (decimal r.den));
-          bare = bare_both (signed_decimal r.num ++ 47 ∷ []) (decimal r.den) (bare_both (signed_decimal r.num) (47 ∷ []) n.bare (refl, tt)) d.bare;
+          bare = all_both (λ b. is_bare b ≡ true) (signed_decimal r.num ++ 47 ∷ []) (decimal r.den) (all_both (λ b. is_bare b ≡ true) (signed_decimal r.num) (47 ∷ []) n.bare (refl, tt)) d.bare;
         }
 
 spelled_bare : (bytes : List ℕ) → IsBareText bytes → IsSpelled (Bare bytes)

@@ -1,5 +1,5 @@
 -- How a label is spelled between its quotes.
-use Rattle.std.specs.Prelude.{◌≡◌, ℕ, Bool, ◌&&◌, ◌||◌, not, List, [], ◌∷◌, ◌++◌, ◌==◌}
+use Rattle.std.specs.Prelude.{◌≡◌, ℕ, Bool, ◌&&◌, ◌||◌, not, List, [], ◌∷◌, ◌++◌, true, ◌==◌}
 
 -- behind the byte `before`, each `"` directly follows a backslash, and the last byte is no backslash
 abbrev pub is_spelling_after : ℕ → List ℕ → Bool
@@ -9,6 +9,9 @@ is_spelling_after before (b ∷ bytes) = (not (b == 34) || before == 92) && is_s
 -- a label's spelling, behind its opening quote
 abbrev pub is_spelling : List ℕ → Bool
 is_spelling bytes = is_spelling_after 34 bytes
+
+abbrev pub IsLabel : List ℕ → Type 0
+IsLabel bytes = is_spelling bytes ≡ true
 
 -- the last of the bytes is a backslash
 abbrev pub EndsInBackslash : List ℕ → Type 0

@@ -1,6 +1,7 @@
 -- Keys in order of first use, and their descriptions.
 use Rattle.std.proofs.Common.{◌≡◌, Bool, true, false, not, cond, List, [], ◌∷◌, map, Some, filter, refl, sym, ap, ◌∙◌, inl, inr}
 use Rattle.std.specs.List.{AllByRecursion}
+use Rattle.std.specs.Prelude.{◌⊎◌}
 use Rattle.gf_tree.specs.FiniteMap.{Described, description_at, first_uses}
 use Rattle.gf_tree.specs.FileTree.{Use}
 use Rattle.gf_tree.specs.Consistent.{Describes}
@@ -8,30 +9,29 @@ use Rattle.gf_tree.proofs.Uses.{Has, IsEquality, differ}
 
 -- ---- filters
 
-kept_by : {X : Type 0} (test : X → Bool) (y : X) (ys zs : List X) (x : X) → test x ≡ true → (Has ys x → Has zs x) → (b : Bool) → test y ≡ b → Has (y ∷ ys) x → Has (cond b (y ∷ zs) zs) x
-kept_by test y ys zs x t rest true e (inl q) = inl q
-kept_by test y ys zs x t rest true e (inr m) = inr (rest m)
-kept_by test y ys zs x t rest false e (inl q) = let no = sym e ∙ ap test q ∙ t in absurd cc
-kept_by test y ys zs x t rest false e (inr m) = rest m
+of_cond : {X : Type 0} (b : Bool) (x : X) (xs : List X) (y : X) → Has (cond b (x ∷ xs) xs) y → ((b ≡ true) × (x ≡ y)) ⊎ Has xs y
+of_cond true x xs y (inl e) = inl (refl, e)
+of_cond true x xs y (inr h) = inr h
+of_cond false x xs y h = inr h
 
-kept : {X : Type 0} (test : X → Bool) (xs : List X) (x : X) → test x ≡ true → Has xs x → Has (filter test xs) x
-kept test [] x t h = absurd h
-kept test (y ∷ ys) x t h = kept_by test y ys (filter test ys) x t (kept test ys x t) (test y) refl h
+in_cond : {X : Type 0} (b : Bool) (x : X) (xs : List X) (y : X) → Has xs y → Has (cond b (x ∷ xs) xs) y
+in_cond true x xs y h = inr h
+in_cond false x xs y h = h
 
-passed_by : {X : Type 0} (test : X → Bool) (y : X) (ys zs : List X) (x : X) → (Has zs x → Has ys x × (test x ≡ true)) → (b : Bool) → test y ≡ b → Has (cond b (y ∷ zs) zs) x → Has (y ∷ ys) x × (test x ≡ true)
-passed_by test y ys zs x rest true e (inl q) = (inl q, ap test (sym q) ∙ e)
-passed_by test y ys zs x rest true e (inr m) = let r = rest m in (inr r.0, r.1)
-passed_by test y ys zs x rest false e m = let r = rest m in (inr r.0, r.1)
+pub of_filter : {X : Type 0} (p : X → Bool) (xs : List X) (y : X) → Has (filter p xs) y → Has xs y × (p y ≡ true)
+of_filter p [] y h = absurd h
+of_filter p (x ∷ xs) y h = elim (of_cond (p x) x (filter p xs) y h) [ inl c ↦ (inl c.1, ap p (sym c.1) ∙ c.0) | inr k ↦ let r = of_filter p xs y k in (inr r.0, r.1) ]
 
-passed : {X : Type 0} (test : X → Bool) (xs : List X) (x : X) → Has (filter test xs) x → Has xs x × (test x ≡ true)
-passed test [] x h = absurd h
-passed test (y ∷ ys) x h = passed_by test y ys (filter test ys) x (passed test ys x) (test y) refl h
+pub in_filter : {X : Type 0} (p : X → Bool) (xs : List X) (y : X) → Has xs y → p y ≡ true → Has (filter p xs) y
+in_filter p [] y h e = absurd h
+in_filter p (x ∷ xs) y (inl q) e = let passes : p x ≡ true = ap p q ∙ e in rw passes (inl q)
+in_filter p (x ∷ xs) y (inr h) e = in_cond (p x) x (filter p xs) y (in_filter p xs y h e)
 
 -- ---- first uses
 
 used_by : {K : Type 0} (same : K → K → Bool) → IsEquality same → (key k : K) (ks : List K) → Has (first_uses same ks) k → (b : Bool) → same key k ≡ b → Has (first_uses same (key ∷ ks)) k
 used_by same equality key k ks m true e = inl ((equality key k).0 e)
-used_by same equality key k ks m false e = inr (kept (λ j. not (same key j)) (first_uses same ks) k (ap not e) m)
+used_by same equality key k ks m false e = inr (in_filter (λ j. not (same key j)) (first_uses same ks) k m (ap not e))
 
 -- the keys that are used have a first use
 pub is_used : {K : Type 0} (same : K → K → Bool) → IsEquality same → (ks : List K) (k : K) → Has ks k → Has (first_uses same ks) k
@@ -43,7 +43,7 @@ is_used same equality (key ∷ ks) k (inr m) = used_by same equality key k ks (i
 pub was_used : {K : Type 0} (same : K → K → Bool) (ks : List K) (k : K) → Has (first_uses same ks) k → Has ks k
 was_used same [] k h = absurd h
 was_used same (key ∷ ks) k (inl q) = inl q
-was_used same (key ∷ ks) k (inr m) = inr (was_used same ks k (passed (λ j. not (same key j)) (first_uses same ks) k m).0)
+was_used same (key ∷ ks) k (inr m) = inr (was_used same ks k (of_filter (λ j. not (same key j)) (first_uses same ks) k m).0)
 
 -- no key stands twice
 abbrev pub AreDistinct : {K : Type 0} → List K → Type 0
@@ -51,7 +51,7 @@ AreDistinct [] = Unit {0}
 AreDistinct (k ∷ ks) = (Has ks k → ⊥) × AreDistinct ks
 
 distinct_by : {K : Type 0} (test : K → Bool) (k : K) (ks : List K) → AreDistinct (k ∷ ks) → AreDistinct (filter test ks) → (b : Bool) → AreDistinct (cond b (k ∷ filter test ks) (filter test ks))
-distinct_by test k ks h rest true = (λ m. h.0 (passed test ks k m).0, rest)
+distinct_by test k ks h rest true = (λ m. h.0 (of_filter test ks k m).0, rest)
 distinct_by test k ks h rest false = rest
 
 filter_distinct : {K : Type 0} (test : K → Bool) (ks : List K) → AreDistinct ks → AreDistinct (filter test ks)
@@ -64,7 +64,7 @@ not_itself same equality key e = let yes = (equality key key).1 refl in let no =
 pub first_uses_distinct : {K : Type 0} (same : K → K → Bool) → IsEquality same → (ks : List K) → AreDistinct (first_uses same ks)
 first_uses_distinct same equality [] = tt
 first_uses_distinct same equality (key ∷ ks) = (
-  λ m. not_itself same equality key (passed (λ j. not (same key j)) (first_uses same ks) key m).1,
+  λ m. not_itself same equality key (of_filter (λ j. not (same key j)) (first_uses same ks) key m).1,
   filter_distinct (λ j. not (same key j)) (first_uses same ks) (first_uses_distinct same equality ks),
 )
 

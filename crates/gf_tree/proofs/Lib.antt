@@ -9,7 +9,7 @@ mod SentencesOnce
 pub mod SpelledGames
 pub mod TreesOnce
 pub mod Uses
-mod Worked
+pub mod Worked
 pub mod WorkedGames
 pub mod WorkedNone
 pub mod WrittenGames

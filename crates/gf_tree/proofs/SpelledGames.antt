@@ -1,11 +1,14 @@
 -- What a file means is a game that a file can hold.
-use Rattle.std.proofs.Common.{◌≡◌, ℕ, zero, suc, ◌^◌, ◌<◌, List, [], ◌∷◌, ◌++◌, length, map, Some, None, Option, MatchOption, refl, sym, ap, subst, ◌∙◌, arith, inl, inr}
+use Rattle.std.proofs.Common.{◌≡◌, ℕ, zero, suc, ◌^◌, ◌<◌, List, [], ◌∷◌, ◌++◌, length, map, Some, None, Option, MatchOption, sym, ap, subst, ◌∙◌, arith}
 use Rattle.std.specs.List.{AllByRecursion, cons_option}
 use Rattle.gf_token.specs.Token.{Token}
 use Rattle.gf_token.specs.Token.Token.{Closing, Text, Bare}
-use Rattle.gf_token.specs.Grammar.{Each, braced, IsComment, IsPayoffInBraces}
-use Rattle.gf_token.proofs.SpelledTokens.{AllSpelled, all_spelled}
+use Rattle.gf_token.specs.Grammar.{Each, IsPayoffInBraces}
+use Rattle.gf_token.specs.LabelSpelling.{IsLabel}
+use Rattle.gf_token.specs.TokenSpelling.{IsSpelled}
+use Rattle.gf_token.proofs.SpelledTokens.{AllSpelled, all_spelled, braced_spelled, comment_spelled}
 use Rattle.gf_fraction.specs.Ratio.{IsFraction}
+use Rattle.gf_fraction.proofs.AllElements.{all_parts, all_mapped}
 use Rattle.gf_tree.specs.PrefixOrder.{Entry, flatten}
 use Rattle.gf_tree.specs.Description.{Action, SetKey, InformationSet, Outcome}
 use Rattle.gf_tree.specs.FileTree.{Use, FileNode, FileTree, set_uses, outcome_uses}
@@ -13,27 +16,16 @@ use Rattle.gf_tree.specs.Consistent.{Describes}
 use Rattle.gf_tree.specs.Sentence.{IsDescription, IsAction, IsInformationSet, IsMover, IsStep, IsOutcome, IsResult, IsNode, Sentence}
 use Rattle.gf_tree.specs.Game.{Game, IsGame}
 use Rattle.gf_tree.specs.GameOf.{keys_alone, IsGameOf, SpellsGame}
-use Rattle.gf_tree.specs.Spellable.{IsLabel, IsSpellableAction, IsSpellableSet, IsSpellableOutcome, IsSpellable}
+use Rattle.gf_tree.specs.Spellable.{IsSpellableAction, IsSpellableSet, IsSpellableOutcome, IsSpellable}
 use Rattle.gf_tree.proofs.Uses.{each, all_of_each, has}
 use Rattle.gf_tree.proofs.Games.{map_entry, flatten_map, is_game}
-
-all_parts : (xs ys : List Token) → AllSpelled (xs ++ ys) → AllSpelled xs × AllSpelled ys
-all_parts [] ys h = (tt, h)
-all_parts (x ∷ xs) ys h = let k = all_parts xs ys h.1 in ((h.0, k.0), k.1)
-
-inside : (inner rest : List Token) → AllSpelled (braced inner ++ rest) → AllSpelled inner × AllSpelled rest
-inside inner rest h = let k = all_parts (inner ++ Closing ∷ []) rest h.1 in ((all_parts inner (Closing ∷ []) k.0).0, k.1)
-
-names_spelled : (names : List (List ℕ)) → AllSpelled (map Text names) → AllByRecursion IsLabel names
-names_spelled [] h = tt
-names_spelled (n ∷ ns) h = (h.0, names_spelled ns h.1)
 
 -- what holds of each group of spelled tokens
 each_spelled : {A : Type 0} (P : List Token → A → Type 0) (Q : A → Type 0) → ((tokens : List Token) (x : A) → P tokens x → AllSpelled tokens → Q x) → (xs : List A) (tokens : List Token) → Each P tokens xs → AllSpelled tokens
     → AllByRecursion Q xs
 each_spelled P Q f [] tokens h all = tt
 each_spelled P Q f (x ∷ xs) tokens h all =
-    let k = all_parts h.0 h.1 (subst AllSpelled h.2 all) in
+    let k = all_parts IsSpelled h.0 h.1 (subst AllSpelled h.2 all) in
     (f h.0 x h.3 k.0, each_spelled P Q f xs h.1 h.4 k.1)
 
 -- ---- descriptions
@@ -58,20 +50,20 @@ set_spelled : (key : SetKey) (o : Option InformationSet) (tokens : List Token) �
 set_spelled key None tokens p n h all = tt
 set_spelled key (Some d) tokens p n h all =
     let k = subst AllSpelled h.1 all in
-    let actions = all_parts h.0 (Closing ∷ []) k.1.1 in
+    let actions = all_parts IsSpelled h.0 (Closing ∷ []) k.1.1 in
     record { player = p; number = n; name = k.0; actions = each_spelled (IsAction key.player) IsSpellableAction (action_spelled key.player) d.actions h.0 h.2 actions.0 }
 
 step_spelled : (letter : List ℕ) (tokens : List Token) (o : Option (Use SetKey InformationSet)) → IsStep letter tokens o → AllSpelled tokens → MatchOption o (Unit {0}) SetSpelled
 step_spelled letter tokens None h all = tt
 step_spelled letter tokens (Some u) h all =
-    let k = all_parts h.0 (Bare h.1 ∷ h.2) (subst AllSpelled h.3 all) in
+    let k = all_parts IsSpelled h.0 (Bare h.1 ∷ h.2) (subst AllSpelled h.3 all) in
     set_spelled u.key u.description h.2 (mover_bound letter h.0 u.key.player h.4) h.5.0.2 h.6 k.1.1
 
 outcome_spelled : (players key : ℕ) (o : Option Outcome) (tokens : List Token) → key < 2 ^ 32 → IsDescription (IsOutcome players) tokens o → AllSpelled tokens → OutcomeSpelled (record { key = key; description = o })
 outcome_spelled players key None tokens n h all = tt
 outcome_spelled players key (Some d) tokens n h all =
     let k = subst AllSpelled h.1 all in
-    let payoffs = all_parts h.0 (Closing ∷ []) k.1.1 in
+    let payoffs = all_parts IsSpelled h.0 (Closing ∷ []) k.1.1 in
     record { number = n; name = k.0; payoffs = each_spelled IsPayoffInBraces IsFraction (λ ts r one spelled. one.3.fraction) d.payoffs h.0 h.2 payoffs.0 }
 
 result_spelled : (players : ℕ) (tokens : List Token) (o : Option (Use ℕ Outcome)) → IsResult players tokens o → AllSpelled tokens → MatchOption o (Unit {0}) OutcomeSpelled
@@ -88,7 +80,7 @@ record NodeSpelled (n : FileNode) : Type 0 where
 node_spelled : (players : ℕ) (tokens : List Token) (n : FileNode) → IsNode players tokens n → AllSpelled tokens → NodeSpelled n
 node_spelled players tokens n h all =
     let k = subst AllSpelled h.parts all in
-    let parts = all_parts h.step h.result k.1.1 in
+    let parts = all_parts IsSpelled h.step h.result k.1.1 in
     record { name = k.1.0; set = step_spelled h.letter h.step n.set h.is_step parts.0; outcome = result_spelled players h.result n.outcome h.is_result parts.1 }
 
 all_of_options : {X : Type 0} (P : X → Type 0) (o : Option X) (xs : List X) → MatchOption o (Unit {0}) P → AllByRecursion P xs → AllByRecursion P (cons_option o xs)
@@ -109,16 +101,12 @@ names_of_nodes (e ∷ es) h = (h.0.name, names_of_nodes es h.1)
 
 -- ---- the game
 
-comment_spelled : (tokens : List Token) (comment : List ℕ) → IsComment tokens comment → AllSpelled tokens → IsLabel comment
-comment_spelled tokens comment (inl h) all = subst IsLabel (sym h.1) refl
-comment_spelled tokens comment (inr h) all = (subst AllSpelled h all).0
-
 is_spellable : (tokens : List Token) (f : FileTree) (g : Game) → AllSpelled tokens → Sentence tokens f → IsGameOf f g → IsSpellable g
 is_spellable tokens f g all h of =
     let es = flatten f.tree in
     let whole = subst AllSpelled h.parts all in
-    let heading = inside (map Text f.players) (h.comment ++ h.nodes) whole.1.1.1.1 in
-    let more = all_parts h.comment h.nodes heading.1 in
+    let heading = braced_spelled (map Text f.players) (h.comment ++ h.nodes) whole.1.1.1.1 in
+    let more = all_parts IsSpelled h.comment h.nodes heading.1 in
     let nodes = each_spelled (IsNode (length f.players)) NodeSpelled (node_spelled (length f.players)) (map (λ e. e.node) es) h.nodes h.are_nodes more.1 in
     let entries : map (map_entry keys_alone) es ≡ flatten g.tree = sym (flatten_map keys_alone f.tree) ∙ ap flatten of.tree in
     let sets = sets_spelled es nodes in
@@ -126,7 +114,7 @@ is_spellable tokens f g all h of =
     record {
       title = subst IsLabel of.title whole.1.1.1.0;
       comment = subst IsLabel of.comment (comment_spelled h.comment f.comment h.is_comment more.0);
-      players = subst (AllByRecursion IsLabel) of.players (names_spelled f.players heading.0);
+      players = subst (AllByRecursion IsLabel) of.players (all_mapped IsSpelled Text f.players heading.0);
       nodes = subst (AllByRecursion (λ e. IsLabel e.node.name)) entries (names_of_nodes es nodes);
       sets = all_of_each IsSpellableSet g.sets (λ s m.
           let told : Use SetKey InformationSet = record { key = s.key; description = Some s.description } in

@@ -3,7 +3,7 @@ use Rattle.std.proofs.Common.{◌≡◌, ℕ, ◌==◌, nat_eq, List, [], ◌∷
 use Rattle.std.specs.List.{AllByRecursion, filter_map, cons_option}
 use Rattle.std.proofs.lemmas.Bool.Decides.{Decides-eqb, Decides-and}
 use Rattle.gf_token.specs.Token.{Token}
-use Rattle.gf_token.proofs.Spelled.{spelled}
+use Rattle.gf_token.proofs.Spelled.{same_tokens}
 use Rattle.gf_tree.specs.PrefixOrder.{Entry, flatten}
 use Rattle.gf_tree.specs.Description.{SetKey, InformationSet, same_set}
 use Rattle.gf_tree.specs.FileTree.{Use, FileNode, FileTree, set_uses, outcome_uses}
@@ -84,5 +84,5 @@ means_one_game tokens g h p q =
 
 pub spells_one_game : (bytes : List ℕ) (g h : Game) → SpellsGame bytes g → SpellsGame bytes h → g ≡ h
 spells_one_game bytes g h p q =
-    let same : p.0 ≡ q.0 = sym (spelled p.0 0 bytes p.1) ∙ spelled q.0 0 bytes q.1 in
+    let same = same_tokens bytes p.0 q.0 p.1 q.1 in
     means_one_game (map (λ l. l.token) q.0) g h (subst (λ ls. MeansGame (map (λ l. l.token) ls) g) same p.2) q.2

@@ -1,5 +1,5 @@
 -- Worked files, node by node: what is said, with the tokens that say it.
-use Rattle.std.proofs.Common.{◌≡◌, ℕ, suc, ◌<◌, ◌≤◌, ◌^◌, ◌≤ℤ◌, pos, List, [], ◌∷◌, ◌++◌, length, map, Some, None, Option, Ok, refl, subst, arith, inl}
+use Rattle.std.proofs.Common.{◌≡◌, ℕ, suc, ◌<◌, ◌≤◌, ◌^◌, ◌≤ℤ◌, pos, List, [], ◌∷◌, ◌++◌, length, map, Some, None, Option, refl, subst, arith, inl}
 use Rattle.std.specs.Prelude.{codes, decimal, nat_lt, ◌&&◌, true}
 use Rattle.std.proofs.lemmas.Bool.Decides.{Decides-and, Decides-ltb}
 use Rattle.std.specs.List.{AllByRecursion, flat_map}
@@ -10,52 +10,42 @@ use Rattle.gf_token.specs.Token.{Token}
 use Rattle.gf_token.specs.Token.Token.{Text, Bare}
 use Rattle.gf_token.specs.Grammar.{Each, braced}
 use Rattle.gf_token.proofs.SpelledNumbers.{decimal_is_index}
-use Rattle.gf_fraction.specs.Ratio.{Ratio, IsFraction, whole}
+use Rattle.gf_fraction.specs.Ratio.{Ratio, whole}
 use Rattle.gf_fraction.specs.Fits.{SumFits}
-use Rattle.gf_fraction.specs.NumberSpelling.{IsNumber, Reads}
+use Rattle.gf_fraction.specs.NumberSpelling.{IsNumber}
 use Rattle.gf_fraction.specs.NumberText.{number_text}
 use Rattle.gf_fraction.specs.Computed.{number_of, lowest_of, gcd_within}
-use Rattle.gf_fraction.proofs.Divisors.{IsGcd-one_left, IsGcd-one_right}
-use Rattle.gf_fraction.proofs.Numbers.{number_is_computed}
-use Rattle.gf_fraction.proofs.Texts.{written_is_read}
+use Rattle.gf_fraction.proofs.Numbers.{number_is}
+use Rattle.gf_fraction.proofs.WholeNumbers.{whole_fraction, part_fraction, whole_spelled}
 use Rattle.gf_tree.specs.PrefixOrder.{Entry, flatten}
 use Rattle.gf_tree.specs.Grown.{grow, root}
-use Rattle.gf_tree.specs.Description.{Action, SetKey, InformationSet, Outcome, AddToOne, IsLottery, IsSet}
+use Rattle.gf_tree.specs.Description.{Action, SetKey, InformationSet, Outcome, AddToOne, IsLottery, IsSet, set_of}
 use Rattle.gf_tree.specs.FileTree.{Use, FileNode, FileTree}
 use Rattle.gf_tree.specs.Sentence.{IsDescription, IsAction, IsInformationSet, IsPositive, IsMover, IsStep, IsOutcome, IsResult, IsNode, Sentence}
-use Rattle.gf_tree.specs.WorkedTrees.{half, toss, choice, set_of, two_paid}
+use Rattle.gf_tree.specs.WorkedTrees.{half, toss, choice, two_paid}
 
 -- ---- numbers
 
-pub number : (text : List ℕ) (r : Ratio) → number_of text ≡ Ok r → IsNumber text r
-number text r e = subst (Reads text) e (number_is_computed text)
-
 pub half_by_point : IsNumber (codes "0.5") half
 unfolding number_of lowest_of gcd_within
-half_by_point = number (codes "0.5") half refl
+half_by_point = number_is (codes "0.5") half refl
 
 pub half_by_slash : IsNumber (codes "1/2") half
 unfolding number_of lowest_of gcd_within
-half_by_slash = number (codes "1/2") half refl
+half_by_slash = number_is (codes "1/2") half refl
 
 pub half_by_places : IsNumber (codes "0.50") half
 unfolding number_of lowest_of gcd_within
-half_by_places = number (codes "0.50") half refl
+half_by_places = number_is (codes "0.50") half refl
 
 abbrev pub tenth : Ratio
 tenth = record { num = pos 1; den = 10 }
 
 pub tenth_by_exponent : IsNumber (codes "1e-1") tenth
 unfolding number_of lowest_of gcd_within
-tenth_by_exponent = number (codes "1e-1") tenth refl
+tenth_by_exponent = number_is (codes "1e-1") tenth refl
 
 -- ---- a toss
-
-half_is : IsFraction half
-half_is = record { den_above_zero = omega arith; den_within = omega arith; num_within = omega arith; lowest = IsGcd-one_left 2 }
-
-one_is : IsFraction (whole (pos 1))
-one_is = record { den_above_zero = omega arith; den_within = omega arith; num_within = omega arith; lowest = IsGcd-one_right 1 }
 
 first_half_fits : SumFits (whole (pos 0)) half
 first_half_fits = record {
@@ -81,7 +71,7 @@ not_negative : pos 0 ≤ℤ half.num
 not_negative = omega arith
 
 halves : AddToOne (whole (pos 0)) (half ∷ half ∷ [])
-halves = (not_negative, first_half_fits, (half, half_is, refl, (not_negative, second_half_fits, (whole (pos 1), one_is, refl, refl))))
+halves = (not_negative, first_half_fits, (half, part_fraction 2 (omega arith) (omega arith), refl, (not_negative, second_half_fits, (whole (pos 1), whole_fraction 1 (omega arith), refl, refl))))
 
 tosses : (name : List ℕ) → IsLottery (toss name).actions
 tosses name = (half ∷ half ∷ [], refl, halves)
@@ -154,12 +144,9 @@ one_paid n name bytes r h k = record {
   says = (decimal n, Text name ∷ braced (Bare bytes ∷ []), refl, numbered n h, (Bare bytes ∷ [], refl, (Bare bytes ∷ [], [], refl, (bytes, [], refl, k, inl refl), refl), refl));
 }
 
-small : (n : ℕ) → n < 2 ^ 127 → IsNumber (number_text (whole (pos n))) (whole (pos n))
-small n h = written_is_read (whole (pos n)) (record { den_above_zero = omega arith; den_within = omega arith; num_within = h; lowest = IsGcd-one_right n })
-
 whole_is : (n : ℕ) → n < 2 ^ 127 → IsNumber (decimal n) (whole (pos n))
 unfolding digits number_text
-whole_is n h = small n h
+whole_is n h = whole_spelled n h
 
 pub two_are_paid : (name : List ℕ) (x y : ℕ) → x < 2 ^ 127 → y < 2 ^ 127 → IsOutcome 2 (Text name ∷ braced (Bare (decimal x) ∷ Bare (decimal y) ∷ [])) (two_paid name x y)
 two_are_paid name x y h k = (

@@ -11,17 +11,18 @@ use Rattle.gf_fraction.specs.Ratio.{Ratio, whole}
 use Rattle.gf_fraction.specs.Fits.{IsSum}
 use Rattle.gf_fraction.specs.NumberSpelling.{IsNumber}
 use Rattle.gf_fraction.specs.Computed.{number_of, lowest_of, gcd_within}
+use Rattle.gf_fraction.proofs.Numbers.{number_is}
 use Rattle.gf_tree.specs.PrefixOrder.{flatten}
-use Rattle.gf_tree.specs.Description.{SetKey, InformationSet, AddToOne, IsLottery}
+use Rattle.gf_tree.specs.Description.{SetKey, InformationSet, AddToOne, IsLottery, set_of}
 use Rattle.gf_tree.specs.FileTree.{Use, FileTree, set_uses}
 use Rattle.gf_tree.specs.Consistent.{Describes, AreConsistent, IsConsistent}
 use Rattle.gf_tree.specs.Sentence.{Sentence}
 use Rattle.gf_tree.specs.Game.{Game}
 use Rattle.gf_tree.specs.GameOf.{SpellsGame}
-use Rattle.gf_tree.specs.WorkedTrees.{choice, set_of, undescribed_file, mismatched_file, unknown_player_file, too_likely_file}
+use Rattle.gf_tree.specs.WorkedTrees.{choice, undescribed_file, mismatched_file, unknown_player_file, too_likely_file}
 use Rattle.gf_tree.proofs.SentencesOnce.{says_once}
 use Rattle.gf_tree.proofs.TreesOnce.{uses_of_nodes}
-use Rattle.gf_tree.proofs.Worked.{number, no_description, said_lottery, said_choice, no_outcome, SaidNode, at_end, at_chance, at_player, file_tokens, file_of, is_said}
+use Rattle.gf_tree.proofs.Worked.{no_description, said_lottery, said_choice, no_outcome, SaidNode, at_end, at_chance, at_player, file_tokens, file_of, is_said}
 
 -- the file of the player A with these nodes
 abbrev file_by : List (SaidNode 1) → List ℕ → FileTree
@@ -137,7 +138,7 @@ somes_once (x ∷ xs) (y ∷ ys) e =
 
 three_fifths_by_point : IsNumber (codes "0.6") three_fifths
 unfolding number_of lowest_of gcd_within
-three_fifths_by_point = number (codes "0.6") three_fifths refl
+three_fifths_by_point = number_is (codes "0.6") three_fifths refl
 
 abbrev likely_said : List (SaidNode 1)
 likely_said =

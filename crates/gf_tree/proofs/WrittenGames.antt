@@ -7,9 +7,11 @@ use Rattle.std.proofs.lemmas.Bool.Decides.{Decides-eqb}
 use Rattle.gf_token.specs.Token.{Token}
 use Rattle.gf_token.specs.Token.Token.{Closing, Text, Bare}
 use Rattle.gf_token.specs.Grammar.{braced}
+use Rattle.gf_token.specs.LabelSpelling.{IsLabel}
 use Rattle.gf_token.proofs.SpelledNumbers.{number_spelled, index_spelled}
 use Rattle.gf_fraction.specs.Ratio.{Ratio, IsFraction}
 use Rattle.gf_fraction.specs.NumberText.{number_text}
+use Rattle.gf_fraction.proofs.AllElements.{all_weaker, all_both, all_images}
 use Rattle.gf_tree.specs.PrefixOrder.{Entry, flatten}
 use Rattle.gf_tree.specs.Description.{Action, SetKey, InformationSet, Outcome, same_set, IsSet}
 use Rattle.gf_tree.specs.Description as description
@@ -18,7 +20,7 @@ use Rattle.gf_tree.specs.FiniteMap.{Described, description_at, first_uses}
 use Rattle.gf_tree.specs.Sentence.{Sentence}
 use Rattle.gf_tree.specs.Game.{Game, IsGame, used_sets, used_outcomes, set_at, outcome_at}
 use Rattle.gf_tree.specs.GameOf.{SpellsGame}
-use Rattle.gf_tree.specs.Spellable.{IsLabel, IsSpellableAction, IsSpellableSet, IsSpellableOutcome, IsSpellable}
+use Rattle.gf_tree.specs.Spellable.{IsSpellableAction, IsSpellableSet, IsSpellableOutcome, IsSpellable}
 use Rattle.gf_tree.proofs.Uses.{Has, IsEquality, each, all_of_each, has_first, has_later, mapped_from}
 use Rattle.gf_tree.proofs.FirstUses.{found, is_used}
 use Rattle.gf_tree.proofs.TreesOnce.{same_set_equality}
@@ -75,16 +77,8 @@ among_options f (x ∷ xs) e k (inr m) q = has_later (f x) (filter_map f xs) k (
 abbrev AllWhole : List Token → Type 0
 AllWhole tokens = AllByRecursion IsWhole tokens
 
-whole_both : (xs ys : List Token) → AllWhole xs → AllWhole ys → AllWhole (xs ++ ys)
-whole_both [] ys h k = k
-whole_both (x ∷ xs) ys h k = (h.0, whole_both xs ys h.1 k)
-
 whole_braced : (xs : List Token) → AllWhole xs → AllWhole (braced xs)
-whole_braced xs h = (tt, whole_both xs (Closing ∷ []) h (tt, tt))
-
-whole_labels : (names : List (List ℕ)) → AllByRecursion IsLabel names → AllWhole (map Text names)
-whole_labels [] h = tt
-whole_labels (n ∷ ns) h = (h.0, whole_labels ns h.1)
+whole_braced xs h = (tt, all_both IsWhole xs (Closing ∷ []) h (tt, tt))
 
 whole_payoffs : (rs : List Ratio) → AllByRecursion IsFraction rs → AllWhole (map (λ r. Bare (number_text r)) rs)
 whole_payoffs [] h = tt
@@ -96,7 +90,7 @@ whole_probability (Some p) h = (number_spelled p h, tt)
 
 whole_actions : (actions : List Action) → AllByRecursion IsSpellableAction actions → AllWhole (flat_map action_tokens actions)
 whole_actions [] h = tt
-whole_actions (a ∷ actions) h = whole_both (action_tokens a) (flat_map action_tokens actions) (h.0.0, whole_probability a.probability h.0.1) (whole_actions actions h.1)
+whole_actions (a ∷ actions) h = all_both IsWhole (action_tokens a) (flat_map action_tokens actions) (h.0.0, whole_probability a.probability h.0.1) (whole_actions actions h.1)
 
 whole_mover : (player : ℕ) → player < 2 ^ 32 → AllWhole (mover_tokens player)
 whole_mover zero h = tt
@@ -104,16 +98,16 @@ whole_mover (suc player) h = (index_spelled (suc player) h, tt)
 
 whole_set : (players : ℕ) (key : SetKey) (o : Option InformationSet) → MatchOption o (Unit {0}) (λ d. IsSet players key d × IsSpellableSet (record { key = key; description = d })) → AllWhole (flat_map set_tokens (option_to_list o))
 whole_set players key None h = tt
-whole_set players key (Some d) h = whole_both (set_tokens d) [] (h.1.name, whole_braced (flat_map action_tokens d.actions) (whole_actions d.actions h.1.actions)) tt
+whole_set players key (Some d) h = all_both IsWhole (set_tokens d) [] (h.1.name, whole_braced (flat_map action_tokens d.actions) (whole_actions d.actions h.1.actions)) tt
 
 whole_outcome : (players key : ℕ) (o : Option Outcome) → MatchOption o (Unit {0}) (λ d. description.IsOutcome players key d × IsSpellableOutcome (record { key = key; description = d })) → AllWhole (flat_map outcome_tokens (option_to_list o))
 whole_outcome players key None h = tt
-whole_outcome players key (Some d) h = whole_both (outcome_tokens d) [] (h.1.name, whole_braced (map (λ r. Bare (number_text r)) d.payoffs) (whole_payoffs d.payoffs h.1.payoffs)) tt
+whole_outcome players key (Some d) h = all_both IsWhole (outcome_tokens d) [] (h.1.name, whole_braced (map (λ r. Bare (number_text r)) d.payoffs) (whole_payoffs d.payoffs h.1.payoffs)) tt
 
 whole_step : (players : ℕ) (o : Option (Use SetKey InformationSet)) → MatchOption o (Unit {0}) (IsSetUse players) → AllWhole (step_tokens o)
 whole_step players None h = tt
 whole_step players (Some u) h =
-    whole_both (mover_tokens u.key.player) (Bare (decimal u.key.number) ∷ flat_map set_tokens (option_to_list u.description)) (whole_mover u.key.player h.player) (index_spelled u.key.number h.number, whole_set players u.key u.description h.set)
+    all_both IsWhole (mover_tokens u.key.player) (Bare (decimal u.key.number) ∷ flat_map set_tokens (option_to_list u.description)) (whole_mover u.key.player h.player) (index_spelled u.key.number h.number, whole_set players u.key u.description h.set)
 
 whole_result : (players : ℕ) (o : Option (Use ℕ Outcome)) → MatchOption o (Unit {0}) (IsOutcomeUse players) → AllWhole (result_tokens o)
 whole_result players None h = (index_spelled 0 (omega arith), tt)
@@ -128,7 +122,7 @@ whole_letter None = (refl, tt)
 whole_letter (Some u) = whole_mover_letter u.key.player
 
 whole_node : (players : ℕ) (n : FileNode) → IsLabel n.name → IsWritable players n → AllWhole (node_tokens n)
-whole_node players n name h = (whole_letter n.set, (name, whole_both (step_tokens n.set) (result_tokens n.outcome) (whole_step players n.set h.set) (whole_result players n.outcome h.outcome)))
+whole_node players n name h = (whole_letter n.set, (name, all_both IsWhole (step_tokens n.set) (result_tokens n.outcome) (whole_step players n.set h.set) (whole_result players n.outcome h.outcome)))
 
 -- ---- the file
 
@@ -160,22 +154,18 @@ nodes_of_game g is can =
     let outcome = outcome_use g is can y.0.node.outcome (λ k q. among_options (λ e. e.node.outcome) es y.0 k y.1 q) in
     subst (λ z. IsLabel z.name × IsWritable (length g.players) z) node (name, record { set = set; outcome = outcome }))
 
-second_of_both : {X : Type 0} (P Q : X → Type 0) (xs : List X) → AllByRecursion (λ x. P x × Q x) xs → AllByRecursion Q xs
-second_of_both P Q [] h = tt
-second_of_both P Q (x ∷ xs) h = (h.0.1, second_of_both P Q xs h.1)
-
 whole_nodes : (players : ℕ) (ns : List FileNode) → AllByRecursion (λ n. IsLabel n.name × IsWritable players n) ns → AllWhole (flat_map node_tokens ns)
 whole_nodes players [] h = tt
-whole_nodes players (n ∷ ns) h = whole_both (node_tokens n) (flat_map node_tokens ns) (whole_node players n h.0.0 h.0.1) (whole_nodes players ns h.1)
+whole_nodes players (n ∷ ns) h = all_both IsWhole (node_tokens n) (flat_map node_tokens ns) (whole_node players n h.0.0 h.0.1) (whole_nodes players ns h.1)
 
 some_bytes : (g : Game) → IsGame g → IsSpellable g → (bytes : List ℕ) × SpellsGame bytes g
 some_bytes g is can =
     let f = file_of g in
     let ns = map (λ e. e.node) (flatten f.tree) in
     let nodes = nodes_of_game g is can in
-    let sentence = file_written f (second_of_both (λ n. IsLabel n.name) (IsWritable (length g.players)) ns nodes) in
+    let sentence = file_written f (all_weaker (λ n. IsLabel n.name × IsWritable (length g.players) n) (IsWritable (length g.players)) (λ n both. both.1) ns nodes) in
     let tokens = file_tokens f in
-    let behind = whole_both (braced (map Text g.players)) (Text g.comment ∷ flat_map node_tokens ns) (whole_braced (map Text g.players) (whole_labels g.players can.players)) (can.comment, whole_nodes (length g.players) ns nodes) in
+    let behind = all_both IsWhole (braced (map Text g.players)) (Text g.comment ∷ flat_map node_tokens ns) (whole_braced (map Text g.players) (all_images IsWhole Text g.players can.players)) (can.comment, whole_nodes (length g.players) ns nodes) in
     let spelled = spell tokens 0 ((refl, (refl, (refl, tt))), ((refl, tt), ((refl, tt), (can.title, behind)))) in
     let of = file_is_of g is in
     (bytes_of tokens, (spelled.0, spelled.1, (f, subst (λ ts. Sentence ts f) (sym spelled.2) sentence, of.0, of.1)))

@@ -4,6 +4,7 @@ use Rattle.std.specs.List.{AllByRecursion, flat_map}
 use Rattle.gf_token.specs.Token.{Token, Lexeme, lexeme, spelling}
 use Rattle.gf_token.specs.Token.Token.{Opening, Closing, Comma, Text, Bare, Broken}
 use Rattle.gf_token.specs.TokenSpelling.{IsSpelled, MayPrecede, GoesOn, Spells}
+use Rattle.gf_token.proofs.Spelled.{wider}
 
 -- a token that is spelled and not broken
 abbrev pub IsWhole : Token → Type 0
@@ -12,23 +13,6 @@ IsWhole t = IsSpelled t
 
 abbrev pub bytes_of : List Token → List ℕ
 bytes_of tokens = flat_map (λ t. spelling t ++ 32 ∷ []) tokens
-
-wider : (ls : List Lexeme) (at : ℕ) (bytes : List ℕ) → Spells (at + 1) bytes ls → Spells at (32 ∷ bytes) ls
-wider [] at bytes h = (refl, h)
-wider (l ∷ ls) at bytes h =
-    let first = h.0 in (
-      record {
-        gap = 32 ∷ first.gap;
-        rest = first.rest;
-        parts = ap (λ (x : List ℕ). 32 ∷ x) first.parts;
-        is_gap = (refl, first.is_gap);
-        is_spelled = first.is_spelled;
-        may_precede = first.may_precede;
-        start = omega (arith, first.start);
-        end = first.end;
-      },
-      h.1,
-    )
 
 is_spelled : (t : Token) → IsWhole t → IsSpelled t
 is_spelled Opening h = tt
@@ -60,7 +44,7 @@ spell (t ∷ ts) at h =
     let end = at + length (spelling t) in
     let more = spell ts (end + 1) h.1 in
     let rest = 32 ∷ bytes_of ts in
-    let behind = wider more.0 end (bytes_of ts) more.1 in (
+    let behind = wider more.0 32 end (bytes_of ts) refl more.1 in (
       lexeme at end t ∷ more.0,
       (
         record {

@@ -23,6 +23,9 @@ pub record SetKey : Type 0 where
   pub player : ℕ
   pub number : ℕ
 
+abbrev pub set_of : ℕ → ℕ → SetKey
+set_of player number = record { player = player; number = number }
+
 abbrev pub same_set : SetKey → SetKey → Bool
 same_set a b = a.player == b.player && a.number == b.number
 

@@ -1,15 +1,12 @@
 -- Which games a file can hold.
-use Rattle.std.specs.Prelude.{◌≡◌, ℕ, true, List, MatchOption, ◌^◌, ◌<◌, ⊤}
+use Rattle.std.specs.Prelude.{ℕ, MatchOption, ◌^◌, ◌<◌, ⊤}
 use Rattle.std.specs.List.{AllByRecursion}
-use Rattle.gf_token.specs.LabelSpelling.{is_spelling}
+use Rattle.gf_token.specs.LabelSpelling.{IsLabel}
 use Rattle.gf_fraction.specs.Ratio.{IsFraction}
 use Rattle.gf_tree.specs.PrefixOrder.{flatten}
 use Rattle.gf_tree.specs.Description.{Action, SetKey, InformationSet, Outcome}
 use Rattle.gf_tree.specs.FiniteMap.{Described}
 use Rattle.gf_tree.specs.Game.{Game}
-
-abbrev pub IsLabel : List ℕ → Type 0
-IsLabel label = is_spelling label ≡ true
 
 abbrev pub IsSpellableAction : Action → Type 0
 IsSpellableAction a = IsLabel a.label × MatchOption a.probability ⊤ IsFraction

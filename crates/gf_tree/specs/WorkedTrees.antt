@@ -4,13 +4,9 @@ use Rattle.gf_fraction.specs.Ratio.{Ratio, whole}
 use Rattle.gf_tree.specs.Tree.{Tree, Trees}
 use Rattle.gf_tree.specs.Tree.Tree.{branch}
 use Rattle.gf_tree.specs.Tree.Trees.{none, more}
-use Rattle.gf_tree.specs.Description.{InformationSet, Outcome, SetKey}
+use Rattle.gf_tree.specs.Description.{InformationSet, Outcome, SetKey, set_of}
 use Rattle.gf_tree.specs.FiniteMap.{Described}
 use Rattle.gf_tree.specs.Game.{Node, Game}
-
--- the set with this number of this player, who is chance if he is player 0
-abbrev pub set_of : ℕ → ℕ → SetKey
-set_of player number = record { player = player; number = number }
 
 -- a node without a name at a set, and its branches
 abbrev pub moves : SetKey → Option ℕ → Trees Node → Tree Node
@@ -23,6 +19,21 @@ ends outcome = branch (record { name = []; set = None; outcome = outcome }) none
 -- a player's set with actions of these labels
 abbrev pub choice : List ℕ → List (List ℕ) → InformationSet
 choice name labels = record { name = name; actions = map (λ label. record { label = label; probability = None }) labels }
+
+-- one branch, and two
+abbrev pub one : Tree Node → Trees Node
+one t = more t none
+
+abbrev pub two : Tree Node → Tree Node → Trees Node
+two t u = more t (one u)
+
+-- an outcome of one player
+abbrev pub paying : List ℕ → Ratio → Outcome
+paying name payoff = record { name = name; payoffs = payoff ∷ [] }
+
+-- a game of the player "A"
+abbrev pub game : List ℕ → Tree Node → List (Described SetKey InformationSet) → List (Described ℕ Outcome) → Game
+game title tree sets outcomes = record { title = title; comment = []; players = codes "A" ∷ []; tree = tree; sets = sets; outcomes = outcomes }
 
 abbrev pub half : Ratio
 half = record { num = pos 1; den = 2 }
@@ -37,14 +48,10 @@ described key description = record { key = key; description = description }
 -- ---- a set of chance met twice on a path, and an outcome used twice
 
 abbrev pub five : Game
-five = record {
-  title = codes "five";
-  comment = [];
-  players = codes "A" ∷ [];
-  tree = moves (set_of 0 9) None (more (moves (set_of 1 7) None (more (moves (set_of 0 9) None (more (ends None) (more (ends None) none))) none)) (more (moves (set_of 1 3) (Some 4) (more (ends (Some 4)) none)) none));
-  sets = described (set_of 0 9) (toss (codes "n")) ∷ described (set_of 1 7) (choice (codes "i") (codes "L" ∷ [])) ∷ described (set_of 1 3) (choice (codes "j") (codes "R" ∷ [])) ∷ [];
-  outcomes = described 4 (record { name = codes "w"; payoffs = record { num = pos 1; den = 10 } ∷ [] }) ∷ [];
-}
+five = game (codes "five")
+    (moves (set_of 0 9) None (two (moves (set_of 1 7) None (one (moves (set_of 0 9) None (two (ends None) (ends None))))) (moves (set_of 1 3) (Some 4) (one (ends (Some 4))))))
+    (described (set_of 0 9) (toss (codes "n")) ∷ described (set_of 1 7) (choice (codes "i") (codes "L" ∷ [])) ∷ described (set_of 1 3) (choice (codes "j") (codes "R" ∷ [])) ∷ [])
+    (described 4 (paying (codes "w") (record { num = pos 1; den = 10 })) ∷ [])
 
 -- the set of chance is described again with its probabilities in other spellings
 abbrev pub five_file : List ℕ
@@ -61,7 +68,7 @@ bonus = record {
   title = codes "g";
   comment = [];
   players = codes "A" ∷ codes "B" ∷ [];
-  tree = moves (set_of 0 1) None (more (moves (set_of 1 1) (Some 1) (more (ends (Some 2)) (more (ends None) none))) (more (moves (set_of 1 1) None (more (ends None) (more (ends (Some 3)) none))) none));
+  tree = moves (set_of 0 1) None (two (moves (set_of 1 1) (Some 1) (two (ends (Some 2)) (ends None))) (moves (set_of 1 1) None (two (ends None) (ends (Some 3)))));
   sets = described (set_of 0 1) (toss (codes "n")) ∷ described (set_of 1 1) (choice (codes "i") (codes "L" ∷ codes "R" ∷ [])) ∷ [];
   outcomes = described 1 (two_paid (codes "bonus") 1 0) ∷ described 2 (two_paid (codes "x") 2 0) ∷ described 3 (two_paid (codes "y") 3 1) ∷ [];
 }
@@ -73,14 +80,10 @@ bonus_file =
 -- ---- a player who forgets what he chose
 
 abbrev pub forgetful : Game
-forgetful = record {
-  title = codes "w";
-  comment = [];
-  players = codes "A" ∷ [];
-  tree = moves (set_of 1 1) None (more (moves (set_of 1 2) None (more (ends None) (more (ends None) none))) (more (moves (set_of 1 2) None (more (ends None) (more (ends None) none))) none));
-  sets = described (set_of 1 1) (choice (codes "i") (codes "a" ∷ codes "b" ∷ [])) ∷ described (set_of 1 2) (choice (codes "j") (codes "c" ∷ codes "d" ∷ [])) ∷ [];
-  outcomes = [];
-}
+forgetful = game (codes "w")
+    (moves (set_of 1 1) None (two (moves (set_of 1 2) None (two (ends None) (ends None))) (moves (set_of 1 2) None (two (ends None) (ends None)))))
+    (described (set_of 1 1) (choice (codes "i") (codes "a" ∷ codes "b" ∷ [])) ∷ described (set_of 1 2) (choice (codes "j") (codes "c" ∷ codes "d" ∷ [])) ∷ [])
+    []
 
 abbrev pub forgetful_file : List ℕ
 forgetful_file = codes "EFG 2 R \"w\" { \"A\" } p \"\" 1 1 \"i\" { \"a\" \"b\" } 0 p \"\" 1 2 \"j\" { \"c\" \"d\" } 0 t \"\" 0 t \"\" 0 p \"\" 1 2 0 t \"\" 0 t \"\" 0"

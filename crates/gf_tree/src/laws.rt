@@ -7,13 +7,14 @@ ghost use Rattle.gf_tree.specs.Tree.{Tree};
 ghost use Rattle.gf_tree.specs.Tree.Trees.{none, more};
 ghost use Rattle.gf_tree.specs.PrefixOrder.{Entry, Fills, flatten};
 ghost use Rattle.gf_tree.specs.Grown.{grow};
+ghost use Rattle.gf_tree.specs.Description.{set_of};
 ghost use Rattle.gf_tree.specs.FileTree.{Use, FileTree, set_uses, outcome_uses};
 ghost use Rattle.gf_tree.specs.Sentence.{Sentence};
 ghost use Rattle.gf_tree.specs.Consistent.{Describes, AreConsistent, IsConsistent};
 ghost use Rattle.gf_tree.specs.FiniteMap.{Described, first_uses};
 ghost use Rattle.gf_tree.specs.Spellable.{IsSpellable};
 ghost use Rattle.gf_tree.specs.Learned.{Learns, LearnsGame};
-ghost use Rattle.gf_tree.specs.WorkedTrees.{set_of, five, five_file, bonus, bonus_file, forgetful, forgetful_file, undescribed_file, mismatched_file, unknown_player_file, too_likely_file};
+ghost use Rattle.gf_tree.specs.WorkedTrees.{five, five_file, bonus, bonus_file, forgetful, forgetful_file, undescribed_file, mismatched_file, unknown_player_file, too_likely_file};
 ghost use Rattle.gf_tree.specs.Game.{Game, IsGame, used_sets, used_outcomes};
 ghost use Rattle.gf_tree.specs.GameOf.{IsGameOf, MeansGame, SpellsGame};
 

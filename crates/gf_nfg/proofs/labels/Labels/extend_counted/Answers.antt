@@ -1,15 +1,15 @@
-use Rattle.std.proofs.Common.{◌≡◌, ◌∙◌, ◌++◌, ◌+◌, ◌<◌, ◌^◌, true, arith}
+use Rattle.std.proofs.Common.{◌≡◌, ◌∙◌, ◌++◌, ◌+◌, ◌<◌, ◌≤◌, ◌^◌, arith}
 use Rattle.std.specs.Prelude.{decimal}
-use Rattle.gf_token.specs.LabelSpelling.{is_spelling}
+use Rattle.gf_token.specs.LabelSpelling.{IsLabel}
 use Rattle.gf_token.specs.Label.{label_of}
-use Rattle.gf_nfg.proofs.LabelsCounted.{is_spelling-decimal, counted_appended, counted_rest}
+use Rattle.gf_nfg.proofs.LabelsCounted.{decimal_label, counted_appended, counted_rest}
 use Rattle.gf_nfg.proofs.labels.Labels.extend_counted.Goals as goal
 
 pub unwrap-requires : goal.unwrap-requires
 unwrap-requires c =
     let small : c.loop-before.before + 1 < 2 ^ 64 = omega (arith, c.ranges.count.fits) in
     let number : c.as_bytes-number.result.now ≡ decimal (c.loop-before.before + 1) = c.as_bytes-number.ensures.value ∙ c.format.ensures.text in
-    let spelled : is_spelling c.as_bytes-number.result.now ≡ true = rw number (is_spelling-decimal (c.loop-before.before + 1) (omega arith) small) in
+    let spelled : IsLabel c.as_bytes-number.result.now = rw number (decimal_label (c.loop-before.before + 1) (let wide : 2 ^ 64 ≤ 10 ^ 64 = omega arith in omega (arith, small, wide))) in
     c.new.ensures.spelled.1 spelled
 
 pub loop-before-preserved : goal.loop-before-preserved

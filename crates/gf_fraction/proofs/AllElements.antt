@@ -1,5 +1,5 @@
--- What holds of each element of lists that are put together.
-use Rattle.std.proofs.Common.{List, [], ◌∷◌, ◌++◌, map}
+-- What holds of each element of a list, and of lists that are put together.
+use Rattle.std.proofs.Common.{◌≡◌, ℕ, zero, suc, List, [], ◌∷◌, ◌++◌, map, Some, slice_get, subst}
 use Rattle.std.specs.List.{AllByRecursion, flat_map}
 
 pub all_weaker : {X : Type 0} (P Q : X → Type 0) → ((x : X) → P x → Q x) → (xs : List X) → AllByRecursion P xs → AllByRecursion Q xs
@@ -25,3 +25,12 @@ all_joined P (xs ∷ xss) h = all_both P xs (flat_map (λ ys. ys) xss) h.0 (all_
 pub all_mapped : {X Y : Type 0} (P : Y → Type 0) (f : X → Y) (xs : List X) → AllByRecursion P (map f xs) → AllByRecursion (λ x. P (f x)) xs
 all_mapped P f [] h = tt
 all_mapped P f (x ∷ xs) h = (h.0, all_mapped P f xs h.1)
+
+pub all_images : {X Y : Type 0} (P : Y → Type 0) (f : X → Y) (xs : List X) → AllByRecursion (λ x. P (f x)) xs → AllByRecursion P (map f xs)
+all_images P f [] h = tt
+all_images P f (x ∷ xs) h = (h.0, all_images P f xs h.1)
+
+pub all_at : {X : Type 0} (P : X → Type 0) (xs : List X) (k : ℕ) (x : X) → AllByRecursion P xs → slice_get xs k ≡ Some x → P x
+all_at P [] k x h e = absurd cc
+all_at P (y ∷ xs) zero x h e = let same : y ≡ x = cc in subst P same h.0
+all_at P (y ∷ xs) (suc k) x h e = all_at P xs k x h.1 e
