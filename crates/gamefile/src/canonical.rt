@@ -17,8 +17,8 @@ pub fn canonical(alloc: Global, input: Vec<u8>) -> Result<Vec<u8>, Fault>
     let end = input.len();
     let table = read_nfg(alloc, &input)?;
     // The table keeps nothing of the input, whose memory the text can have.
-    drop(input);
-    let mut text = Vec::new(alloc);
+    let mut text = input;
+    text.clear();
     match write_nfg(&table, &mut text) {
         Ok(()) => Ok(text),
         Err(error) => {

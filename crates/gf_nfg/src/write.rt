@@ -151,19 +151,30 @@ fn write_rows(t: &Table, out: &mut Vec<u8>) -> Result<(), AllocError>
     Ok(())
 }
 
+/// Appends the heading of a table and its lines.
+fn write_text(t: &Table, out: &mut Vec<u8>) -> Result<(), AllocError>
+    ensures { OnOk result (out.new.items ≡ out.old.items ++ table_text t.now) }
+{
+    write_heading(t.names(), out)?;
+    write_rows(t, out)
+}
+
 /// Appends the canonical text of the table: payoff version, each number in lowest terms, one line for each profile.
+/// An empty vector's memory is used for it.
 ///
 /// `AllocError` where memory is refused, and then the vector's items are as they were.
 pub fn write_nfg(t: &Table, out: &mut Vec<u8>) -> Result<(), AllocError>
     ensures ok { OnOk result (out.new.items ≡ out.old.items ++ table_text t.now) }
     ensures err { OnErr result (out.new.items ≡ out.old.items) }
 {
-    let mut text = Vec::new(*out.allocator());
-    write_heading(t.names(), &mut text)?;
-    write_rows(t, &mut text)?;
     if out.is_empty() {
-        *out = text;
-        return Ok(());
+        let written = write_text(t, out);
+        if written.is_err() {
+            out.clear();
+        }
+        return written;
     }
+    let mut text = Vec::new(*out.allocator());
+    write_text(t, &mut text)?;
     out.extend_from_slice(&text)
 }
