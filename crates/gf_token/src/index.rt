@@ -15,6 +15,9 @@ pub enum IndexFault {
 /// Stands for any number above the greatest index.
 const TOO_LARGE: u64 = u32::MAX as u64 + 1;
 
+/// The greatest number of digits whose value always fits 64 bits.
+const WORD_DIGITS: usize = 19;
+
 /// The index that `text` spells by digits alone, in base ten; any number of zeros may lead (this
 /// project's profile).
 ///
@@ -26,12 +29,16 @@ pub fn read_index(text: &[u8]) -> Result<u32, IndexFault>
     if text.is_empty() {
         return Err(IndexFault::NotDigits);
     }
+    let is_long = text.len() > WORD_DIGITS;
     let mut value: u64 = 0;
     for byte in text {
-        if !byte.is_ascii_digit() {
+        let Some(digit) = char::from(*byte).to_digit(10) else {
             return Err(IndexFault::NotDigits);
+        };
+        value = value * 10 + u64::from(digit);
+        if is_long {
+            value = value.min(TOO_LARGE);
         }
-        value = TOO_LARGE.min(value * 10 + u64::from(*byte - b'0'));
     }
     match u32::try_from(value) {
         Ok(index) => Ok(index),

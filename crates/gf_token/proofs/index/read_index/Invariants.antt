@@ -1,9 +1,11 @@
-use Rattle.std.proofs.Common.{◌≡◌, ◌^◌, take, min}
+use Rattle.std.proofs.Common.{◌≡◌, ◌<◌, ◌≤◌, ◌^◌, length, take, min}
 use Rattle.std.specs.Str.Parse.{AllDigits, digits_value}
 use Rattle.gf_token.proofs.index.read_index.Given as goal
 
 abbrev pub invariant-loop-byte : goal.invariant-loop-byte
 invariant-loop-byte l = record {
   digits : AllDigits 10 (take l.byte-index l.text);
-  value : l.value ≡ min (digits_value 10 (take l.byte-index l.text)) (2 ^ 32);
+  value : min l.value (2 ^ 32) ≡ min (digits_value 10 (take l.byte-index l.text)) (2 ^ 32);
+  short : length l.text ≤ 19 → l.value < 10 ^ l.byte-index;
+  long : 19 < length l.text → l.value ≤ 2 ^ 32;
 }
