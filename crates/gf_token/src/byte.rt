@@ -24,5 +24,6 @@ pub(crate) fn is_space(byte: u8) -> bool
 pub(crate) fn is_bare(byte: u8) -> bool
     ensures { result ≡ is_bare byte }
 {
-    CLASSES[byte as usize] == b'.'
+    // The bytes of numbers and words take no look-up.
+    matches!(byte, b'-'..=b'z') || CLASSES[byte as usize] == b'.'
 }
