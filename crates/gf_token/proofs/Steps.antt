@@ -133,6 +133,8 @@ breaks bytes start at h o = o.same ∙ lex_all (InText start (get_or bytes (at -
 
 -- ---- what each loop and call uses
 
+pub ruleset gap_steps = (gap_more, lex_all)
+
 pub ruleset bare_steps = (bare_open, bare_more, bare_close)
 
 pub ruleset text_steps = (opens, stays_open, closes, breaks)

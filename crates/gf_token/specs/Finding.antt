@@ -1,5 +1,6 @@
 -- What the parts of `Cursor::next` find. No public contract cites this file.
-use Rattle.std.specs.Prelude.{◌≡◌, ℕ, ◌+◌, ◌<◌, ◌≤◌, true, List, [], ◌∷◌, length, drop, slice_range, Result, Ok, Err}
+use Rattle.std.specs.Prelude.{◌≡◌, ℕ, ◌+◌, ◌<◌, ◌≤◌, true, false, List, [], ◌∷◌, length, drop, get_or, slice_range, Result, Ok, Err}
+use Rattle.gf_token.specs.Byte.{is_space}
 use Rattle.gf_token.specs.LabelSpelling.{is_spelling}
 use Rattle.gf_token.specs.Token.{Lexeme, lexeme}
 use Rattle.gf_token.specs.Token.Token.{Text, Broken}
@@ -13,6 +14,12 @@ use Rattle.gf_token.specs.declared.token.Token.{Token}
 -- the tokens of the bytes from place `at` on
 abbrev pub lexed : List ℕ → ℕ → List Lexeme
 lexed bytes at = lex Gap at (drop at bytes)
+
+-- the gap that begins at `start` ends at `end`
+pub record EndsGap (bytes : List ℕ) (start end : ℕ) : Type 0 where
+  pub within : end < length bytes
+  pub same : lexed bytes start ≡ lexed bytes end
+  pub other : is_space (get_or bytes end 0) ≡ false
 
 -- the text that begins at `start` is closed by the quote at `end`
 pub record ClosesText (bytes : List ℕ) (start end : ℕ) : Type 0 where

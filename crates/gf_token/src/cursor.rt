@@ -2,7 +2,7 @@
 
 ghost use Rattle.std.specs.Prelude.{◌≡◌, ◌<◌, ◌≤◌, ◌+◌, [], ◌∷◌, length, slice_range, slice_index, MatchOption, true, false};
 ghost use Rattle.gf_token.specs.Byte.{is_space, is_bare};
-ghost use Rattle.gf_token.specs.Finding.{lexed, ClosesText, Finds};
+ghost use Rattle.gf_token.specs.Finding.{lexed, ClosesText, EndsGap, Finds};
 ghost use Rattle.gf_token.specs.Token.{lexeme};
 ghost use Rattle.gf_token.specs.Token.Token.{Bare, Broken};
 ghost use Rattle.gf_token.specs.TokenSpelling.{Spells};
@@ -37,19 +37,19 @@ impl<'a> Model for Cursor<'a> {
     ghost invariant = { λ cursor. cursor.at ≤ length cursor.input.now };
 }
 
-/// Where the gap ends that begins at `from`.
-#[tactic(auto, using(crate::proofs::Steps::gap_more))]
-fn gap_end(input: &[u8], from: usize) -> usize
-    requires { from ≤ length input.now }
-    ensures within { result ≤ length input.now }
-    ensures same { lexed input.now from ≡ lexed input.now result }
-    ensures ends { result < length input.now → is_space (slice_index input.now result) ≡ false }
+/// Where the gap ends that begins at `from`, or `None` where no token follows it.
+#[tactic(auto, using(crate::proofs::Steps::gap_steps))]
+fn gap_end(input: &[u8], from: usize) -> Option<usize>
+    ensures { MatchOption result (lexed input.now from ≡ []) (EndsGap input.now from) }
 {
     let mut at = from;
-    while at < input.len() && is_space(input[at]) {
+    while at < input.len() {
+        if !is_space(input[at]) {
+            return Some(at);
+        }
         at += 1;
     }
-    at
+    None
 }
 
 /// Where the bare token ends that begins at `start`.
@@ -138,14 +138,12 @@ impl<'a> Cursor<'a> {
     ///
     /// A text that has no end is refused with [`Why::Unterminated`], at its opening quote. The cursor
     /// then stays before that quote, and refuses it again.
-    #[tactic(auto, using(crate::proofs::Steps::lex_all))]
     pub fn next(&mut self) -> Result<Option<Token<'a>>, Fault>
         ensures { Nexts self.old result self.new }
     {
-        let start = gap_end(self.input, self.at);
-        if start == self.input.len() {
+        let Some(start) = gap_end(self.input, self.at) else {
             return Ok(None);
-        }
+        };
         let token = token_at(self.input, start)?;
         self.at = token.span.end;
         Ok(Some(token))

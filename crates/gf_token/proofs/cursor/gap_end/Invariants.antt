@@ -1,13 +1,10 @@
-use Rattle.std.proofs.Common.{◌≡◌, ◌≤◌, ◌-◌, length, drop}
+use Rattle.std.proofs.Common.{◌≡◌, ◌-◌, length, drop}
 use Rattle.gf_token.specs.Lexing.{lex}
 use Rattle.gf_token.specs.Lexing.Mode.{Gap}
 use Rattle.gf_token.proofs.cursor.gap_end.Given as goal
 
 abbrev pub invariant-loop-at : goal.invariant-loop-at
-invariant-loop-at l = record {
-  within : l.at ≤ length l.input;
-  same : lex Gap l.from (drop l.from l.input) ≡ lex Gap l.at (drop l.at l.input);
-}
+invariant-loop-at l = lex Gap l.from (drop l.from l.input) ≡ lex Gap l.at (drop l.at l.input)
 
 abbrev pub decreases-loop-at : goal.decreases-loop-at
 decreases-loop-at l = length l.input - l.at
