@@ -1,8 +1,12 @@
 -- The text of a fraction, written from its end.
-use Rattle.std.proofs.Common.{◌≡◌, ℕ, ℤ, Bool, true, false, List, [], ◌∷◌, ◌++◌, refl, ap, sym, append-nil, append_assoc}
-use Rattle.std.specs.Prelude.{◌==◌, codes, decimal, if◌then◌else◌}
+use Rattle.std.proofs.Common.{◌≡◌, ℕ, ℤ, pos, negsuc, ◌+◌, ◌-◌, ◌≤◌, Bool, true, false, List, [], ◌∷◌, ◌++◌, length, drop, set, arith, refl, ap, sym, append-nil, append_assoc}
+use Rattle.std.specs.Prelude.{◌==◌, codes, decimal, unsigned_abs, if◌then◌else◌}
+use Rattle.std.specs.Int.{from_bool}
+use Rattle.std.specs.Int.Signed.{lt_z}
+use Rattle.std.proofs.lemmas.List.{drop-set, drop-set-lt}
 use Rattle.std.specs.Fmt.{signed_decimal}
 use Rattle.std.proofs.lemmas.Bool.{ne_eqb}
+use Rattle.std.proofs.Math.Dec.{leb-suc-zero}
 use Rattle.gf_fraction.specs.NumberText.{number_text}
 
 -- what stands behind the numerator
@@ -22,3 +26,18 @@ part false n d = sym (append_assoc n (codes "/") d)
 pub number_parts : (z : ℤ) (d : ℕ) → signed_decimal z ++ under_text d ≡ number_text (record { num = z; den = d })
 unfolding number_text
 number_parts z d = part (d == 1) (signed_decimal z) (decimal d)
+
+-- a minus is stored before the digits, and kept where the number is below zero
+pub with_minus : (z : ℤ) (at : ℕ) (text behind : List ℕ) → 1 ≤ at → at ≤ length text → drop at text ≡ decimal (unsigned_abs z) ++ behind
+    → drop (at - from_bool (lt_z z (pos 0))) (set text (at - 1) 45) ≡ signed_decimal z ++ behind
+with_minus (pos n) at text behind above within digits =
+    let none : from_bool (lt_z (pos n) (pos 0)) ≡ 0 = ap from_bool (leb-suc-zero n) in
+    let e : at - from_bool (lt_z (pos n) (pos 0)) ≡ at = omega (arith, none) in
+    rw (e, drop-set-lt at text (at - 1) 45 (omega arith)) digits
+with_minus (negsuc n) at text behind above within digits =
+    let e : at - 1 + 1 ≡ at = omega arith in
+    rw (drop-set text (at - 1) 45 (omega arith), e, digits) refl
+
+pub at_most_one : (b : Bool) → from_bool b ≤ 1
+at_most_one true = omega arith
+at_most_one false = omega arith

@@ -34,11 +34,9 @@ fn write_words(num: i64, den: u64, text: &mut [u8; WORDS_LEN]) -> usize
 {
     let under = write_under(den, text);
     let start = write_digits(num.unsigned_abs(), text, under);
-    if num >= 0 {
-        return start;
-    }
+    // A sign is as often there as not, so the minus is stored without a branch.
     text[start - 1] = b'-';
-    start - 1
+    start - usize::from(num < 0)
 }
 
 impl Fraction {

@@ -1,8 +1,8 @@
-use Rattle.std.proofs.Common.{◌≡◌, ◌∙◌, ◌+◌, ◌-◌, ◌++◌, ap, arith, rules, to_z-of_z}
+use Rattle.std.proofs.Common.{◌≡◌, ◌∙◌, ◌++◌, drop, ap, arith, rules, pos, w64, to_z, of_z, to_z-of_z}
+use Rattle.std.specs.Prelude.{decimal, unsigned_abs}
+use Rattle.std.specs.Int.Signed.{lt_z}
 use Rattle.std.proofs.lemmas.Fmt.{length-decimal-le}
-use Rattle.std.proofs.lemmas.List.{drop-set}
-use Rattle.itoa.proofs.Decimal.{minus_first}
-use Rattle.gf_fraction.proofs.Words.{number_parts, under_text}
+use Rattle.gf_fraction.proofs.Words.{at_most_one, number_parts, under_text, with_minus}
 use Rattle.gf_fraction.proofs.write.write_words.Goals as goal
 
 pub write_digits-start-requires : goal.write_digits-start-requires
@@ -12,14 +12,17 @@ pub overflow_sub-text : goal.overflow_sub-text
 overflow_sub-text c = omega (arith, length-decimal-le 19 c.unsigned_abs.result (omega arith) (omega arith) (omega arith))
 
 pub overflow_sub-result : goal.overflow_sub-result
-overflow_sub-result c = omega (arith, length-decimal-le 19 c.unsigned_abs.result (omega arith) (omega arith) (omega arith))
+overflow_sub-result c =
+    let long = length-decimal-le 19 c.unsigned_abs.result (omega arith) (omega arith) (omega arith) in
+    omega (arith, long, c.from.ensures, at_most_one (lt_z (to_z w64 (of_z w64 c.args.num)) (pos 0)))
 
 pub returns-clause-written : goal.returns-clause-written
 returns-clause-written c =
     let w = c.write_digits-start in
     let long = length-decimal-le 19 c.unsigned_abs.result (omega arith) (omega arith) (omega arith) in
-    let e : w.result - 1 + 1 ≡ w.result = omega (arith, long) in
     let back = to_z-of_z c.ranges.num in
-    let sign = minus_first c.args.num (rw back at c.if-num-ge0.false) in
-    rw (drop-set w.new.buf (w.result - 1) 45 (omega arith), e, w.ensures.written, c.unsigned_abs.ensures.value, back, c.write_under-under.ensures.written)
-    (ap (λ t. t ++ under_text c.args.den) sign ∙ number_parts c.args.num c.args.den)
+    let minus = rw back at c.from.ensures in
+    let digits : drop w.result w.new.buf ≡ decimal (unsigned_abs c.args.num) ++ under_text c.args.den =
+    w.ensures.written ∙ ap (λ n. decimal n ++ drop c.write_under-under.result c.write_under-under.new.text) (rw back at c.unsigned_abs.ensures.value)
+    ∙ ap (λ t. decimal (unsigned_abs c.args.num) ++ t) c.write_under-under.ensures.written in
+    rw minus (with_minus c.args.num w.result w.new.buf (under_text c.args.den) (omega (arith, long)) (omega arith) digits ∙ number_parts c.args.num c.args.den)
