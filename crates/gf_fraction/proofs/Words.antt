@@ -1,9 +1,10 @@
 -- The text of a fraction, written from its end.
-use Rattle.std.proofs.Common.{◌≡◌, ℕ, ℤ, pos, negsuc, ◌+◌, ◌-◌, ◌≤◌, Bool, true, false, List, [], ◌∷◌, ◌++◌, length, drop, set, arith, refl, ap, sym, append-nil, append_assoc}
+use Rattle.std.proofs.Common.{◌≡◌, ℕ, ℤ, pos, negsuc, ◌+◌, ◌-◌, ◌≤◌, Bool, true, false, List, [], ◌∷◌, ◌++◌, ◌∙◌, length, take, drop, set, arith, refl, ap, sym, append-nil, append_assoc, length-append}
 use Rattle.std.specs.Prelude.{◌==◌, codes, decimal, unsigned_abs, if◌then◌else◌}
 use Rattle.std.specs.Int.{from_bool}
 use Rattle.std.specs.Int.Signed.{lt_z}
-use Rattle.std.proofs.lemmas.List.{drop-set, drop-set-lt}
+use Rattle.std.proofs.lemmas.List.{drop-set, drop-set-lt, length-drop, length-take-le}
+use Rattle.std.proofs.Math.Seq.{take-append_seam, take-append-add}
 use Rattle.std.specs.Fmt.{signed_decimal}
 use Rattle.std.proofs.lemmas.Bool.{ne_eqb}
 use Rattle.std.proofs.Math.Dec.{leb-suc-zero}
@@ -41,3 +42,20 @@ with_minus (negsuc n) at text behind above within digits =
 pub at_most_one : (b : Bool) → from_bool b ≤ 1
 at_most_one true = omega arith
 at_most_one false = omega arith
+
+-- from where a text begins a window of 41 bytes is appended, and what it took too much is cut off
+module _ (before number behind text : List ℕ) (start : ℕ) (within : start ≤ 41) (room : length text ≡ 82) (rest : length behind ≡ 41)
+    (written : drop start text ≡ number ++ behind) where
+  long : length number + start ≡ 41
+  long = let all = sym (length-drop start text) ∙ ap length written ∙ length-append number behind in omega (arith, all)
+
+  window : take 41 (drop start text) ≡ number ++ take start behind
+  window = ap (take 41) written ∙ ap (λ n. take n (number ++ behind)) (sym long) ∙ take-append-add number behind start
+
+  pub cut : (n : ℕ) → n ≡ length (before ++ take 41 (drop start text)) → take (n - start) (before ++ take 41 (drop start text)) ≡ before ++ number
+  cut n count =
+      let short = length-take-le start behind (omega arith) in
+      let all : n ≡ length before + (length number + length (take start behind)) =
+      count ∙ ap (λ w. length (before ++ w)) window ∙ length-append before (number ++ take start behind) ∙ ap (λ k. length before + k) (length-append number (take start behind)) in
+      let e : n - start ≡ length before + length number = omega (arith, all, short) in
+      rw (e, window, take-append-add before (number ++ take start behind) (length number), take-append_seam number (take start behind)) refl

@@ -11,11 +11,15 @@ use std::alloc::AllocError;
 /// The longest text of parts of 64 bits: a sign, nineteen digits, a slash and twenty digits.
 const WORDS_LEN: usize = 41;
 
-/// Writes a slash and a denominator to the end of a text, or nothing where it is 1. Answers where
-/// they begin.
-fn write_under(den: u64, text: &mut [u8; WORDS_LEN]) -> usize
+/// Room for a text that ends at `WORDS_LEN`, and for `WORDS_LEN` bytes from wherever it begins.
+const ROOM: usize = 82;
+
+/// Writes a slash and a denominator so that they end at `WORDS_LEN`, or nothing where it is 1.
+/// Answers where they begin.
+fn write_under(den: u64, text: &mut [u8; ROOM]) -> usize
     ensures within { (20 ≤ result) × (result ≤ 41) }
-    ensures written { drop result text.new ≡ (if den == 1 then [] else codes "/" ++ decimal den) }
+    ensures written { drop result text.new
+        ≡ (if den == 1 then [] else codes "/" ++ decimal den) ++ drop 41 text.old }
 {
     if den == 1 {
         return WORDS_LEN;
@@ -25,12 +29,13 @@ fn write_under(den: u64, text: &mut [u8; WORDS_LEN]) -> usize
     at
 }
 
-/// Writes `n`, or `n/d` where the denominator is above 1, to the end of a text. Answers where it
-/// begins.
+/// Writes `n`, or `n/d` where the denominator is above 1, so that it ends at `WORDS_LEN`. Answers
+/// where it begins.
 #[tactic(auto, unfolding(crate::specs::NumberText::number_text))]
-fn write_words(num: i64, den: u64, text: &mut [u8; WORDS_LEN]) -> usize
+fn write_words(num: i64, den: u64, text: &mut [u8; ROOM]) -> usize
     ensures within { result ≤ 41 }
-    ensures written { drop result text.new ≡ number_text (record { num = num; den = den }) }
+    ensures written { drop result text.new
+        ≡ number_text (record { num = num; den = den }) ++ drop 41 text.old }
 {
     let under = write_under(den, text);
     let start = write_digits(num.unsigned_abs(), text, under);
@@ -50,9 +55,12 @@ impl Fraction {
         ensures err { OnErr result (out.new.items ≡ out.old.items) }
     {
         if let (Ok(num), Ok(den)) = (i64::try_from(self.num()), u64::try_from(self.den())) {
-            let mut text = [0; WORDS_LEN];
+            let mut text = [0; ROOM];
             let start = write_words(num, den, &mut text);
-            return out.extend_from_slice(&text[start..]);
+            // A copy of a known length needs no call. What it takes too much is cut off.
+            out.extend_from_slice(&text[start..start + WORDS_LEN])?;
+            out.truncate(out.len() - start);
+            return Ok(());
         }
         self.write_wide(out)
     }

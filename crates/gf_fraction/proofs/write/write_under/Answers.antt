@@ -1,11 +1,11 @@
-use Rattle.std.proofs.Common.{◌≡◌, ◌∙◌, ◌+◌, ◌-◌, arith, rules, append-nil}
+use Rattle.std.proofs.Common.{◌≡◌, ◌+◌, ◌-◌, ◌++◌, drop, ap, arith, rules}
 use Rattle.std.proofs.lemmas.Fmt.{length-decimal-le}
-use Rattle.std.proofs.lemmas.List.{drop-set, drop_all}
+use Rattle.std.proofs.lemmas.List.{drop-set}
 use Rattle.gf_fraction.proofs.Words.{under_one, under_above}
 use Rattle.gf_fraction.proofs.write.write_under.Goals as goal
 
 pub returns-then-den-eq1-clause-written : goal.returns-then-den-eq1-clause-written
-returns-then-den-eq1-clause-written c = drop_all 41 c.args.text.now (omega arith) ∙ under_one c.args.den c.if-den-eq1.true
+returns-then-den-eq1-clause-written c = ap (λ t. t ++ drop 41 c.args.text.now) (under_one c.args.den c.if-den-eq1.true)
 
 pub write_digits-at-requires : goal.write_digits-at-requires
 write_digits-at-requires c = (omega (arith, length-decimal-le 20 c.args.den (omega arith) (omega arith) c.ranges.den.fits), search rules)
@@ -23,5 +23,5 @@ returns-clause-written c =
     let w = c.write_digits-at in
     let short = length-decimal-le 20 c.args.den (omega arith) (omega arith) c.ranges.den.fits in
     let e : w.result - 1 + 1 ≡ w.result = omega (arith, short) in
-    rw (drop-set w.new.buf (w.result - 1) 47 (omega arith), e, w.ensures.written, drop_all 41 c.args.text.now (omega arith), append-nil)
-    (under_above c.args.den c.if-den-eq1.false)
+    rw (drop-set w.new.buf (w.result - 1) 47 (omega arith), e, w.ensures.written)
+    (ap (λ t. t ++ drop 41 c.args.text.now) (under_above c.args.den c.if-den-eq1.false))

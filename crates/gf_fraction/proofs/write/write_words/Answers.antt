@@ -1,5 +1,6 @@
-use Rattle.std.proofs.Common.{◌≡◌, ◌∙◌, ◌++◌, drop, ap, arith, rules, pos, w64, to_z, of_z, to_z-of_z}
+use Rattle.std.proofs.Common.{◌≡◌, ◌∙◌, ◌++◌, drop, ap, sym, append_assoc, arith, rules, pos, w64, to_z, of_z, to_z-of_z}
 use Rattle.std.specs.Prelude.{decimal, unsigned_abs}
+use Rattle.std.specs.Fmt.{signed_decimal}
 use Rattle.std.specs.Int.Signed.{lt_z}
 use Rattle.std.proofs.lemmas.Fmt.{length-decimal-le}
 use Rattle.gf_fraction.proofs.Words.{at_most_one, number_parts, under_text, with_minus}
@@ -22,7 +23,11 @@ returns-clause-written c =
     let long = length-decimal-le 19 c.unsigned_abs.result (omega arith) (omega arith) (omega arith) in
     let back = to_z-of_z c.ranges.num in
     let minus = rw back at c.from.ensures in
-    let digits : drop w.result w.new.buf ≡ decimal (unsigned_abs c.args.num) ++ under_text c.args.den =
+    let behind = under_text c.args.den ++ drop 41 c.args.text.now in
+    let digits : drop w.result w.new.buf ≡ decimal (unsigned_abs c.args.num) ++ behind =
     w.ensures.written ∙ ap (λ n. decimal n ++ drop c.write_under-under.result c.write_under-under.new.text) (rw back at c.unsigned_abs.ensures.value)
     ∙ ap (λ t. decimal (unsigned_abs c.args.num) ++ t) c.write_under-under.ensures.written in
-    rw minus (with_minus c.args.num w.result w.new.buf (under_text c.args.den) (omega (arith, long)) (omega arith) digits ∙ number_parts c.args.num c.args.den)
+    rw minus
+    (with_minus c.args.num w.result w.new.buf behind (omega (arith, long)) (omega arith) digits
+    ∙ sym (append_assoc (signed_decimal c.args.num) (under_text c.args.den) (drop 41 c.args.text.now))
+    ∙ ap (λ t. t ++ drop 41 c.args.text.now) (number_parts c.args.num c.args.den))
