@@ -4,22 +4,17 @@ use Rattle.std.proofs.Common.{◌≡◌, ℕ, ℤ, Bool, pos, negsuc, zero, suc,
 use Rattle.std.specs.Prelude.{unsigned_abs, ◌≤ℤ◌}
 use Rattle.std.proofs.lemmas.Int.{ints}
 use Rattle.std.specs.Int.{IsGcd, ◌∣◌, trailing_zeros, bit_at, w64}
-use Rattle.std.proofs.lemmas.Nat.{pow-add, mul-pow, shl-shr, shr_split, mod-pow-add}
+use Rattle.std.proofs.lemmas.Nat.{pow-add, mul-pow, shl-shr, shr_split}
 use Rattle.std.specs.Int.Count.{trailing_of_zero}
 use Rattle.std.proofs.lemmas.Nat.Bits.{bit_at-zero, bit_at-trailing_zeros}
 use Rattle.std.proofs.lemmas.Nat.Gcd.{dvd_refl, IsGcd-from_mod, IsGcd-swap}
-use Rattle.std.proofs.Math.Nat.{dvd-mul_right, pow-succ', pow-zero}
+use Rattle.std.proofs.Math.Nat.{dvd-mul_right, pow-succ'}
 use Rattle.gf_fraction.specs.Ratio.{Ratio, IsFraction, HasValue, signed}
 use Rattle.gf_fraction.specs.Steps.{IsLowest}
 use Rattle.gf_fraction.specs.NumberScan.{IsScaled}
 use Rattle.gf_fraction.proofs.Lowest.{value_from}
 use Rattle.gf_fraction.proofs.Divisors.{IsGcd-one_right, coprime-mul, coprime_parts}
-
--- a number that is coprime to b is coprime to its powers
-coprime-pow : (n b k : ℕ) → IsGcd n b 1 → IsGcd n (b ^ k) 1
-coprime-pow n b zero h = subst (λ x. IsGcd n x 1) (sym (pow-zero b)) (IsGcd-one_right n)
-coprime-pow n b (suc k) h =
-    subst (λ x. IsGcd n x 1) (sym (pow-succ' b k)) (IsGcd-swap (b * b ^ k) n 1 (coprime-mul b (b ^ k) n (IsGcd-swap n b 1 h) (IsGcd-swap n (b ^ k) 1 (coprime-pow n b k h))))
+use Rattle.gf_fraction.proofs.Twos.{coprime-pow, coprime_two, low_bits}
 
 five_and_less : (r : ℕ) → 0 < r → r < 5 → IsGcd 5 r 1
 five_and_less zero above below = absurd (omega arith)
@@ -31,9 +26,6 @@ five_and_less (suc (suc (suc (suc (suc r))))) above below = absurd (omega arith)
 
 coprime_five : (n : ℕ) → 0 < n % 5 → IsGcd n 5 1
 coprime_five n h = IsGcd-from_mod n 5 1 (five_and_less (n % 5) h (omega arith))
-
-coprime_two : (n : ℕ) → n % 2 ≡ 1 → IsGcd n 2 1
-coprime_two n h = IsGcd-from_mod n 2 1 (subst (λ r. IsGcd 2 r 1) (sym h) (IsGcd-one_right 2))
 
 -- p over q is n over d, and q is fives times what has no common divisor with p
 pub record IsLeft (n d p q fives : ℕ) : Type 0 where
@@ -74,15 +66,6 @@ no_fives n d p q f none h = lowest_left n d p q f (subst (λ k. IsGcd p (5 ^ k) 
 
 pub not_by_five : (n d p q f : ℕ) → 0 < p % 5 → IsLeft n d p q f → IsLowest n d p q
 not_by_five n d p q f some h = lowest_left n d p q f (coprime-pow p 5 f (coprime_five p some)) h
-
--- low bits that are 0
-low_bits : (n t : ℕ) → ((i : ℕ) → i < t → bit_at n i ≡ 0) → n % 2 ^ t ≡ 0
-low_bits n zero h = omega arith
-low_bits n (suc t) h =
-    let one : n / 2 ^ t % 2 ^ 1 ≡ 0 = h t (omega arith) in
-    let below : n % 2 ^ t ≡ 0 = low_bits n t (λ j b. h j (omega (arith, b))) in
-    let e : n / 2 ^ t % 2 ^ 1 * 2 ^ t ≡ 0 = ap (λ x. x * 2 ^ t) one ∙ (let z : 0 * 2 ^ t ≡ 0 = omega arith in z) in
-    ap (λ k. n % 2 ^ k) (let k : suc t ≡ 1 + t = omega arith in k) ∙ mod-pow-add n 1 t ∙ (let z : n / 2 ^ t % 2 ^ 1 * 2 ^ t + n % 2 ^ t ≡ 0 = omega (arith, below, e) in z)
 
 -- without the twos that digits share with a power of ten
 from_parts : (n p t k : ℕ) → t + k ≡ p → n % 2 ^ t ≡ 0 → IsGcd (n / 2 ^ t) (2 ^ k) 1 → IsLeft n (10 ^ p) (n / 2 ^ t) (10 ^ p / 2 ^ t) p

@@ -2,6 +2,7 @@ pub mod AllElements
 pub mod Integers
 pub mod Digits
 pub mod Divisors
+pub mod Twos
 pub mod Decimals
 pub mod Lowest
 pub mod Views

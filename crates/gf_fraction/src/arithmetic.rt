@@ -1,6 +1,6 @@
 //! The steps of exact arithmetic on numbers of 128 bits.
 
-ghost use Rattle.std.specs.Prelude.{◌≡◌, ℤ, pos, ◌+◌, ◌*◌, ◌/◌, ◌^◌, ◌<◌, ◌≤◌, ◌+ℤ◌, ◌*ℤ◌, unsigned_abs, MatchResult};
+ghost use Rattle.std.specs.Prelude.{◌≡◌, ℤ, pos, ◌+◌, ◌*◌, ◌/◌, ◌%◌, ◌^◌, ◌<◌, ◌≤◌, ◌+ℤ◌, ◌*ℤ◌, unsigned_abs, MatchResult};
 ghost use Rattle.std.specs.Int.{IsGcd};
 ghost use Rattle.gf_fraction.specs.Ratio.{IsWithin, signed};
 ghost use Rattle.gf_fraction.specs.Steps.{HoldsCommon, IsLowest, PartsFit};
@@ -15,18 +15,36 @@ pub const LARGEST: u128 = i128::MAX as u128;
 /// The greatest number of 64 bits. Up to it a division is quick.
 const WORD: u128 = u64::MAX as u128;
 
-/// The greatest common divisor of two numbers of 64 bits.
-fn word_gcd(a: u64, b: u64) -> u64
+/// The greatest common divisor of two odd numbers. A difference of odd numbers is even, and its twos
+/// divide neither of them, so that no step needs a division.
+fn odd_gcd(a: u64, b: u64) -> u64
+    requires odd_a { a % 2 ≡ 1 }
+    requires odd_b { b % 2 ≡ 1 }
     ensures { IsGcd a b result }
 {
     let mut x = a;
     let mut y = b;
-    while y > 1 {
-        let rest = x % y;
-        x = y;
-        y = rest;
+    while x > 1 && x != y {
+        let apart = x.abs_diff(y);
+        x = x.min(y);
+        y = apart >> apart.trailing_zeros();
     }
-    if y == 0 { x } else { 1 }
+    x
+}
+
+/// The greatest common divisor of two numbers of 64 bits.
+fn word_gcd(a: u64, b: u64) -> u64
+    ensures { IsGcd a b result }
+{
+    if a == 0 {
+        return b;
+    }
+    if b == 0 {
+        return a;
+    }
+    let a_twos = a.trailing_zeros();
+    let b_twos = b.trailing_zeros();
+    odd_gcd(a >> a_twos, b >> b_twos) << a_twos.min(b_twos)
 }
 
 /// The greatest common divisor. Steps are of 64 bits as soon as both numbers are.

@@ -1,15 +1,22 @@
-use Rattle.std.proofs.Common.{arith, ◌≡◌}
-use Rattle.std.proofs.lemmas.Nat.Gcd.{IsGcd-from_zero, IsGcd-from_mod}
-use Rattle.gf_fraction.proofs.Divisors.{IsGcd-one_right}
+use Rattle.std.proofs.Common.{◌<◌, arith, refl}
+use Rattle.std.specs.Int.{trailing_zeros, w64}
+use Rattle.gf_fraction.proofs.Twos.{odd_part, from_odd_parts}
 use Rattle.gf_fraction.proofs.arithmetic.word_gcd.Goals as goal
 
-pub loop-y-preserved : goal.loop-y-preserved
-loop-y-preserved c g h = c.loop-y.invariant g (IsGcd-from_mod _ _ g h)
+pub odd_gcd-requires-clause-odd_a : goal.odd_gcd-requires-clause-odd_a
+odd_gcd-requires-clause-odd_a c =
+    let a = c.args.a in
+    (odd_part a (trailing_zeros w64 a) (omega arith) (omega arith) refl).odd
 
-pub returns-then-y-eq0 : goal.returns-then-y-eq0
-returns-then-y-eq0 c = c.loop-y.invariant _ (IsGcd-from_zero _ _ (omega arith))
+pub odd_gcd-requires-clause-odd_b : goal.odd_gcd-requires-clause-odd_b
+odd_gcd-requires-clause-odd_b c =
+    let b = c.args.b in
+    (odd_part b (trailing_zeros w64 b) (omega arith) (omega arith) refl).odd
 
-pub returns-else-y-eq0 : goal.returns-else-y-eq0
-returns-else-y-eq0 c =
-    let one : c.loop-y.y ≡ 1 = omega arith in
-    c.loop-y.invariant 1 (rw one (IsGcd-one_right c.loop-y.x))
+pub returns : goal.returns
+returns c =
+    let a = c.args.a in
+    let b = c.args.b in
+    let some : 0 < a = omega arith in
+    from_odd_parts a b (trailing_zeros w64 a) (trailing_zeros w64 b) _ _ c.odd_gcd.result c.min.result some (omega arith)
+    (odd_part a _ some (omega arith) refl) (odd_part b _ (omega arith) (omega arith) refl) c.odd_gcd.ensures c.min.ensures
