@@ -43,16 +43,18 @@ struct Run<'a> {
     rest: &'a [u8],
 }
 
-/// Whether a text begins with a minus, and the text behind its sign.
+/// Whether a text begins with a minus, and the text behind its sign. Numbers have a sign or none at
+/// random, so that no branch depends on it.
 fn split_sign(text: &[u8]) -> (bool, &[u8])
     ensures negative { result.0 ≡ is_minus text.entry.now }
     ensures rest { result.1.now ≡ after_sign text.entry.now }
 {
-    match text {
-        [b'+', rest @ ..] => (false, rest),
-        [b'-', rest @ ..] => (true, rest),
-        _ => (false, text),
-    }
+    let [first, ..] = text else {
+        return (false, text);
+    };
+    let negative = *first == b'-';
+    let signed = negative || *first == b'+';
+    (negative, &text[usize::from(signed)..])
 }
 
 /// Reads digits while their value leaves room for one more in 64 bits.
