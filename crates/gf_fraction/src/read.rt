@@ -43,8 +43,8 @@ struct Run<'a> {
     rest: &'a [u8],
 }
 
-/// Whether a text begins with a minus, and the text behind its sign. Numbers have a sign or none at
-/// random, so that no branch depends on it.
+/// Whether a text begins with a minus, and the text behind its sign. A sign is as often there as not,
+/// so no branch depends on it.
 fn split_sign(text: &[u8]) -> (bool, &[u8])
     ensures negative { result.0 ≡ is_minus text.entry.now }
     ensures rest { result.1.now ≡ after_sign text.entry.now }

@@ -12,7 +12,7 @@ use std::alloc::AllocError;
 const WORDS_LEN: usize = 41;
 
 /// Room for a text that ends at `WORDS_LEN`, and for `WORDS_LEN` bytes from wherever it begins.
-const ROOM: usize = 82;
+const ROOM: usize = 2 * WORDS_LEN;
 
 /// Writes a slash and a denominator so that they end at `WORDS_LEN`, or nothing where it is 1.
 /// Answers where they begin.
@@ -57,7 +57,7 @@ impl Fraction {
         if let (Ok(num), Ok(den)) = (i64::try_from(self.num()), u64::try_from(self.den())) {
             let mut text = [0; ROOM];
             let start = write_words(num, den, &mut text);
-            // A copy of a known length needs no call. What it takes too much is cut off.
+            // A copy of a known length needs no call. What it takes behind the text is cut off.
             out.extend_from_slice(&text[start..start + WORDS_LEN])?;
             out.truncate(out.len() - start);
             return Ok(());

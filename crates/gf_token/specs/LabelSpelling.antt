@@ -10,6 +10,7 @@ is_spelling_after before (b ∷ bytes) = (not (b == 34) || before == 92) && is_s
 abbrev pub is_spelling : List ℕ → Bool
 is_spelling bytes = is_spelling_after 34 bytes
 
+-- bytes that spell a label
 abbrev pub IsLabel : List ℕ → Type 0
 IsLabel bytes = is_spelling bytes ≡ true
 
