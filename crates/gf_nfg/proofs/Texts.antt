@@ -1,13 +1,13 @@
 -- Canonical text, piece by piece.
-use Rattle.std.proofs.Common.{◌≡◌, ℕ, zero, suc, ◌+◌, ◌<◌, ◌≤◌, List, [], ◌∷◌, ◌++◌, length, map, drop, get_or, Option, Some, slice_get, option_map, refl, sym, ap, ◌∙◌, append_assoc, arith}
+use Rattle.std.proofs.Common.{◌≡◌, ℕ, zero, suc, ◌+◌, ◌<◌, ◌≤◌, List, [], ◌∷◌, ◌++◌, length, map, drop, get_or, Option, Some, slice_get, option_map, refl, sym, ap, ◌∙◌, append_assoc, arith, length-take, subst}
 use Rattle.std.specs.Prelude.{codes, option_and_then, unwrap_or}
-use Rattle.std.proofs.lemmas.List.{at_drop_more, append-nil, drop_all}
+use Rattle.std.proofs.lemmas.List.{at_drop_more, append-nil, drop_all, take-append-le, take-append-drop, take_all}
 use Rattle.std.proofs.lemmas.Option.{slice_get-get_or, unwrap_or-slice_get}
 use Rattle.gf_fraction.specs.Ratio.{Ratio}
 use Rattle.gf_fraction.specs.NumberText.{number_text}
 use Rattle.gf_nfg.specs.TableParts.{Names, own_of}
 use Rattle.gf_nfg.specs.TableText.{list_text, spaced, lines_text}
-use Rattle.gf_nfg.specs.TextParts.{others_text, row_text}
+use Rattle.gf_nfg.specs.TextParts.{Keeps, others_text, row_text}
 use Rattle.gf_nfg.proofs.TableRows.{counted_own}
 
 -- each item and a space, and the closing brace
@@ -30,6 +30,24 @@ pub drop_from : {A : Type 0} (xs : List A) (at : ℕ) (x : A) → slice_get xs a
 drop_from [] at x h = absurd (cc)
 drop_from (y ∷ xs) zero x h = let e : y ≡ x = cc in ap (λ z. z ∷ xs) e
 drop_from (y ∷ xs) (suc at) x h = let e : suc at + 1 ≡ suc (at + 1) = omega arith in rw e (drop_from xs at x h)
+
+pub kept_more : (old new more : List ℕ) → Keeps old new → Keeps old (new ++ more)
+kept_more old new more kept =
+    let within : length old ≤ length new = omega (arith, length-take (length old) new, ap length kept) in
+    take-append-le (length old) new more within ∙ kept
+
+pub kept_twice : (old out out1 out2 x y : List ℕ) → out1 ≡ out ++ x → out2 ≡ out1 ++ y → Keeps old out → Keeps old out2
+kept_twice old out out1 out2 x y e1 e2 kept = rw (e2, e1) (kept_more old (out ++ x) y (kept_more old out x kept))
+
+kept_past : (old out new : List ℕ) → Keeps old out → Keeps out new → Keeps old new
+kept_past old out new kept h =
+    let rest = drop (length out) new in
+    let whole : out ++ rest ≡ new = ap (λ (bs : List ℕ). bs ++ rest) (sym h) ∙ take-append-drop (length out) new in
+    subst (Keeps old) whole (kept_more old out rest kept)
+
+-- what stood before is kept where more was written and then no more could be
+pub kept_behind : (old out1 out2 new x y : List ℕ) → out1 ≡ old ++ x → out2 ≡ out1 ++ y → Keeps out2 new → Keeps old new
+kept_behind old out1 out2 new x y e1 e2 h = kept_past old out2 new (kept_twice old old out1 out2 x y e1 e2 (take_all (length old) old (omega arith))) h
 
 -- what is written of a list in braces, and what is still to come
 abbrev pub rest_text : {A : Type 0} → (A → List ℕ) → List A → ℕ → List ℕ

@@ -5,6 +5,10 @@ use Rattle.gf_fraction.specs.NumberText.{number_text}
 use Rattle.gf_nfg.specs.TableParts.{Names}
 use Rattle.gf_nfg.specs.TableText.{lines_text, list_text, quoted, spaced}
 
+-- what stood in a vector is still at its front
+abbrev pub Keeps : List ℕ → List ℕ → Type 0
+Keeps old new = take (length old) new ≡ old
+
 -- each behind a space
 abbrev pub others_text : List (List ℕ) → List ℕ
 others_text [] = []
@@ -14,10 +18,14 @@ others_text (item ∷ items) = 32 ∷ (item ++ others_text items)
 abbrev pub row_text : List Ratio → List ℕ
 row_text row = spaced (map number_text row)
 
+-- the format, the title and the players
+abbrev pub first_line : Names → List ℕ
+first_line names = spaced (codes "NFG" ∷ codes "1" ∷ codes "R" ∷ quoted names.title ∷ list_text (map quoted names.players) ∷ [])
+
 -- the lines before the payoffs
 abbrev pub heading_text : Names → List ℕ
 heading_text names = lines_text
-    (spaced (codes "NFG" ∷ codes "1" ∷ codes "R" ∷ quoted names.title ∷ list_text (map quoted names.players) ∷ [])
+    (first_line names
     ∷ list_text (map (λ own. list_text (map quoted own)) names.strategies)
     ∷ quoted names.comment
     ∷ []

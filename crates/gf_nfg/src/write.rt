@@ -5,7 +5,7 @@ ghost use Rattle.gf_fraction.specs.NumberText.{number_text};
 ghost use Rattle.gf_nfg.specs.Table.{rows};
 ghost use Rattle.gf_nfg.specs.TableParts.{AreShared, kept_row, own_of};
 ghost use Rattle.gf_nfg.specs.TableText.{lines_text, list_text, quoted, spaced, table_text};
-ghost use Rattle.gf_nfg.specs.TextParts.{AreLines, heading_text, others_text, row_text};
+ghost use Rattle.gf_nfg.specs.TextParts.{AreLines, Keeps, first_line, heading_text, others_text, row_text};
 
 use crate::names::Names;
 use crate::table::{Shared, Table};
@@ -15,7 +15,8 @@ use std::alloc::{AllocError, Global};
 
 /// Appends the players' names in braces.
 fn write_players(names: &Names, out: &mut Vec<u8>) -> Result<(), AllocError>
-    ensures { OnOk result (out.new.items ≡ out.old.items ++ list_text (map quoted names.now.players)) }
+    ensures text { OnOk result (out.new.items ≡ out.old.items ++ list_text (map quoted names.now.players)) }
+    ensures kept { OnErr result (Keeps out.old.items out.new.items) }
 {
     out.extend_from_slice(b"{ ")?;
     for at in 0..names.players() {
@@ -29,7 +30,8 @@ fn write_players(names: &Names, out: &mut Vec<u8>) -> Result<(), AllocError>
 /// Appends the strategies of the player at this place in braces.
 fn write_own(names: &Names, at: usize, out: &mut Vec<u8>) -> Result<(), AllocError>
     requires { at < length names.now.players }
-    ensures { OnOk result (out.new.items ≡ out.old.items ++ list_text (map quoted (own_of names.now at))) }
+    ensures text { OnOk result (out.new.items ≡ out.old.items ++ list_text (map quoted (own_of names.now at))) }
+    ensures kept { OnErr result (Keeps out.old.items out.new.items) }
 {
     out.extend_from_slice(b"{ ")?;
     for strategy in 0..names.strategies(at) {
@@ -42,7 +44,8 @@ fn write_own(names: &Names, at: usize, out: &mut Vec<u8>) -> Result<(), AllocErr
 
 /// Appends the strategies of each player in braces, and all of them in braces.
 fn write_strategies(names: &Names, out: &mut Vec<u8>) -> Result<(), AllocError>
-    ensures { OnOk result (out.new.items ≡ out.old.items ++ list_text (map (λ own. list_text (map quoted own)) names.now.strategies)) }
+    ensures text { OnOk result (out.new.items ≡ out.old.items ++ list_text (map (λ own. list_text (map quoted own)) names.now.strategies)) }
+    ensures kept { OnErr result (Keeps out.old.items out.new.items) }
 {
     out.extend_from_slice(b"{ ")?;
     for at in 0..names.players() {
@@ -53,14 +56,23 @@ fn write_strategies(names: &Names, out: &mut Vec<u8>) -> Result<(), AllocError>
     Ok(())
 }
 
-/// Appends all that stands before the payoffs.
-fn write_heading(names: &Names, out: &mut Vec<u8>) -> Result<(), AllocError>
-    ensures { OnOk result (out.new.items ≡ out.old.items ++ heading_text names.now) }
+/// Appends the format, the title and the players.
+fn write_first_line(names: &Names, out: &mut Vec<u8>) -> Result<(), AllocError>
+    ensures text { OnOk result (out.new.items ≡ out.old.items ++ first_line names.now) }
+    ensures kept { OnErr result (Keeps out.old.items out.new.items) }
 {
     out.extend_from_slice(b"NFG 1 R ")?;
     write_label(names.title(), out)?;
     out.push(b' ')?;
-    write_players(names, out)?;
+    write_players(names, out)
+}
+
+/// Appends all that stands before the payoffs.
+fn write_heading(names: &Names, out: &mut Vec<u8>) -> Result<(), AllocError>
+    ensures text { OnOk result (out.new.items ≡ out.old.items ++ heading_text names.now) }
+    ensures kept { OnErr result (Keeps out.old.items out.new.items) }
+{
+    write_first_line(names, out)?;
     out.push(b'\n')?;
     write_strategies(names, out)?;
     out.push(b'\n')?;
@@ -72,7 +84,8 @@ fn write_heading(names: &Names, out: &mut Vec<u8>) -> Result<(), AllocError>
 /// Appends payoffs, each behind a space.
 #[tactic(auto, using(crate::proofs::Texts::others_more))]
 fn write_others(payoffs: &[Fraction], out: &mut Vec<u8>) -> Result<(), AllocError>
-    ensures { OnOk result (out.new.items ≡ out.old.items ++ others_text (map number_text payoffs.now)) }
+    ensures text { OnOk result (out.new.items ≡ out.old.items ++ others_text (map number_text payoffs.now)) }
+    ensures kept { OnErr result (Keeps out.old.items out.new.items) }
 {
     for payoff in payoffs {
         out.push(b' ')?;
@@ -83,7 +96,8 @@ fn write_others(payoffs: &[Fraction], out: &mut Vec<u8>) -> Result<(), AllocErro
 
 /// Appends the payoffs at one profile, with a space between any two.
 fn write_row(payoffs: &[Fraction], out: &mut Vec<u8>) -> Result<(), AllocError>
-    ensures { OnOk result (out.new.items ≡ out.old.items ++ row_text payoffs.now) }
+    ensures text { OnOk result (out.new.items ≡ out.old.items ++ row_text payoffs.now) }
+    ensures kept { OnErr result (Keeps out.old.items out.new.items) }
 {
     match payoffs.split_first() {
         None => Ok(()),
@@ -123,7 +137,8 @@ fn lines_of(alloc: Global, shared: Shared<'_>) -> Result<Lines, AllocError>
 /// Appends a line of payoffs for each profile, where profiles share rows: the line of a row is made once.
 fn write_shared(t: &Table, shared: Shared<'_>, out: &mut Vec<u8>) -> Result<(), AllocError>
     requires { AreShared t.now shared.numbers.now shared.players shared.payoffs.now shared.zeros.now shared.rows }
-    ensures { OnOk result (out.new.items ≡ out.old.items ++ lines_text (map row_text (rows t.now))) }
+    ensures text { OnOk result (out.new.items ≡ out.old.items ++ lines_text (map row_text (rows t.now))) }
+    ensures kept { OnErr result (Keeps out.old.items out.new.items) }
 {
     let lines = lines_of(*out.allocator(), shared)?;
     for number in shared.numbers {
@@ -136,7 +151,8 @@ fn write_shared(t: &Table, shared: Shared<'_>, out: &mut Vec<u8>) -> Result<(), 
 
 /// Appends a line of payoffs for each profile.
 fn write_rows(t: &Table, out: &mut Vec<u8>) -> Result<(), AllocError>
-    ensures { OnOk result (out.new.items ≡ out.old.items ++ lines_text (map row_text (rows t.now))) }
+    ensures text { OnOk result (out.new.items ≡ out.old.items ++ lines_text (map row_text (rows t.now))) }
+    ensures kept { OnErr result (Keeps out.old.items out.new.items) }
 {
     match t.shared() {
         Some(shared) if shared.rows <= shared.numbers.len() => {
@@ -153,28 +169,24 @@ fn write_rows(t: &Table, out: &mut Vec<u8>) -> Result<(), AllocError>
 
 /// Appends the heading of a table and its lines.
 fn write_text(t: &Table, out: &mut Vec<u8>) -> Result<(), AllocError>
-    ensures { OnOk result (out.new.items ≡ out.old.items ++ table_text t.now) }
+    ensures text { OnOk result (out.new.items ≡ out.old.items ++ table_text t.now) }
+    ensures kept { OnErr result (Keeps out.old.items out.new.items) }
 {
     write_heading(t.names(), out)?;
     write_rows(t, out)
 }
 
 /// Appends the canonical text of the table: payoff version, each number in lowest terms, one line for each profile.
-/// An empty vector's memory is used for it.
 ///
 /// `AllocError` where memory is refused, and then the vector's items are as they were.
 pub fn write_nfg(t: &Table, out: &mut Vec<u8>) -> Result<(), AllocError>
     ensures ok { OnOk result (out.new.items ≡ out.old.items ++ table_text t.now) }
     ensures err { OnErr result (out.new.items ≡ out.old.items) }
 {
-    if out.is_empty() {
-        let written = write_text(t, out);
-        if written.is_err() {
-            out.clear();
-        }
-        return written;
+    let start = out.len();
+    let written = write_text(t, out);
+    if written.is_err() {
+        out.truncate(start);
     }
-    let mut text = Vec::new(*out.allocator());
-    write_text(t, &mut text)?;
-    out.extend_from_slice(&text)
+    written
 }

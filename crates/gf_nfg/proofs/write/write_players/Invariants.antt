@@ -1,7 +1,9 @@
 use Rattle.std.proofs.Common.{◌≡◌, ◌++◌}
 use Rattle.gf_nfg.specs.TableText.{quoted}
+use Rattle.gf_nfg.specs.TextParts.{Keeps}
 use Rattle.gf_nfg.proofs.Texts.{rest_text}
 use Rattle.gf_nfg.proofs.write.write_players.Given as goal
 
 abbrev pub invariant-loop-at : goal.invariant-loop-at
-invariant-loop-at l = l.out.items ++ rest_text quoted l.names.players l.at ≡ l.initial.out.items ++ rest_text quoted l.names.players 0
+invariant-loop-at l =
+    (l.out.items ++ rest_text quoted l.names.players l.at ≡ l.initial.out.items ++ rest_text quoted l.names.players 0) × Keeps l.fn.out.items l.out.items
