@@ -1,6 +1,6 @@
 -- Where the reader refuses, no file goes on, or each that does is past the limit.
 use Rattle.std.proofs.Common.{◌≡◌, ℕ, ◌<◌, ◌≤◌, List, [], ◌∷◌, ◌++◌, length, Option, None, Some, Result, Ok, Err, IfErr, IsErrAnd, refl, sym, ap, subst, ◌∙◌, append_assoc, arith}
-use Rattle.std.proofs.lemmas.List.{map-append}
+use Rattle.std.proofs.lemmas.List.{append-nil, map-append}
 use Rattle.gf_token.specs.Token.{Token, Lexeme, lexeme}
 use Rattle.gf_token.specs.Token.Token.{Broken}
 use Rattle.gf_token.specs.TokenSpelling.{Spells}
@@ -16,7 +16,7 @@ use Rattle.gf_nfg.specs.Limit.{profile_limit}
 use Rattle.gf_nfg.specs.Table.{Table}
 use Rattle.gf_nfg.specs.Sentence.{Sentence}
 use Rattle.gf_nfg.specs.TableText.{SpellsTable}
-use Rattle.gf_nfg.specs.Place.{tokens_of, IsOffendingPlace, IsLimitPlace, IsWithinLimit}
+use Rattle.gf_nfg.specs.Place.{tokens_of, IsAcceptedThrough, IsOffendingPlace, IsLimitPlace, IsWithinLimit}
 use Rattle.gf_nfg.specs.Machine.{State, Content, step, finish, due_at, ended, Fails}
 use Rattle.gf_nfg.specs.Judgement.{IsRefusal, IsJudged}
 use Rattle.gf_nfg.specs.ReaderState.{ArePartsOf}
@@ -69,8 +69,24 @@ limit bytes all rest l s after spelled h within e over =
       first = stays_within (tokens_of h.seen) s h.leads within;
     }
 
+-- a token that is not refused
+accepted : (bytes : List ℕ) (all rest : List Lexeme) (l : Lexeme) (s after : State)
+    → Spells 0 bytes all → Led all (l ∷ rest) s → step s l.token ≡ Ok after
+    → after.content.profiles ≤ profile_limit → IsAcceptedThrough bytes (span_of l)
+accepted bytes all rest l s after spelled h e within =
+    let through = tokens_of h.seen ++ l.token ∷ [] in
+    let leads = leads_more (tokens_of h.seen) l.token s after h.leads e in
+    record {
+      before = h.seen;
+      after = l ∷ rest;
+      spelled = subst (λ (ls : List Lexeme). Spells 0 bytes ls) h.parts spelled;
+      place = (refl, refl);
+      goes_on = (begins through after leads, stays_within through after leads within);
+    }
+
 pub judged : (bytes : List ℕ) (all rest : List Lexeme) (l : Lexeme) (s : State) (why : Why) → Spells 0 bytes all → Led all (l ∷ rest) s → s.content.profiles ≤ profile_limit → IsWhole l.token → Fails why (step s l.token) → IsJudged why bytes (span_of l)
-judged bytes all rest l s Memory spelled h within whole e = tt
+judged bytes all rest l s Memory spelled h within whole e =
+    accepted bytes all rest l s e.0 spelled h e.1 e.2
 judged bytes all rest l s TooManyProfiles spelled h within whole e = limit bytes all rest l s e.0 spelled h within e.1 e.2
 judged bytes all rest l s TooLong spelled h within whole e = absurd e
 judged bytes all rest l s why spelled h within whole e = refusal bytes all rest l s why spelled h within whole e
@@ -121,6 +137,26 @@ pub judged_end : (bytes : List ℕ) (all : List Lexeme) (s : State) (why : Why) 
 judged_end bytes all s why spelled h within e =
     let w = only_expected s.content (due_at s.position s.due) why e in
     subst (λ (x : Why). IsJudged x bytes (end_of (length bytes))) (sym w.1) (refusal_end bytes all s w.0 spelled h within (e ∙ ap err w.1))
+
+-- a file within the limit is accepted through its end
+accepted_whole : (bytes : List ℕ) (t : Table) → SpellsTable bytes t → IsWithinLimit t
+    → IsAcceptedThrough bytes (end_of (length bytes))
+accepted_whole bytes t h within = record {
+  before = h.0;
+  after = [];
+  spelled = subst (λ (ls : List Lexeme). Spells 0 bytes ls) (sym (append-nil h.0)) h.1;
+  place = (refl, refl);
+  goes_on = (t, h.2, within);
+}
+
+-- so that memory may be wanted there
+pub memory_at_end : (bytes : List ℕ) (t : Table) (fault : Fault) (why : Why) → SpellsTable bytes t
+    → IsWithinLimit t → fault ≡ record { span = end_of (length bytes); why = why } → why ≡ Memory
+    → IsJudged fault.why bytes fault.span
+memory_at_end bytes t fault why h within is memory =
+    let P : Why → Type 0 = λ w. IsJudged w bytes (end_of (length bytes)) in
+    subst (λ (f : Fault). IsJudged f.why bytes f.span) (sym is)
+        (subst P (sym memory) (accepted_whole bytes t h within))
 
 -- ---- no table within the limit is refused but for want of memory
 

@@ -5,7 +5,7 @@ use Rattle.gf_token.specs.declared.fault.Span.{Span}
 use Rattle.gf_token.specs.declared.fault.Why.{Why}
 use Rattle.gf_token.specs.declared.fault.Why.TheVariants.{TooLong, TooManyProfiles, Memory}
 use Rattle.gf_nfg.specs.Table.{Table}
-use Rattle.gf_nfg.specs.Place.{tokens_of, IsOffendingPlace, IsLimitPlace, StaysWithinLimit}
+use Rattle.gf_nfg.specs.Place.{tokens_of, IsAcceptedThrough, IsOffendingPlace, IsLimitPlace, StaysWithinLimit}
 use Rattle.gf_nfg.specs.Reason.{IsReason}
 
 -- the span is that of the offending place, the refusal is for what stands there, and there is no limit place before
@@ -14,9 +14,9 @@ pub record IsRefusal (why : Why) (bytes : List ℕ) (span : Span) : Type 0 where
   pub reason : IsReason why (tokens_of place.before) (tokens_of place.after)
   pub within : StaysWithinLimit (tokens_of place.before)
 
--- A refusal, by its reason. Of want of memory nothing is said.
+-- A refusal, by its reason. Memory is wanted only where there is nothing else to refuse.
 abbrev pub IsJudged : Why → List ℕ → Span → Type 0
-IsJudged Memory bytes span = Unit {0}
+IsJudged Memory bytes span = IsAcceptedThrough bytes span
 IsJudged TooManyProfiles bytes span = IsLimitPlace bytes span
 IsJudged TooLong bytes span = ⊥
 IsJudged why bytes span = IsRefusal why bytes span

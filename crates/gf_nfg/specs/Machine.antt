@@ -1,5 +1,5 @@
 -- The reader of strategic files as a machine: one token at a time. What it means is said in Sentence; no public contract cites this.
-use Rattle.std.specs.Prelude.{◌≡◌, ℕ, zero, suc, ◌<◌, ◌+◌, ◌-◌, ◌*◌, ◌^◌, ◌||◌, min, List, [], ◌∷◌, ◌++◌, length, codes, Option, Some, None, Result, Ok, Err, nat_eq, nat_le, ◌==◌, if◌then◌else◌}
+use Rattle.std.specs.Prelude.{◌≡◌, ℕ, zero, suc, ◌<◌, ◌≤◌, ◌+◌, ◌-◌, ◌*◌, ◌^◌, ◌||◌, min, List, [], ◌∷◌, ◌++◌, length, codes, Option, Some, None, Result, Ok, Err, nat_eq, nat_le, ◌==◌, if◌then◌else◌}
 use Rattle.std.specs.Cmp.Lexicographic.{pointwise}
 use Rattle.gf_token.specs.Token.{Token}
 use Rattle.gf_token.specs.Token.Token.{Opening, Closing, Comma, Text, Bare, Broken}
@@ -289,9 +289,12 @@ run s (t ∷ ts) = step s t >>= λ after. run after ts
 abbrev pub start : State
 start = at p.Format 0 0 0 nothing
 
--- The code refuses a token as the machine does, but for want of memory, and where the profiles would pass their limit, of which the machine knows nothing; it never refuses one as too long.
+-- The code refuses a token as the machine does, but where the profiles would pass their limit, of
+-- which the machine knows nothing. It wants memory only where the machine goes on, within the limit,
+-- and it never refuses a token as too long.
 abbrev pub Fails : Why → Result State Why → Type 0
-Fails Memory machine = Unit {0}
+Fails Memory machine =
+    (after : State) × (machine ≡ Ok after) × (after.content.profiles ≤ profile_limit)
 Fails TooManyProfiles machine = (after : State) × (machine ≡ Ok after) × (profile_limit < after.content.profiles)
 Fails TooLong machine = ⊥
 Fails why machine = machine ≡ Err why

@@ -67,3 +67,18 @@ pub record IsLimitPlace (bytes : List ℕ) (span : Span) : Type 0 where
   pub grows : IsBareOrClosing lexeme.token
   pub past : BeginsPastLimit (tokens_of before ++ lexeme.token ∷ [])
   pub first : StaysWithinLimit (tokens_of before)
+
+-- A token goes on where it and those before it begin a file, and the profiles do not pass their
+-- limit at any of them. At the end the tokens are a file within the limit.
+abbrev pub GoesOn : List Token → List Token → Type 0
+GoesOn before [] = (t : Table) × Sentence before t × IsWithinLimit t
+GoesOn before (token ∷ after) =
+    Begins (before ++ token ∷ []) × StaysWithinLimit (before ++ token ∷ [])
+
+-- the span is that of a token, or of the end, at which there is nothing to refuse
+pub record IsAcceptedThrough (bytes : List ℕ) (span : Span) : Type 0 where
+  pub before : List Lexeme
+  pub after : List Lexeme
+  pub spelled : Spells 0 bytes (before ++ after)
+  pub place : IsSpanOf after (length bytes) span
+  pub goes_on : GoesOn (tokens_of before) (tokens_of after)

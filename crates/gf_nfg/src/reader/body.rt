@@ -55,9 +55,10 @@ impl<'a> Reader<'a> {
                 Ok(())
             }
             _ => {
+                self.at_flat_payoffs(kind)?;
                 let expected = self.expected();
                 self.payoffs.reserve(expected)?;
-                self.at_flat_payoffs(kind)
+                Ok(())
             }
         }
     }
