@@ -3,7 +3,7 @@ use Rattle.std.specs.Prelude.{◌≡◌, ℕ, List}
 use Rattle.gf_token.specs.declared.fault.Fault.{Fault}
 use Rattle.gf_token.specs.declared.fault.Why.TheVariants.{Memory}
 use Rattle.gf_nfg.specs.Judgement.{IsJudged}
-use Rattle.gf_nfg.specs.Place.{IsWithinLimit}
+use Rattle.gf_nfg.specs.LimitPlace.{IsWithinLimit}
 use Rattle.gf_nfg.specs.Table.{Table}
 use Rattle.gf_nfg.specs.TableText.{SpellsTable, table_text}
 

@@ -9,7 +9,9 @@ use Rattle.gf_token.specs.declared.fault.Why.{Why}
 use Rattle.gf_token.specs.declared.fault.Why.TheVariants.{Expected}
 use Rattle.gf_nfg.specs.declared.position.Position.{Position}
 use Rattle.gf_nfg.specs.declared.position.Position.TheVariants as p
-use Rattle.gf_nfg.specs.Due.{Role, MayFollow, RoleIsDue, IsDue}
+use Rattle.gf_token.specs.Place.{MayFollow}
+use Rattle.gf_nfg.specs.Sentence.{IsStrategicFile}
+use Rattle.gf_nfg.specs.Due.{Role, RoleIsDue, IsDue}
 use Rattle.gf_nfg.specs.Due.Role.{Format, Version, Letter, Count, Payoff, OutcomeNumber}
 use Rattle.gf_nfg.specs.Machine.{State, Content, at, step, finish, with_labels, ◌>>=◌}
 use Rattle.gf_nfg.specs.Meaning.{table_of}
@@ -139,18 +141,18 @@ stands s = stands_at s.position s.due s.list_start s.outcomes s.content
 
 -- ---- what may follow
 
-by_step : (ts : List Token) (s : State) (row : Row) (token : Token) (o : Result State Why) → Leads ts s → step s token ≡ o → Answers row token o → MayFollow ts token ↔ Accepts row token
+by_step : (ts : List Token) (s : State) (row : Row) (token : Token) (o : Result State Why) → Leads ts s → step s token ≡ o → Answers row token o → MayFollow IsStrategicFile ts token ↔ Accepts row token
 by_step ts s row token (Ok after) h e a = (λ _. a, λ _. follows ts token s after h e)
 by_step ts s row token (Err why) h e a = (λ f. absurd (refused ts token s why h e f), λ accepted. absurd (a.0 accepted))
 
 -- limits aside, a token may follow exactly if its row accepts it
-pub may_follow : (ts : List Token) (s : State) (row : Row) → Leads ts s → Law s row → (token : Token) → MayFollow ts token ↔ Accepts row token
+pub may_follow : (ts : List Token) (s : State) (row : Row) → Leads ts s → Law s row → (token : Token) → MayFollow IsStrategicFile ts token ↔ Accepts row token
 may_follow ts s row h law token = by_step ts s row token (step s token) h refl (law token)
 
 pub role_is_due : (ts : List Token) (s : State) (row : Row) (role : Role) → Leads ts s → Law s row → row.bare ≡ Some role → RoleIsDue ts role
 role_is_due ts s row role h law e = λ bytes.
     let f = may_follow ts s row h law (Bare bytes) in
-    subst (λ (o : Option Role). MayFollow ts (Bare bytes) ↔ AcceptsBare o bytes) e f
+    subst (λ (o : Option Role). MayFollow IsStrategicFile ts (Bare bytes) ↔ AcceptsBare o bytes) e f
 
 named_is_due : (ts : List Token) (s : State) (row : Row) (expected : What) → Leads ts s → Law s row → Names row expected → EndsAs expected s → IsDue ts expected
 named_is_due ts s row what.Format h law n e = role_is_due ts s row Format h law n

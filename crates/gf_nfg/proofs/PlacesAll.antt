@@ -13,7 +13,8 @@ use Rattle.gf_token.proofs.Spelled.{spelled_once}
 use Rattle.gf_nfg.specs.Limit.{profile_limit}
 use Rattle.gf_nfg.specs.Table.{Table}
 use Rattle.gf_nfg.specs.TableText.{SpellsTable}
-use Rattle.gf_nfg.specs.Place.{tokens_of, IsWithinLimit}
+use Rattle.gf_token.specs.Place.{tokens_of}
+use Rattle.gf_nfg.specs.LimitPlace.{IsWithinLimit}
 use Rattle.gf_nfg.specs.Reason.{IsReason}
 use Rattle.gf_nfg.specs.Judgement.{IsRefusal, IsRefused}
 use Rattle.gf_nfg.specs.Machine.{State, Content, step, finish, start, due_at, ended}

@@ -14,15 +14,17 @@ use Rattle.gf_token.specs.declared.fault.Why.{Why}
 use Rattle.gf_token.specs.declared.fault.Why.TheVariants.{TooLong, Unterminated, Expected, Memory, TooManyProfiles}
 use Rattle.gf_nfg.specs.Limit.{profile_limit}
 use Rattle.gf_nfg.specs.Table.{Table}
-use Rattle.gf_nfg.specs.Sentence.{Sentence}
+use Rattle.gf_nfg.specs.Sentence.{Sentence, IsStrategicFile}
 use Rattle.gf_nfg.specs.TableText.{SpellsTable}
-use Rattle.gf_nfg.specs.Place.{tokens_of, IsAcceptedThrough, IsOffendingPlace, IsLimitPlace, IsWithinLimit}
+use Rattle.gf_token.specs.Place.{tokens_of, IsOffendingPlace}
+use Rattle.gf_nfg.specs.LimitPlace.{IsLimitPlace, IsWithinLimit, StaysWithinLimit}
 use Rattle.gf_nfg.specs.Machine.{State, Content, step, finish, due_at, ended, Fails}
-use Rattle.gf_nfg.specs.Judgement.{IsRefusal, IsJudged}
+use Rattle.gf_nfg.specs.Judgement.{IsRefusal, IsAcceptedWithinLimit, IsJudged}
 use Rattle.gf_nfg.specs.ReaderState.{ArePartsOf}
 use Rattle.gf_nfg.specs.declared.parts.Parts.{Parts}
+use Rattle.gf_token.proofs.Places.{no_file as refused_no_file}
 use Rattle.gf_nfg.proofs.RunsEnds.{broken_refused}
-use Rattle.gf_nfg.proofs.PlacesLed.{Led, no_sentence, spelled_as}
+use Rattle.gf_nfg.proofs.PlacesLed.{Led, spelled_as}
 use Rattle.gf_nfg.proofs.PlacesLimit.{makes_more, read_past, stays_within}
 use Rattle.gf_nfg.proofs.PlacesWalk.{leads_more, begins, refused, no_file}
 use Rattle.gf_nfg.proofs.ReasonFound.{IsWhole, reason, broken_reason, end_reason}
@@ -35,14 +37,14 @@ end_of size = record { start = size; end = size }
 
 -- ---- a token that is refused
 
-abbrev offending : (bytes : List ℕ) (all rest : List Lexeme) (l : Lexeme) (s : State) (why : Why) → Spells 0 bytes all → Led all (l ∷ rest) s → step s l.token ≡ Err why → IsOffendingPlace bytes (span_of l)
+abbrev offending : (bytes : List ℕ) (all rest : List Lexeme) (l : Lexeme) (s : State) (why : Why) → Spells 0 bytes all → Led all (l ∷ rest) s → step s l.token ≡ Err why → IsOffendingPlace IsStrategicFile bytes (span_of l)
 offending bytes all rest l s why spelled h e = record {
   before = h.seen;
   after = l ∷ rest;
   spelled = subst (λ (ls : List Lexeme). Spells 0 bytes ls) h.parts spelled;
   place = (refl, refl);
   begins = begins (tokens_of h.seen) s h.leads;
-  stops = refused (tokens_of h.seen) l.token s why h.leads e;
+  refused = refused (tokens_of h.seen) l.token s why h.leads e;
 }
 
 pub refusal : (bytes : List ℕ) (all rest : List Lexeme) (l : Lexeme) (s : State) (why : Why) → Spells 0 bytes all → Led all (l ∷ rest) s → s.content.profiles ≤ profile_limit → IsWhole l.token → step s l.token ≡ Err why → IsRefusal why bytes (span_of l)
@@ -72,16 +74,19 @@ limit bytes all rest l s after spelled h within e over =
 -- a token that is not refused
 accepted : (bytes : List ℕ) (all rest : List Lexeme) (l : Lexeme) (s after : State)
     → Spells 0 bytes all → Led all (l ∷ rest) s → step s l.token ≡ Ok after
-    → after.content.profiles ≤ profile_limit → IsAcceptedThrough bytes (span_of l)
+    → after.content.profiles ≤ profile_limit → IsAcceptedWithinLimit bytes (span_of l)
 accepted bytes all rest l s after spelled h e within =
     let through = tokens_of h.seen ++ l.token ∷ [] in
     let leads = leads_more (tokens_of h.seen) l.token s after h.leads e in
     record {
-      before = h.seen;
-      after = l ∷ rest;
-      spelled = subst (λ (ls : List Lexeme). Spells 0 bytes ls) h.parts spelled;
-      place = (refl, refl);
-      goes_on = (begins through after leads, stays_within through after leads within);
+      place = record {
+        before = h.seen;
+        after = l ∷ rest;
+        spelled = subst (λ (ls : List Lexeme). Spells 0 bytes ls) h.parts spelled;
+        place = (refl, refl);
+        accepted = begins through after leads;
+      };
+      within = stays_within through after leads within;
     }
 
 pub judged : (bytes : List ℕ) (all rest : List Lexeme) (l : Lexeme) (s : State) (why : Why) → Spells 0 bytes all → Led all (l ∷ rest) s → s.content.profiles ≤ profile_limit → IsWhole l.token → Fails why (step s l.token) → IsJudged why bytes (span_of l)
@@ -120,7 +125,7 @@ refusal_end bytes all s expected spelled h within e = record {
     spelled = subst (λ (ls : List Lexeme). Spells 0 bytes ls) h.parts spelled;
     place = (refl, refl);
     begins = begins (tokens_of h.seen) s h.leads;
-    stops = no_file (tokens_of h.seen) s (Expected expected) h.leads e;
+    refused = no_file (tokens_of h.seen) s (Expected expected) h.leads e;
   };
   reason = end_reason (tokens_of h.seen) s expected h.leads e;
   within = stays_within (tokens_of h.seen) s h.leads within;
@@ -138,15 +143,25 @@ judged_end bytes all s why spelled h within e =
     let w = only_expected s.content (due_at s.position s.due) why e in
     subst (λ (x : Why). IsJudged x bytes (end_of (length bytes))) (sym w.1) (refusal_end bytes all s w.0 spelled h within (e ∙ ap err w.1))
 
+-- no front of a file within the limit passes it
+file_within : (tokens : List Token) (t : Table) → Sentence tokens t → IsWithinLimit t
+    → StaysWithinLimit tokens
+file_within tokens t sentence within = λ front back token parts _.
+    let whole = parts ∙ sym (append_assoc front (token ∷ []) back) in
+    (back, t, subst (λ (x : List Token). Sentence x t) whole sentence, within)
+
 -- a file within the limit is accepted through its end
 accepted_whole : (bytes : List ℕ) (t : Table) → SpellsTable bytes t → IsWithinLimit t
-    → IsAcceptedThrough bytes (end_of (length bytes))
+    → IsAcceptedWithinLimit bytes (end_of (length bytes))
 accepted_whole bytes t h within = record {
-  before = h.0;
-  after = [];
-  spelled = subst (λ (ls : List Lexeme). Spells 0 bytes ls) (sym (append-nil h.0)) h.1;
-  place = (refl, refl);
-  goes_on = (t, h.2, within);
+  place = record {
+    before = h.0;
+    after = [];
+    spelled = subst (λ (ls : List Lexeme). Spells 0 bytes ls) (sym (append-nil h.0)) h.1;
+    place = (refl, refl);
+    accepted = (t, h.2);
+  };
+  within = file_within (tokens_of h.0) t h.2 within;
 }
 
 -- so that memory may be wanted there
@@ -160,10 +175,12 @@ memory_at_end bytes t fault why h within is memory =
 
 -- ---- no table within the limit is refused but for want of memory
 
-none_spelled : (bytes : List ℕ) (span : Span) (t : Table) → IsOffendingPlace bytes span → SpellsTable bytes t → ⊥
+none_spelled : (bytes : List ℕ) (span : Span) (t : Table) → IsOffendingPlace IsStrategicFile bytes span → SpellsTable bytes t → ⊥
 none_spelled bytes span t h k =
     let sentence = spelled_as bytes (h.before ++ h.after) t h.spelled k in
-    no_sentence (tokens_of h.before) (tokens_of h.after) h.stops t (subst (λ (x : List Token). Sentence x t) (map-append (λ (x : Lexeme). x.token) h.before h.after) sentence)
+    let parts = map-append (λ (x : Lexeme). x.token) h.before h.after in
+    refused_no_file IsStrategicFile (tokens_of h.before) (tokens_of h.after) h.refused
+        (t, subst (λ (x : List Token). Sentence x t) parts sentence)
 
 all_past : (bytes : List ℕ) (span : Span) (t : Table) → IsLimitPlace bytes span → SpellsTable bytes t → IsWithinLimit t → ⊥
 all_past bytes span t h k within =

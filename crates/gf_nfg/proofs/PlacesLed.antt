@@ -8,7 +8,7 @@ use Rattle.gf_token.proofs.Spelled.{same_tokens}
 use Rattle.gf_nfg.specs.Table.{Table}
 use Rattle.gf_nfg.specs.Sentence.{Sentence}
 use Rattle.gf_nfg.specs.TableText.{SpellsTable}
-use Rattle.gf_nfg.specs.Place.{tokens_of, Stops}
+use Rattle.gf_token.specs.Place.{tokens_of}
 use Rattle.gf_nfg.specs.Machine.{State, Content, run, step, finish, start}
 use Rattle.gf_nfg.specs.Meaning.{table_of}
 use Rattle.gf_nfg.proofs.RunsSentence.{Read, sentence_found, one_table}
@@ -48,10 +48,3 @@ spells_one_table bytes t u h k = one_table (tokens_of h.0) t u h.2 (spelled_as b
 
 pub only_table : (bytes : List ℕ) (all : List Lexeme) (r : Content) (t : Table) → Spells 0 bytes all → Read (tokens_of all) r → SpellsTable bytes t → table_of r ≡ t
 only_table bytes all r t h read k = one_table (tokens_of all) (table_of r) t read.sentence (spelled_as bytes all t h k)
-
--- ---- where it stops
-
--- no sentence is where one stops
-pub no_sentence : (before after : List Token) → Stops before after → (t : Table) → Sentence (before ++ after) t → ⊥
-no_sentence before [] h t s = h t (subst (λ (x : List Token). Sentence x t) (append-nil before) s)
-no_sentence before (token ∷ after) h t s = h (after, t, subst (λ (x : List Token). Sentence x t) (sym (append_assoc before (token ∷ []) after)) s)

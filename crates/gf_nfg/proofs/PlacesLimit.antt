@@ -16,7 +16,7 @@ use Rattle.gf_nfg.specs.Sentence.{Sentence}
 use Rattle.gf_nfg.specs.Machine.{State, Content, at, step, run, start, counted, listed, settled, paid, chosen, at_strategies_end, at_first, at_count, at_list_opening, at_payoff, at_flat_payoffs, at_after_comment, at_outcome_end, at_braced_payoff, at_outcome_number, due_at, ended, ◌>>=◌}
 use Rattle.gf_nfg.specs.Meaning.{table_of}
 use Rattle.gf_nfg.specs.Limit.{profile_limit}
-use Rattle.gf_nfg.specs.Place.{BeginsWithinLimit, StaysWithinLimit, IsBareOrClosing}
+use Rattle.gf_nfg.specs.LimitPlace.{BeginsWithinLimit, StaysWithinLimit, IsBareOrClosing}
 use Rattle.gf_nfg.proofs.ReadingIndices.{count_is}
 use Rattle.gf_nfg.proofs.MeaningTables.{length-entries}
 use Rattle.gf_nfg.proofs.RunsCommon.{ok_is}

@@ -17,8 +17,9 @@ use Rattle.gf_fraction.specs.declared.fraction.NumberFault.{NumberFault}
 use Rattle.gf_fraction.specs.declared.fraction.NumberFault.TheVariants as number
 use Rattle.gf_fraction.proofs.Numbers.{number_is}
 use Rattle.gf_fraction.proofs.Texts.{same_fault}
-use Rattle.gf_nfg.specs.Place.{Begins}
-use Rattle.gf_nfg.specs.Due.{Role, Suits, MayFollow, RoleIsDue, IsDue}
+use Rattle.gf_token.specs.Place.{Begins, MayFollow}
+use Rattle.gf_nfg.specs.Sentence.{IsStrategicFile}
+use Rattle.gf_nfg.specs.Due.{Role, Suits, RoleIsDue, IsDue}
 use Rattle.gf_nfg.specs.Due.Role.{Format, Version, Letter, Count, Payoff, OutcomeNumber}
 use Rattle.gf_nfg.specs.Reason.{Applies, IsReason}
 use Rattle.gf_nfg.specs.Readings.{index_of, count_of}
@@ -126,7 +127,7 @@ abbrev NoneApplies : List Token → Token → Type 0
 NoneApplies ts t = (why : Why) → ¬ (Applies why ts t)
 
 -- where neither 0 nor 2 may follow
-none_of_bare : (ts : List Token) (b : List ℕ) → ¬ (MayFollow ts (Bare zero_text)) → ¬ (MayFollow ts (Bare two_text)) → NoneApplies ts (Bare b)
+none_of_bare : (ts : List Token) (b : List ℕ) → ¬ (MayFollow IsStrategicFile ts (Bare zero_text)) → ¬ (MayFollow IsStrategicFile ts (Bare two_text)) → NoneApplies ts (Bare b)
 none_of_bare ts b z t NotANumber g = z ((g.0 zero_text).1 zero_suits_payoff)
 none_of_bare ts b z t ZeroDenominator g = z ((g.0 zero_text).1 zero_suits_payoff)
 none_of_bare ts b z t NumberTooLarge g = z ((g.0 zero_text).1 zero_suits_payoff)
@@ -135,7 +136,7 @@ none_of_bare ts b z t BadIndex (inr g) = z ((g.1.0 zero_text).1 (zero_suits_outc
 none_of_bare ts b z t UnknownOutcome g = z ((g.1.0 zero_text).1 (zero_suits_outcome g.0))
 none_of_bare ts b z t _ g = absurd g
 
-none_of_closing : (ts : List Token) → ¬ (Begins (ts ++ two_texts)) → NoneApplies ts Closing
+none_of_closing : (ts : List Token) → ¬ (Begins IsStrategicFile (ts ++ two_texts)) → NoneApplies ts Closing
 none_of_closing ts h NoEntry g = h (g.0 ([] ∷ [] ∷ []))
 none_of_closing ts h _ g = absurd g
 
@@ -161,7 +162,7 @@ record Place (ts : List Token) (s : State) : Type 0 where
   leads : Leads ts s
   stands : Stands s
 
-follows_as : (ts : List Token) (s : State) (h : Place ts s) (o : Option Role) (b : List ℕ) → h.stands.row.bare ≡ o → MayFollow ts (Bare b) → AcceptsBare o b
+follows_as : (ts : List Token) (s : State) (h : Place ts s) (o : Option Role) (b : List ℕ) → h.stands.row.bare ≡ o → MayFollow IsStrategicFile ts (Bare b) → AcceptsBare o b
 follows_as ts s h o b e f = subst (λ (x : Option Role). AcceptsBare x b) e ((may_follow ts s h.stands.row h.leads h.stands.law (Bare b)).0 f)
 
 is_due : (ts : List Token) (s : State) (h : Place ts s) (role : Role) → h.stands.row.bare ≡ Some role → RoleIsDue ts role
@@ -202,10 +203,10 @@ is_false false h = refl
 
 closing_reason : (ts after : List Token) (s : State) (h : Place ts s) (why : Why) (unfilled : Bool) → h.stands.row.unfilled ≡ unfilled → ¬ (h.stands.row.closing ≡ true) → RefusesClosing unfilled h.stands.row.expected why → Reason ts after Closing why
 closing_reason ts after s h why true e n r =
-    let labels : (labels : List (List ℕ)) → Begins (ts ++ map Text labels) = λ labels.
+    let labels : (labels : List (List ℕ)) → Begins IsStrategicFile (ts ++ map Text labels) = λ labels.
     let w = h.stands.labels e labels in
     begins (ts ++ map Text labels) w.0 (leads_on ts (map Text labels) s w.0 h.leads w.1) in
-    let refused : ¬ (MayFollow ts Closing) = λ f. n ((may_follow ts s h.stands.row h.leads h.stands.law Closing).0 f) in
+    let refused : ¬ (MayFollow IsStrategicFile ts Closing) = λ f. n ((may_follow ts s h.stands.row h.leads h.stands.law Closing).0 f) in
     subst (λ (x : Why). IsReason x ts (Closing ∷ after)) (sym r) ((labels, refused), lowest_entry ts)
 closing_reason ts after s h why false e n r =
     let w = h.stands.no_labels (is_false h.stands.row.closing n) e in

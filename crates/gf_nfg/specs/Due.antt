@@ -7,15 +7,11 @@ use Rattle.gf_token.specs.declared.fault.What.{What}
 use Rattle.gf_token.specs.declared.fault.What.TheVariants as what
 use Rattle.gf_fraction.specs.Ratio.{Ratio}
 use Rattle.gf_fraction.specs.NumberSpelling.{IsNumber}
-use Rattle.gf_nfg.specs.Table.{Table}
-use Rattle.gf_nfg.specs.Sentence.{Sentence}
-use Rattle.gf_nfg.specs.Place.{Begins}
+use Rattle.gf_token.specs.Place.{MayFollow}
+use Rattle.gf_nfg.specs.Sentence.{IsStrategicFile}
 
--- some strategic file begins with the tokens and this one behind them
-abbrev pub MayFollow : List Token → Token → Type 0
-MayFollow before token = Begins (before ++ token ∷ [])
-
--- what a bare token is in a file: one of its first three tokens, a count of strategies, a payoff, or the number of one of so many outcomes
+-- what a bare token is in a file: one of its first three tokens, a count of strategies, a payoff, or
+-- the number of one of so many outcomes
 pub data Role : Type 0 where
   Format : Role
   Version : Role
@@ -33,20 +29,24 @@ Suits Count bytes = (n : ℕ) × IsIndex bytes n × (0 < n)
 Suits Payoff bytes = (n : Ratio) × IsNumber bytes n
 Suits (OutcomeNumber outcomes) bytes = (n : ℕ) × IsIndex bytes n × (n ≤ outcomes)
 
--- A role is due where just those bare tokens may follow that suit it. So a role is told by what may stand in its place: a count, a payoff and the number of an outcome do not suit the same tokens, nor does one of the first three.
+-- A role is due where just those bare tokens may follow that suit it. So a role is told by what may
+-- stand in its place: a count, a payoff and the number of an outcome do not suit the same tokens, nor
+-- does one of the first three.
 abbrev pub RoleIsDue : List Token → Role → Type 0
-RoleIsDue before role = (bytes : List ℕ) → MayFollow before (Bare bytes) ↔ Suits role bytes
+RoleIsDue before role =
+    (bytes : List ℕ) → MayFollow IsStrategicFile before (Bare bytes) ↔ Suits role bytes
 
 -- What a refusal names is due. `Strategies` is the first count, or the brace of the first list; there are no nodes.
 abbrev pub IsDue : List Token → What → Type 0
 IsDue before what.Format = RoleIsDue before Format
 IsDue before what.Version = RoleIsDue before Version
 IsDue before what.Letter = RoleIsDue before Letter
-IsDue before what.Text = (label : List ℕ) × MayFollow before (Text label)
-IsDue before what.Opening = MayFollow before Opening
-IsDue before what.Closing = MayFollow before Closing
+IsDue before what.Text = (label : List ℕ) × MayFollow IsStrategicFile before (Text label)
+IsDue before what.Opening = MayFollow IsStrategicFile before Opening
+IsDue before what.Closing = MayFollow IsStrategicFile before Closing
 IsDue before what.Number = RoleIsDue before Payoff
-IsDue before what.Index = RoleIsDue before Count ⊎ ((outcomes : ℕ) × RoleIsDue before (OutcomeNumber outcomes))
-IsDue before what.Strategies = RoleIsDue before Count × MayFollow before Opening
+IsDue before what.Index =
+    RoleIsDue before Count ⊎ ((outcomes : ℕ) × RoleIsDue before (OutcomeNumber outcomes))
+IsDue before what.Strategies = RoleIsDue before Count × MayFollow IsStrategicFile before Opening
 IsDue before what.Node = ⊥
-IsDue before what.End = (t : Table) × Sentence before t
+IsDue before what.End = IsStrategicFile before

@@ -1,22 +1,30 @@
 -- What the reader of strategic files answers.
 use Rattle.std.specs.Prelude.{◌≡◌, ℕ, List, Result, Ok, Err}
+use Rattle.gf_token.specs.Place.{tokens_of, through, IsAcceptedThrough, IsOffendingPlace}
 use Rattle.gf_token.specs.declared.fault.Fault.{Fault}
 use Rattle.gf_token.specs.declared.fault.Span.{Span}
 use Rattle.gf_token.specs.declared.fault.Why.{Why}
 use Rattle.gf_token.specs.declared.fault.Why.TheVariants.{TooLong, TooManyProfiles, Memory}
-use Rattle.gf_nfg.specs.Table.{Table}
-use Rattle.gf_nfg.specs.Place.{tokens_of, IsAcceptedThrough, IsOffendingPlace, IsLimitPlace, StaysWithinLimit}
+use Rattle.gf_nfg.specs.LimitPlace.{IsLimitPlace, StaysWithinLimit}
 use Rattle.gf_nfg.specs.Reason.{IsReason}
+use Rattle.gf_nfg.specs.Sentence.{IsStrategicFile}
+use Rattle.gf_nfg.specs.Table.{Table}
 
--- the span is that of the offending place, the refusal is for what stands there, and there is no limit place before
+-- the span is that of the offending place, the refusal is for what stands there, and there is no
+-- limit place before
 pub record IsRefusal (why : Why) (bytes : List ℕ) (span : Span) : Type 0 where
-  pub place : IsOffendingPlace bytes span
+  pub place : IsOffendingPlace IsStrategicFile bytes span
   pub reason : IsReason why (tokens_of place.before) (tokens_of place.after)
   pub within : StaysWithinLimit (tokens_of place.before)
 
--- A refusal, by its reason. Memory is wanted only where there is nothing else to refuse.
+-- there is nothing to refuse at the span, and no limit place up to there
+pub record IsAcceptedWithinLimit (bytes : List ℕ) (span : Span) : Type 0 where
+  pub place : IsAcceptedThrough IsStrategicFile bytes span
+  pub within : StaysWithinLimit (through (tokens_of place.before) (tokens_of place.after))
+
+-- A refusal, by its reason. Memory is wanted only where there is nothing to refuse.
 abbrev pub IsJudged : Why → List ℕ → Span → Type 0
-IsJudged Memory bytes span = IsAcceptedThrough bytes span
+IsJudged Memory bytes span = IsAcceptedWithinLimit bytes span
 IsJudged TooManyProfiles bytes span = IsLimitPlace bytes span
 IsJudged TooLong bytes span = ⊥
 IsJudged why bytes span = IsRefusal why bytes span

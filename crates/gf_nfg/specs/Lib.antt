@@ -1,9 +1,9 @@
 pub mod Due
 pub mod Judgement
 pub mod Limit
+pub mod LimitPlace
 pub mod Machine
 pub mod Meaning
-pub mod Place
 pub mod ProfilePlaces
 pub mod Profiles
 pub mod ReaderState

@@ -9,8 +9,10 @@ use Rattle.gf_token.specs.declared.fault.Why.TheVariants.{Unterminated, Expected
 use Rattle.gf_fraction.specs.NumberSpelling.{HasNumberFault}
 use Rattle.gf_fraction.specs.declared.fraction.NumberFault.{NumberFault}
 use Rattle.gf_fraction.specs.declared.fraction.NumberFault.TheVariants as number
-use Rattle.gf_nfg.specs.Place.{Begins}
-use Rattle.gf_nfg.specs.Due.{MayFollow, Suits, RoleIsDue, IsDue}
+use Rattle.gf_token.specs.Place.{Begins, MayFollow}
+use Rattle.gf_token.specs.Reason as any_format
+use Rattle.gf_nfg.specs.Sentence.{IsStrategicFile}
+use Rattle.gf_nfg.specs.Due.{Suits, RoleIsDue, IsDue}
 use Rattle.gf_nfg.specs.Due.Role.{Count, Payoff, OutcomeNumber}
 
 -- a payoff is due, and the bytes are no number for this cause
@@ -31,7 +33,9 @@ IsPastOutcomes before bytes outcomes = RoleIsDue before (OutcomeNumber outcomes)
 
 -- a player's list of labels has been opened, and nothing is in it: labels may follow, as many as one likes, but no closing brace
 abbrev pub OpensLabels : List Token → Type 0
-OpensLabels before = ((labels : List (List ℕ)) → Begins (before ++ map Text labels)) × ¬ (MayFollow before Closing)
+OpensLabels before =
+    ((labels : List (List ℕ)) → Begins IsStrategicFile (before ++ map Text labels))
+    × ¬ (MayFollow IsStrategicFile before Closing)
 
 -- where each code but E3 applies, by the tokens before a place and the one that stands there
 abbrev pub Applies : Why → List Token → Token → Type 0
@@ -49,7 +53,7 @@ abbrev pub Holds : Why → List Token → List Token → Type 0
 Holds why before [] = ⊥
 Holds why before (token ∷ after) = Applies why before token
 
--- The reason is the lowest code that holds; where none does, it is E3, which names something that is due.
+-- the reason at a place of a strategic file
 abbrev pub IsReason : Why → List Token → List Token → Type 0
-IsReason (Expected what) before after = IsDue before what × ((why : Why) → ¬ (Holds why before after))
-IsReason why before after = Holds why before after × ((other : Why) → Holds other before after → code_of why ≤ code_of other)
+IsReason why before after =
+    any_format.IsReason (λ code. Holds code before after) (λ what. IsDue before what) why

@@ -68,3 +68,7 @@ pub record Sentence (tokens : List Token) (t : Table) : Type 0 where
   pub is_comment : IsComment comment t.comment
   pub is_body : IsPayoffBody body (rows t) ⊎ IsOutcomeBody (length t.players) body (rows t)
   pub is_table : IsTable t
+
+-- the language of strategic files
+abbrev pub IsStrategicFile : List Token → Type 0
+IsStrategicFile tokens = (t : Table) × Sentence tokens t

@@ -12,7 +12,7 @@ ghost use Rattle.gf_nfg.specs.Profiles.{numbers_from, product, profiles};
 ghost use Rattle.gf_nfg.specs.ProfilePlaces.{IsProfile, place};
 ghost use Rattle.gf_nfg.specs.SameTable.{SamePlay, SameTable};
 ghost use Rattle.gf_nfg.specs.TableText.{table_text, SpellsTable};
-ghost use Rattle.gf_nfg.specs.Place.{IsWithinLimit};
+ghost use Rattle.gf_nfg.specs.LimitPlace.{IsWithinLimit};
 ghost use Rattle.gf_nfg.specs.Judgement.{IsRefused};
 ghost use Rattle.gf_nfg.specs.WorkedTables.{no_players, no_players_text, selten, selten_by_counts, selten_by_outcomes, selten_text};
 

@@ -4,7 +4,7 @@ ghost use Rattle.std.specs.Prelude.{◌≡◌, ◌≤◌, IfOk, IfErr, length};
 ghost use Rattle.gf_nfg.specs.Limit.{profile_limit};
 ghost use Rattle.gf_nfg.specs.TableText.{SpellsTable};
 ghost use Rattle.gf_nfg.specs.Meaning.{IsComplete, table_of};
-ghost use Rattle.gf_nfg.specs.Place.{IsWithinLimit};
+ghost use Rattle.gf_nfg.specs.LimitPlace.{IsWithinLimit};
 ghost use Rattle.gf_nfg.specs.Judgement.{IsJudged, IsReadAs};
 ghost use Rattle.gf_nfg.specs.ReaderState.{ArePartsOf, content_of};
 

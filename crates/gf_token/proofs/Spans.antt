@@ -5,7 +5,7 @@ use Rattle.std.proofs.Math.Seq.{take-append_seam, drop-append_seam}
 use Rattle.std.proofs.lemmas.List.{length-append}
 use Rattle.gf_token.specs.Token.{Token, Lexeme, spelling}
 use Rattle.gf_token.specs.Token.Token.{Opening, Closing, Comma, Text, Bare, Broken}
-use Rattle.gf_token.specs.TokenSpelling.{IsSpelled, GoesOn, Begins, Spells, StandsIn}
+use Rattle.gf_token.specs.TokenSpelling.{IsSpelled, GoesOn, BeginsWith, Spells, StandsIn}
 
 -- each token has a byte
 some_byte : (t : Token) → IsSpelled t → 0 < length (spelling t)
@@ -23,7 +23,7 @@ slice_between front mid back =
     ap (λ (k : ℕ). take k (drop (length front) (front ++ (mid ++ back)))) size ∙ ap (take (length mid)) (drop-append_seam front (mid ++ back)) ∙ take-append_seam mid back
 
 -- a token that stands behind the bytes `front`
-stands_behind : (front bytes : List ℕ) (l : Lexeme) → Begins (length front) bytes l → StandsIn (front ++ bytes) l
+stands_behind : (front bytes : List ℕ) (l : Lexeme) → BeginsWith (length front) bytes l → StandsIn (front ++ bytes) l
 stands_behind front bytes l first =
     let before = front ++ first.gap in
     let whole : front ++ bytes ≡ before ++ (spelling l.token ++ first.rest) = ap (λ x. front ++ x) first.parts ∙ sym (append_assoc front first.gap (spelling l.token ++ first.rest)) in
@@ -49,7 +49,7 @@ goes_on_some Broken [] after l A h = absurd cc
 goes_on_some Broken (x ∷ before) after l A h = absurd cc
 
 stands : (before after : List Lexeme) (l : Lexeme) (front bytes : List ℕ) (at : ℕ) → at ≡ length front → Spells at bytes (before ++ l ∷ after) → StandsIn (front ++ bytes) l
-stands [] after l front bytes at e h = stands_behind front bytes l (subst (λ (i : ℕ). Begins i bytes l) e h.0)
+stands [] after l front bytes at e h = stands_behind front bytes l (subst (λ (i : ℕ). BeginsWith i bytes l) e h.0)
 stands (x ∷ before) after l front bytes at e h =
     let first = h.0 in
     let mid = first.gap ++ spelling x.token in

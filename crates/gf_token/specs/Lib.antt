@@ -10,3 +10,5 @@ pub mod Cursor
 pub mod Lexing
 pub mod Finding
 pub mod NumberWhy
+pub mod Place
+pub mod Reason

@@ -28,7 +28,7 @@ MayPrecede Broken bytes = BeginsNoText bytes
 MayPrecede _ _ = Unit {0}
 
 -- from place `at` on, the bytes are a gap of whitespace, this token and a rest
-pub record Begins (at : ℕ) (bytes : List ℕ) (l : Lexeme) : Type 0 where
+pub record BeginsWith (at : ℕ) (bytes : List ℕ) (l : Lexeme) : Type 0 where
   pub gap : List ℕ
   pub rest : List ℕ
   pub parts : bytes ≡ gap ++ (spelling l.token ++ rest)
@@ -46,7 +46,7 @@ GoesOn _ others spelled = spelled
 -- from place `at` on, the bytes are gaps of whitespace and spellings of these tokens in turn
 abbrev pub Spells : ℕ → List ℕ → List Lexeme → Type 0
 Spells at bytes [] = IsGap bytes
-Spells at bytes (l ∷ ls) = (first : Begins at bytes l) × GoesOn l.token ls (Spells l.end first.rest ls)
+Spells at bytes (l ∷ ls) = (first : BeginsWith at bytes l) × GoesOn l.token ls (Spells l.end first.rest ls)
 
 -- a token's span is not empty, lies within the bytes, and is the slice of them that spells the token
 pub record StandsIn (bytes : List ℕ) (l : Lexeme) : Type 0 where

@@ -1,0 +1,120 @@
+-- A file is refused at one place, with one code, whatever its format.
+use Rattle.std.proofs.Common.{◌≡◌, ℕ, ◌≤◌, List, [], ◌∷◌, ◌++◌, length, refl, sym, ap, subst, ◌∙◌, append_assoc, arith, inl, inr}
+use Rattle.std.specs.Prelude.{◌⊎◌}
+use Rattle.std.proofs.lemmas.List.{append-nil, map-append}
+use Rattle.gf_token.specs.Token.{Token, Lexeme}
+use Rattle.gf_token.specs.Code.{code_of}
+use Rattle.gf_token.specs.Place.{tokens_of, IsSpanOf, IsAccepted, Begins, IsOffendingPlace}
+use Rattle.gf_token.specs.Reason.{IsReason}
+use Rattle.gf_token.specs.declared.fault.Span.{Span}
+use Rattle.gf_token.specs.declared.fault.What.{What}
+use Rattle.gf_token.specs.declared.fault.Why.{Why}
+use Rattle.gf_token.specs.declared.fault.Why.TheVariants.{Expected}
+use Rattle.gf_token.proofs.Spelled.{same_tokens}
+
+-- ---- two ways to part a list
+
+-- the first way parts it before the second, at an item
+abbrev pub PartsBefore : List Lexeme → List Lexeme → List Lexeme → List Lexeme → Type 0
+PartsBefore xs ys us vs =
+    (z : Lexeme) × (zs : List Lexeme) × (us ≡ xs ++ z ∷ zs) × (ys ≡ z ∷ (zs ++ vs))
+
+abbrev pub Parts : List Lexeme → List Lexeme → List Lexeme → List Lexeme → Type 0
+Parts xs ys us vs =
+    PartsBefore xs ys us vs ⊎ (((xs ≡ us) × (ys ≡ vs)) ⊎ PartsBefore us vs xs ys)
+
+pub first_and_rest : (x y : Lexeme) (xs ys : List Lexeme) → x ∷ xs ≡ y ∷ ys
+    → (x ≡ y) × (xs ≡ ys)
+first_and_rest x y xs ys e = (cc, cc)
+
+parts_more : (x u : Lexeme) (xs ys us vs : List Lexeme) → x ≡ u → Parts xs ys us vs
+    → Parts (x ∷ xs) ys (u ∷ us) vs
+parts_more x u xs ys us vs e (inl h) = inl (h.0, h.1, (λ i. sym e i ∷ h.2 i), h.3)
+parts_more x u xs ys us vs e (inr (inl h)) = inr (inl ((λ i. e i ∷ h.0 i), h.1))
+parts_more x u xs ys us vs e (inr (inr h)) = inr (inr (h.0, h.1, (λ i. e i ∷ h.2 i), h.3))
+
+pub parts : (xs ys us vs : List Lexeme) → xs ++ ys ≡ us ++ vs → Parts xs ys us vs
+parts [] ys [] vs e = inr (inl (refl, e))
+parts [] ys (u ∷ us) vs e = inl (u, us, refl, e)
+parts (x ∷ xs) ys [] vs e = inr (inr (x, xs, refl, sym e))
+parts (x ∷ xs) ys (u ∷ us) vs e =
+    let h = first_and_rest x u (xs ++ ys) (us ++ vs) e in
+    parts_more x u xs ys us vs h.0 (parts xs ys us vs h.1)
+
+-- the tokens of a list that goes on with an item
+pub tokens_on : (xs zs : List Lexeme) (z : Lexeme)
+    → tokens_of (xs ++ z ∷ zs) ≡ tokens_of xs ++ z.token ∷ tokens_of zs
+tokens_on xs zs z = map-append (λ (x : Lexeme). x.token) xs (z ∷ zs)
+
+-- ---- one place
+
+pub same_span : (s t : Span) → s.start ≡ t.start → s.end ≡ t.end → s ≡ t
+same_span s t start end = (λ i. record { start = start i; end = end i })
+
+pub one_span : (ls : List Lexeme) (size : ℕ) (s t : Span) → IsSpanOf ls size s → IsSpanOf ls size t
+    → s ≡ t
+one_span [] size s t h k = same_span s t (h.0 ∙ sym k.0) (h.1 ∙ sym k.1)
+one_span (l ∷ ls) size s t h k = same_span s t (h.0 ∙ sym k.0) (h.1 ∙ sym k.1)
+
+module _ (IsFile : List Token → Type 0) where
+  pub begins_front : (ts us : List Token) → Begins IsFile (ts ++ us) → Begins IsFile ts
+  begins_front ts us b =
+      (us ++ b.0, subst (λ (x : List Token). IsFile x) (append_assoc ts us b.0) b.1)
+
+  -- no file is where one is refused
+  pub no_file : (before after : List Token) → ¬ (IsAccepted IsFile before after)
+      → ¬ (IsFile (before ++ after))
+  no_file before [] h = λ k. h (subst (λ (x : List Token). IsFile x) (append-nil before) k)
+  no_file before (token ∷ after) h =
+      λ k. h (after, subst (λ (x : List Token). IsFile x) (sym (append_assoc before (token ∷ []) after)) k)
+
+  -- where tokens are refused, none begin a file that go on
+  pub overtaken : (before after longer vs : List Lexeme)
+      → ¬ (IsAccepted IsFile (tokens_of before) (tokens_of after))
+      → PartsBefore before after longer vs → ¬ (Begins IsFile (tokens_of longer))
+  overtaken before after longer vs refused h b =
+      let s : ¬ (Begins IsFile (tokens_of before ++ h.0.token ∷ [])) =
+          subst (λ (ls : List Lexeme). ¬ (IsAccepted IsFile (tokens_of before) (tokens_of ls)))
+              h.3 refused in
+      let whole : tokens_of longer ≡ (tokens_of before ++ h.0.token ∷ []) ++ tokens_of h.1 =
+          ap tokens_of h.2 ∙ tokens_on before h.1 h.0
+              ∙ sym (append_assoc (tokens_of before) (h.0.token ∷ []) (tokens_of h.1)) in
+      s (begins_front (tokens_of before ++ h.0.token ∷ []) (tokens_of h.1)
+          (subst (Begins IsFile) whole b))
+
+  pub one_offending_place : (bytes : List ℕ) (s t : Span) (h : IsOffendingPlace IsFile bytes s)
+      (k : IsOffendingPlace IsFile bytes t) → (h.before ≡ k.before) × (h.after ≡ k.after)
+  one_offending_place bytes s t h k =
+      let same = same_tokens bytes (h.before ++ h.after) (k.before ++ k.after) h.spelled k.spelled in
+      elim (parts h.before h.after k.before k.after same) [
+        | inl p ↦ absurd (overtaken h.before h.after k.before k.after h.refused p k.begins)
+        | inr (inl p) ↦ p
+        | inr (inr p) ↦ absurd (overtaken k.before k.after h.before h.after k.refused p h.begins)
+      ]
+
+-- ---- one code
+
+module _ (Holds : Why → Type 0) (IsDue : What → Type 0) where
+  abbrev Lowest : Why → Type 0
+  Lowest why = Holds why × ((other : Why) → Holds other → code_of why ≤ code_of other)
+
+  abbrev NoneHolds : Type 0
+  NoneHolds = (why : Why) → ¬ (Holds why)
+
+  expected_or_lowest : (why : Why) → IsReason Holds IsDue why
+      → ((code_of why ≡ 3) × NoneHolds) ⊎ Lowest why
+  expected_or_lowest (Expected what) h = inl (refl, h.1)
+  expected_or_lowest why h = inr h
+
+  pub one_code : (why other : Why) → IsReason Holds IsDue why → IsReason Holds IsDue other
+      → code_of why ≡ code_of other
+  one_code why other h k = elim (expected_or_lowest why h) [
+    | inl a ↦ elim (expected_or_lowest other k) [
+      | inl b ↦ a.0 ∙ sym b.0
+      | inr b ↦ absurd (a.1 other b.0)
+    ]
+    | inr a ↦ elim (expected_or_lowest other k) [
+      | inl b ↦ absurd (b.1 why a.0)
+      | inr b ↦ let x = a.1 other b.0 in let y = b.1 why a.0 in omega (arith, x, y)
+    ]
+  ]

@@ -1,0 +1,52 @@
+-- Where a file is refused, whatever its format: a language says which lists of tokens are files.
+use Rattle.std.specs.Prelude.{◌≡◌, ℕ, List, [], ◌∷◌, ◌++◌, length, map}
+use Rattle.gf_token.specs.Token.{Token, Lexeme}
+use Rattle.gf_token.specs.TokenSpelling.{Spells}
+use Rattle.gf_token.specs.declared.fault.Span.{Span}
+
+abbrev pub tokens_of : List Lexeme → List Token
+tokens_of lexemes = map (λ l. l.token) lexemes
+
+-- the span of the first of these tokens; the end of so many bytes, where there is none
+abbrev pub IsSpanOf : List Lexeme → ℕ → Span → Type 0
+IsSpanOf [] size span = (span.start ≡ size) × (span.end ≡ size)
+IsSpanOf (l ∷ ls) size span = (span.start ≡ l.start) × (span.end ≡ l.end)
+
+-- the tokens before a place with the one that stands there; the end has none
+abbrev pub through : List Token → List Token → List Token
+through before [] = before
+through before (token ∷ after) = before ++ token ∷ []
+
+-- of a language
+module _ (IsFile : List Token → Type 0) where
+  -- some file begins with these tokens
+  abbrev pub Begins : List Token → Type 0
+  Begins tokens = (more : List Token) × IsFile (tokens ++ more)
+
+  -- some file begins with the tokens and this one behind them
+  abbrev pub MayFollow : List Token → Token → Type 0
+  MayFollow before token = Begins (before ++ token ∷ [])
+
+  -- behind the tokens before a place some file goes on with the one that stands there; at the end
+  -- they are a file
+  abbrev pub IsAccepted : List Token → List Token → Type 0
+  IsAccepted before [] = IsFile before
+  IsAccepted before (token ∷ after) = MayFollow before token
+
+  -- the span is that of the first token with which no file goes on; or it is the end, where some
+  -- file begins with all tokens, but they are none themselves
+  pub record IsOffendingPlace (bytes : List ℕ) (span : Span) : Type 0 where
+    pub before : List Lexeme
+    pub after : List Lexeme
+    pub spelled : Spells 0 bytes (before ++ after)
+    pub place : IsSpanOf after (length bytes) span
+    pub begins : Begins (tokens_of before)
+    pub refused : ¬ (IsAccepted (tokens_of before) (tokens_of after))
+
+  -- the span is that of a token, or of the end, at which there is nothing to refuse
+  pub record IsAcceptedThrough (bytes : List ℕ) (span : Span) : Type 0 where
+    pub before : List Lexeme
+    pub after : List Lexeme
+    pub spelled : Spells 0 bytes (before ++ after)
+    pub place : IsSpanOf after (length bytes) span
+    pub accepted : IsAccepted (tokens_of before) (tokens_of after)
