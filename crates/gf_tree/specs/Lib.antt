@@ -1,12 +1,15 @@
 pub mod Consistent
 pub mod Description
+pub mod Due
 pub mod FileTree
 pub mod FiniteMap
+pub mod Front
 pub mod Game
 pub mod GameOf
 pub mod Grown
 pub mod Learned
 pub mod PrefixOrder
+pub mod Reason
 pub mod Sentence
 pub mod Spellable
 pub mod Tree

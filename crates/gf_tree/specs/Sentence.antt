@@ -60,12 +60,19 @@ pub record IsNode (players : ℕ) (tokens : List Token) (n : FileNode) : Type 0 
   pub is_step : IsStep letter step n.set
   pub is_result : IsResult players result n.outcome
 
--- `EFG` `2` letter Text players [Text] node*, the nodes in prefix order
-pub record Sentence (tokens : List Token) (f : FileTree) : Type 0 where
+-- `EFG` `2` letter Text players [Text] node*: a heading, and whole nodes one behind the other
+pub record Says (title note : List ℕ) (players : List (List ℕ)) (said : List FileNode)
+    (tokens : List Token) : Type 0 where
   pub letter : List ℕ
   pub comment : List Token
   pub nodes : List Token
-  pub parts : tokens ≡ Bare (codes "EFG") ∷ Bare (codes "2") ∷ Bare letter ∷ Text f.title ∷ (braced (map Text f.players) ++ (comment ++ nodes))
+  pub parts : tokens ≡ Bare (codes "EFG") ∷ Bare (codes "2") ∷ Bare letter ∷ Text title
+      ∷ (braced (map Text players) ++ (comment ++ nodes))
   pub is_letter : (letter ≡ codes "R") ⊎ (letter ≡ codes "D")
-  pub is_comment : IsComment comment f.comment
-  pub are_nodes : Each (IsNode (length f.players)) nodes (map (λ e. e.node) (flatten f.tree))
+  pub is_comment : IsComment comment note
+  pub are_nodes : Each (IsNode (length players)) nodes said
+
+-- the nodes are those of a tree in prefix order
+abbrev pub Sentence : List Token → FileTree → Type 0
+Sentence tokens f =
+    Says f.title f.comment f.players (map (λ e. e.node) (flatten f.tree)) tokens

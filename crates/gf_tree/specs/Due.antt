@@ -1,0 +1,58 @@
+-- What is due behind the front of an extensive file.
+use Rattle.std.specs.Prelude.{◌≡◌, ℕ, ◌<◌, ◌⊎◌, List, [], ◌∷◌, codes, length, Option}
+use Rattle.gf_token.specs.Token.{Token}
+use Rattle.gf_token.specs.Token.Token.{Opening, Closing, Text, Bare}
+use Rattle.gf_token.specs.Place.{MayFollow}
+use Rattle.gf_token.specs.declared.fault.What.{What}
+use Rattle.gf_token.specs.declared.fault.What.TheVariants as what
+use Rattle.gf_tree.specs.Description.{InformationSet, Outcome, SetKey}
+use Rattle.gf_tree.specs.FileTree.{Use, FileNode}
+use Rattle.gf_tree.specs.Front.{IsExtensiveFile, EndsInNode, ToPlayer, ToSet, ToProbability, ToOutcome, InPayoffs, IsSetKnown}
+
+-- the letter of a node
+abbrev pub NodeIsDue : List Token → Type 0
+NodeIsDue before = MayFollow IsExtensiveFile before (Bare (codes "t"))
+
+-- the number of a player, among so many
+abbrev pub PlayerIsDue : List Token → ℕ → Type 0
+PlayerIsDue before count = (players : List (List ℕ)) × (nodes : List FileNode)
+    × (front : List Token) × EndsInNode before players nodes front × (count ≡ length players)
+    × ToPlayer front
+
+-- the number of a set
+abbrev pub SetIsDue : List Token → Type 0
+SetIsDue before = (players : List (List ℕ)) × (nodes : List FileNode) × (front : List Token)
+    × (player : ℕ) × EndsInNode before players nodes front × ToSet front player
+
+-- the number of an outcome, behind a set that is known
+abbrev pub OutcomeIsDue : List Token → Type 0
+OutcomeIsDue before = (players : List (List ℕ)) × (nodes : List FileNode) × (front : List Token)
+    × (set : Option (Use SetKey InformationSet)) × EndsInNode before players nodes front
+    × ToOutcome front set × IsSetKnown nodes set
+
+-- a probability
+abbrev pub ProbabilityIsDue : List Token → Type 0
+ProbabilityIsDue before = (players : List (List ℕ)) × (nodes : List FileNode)
+    × (front : List Token) × (number : ℕ) × (set : InformationSet)
+    × EndsInNode before players nodes front × ToProbability front number set
+
+-- a payoff
+abbrev pub PayoffIsDue : List Token → Type 0
+PayoffIsDue before = (players : List (List ℕ)) × (nodes : List FileNode) × (front : List Token)
+    × (number : ℕ) × (outcome : Outcome) × EndsInNode before players nodes front
+    × InPayoffs front number outcome × (length outcome.payoffs < length players)
+
+-- What a refusal names is due. There are no strategies.
+abbrev pub IsDue : List Token → What → Type 0
+IsDue before what.Format = before ≡ []
+IsDue before what.Version = before ≡ Bare (codes "EFG") ∷ []
+IsDue before what.Letter = before ≡ Bare (codes "EFG") ∷ Bare (codes "2") ∷ []
+IsDue before what.Text = (label : List ℕ) × MayFollow IsExtensiveFile before (Text label)
+IsDue before what.Opening = MayFollow IsExtensiveFile before Opening
+IsDue before what.Closing = MayFollow IsExtensiveFile before Closing
+IsDue before what.Number = ProbabilityIsDue before ⊎ PayoffIsDue before
+IsDue before what.Index =
+    ((count : ℕ) × PlayerIsDue before count) ⊎ (SetIsDue before ⊎ OutcomeIsDue before)
+IsDue before what.Strategies = ⊥
+IsDue before what.Node = NodeIsDue before
+IsDue before what.End = IsExtensiveFile before

@@ -1,0 +1,89 @@
+-- The front of an extensive file: its heading, whole nodes one behind the other, and the front of the
+-- next node. What is due behind it, and what is wrong there, is read off this shape.
+use Rattle.std.specs.Prelude.{◌≡◌, ℕ, ◌⊎◌, List, [], ◌∷◌, ◌++◌, codes, Option, Some, None, MatchOption}
+use Rattle.std.specs.List.{filter_map}
+use Rattle.gf_token.specs.Token.{Token}
+use Rattle.gf_token.specs.Token.Token.{Opening, Text, Bare}
+use Rattle.gf_token.specs.Grammar.{Each, IsPayoffInBraces}
+use Rattle.gf_tree.specs.Description.{InformationSet, Outcome, SetKey, set_of}
+use Rattle.gf_tree.specs.FileTree.{Use, FileNode, FileTree}
+use Rattle.gf_tree.specs.Consistent.{Describes, IsConsistent}
+use Rattle.gf_tree.specs.Sentence.{IsAction, IsMover, IsPositive, IsStep, Says, Sentence}
+
+-- the language of extensive files
+abbrev pub IsExtensiveFile : List Token → Type 0
+IsExtensiveFile tokens = (f : FileTree) × Sentence tokens f × IsConsistent f
+
+-- a heading and whole nodes, and behind them these tokens of the next node
+pub record EndsInNode (before : List Token) (players : List (List ℕ)) (nodes : List FileNode)
+    (front : List Token) : Type 0 where
+  pub title : List ℕ
+  pub note : List ℕ
+  pub whole : List Token
+  pub parts : before ≡ whole ++ front
+  pub says : Says title note players nodes whole
+
+-- ---- how far a node has come
+
+-- its letter, its name and, where a player moves, his number; the set's number is next
+abbrev pub ToSet : List Token → ℕ → Type 0
+ToSet front player = (letter : List ℕ) × (name : List ℕ) × (mover : List Token)
+    × (front ≡ Bare letter ∷ Text name ∷ mover) × IsMover letter mover player
+
+-- a player's node with its name; his number is next
+abbrev pub ToPlayer : List Token → Type 0
+ToPlayer front = (name : List ℕ) × (front ≡ Bare (codes "p") ∷ Text name ∷ [])
+
+-- the set's number too; its name is next, or the number of the outcome
+abbrev pub BehindSet : List Token → SetKey → Type 0
+BehindSet front key = (to_set : List Token) × (number : List ℕ)
+    × (front ≡ to_set ++ Bare number ∷ []) × ToSet to_set key.player × IsPositive number key.number
+
+-- the set's name too and, in braces, these actions; an action's label is next, or the closing brace
+abbrev pub InActions : List Token → SetKey → InformationSet → Type 0
+InActions front key set = (behind : List Token) × (inner : List Token)
+    × (front ≡ behind ++ Text set.name ∷ Opening ∷ inner) × BehindSet behind key
+    × Each (IsAction key.player) inner set.actions
+
+-- behind these actions of a set of chance another label; its probability is next
+abbrev pub ToProbability : List Token → ℕ → InformationSet → Type 0
+ToProbability front number set = (actions : List Token) × (label : List ℕ)
+    × (front ≡ actions ++ Text label ∷ []) × InActions actions (set_of 0 number) set
+
+-- all that stands before the number of the outcome
+abbrev pub ToOutcome : List Token → Option (Use SetKey InformationSet) → Type 0
+ToOutcome front set = (letter : List ℕ) × (name : List ℕ) × (step : List Token)
+    × (front ≡ Bare letter ∷ Text name ∷ step) × IsStep letter step set
+
+-- the number of an outcome too, other than 0; its name is next, or what follows the node
+abbrev pub BehindOutcome : List Token → ℕ → Type 0
+BehindOutcome front number =
+    (to_outcome : List Token) × (set : Option (Use SetKey InformationSet)) × (bytes : List ℕ)
+    × (front ≡ to_outcome ++ Bare bytes ∷ []) × ToOutcome to_outcome set × IsPositive bytes number
+
+-- the outcome's name too and, in braces, these payoffs; a payoff is next, or the closing brace
+abbrev pub InPayoffs : List Token → ℕ → Outcome → Type 0
+InPayoffs front number outcome = (behind : List Token) × (inner : List Token)
+    × (front ≡ behind ++ Text outcome.name ∷ Opening ∷ inner) × BehindOutcome behind number
+    × Each IsPayoffInBraces inner outcome.payoffs
+
+-- ---- what is known
+
+-- a whole description of the set stands in these nodes
+abbrev pub KnowsSet : List FileNode → SetKey → InformationSet → Type 0
+KnowsSet nodes key set = Describes (filter_map (λ n. n.set) nodes) key set
+
+-- none does
+abbrev pub IsNewSet : List FileNode → SetKey → Type 0
+IsNewSet nodes key = (set : InformationSet) → ¬ (KnowsSet nodes key set)
+
+abbrev pub KnowsOutcome : List FileNode → ℕ → Outcome → Type 0
+KnowsOutcome nodes number outcome = Describes (filter_map (λ n. n.outcome) nodes) number outcome
+
+abbrev pub IsNewOutcome : List FileNode → ℕ → Type 0
+IsNewOutcome nodes number = (outcome : Outcome) → ¬ (KnowsOutcome nodes number outcome)
+
+-- the node describes its set, or these nodes do; a terminal node has none
+abbrev pub IsSetKnown : List FileNode → Option (Use SetKey InformationSet) → Type 0
+IsSetKnown nodes set = MatchOption set (Unit {0}) (λ u.
+    ((d : InformationSet) × (u.description ≡ Some d)) ⊎ ((d : InformationSet) × KnowsSet nodes u.key d))
