@@ -6,3 +6,4 @@ pub mod Grammar
 pub mod Places
 pub mod SpelledNumbers
 pub mod SpelledTokens
+pub mod Starts

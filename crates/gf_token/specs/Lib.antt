@@ -9,6 +9,7 @@ pub mod Label
 pub mod Cursor
 pub mod Lexing
 pub mod Finding
+pub mod Next
 pub mod NumberWhy
 pub mod Place
 pub mod Reason
