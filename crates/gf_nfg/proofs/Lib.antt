@@ -12,6 +12,11 @@ pub mod BackTables
 pub mod BackWorked
 pub mod DueRows
 pub mod DueTable
+pub mod LimitCounts
+pub mod LimitProducts
+pub mod LimitTokens
+pub mod LimitWalks
+pub mod LimitWorked
 pub mod MeaningLists
 pub mod MeaningTables
 pub mod NumbersInTurn

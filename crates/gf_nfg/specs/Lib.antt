@@ -1,6 +1,7 @@
 pub mod Due
 pub mod Judgement
 pub mod Limit
+pub mod LimitByCounts
 pub mod LimitPlace
 pub mod Machine
 pub mod Meaning

@@ -1,6 +1,6 @@
 //! Laws of the definitions, each as the contract of a function that does nothing.
 
-ghost use Rattle.std.specs.Prelude.{◌≡◌, ◌↔◌, ◌⊎◌, List, ℕ, map};
+ghost use Rattle.std.specs.Prelude.{◌≡◌, ◌↔◌, ◌⊎◌, List, ℕ, codes, map};
 ghost use Rattle.std.specs.List.{Contains};
 ghost use Rattle.gf_token.specs.Token.{Token};
 ghost use Rattle.gf_token.specs.Code.{code_of};
@@ -12,7 +12,8 @@ ghost use Rattle.gf_nfg.specs.Profiles.{numbers_from, product, profiles};
 ghost use Rattle.gf_nfg.specs.ProfilePlaces.{IsProfile, place};
 ghost use Rattle.gf_nfg.specs.SameTable.{SamePlay, SameTable};
 ghost use Rattle.gf_nfg.specs.TableText.{table_text, SpellsTable};
-ghost use Rattle.gf_nfg.specs.LimitPlace.{IsWithinLimit};
+ghost use Rattle.gf_nfg.specs.LimitPlace.{IsLimitPlace, IsWithinLimit};
+ghost use Rattle.gf_nfg.specs.LimitByCounts.{PassesLimitAt};
 ghost use Rattle.gf_nfg.specs.Judgement.{IsRefused};
 ghost use Rattle.gf_nfg.specs.WorkedTables.{no_players, no_players_text, selten, selten_by_counts, selten_by_outcomes, selten_text};
 
@@ -28,6 +29,17 @@ pub fn read_or_refused()
     ensures one_of_both { (bytes : List ℕ) → ((t : Table) × SpellsTable bytes t × IsWithinLimit t) ⊎ ((why : Why) × (span : Span) × IsRefused why bytes span) }
     ensures not_both { (bytes : List ℕ) (t : Table) (why : Why) (span : Span) → SpellsTable bytes t → IsWithinLimit t → ¬ (IsRefused why bytes span) }
     ensures once { (bytes : List ℕ) (why other : Why) (span place : Span) → IsRefused why bytes span → IsRefused other bytes place → (span ≡ place) × (code_of why ≡ code_of other) }
+{}
+
+/// The limit place is where the product of the players' counts passes the limit. Counts of 1,024
+/// and 1,025 pass it at the second, and twice 1,024 nowhere.
+pub fn limit_by_counts()
+    ensures of_files { (bytes : List ℕ) (span : Span)
+        → IsLimitPlace bytes span ↔ PassesLimitAt bytes span }
+    ensures at_second { PassesLimitAt (codes "NFG 1 R \"b\" { \"A\" \"B\" } { 1024 1025 }")
+        (record { start = 31; end = 35 }) }
+    ensures nowhere { (span : Span)
+        → ¬ (PassesLimitAt (codes "NFG 1 R \"b\" { \"A\" \"B\" } { 1024 1024 }") span) }
 {}
 
 /// Files mean the tables with labels that can be spelled and with fractions as payoffs, all of them and no others.
