@@ -22,7 +22,7 @@ use Rattle.gf_tree.proofs.TreesOnce.{same_set_equality}
 use Rattle.gf_tree.proofs.Games.{map_entry, flatten_map}
 use Rattle.gf_tree.proofs.Learning.{learned_once}
 use Rattle.gf_canon.specs.FirstDescribed.{use_behind, node_behind, entries_behind, file_entries}
-use Rattle.gf_canon.proofs.Lookups.{entry_at}
+use Rattle.gf_tree.proofs.Lookups.{entry_at}
 
 -- ---- uses
 
@@ -178,10 +178,7 @@ file_of g game =
     let outcomes = learned nat_eq Decides-eqb (used_outcomes g.tree) g.outcomes game.one_entry_each_outcome in (
       f,
       record {
-        title = refl;
-        comment = refl;
-        players = refl;
-        tree = flatten_once (map_tree keys_alone tree.0) g.tree (flatten_map keys_alone tree.0 ∙ ap (map (map_entry keys_alone)) tree.1 ∙ entries_keys g [] (flatten g.tree));
+        kept = record { title = refl; comment = refl; players = refl; tree = flatten_once (map_tree keys_alone tree.0) g.tree (flatten_map keys_alone tree.0 ∙ ap (map (map_entry keys_alone)) tree.1 ∙ entries_keys g [] (flatten g.tree)) };
         sets = subst (λ us. Learns same_set [] us g.sets) (sym (ap set_uses tree.1 ∙ set_uses_are g [] (flatten g.tree))) sets;
         outcomes = subst (λ us. Learns nat_eq [] us g.outcomes) (sym (ap outcome_uses tree.1 ∙ outcome_uses_are g [] (flatten g.tree))) outcomes;
         each_set = game.each_set;

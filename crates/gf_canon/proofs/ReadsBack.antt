@@ -25,9 +25,9 @@ use Rattle.gf_tree.proofs.WrittenNodes.{node_tokens, IsSetUse, IsOutcomeUse, IsW
 use Rattle.gf_tree.proofs.LearnedGames.{game_learned_once}
 use Rattle.gf_canon.specs.FirstDescribed.{use_behind, node_behind, entries_behind, file_entries, file_nodes}
 use Rattle.gf_canon.specs.GameText.{node_text, game_text}
-use Rattle.gf_canon.proofs.Members.{map_twice}
-use Rattle.gf_canon.proofs.Trees.{held}
-use Rattle.gf_canon.proofs.Carried.{in_keys}
+use Rattle.gf_tree.proofs.Members.{map_twice}
+use Rattle.gf_tree.proofs.MappedTrees.{held}
+use Rattle.gf_tree.proofs.Carried.{in_keys}
 use Rattle.gf_canon.proofs.FileOf.{file_of}
 use Rattle.gf_canon.proofs.Pieces.{Piece, texts, tokens_of, AllSaid, label, bare, listed, said_list, said_node}
 
@@ -157,4 +157,4 @@ text_reads_back g game can =
     let file = file_of g game in
     let f = file.0 in
     let means = (game_learned_once f g).0 file.1 in
-    (told.0, told.1, subst (λ ts. (f : FileTree) × Sentence ts f × IsConsistent f × IsGameOf f g) (sym told.2) (f, is_sentence g game can f (sym file.1.title) (sym file.1.comment) (sym file.1.players) file.2, means.0, means.1))
+    (told.0, told.1, subst (λ ts. (f : FileTree) × Sentence ts f × IsConsistent f × IsGameOf f g) (sym told.2) (f, is_sentence g game can f (sym file.1.kept.title) (sym file.1.kept.comment) (sym file.1.kept.players) file.2, means.0, means.1))

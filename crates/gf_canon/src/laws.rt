@@ -1,14 +1,15 @@
 //! Laws of the definitions, each as the contract of a function that does nothing.
 
-ghost use Rattle.std.specs.Prelude.{◌≡◌, ◌↔◌, List, ℕ, length, map};
+ghost use Rattle.std.specs.Prelude.{◌≡◌, ◌↔◌, Bool, Decides, List, ℕ, length, map};
 ghost use Rattle.gf_nfg.specs.Profiles.{positions};
+ghost use Rattle.gf_tree.specs.FiniteMap.{first_uses};
 ghost use Rattle.gf_tree.specs.Game.{Game, IsGame};
 ghost use Rattle.gf_tree.specs.GameOf.{SpellsGame};
 ghost use Rattle.gf_tree.specs.Spellable.{IsSpellable};
 ghost use Rattle.gf_tree.specs.WorkedTrees.{bonus, five};
-ghost use Rattle.gf_canon.specs.Renumbering.{HasOutcome, HasSet, IsRenumbering, Renumbering, renumbered};
+ghost use Rattle.gf_tree.specs.Renumbering.{HasOutcome, HasSet, IsRenumbering, Renumbering, renumbered};
 ghost use Rattle.gf_canon.specs.SameGame.{Carries, SameGame};
-ghost use Rattle.gf_canon.specs.FirstUse.{first_use_numbers, game_outcomes, player_sets};
+ghost use Rattle.gf_tree.specs.FirstUse.{first_use_number, first_use_numbers, outcome_keys, player_keys};
 ghost use Rattle.gf_canon.specs.CanonicalGame.{canonical_game};
 ghost use Rattle.gf_canon.specs.GameFile.{GameFile, IsGameFile, SameFile, SpellsFile, canonical_file, canonical_text};
 ghost use Rattle.gf_canon.specs.GameFile.GameFile.{extensive};
@@ -40,10 +41,16 @@ pub fn first_use_numbers_stay()
     ensures outcomes { (r : Renumbering) (g h : Game) → Carries r g h → (number : ℕ) → HasOutcome g number → (first_use_numbers h).outcome (r.outcome number) ≡ (first_use_numbers g).outcome number }
 {}
 
-/// A player's sets in order of first use have the first-use numbers 1, 2 and so on, and so have the outcomes.
-pub fn numbered_in_order()
-    ensures sets { (g : Game) (player : ℕ) → map (λ key. (first_use_numbers g).set player key.number) (player_sets g player) ≡ positions (length (player_sets g player)) }
-    ensures outcomes { (g : Game) → map (first_use_numbers g).outcome (game_outcomes g) ≡ positions (length (game_outcomes g)) }
+/// Keys in order of first use have the first-use numbers 1, 2 and so on; so have a player's sets in a game, and its
+/// outcomes.
+pub fn numbered_in_order<K>()
+    ensures keys { (same : K → K → Bool) → ((a b : K) → Decides (same a b) (a ≡ b)) → (uses : List K)
+        → map (first_use_number same uses) (first_uses same uses) ≡ positions (length (first_uses same uses)) }
+    ensures sets { (g : Game) (player : ℕ) → IsGame g
+        → map (λ key. (first_use_numbers g).set player key.number) (player_keys g player)
+        ≡ positions (length (player_keys g player)) }
+    ensures outcomes { (g : Game) → IsGame g
+        → map (first_use_numbers g).outcome (outcome_keys g) ≡ positions (length (outcome_keys g)) }
 {}
 
 /// The canonical game is a game, the first-use numbers carry the game to it, and it is its own canonical game.

@@ -10,7 +10,7 @@ use Rattle.gf_fraction.specs.Fits.{SumFits}
 use Rattle.gf_fraction.specs.Computed.{lowest_of, gcd_within, sum_of}
 use Rattle.gf_fraction.proofs.Computes.{lowest_of-fraction, sum_is_computed}
 use Rattle.gf_fraction.proofs.WholeNumbers.{whole_fraction, part_fraction}
-use Rattle.gf_form.specs.Rational.{IsEqual}
+use Rattle.gf_fraction.specs.Rational.{IsEqual}
 use Rattle.gf_form.specs.Strategies.{choices_by, strategies_at}
 use Rattle.gf_form.specs.Plays.{plays}
 use Rattle.gf_form.specs.Payoff.{payoff}

@@ -1,7 +1,6 @@
 pub mod BottomUp
 pub mod Payoff
 pub mod Plays
-pub mod Rational
 pub mod Reduced
 pub mod StrategicForm
 pub mod Strategies

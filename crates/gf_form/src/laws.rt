@@ -7,11 +7,12 @@ ghost use Rattle.gf_nfg.specs.Profiles.{product};
 ghost use Rattle.gf_nfg.specs.Table.{IsTable, Table};
 ghost use Rattle.gf_tree.specs.Description.{SetKey};
 ghost use Rattle.gf_tree.specs.Game.{Game, IsGame};
+ghost use Rattle.gf_tree.specs.FirstUse.{player_keys};
 ghost use Rattle.gf_tree.specs.Spellable.{IsSpellable};
 ghost use Rattle.gf_tree.specs.WorkedTrees.{bonus, forgetful};
 ghost use Rattle.gf_canon.specs.SameGame.{SameGame};
-ghost use Rattle.gf_form.specs.Rational.{IsEqual, one_ratio, total};
-ghost use Rattle.gf_form.specs.Strategies.{action_counts, choice_at, choices_by, keys_of, players_of, strategies, strategies_at, strategy_label};
+ghost use Rattle.gf_fraction.specs.Rational.{IsEqual, one_ratio, total};
+ghost use Rattle.gf_form.specs.Strategies.{action_counts, choice_at, choices_by, players_of, strategies, strategies_at, strategy_label};
 ghost use Rattle.gf_form.specs.Plays.{follows, plays, HasActions, PartAtChance, Play};
 ghost use Rattle.gf_form.specs.Payoff.{payoff, play_probability};
 ghost use Rattle.gf_form.specs.BottomUp.{IsValue};
@@ -96,7 +97,7 @@ pub fn reduced_strategies_agree()
         → Contains (strategies g player) s → Contains (strategies g player) t
         → (reduced g player s ≡ reduced g player t)
         ↔ ((play : Play) → Contains (plays g.tree) play
-        → agrees (choice_at (keys_of g player) s) player play ≡ agrees (choice_at (keys_of g player) t) player play) }
+        → agrees (choice_at (player_keys g player) s) player play ≡ agrees (choice_at (player_keys g player) t) player play) }
 {}
 
 /// Full profiles that reduce to one have the same payoffs.

@@ -10,3 +10,4 @@ pub mod Cursor
 pub mod Lexing
 pub mod Finding
 pub mod NumberWhy
+pub mod Positions

@@ -2,11 +2,13 @@ pub mod Consistent
 pub mod Description
 pub mod FileTree
 pub mod FiniteMap
+pub mod FirstUse
 pub mod Game
 pub mod GameOf
 pub mod Grown
 pub mod Learned
 pub mod PrefixOrder
+pub mod Renumbering
 pub mod Sentence
 pub mod Spellable
 pub mod Tree

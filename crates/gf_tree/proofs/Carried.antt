@@ -4,9 +4,9 @@ use Rattle.std.specs.Prelude.{◌⊎◌, unwrap_or}
 use Rattle.std.specs.List.{find}
 use Rattle.std.proofs.lemmas.Bool.{cases_Bool, both_ways}
 use Rattle.gf_tree.specs.FiniteMap.{Described, description_at, first_uses}
-use Rattle.gf_canon.proofs.Members.{map_same, map_twice}
-use Rattle.gf_canon.proofs.FirstUses.{same_tests, AreApart, first_uses_of_map}
-use Rattle.gf_canon.proofs.Lookups.{keys, at_images, lookup_image, same_map}
+use Rattle.gf_tree.proofs.Members.{map_same, map_twice}
+use Rattle.gf_tree.proofs.FirstUseNumbers.{same_tests, AreApart, first_uses_of_map}
+use Rattle.gf_tree.proofs.Lookups.{keys, at_images, lookup_image, same_map}
 use Rattle.gf_tree.proofs.FirstUses.{was_used, is_used, first_uses_distinct, AreDistinct}
 use Rattle.gf_tree.proofs.Uses.{Has, has_map, mapped_from, IsEquality}
 

@@ -6,10 +6,10 @@ use Rattle.gf_tree.specs.Tree.{Tree, map_tree}
 use Rattle.gf_tree.specs.PrefixOrder.{Entry, flatten}
 use Rattle.gf_tree.specs.Description.{SetKey, same_set, set_of}
 use Rattle.gf_tree.specs.Game.{Node, Game, IsGame, used_sets, used_outcomes}
-use Rattle.gf_canon.specs.Renumbering.{Renumbering, IsRenumbering, HasSet, renumbered_set, renumbered_node, renumbered}
-use Rattle.gf_canon.proofs.FirstUses.{AreApart}
-use Rattle.gf_canon.proofs.Carried.{of_keys, in_keys, at_images_twice, at_images_same}
-use Rattle.gf_canon.proofs.Trees.{map_tree_same, map_tree_twice, map_tree_itself, held, held_map}
+use Rattle.gf_tree.specs.Renumbering.{Renumbering, IsRenumbering, HasSet, renumbered_set, renumbered_node, renumbered}
+use Rattle.gf_tree.proofs.FirstUseNumbers.{AreApart}
+use Rattle.gf_tree.proofs.Carried.{of_keys, in_keys, at_images_twice, at_images_same}
+use Rattle.gf_tree.proofs.MappedTrees.{map_tree_same, map_tree_twice, map_tree_itself, held, held_map}
 use Rattle.gf_tree.proofs.Games.{flatten_map}
 use Rattle.gf_tree.proofs.TreesOnce.{same_set_equality}
 use Rattle.gf_tree.proofs.Uses.{Has, has, contains, mapped_from, each}

@@ -1,14 +1,13 @@
 -- Keys in order of first use, and their numbers.
-use Rattle.std.proofs.Common.{◌≡◌, suc, ◌+◌, ◌<◌, ◌≤◌, Bool, true, false, not, cond, List, [], ◌∷◌, ◌++◌, length, map, get_or, refl, sym, ap, subst, ◌∙◌, arith, inl, inr, append_assoc, length-append}
+use Rattle.std.proofs.Common.{◌≡◌, suc, ◌+◌, ◌<◌, ◌≤◌, Bool, true, false, not, cond, List, [], ◌∷◌, ◌++◌, length, map, get_or, refl, sym, ap, subst, ◌∙◌, arith, inl, inr, length-append}
 use Rattle.std.specs.Prelude.{◌⊎◌}
 use Rattle.std.specs.List.{filter}
 use Rattle.std.proofs.lemmas.Bool.Decides.{same_from_decides}
 use Rattle.std.proofs.lemmas.Bool.{cases_Bool, both_ways, not_from_false}
 use Rattle.std.proofs.lemmas.List.{length-map, get_or_at}
-use Rattle.gf_nfg.specs.Profiles.{numbers_from}
 use Rattle.gf_tree.specs.FiniteMap.{first_uses}
-use Rattle.gf_canon.specs.FirstUse.{through_first_use, first_use_number}
-use Rattle.gf_canon.proofs.Members.{filter_of_map, filter_last}
+use Rattle.gf_tree.specs.FirstUse.{through_first_use, first_use_number}
+use Rattle.gf_tree.proofs.Members.{filter_of_map, filter_last}
 use Rattle.gf_tree.proofs.FirstUses.{was_used, first_uses_distinct, AreDistinct}
 use Rattle.gf_tree.proofs.Uses.{Has, IsEquality, has_place}
 
@@ -111,7 +110,7 @@ number_at_most same tells ks key i =
     let all = ap length p.all in
     omega (arith, n, all, length-append p.before (key ∷ p.after))
 
--- ---- one after another
+-- ---- the number at a place
 
 -- where the keys are distinct, one stands in one place
 one_place : {K : Type 0} (before before' after after' : List K) (key : K) → AreDistinct (before ++ key ∷ after) → before ++ key ∷ after ≡ before' ++ key ∷ after' → length before ≡ length before'
@@ -123,18 +122,8 @@ one_place [] (y ∷ before') after after' key h e =
 one_place (x ∷ before) [] after after' key h e = let first : x ≡ key = cc in absurd (h.0 (subst (Has (before ++ key ∷ after)) (sym first) (has_place before after key)))
 one_place (x ∷ before) (y ∷ before') after after' key h e = let rest : before ++ key ∷ after ≡ before' ++ key ∷ after' = cc in ap suc (one_place before before' after after' key h.1 rest)
 
-number_at : {K : Type 0} (same : K → K → Bool) → IsEquality same → (ks before after : List K) (key : K) → first_uses same ks ≡ before ++ key ∷ after → first_use_number same ks key ≡ length before + 1
+pub number_at : {K : Type 0} (same : K → K → Bool) → IsEquality same → (ks before after : List K) (key : K) → first_uses same ks ≡ before ++ key ∷ after → first_use_number same ks key ≡ length before + 1
 number_at same tells ks before after key e =
     let p = place same tells ks key (was_used same ks key (subst (λ xs. Has xs key) (sym e) (has_place before after key))) in
     let size = one_place p.before before p.after after key (subst AreDistinct p.all (first_uses_distinct same tells ks)) (sym p.all ∙ e) in
     number_is same ks key p ∙ ap (λ n. n + 1) size
-
-numbers_on : {K : Type 0} (same : K → K → Bool) → IsEquality same → (ks before after : List K) → first_uses same ks ≡ before ++ after → map (first_use_number same ks) after ≡ numbers_from (length before + 1) (length after)
-numbers_on same tells ks before [] e = refl
-numbers_on same tells ks before (key ∷ after) e =
-    let rest = numbers_on same tells ks (before ++ key ∷ []) after (e ∙ sym (append_assoc before (key ∷ []) after)) in
-    let size : length (before ++ key ∷ []) + 1 ≡ length before + 1 + 1 = omega (arith, length-append before (key ∷ [])) in
-    λ i. number_at same tells ks before after key e i ∷ (rest ∙ ap (λ n. numbers_from n (length after)) size) i
-
-pub numbered_in_order : {K : Type 0} (same : K → K → Bool) → IsEquality same → (ks : List K) → map (first_use_number same ks) (first_uses same ks) ≡ numbers_from 1 (length (first_uses same ks))
-numbered_in_order same tells ks = numbers_on same tells ks [] (first_uses same ks) refl

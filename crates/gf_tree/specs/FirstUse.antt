@@ -1,10 +1,10 @@
 -- Numbers in order of first use, in prefix order.
-use Rattle.std.specs.Prelude.{ℕ, nat_eq, ◌==◌, Bool, List, [], ◌∷◌, length, if◌then◌else◌}
+use Rattle.std.specs.Prelude.{ℕ, nat_eq, ◌==◌, Bool, List, [], ◌∷◌, length, map, if◌then◌else◌}
 use Rattle.std.specs.List.{filter}
-use Rattle.gf_tree.specs.Description.{SetKey, same_set, set_of}
-use Rattle.gf_tree.specs.FiniteMap.{first_uses}
+use Rattle.gf_tree.specs.Description.{SetKey, InformationSet, same_set, set_of}
+use Rattle.gf_tree.specs.FiniteMap.{Described, first_uses}
 use Rattle.gf_tree.specs.Game.{Game, used_sets, used_outcomes}
-use Rattle.gf_canon.specs.Renumbering.{Renumbering}
+use Rattle.gf_tree.specs.Renumbering.{Renumbering}
 
 -- the uses through the first one of this key
 abbrev pub through_first_use : {K : Type 0} → (K → K → Bool) → K → List K → List K
@@ -26,9 +26,13 @@ first_use_numbers g = record {
   outcome = λ number. first_use_number nat_eq (used_outcomes g.tree) number;
 }
 
--- a player's sets in order of first use, and the outcomes
-abbrev pub player_sets : Game → ℕ → List SetKey
-player_sets g player = first_uses same_set (sets_of player (used_sets g.tree))
+-- a player's sets in order of first use, as the game has them, and their keys
+abbrev pub player_sets : Game → ℕ → List (Described SetKey InformationSet)
+player_sets g player = filter (λ s. s.key.player == player) g.sets
 
-abbrev pub game_outcomes : Game → List ℕ
-game_outcomes g = first_uses nat_eq (used_outcomes g.tree)
+abbrev pub player_keys : Game → ℕ → List SetKey
+player_keys g player = map (λ s. s.key) (player_sets g player)
+
+-- the numbers of the outcomes, in order of first use
+abbrev pub outcome_keys : Game → List ℕ
+outcome_keys g = map (λ o. o.key) g.outcomes

@@ -26,3 +26,20 @@ filter_of_map p q f (x ∷ xs) h = rw (h x (inl refl), filter_of_map p q f xs (�
 -- the filter of these and of one that passes
 pub filter_last : {X : Type 0} (p : X → Bool) (xs : List X) (y : X) (ys : List X) → p y ≡ true → filter p (xs ++ y ∷ ys) ≡ filter p xs ++ y ∷ filter p ys
 filter_last p xs y ys e = rw (filter-append, e) refl
+
+-- one filter and another, in any order
+pub filter_swap : {X : Type 0} (p q : X → Bool) (xs : List X) → filter p (filter q xs) ≡ filter q (filter p xs)
+filter_swap p q [] = refl
+filter_swap p q (x ∷ xs) = by_tests (p x) (q x) refl refl (filter_swap p q xs)
+  where
+    by_tests : (a b : Bool) → p x ≡ a → q x ≡ b → filter p (filter q xs) ≡ filter q (filter p xs)
+        → filter p (cond b (x ∷ filter q xs) (filter q xs)) ≡ filter q (cond a (x ∷ filter p xs) (filter p xs))
+    by_tests true true e f h = rw (e, f) (ap (λ ys. x ∷ ys) h)
+    by_tests true false e f h = rw f h
+    by_tests false true e f h = rw e h
+    by_tests false false e f h = h
+
+-- a filter that all of them pass
+pub filter_all : {X : Type 0} (p : X → Bool) (xs : List X) → ((x : X) → Has xs x → p x ≡ true) → filter p xs ≡ xs
+filter_all p [] h = refl
+filter_all p (x ∷ xs) h = rw (h x (inl refl)) (ap (λ ys. x ∷ ys) (filter_all p xs (λ y i. h y (inr i))))

@@ -1,11 +1,30 @@
 -- Laws of rationals of any size, up to equality by cross multiplication.
-use Rattle.std.proofs.Common.{◌≡◌, ℕ, ℤ, pos, ◌*◌, ◌<◌, refl, ap, sym, ◌∙◌, subst, arith}
+use Rattle.std.proofs.Common.{◌≡◌, ℕ, ℤ, pos, ◌*◌, ◌<◌, refl, ap, sym, ◌∙◌, subst, arith, List, [], ◌∷◌, map}
 use Rattle.std.specs.Prelude.{◌+ℤ◌, ◌*ℤ◌}
 use Rattle.std.proofs.Math.IntN.{*ℤ_comm, *ℤ-zero, +ℤ_comm, +ℤ_assoc, +ℤ_idl}
 use Rattle.gf_fraction.specs.Ratio.{Ratio}
 use Rattle.gf_fraction.proofs.Integers.{*ℤ_assoc, *ℤ_right_comm, add-*ℤ, *ℤ-one, *ℤ-cancel_right}
 use Rattle.gf_fraction.proofs.Products.{mul_above}
-use Rattle.gf_form.specs.Rational.{IsEqual, zero_ratio, one_ratio, plus, times}
+use Rattle.gf_fraction.specs.Rational.{IsEqual, zero_ratio, one_ratio, plus, times, total, ratio_product}
+
+-- ---- denominators above zero
+
+abbrev pub IsAbove : Ratio → Type 0
+IsAbove r = 0 < r.den
+
+pub plus_above : (x y : Ratio) → IsAbove x → IsAbove y → IsAbove (plus x y)
+plus_above x y hx hy = mul_above x.den y.den hx hy
+
+pub times_above : (x y : Ratio) → IsAbove x → IsAbove y → IsAbove (times x y)
+times_above x y hx hy = mul_above x.den y.den hx hy
+
+pub total_above : {A : Type 0} (f : A → Ratio) → ((x : A) → IsAbove (f x)) → (xs : List A) → IsAbove (total (map f xs))
+total_above f above [] = omega arith
+total_above f above (x ∷ xs) = plus_above (f x) (total (map f xs)) (above x) (total_above f above xs)
+
+pub ratio_product_above : {A : Type 0} (f : A → Ratio) → ((x : A) → IsAbove (f x)) → (xs : List A) → IsAbove (ratio_product (map f xs))
+ratio_product_above f above [] = omega arith
+ratio_product_above f above (x ∷ xs) = times_above (f x) (ratio_product (map f xs)) (above x) (ratio_product_above f above xs)
 
 -- ---- integers times numbers
 

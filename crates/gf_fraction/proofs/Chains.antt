@@ -1,8 +1,7 @@
 -- Equations of rationals, one after another, and what they are put together from.
 use Rattle.gf_fraction.specs.Ratio.{Ratio}
-use Rattle.gf_form.specs.Rational.{IsEqual, plus, times}
-use Rattle.gf_form.proofs.Denominators.{IsAbove, plus_above}
-use Rattle.gf_form.proofs.Rationals.{equal_refl, equal_sym, equal_trans, plus_both, times_both, plus_comm, plus_assoc}
+use Rattle.gf_fraction.specs.Rational.{IsEqual, plus, times}
+use Rattle.gf_fraction.proofs.Rationals.{equal_refl, equal_sym, equal_trans, plus_both, times_both, plus_comm, plus_assoc, IsAbove, plus_above}
 
 pub ◌then◌ : {x y z : Ratio} → IsEqual x y → IsEqual y z → IsEqual x z
 ◌then◌ {x} {y} {z} h k = equal_trans x y z h k

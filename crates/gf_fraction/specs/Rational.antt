@@ -26,6 +26,6 @@ total [] = zero_ratio
 total (x ∷ xs) = plus x (total xs)
 
 -- the product of these
-abbrev pub product : List Ratio → Ratio
-product [] = one_ratio
-product (x ∷ xs) = times x (product xs)
+abbrev pub ratio_product : List Ratio → Ratio
+ratio_product [] = one_ratio
+ratio_product (x ∷ xs) = times x (ratio_product xs)
