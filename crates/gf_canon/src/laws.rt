@@ -5,12 +5,15 @@ ghost use Rattle.gf_nfg.specs.Profiles.{positions};
 ghost use Rattle.gf_tree.specs.FiniteMap.{first_uses};
 ghost use Rattle.gf_tree.specs.Game.{Game, IsGame};
 ghost use Rattle.gf_tree.specs.GameOf.{SpellsGame};
+ghost use Rattle.gf_tree.specs.PrefixOrder.{flatten};
 ghost use Rattle.gf_tree.specs.Spellable.{IsSpellable};
 ghost use Rattle.gf_tree.specs.WorkedTrees.{bonus, five};
 ghost use Rattle.gf_tree.specs.Renumbering.{HasOutcome, HasSet, IsRenumbering, Renumbering, renumbered};
 ghost use Rattle.gf_canon.specs.SameGame.{Carries, SameGame};
+ghost use Rattle.gf_tree.specs.FileTree.{FileTree};
 ghost use Rattle.gf_tree.specs.FirstUse.{first_use_number, first_use_numbers, outcome_keys, player_keys};
 ghost use Rattle.gf_canon.specs.CanonicalGame.{canonical_game};
+ghost use Rattle.gf_canon.specs.FirstDescribed.{IsFileOf, file_nodes};
 ghost use Rattle.gf_canon.specs.GameFile.{GameFile, IsGameFile, SameFile, SpellsFile, canonical_file, canonical_text};
 ghost use Rattle.gf_canon.specs.GameFile.GameFile.{extensive};
 ghost use Rattle.gf_canon.specs.GameText.{game_text};
@@ -65,6 +68,12 @@ pub fn canonical_game_is_same()
 pub fn same_by_canonical_game()
     ensures games { (g h : Game) → IsGame g → IsGame h → SameGame g h ↔ (canonical_game g ≡ canonical_game h) }
     ensures files { (a b : GameFile) → IsGameFile a → IsGameFile b → SameFile a b ↔ (canonical_file a ≡ canonical_file b) }
+{}
+
+/// Every game has a file tree in which exactly the first uses are described, whose nodes are those of the game's text.
+pub fn file_of_each_game()
+    ensures { (g : Game) → IsGame g
+        → (f : FileTree) × IsFileOf g f × (map (λ e. e.node) (flatten f.tree) ≡ file_nodes g) }
 {}
 
 /// The text of a game is an extensive file that means this game, so that two games have two texts; and a file that can

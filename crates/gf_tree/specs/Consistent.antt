@@ -13,9 +13,14 @@ Describes uses key description = Contains uses (record { key = key; description 
 abbrev pub IsFirstUse : {K D : Type 0} → List (Use K D) → Use K D → Type 0
 IsFirstUse before u = AllByRecursion (λ v. ¬ (v.key ≡ u.key)) before
 
+-- a use with a description
+abbrev pub IsDescribed : {K D : Type 0} → Use K D → Type 0
+IsDescribed {K} {D} u = (d : D) × (u.description ≡ Some d)
+
 -- the first use of a key describes it, and any two descriptions of one key are equal
 pub record AreConsistent {K D : Type 0} (uses : List (Use K D)) : Type 0 where
-  pub first_described : (before after : List (Use K D)) (u : Use K D) → uses ≡ before ++ u ∷ after → IsFirstUse before u → (d : D) × (u.description ≡ Some d)
+  pub first_described : (before after : List (Use K D)) (u : Use K D) → uses ≡ before ++ u ∷ after
+      → IsFirstUse before u → IsDescribed u
   pub described_alike : (key : K) (c d : D) → Describes uses key c → Describes uses key d → c ≡ d
 
 -- a terminal node has no children, and another as many as its set has actions
