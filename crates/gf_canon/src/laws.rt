@@ -10,12 +10,14 @@ ghost use Rattle.gf_tree.specs.Spellable.{IsSpellable};
 ghost use Rattle.gf_tree.specs.WorkedTrees.{bonus, five};
 ghost use Rattle.gf_tree.specs.Renumbering.{HasOutcome, HasSet, IsRenumbering, Renumbering, renumbered};
 ghost use Rattle.gf_canon.specs.SameGame.{Carries, SameGame};
+ghost use Rattle.gf_nfg.specs.SameTable.{SamePlay};
+ghost use Rattle.gf_nfg.specs.Table.{Table};
 ghost use Rattle.gf_tree.specs.FileTree.{FileTree};
 ghost use Rattle.gf_tree.specs.FirstUse.{first_use_number, first_use_numbers, outcome_keys, player_keys};
 ghost use Rattle.gf_canon.specs.CanonicalGame.{canonical_game};
 ghost use Rattle.gf_canon.specs.FirstDescribed.{IsFileOf, file_nodes};
 ghost use Rattle.gf_canon.specs.GameFile.{GameFile, IsGameFile, SameFile, SpellsFile, canonical_file, canonical_text};
-ghost use Rattle.gf_canon.specs.GameFile.GameFile.{extensive};
+ghost use Rattle.gf_canon.specs.GameFile.GameFile.{extensive, strategic};
 ghost use Rattle.gf_canon.specs.GameText.{game_text};
 ghost use Rattle.gf_canon.specs.NamesAside.{SameAsideNames, unnamed};
 ghost use Rattle.gf_canon.specs.WorkedGames.{bonus_text, five_text, lower_case_prize, no_outcome, no_players, no_players_text, numbered_five, plain_prize, renamed_prize, seen, two_prizes, unseen, zero_outcome};
@@ -98,10 +100,11 @@ pub fn equal_canonical_texts()
 {}
 
 /// Files that mean the same do so aside from names. Two files mean the same aside from names exactly if the canonical
-/// texts of what they mean without its names are equal.
+/// texts of what they mean without its names are equal; two tables are so exactly if they play alike.
 pub fn same_aside_names()
     ensures aside { (x y : GameFile) → SameFile x y → SameAsideNames x y }
     ensures equal { (a b : List ℕ) (x y : GameFile) → SpellsFile a x → SpellsFile b y → (canonical_text (unnamed x) ≡ canonical_text (unnamed y)) ↔ SameAsideNames x y }
+    ensures tables { (t u : Table) → SameAsideNames (strategic t) (strategic u) ↔ SamePlay t u }
 {}
 
 /// Worked games and their canonical texts: a set of chance met twice on a path, an outcome at an inner node, and no

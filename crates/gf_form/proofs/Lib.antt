@@ -14,6 +14,7 @@ pub mod PlaySums
 pub mod ReducedPays
 pub mod Reducing
 pub mod SameForms
+pub mod SameRefusals
 pub mod StrategyLabels
 pub mod Whole
 pub mod Worked

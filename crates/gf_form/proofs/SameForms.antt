@@ -154,6 +154,14 @@ value_on g h game game' same all player value v =
 form_on : (g h : Game) → IsGame g → IsGame h → SameGame g h → (t : Table) → IsStrategicForm g t → IsStrategicForm h t
 form_on g h game game' same t form = subst (λ k. IsStrategicForm k t) (carried_is_renumbered same.0 g h game game' same.1) (form_carried g same.0 game same.1.renumbering t form)
 
+pub same_strategies : (g h : Game) → IsGame g → IsGame h → SameGame g h → (player : ℕ) → strategies g player ≡ strategies h player
+same_strategies g h game game' same player =
+    subst (λ k. strategies g player ≡ strategies k player) (carried_is_renumbered same.0 g h game game' same.1) (sym (strategies_carried g same.0 game same.1.renumbering player))
+
+pub same_strategies_at : (g h : Game) → IsGame g → IsGame h → SameGame g h → (profile : List ℕ) → strategies_at g profile ≡ strategies_at h profile
+same_strategies_at g h game game' same profile =
+    subst (λ k. strategies_at g profile ≡ strategies_at k profile) (carried_is_renumbered same.0 g h game game' same.1) (sym (strategies_at_carried g same.0 game same.1.renumbering profile))
+
 pub same_values : (g h : Game) → IsGame g → IsGame h → SameGame g h → (all : List (List ℕ)) (player : ℕ) (value : Ratio) → IsValue g (choices_by g all) player g.tree value ↔ IsValue h (choices_by h all) player h.tree value
 same_values g h game game' same all player value = (value_on g h game game' same all player value, value_on h g game' game (same_back g h game same) all player value)
 

@@ -1,5 +1,5 @@
 -- Reduced strategies, which leave out choices that cannot matter, and the reduced form.
-use Rattle.std.specs.Prelude.{◌≡◌, ℕ, ◌==◌, ◌&&◌, ◌||◌, not, Bool, true, false, List, [], ◌∷◌, length, map, zip, codes, decimal, Option, Some, None, if◌then◌else◌}
+use Rattle.std.specs.Prelude.{◌≡◌, ℕ, ◌==◌, ◌&&◌, ◌||◌, not, Bool, true, false, List, [], ◌∷◌, map, zip, codes, decimal, Option, Some, None, if◌then◌else◌}
 use Rattle.std.specs.List.{Contains, join_with_byte, list_all, list_any}
 use Rattle.std.specs.Option.{option_map_or}
 use Rattle.std.specs.Cmp.Lexicographic.{pointwise}
@@ -11,7 +11,7 @@ use Rattle.gf_tree.specs.FiniteMap.{first_uses}
 use Rattle.gf_tree.specs.FirstUse.{player_keys}
 use Rattle.gf_tree.specs.Game.{Game}
 use Rattle.gf_form.specs.Plays.{Step, Play, plays}
-use Rattle.gf_form.specs.Strategies.{choice_at, strategies, players_of, strategies_at, strategy_at}
+use Rattle.gf_form.specs.Strategies.{choice_at, strategies, players_of, strategies_at, strategy_at, full_profiles}
 use Rattle.gf_form.specs.StrategicForm.{ArePayoffsAt, IsFormBy}
 
 -- not a move of this player, or the one that he chooses
@@ -58,10 +58,6 @@ reduced_by g profile = map (λ p. reduced g p.0 p.1) (zip (players_of g) (strate
 -- the strategies of a profile of the reduced form
 abbrev pub reduced_at : Game → List ℕ → List (List (Option ℕ))
 reduced_at g profile = map (λ p. strategy_at (reduced_strategies g p.0) p.1) (zip (players_of g) profile)
-
--- full profiles, of the strategies that are not reduced
-abbrev pub full_profiles : Game → List (List ℕ)
-full_profiles g = profiles (map (λ player. length (strategies g player)) (players_of g))
 
 -- the labels of a player's reduced strategies
 abbrev pub reduced_labels : Game → ℕ → List (List ℕ)

@@ -2,7 +2,7 @@
 use Rattle.std.specs.Prelude.{ℕ, List, [], ◌∷◌, length, map, flat_map, unwrap_or, zip, decimal, if◌then◌else◌}
 use Rattle.std.specs.List.{join_with_byte}
 use Rattle.gf_token.specs.Positions.{at_position}
-use Rattle.gf_nfg.specs.Profiles.{positions}
+use Rattle.gf_nfg.specs.Profiles.{positions, profiles}
 use Rattle.gf_tree.specs.Description.{SetKey, same_set}
 use Rattle.gf_tree.specs.FirstUse.{player_keys, player_sets}
 use Rattle.gf_tree.specs.Game.{Game}
@@ -44,3 +44,7 @@ choice_at _ _ key = 0
 -- what the owner of a set chooses at it, where these are the strategies of all players; chance has none
 abbrev pub choices_by : Game → List (List ℕ) → SetKey → ℕ
 choices_by g all key = choice_at (player_keys g key.player) (strategy_at all key.player) key
+
+-- the profiles of a game's strategies
+abbrev pub full_profiles : Game → List (List ℕ)
+full_profiles g = profiles (map (λ player. length (strategies g player)) (players_of g))
