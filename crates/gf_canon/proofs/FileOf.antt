@@ -1,8 +1,8 @@
 -- A file tree of each game: each set and each outcome is described at its first use, and not again.
-use Rattle.std.proofs.Common.{◌≡◌, ℕ, zero, suc, ◌+◌, Bool, true, false, List, [], ◌∷◌, ◌++◌, map, Option, None, Some, refl, sym, ap, subst, ◌∙◌, inl, inr, append-nil}
+use Rattle.std.proofs.Common.{◌≡◌, ℕ, zero, suc, ◌+◌, Bool, true, false, List, [], ◌∷◌, ◌++◌, map, Option, None, Some, refl, sym, ap, subst, ◌∙◌, inl, inr, append-nil, append_assoc}
 use Rattle.std.specs.Prelude.{nat_eq, option_map, if◌then◌else◌}
 use Rattle.std.specs.List.{AllByRecursion, filter_map, cons_option, list_any}
-use Rattle.std.proofs.lemmas.Bool.{cases_Bool, or_from}
+use Rattle.std.proofs.lemmas.Bool.{cases_Bool, or_from, or_parts}
 use Rattle.std.proofs.lemmas.Bool.Decides.{Decides-eqb}
 use Rattle.std.proofs.lemmas.List.Folds.{list_any-append}
 use Rattle.std.proofs.lemmas.List.Elements.{filter_map-append}
@@ -10,8 +10,8 @@ use Rattle.gf_tree.specs.Tree.{map_tree}
 use Rattle.gf_tree.specs.PrefixOrder.{Entry, flatten, Fills}
 use Rattle.gf_tree.specs.Description.{same_set}
 use Rattle.gf_tree.specs.FiniteMap.{Described, description_at, first_uses}
-use Rattle.gf_tree.specs.FileTree.{Use, FileTree, set_uses, outcome_uses}
-use Rattle.gf_tree.specs.Consistent.{Describes, AreConsistent}
+use Rattle.gf_tree.specs.FileTree.{Use, FileNode, FileTree, set_uses, outcome_uses}
+use Rattle.gf_tree.specs.Consistent.{Describes, AreConsistent, IsFirstUse}
 use Rattle.gf_tree.specs.Game.{Node, Game, IsGame, used_sets, used_outcomes, set_at, outcome_at}
 use Rattle.gf_tree.specs.GameOf.{keys_alone}
 use Rattle.gf_tree.specs.Learned.{Learns, LearnsGame}
@@ -21,8 +21,10 @@ use Rattle.gf_tree.proofs.FirstUses.{AreDistinct, found, is_used, was_used, firs
 use Rattle.gf_tree.proofs.TreesOnce.{same_set_equality}
 use Rattle.gf_tree.proofs.Games.{map_entry, flatten_map}
 use Rattle.gf_tree.proofs.Learning.{learned_once}
-use Rattle.gf_canon.specs.FirstDescribed.{use_behind, node_behind, entries_behind, file_entries}
-use Rattle.gf_canon.proofs.Lookups.{entry_at}
+use Rattle.gf_canon.specs.FirstDescribed.{with_those_before, use_behind, node_behind, file_nodes, DescribeFirstUses, IsFileOf}
+use Rattle.gf_tree.proofs.Lookups.{entry_at}
+use Rattle.gf_tree.proofs.Members.{map_same, map_twice}
+use Rattle.gf_tree.proofs.LearnedGames.{game_learned_once}
 
 -- ---- uses
 
@@ -102,7 +104,71 @@ uses_consistent same equality at keys known = record {
 pub key_described : {K D : Type 0} (same : K → K → Bool) → IsEquality same → (at : K → Option D) (keys : List K) (key : K) (d : D) → Has keys key → at key ≡ Some d → Describes (uses_behind same at [] keys) key d
 key_described same equality at keys key d h e = contains (uses_behind same at [] keys) (record { key = key; description = Some d }) (new_described same equality at [] keys key d h e refl)
 
+-- ---- exactly the first uses are described
+
+-- a use is that of its key behind the keys before it
+use_at_place : {K D : Type 0} (same : K → K → Bool) (at : K → Option D) (before keys : List K) (front after : List (Use K D)) (u : Use K D) → uses_behind same at before keys ≡ front ++ u ∷ after
+    → u ≡ use_behind same at (before ++ map (λ v. v.key) front) u.key
+use_at_place same at before [] [] after u e = absurd cc
+use_at_place same at before [] (v ∷ front) after u e = absurd cc
+use_at_place {K} {D} same at before (k ∷ keys) [] after u e =
+    let is : use_behind same at before k ≡ u = cc in
+    let key : k ≡ u.key = ap (λ (v : Use K D). v.key) is in
+    sym is ∙ (λ i. use_behind same at (sym (append-nil before) i) (key i))
+use_at_place {K} {D} same at before (k ∷ keys) (v ∷ front) after u e =
+    let is : use_behind same at before k ≡ v = cc in
+    let rest : uses_behind same at (before ++ k ∷ []) keys ≡ front ++ u ∷ after = cc in
+    let key : k ≡ v.key = ap (λ (w : Use K D). w.key) is in
+    use_at_place same at (before ++ k ∷ []) keys front after u rest
+    ∙ ap (λ ks. use_behind same at ks u.key) (append_assoc before (k ∷ []) (map (λ v. v.key) front) ∙ ap (λ l. before ++ l ∷ map (λ (w : Use K D). w.key) front) key)
+
+-- a described use is that of a new key
+new_where_described : {K D : Type 0} (same : K → K → Bool) (at : K → Option D) (before : List K) (key : K) (d : D) → (use_behind same at before key).description ≡ Some d → list_any (same key) before ≡ false
+new_where_described {K} {D} same at before key d e = go (list_any (same key) before) e
+  where
+    go : (b : Bool) → (if b then None else at key) ≡ Some d → b ≡ false
+    go true q = absurd cc
+    go false q = refl
+
+none_of_them : {K D : Type 0} (same : K → K → Bool) → IsEquality same → (front : List (Use K D)) (u : Use K D) → list_any (same u.key) (map (λ v. v.key) front) ≡ false → IsFirstUse front u
+none_of_them same equality [] u h = tt
+none_of_them same equality (v ∷ front) u h =
+    let both = or_parts (same u.key v.key) (list_any (same u.key) (map (λ w. w.key) front)) h in
+    (λ q. differ same equality u.key v.key both.0 (sym q), none_of_them same equality front u both.1)
+
+pub first_uses_described : {K D : Type 0} (same : K → K → Bool) → IsEquality same → (at : K → Option D) (keys : List K) → ((k : K) → Has keys k → (d : D) × (at k ≡ Some d)) → DescribeFirstUses (uses_behind same at [] keys)
+first_uses_described {K} {D} same equality at keys known front after u e = (
+  λ told.
+      let says : (use_behind same at (map (λ (v : Use K D). v.key) front) u.key).description ≡ Some told.0 =
+      ap (λ (v : Use K D). v.description) (sym (use_at_place same at [] keys front after u e)) ∙ told.1 in
+      none_of_them same equality front u (new_where_described same at (map (λ v. v.key) front) u.key told.0 says),
+  λ first. first_is_described same equality at keys known [] keys front after u (λ k m. m) refl e first,
+)
+
 -- ---- entries
+
+-- the entries behind those, one after another
+abbrev pub entries_behind : Game → List (Entry Node) → List (Entry Node) → List (Entry FileNode)
+entries_behind g before [] = []
+entries_behind g before (e ∷ es) = record { node = node_behind g before e.node; children = e.children } ∷ entries_behind g (before ++ e ∷ []) es
+
+abbrev pub file_entries : Game → List (Entry FileNode)
+file_entries g = entries_behind g [] (flatten g.tree)
+
+nodes_are : (g : Game) (before es : List (Entry Node))
+    → map (λ p. node_behind g (before ++ p.0) p.1.node) (with_those_before es) ≡ map (λ e. e.node) (entries_behind g before es)
+nodes_are g before [] = refl
+nodes_are g before (e ∷ es) =
+    let here : node_behind g (before ++ []) e.node ≡ node_behind g before e.node = ap (λ b. node_behind g b e.node) (append-nil before) in
+    let others =
+    map_twice (λ p. node_behind g (before ++ p.0) p.1.node) (λ p. (e ∷ p.0, p.1)) (with_those_before es)
+    ∙ map_same (λ p. node_behind g (before ++ e ∷ p.0) p.1.node) (λ p. node_behind g ((before ++ e ∷ []) ++ p.0) p.1.node) (with_those_before es)
+    (λ p i. ap (λ b. node_behind g b p.1.node) (sym (append_assoc before (e ∷ []) p.0)))
+    ∙ nodes_are g (before ++ e ∷ []) es in
+    λ i. here i ∷ others i
+
+pub file_nodes_are : (g : Game) → file_nodes g ≡ map (λ e. e.node) (file_entries g)
+file_nodes_are g = nodes_are g [] (flatten g.tree)
 
 same_keys : {K D : Type 0} (use_of : K → Use K D) → ((k : K) → (use_of k).key ≡ k) → (o : Option K) → option_map (λ u. u.key) (option_map use_of o) ≡ o
 same_keys use_of h None = refl
@@ -178,10 +244,7 @@ file_of g game =
     let outcomes = learned nat_eq Decides-eqb (used_outcomes g.tree) g.outcomes game.one_entry_each_outcome in (
       f,
       record {
-        title = refl;
-        comment = refl;
-        players = refl;
-        tree = flatten_once (map_tree keys_alone tree.0) g.tree (flatten_map keys_alone tree.0 ∙ ap (map (map_entry keys_alone)) tree.1 ∙ entries_keys g [] (flatten g.tree));
+        kept = record { title = refl; comment = refl; players = refl; tree = flatten_once (map_tree keys_alone tree.0) g.tree (flatten_map keys_alone tree.0 ∙ ap (map (map_entry keys_alone)) tree.1 ∙ entries_keys g [] (flatten g.tree)) };
         sets = subst (λ us. Learns same_set [] us g.sets) (sym (ap set_uses tree.1 ∙ set_uses_are g [] (flatten g.tree))) sets;
         outcomes = subst (λ us. Learns nat_eq [] us g.outcomes) (sym (ap outcome_uses tree.1 ∙ outcome_uses_are g [] (flatten g.tree))) outcomes;
         each_set = game.each_set;
@@ -189,4 +252,28 @@ file_of g game =
         children = game.children;
       },
       tree.1,
+    )
+
+-- what a game's map has for the keys that are used
+known_keys : {K D : Type 0} (same : K → K → Bool) → IsEquality same → (keys : List K) (es : List (Described K D)) → map (λ e. e.key) es ≡ first_uses same keys
+    → (k : K) → Has keys k → (d : D) × (description_at same es k ≡ Some d)
+known_keys same equality keys es q k h =
+    let f = found same equality es k (subst (λ ks. Has ks k) (sym q) (is_used same equality keys k h)) in (f.description, f.is_at)
+
+-- every game has a file tree that describes exactly the first uses, and its nodes are these
+pub file_of_game : (g : Game) → IsGame g → (f : FileTree) × IsFileOf g f × (map (λ e. e.node) (flatten f.tree) ≡ file_nodes g)
+file_of_game g game =
+    let file = file_of g game in
+    let f = file.0 in
+    let means = (game_learned_once f g).0 file.1 in
+    let sets = first_uses_described same_set same_set_equality (set_at g) (used_sets g.tree) (known_keys same_set same_set_equality (used_sets g.tree) g.sets game.one_entry_each_set) in
+    let outcomes = first_uses_described nat_eq Decides-eqb (outcome_at g) (used_outcomes g.tree) (known_keys nat_eq Decides-eqb (used_outcomes g.tree) g.outcomes game.one_entry_each_outcome) in (
+      f,
+      record {
+        consistent = means.0;
+        game = means.1;
+        sets = subst DescribeFirstUses (sym (ap set_uses file.2 ∙ set_uses_are g [] (flatten g.tree))) sets;
+        outcomes = subst DescribeFirstUses (sym (ap outcome_uses file.2 ∙ outcome_uses_are g [] (flatten g.tree))) outcomes;
+      },
+      ap (map (λ e. e.node)) file.2 ∙ sym (file_nodes_are g),
     )

@@ -1,16 +1,11 @@
 pub mod CanonicalGames
-pub mod Carried
 pub mod FileOf
 pub mod Files
-pub mod FirstUses
-pub mod Lookups
-pub mod Members
+pub mod NumbersInOrder
 pub mod Pieces
 pub mod ReadsBack
-pub mod Renumberings
 pub mod SameGames
 pub mod Spellables
-pub mod Trees
 pub mod Unnamed
 pub mod Worked
 pub mod WorkedPairs

@@ -23,12 +23,12 @@ use Rattle.gf_tree.proofs.FirstUses.{found}
 use Rattle.gf_tree.proofs.TreesOnce.{same_set_equality}
 use Rattle.gf_tree.proofs.WrittenNodes.{node_tokens, IsSetUse, IsOutcomeUse, IsWritable, nodes_written}
 use Rattle.gf_tree.proofs.LearnedGames.{game_learned_once}
-use Rattle.gf_canon.specs.FirstDescribed.{use_behind, node_behind, entries_behind, file_entries, file_nodes}
+use Rattle.gf_canon.specs.FirstDescribed.{use_behind, node_behind, file_nodes}
 use Rattle.gf_canon.specs.GameText.{node_text, game_text}
-use Rattle.gf_canon.proofs.Members.{map_twice}
-use Rattle.gf_canon.proofs.Trees.{held}
-use Rattle.gf_canon.proofs.Carried.{in_keys}
-use Rattle.gf_canon.proofs.FileOf.{file_of}
+use Rattle.gf_tree.proofs.Members.{map_twice}
+use Rattle.gf_tree.proofs.MappedTrees.{held}
+use Rattle.gf_tree.proofs.Carried.{in_keys}
+use Rattle.gf_canon.proofs.FileOf.{file_of, entries_behind, file_entries, file_nodes_are}
 use Rattle.gf_canon.proofs.Pieces.{Piece, texts, tokens_of, AllSaid, label, bare, listed, said_list, said_node}
 
 -- ---- each node can be written
@@ -136,7 +136,8 @@ tells_game g game can =
     let body = flat_map node_tokens (file_nodes g) in
     tells_line (heading_text g) (quoted g.comment ∷ [] ∷ lines) (heading_tokens g) (Text g.comment ∷ body) (said_heading g can)
     (tells_line (quoted g.comment) ([] ∷ lines) (Text g.comment ∷ []) body (says_label g.comment can.comment)
-    (tells_line [] lines [] body (λ rest others apart told. told) (tells_lines node_text node_tokens (file_nodes g) (said_nodes g game can [] (flatten g.tree) (λ e i. i)))))
+    (tells_line [] lines [] body (λ rest others apart told. told) (tells_lines node_text node_tokens (file_nodes g)
+    (subst (AllByRecursion (λ n. Says (node_text n) (node_tokens n))) (sym (file_nodes_are g)) (said_nodes g game can [] (flatten g.tree) (λ e i. i))))))
 
 is_sentence : (g : Game) → IsGame g → IsSpellable g → (f : FileTree) → g.title ≡ f.title → g.comment ≡ f.comment → g.players ≡ f.players → flatten f.tree ≡ file_entries g → Sentence (game_tokens g) f
 is_sentence g game can f title comment players entries = record {
@@ -147,8 +148,9 @@ is_sentence g game can f title comment players entries = record {
   is_letter = inl refl;
   is_comment = inr (ap (λ c. Text c ∷ []) comment);
   are_nodes = subst (λ ps. Each (IsNode (length ps)) (flat_map node_tokens (file_nodes g)) (map (λ e. e.node) (flatten f.tree))) players
-      (subst (λ es. Each (IsNode (length g.players)) (flat_map node_tokens (file_nodes g)) (map (λ e. e.node) es)) (sym entries)
-      (nodes_written (length g.players) (file_nodes g) (nodes_writable g game can [] (flatten g.tree) (λ e i. i))));
+      (subst (λ ns. Each (IsNode (length g.players)) (flat_map node_tokens (file_nodes g)) ns) (file_nodes_are g ∙ ap (map (λ e. e.node)) (sym entries))
+      (nodes_written (length g.players) (file_nodes g)
+      (subst (AllByRecursion (IsWritable (length g.players))) (sym (file_nodes_are g)) (nodes_writable g game can [] (flatten g.tree) (λ e i. i)))));
 }
 
 pub text_reads_back : (g : Game) → IsGame g → IsSpellable g → SpellsGame (game_text g) g
@@ -157,4 +159,4 @@ text_reads_back g game can =
     let file = file_of g game in
     let f = file.0 in
     let means = (game_learned_once f g).0 file.1 in
-    (told.0, told.1, subst (λ ts. (f : FileTree) × Sentence ts f × IsConsistent f × IsGameOf f g) (sym told.2) (f, is_sentence g game can f (sym file.1.title) (sym file.1.comment) (sym file.1.players) file.2, means.0, means.1))
+    (told.0, told.1, subst (λ ts. (f : FileTree) × Sentence ts f × IsConsistent f × IsGameOf f g) (sym told.2) (f, is_sentence g game can f (sym file.1.kept.title) (sym file.1.kept.comment) (sym file.1.kept.players) file.2, means.0, means.1))

@@ -4,11 +4,11 @@ use Rattle.std.specs.Prelude.{nat_eq}
 use Rattle.gf_tree.specs.Tree.{map_tree}
 use Rattle.gf_tree.specs.Description.{SetKey, same_set, set_of}
 use Rattle.gf_tree.specs.Game.{Game, IsGame, used_sets, used_outcomes, set_at, outcome_at}
-use Rattle.gf_canon.specs.Renumbering.{Renumbering, HasSet, HasOutcome, renumbered_set, renumbered_node}
+use Rattle.gf_tree.specs.Renumbering.{Renumbering, HasSet, HasOutcome, renumbered_set, renumbered_node}
 use Rattle.gf_canon.specs.SameGame.{Carries, SameGame}
-use Rattle.gf_canon.proofs.FirstUses.{AreApart}
-use Rattle.gf_canon.proofs.Carried.{undo, undone, undone_apart, apart_twice}
-use Rattle.gf_canon.proofs.Renumberings.{used_sets_of, used_outcomes_of, agreed_trees, identity, itself_tree, composed, composed_trees, sets_apart, outcomes_apart, is_renumbering, set_number_positive, outcome_number_positive}
+use Rattle.gf_tree.proofs.FirstUseNumbers.{AreApart}
+use Rattle.gf_tree.proofs.Carried.{undo, undone, undone_apart, apart_twice}
+use Rattle.gf_tree.proofs.Renumberings.{used_sets_of, used_outcomes_of, agreed_trees, identity, itself_tree, composed, composed_trees, sets_apart, outcomes_apart, is_renumbering, set_number_positive, outcome_number_positive}
 use Rattle.gf_tree.proofs.TreesOnce.{same_set_equality}
 use Rattle.gf_tree.proofs.Uses.{Has, has, contains, has_map, mapped_from}
 use Rattle.std.proofs.lemmas.Bool.Decides.{Decides-eqb}

@@ -3,6 +3,8 @@ use Rattle.std.proofs.Common.{◌≡◌, ℕ, Bool, true, false, cond, List, [],
 use Rattle.std.specs.Prelude.{nat_eq, option_map, MatchOption, ◌↔◌}
 use Rattle.std.specs.List.{AllByRecursion, Contains, filter_map, cons_option, find}
 use Rattle.gf_token.specs.LabelSpelling.{IsLabel}
+use Rattle.gf_nfg.specs.SameTable.{SamePlay}
+use Rattle.gf_nfg.specs.Table.{Table}
 use Rattle.gf_nfg.proofs.BackTables.{text_reads_back as table_reads_back}
 use Rattle.gf_nfg.proofs.SpelledTables.{spelled_is_spellable as spelled_table}
 use Rattle.gf_tree.specs.Tree.{map_tree}
@@ -13,13 +15,13 @@ use Rattle.gf_tree.specs.Game.{Node, Game, IsGame, HasChildren, used_sets, used_
 use Rattle.gf_tree.specs.Spellable.{IsSpellable, IsSpellableSet, IsSpellableOutcome}
 use Rattle.gf_tree.proofs.Games.{map_entry, flatten_map}
 use Rattle.gf_tree.proofs.SpelledGames.{spelled_is_spellable as spelled_game}
-use Rattle.gf_canon.specs.Renumbering.{Renumbering, IsRenumbering, HasSet, HasOutcome, renumbered_set, renumbered_node}
+use Rattle.gf_tree.specs.Renumbering.{Renumbering, IsRenumbering, HasSet, HasOutcome, renumbered_set, renumbered_node}
 use Rattle.gf_canon.specs.SameGame.{Carries}
 use Rattle.gf_canon.specs.GameFile.{GameFile, SpellsFile, SameFile, canonical_text, file_text}
 use Rattle.gf_canon.specs.GameFile.GameFile.{extensive, strategic}
 use Rattle.gf_canon.specs.NamesAside.{unnamed_node, unnamed_set, unnamed_outcome, unnamed_game, unnamed_table, unnamed, SameAsideNames}
-use Rattle.gf_canon.proofs.Members.{map_twice}
-use Rattle.gf_canon.proofs.Trees.{map_tree_twice}
+use Rattle.gf_tree.proofs.Members.{map_twice}
+use Rattle.gf_tree.proofs.MappedTrees.{map_tree_twice}
 use Rattle.gf_canon.proofs.ReadsBack.{text_reads_back}
 use Rattle.gf_canon.proofs.Files.{equal_canonical_texts}
 
@@ -157,3 +159,15 @@ unnamed_spelled bytes (strategic t) h =
 
 pub equal_texts_aside : (a b : List ℕ) (x y : GameFile) → SpellsFile a x → SpellsFile b y → (canonical_text (unnamed x) ≡ canonical_text (unnamed y)) ↔ SameAsideNames x y
 equal_texts_aside a b x y h k = equal_canonical_texts (file_text (unnamed x)) (file_text (unnamed y)) (unnamed x) (unnamed y) (unnamed_spelled a x h) (unnamed_spelled b y k)
+
+-- ---- tables
+
+pub tables_aside : (t u : Table) → SameAsideNames (strategic t) (strategic u) ↔ SamePlay t u
+tables_aside t u = (
+  λ same. record { players = same.play.players; strategies = same.play.strategies; payoffs = same.play.payoffs },
+  λ alike. record {
+    title = refl;
+    comment = refl;
+    play = record { players = alike.players; strategies = alike.strategies; payoffs = alike.payoffs };
+  },
+)

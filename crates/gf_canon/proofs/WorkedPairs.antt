@@ -3,7 +3,7 @@ use Rattle.std.proofs.Common.{◌≡◌, ℕ, List, [], ◌∷◌, length, map, 
 use Rattle.std.specs.List.{flat_map}
 use Rattle.gf_tree.specs.Description.{SetKey, InformationSet, set_of}
 use Rattle.gf_tree.specs.Game.{Game, IsGame, used_sets, set_at}
-use Rattle.gf_canon.specs.Renumbering.{renumbered_set}
+use Rattle.gf_tree.specs.Renumbering.{renumbered_set}
 use Rattle.gf_canon.specs.SameGame.{SameGame}
 use Rattle.gf_canon.specs.GameFile.GameFile.{extensive}
 use Rattle.gf_canon.specs.NamesAside.{SameAsideNames, unnamed_game}

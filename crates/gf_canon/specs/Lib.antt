@@ -1,9 +1,7 @@
 pub mod CanonicalGame
 pub mod FirstDescribed
-pub mod FirstUse
 pub mod GameFile
 pub mod GameText
 pub mod NamesAside
-pub mod Renumbering
 pub mod SameGame
 pub mod WorkedGames

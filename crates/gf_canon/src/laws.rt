@@ -1,17 +1,23 @@
 //! Laws of the definitions, each as the contract of a function that does nothing.
 
-ghost use Rattle.std.specs.Prelude.{◌≡◌, ◌↔◌, List, ℕ, length, map};
+ghost use Rattle.std.specs.Prelude.{◌≡◌, ◌↔◌, Bool, Decides, List, ℕ, length, map};
 ghost use Rattle.gf_nfg.specs.Profiles.{positions};
+ghost use Rattle.gf_tree.specs.FiniteMap.{first_uses};
 ghost use Rattle.gf_tree.specs.Game.{Game, IsGame};
 ghost use Rattle.gf_tree.specs.GameOf.{SpellsGame};
+ghost use Rattle.gf_tree.specs.PrefixOrder.{flatten};
 ghost use Rattle.gf_tree.specs.Spellable.{IsSpellable};
 ghost use Rattle.gf_tree.specs.WorkedTrees.{bonus, five};
-ghost use Rattle.gf_canon.specs.Renumbering.{HasOutcome, HasSet, IsRenumbering, Renumbering, renumbered};
+ghost use Rattle.gf_tree.specs.Renumbering.{HasOutcome, HasSet, IsRenumbering, Renumbering, renumbered};
 ghost use Rattle.gf_canon.specs.SameGame.{Carries, SameGame};
-ghost use Rattle.gf_canon.specs.FirstUse.{first_use_numbers, game_outcomes, player_sets};
+ghost use Rattle.gf_nfg.specs.SameTable.{SamePlay};
+ghost use Rattle.gf_nfg.specs.Table.{Table};
+ghost use Rattle.gf_tree.specs.FileTree.{FileTree};
+ghost use Rattle.gf_tree.specs.FirstUse.{first_use_number, first_use_numbers, outcome_keys, player_keys};
 ghost use Rattle.gf_canon.specs.CanonicalGame.{canonical_game};
+ghost use Rattle.gf_canon.specs.FirstDescribed.{IsFileOf, file_nodes};
 ghost use Rattle.gf_canon.specs.GameFile.{GameFile, IsGameFile, SameFile, SpellsFile, canonical_file, canonical_text};
-ghost use Rattle.gf_canon.specs.GameFile.GameFile.{extensive};
+ghost use Rattle.gf_canon.specs.GameFile.GameFile.{extensive, strategic};
 ghost use Rattle.gf_canon.specs.GameText.{game_text};
 ghost use Rattle.gf_canon.specs.NamesAside.{SameAsideNames, unnamed};
 ghost use Rattle.gf_canon.specs.WorkedGames.{bonus_text, five_text, lower_case_prize, no_outcome, no_players, no_players_text, numbered_five, plain_prize, renamed_prize, seen, two_prizes, unseen, zero_outcome};
@@ -40,10 +46,16 @@ pub fn first_use_numbers_stay()
     ensures outcomes { (r : Renumbering) (g h : Game) → Carries r g h → (number : ℕ) → HasOutcome g number → (first_use_numbers h).outcome (r.outcome number) ≡ (first_use_numbers g).outcome number }
 {}
 
-/// A player's sets in order of first use have the first-use numbers 1, 2 and so on, and so have the outcomes.
-pub fn numbered_in_order()
-    ensures sets { (g : Game) (player : ℕ) → map (λ key. (first_use_numbers g).set player key.number) (player_sets g player) ≡ positions (length (player_sets g player)) }
-    ensures outcomes { (g : Game) → map (first_use_numbers g).outcome (game_outcomes g) ≡ positions (length (game_outcomes g)) }
+/// Keys in order of first use have the first-use numbers 1, 2 and so on; so have a player's sets in a game, and its
+/// outcomes.
+pub fn numbered_in_order<K>()
+    ensures keys { (same : K → K → Bool) → ((a b : K) → Decides (same a b) (a ≡ b)) → (uses : List K)
+        → map (first_use_number same uses) (first_uses same uses) ≡ positions (length (first_uses same uses)) }
+    ensures sets { (g : Game) (player : ℕ) → IsGame g
+        → map (λ key. (first_use_numbers g).set player key.number) (player_keys g player)
+        ≡ positions (length (player_keys g player)) }
+    ensures outcomes { (g : Game) → IsGame g
+        → map (first_use_numbers g).outcome (outcome_keys g) ≡ positions (length (outcome_keys g)) }
 {}
 
 /// The canonical game is a game, the first-use numbers carry the game to it, and it is its own canonical game.
@@ -58,6 +70,12 @@ pub fn canonical_game_is_same()
 pub fn same_by_canonical_game()
     ensures games { (g h : Game) → IsGame g → IsGame h → SameGame g h ↔ (canonical_game g ≡ canonical_game h) }
     ensures files { (a b : GameFile) → IsGameFile a → IsGameFile b → SameFile a b ↔ (canonical_file a ≡ canonical_file b) }
+{}
+
+/// Every game has a file tree in which exactly the first uses are described, whose nodes are those of the game's text.
+pub fn file_of_each_game()
+    ensures { (g : Game) → IsGame g
+        → (f : FileTree) × IsFileOf g f × (map (λ e. e.node) (flatten f.tree) ≡ file_nodes g) }
 {}
 
 /// The text of a game is an extensive file that means this game, so that two games have two texts; and a file that can
@@ -82,10 +100,11 @@ pub fn equal_canonical_texts()
 {}
 
 /// Files that mean the same do so aside from names. Two files mean the same aside from names exactly if the canonical
-/// texts of what they mean without its names are equal.
+/// texts of what they mean without its names are equal; two tables are so exactly if they play alike.
 pub fn same_aside_names()
     ensures aside { (x y : GameFile) → SameFile x y → SameAsideNames x y }
     ensures equal { (a b : List ℕ) (x y : GameFile) → SpellsFile a x → SpellsFile b y → (canonical_text (unnamed x) ≡ canonical_text (unnamed y)) ↔ SameAsideNames x y }
+    ensures tables { (t u : Table) → SameAsideNames (strategic t) (strategic u) ↔ SamePlay t u }
 {}
 
 /// Worked games and their canonical texts: a set of chance met twice on a path, an outcome at an inner node, and no

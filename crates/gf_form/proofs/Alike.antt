@@ -12,11 +12,12 @@ use Rattle.gf_tree.specs.Tree.Trees.{none, more}
 use Rattle.gf_tree.specs.PrefixOrder.{Entry, flatten, flatten_all}
 use Rattle.gf_tree.specs.Description.{SetKey}
 use Rattle.gf_tree.specs.Game.{Node, Game}
-use Rattle.gf_canon.proofs.Members.{map_twice, filter_of_map}
-use Rattle.gf_form.specs.Rational.{plus, times, total, zero_ratio, one_ratio}
+use Rattle.gf_tree.proofs.Members.{map_twice, filter_of_map}
+use Rattle.gf_fraction.specs.Rational.{plus, times, total, zero_ratio, one_ratio}
 use Rattle.gf_form.specs.Plays.{Step, Play, after, plays, plays_from, is_chosen, follows}
 use Rattle.gf_form.specs.Payoff.{probability, payoff_at, play_probability, play_payoff, payoff}
-use Rattle.gf_form.specs.BottomUp.{AddsTo, MultipliesTo, IsValue, IsChanceValue, IsValueOf}
+use Rattle.gf_form.specs.BottomUp.{IsValue, IsChanceValue, IsValueOf}
+use Rattle.gf_fraction.specs.Fits.{AddsTo, MultipliesTo}
 
 -- whether a play is followed, how probable it is, and what it pays
 record View : Type 0 where

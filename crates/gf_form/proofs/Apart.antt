@@ -14,8 +14,8 @@ use Rattle.gf_tree.specs.Game.{Node, Game, IsGame, HasChildren}
 use Rattle.gf_tree.proofs.TreesOnce.{same_set_equality}
 use Rattle.gf_tree.specs.Spellable.{IsSpellable}
 use Rattle.gf_tree.proofs.Uses.{Has, contains, has_map}
-use Rattle.gf_canon.proofs.Members.{map_same}
-use Rattle.gf_form.specs.Strategies.{keys_of, choice_at, strategies}
+use Rattle.gf_tree.proofs.Members.{map_same}
+use Rattle.gf_form.specs.Strategies.{choice_at, strategies}
 use Rattle.gf_form.specs.Plays.{Step, Play, after, is_chosen, plays, plays_from, HasActions}
 use Rattle.gf_form.specs.Reduced.{is_own_choice, agrees, comes_to, is_relevant, reduced}
 use Rattle.gf_form.proofs.Chosen.{his_actions}
@@ -24,6 +24,7 @@ use Rattle.gf_form.proofs.Lotteries.{actions_at}
 use Rattle.gf_form.proofs.Whole.{some_play_in}
 use Rattle.gf_form.proofs.Reducing.{or_left, or_right, any_has}
 use Rattle.gf_form.proofs.KnownSets.{own_set}
+use Rattle.gf_tree.specs.FirstUse.{player_keys}
 
 -- the steps go through a node of this set, and this child is taken there
 abbrev PassesBy : SetKey → List Step → Type 0
@@ -48,7 +49,7 @@ in_joined (z ∷ xs) ys x (inr h) = inr (in_joined xs ys x (inr h))
 
 module _ (g : Game) (game : IsGame g) (spellable : IsSpellable g) (player : ℕ) (above : 0 < player) (strategy : List ℕ) (his : Contains (strategies g player) strategy) where
   abbrev c : SetKey → ℕ
-  c key = choice_at (keys_of g player) strategy key
+  c key = choice_at (player_keys g player) strategy key
 
   -- the player's by his strategy, and the first action at any other set
   abbrev everybody : SetKey → ℕ
@@ -60,7 +61,7 @@ module _ (g : Game) (game : IsGame g) (spellable : IsSpellable g) (player : ℕ)
       by_owner : (b : Bool) → (key.player == player) ≡ b → (1 ≤ (if b then c key else 1)) × ((if b then c key else 1) ≤ length set.actions)
       by_owner true e =
           let own : key.player ≡ player = eqb-true key.player player e in
-          subst (λ p. (1 ≤ choice_at (keys_of g p) strategy key) × (choice_at (keys_of g p) strategy key ≤ length set.actions)) own
+          subst (λ p. (1 ≤ choice_at (player_keys g p) strategy key) × (choice_at (player_keys g p) strategy key ≤ length set.actions)) own
           (his_actions g game strategy key set (subst (λ p. Contains (strategies g p) strategy) (sym own) his) is)
       by_owner false e = let a = (actions_at g game spellable key set is).1 in (omega arith, a)
 
@@ -165,7 +166,7 @@ shown_same false false m n to from = refl
 
 module _ (g : Game) (game : IsGame g) (spellable : IsSpellable g) (player : ℕ) (above : 0 < player) where
   abbrev chosen : List ℕ → SetKey → ℕ
-  chosen strategy key = choice_at (keys_of g player) strategy key
+  chosen strategy key = choice_at (player_keys g player) strategy key
 
   abbrev AgreeAlike : List ℕ → List ℕ → Type 0
   AgreeAlike s t = (play : Play) → Contains (plays g.tree) play → agrees (chosen s) player play ≡ agrees (chosen t) player play
@@ -187,6 +188,6 @@ module _ (g : Game) (game : IsGame g) (spellable : IsSpellable g) (player : ℕ)
       map_same
       (λ key. if is_relevant g (chosen s) key then Some (chosen s key) else None)
       (λ key. if is_relevant g (chosen t) key then Some (chosen t key) else None)
-      (keys_of g player)
+      (player_keys g player)
       (λ key i. shown_same (is_relevant g (chosen s) key) (is_relevant g (chosen t) key) (chosen s key) (chosen t key) (relevant_too s t hs alike key (own_set g player key i).3)
       (λ r. (relevant_too t s ht (λ play j. sym (alike play j)) key (own_set g player key i).3 r).0))

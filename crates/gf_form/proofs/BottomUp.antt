@@ -14,17 +14,18 @@ use Rattle.gf_tree.specs.PrefixOrder.{flatten, flatten_all}
 use Rattle.gf_tree.specs.Description.{SetKey}
 use Rattle.gf_tree.specs.Game.{Node, Game, IsGame, HasChildren, set_at}
 use Rattle.gf_tree.specs.Spellable.{IsSpellable}
-use Rattle.gf_form.specs.Rational.{IsEqual, zero_ratio, one_ratio, plus, times, total}
+use Rattle.gf_fraction.specs.Rational.{IsEqual, zero_ratio, one_ratio, plus, times, total}
 use Rattle.gf_form.specs.Plays.{Play, after, is_chosen}
 use Rattle.gf_form.specs.Payoff.{probability, payoff_at, payoff, play_probability, play_payoff}
-use Rattle.gf_form.specs.BottomUp.{AddsTo, MultipliesTo, IsValue, IsChanceValue, IsValueOf}
-use Rattle.gf_form.proofs.Rationals.{equal_refl, plus_both, plus_zero, plus_comm, plus_assoc, times_comm, times_assoc, times_plus, times_zero, times_one}
-use Rattle.gf_form.proofs.Chains.{◌then◌, back, plus_left, plus_right, times_left, times_right, plus_across}
-use Rattle.gf_form.proofs.Denominators.{IsAbove, plus_above, times_above, probability_above, payoff_above, payoff_fraction, play_probability_above, worth_above}
+use Rattle.gf_form.specs.BottomUp.{IsValue, IsChanceValue, IsValueOf}
+use Rattle.gf_fraction.proofs.Rationals.{equal_refl, plus_both, plus_zero, plus_comm, plus_assoc, times_comm, times_assoc, times_plus, times_zero, times_one, IsAbove, plus_above, times_above}
+use Rattle.gf_fraction.proofs.Chains.{◌then◌, back, plus_left, plus_right, times_left, times_right, plus_across}
+use Rattle.gf_form.proofs.Denominators.{probability_above, payoff_above, payoff_fraction, play_probability_above, worth_above}
 use Rattle.gf_form.proofs.Lotteries.{no_chance}
 use Rattle.gf_form.proofs.Followed.{followed, followed_in, in_children, each_chosen, first_chosen, only_this, not_this}
 use Rattle.gf_form.proofs.Whole.{one_of, by_one, leaf_whole, first_whole, this_whole, chance_whole, some_child}
 use Rattle.gf_form.proofs.PlaySums.{sum_joined, weight_above, all_worth_above, weight_after, worth_after}
+use Rattle.gf_fraction.specs.Fits.{AddsTo, MultipliesTo}
 
 -- ---- what the arithmetic of values says
 

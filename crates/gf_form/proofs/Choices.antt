@@ -8,7 +8,7 @@ use Rattle.std.proofs.lemmas.List.Elements.{All-contains, All-from_recursion}
 use Rattle.gf_fraction.proofs.AllElements.{all_both}
 use Rattle.gf_nfg.specs.Profiles.{numbers_from, product}
 use Rattle.gf_nfg.proofs.NumbersInTurn.{numbers_joined, length-numbers_from, get_or-numbers_from, IsIn, number_in, contains_in}
-use Rattle.gf_canon.proofs.Members.{map_twice}
+use Rattle.gf_tree.proofs.Members.{map_twice}
 use Rattle.gf_form.specs.Strategies.{all_choices}
 
 -- the choices that begin with this action

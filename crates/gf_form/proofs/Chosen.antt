@@ -11,11 +11,12 @@ use Rattle.gf_nfg.proofs.BackProfiles.{every_profile}
 use Rattle.gf_tree.specs.Description.{SetKey, InformationSet, same_set}
 use Rattle.gf_tree.specs.FiniteMap.{Described, description_at}
 use Rattle.gf_tree.specs.Game.{Game, IsGame, set_at}
-use Rattle.gf_form.specs.Strategies.{keys_of, sets_of, action_counts, strategies, players_of, strategies_at, choice_at, choices_by}
+use Rattle.gf_form.specs.Strategies.{action_counts, strategies, players_of, strategies_at, strategy_at, choice_at, choices_by, full_profiles}
 use Rattle.gf_form.specs.Plays.{HasActions}
-use Rattle.gf_form.specs.Reduced.{full_profiles}
 use Rattle.gf_form.proofs.Choices.{IsChoice, every_choice}
+use Rattle.gf_form.proofs.Lookups.{strategy_before}
 use Rattle.gf_form.proofs.KnownSets.{set_is}
+use Rattle.gf_tree.specs.FirstUse.{player_keys, player_sets}
 
 -- ---- a choice at each set of a list
 
@@ -59,29 +60,32 @@ strategy_of g (strategy ∷ all) k (suc n) (suc i) h less =
 
 module _ (g : Game) (game : IsGame g) where
   pub his_actions : (strategy : List ℕ) (key : SetKey) (set : InformationSet) → Contains (strategies g key.player) strategy → set_at g key ≡ Some set
-      → (1 ≤ choice_at (keys_of g key.player) strategy key) × (choice_at (keys_of g key.player) strategy key ≤ length set.actions)
+      → (1 ≤ choice_at (player_keys g key.player) strategy key) × (choice_at (player_keys g key.player) strategy key ≤ length set.actions)
   his_actions strategy key set his is =
-      let among : description_at same_set (sets_of g key.player) key ≡ Some set =
+      let among : description_at same_set (player_sets g key.player) key ≡ Some set =
       ap
       (option_map (λ e. e.description))
       (find_kept (λ (s : Described SetKey InformationSet). s.key.player == key.player) (λ s. same_set s.key key) (λ s e. (and_parts (s.key.player == key.player) (s.key.number == key.number) e).0) g.sets)
       ∙ is in
-      choice_within key (sets_of g key.player) strategy set ((every_choice (action_counts g key.player) strategy).0 his) among
+      choice_within key (player_sets g key.player) strategy set ((every_choice (action_counts g key.player) strategy).0 his) among
 
   pub have_actions : (all : List (List ℕ)) → AreStrategies g all (players_of g) → HasActions g (choices_by g all)
   have_actions all h key set is above =
       let known = (set_is g game key set is).player in
       let player : 1 + (key.player - 1) ≡ key.player = omega arith in
-      let his : Contains (strategies g key.player) (get_or all (key.player - 1) []) =
-      subst (λ p. Contains (strategies g p) (get_or all (key.player - 1) [])) player (strategy_of g all 1 (length g.players) (key.player - 1) h (omega arith)) in
-      his_actions (get_or all (key.player - 1) []) key set his is
+      let his : Contains (strategies g key.player) (strategy_at all key.player) =
+      subst (Contains (strategies g key.player)) (sym (strategy_before all key.player above))
+      (subst (λ p. Contains (strategies g p) (get_or all (key.player - 1) [])) player (strategy_of g all 1 (length g.players) (key.player - 1) h (omega arith))) in
+      his_actions (strategy_at all key.player) key set his is
 
 -- ---- the strategies of a profile
 
-got : (xs : List (List ℕ)) (s : ℕ) → 1 ≤ s → s ≤ length xs → Contains xs (get_or xs (s - 1) [])
-got xs s above within = let less : s - 1 < length xs = omega arith in (s - 1, less, get_or_default xs (s - 1) (get_or xs (s - 1) []) [] less)
+got : (xs : List (List ℕ)) (s : ℕ) → 1 ≤ s → s ≤ length xs → Contains xs (strategy_at xs s)
+got xs s above within =
+    let less : s - 1 < length xs = omega arith in
+    subst (Contains xs) (sym (strategy_before xs s above)) (s - 1, less, get_or_default xs (s - 1) (get_or xs (s - 1) []) [] less)
 
-are_strategies : (g : Game) (players profile : List ℕ) → IsProfile (map (λ player. length (strategies g player)) players) profile → AreStrategies g (map (λ p. get_or (strategies g p.0) (p.1 - 1) []) (zip players profile)) players
+are_strategies : (g : Game) (players profile : List ℕ) → IsProfile (map (λ player. length (strategies g player)) players) profile → AreStrategies g (map (λ p. strategy_at (strategies g p.0) p.1) (zip players profile)) players
 are_strategies g [] [] h = tt
 are_strategies g [] (s ∷ profile) h = absurd h
 are_strategies g (player ∷ players) [] h = absurd h

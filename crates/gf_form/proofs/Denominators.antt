@@ -1,35 +1,19 @@
 -- The probabilities and payoffs of a game that a file can hold have denominators above zero.
-use Rattle.std.proofs.Common.{ℕ, ◌-◌, ◌<◌, List, [], ◌∷◌, map, arith}
-use Rattle.std.specs.Prelude.{option_and_then, slice_get, ⊤, ◌==◌}
+use Rattle.std.proofs.Common.{ℕ, ◌-◌, arith}
+use Rattle.std.specs.Prelude.{option_and_then, ⊤, ◌==◌}
 use Rattle.std.specs.List.{AllByRecursion, find}
-use Rattle.gf_fraction.specs.Ratio.{Ratio, IsFraction}
+use Rattle.gf_fraction.specs.Ratio.{IsFraction}
 use Rattle.gf_fraction.proofs.WholeNumbers.{whole_fraction}
-use Rattle.gf_fraction.proofs.Products.{mul_above}
+use Rattle.gf_token.specs.Positions.{at_position}
 use Rattle.gf_tree.specs.Description.{SetKey, InformationSet, Outcome, same_set}
 use Rattle.gf_tree.specs.FiniteMap.{Described}
 use Rattle.gf_tree.specs.Game.{Node, Game, set_at, outcome_at}
 use Rattle.gf_tree.specs.Spellable.{IsSpellable, IsSpellableAction, IsSpellableSet, IsSpellableOutcome}
-use Rattle.gf_form.specs.Rational.{plus, times, total, product, zero_ratio, one_ratio}
+use Rattle.gf_fraction.specs.Rational.{times, zero_ratio, one_ratio}
+use Rattle.gf_fraction.proofs.Rationals.{IsAbove, times_above, total_above, ratio_product_above}
 use Rattle.gf_form.specs.Plays.{Step, Play, nodes_of}
 use Rattle.gf_form.specs.Payoff.{action_at, probability, payoff_at, play_probability, play_payoff}
-use Rattle.gf_form.proofs.Lookups.{Each, each_got, each_found, each_mapped, each_then, each_weaker, each_or, each_any}
-
-abbrev pub IsAbove : Ratio → Type 0
-IsAbove r = 0 < r.den
-
-pub plus_above : (x y : Ratio) → IsAbove x → IsAbove y → IsAbove (plus x y)
-plus_above x y hx hy = mul_above x.den y.den hx hy
-
-pub times_above : (x y : Ratio) → IsAbove x → IsAbove y → IsAbove (times x y)
-times_above x y hx hy = mul_above x.den y.den hx hy
-
-pub total_above : {A : Type 0} (f : A → Ratio) → ((x : A) → IsAbove (f x)) → (xs : List A) → IsAbove (total (map f xs))
-total_above f above [] = omega arith
-total_above f above (x ∷ xs) = plus_above (f x) (total (map f xs)) (above x) (total_above f above xs)
-
-product_above : {A : Type 0} (f : A → Ratio) → ((x : A) → IsAbove (f x)) → (xs : List A) → IsAbove (product (map f xs))
-product_above f above [] = omega arith
-product_above f above (x ∷ xs) = times_above (f x) (product (map f xs)) (above x) (product_above f above xs)
+use Rattle.gf_form.proofs.Lookups.{Each, each_at, each_found, each_mapped, each_then, each_weaker, each_or, each_any}
 
 module _ (g : Game) (spellable : IsSpellable g) where
   actions_of : (key : SetKey) → Each (λ set. AllByRecursion IsSpellableAction set.actions) (set_at g key)
@@ -47,9 +31,9 @@ module _ (g : Game) (spellable : IsSpellable g) where
   pub probability_above : (s : Step) → IsAbove (probability g s)
   probability_above s =
       let taken : Each IsSpellableAction (action_at g s) =
-      each_then (λ _. ⊤) IsSpellableAction (λ key. option_and_then (λ set. slice_get set.actions (s.taken - 1)) (set_at g key)) s.node.set
-      (λ key _. each_then (λ set. AllByRecursion IsSpellableAction set.actions) IsSpellableAction (λ set. slice_get set.actions (s.taken - 1)) (set_at g key)
-      (λ set h. each_got IsSpellableAction set.actions (s.taken - 1) h) (actions_of key))
+      each_then (λ _. ⊤) IsSpellableAction (λ key. option_and_then (λ set. at_position set.actions s.taken) (set_at g key)) s.node.set
+      (λ key _. each_then (λ set. AllByRecursion IsSpellableAction set.actions) IsSpellableAction (λ set. at_position set.actions s.taken) (set_at g key)
+      (λ set h. each_at IsSpellableAction set.actions s.taken h) (actions_of key))
       (each_any s.node.set) in
       each_or IsAbove (option_and_then (λ a. a.probability) (action_at g s)) one_ratio (omega arith)
       (each_then IsSpellableAction IsAbove (λ a. a.probability) (action_at g s) (λ a h. each_weaker IsFraction IsAbove a.probability (λ r f. f.den_above_zero) h.1) taken)
@@ -57,16 +41,16 @@ module _ (g : Game) (spellable : IsSpellable g) where
   pub payoff_fraction : (player : ℕ) (n : Node) → IsFraction (payoff_at g player n)
   payoff_fraction player n =
       each_or IsFraction _ zero_ratio (whole_fraction 0 (omega arith))
-      (each_then (λ _. ⊤) IsFraction (λ number. option_and_then (λ outcome. slice_get outcome.payoffs (player - 1)) (outcome_at g number)) n.outcome
-      (λ number _. each_then (λ outcome. AllByRecursion IsFraction outcome.payoffs) IsFraction (λ outcome. slice_get outcome.payoffs (player - 1)) (outcome_at g number)
-      (λ outcome h. each_got IsFraction outcome.payoffs (player - 1) h) (payoffs_of number))
+      (each_then (λ _. ⊤) IsFraction (λ number. option_and_then (λ outcome. at_position outcome.payoffs player) (outcome_at g number)) n.outcome
+      (λ number _. each_then (λ outcome. AllByRecursion IsFraction outcome.payoffs) IsFraction (λ outcome. at_position outcome.payoffs player) (outcome_at g number)
+      (λ outcome h. each_at IsFraction outcome.payoffs player h) (payoffs_of number))
       (each_any n.outcome))
 
   pub payoff_above : (player : ℕ) (n : Node) → IsAbove (payoff_at g player n)
   payoff_above player n = (payoff_fraction player n).den_above_zero
 
   pub play_probability_above : (play : Play) → IsAbove (play_probability g play)
-  play_probability_above play = product_above (probability g) probability_above play.steps
+  play_probability_above play = ratio_product_above (probability g) probability_above play.steps
 
   pub play_payoff_above : (player : ℕ) (play : Play) → IsAbove (play_payoff g player play)
   play_payoff_above player play = total_above (payoff_at g player) (payoff_above player) (nodes_of play)

@@ -8,8 +8,8 @@ use Rattle.gf_tree.specs.Game.{Game, IsGame, set_at}
 use Rattle.gf_tree.proofs.TreesOnce.{same_set_equality}
 use Rattle.gf_tree.proofs.Uses.{Has, mapped_from}
 use Rattle.gf_tree.proofs.FirstUses.{of_filter}
-use Rattle.gf_form.specs.Strategies.{keys_of, sets_of}
 use Rattle.gf_form.proofs.Lookups.{Each, each_found, each_mapped, each_weaker}
+use Rattle.gf_tree.specs.FirstUse.{player_keys, player_sets}
 
 pub each_set : (g : Game) → IsGame g → (key : SetKey) → Each (IsSet (length g.players) key) (set_at g key)
 each_set g game key =
@@ -24,8 +24,8 @@ pub set_is : (g : Game) → IsGame g → (key : SetKey) (set : InformationSet) �
 set_is g game key set e = subst (Each (IsSet (length g.players) key)) e (each_set g game key)
 
 -- a player's key is that of one of the game's sets, which is his
-pub own_set : (g : Game) (player : ℕ) (key : SetKey) → Has (keys_of g player) key → (s : Described SetKey InformationSet) × Has g.sets s × (s.key ≡ key) × (key.player ≡ player)
+pub own_set : (g : Game) (player : ℕ) (key : SetKey) → Has (player_keys g player) key → (s : Described SetKey InformationSet) × Has g.sets s × (s.key ≡ key) × (key.player ≡ player)
 own_set g player key i =
-    let m = mapped_from (λ (s : Described SetKey InformationSet). s.key) (sets_of g player) key i in
+    let m = mapped_from (λ (s : Described SetKey InformationSet). s.key) (player_sets g player) key i in
     let there = of_filter (λ s. s.key.player == player) g.sets m.0 m.1 in
     (m.0, there.0, m.2, subst (λ (k : SetKey). k.player ≡ player) m.2 (eqb-true m.0.key.player player there.1))

@@ -1,7 +1,6 @@
 pub mod Alike
 pub mod Apart
 pub mod BottomUp
-pub mod Chains
 pub mod Choices
 pub mod Chosen
 pub mod Denominators
@@ -12,10 +11,10 @@ pub mod KnownSets
 pub mod Lookups
 pub mod Lotteries
 pub mod PlaySums
-pub mod Rationals
 pub mod ReducedPays
 pub mod Reducing
 pub mod SameForms
+pub mod SameRefusals
 pub mod StrategyLabels
 pub mod Whole
 pub mod Worked

@@ -1,7 +1,10 @@
 -- What is found in a list of which each element has a property.
-use Rattle.std.proofs.Common.{◌≡◌, ℕ, zero, suc, Bool, true, false, cond, List, [], ◌∷◌, Option, Some, None, MatchOption, refl}
+use Rattle.std.proofs.Common.{◌≡◌, ℕ, zero, suc, Bool, true, false, cond, List, [], ◌∷◌, Option, Some, None, MatchOption, refl, ap, ◌∙◌, ◌≤◌, ◌-◌, ◌+◌, get_or, arith}
 use Rattle.std.specs.Prelude.{option_map, unwrap_or, option_and_then, slice_get, ⊤}
 use Rattle.std.specs.List.{AllByRecursion, find}
+use Rattle.std.proofs.lemmas.Option.{unwrap_or-slice_get}
+use Rattle.gf_token.specs.Positions.{at_position}
+use Rattle.gf_form.specs.Strategies.{strategy_at}
 
 -- a property of what there is, if there is something
 abbrev pub Each : {A : Type 0} → (A → Type 0) → Option A → Type 0
@@ -11,6 +14,10 @@ pub each_got : {A : Type 0} (P : A → Type 0) (xs : List A) (i : ℕ) → AllBy
 each_got P [] i h = tt
 each_got P (x ∷ xs) zero h = h.0
 each_got P (x ∷ xs) (suc i) h = each_got P xs i h.1
+
+pub each_at : {A : Type 0} (P : A → Type 0) (xs : List A) (position : ℕ) → AllByRecursion P xs → Each P (at_position xs position)
+each_at P xs zero h = tt
+each_at P xs (suc i) h = each_got P xs i h
 
 pub each_found : {A : Type 0} (P : A → Type 0) (test : A → Bool) (xs : List A) → AllByRecursion P xs → Each (λ x. P x × (test x ≡ true)) (find test xs)
 each_found P test [] h = tt
@@ -39,3 +46,14 @@ each_or P (Some x) default d h = h
 pub each_any : {A : Type 0} (o : Option A) → Each (λ _. ⊤) o
 each_any None = tt
 each_any (Some x) = tt
+
+-- ---- positions
+
+pub next_position : {A : Type 0} (xs : List A) (i : ℕ) → at_position xs (1 + i) ≡ slice_get xs i
+next_position xs i = let next : 1 + i ≡ suc i = omega arith in ap (at_position xs) next
+
+pub next_strategy : {A : Type 0} (xs : List (List A)) (i : ℕ) → strategy_at xs (1 + i) ≡ get_or xs i []
+next_strategy xs i = ap (λ o. unwrap_or o []) (next_position xs i) ∙ unwrap_or-slice_get xs i []
+
+pub strategy_before : {A : Type 0} (xs : List (List A)) (position : ℕ) → 1 ≤ position → strategy_at xs position ≡ get_or xs (position - 1) []
+strategy_before xs position above = let place : position ≡ 1 + (position - 1) = omega arith in ap (strategy_at xs) place ∙ next_strategy xs (position - 1)

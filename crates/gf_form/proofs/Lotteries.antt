@@ -4,16 +4,17 @@ use Rattle.std.specs.Prelude.{◌==◌, option_and_then, unwrap_or, slice_get}
 use Rattle.std.specs.List.{AllByRecursion}
 use Rattle.std.proofs.lemmas.List.{length-map}
 use Rattle.gf_fraction.specs.Ratio.{Ratio}
+use Rattle.gf_token.specs.Positions.{at_position}
 use Rattle.gf_nfg.specs.Profiles.{numbers_from}
 use Rattle.gf_tree.specs.Description.{Action, SetKey, InformationSet, AddToOne, IsLottery, AreActions, IsSet}
 use Rattle.gf_tree.specs.Game.{Node, Game, IsGame, set_at}
 use Rattle.gf_tree.specs.Spellable.{IsSpellable}
-use Rattle.gf_form.specs.Rational.{IsEqual, zero_ratio, one_ratio, plus, total}
+use Rattle.gf_fraction.specs.Rational.{IsEqual, zero_ratio, one_ratio, plus, total}
 use Rattle.gf_form.specs.Payoff.{action_at, probability}
-use Rattle.gf_form.proofs.Rationals.{equal_refl, plus_zero, plus_comm, plus_assoc}
-use Rattle.gf_form.proofs.Chains.{◌then◌, back, plus_left}
-use Rattle.gf_form.proofs.Denominators.{IsAbove, plus_above, probability_above}
-use Rattle.gf_form.proofs.Lookups.{Each, each_got, each_weaker}
+use Rattle.gf_fraction.proofs.Rationals.{equal_refl, plus_zero, plus_comm, plus_assoc, IsAbove, plus_above}
+use Rattle.gf_fraction.proofs.Chains.{◌then◌, back, plus_left}
+use Rattle.gf_form.proofs.Denominators.{probability_above}
+use Rattle.gf_form.proofs.Lookups.{Each, each_at, each_weaker, next_position}
 use Rattle.gf_form.proofs.KnownSets.{each_set}
 
 total_list : (ps : List Ratio) → AllByRecursion IsAbove ps → IsAbove (total ps)
@@ -24,10 +25,10 @@ adds_to_one : (sum : Ratio) (ps : List Ratio) → IsAbove sum → AllByRecursion
 adds_to_one sum [] above h adds =
     back (plus_comm sum zero_ratio above (omega arith) then plus_zero sum above then subst (λ r. IsEqual r one_ratio) (sym adds) (equal_refl one_ratio (omega arith)))
 adds_to_one sum (p ∷ ps) above h adds =
-    let next = adds.2.0 in
+    let next = adds.1.0 in
     let others = total_list ps h.1 in
-    adds_to_one next ps adds.2.1.den_above_zero h.1 adds.2.3
-    then plus_left (total ps) others (record { left = adds.2.1.den_above_zero; right = plus_above sum p above h.0; crosswise = adds.2.2 })
+    adds_to_one next ps adds.1.1.1.den_above_zero h.1 adds.1.2
+    then plus_left (total ps) others (record { left = adds.1.1.1.den_above_zero; right = plus_above sum p above h.0; crosswise = adds.1.1.2 })
     then plus_assoc sum p (total ps) above h.0 others
 
 -- numbers in turn give the elements of a list in turn
@@ -73,9 +74,8 @@ module _ (g : Game) (game : IsGame g) (spellable : IsSpellable g) where
       let size : length ps ≡ length set.actions = sym (length-map ps Some) ∙ sym (ap length lottery.1) ∙ length-map set.actions (λ a. a.probability) in
       let taken : (i : ℕ) → f (1 + i) ≡ get_or ps i one_ratio =
       λ i.
-      let one_less : 1 + i - 1 ≡ i = omega arith in
       let at_set : action_at g (record { node = n; taken = 1 + i }) ≡ slice_get set.actions i =
-      ap (option_and_then (λ key. option_and_then (λ set. slice_get set.actions (1 + i - 1)) (set_at g key))) at ∙ ap (option_and_then (λ set. slice_get set.actions (1 + i - 1))) is ∙ ap (slice_get set.actions) one_less in
+      ap (option_and_then (λ key. option_and_then (λ set. at_position set.actions (1 + i)) (set_at g key))) at ∙ ap (option_and_then (λ set. at_position set.actions (1 + i))) is ∙ next_position set.actions i in
       ap (λ o. unwrap_or (option_and_then (λ a. a.probability) o) one_ratio) at_set ∙ each_probability set.actions ps i lottery.1 in
       let list : map f (numbers_from 1 (length ps)) ≡ ps = in_turn f 1 ps (λ i _. taken i) in
       let above : AllByRecursion IsAbove ps = subst (AllByRecursion IsAbove) list (all_above f (λ k. probability_above g spellable (record { node = n; taken = k })) (numbers_from 1 (length ps))) in
@@ -85,13 +85,13 @@ module _ (g : Game) (game : IsGame g) (spellable : IsSpellable g) where
   -- a player's move takes no part in the probability of a play
   pub no_chance : (n : Node) (key : SetKey) (k : ℕ) → n.set ≡ Some key → (key.player == 0) ≡ false → probability g (record { node = n; taken = k }) ≡ one_ratio
   no_chance n key k at personal =
-      ap (λ o. unwrap_or (option_and_then (λ a. a.probability) (option_and_then (λ key. option_and_then (λ set. slice_get set.actions (k - 1)) (set_at g key)) o)) one_ratio) at
+      ap (λ o. unwrap_or (option_and_then (λ a. a.probability) (option_and_then (λ key. option_and_then (λ set. at_position set.actions k) (set_at g key)) o)) one_ratio) at
       ∙ by_set (set_at g key) (sets_have key)
     where
       by_action : (o : Option Action) → Each (λ a. a.probability ≡ None) o → unwrap_or (option_and_then (λ a. a.probability) o) one_ratio ≡ one_ratio
       by_action None h = refl
       by_action (Some a) h = ap (λ o. unwrap_or o one_ratio) h
 
-      by_set : (o : Option InformationSet) → Each (λ set. AreActions key.player set.actions × (0 < length set.actions)) o → unwrap_or (option_and_then (λ a. a.probability) (option_and_then (λ set. slice_get set.actions (k - 1)) o)) one_ratio ≡ one_ratio
+      by_set : (o : Option InformationSet) → Each (λ set. AreActions key.player set.actions × (0 < length set.actions)) o → unwrap_or (option_and_then (λ a. a.probability) (option_and_then (λ set. at_position set.actions k) o)) one_ratio ≡ one_ratio
       by_set None h = refl
-      by_set (Some set) h = by_action (slice_get set.actions (k - 1)) (each_got (λ a. a.probability ≡ None) set.actions (k - 1) (personal_actions key.player set.actions personal h.0))
+      by_set (Some set) h = by_action (at_position set.actions k) (each_at (λ a. a.probability ≡ None) set.actions k (personal_actions key.player set.actions personal h.0))

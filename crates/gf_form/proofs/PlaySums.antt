@@ -6,12 +6,12 @@ use Rattle.gf_fraction.specs.Ratio.{Ratio}
 use Rattle.gf_tree.specs.Description.{SetKey}
 use Rattle.gf_tree.specs.Game.{Node, Game}
 use Rattle.gf_tree.specs.Spellable.{IsSpellable}
-use Rattle.gf_form.specs.Rational.{IsEqual, zero_ratio, plus, times, total}
+use Rattle.gf_fraction.specs.Rational.{IsEqual, zero_ratio, plus, times, total}
 use Rattle.gf_form.specs.Plays.{Play, after, is_chosen, follows}
 use Rattle.gf_form.specs.Payoff.{probability, payoff_at, play_probability, play_payoff}
-use Rattle.gf_form.proofs.Rationals.{plus_zero, plus_assoc, times_comm, times_assoc, times_plus, times_zero}
-use Rattle.gf_form.proofs.Chains.{◌then◌, back, plus_left, plus_right, times_right, plus_across}
-use Rattle.gf_form.proofs.Denominators.{IsAbove, plus_above, times_above, total_above, probability_above, payoff_above, play_probability_above, play_payoff_above, worth_above}
+use Rattle.gf_fraction.proofs.Rationals.{plus_zero, plus_assoc, times_comm, times_assoc, times_plus, times_zero, IsAbove, plus_above, times_above, total_above}
+use Rattle.gf_fraction.proofs.Chains.{◌then◌, back, plus_left, plus_right, times_right, plus_across}
+use Rattle.gf_form.proofs.Denominators.{probability_above, payoff_above, play_probability_above, play_payoff_above, worth_above}
 
 pub sum_joined : {A : Type 0} (f : A → Ratio) → ((x : A) → IsAbove (f x)) → (xs ys : List A) → IsEqual (total (map f (xs ++ ys))) (plus (total (map f xs)) (total (map f ys)))
 sum_joined f above [] ys = back (plus_zero (total (map f ys)) (total_above f above ys))

@@ -9,13 +9,15 @@ use Rattle.gf_nfg.proofs.NumbersInTurn.{length-numbers_from}
 use Rattle.gf_tree.specs.Description.{SetKey}
 use Rattle.gf_tree.specs.Game.{Game}
 use Rattle.gf_tree.proofs.Uses.{Has, contains}
-use Rattle.gf_form.specs.Strategies.{keys_of, choice_at, choices_by, players_of, strategies, strategies_at}
+use Rattle.gf_form.specs.Strategies.{choice_at, choices_by, players_of, strategies, strategies_at, strategy_at, full_profiles}
 use Rattle.gf_form.specs.Plays.{Step, Play, plays, is_chosen, follows}
 use Rattle.gf_form.specs.Payoff.{payoff, play_probability, play_payoff}
-use Rattle.gf_form.specs.Rational.{times, total}
-use Rattle.gf_form.specs.Reduced.{is_own_choice, full_profiles, reduced, reduced_by}
+use Rattle.gf_fraction.specs.Rational.{times, total}
+use Rattle.gf_form.specs.Reduced.{is_own_choice, reduced, reduced_by}
+use Rattle.gf_form.proofs.Lookups.{strategy_before}
 use Rattle.gf_form.proofs.Chosen.{profile_strategies}
 use Rattle.gf_form.proofs.Reducing.{reduced_agree, same_answer}
+use Rattle.gf_tree.specs.FirstUse.{player_keys}
 
 -- ---- choices of all players are those of each
 
@@ -56,7 +58,7 @@ all_chosen c (s ∷ steps) h =
 -- what a player chooses is by his own strategy
 module _ (g : Game) (all : List (List ℕ)) (p : ℕ) where
   abbrev his : SetKey → ℕ
-  his key = choice_at (keys_of g p) (get_or all (p - 1) []) key
+  his key = choice_at (player_keys g p) (strategy_at all p) key
 
   his_step : (o : Option SetKey) (k : ℕ) → option_map_or (λ key. not (key.player == p) || choices_by g all key == k) o true ≡ option_map_or (λ key. not (key.player == p) || his key == k) o true
   his_step None k = refl
@@ -64,7 +66,7 @@ module _ (g : Game) (all : List (List ℕ)) (p : ℕ) where
     where
       by_owner : (b : Bool) → (key.player == p) ≡ b → (not (key.player == p) || choices_by g all key == k) ≡ (not (key.player == p) || his key == k)
       by_owner false e = (λ i. not (e i) || choices_by g all key == k) ∙ sym (λ i. not (e i) || his key == k)
-      by_owner true e = λ i. not (key.player == p) || choice_at (keys_of g (eqb-true key.player p e i)) (get_or all (eqb-true key.player p e i - 1) []) key == k
+      by_owner true e = λ i. not (key.player == p) || choice_at (player_keys g (eqb-true key.player p e i)) (strategy_at all (eqb-true key.player p e i)) key == k
 
   his_steps : (steps : List Step) → list_all (is_own_choice (choices_by g all) p) steps ≡ list_all (is_own_choice his p) steps
   his_steps [] = refl
@@ -74,12 +76,12 @@ module _ (g : Game) (all : List (List ℕ)) (p : ℕ) where
 
 module _ (g : Game) where
   abbrev AreReducedAlike : List (List ℕ) → List (List ℕ) → Type 0
-  AreReducedAlike all others = (p : ℕ) → 0 < p → reduced g p (get_or all (p - 1) []) ≡ reduced g p (get_or others (p - 1) [])
+  AreReducedAlike all others = (p : ℕ) → 0 < p → reduced g p (strategy_at all p) ≡ reduced g p (strategy_at others p)
 
   follows_too : (all others : List (List ℕ)) → AreReducedAlike all others → (play : Play) → Has (plays g.tree) play → follows (choices_by g all) play ≡ true → follows (choices_by g others) play ≡ true
   follows_too all others alike play i h =
       all_chosen (choices_by g others) play.steps
-      (λ p above. his_steps g others p play.steps ∙ sym (reduced_agree g p (get_or all (p - 1) []) (get_or others (p - 1) []) play (alike p above) (contains (plays g.tree) play i))
+      (λ p above. his_steps g others p play.steps ∙ sym (reduced_agree g p (strategy_at all p) (strategy_at others p) play (alike p above) (contains (plays g.tree) play i))
       ∙ sym (his_steps g all p play.steps) ∙ all_own (choices_by g all) p play.steps above h)
 
   filter_same : (p q : Play → Bool) (ps : List Play) → ((x : Play) → Has ps x → p x ≡ q x) → filter p ps ≡ filter q ps
@@ -122,6 +124,8 @@ module _ (g : Game) where
       let alike : AreReducedAlike (strategies_at g p) (strategies_at g q) =
       λ k above.
       let place : 1 + (k - 1) ≡ k = omega arith in
-      subst (λ m. reduced g m (get_or (strategies_at g p) (k - 1) []) ≡ reduced g m (get_or (strategies_at g q) (k - 1) [])) place
-      (each_alike 1 (length g.players) (strategies_at g p) (strategies_at g q) (one_each p hp) (one_each q hq) e (k - 1)) in
+      ap (reduced g k) (strategy_before (strategies_at g p) k above)
+      ∙ subst (λ m. reduced g m (get_or (strategies_at g p) (k - 1) []) ≡ reduced g m (get_or (strategies_at g q) (k - 1) [])) place
+      (each_alike 1 (length g.players) (strategies_at g p) (strategies_at g q) (one_each p hp) (one_each q hq) e (k - 1))
+      ∙ ap (reduced g k) (sym (strategy_before (strategies_at g q) k above)) in
       ap (λ ps. total (map (λ play. times (play_probability g play) (play_payoff g player play)) ps)) (same_plays (strategies_at g p) (strategies_at g q) alike)

@@ -9,9 +9,10 @@ use Rattle.gf_tree.specs.Description.{SetKey, same_set}
 use Rattle.gf_tree.specs.Game.{Game}
 use Rattle.gf_tree.proofs.TreesOnce.{same_set_equality}
 use Rattle.gf_tree.proofs.Uses.{Has, has}
-use Rattle.gf_form.specs.Strategies.{keys_of, choice_at}
+use Rattle.gf_form.specs.Strategies.{choice_at}
 use Rattle.gf_form.specs.Plays.{Step, Play, plays}
 use Rattle.gf_form.specs.Reduced.{is_own_choice, agrees, comes_to, is_relevant, reduced}
+use Rattle.gf_tree.specs.FirstUse.{player_keys}
 
 -- ---- tests
 
@@ -61,13 +62,13 @@ in_or_none (k ∷ keys) key = by_test (same_set k key) refl (in_or_none keys key
 
 module _ (g : Game) (player : ℕ) where
   abbrev chosen : List ℕ → SetKey → ℕ
-  chosen strategy key = choice_at (keys_of g player) strategy key
+  chosen strategy key = choice_at (player_keys g player) strategy key
 
   same_where_relevant : (s t : List ℕ) → reduced g player s ≡ reduced g player t → (key : SetKey) → is_relevant g (chosen s) key ≡ true → chosen s key ≡ chosen t key
   same_where_relevant s t e key relevant =
-      elim (in_or_none (keys_of g player) key) [
+      elim (in_or_none (player_keys g player) key) [
         | inl i ↦
-            let shown = mapped_alike (λ k. if is_relevant g (chosen s) k then Some (chosen s k) else None) (λ k. if is_relevant g (chosen t) k then Some (chosen t k) else None) (keys_of g player) key e i in
+            let shown = mapped_alike (λ k. if is_relevant g (chosen s) k then Some (chosen s k) else None) (λ k. if is_relevant g (chosen t) k then Some (chosen t k) else None) (player_keys g player) key e i in
             shown_alike (is_relevant g (chosen s) key) (is_relevant g (chosen t) key) (chosen s key) (chosen t key) relevant shown
         | inr z ↦ z s ∙ sym (z t)
       ]
@@ -106,6 +107,6 @@ module _ (g : Game) (player : ℕ) where
   agrees_too s t play e i h =
       rest_agrees (chosen s) (chosen t) (same_where_relevant s t e) play.steps (λ key own come. any_has (λ p. comes_to (chosen s) key p.steps) (plays g.tree) play i come) h
 
-  pub reduced_agree : (s t : List ℕ) (play : Play) → reduced g player s ≡ reduced g player t → Contains (plays g.tree) play → agrees (choice_at (keys_of g player) s) player play ≡ agrees (choice_at (keys_of g player) t) player play
+  pub reduced_agree : (s t : List ℕ) (play : Play) → reduced g player s ≡ reduced g player t → Contains (plays g.tree) play → agrees (choice_at (player_keys g player) s) player play ≡ agrees (choice_at (player_keys g player) t) player play
   reduced_agree s t play e i =
       same_answer (agrees (chosen s) player play) (agrees (chosen t) player play) (agrees_too s t play e (has (plays g.tree) play i)) (agrees_too t s play (sym e) (has (plays g.tree) play i))

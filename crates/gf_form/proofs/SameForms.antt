@@ -1,33 +1,36 @@
 -- Games that a renumbering carries to each other have the same payoffs, bottom-up values and strategic form.
-use Rattle.std.proofs.Common.{◌≡◌, ℕ, ◌-◌, true, List, [], ◌∷◌, Option, Some, None, MatchOption, length, map, get_or, refl, sym, ap, ◌∙◌, subst, inl, inr}
-use Rattle.std.specs.Prelude.{◌↔◌, ◌==◌, ◌||◌, zip, option_map, option_and_then, unwrap_or, slice_get, if◌then◌else◌}
+use Rattle.std.proofs.Common.{◌≡◌, ℕ, ◌-◌, true, List, [], ◌∷◌, Option, Some, None, MatchOption, length, map, refl, sym, ap, ◌∙◌, subst, inl, inr}
+use Rattle.std.specs.Prelude.{◌↔◌, ◌==◌, ◌||◌, zip, option_map, option_and_then, unwrap_or, if◌then◌else◌}
 use Rattle.std.specs.List.{AllZip}
 use Rattle.std.specs.Option.{option_map_or}
 use Rattle.gf_fraction.specs.Ratio.{Ratio, IsFraction}
 use Rattle.gf_fraction.proofs.AllElements.{all_weaker}
 use Rattle.gf_nfg.specs.Table.{Table}
 use Rattle.gf_tree.specs.PrefixOrder.{Entry, flatten}
+use Rattle.gf_token.specs.Positions.{at_position}
 use Rattle.gf_tree.specs.Description.{SetKey, InformationSet, same_set}
 use Rattle.gf_tree.specs.FiniteMap.{Described}
 use Rattle.gf_tree.specs.Game.{Node, Game, IsGame, used_sets, set_at, outcome_at}
 use Rattle.gf_tree.proofs.TreesOnce.{same_set_equality}
 use Rattle.gf_tree.proofs.Uses.{Has, all_of_each}
-use Rattle.gf_canon.specs.Renumbering.{Renumbering, IsRenumbering, renumbered_set, renumbered_node, renumbered}
+use Rattle.gf_tree.specs.Renumbering.{Renumbering, IsRenumbering, renumbered_set, renumbered_node, renumbered}
 use Rattle.gf_canon.specs.SameGame.{SameGame}
-use Rattle.gf_canon.proofs.Members.{filter_of_map, map_twice}
-use Rattle.gf_canon.proofs.FirstUses.{same_tests}
-use Rattle.gf_canon.proofs.Carried.{entry_used}
-use Rattle.gf_canon.proofs.Trees.{held}
-use Rattle.gf_canon.proofs.Renumberings.{sets_apart}
+use Rattle.gf_tree.proofs.Members.{filter_of_map, map_twice}
+use Rattle.gf_tree.proofs.FirstUseNumbers.{same_tests}
+use Rattle.gf_tree.proofs.Carried.{entry_used}
+use Rattle.gf_tree.proofs.MappedTrees.{held}
+use Rattle.gf_tree.proofs.Renumberings.{sets_apart}
 use Rattle.gf_canon.proofs.SameGames.{same_back}
-use Rattle.gf_canon.proofs.CanonicalGames.{set_at_image, outcome_at_image, carried_is_renumbered}
-use Rattle.gf_form.specs.Rational.{IsEqual, zero_ratio, one_ratio}
-use Rattle.gf_form.specs.Strategies.{sets_of, keys_of, action_counts, strategies, all_choices, strategy_label, players_of, choice_at, choices_by, strategies_at}
+use Rattle.gf_canon.proofs.CanonicalGames.{carried_is_renumbered}
+use Rattle.gf_fraction.specs.Rational.{IsEqual, zero_ratio, one_ratio}
+use Rattle.gf_form.specs.Strategies.{action_counts, strategies, all_choices, strategy_label, players_of, choice_at, choices_by, strategies_at, strategy_at}
 use Rattle.gf_form.specs.Payoff.{payoff}
 use Rattle.gf_form.specs.BottomUp.{IsValue}
 use Rattle.gf_form.specs.StrategicForm.{ArePayoffs, IsStrategicForm}
 use Rattle.gf_form.proofs.Alike.{IsAlike, AreAlike, same_payoff, same_value}
 use Rattle.gf_form.proofs.KnownSets.{own_set}
+use Rattle.gf_tree.proofs.RenumberedGames.{set_at_image, outcome_at_image}
+use Rattle.gf_tree.specs.FirstUse.{player_sets, player_keys}
 
 -- what a strategy chooses at a set, by the new numbers
 choice_carried : (f : SetKey → SetKey) (keys : List SetKey) (strategy : List ℕ) (key : SetKey) → ((k : SetKey) → Has keys k → same_set (f k) (f key) ≡ same_set k key) → choice_at (map f keys) strategy (f key) ≡ choice_at keys strategy key
@@ -42,27 +45,27 @@ module _ (g : Game) (r : Renumbering) (game : IsGame g) (is : IsRenumbering g r)
   abbrev image : Described SetKey InformationSet → Described SetKey InformationSet
   image s = record { key = renumbered_set r s.key; description = s.description }
 
-  sets_carried : (player : ℕ) → sets_of h player ≡ map image (sets_of g player)
+  sets_carried : (player : ℕ) → player_sets h player ≡ map image (player_sets g player)
   sets_carried player = filter_of_map (λ s. s.key.player == player) (λ s. s.key.player == player) image g.sets (λ s i. refl)
 
-  keys_carried : (player : ℕ) → keys_of h player ≡ map (renumbered_set r) (keys_of g player)
+  keys_carried : (player : ℕ) → player_keys h player ≡ map (renumbered_set r) (player_keys g player)
   keys_carried player =
-      ap (map (λ s. s.key)) (sets_carried player) ∙ map_twice (λ (s : Described SetKey InformationSet). s.key) image (sets_of g player)
-      ∙ sym (map_twice (renumbered_set r) (λ (s : Described SetKey InformationSet). s.key) (sets_of g player))
+      ap (map (λ s. s.key)) (sets_carried player) ∙ map_twice (λ (s : Described SetKey InformationSet). s.key) image (player_sets g player)
+      ∙ sym (map_twice (renumbered_set r) (λ (s : Described SetKey InformationSet). s.key) (player_sets g player))
 
-  key_used : (player : ℕ) (key : SetKey) → Has (keys_of g player) key → Has (used_sets g.tree) key
+  key_used : (player : ℕ) (key : SetKey) → Has (player_keys g player) key → Has (used_sets g.tree) key
   key_used player key i =
       let own = own_set g player key i in
       subst (Has (used_sets g.tree)) own.2 (entry_used same_set (used_sets g.tree) g.sets own.0 game.one_entry_each_set own.1)
 
   counts_carried : (player : ℕ) → action_counts h player ≡ action_counts g player
-  counts_carried player = ap (map (λ s. length s.description.actions)) (sets_carried player) ∙ map_twice (λ (s : Described SetKey InformationSet). length s.description.actions) image (sets_of g player)
+  counts_carried player = ap (map (λ s. length s.description.actions)) (sets_carried player) ∙ map_twice (λ (s : Described SetKey InformationSet). length s.description.actions) image (player_sets g player)
 
   choices_carried : (all : List (List ℕ)) (key : SetKey) → Has (used_sets g.tree) key → choices_by h all (renumbered_set r key) ≡ choices_by g all key
   choices_carried all key used =
-      let strategy = get_or all (key.player - 1) [] in
+      let strategy = strategy_at all key.player in
       ap (λ keys. choice_at keys strategy (renumbered_set r key)) (keys_carried key.player)
-      ∙ choice_carried (renumbered_set r) (keys_of g key.player) strategy key (λ k i. same_tests same_set same_set same_set_equality same_set_equality (renumbered_set r) k key (sets_apart g r is k key (key_used key.player k i) used))
+      ∙ choice_carried (renumbered_set r) (player_keys g key.player) strategy key (λ k i. same_tests same_set same_set same_set_equality same_set_equality (renumbered_set r) k key (sets_apart g r is k key (key_used key.player k i) used))
 
   -- ---- nodes
 
@@ -72,16 +75,16 @@ module _ (g : Game) (r : Renumbering) (game : IsGame g) (is : IsRenumbering g r)
   chosen_carried c d k (Some key) same = λ i. key.player == 0 || same key refl i == k
 
   chance_carried : (k : ℕ) (o : Option SetKey) → ((key : SetKey) → o ≡ Some key → set_at h (renumbered_set r key) ≡ set_at g key)
-      → unwrap_or (option_and_then (λ a. a.probability) (option_and_then (λ key. option_and_then (λ set. slice_get set.actions (k - 1)) (set_at h key)) (option_map (renumbered_set r) o))) one_ratio
-      ≡ unwrap_or (option_and_then (λ a. a.probability) (option_and_then (λ key. option_and_then (λ set. slice_get set.actions (k - 1)) (set_at g key)) o)) one_ratio
+      → unwrap_or (option_and_then (λ a. a.probability) (option_and_then (λ key. option_and_then (λ set. at_position set.actions k) (set_at h key)) (option_map (renumbered_set r) o))) one_ratio
+      ≡ unwrap_or (option_and_then (λ a. a.probability) (option_and_then (λ key. option_and_then (λ set. at_position set.actions k) (set_at g key)) o)) one_ratio
   chance_carried k None same = refl
-  chance_carried k (Some key) same = ap (λ o. unwrap_or (option_and_then (λ a. a.probability) (option_and_then (λ set. slice_get set.actions (k - 1)) o)) one_ratio) (same key refl)
+  chance_carried k (Some key) same = ap (λ o. unwrap_or (option_and_then (λ a. a.probability) (option_and_then (λ set. at_position set.actions k) o)) one_ratio) (same key refl)
 
   pays_carried : (player : ℕ) (o : Option ℕ) → ((number : ℕ) → o ≡ Some number → outcome_at h (r.outcome number) ≡ outcome_at g number)
-      → unwrap_or (option_and_then (λ number. option_and_then (λ outcome. slice_get outcome.payoffs (player - 1)) (outcome_at h number)) (option_map r.outcome o)) zero_ratio
-      ≡ unwrap_or (option_and_then (λ number. option_and_then (λ outcome. slice_get outcome.payoffs (player - 1)) (outcome_at g number)) o) zero_ratio
+      → unwrap_or (option_and_then (λ number. option_and_then (λ outcome. at_position outcome.payoffs player) (outcome_at h number)) (option_map r.outcome o)) zero_ratio
+      ≡ unwrap_or (option_and_then (λ number. option_and_then (λ outcome. at_position outcome.payoffs player) (outcome_at g number)) o) zero_ratio
   pays_carried player None same = refl
-  pays_carried player (Some number) same = ap (λ o. unwrap_or (option_and_then (λ outcome. slice_get outcome.payoffs (player - 1)) o) zero_ratio) (same number refl)
+  pays_carried player (Some number) same = ap (λ o. unwrap_or (option_and_then (λ outcome. at_position outcome.payoffs player) o) zero_ratio) (same number refl)
 
   moves_carried : (c d : SetKey → ℕ) (o : Option SetKey) → ((key : SetKey) → o ≡ Some key → d (renumbered_set r key) ≡ c key)
       → MatchOption o (option_map (renumbered_set r) o ≡ None) (λ key. (other : SetKey) × (option_map (renumbered_set r) o ≡ Some other) × ((other.player == 0) ≡ (key.player == 0)) × (d other ≡ c key))
@@ -114,7 +117,7 @@ module _ (g : Game) (r : Renumbering) (game : IsGame g) (is : IsRenumbering g r)
   strategies_carried player = ap all_choices (counts_carried player)
 
   strategies_at_carried : (profile : List ℕ) → strategies_at h profile ≡ strategies_at g profile
-  strategies_at_carried profile = λ i. map (λ p. get_or (strategies_carried p.0 i) (p.1 - 1) []) (zip (players_of g) profile)
+  strategies_at_carried profile = λ i. map (λ p. strategy_at (strategies_carried p.0 i) p.1) (zip (players_of g) profile)
 
   payoffs_carried : (profile : List ℕ) (payoffs : List Ratio) (players : List ℕ)
       → AllZip (λ paid player. IsFraction paid × IsEqual paid (payoff g (choices_by g (strategies_at g profile)) player)) payoffs players
@@ -150,6 +153,14 @@ value_on g h game game' same all player value v =
 
 form_on : (g h : Game) → IsGame g → IsGame h → SameGame g h → (t : Table) → IsStrategicForm g t → IsStrategicForm h t
 form_on g h game game' same t form = subst (λ k. IsStrategicForm k t) (carried_is_renumbered same.0 g h game game' same.1) (form_carried g same.0 game same.1.renumbering t form)
+
+pub same_strategies : (g h : Game) → IsGame g → IsGame h → SameGame g h → (player : ℕ) → strategies g player ≡ strategies h player
+same_strategies g h game game' same player =
+    subst (λ k. strategies g player ≡ strategies k player) (carried_is_renumbered same.0 g h game game' same.1) (sym (strategies_carried g same.0 game same.1.renumbering player))
+
+pub same_strategies_at : (g h : Game) → IsGame g → IsGame h → SameGame g h → (profile : List ℕ) → strategies_at g profile ≡ strategies_at h profile
+same_strategies_at g h game game' same profile =
+    subst (λ k. strategies_at g profile ≡ strategies_at k profile) (carried_is_renumbered same.0 g h game game' same.1) (sym (strategies_at_carried g same.0 game same.1.renumbering profile))
 
 pub same_values : (g h : Game) → IsGame g → IsGame h → SameGame g h → (all : List (List ℕ)) (player : ℕ) (value : Ratio) → IsValue g (choices_by g all) player g.tree value ↔ IsValue h (choices_by h all) player h.tree value
 same_values g h game game' same all player value = (value_on g h game game' same all player value, value_on h g game' game (same_back g h game same) all player value)

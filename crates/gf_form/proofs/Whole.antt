@@ -16,12 +16,12 @@ use Rattle.gf_tree.specs.Game.{Node, Game, IsGame, HasChildren, set_at}
 use Rattle.gf_tree.specs.Spellable.{IsSpellable}
 use Rattle.gf_tree.proofs.Uses.{Has, contains}
 use Rattle.gf_tree.proofs.FirstUses.{of_filter}
-use Rattle.gf_form.specs.Rational.{IsEqual, zero_ratio, one_ratio, times, total}
+use Rattle.gf_fraction.specs.Rational.{IsEqual, zero_ratio, one_ratio, times, total}
 use Rattle.gf_form.specs.Plays.{Play, after, is_chosen, follows, plays, HasActions}
 use Rattle.gf_form.specs.Payoff.{probability, play_probability}
-use Rattle.gf_form.proofs.Rationals.{equal_refl, plus_zero, plus_comm, times_comm, times_one}
-use Rattle.gf_form.proofs.Chains.{◌then◌, back, plus_left, plus_right, times_left, times_right}
-use Rattle.gf_form.proofs.Denominators.{IsAbove, probability_above, play_probability_above}
+use Rattle.gf_fraction.proofs.Rationals.{equal_refl, plus_zero, plus_comm, times_comm, times_one, IsAbove}
+use Rattle.gf_fraction.proofs.Chains.{◌then◌, back, plus_left, plus_right, times_left, times_right}
+use Rattle.gf_form.proofs.Denominators.{probability_above, play_probability_above}
 use Rattle.gf_form.proofs.Lotteries.{actions_at, chances_add, no_chance}
 use Rattle.gf_form.proofs.PlaySums.{sum_joined, weight, weight_above, weight_after}
 use Rattle.gf_form.proofs.Followed.{followed, followed_in, in_children, each_chosen, first_chosen, only_this, not_this}

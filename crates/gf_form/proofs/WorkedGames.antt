@@ -4,7 +4,7 @@ use Rattle.std.specs.Prelude.{codes, neg_ℤ}
 use Rattle.std.specs.List.{AllByRecursion}
 use Rattle.std.proofs.lemmas.Nat.Gcd.{dvd_refl}
 use Rattle.gf_fraction.specs.Ratio.{IsFraction, whole}
-use Rattle.gf_fraction.specs.Fits.{SumFits}
+use Rattle.gf_fraction.specs.Fits.{AddsTo, SumFits}
 use Rattle.gf_fraction.specs.Computed.{lowest_of, gcd_within}
 use Rattle.gf_fraction.proofs.Computes.{lowest_of-fraction}
 use Rattle.gf_fraction.proofs.WholeNumbers.{whole_fraction}
@@ -34,7 +34,12 @@ whole_fits m n hm hn = record {
 }
 
 sure_adds : AddToOne (whole (pos 0)) (whole (pos 1) ∷ whole (pos 0) ∷ [])
-sure_adds = (omega arith, whole_fits 0 1 (omega arith) (omega arith), (whole (pos 1), whole_fraction 1 (omega arith), refl, (omega arith, whole_fits 1 0 (omega arith) (omega arith), (whole (pos 1), whole_fraction 1 (omega arith), refl, refl))))
+sure_adds =
+    let first : AddsTo (whole (pos 0)) (whole (pos 1)) (whole (pos 1)) =
+    (whole_fits 0 1 (omega arith) (omega arith), whole_fraction 1 (omega arith), refl) in
+    let second : AddsTo (whole (pos 1)) (whole (pos 0)) (whole (pos 1)) =
+    (whole_fits 1 0 (omega arith) (omega arith), whole_fraction 1 (omega arith), refl) in
+    (omega arith, (whole (pos 1), first, (omega arith, (whole (pos 1), second, refl))))
 
 sure_is_set : IsSet 1 (set_of 0 1) (sure (codes "a") (codes "b"))
 sure_is_set = record { player = omega arith; number = omega arith; some_action = omega arith; actions = (whole (pos 1) ∷ whole (pos 0) ∷ [], refl, sure_adds) }

@@ -1,8 +1,8 @@
 pub mod BottomUp
 pub mod Payoff
 pub mod Plays
-pub mod Rational
 pub mod Reduced
+pub mod Refusal
 pub mod StrategicForm
 pub mod Strategies
 pub mod WorkedForms

@@ -1,16 +1,18 @@
 -- Reduced strategies, which leave out choices that cannot matter, and the reduced form.
-use Rattle.std.specs.Prelude.{◌≡◌, ℕ, ◌-◌, ◌==◌, ◌&&◌, ◌||◌, not, Bool, true, false, List, [], ◌∷◌, length, map, get_or, zip, codes, decimal, Option, Some, None, if◌then◌else◌}
-use Rattle.std.specs.List.{AllByRecursion, Contains, join_with_byte, list_all, list_any}
+use Rattle.std.specs.Prelude.{◌≡◌, ℕ, ◌==◌, ◌&&◌, ◌||◌, not, Bool, true, false, List, [], ◌∷◌, map, zip, codes, decimal, Option, Some, None, if◌then◌else◌}
+use Rattle.std.specs.List.{Contains, join_with_byte, list_all, list_any}
 use Rattle.std.specs.Option.{option_map_or}
 use Rattle.std.specs.Cmp.Lexicographic.{pointwise}
+use Rattle.gf_fraction.specs.Ratio.{Ratio}
 use Rattle.gf_nfg.specs.Profiles.{profiles}
 use Rattle.gf_nfg.specs.Table.{Table}
 use Rattle.gf_tree.specs.Description.{SetKey, same_set}
 use Rattle.gf_tree.specs.FiniteMap.{first_uses}
+use Rattle.gf_tree.specs.FirstUse.{player_keys}
 use Rattle.gf_tree.specs.Game.{Game}
 use Rattle.gf_form.specs.Plays.{Step, Play, plays}
-use Rattle.gf_form.specs.Strategies.{keys_of, choice_at, strategies, players_of, strategies_at, choices_by}
-use Rattle.gf_form.specs.StrategicForm.{ArePayoffs}
+use Rattle.gf_form.specs.Strategies.{choice_at, strategies, players_of, strategies_at, strategy_at, full_profiles}
+use Rattle.gf_form.specs.StrategicForm.{ArePayoffsAt, IsFormBy}
 
 -- not a move of this player, or the one that he chooses
 abbrev pub is_own_choice : (SetKey → ℕ) → ℕ → Step → Bool
@@ -32,7 +34,7 @@ is_relevant g choices key = list_any (λ play. comes_to choices key play.steps) 
 -- the choices at relevant sets, and none at the others
 abbrev pub reduced : Game → ℕ → List ℕ → List (Option ℕ)
 reduced g player strategy =
-    let sets = keys_of g player in
+    let sets = player_keys g player in
     let choices = choice_at sets strategy in
     map (λ key. if is_relevant g choices key then Some (choices key) else None) sets
 
@@ -55,17 +57,17 @@ reduced_by g profile = map (λ p. reduced g p.0 p.1) (zip (players_of g) (strate
 
 -- the strategies of a profile of the reduced form
 abbrev pub reduced_at : Game → List ℕ → List (List (Option ℕ))
-reduced_at g profile = map (λ p. get_or (reduced_strategies g p.0) (p.1 - 1) []) (zip (players_of g) profile)
+reduced_at g profile = map (λ p. strategy_at (reduced_strategies g p.0) p.1) (zip (players_of g) profile)
 
--- full profiles, of the strategies that are not reduced
-abbrev pub full_profiles : Game → List (List ℕ)
-full_profiles g = profiles (map (λ player. length (strategies g player)) (players_of g))
+-- the labels of a player's reduced strategies
+abbrev pub reduced_labels : Game → ℕ → List (List ℕ)
+reduced_labels g player = map reduced_label (reduced_strategies g player)
 
--- the strategic form with reduced strategies; at each of its profiles, the payoffs of every full profile that reduces to it
-pub record IsReducedForm (g : Game) (t : Table) : Type 0 where
-  pub title : t.title ≡ g.title
-  pub comment : t.comment ≡ g.comment
-  pub players : t.players ≡ g.players
-  pub strategies : t.strategies ≡ map (λ player. map reduced_label (reduced_strategies g player)) (players_of g)
-  pub profiles : map (λ e. e.profile) t.entries ≡ profiles (map length t.strategies)
-  pub payoffs : AllByRecursion (λ e. (full : List ℕ) → Contains (full_profiles g) full → reduced_by g full ≡ reduced_at g e.profile → ArePayoffs g (choices_by g (strategies_at g full)) e.payoffs) t.entries
+-- the payoffs at every full profile that reduces to this profile
+abbrev pub AreReducedPayoffsAt : Game → List ℕ → List Ratio → Type 0
+AreReducedPayoffsAt g profile payoffs = (full : List ℕ) → Contains (full_profiles g) full
+    → reduced_by g full ≡ reduced_at g profile → ArePayoffsAt g full payoffs
+
+-- the reduced form: by the reduced strategies, with the payoffs at each of their profiles
+abbrev pub IsReducedForm : Game → Table → Type 0
+IsReducedForm g t = IsFormBy (reduced_labels g) (AreReducedPayoffsAt g) g t

@@ -6,7 +6,7 @@ use Rattle.gf_nfg.specs.Profiles.{profiles}
 use Rattle.gf_nfg.specs.Table.{Table}
 use Rattle.gf_tree.specs.Description.{SetKey}
 use Rattle.gf_tree.specs.Game.{Game}
-use Rattle.gf_form.specs.Rational.{IsEqual}
+use Rattle.gf_fraction.specs.Rational.{IsEqual}
 use Rattle.gf_form.specs.Strategies.{strategies, strategy_label, players_of, strategies_at, choices_by}
 use Rattle.gf_form.specs.Payoff.{payoff}
 
@@ -14,11 +14,25 @@ use Rattle.gf_form.specs.Payoff.{payoff}
 abbrev pub ArePayoffs : Game → (SetKey → ℕ) → List Ratio → Type 0
 ArePayoffs g choices payoffs = AllZip (λ paid player. IsFraction paid × IsEqual paid (payoff g choices player)) payoffs (players_of g)
 
--- the title, the comment and the players of the game, the labels of the players' strategies, and the payoffs at each profile
-pub record IsStrategicForm (g : Game) (t : Table) : Type 0 where
+-- A table of the game, its title, its comment and its players: with these labels of each player's
+-- strategies, and at each profile payoffs that are right there.
+pub record IsFormBy (labels : ℕ → List (List ℕ)) (IsRight : List ℕ → List Ratio → Type 0) (g : Game)
+    (t : Table) : Type 0 where
   pub title : t.title ≡ g.title
   pub comment : t.comment ≡ g.comment
   pub players : t.players ≡ g.players
-  pub strategies : t.strategies ≡ map (λ player. map strategy_label (strategies g player)) (players_of g)
+  pub strategies : t.strategies ≡ map labels (players_of g)
   pub profiles : map (λ e. e.profile) t.entries ≡ profiles (map length t.strategies)
-  pub payoffs : AllByRecursion (λ e. ArePayoffs g (choices_by g (strategies_at g e.profile)) e.payoffs) t.entries
+  pub payoffs : AllByRecursion (λ e. IsRight e.profile e.payoffs) t.entries
+
+-- the labels of a player's strategies
+abbrev pub strategy_labels : Game → ℕ → List (List ℕ)
+strategy_labels g player = map strategy_label (strategies g player)
+
+-- the payoffs where these strategies meet, of each player the one at his position in the profile
+abbrev pub ArePayoffsAt : Game → List ℕ → List Ratio → Type 0
+ArePayoffsAt g profile payoffs = ArePayoffs g (choices_by g (strategies_at g profile)) payoffs
+
+-- the strategic form: by the strategies, with the payoffs at each profile
+abbrev pub IsStrategicForm : Game → Table → Type 0
+IsStrategicForm g t = IsFormBy (strategy_labels g) (ArePayoffsAt g) g t

@@ -1,21 +1,15 @@
 -- Pure strategies: an action at each of a player's information sets.
-use Rattle.std.specs.Prelude.{ℕ, ◌-◌, ◌==◌, List, [], ◌∷◌, length, map, get_or, filter, flat_map, zip, decimal, if◌then◌else◌}
+use Rattle.std.specs.Prelude.{ℕ, List, [], ◌∷◌, length, map, flat_map, unwrap_or, zip, decimal, if◌then◌else◌}
 use Rattle.std.specs.List.{join_with_byte}
-use Rattle.gf_nfg.specs.Profiles.{positions}
-use Rattle.gf_tree.specs.Description.{SetKey, InformationSet, same_set}
-use Rattle.gf_tree.specs.FiniteMap.{Described}
+use Rattle.gf_token.specs.Positions.{at_position}
+use Rattle.gf_nfg.specs.Profiles.{positions, profiles}
+use Rattle.gf_tree.specs.Description.{SetKey, same_set}
+use Rattle.gf_tree.specs.FirstUse.{player_keys, player_sets}
 use Rattle.gf_tree.specs.Game.{Game}
 
--- his sets, in order of first use
-abbrev pub sets_of : Game → ℕ → List (Described SetKey InformationSet)
-sets_of g player = filter (λ s. s.key.player == player) g.sets
-
-abbrev pub keys_of : Game → ℕ → List SetKey
-keys_of g player = map (λ s. s.key) (sets_of g player)
-
--- how many actions there are at each of them
+-- how many actions there are at each of a player's sets
 abbrev pub action_counts : Game → ℕ → List ℕ
-action_counts g player = map (λ s. length s.description.actions) (sets_of g player)
+action_counts g player = map (λ s. length s.description.actions) (player_sets g player)
 
 -- Where there are so many actions at each set: one action for each set, by its position from 1. The last set's advances fastest.
 abbrev pub all_choices : List ℕ → List (List ℕ)
@@ -34,15 +28,23 @@ strategy_label strategy = join_with_byte 45 (map decimal strategy)
 abbrev pub players_of : Game → List ℕ
 players_of g = positions (length g.players)
 
+-- the strategy at this position, from 1; at no position there is one that chooses nothing
+abbrev pub strategy_at : {A : Type 0} → List (List A) → ℕ → List A
+strategy_at strategies position = unwrap_or (at_position strategies position) []
+
 -- the strategies of a profile, which has a strategy of each player by its position from 1
 abbrev pub strategies_at : Game → List ℕ → List (List ℕ)
-strategies_at g profile = map (λ p. get_or (strategies g p.0) (p.1 - 1) []) (zip (players_of g) profile)
+strategies_at g profile = map (λ p. strategy_at (strategies g p.0) p.1) (zip (players_of g) profile)
 
 -- what a strategy for these sets chooses at one of them, and 0 at any other
 abbrev pub choice_at : List SetKey → List ℕ → SetKey → ℕ
 choice_at (s ∷ sets) (action ∷ others) key = if same_set s key then action else choice_at sets others key
 choice_at _ _ key = 0
 
--- what the owner of a set chooses at it, where these are the strategies of all players
+-- what the owner of a set chooses at it, where these are the strategies of all players; chance has none
 abbrev pub choices_by : Game → List (List ℕ) → SetKey → ℕ
-choices_by g all key = choice_at (keys_of g key.player) (get_or all (key.player - 1) []) key
+choices_by g all key = choice_at (player_keys g key.player) (strategy_at all key.player) key
+
+-- the profiles of a game's strategies
+abbrev pub full_profiles : Game → List (List ℕ)
+full_profiles g = profiles (map (λ player. length (strategies g player)) (players_of g))

@@ -7,16 +7,18 @@ ghost use Rattle.gf_nfg.specs.Profiles.{product};
 ghost use Rattle.gf_nfg.specs.Table.{IsTable, Table};
 ghost use Rattle.gf_tree.specs.Description.{SetKey};
 ghost use Rattle.gf_tree.specs.Game.{Game, IsGame};
+ghost use Rattle.gf_tree.specs.FirstUse.{player_keys};
 ghost use Rattle.gf_tree.specs.Spellable.{IsSpellable};
 ghost use Rattle.gf_tree.specs.WorkedTrees.{bonus, forgetful};
 ghost use Rattle.gf_canon.specs.SameGame.{SameGame};
-ghost use Rattle.gf_form.specs.Rational.{IsEqual, one_ratio, total};
-ghost use Rattle.gf_form.specs.Strategies.{action_counts, choice_at, choices_by, keys_of, players_of, strategies, strategies_at, strategy_label};
+ghost use Rattle.gf_fraction.specs.Rational.{IsEqual, one_ratio, total};
+ghost use Rattle.gf_form.specs.Strategies.{action_counts, choice_at, choices_by, full_profiles, players_of, strategies, strategies_at, strategy_label};
 ghost use Rattle.gf_form.specs.Plays.{follows, plays, HasActions, PartAtChance, Play};
 ghost use Rattle.gf_form.specs.Payoff.{payoff, play_probability};
 ghost use Rattle.gf_form.specs.BottomUp.{IsValue};
+ghost use Rattle.gf_form.specs.Refusal.{HasTooManyProfiles, OverflowsAt};
 ghost use Rattle.gf_form.specs.StrategicForm.{IsStrategicForm};
-ghost use Rattle.gf_form.specs.Reduced.{agrees, full_profiles, reduced, reduced_by, reduced_label, reduced_strategies, IsReducedForm};
+ghost use Rattle.gf_form.specs.Reduced.{agrees, reduced, reduced_by, reduced_label, reduced_strategies, IsReducedForm};
 ghost use Rattle.gf_form.specs.WorkedForms.{bonus_form, contradicted, ending, ending_form, ending_reduced, greatest, only, overflowing, second, unlikely};
 
 /// Worked games: plays, strategic and reduced forms, and payoffs that fit where the bottom-up value does not, once by
@@ -58,14 +60,21 @@ pub fn every_strategy()
         → strategy_label (get_or (strategies g player) i []) ≡ strategy_label (get_or (strategies g player) j []) → i ≡ j }
 {}
 
-/// Games that are the same have the same payoffs at every profile, the same bottom-up values, and the same strategic
-/// form: neither depends on the numbers of sets and outcomes.
+/// Games that are the same have the same strategies, the same payoffs at every profile, the same bottom-up values, and
+/// the same strategic form, or no table for the same reason: none of these depends on the numbers of sets and outcomes.
 pub fn same_games_same_form()
+    ensures strategies { (g h : Game) → IsGame g → IsGame h → SameGame g h
+        → (player : ℕ) → strategies g player ≡ strategies h player }
+    ensures strategies_at { (g h : Game) → IsGame g → IsGame h → SameGame g h
+        → (profile : List ℕ) → strategies_at g profile ≡ strategies_at h profile }
     ensures payoffs { (g h : Game) → IsGame g → IsGame h → SameGame g h → (all : List (List ℕ)) (player : ℕ)
         → payoff g (choices_by g all) player ≡ payoff h (choices_by h all) player }
     ensures values { (g h : Game) → IsGame g → IsGame h → SameGame g h → (all : List (List ℕ)) (player : ℕ) (value : Ratio)
         → IsValue g (choices_by g all) player g.tree value ↔ IsValue h (choices_by h all) player h.tree value }
     ensures forms { (g h : Game) → IsGame g → IsGame h → SameGame g h → (t : Table) → IsStrategicForm g t ↔ IsStrategicForm h t }
+    ensures too_many { (g h : Game) → IsGame g → IsGame h → SameGame g h → HasTooManyProfiles g ↔ HasTooManyProfiles h }
+    ensures overflow { (g h : Game) → IsGame g → IsGame h → SameGame g h
+        → (position : ℕ) → OverflowsAt g position ↔ OverflowsAt h position }
 {}
 
 /// A play follows the choices exactly if its players' moves are those. Some play follows them, if they are actions,
@@ -96,7 +105,7 @@ pub fn reduced_strategies_agree()
         → Contains (strategies g player) s → Contains (strategies g player) t
         → (reduced g player s ≡ reduced g player t)
         ↔ ((play : Play) → Contains (plays g.tree) play
-        → agrees (choice_at (keys_of g player) s) player play ≡ agrees (choice_at (keys_of g player) t) player play) }
+        → agrees (choice_at (player_keys g player) s) player play ≡ agrees (choice_at (player_keys g player) t) player play) }
 {}
 
 /// Full profiles that reduce to one have the same payoffs.

@@ -18,3 +18,5 @@ pub mod Numbers
 pub mod WholeNumbers
 pub mod Sums
 pub mod Products
+pub mod Rationals
+pub mod Chains

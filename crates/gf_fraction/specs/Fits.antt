@@ -36,3 +36,11 @@ pub record ProductFits (x y : Ratio) : Type 0 where
   pub product : Ratio
   pub fraction : IsFraction product
   pub value : IsProduct product x y
+
+-- the sum fits, and is r
+abbrev pub AddsTo : Ratio → Ratio → Ratio → Type 0
+AddsTo x y r = SumFits x y × IsFraction r × IsSum r x y
+
+-- the product is a fraction, which is r
+abbrev pub MultipliesTo : Ratio → Ratio → Ratio → Type 0
+MultipliesTo x y r = IsFraction r × IsProduct r x y

@@ -5,3 +5,4 @@ pub mod NumberText
 pub mod NumberScan
 pub mod Computed
 pub mod Steps
+pub mod Rational

@@ -1,15 +1,11 @@
 -- What the accessors of a table give.
-use Rattle.std.specs.Prelude.{◌≡◌, ℕ, zero, suc, List, [], ◌∷◌, Option, Some, None, slice_get, if◌then◌else◌}
+use Rattle.std.specs.Prelude.{◌≡◌, ℕ, List, [], ◌∷◌, Option, Some, None, if◌then◌else◌}
 use Rattle.std.specs.List.{flat_map}
 use Rattle.std.specs.Cmp.Lexicographic.{pointwise}
 use Rattle.std.specs.Prelude.{nat_eq}
 use Rattle.gf_fraction.specs.Ratio.{Ratio}
+pub use Rattle.gf_token.specs.Positions.{at_position}
 use Rattle.gf_nfg.specs.Table.{Entry, Table, IsTable, rows}
-
--- the item at this position, from 1
-abbrev pub at_position : {A : Type 0} → List A → ℕ → Option A
-at_position items zero = None
-at_position items (suc k) = slice_get items k
 
 -- the payoffs of the entry with this profile
 abbrev pub payoffs_at : List ℕ → List Entry → Option (List Ratio)

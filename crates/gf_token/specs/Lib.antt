@@ -13,3 +13,4 @@ pub mod Next
 pub mod NumberWhy
 pub mod Place
 pub mod Reason
+pub mod Positions

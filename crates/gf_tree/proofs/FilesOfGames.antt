@@ -10,8 +10,7 @@ use Rattle.gf_tree.specs.PrefixOrder.{Entry, flatten}
 use Rattle.gf_tree.specs.Description.{SetKey, InformationSet, Outcome, same_set, IsSet, IsOutcome}
 use Rattle.gf_tree.specs.FiniteMap.{Described, description_at, first_uses}
 use Rattle.gf_tree.specs.FileTree.{Use, FileNode, FileTree, set_uses, outcome_uses}
-use Rattle.gf_tree.specs.Consistent as consistent
-use Rattle.gf_tree.specs.Consistent.{Describes, AreConsistent, IsConsistent}
+use Rattle.gf_tree.specs.Consistent.{Describes, AreConsistent, IsConsistent, HasChildrenAsDescribed}
 use Rattle.gf_tree.specs.Game.{Node, Game, HasChildren, IsGame, used_sets, used_outcomes, set_at, outcome_at}
 use Rattle.gf_tree.specs.GameOf.{keys_alone, IsGameOf}
 use Rattle.gf_tree.proofs.Uses.{Has, IsEquality, has_map, mapped_from, each, all_of_each, contains, has, has_place, differ}
@@ -112,7 +111,7 @@ outcomes_told g (e ∷ es) =
     ap (cons_option (option_map (use_at (outcome_at g)) e.node.outcome)) (outcomes_told g es) ∙ map_of_option (outcome_at g) e.node.outcome (filter_map (λ e. e.node.outcome) es)
 
 children_told : (g : Game) (ks : List SetKey) (name : List ℕ) (o : Option SetKey) (outcome : Option (Use ℕ Outcome)) (n : ℕ) → MatchOption o (n ≡ 0) (λ key. option_map (λ set. length set.actions) (set_at g key) ≡ Some n)
-    → consistent.HasChildren (map (use_at (set_at g)) ks) (record { node = record { name = name; set = option_map (use_at (set_at g)) o; outcome = outcome }; children = n })
+    → HasChildrenAsDescribed (map (use_at (set_at g)) ks) (record { node = record { name = name; set = option_map (use_at (set_at g)) o; outcome = outcome }; children = n })
 children_told g ks name None outcome n h = h
 children_told g ks name (Some key) outcome n h = λ set told.
     let same : Some (length set.actions) ≡ Some n = ap (option_map (λ (s : InformationSet). length s.actions)) (sym (told_is (set_at g) ks key set told).1) ∙ h in
@@ -127,10 +126,10 @@ file_is_of g is =
     let entries = flatten_map (told g) g.tree in
     let set_uses_are : map (use_at (set_at g)) (used_sets g.tree) ≡ set_uses (flatten f.tree) = sym (ap set_uses entries ∙ sets_told g es) in
     let outcome_uses_are : map (use_at (outcome_at g)) (used_outcomes g.tree) ≡ outcome_uses (flatten f.tree) = sym (ap outcome_uses entries ∙ outcomes_told g es) in
-    let children : AllByRecursion (consistent.HasChildren (map (use_at (set_at g)) (used_sets g.tree))) (map (map_entry (told g)) es) =
-    all_of_each (consistent.HasChildren (map (use_at (set_at g)) (used_sets g.tree))) (map (map_entry (told g)) es) (λ y m.
+    let children : AllByRecursion (HasChildrenAsDescribed (map (use_at (set_at g)) (used_sets g.tree))) (map (map_entry (told g)) es) =
+    all_of_each (HasChildrenAsDescribed (map (use_at (set_at g)) (used_sets g.tree))) (map (map_entry (told g)) es) (λ y m.
     let x = mapped_from (map_entry (told g)) es y m in
-    subst (consistent.HasChildren (map (use_at (set_at g)) (used_sets g.tree))) x.2
+    subst (HasChildrenAsDescribed (map (use_at (set_at g)) (used_sets g.tree))) x.2
     (children_told g (used_sets g.tree) x.0.node.name x.0.node.set (option_map (use_at (outcome_at g)) x.0.node.outcome) x.0.children (each (HasChildren g) es x.0 is.children x.1))) in (
       record {
         sets = subst AreConsistent set_uses_are (uses_consistent (set_at g) (used_sets g.tree) (λ k h. let d = sets.known k h in (d.description, d.is_at)));
@@ -139,13 +138,10 @@ file_is_of g is =
             (of_told same_set (used_sets g.tree) g.sets sets (IsSet (length g.players)) is.each_set);
         each_outcome = subst (λ us. (number : ℕ) (outcome : Outcome) → Describes us number outcome → IsOutcome (length g.players) number outcome) outcome_uses_are
             (of_told nat_eq (used_outcomes g.tree) g.outcomes outcomes (IsOutcome (length g.players)) is.each_outcome);
-        children = subst (λ us. AllByRecursion (consistent.HasChildren us) (flatten f.tree)) set_uses_are (subst (AllByRecursion (consistent.HasChildren (map (use_at (set_at g)) (used_sets g.tree)))) (sym entries) children);
+        children = subst (λ us. AllByRecursion (HasChildrenAsDescribed us) (flatten f.tree)) set_uses_are (subst (AllByRecursion (HasChildrenAsDescribed (map (use_at (set_at g)) (used_sets g.tree)))) (sym entries) children);
       },
       record {
-        title = refl;
-        comment = refl;
-        players = refl;
-        tree = keys_again g g.tree;
+        kept = record { title = refl; comment = refl; players = refl; tree = keys_again g g.tree };
         set_keys = is.one_entry_each_set;
         outcome_keys = is.one_entry_each_outcome;
         sets = subst (λ us. AllByRecursion (λ s. Describes us s.key s.description) g.sets) set_uses_are sets.entries;

@@ -11,8 +11,7 @@ use Rattle.gf_tree.specs.PrefixOrder.{Entry, flatten, flatten_all}
 use Rattle.gf_tree.specs.Description.{SetKey, InformationSet, same_set, IsSet, IsOutcome}
 use Rattle.gf_tree.specs.FiniteMap.{first_uses}
 use Rattle.gf_tree.specs.FileTree.{Use, FileNode, FileTree, set_uses, outcome_uses}
-use Rattle.gf_tree.specs.Consistent as consistent
-use Rattle.gf_tree.specs.Consistent.{Describes, AreConsistent, IsConsistent}
+use Rattle.gf_tree.specs.Consistent.{Describes, AreConsistent, IsConsistent, HasChildrenAsDescribed}
 use Rattle.gf_tree.specs.Game.{Game, HasChildren, IsGame, used_sets, used_outcomes, set_at}
 use Rattle.gf_tree.specs.GameOf.{keys_alone, IsGameOf}
 use Rattle.gf_tree.proofs.Uses.{Has, IsEquality, has_map, mapped_from, each, all_of_each, has_first, has_later, described}
@@ -71,10 +70,7 @@ some_game f ok =
     let outcomes = describe_all (outcome_uses es) (first_uses nat_eq (map (λ u. u.key) (outcome_uses es))) (known nat_eq Decides-eqb (outcome_uses es) ok.outcomes) in (
       record { title = f.title; comment = f.comment; players = f.players; tree = map_tree keys_alone f.tree; sets = sets.0; outcomes = outcomes.0 },
       record {
-        title = refl;
-        comment = refl;
-        players = refl;
-        tree = refl;
+        kept = record { title = refl; comment = refl; players = refl; tree = refl };
         set_keys = sets.1 ∙ ap (first_uses same_set) (sym (used_sets_are f.tree));
         outcome_keys = outcomes.1 ∙ ap (first_uses nat_eq) (sym (used_outcomes_are f.tree));
         sets = sets.2;
@@ -89,7 +85,7 @@ set_found : (f : FileTree) (g : Game) → IsGameOf f g → (u : Use SetKey Infor
 set_found f g of u h =
     let es = flatten f.tree in
     let keys : map (λ s. s.key) g.sets ≡ first_uses same_set (map (λ u. u.key) (set_uses es)) =
-    of.set_keys ∙ ap (λ t. first_uses same_set (used_sets t)) (sym of.tree) ∙ ap (first_uses same_set) (used_sets_are f.tree) in
+    of.set_keys ∙ ap (λ t. first_uses same_set (used_sets t)) (sym of.kept.tree) ∙ ap (first_uses same_set) (used_sets_are f.tree) in
     let key = is_used same_set same_set_equality (map (λ u. u.key) (set_uses es)) u.key (has_map (λ u. u.key) (set_uses es) u h) in
     let d = found same_set same_set_equality g.sets u.key (subst (λ ks. Has ks u.key) (sym keys) key) in
     (d.description, d.is_at, each (λ s. Describes (set_uses es) s.key s.description) g.sets (record { key = u.key; description = d.description }) of.sets d.among)
@@ -111,12 +107,12 @@ use_among (x ∷ xs) e u (inr m) q = has_later x.node.set (set_uses xs) u (use_a
 pub is_game : (f : FileTree) (g : Game) → IsConsistent f → IsGameOf f g → IsGame g
 is_game f g ok of =
     let es = flatten f.tree in
-    let entries : map (map_entry keys_alone) es ≡ flatten g.tree = sym (flatten_map keys_alone f.tree) ∙ ap flatten of.tree in
+    let entries : map (map_entry keys_alone) es ≡ flatten g.tree = sym (flatten_map keys_alone f.tree) ∙ ap flatten of.kept.tree in
     let children : AllByRecursion (HasChildren g) (map (map_entry keys_alone) es) = all_of_each (HasChildren g) (map (map_entry keys_alone) es) (λ y m.
     let x = mapped_from (map_entry keys_alone) es y m in
     let among : (u : Use SetKey InformationSet) → x.0.node.set ≡ Some u → Has (set_uses es) u = λ u q. use_among es x.0 u x.1 q in
-    subst (HasChildren g) x.2 (children_of f g of x.0.node.name x.0.node.set (option_map (λ u. u.key) x.0.node.outcome) x.0.children among (each (consistent.HasChildren (set_uses es)) es x.0 ok.children x.1))) in
-    let players : length f.players ≡ length g.players = ap length of.players in
+    subst (HasChildren g) x.2 (children_of f g of x.0.node.name x.0.node.set (option_map (λ u. u.key) x.0.node.outcome) x.0.children among (each (HasChildrenAsDescribed (set_uses es)) es x.0 ok.children x.1))) in
+    let players : length f.players ≡ length g.players = ap length of.kept.players in
     record {
       one_entry_each_set = of.set_keys;
       one_entry_each_outcome = of.outcome_keys;
@@ -130,7 +126,7 @@ is_game f g ok of =
 -- ---- the keys in its tree
 
 pub sets_in_order : (f : FileTree) (g : Game) → IsGameOf f g → used_sets g.tree ≡ map (λ u. u.key) (set_uses (flatten f.tree))
-sets_in_order f g of = ap used_sets (sym of.tree) ∙ used_sets_are f.tree
+sets_in_order f g of = ap used_sets (sym of.kept.tree) ∙ used_sets_are f.tree
 
 pub outcomes_in_order : (f : FileTree) (g : Game) → IsGameOf f g → used_outcomes g.tree ≡ map (λ u. u.key) (outcome_uses (flatten f.tree))
-outcomes_in_order f g of = ap used_outcomes (sym of.tree) ∙ used_outcomes_are f.tree
+outcomes_in_order f g of = ap used_outcomes (sym of.kept.tree) ∙ used_outcomes_are f.tree

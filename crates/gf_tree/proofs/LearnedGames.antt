@@ -7,8 +7,7 @@ use Rattle.gf_tree.specs.PrefixOrder.{flatten}
 use Rattle.gf_tree.specs.Description.{SetKey, InformationSet, same_set, IsSet, IsOutcome}
 use Rattle.gf_tree.specs.FiniteMap.{Described, description_at, first_uses}
 use Rattle.gf_tree.specs.FileTree.{Use, FileTree, set_uses, outcome_uses}
-use Rattle.gf_tree.specs.Consistent as consistent
-use Rattle.gf_tree.specs.Consistent.{Describes, AreConsistent, IsConsistent}
+use Rattle.gf_tree.specs.Consistent.{Describes, AreConsistent, IsConsistent, HasChildrenAsDescribed}
 use Rattle.gf_tree.specs.Game.{Game, HasChildren, used_sets, used_outcomes}
 use Rattle.gf_tree.specs.GameOf.{keys_alone, IsGameOf}
 use Rattle.gf_tree.specs.Learned.{LearnsGame}
@@ -42,8 +41,8 @@ learned_is f g h =
     let outcomes = (learned_once nat_eq Decides-eqb (outcome_uses es) g.outcomes).0 h.outcomes in
     let set_told = told_found same_set same_set_equality (set_uses es) g.sets sets.0 sets.1 sets.2 in
     let outcome_told = told_found nat_eq Decides-eqb (outcome_uses es) g.outcomes outcomes.0 outcomes.1 outcomes.2 in
-    let players : length g.players ≡ length f.players = ap length (sym h.players) in
-    let entries : flatten g.tree ≡ map (map_entry keys_alone) es = ap flatten (sym h.tree) ∙ flatten_map keys_alone f.tree in
+    let players : length g.players ≡ length f.players = ap length (sym h.kept.players) in
+    let entries : flatten g.tree ≡ map (map_entry keys_alone) es = ap flatten (sym h.kept.tree) ∙ flatten_map keys_alone f.tree in
     let children = subst (AllByRecursion (HasChildren g)) entries h.children in (
       record {
         sets = sets.0;
@@ -51,17 +50,14 @@ learned_is f g h =
         each_set = λ key set told. subst (λ n. IsSet n key set) players (each (λ s. IsSet (length g.players) s.key s.description) g.sets (record { key = key; description = set }) h.each_set (set_told key set told).1);
         each_outcome = λ key outcome told. subst (λ n. IsOutcome n key outcome) players
             (each (λ o. IsOutcome (length g.players) o.key o.description) g.outcomes (record { key = key; description = outcome }) h.each_outcome (outcome_told key outcome told).1);
-        children = all_of_each (consistent.HasChildren (set_uses es)) es (λ e m.
+        children = all_of_each (HasChildrenAsDescribed (set_uses es)) es (λ e m.
             children_learned (set_uses es) g (λ key set told. (set_told key set told).0) e.node.name e.node.set (option_map (λ u. u.key) e.node.outcome) e.children
             (each (HasChildren g) (map (map_entry keys_alone) es) (map_entry keys_alone e) children (has_map (map_entry keys_alone) es e m)));
       },
       record {
-        title = h.title;
-        comment = h.comment;
-        players = h.players;
-        tree = h.tree;
-        set_keys = sets.1 ∙ ap (first_uses same_set) (sym (used_sets_are f.tree)) ∙ ap (λ t. first_uses same_set (used_sets t)) h.tree;
-        outcome_keys = outcomes.1 ∙ ap (first_uses nat_eq) (sym (used_outcomes_are f.tree)) ∙ ap (λ t. first_uses nat_eq (used_outcomes t)) h.tree;
+        kept = h.kept;
+        set_keys = sets.1 ∙ ap (first_uses same_set) (sym (used_sets_are f.tree)) ∙ ap (λ t. first_uses same_set (used_sets t)) h.kept.tree;
+        outcome_keys = outcomes.1 ∙ ap (first_uses nat_eq) (sym (used_outcomes_are f.tree)) ∙ ap (λ t. first_uses nat_eq (used_outcomes t)) h.kept.tree;
         sets = sets.2;
         outcomes = outcomes.2;
       },
@@ -73,13 +69,10 @@ is_learned f g h =
     let ok = h.0 in
     let of = h.1 in
     let game = is_game f g ok of in
-    let set_keys = of.set_keys ∙ ap (λ t. first_uses same_set (used_sets t)) (sym of.tree) ∙ ap (first_uses same_set) (used_sets_are f.tree) in
-    let outcome_keys = of.outcome_keys ∙ ap (λ t. first_uses nat_eq (used_outcomes t)) (sym of.tree) ∙ ap (first_uses nat_eq) (used_outcomes_are f.tree) in
+    let set_keys = of.set_keys ∙ ap (λ t. first_uses same_set (used_sets t)) (sym of.kept.tree) ∙ ap (first_uses same_set) (used_sets_are f.tree) in
+    let outcome_keys = of.outcome_keys ∙ ap (λ t. first_uses nat_eq (used_outcomes t)) (sym of.kept.tree) ∙ ap (first_uses nat_eq) (used_outcomes_are f.tree) in
     record {
-      title = of.title;
-      comment = of.comment;
-      players = of.players;
-      tree = of.tree;
+      kept = of.kept;
       sets = (learned_once same_set same_set_equality (set_uses es) g.sets).1 (ok.sets, set_keys, of.sets);
       outcomes = (learned_once nat_eq Decides-eqb (outcome_uses es) g.outcomes).1 (ok.outcomes, outcome_keys, of.outcomes);
       each_set = game.each_set;

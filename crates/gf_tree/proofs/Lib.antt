@@ -1,10 +1,18 @@
+pub mod Carried
 pub mod FilesOfGames
+pub mod FirstUseNumbers
 pub mod FirstUses
 pub mod Games
 mod Groups
 pub mod LearnedGames
 pub mod Learning
+pub mod Lookups
+pub mod MappedTrees
+pub mod Members
+pub mod PlayerSets
 pub mod Prefix
+pub mod RenumberedGames
+pub mod Renumberings
 mod SentencesOnce
 pub mod SpelledGames
 pub mod TreesOnce

@@ -10,7 +10,7 @@ use Rattle.gf_fraction.specs.Ratio.{Ratio}
 use Rattle.gf_tree.specs.PrefixOrder.{flatten}
 use Rattle.gf_tree.specs.Description.{SetKey, InformationSet, Outcome}
 use Rattle.gf_tree.specs.FileTree.{Use, FileNode, FileTree}
-use Rattle.gf_tree.specs.Sentence.{IsAction, IsInformationSet, IsMover, IsStep, IsOutcome, IsResult, IsNode, IsDescription, Sentence}
+use Rattle.gf_tree.specs.Sentence.{IsAction, IsInformationSet, IsMover, IsStep, IsResult, IsNode, IsDescription, Sentence, IsOutcomeDescription}
 use Rattle.gf_tree.proofs.Groups.{Agree, Begun, BeginsText, NoText, in_front, closed_once, opened, texts_once, numbers_once, descriptions_once, payoffs_once}
 
 -- ---- descriptions
@@ -44,7 +44,7 @@ sets_agree player first first' rest rest' x y h k e =
 sets_begin : (player : ℕ) → BeginsText (IsInformationSet player)
 sets_begin player first rest x h = (x.name, braced h.0 ++ rest, ap (λ (ts : List Token). ts ++ rest) h.1)
 
-outcomes_agree : (players : ℕ) → Agree (IsOutcome players)
+outcomes_agree : (players : ℕ) → Agree (IsOutcomeDescription players)
 outcomes_agree players first first' rest rest' x y h k e =
     let whole = in_front first first' rest rest' (Text x.name ∷ braced h.0) (Text y.name ∷ braced k.0) h.1 k.1 e in
     let name : x.name ≡ y.name = cc in
@@ -52,7 +52,7 @@ outcomes_agree players first first' rest rest' x y h k e =
     let a = payoffs_once x.payoffs y.payoffs h.0 k.0 rest rest' h.2 k.2 inside in
     (λ i. record { name = name i; payoffs = a.0 i }, a.1)
 
-outcomes_begin : (players : ℕ) → BeginsText (IsOutcome players)
+outcomes_begin : (players : ℕ) → BeginsText (IsOutcomeDescription players)
 outcomes_begin players first rest x h = (x.name, braced h.0 ++ rest, ap (λ (ts : List Token). ts ++ rest) h.1)
 
 -- ---- steps
@@ -121,7 +121,7 @@ results_once players (Some u) (Some v) first first' rest rest' h k n m e =
     let whole = in_front first first' rest rest' (Bare h.0 ∷ h.1) (Bare k.0 ∷ k.1) h.2 k.2 e in
     let bytes : h.0 ≡ k.0 = cc in
     let number = indices_once h.0 k.0 u.key v.key bytes h.3.0 k.3.0 in
-    let d = descriptions_once (IsOutcome players) (outcomes_agree players) (outcomes_begin players) u.description v.description h.1 k.1 rest rest' h.4 k.4 n m (ap (drop 1) whole) in
+    let d = descriptions_once (IsOutcomeDescription players) (outcomes_agree players) (outcomes_begin players) u.description v.description h.1 k.1 rest rest' h.4 k.4 n m (ap (drop 1) whole) in
     (λ i. Some (record { key = number i; description = d.0 i }), d.1)
 
 -- ---- nodes

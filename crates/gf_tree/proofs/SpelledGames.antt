@@ -13,7 +13,7 @@ use Rattle.gf_tree.specs.PrefixOrder.{Entry, flatten}
 use Rattle.gf_tree.specs.Description.{Action, SetKey, InformationSet, Outcome}
 use Rattle.gf_tree.specs.FileTree.{Use, FileNode, FileTree, set_uses, outcome_uses}
 use Rattle.gf_tree.specs.Consistent.{Describes}
-use Rattle.gf_tree.specs.Sentence.{IsDescription, IsAction, IsInformationSet, IsMover, IsStep, IsOutcome, IsResult, IsNode, Sentence}
+use Rattle.gf_tree.specs.Sentence.{IsDescription, IsAction, IsInformationSet, IsMover, IsStep, IsResult, IsNode, Sentence, IsOutcomeDescription}
 use Rattle.gf_tree.specs.Game.{Game, IsGame}
 use Rattle.gf_tree.specs.GameOf.{keys_alone, IsGameOf, SpellsGame}
 use Rattle.gf_tree.specs.Spellable.{IsSpellableAction, IsSpellableSet, IsSpellableOutcome, IsSpellable}
@@ -59,7 +59,7 @@ step_spelled letter tokens (Some u) h all =
     let k = all_parts IsSpelled h.0 (Bare h.1 ∷ h.2) (subst AllSpelled h.3 all) in
     set_spelled u.key u.description h.2 (mover_bound letter h.0 u.key.player h.4) h.5.0.2 h.6 k.1.1
 
-outcome_spelled : (players key : ℕ) (o : Option Outcome) (tokens : List Token) → key < 2 ^ 32 → IsDescription (IsOutcome players) tokens o → AllSpelled tokens → OutcomeSpelled (record { key = key; description = o })
+outcome_spelled : (players key : ℕ) (o : Option Outcome) (tokens : List Token) → key < 2 ^ 32 → IsDescription (IsOutcomeDescription players) tokens o → AllSpelled tokens → OutcomeSpelled (record { key = key; description = o })
 outcome_spelled players key None tokens n h all = tt
 outcome_spelled players key (Some d) tokens n h all =
     let k = subst AllSpelled h.1 all in
@@ -108,13 +108,13 @@ is_spellable tokens f g all h of =
     let heading = braced_spelled (map Text f.players) (h.comment ++ h.nodes) whole.1.1.1.1 in
     let more = all_parts IsSpelled h.comment h.nodes heading.1 in
     let nodes = each_spelled (IsNode (length f.players)) NodeSpelled (node_spelled (length f.players)) (map (λ e. e.node) es) h.nodes h.are_nodes more.1 in
-    let entries : map (map_entry keys_alone) es ≡ flatten g.tree = sym (flatten_map keys_alone f.tree) ∙ ap flatten of.tree in
+    let entries : map (map_entry keys_alone) es ≡ flatten g.tree = sym (flatten_map keys_alone f.tree) ∙ ap flatten of.kept.tree in
     let sets = sets_spelled es nodes in
     let outcomes = outcomes_spelled es nodes in
     record {
-      title = subst IsLabel of.title whole.1.1.1.0;
-      comment = subst IsLabel of.comment (comment_spelled h.comment f.comment h.is_comment more.0);
-      players = subst (AllByRecursion IsLabel) of.players (all_mapped IsSpelled Text f.players heading.0);
+      title = subst IsLabel of.kept.title whole.1.1.1.0;
+      comment = subst IsLabel of.kept.comment (comment_spelled h.comment f.comment h.is_comment more.0);
+      players = subst (AllByRecursion IsLabel) of.kept.players (all_mapped IsSpelled Text f.players heading.0);
       nodes = subst (AllByRecursion (λ e. IsLabel e.node.name)) entries (names_of_nodes es nodes);
       sets = all_of_each IsSpellableSet g.sets (λ s m.
           let told : Use SetKey InformationSet = record { key = s.key; description = Some s.description } in

@@ -7,7 +7,7 @@ use Rattle.gf_token.proofs.Spelled.{same_tokens}
 use Rattle.gf_tree.specs.PrefixOrder.{Entry, flatten}
 use Rattle.gf_tree.specs.Description.{SetKey, InformationSet, same_set}
 use Rattle.gf_tree.specs.FileTree.{Use, FileNode, FileTree, set_uses, outcome_uses}
-use Rattle.gf_tree.specs.Consistent.{AreConsistent, HasChildren, IsConsistent}
+use Rattle.gf_tree.specs.Consistent.{AreConsistent, IsConsistent, HasChildrenAsDescribed}
 use Rattle.gf_tree.specs.Sentence.{Sentence}
 use Rattle.gf_tree.specs.FiniteMap.{first_uses}
 use Rattle.gf_tree.specs.Game.{Game, used_sets, used_outcomes}
@@ -26,22 +26,22 @@ same_set_equality a b =
 -- ---- the numbers of children
 
 children_by : (uses : List (Use SetKey InformationSet)) → AreConsistent uses → (o : Option (Use SetKey InformationSet)) (m n : ℕ) → ((u : Use SetKey InformationSet) → o ≡ Some u → Has uses u)
-    → HasChildren uses (record { node = record { name = []; set = o; outcome = None }; children = m })
-    → HasChildren uses (record { node = record { name = []; set = o; outcome = None }; children = n }) → m ≡ n
+    → HasChildrenAsDescribed uses (record { node = record { name = []; set = o; outcome = None }; children = m })
+    → HasChildrenAsDescribed uses (record { node = record { name = []; set = o; outcome = None }; children = n }) → m ≡ n
 children_by uses consistent None m n among h k = h ∙ sym k
 children_by uses consistent (Some u) m n among h k =
     let d = described same_set same_set_equality uses consistent u (among u refl) in
     sym (h d.0 d.1) ∙ k d.0 d.1
 
 entries_once : (uses : List (Use SetKey InformationSet)) → AreConsistent uses → (es fs : List (Entry FileNode)) → ((u : Use SetKey InformationSet) → Has (set_uses es) u → Has uses u)
-    → map (λ e. e.node) es ≡ map (λ e. e.node) fs → AllByRecursion (HasChildren uses) es → AllByRecursion (HasChildren uses) fs → es ≡ fs
+    → map (λ e. e.node) es ≡ map (λ e. e.node) fs → AllByRecursion (HasChildrenAsDescribed uses) es → AllByRecursion (HasChildrenAsDescribed uses) fs → es ≡ fs
 entries_once uses consistent [] [] among e h k = refl
 entries_once uses consistent [] (y ∷ ys) among e h k = absurd cc
 entries_once uses consistent (x ∷ xs) [] among e h k = absurd cc
 entries_once uses consistent (x ∷ xs) (y ∷ ys) among e h k =
     let node : x.node ≡ y.node = cc in
     let here : (u : Use SetKey InformationSet) → x.node.set ≡ Some u → Has uses u = λ u q. among u (has_first x.node.set (set_uses xs) u q) in
-    let at_y = subst (λ (n : FileNode). HasChildren uses (record { node = n; children = y.children })) (sym node) k.0 in
+    let at_y = subst (λ (n : FileNode). HasChildrenAsDescribed uses (record { node = n; children = y.children })) (sym node) k.0 in
     let children = children_by uses consistent x.node.set x.children y.children here h.0 at_y in
     let rest = entries_once uses consistent xs ys (λ u m. among u (has_later x.node.set (set_uses xs) u m)) (ap (drop 1) e) h.1 k.1 in
     λ i. record { node = node i; children = children i } ∷ rest i
@@ -58,7 +58,7 @@ tree_once f g h p q =
     let es = flatten f.tree in
     let fs = flatten g.tree in
     let uses : set_uses fs ≡ set_uses es = uses_of_nodes fs ∙ ap (filter_map (λ n. n.set)) (sym h.nodes) ∙ sym (uses_of_nodes es) in
-    let children = subst (λ us. AllByRecursion (HasChildren us) fs) uses q.children in
+    let children = subst (λ us. AllByRecursion (HasChildrenAsDescribed us) fs) uses q.children in
     let tree = flatten_once f.tree g.tree (entries_once (set_uses es) p.sets es fs (λ u m. m) h.nodes p.children children) in
     λ i. record { title = h.title i; comment = h.comment i; players = h.players i; tree = tree i }
 
@@ -67,14 +67,14 @@ one_file_tree tokens f g h p k q = tree_once f g (says_once tokens f g h k) p q
 
 pub one_game : (f : FileTree) (g h : Game) → IsConsistent f → IsGameOf f g → IsGameOf f h → g ≡ h
 one_game f g h consistent p q =
-    let tree = sym p.tree ∙ q.tree in
+    let tree = sym p.kept.tree ∙ q.kept.tree in
     let set_keys = p.set_keys ∙ ap (λ t. first_uses same_set (used_sets t)) tree ∙ sym q.set_keys in
     let outcome_keys = p.outcome_keys ∙ ap (λ t. first_uses nat_eq (used_outcomes t)) tree ∙ sym q.outcome_keys in
     let sets = described_once (set_uses (flatten f.tree)) consistent.sets g.sets h.sets set_keys p.sets q.sets in
     let outcomes = described_once (outcome_uses (flatten f.tree)) consistent.outcomes g.outcomes h.outcomes outcome_keys p.outcomes q.outcomes in
-    let title = sym p.title ∙ q.title in
-    let comment = sym p.comment ∙ q.comment in
-    let players = sym p.players ∙ q.players in
+    let title = sym p.kept.title ∙ q.kept.title in
+    let comment = sym p.kept.comment ∙ q.kept.comment in
+    let players = sym p.kept.players ∙ q.kept.players in
     λ i. record { title = title i; comment = comment i; players = players i; tree = tree i; sets = sets i; outcomes = outcomes i }
 
 pub means_one_game : (tokens : List Token) (g h : Game) → MeansGame tokens g → MeansGame tokens h → g ≡ h

@@ -11,7 +11,7 @@ use Rattle.gf_token.specs.Token.Token.{Text, Bare}
 use Rattle.gf_token.specs.Grammar.{Each, braced}
 use Rattle.gf_token.proofs.SpelledNumbers.{decimal_is_index}
 use Rattle.gf_fraction.specs.Ratio.{Ratio, whole}
-use Rattle.gf_fraction.specs.Fits.{SumFits}
+use Rattle.gf_fraction.specs.Fits.{AddsTo, SumFits}
 use Rattle.gf_fraction.specs.NumberSpelling.{IsNumber}
 use Rattle.gf_fraction.specs.NumberText.{number_text}
 use Rattle.gf_fraction.specs.Computed.{number_of, lowest_of, gcd_within}
@@ -21,7 +21,7 @@ use Rattle.gf_tree.specs.PrefixOrder.{Entry, flatten}
 use Rattle.gf_tree.specs.Grown.{grow, root}
 use Rattle.gf_tree.specs.Description.{Action, SetKey, InformationSet, Outcome, AddToOne, IsLottery, IsSet, set_of}
 use Rattle.gf_tree.specs.FileTree.{Use, FileNode, FileTree}
-use Rattle.gf_tree.specs.Sentence.{IsDescription, IsAction, IsInformationSet, IsPositive, IsMover, IsStep, IsOutcome, IsResult, IsNode, Sentence}
+use Rattle.gf_tree.specs.Sentence.{IsDescription, IsAction, IsInformationSet, IsPositive, IsMover, IsStep, IsResult, IsNode, Sentence, IsOutcomeDescription}
 use Rattle.gf_tree.specs.WorkedTrees.{half, toss, choice, two_paid}
 
 -- ---- numbers
@@ -71,7 +71,10 @@ not_negative : pos 0 ≤ℤ half.num
 not_negative = omega arith
 
 halves : AddToOne (whole (pos 0)) (half ∷ half ∷ [])
-halves = (not_negative, first_half_fits, (half, part_fraction 2 (omega arith) (omega arith), refl, (not_negative, second_half_fits, (whole (pos 1), whole_fraction 1 (omega arith), refl, refl))))
+halves =
+    let first : AddsTo (whole (pos 0)) half half = (first_half_fits, part_fraction 2 (omega arith) (omega arith), refl) in
+    let second : AddsTo half half (whole (pos 1)) = (second_half_fits, whole_fraction 1 (omega arith), refl) in
+    (not_negative, (half, first, (not_negative, (whole (pos 1), second, refl))))
 
 tosses : (name : List ℕ) → IsLottery (toss name).actions
 tosses name = (half ∷ half ∷ [], refl, halves)
@@ -148,7 +151,7 @@ whole_is : (n : ℕ) → n < 2 ^ 127 → IsNumber (decimal n) (whole (pos n))
 unfolding digits number_text
 whole_is n h = whole_spelled n h
 
-pub two_are_paid : (name : List ℕ) (x y : ℕ) → x < 2 ^ 127 → y < 2 ^ 127 → IsOutcome 2 (Text name ∷ braced (Bare (decimal x) ∷ Bare (decimal y) ∷ [])) (two_paid name x y)
+pub two_are_paid : (name : List ℕ) (x y : ℕ) → x < 2 ^ 127 → y < 2 ^ 127 → IsOutcomeDescription 2 (Text name ∷ braced (Bare (decimal x) ∷ Bare (decimal y) ∷ [])) (two_paid name x y)
 two_are_paid name x y h k = (
   Bare (decimal x) ∷ Bare (decimal y) ∷ [],
   refl,

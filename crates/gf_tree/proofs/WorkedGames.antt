@@ -40,10 +40,7 @@ five_counts = 2 ∷ 1 ∷ 2 ∷ 0 ∷ 0 ∷ 1 ∷ 0 ∷ []
 
 five_learned : LearnsGame (file_of five.title five.players five_said five_counts) five
 five_learned = record {
-  title = refl;
-  comment = refl;
-  players = refl;
-  tree = refl;
+  kept = record { title = refl; comment = refl; players = refl; tree = refl };
   sets = (toss (codes "n"), refl, (choice (codes "i") (codes "L" ∷ []), refl, (inr refl, (choice (codes "j") (codes "R" ∷ []), refl, refl))));
   outcomes = (record { name = codes "w"; payoffs = tenth ∷ [] }, refl, (inl refl, refl));
   each_set = (toss_is_set 1 9 (codes "n") (omega arith), (choice_is_set 1 0 7 (codes "i") (codes "L") [] (omega arith) (omega arith), (choice_is_set 1 0 3 (codes "j") (codes "R") [] (omega arith) (omega arith), tt)));
@@ -76,10 +73,7 @@ bonus_counts = 2 ∷ 2 ∷ 0 ∷ 0 ∷ 2 ∷ 0 ∷ 0 ∷ []
 
 bonus_learned : LearnsGame (file_of bonus.title bonus.players bonus_said bonus_counts) bonus
 bonus_learned = record {
-  title = refl;
-  comment = refl;
-  players = refl;
-  tree = refl;
+  kept = record { title = refl; comment = refl; players = refl; tree = refl };
   sets = (toss (codes "n"), refl, (choice (codes "i") (codes "L" ∷ codes "R" ∷ []), refl, (inl refl, refl)));
   outcomes = (two_paid (codes "bonus") 1 0, refl, (two_paid (codes "x") 2 0, refl, (two_paid (codes "y") 3 1, refl, refl)));
   each_set = (toss_is_set 2 1 (codes "n") (omega arith), (choice_is_set 2 0 1 (codes "i") (codes "L") (codes "R" ∷ []) (omega arith) (omega arith), tt));
@@ -112,10 +106,7 @@ forgetful_counts = 2 ∷ 2 ∷ 0 ∷ 0 ∷ 2 ∷ 0 ∷ 0 ∷ []
 
 forgetful_learned : LearnsGame (file_of forgetful.title forgetful.players forgetful_said forgetful_counts) forgetful
 forgetful_learned = record {
-  title = refl;
-  comment = refl;
-  players = refl;
-  tree = refl;
+  kept = record { title = refl; comment = refl; players = refl; tree = refl };
   sets = (choice (codes "i") (codes "a" ∷ codes "b" ∷ []), refl, (choice (codes "j") (codes "c" ∷ codes "d" ∷ []), refl, (inl refl, refl)));
   outcomes = refl;
   each_set = (choice_is_set 1 0 1 (codes "i") (codes "a") (codes "b" ∷ []) (omega arith) (omega arith), (choice_is_set 1 0 2 (codes "j") (codes "c") (codes "d" ∷ []) (omega arith) (omega arith), tt));

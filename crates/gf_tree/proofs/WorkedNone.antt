@@ -122,10 +122,10 @@ too_much (negsuc n) d above first total =
 
 more_than_one : AddToOne (whole (pos 0)) (three_fifths ∷ three_fifths ∷ []) → ⊥
 more_than_one h =
-    let first = h.2 in
-    let second = first.3.2 in
-    let total = subst (λ r. IsSum r first.0 three_fifths) second.3 second.2 in
-    too_much first.0.num first.0.den first.1.den_above_zero first.2 total
+    let first = h.1 in
+    let second = first.2.1 in
+    let total = subst (λ r. IsSum r first.0 three_fifths) second.2 second.1.2 in
+    too_much first.0.num first.0.den first.1.1.den_above_zero first.1.2 total
 
 somes_once : (xs ys : List Ratio) → map (λ (x : Ratio). Some x) xs ≡ map (λ (x : Ratio). Some x) ys → xs ≡ ys
 somes_once [] [] e = refl

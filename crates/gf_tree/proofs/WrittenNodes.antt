@@ -15,7 +15,7 @@ use Rattle.gf_fraction.proofs.Texts.{written_is_read}
 use Rattle.gf_tree.specs.Description.{Action, SetKey, InformationSet, Outcome, IsSet, AreActions}
 use Rattle.gf_tree.specs.Description as description
 use Rattle.gf_tree.specs.FileTree.{Use, FileNode}
-use Rattle.gf_tree.specs.Sentence.{IsDescription, IsAction, IsInformationSet, IsMover, IsStep, IsOutcome, IsResult, IsNode}
+use Rattle.gf_tree.specs.Sentence.{IsDescription, IsAction, IsInformationSet, IsMover, IsStep, IsResult, IsNode, IsOutcomeDescription}
 use Rattle.gf_tree.specs.Spellable.{IsSpellableAction, IsSpellableSet, IsSpellableOutcome}
 
 -- ---- tokens
@@ -102,7 +102,7 @@ payoffs_written : (rs : List Ratio) → AllByRecursion IsFraction rs → Each Is
 payoffs_written [] h = refl
 payoffs_written (r ∷ rs) h = (Bare (number_text r) ∷ [], map (λ s. Bare (number_text s)) rs, refl, (number_text r, [], refl, written_is_read r h.0, inl refl), payoffs_written rs h.1)
 
-outcome_written : (players : ℕ) (outcome : Outcome) → length outcome.payoffs ≡ players → AllByRecursion IsFraction outcome.payoffs → IsOutcome players (outcome_tokens outcome) outcome
+outcome_written : (players : ℕ) (outcome : Outcome) → length outcome.payoffs ≡ players → AllByRecursion IsFraction outcome.payoffs → IsOutcomeDescription players (outcome_tokens outcome) outcome
 outcome_written players outcome n h = (map (λ r. Bare (number_text r)) outcome.payoffs, refl, payoffs_written outcome.payoffs h, n)
 
 -- ---- steps and results
@@ -129,7 +129,7 @@ step_written players (Some u) h = (
 )
 
 outcome_described : (players key : ℕ) (o : Option Outcome) → MatchOption o (Unit {0}) (λ d. description.IsOutcome players key d × IsSpellableOutcome (record { key = key; description = d }))
-    → IsDescription (IsOutcome players) (flat_map outcome_tokens (option_to_list o)) o
+    → IsDescription (IsOutcomeDescription players) (flat_map outcome_tokens (option_to_list o)) o
 outcome_described players key None h = refl
 outcome_described players key (Some d) h = rw (append-nil (outcome_tokens d)) (outcome_written players d h.0.one_payoff_each h.1.payoffs)
 

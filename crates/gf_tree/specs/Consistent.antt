@@ -9,14 +9,23 @@ use Rattle.gf_tree.specs.FileTree.{Use, FileNode, FileTree, set_uses, outcome_us
 abbrev pub Describes : {K D : Type 0} → List (Use K D) → K → D → Type 0
 Describes uses key description = Contains uses (record { key = key; description = Some description })
 
+-- behind these uses, this one is the first of its key
+abbrev pub IsFirstUse : {K D : Type 0} → List (Use K D) → Use K D → Type 0
+IsFirstUse before u = AllByRecursion (λ v. ¬ (v.key ≡ u.key)) before
+
+-- a use with a description
+abbrev pub IsDescribed : {K D : Type 0} → Use K D → Type 0
+IsDescribed {K} {D} u = (d : D) × (u.description ≡ Some d)
+
 -- the first use of a key describes it, and any two descriptions of one key are equal
 pub record AreConsistent {K D : Type 0} (uses : List (Use K D)) : Type 0 where
-  pub first_described : (before after : List (Use K D)) (u : Use K D) → uses ≡ before ++ u ∷ after → AllByRecursion (λ v. ¬ (v.key ≡ u.key)) before → (d : D) × (u.description ≡ Some d)
+  pub first_described : (before after : List (Use K D)) (u : Use K D) → uses ≡ before ++ u ∷ after
+      → IsFirstUse before u → IsDescribed u
   pub described_alike : (key : K) (c d : D) → Describes uses key c → Describes uses key d → c ≡ d
 
 -- a terminal node has no children, and another as many as its set has actions
-abbrev pub HasChildren : List (Use SetKey InformationSet) → Entry FileNode → Type 0
-HasChildren uses e = MatchOption e.node.set (e.children ≡ 0) (λ u. (set : InformationSet) → Describes uses u.key set → length set.actions ≡ e.children)
+abbrev pub HasChildrenAsDescribed : List (Use SetKey InformationSet) → Entry FileNode → Type 0
+HasChildrenAsDescribed uses e = MatchOption e.node.set (e.children ≡ 0) (λ u. (set : InformationSet) → Describes uses u.key set → length set.actions ≡ e.children)
 
 -- the uses of sets are consistent and those of outcomes; each description is one of a set or an outcome among these players; and each node has its children
 pub record IsConsistent (f : FileTree) : Type 0 where
@@ -24,4 +33,4 @@ pub record IsConsistent (f : FileTree) : Type 0 where
   pub outcomes : AreConsistent (outcome_uses (flatten f.tree))
   pub each_set : (key : SetKey) (set : InformationSet) → Describes (set_uses (flatten f.tree)) key set → IsSet (length f.players) key set
   pub each_outcome : (number : ℕ) (outcome : Outcome) → Describes (outcome_uses (flatten f.tree)) number outcome → IsOutcome (length f.players) number outcome
-  pub children : AllByRecursion (HasChildren (set_uses (flatten f.tree))) (flatten f.tree)
+  pub children : AllByRecursion (HasChildrenAsDescribed (set_uses (flatten f.tree))) (flatten f.tree)

@@ -1,8 +1,8 @@
 -- Information sets and outcomes: what describes them, and by which numbers a file names them.
 use Rattle.std.specs.Prelude.{◌≡◌, ℕ, zero, suc, pos, ◌≤ℤ◌, ◌<◌, ◌≤◌, ◌==◌, ◌&&◌, Bool, List, [], ◌∷◌, length, map, Option, Some, None}
 use Rattle.std.specs.List.{AllByRecursion}
-use Rattle.gf_fraction.specs.Ratio.{Ratio, IsFraction, whole}
-use Rattle.gf_fraction.specs.Fits.{IsSum, SumFits}
+use Rattle.gf_fraction.specs.Ratio.{Ratio, whole}
+use Rattle.gf_fraction.specs.Fits.{AddsTo}
 
 -- an action's label, and the probability of chance taking it; a player's action has none
 pub record Action : Type 0 where
@@ -32,7 +32,7 @@ same_set a b = a.player == b.player && a.number == b.number
 -- added to this sum in their order, probabilities have sums that fit, and the last sum is one; none is negative
 abbrev pub AddToOne : Ratio → List Ratio → Type 0
 AddToOne sum [] = sum ≡ whole (pos 1)
-AddToOne sum (p ∷ ps) = (pos 0 ≤ℤ p.num) × SumFits sum p × ((next : Ratio) × IsFraction next × IsSum next sum p × AddToOne next ps)
+AddToOne sum (p ∷ ps) = (pos 0 ≤ℤ p.num) × ((next : Ratio) × AddsTo sum p next × AddToOne next ps)
 
 -- each action has a probability, and they add to one
 abbrev pub IsLottery : List Action → Type 0

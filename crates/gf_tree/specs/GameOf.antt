@@ -16,12 +16,16 @@ use Rattle.gf_tree.specs.Game.{Node, Game, used_sets, used_outcomes}
 abbrev pub keys_alone : FileNode → Node
 keys_alone n = record { name = n.name; set = option_map (λ u. u.key) n.set; outcome = option_map (λ u. u.key) n.outcome }
 
--- the same title, comment, players and tree, and for each key in it the description that the file gives
-pub record IsGameOf (f : FileTree) (g : Game) : Type 0 where
+-- title, comment and players are equal, and the tree is the same without the descriptions
+pub record KeepsTree (f : FileTree) (g : Game) : Type 0 where
   pub title : f.title ≡ g.title
   pub comment : f.comment ≡ g.comment
   pub players : f.players ≡ g.players
   pub tree : map_tree keys_alone f.tree ≡ g.tree
+
+-- the same tree, and for each key in it the description that the file gives
+pub record IsGameOf (f : FileTree) (g : Game) : Type 0 where
+  pub kept : KeepsTree f g
   pub set_keys : map (λ s. s.key) g.sets ≡ first_uses same_set (used_sets g.tree)
   pub outcome_keys : map (λ o. o.key) g.outcomes ≡ first_uses nat_eq (used_outcomes g.tree)
   pub sets : AllByRecursion (λ s. Describes (set_uses (flatten f.tree)) s.key s.description) g.sets

@@ -1,13 +1,12 @@
 -- Descriptions learned use by use, in the order of a file.
 use Rattle.std.specs.Prelude.{◌≡◌, nat_eq, length, Bool, ◌⊎◌, List, [], ◌∷◌, ◌++◌, Some, None, MatchOption}
 use Rattle.std.specs.List.{AllByRecursion}
-use Rattle.gf_tree.specs.Tree.{map_tree}
 use Rattle.gf_tree.specs.PrefixOrder.{flatten}
 use Rattle.gf_tree.specs.Description.{same_set, IsSet, IsOutcome}
 use Rattle.gf_tree.specs.FiniteMap.{Described, description_at}
 use Rattle.gf_tree.specs.FileTree.{Use, FileTree, set_uses, outcome_uses}
 use Rattle.gf_tree.specs.Game.{Game, HasChildren}
-use Rattle.gf_tree.specs.GameOf.{keys_alone}
+use Rattle.gf_tree.specs.GameOf.{KeepsTree}
 
 -- From what is known already, the uses lead to what is known in the end. The use of a key that is not known describes it; another has no description, or the one that is known.
 abbrev pub Learns : {K D : Type 0} → (K → K → Bool) → List (Described K D) → List (Use K D) → List (Described K D) → Type 0
@@ -18,10 +17,7 @@ Learns {K} {D} same known (u ∷ us) end = MatchOption (description_at same know
 
 -- the game of a file, whose descriptions are learned in this way and are those of sets and outcomes
 pub record LearnsGame (f : FileTree) (g : Game) : Type 0 where
-  pub title : f.title ≡ g.title
-  pub comment : f.comment ≡ g.comment
-  pub players : f.players ≡ g.players
-  pub tree : map_tree keys_alone f.tree ≡ g.tree
+  pub kept : KeepsTree f g
   pub sets : Learns same_set [] (set_uses (flatten f.tree)) g.sets
   pub outcomes : Learns nat_eq [] (outcome_uses (flatten f.tree)) g.outcomes
   pub each_set : AllByRecursion (λ s. IsSet (length g.players) s.key s.description) g.sets

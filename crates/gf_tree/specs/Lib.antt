@@ -4,12 +4,14 @@ pub mod Due
 pub mod FileTree
 pub mod FiniteMap
 pub mod Front
+pub mod FirstUse
 pub mod Game
 pub mod GameOf
 pub mod Grown
 pub mod Learned
 pub mod PrefixOrder
 pub mod Reason
+pub mod Renumbering
 pub mod Sentence
 pub mod Spellable
 pub mod Tree

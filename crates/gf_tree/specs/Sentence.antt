@@ -41,15 +41,15 @@ IsStep letter tokens (Some u) =
     × IsMover letter player u.key.player × IsPositive number u.key.number × IsDescription (IsInformationSet u.key.player) description u.description
 
 -- Text Opening payoffs Closing, a payoff for each player
-abbrev pub IsOutcome : ℕ → List Token → Outcome → Type 0
-IsOutcome players tokens outcome =
+abbrev pub IsOutcomeDescription : ℕ → List Token → Outcome → Type 0
+IsOutcomeDescription players tokens outcome =
     (inner : List Token) × (tokens ≡ Text outcome.name ∷ braced inner) × Each IsPayoffInBraces inner outcome.payoffs × (length outcome.payoffs ≡ players)
 
 -- the number 0 alone; else the number and the description of the outcome
 abbrev pub IsResult : ℕ → List Token → Option (Use ℕ Outcome) → Type 0
 IsResult players tokens None = (bytes : List ℕ) × (tokens ≡ Bare bytes ∷ []) × IsIndex bytes 0
 IsResult players tokens (Some u) =
-    (number : List ℕ) × (description : List Token) × (tokens ≡ Bare number ∷ description) × IsPositive number u.key × IsDescription (IsOutcome players) description u.description
+    (number : List ℕ) × (description : List Token) × (tokens ≡ Bare number ∷ description) × IsPositive number u.key × IsDescription (IsOutcomeDescription players) description u.description
 
 -- letter Text step result
 pub record IsNode (players : ℕ) (tokens : List Token) (n : FileNode) : Type 0 where

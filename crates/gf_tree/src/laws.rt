@@ -1,17 +1,19 @@
 //! Laws of the definitions, each as the contract of a function that does nothing.
 
-ghost use Rattle.std.specs.Prelude.{◌≡◌, ◌↔◌, Bool, Decides, List, [], ◌∷◌, ℕ, map};
+ghost use Rattle.std.specs.Prelude.{◌≡◌, ◌↔◌, Bool, Decides, List, [], ◌∷◌, ℕ, map, nat_eq};
 ghost use Rattle.std.specs.List.{AllByRecursion};
 ghost use Rattle.gf_token.specs.Token.{Token};
 ghost use Rattle.gf_tree.specs.Tree.{Tree};
 ghost use Rattle.gf_tree.specs.Tree.Trees.{none, more};
 ghost use Rattle.gf_tree.specs.PrefixOrder.{Entry, Fills, flatten};
 ghost use Rattle.gf_tree.specs.Grown.{grow};
-ghost use Rattle.gf_tree.specs.Description.{set_of};
+ghost use Rattle.gf_tree.specs.Description.{same_set, set_of};
 ghost use Rattle.gf_tree.specs.FileTree.{Use, FileTree, set_uses, outcome_uses};
 ghost use Rattle.gf_tree.specs.Sentence.{Sentence};
 ghost use Rattle.gf_tree.specs.Consistent.{Describes, AreConsistent, IsConsistent};
 ghost use Rattle.gf_tree.specs.FiniteMap.{Described, first_uses};
+ghost use Rattle.gf_tree.specs.FirstUse.{first_use_numbers, outcome_keys, player_keys, sets_of};
+ghost use Rattle.gf_tree.specs.Renumbering.{IsRenumbering, Renumbering, renumbered};
 ghost use Rattle.gf_tree.specs.Spellable.{IsSpellable};
 ghost use Rattle.gf_tree.specs.Learned.{Learns, LearnsGame};
 ghost use Rattle.gf_tree.specs.WorkedTrees.{five, five_file, bonus, bonus_file, forgetful, forgetful_file, undescribed_file, mismatched_file, unknown_player_file, too_likely_file};
@@ -50,6 +52,19 @@ pub fn games_of_files()
 pub fn keys_in_order()
     ensures of_sets { (f : FileTree) (g : Game) → IsGameOf f g → used_sets g.tree ≡ map (λ u. u.key) (set_uses (flatten f.tree)) }
     ensures of_outcomes { (f : FileTree) (g : Game) → IsGameOf f g → used_outcomes g.tree ≡ map (λ u. u.key) (outcome_uses (flatten f.tree)) }
+{}
+
+/// A game has each player's sets, and its outcomes, in the order of their first use.
+pub fn keys_by_first_use()
+    ensures sets { (g : Game) (player : ℕ) → IsGame g
+        → player_keys g player ≡ first_uses same_set (sets_of player (used_sets g.tree)) }
+    ensures outcomes { (g : Game) → IsGame g → outcome_keys g ≡ first_uses nat_eq (used_outcomes g.tree) }
+{}
+
+/// A game by its new numbers is a game, and first-use numbers are new numbers of its sets and outcomes.
+pub fn new_numbers()
+    ensures is_game { (g : Game) (r : Renumbering) → IsGame g → IsRenumbering g r → IsGame (renumbered r g) }
+    ensures first_use { (g : Game) → IsRenumbering g (first_use_numbers g) }
 {}
 
 /// Uses are consistent exactly if their descriptions can be learned one use after another, each judged once against

@@ -1,8 +1,12 @@
 use Rattle.gf_canon.proofs.CanonicalGames.{sets_in_order, outcomes_in_order}
+use Rattle.gf_canon.proofs.NumbersInOrder.{numbered_in_order}
 use Rattle.gf_canon.proofs.laws.numbered_in_order.Goals as goal
 
+pub returns-clause-keys : goal.returns-clause-keys
+returns-clause-keys g c = numbered_in_order
+
 pub returns-clause-sets : goal.returns-clause-sets
-returns-clause-sets c = sets_in_order
+returns-clause-sets g c = sets_in_order
 
 pub returns-clause-outcomes : goal.returns-clause-outcomes
-returns-clause-outcomes c = outcomes_in_order
+returns-clause-outcomes g c = outcomes_in_order

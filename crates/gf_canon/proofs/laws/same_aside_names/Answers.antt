@@ -1,4 +1,4 @@
-use Rattle.gf_canon.proofs.Unnamed.{same_is_so_aside, equal_texts_aside}
+use Rattle.gf_canon.proofs.Unnamed.{same_is_so_aside, equal_texts_aside, tables_aside}
 use Rattle.gf_canon.proofs.laws.same_aside_names.Goals as goal
 
 pub returns-clause-aside : goal.returns-clause-aside
@@ -6,3 +6,6 @@ returns-clause-aside c = same_is_so_aside
 
 pub returns-clause-equal : goal.returns-clause-equal
 returns-clause-equal c = equal_texts_aside
+
+pub returns-clause-tables : goal.returns-clause-tables
+returns-clause-tables c = tables_aside

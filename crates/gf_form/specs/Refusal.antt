@@ -1,0 +1,30 @@
+-- Why a game has no table.
+use Rattle.std.specs.Prelude.{◌≡◌, ℕ, ◌<◌, List, length, Some}
+use Rattle.std.specs.List.{AllByRecursion}
+use Rattle.gf_fraction.specs.Ratio.{Ratio}
+use Rattle.gf_token.specs.Positions.{at_position}
+use Rattle.gf_nfg.specs.Limit.{profile_limit}
+use Rattle.gf_tree.specs.Game.{Game}
+use Rattle.gf_form.specs.Strategies.{choices_by, full_profiles, players_of, strategies_at}
+use Rattle.gf_form.specs.BottomUp.{IsValue}
+
+-- its profiles pass their limit
+abbrev pub HasTooManyProfiles : Game → Type 0
+HasTooManyProfiles g = profile_limit < length (full_profiles g)
+
+-- the player has a bottom-up value at this profile
+abbrev pub HasBottomUpValue : Game → List ℕ → ℕ → Type 0
+HasBottomUpValue g profile player =
+    (value : Ratio) × IsValue g (choices_by g (strategies_at g profile)) player g.tree value
+
+-- each player has
+abbrev pub HasValues : Game → List ℕ → Type 0
+HasValues g profile = AllByRecursion (HasBottomUpValue g profile) (players_of g)
+
+-- the profile at this position is the first at which not each player has
+pub record OverflowsAt (g : Game) (position : ℕ) : Type 0 where
+  pub profile : List ℕ
+  pub there : at_position (full_profiles g) position ≡ Some profile
+  pub overflows : ¬ (HasValues g profile)
+  pub first : (earlier : ℕ) (other : List ℕ) → earlier < position
+      → at_position (full_profiles g) earlier ≡ Some other → HasValues g other

@@ -1,0 +1,38 @@
+-- Numbers in order of first use, in prefix order.
+use Rattle.std.specs.Prelude.{ℕ, nat_eq, ◌==◌, Bool, List, [], ◌∷◌, length, map, if◌then◌else◌}
+use Rattle.std.specs.List.{filter}
+use Rattle.gf_tree.specs.Description.{SetKey, InformationSet, same_set, set_of}
+use Rattle.gf_tree.specs.FiniteMap.{Described, first_uses}
+use Rattle.gf_tree.specs.Game.{Game, used_sets, used_outcomes}
+use Rattle.gf_tree.specs.Renumbering.{Renumbering}
+
+-- the uses through the first one of this key
+abbrev pub through_first_use : {K : Type 0} → (K → K → Bool) → K → List K → List K
+through_first_use same key [] = []
+through_first_use same key (used ∷ uses) = used ∷ (if same used key then [] else through_first_use same key uses)
+
+-- how many different keys are used until then
+abbrev pub first_use_number : {K : Type 0} → (K → K → Bool) → List K → K → ℕ
+first_use_number same uses key = length (first_uses same (through_first_use same key uses))
+
+-- the uses of a player's sets
+abbrev pub sets_of : ℕ → List SetKey → List SetKey
+sets_of player uses = filter (λ key. key.player == player) uses
+
+-- the number of each player's set, chance's too, among that player's sets, and that of each outcome
+abbrev pub first_use_numbers : Game → Renumbering
+first_use_numbers g = record {
+  set = λ player number. first_use_number same_set (sets_of player (used_sets g.tree)) (set_of player number);
+  outcome = λ number. first_use_number nat_eq (used_outcomes g.tree) number;
+}
+
+-- a player's sets in order of first use, as the game has them, and their keys
+abbrev pub player_sets : Game → ℕ → List (Described SetKey InformationSet)
+player_sets g player = filter (λ s. s.key.player == player) g.sets
+
+abbrev pub player_keys : Game → ℕ → List SetKey
+player_keys g player = map (λ s. s.key) (player_sets g player)
+
+-- the numbers of the outcomes, in order of first use
+abbrev pub outcome_keys : Game → List ℕ
+outcome_keys g = map (λ o. o.key) g.outcomes
