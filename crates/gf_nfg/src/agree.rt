@@ -1,8 +1,8 @@
 //! Whether two tables are the same to play.
 
 ghost use Rattle.std.specs.Prelude.{◌≡◌, ◌<◌, ◌↔◌, IsTrue, length};
+ghost use Rattle.gf_nfg.specs.SameTable.{SamePlay};
 ghost use Rattle.gf_nfg.specs.Table.{rows};
-ghost use Rattle.gf_nfg.specs.TableAccess.{PlayAgrees};
 ghost use Rattle.gf_nfg.specs.TableParts.{own_of};
 
 use crate::names::Names;
@@ -89,7 +89,7 @@ impl Table {
     /// Whether the players, the labels of their strategies and the payoffs at each profile are the same in both. Titles
     /// and comments do not count. Takes no memory.
     pub fn play_agrees(&self, o: &Table) -> bool
-        ensures { IsTrue result ↔ PlayAgrees self.now o.now }
+        ensures { IsTrue result ↔ SamePlay self.now o.now }
     {
         same_names(self.names(), o.names()) && same_rows(self, o)
     }
