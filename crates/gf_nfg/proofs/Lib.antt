@@ -1,4 +1,5 @@
 mod LabelsCounted
+mod SpelledParts
 mod TableAgrees
 mod TableNames
 mod TablePieces

@@ -13,9 +13,9 @@ use Rattle.gf_nfg.specs.Limit.{profile_limit}
 use Rattle.gf_nfg.specs.Profiles.{numbers_from, positions, product, profiles}
 use Rattle.gf_nfg.specs.Table.{Table, rows}
 use Rattle.gf_nfg.specs.TableAccess.{payoffs_at}
-use Rattle.gf_nfg.specs.TableParts.{Names, entries_of, place_of, table_with}
+use Rattle.gf_nfg.specs.TableParts.{Names, entries_of, kept_rows, place_of, table_with}
 use Rattle.gf_nfg.proofs.NumbersInTurn.{length-numbers_from}
-use Rattle.gf_nfg.proofs.TableRows.{IsKept, kept_rows, matched, rows-table_with}
+use Rattle.gf_nfg.proofs.TableRows.{IsKept, matched, rows-table_with}
 
 -- where a profile is first found
 abbrev position_of : List ℕ → List (List ℕ) → Option ℕ

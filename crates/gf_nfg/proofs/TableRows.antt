@@ -13,7 +13,7 @@ use Rattle.gf_nfg.specs.Limit.{profile_limit}
 use Rattle.gf_nfg.specs.Profiles.{numbers_from, positions, product, profiles}
 use Rattle.gf_nfg.specs.Table.{Entry, Table, IsTable, rows}
 use Rattle.gf_nfg.specs.TableAccess.{IsTableOf}
-use Rattle.gf_nfg.specs.TableParts.{Names, entries_of, kept_row, table_with, row_of, number_in, numbers_of, IsNamed, HasRows}
+use Rattle.gf_nfg.specs.TableParts.{Names, entries_of, kept_row, kept_rows, table_with, row_of, number_in, numbers_of, IsNamed, HasRows}
 
 pub length-entries_of : (ps : List (List ℕ)) (rs : List (List Ratio)) → length ps ≡ length rs → length (entries_of ps rs) ≡ length rs
 length-entries_of [] [] h = refl
@@ -42,9 +42,6 @@ entries_again (e ∷ entries) = ap (λ es. e ∷ es) (entries_again entries)
 pub record IsKept (names : Names) (count : ℕ) (payoffs zeros : List Ratio) (numbers : List ℕ) : Type 0 where
   pub named : IsNamed names count
   pub kept : HasRows (length names.players) count payoffs zeros numbers
-
-abbrev pub kept_rows : Names → List Ratio → List ℕ → List (List Ratio)
-kept_rows names payoffs numbers = map (row_of (length names.players) payoffs) numbers
 
 pub matched : (names : Names) (count : ℕ) (payoffs zeros : List Ratio) (numbers : List ℕ) → IsKept names count payoffs zeros numbers
     → length (profiles (map length names.strategies)) ≡ length (kept_rows names payoffs numbers)

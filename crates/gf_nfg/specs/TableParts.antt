@@ -85,6 +85,10 @@ abbrev pub row_of : ℕ → List Ratio → ℕ → List Ratio
 row_of players payoffs zero = replicate players (whole (pos 0))
 row_of players payoffs (suc k) = take players (drop (k * players) payoffs)
 
+-- the rows with these numbers
+abbrev pub kept_rows : Names → List Ratio → List ℕ → List (List Ratio)
+kept_rows names payoffs numbers = map (row_of (length names.players) payoffs) numbers
+
 -- the number of the row of each profile: without a choice they are the profiles' own
 abbrev pub numbers_of : ℕ → Option (List ℕ) → List ℕ
 numbers_of count None = positions count

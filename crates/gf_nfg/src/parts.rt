@@ -4,6 +4,7 @@ ghost use Rattle.std.specs.Prelude.{◌≡◌, ◌≤◌, IfOk};
 ghost use Rattle.gf_nfg.specs.Limit.{profile_limit};
 ghost use Rattle.gf_nfg.specs.Meaning.{IsComplete, names_in, table_of};
 ghost use Rattle.gf_nfg.specs.ReaderState.{content_of};
+ghost use Rattle.gf_nfg.specs.Table.{IsSpellable};
 
 use crate::names::Names;
 use crate::table::Table;
@@ -56,6 +57,7 @@ impl<'a> Parts<'a> {
     pub(crate) fn into_table(self, alloc: Global) -> Result<Table, AllocError>
         requires complete { IsComplete (content_of self) }
         requires within { self.profiles ≤ profile_limit }
+        requires spellable { IsSpellable (table_of (content_of self)) }
         ensures { IfOk result (λ t. t ≡ table_of (content_of self.entry)) }
     {
         let names = self.names(alloc)?;

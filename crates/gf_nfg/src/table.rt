@@ -4,10 +4,11 @@ ghost use Rattle.std.specs.Prelude.{◌≡◌, ◌*◌, ◌<◌, ◌≤◌, ◌^
 ghost use Rattle.std.specs.List.{AllByRecursion};
 ghost use Rattle.gf_token.specs.Label.{label_of};
 ghost use Rattle.gf_nfg.specs.Limit.{profile_limit};
+ghost use Rattle.gf_nfg.specs.Place.{IsWithinLimit};
 ghost use Rattle.gf_nfg.specs.Profiles.{positions, product};
-ghost use Rattle.gf_nfg.specs.Table.{IsTable, rows};
+ghost use Rattle.gf_nfg.specs.Table.{IsSpellable, IsTable, rows};
 ghost use Rattle.gf_nfg.specs.TableAccess.{IsTableOf, at_position, payoffs_at};
-ghost use Rattle.gf_nfg.specs.TableParts.{AreShared, IsNamed, kept_row, number_in, place_of, row_of, table_with};
+ghost use Rattle.gf_nfg.specs.TableParts.{AreShared, IsNamed, kept_row, kept_rows, number_in, place_of, table_with};
 
 use crate::names::Names;
 use gf_fraction::Fraction;
@@ -33,20 +34,22 @@ pub struct Table {
 
 impl Model for Table {
     ghost use Rattle.std.specs.Prelude.{◌≤◌, length, map, option_map};
-    ghost use Rattle.gf_nfg.specs.Table.{Table};
+    ghost use Rattle.gf_nfg.specs.Table.{IsSpellable, Table};
 
     ghost Value = { Table };
 
     ghost use Rattle.gf_nfg.specs.Limit.{profile_limit};
-    ghost use Rattle.gf_nfg.specs.TableParts.{HasRows, IsNamed, numbers_of, row_of, table_with};
+    ghost use Rattle.gf_nfg.specs.TableParts.{HasRows, IsNamed, kept_rows, numbers_of, table_with};
 
-    ghost view = { λ t. table_with t.names (map (row_of (length t.names.players) t.payoffs.items)
+    ghost view = { λ t. table_with t.names (kept_rows t.names t.payoffs.items
         (numbers_of t.profiles (option_map (λ v. v.items) t.choices))) };
 
     ghost invariant = { λ t. IsNamed t.names t.profiles
         × HasRows (length t.names.players) t.profiles t.payoffs.items t.zeros.items
         (numbers_of t.profiles (option_map (λ v. v.items) t.choices))
-        × (t.profiles ≤ profile_limit) };
+        × (t.profiles ≤ profile_limit)
+        × IsSpellable (table_with t.names (kept_rows t.names t.payoffs.items
+        (numbers_of t.profiles (option_map (λ v. v.items) t.choices)))) };
 }
 
 /// Rows with numbers, from 0, that profiles share.
@@ -134,7 +137,9 @@ impl Table {
         requires named { IsNamed names profiles }
         requires within { profiles ≤ profile_limit }
         requires rows { length payoffs.items ≡ profiles * length names.players }
-        ensures { result ≡ table_with names (map (row_of (length names.players) payoffs.items) (positions profiles)) }
+        requires spellable { IsSpellable
+            (table_with names (kept_rows names payoffs.items (positions profiles))) }
+        ensures { result ≡ table_with names (kept_rows names payoffs.items (positions profiles)) }
     {
         Table {
             names,
@@ -153,8 +158,12 @@ impl Table {
     ) -> Result<Table, AllocError>
         requires named { IsNamed names (length choices.items) }
         requires within { length choices.items ≤ profile_limit }
-        requires rows { AllByRecursion (λ number. number * length names.players ≤ length payoffs.items) choices.items }
-        ensures { IfOk result (λ t. t ≡ table_with names (map (row_of (length names.players) payoffs.items) choices.items)) }
+        requires rows { AllByRecursion
+            (λ number. number * length names.players ≤ length payoffs.items) choices.items }
+        requires spellable { IsSpellable
+            (table_with names (kept_rows names payoffs.items choices.items)) }
+        ensures { IfOk result
+            (λ t. t ≡ table_with names (kept_rows names payoffs.items choices.items)) }
     {
         let zeros = vec![in *payoffs.allocator(); Fraction::zero(); names.players()]?;
         Ok(Table {
@@ -192,13 +201,14 @@ impl Table {
     {
         let names = Names::new(alloc, title, comment, players, strategies)?;
         let profiles = rows.len().checked_div(players.len()).unwrap_or(1);
-        let payoffs = Vec::from_slice(alloc, rows)?;
+        let payoffs = Vec::from_clones(alloc, rows)?;
         Ok(Table::of_rows(alloc, names, profiles as u32, payoffs))
     }
 
     /// Everything but the payoffs.
     pub(crate) fn names(&self) -> &Names
         ensures is_table { IsTable self.now }
+        ensures spellable { IsSpellable self.now }
         ensures names { result.now ≡ record { title = self.now.title; comment = self.now.comment; players = self.now.players; strategies = self.now.strategies } }
     {
         &self.names
@@ -284,9 +294,15 @@ impl Table {
         Some(self.names.strategy(i - 1, s - 1))
     }
 
-    /// How many profiles there are.
+    /// How many profiles there are: at most 1,048,576.
+    ///
+    /// The other clauses hold of each table. Every player has a strategy, and every profile one entry with a payoff for
+    /// each player; labels are spelled as labels are, and payoffs are fractions; so a file can hold it.
     pub fn profiles(&self) -> u32
-        ensures { result ≡ length self.now.entries }
+        ensures number { result ≡ length self.now.entries }
+        ensures is_table { IsTable self.now }
+        ensures spellable { IsSpellable self.now }
+        ensures within { IsWithinLimit self.now }
     {
         self.profiles
     }

@@ -2,9 +2,9 @@
 
 ghost use Rattle.std.specs.Prelude.{◌≡◌, ℕ, ◌+◌, ◌*◌, ◌<◌, ◌≤◌, ◌++◌, IfOk, OnErr, OnOk, length, map};
 ghost use Rattle.gf_fraction.specs.NumberText.{number_text};
-ghost use Rattle.gf_nfg.specs.Table.{rows};
+ghost use Rattle.gf_nfg.specs.Table.{IsSpellable, IsTable, rows};
 ghost use Rattle.gf_nfg.specs.TableParts.{AreShared, kept_row, own_of};
-ghost use Rattle.gf_nfg.specs.TableText.{lines_text, list_text, quoted, spaced, table_text};
+ghost use Rattle.gf_nfg.specs.TableText.{SpellsTable, lines_text, list_text, quoted, spaced, table_text};
 ghost use Rattle.gf_nfg.specs.TextParts.{AreLines, Keeps, first_line, heading_text, others_text, row_text};
 
 use crate::names::Names;
@@ -170,6 +170,8 @@ fn write_rows(t: &Table, out: &mut Vec<u8>) -> Result<(), AllocError>
 /// Appends the heading of a table and its lines.
 fn write_text(t: &Table, out: &mut Vec<u8>) -> Result<(), AllocError>
     ensures text { OnOk result (out.new.items ≡ out.old.items ++ table_text t.now) }
+    ensures is_table { IsTable t.now }
+    ensures spellable { IsSpellable t.now }
     ensures kept { OnErr result (Keeps out.old.items out.new.items) }
 {
     write_heading(t.names(), out)?;
@@ -177,10 +179,12 @@ fn write_text(t: &Table, out: &mut Vec<u8>) -> Result<(), AllocError>
 }
 
 /// Appends the canonical text of the table: payoff version, each number in lowest terms, one line for each profile.
+/// The text is a strategic file that means this table.
 ///
 /// `AllocError` where memory is refused, and then the vector's items are as they were.
 pub fn write_nfg(t: &Table, out: &mut Vec<u8>) -> Result<(), AllocError>
     ensures ok { OnOk result (out.new.items ≡ out.old.items ++ table_text t.now) }
+    ensures reads_back { SpellsTable (table_text t.now) t.now }
     ensures err { OnErr result (out.new.items ≡ out.old.items) }
 {
     let start = out.len();

@@ -3,4 +3,12 @@ use Rattle.gf_nfg.proofs.TableRows.{positions_have_rows}
 use Rattle.gf_nfg.proofs.table.Table.of_rows.Goals as goal
 
 pub invariant_of-result : goal.invariant_of-result
-invariant_of-result c = (c.requires.named, positions_have_rows (length c.args.names.players) c.args.profiles c.args.payoffs.items c.new.result.items c.requires.rows, c.requires.within)
+invariant_of-result c =
+    let players = length c.args.names.players in
+    let payoffs = c.args.payoffs.items in
+    let zeros = c.new.result.items in (
+      c.requires.named,
+      positions_have_rows players c.args.profiles payoffs zeros c.requires.rows,
+      c.requires.within,
+      c.requires.spellable,
+    )
