@@ -1,6 +1,6 @@
 mod LabelsCounted
-mod SpelledParts
 mod TableAgrees
+mod TableMade
 mod TableNames
 mod TablePieces
 mod TablePlaces

@@ -11,6 +11,6 @@ returns-then-same_names c =
     let strategies = sym (ap (λ n. n.strategies) left) ∙ both.1 ∙ ap (λ n. n.strategies) right in
     let by_rows = same_play_by_rows c.args.self.now c.args.o.now
     c.names.ensures.is_table c.names-2.ensures.is_table in (
-      λ h. by_rows.1 (players, strategies, c.same_rows.ensures.0 h),
-      λ same. c.same_rows.ensures.1 (by_rows.0 same).2,
+      λ h. by_rows.1 (players, strategies, sym c.rows.ensures ∙ c.same_rows.ensures.0 h ∙ c.rows-then-same_names.ensures),
+      λ same. c.same_rows.ensures.1 (c.rows.ensures ∙ (by_rows.0 same).2 ∙ sym c.rows-then-same_names.ensures),
     )
