@@ -9,6 +9,7 @@ ghost use Rattle.gf_fraction.specs.Steps.{HoldsCommon};
 use crate::arithmetic::{
     LARGEST, Overflow, gcd, lowest, product, quotient, sum_over, total, with_sign,
 };
+use std::alloc::AllocError;
 use std::marker::Model;
 
 /// Why a number is refused. `M` is `2^127 - 1`.
@@ -24,7 +25,7 @@ pub enum NumberFault {
 
 /// An exact fraction in lowest terms, with a denominator of 1 to `M` and a numerator of at most `M`
 /// in size, where `M` is `2^127 - 1`. Two fractions are `==` where their values are.
-#[derive(Clone, Copy, Debug, PartialEq, Eq, Hash)]
+#[derive(Copy, Debug, PartialEq, Eq, Hash)]
 pub struct Fraction {
     num: i128,
     den: u128,
@@ -40,6 +41,23 @@ impl Model for Fraction {
     ghost invariant = { λ f. IsFraction (record { num = f.num; den = f.den }) };
 
     ghost inverse = { λ r. record { num = r.num; den = r.den } };
+}
+
+// By hand, so that it says what a derived one keeps to itself: that it is a fraction.
+impl Clone for Fraction {
+    ghost use Rattle.std.specs.Prelude.{◌≡◌};
+    ghost use Rattle.gf_fraction.specs.Ratio.{IsFraction};
+
+    ghost is_clone = { λ value clone. (clone ≡ value) × IsFraction clone };
+
+    ghost is_infallible = { λ _. Unit {0} };
+
+    fn clone(&self) -> Result<Fraction, AllocError> {
+        Ok(Fraction {
+            num: self.num,
+            den: self.den,
+        })
+    }
 }
 
 impl Fraction {

@@ -1,5 +1,6 @@
 mod LabelsCounted
 mod TableAgrees
+mod TableMade
 mod TableNames
 mod TablePieces
 mod TablePlaces

@@ -7,8 +7,9 @@ use Rattle.std.proofs.lemmas.List.{drop-drop, length-map}
 use Rattle.gf_fraction.specs.Ratio.{Ratio, whole}
 use Rattle.gf_fraction.proofs.AllElements.{all_mapped}
 use Rattle.gf_nfg.specs.Profiles.{numbers_from, positions, product}
-use Rattle.gf_nfg.specs.Table.{IsTable, rows}
-use Rattle.gf_nfg.specs.TableParts.{Names, groups, numbers_of, row_of, table_with, IsNamed, HasRows}
+use Rattle.gf_nfg.specs.Limit.{profile_limit}
+use Rattle.gf_nfg.specs.Table.{IsSpellable, IsTable, rows}
+use Rattle.gf_nfg.specs.TableParts.{Names, groups, numbers_of, row_of, IsHeld, IsNamed, HasRows}
 use Rattle.gf_nfg.specs.Machine.{Content}
 use Rattle.gf_nfg.specs.Meaning.{names_in, choices_of, strategies_of, rows_by, table_of, HasPayoffs, HasLabels, IsComplete}
 use Rattle.gf_nfg.proofs.MeaningLists.{joined, sum-cons, counts_back, groups-joined, take-by, drop-by}
@@ -96,45 +97,59 @@ named c h =
       counted = h.profiles_are ∙ ap product (sym same);
     }
 
-is_kept : (c : Content) → IsComplete c → kept.IsKept (names_in c) c.profiles c.payoffs (replicate (length c.players) (whole (pos 0))) (numbers_of c.profiles (choices_of c.choices))
-is_kept c h = record { named = named c h; kept = has_rows c c.choices h.has_rows }
+named_rows : (c : Content) → IsComplete c → IsNamed (names_in c) (length (rows_by c c.choices))
+named_rows c h = rw (length-rows_by c c.choices h.has_rows) (named c h)
+
+full_rows : (c : Content) → IsComplete c
+    → AllByRecursion (λ row. length row ≡ length c.players) (rows_by c c.choices)
+full_rows c h =
+    kept.full_rows (length c.players) c.payoffs (numbers_of c.profiles (choices_of c.choices))
+    (has_rows c c.choices h.has_rows).rows_kept
 
 pub is_table : (c : Content) → IsComplete c → IsTable (table_of c)
-is_table c h = kept.is_table _ _ _ _ _ (is_kept c h)
+is_table c h = kept.is_table (names_in c) (rows_by c c.choices) (named_rows c h) (full_rows c h)
 
 pub rows-table_of : (c : Content) → IsComplete c → rows (table_of c) ≡ rows_by c c.choices
-rows-table_of c h = kept.rows-table_with _ _ _ _ _ (is_kept c h)
+rows-table_of c h = kept.rows-table_with (names_in c) (rows_by c c.choices) (named_rows c h).counted
 
 pub length-entries : (c : Content) → IsComplete c → length (table_of c).entries ≡ c.profiles
-length-entries c h = kept.length-entries _ _ _ _ _ (is_kept c h)
+length-entries c h =
+    kept.length-entries (names_in c) (rows_by c c.choices) (named_rows c h).counted
+    ∙ length-rows_by c c.choices h.has_rows
 
 -- ---- the table as it is made
 
-pub named_by : (c : Content) (names : Names) → names ≡ names_in c → IsComplete c → IsNamed names c.profiles
-named_by c names is h = rw is (named c h)
+pub held : (c : Content) (names : Names) (rs : List (List Ratio)) → names ≡ names_in c
+    → rs ≡ rows_by c c.choices → IsComplete c → c.profiles ≤ profile_limit
+    → IsSpellable (table_of c) → IsHeld names rs
+held c names rs names_are rows_are h within spellable =
+    let count = length-rows_by c c.choices h.has_rows in
+    rw (names_are, rows_are) (record {
+      named = named_rows c h;
+      one_payoff_each = full_rows c h;
+      within = omega (arith, count, within);
+      spellable = spellable;
+    })
 
-none_chosen : (profiles : ℕ) (choices : List ℕ) → length choices ≡ 0 → numbers_of profiles (choices_of choices) ≡ positions profiles
+pub none_chosen : (profiles : ℕ) (choices : List ℕ) → length choices ≡ 0 → numbers_of profiles (choices_of choices) ≡ positions profiles
 none_chosen profiles [] h = refl
 none_chosen profiles (k ∷ choices) h = absurd (omega (arith, h))
 
-some_chosen : (profiles : ℕ) (choices : List ℕ) → 0 < length choices → numbers_of profiles (choices_of choices) ≡ choices
+pub some_chosen : (profiles : ℕ) (choices : List ℕ) → 0 < length choices → numbers_of profiles (choices_of choices) ≡ choices
 some_chosen profiles [] h = absurd (omega (arith, h))
 some_chosen profiles (k ∷ choices) h = refl
 
-pub rows_of_profiles : (c : Content) (names : Names) → names ≡ names_in c → length c.choices ≡ 0
-    → table_with names (map (row_of (length names.players) c.payoffs) (positions c.profiles)) ≡ table_of c
-rows_of_profiles c names is none = rw is (ap (λ (ns : List ℕ). table_with (names_in c) (map (row_of (length c.players) c.payoffs) ns)) (sym (none_chosen c.profiles c.choices none)))
-
-pub rows_of_outcomes : (c : Content) (names : Names) → names ≡ names_in c → 0 < length c.choices
-    → table_with names (map (row_of (length names.players) c.payoffs) c.choices) ≡ table_of c
-rows_of_outcomes c names is some = rw is (ap (λ (ns : List ℕ). table_with (names_in c) (map (row_of (length c.players) c.payoffs) ns)) (sym (some_chosen c.profiles c.choices some)))
+pub payoffs_in_turn : (c : Content) (choices : List ℕ) → HasPayoffs c choices → length choices ≡ 0
+    → length c.payoffs ≡ c.profiles * length c.players
+payoffs_in_turn c [] h none = h ∙ mul_comm (length c.players) c.profiles
+payoffs_in_turn c (k ∷ choices) h none = absurd (omega (arith, none))
 
 pub count_chosen : (c : Content) (choices : List ℕ) → HasPayoffs c choices → 0 < length choices → length choices ≡ c.profiles
 count_chosen c [] h some = absurd (omega (arith, some))
 count_chosen c (k ∷ choices) h some = h.2
 
-pub named_by_outcomes : (c : Content) (names : Names) → names ≡ names_in c → IsComplete c → 0 < length c.choices → IsNamed names (length c.choices)
-named_by_outcomes c names is h some = rw (count_chosen c c.choices h.has_rows some) (named_by c names is h)
-
-pub rows_kept_by : (c : Content) (names : Names) → names ≡ names_in c → IsComplete c → 0 < length c.choices → AllByRecursion (λ number. number * length names.players ≤ length c.payoffs) c.choices
-rows_kept_by c names is h some = rw is (subst (λ (ns : List ℕ). AllByRecursion (λ number. number * length c.players ≤ length c.payoffs) ns) (some_chosen c.profiles c.choices some) (has_rows c c.choices h.has_rows).rows_kept)
+pub rows_chosen : (c : Content) (choices : List ℕ) → HasPayoffs c choices → 0 < length choices
+    → AllByRecursion (λ number. number * length c.players ≤ length c.payoffs) choices
+rows_chosen c choices h some =
+    subst (λ (ns : List ℕ). AllByRecursion (λ number. number * length c.players ≤ length c.payoffs) ns)
+    (some_chosen c.profiles choices some) (has_rows c choices h).rows_kept

@@ -15,7 +15,7 @@ use Rattle.gf_nfg.specs.Table.{Table, rows}
 use Rattle.gf_nfg.specs.TableAccess.{payoffs_at}
 use Rattle.gf_nfg.specs.TableParts.{Names, entries_of, place_of, table_with}
 use Rattle.gf_nfg.proofs.NumbersInTurn.{length-numbers_from}
-use Rattle.gf_nfg.proofs.TableRows.{IsKept, kept_rows, matched, rows-table_with}
+use Rattle.gf_nfg.proofs.TableRows.{matched}
 
 -- where a profile is first found
 abbrev position_of : List ℕ → List (List ℕ) → Option ℕ
@@ -241,10 +241,12 @@ strategy_fits names profile at place count a above within =
     let whole = product_drop (map length names.strategies) at (all_images (λ n. 0 < n) length names.strategies a.some_strategy) in
     omega (arith, below, whole, a.within)
 
-pub payoffs_found : (names : Names) (count : ℕ) (payoffs zeros : List Ratio) (numbers : List ℕ) (t : Table) (profile : List ℕ) → IsKept names count payoffs zeros numbers → table_with names (kept_rows names payoffs numbers) ≡ t
-    → payoffs_at profile t.entries ≡ option_and_then (λ k. slice_get (rows t) k) (place_of (map length names.strategies) profile)
-payoffs_found names count payoffs zeros numbers t profile k view =
+pub payoffs_found : (names : Names) (rs : List (List Ratio)) (t : Table) (profile : List ℕ)
+    → length rs ≡ product (map length names.strategies) → table_with names rs ≡ t
+    → payoffs_at profile t.entries
+    ≡ option_and_then (λ k. slice_get rs k) (place_of (map length names.strategies) profile)
+payoffs_found names rs t profile one view =
+    let counts = map length names.strategies in
     ap (λ (u : Table). payoffs_at profile u.entries) (sym view)
-    ∙ payoffs_at_position profile (profiles (map length names.strategies)) (kept_rows names payoffs numbers) (matched names count payoffs zeros numbers k)
-    ∙ ap (λ (o : Option ℕ). option_and_then (λ j. slice_get (kept_rows names payoffs numbers) j) o) (position_of-profiles profile (map length names.strategies))
-    ∙ ap (λ (rs : List (List Ratio)). option_and_then (λ j. slice_get rs j) (place_of (map length names.strategies) profile)) (sym (rows-table_with names count payoffs zeros numbers k) ∙ ap rows view)
+    ∙ payoffs_at_position profile (profiles counts) rs (matched names rs one)
+    ∙ ap (λ (o : Option ℕ). option_and_then (λ j. slice_get rs j) o) (position_of-profiles profile counts)

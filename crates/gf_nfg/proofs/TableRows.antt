@@ -38,29 +38,35 @@ pub entries_again : (entries : List Entry) → entries_of (map (λ e. e.profile)
 entries_again [] = refl
 entries_again (e ∷ entries) = ap (λ es. e ∷ es) (entries_again entries)
 
--- a table whose rows are kept
-pub record IsKept (names : Names) (count : ℕ) (payoffs zeros : List Ratio) (numbers : List ℕ) : Type 0 where
-  pub named : IsNamed names count
-  pub kept : HasRows (length names.players) count payoffs zeros numbers
+-- ---- a table of names and rows
 
-abbrev pub kept_rows : Names → List Ratio → List ℕ → List (List Ratio)
-kept_rows names payoffs numbers = map (row_of (length names.players) payoffs) numbers
+-- as many rows as there are profiles
+pub matched : (names : Names) (rs : List (List Ratio)) → length rs ≡ product (map length names.strategies)
+    → length (profiles (map length names.strategies)) ≡ length rs
+matched names rs one = length-profiles (map length names.strategies) ∙ sym one
 
-pub matched : (names : Names) (count : ℕ) (payoffs zeros : List Ratio) (numbers : List ℕ) → IsKept names count payoffs zeros numbers
-    → length (profiles (map length names.strategies)) ≡ length (kept_rows names payoffs numbers)
-matched names count payoffs zeros numbers k =
-    length-profiles (map length names.strategies) ∙ sym k.named.counted ∙ sym k.kept.one_number_each ∙ sym (length-map numbers (row_of (length names.players) payoffs))
+pub length-entries : (names : Names) (rs : List (List Ratio))
+    → length rs ≡ product (map length names.strategies)
+    → length (table_with names rs).entries ≡ length rs
+length-entries names rs one =
+    length-entries_of (profiles (map length names.strategies)) rs (matched names rs one)
 
-pub length-entries : (names : Names) (count : ℕ) (payoffs zeros : List Ratio) (numbers : List ℕ) → IsKept names count payoffs zeros numbers
-    → length (table_with names (kept_rows names payoffs numbers)).entries ≡ count
-length-entries names count payoffs zeros numbers k =
-    length-entries_of (profiles (map length names.strategies)) (kept_rows names payoffs numbers) (matched names count payoffs zeros numbers k)
-    ∙ length-map numbers (row_of (length names.players) payoffs) ∙ k.kept.one_number_each
+pub rows-table_with : (names : Names) (rs : List (List Ratio))
+    → length rs ≡ product (map length names.strategies) → rows (table_with names rs) ≡ rs
+rows-table_with names rs one =
+    payoffs-entries_of (profiles (map length names.strategies)) rs (matched names rs one)
 
-pub rows-table_with : (names : Names) (count : ℕ) (payoffs zeros : List Ratio) (numbers : List ℕ) → IsKept names count payoffs zeros numbers
-    → rows (table_with names (kept_rows names payoffs numbers)) ≡ kept_rows names payoffs numbers
-rows-table_with names count payoffs zeros numbers k =
-    payoffs-entries_of (profiles (map length names.strategies)) (kept_rows names payoffs numbers) (matched names count payoffs zeros numbers k)
+pub is_table : (names : Names) (rs : List (List Ratio)) → IsNamed names (length rs)
+    → AllByRecursion (λ row. length row ≡ length names.players) rs → IsTable (table_with names rs)
+is_table names rs named full = record {
+  one_list_each = named.one_list_each;
+  some_strategy = named.some_strategy;
+  one_entry_each =
+      profiles-entries_of (profiles (map length names.strategies)) rs (matched names rs named.counted);
+  one_payoff_each = rw (rows-table_with names rs named.counted) full;
+}
+
+-- ---- rows by their numbers
 
 length-row_of : (players : ℕ) (payoffs : List Ratio) (number : ℕ) → number * players ≤ length payoffs → length (row_of players payoffs number) ≡ players
 length-row_of players payoffs zero h = length-replicate players (whole (pos 0))
@@ -68,19 +74,16 @@ length-row_of players payoffs (suc k) h =
     let more : suc k * players ≡ k * players + players = omega arith in
     length-take players (drop (k * players) payoffs) ∙ omega (arith, length-drop (k * players) payoffs, h, more)
 
-full_rows : (players : ℕ) (payoffs : List Ratio) (numbers : List ℕ) → AllByRecursion (λ number. number * players ≤ length payoffs) numbers
+pub full_rows : (players : ℕ) (payoffs : List Ratio) (numbers : List ℕ) → AllByRecursion (λ number. number * players ≤ length payoffs) numbers
     → AllByRecursion (λ row. length row ≡ players) (map (row_of players payoffs) numbers)
 full_rows players payoffs [] h = tt
 full_rows players payoffs (number ∷ numbers) h = (length-row_of players payoffs number h.0, full_rows players payoffs numbers h.1)
 
-pub is_table : (names : Names) (count : ℕ) (payoffs zeros : List Ratio) (numbers : List ℕ) → IsKept names count payoffs zeros numbers
-    → IsTable (table_with names (kept_rows names payoffs numbers))
-is_table names count payoffs zeros numbers k = record {
-  one_list_each = k.named.one_list_each;
-  some_strategy = k.named.some_strategy;
-  one_entry_each = profiles-entries_of (profiles (map length names.strategies)) (kept_rows names payoffs numbers) (matched names count payoffs zeros numbers k);
-  one_payoff_each = rw (rows-table_with names count payoffs zeros numbers k) (full_rows (length names.players) payoffs numbers k.kept.rows_kept);
-}
+pub length-kept : (players count : ℕ) (payoffs zeros : List Ratio) (numbers : List ℕ)
+    → HasRows players count payoffs zeros numbers
+    → length (map (row_of players payoffs) numbers) ≡ count
+length-kept players count payoffs zeros numbers kept =
+    length-map numbers (row_of players payoffs) ∙ kept.one_number_each
 
 -- ---- rows of the profiles in turn
 
@@ -133,27 +136,34 @@ rows_in_turn players count payoffs h =
 -- ---- one row
 
 -- the number of the row of the profile with this place
-pub record IsNumber (names : Names) (count : ℕ) (payoffs zeros : List Ratio) (numbers : List ℕ) (place number : ℕ) : Type 0 where
-  pub kept : IsKept names count payoffs zeros numbers
+pub record IsNumber (players count : ℕ) (payoffs zeros : List Ratio) (numbers : List ℕ)
+    (place number : ℕ) : Type 0 where
+  pub kept : HasRows players count payoffs zeros numbers
   pub number_is : slice_get numbers place ≡ Some number
 
-pub number_within : (names : Names) (count : ℕ) (payoffs zeros : List Ratio) (numbers : List ℕ) (place number : ℕ) → IsNumber names count payoffs zeros numbers place number
-    → number * length names.players ≤ length payoffs
-number_within names count payoffs zeros numbers place number h = all_at (λ n. n * length names.players ≤ length payoffs) numbers place number h.kept.kept.rows_kept h.number_is
+pub number_within : (players count : ℕ) (payoffs zeros : List Ratio) (numbers : List ℕ)
+    (place number : ℕ) → IsNumber players count payoffs zeros numbers place number
+    → number * players ≤ length payoffs
+number_within players count payoffs zeros numbers place number h =
+    all_at (λ n. n * players ≤ length payoffs) numbers place number h.kept.rows_kept h.number_is
 
-pub number_zero : (names : Names) (count : ℕ) (payoffs zeros : List Ratio) (numbers : List ℕ) (place number : ℕ) → IsNumber names count payoffs zeros numbers place number
-    → number ≡ 0 → zeros ≡ replicate (length names.players) (whole (pos 0))
-number_zero names count payoffs zeros numbers place number h = all_at (λ n. n ≡ 0 → zeros ≡ replicate (length names.players) (whole (pos 0))) numbers place number h.kept.kept.zeros_kept h.number_is
+pub number_zero : (players count : ℕ) (payoffs zeros : List Ratio) (numbers : List ℕ)
+    (place number : ℕ) → IsNumber players count payoffs zeros numbers place number
+    → number ≡ 0 → zeros ≡ replicate players (whole (pos 0))
+number_zero players count payoffs zeros numbers place number h =
+    all_at (λ n. n ≡ 0 → zeros ≡ replicate players (whole (pos 0))) numbers place number
+    h.kept.zeros_kept h.number_is
 
 pub kept_row_is : (players : ℕ) (payoffs zeros : List Ratio) (number : ℕ) → (number ≡ 0 → zeros ≡ row_of players payoffs 0) → kept_row players payoffs zeros number ≡ row_of players payoffs number
 kept_row_is players payoffs zeros zero h = h refl
 kept_row_is players payoffs zeros (suc k) h = refl
 
-pub row_is : (names : Names) (count : ℕ) (payoffs zeros : List Ratio) (numbers : List ℕ) (place number : ℕ) → IsNumber names count payoffs zeros numbers place number
-    → slice_get (rows (table_with names (kept_rows names payoffs numbers))) place ≡ Some (row_of (length names.players) payoffs number)
-row_is names count payoffs zeros numbers place number h =
-    ap (λ (rs : List (List Ratio)). slice_get rs place) (rows-table_with names count payoffs zeros numbers h.kept)
-    ∙ slice_get-map (row_of (length names.players) payoffs) numbers place ∙ ap (λ (o : Option ℕ). option_map (row_of (length names.players) payoffs) o) h.number_is
+pub row_is : (players count : ℕ) (payoffs zeros : List Ratio) (numbers : List ℕ)
+    (place number : ℕ) → IsNumber players count payoffs zeros numbers place number
+    → slice_get (map (row_of players payoffs) numbers) place ≡ Some (row_of players payoffs number)
+row_is players count payoffs zeros numbers place number h =
+    slice_get-map (row_of players payoffs) numbers place
+    ∙ ap (λ (o : Option ℕ). option_map (row_of players payoffs) o) h.number_is
 
 slice_get-numbers_from : (first n k : ℕ) → k < n → slice_get (numbers_from first n) k ≡ Some (first + k)
 slice_get-numbers_from first zero k h = absurd (omega (arith, h))
@@ -229,26 +239,39 @@ own_count_within names count k n h within e =
     let own = counted_own (slice_get names.strategies k) n e in
     omega (arith, own.2, h.counted, within, count_at_most names.strategies k own.0 h.some_strategy own.1)
 
-pub place_within : (names : Names) (count : ℕ) (payoffs zeros : List Ratio) (numbers : List ℕ) (t : Table) (place : ℕ) → IsKept names count payoffs zeros numbers → table_with names (kept_rows names payoffs numbers) ≡ t
-    → place < length t.entries → place < count
-place_within names count payoffs zeros numbers t place k view h =
-    let size : length t.entries ≡ count = ap (λ (u : Table). length u.entries) (sym view) ∙ length-entries names count payoffs zeros numbers k in omega (arith, h, size)
+pub place_within : (players count : ℕ) (payoffs zeros : List Ratio) (numbers : List ℕ)
+    (rs : List (List Ratio)) (place : ℕ) → HasRows players count payoffs zeros numbers
+    → map (row_of players payoffs) numbers ≡ rs → place < length rs → place < count
+place_within players count payoffs zeros numbers rs place kept view h =
+    let size : length rs ≡ count =
+    ap length (sym view) ∙ length-kept players count payoffs zeros numbers kept in
+    omega (arith, h, size)
 
-pub numbered : (names : Names) (count : ℕ) (payoffs zeros : List Ratio) (choices : Option (List ℕ)) (t : Table) (place number : ℕ) → IsKept names count payoffs zeros (numbers_of count choices)
-    → table_with names (kept_rows names payoffs (numbers_of count choices)) ≡ t → place < length t.entries → number_in choices place ≡ Some number → IsNumber names count payoffs zeros (numbers_of count choices) place number
-numbered names count payoffs zeros choices t place number k view h e =
-    record { kept = k; number_is = sym (number_found count choices place (place_within names count payoffs zeros (numbers_of count choices) t place k view h)) ∙ e }
+pub numbered : (players count : ℕ) (payoffs zeros : List Ratio) (choices : Option (List ℕ))
+    (rs : List (List Ratio)) (place number : ℕ)
+    → HasRows players count payoffs zeros (numbers_of count choices)
+    → map (row_of players payoffs) (numbers_of count choices) ≡ rs → place < length rs
+    → number_in choices place ≡ Some number
+    → IsNumber players count payoffs zeros (numbers_of count choices) place number
+numbered players count payoffs zeros choices rs place number kept view h e =
+    let numbers = numbers_of count choices in
+    let within = place_within players count payoffs zeros numbers rs place kept view h in
+    record { kept = kept; number_is = sym (number_found count choices place within) ∙ e }
 
-pub made_of_parts : (t : Table) (names : Names) (title comment : List ℕ) (players : List (List ℕ)) (strategies : List (List (List ℕ))) (count : ℕ) (payoffs given : List Ratio)
-    → names ≡ record { title = title; comment = comment; players = players; strategies = strategies } → IsNamed names count → payoffs ≡ given → length payoffs ≡ count * length names.players
-    → t ≡ table_with names (kept_rows names payoffs (positions count)) → IsTableOf t title comment players strategies given
-made_of_parts t names title comment players strategies count payoffs given is named same whole made =
-    let kept : IsKept names count payoffs [] (positions count) = record { named = named; kept = positions_have_rows (length names.players) count payoffs [] whole } in
-    record {
-      title_is = ap (λ (u : Table). u.title) made ∙ ap (λ (n : Names). n.title) is;
-      comment_is = ap (λ (u : Table). u.comment) made ∙ ap (λ (n : Names). n.comment) is;
-      players_are = ap (λ (u : Table). u.players) made ∙ ap (λ (n : Names). n.players) is;
-      strategies_are = ap (λ (u : Table). u.strategies) made ∙ ap (λ (n : Names). n.strategies) is;
-      payoffs_are = ap (λ (u : Table). flat_map (λ row. row) (rows u)) made ∙ ap (λ (rs : List (List Ratio)). flat_map (λ row. row) rs) (rows-table_with names count payoffs [] (positions count) kept) ∙ rows_in_turn (length names.players) count payoffs whole ∙ same;
-      is_table = rw made (is_table names count payoffs [] (positions count) kept);
-    }
+pub made_of_parts : (t : Table) (names : Names) (title comment : List ℕ) (players : List (List ℕ))
+    (strategies : List (List (List ℕ))) (rs : List (List Ratio)) (given : List Ratio)
+    → names ≡ record { title = title; comment = comment; players = players; strategies = strategies }
+    → IsNamed names (length rs) → AllByRecursion (λ row. length row ≡ length names.players) rs
+    → flat_map (λ row. row) rs ≡ given → t ≡ table_with names rs
+    → IsTableOf t title comment players strategies given
+made_of_parts t names title comment players strategies rs given is named full in_turn made = record {
+  title_is = ap (λ (u : Table). u.title) made ∙ ap (λ (n : Names). n.title) is;
+  comment_is = ap (λ (u : Table). u.comment) made ∙ ap (λ (n : Names). n.comment) is;
+  players_are = ap (λ (u : Table). u.players) made ∙ ap (λ (n : Names). n.players) is;
+  strategies_are = ap (λ (u : Table). u.strategies) made ∙ ap (λ (n : Names). n.strategies) is;
+  payoffs_are =
+      ap (λ (u : Table). flat_map (λ row. row) (rows u)) made
+      ∙ ap (λ (xs : List (List Ratio)). flat_map (λ row. row) xs) (rows-table_with names rs named.counted)
+      ∙ in_turn;
+  is_table = rw made (is_table names rs named full);
+}

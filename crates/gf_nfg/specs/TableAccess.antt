@@ -20,9 +20,3 @@ pub record IsTableOf (t : Table) (title comment : List ℕ) (players : List (Lis
   pub strategies_are : t.strategies ≡ strategies
   pub payoffs_are : flat_map (λ row. row) (rows t) ≡ payoffs
   pub is_table : IsTable t
-
--- the same players, the same strategies and the same payoffs at each profile
-pub record PlayAgrees (t u : Table) : Type 0 where
-  pub same_players : t.players ≡ u.players
-  pub same_strategies : t.strategies ≡ u.strategies
-  pub same_payoffs : t.entries ≡ u.entries

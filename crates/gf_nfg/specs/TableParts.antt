@@ -4,7 +4,8 @@ use Rattle.std.specs.List.{AllByRecursion}
 use Rattle.gf_fraction.specs.Ratio.{Ratio, whole}
 use Rattle.gf_token.specs.LabelSpelling.{IsLabel}
 use Rattle.gf_nfg.specs.Profiles.{positions, product, profiles}
-use Rattle.gf_nfg.specs.Table.{Entry, Table, rows}
+use Rattle.gf_nfg.specs.Limit.{profile_limit}
+use Rattle.gf_nfg.specs.Table.{Entry, Table, IsSpellable}
 
 -- a list cut at these ends, from this place on
 abbrev pub pieces : {A : Type 0} → ℕ → List ℕ → List A → List (List A)
@@ -100,9 +101,11 @@ abbrev pub kept_row : ℕ → List Ratio → List Ratio → ℕ → List Ratio
 kept_row players payoffs zeros zero = zeros
 kept_row players payoffs zeros (suc k) = take players (drop (k * players) payoffs)
 
--- a number for each profile, below a bound: profiles with one number have one row, and each number has a row
-pub record AreShared (t : Table) (numbers : List ℕ) (players : ℕ) (payoffs zeros : List Ratio) (bound : ℕ) : Type 0 where
-  pub rows_are : rows t ≡ map (kept_row players payoffs zeros) numbers
+-- a number for each profile, below a bound: profiles with one number have one row, and each number
+-- has a row
+pub record AreShared (rows : List (List Ratio)) (numbers : List ℕ) (players : ℕ)
+    (payoffs zeros : List Ratio) (bound : ℕ) : Type 0 where
+  pub rows_are : rows ≡ map (kept_row players payoffs zeros) numbers
   pub below : AllByRecursion (λ number. number < bound) numbers
   pub kept : (number : ℕ) → number < bound → number * players ≤ length payoffs
 
@@ -111,6 +114,13 @@ pub record IsNamed (names : Names) (count : ℕ) : Type 0 where
   pub one_list_each : length names.strategies ≡ length names.players
   pub some_strategy : AllByRecursion (λ own. 0 < length own) names.strategies
   pub counted : count ≡ product (map length names.strategies)
+
+-- these are names and rows of a table that a file within the limit of profiles can hold
+pub record IsHeld (names : Names) (rows : List (List Ratio)) : Type 0 where
+  pub named : IsNamed names (length rows)
+  pub one_payoff_each : AllByRecursion (λ row. length row ≡ length names.players) rows
+  pub within : length rows ≤ profile_limit
+  pub spellable : IsSpellable (table_with names rows)
 
 -- there is a row with the number of each profile, and one of zeros if a number is 0
 pub record HasRows (players count : ℕ) (payoffs zeros : List Ratio) (numbers : List ℕ) : Type 0 where

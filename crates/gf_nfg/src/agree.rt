@@ -1,11 +1,11 @@
 //! Whether two tables are the same to play.
 
 ghost use Rattle.std.specs.Prelude.{◌≡◌, ◌<◌, ◌↔◌, IsTrue, length};
-ghost use Rattle.gf_nfg.specs.Table.{rows};
-ghost use Rattle.gf_nfg.specs.TableAccess.{PlayAgrees};
+ghost use Rattle.gf_nfg.specs.SameTable.{SamePlay};
 ghost use Rattle.gf_nfg.specs.TableParts.{own_of};
 
 use crate::names::Names;
+use crate::rows::Rows;
 use crate::table::Table;
 use gf_fraction::Fraction;
 
@@ -71,14 +71,14 @@ fn same_row(a: &[Fraction], b: &[Fraction]) -> bool
 }
 
 /// Whether both have the same rows.
-fn same_rows(a: &Table, b: &Table) -> bool
-    ensures { IsTrue result ↔ (rows a.now ≡ rows b.now) }
+fn same_rows(a: &Rows, b: &Rows) -> bool
+    ensures { IsTrue result ↔ (a.now ≡ b.now) }
 {
-    if a.profiles() != b.profiles() {
+    if a.len() != b.len() {
         return false;
     }
-    for place in 0..a.profiles() {
-        if !same_row(a.row(place as usize), b.row(place as usize)) {
+    for place in 0..a.len() {
+        if !same_row(a.row(place), b.row(place)) {
             return false;
         }
     }
@@ -89,8 +89,8 @@ impl Table {
     /// Whether the players, the labels of their strategies and the payoffs at each profile are the same in both. Titles
     /// and comments do not count. Takes no memory.
     pub fn play_agrees(&self, o: &Table) -> bool
-        ensures { IsTrue result ↔ PlayAgrees self.now o.now }
+        ensures { IsTrue result ↔ SamePlay self.now o.now }
     {
-        same_names(self.names(), o.names()) && same_rows(self, o)
+        same_names(self.names(), o.names()) && same_rows(self.rows(), o.rows())
     }
 }

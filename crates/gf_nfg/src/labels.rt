@@ -30,7 +30,7 @@ fn label_between(bytes: &[u8], start: usize, end: usize) -> Label<'_>
     requires spelled { IsTrue (is_spelling (take (end - start) (drop start bytes.now))) }
     ensures { label_of result ≡ take (end - start) (drop start bytes.entry.now) }
 {
-    Label::new(&bytes[start..end]).unwrap()
+    Label::of_spelling(&bytes[start..end])
 }
 
 /// Labels in one buffer, with the place where each ends.
@@ -97,7 +97,7 @@ impl Labels {
         let mut buffer = Buffer::new();
         for before in 0..count {
             let number = buffer.format(before + 1).as_bytes();
-            self.push(Label::new(number).unwrap())?;
+            self.push(Label::of_spelling(number))?;
         }
         Ok(())
     }

@@ -8,9 +8,11 @@ mod limit;
 mod names;
 mod parts;
 mod position;
+mod profile;
 mod read;
 mod reader;
 mod readings;
+mod rows;
 mod table;
 mod write;
 

@@ -2,10 +2,12 @@
 
 ghost use Rattle.std.specs.Prelude.{◌≡◌, ◌≤◌, IfOk};
 ghost use Rattle.gf_nfg.specs.Limit.{profile_limit};
-ghost use Rattle.gf_nfg.specs.Meaning.{IsComplete, names_in, table_of};
+ghost use Rattle.gf_nfg.specs.Meaning.{IsComplete, names_in, rows_by, table_of};
 ghost use Rattle.gf_nfg.specs.ReaderState.{content_of};
+ghost use Rattle.gf_nfg.specs.Table.{IsSpellable};
 
 use crate::names::Names;
+use crate::rows::Rows;
 use crate::table::Table;
 use gf_fraction::Fraction;
 use gf_token::Label;
@@ -52,17 +54,29 @@ impl<'a> Parts<'a> {
         }
     }
 
-    /// The table that the parts mean. The payoffs are not copied.
+    /// A row for each profile. The payoffs are not copied.
+    fn rows(self, alloc: Global) -> Result<Rows, AllocError>
+        requires { IsComplete (content_of self) }
+        ensures { IfOk result
+            (λ rows. rows ≡ rows_by (content_of self.entry) self.entry.choices.items) }
+    {
+        let players = self.players.len();
+        if self.choices.is_empty() {
+            Ok(Rows::in_turn(alloc, players, self.profiles, self.payoffs))
+        } else {
+            Rows::by_number(players, self.payoffs, self.choices)
+        }
+    }
+
+    /// The table that the parts mean.
     pub(crate) fn into_table(self, alloc: Global) -> Result<Table, AllocError>
         requires complete { IsComplete (content_of self) }
         requires within { self.profiles ≤ profile_limit }
+        requires spellable { IsSpellable (table_of (content_of self)) }
         ensures { IfOk result (λ t. t ≡ table_of (content_of self.entry)) }
     {
         let names = self.names(alloc)?;
-        if self.choices.is_empty() {
-            Ok(Table::of_rows(alloc, names, self.profiles, self.payoffs))
-        } else {
-            Table::of_outcomes(names, self.payoffs, self.choices)
-        }
+        let rows = self.rows(alloc)?;
+        Ok(Table::of_parts(names, rows))
     }
 }

@@ -1,15 +1,18 @@
 //! Strategic files in memory: the players, their strategies, and the payoffs at each profile.
 
-ghost use Rattle.std.specs.Prelude.{◌≡◌, ◌*◌, ◌<◌, ◌≤◌, ◌^◌, Some, IfOk, IfSome, IsSome, length, map, min, option_and_then, option_map, slice_get, vec_len};
+ghost use Rattle.std.specs.Prelude.{◌≡◌, ◌*◌, ◌<◌, ◌≤◌, IfOk, length, map, min, option_and_then, option_map, vec_len};
 ghost use Rattle.std.specs.List.{AllByRecursion};
 ghost use Rattle.gf_token.specs.Label.{label_of};
 ghost use Rattle.gf_nfg.specs.Limit.{profile_limit};
-ghost use Rattle.gf_nfg.specs.Profiles.{positions, product};
-ghost use Rattle.gf_nfg.specs.Table.{IsTable, rows};
+ghost use Rattle.gf_nfg.specs.LimitPlace.{IsWithinLimit};
+ghost use Rattle.gf_nfg.specs.Profiles.{product};
+ghost use Rattle.gf_nfg.specs.Table.{IsSpellable, IsTable, rows};
 ghost use Rattle.gf_nfg.specs.TableAccess.{IsTableOf, at_position, payoffs_at};
-ghost use Rattle.gf_nfg.specs.TableParts.{AreShared, IsNamed, kept_row, number_in, place_of, row_of, table_with};
+ghost use Rattle.gf_nfg.specs.TableParts.{IsHeld, table_with};
 
 use crate::names::Names;
+use crate::profile::place_of;
+use crate::rows::Rows;
 use gf_fraction::Fraction;
 use gf_token::Label;
 use std::alloc::{AllocError, Global};
@@ -20,150 +23,27 @@ use std::marker::Model;
 #[derive(Debug, Drop)]
 pub struct Table {
     names: Names,
-    /// How many profiles there are.
-    profiles: u32,
-    /// Rows of one payoff for each player, one behind the other.
-    payoffs: Vec<Fraction>,
-    /// For each profile the number of its row, from 1, or 0 where each player is paid zero. Without numbers the rows
-    /// are those of the profiles in turn.
-    choices: Option<Vec<u32>>,
-    /// A zero for each player, where there are numbers.
-    zeros: Vec<Fraction>,
+    payoffs: Rows,
 }
 
 impl Model for Table {
-    ghost use Rattle.std.specs.Prelude.{◌≤◌, length, map, option_map};
     ghost use Rattle.gf_nfg.specs.Table.{Table};
+    ghost use Rattle.gf_nfg.specs.TableParts.{IsHeld, table_with};
 
     ghost Value = { Table };
 
-    ghost use Rattle.gf_nfg.specs.Limit.{profile_limit};
-    ghost use Rattle.gf_nfg.specs.TableParts.{HasRows, IsNamed, numbers_of, row_of, table_with};
+    ghost view = { λ t. table_with t.names t.payoffs };
 
-    ghost view = { λ t. table_with t.names (map (row_of (length t.names.players) t.payoffs.items)
-        (numbers_of t.profiles (option_map (λ v. v.items) t.choices))) };
-
-    ghost invariant = { λ t. IsNamed t.names t.profiles
-        × HasRows (length t.names.players) t.profiles t.payoffs.items t.zeros.items
-        (numbers_of t.profiles (option_map (λ v. v.items) t.choices))
-        × (t.profiles ≤ profile_limit) };
-}
-
-/// Rows with numbers, from 0, that profiles share.
-#[derive(Clone, Copy, Debug)]
-pub(crate) struct Shared<'t> {
-    /// The number of its row for each profile.
-    pub numbers: &'t [u32],
-    /// How many rows there are.
-    pub rows: usize,
-    players: usize,
-    payoffs: &'t [Fraction],
-    zeros: &'t [Fraction],
-}
-
-/// The number of the row of the profile with this place.
-fn number_in(choices: &Option<Vec<u32>>, place: usize) -> usize
-    requires place { place < 2 ^ 32 }
-    requires number { IsSome (number_in (option_map (λ v. v.items) choices.now) place) }
-    ensures { number_in (option_map (λ v. v.items) choices.now) place ≡ Some result }
-{
-    match choices {
-        Some(choices) => choices[place] as usize,
-        None => place + 1,
-    }
-}
-
-/// The row with this number.
-fn row_at<'t>(
-    players: usize,
-    payoffs: &'t [Fraction],
-    zeros: &'t [Fraction],
-    number: usize,
-) -> &'t [Fraction]
-    requires { number * players ≤ length payoffs.now }
-    ensures { result.now ≡ kept_row players payoffs.entry.now zeros.entry.now number }
-{
-    if number == 0 {
-        zeros
-    } else {
-        &payoffs[(number - 1) * players..number * players]
-    }
-}
-
-/// The place of a profile, from 0, or `None` where it is no profile of these players.
-fn place_of(names: &Names, profile: &[u32]) -> Option<usize>
-    requires one_list_each { length names.now.strategies ≡ length names.now.players }
-    requires some_strategy { AllByRecursion (λ own. 0 < length own) names.now.strategies }
-    requires within { product (map length names.now.strategies) ≤ profile_limit }
-    ensures { result ≡ place_of (map length names.now.strategies) profile.now }
-{
-    let players = names.players();
-    if profile.len() != players {
-        return None;
-    }
-    let mut place = 0;
-    for at in (0..players).rev() {
-        let count = names.strategies(at);
-        let strategy = profile[at] as usize;
-        if strategy == 0 || strategy > count {
-            return None;
-        }
-        place = place * count + (strategy - 1);
-    }
-    Some(place)
-}
-
-impl<'t> Shared<'t> {
-    /// The row with this number.
-    pub(crate) fn row(self, number: usize) -> &'t [Fraction]
-        requires { number * self.players ≤ length self.payoffs.now }
-        ensures { result.now ≡ kept_row self.entry.players self.entry.payoffs.now self.entry.zeros.now number }
-    {
-        row_at(self.players, self.payoffs, self.zeros, number)
-    }
+    ghost invariant = { λ t. IsHeld t.names t.payoffs };
 }
 
 impl Table {
-    /// The rows are those of the profiles in turn.
-    pub(crate) fn of_rows(
-        alloc: Global,
-        names: Names,
-        profiles: u32,
-        payoffs: Vec<Fraction>,
-    ) -> Table
-        requires named { IsNamed names profiles }
-        requires within { profiles ≤ profile_limit }
-        requires rows { length payoffs.items ≡ profiles * length names.players }
-        ensures { result ≡ table_with names (map (row_of (length names.players) payoffs.items) (positions profiles)) }
+    /// The table of these names and of a row at each profile.
+    pub(crate) fn of_parts(names: Names, payoffs: Rows) -> Table
+        requires { IsHeld names payoffs }
+        ensures { result ≡ table_with names payoffs }
     {
-        Table {
-            names,
-            profiles,
-            payoffs,
-            choices: None,
-            zeros: Vec::new(alloc),
-        }
-    }
-
-    /// Each profile has the row with its number. At 0 each player is paid zero.
-    pub(crate) fn of_outcomes(
-        names: Names,
-        payoffs: Vec<Fraction>,
-        choices: Vec<u32>,
-    ) -> Result<Table, AllocError>
-        requires named { IsNamed names (length choices.items) }
-        requires within { length choices.items ≤ profile_limit }
-        requires rows { AllByRecursion (λ number. number * length names.players ≤ length payoffs.items) choices.items }
-        ensures { IfOk result (λ t. t ≡ table_with names (map (row_of (length names.players) payoffs.items) choices.items)) }
-    {
-        let zeros = vec![in *payoffs.allocator(); Fraction::zero(); names.players()]?;
-        Ok(Table {
-            names,
-            profiles: choices.len() as u32,
-            payoffs,
-            choices: Some(choices),
-            zeros,
-        })
+        Table { names, payoffs }
     }
 
     /// The table of these parts. The rows are the payoffs at each profile in the order of a file: the first player's
@@ -192,42 +72,25 @@ impl Table {
     {
         let names = Names::new(alloc, title, comment, players, strategies)?;
         let profiles = rows.len().checked_div(players.len()).unwrap_or(1);
-        let payoffs = Vec::from_slice(alloc, rows)?;
-        Ok(Table::of_rows(alloc, names, profiles as u32, payoffs))
+        let payoffs = Vec::from_clones(alloc, rows)?;
+        let payoffs = Rows::in_turn(alloc, players.len(), profiles as u32, payoffs);
+        Ok(Table::of_parts(names, payoffs))
     }
 
     /// Everything but the payoffs.
     pub(crate) fn names(&self) -> &Names
         ensures is_table { IsTable self.now }
+        ensures spellable { IsSpellable self.now }
         ensures names { result.now ≡ record { title = self.now.title; comment = self.now.comment; players = self.now.players; strategies = self.now.strategies } }
     {
         &self.names
     }
 
-    /// The payoffs at the profile with this place, from 0.
-    pub(crate) fn row(&self, place: usize) -> &[Fraction]
-        requires { place < length self.now.entries }
-        ensures { slice_get (rows self.now) place ≡ Some result.now }
+    /// The payoffs at each profile.
+    pub(crate) fn rows(&self) -> &Rows
+        ensures { result.now ≡ rows self.now }
     {
-        let number = number_in(&self.choices, place);
-        row_at(self.names.players(), &self.payoffs, &self.zeros, number)
-    }
-
-    /// The rows and their numbers, where profiles may share them.
-    pub(crate) fn shared(&self) -> Option<Shared<'_>>
-        ensures { IfSome result (λ s. AreShared self.now s.numbers.now s.players s.payoffs.now s.zeros.now s.rows) }
-    {
-        let players = self.names.players();
-        match &self.choices {
-            Some(choices) if players > 0 => Some(Shared {
-                numbers: choices,
-                rows: self.payoffs.len() / players + 1,
-                players,
-                payoffs: &self.payoffs,
-                zeros: &self.zeros,
-            }),
-            _ => None,
-        }
+        &self.payoffs
     }
 
     /// The title.
@@ -284,11 +147,17 @@ impl Table {
         Some(self.names.strategy(i - 1, s - 1))
     }
 
-    /// How many profiles there are.
+    /// How many profiles there are: at most 1,048,576.
+    ///
+    /// The other clauses hold of each table. Every player has a strategy, and every profile one entry with a payoff for
+    /// each player; labels are spelled as labels are, and payoffs are fractions; so a file can hold it.
     pub fn profiles(&self) -> u32
-        ensures { result ≡ length self.now.entries }
+        ensures number { result ≡ length self.now.entries }
+        ensures is_table { IsTable self.now }
+        ensures spellable { IsSpellable self.now }
+        ensures within { IsWithinLimit self.now }
     {
-        self.profiles
+        self.payoffs.len()
     }
 
     /// The payoffs at the profile of these strategies, one for each player. `None` where the list has another length
@@ -297,7 +166,7 @@ impl Table {
         ensures { option_map (λ row. row.now) result ≡ payoffs_at profile.now self.now.entries }
     {
         match place_of(&self.names, profile) {
-            Some(place) => Some(self.row(place)),
+            Some(place) => Some(self.payoffs.row(place)),
             None => None,
         }
     }

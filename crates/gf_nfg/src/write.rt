@@ -2,13 +2,14 @@
 
 ghost use Rattle.std.specs.Prelude.{◌≡◌, ℕ, ◌+◌, ◌*◌, ◌<◌, ◌≤◌, ◌++◌, IfOk, OnErr, OnOk, length, map};
 ghost use Rattle.gf_fraction.specs.NumberText.{number_text};
-ghost use Rattle.gf_nfg.specs.Table.{rows};
+ghost use Rattle.gf_nfg.specs.Table.{IsSpellable, IsTable};
 ghost use Rattle.gf_nfg.specs.TableParts.{AreShared, kept_row, own_of};
-ghost use Rattle.gf_nfg.specs.TableText.{lines_text, list_text, quoted, spaced, table_text};
+ghost use Rattle.gf_nfg.specs.TableText.{SpellsTable, lines_text, list_text, quoted, spaced, table_text};
 ghost use Rattle.gf_nfg.specs.TextParts.{AreLines, Keeps, first_line, heading_text, others_text, row_text};
 
 use crate::names::Names;
-use crate::table::{Shared, Table};
+use crate::rows::{Rows, Shared};
+use crate::table::Table;
 use gf_fraction::Fraction;
 use gf_token::write_label;
 use std::alloc::{AllocError, Global};
@@ -135,9 +136,10 @@ fn lines_of(alloc: Global, shared: Shared<'_>) -> Result<Lines, AllocError>
 }
 
 /// Appends a line of payoffs for each profile, where profiles share rows: the line of a row is made once.
-fn write_shared(t: &Table, shared: Shared<'_>, out: &mut Vec<u8>) -> Result<(), AllocError>
-    requires { AreShared t.now shared.numbers.now shared.players shared.payoffs.now shared.zeros.now shared.rows }
-    ensures text { OnOk result (out.new.items ≡ out.old.items ++ lines_text (map row_text (rows t.now))) }
+fn write_shared(rows: &Rows, shared: Shared<'_>, out: &mut Vec<u8>) -> Result<(), AllocError>
+    requires { AreShared rows.now
+        shared.numbers.now shared.players shared.payoffs.now shared.zeros.now shared.rows }
+    ensures text { OnOk result (out.new.items ≡ out.old.items ++ lines_text (map row_text rows.now)) }
     ensures kept { OnErr result (Keeps out.old.items out.new.items) }
 {
     let lines = lines_of(*out.allocator(), shared)?;
@@ -150,18 +152,18 @@ fn write_shared(t: &Table, shared: Shared<'_>, out: &mut Vec<u8>) -> Result<(), 
 }
 
 /// Appends a line of payoffs for each profile.
-fn write_rows(t: &Table, out: &mut Vec<u8>) -> Result<(), AllocError>
-    ensures text { OnOk result (out.new.items ≡ out.old.items ++ lines_text (map row_text (rows t.now))) }
+fn write_rows(rows: &Rows, out: &mut Vec<u8>) -> Result<(), AllocError>
+    ensures text { OnOk result (out.new.items ≡ out.old.items ++ lines_text (map row_text rows.now)) }
     ensures kept { OnErr result (Keeps out.old.items out.new.items) }
 {
-    match t.shared() {
+    match rows.shared() {
         Some(shared) if shared.rows <= shared.numbers.len() => {
-            return write_shared(t, shared, out);
+            return write_shared(rows, shared, out);
         }
         _ => {}
     }
-    for place in 0..t.profiles() {
-        write_row(t.row(place as usize), out)?;
+    for place in 0..rows.len() {
+        write_row(rows.row(place), out)?;
         out.push(b'\n')?;
     }
     Ok(())
@@ -170,17 +172,21 @@ fn write_rows(t: &Table, out: &mut Vec<u8>) -> Result<(), AllocError>
 /// Appends the heading of a table and its lines.
 fn write_text(t: &Table, out: &mut Vec<u8>) -> Result<(), AllocError>
     ensures text { OnOk result (out.new.items ≡ out.old.items ++ table_text t.now) }
+    ensures is_table { IsTable t.now }
+    ensures spellable { IsSpellable t.now }
     ensures kept { OnErr result (Keeps out.old.items out.new.items) }
 {
     write_heading(t.names(), out)?;
-    write_rows(t, out)
+    write_rows(t.rows(), out)
 }
 
 /// Appends the canonical text of the table: payoff version, each number in lowest terms, one line for each profile.
+/// The text is a strategic file that means this table.
 ///
 /// `AllocError` where memory is refused, and then the vector's items are as they were.
 pub fn write_nfg(t: &Table, out: &mut Vec<u8>) -> Result<(), AllocError>
     ensures ok { OnOk result (out.new.items ≡ out.old.items ++ table_text t.now) }
+    ensures reads_back { SpellsTable (table_text t.now) t.now }
     ensures err { OnErr result (out.new.items ≡ out.old.items) }
 {
     let start = out.len();

@@ -44,8 +44,11 @@ impl<'a> Label<'a> {
         }
     }
 
-    /// The label that these bytes spell.
-    pub(crate) fn of_spelling(raw: &'a [u8]) -> Label<'a>
+    /// The label that `raw` spells, where that is known: nothing is checked at run time.
+    ///
+    /// The caller sees to it that `raw` does not end in a backslash, and that each `"` in it
+    /// directly follows one. `Label::new` checks bytes that may be anything.
+    pub fn of_spelling(raw: &'a [u8]) -> Label<'a>
         requires { IsTrue (is_spelling raw.now) }
         ensures { label_of result ≡ raw.entry.now }
     {

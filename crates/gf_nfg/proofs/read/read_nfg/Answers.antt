@@ -3,7 +3,13 @@ use Rattle.gf_nfg.specs.Meaning.{table_of}
 use Rattle.gf_nfg.specs.ReaderState.{content_of}
 use Rattle.gf_nfg.proofs.MeaningTables.{length-entries}
 use Rattle.gf_nfg.proofs.PlacesJudged.{memory_at_end}
+use Rattle.gf_nfg.proofs.SpelledTables.{spelled_is_spellable}
 use Rattle.gf_nfg.proofs.read.read_nfg.Goals as goal
+
+pub into_table-requires-clause-spellable : goal.into_table-requires-clause-spellable
+into_table-requires-clause-spellable c =
+    (spelled_is_spellable c.args.input.now (table_of (content_of c.in_ok-parts.parts))
+    c.in_ok-parts.ensures.spelled).1
 
 pub returns-in-Ok-clause-within : goal.returns-in-Ok-clause-within
 returns-in-Ok-clause-within c =

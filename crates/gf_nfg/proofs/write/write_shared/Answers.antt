@@ -1,6 +1,5 @@
 use Rattle.std.proofs.Common.{◌≡◌, ◌<◌, ◌-◌, ◌+◌, ◌∙◌, ◌++◌, Some, get_or, slice_get, take, drop, arith}
 use Rattle.std.proofs.lemmas.Grind.{get_or_default_zero}
-use Rattle.gf_nfg.specs.Table.{rows}
 use Rattle.gf_nfg.specs.TableParts.{kept_row}
 use Rattle.gf_nfg.specs.TextParts.{IsLine}
 use Rattle.gf_nfg.proofs.Texts.{kept_more}
@@ -9,7 +8,7 @@ use Rattle.gf_nfg.proofs.write.write_shared.Goals as goal
 
 pub loop-number-preserved : goal.loop-number-preserved
 loop-number-preserved c =
-    let rs = rows c.args.t.now in
+    let rs = c.args.rows.now in
     let numbers = c.args.shared.numbers.now in
     let row = kept_row c.args.shared.players c.args.shared.payoffs.now c.args.shared.zeros.now in
     let at = c.loop-number.number-index in

@@ -1,7 +1,8 @@
-use Rattle.std.proofs.Common.{◌≡◌, ◌+◌, ◌-◌, ◌∙◌, sym, arith, map, length, inl, inr}
+use Rattle.std.proofs.Common.{◌≡◌, ◌+◌, ◌-◌, ◌∙◌, sym, arith, map, length, Some, inl, inr}
 use Rattle.std.proofs.lemmas.List.{length-map}
-use Rattle.gf_nfg.proofs.TablePlaces.{none_by_length, strategy_out, strategy_in, strategy_fits}
-use Rattle.gf_nfg.proofs.table.place_of.Goals as goal
+use Rattle.gf_nfg.specs.TableParts.{place_of}
+use Rattle.gf_nfg.proofs.TablePlaces.{none_by_length, place_below, strategy_out, strategy_in, strategy_fits}
+use Rattle.gf_nfg.proofs.profile.place_of.Goals as goal
 
 pub returns-then-profile-players : goal.returns-then-profile-players
 returns-then-profile-players c =
@@ -28,3 +29,11 @@ pub loop-at-preserved : goal.loop-at-preserved
 loop-at-preserved c =
     let next : c.loop-at.at - 1 + 1 ≡ c.loop-at.at = omega (arith, c.loop-at-test.true) in
     strategy_in c.args.names.now c.args.profile.now (c.loop-at.at - 1) c.loop-at.place c.strategies-count.result (record { one_list_each = c.requires.one_list_each; some_strategy = c.requires.some_strategy; within = c.requires.within; one_number_each = c.if-profile-players.false ∙ c.players-players.ensures.players; player = omega (arith, c.loop-at-test.true, c.loop-at.auto.at, c.players-players.ensures.players); found = rw next c.loop-at.invariant; count_is = c.strategies-count.ensures }) (omega (arith, c.if-strategy-eq0.false)) c.if-strategy-count.false
+
+pub overflow_cast-result : goal.overflow_cast-result
+overflow_cast-result c =
+    let counts = map length c.args.names.now.strategies in
+    let here : c.loop-at.at ≡ 0 = omega (arith, c.loop-at-test.false) in
+    let found : place_of counts c.args.profile.now ≡ Some c.loop-at.place = rw here at c.loop-at.invariant in
+    let below = place_below counts c.args.profile.now c.loop-at.place found in
+    omega (arith, below, c.requires.within)

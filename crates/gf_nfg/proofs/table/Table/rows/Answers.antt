@@ -1,0 +1,7 @@
+use Rattle.std.proofs.Common.{◌∙◌, sym, ap}
+use Rattle.gf_nfg.specs.Table.{rows}
+use Rattle.gf_nfg.proofs.TableRows.{rows-table_with}
+use Rattle.gf_nfg.proofs.table.Table.rows.Goals as goal
+
+pub returns : goal.returns
+returns c = sym (rows-table_with c.self.inside.names c.self.inside.payoffs c.self.invariant.named.counted) ∙ ap rows c.self.view_is

@@ -1,0 +1,163 @@
+//! Rows of payoffs, one for each profile. Profiles may share them.
+
+ghost use Rattle.std.specs.Prelude.{◌≡◌, ◌*◌, ◌<◌, ◌≤◌, ◌^◌, Some, IfOk, IfSome, IsSome, length, map, option_map, slice_get};
+ghost use Rattle.std.specs.List.{AllByRecursion};
+ghost use Rattle.gf_nfg.specs.Profiles.{positions};
+ghost use Rattle.gf_nfg.specs.TableParts.{AreShared, kept_row, number_in, row_of};
+
+use gf_fraction::Fraction;
+use std::alloc::{AllocError, Global};
+use std::marker::Model;
+
+/// A row of one payoff for each player at each profile.
+#[derive(Debug, Drop)]
+pub(crate) struct Rows {
+    players: usize,
+    profiles: u32,
+    /// The rows that are kept, one behind the other.
+    payoffs: Vec<Fraction>,
+    /// For each profile the number of its row, from 1, or 0 where each player is paid zero. Without
+    /// numbers the rows are those of the profiles in turn.
+    choices: Option<Vec<u32>>,
+    /// A zero for each player, where there are numbers.
+    zeros: Vec<Fraction>,
+}
+
+impl Model for Rows {
+    ghost use Rattle.std.specs.Prelude.{List, map, option_map};
+    ghost use Rattle.gf_fraction.specs.Ratio.{Ratio};
+    ghost use Rattle.gf_nfg.specs.TableParts.{HasRows, numbers_of, row_of};
+
+    ghost Value = { List (List Ratio) };
+
+    ghost view = { λ r. map (row_of r.players r.payoffs.items)
+        (numbers_of r.profiles (option_map (λ v. v.items) r.choices)) };
+
+    ghost invariant = { λ r. HasRows r.players r.profiles r.payoffs.items r.zeros.items
+        (numbers_of r.profiles (option_map (λ v. v.items) r.choices)) };
+}
+
+/// Rows with numbers, from 0, that profiles share.
+#[derive(Clone, Copy, Debug)]
+pub(crate) struct Shared<'t> {
+    /// The number of its row for each profile.
+    pub numbers: &'t [u32],
+    /// How many rows there are.
+    pub rows: usize,
+    players: usize,
+    payoffs: &'t [Fraction],
+    zeros: &'t [Fraction],
+}
+
+/// The number of the row of the profile with this place.
+fn number_in(choices: &Option<Vec<u32>>, place: u32) -> usize
+    requires { IsSome (number_in (option_map (λ v. v.items) choices.now) place) }
+    ensures { number_in (option_map (λ v. v.items) choices.now) place ≡ Some result }
+{
+    match choices {
+        Some(choices) => choices[place as usize] as usize,
+        None => place as usize + 1,
+    }
+}
+
+/// The row with this number.
+fn row_at<'t>(
+    players: usize,
+    payoffs: &'t [Fraction],
+    zeros: &'t [Fraction],
+    number: usize,
+) -> &'t [Fraction]
+    requires { number * players ≤ length payoffs.now }
+    ensures { result.now ≡ kept_row players payoffs.entry.now zeros.entry.now number }
+{
+    if number == 0 {
+        zeros
+    } else {
+        &payoffs[(number - 1) * players..number * players]
+    }
+}
+
+impl<'t> Shared<'t> {
+    /// The row with this number.
+    pub(crate) fn row(self, number: usize) -> &'t [Fraction]
+        requires { number * self.players ≤ length self.payoffs.now }
+        ensures { result.now
+            ≡ kept_row self.entry.players self.entry.payoffs.now self.entry.zeros.now number }
+    {
+        row_at(self.players, self.payoffs, self.zeros, number)
+    }
+}
+
+impl Rows {
+    /// The payoffs are those of the profiles in turn.
+    pub(crate) fn in_turn(
+        alloc: Global,
+        players: usize,
+        profiles: u32,
+        payoffs: Vec<Fraction>,
+    ) -> Rows
+        requires { length payoffs.items ≡ profiles * players }
+        ensures { result ≡ map (row_of players payoffs.items) (positions profiles) }
+    {
+        Rows {
+            players,
+            profiles,
+            payoffs,
+            choices: None,
+            zeros: Vec::new(alloc),
+        }
+    }
+
+    /// Each profile has the row with its number. At 0 each player is paid zero.
+    pub(crate) fn by_number(
+        players: usize,
+        payoffs: Vec<Fraction>,
+        choices: Vec<u32>,
+    ) -> Result<Rows, AllocError>
+        requires profiles { length choices.items < 2 ^ 32 }
+        requires rows { AllByRecursion (λ number. number * players ≤ length payoffs.items) choices.items }
+        ensures { IfOk result (λ rows. rows ≡ map (row_of players payoffs.items) choices.items) }
+    {
+        let zeros = vec![in *payoffs.allocator(); Fraction::zero(); players]?;
+        Ok(Rows {
+            players,
+            profiles: choices.len() as u32,
+            payoffs,
+            choices: Some(choices),
+            zeros,
+        })
+    }
+
+    /// How many profiles there are.
+    pub(crate) fn len(&self) -> u32
+        ensures { result ≡ length self.now }
+    {
+        self.profiles
+    }
+
+    /// The payoffs at the profile with this place, from 0.
+    pub(crate) fn row(&self, place: u32) -> &[Fraction]
+        requires { place < length self.now }
+        ensures { slice_get self.now place ≡ Some result.now }
+    {
+        let number = number_in(&self.choices, place);
+        row_at(self.players, &self.payoffs, &self.zeros, number)
+    }
+
+    /// The rows and their numbers, where profiles may share them.
+    pub(crate) fn shared(&self) -> Option<Shared<'_>>
+        ensures { IfSome result (λ s. AreShared self.now
+            s.numbers.now s.players s.payoffs.now s.zeros.now s.rows) }
+    {
+        match &self.choices {
+            Some(choices) if self.players > 0 => Some(Shared {
+                numbers: choices,
+                rows: self.payoffs.len() / self.players + 1,
+                players: self.players,
+                payoffs: &self.payoffs,
+                zeros: &self.zeros,
+            }),
+            _ => None,
+        }
+    }
+}
