@@ -9,7 +9,7 @@ ghost use Rattle.gamefile.specs.Input.{HasLength, IsNotRead, IsReadWhole, too_lo
 ghost use Rattle.gamefile.specs.Turns.{GivesUp, Moves};
 
 use crate::fault::{RunFault, Which};
-use gf_token::{Fault, Span, Why};
+use gf_token::{Fault, Why};
 use std::alloc::Global;
 use std::io;
 use std::io::{ErrorKind, Read};
@@ -72,14 +72,9 @@ fn pull_again<R: Source>(input: &mut R, to: &mut [u8], which: Which) -> Result<u
 fn too_long(which: Which) -> RunFault
     ensures { result ≡ RunFault.Refused which too_long }
 {
-    let span = Span {
-        start: LIMIT,
-        end: LIMIT,
-    };
-    let why = Why::TooLong;
     RunFault::Refused {
         which,
-        fault: Fault { span, why },
+        fault: Fault::at_end(LIMIT, Why::TooLong),
     }
 }
 
