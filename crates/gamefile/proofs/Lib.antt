@@ -1,2 +1,5 @@
-pub mod Moving
-pub mod Waiting
+pub mod Errors
+pub mod Interruptions
+pub mod MoreRead
+pub mod MoreWritten
+pub mod WeakerRequests

@@ -18,7 +18,8 @@ pub record IsCanonicalText (bytes text : List ℕ) : Type 0 where
   pub spelled : SpellsWithin bytes table
   pub is_text : text ≡ table_text table
 
--- the fault names the reason and the place of the refusal; and where memory suffices, the bytes spell no table
+-- the fault names the reason and the place of the refusal; and where memory suffices, the bytes
+-- spell no table
 pub record IsRefusal (bytes : List ℕ) (fault : Fault) : Type 0 where
   pub judged : IsJudged fault.why bytes fault.span
   pub unless_memory : (t : Table) → SpellsWithin bytes t → fault.why ≡ Memory

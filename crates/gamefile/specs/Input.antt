@@ -28,7 +28,8 @@ pub record HasRoom (bytes buffer : List ℕ) : Type 0 where
   pub within : length bytes + length buffer ≤ limit + 1
 
 -- of a reader: the bytes that it has left, where it tells them, and what a pull gives
-module _ {S : Type 0} (remaining : S → Option (List ℕ)) (gives : S → List ℕ → Result ℕ Error → S → Type 0) where
+module _ {S : Type 0} (remaining : S → Option (List ℕ))
+    (gives : S → List ℕ → Result ℕ Error → S → Type 0) where
   -- these bytes came
   pub record IsRead (old new : S) (bytes : List ℕ) : Type 0 where
     pub consumed : Consumes (remaining old) (remaining new) bytes
@@ -57,7 +58,8 @@ module _ {S : Type 0} (remaining : S → Option (List ℕ)) (gives : S → List 
     pub read : IsRead old new bytes
 
 -- of a reader: its count of failures too
-module _ {S : Type 0} (remaining : S → Option (List ℕ)) (count : S → ℕ) (gives : S → List ℕ → Result ℕ Error → S → Type 0) where
+module _ {S : Type 0} (remaining : S → Option (List ℕ)) (count : S → ℕ)
+    (gives : S → List ℕ → Result ℕ Error → S → Type 0) where
   -- no more bytes came than the limit, and then the reader failed, which was counted
   pub record IsReadFault (old new : S) : Type 0 where
     pub bytes : List ℕ
@@ -70,7 +72,8 @@ module _ {S : Type 0} (remaining : S → Option (List ℕ)) (count : S → ℕ) 
 
   -- an input could not be read whole: how far it was read, at each fault
   abbrev pub IsNotRead : Which → RunFault → S → S → Type 0
-  IsNotRead input (Refused which fault) old new = (which ≡ input) × (fault ≡ too_long) × IsTooLong remaining gives old new
+  IsNotRead input (Refused which fault) old new =
+      (which ≡ input) × (fault ≡ too_long) × IsTooLong remaining gives old new
   IsNotRead input (Read which) old new = (which ≡ input) × IsReadFault old new
   IsNotRead input Write old new = ⊥
   IsNotRead input Memory old new = IsReadInPart remaining gives old new

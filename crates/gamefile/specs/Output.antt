@@ -20,14 +20,16 @@ module _ {S : Type 0} (gives : S → List ℕ → Result ℕ Error → S → Typ
   Stops P old new = GivesUp gives P old new ⊎ ((bytes : List ℕ) × Moves gives P bytes 0 old new)
 
 -- of a writer: the bytes that it holds, where it tells them, and what a push gives
-module _ {S : Type 0} (contents : S → Option (List ℕ)) (gives : S → List ℕ → Result ℕ Error → S → Type 0) where
+module _ {S : Type 0} (contents : S → Option (List ℕ))
+    (gives : S → List ℕ → Result ℕ Error → S → Type 0) where
   -- a text was taken whole: each turn offered what was left of it
   pub record IsWritten (old new : S) (text : List ℕ) : Type 0 where
     pub appended : Appends (contents old) (contents new) text
     pub turns : Transfers gives (IsRest text) text old new
 
 -- of a writer: its count of failures too
-module _ {S : Type 0} (contents : S → Option (List ℕ)) (count : S → ℕ) (gives : S → List ℕ → Result ℕ Error → S → Type 0) where
+module _ {S : Type 0} (contents : S → Option (List ℕ)) (count : S → ℕ)
+    (gives : S → List ℕ → Result ℕ Error → S → Type 0) where
   -- a front of a text was taken, less than the whole, and then the writer failed, which was counted
   pub record IsWriteFault (old new : S) (text : List ℕ) : Type 0 where
     pub taken : List ℕ

@@ -1,11 +1,13 @@
 -- What a reader or a writer was asked and answered, request after request.
-use Rattle.std.specs.Prelude.{◌≡◌, ◌≢◌, ℕ, ◌<◌, ◌≤◌, ◌⊎◌, List, [], ◌++◌, length, take, zero, suc, Result, Ok, Err}
+use Rattle.std.specs.Prelude.{◌≡◌, ◌≢◌, ℕ, ◌<◌, ◌≤◌, ◌⊎◌, List, [], ◌++◌, length, take, zero, suc}
+use Rattle.std.specs.Prelude.{Result, Ok, Err}
 use Rattle.std.specs.IoError.{error_kind}
 use Rattle.std.specs.declared.io.Error.{Error}
 use Rattle.std.specs.declared.io.ErrorKind.TheVariants.{Interrupted}
 
--- `gives old bytes answer new` holds where a request with these bytes may be answered so at `old`, and leads to `new`.
--- The bytes of a pull are its buffer as the pull leaves it, and those of a push are what it offers.
+-- `gives old bytes answer new` holds where a request with these bytes may be answered so at `old`,
+-- and leads to `new`. The bytes of a pull are its buffer as the pull leaves it, and those of a push
+-- are what it offers.
 module _ {S : Type 0} (gives : S → List ℕ → Result ℕ Error → S → Type 0) where
   -- a request was interrupted, and P held of its bytes
   pub record IsInterrupted (P : List ℕ → Type 0) (old new : S) : Type 0 where
@@ -46,8 +48,10 @@ module _ {S : Type 0} (gives : S → List ℕ → Result ℕ Error → S → Typ
   abbrev pub GivesUp : (List ℕ → Type 0) → S → S → Type 0
   GivesUp P old new = IsTurn P (IsFailed P) old new ⊎ Interruptions P 16 old new
 
-  -- one turn after another moved these bytes, each at least one of them. `Asks moved` holds of what a turn asks after `moved`.
+  -- one turn after another moved these bytes, each at least one of them. `Asks moved` holds of what
+  -- a turn asks after `moved`.
   pub data Transfers (Asks : List ℕ → List ℕ → Type 0) : List ℕ → S → S → Type 0 where
     none : (s : S) → Transfers Asks [] s s
-    more : (moved bytes : List ℕ) (n : ℕ) (old mid new : S) → Transfers Asks moved old mid → 0 < n → Moves (Asks moved) bytes n mid new
+    more : (moved bytes : List ℕ) (n : ℕ) (old mid new : S)
+        → Transfers Asks moved old mid → 0 < n → Moves (Asks moved) bytes n mid new
         → Transfers Asks (moved ++ take n bytes) old new

@@ -4,12 +4,13 @@ ghost use Rattle.std.specs.Prelude.{IfOk, IfErr};
 ghost use Rattle.gamefile.specs.CanonicalText.{IsCanonicalText, IsRefusal};
 
 use gf_nfg::{read_nfg, write_nfg};
-use gf_token::{Fault, Span};
+use gf_token::Fault;
 use std::alloc::Global;
 
 /// The canonical text of the strategic file that bytes spell.
 ///
-/// Refused as `read_nfg` refuses them; and with `Memory` at the end where memory for the text is refused.
+/// Refused as `read_nfg` refuses them; and with `Memory` at the end where memory for the text is
+/// refused.
 pub fn canonical(alloc: Global, input: Vec<u8>) -> Result<Vec<u8>, Fault>
     ensures text { IfOk result (λ text. IsCanonicalText input.items text.items) }
     ensures refused { IfErr result (λ fault. IsRefusal input.items fault) }
@@ -21,10 +22,6 @@ pub fn canonical(alloc: Global, input: Vec<u8>) -> Result<Vec<u8>, Fault>
     text.clear();
     match write_nfg(&table, &mut text) {
         Ok(()) => Ok(text),
-        Err(error) => {
-            let span = Span { start: end, end };
-            let why = error.into();
-            Err(Fault { span, why })
-        }
+        Err(error) => Err(Fault::at_end(end, error.into())),
     }
 }

@@ -49,7 +49,7 @@ impl<W: Write> Write for Counted<W> {
 impl<R: Read> Source for Counted<R> {
     ghost count = { failures_of };
 
-    ghost pull_gives = { λ old _ answer new. CountsPull (failures_of old) answer (failures_of new) };
+    ghost pull_gives = { λ old _ given new. CountsPull (failures_of old) given (failures_of new) };
 
     fn pull(&mut self, to: &mut [u8]) -> Result<usize, io::Error> {
         let answer = self.inner.read(to);
@@ -67,7 +67,7 @@ impl<R: Read> Source for Counted<R> {
 impl<W: Write> Sink for Counted<W> {
     ghost count = { failures_of };
 
-    ghost push_gives = { λ old _ answer new. CountsPush (failures_of old) answer (failures_of new) };
+    ghost push_gives = { λ old _ given new. CountsPush (failures_of old) given (failures_of new) };
 
     fn push(&mut self, from: &[u8]) -> Result<usize, io::Error> {
         let answer = self.inner.write(from);

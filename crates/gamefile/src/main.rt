@@ -9,9 +9,11 @@ mod canonical;
 mod counted;
 mod fault;
 mod line;
+mod report;
 mod run;
 mod sink;
 mod source;
+mod turns;
 
 fn main(rt: HostRuntime) -> ExitCode {
     let mut input = Counted::new(rt.stdin());
@@ -21,7 +23,7 @@ fn main(rt: HostRuntime) -> ExitCode {
         Err(fault) => {
             let mut errors = Counted::new(rt.stderr());
             // The status stays where the line cannot be written.
-            let _ = fault::write_fault(&fault, &mut errors);
+            let _ = report::write_fault(&fault, &mut errors);
             ExitCode::from(fault::status(&fault))
         }
     }

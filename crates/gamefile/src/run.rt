@@ -33,8 +33,8 @@ pub fn run_canon<R: Source, W: Sink>(
         (IsReadWhole R.remaining R.pull_gives input.old input.new)
         (IsWritten W.contents W.push_gives output.old output.new)) }
 
-    ensures refused { IfErr result (λ fault.
-        ReadsUntil R.remaining R.count R.pull_gives IsRefusal Which.Only fault input.old input.new) }
+    ensures refused { IfErr result (λ fault. ReadsUntil
+        R.remaining R.count R.pull_gives IsRefusal Which.Only fault input.old input.new) }
     ensures untouched { IfErr result (λ fault. fault ≢ RunFault.Write → output.new ≡ output.old) }
     ensures cut_off { result ≡ Err RunFault.Write → Answers IsCanonicalText
         (IsReadWhole R.remaining R.pull_gives input.old input.new)

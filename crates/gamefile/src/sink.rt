@@ -9,9 +9,9 @@ ghost use Rattle.gamefile.specs.Output.{IsOffer, IsWriteFault, IsWritten, Stops}
 ghost use Rattle.gamefile.specs.Turns.{Moves};
 
 use crate::fault::WriteFault;
-use crate::source::PATIENCE;
+use crate::turns::{PATIENCE, is_interruption};
 use std::io;
-use std::io::{ErrorKind, Write};
+use std::io::Write;
 
 /// A writer that counts the errors that it answers and the pushes that take nothing.
 pub trait Sink: Write {
@@ -24,7 +24,8 @@ pub trait Sink: Write {
     /// Does what `write` does.
     fn push(&mut self, from: &[u8]) -> Result<usize, io::Error>
         ensures bound { WritesAtMost result from.now }
-        ensures bytes { WriteAppends (Self.contents self.old) (Self.contents self.new) result from.now }
+        ensures bytes { WriteAppends
+            (Self.contents self.old) (Self.contents self.new) result from.now }
         ensures given { push_gives self.old from.now result self.new }
         ensures counted { CountsPush (count self.old) result (count self.new) };
 
@@ -50,7 +51,7 @@ fn push_again<W: Sink>(output: &mut W, from: &[u8]) -> Result<usize, WriteFault>
             Ok(0) => return Err(WriteFault),
             Ok(count) => return Ok(count),
             Err(error) => {
-                if error.kind() != ErrorKind::Interrupted {
+                if !is_interruption(&error) {
                     return Err(WriteFault);
                 }
             }

@@ -1,18 +1,21 @@
 //! Readers that count their failures, and how an input is read whole.
 
-ghost use Rattle.std.specs.Prelude.{◌≡◌, ℕ, ◌≤◌, List, length, Result, MatchResult, IfOk, IfErr, ⊤};
+ghost use Rattle.std.specs.Prelude.{◌≡◌, ℕ, ◌+◌, ◌<◌, ◌≤◌, List, length, ⊤};
+ghost use Rattle.std.specs.Prelude.{Result, MatchResult, IfOk, IfErr};
 ghost use Rattle.std.specs.Io.{ReadsAtMost};
 ghost use Rattle.std.specs.Io.KnownBytes.{ReadConsumes};
 ghost use Rattle.std.specs.declared.io.Error.{Error};
 ghost use Rattle.gamefile.specs.Failures.{CountsPull, HasRisen};
-ghost use Rattle.gamefile.specs.Input.{HasLength, IsNotRead, IsReadWhole, too_long};
+ghost use Rattle.gamefile.specs.Input.{HasLength, IsNotRead, IsReadWhole, limit, too_long};
+ghost use Rattle.gamefile.specs.declared.source.TheConstants.{CHUNK};
 ghost use Rattle.gamefile.specs.Turns.{GivesUp, Moves};
 
 use crate::fault::{RunFault, Which};
-use gf_token::{Fault, Span, Why};
+use crate::turns::{PATIENCE, is_interruption};
+use gf_token::{Fault, Why};
 use std::alloc::Global;
 use std::io;
-use std::io::{ErrorKind, Read};
+use std::io::Read;
 
 /// The most bytes that an input has.
 pub const LIMIT: usize = 16_777_216;
@@ -20,21 +23,20 @@ pub const LIMIT: usize = 16_777_216;
 /// How many bytes are asked for at once.
 const CHUNK: usize = 65_536;
 
-/// How many interruptions in a row end a turn.
-pub const PATIENCE: u32 = 16;
-
 /// A reader that counts the errors that it answers.
 pub trait Source: Read {
     /// The failures so far, up to `u64::MAX`.
     ghost count: { Self → ℕ };
 
-    /// Holds of the state before a pull, its buffer as it leaves it, its answer and the state after.
+    /// Holds of the state before a pull, its buffer as it leaves it, its answer and the state
+    /// after.
     ghost pull_gives: { Self → List ℕ → Result ℕ Error → Self → Type 0 } = { λ _ _ _ _. ⊤ };
 
     /// Does what `read` does.
     fn pull(&mut self, to: &mut [u8]) -> Result<usize, io::Error>
         ensures bound { ReadsAtMost result to.new }
-        ensures bytes { ReadConsumes (Self.remaining self.old) (Self.remaining self.new) result to.new }
+        ensures bytes { ReadConsumes
+            (Self.remaining self.old) (Self.remaining self.new) result to.new }
         ensures given { pull_gives self.old to.new result self.new }
         ensures counted { CountsPull (count self.old) result (count self.new) };
 
@@ -59,7 +61,7 @@ fn pull_again<R: Source>(input: &mut R, to: &mut [u8], which: Which) -> Result<u
         match input.pull(to) {
             Ok(count) => return Ok(count),
             Err(error) => {
-                if error.kind() != ErrorKind::Interrupted {
+                if !is_interruption(&error) {
                     return Err(RunFault::Read(which));
                 }
             }
@@ -72,15 +74,20 @@ fn pull_again<R: Source>(input: &mut R, to: &mut [u8], which: Which) -> Result<u
 fn too_long(which: Which) -> RunFault
     ensures { result ≡ RunFault.Refused which too_long }
 {
-    let span = Span {
-        start: LIMIT,
-        end: LIMIT,
-    };
-    let why = Why::TooLong;
     RunFault::Refused {
         which,
-        fault: Fault { span, why },
+        fault: Fault::at_end(LIMIT, Why::TooLong),
     }
+}
+
+/// How many bytes are asked for behind so many: no more than one past the limit.
+fn room_behind(len: usize) -> usize
+    requires { len ≤ limit }
+    ensures some { 0 < result }
+    ensures within { len + result ≤ limit + 1 }
+    ensures chunk { result ≤ CHUNK }
+{
+    (LIMIT - len + 1).min(CHUNK)
 }
 
 /// Reads an input whole. No more than one byte past the limit is taken.
@@ -93,7 +100,7 @@ pub fn load<R: Source>(alloc: Global, input: &mut R, which: Which) -> Result<Vec
     let mut bytes = Vec::new(alloc);
     let mut buffer = [0; CHUNK];
     loop {
-        let room = (LIMIT - bytes.len() + 1).min(CHUNK);
+        let room = room_behind(bytes.len());
         let count = pull_again(input, &mut buffer[..room], which)?;
         if count == 0 {
             return Ok(bytes);

@@ -1,7 +1,8 @@
 //! Runs with readers and writers that answer in pieces, are interrupted or fail.
 
 use crate::counted::Counted;
-use crate::fault::{RunFault, Which, WriteFault, status, write_fault};
+use crate::fault::{RunFault, Which, WriteFault, status};
+use crate::report::write_fault;
 use crate::run::run_canon;
 use crate::sink::Sink;
 use crate::source::{LIMIT, Source};
@@ -116,10 +117,9 @@ fn stops_where_the_writer_fails(rt: HostRuntime) -> Result<(), Fail> {
 }
 
 fn refused(which: Which, start: usize, end: usize, why: Why) -> RunFault {
-    let span = Span { start, end };
     RunFault::Refused {
         which,
-        fault: Fault { span, why },
+        fault: Fault::at(Span { start, end }, why),
     }
 }
 

@@ -11,17 +11,8 @@ ghost use Rattle.gf_nfg.specs.ReaderState.{ArePartsOf, content_of};
 use crate::parts::Parts;
 use crate::reader::Reader;
 use crate::table::Table;
-use gf_token::{Cursor, Fault, Span, Why};
+use gf_token::{Cursor, Fault};
 use std::alloc::Global;
-
-/// A refusal at the end of the input.
-fn at_end(input: &[u8], why: Why) -> Fault
-    ensures { result ≡ record { span = record { start = length input.now; end = length input.now }; why = why } }
-{
-    let end = input.len();
-    let span = Span { start: end, end };
-    Fault { span, why }
-}
 
 /// Reads the parts of the strategic file that bytes spell.
 fn read_parts<'a>(alloc: Global, input: &'a [u8]) -> Result<Parts<'a>, Fault>
@@ -35,15 +26,12 @@ fn read_parts<'a>(alloc: Global, input: &'a [u8]) -> Result<Parts<'a>, Fault>
     let mut cursor = Cursor::new(input);
     while let Some(token) = cursor.next()? {
         if let Err(why) = reader.take(token.kind) {
-            return Err(Fault {
-                span: token.span,
-                why,
-            });
+            return Err(Fault::at(token.span, why));
         }
     }
     match reader.finish() {
         Ok(parts) => Ok(parts),
-        Err(why) => Err(at_end(input, why)),
+        Err(why) => Err(Fault::at_end(input.len(), why)),
     }
 }
 
@@ -72,7 +60,7 @@ pub fn read_nfg(alloc: Global, input: &[u8]) -> Result<Table, Fault>
     let parts = read_parts(alloc, input)?;
     match parts.into_table(alloc) {
         Ok(table) => Ok(table),
-        Err(error) => Err(at_end(input, Why::from(error))),
+        Err(error) => Err(Fault::at_end(input.len(), error.into())),
     }
 }
 

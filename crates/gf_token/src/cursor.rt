@@ -111,10 +111,7 @@ fn token_at(input: &[u8], start: usize) -> Result<Token<'_>, Fault>
                     start,
                     end: start + 1,
                 };
-                return Err(Fault {
-                    span,
-                    why: Why::Unterminated,
-                });
+                return Err(Fault::at(span, Why::Unterminated));
             }
         },
         _ => {

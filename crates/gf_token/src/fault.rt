@@ -151,3 +151,23 @@ pub struct Fault {
     pub span: Span,
     pub why: Why,
 }
+
+impl Fault {
+    /// The refusal of the token that stands at `span`.
+    pub fn at(span: Span, why: Why) -> Fault
+        ensures { result ≡ record { span = span; why = why } }
+    {
+        Fault { span, why }
+    }
+
+    /// The refusal at the end of an input of `len` bytes: its place begins and ends there.
+    pub fn at_end(len: usize, why: Why) -> Fault
+        ensures { result ≡ record { span = record { start = len; end = len }; why = why } }
+    {
+        let end = Span {
+            start: len,
+            end: len,
+        };
+        Fault::at(end, why)
+    }
+}

@@ -12,11 +12,22 @@ const SELTEN: &[u8] =
     b"NFG 1 R \"Selten\" { \"Player 1\" \"Player 2\" } { 3 2 } 1 1 0 2 0 2 1 1 0 3 2 0";
 
 /// The same table in outcome version.
-const SELTEN_BY_OUTCOMES: &[u8] =
-    b"NFG 1 D \"Selten\" { \"Player 1\" \"Player 2\" } { { \"1\" \"2\" \"3\" } { \"1\" \"2\" } } \"\" { { \"a\" 1, 1, } { \"b\" 0, 2 } { \"c\" 0 2 } { \"d\" 1 1 } { \"e\" 0 3 } { \"f\" 2 0 } } 1 2 3 4 5 6";
+const SELTEN_BY_OUTCOMES: &[u8] = b"NFG 1 D \"Selten\" { \"Player 1\" \"Player 2\" }
+{ { \"1\" \"2\" \"3\" } { \"1\" \"2\" } } \"\"
+{ { \"a\" 1, 1, } { \"b\" 0, 2 } { \"c\" 0 2 } { \"d\" 1 1 } { \"e\" 0 3 } { \"f\" 2 0 } }
+1 2 3 4 5 6";
 
-const SELTEN_TEXT: &[u8] =
-    b"NFG 1 R \"Selten\" { \"Player 1\" \"Player 2\" }\n{ { \"1\" \"2\" \"3\" } { \"1\" \"2\" } }\n\"\"\n\n1 1\n0 2\n0 2\n1 1\n0 3\n2 0\n";
+const SELTEN_TEXT: &[u8] = b"NFG 1 R \"Selten\" { \"Player 1\" \"Player 2\" }
+{ { \"1\" \"2\" \"3\" } { \"1\" \"2\" } }
+\"\"
+
+1 1
+0 2
+0 2
+1 1
+0 3
+2 0
+";
 
 /// What a run over these bytes answers, and what it writes.
 fn canon(alloc: Global, mut input: &[u8]) -> (Result<(), RunFault>, Vec<u8>) {
@@ -76,7 +87,7 @@ fn writes_canonical_texts(rt: HostRuntime) -> Result<(), Fail> {
 #[test]
 fn refuses_and_writes_nothing(rt: HostRuntime) -> Result<(), Fail> {
     let alloc = rt.alloc();
-    let rows: [(&[u8], usize, usize, Why); 6] = [
+    let rows: [(&[u8], usize, usize, Why); 4] = [
         (b"", 0, 0, Why::Expected(What::Format)),
         (
             b"EFG 2 R \"\" { } t \"\" 0",
@@ -91,26 +102,11 @@ fn refuses_and_writes_nothing(rt: HostRuntime) -> Result<(), Fail> {
             51,
             Why::UnknownOutcome,
         ),
-        (
-            b"NFG 1 R \"b\" { \"A\" \"B\" } { 1024 1025 }",
-            31,
-            35,
-            Why::TooManyProfiles,
-        ),
-        (
-            b"NFG 1 R \"b\" { \"A\" \"B\" } { 1024 1024 }",
-            37,
-            37,
-            Why::Expected(What::Number),
-        ),
     ];
     for (input, start, end, why) in rows {
         let fault = RunFault::Refused {
             which: Which::Only,
-            fault: Fault {
-                span: Span { start, end },
-                why,
-            },
+            fault: Fault::at(Span { start, end }, why),
         };
         let (answer, output) = canon(alloc, input);
         assert_eq!(rt; answer, Err(fault));

@@ -1,15 +1,8 @@
-use Rattle.std.proofs.Common.{◌<◌, ◌≤◌}
-use Rattle.std.specs.Io.KnownBytes.{Keeps}
-use Rattle.gamefile.specs.Failures.{HasRisen}
 use Rattle.gamefile.specs.Output.{IsOffer}
-use Rattle.gamefile.specs.Turns.{Interruptions}
+use Rattle.gamefile.proofs.Interruptions.{IsAskedAgain}
 use Rattle.gamefile.proofs.sink.push_again.Given as goal
 
--- each push so far was interrupted: the known bytes stay, and each interruption was counted
+-- each push so far was interrupted
 abbrev pub invariant-loop-turn : goal.invariant-loop-turn
-invariant-loop-turn g l = record {
-  kept : Keeps (g.W.Write.contents l.fn.output) (g.W.Write.contents l.output);
-  interrupted : Interruptions g.W.Sink.push_gives (IsOffer l.from) l._turn l.fn.output l.output;
-  grown : g.W.Sink.count l.fn.output ≤ g.W.Sink.count l.output;
-  counted : 0 < l._turn → HasRisen (g.W.Sink.count l.fn.output) (g.W.Sink.count l.output);
-}
+invariant-loop-turn g l = IsAskedAgain g.W.Write.contents g.W.Sink.count g.W.Sink.push_gives
+    (IsOffer l.from) l._turn l.fn.output l.output

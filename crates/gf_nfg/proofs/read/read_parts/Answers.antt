@@ -35,15 +35,15 @@ returns-in-Err-clause-judged c =
     let all = c.new-cursor.result in
     let s = state_of c.loop-reader.reader in
     let led : Led all (lexeme_of c.in-Some.token ∷ c.next.new.self) s = subst (λ (ls : List Lexeme). Led all ls s) (rw c.in-Some.is at c.in_ok-token.ensures) c.loop-reader.invariant in
-    judged c.args.input.now all c.next.new.self (lexeme_of c.in-Some.token) s c.in-Err.why c.new-cursor.ensures led c.loop-reader.reader.profiles.within (whole c.in-Some.token.kind) c.in-Err.ensures
+    rw c.at.ensures (judged c.args.input.now all c.next.new.self (lexeme_of c.in-Some.token) s c.in-Err.why c.new-cursor.ensures led c.loop-reader.reader.profiles.within (whole c.in-Some.token.kind) c.in-Err.ensures)
 
 pub returns-in-Err-clause-only : goal.returns-in-Err-clause-only
 returns-in-Err-clause-only c = λ t.
     let all = c.new-cursor.result in
     let s = state_of c.loop-reader.reader in
     let led : Led all (lexeme_of c.in-Some.token ∷ c.next.new.self) s = subst (λ (ls : List Lexeme). Led all ls s) (rw c.in-Some.is at c.in_ok-token.ensures) c.loop-reader.invariant in
-    only_memory c.in-Err.why c.args.input.now c.in-Some.token.span t
-    (judged c.args.input.now all c.next.new.self (lexeme_of c.in-Some.token) s c.in-Err.why c.new-cursor.ensures led c.loop-reader.reader.profiles.within (whole c.in-Some.token.kind) c.in-Err.ensures)
+    rw c.at.ensures (only_memory c.in-Err.why c.args.input.now c.in-Some.token.span t
+    (judged c.args.input.now all c.next.new.self (lexeme_of c.in-Some.token) s c.in-Err.why c.new-cursor.ensures led c.loop-reader.reader.profiles.within (whole c.in-Some.token.kind) c.in-Err.ensures))
 
 pub returns-in-Ok-clause-spelled : goal.returns-in-Ok-clause-spelled
 returns-in-Ok-clause-spelled c =

@@ -1,9 +1,7 @@
--- The line on standard error and the exit status of each fault of a run.
+-- The line on standard error of each fault of a run.
 use Rattle.std.specs.Prelude.{ℕ, List, [], ◌++◌, codes, decimal}
 use Rattle.gf_token.specs.Code.{code_of}
 use Rattle.gf_token.specs.declared.fault.Fault.{Fault}
-use Rattle.gf_token.specs.declared.fault.Why.{Why}
-use Rattle.gf_token.specs.declared.fault.Why.TheVariants as why
 use Rattle.gamefile.specs.declared.fault.RunFault.{RunFault}
 use Rattle.gamefile.specs.declared.fault.RunFault.TheVariants.{Refused, Read, Write, Memory}
 use Rattle.gamefile.specs.declared.fault.Which.{Which}
@@ -17,7 +15,8 @@ label_of Second = codes "B: "
 
 -- a refusal's code and place
 abbrev pub place_text : Fault → List ℕ
-place_text fault = codes "E" ++ decimal (code_of fault.why) ++ codes " at " ++ decimal fault.span.start ++ codes ".." ++ decimal fault.span.end
+place_text fault = codes "E" ++ decimal (code_of fault.why)
+    ++ codes " at " ++ decimal fault.span.start ++ codes ".." ++ decimal fault.span.end
 
 -- the line of a fault, with its line feed
 abbrev pub fault_line : RunFault → List ℕ
@@ -25,15 +24,3 @@ fault_line (Refused which fault) = label_of which ++ place_text fault ++ codes "
 fault_line (Read which) = label_of which ++ codes "E20\n"
 fault_line Write = codes "E21\n"
 fault_line Memory = codes "E19\n"
-
--- the exit status of a refusal
-abbrev pub refusal_status : Why → ℕ
-refusal_status why.Memory = 5
-refusal_status _ = 2
-
--- the exit status of a fault
-abbrev pub status_of : RunFault → ℕ
-status_of (Refused which fault) = refusal_status fault.why
-status_of (Read which) = 4
-status_of Write = 4
-status_of Memory = 5

@@ -1,0 +1,18 @@
+//! How often a reader or a writer is asked again that was interrupted.
+
+ghost use Rattle.std.specs.Prelude.{◌≡◌, ◌↔◌, IsTrue};
+ghost use Rattle.std.specs.IoError.{error_kind};
+ghost use Rattle.std.specs.declared.io.ErrorKind.TheVariants.{Interrupted};
+
+use std::io;
+use std::io::ErrorKind;
+
+/// How many interruptions in a row end a turn.
+pub const PATIENCE: u32 = 16;
+
+/// Whether the request that this error answers is made again.
+pub fn is_interruption(error: &io::Error) -> bool
+    ensures { IsTrue result ↔ (error_kind error.now ≡ Interrupted) }
+{
+    error.kind() == ErrorKind::Interrupted
+}
