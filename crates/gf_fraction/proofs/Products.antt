@@ -12,8 +12,8 @@ use Rattle.gf_fraction.specs.Steps.{IsLowest}
 use Rattle.gf_fraction.proofs.Divisors.{coprime-mul, coprime_parts}
 use Rattle.gf_fraction.proofs.Integers.{unsigned_abs-signed, signed-unsigned_abs}
 use Rattle.gf_fraction.proofs.Integers.{signed-*, signed-*ℤ}
-use Rattle.gf_fraction.proofs.Lowest.{IsLowestRatio, IsLowestRatio-fraction}
-use Rattle.gf_fraction.proofs.Lowest.{one_lowest, mul_pos_left}
+use Rattle.gf_fraction.proofs.LowestTerms.{IsLowestRatio, IsLowestRatio-fraction}
+use Rattle.gf_fraction.proofs.LowestTerms.{one_lowest, mul_pos_left}
 
 pub mul_above : (m n : ℕ) → 0 < m → 0 < n → 0 < m * n
 mul_above zero n h k = absurd (omega arith)

@@ -13,7 +13,7 @@ use Rattle.gf_fraction.specs.Ratio.{Ratio, IsFraction, IsWithin, HasValue}
 use Rattle.gf_fraction.specs.Fits.{IsSum, IsLcm, SumFits}
 use Rattle.gf_fraction.specs.Steps.{HoldsCommon, PartsFit}
 use Rattle.gf_fraction.proofs.Integers.{*ℤ_assoc, *ℤ_right_comm, add-*ℤ, *-cancel_right, *ℤ-one}
-use Rattle.gf_fraction.proofs.Lowest.{mul_pos_left}
+use Rattle.gf_fraction.proofs.LowestTerms.{mul_pos_left}
 use Rattle.gf_fraction.proofs.Divisors.{IsGcd-div, dvd_of_dvd-mul}
 
 -- the least common multiple, by way of the greatest common divisor

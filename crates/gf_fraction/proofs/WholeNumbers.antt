@@ -5,7 +5,7 @@ use Rattle.gf_fraction.specs.Ratio.{IsFraction, whole}
 use Rattle.gf_fraction.specs.NumberSpelling.{IsNumber}
 use Rattle.gf_fraction.specs.NumberText.{number_text}
 use Rattle.gf_fraction.proofs.Divisors.{IsGcd-one_left, IsGcd-one_right}
-use Rattle.gf_fraction.proofs.Texts.{written_is_read}
+use Rattle.gf_fraction.proofs.ReadingBack.{written_is_read}
 
 pub whole_fraction : (n : ℕ) → n < 2 ^ 127 → IsFraction (whole (pos n))
 whole_fraction n h = record {

@@ -1,6 +1,6 @@
 -- Sums, products and the answers of reading, computed, for the machines of the crates above. No
--- contract here cites them: that they are what the relations ask for is proved in proofs/Computes
--- and proofs/Numbers.
+-- contract here cites them: that they are what the relations ask for is proved in
+-- proofs/ComputedArithmetic and proofs/ComputedAnswers.
 use Rattle.std.specs.Prelude.{◌==◌, ◌&&◌, ℕ, ℤ, Bool, zero, suc, List, Option, Some, None}
 use Rattle.std.specs.Prelude.{Result, Ok, Err, pos, unsigned_abs, int_lt, int_le, nat_lt}
 use Rattle.std.specs.Prelude.{nat_le, ◌+ℤ◌, ◌-ℤ◌, ◌*ℤ◌, ◌*◌, ◌/◌, ◌%◌, ◌^◌, if◌then◌else◌}

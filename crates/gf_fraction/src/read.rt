@@ -127,7 +127,7 @@ fn wide_digits(from: u128, text: &[u8]) -> (u128, &[u8])
 
 /// The digits at the head of a text, behind digits of the value `from`. The first steps are of 64
 /// bits.
-#[tactic(auto, using(crate::proofs::Digits::length_leading, crate::proofs::Digits::length_behind))]
+#[tactic(auto, using(crate::proofs::LeadingDigits::digit_counts))]
 fn digits(from: u128, text: &[u8]) -> Run<'_>
     requires { from ≤ 2 ^ 127 }
     ensures value { result.value ≡ capped (leading_value from text.entry.now) }
@@ -226,7 +226,7 @@ fn rational(negative: bool, num: u128, den: u128) -> Result<Fraction, NumberFaul
 }
 
 /// Ten to a power of at most 38, which is below `M`.
-#[tactic(auto, using(crate::proofs::Powers::pow_above_zero, crate::proofs::Powers::pow_within))]
+#[tactic(auto, using(crate::proofs::PowersOfTen::power_bounds))]
 fn power_of_ten(power: u32) -> u128
     requires { power ≤ 38 }
     ensures value { result ≡ 10 ^ power }

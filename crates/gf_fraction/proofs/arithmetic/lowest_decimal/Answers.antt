@@ -1,5 +1,5 @@
 use Rattle.std.proofs.Common.{arith}
-use Rattle.gf_fraction.proofs.Decimals.{first_left, next_left, no_fives, not_by_five}
+use Rattle.gf_fraction.proofs.LowestDecimals.{first_left, next_left, no_fives, not_by_five}
 use Rattle.gf_fraction.proofs.arithmetic.lowest_decimal.Goals as goal
 
 pub loop-fives-init : goal.loop-fives-init

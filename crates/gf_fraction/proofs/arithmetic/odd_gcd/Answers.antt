@@ -2,7 +2,7 @@ use Rattle.std.proofs.Common.{◌≡◌, ◌<◌, ◌∙◌, arith, refl, subst,
 use Rattle.std.specs.Int.{IsGcd, trailing_zeros, w64}
 use Rattle.std.proofs.lemmas.Nat.Gcd.{dvd_refl}
 use Rattle.gf_fraction.proofs.Divisors.{IsGcd-one_left}
-use Rattle.gf_fraction.proofs.Twos.{odd_part, odd_step, least_odd}
+use Rattle.gf_fraction.proofs.OddParts.{odd_part, odd_step, least_odd}
 use Rattle.gf_fraction.proofs.arithmetic.odd_gcd.Goals as goal
 
 pub loop-x-preserved : goal.loop-x-preserved

@@ -1,6 +1,6 @@
 use Rattle.std.proofs.Common.{◌<◌, arith, refl}
 use Rattle.std.specs.Int.{trailing_zeros, w64}
-use Rattle.gf_fraction.proofs.Twos.{odd_part, from_odd_parts}
+use Rattle.gf_fraction.proofs.OddParts.{odd_part, from_odd_parts}
 use Rattle.gf_fraction.proofs.arithmetic.word_gcd.Goals as goal
 
 pub odd_gcd-requires-clause-odd_a : goal.odd_gcd-requires-clause-odd_a

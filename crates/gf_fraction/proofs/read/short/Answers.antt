@@ -1,7 +1,8 @@
 use Rattle.std.proofs.Common.{◌≡◌, arith, get_or, refl}
 use Rattle.std.proofs.lemmas.Bool.Decides.{nat_tests}
 use Rattle.gf_fraction.proofs.Divisors.{IsGcd-one_right}
-use Rattle.gf_fraction.proofs.Shorts.{nil, first_and_more, short_whole, short_ratio, short_decimal}
+use Rattle.gf_fraction.proofs.ShortNumbers.{nil, first_and_more, short_whole}
+use Rattle.gf_fraction.proofs.ShortNumbers.{short_ratio, short_decimal}
 use Rattle.gf_fraction.proofs.read.short.Goals as goal
 
 pub returns-in-empty : goal.returns-in-empty

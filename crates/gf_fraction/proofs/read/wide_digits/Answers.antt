@@ -2,7 +2,7 @@ use Rattle.std.proofs.Common.{◌≡◌, ◌<◌, ◌∙◌, ◌+◌, ◌-◌, �
 use Rattle.std.proofs.Common.{true, length, drop, get_or, arith}
 use Rattle.std.specs.Char.{is_ascii_digit}
 use Rattle.gf_fraction.specs.NumberScan.{capped, leading_value}
-use Rattle.gf_fraction.proofs.Digits.{leading_value-drop, behind-drop, capped-leading}
+use Rattle.gf_fraction.proofs.LeadingDigits.{leading_value-drop, behind-drop, capped-leading}
 use Rattle.gf_fraction.proofs.read.wide_digits.Goals as goal
 use Rattle.gf_fraction.proofs.read.wide_digits.Goals.{then-value, else-value}
 

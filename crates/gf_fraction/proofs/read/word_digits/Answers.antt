@@ -1,7 +1,7 @@
 use Rattle.std.proofs.Common.{◌≡◌, ◌<◌, ◌∙◌, ◌+◌, ◌*◌, ap, sym, true, length, drop, get_or, arith}
 use Rattle.std.specs.Char.{is_ascii_digit}
 use Rattle.gf_fraction.specs.NumberScan.{leading_value}
-use Rattle.gf_fraction.proofs.Digits.{leading_value-drop, behind-drop}
+use Rattle.gf_fraction.proofs.LeadingDigits.{leading_value-drop, behind-drop}
 use Rattle.gf_fraction.proofs.read.word_digits.Goals as goal
 
 pub loop-i-preserved : goal.loop-i-preserved

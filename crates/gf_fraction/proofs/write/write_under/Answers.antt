@@ -1,7 +1,7 @@
 use Rattle.std.proofs.Common.{◌≡◌, ◌+◌, ◌-◌, ◌++◌, drop, ap, arith, rules}
 use Rattle.std.proofs.lemmas.Fmt.{length-decimal-le}
 use Rattle.std.proofs.lemmas.List.{drop-set}
-use Rattle.gf_fraction.proofs.Words.{under_one, under_above}
+use Rattle.gf_fraction.proofs.WrittenText.{under_one, under_above}
 use Rattle.gf_fraction.proofs.write.write_under.Goals as goal
 
 pub returns-then-den-eq1-clause-written : goal.returns-then-den-eq1-clause-written

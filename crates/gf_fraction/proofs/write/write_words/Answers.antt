@@ -4,7 +4,7 @@ use Rattle.std.specs.Prelude.{decimal, unsigned_abs}
 use Rattle.std.specs.Fmt.{signed_decimal}
 use Rattle.std.specs.Int.Signed.{lt_z}
 use Rattle.std.proofs.lemmas.Fmt.{length-decimal-le}
-use Rattle.gf_fraction.proofs.Words.{at_most_one, number_parts, under_text, with_minus}
+use Rattle.gf_fraction.proofs.WrittenText.{at_most_one, number_parts, under_text, with_minus}
 use Rattle.gf_fraction.proofs.write.write_words.Goals as goal
 
 pub write_digits-start-requires : goal.write_digits-start-requires

@@ -8,7 +8,7 @@ use mathlib.Core.Bool.{beq}
 use Rattle.gf_fraction.specs.Fits.{ProductFits}
 use Rattle.gf_fraction.specs.Ratio.{IsFraction, signed}
 use Rattle.gf_fraction.proofs.Divisors.{HoldsCommon-self}
-use Rattle.gf_fraction.proofs.Views.{IsFraction-seen, num_seen, den_seen}
+use Rattle.gf_fraction.proofs.FractionFields.{IsFraction-seen, num_seen, den_seen}
 use Rattle.gf_fraction.proofs.Products.{Multiplying, product_fraction}
 use Rattle.gf_fraction.proofs.Products.{product_value, product_within}
 use Rattle.gf_fraction.proofs.fraction.Fraction.mul.Goals as goal

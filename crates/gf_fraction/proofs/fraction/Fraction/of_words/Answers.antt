@@ -4,7 +4,7 @@ use Rattle.std.specs.Int.{w128}
 use Rattle.std.proofs.lemmas.Int.{to_z-of_z}
 use Rattle.gf_fraction.specs.Ratio.{Ratio, IsFraction, signed}
 use Rattle.gf_fraction.specs.Steps.{IsLowest}
-use Rattle.gf_fraction.proofs.Lowest.{fraction_from}
+use Rattle.gf_fraction.proofs.LowestTerms.{fraction_from}
 use Rattle.gf_fraction.proofs.fraction.Fraction.of_words.Goals as goal
 
 abbrev made : (c : goal.After-from-2) → Ratio

@@ -3,10 +3,10 @@ use Rattle.std.proofs.lemmas.Result.{MatchResult-weaker}
 use Rattle.gf_fraction.specs.Ratio.{HasValue, signed}
 use Rattle.gf_fraction.specs.NumberScan.{after_sign, is_minus, scan, IsShortLowest}
 use Rattle.gf_fraction.specs.declared.read.Spelling.{Spelling}
-use Rattle.gf_fraction.proofs.Founds.{FoundNumber, found_number}
-use Rattle.gf_fraction.proofs.Readings.{number_from_value, fault_from_reading, unspelled}
-use Rattle.gf_fraction.proofs.Lowest.{value_from}
-use Rattle.gf_fraction.proofs.Shorts.{value_from_short}
+use Rattle.gf_fraction.proofs.FoundIsSpelled.{FoundNumber, found_number}
+use Rattle.gf_fraction.proofs.AnswersFromScans.{number_from_value, fault_from_reading, unspelled}
+use Rattle.gf_fraction.proofs.LowestTerms.{value_from}
+use Rattle.gf_fraction.proofs.ShortNumbers.{value_from_short}
 use Rattle.gf_fraction.proofs.fraction.Fraction.read.Goals as goal
 
 -- what is found behind the sign

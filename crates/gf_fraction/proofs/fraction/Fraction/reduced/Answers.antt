@@ -3,7 +3,7 @@ use Rattle.std.specs.Prelude.{unsigned_abs, FitsSigned, int_lt}
 use Rattle.std.specs.Int.{w128}
 use Rattle.std.proofs.lemmas.Int.{to_z-of_z}
 use Rattle.gf_fraction.specs.Ratio.{IsFraction, signed}
-use Rattle.gf_fraction.proofs.Lowest.{reduced_fraction, reduced_value}
+use Rattle.gf_fraction.proofs.LowestTerms.{reduced_fraction, reduced_value}
 use Rattle.gf_fraction.proofs.fraction.Fraction.reduced.Goals as goal
 
 num_is : (c : goal.After-with_sign) → to_z w128 (of_z w128 c.with_sign.result)
@@ -17,10 +17,8 @@ num_is c =
 size_is : (c : goal.After-with_sign) → c.unsigned_abs.result ≡ unsigned_abs c.args.num
 size_is c = c.unsigned_abs.ensures.value ∙ ap unsigned_abs (to_z-of_z w128 c.args.num c.ranges.num)
 
-fraction : (c : goal.After-with_sign) → IsFraction (record {
-  num = to_z w128 (of_z w128 c.with_sign.result);
-  den = c.lowest-size.result.1;
-})
+fraction : (c : goal.After-with_sign) → IsFraction
+    (record { num = to_z w128 (of_z w128 c.with_sign.result); den = c.lowest-size.result.1 })
 fraction c =
     reduced_fraction c.args.num _ _ _ _ _ c.requires.den_above_zero c.requires.den_within
     c.requires.num_within (size_is c) c.lowest-size.ensures (num_is c)

@@ -2,7 +2,7 @@ use Rattle.std.proofs.Common.{◌≡◌, ◌++◌, ◌∙◌, ◌+◌, ◌-◌, 
 use Rattle.std.proofs.Common.{ℕ, List, w64, to_z, of_z, ap, arith, to_z-of_z}
 use Rattle.std.specs.Int.{w128}
 use Rattle.gf_fraction.specs.NumberText.{number_text}
-use Rattle.gf_fraction.proofs.Words.{cut}
+use Rattle.gf_fraction.proofs.WrittenText.{cut}
 use Rattle.gf_fraction.proofs.fraction.Fraction.write.Goals as goal
 
 pub returns-in-Ok-Ok-clause-ok : goal.returns-in-Ok-Ok-clause-ok

@@ -1,4 +1,4 @@
--- What is computed is what the relations ask for.
+-- Sums and products as they are computed are what the relations ask for.
 use Rattle.std.proofs.Common.{◌≡◌, ℕ, ℤ, pos, suc, zero, ◌*◌, ◌/◌, ◌%◌, ◌^◌, ◌<◌}
 use Rattle.std.proofs.Common.{Bool, true, false, Option, Some, None, MatchOption}
 use Rattle.std.proofs.Common.{arith, refl, ap, sym, subst, inl, inr, ◌⊎◌}
@@ -12,8 +12,9 @@ use Rattle.gf_fraction.specs.Fits.{IsSum, IsProduct, SumFits, ProductFits}
 use Rattle.gf_fraction.specs.Steps.{IsLowest, PartsFit}
 use Rattle.gf_fraction.specs.Computed.{gcd_within, lowest_of, is_within, sum_of, product_of}
 use Rattle.gf_fraction.proofs.Divisors.{HoldsCommon-self, IsLowest-div}
-use Rattle.gf_fraction.proofs.Lowest.{IsLowestRatio, IsLowestRatio-fraction, one_fraction}
-use Rattle.gf_fraction.proofs.Lowest.{one_lowest, mul_pos_left, reduced_fraction, reduced_value}
+use Rattle.gf_fraction.proofs.LowestTerms.{IsLowestRatio, IsLowestRatio-fraction, one_fraction}
+use Rattle.gf_fraction.proofs.LowestTerms.{one_lowest, mul_pos_left}
+use Rattle.gf_fraction.proofs.LowestTerms.{reduced_fraction, reduced_value}
 use Rattle.gf_fraction.proofs.Integers.{unsigned_abs-signed}
 use Rattle.gf_fraction.proofs.Products.{mul_above}
 use Rattle.gf_fraction.proofs.Sums.{Adding, sum_fits, sum_overflows, sum_value, sum_den_above}

@@ -17,9 +17,10 @@ use Rattle.gf_fraction.specs.NumberScan.{is_minus, after_sign, scan, scan_rest, 
 use Rattle.gf_fraction.specs.NumberScan.{scan_end, scan_exponent, scan_fraction}
 use Rattle.gf_fraction.specs.declared.read.Spelling.{Spelling}
 use Rattle.gf_fraction.specs.declared.read.Spelling.TheVariants.{Decimal, Rational}
-use Rattle.gf_fraction.proofs.Digits.{leading_behind, capped-after}
-use Rattle.gf_fraction.proofs.Scans.{AllDigits-leading, AllDigits-append, digits_value_after-append}
-use Rattle.gf_fraction.proofs.Scans.{held, capped_exponent, capped_exponent-signed}
+use Rattle.gf_fraction.proofs.LeadingDigits.{leading_behind, capped-after}
+use Rattle.gf_fraction.proofs.SpelledIsFound.{AllDigits-leading, AllDigits-append}
+use Rattle.gf_fraction.proofs.SpelledIsFound.{digits_value_after-append}
+use Rattle.gf_fraction.proofs.SpelledIsFound.{held, capped_exponent, capped_exponent-signed}
 
 -- a sign, or none, and the rest
 record HasSign (text : List ℕ) : Type 0 where
@@ -182,10 +183,9 @@ found_pointed ds cs s all h =
     value h in
     subst (λ t. Found t s) turned
     (found_decimal ((ds ++ 46 ∷ []) ++ after) (ds ++ after) (behind cs) (length after) _ s
-    (λ some. pointed ds after (
-      either_side ds after some,
-      AllDigits-append ds after all (AllDigits-leading cs),
-    )) h')
+    (λ some. pointed ds after
+    (either_side ds after some, AllDigits-append ds after all (AllDigits-leading cs)))
+    h')
   where
     either_side : (ds after : List ℕ) → (nat_lt 0 (length ds) || nat_lt 0 (length after)) ≡ true
         → 0 < length (ds ++ after)

@@ -1,4 +1,5 @@
--- What a text spells is scanned from it, and capped numbers keep its value and its fault.
+-- The answer that a text has, from what the scan of it finds: capped numbers keep its value and its
+-- fault.
 use Rattle.std.proofs.Common.{◌≡◌, ℕ, ℤ, pos, negsuc, suc, ◌<◌, ◌≤◌, min, Bool, true, List, []}
 use Rattle.std.proofs.Common.{◌∷◌, ◌++◌, length, Some, None, arith, refl, ap, sym, ◌∙◌, subst}
 use Rattle.std.specs.Prelude.{unsigned_abs, neg_ℤ, ◌-ℤ◌}
@@ -15,10 +16,11 @@ use Rattle.gf_fraction.specs.declared.fraction.NumberFault.{NumberFault}
 use Rattle.gf_fraction.specs.declared.fraction.NumberFault.TheVariants.{NotANumber}
 use Rattle.gf_fraction.specs.declared.fraction.NumberFault.TheVariants.{ZeroDenominator, TooLarge}
 use Rattle.gf_fraction.proofs.Integers.{unsigned_abs-signed}
-use Rattle.gf_fraction.proofs.Powers.{power_of_ten-above}
-use Rattle.gf_fraction.proofs.Scans.{Unsigned, Unsigned-digits, digit_unsigned, ascii_from_digit}
-use Rattle.gf_fraction.proofs.Scans.{sign_split, scan_shape, capped_exponent, held}
-use Rattle.gf_fraction.proofs.Founds.{FoundNumber}
+use Rattle.gf_fraction.proofs.PowersOfTen.{power_of_ten-above}
+use Rattle.gf_fraction.proofs.SpelledIsFound.{Unsigned, Unsigned-digits}
+use Rattle.gf_fraction.proofs.SpelledIsFound.{digit_unsigned, ascii_from_digit}
+use Rattle.gf_fraction.proofs.SpelledIsFound.{sign_split, scan_shape, capped_exponent, held}
+use Rattle.gf_fraction.proofs.FoundIsSpelled.{FoundNumber}
 
 -- no shape begins with a sign
 Unsigned-append : (text more : List ℕ) → 0 < length text → Unsigned text → Unsigned (text ++ more)

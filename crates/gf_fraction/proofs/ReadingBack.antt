@@ -1,4 +1,4 @@
--- A text has one answer, and what is written reads back.
+-- A text has one answer, and what is written of a fraction reads back to it.
 use Rattle.std.proofs.Common.{◌≡◌, ℕ, ℤ, pos, negsuc, suc, ◌^◌, ◌<◌, ◌≤◌, Bool}
 use Rattle.std.proofs.Common.{true, false, List, [], ◌∷◌, ◌++◌, Result, Ok, Err}
 use Rattle.std.proofs.Common.{arith, refl, ap, sym, ◌∙◌, subst, append_assoc}
@@ -20,10 +20,10 @@ use Rattle.gf_fraction.specs.NumberScan.{reading_of}
 use Rattle.gf_fraction.specs.declared.fraction.NumberFault.{NumberFault}
 use Rattle.gf_fraction.specs.declared.fraction.NumberFault.TheVariants.{NotANumber}
 use Rattle.gf_fraction.specs.declared.fraction.NumberFault.TheVariants.{ZeroDenominator, TooLarge}
-use Rattle.gf_fraction.proofs.Lowest.{one_fraction}
-use Rattle.gf_fraction.proofs.Scans.{held}
-use Rattle.gf_fraction.proofs.Readings.{scan_spelled, bounded_kept}
-use Rattle.gf_fraction.proofs.Readings.{bounded_held, zero_held, zero_kept}
+use Rattle.gf_fraction.proofs.LowestTerms.{one_fraction}
+use Rattle.gf_fraction.proofs.SpelledIsFound.{held}
+use Rattle.gf_fraction.proofs.AnswersFromScans.{scan_spelled, bounded_kept}
+use Rattle.gf_fraction.proofs.AnswersFromScans.{bounded_held, zero_held, zero_kept}
 
 -- two readings of one text agree but for what is too large
 module _ (text : List ℕ) (m n : Bool) (x y : Reading) (hx : Spells text m x)

@@ -1,4 +1,4 @@
--- The digits at the head of a text.
+-- The digits at the head of a text: their value, how many they are, and what follows them.
 use Rattle.std.proofs.Common.{◌≡◌, ℕ, ◌+◌, ◌-◌, ◌*◌, ◌<◌, ◌≤◌, Bool, true}
 use Rattle.std.proofs.Common.{false, List, [], ◌∷◌, ◌++◌, length, get_or, drop}
 use Rattle.std.proofs.Common.{arith, refl, ap, sym, ◌∙◌, add-one, length-append}
@@ -87,3 +87,5 @@ length_leading text =
 
 pub length_behind : (text : List ℕ) → length (behind text) ≤ length text
 length_behind text = omega (arith, length_leading text)
+
+pub ruleset digit_counts = (length_leading, length_behind)

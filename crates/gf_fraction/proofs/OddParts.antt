@@ -1,4 +1,4 @@
--- The twos in a number, and the greatest common divisor by steps that leave them out.
+-- Numbers without their twos, and the greatest common divisor by steps that leave these out.
 use Rattle.std.proofs.Common.{◌≡◌, ℕ, zero, suc, ◌+◌, ◌-◌, ◌*◌, ◌/◌, ◌%◌, ◌^◌}
 use Rattle.std.proofs.Common.{◌<◌, ◌≤◌, min, arith, ap, sym, ◌∙◌, subst, inl, inr}
 use Rattle.std.specs.Prelude.{◌⊎◌}

@@ -1,4 +1,4 @@
--- The answer of reading a text, computed.
+-- The answer of reading as it is computed is the one that the text has.
 use Rattle.std.proofs.Common.{◌≡◌, ℕ, ℤ, pos, negsuc, ◌^◌, ◌<◌, Bool, true, false, List, Option}
 use Rattle.std.proofs.Common.{Some, None, Result, Ok, Err, MatchResult, arith, refl, sym, subst}
 use Rattle.std.specs.Prelude.{◌==◌, ◌-ℤ◌, ◌≤ℤ◌, int_le, if◌then◌else◌}
@@ -17,11 +17,11 @@ use Rattle.gf_fraction.specs.declared.fraction.NumberFault.{NumberFault}
 use Rattle.gf_fraction.specs.declared.fraction.NumberFault.TheVariants.{ZeroDenominator, TooLarge}
 use Rattle.gf_fraction.specs.declared.read.Spelling.{Spelling}
 use Rattle.gf_fraction.proofs.Integers.{unsigned_abs-signed}
-use Rattle.gf_fraction.proofs.Powers.{pow_within}
-use Rattle.gf_fraction.proofs.Founds.{found_number}
-use Rattle.gf_fraction.proofs.Readings.{number_from_value, fault_from_reading, unspelled}
-use Rattle.gf_fraction.proofs.Texts.{one_answer}
-use Rattle.gf_fraction.proofs.Computes.{lowest_of-fraction, lowest_of-value}
+use Rattle.gf_fraction.proofs.PowersOfTen.{pow_within}
+use Rattle.gf_fraction.proofs.FoundIsSpelled.{found_number}
+use Rattle.gf_fraction.proofs.AnswersFromScans.{number_from_value, fault_from_reading, unspelled}
+use Rattle.gf_fraction.proofs.ReadingBack.{one_answer}
+use Rattle.gf_fraction.proofs.ComputedArithmetic.{lowest_of-fraction, lowest_of-value}
 
 bounded_from : (r : Reading) → is_bounded r ≡ true → IsBounded r
 bounded_from (decimal digits places exponent) h =

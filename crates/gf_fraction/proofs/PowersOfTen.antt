@@ -17,6 +17,8 @@ pow_within k h =
     let most : 10 ^ k ≤ 10 ^ 38 = pow-le-pow_right (lit< tt) h in
     omega (arith, most)
 
+pub ruleset power_bounds = (pow_above_zero, pow_within)
+
 pub power_of_ten-above : (z : ℤ) → 0 < power_of_ten z
 power_of_ten-above (pos k) = pow_above_zero k
 power_of_ten-above (negsuc k) = lit< tt

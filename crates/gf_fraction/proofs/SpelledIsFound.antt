@@ -1,5 +1,4 @@
--- A text has a shape exactly where the scan of it finds one, and what it finds is what the text
--- says, capped.
+-- Where a text has a shape, the scan of it finds what the text says, capped.
 use Rattle.std.proofs.Common.{◌≡◌, ℕ, ℤ, pos, negsuc, suc, zero, ◌+◌, ◌*◌, ◌<◌, min}
 use Rattle.std.proofs.Common.{Bool, true, false, List, [], ◌∷◌, ◌++◌, length, Some, None}
 use Rattle.std.proofs.Common.{arith, refl, ap, sym, ◌∙◌, subst, inl, inr, append_assoc}
@@ -20,7 +19,7 @@ use Rattle.gf_fraction.specs.NumberScan.{is_minus, after_sign, scan, scan_rest, 
 use Rattle.gf_fraction.specs.NumberScan.{scan_end, scan_exponent, scan_fraction}
 use Rattle.gf_fraction.specs.declared.read.Spelling.{Spelling}
 use Rattle.gf_fraction.specs.declared.read.Spelling.TheVariants.{Decimal, Rational}
-use Rattle.gf_fraction.proofs.Digits.{capped-after}
+use Rattle.gf_fraction.proofs.LeadingDigits.{capped-after}
 
 -- digits
 

@@ -1,4 +1,5 @@
--- Short whole numbers.
+-- Short numbers: what one pass over a text says of numerator and denominator, where 64 bits have
+-- room for them.
 use Rattle.std.proofs.Common.{◌≡◌, ℕ, pos, zero, suc, ◌+◌, ◌-◌, ◌^◌, ◌<◌, ◌≤◌, Bool}
 use Rattle.std.proofs.Common.{true, List, [], ◌∷◌, length, get_or, take, drop, Some}
 use Rattle.std.proofs.Common.{None, arith, lit<, refl, ap, sym, ◌∙◌, subst}
@@ -11,8 +12,8 @@ use Rattle.gf_fraction.specs.NumberSpelling.{scaled_digits, power_of_ten}
 use Rattle.gf_fraction.specs.NumberScan.{capped, leading, behind, leading_value, has_digits}
 use Rattle.gf_fraction.specs.NumberScan.{scan_rest, scan_decimal, reading_of, IsShort, IsValueOf}
 use Rattle.gf_fraction.specs.declared.read.Spelling.TheVariants.{Decimal, Rational}
-use Rattle.gf_fraction.proofs.Digits.{length_leading}
-use Rattle.gf_fraction.proofs.Powers.{pow_above_zero}
+use Rattle.gf_fraction.proofs.LeadingDigits.{length_leading}
+use Rattle.gf_fraction.proofs.PowersOfTen.{pow_above_zero}
 
 pub nil : (xs : List ℕ) → length xs ≡ 0 → xs ≡ []
 nil [] h = refl

@@ -13,9 +13,9 @@ use Rattle.std.proofs.Math.Nat.{dvd-mul_right, pow-succ'}
 use Rattle.gf_fraction.specs.Ratio.{Ratio, IsFraction, HasValue, signed}
 use Rattle.gf_fraction.specs.Steps.{IsLowest}
 use Rattle.gf_fraction.specs.NumberScan.{IsScaled}
-use Rattle.gf_fraction.proofs.Lowest.{value_from}
+use Rattle.gf_fraction.proofs.LowestTerms.{value_from}
 use Rattle.gf_fraction.proofs.Divisors.{IsGcd-one_right, coprime-mul, coprime_parts}
-use Rattle.gf_fraction.proofs.Twos.{coprime-pow, coprime_two, low_bits}
+use Rattle.gf_fraction.proofs.OddParts.{coprime-pow, coprime_two, low_bits}
 
 five_and_less : (r : ℕ) → 0 < r → r < 5 → IsGcd 5 r 1
 five_and_less zero above below = absurd (omega arith)
