@@ -4,7 +4,7 @@ use Rattle.std.specs.Prelude.{◌==◌, option_map}
 use Rattle.std.specs.Bool.{MatchBool}
 use Rattle.std.specs.List.{AllByRecursion}
 use Rattle.gf_fraction.specs.Ratio.{Ratio, IsFraction}
-use Rattle.gf_fraction.proofs.Lowest.{mul_pos_right, one_fraction}
+use Rattle.gf_fraction.proofs.LowestTerms.{mul_pos_right, one_fraction}
 use Rattle.gf_fraction.proofs.AllElements.{all_parts}
 use Rattle.gf_nfg.specs.Profiles.{numbers_from}
 use Rattle.gf_tree.specs.Tree.{Tree, Trees, count}

@@ -8,7 +8,7 @@ use Rattle.std.proofs.lemmas.Bool.{ltb-true, eqb-false}
 use Rattle.gf_fraction.specs.Ratio.{Ratio, IsFraction, whole}
 use Rattle.gf_fraction.specs.Fits.{SumFits}
 use Rattle.gf_fraction.specs.Computed.{lowest_of, gcd_within, sum_of}
-use Rattle.gf_fraction.proofs.Computes.{lowest_of-fraction, sum_is_computed}
+use Rattle.gf_fraction.proofs.ComputedArithmetic.{lowest_of-fraction, sum_is_computed}
 use Rattle.gf_fraction.proofs.WholeNumbers.{whole_fraction, part_fraction}
 use Rattle.gf_fraction.specs.Rational.{IsEqual}
 use Rattle.gf_form.specs.Strategies.{choices_by, strategies_at, full_profiles}

@@ -6,7 +6,7 @@ use Rattle.std.proofs.lemmas.Nat.Gcd.{dvd_refl}
 use Rattle.gf_fraction.specs.Ratio.{IsFraction, whole}
 use Rattle.gf_fraction.specs.Fits.{AddsTo, SumFits}
 use Rattle.gf_fraction.specs.Computed.{lowest_of, gcd_within}
-use Rattle.gf_fraction.proofs.Computes.{lowest_of-fraction}
+use Rattle.gf_fraction.proofs.ComputedArithmetic.{lowest_of-fraction}
 use Rattle.gf_fraction.proofs.WholeNumbers.{whole_fraction}
 use Rattle.gf_tree.specs.Description.{AddToOne, IsSet, set_of}
 use Rattle.gf_tree.specs.Game.{IsGame}

@@ -1,8 +1,13 @@
 -- Common divisors, and numbers that have none but 1.
-use Rattle.std.proofs.Common.{◌%◌, ◌≡◌, ℕ, suc, zero, ◌+◌, ◌*◌, ◌/◌, ◌<◌, arith, ap, sym, ◌∙◌, refl, subst}
+use Rattle.std.proofs.Common.{◌%◌, ◌≡◌, ℕ, suc, zero, ◌+◌, ◌*◌, ◌/◌}
+use Rattle.std.proofs.Common.{◌<◌, arith, ap, sym, ◌∙◌, refl, subst}
 use Rattle.std.specs.Int.{IsGcd, ◌∣◌}
-use Rattle.std.proofs.lemmas.Nat.Gcd.{dvd_refl, dvd-zero, dvd_trans, IsGcd-from_zero, IsGcd-from_mod, same_from_IsGcd}
-use Rattle.std.proofs.Math.Nat.{pos_of_dvd_of_pos, div-mul_cancel, mul-dvd-mul_right, dvd_of_mul-dvd-mul_right, one-dvd, mod-add-div', add-mul-mod_self_right, mod-eq_of_lt, mul-lt-mul_of_pos_right, mod-lt, dvd-mod_iff, dvd-mul_right}
+use Rattle.std.proofs.lemmas.Nat.Gcd.{dvd_refl, dvd-zero, dvd_trans, IsGcd-from_zero}
+use Rattle.std.proofs.lemmas.Nat.Gcd.{IsGcd-from_mod, same_from_IsGcd}
+use Rattle.std.proofs.Math.Nat.{pos_of_dvd_of_pos, div-mul_cancel, mul-dvd-mul_right}
+use Rattle.std.proofs.Math.Nat.{dvd_of_mul-dvd-mul_right, one-dvd, mod-add-div'}
+use Rattle.std.proofs.Math.Nat.{add-mul-mod_self_right, mod-eq_of_lt}
+use Rattle.std.proofs.Math.Nat.{mul-lt-mul_of_pos_right, mod-lt, dvd-mod_iff, dvd-mul_right}
 use Rattle.gf_fraction.specs.Steps.{HoldsCommon, IsLowest}
 
 pub IsGcd-one_right : (n : ℕ) → IsGcd n 1 1
@@ -17,20 +22,25 @@ IsGcd-div n d g above is = (
   one-dvd _,
   one-dvd _,
   λ e p q.
-      let pg : e * g ∣ n = subst (λ x. e * g ∣ x) (div-mul_cancel _ is.0) (mul-dvd-mul_right _ p g) in
-      let qg : e * g ∣ d = subst (λ x. e * g ∣ x) (div-mul_cancel _ is.1) (mul-dvd-mul_right _ q g) in
-      let all : e * g ∣ 1 * g = subst (λ x. e * g ∣ x) (let o : g ≡ 1 * g = omega arith in o) (is.2 (e * g) pg qg) in
+      let pg : e * g ∣ n =
+      subst (λ x. e * g ∣ x) (div-mul_cancel _ is.0) (mul-dvd-mul_right _ p g) in
+      let qg : e * g ∣ d =
+      subst (λ x. e * g ∣ x) (div-mul_cancel _ is.1) (mul-dvd-mul_right _ q g) in
+      let all : e * g ∣ 1 * g =
+      subst (λ x. e * g ∣ x) (let o : g ≡ 1 * g = omega arith in o) (is.2 (e * g) pg qg) in
       dvd_of_mul-dvd-mul_right _ above all,
 )
 
 mod-mul : (a b k : ℕ) → 0 < b → 0 < k → a * k % (b * k) ≡ a % b * k
 mod-mul a b k above some =
-    let e : a * k ≡ a % b * k + a / b * (b * k) = omega (arith, ap (λ x. x * k) (mod-add-div' a b)) in
+    let e : a * k ≡ a % b * k + a / b * (b * k) =
+    omega (arith, ap (λ x. x * k) (mod-add-div' a b)) in
     let lt : a % b * k < b * k = mul-lt-mul_of_pos_right (mod-lt a above) some in
     ap (λ x. x % (b * k)) e ∙ add-mul-mod_self_right (a % b * k) (a / b) (b * k) ∙ mod-eq_of_lt lt
 
 IsGcd-to_mod : (a b g : ℕ) → IsGcd a b g → IsGcd b (a % b) g
-IsGcd-to_mod a b g is = (is.1, (dvd-mod_iff g is.1).1 is.0, λ d p q. is.2 d ((dvd-mod_iff d p).0 q) p)
+IsGcd-to_mod a b g is =
+    (is.1, (dvd-mod_iff g is.1).1 is.0, λ d p q. is.2 d ((dvd-mod_iff d p).0 q) p)
 
 -- along Euclid's steps
 IsGcd-mul_below : (n a b g k : ℕ) → b < n → 0 < k → IsGcd a b g → IsGcd (a * k) (b * k) (g * k)
@@ -43,7 +53,8 @@ IsGcd-mul_below (suc n) a (suc b) g k h some is =
     let above : 0 < suc b = omega arith in
     let less : a % suc b < n = omega (arith, mod-lt a above) in
     let step = IsGcd-mul_below n (suc b) (a % suc b) g k less some (IsGcd-to_mod a (suc b) g is) in
-    IsGcd-from_mod (a * k) (suc b * k) (g * k) (subst (λ x. IsGcd (suc b * k) x (g * k)) (sym (mod-mul a (suc b) k above some)) step)
+    IsGcd-from_mod (a * k) (suc b * k) (g * k)
+    (subst (λ x. IsGcd (suc b * k) x (g * k)) (sym (mod-mul a (suc b) k above some)) step)
 
 pub IsGcd-mul : (a b g k : ℕ) → 0 < k → IsGcd a b g → IsGcd (a * k) (b * k) (g * k)
 IsGcd-mul a b g k some is = IsGcd-mul_below (suc b) a b g k (omega arith) some is
@@ -68,7 +79,8 @@ coprime-mul a b c ha hb = (
 
 -- divisors of coprime numbers are coprime
 pub coprime_parts : (a b c d : ℕ) → IsGcd a b 1 → c ∣ a → d ∣ b → IsGcd c d 1
-coprime_parts a b c d h p q = (one-dvd c, one-dvd d, λ e x y. h.2 e (dvd_trans e x p) (dvd_trans e y q))
+coprime_parts a b c d h p q =
+    (one-dvd c, one-dvd d, λ e x y. h.2 e (dvd_trans e x p) (dvd_trans e y q))
 
 -- a denominator holds what it shares with any numerator
 pub HoldsCommon-self : (n d : ℕ) → 0 < d → HoldsCommon n d d

@@ -1,5 +1,6 @@
 -- Laws of ℤ that std lacks, and sizes with a sign.
-use Rattle.std.proofs.Common.{◌≡◌, ℕ, ℤ, pos, negsuc, suc, zero, ◌+◌, ◌*◌, ◌/◌, ◌<◌, Bool, true, false, not, arith, ap, sym, ◌∙◌, refl}
+use Rattle.std.proofs.Common.{◌≡◌, ℕ, ℤ, pos, negsuc, suc, zero, ◌+◌, ◌*◌, ◌/◌, ◌<◌}
+use Rattle.std.proofs.Common.{Bool, true, false, not, arith, ap, sym, ◌∙◌, refl}
 use Rattle.std.specs.Prelude.{◌*ℤ◌, ◌+ℤ◌, unsigned_abs, int_lt}
 use Rattle.std.proofs.lemmas.Bool.{le-ltb}
 use Rattle.std.proofs.Math.Nat.{mul-div_cancel}
@@ -16,9 +17,21 @@ pub *ℤ_assoc : (a b c : ℤ) → (a *ℤ b) *ℤ c ≡ a *ℤ (b *ℤ c)
     let left = product_is (a *ℤ b) c in
     let right = product_is a (b *ℤ c) in
     let ups : up ((a *ℤ b) *ℤ c) ≡ up (a *ℤ (b *ℤ c)) =
-    omega (arith, times (up c) _ _ ab.0, times (down c) _ _ ab.1, times (up a) _ _ bc.0, times (down a) _ _ bc.1) in
+    omega (
+      arith,
+      times (up c) _ _ ab.0,
+      times (down c) _ _ ab.1,
+      times (up a) _ _ bc.0,
+      times (down a) _ _ bc.1,
+    ) in
     let downs : down ((a *ℤ b) *ℤ c) ≡ down (a *ℤ (b *ℤ c)) =
-    omega (arith, times (down c) _ _ ab.0, times (up c) _ _ ab.1, times (down a) _ _ bc.0, times (up a) _ _ bc.1) in
+    omega (
+      arith,
+      times (down c) _ _ ab.0,
+      times (up c) _ _ ab.1,
+      times (down a) _ _ bc.0,
+      times (up a) _ _ bc.1,
+    ) in
     same_in _ _ (λ i. ups i + sym downs i)
 
 pub add-*ℤ : (a b c : ℤ) → (a +ℤ b) *ℤ c ≡ a *ℤ c +ℤ b *ℤ c
@@ -35,7 +48,8 @@ pub *ℤ_right_comm : (a b c : ℤ) → (a *ℤ b) *ℤ c ≡ (a *ℤ c) *ℤ b
 *ℤ_right_comm a b c = *ℤ_assoc a b c ∙ ap (λ x. a *ℤ x) (*ℤ_comm b c) ∙ sym (*ℤ_assoc a c b)
 
 pub *-cancel_right : (m n k : ℕ) → 0 < k → m * k ≡ n * k → m ≡ n
-*-cancel_right m n k above e = sym (mul-div_cancel m above) ∙ ap (λ x. x / k) e ∙ mul-div_cancel n above
+*-cancel_right m n k above e =
+    sym (mul-div_cancel m above) ∙ ap (λ x. x / k) e ∙ mul-div_cancel n above
 
 pub *ℤ-cancel_right : (a b : ℤ) (k : ℕ) → 0 < k → a *ℤ pos k ≡ b *ℤ pos k → a ≡ b
 *ℤ-cancel_right a b k above e =
@@ -43,7 +57,8 @@ pub *ℤ-cancel_right : (a b : ℤ) (k : ℕ) → 0 < k → a *ℤ pos k ≡ b *
     let pb = product_is b (pos k) in
     let o = same_out (a *ℤ pos k) (b *ℤ pos k) e in
     let u : up a ≡ up b = *-cancel_right (up a) (up b) k above (omega (arith, pa.0, pb.0, o.0)) in
-    let d : down a ≡ down b = *-cancel_right (down a) (down b) k above (omega (arith, pa.1, pb.1, o.1)) in
+    let d : down a ≡ down b =
+    *-cancel_right (down a) (down b) k above (omega (arith, pa.1, pb.1, o.1)) in
     same_in a b (omega (arith, u, d))
 
 pub *ℤ-one : (z : ℤ) → z *ℤ pos 1 ≡ z
@@ -56,7 +71,8 @@ unsigned_abs-signed true (suc n) = refl
 
 -- an integer is its size with its sign
 pub signed-unsigned_abs : (z : ℤ) → signed (int_lt z (pos 0)) (unsigned_abs z) ≡ z
-signed-unsigned_abs (pos n) = let at_least : int_lt (pos n) (pos 0) ≡ false = le-ltb n 0 (omega arith) in rw at_least
+signed-unsigned_abs (pos n) =
+    let at_least : int_lt (pos n) (pos 0) ≡ false = le-ltb n 0 (omega arith) in rw at_least
 signed-unsigned_abs (negsuc n) = refl
 
 pub signed-* : (s : Bool) (m n : ℕ) → signed s m *ℤ pos n ≡ signed s (m * n)
@@ -69,7 +85,11 @@ pub signed-*ℤ : (s t : Bool) (m n : ℕ) → signed s m *ℤ signed t n ≡ si
 signed-*ℤ false false m n = refl
 signed-*ℤ true false m n = signed-* true m n
 signed-*ℤ false true m n =
-    *ℤ_comm (pos m) (signed true n) ∙ signed-* true n m ∙ ap (signed true) (let turn : n * m ≡ m * n = omega arith in turn)
-signed-*ℤ true true zero n = let e : 0 * n ≡ 0 = omega arith in let p = product_is (pos 0) (signed true n) in rw e (same_in _ _ (omega (arith, p.0, p.1)))
+    *ℤ_comm (pos m) (signed true n)
+    ∙ signed-* true n m
+    ∙ ap (signed true) (let turn : n * m ≡ m * n = omega arith in turn)
+signed-*ℤ true true zero n =
+    let e : 0 * n ≡ 0 = omega arith in
+    let p = product_is (pos 0) (signed true n) in rw e (same_in _ _ (omega (arith, p.0, p.1)))
 signed-*ℤ true true (suc m) zero = let e : suc m * 0 ≡ 0 = omega arith in rw e
 signed-*ℤ true true (suc m) (suc n) = refl

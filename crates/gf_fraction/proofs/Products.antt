@@ -1,5 +1,6 @@
 -- Products: their value, and when they fit.
-use Rattle.std.proofs.Common.{◌≡◌, ℕ, ℤ, Bool, pos, suc, zero, not, ◌*◌, ◌^◌, ◌<◌, arith, ap, sym, ◌∙◌, subst}
+use Rattle.std.proofs.Common.{◌≡◌, ℕ, ℤ, Bool, pos, suc, zero, not, ◌*◌}
+use Rattle.std.proofs.Common.{◌^◌, ◌<◌, arith, ap, sym, ◌∙◌, subst}
 use Rattle.std.specs.Prelude.{◌*ℤ◌, unsigned_abs, int_lt}
 use Rattle.std.specs.Int.{IsGcd, ◌∣◌}
 use Rattle.std.proofs.lemmas.Nat.Gcd.{IsGcd-swap}
@@ -9,8 +10,10 @@ use Rattle.gf_fraction.specs.Ratio.{Ratio, IsFraction, signed}
 use Rattle.gf_fraction.specs.Fits.{IsProduct, ProductFits}
 use Rattle.gf_fraction.specs.Steps.{IsLowest}
 use Rattle.gf_fraction.proofs.Divisors.{coprime-mul, coprime_parts}
-use Rattle.gf_fraction.proofs.Integers.{unsigned_abs-signed, signed-unsigned_abs, signed-*, signed-*ℤ}
-use Rattle.gf_fraction.proofs.Lowest.{IsLowestRatio, IsLowestRatio-fraction, one_lowest, mul_pos_left}
+use Rattle.gf_fraction.proofs.Integers.{unsigned_abs-signed, signed-unsigned_abs}
+use Rattle.gf_fraction.proofs.Integers.{signed-*, signed-*ℤ}
+use Rattle.gf_fraction.proofs.LowestTerms.{IsLowestRatio, IsLowestRatio-fraction}
+use Rattle.gf_fraction.proofs.LowestTerms.{one_lowest, mul_pos_left}
 
 pub mul_above : (m n : ℕ) → 0 < m → 0 < n → 0 < m * n
 mul_above zero n h k = absurd (omega arith)
@@ -33,7 +36,8 @@ module _ (x y : Ratio) (m n : ℕ) (b d p q r s : ℕ) (h : Multiplying x y m n 
   first = subst (λ (t : ℕ × ℕ). IsLowest t.0 t.1 p q) (λ i. (h.left_size i, h.right_den i)) h.first
 
   second : IsLowest (unsigned_abs y.num) x.den r s
-  second = subst (λ (t : ℕ × ℕ). IsLowest t.0 t.1 r s) (λ i. (h.right_size i, h.left_den i)) h.second
+  second =
+      subst (λ (t : ℕ × ℕ). IsLowest t.0 t.1 r s) (λ i. (h.right_size i, h.left_den i)) h.second
 
   part : (k by whole : ℕ) → k * by ≡ whole → k ∣ whole
   part k by whole e = subst (λ w. k ∣ w) e (dvd-mul_right k by)
@@ -41,14 +45,17 @@ module _ (x y : Ratio) (m n : ℕ) (b d p q r s : ℕ) (h : Multiplying x y m n 
   -- no common divisor is left across, and none was there before
   apart : IsGcd (p * r) (s * q) 1
   apart =
-      let ps : IsGcd p s 1 = coprime_parts _ _ p s h.left.lowest (part p first.by _ first.num) (part s second.by _ second.den) in
-      let rq : IsGcd r q 1 = coprime_parts _ _ r q h.right.lowest (part r second.by _ second.num) (part q first.by _ first.den) in
+      let ps : IsGcd p s 1 = coprime_parts _ _ p s h.left.lowest (part p first.by _ first.num)
+      (part s second.by _ second.den) in
+      let rq : IsGcd r q 1 = coprime_parts _ _ r q h.right.lowest (part r second.by _ second.num)
+      (part q first.by _ first.den) in
       let over_s : IsGcd s (p * r) 1 = IsGcd-swap _ _ _ (coprime-mul p r s ps second.apart) in
       let over_q : IsGcd q (p * r) 1 = IsGcd-swap _ _ _ (coprime-mul p r q first.apart rq) in
       IsGcd-swap _ _ _ (coprime-mul s q (p * r) over_s over_q)
 
   den_above : 0 < s * q
-  den_above = mul_above s q (mul_pos_left s second.by _ second.den h.left.den_above_zero) (mul_pos_left q first.by _ first.den h.right.den_above_zero)
+  den_above = mul_above s q (mul_pos_left s second.by _ second.den h.left.den_above_zero)
+      (mul_pos_left q first.by _ first.den h.right.den_above_zero)
 
   abbrev sign : Bool
   sign = not (beq (int_lt x.num (pos 0)) (int_lt y.num (pos 0)))
@@ -62,11 +69,18 @@ module _ (x y : Ratio) (m n : ℕ) (b d p q r s : ℕ) (h : Multiplying x y m n 
       let k = second.by in
       let regroup : p * r * ((s * k) * (q * g)) ≡ (p * g) * (r * k) * (s * q) = omega arith in
       let sizes : p * r * (x.den * y.den) ≡ unsigned_abs x.num * unsigned_abs y.num * (s * q) =
-      sym (λ i. p * r * (second.den i * first.den i)) ∙ regroup ∙ (λ i. first.num i * second.num i * (s * q)) in
+      sym (λ i. p * r * (second.den i * first.den i))
+      ∙ regroup
+      ∙ (λ i. first.num i * second.num i * (s * q)) in
       let size = unsigned_abs x.num * unsigned_abs y.num in
       let num : signed sign size ≡ x.num *ℤ y.num =
-      sym (signed-*ℤ (int_lt x.num (pos 0)) (int_lt y.num (pos 0)) (unsigned_abs x.num) (unsigned_abs y.num)) ∙ (λ i. signed-unsigned_abs x.num i *ℤ signed-unsigned_abs y.num i) in
-      signed-* sign (p * r) (x.den * y.den) ∙ ap (signed sign) sizes ∙ sym (signed-* sign size (s * q)) ∙ ap (λ z. z *ℤ pos (s * q)) num
+      sym (signed-*ℤ (int_lt x.num (pos 0)) (int_lt y.num (pos 0))
+      (unsigned_abs x.num) (unsigned_abs y.num))
+      ∙ (λ i. signed-unsigned_abs x.num i *ℤ signed-unsigned_abs y.num i) in
+      signed-* sign (p * r) (x.den * y.den)
+      ∙ ap (signed sign) sizes
+      ∙ sym (signed-* sign size (s * q))
+      ∙ ap (λ z. z *ℤ pos (s * q)) num
 
   is_lowest : IsLowestRatio product
   is_lowest = record {
@@ -75,7 +89,8 @@ module _ (x y : Ratio) (m n : ℕ) (b d p q r s : ℕ) (h : Multiplying x y m n 
   }
 
   -- the product of the reduced parts is the product
-  pub product_fraction : (num : ℤ) (den : ℕ) → num ≡ signed sign (p * r) → den ≡ s * q → p * r < 2 ^ 127 → s * q < 2 ^ 127 → IsFraction (record { num = num; den = den })
+  pub product_fraction : (num : ℤ) (den : ℕ) → num ≡ signed sign (p * r) → den ≡ s * q
+      → p * r < 2 ^ 127 → s * q < 2 ^ 127 → IsFraction (record { num = num; den = den })
   product_fraction num den en ed wn wd =
       let F : (ℤ × ℕ) → Type 0 = λ t. IsFraction (record { num = t.0; den = t.1 }) in
       subst F (λ i. (sym en i, sym ed i)) (record {
@@ -85,15 +100,19 @@ module _ (x y : Ratio) (m n : ℕ) (b d p q r s : ℕ) (h : Multiplying x y m n 
         lowest = is_lowest.lowest;
       })
 
-  pub product_value : (num : ℤ) (den : ℕ) → num ≡ signed sign (p * r) → den ≡ s * q → IsProduct (record { num = num; den = den }) x y
+  pub product_value : (num : ℤ) (den : ℕ) → num ≡ signed sign (p * r) → den ≡ s * q
+      → IsProduct (record { num = num; den = den }) x y
   product_value num den en ed =
       let F : (ℤ × ℕ) → Type 0 = λ t. IsProduct (record { num = t.0; den = t.1 }) x y in
       subst F (λ i. (sym en i, sym ed i)) is_product
 
-  -- any fraction of the product's value is the product of the reduced parts, so that is within the bounds
+  -- any fraction of the product's value is the product of the reduced parts, so that is within the
+  -- bounds
   pub product_within : ProductFits x y → (p * r < 2 ^ 127) × (s * q < 2 ^ 127)
   product_within fits =
       let above = mul_above x.den y.den h.left.den_above_zero h.right.den_above_zero in
-      let same : fits.product ≡ product = one_lowest fits.product product (x.num *ℤ y.num) (x.den * y.den) (IsLowestRatio-fraction fits.product fits.fraction) is_lowest above fits.value is_product in
+      let same : fits.product ≡ product =
+      one_lowest fits.product product (x.num *ℤ y.num) (x.den * y.den)
+      (IsLowestRatio-fraction fits.product fits.fraction) is_lowest above fits.value is_product in
       let is : IsFraction product = subst IsFraction same fits.fraction in
       (subst (λ k. k < 2 ^ 127) (unsigned_abs-signed sign (p * r)) is.num_within, is.den_within)

@@ -1,13 +1,16 @@
 -- Sums, products and the answers of reading, computed, for the machines of the crates above. No
--- contract here cites them: that they are what the relations ask for is proved in proofs/Computes
--- and proofs/Numbers.
-use Rattle.std.specs.Prelude.{◌==◌, ◌&&◌, ℕ, ℤ, Bool, zero, suc, List, Option, Some, None, Result, Ok, Err, pos, unsigned_abs, int_lt, int_le, nat_lt, nat_le, ◌+ℤ◌, ◌-ℤ◌, ◌*ℤ◌, ◌*◌, ◌/◌, ◌%◌, ◌^◌, if◌then◌else◌}
+-- contract here cites them: that they are what the relations ask for is proved in
+-- proofs/ComputedArithmetic and proofs/ComputedAnswers.
+use Rattle.std.specs.Prelude.{◌==◌, ◌&&◌, ℕ, ℤ, Bool, zero, suc, List, Option, Some, None}
+use Rattle.std.specs.Prelude.{Result, Ok, Err, pos, unsigned_abs, int_lt, int_le, nat_lt}
+use Rattle.std.specs.Prelude.{nat_le, ◌+ℤ◌, ◌-ℤ◌, ◌*ℤ◌, ◌*◌, ◌/◌, ◌%◌, ◌^◌, if◌then◌else◌}
 use Rattle.gf_fraction.specs.Ratio.{Ratio, signed}
 use Rattle.gf_fraction.specs.NumberSpelling.{Reading, size_of, den_of, scaled_digits}
 use Rattle.gf_fraction.specs.NumberSpelling.Reading.{decimal, rational}
 use Rattle.gf_fraction.specs.NumberScan.{scan, after_sign, is_minus, reading_of}
 use Rattle.gf_fraction.specs.declared.fraction.NumberFault.{NumberFault}
-use Rattle.gf_fraction.specs.declared.fraction.NumberFault.TheVariants.{NotANumber, ZeroDenominator, TooLarge}
+use Rattle.gf_fraction.specs.declared.fraction.NumberFault.TheVariants.{NotANumber}
+use Rattle.gf_fraction.specs.declared.fraction.NumberFault.TheVariants.{ZeroDenominator, TooLarge}
 use Rattle.gf_fraction.specs.declared.read.Spelling.{Spelling}
 
 -- the greatest common divisor, by Euclid's steps, of which a number above b is enough
@@ -34,7 +37,8 @@ sum_within left right den =
     else None
 
 abbrev pub sum_by : Ratio → Ratio → ℕ → Option Ratio
-sum_by x y g = sum_within (x.num *ℤ pos (y.den / g)) (y.num *ℤ pos (x.den / g)) (x.den * (y.den / g))
+sum_by x y g =
+    sum_within (x.num *ℤ pos (y.den / g)) (y.num *ℤ pos (x.den / g)) (x.den * (y.den / g))
 
 -- the sum, if it fits
 unfoldable pub sum_of : Ratio → Ratio → Option Ratio
@@ -51,14 +55,16 @@ product_of x y = if_within (lowest_of (x.num *ℤ y.num) (x.den * y.den))
 abbrev pub is_bounded : Reading → Bool
 is_bounded (decimal digits places exponent) =
     nat_lt digits (2 ^ 127) && nat_le places 38 && nat_le (unsigned_abs exponent) 38
-    && int_le (pos places -ℤ exponent) (pos 38) && nat_lt (scaled_digits digits (pos places -ℤ exponent)) (2 ^ 127)
+    && int_le (pos places -ℤ exponent) (pos 38)
+    && nat_lt (scaled_digits digits (pos places -ℤ exponent)) (2 ^ 127)
 is_bounded (rational num den) = nat_lt num (2 ^ 127) && nat_lt den (2 ^ 127)
 
 -- the value of a reading, or what is wrong with it
 abbrev pub value_of : Bool → Reading → Result Ratio NumberFault
 value_of negative reading =
     if den_of reading == 0 then Err ZeroDenominator
-    else if is_bounded reading then Ok (lowest_of (signed negative (size_of reading)) (den_of reading))
+    else if is_bounded reading
+    then Ok (lowest_of (signed negative (size_of reading)) (den_of reading))
     else Err TooLarge
 
 abbrev pub answer_of : Bool → Option Spelling → Result Ratio NumberFault

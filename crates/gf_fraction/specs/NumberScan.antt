@@ -1,14 +1,18 @@
--- What the code finds in a number text as it goes along it. Contracts inside this crate cite it, and
--- no public one.
-use Rattle.std.specs.Prelude.{◌≡◌, ◌<◌, ℕ, ℤ, Bool, true, false, List, [], ◌∷◌, length, Option, Some, None, pos, ◌==◌, ◌||◌, ◌&&◌, nat_lt, min, ◌^◌, option_map, if◌then◌else◌}
+-- What the code finds in a number text as it goes along it. Contracts inside this crate cite it,
+-- and no public one.
+use Rattle.std.specs.Prelude.{◌≡◌, ◌<◌, ℕ, ℤ, Bool, true, false, List, [], ◌∷◌}
+use Rattle.std.specs.Prelude.{length, Option, Some, None, pos, ◌==◌, ◌||◌, ◌&&◌}
+use Rattle.std.specs.Prelude.{nat_lt, min, ◌^◌, option_map, if◌then◌else◌}
 use Rattle.std.specs.Char.{is_ascii_digit}
 use Rattle.std.specs.Str.Parse.{digits_value_after}
 use Rattle.gf_fraction.specs.Ratio.{Ratio, IsFraction, HasValue, signed}
 use Rattle.gf_fraction.specs.Steps.{IsLowest}
-use Rattle.gf_fraction.specs.NumberSpelling.{Reading, size_of, den_of, scaled_digits, power_of_ten, IsBounded}
+use Rattle.gf_fraction.specs.NumberSpelling.{Reading, size_of, den_of}
+use Rattle.gf_fraction.specs.NumberSpelling.{scaled_digits, power_of_ten, IsBounded}
 use Rattle.gf_fraction.specs.NumberSpelling.Reading.{decimal, rational}
 use Rattle.gf_fraction.specs.declared.fraction.NumberFault.{NumberFault}
-use Rattle.gf_fraction.specs.declared.fraction.NumberFault.TheVariants.{NotANumber, ZeroDenominator, TooLarge}
+use Rattle.gf_fraction.specs.declared.fraction.NumberFault.TheVariants.{NotANumber}
+use Rattle.gf_fraction.specs.declared.fraction.NumberFault.TheVariants.{ZeroDenominator, TooLarge}
 use Rattle.gf_fraction.specs.declared.read.Spelling.{Spelling}
 use Rattle.gf_fraction.specs.declared.read.Spelling.TheVariants.{Decimal, Rational}
 
@@ -72,7 +76,8 @@ abbrev pub scan_rest : ℕ → Bool → List ℕ → Option Spelling
 scan_rest digits some [] = scan_decimal digits some 0 []
 scan_rest digits some (c ∷ cs) =
     if c == 47 then scan_fraction digits some cs
-    else if c == 46 then scan_decimal (capped (leading_value digits cs)) (some || has_digits cs) (length (leading cs)) (behind cs)
+    else if c == 46 then scan_decimal (capped (leading_value digits cs)) (some || has_digits cs)
+    (length (leading cs)) (behind cs)
     else scan_decimal digits some 0 (c ∷ cs)
 
 -- a text behind its sign

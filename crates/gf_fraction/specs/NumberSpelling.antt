@@ -1,10 +1,13 @@
 -- How a text spells a number, within which bounds, and why another text spells none (this
 -- project's profile).
-use Rattle.std.specs.Prelude.{◌≡◌, ◌⊎◌, ℕ, ℤ, Bool, true, false, List, [], ◌++◌, length, codes, Result, MatchResult, pos, negsuc, suc, unsigned_abs, ◌-ℤ◌, ◌≤ℤ◌, ◌*◌, ◌^◌, ◌<◌, ◌≤◌}
+use Rattle.std.specs.Prelude.{◌≡◌, ◌⊎◌, ℕ, ℤ, Bool, true, false, List, [], ◌++◌}
+use Rattle.std.specs.Prelude.{length, codes, Result, MatchResult, pos, negsuc}
+use Rattle.std.specs.Prelude.{suc, unsigned_abs, ◌-ℤ◌, ◌≤ℤ◌, ◌*◌, ◌^◌, ◌<◌, ◌≤◌}
 use Rattle.std.specs.Str.Parse.{IsNumeral, digits_value}
 use Rattle.gf_fraction.specs.Ratio.{Ratio, IsFraction, HasValue, signed}
 use Rattle.gf_fraction.specs.declared.fraction.NumberFault.{NumberFault}
-use Rattle.gf_fraction.specs.declared.fraction.NumberFault.TheVariants.{NotANumber, ZeroDenominator, TooLarge}
+use Rattle.gf_fraction.specs.declared.fraction.NumberFault.TheVariants.{NotANumber}
+use Rattle.gf_fraction.specs.declared.fraction.NumberFault.TheVariants.{ZeroDenominator, TooLarge}
 
 -- what a text says behind its sign, before any bound is asked: digits, of which so many stand
 -- behind the point, with an exponent; or a numerator over a denominator
@@ -117,7 +120,8 @@ pub record IsTooLarge (text : List ℕ) : Type 0 where
 
 -- why a text is no number: it has no shape, else a zero denominator, else it breaks a bound
 abbrev pub HasNumberFault : List ℕ → NumberFault → Type 0
-HasNumberFault text NotANumber = (negative : Bool) (reading : Reading) → ¬ (Spells text negative reading)
+HasNumberFault text NotANumber =
+    (negative : Bool) (reading : Reading) → ¬ (Spells text negative reading)
 HasNumberFault text ZeroDenominator = HasZeroDenominator text
 HasNumberFault text TooLarge = IsTooLarge text
 

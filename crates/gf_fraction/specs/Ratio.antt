@@ -1,5 +1,6 @@
 -- Ratios, and which of them are fractions.
-use Rattle.std.specs.Prelude.{◌≡◌, ℕ, ℤ, Bool, true, false, pos, neg_ℤ, unsigned_abs, ◌*ℤ◌, ◌^◌, ◌<◌}
+use Rattle.std.specs.Prelude.{◌≡◌, ℕ, ℤ, Bool, true, false, pos}
+use Rattle.std.specs.Prelude.{neg_ℤ, unsigned_abs, ◌*ℤ◌, ◌^◌, ◌<◌}
 use Rattle.std.specs.Int.{IsGcd}
 
 -- a numerator over a denominator

@@ -1,6 +1,7 @@
 //! The steps of exact arithmetic on numbers of 128 bits.
 
-ghost use Rattle.std.specs.Prelude.{◌≡◌, ℤ, pos, ◌+◌, ◌*◌, ◌/◌, ◌%◌, ◌^◌, ◌<◌, ◌≤◌, ◌+ℤ◌, ◌*ℤ◌, unsigned_abs, MatchResult};
+ghost use Rattle.std.specs.Prelude.{◌≡◌, ℤ, pos, ◌+◌, ◌*◌, ◌/◌, ◌%◌, ◌^◌, ◌<◌};
+ghost use Rattle.std.specs.Prelude.{◌≤◌, ◌+ℤ◌, ◌*ℤ◌, unsigned_abs, MatchResult};
 ghost use Rattle.std.specs.Int.{IsGcd};
 ghost use Rattle.gf_fraction.specs.Ratio.{IsWithin, signed};
 ghost use Rattle.gf_fraction.specs.Steps.{HoldsCommon, IsLowest, PartsFit};
@@ -15,8 +16,8 @@ pub const LARGEST: u128 = i128::MAX as u128;
 /// The greatest number of 64 bits. Up to it a division is quick.
 const WORD: u128 = u64::MAX as u128;
 
-/// The greatest common divisor of two odd numbers. A difference of odd numbers is even, and its twos
-/// divide neither of them, so that no step needs a division.
+/// The greatest common divisor of two odd numbers. A difference of odd numbers is even, and its
+/// twos divide neither of them, so that no step needs a division.
 fn odd_gcd(a: u64, b: u64) -> u64
     requires odd_a { a % 2 ≡ 1 }
     requires odd_b { b % 2 ≡ 1 }
@@ -67,8 +68,8 @@ pub fn gcd(a: u128, b: u128) -> u128
     u128::from(word_gcd(x as u64, y as u64))
 }
 
-/// The quotient, by a division of 64 bits where both numbers allow it, and by none where the divisor
-/// is 1.
+/// The quotient, by a division of 64 bits where both numbers allow it, and by none where the
+/// divisor is 1.
 pub fn quotient(n: u128, by: u128) -> u128
     requires { 0 < by }
     ensures { result ≡ n / by }

@@ -1,6 +1,7 @@
 //! Fractions.
 
-ghost use Rattle.std.specs.Prelude.{◌≡◌, ◌⊎◌, ◌↔◌, ◌^◌, ◌<◌, ◌≤◌, ◌<ℤ◌, pos, unsigned_abs, IsTrue, IfOk, IsOkAnd, MatchResult};
+ghost use Rattle.std.specs.Prelude.{◌≡◌, ◌⊎◌, ◌↔◌, ◌^◌, ◌<◌, ◌≤◌, ◌<ℤ◌, pos};
+ghost use Rattle.std.specs.Prelude.{unsigned_abs, IsTrue, IfOk, IsOkAnd, MatchResult};
 ghost use Rattle.std.specs.Int.{IsGcd};
 ghost use Rattle.gf_fraction.specs.Ratio.{HasValue, IsFraction, IsWithin, signed, whole};
 ghost use Rattle.gf_fraction.specs.Fits.{IsProduct, IsSum, ProductFits, SumFits};
@@ -159,8 +160,8 @@ impl Fraction {
     /// The exact sum.
     ///
     /// `Overflow` where the least common denominator, a numerator scaled to it, or the sum of these
-    /// numerators is above `2^127 - 1` in size, also where the sum in lowest terms would not be (this
-    /// project's profile).
+    /// numerators is above `2^127 - 1` in size, also where the sum in lowest terms would not be
+    /// (this project's profile).
     pub fn add(self, o: Fraction) -> Result<Fraction, Overflow>
         ensures sum { IfOk result (λ r. IsFraction r × IsSum r self o) }
         ensures overflow { MatchResult result (λ _. SumFits self o) (λ _. ¬ (SumFits self o)) }

@@ -3,7 +3,10 @@
 ghost use Rattle.std.specs.Prelude.{◌≡◌, ◌≤◌, ◌<◌, ◌^◌, length, unsigned_abs, IfSome, MatchResult};
 ghost use Rattle.gf_fraction.specs.NumberSpelling.{Reads, scaled_digits};
 ghost use Rattle.gf_fraction.specs.NumberSpelling.Reading.{decimal, rational};
-ghost use Rattle.gf_fraction.specs.NumberScan.{HasReadingFault, IsScaled, IsShortLowest, IsValueOf, after_sign, behind, capped, is_minus, leading, leading_value, reading_of, scan, scan_decimal, scan_exponent, scan_fraction};
+ghost use Rattle.gf_fraction.specs.NumberScan.{HasReadingFault, IsScaled, IsShortLowest};
+ghost use Rattle.gf_fraction.specs.NumberScan.{IsValueOf, after_sign, behind, capped, is_minus};
+ghost use Rattle.gf_fraction.specs.NumberScan.{leading, leading_value, reading_of, scan};
+ghost use Rattle.gf_fraction.specs.NumberScan.{scan_decimal, scan_exponent, scan_fraction};
 
 use crate::arithmetic::{LARGEST, lowest_decimal, lowest_words, product, with_sign};
 use crate::fraction::{Fraction, NumberFault};
@@ -11,7 +14,8 @@ use crate::fraction::{Fraction, NumberFault};
 /// Stands for any number above `LARGEST`, since what is too large need only be known to be so.
 const TOO_LARGE: u128 = LARGEST + 1;
 
-/// The greatest exponent, the greatest count of digits behind a point, and the greatest power of ten.
+/// The greatest exponent, the greatest count of digits behind a point, and the greatest power of
+/// ten.
 const POWER: i32 = 38;
 
 /// The greatest power of ten of 64 bits.
@@ -43,8 +47,8 @@ struct Run<'a> {
     rest: &'a [u8],
 }
 
-/// Whether a text begins with a minus, and the text behind its sign. A sign is as often there as not,
-/// so no branch depends on it.
+/// Whether a text begins with a minus, and the text behind its sign. A sign is as often there as
+/// not, so no branch depends on it.
 fn split_sign(text: &[u8]) -> (bool, &[u8])
     ensures negative { result.0 ≡ is_minus text.entry.now }
     ensures rest { result.1.now ≡ after_sign text.entry.now }
@@ -73,8 +77,8 @@ fn word_digits(from: u64, text: &[u8]) -> (u64, &[u8])
     (value, &[])
 }
 
-/// A numerator and a denominator in lowest terms, where a text has no exponent and 64 bits have room
-/// for both as spelled and for one digit more. Most numbers are read so.
+/// A numerator and a denominator in lowest terms, where a text has no exponent and 64 bits have
+/// room for both as spelled and for one digit more. Most numbers are read so.
 fn short(text: &[u8]) -> Option<(u64, u64)>
     ensures { IfSome result (λ r. IsShortLowest text.now r.0 r.1) }
 {
@@ -123,7 +127,7 @@ fn wide_digits(from: u128, text: &[u8]) -> (u128, &[u8])
 
 /// The digits at the head of a text, behind digits of the value `from`. The first steps are of 64
 /// bits.
-#[tactic(auto, using(crate::proofs::Digits::length_leading, crate::proofs::Digits::length_behind))]
+#[tactic(auto, using(crate::proofs::LeadingDigits::digit_counts))]
 fn digits(from: u128, text: &[u8]) -> Run<'_>
     requires { from ≤ 2 ^ 127 }
     ensures value { result.value ≡ capped (leading_value from text.entry.now) }
@@ -222,7 +226,7 @@ fn rational(negative: bool, num: u128, den: u128) -> Result<Fraction, NumberFaul
 }
 
 /// Ten to a power of at most 38, which is below `M`.
-#[tactic(auto, using(crate::proofs::Powers::pow_above_zero, crate::proofs::Powers::pow_within))]
+#[tactic(auto, using(crate::proofs::PowersOfTen::power_bounds))]
 fn power_of_ten(power: u32) -> u128
     requires { power ≤ 38 }
     ensures value { result ≡ 10 ^ power }
@@ -303,11 +307,11 @@ impl Fraction {
     /// - or digits, `/` and digits.
     ///
     /// `NotANumber` for any other text, else `ZeroDenominator` where the denominator is zero, else
-    /// `TooLarge` where a bound is broken. With `M` for `2^127 - 1`, both parts of a rational are at
-    /// most `M`. Elsewhere, with `p` digits behind the point and an exponent `e`, the digits without
-    /// the point are at most `M`, `p` and `p - e` at most 38, `e` is -38 to 38, and where `e` is above
-    /// `p`, the digits times `10^(e - p)` are at most `M`. Leading zeros count nowhere (this project's
-    /// profile).
+    /// `TooLarge` where a bound is broken. With `M` for `2^127 - 1`, both parts of a rational are
+    /// at most `M`. Elsewhere, with `p` digits behind the point and an exponent `e`, the digits
+    /// without the point are at most `M`, `p` and `p - e` at most 38, `e` is -38 to 38, and where
+    /// `e` is above `p`, the digits times `10^(e - p)` are at most `M`. Leading zeros count nowhere
+    /// (this project's profile).
     pub fn read(text: &[u8]) -> Result<Fraction, NumberFault>
         ensures { Reads text.now result }
     {

@@ -1,6 +1,7 @@
 //! The text of a fraction.
 
-ghost use Rattle.std.specs.Prelude.{◌≡◌, ◌++◌, ◌∷◌, ◌≤◌, [], drop, length, codes, decimal, pos, OnErr, OnOk, if◌then◌else◌, ◌==◌};
+ghost use Rattle.std.specs.Prelude.{◌≡◌, ◌++◌, ◌∷◌, ◌≤◌, [], drop, length, codes};
+ghost use Rattle.std.specs.Prelude.{decimal, pos, OnErr, OnOk, if◌then◌else◌, ◌==◌};
 ghost use Rattle.std.specs.Fmt.{signed_decimal};
 ghost use Rattle.gf_fraction.specs.NumberText.{number_text};
 

@@ -11,7 +11,7 @@ use Rattle.gf_token.proofs.Grammar.{each_group}
 use Rattle.gf_token.proofs.SpelledNumbers.{number_spelled}
 use Rattle.gf_fraction.specs.Ratio.{Ratio, IsFraction}
 use Rattle.gf_fraction.specs.NumberText.{number_text}
-use Rattle.gf_fraction.proofs.Texts.{written_is_read}
+use Rattle.gf_fraction.proofs.ReadingBack.{written_is_read}
 use Rattle.gf_fraction.proofs.AllElements.{all_weaker, all_parts, all_lists}
 use Rattle.gf_nfg.specs.Table.{Table, IsTable, IsSpellable, rows}
 use Rattle.gf_nfg.specs.Sentence.{IsLabelList, IsPayoff, IsPayoffBody, Sentence}

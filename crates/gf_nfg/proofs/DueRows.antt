@@ -15,7 +15,7 @@ use Rattle.gf_fraction.specs.Ratio.{Ratio}
 use Rattle.gf_fraction.specs.NumberSpelling.{HasNumberFault, Reads}
 use Rattle.gf_fraction.specs.Computed.{number_of}
 use Rattle.gf_fraction.specs.declared.fraction.NumberFault.{NumberFault}
-use Rattle.gf_fraction.proofs.Numbers.{number_is_computed, number_is, number_again}
+use Rattle.gf_fraction.proofs.ComputedAnswers.{number_is_computed, number_is, number_again}
 use Rattle.gf_nfg.specs.declared.position.Position.{Position}
 use Rattle.gf_nfg.specs.declared.position.Position.TheVariants as p
 use Rattle.gf_nfg.specs.Due.{Role, Suits}

@@ -15,8 +15,8 @@ use Rattle.gf_fraction.specs.NumberSpelling.{HasNumberFault}
 use Rattle.gf_fraction.specs.Computed.{number_of, lowest_of, gcd_within}
 use Rattle.gf_fraction.specs.declared.fraction.NumberFault.{NumberFault}
 use Rattle.gf_fraction.specs.declared.fraction.NumberFault.TheVariants as number
-use Rattle.gf_fraction.proofs.Numbers.{number_is}
-use Rattle.gf_fraction.proofs.Texts.{same_fault}
+use Rattle.gf_fraction.proofs.ComputedAnswers.{number_is}
+use Rattle.gf_fraction.proofs.ReadingBack.{same_fault}
 use Rattle.gf_token.specs.Place.{Begins, MayFollow}
 use Rattle.gf_nfg.specs.Sentence.{IsStrategicFile}
 use Rattle.gf_nfg.specs.Due.{Role, Suits, RoleIsDue, IsDue}

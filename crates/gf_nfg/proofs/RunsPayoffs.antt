@@ -9,7 +9,7 @@ use Rattle.gf_fraction.specs.declared.fraction.NumberFault.{NumberFault}
 use Rattle.gf_nfg.specs.declared.position.Position.{Position}
 use Rattle.gf_nfg.specs.declared.position.Position.TheVariants as p
 use Rattle.gf_fraction.specs.Computed.{number_of}
-use Rattle.gf_fraction.proofs.Numbers.{number_is, number_again}
+use Rattle.gf_fraction.proofs.ComputedAnswers.{number_is, number_again}
 use Rattle.gf_nfg.specs.Sentence.{IsPayoff}
 use Rattle.gf_nfg.specs.Machine.{State, Content, at, run, paid, with_payoffs, next_outcome, ◌>>=◌}
 use Rattle.gf_nfg.proofs.RunsCommon.{not_zero, pred_suc, ok_why, ok_is, with_no_payoffs, with_more_payoffs}

@@ -15,7 +15,7 @@ use Rattle.gf_fraction.specs.Fits.{AddsTo, SumFits}
 use Rattle.gf_fraction.specs.NumberSpelling.{IsNumber}
 use Rattle.gf_fraction.specs.NumberText.{number_text}
 use Rattle.gf_fraction.specs.Computed.{number_of, lowest_of, gcd_within}
-use Rattle.gf_fraction.proofs.Numbers.{number_is}
+use Rattle.gf_fraction.proofs.ComputedAnswers.{number_is}
 use Rattle.gf_fraction.proofs.WholeNumbers.{whole_fraction, part_fraction, whole_spelled}
 use Rattle.gf_tree.specs.PrefixOrder.{Entry, flatten}
 use Rattle.gf_tree.specs.Grown.{grow, root}

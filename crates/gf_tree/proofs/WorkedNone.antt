@@ -11,7 +11,7 @@ use Rattle.gf_fraction.specs.Ratio.{Ratio, whole}
 use Rattle.gf_fraction.specs.Fits.{IsSum}
 use Rattle.gf_fraction.specs.NumberSpelling.{IsNumber}
 use Rattle.gf_fraction.specs.Computed.{number_of, lowest_of, gcd_within}
-use Rattle.gf_fraction.proofs.Numbers.{number_is}
+use Rattle.gf_fraction.proofs.ComputedAnswers.{number_is}
 use Rattle.gf_tree.specs.PrefixOrder.{flatten}
 use Rattle.gf_tree.specs.Description.{SetKey, InformationSet, AddToOne, IsLottery, set_of}
 use Rattle.gf_tree.specs.FileTree.{Use, FileTree, set_uses}

@@ -11,7 +11,7 @@ use Rattle.gf_token.proofs.Grammar.{each_group}
 use Rattle.gf_token.proofs.SpelledNumbers.{decimal_is_index}
 use Rattle.gf_fraction.specs.Ratio.{Ratio, IsFraction}
 use Rattle.gf_fraction.specs.NumberText.{number_text}
-use Rattle.gf_fraction.proofs.Texts.{written_is_read}
+use Rattle.gf_fraction.proofs.ReadingBack.{written_is_read}
 use Rattle.gf_tree.specs.Description.{Action, SetKey, InformationSet, Outcome, IsSet, AreActions}
 use Rattle.gf_tree.specs.Description as description
 use Rattle.gf_tree.specs.FileTree.{Use, FileNode}

@@ -16,4 +16,5 @@ returns c =
     let den = c.args.den in
     let g = c.gcd-shared.result in
     subst (λ p. IsLowest size den p c.quotient-2.result) (sym c.quotient.ensures)
-    (subst (λ q. IsLowest size den (size / g) q) (sym c.quotient-2.ensures) (IsLowest-div size den c.args.common g c.requires c.gcd-shared.ensures))
+    (subst (λ q. IsLowest size den (size / g) q) (sym c.quotient-2.ensures)
+    (IsLowest-div size den c.args.common g c.requires c.gcd-shared.ensures))

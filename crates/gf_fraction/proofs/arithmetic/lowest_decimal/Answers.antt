@@ -1,9 +1,10 @@
 use Rattle.std.proofs.Common.{arith}
-use Rattle.gf_fraction.proofs.Decimals.{first_left, next_left, no_fives, not_by_five}
+use Rattle.gf_fraction.proofs.LowestDecimals.{first_left, next_left, no_fives, not_by_five}
 use Rattle.gf_fraction.proofs.arithmetic.lowest_decimal.Goals as goal
 
 pub loop-fives-init : goal.loop-fives-init
-loop-fives-init c = rw c.pow.ensures (first_left c.args.digits c.args.places c.min-twos.result (omega arith) c.requires c.min-twos.ensures)
+loop-fives-init c = rw c.pow.ensures (first_left c.args.digits c.args.places c.min-twos.result
+    (omega arith) c.requires c.min-twos.ensures)
 
 pub loop-fives-preserved : goal.loop-fives-preserved
 loop-fives-preserved c = next_left _ _ _ _ _ (omega arith) (omega arith) c.loop-fives.invariant

@@ -1,5 +1,5 @@
 use Rattle.std.proofs.Common.{◌^◌}
-use Rattle.gf_fraction.proofs.Decimals.{IsLeft}
+use Rattle.gf_fraction.proofs.LowestDecimals.{IsLeft}
 use Rattle.gf_fraction.proofs.arithmetic.lowest_decimal.Given as goal
 
 abbrev pub invariant-loop-fives : goal.invariant-loop-fives

@@ -1,6 +1,6 @@
 use Rattle.std.proofs.Common.{◌<◌, arith, refl}
 use Rattle.std.specs.Int.{trailing_zeros, w64}
-use Rattle.gf_fraction.proofs.Twos.{odd_part, from_odd_parts}
+use Rattle.gf_fraction.proofs.OddParts.{odd_part, from_odd_parts}
 use Rattle.gf_fraction.proofs.arithmetic.word_gcd.Goals as goal
 
 pub odd_gcd-requires-clause-odd_a : goal.odd_gcd-requires-clause-odd_a
@@ -18,5 +18,7 @@ returns c =
     let a = c.args.a in
     let b = c.args.b in
     let some : 0 < a = omega arith in
-    from_odd_parts a b (trailing_zeros w64 a) (trailing_zeros w64 b) _ _ c.odd_gcd.result c.min.result some (omega arith)
-    (odd_part a _ some (omega arith) refl) (odd_part b _ (omega arith) (omega arith) refl) c.odd_gcd.ensures c.min.ensures
+    from_odd_parts a b (trailing_zeros w64 a) (trailing_zeros w64 b) _ _ c.odd_gcd.result
+    c.min.result some (omega arith)
+    (odd_part a _ some (omega arith) refl) (odd_part b _ (omega arith) (omega arith) refl)
+    c.odd_gcd.ensures c.min.ensures

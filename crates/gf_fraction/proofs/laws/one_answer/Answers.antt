@@ -1,4 +1,4 @@
-use Rattle.gf_fraction.proofs.Texts.{one_answer}
+use Rattle.gf_fraction.proofs.ReadingBack.{one_answer}
 use Rattle.gf_fraction.proofs.laws.one_answer.Goals as goal
 
 pub returns : goal.returns

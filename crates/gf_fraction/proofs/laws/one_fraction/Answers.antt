@@ -1,4 +1,4 @@
-use Rattle.gf_fraction.proofs.Lowest.{one_fraction}
+use Rattle.gf_fraction.proofs.LowestTerms.{one_fraction}
 use Rattle.gf_fraction.proofs.laws.one_fraction.Goals as goal
 
 pub returns : goal.returns

@@ -1,4 +1,4 @@
-use Rattle.gf_fraction.proofs.Texts.{one_text}
+use Rattle.gf_fraction.proofs.ReadingBack.{one_text}
 use Rattle.gf_fraction.proofs.laws.one_text.Goals as goal
 
 pub returns : goal.returns

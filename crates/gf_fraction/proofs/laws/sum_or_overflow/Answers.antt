@@ -1,4 +1,4 @@
-use Rattle.gf_fraction.proofs.Computes.{sum_or_overflow}
+use Rattle.gf_fraction.proofs.ComputedArithmetic.{sum_or_overflow}
 use Rattle.gf_fraction.proofs.laws.sum_or_overflow.Goals as goal
 
 pub returns : goal.returns

@@ -1,4 +1,4 @@
-use Rattle.gf_fraction.proofs.Texts.{written_is_read}
+use Rattle.gf_fraction.proofs.ReadingBack.{written_is_read}
 use Rattle.gf_fraction.proofs.laws.written_is_read.Goals as goal
 
 pub returns : goal.returns

@@ -3,23 +3,23 @@ use Rattle.std.specs.Prelude.{◌-ℤ◌}
 use Rattle.std.specs.Int.{w32}
 use Rattle.std.proofs.lemmas.Int.{ints}
 use Rattle.std.proofs.lemmas.Result.{MatchResult-weaker}
-use Rattle.gf_fraction.proofs.Powers.{IsScalable, power_of_ten-above, value_from_scaled, fault_from_scaled}
+use Rattle.gf_fraction.proofs.PowersOfTen.{IsScalable, power_of_ten-above}
+use Rattle.gf_fraction.proofs.PowersOfTen.{value_from_scaled, fault_from_scaled}
 use Rattle.gf_fraction.proofs.read.decimal.Goals as goal
-use Rattle.gf_fraction.proofs.read.decimal.Goals.{then-digits-gt-LARGEST-via-then-digits-gt-LARGEST, then-digits-gt-LARGEST-via-else-digits-gt-LARGEST+then-places, then-digits-gt-LARGEST-via-else-digits-gt-LARGEST+else-places+then-exponent-gt-POWER, then-digits-gt-LARGEST-via-else-digits-gt-LARGEST+else-places+else-exponent-gt-POWER+then-exponent}
 
 pub returns-then-digits-gt-LARGEST : goal.returns-then-digits-gt-LARGEST
 returns-then-digits-gt-LARGEST c = (
   power_of_ten-above _,
-  λ bounded. elim c.then-digits-gt-LARGEST.branch [
-    | then-digits-gt-LARGEST-via-then-digits-gt-LARGEST w ↦ let h = bounded.digits_within in omega (arith, h)
-    | then-digits-gt-LARGEST-via-else-digits-gt-LARGEST+then-places w ↦ let h = bounded.places_within in omega (arith, h)
-    | then-digits-gt-LARGEST-via-else-digits-gt-LARGEST+else-places+then-exponent-gt-POWER w ↦ let h = bounded.exponent_within in omega (arith, ints, h)
-    | then-digits-gt-LARGEST-via-else-digits-gt-LARGEST+else-places+else-exponent-gt-POWER+then-exponent w ↦ let h = bounded.exponent_within in omega (arith, ints, h)
-  ],
+  λ bounded.
+      let digits = bounded.digits_within in
+      let places = bounded.places_within in
+      let exponent = bounded.exponent_within in
+      grind (arith, ints, digits, places, exponent),
 )
 
 pub returns-then-power-gt-POWER : goal.returns-then-power-gt-POWER
-returns-then-power-gt-POWER c = (power_of_ten-above _, λ bounded. let h = bounded.power_within in omega (arith, ints, h))
+returns-then-power-gt-POWER c =
+    (power_of_ten-above _, λ bounded. let h = bounded.power_within in omega (arith, ints, h))
 
 pub returns : goal.returns
 returns c =

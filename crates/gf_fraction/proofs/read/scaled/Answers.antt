@@ -1,17 +1,20 @@
 use Rattle.std.proofs.Common.{arith}
 use Rattle.std.proofs.lemmas.Int.{ints}
-use Rattle.gf_fraction.proofs.Decimals.{scaled_from_lowest}
-use Rattle.gf_fraction.proofs.Lowest.{mul_pos_left}
-use Rattle.gf_fraction.proofs.Powers.{pow_above_zero}
+use Rattle.gf_fraction.proofs.LowestDecimals.{scaled_from_lowest}
+use Rattle.gf_fraction.proofs.LowestTerms.{mul_pos_left}
+use Rattle.gf_fraction.proofs.PowersOfTen.{pow_above_zero}
 use Rattle.gf_fraction.proofs.read.scaled.Goals as goal
 
 pub of_words-requires-clause-den_above_zero : goal.of_words-requires-clause-den_above_zero
 of_words-requires-clause-den_above_zero c =
     let w = c.lowest_decimal-num in
-    mul_pos_left w.result.1 w.ensures.by _ w.ensures.den (pow_above_zero c.unsigned_abs-places.result)
+    mul_pos_left w.result.1 w.ensures.by _ w.ensures.den
+    (pow_above_zero c.unsigned_abs-places.result)
 
 pub returns-in-Ok-try_from : goal.returns-in-Ok-try_from
 returns-in-Ok-try_from c =
     let w = c.lowest_decimal-num in
-    scaled_from_lowest c.args.negative c.args.digits c.in-Ok-try_from.word w.result.0 w.result.1 c.unsigned_abs-places.result c.args.power c.of_words.result
-    (omega (arith, ints)) (omega (arith, ints)) (omega (arith, c.in-Ok-try_from.ensures)) c.requires.digits_within w.ensures c.of_words.ensures.fraction c.of_words.ensures.value
+    scaled_from_lowest c.args.negative c.args.digits c.in-Ok-try_from.word w.result.0 w.result.1
+    c.unsigned_abs-places.result c.args.power c.of_words.result
+    (omega (arith, ints)) (omega (arith, ints)) (omega (arith, c.in-Ok-try_from.ensures))
+    c.requires.digits_within w.ensures c.of_words.ensures.fraction c.of_words.ensures.value

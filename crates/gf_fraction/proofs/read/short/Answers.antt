@@ -1,7 +1,8 @@
 use Rattle.std.proofs.Common.{◌≡◌, arith, get_or, refl}
 use Rattle.std.proofs.lemmas.Bool.Decides.{nat_tests}
 use Rattle.gf_fraction.proofs.Divisors.{IsGcd-one_right}
-use Rattle.gf_fraction.proofs.Shorts.{nil, first_and_more, short_whole, short_ratio, short_decimal}
+use Rattle.gf_fraction.proofs.ShortNumbers.{nil, first_and_more, short_whole}
+use Rattle.gf_fraction.proofs.ShortNumbers.{short_ratio, short_decimal}
 use Rattle.gf_fraction.proofs.read.short.Goals as goal
 
 pub returns-in-empty : goal.returns-in-empty
@@ -11,8 +12,14 @@ returns-in-empty c =
     record {
       num = w.result.0;
       den = 1;
-      said = short_whole text w.result.1.now w.result.0 w.ensures.value w.ensures.rest (omega arith) (nil w.result.1.now (omega arith)) (grind (arith, nat_tests));
-      lowest = record { by = 1; num = omega arith; den = omega arith; apart = IsGcd-one_right w.result.0 };
+      said = short_whole text w.result.1.now w.result.0 w.ensures.value w.ensures.rest (omega arith)
+          (nil w.result.1.now (omega arith)) (grind (arith, nat_tests));
+      lowest = record {
+        by = 1;
+        num = omega arith;
+        den = omega arith;
+        apart = IsGcd-one_right w.result.0;
+      };
     }
 
 pub returns-then-den-gt0 : goal.returns-then-den-gt0
@@ -24,9 +31,11 @@ returns-then-den-gt0 c =
     record {
       num = w.result.0;
       den = u.result.0;
-      said = short_ratio text w.result.1.now _ u.result.1.now w.result.0 u.result.0 w.ensures.value w.ensures.rest (omega arith)
+      said = short_ratio text w.result.1.now _ u.result.1.now w.result.0 u.result.0 w.ensures.value
+          w.ensures.rest (omega arith)
           (first_and_more w.result.1.now 47 (omega arith) first) (omega arith)
-          u.ensures.value u.ensures.rest (omega arith) (nil u.result.1.now (grind (arith, nat_tests))) c.if-den-gt0.true;
+          u.ensures.value u.ensures.rest (omega arith)
+          (nil u.result.1.now (grind (arith, nat_tests))) c.if-den-gt0.true;
       lowest = c.lowest_words.ensures;
     }
 
@@ -39,8 +48,10 @@ returns-then-is_empty-2 c =
     record {
       num = u.result.0;
       den = _;
-      said = short_decimal text w.result.1.now _ u.result.1.now w.result.0 u.result.0 _ w.ensures.value w.ensures.rest (omega arith)
+      said = short_decimal text w.result.1.now _ u.result.1.now w.result.0 u.result.0 _
+          w.ensures.value w.ensures.rest (omega arith)
           (first_and_more w.result.1.now 46 (omega arith) first) (omega arith)
-          u.ensures.value u.ensures.rest (omega arith) (nil u.result.1.now (grind (arith, nat_tests))) (omega arith) refl;
+          u.ensures.value u.ensures.rest (omega arith)
+          (nil u.result.1.now (grind (arith, nat_tests))) (omega arith) refl;
       lowest = c.lowest_decimal.ensures;
     }

@@ -4,4 +4,5 @@ use Rattle.gf_fraction.proofs.read.wide_digits.Given as goal
 
 abbrev pub invariant-loop-i : goal.invariant-loop-i
 invariant-loop-i l =
-    (capped (leading_value l.fn.from l.text) ≡ capped (leading_value l.value (drop l.i l.text))) × (behind l.text ≡ behind (drop l.i l.text)) × (l.value ≤ 2 ^ 127)
+    (capped (leading_value l.fn.from l.text) ≡ capped (leading_value l.value (drop l.i l.text)))
+    × (behind l.text ≡ behind (drop l.i l.text)) × (l.value ≤ 2 ^ 127)

@@ -1,4 +1,4 @@
-use Rattle.gf_fraction.proofs.Numbers.{answer_is}
+use Rattle.gf_fraction.proofs.ComputedAnswers.{answer_is}
 use Rattle.gf_nfg.proofs.readings.payoff.Goals as goal
 
 pub returns : goal.returns

@@ -8,8 +8,9 @@ use mathlib.Core.Bool.{beq}
 use Rattle.gf_fraction.specs.Fits.{ProductFits}
 use Rattle.gf_fraction.specs.Ratio.{IsFraction, signed}
 use Rattle.gf_fraction.proofs.Divisors.{HoldsCommon-self}
-use Rattle.gf_fraction.proofs.Views.{IsFraction-seen, num_seen, den_seen}
-use Rattle.gf_fraction.proofs.Products.{Multiplying, product_fraction, product_value, product_within}
+use Rattle.gf_fraction.proofs.FractionFields.{IsFraction-seen, num_seen, den_seen}
+use Rattle.gf_fraction.proofs.Products.{Multiplying, product_fraction}
+use Rattle.gf_fraction.proofs.Products.{product_value, product_within}
 use Rattle.gf_fraction.proofs.fraction.Fraction.mul.Goals as goal
 use Rattle.gf_fraction.proofs.fraction.Fraction.mul.Goals.{After-lowest-right, After-with_sign}
 
@@ -19,31 +20,41 @@ lowest-left-requires c = HoldsCommon-self _ _ c.o.invariant.den_above_zero
 pub lowest-right-requires : goal.lowest-right-requires
 lowest-right-requires c = HoldsCommon-self _ _ c.self.invariant.den_above_zero
 
-multiplying : (c : After-lowest-right) → Multiplying c.args.self c.args.o c.unsigned_abs.result c.unsigned_abs-2.result c.self.inside.den c.o.inside.den c.lowest-left.result.0 c.lowest-left.result.1 c.lowest-right.result.0 c.lowest-right.result.1
+multiplying : (c : After-lowest-right) → Multiplying c.args.self c.args.o c.unsigned_abs.result
+    c.unsigned_abs-2.result c.self.inside.den c.o.inside.den c.lowest-left.result.0
+    c.lowest-left.result.1 c.lowest-right.result.0 c.lowest-right.result.1
 multiplying c = record {
   left = IsFraction-seen _ _ c.self.invariant c.self.view_is;
   right = IsFraction-seen _ _ c.o.invariant c.o.view_is;
-  left_size = c.unsigned_abs.ensures.value ∙ ap unsigned_abs (num_seen _ _ c.self.invariant c.self.view_is);
-  right_size = c.unsigned_abs-2.ensures.value ∙ ap unsigned_abs (num_seen _ _ c.o.invariant c.o.view_is);
+  left_size =
+      c.unsigned_abs.ensures.value ∙ ap unsigned_abs (num_seen _ _ c.self.invariant c.self.view_is);
+  right_size =
+      c.unsigned_abs-2.ensures.value ∙ ap unsigned_abs (num_seen _ _ c.o.invariant c.o.view_is);
   left_den = den_seen _ _ c.self.view_is;
   right_den = den_seen _ _ c.o.view_is;
   first = c.lowest-left.ensures;
   second = c.lowest-right.ensures;
 }
 
-num_is : (c : After-with_sign) → to_z w128 (of_z w128 c.with_sign.result) ≡ signed (not (beq (int_lt c.args.self.num (pos 0)) (int_lt c.args.o.num (pos 0)))) (c.lowest-left.result.0 * c.lowest-right.result.0)
+num_is : (c : After-with_sign) → to_z w128 (of_z w128 c.with_sign.result)
+    ≡ signed (not (beq (int_lt c.args.self.num (pos 0)) (int_lt c.args.o.num (pos 0))))
+    (c.lowest-left.result.0 * c.lowest-right.result.0)
 num_is c =
     let fits : FitsSigned w128 c.with_sign.result = record { sfits = c.with_sign.type_inv } in
     let left = num_seen _ _ c.self.invariant c.self.view_is in
     let right = num_seen _ _ c.o.invariant c.o.view_is in
     to_z-of_z w128 c.with_sign.result fits ∙ c.with_sign.ensures
-    ∙ (λ i. signed (not (beq (int_lt (left i) (pos 0)) (int_lt (right i) (pos 0)))) (c.in_ok-size.ensures.0 i))
+    ∙ (λ i. signed (not (beq (int_lt (left i) (pos 0)) (int_lt (right i) (pos 0))))
+    (c.in_ok-size.ensures.0 i))
 
-fraction : (c : After-with_sign) → IsFraction (record { num = to_z w128 (of_z w128 c.with_sign.result); den = c.in_ok-den.den })
+fraction : (c : After-with_sign)
+    → IsFraction (record { num = to_z w128 (of_z w128 c.with_sign.result); den = c.in_ok-den.den })
 fraction c =
     let size = c.in_ok-size.ensures in
     let den = c.in_ok-den.ensures in
-    product_fraction _ _ _ _ _ _ _ _ _ _ (multiplying (goal.at.invariant_of-result c).After-lowest-right) _ _ (num_is c) den.0 (subst (λ k. k < 2 ^ 127) size.0 size.1) (subst (λ k. k < 2 ^ 127) den.0 den.1)
+    product_fraction _ _ _ _ _ _ _ _ _ _
+    (multiplying (goal.at.invariant_of-result c).After-lowest-right) _ _ (num_is c) den.0
+    (subst (λ k. k < 2 ^ 127) size.0 size.1) (subst (λ k. k < 2 ^ 127) den.0 den.1)
 
 pub invariant_of-result : goal.invariant_of-result
 invariant_of-result c = fraction c
@@ -54,19 +65,27 @@ returns c =
     let value = product_value _ _ _ _ _ _ _ _ _ _ h _ _ (num_is c) c.in_ok-den.ensures.0 in
     record {
       product = (fraction c, value);
-      overflow = record { product = record { num = to_z w128 (of_z w128 c.with_sign.result); den = c.in_ok-den.den }; fraction = fraction c; value = value };
+      overflow = record {
+        product = record { num = to_z w128 (of_z w128 c.with_sign.result); den = c.in_ok-den.den };
+        fraction = fraction c;
+        value = value;
+      };
     }
 
 pub returns-in_err-size-clause-overflow : goal.returns-in_err-size-clause-overflow
 returns-in_err-size-clause-overflow c =
     let h = multiplying (goal.at.returns-in_err-size-clause-overflow c).After-lowest-right in
     let over = c.in_err-size.ensures in
-    MatchResult-from_err c.from_residual.result (λ _. ProductFits c.args.self c.args.o) (λ _. ¬ (ProductFits c.args.self c.args.o)) (search rules)
-    (λ _ fits. let within = (product_within _ _ _ _ _ _ _ _ _ _ h fits).0 in omega (arith, over, within))
+    MatchResult-from_err c.from_residual.result (λ _. ProductFits c.args.self c.args.o)
+    (λ _. ¬ (ProductFits c.args.self c.args.o)) (search rules)
+    (λ _ fits. let within = (product_within _ _ _ _ _ _ _ _ _ _ h fits).0 in
+    omega (arith, over, within))
 
 pub returns-in_err-den-clause-overflow : goal.returns-in_err-den-clause-overflow
 returns-in_err-den-clause-overflow c =
     let h = multiplying (goal.at.returns-in_err-den-clause-overflow c).After-lowest-right in
     let over = c.in_err-den.ensures in
-    MatchResult-from_err c.from_residual-in_err-den.result (λ _. ProductFits c.args.self c.args.o) (λ _. ¬ (ProductFits c.args.self c.args.o)) (search rules)
-    (λ _ fits. let within = (product_within _ _ _ _ _ _ _ _ _ _ h fits).1 in omega (arith, over, within))
+    MatchResult-from_err c.from_residual-in_err-den.result (λ _. ProductFits c.args.self c.args.o)
+    (λ _. ¬ (ProductFits c.args.self c.args.o)) (search rules)
+    (λ _ fits. let within = (product_within _ _ _ _ _ _ _ _ _ _ h fits).1 in
+    omega (arith, over, within))

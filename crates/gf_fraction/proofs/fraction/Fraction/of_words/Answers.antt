@@ -4,25 +4,30 @@ use Rattle.std.specs.Int.{w128}
 use Rattle.std.proofs.lemmas.Int.{to_z-of_z}
 use Rattle.gf_fraction.specs.Ratio.{Ratio, IsFraction, signed}
 use Rattle.gf_fraction.specs.Steps.{IsLowest}
-use Rattle.gf_fraction.proofs.Lowest.{fraction_from}
+use Rattle.gf_fraction.proofs.LowestTerms.{fraction_from}
 use Rattle.gf_fraction.proofs.fraction.Fraction.of_words.Goals as goal
 
 abbrev made : (c : goal.After-from-2) → Ratio
 made c = record { num = to_z w128 (of_z w128 c.with_sign.result); den = c.from-2.result }
 
-made_is : (c : goal.After-from-2) → made c ≡ record { num = signed c.args.negative c.args.num; den = c.args.den }
+made_is : (c : goal.After-from-2)
+    → made c ≡ record { num = signed c.args.negative c.args.num; den = c.args.den }
 made_is c =
     let fits : FitsSigned w128 c.with_sign.result = record { sfits = c.with_sign.type_inv } in
     let num : to_z w128 (of_z w128 c.with_sign.result) ≡ signed c.args.negative c.args.num =
-    to_z-of_z w128 c.with_sign.result fits ∙ c.with_sign.ensures ∙ ap (signed c.args.negative) c.from.ensures in
+    to_z-of_z w128 c.with_sign.result fits
+    ∙ c.with_sign.ensures
+    ∙ ap (signed c.args.negative) c.from.ensures in
     (λ i. record { num = num i; den = c.from-2.ensures i })
 
 fraction : (c : goal.After-from-2) → IsFraction (made c)
 fraction c =
     let n = c.args.num in
     let d = c.args.den in
-    let low : IsLowest n d n d = record { by = 1; num = omega arith; den = omega arith; apart = c.requires.lowest } in
-    subst IsFraction (sym (made_is c)) (fraction_from c.args.negative n d n d c.requires.den_above_zero (omega arith) (omega arith) low)
+    let low : IsLowest n d n d =
+    record { by = 1; num = omega arith; den = omega arith; apart = c.requires.lowest } in
+    subst IsFraction (sym (made_is c)) (fraction_from c.args.negative n d n d
+    c.requires.den_above_zero (omega arith) (omega arith) low)
 
 pub invariant_of-result : goal.invariant_of-result
 invariant_of-result c = fraction c

@@ -3,16 +3,18 @@ use Rattle.std.proofs.lemmas.Result.{MatchResult-weaker}
 use Rattle.gf_fraction.specs.Ratio.{HasValue, signed}
 use Rattle.gf_fraction.specs.NumberScan.{after_sign, is_minus, scan, IsShortLowest}
 use Rattle.gf_fraction.specs.declared.read.Spelling.{Spelling}
-use Rattle.gf_fraction.proofs.Founds.{FoundNumber, found_number}
-use Rattle.gf_fraction.proofs.Readings.{number_from_value, fault_from_reading, unspelled}
-use Rattle.gf_fraction.proofs.Lowest.{value_from}
-use Rattle.gf_fraction.proofs.Shorts.{value_from_short}
+use Rattle.gf_fraction.proofs.FoundIsSpelled.{FoundNumber, found_number}
+use Rattle.gf_fraction.proofs.AnswersFromScans.{number_from_value, fault_from_reading, unspelled}
+use Rattle.gf_fraction.proofs.LowestTerms.{value_from}
+use Rattle.gf_fraction.proofs.ShortNumbers.{value_from_short}
 use Rattle.gf_fraction.proofs.fraction.Fraction.read.Goals as goal
 
 -- what is found behind the sign
-found : (text rest : List ℕ) (negative : Bool) (s : Spelling) → negative ≡ is_minus text → rest ≡ after_sign text → scan rest ≡ Some s → FoundNumber text negative s
+found : (text rest : List ℕ) (negative : Bool) (s : Spelling) → negative ≡ is_minus text
+    → rest ≡ after_sign text → scan rest ≡ Some s → FoundNumber text negative s
 found text rest negative s sign behind scanned =
-    subst (λ b. FoundNumber text b s) (sym sign) (found_number text s (ap scan (sym behind) ∙ scanned))
+    subst (λ b. FoundNumber text b s) (sym sign)
+    (found_number text s (ap scan (sym behind) ∙ scanned))
 
 pub returns-in-Some : goal.returns-in-Some
 returns-in-Some c =
@@ -22,20 +24,24 @@ returns-in-Some c =
     let s = h.said.spelling in
     let value = value_from sign.result.0 h.num h.den c.in-Some.num c.in-Some.den h.lowest in
     number_from_value text sign.result.0 s c.of_words.result
-    (found text sign.result.1.now sign.result.0 s sign.ensures.negative sign.ensures.rest h.said.scanned)
+    (found text sign.result.1.now sign.result.0 s sign.ensures.negative sign.ensures.rest
+    h.said.scanned)
     (value_from_short _ _ _ _ _ h.said c.of_words.ensures.fraction
-    (subst (λ r. HasValue r (signed sign.result.0 h.num) h.den) (sym c.of_words.ensures.value) value))
+    (subst (λ r. HasValue r (signed sign.result.0 h.num) h.den) (sym c.of_words.ensures.value)
+    value))
 
 pub returns-in-Some-scan : goal.returns-in-Some-scan
 returns-in-Some-scan c =
     let text = c.args.text.now in
     let sign = c.split_sign-negative in
     let s = c.in-Some-scan.spelling in
-    let f = found text sign.result.1.now sign.result.0 s sign.ensures.negative sign.ensures.rest (sym c.scan.ensures ∙ c.in-Some-scan.is) in
+    let f = found text sign.result.1.now sign.result.0 s sign.ensures.negative sign.ensures.rest
+    (sym c.scan.ensures ∙ c.in-Some-scan.is) in
     MatchResult-weaker c.value.result c.value.ensures
     (λ r v. number_from_value text sign.result.0 s r f v)
     (λ fault h. fault_from_reading text sign.result.0 s fault f h)
 
 pub returns-in-None : goal.returns-in-None
 returns-in-None c =
-    unspelled c.args.text.now (ap scan (sym c.split_sign-negative.ensures.rest) ∙ sym c.scan.ensures ∙ c.in-None.is)
+    unspelled c.args.text.now
+    (ap scan (sym c.split_sign-negative.ensures.rest) ∙ sym c.scan.ensures ∙ c.in-None.is)

@@ -3,21 +3,25 @@ use Rattle.std.specs.Prelude.{unsigned_abs, FitsSigned, int_lt}
 use Rattle.std.specs.Int.{w128}
 use Rattle.std.proofs.lemmas.Int.{to_z-of_z}
 use Rattle.gf_fraction.specs.Ratio.{IsFraction, signed}
-use Rattle.gf_fraction.proofs.Lowest.{reduced_fraction, reduced_value}
+use Rattle.gf_fraction.proofs.LowestTerms.{reduced_fraction, reduced_value}
 use Rattle.gf_fraction.proofs.fraction.Fraction.reduced.Goals as goal
 
-num_is : (c : goal.After-with_sign) → to_z w128 (of_z w128 c.with_sign.result) ≡ signed (int_lt c.args.num (pos 0)) c.lowest-size.result.0
+num_is : (c : goal.After-with_sign) → to_z w128 (of_z w128 c.with_sign.result)
+    ≡ signed (int_lt c.args.num (pos 0)) c.lowest-size.result.0
 num_is c =
     let fits : FitsSigned w128 c.with_sign.result = record { sfits = c.with_sign.type_inv } in
     to_z-of_z w128 c.with_sign.result fits ∙ c.with_sign.ensures
-    ∙ ap (λ z. signed (int_lt z (pos 0)) c.lowest-size.result.0) (to_z-of_z w128 c.args.num c.ranges.num)
+    ∙ ap (λ z. signed (int_lt z (pos 0)) c.lowest-size.result.0)
+    (to_z-of_z w128 c.args.num c.ranges.num)
 
 size_is : (c : goal.After-with_sign) → c.unsigned_abs.result ≡ unsigned_abs c.args.num
 size_is c = c.unsigned_abs.ensures.value ∙ ap unsigned_abs (to_z-of_z w128 c.args.num c.ranges.num)
 
-fraction : (c : goal.After-with_sign) → IsFraction (record { num = to_z w128 (of_z w128 c.with_sign.result); den = c.lowest-size.result.1 })
+fraction : (c : goal.After-with_sign) → IsFraction
+    (record { num = to_z w128 (of_z w128 c.with_sign.result); den = c.lowest-size.result.1 })
 fraction c =
-    reduced_fraction c.args.num _ _ _ _ _ c.requires.den_above_zero c.requires.den_within c.requires.num_within (size_is c) c.lowest-size.ensures (num_is c)
+    reduced_fraction c.args.num _ _ _ _ _ c.requires.den_above_zero c.requires.den_within
+    c.requires.num_within (size_is c) c.lowest-size.ensures (num_is c)
 
 pub invariant_of-result : goal.invariant_of-result
 invariant_of-result c = fraction c
@@ -26,4 +30,5 @@ pub returns-clause-fraction : goal.returns-clause-fraction
 returns-clause-fraction c = fraction c
 
 pub returns-clause-value : goal.returns-clause-value
-returns-clause-value c = reduced_value c.args.num _ _ _ _ _ (size_is c) c.lowest-size.ensures (num_is c)
+returns-clause-value c =
+    reduced_value c.args.num _ _ _ _ _ (size_is c) c.lowest-size.ensures (num_is c)

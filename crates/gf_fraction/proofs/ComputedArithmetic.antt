@@ -1,5 +1,7 @@
--- What is computed is what the relations ask for.
-use Rattle.std.proofs.Common.{◌≡◌, ℕ, ℤ, pos, suc, zero, ◌*◌, ◌/◌, ◌%◌, ◌^◌, ◌<◌, Bool, true, false, Option, Some, None, MatchOption, arith, refl, ap, sym, subst, inl, inr, ◌⊎◌}
+-- Sums and products as they are computed are what the relations ask for.
+use Rattle.std.proofs.Common.{◌≡◌, ℕ, ℤ, pos, suc, zero, ◌*◌, ◌/◌, ◌%◌, ◌^◌, ◌<◌}
+use Rattle.std.proofs.Common.{Bool, true, false, Option, Some, None, MatchOption}
+use Rattle.std.proofs.Common.{arith, refl, ap, sym, subst, inl, inr, ◌⊎◌}
 use Rattle.std.specs.Prelude.{◌&&◌, ◌*ℤ◌, ◌+ℤ◌, unsigned_abs, int_lt, nat_lt, if◌then◌else◌}
 use Rattle.std.specs.Int.{IsGcd}
 use Rattle.std.proofs.lemmas.Bool.{ltb-true, ltb-false, and_parts, lt-ltb, and_from}
@@ -10,7 +12,9 @@ use Rattle.gf_fraction.specs.Fits.{IsSum, IsProduct, SumFits, ProductFits}
 use Rattle.gf_fraction.specs.Steps.{IsLowest, PartsFit}
 use Rattle.gf_fraction.specs.Computed.{gcd_within, lowest_of, is_within, sum_of, product_of}
 use Rattle.gf_fraction.proofs.Divisors.{HoldsCommon-self, IsLowest-div}
-use Rattle.gf_fraction.proofs.Lowest.{IsLowestRatio, IsLowestRatio-fraction, one_fraction, one_lowest, mul_pos_left, reduced_fraction, reduced_value}
+use Rattle.gf_fraction.proofs.LowestTerms.{IsLowestRatio, IsLowestRatio-fraction, one_fraction}
+use Rattle.gf_fraction.proofs.LowestTerms.{one_lowest, mul_pos_left}
+use Rattle.gf_fraction.proofs.LowestTerms.{reduced_fraction, reduced_value}
 use Rattle.gf_fraction.proofs.Integers.{unsigned_abs-signed}
 use Rattle.gf_fraction.proofs.Products.{mul_above}
 use Rattle.gf_fraction.proofs.Sums.{Adding, sum_fits, sum_overflows, sum_value, sum_den_above}
@@ -25,13 +29,19 @@ IsGcd-within (suc n) a (suc b) h =
     IsGcd-from_mod a (suc b) _ (IsGcd-within n (suc b) (a % suc b) less)
 
 -- lowest terms
-lowest_is : (z : ℤ) (d : ℕ) → 0 < d → IsLowest (unsigned_abs z) d (unsigned_abs z / gcd_within (suc d) (unsigned_abs z) d) (d / gcd_within (suc d) (unsigned_abs z) d)
+lowest_is : (z : ℤ) (d : ℕ) → 0 < d
+    → IsLowest (unsigned_abs z) d (unsigned_abs z / gcd_within (suc d) (unsigned_abs z) d)
+    (d / gcd_within (suc d) (unsigned_abs z) d)
 lowest_is z d above =
-    IsLowest-div (unsigned_abs z) d d (gcd_within (suc d) (unsigned_abs z) d) (HoldsCommon-self (unsigned_abs z) d above) (IsGcd-within (suc d) (unsigned_abs z) d (omega arith))
+    IsLowest-div (unsigned_abs z) d d (gcd_within (suc d) (unsigned_abs z) d)
+    (HoldsCommon-self (unsigned_abs z) d above)
+    (IsGcd-within (suc d) (unsigned_abs z) d (omega arith))
 
-pub lowest_of-fraction : (z : ℤ) (d : ℕ) → 0 < d → d < 2 ^ 127 → IsWithin z → IsFraction (lowest_of z d)
+pub lowest_of-fraction : (z : ℤ) (d : ℕ) → 0 < d → d < 2 ^ 127 → IsWithin z
+    → IsFraction (lowest_of z d)
 unfolding lowest_of
-lowest_of-fraction z d above within size = reduced_fraction z _ (unsigned_abs z) d _ _ above within size refl (lowest_is z d above) refl
+lowest_of-fraction z d above within size =
+    reduced_fraction z _ (unsigned_abs z) d _ _ above within size refl (lowest_is z d above) refl
 
 pub lowest_of-value : (z : ℤ) (d : ℕ) → 0 < d → HasValue (lowest_of z d) z d
 unfolding lowest_of
@@ -68,32 +78,46 @@ module _ (x y : Ratio) (hx : IsFraction x) (hy : IsFraction y) where
   }
 
   test : Bool
-  test = nat_lt (x.den * p) (2 ^ 127) && is_within left && is_within right && is_within (left +ℤ right)
+  test =
+      nat_lt (x.den * p) (2 ^ 127) && is_within left && is_within right && is_within (left +ℤ right)
 
   test_parts : test ≡ true → PartsFit x.num y.num x.den p q
   unfolding test
   test_parts h =
-      let d = and_parts (nat_lt (x.den * p) (2 ^ 127) && is_within left && is_within right) (is_within (left +ℤ right)) h in
+      let d = and_parts (nat_lt (x.den * p) (2 ^ 127) && is_within left && is_within right)
+      (is_within (left +ℤ right)) h in
       let c = and_parts (nat_lt (x.den * p) (2 ^ 127) && is_within left) (is_within right) d.0 in
       let b = and_parts (nat_lt (x.den * p) (2 ^ 127)) (is_within left) c.0 in
-      record { den = ltb-true _ _ b.0; left = ltb-true _ _ b.1; right = ltb-true _ _ c.1; sum = ltb-true _ _ d.1 }
+      record {
+        den = ltb-true _ _ b.0;
+        left = ltb-true _ _ b.1;
+        right = ltb-true _ _ c.1;
+        sum = ltb-true _ _ d.1;
+      }
 
   parts_test : PartsFit x.num y.num x.den p q → test ≡ true
   unfolding test
   parts_test h =
-      and_from _ _ (and_from _ _ (and_from _ _ (lt-ltb _ _ h.den) (lt-ltb _ _ h.left)) (lt-ltb _ _ h.right)) (lt-ltb _ _ h.sum)
+      and_from _ _
+      (and_from _ _ (and_from _ _ (lt-ltb _ _ h.den) (lt-ltb _ _ h.left)) (lt-ltb _ _ h.right))
+      (lt-ltb _ _ h.sum)
 
-  by_test : (b : Bool) → test ≡ b → MatchOption (if b then Some (lowest_of (left +ℤ right) (x.den * p)) else None) (¬ (SumFits x y)) (λ r. SumFits x y × IsFraction r × IsSum r x y)
+  by_test : (b : Bool) → test ≡ b
+      → MatchOption (if b then Some (lowest_of (left +ℤ right) (x.den * p)) else None)
+      (¬ (SumFits x y)) (λ r. SumFits x y × IsFraction r × IsSum r x y)
   by_test true h =
       let parts = test_parts h in
       let above = sum_den_above x y _ _ _ _ _ _ _ adding (x.den * p) refl in (
         sum_fits x y _ _ _ _ _ _ _ adding parts,
         lowest_of-fraction (left +ℤ right) (x.den * p) above parts.den parts.sum,
-        sum_value x y _ _ _ _ _ _ _ adding (lowest_of (left +ℤ right) (x.den * p)) _ _ refl refl (lowest_of-value (left +ℤ right) (x.den * p) above),
+        sum_value x y _ _ _ _ _ _ _ adding (lowest_of (left +ℤ right) (x.den * p)) _ _ refl refl
+            (lowest_of-value (left +ℤ right) (x.den * p) above),
       )
-  by_test false h = sum_overflows x y _ _ _ _ _ _ _ adding (λ parts. let e = parts_test parts in let f : ⊥ = cc in f)
+  by_test false h = sum_overflows x y _ _ _ _ _ _ _ adding
+      (λ parts. let e = parts_test parts in let f : ⊥ = cc in f)
 
-  pub sum_is_computed : MatchOption (sum_of x y) (¬ (SumFits x y)) (λ r. SumFits x y × IsFraction r × IsSum r x y)
+  pub sum_is_computed : MatchOption (sum_of x y) (¬ (SumFits x y))
+      (λ r. SumFits x y × IsFraction r × IsSum r x y)
   unfolding sum_of test
   sum_is_computed = by_test test refl
 
@@ -123,17 +147,34 @@ module _ (x y : Ratio) (hx : IsFraction x) (hy : IsFraction y) where
   lowest = lowest_of-lowest (x.num *ℤ y.num) (x.den * y.den) above
 
   fits_product : ProductFits x y → IsFraction product
-  fits_product fits = subst IsFraction (one_lowest fits.product product (x.num *ℤ y.num) (x.den * y.den) (IsLowestRatio-fraction fits.product fits.fraction) lowest above fits.value value) fits.fraction
+  fits_product fits =
+      subst IsFraction (one_lowest fits.product product (x.num *ℤ y.num) (x.den * y.den)
+      (IsLowestRatio-fraction fits.product fits.fraction) lowest above fits.value value)
+      fits.fraction
 
-  by_size : (a b : Bool) → nat_lt product.den (2 ^ 127) ≡ a → is_within product.num ≡ b → MatchOption (if a && b then Some product else None) (¬ (ProductFits x y)) (λ r. IsFraction r × IsProduct r x y)
-  by_size true true ha hb =
-      (record { den_above_zero = lowest.den_above_zero; den_within = ltb-true _ _ ha; num_within = ltb-true _ _ hb; lowest = lowest.lowest }, value)
+  by_size : (a b : Bool) → nat_lt product.den (2 ^ 127) ≡ a → is_within product.num ≡ b
+      → MatchOption (if a && b then Some product else None) (¬ (ProductFits x y))
+      (λ r. IsFraction r × IsProduct r x y)
+  by_size true true ha hb = (
+    record {
+      den_above_zero = lowest.den_above_zero;
+      den_within = ltb-true _ _ ha;
+      num_within = ltb-true _ _ hb;
+      lowest = lowest.lowest;
+    },
+    value,
+  )
   by_size true false ha hb = λ fits.
-      let is = fits_product fits in let over = ltb-false (unsigned_abs product.num) (2 ^ 127) hb in let within = is.num_within in omega (arith, over, within)
+      let is = fits_product fits in
+      let over = ltb-false (unsigned_abs product.num) (2 ^ 127) hb in
+      let within = is.num_within in omega (arith, over, within)
   by_size false b ha hb = λ fits.
-      let is = fits_product fits in let over = ltb-false product.den (2 ^ 127) ha in let within = is.den_within in omega (arith, over, within)
+      let is = fits_product fits in
+      let over = ltb-false product.den (2 ^ 127) ha in
+      let within = is.den_within in omega (arith, over, within)
 
-  pub product_is_computed : MatchOption (product_of x y) (¬ (ProductFits x y)) (λ r. IsFraction r × IsProduct r x y)
+  pub product_is_computed : MatchOption (product_of x y) (¬ (ProductFits x y))
+      (λ r. IsFraction r × IsProduct r x y)
   unfolding product_of
   product_is_computed = by_size (nat_lt product.den (2 ^ 127)) (is_within product.num) refl refl
 
@@ -142,28 +183,38 @@ module _ (x y : Ratio) (hx : IsFraction x) (hy : IsFraction y) where
   dens_above : 0 < x.den * y.den
   dens_above = mul_above x.den y.den hx.den_above_zero hy.den_above_zero
 
-  sum_cases : (o : Option Ratio) (r : Ratio) → MatchOption o (¬ (SumFits x y)) (λ s. SumFits x y × IsFraction s × IsSum s x y) → SumFits x y → IsFraction r → IsSum r x y → o ≡ Some r
+  sum_cases : (o : Option Ratio) (r : Ratio)
+      → MatchOption o (¬ (SumFits x y)) (λ s. SumFits x y × IsFraction s × IsSum s x y)
+      → SumFits x y → IsFraction r → IsSum r x y → o ≡ Some r
   sum_cases None r h fits hr is = absurd (h fits)
-  sum_cases (Some s) r h fits hr is = ap Some (one_fraction s r _ (x.den * y.den) h.1 hr dens_above h.2 is)
+  sum_cases (Some s) r h fits hr is =
+      ap Some (one_fraction s r _ (x.den * y.den) h.1 hr dens_above h.2 is)
 
   pub sum_of-some : (r : Ratio) → SumFits x y → IsFraction r → IsSum r x y → sum_of x y ≡ Some r
   sum_of-some r fits hr is = sum_cases (sum_of x y) r (sum_is_computed x y hx hy) fits hr is
 
-  no_sum : (o : Option Ratio) → MatchOption o (¬ (SumFits x y)) (λ s. SumFits x y × IsFraction s × IsSum s x y) → ¬ (SumFits x y) → o ≡ None
+  no_sum : (o : Option Ratio)
+      → MatchOption o (¬ (SumFits x y)) (λ s. SumFits x y × IsFraction s × IsSum s x y)
+      → ¬ (SumFits x y) → o ≡ None
   no_sum None h none = refl
   no_sum (Some s) h none = absurd (none h.0)
 
   pub sum_of-none : ¬ (SumFits x y) → sum_of x y ≡ None
   sum_of-none none = no_sum (sum_of x y) (sum_is_computed x y hx hy) none
 
-  product_cases : (o : Option Ratio) (r : Ratio) → MatchOption o (¬ (ProductFits x y)) (λ s. IsFraction s × IsProduct s x y) → IsFraction r → IsProduct r x y → o ≡ Some r
+  product_cases : (o : Option Ratio) (r : Ratio)
+      → MatchOption o (¬ (ProductFits x y)) (λ s. IsFraction s × IsProduct s x y) → IsFraction r
+      → IsProduct r x y → o ≡ Some r
   product_cases None r h hr is = absurd (h (record { product = r; fraction = hr; value = is }))
-  product_cases (Some s) r h hr is = ap Some (one_fraction s r _ (x.den * y.den) h.0 hr dens_above h.1 is)
+  product_cases (Some s) r h hr is =
+      ap Some (one_fraction s r _ (x.den * y.den) h.0 hr dens_above h.1 is)
 
   pub product_of-some : (r : Ratio) → IsFraction r → IsProduct r x y → product_of x y ≡ Some r
   product_of-some r hr is = product_cases (product_of x y) r (product_is_computed x y hx hy) hr is
 
-  no_product : (o : Option Ratio) → MatchOption o (¬ (ProductFits x y)) (λ s. IsFraction s × IsProduct s x y) → ¬ (ProductFits x y) → o ≡ None
+  no_product : (o : Option Ratio)
+      → MatchOption o (¬ (ProductFits x y)) (λ s. IsFraction s × IsProduct s x y)
+      → ¬ (ProductFits x y) → o ≡ None
   no_product None h none = refl
   no_product (Some s) h none = absurd (none (record { product = s; fraction = h.0; value = h.1 }))
 
@@ -171,16 +222,22 @@ module _ (x y : Ratio) (hx : IsFraction x) (hy : IsFraction y) where
   product_of-none none = no_product (product_of x y) (product_is_computed x y hx hy) none
 
 -- so it is decided whether they fit
-pub sum_or_overflow : (x y : Ratio) → IsFraction x → IsFraction y → ((r : Ratio) × SumFits x y × IsFraction r × IsSum r x y) ⊎ (¬ (SumFits x y))
+pub sum_or_overflow : (x y : Ratio) → IsFraction x → IsFraction y
+    → ((r : Ratio) × SumFits x y × IsFraction r × IsSum r x y) ⊎ (¬ (SumFits x y))
 sum_or_overflow x y hx hy = by_cases (sum_of x y) (sum_is_computed x y hx hy)
   where
-    by_cases : (o : Option Ratio) → MatchOption o (¬ (SumFits x y)) (λ r. SumFits x y × IsFraction r × IsSum r x y) → ((r : Ratio) × SumFits x y × IsFraction r × IsSum r x y) ⊎ (¬ (SumFits x y))
+    by_cases : (o : Option Ratio)
+        → MatchOption o (¬ (SumFits x y)) (λ r. SumFits x y × IsFraction r × IsSum r x y)
+        → ((r : Ratio) × SumFits x y × IsFraction r × IsSum r x y) ⊎ (¬ (SumFits x y))
     by_cases None h = inr h
     by_cases (Some r) h = inl (r, h.0, h.1, h.2)
 
-pub product_or_overflow : (x y : Ratio) → IsFraction x → IsFraction y → ((r : Ratio) × IsFraction r × IsProduct r x y) ⊎ (¬ (ProductFits x y))
+pub product_or_overflow : (x y : Ratio) → IsFraction x → IsFraction y
+    → ((r : Ratio) × IsFraction r × IsProduct r x y) ⊎ (¬ (ProductFits x y))
 product_or_overflow x y hx hy = by_cases (product_of x y) (product_is_computed x y hx hy)
   where
-    by_cases : (o : Option Ratio) → MatchOption o (¬ (ProductFits x y)) (λ r. IsFraction r × IsProduct r x y) → ((r : Ratio) × IsFraction r × IsProduct r x y) ⊎ (¬ (ProductFits x y))
+    by_cases : (o : Option Ratio)
+        → MatchOption o (¬ (ProductFits x y)) (λ r. IsFraction r × IsProduct r x y)
+        → ((r : Ratio) × IsFraction r × IsProduct r x y) ⊎ (¬ (ProductFits x y))
     by_cases None h = inr h
     by_cases (Some r) h = inl (r, h.0, h.1)

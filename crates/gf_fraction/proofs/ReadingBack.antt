@@ -1,5 +1,7 @@
--- A text has one answer, and what is written reads back.
-use Rattle.std.proofs.Common.{◌≡◌, ℕ, ℤ, pos, negsuc, suc, ◌^◌, ◌<◌, ◌≤◌, Bool, true, false, List, [], ◌∷◌, ◌++◌, Result, Ok, Err, arith, refl, ap, sym, ◌∙◌, subst, append_assoc}
+-- A text has one answer, and what is written of a fraction reads back to it.
+use Rattle.std.proofs.Common.{◌≡◌, ℕ, ℤ, pos, negsuc, suc, ◌^◌, ◌<◌, ◌≤◌, Bool}
+use Rattle.std.proofs.Common.{true, false, List, [], ◌∷◌, ◌++◌, Result, Ok, Err}
+use Rattle.std.proofs.Common.{arith, refl, ap, sym, ◌∙◌, subst, append_assoc}
 use Rattle.std.specs.Prelude.{◌==◌, ◌*ℤ◌, unsigned_abs, decimal as digits, if◌then◌else◌}
 use Rattle.std.specs.Fmt.{signed_decimal}
 use Rattle.std.specs.Str.Parse.{IsNumeral, digits_value}
@@ -7,7 +9,8 @@ use Rattle.std.proofs.lemmas.Int.{ints}
 use Rattle.std.proofs.lemmas.Bool.{eqb-true}
 use Rattle.std.proofs.lemmas.Fmt.{decimal_is_IsNumeral_wide}
 use Rattle.gf_fraction.specs.Ratio.{Ratio, IsFraction, HasValue, signed}
-use Rattle.gf_fraction.specs.NumberSpelling.{Reading, IsSign, Spells, IsNumber, HasNumberFault, IsBounded, Reads, size_of, den_of}
+use Rattle.gf_fraction.specs.NumberSpelling.{Reading, IsSign, Spells, IsNumber, HasNumberFault}
+use Rattle.gf_fraction.specs.NumberSpelling.{IsBounded, Reads, size_of, den_of}
 use Rattle.gf_fraction.specs.NumberSpelling.Reading.{decimal, rational}
 use Rattle.gf_fraction.specs.NumberSpelling.IsSign.{absent, minus}
 use Rattle.gf_fraction.specs.NumberSpelling.IsPlain.{whole}
@@ -15,13 +18,16 @@ use Rattle.gf_fraction.specs.NumberSpelling.HasShape.{plain, fraction}
 use Rattle.gf_fraction.specs.NumberText.{number_text}
 use Rattle.gf_fraction.specs.NumberScan.{reading_of}
 use Rattle.gf_fraction.specs.declared.fraction.NumberFault.{NumberFault}
-use Rattle.gf_fraction.specs.declared.fraction.NumberFault.TheVariants.{NotANumber, ZeroDenominator, TooLarge}
-use Rattle.gf_fraction.proofs.Lowest.{one_fraction}
-use Rattle.gf_fraction.proofs.Scans.{held}
-use Rattle.gf_fraction.proofs.Readings.{scan_spelled, bounded_kept, bounded_held, zero_held, zero_kept}
+use Rattle.gf_fraction.specs.declared.fraction.NumberFault.TheVariants.{NotANumber}
+use Rattle.gf_fraction.specs.declared.fraction.NumberFault.TheVariants.{ZeroDenominator, TooLarge}
+use Rattle.gf_fraction.proofs.LowestTerms.{one_fraction}
+use Rattle.gf_fraction.proofs.SpelledIsFound.{held}
+use Rattle.gf_fraction.proofs.AnswersFromScans.{scan_spelled, bounded_kept}
+use Rattle.gf_fraction.proofs.AnswersFromScans.{bounded_held, zero_held, zero_kept}
 
 -- two readings of one text agree but for what is too large
-module _ (text : List ℕ) (m n : Bool) (x y : Reading) (hx : Spells text m x) (hy : Spells text n y) where
+module _ (text : List ℕ) (m n : Bool) (x y : Reading) (hx : Spells text m x)
+    (hy : Spells text n y) where
   same_held : held x ≡ held y
   same_held = let a = (scan_spelled text m x hx).1 in let b = (scan_spelled text n y hy).1 in cc
 
@@ -33,7 +39,8 @@ module _ (text : List ℕ) (m n : Bool) (x y : Reading) (hx : Spells text m x) (
 
   bounded_too : IsBounded x → IsBounded y
   bounded_too bx =
-      let both : IsBounded (reading_of (held y)) = subst (λ k. IsBounded (reading_of k)) same_held (subst IsBounded (sym (bounded_kept x bx)) bx) in
+      let both : IsBounded (reading_of (held y)) = subst (λ k. IsBounded (reading_of k)) same_held
+      (subst IsBounded (sym (bounded_kept x bx)) bx) in
       subst IsBounded (bounded_held y both) both
 
   zero_too : den_of x ≡ 0 → den_of y ≡ 0
@@ -41,33 +48,43 @@ module _ (text : List ℕ) (m n : Bool) (x y : Reading) (hx : Spells text m x) (
 
 same_number : (text : List ℕ) (r s : Ratio) → IsNumber text r → IsNumber text s → r ≡ s
 same_number text r s a b =
-    let e = same_bounded text a.negative b.negative a.reading b.reading a.spelled b.spelled a.bounded b.bounded in
+    let e = same_bounded text a.negative b.negative a.reading b.reading a.spelled b.spelled
+    a.bounded b.bounded in
     let sign = same_sign text a.negative b.negative a.reading b.reading a.spelled b.spelled in
     let F : (Bool × Reading) → Type 0 = λ t. HasValue s (signed t.0 (size_of t.1)) (den_of t.1) in
-    one_fraction r s (signed a.negative (size_of a.reading)) (den_of a.reading) a.fraction b.fraction a.den_above_zero a.value
+    one_fraction r s (signed a.negative (size_of a.reading)) (den_of a.reading) a.fraction
+    b.fraction a.den_above_zero a.value
     (subst F (λ i. (sym sign i, sym e i)) b.value)
 
-not_both : (text : List ℕ) (r : Ratio) (fault : NumberFault) → IsNumber text r → HasNumberFault text fault → ⊥
+not_both : (text : List ℕ) (r : Ratio) (fault : NumberFault)
+    → IsNumber text r → HasNumberFault text fault → ⊥
 not_both text r NotANumber a h = h a.negative a.reading a.spelled
 not_both text r ZeroDenominator a h =
     let z = zero_too text h.negative a.negative h.reading a.reading h.spelled a.spelled h.zero in
     let above = a.den_above_zero in omega (arith, z, above)
-not_both text r TooLarge a h = h.unbounded (bounded_too text a.negative h.negative a.reading h.reading a.spelled h.spelled a.bounded)
+not_both text r TooLarge a h = h.unbounded
+    (bounded_too text a.negative h.negative a.reading h.reading a.spelled h.spelled a.bounded)
 
-pub same_fault : (text : List ℕ) (f g : NumberFault) → HasNumberFault text f → HasNumberFault text g → f ≡ g
+pub same_fault : (text : List ℕ) (f g : NumberFault) → HasNumberFault text f → HasNumberFault text g
+    → f ≡ g
 same_fault text NotANumber NotANumber a b = refl
 same_fault text NotANumber ZeroDenominator a b = absurd (a b.negative b.reading b.spelled)
 same_fault text NotANumber TooLarge a b = absurd (a b.negative b.reading b.spelled)
 same_fault text ZeroDenominator NotANumber a b = absurd (b a.negative a.reading a.spelled)
 same_fault text ZeroDenominator ZeroDenominator a b = refl
 same_fault text ZeroDenominator TooLarge a b =
-    absurd (let z = zero_too text a.negative b.negative a.reading b.reading a.spelled b.spelled a.zero in let above = b.den_above_zero in omega (arith, z, above))
+    absurd (let z =
+    zero_too text a.negative b.negative a.reading b.reading a.spelled b.spelled a.zero in
+    let above = b.den_above_zero in omega (arith, z, above))
 same_fault text TooLarge NotANumber a b = absurd (b a.negative a.reading a.spelled)
 same_fault text TooLarge ZeroDenominator a b =
-    absurd (let z = zero_too text b.negative a.negative b.reading a.reading b.spelled a.spelled b.zero in let above = a.den_above_zero in omega (arith, z, above))
+    absurd (let z =
+    zero_too text b.negative a.negative b.reading a.reading b.spelled a.spelled b.zero in
+    let above = a.den_above_zero in omega (arith, z, above))
 same_fault text TooLarge TooLarge a b = refl
 
-pub one_answer : (text : List ℕ) (a b : Result Ratio NumberFault) → Reads text a → Reads text b → a ≡ b
+pub one_answer : (text : List ℕ) (a b : Result Ratio NumberFault) → Reads text a → Reads text b
+    → a ≡ b
 one_answer text (Ok r) (Ok s) a b = ap Ok (same_number text r s a b)
 one_answer text (Ok r) (Err g) a b = absurd (not_both text r g a b)
 one_answer text (Err f) (Ok s) a b = absurd (not_both text s f b a)
@@ -84,11 +101,28 @@ record IsWritten (z : ℤ) : Type 0 where
   pub size_is : size ≡ unsigned_abs z
 
 is_written : (z : ℤ) → IsWritten z
-is_written (pos n) = record { sign = []; negative = false; size = n; is_sign = absent; spelled = refl; value = refl; size_is = refl }
-is_written (negsuc n) = record { sign = 45 ∷ []; negative = true; size = suc n; is_sign = minus; spelled = refl; value = refl; size_is = refl }
+is_written (pos n) = record {
+  sign = [];
+  negative = false;
+  size = n;
+  is_sign = absent;
+  spelled = refl;
+  value = refl;
+  size_is = refl;
+}
+is_written (negsuc n) = record {
+  sign = 45 ∷ [];
+  negative = true;
+  size = suc n;
+  is_sign = minus;
+  spelled = refl;
+  value = refl;
+  size_is = refl;
+}
 
 numeral : (n : ℕ) → n < 2 ^ 127 → IsNumeral 10 (digits n) × (digits_value 10 (digits n) ≡ n)
-numeral n h = decimal_is_IsNumeral_wide n (let wide : 2 ^ 127 ≤ 10 ^ 64 = omega arith in omega (arith, wide))
+numeral n h =
+    decimal_is_IsNumeral_wide n (let wide : 2 ^ 127 ≤ 10 ^ 64 = omega arith in omega (arith, wide))
 
 whole_is_read : (r : Ratio) → IsFraction r → r.den ≡ 1 → IsNumber (signed_decimal r.num) r
 whole_is_read r h one =
@@ -100,14 +134,27 @@ whole_is_read r h one =
     record {
       negative = w.negative;
       reading = decimal v 0 (pos 0);
-      spelled = record { sign = w.sign; rest = digits w.size; spelled = w.spelled; is_sign = w.is_sign; has_shape = plain (digits w.size) (digits w.size) 0 (whole (digits w.size) d.0) };
+      spelled = record {
+        sign = w.sign;
+        rest = digits w.size;
+        spelled = w.spelled;
+        is_sign = w.is_sign;
+        has_shape = plain (digits w.size) (digits w.size) 0 (whole (digits w.size) d.0);
+      };
       den_above_zero = omega arith;
-      bounded = record { digits_within = small; places_within = omega arith; exponent_within = omega arith; power_within = omega (arith, ints); scaled_within = small };
+      bounded = record {
+        digits_within = small;
+        places_within = omega arith;
+        exponent_within = omega arith;
+        power_within = omega (arith, ints);
+        scaled_within = small;
+      };
       fraction = h;
       value = (λ i. w.value i *ℤ pos 1) ∙ (λ i. signed w.negative (sym d.1 i) *ℤ pos (sym one i));
     }
 
-fraction_is_read : (r : Ratio) → IsFraction r → IsNumber (signed_decimal r.num ++ (47 ∷ []) ++ digits r.den) r
+fraction_is_read : (r : Ratio) → IsFraction r
+    → IsNumber (signed_decimal r.num ++ (47 ∷ []) ++ digits r.den) r
 fraction_is_read r h =
     let w = is_written r.num in
     let within : w.size < 2 ^ 127 = subst (λ n. n < 2 ^ 127) (sym w.size_is) h.num_within in
@@ -115,15 +162,26 @@ fraction_is_read r h =
     let d = numeral r.den h.den_within in
     let v = digits_value 10 (digits w.size) in
     let u = digits_value 10 (digits r.den) in
-    let spelled : signed_decimal r.num ++ (47 ∷ []) ++ digits r.den ≡ w.sign ++ (digits w.size ++ (47 ∷ []) ++ digits r.den) =
+    let spelled : signed_decimal r.num ++ (47 ∷ []) ++ digits r.den
+    ≡ w.sign ++ (digits w.size ++ (47 ∷ []) ++ digits r.den) =
     ap (λ t. t ++ (47 ∷ []) ++ digits r.den) w.spelled
-    ∙ ap (λ t. t ++ digits r.den) (append_assoc w.sign (digits w.size) (47 ∷ [])) ∙ append_assoc w.sign (digits w.size ++ 47 ∷ []) (digits r.den) in
+    ∙ ap (λ t. t ++ digits r.den) (append_assoc w.sign (digits w.size) (47 ∷ []))
+    ∙ append_assoc w.sign (digits w.size ++ 47 ∷ []) (digits r.den) in
     record {
       negative = w.negative;
       reading = rational v u;
-      spelled = record { sign = w.sign; rest = digits w.size ++ (47 ∷ []) ++ digits r.den; spelled = spelled; is_sign = w.is_sign; has_shape = fraction (digits w.size) (digits r.den) n.0 d.0 };
+      spelled = record {
+        sign = w.sign;
+        rest = digits w.size ++ (47 ∷ []) ++ digits r.den;
+        spelled = spelled;
+        is_sign = w.is_sign;
+        has_shape = fraction (digits w.size) (digits r.den) n.0 d.0;
+      };
       den_above_zero = subst (λ k. 0 < k) (sym d.1) h.den_above_zero;
-      bounded = (subst (λ k. k < 2 ^ 127) (sym n.1) within, subst (λ k. k < 2 ^ 127) (sym d.1) h.den_within);
+      bounded = (
+        subst (λ k. k < 2 ^ 127) (sym n.1) within,
+        subst (λ k. k < 2 ^ 127) (sym d.1) h.den_within,
+      );
       fraction = h;
       value = (λ i. w.value i *ℤ pos (d.1 i)) ∙ (λ i. signed w.negative (sym n.1 i) *ℤ pos r.den);
     }
@@ -132,9 +190,11 @@ pub written_is_read : (r : Ratio) → IsFraction r → IsNumber (number_text r) 
 unfolding number_text
 written_is_read r h = by_den (r.den == 1) refl
   where
-    by_den : (b : Bool) → (r.den == 1) ≡ b → IsNumber (if b then signed_decimal r.num else signed_decimal r.num ++ (47 ∷ []) ++ digits r.den) r
+    by_den : (b : Bool) → (r.den == 1) ≡ b → IsNumber
+        (if b then signed_decimal r.num else signed_decimal r.num ++ (47 ∷ []) ++ digits r.den) r
     by_den true e = whole_is_read r h (eqb-true r.den 1 e)
     by_den false e = fraction_is_read r h
 
 pub one_text : (r s : Ratio) → IsFraction r → IsFraction s → number_text r ≡ number_text s → r ≡ s
-one_text r s hr hs e = same_number (number_text s) r s (subst (λ t. IsNumber t r) e (written_is_read r hr)) (written_is_read s hs)
+one_text r s hr hs e = same_number (number_text s) r s
+    (subst (λ t. IsNumber t r) e (written_is_read r hr)) (written_is_read s hs)

@@ -1,5 +1,7 @@
--- The digits at the head of a text.
-use Rattle.std.proofs.Common.{◌≡◌, ℕ, ◌+◌, ◌-◌, ◌*◌, ◌<◌, ◌≤◌, Bool, true, false, List, [], ◌∷◌, ◌++◌, length, get_or, drop, arith, refl, ap, sym, ◌∙◌, add-one, length-append}
+-- The digits at the head of a text: their value, how many they are, and what follows them.
+use Rattle.std.proofs.Common.{◌≡◌, ℕ, ◌+◌, ◌-◌, ◌*◌, ◌<◌, ◌≤◌, Bool, true}
+use Rattle.std.proofs.Common.{false, List, [], ◌∷◌, ◌++◌, length, get_or, drop}
+use Rattle.std.proofs.Common.{arith, refl, ap, sym, ◌∙◌, add-one, length-append}
 use Rattle.std.specs.Prelude.{if◌then◌else◌}
 use Rattle.std.specs.Char.{digit_value, is_ascii_digit}
 use Rattle.std.specs.Str.Parse.{digits_value_after}
@@ -12,13 +14,16 @@ pub digit_value-ascii : (c : ℕ) → is_ascii_digit c ≡ true → digit_value 
 digit_value-ascii c h = grind (arith, nat_tests)
 
 -- one digit more, and none
-pub leading_value-digit : (v c : ℕ) (cs : List ℕ) → is_ascii_digit c ≡ true → leading_value v (c ∷ cs) ≡ leading_value (v * 10 + (c - 48)) cs
-leading_value-digit v c cs h = rw h (ap (λ d. digits_value_after 10 (v * 10 + d) (leading cs)) (digit_value-ascii c h))
+pub leading_value-digit : (v c : ℕ) (cs : List ℕ) → is_ascii_digit c ≡ true
+    → leading_value v (c ∷ cs) ≡ leading_value (v * 10 + (c - 48)) cs
+leading_value-digit v c cs h =
+    rw h (ap (λ d. digits_value_after 10 (v * 10 + d) (leading cs)) (digit_value-ascii c h))
 
 pub behind-digit : (c : ℕ) (cs : List ℕ) → is_ascii_digit c ≡ true → behind (c ∷ cs) ≡ behind cs
 behind-digit c cs h = rw h
 
-pub leading_value-other : (v c : ℕ) (cs : List ℕ) → is_ascii_digit c ≡ false → leading_value v (c ∷ cs) ≡ v
+pub leading_value-other : (v c : ℕ) (cs : List ℕ) → is_ascii_digit c ≡ false
+    → leading_value v (c ∷ cs) ≡ v
 leading_value-other v c cs h = rw h
 
 pub behind-other : (c : ℕ) (cs : List ℕ) → is_ascii_digit c ≡ false → behind (c ∷ cs) ≡ c ∷ cs
@@ -35,27 +40,35 @@ module _ (text : List ℕ) (i : ℕ) (within : i < length text) where
   at : drop i text ≡ here ∷ more
   at = rw (add-one, drop-cons text i 0)
 
-  pub leading_value-drop : (v : ℕ) → is_ascii_digit (get_or text i 0) ≡ true → leading_value v (drop i text) ≡ leading_value (v * 10 + (get_or text i 0 - 48)) (drop (i + 1) text)
+  pub leading_value-drop : (v : ℕ) → is_ascii_digit (get_or text i 0) ≡ true
+      → leading_value v (drop i text)
+      ≡ leading_value (v * 10 + (get_or text i 0 - 48)) (drop (i + 1) text)
   leading_value-drop v h = ap (leading_value v) at ∙ leading_value-digit v here more h
 
-  pub behind-drop : is_ascii_digit (get_or text i 0) ≡ true → behind (drop i text) ≡ behind (drop (i + 1) text)
+  pub behind-drop : is_ascii_digit (get_or text i 0) ≡ true
+      → behind (drop i text) ≡ behind (drop (i + 1) text)
   behind-drop h = ap behind at ∙ behind-digit here more h
 
-  pub leading_value-stop : (v : ℕ) → is_ascii_digit (get_or text i 0) ≡ false → leading_value v (drop i text) ≡ v
+  pub leading_value-stop : (v : ℕ) → is_ascii_digit (get_or text i 0) ≡ false
+      → leading_value v (drop i text) ≡ v
   leading_value-stop v h = ap (leading_value v) at ∙ leading_value-other v here more h
 
   pub behind-stop : is_ascii_digit (get_or text i 0) ≡ false → behind (drop i text) ≡ drop i text
   behind-stop h = ap behind at ∙ behind-other here more h ∙ sym at
 
 -- too large stays too large, so a value may be capped at each digit
-pub capped-after : (n : ℕ) (ds : List ℕ) → capped (digits_value_after 10 (capped n) ds) ≡ capped (digits_value_after 10 n ds)
+pub capped-after : (n : ℕ) (ds : List ℕ)
+    → capped (digits_value_after 10 (capped n) ds) ≡ capped (digits_value_after 10 n ds)
 capped-after n [] = omega arith
 capped-after n (c ∷ cs) =
     let d = digit_value c in
     let once : capped (capped n * 10 + d) ≡ capped (n * 10 + d) = omega arith in
-    sym (capped-after (capped n * 10 + d) cs) ∙ ap (λ k. capped (digits_value_after 10 k cs)) once ∙ capped-after (n * 10 + d) cs
+    sym (capped-after (capped n * 10 + d) cs)
+    ∙ ap (λ k. capped (digits_value_after 10 k cs)) once
+    ∙ capped-after (n * 10 + d) cs
 
-pub capped-leading : (n : ℕ) (text : List ℕ) → capped (leading_value (capped n) text) ≡ capped (leading_value n text)
+pub capped-leading : (n : ℕ) (text : List ℕ)
+    → capped (leading_value (capped n) text) ≡ capped (leading_value n text)
 capped-leading n text = capped-after n (leading text)
 
 -- the digits at the head and what follows them make up the text
@@ -63,12 +76,16 @@ pub leading_behind : (text : List ℕ) → leading text ++ behind text ≡ text
 leading_behind [] = refl
 leading_behind (c ∷ cs) = split c cs (is_ascii_digit c) (leading_behind cs)
   where
-    split : (c : ℕ) (cs : List ℕ) (b : Bool) → leading cs ++ behind cs ≡ cs → (if b then c ∷ leading cs else []) ++ (if b then behind cs else c ∷ cs) ≡ c ∷ cs
+    split : (c : ℕ) (cs : List ℕ) (b : Bool) → leading cs ++ behind cs ≡ cs
+        → (if b then c ∷ leading cs else []) ++ (if b then behind cs else c ∷ cs) ≡ c ∷ cs
     split c cs true e = ap (λ t. c ∷ t) e
     split c cs false e = refl
 
 pub length_leading : (text : List ℕ) → length (leading text) + length (behind text) ≡ length text
-length_leading text = sym (length-append (leading text) (behind text)) ∙ ap length (leading_behind text)
+length_leading text =
+    sym (length-append (leading text) (behind text)) ∙ ap length (leading_behind text)
 
 pub length_behind : (text : List ℕ) → length (behind text) ≤ length text
 length_behind text = omega (arith, length_leading text)
+
+pub ruleset digit_counts = (length_leading, length_behind)

@@ -7,8 +7,11 @@ use Rattle.gf_fraction.specs.Ratio.{Ratio, IsFraction}
 pub IsFraction-seen : (fields seen : Ratio) → IsFraction fields → fields ≡ seen → IsFraction seen
 IsFraction-seen fields seen h e = subst IsFraction e h
 
-pub num_seen : (fields seen : Ratio) → IsFraction fields → fields ≡ seen → to_z w128 (of_z w128 fields.num) ≡ seen.num
-num_seen fields seen h e = to_z-of_z w128 fields.num (fits_signed_from_abs w128 fields.num h.num_within) ∙ ap (λ r. r.num) e
+pub num_seen : (fields seen : Ratio) → IsFraction fields → fields ≡ seen
+    → to_z w128 (of_z w128 fields.num) ≡ seen.num
+num_seen fields seen h e =
+    to_z-of_z w128 fields.num (fits_signed_from_abs w128 fields.num h.num_within)
+    ∙ ap (λ r. r.num) e
 
 pub den_seen : (fields seen : Ratio) → fields ≡ seen → fields.den ≡ seen.den
 den_seen fields seen e = ap (λ r. r.den) e

@@ -17,6 +17,8 @@ pow_within k h =
     let most : 10 ^ k ≤ 10 ^ 38 = pow-le-pow_right (lit< tt) h in
     omega (arith, most)
 
+pub ruleset power_bounds = (pow_above_zero, pow_within)
+
 pub power_of_ten-above : (z : ℤ) → 0 < power_of_ten z
 power_of_ten-above (pos k) = pow_above_zero k
 power_of_ten-above (negsuc k) = lit< tt
@@ -29,9 +31,12 @@ pub record IsScalable (digits places : ℕ) (exponent power : ℤ) : Type 0 wher
   pub power_within : (pos places -ℤ exponent) ≤ℤ pos 38
   pub power_is : power ≡ pos places -ℤ exponent
 
-pub value_from_scaled : (negative : Bool) (digits places : ℕ) (exponent power : ℤ) (r : Ratio) → IsScalable digits places exponent power → IsScaled negative digits power r → IsValueOf negative (decimal digits places exponent) r
+pub value_from_scaled : (negative : Bool) (digits places : ℕ) (exponent power : ℤ) (r : Ratio)
+    → IsScalable digits places exponent power → IsScaled negative digits power r
+    → IsValueOf negative (decimal digits places exponent) r
 value_from_scaled negative digits places exponent power r h scaled =
-    let is : IsScaled negative digits (pos places -ℤ exponent) r = subst (λ z. IsScaled negative digits z r) h.power_is scaled in
+    let is : IsScaled negative digits (pos places -ℤ exponent) r =
+    subst (λ z. IsScaled negative digits z r) h.power_is scaled in
     record {
       den_above_zero = power_of_ten-above (pos places -ℤ exponent);
       bounded = record {
@@ -45,8 +50,13 @@ value_from_scaled negative digits places exponent power r h scaled =
       value = is.value;
     }
 
-pub fault_from_scaled : (digits places : ℕ) (exponent power : ℤ) (fault : NumberFault) → IsScalable digits places exponent power → fault ≡ TooLarge → 2 ^ 127 ≤ scaled_digits digits power → HasReadingFault (decimal digits places exponent) fault
+pub fault_from_scaled : (digits places : ℕ) (exponent power : ℤ) (fault : NumberFault)
+    → IsScalable digits places exponent power → fault ≡ TooLarge
+    → 2 ^ 127 ≤ scaled_digits digits power → HasReadingFault (decimal digits places exponent) fault
 fault_from_scaled digits places exponent power fault h e over =
-    let over' : 2 ^ 127 ≤ scaled_digits digits (pos places -ℤ exponent) = subst (λ z. 2 ^ 127 ≤ scaled_digits digits z) h.power_is over in
-    subst (λ f. HasReadingFault (decimal digits places exponent) f) (sym e)
-    (power_of_ten-above (pos places -ℤ exponent), λ bounded. let within = bounded.scaled_within in omega arith)
+    let over' : 2 ^ 127 ≤ scaled_digits digits (pos places -ℤ exponent) =
+    subst (λ z. 2 ^ 127 ≤ scaled_digits digits z) h.power_is over in
+    subst (λ f. HasReadingFault (decimal digits places exponent) f) (sym e) (
+      power_of_ten-above (pos places -ℤ exponent),
+      λ bounded. let within = bounded.scaled_within in omega arith,
+    )

@@ -1,5 +1,7 @@
--- A text has a shape exactly where the scan of it finds one, and what it finds is what the text says, capped.
-use Rattle.std.proofs.Common.{◌≡◌, ℕ, ℤ, pos, negsuc, suc, zero, ◌+◌, ◌*◌, ◌<◌, min, Bool, true, false, List, [], ◌∷◌, ◌++◌, length, Some, None, arith, refl, ap, sym, ◌∙◌, subst, inl, inr, append_assoc}
+-- Where a text has a shape, the scan of it finds what the text says, capped.
+use Rattle.std.proofs.Common.{◌≡◌, ℕ, ℤ, pos, negsuc, suc, zero, ◌+◌, ◌*◌, ◌<◌, min}
+use Rattle.std.proofs.Common.{Bool, true, false, List, [], ◌∷◌, ◌++◌, length, Some, None}
+use Rattle.std.proofs.Common.{arith, refl, ap, sym, ◌∙◌, subst, inl, inr, append_assoc}
 use Rattle.std.proofs.lemmas.List.{append-nil}
 use Rattle.std.specs.Prelude.{◌==◌, ◌||◌, ◌&&◌, ◌⊎◌, nat_lt, neg_ℤ, if◌then◌else◌, option_map}
 use Rattle.std.specs.Char.{digit_value, is_ascii_digit}
@@ -12,10 +14,12 @@ use Rattle.gf_fraction.specs.NumberSpelling.Reading.{decimal, rational}
 use Rattle.gf_fraction.specs.NumberSpelling.IsSign.{absent, plus, minus}
 use Rattle.gf_fraction.specs.NumberSpelling.IsPlain.{whole, pointed}
 use Rattle.gf_fraction.specs.NumberSpelling.HasShape.{plain, raised, fraction}
-use Rattle.gf_fraction.specs.NumberScan.{capped, leading, behind, leading_value, has_digits, is_minus, after_sign, scan, scan_rest, scan_decimal, scan_end, scan_exponent, scan_fraction}
+use Rattle.gf_fraction.specs.NumberScan.{capped, leading, behind, leading_value, has_digits}
+use Rattle.gf_fraction.specs.NumberScan.{is_minus, after_sign, scan, scan_rest, scan_decimal}
+use Rattle.gf_fraction.specs.NumberScan.{scan_end, scan_exponent, scan_fraction}
 use Rattle.gf_fraction.specs.declared.read.Spelling.{Spelling}
 use Rattle.gf_fraction.specs.declared.read.Spelling.TheVariants.{Decimal, Rational}
-use Rattle.gf_fraction.proofs.Digits.{capped-after}
+use Rattle.gf_fraction.proofs.LeadingDigits.{capped-after}
 
 -- digits
 
@@ -30,7 +34,8 @@ abbrev Stops : List ℕ → Type 0
 Stops [] = Unit {0}
 Stops (c ∷ cs) = is_ascii_digit c ≡ false
 
-leading-append : (ds rest : List ℕ) → AllDigits 10 ds → Stops rest → (leading (ds ++ rest) ≡ ds) × (behind (ds ++ rest) ≡ rest)
+leading-append : (ds rest : List ℕ) → AllDigits 10 ds → Stops rest
+    → (leading (ds ++ rest) ≡ ds) × (behind (ds ++ rest) ≡ rest)
 leading-append [] [] all stops = (refl, refl)
 leading-append [] (c ∷ cs) all stops = (rw stops, rw stops)
 leading-append (d ∷ ds) rest all stops =
@@ -49,11 +54,13 @@ pub AllDigits-leading : (text : List ℕ) → AllDigits 10 (leading text)
 AllDigits-leading [] = tt
 AllDigits-leading (c ∷ cs) = split c cs (is_ascii_digit c) refl (AllDigits-leading cs)
   where
-    split : (c : ℕ) (cs : List ℕ) (b : Bool) → is_ascii_digit c ≡ b → AllDigits 10 (leading cs) → AllDigits 10 (if b then c ∷ leading cs else [])
+    split : (c : ℕ) (cs : List ℕ) (b : Bool) → is_ascii_digit c ≡ b → AllDigits 10 (leading cs)
+        → AllDigits 10 (if b then c ∷ leading cs else [])
     split c cs true e all = (digit_from_ascii c e, all)
     split c cs false e all = tt
 
-pub AllDigits-append : (xs ys : List ℕ) → AllDigits 10 xs → AllDigits 10 ys → AllDigits 10 (xs ++ ys)
+pub AllDigits-append : (xs ys : List ℕ) → AllDigits 10 xs → AllDigits 10 ys
+    → AllDigits 10 (xs ++ ys)
 AllDigits-append [] ys hx hy = hy
 AllDigits-append (x ∷ xs) ys hx hy = (hx.0, AllDigits-append xs ys hx.1 hy)
 
@@ -61,7 +68,8 @@ AllDigits-parts : (xs ys : List ℕ) → AllDigits 10 (xs ++ ys) → AllDigits 1
 AllDigits-parts [] ys h = (tt, h)
 AllDigits-parts (x ∷ xs) ys h = let p = AllDigits-parts xs ys h.1 in ((h.0, p.0), p.1)
 
-pub digits_value_after-append : (n : ℕ) (xs ys : List ℕ) → digits_value_after 10 n (xs ++ ys) ≡ digits_value_after 10 (digits_value_after 10 n xs) ys
+pub digits_value_after-append : (n : ℕ) (xs ys : List ℕ)
+    → digits_value_after 10 n (xs ++ ys) ≡ digits_value_after 10 (digits_value_after 10 n xs) ys
 digits_value_after-append n [] ys = refl
 digits_value_after-append n (x ∷ xs) ys = digits_value_after-append (n * 10 + digit_value x) xs ys
 
@@ -83,7 +91,8 @@ pub Unsigned-digits : (ds : List ℕ) → AllDigits 10 ds → Unsigned ds
 Unsigned-digits [] all = tt
 Unsigned-digits (d ∷ ds) all = digit_unsigned d (ascii_from_digit d all.0)
 
-pub sign_split : (sign rest : List ℕ) (negative : Bool) → IsSign sign negative → Unsigned rest → (is_minus (sign ++ rest) ≡ negative) × (after_sign (sign ++ rest) ≡ rest)
+pub sign_split : (sign rest : List ℕ) (negative : Bool) → IsSign sign negative → Unsigned rest
+    → (is_minus (sign ++ rest) ≡ negative) × (after_sign (sign ++ rest) ≡ rest)
 sign_split [] [] _ absent h = (refl, refl)
 sign_split [] (c ∷ cs) _ absent h = (h.1, rw (h.0, h.1))
 sign_split (_ ∷ (_ ∷ _)) rest negative is h = elim is [ ]
@@ -100,7 +109,8 @@ abbrev pub held : Reading → Spelling
 held (decimal digits places exponent) = Decimal (capped digits) places (capped_exponent exponent)
 held (rational num den) = Rational (capped num) (capped den)
 
-pub capped_exponent-signed : (negative : Bool) (n : ℕ) → capped_exponent (signed negative n) ≡ signed negative (min (capped n) 39)
+pub capped_exponent-signed : (negative : Bool) (n : ℕ)
+    → capped_exponent (signed negative n) ≡ signed negative (min (capped n) 39)
 capped_exponent-signed false n = refl
 capped_exponent-signed true zero = refl
 capped_exponent-signed true (suc n) = refl
@@ -125,7 +135,8 @@ rest_ends v [] none = refl
 rest_ends v (c ∷ cs) (mark _ _ (inl e)) = rw e
 rest_ends v (c ∷ cs) (mark _ _ (inr e)) = rw e
 
-scan_plain : (text digits more : List ℕ) (places : ℕ) → IsPlain text digits places → Ends more → scan (text ++ more) ≡ scan_end (capped (digits_value 10 digits)) places more
+scan_plain : (text digits more : List ℕ) (places : ℕ) → IsPlain text digits places → Ends more
+    → scan (text ++ more) ≡ scan_end (capped (digits_value 10 digits)) places more
 scan_plain text _ more _ (whole _ is) ends =
     let e = leading-append text more is.1 (ends_stop more ends) in
     (λ i. scan_rest (capped (digits_value 10 (e.0 i))) (nat_lt 0 (length (e.0 i))) (e.1 i))
@@ -140,49 +151,67 @@ scan_plain _ _ more _ (pointed before after is) ends =
     let f = leading-append after more parts.1 (ends_stop more ends) in
     let v = digits_value 10 before in
     let some = nat_lt 0 (length before) in
-    let value : capped (digits_value_after 10 (capped v) after) ≡ capped (digits_value 10 (before ++ after)) =
+    let value : capped (digits_value_after 10 (capped v) after)
+    ≡ capped (digits_value 10 (before ++ after)) =
     capped-after v after ∙ ap capped (sym (digits_value_after-append 0 before after)) in
     ap scan turned
     ∙ (λ i. scan_rest (capped (digits_value 10 (e.0 i))) (nat_lt 0 (length (e.0 i))) (e.1 i))
-    ∙ (λ i. scan_decimal (capped (digits_value_after 10 (capped v) (f.0 i))) (some || nat_lt 0 (length (f.0 i))) (length (f.0 i)) (f.1 i))
+    ∙ (λ i. scan_decimal (capped (digits_value_after 10 (capped v) (f.0 i)))
+    (some || nat_lt 0 (length (f.0 i))) (length (f.0 i)) (f.1 i))
     ∙ (λ i. scan_decimal (value i) (either_side before after is.0 i) (length after) more)
   where
-    either_side : (before after : List ℕ) → 0 < length (before ++ after) → (nat_lt 0 (length before) || nat_lt 0 (length after)) ≡ true
+    either_side : (before after : List ℕ) → 0 < length (before ++ after)
+        → (nat_lt 0 (length before) || nat_lt 0 (length after)) ≡ true
     either_side [] after h = above_zero after h
     either_side (b ∷ bs) after h = rw (above_zero (b ∷ bs) (omega arith))
 
-scan_exponent_is : (sign digits : List ℕ) (negative : Bool) → IsSign sign negative → IsNumeral 10 digits → scan_exponent (sign ++ digits) ≡ Some (capped_exponent (signed negative (digits_value 10 digits)))
+scan_exponent_is : (sign digits : List ℕ) (negative : Bool)
+    → IsSign sign negative → IsNumeral 10 digits → scan_exponent (sign ++ digits)
+    ≡ Some (capped_exponent (signed negative (digits_value 10 digits)))
 scan_exponent_is sign digits negative is_sign is =
     let e = sign_split sign digits negative is_sign (Unsigned-digits digits is.1) in
     let f = leading-digits digits is.1 in
-    (λ i. if has_digits (e.1 i) && (length (behind (e.1 i)) == 0) then Some (signed (e.0 i) (min (capped (leading_value 0 (e.1 i))) 39)) else None)
-    ∙ (λ i. if nat_lt 0 (length (f.0 i)) && (length (f.1 i) == 0) then Some (signed negative (min (capped (digits_value 10 (f.0 i))) 39)) else None)
-    ∙ ap (λ b. if b && true then Some (signed negative (min (capped (digits_value 10 digits)) 39)) else None) (above_zero digits is.0)
+    (λ i. if has_digits (e.1 i) && (length (behind (e.1 i)) == 0)
+    then Some (signed (e.0 i) (min (capped (leading_value 0 (e.1 i))) 39))
+    else None)
+    ∙ (λ i. if nat_lt 0 (length (f.0 i)) && (length (f.1 i) == 0)
+    then Some (signed negative (min (capped (digits_value 10 (f.0 i))) 39))
+    else None)
+    ∙ ap (λ b.
+    if b && true then Some (signed negative (min (capped (digits_value 10 digits)) 39)) else None)
+    (above_zero digits is.0)
     ∙ ap Some (sym (capped_exponent-signed negative (digits_value 10 digits)))
 
 -- with an exponent
 exponent_ends : (more : List ℕ) (exponent : ℤ) → IsExponent more exponent → Ends more
 exponent_ends more exponent h =
     subst Ends (sym h.spelled) (elim h.is_mark [
-      | inl e ↦ subst (λ m. Ends (m ++ h.sign ++ h.digits)) (sym e) (mark 101 (h.sign ++ h.digits) (inl refl))
-      | inr e ↦ subst (λ m. Ends (m ++ h.sign ++ h.digits)) (sym e) (mark 69 (h.sign ++ h.digits) (inr refl))
+      | inl e ↦ subst (λ m. Ends (m ++ h.sign ++ h.digits)) (sym e)
+          (mark 101 (h.sign ++ h.digits) (inl refl))
+      | inr e ↦ subst (λ m. Ends (m ++ h.sign ++ h.digits)) (sym e)
+          (mark 69 (h.sign ++ h.digits) (inr refl))
     ])
 
-end_exponent : (v places : ℕ) (more : List ℕ) (exponent : ℤ) → IsExponent more exponent → scan_end v places more ≡ Some (Decimal v places (capped_exponent exponent))
+end_exponent : (v places : ℕ) (more : List ℕ) (exponent : ℤ) → IsExponent more exponent
+    → scan_end v places more ≡ Some (Decimal v places (capped_exponent exponent))
 end_exponent v places more exponent h =
     let F = λ (m : List ℕ). scan_end v places (m ++ h.sign ++ h.digits) in
     let tail : scan_exponent (h.sign ++ h.digits) ≡ Some (capped_exponent exponent) =
-    scan_exponent_is h.sign h.digits h.negative h.is_sign h.some ∙ ap (λ z. Some (capped_exponent z)) (sym h.value) in
-    ap (scan_end v places) h.spelled ∙ elim h.is_mark as (λ _. F h.mark ≡ Some (Decimal v places (capped_exponent exponent))) [
+    scan_exponent_is h.sign h.digits h.negative h.is_sign h.some
+    ∙ ap (λ z. Some (capped_exponent z)) (sym h.value) in
+    ap (scan_end v places) h.spelled
+    ∙ elim h.is_mark as (λ _. F h.mark ≡ Some (Decimal v places (capped_exponent exponent))) [
       | inl e ↦ ap F e ∙ ap (option_map (λ z. Decimal v places z)) tail
       | inr e ↦ ap F e ∙ ap (option_map (λ z. Decimal v places z)) tail
     ]
 
-pub scan_shape : (text : List ℕ) (reading : Reading) → HasShape text reading → scan text ≡ Some (held reading)
+pub scan_shape : (text : List ℕ) (reading : Reading) → HasShape text reading
+    → scan text ≡ Some (held reading)
 scan_shape text _ (plain _ digits places is) =
     ap scan (sym (append-nil text)) ∙ scan_plain text digits [] places is none
 scan_shape _ _ (raised text more digits places exponent is by) =
-    scan_plain text digits more places is (exponent_ends more exponent by) ∙ end_exponent (capped (digits_value 10 digits)) places more exponent by
+    scan_plain text digits more places is (exponent_ends more exponent by)
+    ∙ end_exponent (capped (digits_value 10 digits)) places more exponent by
 scan_shape _ _ (fraction num den is_num is_den) =
     let turned : (num ++ 47 ∷ []) ++ den ≡ num ++ (47 ∷ den) = append_assoc num (47 ∷ []) den in
     let e = leading-append num (47 ∷ den) is_num.1 refl in
@@ -191,5 +220,8 @@ scan_shape _ _ (fraction num den is_num is_den) =
     ap scan turned
     ∙ (λ i. scan_rest (capped (digits_value 10 (e.0 i))) (nat_lt 0 (length (e.0 i))) (e.1 i))
     ∙ (λ i. scan_fraction v (above_zero num is_num.0 i) den)
-    ∙ (λ i. if true && nat_lt 0 (length (f.0 i)) && (length (f.1 i) == 0) then Some (Rational v (capped (digits_value 10 (f.0 i)))) else None)
-    ∙ ap (λ b. if true && b && true then Some (Rational v (capped (digits_value 10 den))) else None) (above_zero den is_den.0)
+    ∙ (λ i. if true && nat_lt 0 (length (f.0 i)) && (length (f.1 i) == 0)
+    then Some (Rational v (capped (digits_value 10 (f.0 i))))
+    else None)
+    ∙ ap (λ b. if true && b && true then Some (Rational v (capped (digits_value 10 den))) else None)
+    (above_zero den is_den.0)
