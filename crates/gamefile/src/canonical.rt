@@ -9,8 +9,8 @@ use std::alloc::Global;
 
 /// The canonical text of the strategic file that bytes spell.
 ///
-/// Refused as `read_nfg` refuses them; and with `Memory` at the end where memory for the text is
-/// refused.
+/// Refused as `read_nfg` refuses them. Where memory for the text is refused, that is `Memory` at
+/// the end, as it is for the table: either way the bytes are a file within the limit.
 pub fn canonical(alloc: Global, input: Vec<u8>) -> Result<Vec<u8>, Fault>
     ensures text { IfOk result (λ text. IsCanonicalText input.items text.items) }
     ensures refused { IfErr result (λ fault. IsRefusal input.items fault) }

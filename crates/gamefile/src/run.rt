@@ -20,7 +20,8 @@ use std::alloc::Global;
 ///
 /// - `Refused`: the file is refused as `read_nfg` refuses it, or it has a byte past the first
 ///   16,777,216, which is the last one that is read. With E19, memory ran out for the table or the
-///   text.
+///   text, and there was nothing else to refuse: at a token, a file begins with the tokens through
+///   it and none of them passes the limit; at the end, the bytes are a file within the limit.
 /// - `Read`, `Write`: the reader or the writer failed, or was interrupted sixteen times in a row,
 ///   or the writer took nothing. `failures` has counted it.
 /// - `Memory`: memory ran out while the input was read.

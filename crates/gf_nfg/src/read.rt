@@ -35,22 +35,26 @@ fn read_parts<'a>(alloc: Global, input: &'a [u8]) -> Result<Parts<'a>, Fault>
     }
 }
 
-/// Reads the table of a strategic file from its bytes, in payoff version or in outcome version (Gambit documentation,
-/// "Game representation formats"). The table has at most 1,048,576 profiles (this project's profile), and the names of
-/// outcomes are not kept.
+/// Reads the table of a strategic file from its bytes, in payoff version or in outcome version
+/// (Gambit documentation, "Game representation formats"). The table has at most 1,048,576 profiles
+/// (this project's profile), and the names of outcomes are not kept.
 ///
-/// A file is refused at the first token with which no strategic file goes on, or at the end where more is due. Spans
-/// are in bytes of the input, from 0. What is wrong there:
+/// A file is refused at the first token with which no strategic file goes on, or at the end where
+/// more is due. Spans are in bytes of the input, from 0. What is wrong there:
 /// - E2: a text has no end; at its opening quote.
 /// - E3: a token of the wrong kind, or the end.
-/// - E4, E5, E6: a bare token where a payoff is due, that spells no number, has a zero denominator, or is past 128 bits
-///   or has too many digits behind its point.
+/// - E4, E5, E6: a bare token where a payoff is due, that spells no number, has a zero denominator,
+///   or is past 128 bits or has too many digits behind its point.
 /// - E7: a bare token where a count or the number of an outcome is due, and it is none.
 /// - E15: the closing brace of a list without strategies.
 /// - E16: the number of an outcome above the number of outcomes.
 ///
-/// With E18 it is refused at the first count, or closing brace of a list, at which the product of the players' strategies
-/// so far passes the limit; with E19 where memory is refused: at the token that asks for it, or at the end.
+/// With E18 it is refused at the first count, or closing brace of a list, at which the product of
+/// the players' strategies so far passes the limit.
+///
+/// E19 is answered where memory is refused, and only where there is nothing else to refuse: at the
+/// token that asks for it, where a strategic file begins with the tokens through that one and none
+/// of them passes the limit; or at the end, where the bytes are a file within the limit.
 pub fn read_nfg(alloc: Global, input: &[u8]) -> Result<Table, Fault>
     ensures spelled { IfOk result (λ t. SpellsTable input.now t) }
     ensures within { IfOk result (λ t. IsWithinLimit t) }
