@@ -8,14 +8,14 @@ use Rattle.gamefile.proofs.canonical.canonical.Goals as goal
 pub returns-clause-refused : goal.returns-clause-refused
 returns-clause-refused c =
     let bytes = c.deref.result.now in
-    let end = c.len-end.result in
-    let why = c.into-why.result in
+    let why = c.into.result in
     let fault_at : ℕ → Fault = λ n. record { span = record { start = n; end = n }; why = why } in
-    let is_len : end ≡ length bytes = c.len-end.ensures ∙ sym c.deref.ensures.len in
-    let refused : IsRefusal bytes (fault_at end) = record {
-      judged = memory_at_end bytes c.in_ok-table.table (fault_at end) why
-          c.in_ok-table.ensures.spelled c.in_ok-table.ensures.within
-          (ap fault_at is_len) c.into-why.ensures;
-      unless_memory = λ t spelled. c.into-why.ensures;
+    let is_len : c.len-end.result ≡ length bytes = c.len-end.ensures ∙ sym c.deref.ensures.len in
+    let is : c.at_end.result ≡ fault_at (length bytes) = c.at_end.ensures ∙ ap fault_at is_len in
+    let memory = c.into.ensures in
+    let refused : IsRefusal bytes c.at_end.result = record {
+      judged = memory_at_end bytes c.in_ok-table.table c.at_end.result why
+          c.in_ok-table.ensures.spelled c.in_ok-table.ensures.within is memory;
+      unless_memory = λ t spelled. ap (λ (f : Fault). f.why) is ∙ memory;
     } in
-    subst (λ (b : List ℕ). IsRefusal b (fault_at end)) c.deref.ensures.value refused
+    subst (λ (b : List ℕ). IsRefusal b c.at_end.result) c.deref.ensures.value refused
