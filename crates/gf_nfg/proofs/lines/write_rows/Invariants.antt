@@ -1,7 +1,7 @@
 use Rattle.std.proofs.Common.{◌≡◌, ◌++◌}
 use Rattle.gf_nfg.specs.TextParts.{Keeps}
 use Rattle.gf_nfg.proofs.Texts.{lines_rest}
-use Rattle.gf_nfg.proofs.write.write_rows.Given as goal
+use Rattle.gf_nfg.proofs.lines.write_rows.Given as goal
 
 abbrev pub invariant-loop-place : goal.invariant-loop-place
 invariant-loop-place l =

@@ -1,7 +1,7 @@
 use Rattle.std.proofs.Common.{◌≡◌, ◌++◌, drop}
 use Rattle.gf_nfg.specs.TextParts.{Keeps}
 use Rattle.gf_nfg.proofs.Texts.{payoffs_rest}
-use Rattle.gf_nfg.proofs.write.write_others.Given as goal
+use Rattle.gf_nfg.proofs.lines.write_others.Given as goal
 
 abbrev pub invariant-loop-payoff : goal.invariant-loop-payoff
 invariant-loop-payoff l =

@@ -1,5 +1,5 @@
 use Rattle.gf_nfg.proofs.Texts.{row_written}
-use Rattle.gf_nfg.proofs.write.write_row.Goals as goal
+use Rattle.gf_nfg.proofs.lines.write_row.Goals as goal
 
 pub returns-in_ok-write_others-in-Some-clause-text : goal.returns-in_ok-write_others-in-Some-clause-text
 returns-in_ok-write_others-in-Some-clause-text c =

@@ -1,6 +1,6 @@
 use Rattle.std.proofs.Common.{◌++◌}
 use Rattle.gf_nfg.proofs.Texts.{kept_twice, line_written, lines_rest}
-use Rattle.gf_nfg.proofs.write.write_rows.Goals as goal
+use Rattle.gf_nfg.proofs.lines.write_rows.Goals as goal
 
 pub loop-place-preserved : goal.loop-place-preserved
 loop-place-preserved c = (
