@@ -13,20 +13,26 @@ use Rattle.gf_nfg.proofs.NumbersInTurn.{get_or-numbers_from, length-numbers_from
 use Rattle.gf_nfg.proofs.TableRows.{kept_row_is}
 use Rattle.gf_nfg.proofs.TablePieces.{pieces-push, rises-push}
 
-pub rows_below : (players size : ℕ) (numbers : List ℕ) → 0 < players → AllByRecursion (λ number. number * players ≤ size) numbers → AllByRecursion (λ number. number < size / players + 1) numbers
+pub rows_below : (players size : ℕ) (numbers : List ℕ) → 0 < players
+    → AllByRecursion (λ number. number * players ≤ size) numbers
+    → AllByRecursion (λ number. number < size / players + 1) numbers
 rows_below players size [] some h = tt
 rows_below players size (number ∷ numbers) some h =
     let below : number ≤ size / players = (le-div_iff_mul-le some).1 h.0 in
     (omega (arith, below), rows_below players size numbers some h.1)
 
-pub rows_kept : (players size : ℕ) → 0 < players → (number : ℕ) → number < size / players + 1 → number * players ≤ size
+pub rows_kept : (players size : ℕ) → 0 < players → (number : ℕ) → number < size / players + 1
+    → number * players ≤ size
 rows_kept players size some number h = (le-div_iff_mul-le some).0 (omega (arith, h))
 
 -- a row is kept with its number if that of zeros is kept where a number is 0
-pub kept_rows_are : (players : ℕ) (payoffs zeros : List Ratio) (numbers : List ℕ) → AllByRecursion (λ number. number ≡ 0 → zeros ≡ row_of players payoffs 0) numbers
+pub kept_rows_are : (players : ℕ) (payoffs zeros : List Ratio) (numbers : List ℕ)
+    → AllByRecursion (λ number. number ≡ 0 → zeros ≡ row_of players payoffs 0) numbers
     → map (row_of players payoffs) numbers ≡ map (kept_row players payoffs zeros) numbers
 kept_rows_are players payoffs zeros [] h = refl
-kept_rows_are players payoffs zeros (number ∷ numbers) h = rw (kept_row_is players payoffs zeros number h.0, kept_rows_are players payoffs zeros numbers h.1) refl
+kept_rows_are players payoffs zeros (number ∷ numbers) h =
+    let first = kept_row_is players payoffs zeros number h.0 in
+    rw (first, kept_rows_are players payoffs zeros numbers h.1) refl
 
 -- ---- the lines
 
@@ -77,12 +83,15 @@ pub chosen_next : (lines : List (List ℕ)) (numbers : List ℕ) (at : ℕ) (lin
     → lines_with lines (drop at numbers) ≡ line ++ lines_with lines (drop (at + 1) numbers)
 chosen_next lines numbers at line h found =
     let here = get_or_from_slice_get lines (get_or numbers at 0) line [] found in
-    rw (drop_more numbers at 0 h) (ap (λ (l : List ℕ). l ++ lines_with lines (drop (at + 1) numbers)) here)
+    let rest = lines_with lines (drop (at + 1) numbers) in
+    rw (drop_more numbers at 0 h) (ap (λ (l : List ℕ). l ++ rest) here)
 
 line_there : (row : ℕ → List Ratio) (bound number : ℕ) → number < bound
-    → get_or (map (λ n. line_text (row n)) (numbers_from 0 bound)) number [] ≡ line_text (row number)
+    → get_or (map (λ n. line_text (row n)) (numbers_from 0 bound)) number []
+    ≡ line_text (row number)
 line_there row bound number h =
-    let within : number < length (numbers_from 0 bound) = omega (arith, length-numbers_from 0 bound, h) in
+    let within : number < length (numbers_from 0 bound) =
+    omega (arith, length-numbers_from 0 bound, h) in
     let from : 0 + number ≡ number = omega arith in
     get_or-map (λ n. line_text (row n)) (numbers_from 0 bound) number 0 [] within
     ∙ ap (λ n. line_text (row n)) (get_or-numbers_from 0 bound number 0 h ∙ from)

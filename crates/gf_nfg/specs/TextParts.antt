@@ -25,7 +25,8 @@ line_text row = row_text row ++ 10 ∷ []
 
 -- the format, the title and the players
 abbrev pub first_line : Names → List ℕ
-first_line names = spaced (codes "NFG" ∷ codes "1" ∷ codes "R" ∷ quoted names.title ∷ list_text (map quoted names.players) ∷ [])
+first_line names = spaced (codes "NFG" ∷ codes "1" ∷ codes "R" ∷ quoted names.title
+    ∷ list_text (map quoted names.players) ∷ [])
 
 -- the lines before the payoffs
 abbrev pub heading_text : Names → List ℕ

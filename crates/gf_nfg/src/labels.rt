@@ -68,7 +68,8 @@ impl Labels {
         Ok(())
     }
 
-    /// Adds the labels "1" to `count` at the end. Where memory is refused some of them may have been added.
+    /// Adds the labels "1" to `count` at the end. Where memory is refused some of them may have been
+    /// added.
     pub(crate) fn extend_counted(&mut self, count: u32) -> Result<(), AllocError>
         ensures { OnOk result (self.new ≡ self.old ++ counted_labels count) }
     {

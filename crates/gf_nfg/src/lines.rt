@@ -17,7 +17,8 @@ use std::marker::Model;
 /// Appends payoffs, each behind a space.
 #[tactic(auto, using(crate::proofs::Texts::others_more))]
 fn write_others(payoffs: &[Fraction], out: &mut Vec<u8>) -> Result<(), AllocError>
-    ensures text { OnOk result (out.new.items ≡ out.old.items ++ others_text (map number_text payoffs.now)) }
+    ensures text { OnOk result
+        (out.new.items ≡ out.old.items ++ others_text (map number_text payoffs.now)) }
     ensures kept { OnErr result (Keeps out.old.items out.new.items) }
 {
     for payoff in payoffs {

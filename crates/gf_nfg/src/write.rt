@@ -1,4 +1,5 @@
-//! The canonical text of a table: Gambit's strategic format in payoff version, laid out by this project's profile.
+//! The canonical text of a table: Gambit's strategic format in payoff version, laid out by this
+//! project's profile.
 
 ghost use Rattle.std.specs.Prelude.{◌≡◌, ◌<◌, ◌++◌, OnErr, OnOk, length, map};
 ghost use Rattle.gf_nfg.specs.Table.{IsSpellable, IsTable};
@@ -14,7 +15,8 @@ use std::alloc::AllocError;
 
 /// Appends the players' names in braces.
 fn write_players(names: &Names, out: &mut Vec<u8>) -> Result<(), AllocError>
-    ensures text { OnOk result (out.new.items ≡ out.old.items ++ list_text (map quoted names.now.players)) }
+    ensures text { OnOk result
+        (out.new.items ≡ out.old.items ++ list_text (map quoted names.now.players)) }
     ensures kept { OnErr result (Keeps out.old.items out.new.items) }
 {
     out.extend_from_slice(b"{ ")?;
@@ -29,7 +31,8 @@ fn write_players(names: &Names, out: &mut Vec<u8>) -> Result<(), AllocError>
 /// Appends the strategies of the player at this place in braces.
 fn write_own(names: &Names, at: usize, out: &mut Vec<u8>) -> Result<(), AllocError>
     requires { at < length names.now.players }
-    ensures text { OnOk result (out.new.items ≡ out.old.items ++ list_text (map quoted (own_of names.now at))) }
+    ensures text { OnOk result
+        (out.new.items ≡ out.old.items ++ list_text (map quoted (own_of names.now at))) }
     ensures kept { OnErr result (Keeps out.old.items out.new.items) }
 {
     out.extend_from_slice(b"{ ")?;
@@ -43,7 +46,8 @@ fn write_own(names: &Names, at: usize, out: &mut Vec<u8>) -> Result<(), AllocErr
 
 /// Appends the strategies of each player in braces, and all of them in braces.
 fn write_strategies(names: &Names, out: &mut Vec<u8>) -> Result<(), AllocError>
-    ensures text { OnOk result (out.new.items ≡ out.old.items ++ list_text (map (λ own. list_text (map quoted own)) names.now.strategies)) }
+    ensures text { OnOk result (out.new.items
+        ≡ out.old.items ++ list_text (map (λ own. list_text (map quoted own)) names.now.strategies)) }
     ensures kept { OnErr result (Keeps out.old.items out.new.items) }
 {
     out.extend_from_slice(b"{ ")?;
@@ -91,8 +95,8 @@ fn write_text(t: &Table, out: &mut Vec<u8>) -> Result<(), AllocError>
     write_rows(t.rows(), out)
 }
 
-/// Appends the canonical text of the table: payoff version, each number in lowest terms, one line for each profile.
-/// The text is a strategic file that means this table.
+/// Appends the canonical text of the table: payoff version, each number in lowest terms, one line
+/// for each profile. The text is a strategic file that means this table (`reads_back`).
 ///
 /// `AllocError` where memory is refused, and then the vector's items are as they were.
 pub fn write_nfg(t: &Table, out: &mut Vec<u8>) -> Result<(), AllocError>

@@ -5,4 +5,6 @@ use Rattle.gf_nfg.proofs.lines.write_others.Given as goal
 
 abbrev pub invariant-loop-payoff : goal.invariant-loop-payoff
 invariant-loop-payoff l =
-    (l.out.items ++ payoffs_rest (drop l.payoff-index l.payoffs) ≡ l.initial.out.items ++ payoffs_rest l.payoffs) × Keeps l.fn.out.items l.out.items
+    (l.out.items ++ payoffs_rest (drop l.payoff-index l.payoffs)
+    ≡ l.initial.out.items ++ payoffs_rest l.payoffs)
+    × Keeps l.fn.out.items l.out.items

@@ -5,4 +5,5 @@ use Rattle.gf_nfg.proofs.lines.write_rows.Given as goal
 
 abbrev pub invariant-loop-place : goal.invariant-loop-place
 invariant-loop-place l =
-    (l.out.items ++ lines_rest l.rows l.place ≡ l.initial.out.items ++ lines_rest l.rows 0) × Keeps l.fn.out.items l.out.items
+    (l.out.items ++ lines_rest l.rows l.place ≡ l.initial.out.items ++ lines_rest l.rows 0)
+    × Keeps l.fn.out.items l.out.items

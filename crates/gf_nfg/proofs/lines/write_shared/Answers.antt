@@ -10,14 +10,16 @@ len_of-requires c =
     let s = c.args.shared in
     let row = kept_row s.players s.payoffs.now s.zeros.now in
     let size = lines_counted row s.rows c.in_ok-lines.lines c.in_ok-lines.ensures in
-    subst (λ (n : ℕ). AllByRecursion (λ number. number < n) s.numbers.now) (sym size) c.requires.below
+    subst (λ (n : ℕ). AllByRecursion (λ number. number < n) s.numbers.now) (sym size)
+    c.requires.below
 
 pub append-requires-clause-below : goal.append-requires-clause-below
 append-requires-clause-below c =
     let s = c.args.shared in
     let row = kept_row s.players s.payoffs.now s.zeros.now in
     let size = lines_counted row s.rows c.in_ok-lines.lines c.in_ok-lines.ensures in
-    subst (λ (n : ℕ). AllByRecursion (λ number. number < n) s.numbers.now) (sym size) c.requires.below
+    subst (λ (n : ℕ). AllByRecursion (λ number. number < n) s.numbers.now) (sym size)
+    c.requires.below
 
 pub returns-clause-text : goal.returns-clause-text
 returns-clause-text c =

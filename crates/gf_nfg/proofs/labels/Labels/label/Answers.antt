@@ -19,7 +19,8 @@ piece-requires c =
 pub of_spelling-requires : goal.of_spelling-requires
 of_spelling-requires c =
     let l = c.self.inside in
-    let found : slice_get (pieces 0 l.ends.items l.bytes.items) c.args.at ≡ Some c.piece.result.now =
+    let found : slice_get (pieces 0 l.ends.items l.bytes.items) c.args.at
+    ≡ Some c.piece.result.now =
     (λ i. slice_get
     (pieces 0 (sym c.deref-2.ensures.value i) (sym c.deref.ensures.value i)) c.args.at)
     ∙ c.piece.ensures in
