@@ -82,9 +82,10 @@ made_count {players = players} {count = count} {payoffs = payoffs} m =
 made_named : {Z : Type 0} {names : Names} {title comment : Label} {players : List Label}
     {lists : List (Vec Label Z)} {quotient : Option ℕ} {count : ℕ} {given payoffs : List Ratio}
     {rs : List (List Ratio)}
-    → IsMade names title comment players lists quotient count given payoffs rs → IsNamed names (length rs)
-made_named {names = names} {title = title} {comment = comment} {players = players} {lists = lists} m =
-    named_by_lists label_of names (label_of title) (label_of comment) (map label_of players) lists _
+    → IsMade names title comment players lists quotient count given payoffs rs
+    → IsNamed names (length rs)
+made_named {players = players} {lists = lists} m =
+    named_by_lists label_of _ _ _ (map label_of players) lists _
     m.names_are (m.one_list_each ∙ sym (length-map players label_of)) m.some_strategy
     (made_count m ∙ made_counted m)
 
@@ -113,7 +114,7 @@ made_spellable : {Z : Type 0} {names : Names} {title comment : Label} {players :
     {rs : List (List Ratio)}
     → IsMade names title comment players lists quotient count given payoffs rs
     → IsSpellable (table_with names rs)
-made_spellable {names = names} {title = title} {comment = comment} {players = players} {lists = lists} {rs = rs} m =
+made_spellable {names} {title} {comment} {players} {lists} {rs = rs} m =
     let own = map (λ own. map label_of own.items) lists in
     record {
       labels_spelled = rw m.names_are (

@@ -1,7 +1,7 @@
 -- Lists that are cut into pieces.
 use Rattle.std.proofs.Common.{◌≡◌, ℕ, zero, suc, ◌+◌, ◌-◌, ◌<◌, ◌≤◌, List, [], ◌∷◌, ◌++◌, length, take, drop, get_or, Some, slice_get, refl, sym, ap, ◌∙◌, arith, true}
 use Rattle.std.proofs.lemmas.List.{take-append-le, drop-append-le, length-drop, length-append, take_all, drop_at}
-use Rattle.gf_fraction.proofs.AllElements.{all_at, all_both}
+use Rattle.gf_fraction.proofs.AllElements.{all_both}
 use Rattle.gf_token.specs.LabelSpelling.{is_spelling, IsLabel}
 use Rattle.gf_nfg.specs.TableParts.{pieces, start_of, RisesTo, IsCut}
 
@@ -77,31 +77,5 @@ cut_more ends bytes more ends' bytes' m =
       spelled = rw (pieces-more ends bytes more ends' bytes' m) (all_both IsLabel (pieces 0 ends bytes) (more ∷ []) m.is_cut.spelled (m.more_spelled, tt));
     }
 
--- a place in a list that was cut
-pub record IsAt (ends bytes : List ℕ) (labels : List (List ℕ)) (at start end : ℕ) : Type 0 where
-  pub is_cut : IsCut ends bytes
-  pub view_is : pieces 0 ends bytes ≡ labels
-  pub within : at < length labels
-  pub start_is : start ≡ start_of 0 ends at
-  pub end_is : end ≡ get_or ends at 0
-
 pub within_ends : (ends bytes : List ℕ) (labels : List (List ℕ)) (at : ℕ) → pieces 0 ends bytes ≡ labels → at < length labels → at < length ends
 within_ends ends bytes labels at v h = let e : length labels ≡ length ends = ap length (sym v) ∙ length-pieces 0 ends bytes in omega (arith, h, e)
-
-pub at_ordered : (ends bytes : List ℕ) (labels : List (List ℕ)) (at start end : ℕ) → IsAt ends bytes labels at start end → start ≤ end
-at_ordered ends bytes labels at start end h =
-    omega (arith, h.start_is, h.end_is, start_before_end (length bytes) 0 ends at 0 h.is_cut.rises (within_ends ends bytes labels at h.view_is h.within))
-
-pub at_within : (ends bytes : List ℕ) (labels : List (List ℕ)) (at start end : ℕ) → IsAt ends bytes labels at start end → end ≤ length bytes
-at_within ends bytes labels at start end h =
-    omega (arith, h.end_is, end_within (length bytes) 0 ends at 0 h.is_cut.rises (within_ends ends bytes labels at h.view_is h.within))
-
-pub at_piece : (ends bytes : List ℕ) (labels : List (List ℕ)) (at start end : ℕ) → IsAt ends bytes labels at start end
-    → slice_get (pieces 0 ends bytes) at ≡ Some (take (end - start) (drop start bytes))
-at_piece ends bytes labels at start end h =
-    let here = piece_at 0 ends bytes at 0 (within_ends ends bytes labels at h.view_is h.within) in
-    here ∙ ap (λ (n : ℕ). Some (take (n - start_of 0 ends at) (drop (start_of 0 ends at) bytes))) (sym h.end_is) ∙ ap (λ (n : ℕ). Some (take (end - n) (drop n bytes))) (sym h.start_is)
-
-pub at_spelled : (ends bytes : List ℕ) (labels : List (List ℕ)) (at start end : ℕ) → IsAt ends bytes labels at start end
-    → is_spelling (take (end - start) (drop start bytes)) ≡ true
-at_spelled ends bytes labels at start end h = all_at IsLabel (pieces 0 ends bytes) at _ h.is_cut.spelled (at_piece ends bytes labels at start end h)

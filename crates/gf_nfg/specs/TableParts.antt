@@ -48,7 +48,8 @@ pub record Names : Type 0 where
 abbrev pub own_of : Names → ℕ → List (List ℕ)
 own_of names at = unwrap_or (slice_get names.strategies at) []
 
--- The labels are the title, the comment, the players' names, then the strategies' of each player, which end at these places.
+-- The labels are the title, the comment, the players' names, then the strategies' of each player,
+-- which end at these places.
 abbrev pub names_of : List (List ℕ) → List ℕ → Names
 names_of labels ends = record {
   title = unwrap_or (slice_get labels 0) [];
@@ -57,8 +58,10 @@ names_of labels ends = record {
   strategies = pieces (2 + length ends) ends labels;
 }
 
--- Behind the labels `before` stand the strategies of some players, and each player's end at one of these ends.
-pub record AreStrategies (before labels : List (List ℕ)) (ends : List ℕ) (strategies : List (List (List ℕ))) : Type 0 where
+-- Behind the labels `before` stand the strategies of some players, and each player's end at one of
+-- these ends.
+pub record AreStrategies (before labels : List (List ℕ)) (ends : List ℕ)
+    (strategies : List (List (List ℕ))) : Type 0 where
   pub begin : take (length before) labels ≡ before
   pub rises : RisesTo (length labels) (length before) ends
   pub are : pieces (length before) ends labels ≡ strategies
@@ -69,7 +72,8 @@ pub record AreStrategies (before labels : List (List ℕ)) (ends : List ℕ) (st
 abbrev pub entries_of : List (List ℕ) → List (List Ratio) → List Entry
 entries_of [] rows = []
 entries_of (profile ∷ profiles) [] = []
-entries_of (profile ∷ profiles) (row ∷ rows) = record { profile = profile; payoffs = row } ∷ entries_of profiles rows
+entries_of (profile ∷ profiles) (row ∷ rows) =
+    record { profile = profile; payoffs = row } ∷ entries_of profiles rows
 
 -- the table with these names, and these rows at the profiles in turn
 abbrev pub table_with : Names → List (List Ratio) → Table
@@ -81,7 +85,8 @@ table_with names rows = record {
   entries = entries_of (profiles (map length names.strategies)) rows;
 }
 
--- the row with this number, from 1, of rows that stand one behind the other; at 0 each player is paid zero
+-- the row with this number, from 1, of rows that stand one behind the other; at 0 each player is
+-- paid zero
 abbrev pub row_of : ℕ → List Ratio → ℕ → List Ratio
 row_of players payoffs zero = replicate players (whole (pos 0))
 row_of players payoffs (suc k) = take players (drop (k * players) payoffs)
@@ -123,15 +128,19 @@ pub record IsHeld (names : Names) (rows : List (List Ratio)) : Type 0 where
   pub spellable : IsSpellable (table_with names rows)
 
 -- there is a row with the number of each profile, and one of zeros if a number is 0
-pub record HasRows (players count : ℕ) (payoffs zeros : List Ratio) (numbers : List ℕ) : Type 0 where
+pub record HasRows (players count : ℕ) (payoffs zeros : List Ratio)
+    (numbers : List ℕ) : Type 0 where
   pub one_number_each : length numbers ≡ count
   pub rows_kept : AllByRecursion (λ number. number * players ≤ length payoffs) numbers
-  pub zeros_kept : AllByRecursion (λ number. number ≡ 0 → zeros ≡ replicate players (whole (pos 0))) numbers
+  pub zeros_kept : AllByRecursion
+      (λ number. number ≡ 0 → zeros ≡ replicate players (whole (pos 0))) numbers
 
 -- ---- profiles
 
--- the place of a profile, from 0, among those of players with so many strategies; none if it is not one of them
+-- the place of a profile, from 0, among those of players with so many strategies; none if it is not
+-- one of them
 abbrev pub place_of : List ℕ → List ℕ → Option ℕ
 place_of [] [] = Some 0
-place_of (count ∷ counts) (suc k ∷ others) = if nat_lt k count then option_map (λ place. place * count + k) (place_of counts others) else None
+place_of (count ∷ counts) (suc k ∷ others) =
+    if nat_lt k count then option_map (λ place. place * count + k) (place_of counts others) else None
 place_of _ _ = None

@@ -1,5 +1,6 @@
 -- The pieces of a canonical text, for the functions that append them.
-use Rattle.std.specs.Prelude.{◌≡◌, ℕ, ◌+◌, ◌-◌, ◌<◌, ◌≤◌, List, length, [], ◌∷◌, ◌++◌, map, codes, drop, get_or, take}
+use Rattle.std.specs.Prelude.{◌≡◌, ℕ, List, length, [], ◌∷◌, ◌++◌, map, codes, get_or, take}
+use Rattle.std.specs.List.{flat_map}
 use Rattle.gf_fraction.specs.Ratio.{Ratio}
 use Rattle.gf_fraction.specs.NumberText.{number_text}
 use Rattle.gf_nfg.specs.TableParts.{Names}
@@ -18,9 +19,14 @@ others_text (item ∷ items) = 32 ∷ (item ++ others_text items)
 abbrev pub row_text : List Ratio → List ℕ
 row_text row = spaced (map number_text row)
 
+-- and their line
+abbrev pub line_text : List Ratio → List ℕ
+line_text row = row_text row ++ 10 ∷ []
+
 -- the format, the title and the players
 abbrev pub first_line : Names → List ℕ
-first_line names = spaced (codes "NFG" ∷ codes "1" ∷ codes "R" ∷ quoted names.title ∷ list_text (map quoted names.players) ∷ [])
+first_line names = spaced (codes "NFG" ∷ codes "1" ∷ codes "R" ∷ quoted names.title
+    ∷ list_text (map quoted names.players) ∷ [])
 
 -- the lines before the payoffs
 abbrev pub heading_text : Names → List ℕ
@@ -31,12 +37,6 @@ heading_text names = lines_text
     ∷ []
     ∷ [])
 
--- the line of a row is the part of a text from `start` to `end`
-pub record IsLine (row : List Ratio) (text : List ℕ) (start end : ℕ) : Type 0 where
-  pub rises : start ≤ end
-  pub within : end ≤ length text
-  pub line : take (end - start) (drop start text) ≡ row_text row ++ 10 ∷ []
-
--- the lines of the rows with these numbers: each begins at its start and ends where the next begins
-abbrev pub AreLines : (ℕ → List Ratio) → List ℕ → List ℕ → Type 0
-AreLines row text starts = (k : ℕ) → k + 1 < length starts → IsLine (row k) text (get_or starts k 0) (get_or starts (k + 1) 0)
+-- the lines with these numbers, from 0, one behind the other
+abbrev pub lines_with : List (List ℕ) → List ℕ → List ℕ
+lines_with lines numbers = flat_map (λ number. get_or lines number []) numbers

@@ -58,7 +58,8 @@ fn same_strategies(a: &Names, b: &Names) -> bool
 
 /// Whether both have the same players with the same strategies.
 fn same_names(a: &Names, b: &Names) -> bool
-    ensures { IsTrue result ↔ ((a.now.players ≡ b.now.players) × (a.now.strategies ≡ b.now.strategies)) }
+    ensures { IsTrue result
+        ↔ ((a.now.players ≡ b.now.players) × (a.now.strategies ≡ b.now.strategies)) }
 {
     same_players(a, b) && same_strategies(a, b)
 }
@@ -86,8 +87,8 @@ fn same_rows(a: &Rows, b: &Rows) -> bool
 }
 
 impl Table {
-    /// Whether the players, the labels of their strategies and the payoffs at each profile are the same in both. Titles
-    /// and comments do not count. Takes no memory.
+    /// Whether the players, the labels of their strategies and the payoffs at each profile are the
+    /// same in both. Titles and comments do not count. Takes no memory.
     pub fn play_agrees(&self, o: &Table) -> bool
         ensures { IsTrue result ↔ SamePlay self.now o.now }
     {

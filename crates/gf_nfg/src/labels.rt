@@ -1,37 +1,15 @@
 //! Lists of labels that own their bytes.
 
-ghost use Rattle.std.specs.Prelude.{◌≡◌, ◌-◌, ◌<◌, ◌≤◌, ◌++◌, ◌∷◌, [], Some, drop, length, map, slice_get, slice_index, take, IsTrue, OnErr, OnOk};
+ghost use Rattle.std.specs.Prelude.{◌≡◌, ◌<◌, ◌++◌, ◌∷◌, [], Some, length, map, slice_get, OnErr, OnOk};
 ghost use Rattle.gf_token.specs.Label.{label_of};
-ghost use Rattle.gf_token.specs.LabelSpelling.{is_spelling};
 ghost use Rattle.gf_nfg.specs.Sentence.{counted_labels};
-ghost use Rattle.gf_nfg.specs.TableParts.{AreSpellings, start_of};
+ghost use Rattle.gf_nfg.specs.TableParts.{AreSpellings};
 
+use crate::pieces::piece;
 use gf_token::Label;
 use itoa::Buffer;
 use std::alloc::{AllocError, Global};
 use std::marker::Model;
-use std::ops::Range;
-
-/// Where the piece with this number, from 0, lies in a list that is cut at these ends.
-#[tactic(auto, using(crate::proofs::TablePieces::start_of_suc))]
-pub(crate) fn piece_at(first: usize, ends: &[usize], number: usize) -> Range<usize>
-    requires { number < length ends.now }
-    ensures start { result.start ≡ start_of first ends.now number }
-    ensures end { result.end ≡ slice_index ends.now number }
-{
-    let start = if number == 0 { first } else { ends[number - 1] };
-    start..ends[number]
-}
-
-/// The label that the bytes from `start` to `end` spell.
-fn label_between(bytes: &[u8], start: usize, end: usize) -> Label<'_>
-    requires ordered { start ≤ end }
-    requires within { end ≤ length bytes.now }
-    requires spelled { IsTrue (is_spelling (take (end - start) (drop start bytes.now))) }
-    ensures { label_of result ≡ take (end - start) (drop start bytes.entry.now) }
-{
-    Label::of_spelling(&bytes[start..end])
-}
 
 /// Labels in one buffer, with the place where each ends.
 #[derive(Debug, Drop)]
@@ -90,7 +68,8 @@ impl Labels {
         Ok(())
     }
 
-    /// Adds the labels "1" to `count` at the end. Where memory is refused some of them may have been added.
+    /// Adds the labels "1" to `count` at the end. Where memory is refused some of them may have been
+    /// added.
     pub(crate) fn extend_counted(&mut self, count: u32) -> Result<(), AllocError>
         ensures { OnOk result (self.new ≡ self.old ++ counted_labels count) }
     {
@@ -107,7 +86,6 @@ impl Labels {
         requires { at < length self.now }
         ensures { slice_get self.now at ≡ Some (label_of result) }
     {
-        let own = piece_at(0, &self.ends, at);
-        label_between(&self.bytes, own.start, own.end)
+        Label::of_spelling(piece(&self.bytes, &self.ends, at))
     }
 }

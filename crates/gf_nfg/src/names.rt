@@ -5,7 +5,8 @@ ghost use Rattle.gf_token.specs.Label.{label_of};
 ghost use Rattle.gf_nfg.specs.Sentence.{counted_labels};
 ghost use Rattle.gf_nfg.specs.TableParts.{AreStrategies, groups};
 
-use crate::labels::{Labels, piece_at};
+use crate::labels::Labels;
+use crate::pieces::piece_at;
 use gf_token::Label;
 use std::alloc::{AllocError, Global};
 use std::marker::Model;

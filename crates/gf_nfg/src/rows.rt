@@ -115,7 +115,8 @@ impl Rows {
         choices: Vec<u32>,
     ) -> Result<Rows, AllocError>
         requires profiles { length choices.items < 2 ^ 32 }
-        requires rows { AllByRecursion (λ number. number * players ≤ length payoffs.items) choices.items }
+        requires rows { AllByRecursion (λ number. number * players ≤ length payoffs.items)
+            choices.items }
         ensures { IfOk result (λ rows. rows ≡ map (row_of players payoffs.items) choices.items) }
     {
         let zeros = vec![in *payoffs.allocator(); Fraction::zero(); players]?;

@@ -18,8 +18,9 @@ use gf_token::Label;
 use std::alloc::{AllocError, Global};
 use std::marker::Model;
 
-/// A table: a title, a comment, players with at least one strategy each, and the payoffs at each profile of
-/// strategies. It has at most 1,048,576 profiles. Players and strategies are counted from 1.
+/// A table: a title, a comment, players with at least one strategy each, and the payoffs at each
+/// profile of strategies. It has at most 1,048,576 profiles. Players and strategies are counted
+/// from 1.
 #[derive(Debug, Drop)]
 pub struct Table {
     names: Names,
@@ -46,12 +47,13 @@ impl Table {
         Table { names, payoffs }
     }
 
-    /// The table of these parts. The rows are the payoffs at each profile in the order of a file: the first player's
-    /// strategy advances fastest, and each profile has one payoff for each player (Gambit documentation, "Game
-    /// representation formats").
+    /// The table of these parts. The rows are the payoffs at each profile in the order of a file:
+    /// the first player's strategy advances fastest, and each profile has one payoff for each player
+    /// (Gambit documentation, "Game representation formats").
     ///
-    /// The caller sees to it that there are at most 4,294,967,295 players, one list of at least one strategy for each,
-    /// at most 1,048,576 profiles (this project's profile), and as many payoffs as profiles times players.
+    /// The caller sees to it that there are at most 4,294,967,295 players, one list of at least one
+    /// strategy for each, at most 1,048,576 profiles (this project's profile), and as many payoffs as
+    /// profiles times players.
     ///
     /// `AllocError` where memory is refused.
     pub fn new(
@@ -66,9 +68,10 @@ impl Table {
         requires one_list_each { length strategies.now ≡ length players.now }
         requires some_strategy { AllByRecursion (λ own. 0 < vec_len own) strategies.now }
         requires profiles { product (map vec_len strategies.now) ≤ profile_limit }
-        requires rows { length rows.now ≡ product (map vec_len strategies.now) * length players.now }
-        ensures { IfOk result (λ t. IsTableOf t (label_of title.entry) (label_of comment.entry) (map label_of players.now)
-            (map (λ own. map label_of own.items) strategies.now) rows.now) }
+        requires rows { length rows.now
+            ≡ product (map vec_len strategies.now) * length players.now }
+        ensures { IfOk result (λ t. IsTableOf t (label_of title.entry) (label_of comment.entry)
+            (map label_of players.now) (map (λ own. map label_of own.items) strategies.now) rows.now) }
     {
         let names = Names::new(alloc, title, comment, players, strategies)?;
         let profiles = rows.len().checked_div(players.len()).unwrap_or(1);
@@ -81,7 +84,12 @@ impl Table {
     pub(crate) fn names(&self) -> &Names
         ensures is_table { IsTable self.now }
         ensures spellable { IsSpellable self.now }
-        ensures names { result.now ≡ record { title = self.now.title; comment = self.now.comment; players = self.now.players; strategies = self.now.strategies } }
+        ensures names { result.now ≡ record {
+          title = self.now.title;
+          comment = self.now.comment;
+          players = self.now.players;
+          strategies = self.now.strategies;
+        } }
     {
         &self.names
     }
@@ -138,7 +146,8 @@ impl Table {
 
     /// The label of strategy `s` of player `i`, or `None` where there is none.
     pub fn strategy(&self, i: u32, s: u32) -> Option<Label<'_>>
-        ensures { option_map label_of result ≡ option_and_then (λ own. at_position own s) (at_position self.now.strategies i) }
+        ensures { option_map label_of result
+            ≡ option_and_then (λ own. at_position own s) (at_position self.now.strategies i) }
     {
         let (i, s) = (i as usize, s as usize);
         if i == 0 || i > self.names.players() || s == 0 || s > self.names.strategies(i - 1) {
@@ -149,8 +158,9 @@ impl Table {
 
     /// How many profiles there are: at most 1,048,576.
     ///
-    /// The other clauses hold of each table. Every player has a strategy, and every profile one entry with a payoff for
-    /// each player; labels are spelled as labels are, and payoffs are fractions; so a file can hold it.
+    /// The contract says of each table that a file can hold it: each player has a strategy, and each
+    /// profile one entry with one payoff for each player (`is_table`); its labels can be spelled, and
+    /// its payoffs are fractions (`spellable`); and it is within the limit of profiles (`within`).
     pub fn profiles(&self) -> u32
         ensures number { result ≡ length self.now.entries }
         ensures is_table { IsTable self.now }
@@ -160,8 +170,8 @@ impl Table {
         self.payoffs.len()
     }
 
-    /// The payoffs at the profile of these strategies, one for each player. `None` where the list has another length
-    /// than the players, or a number is no strategy of its player.
+    /// The payoffs at the profile of these strategies, one for each player. `None` where the list has
+    /// another length than the players, or a number is no strategy of its player.
     pub fn payoffs(&self, profile: &[u32]) -> Option<&[Fraction]>
         ensures { option_map (λ row. row.now) result ≡ payoffs_at profile.now self.now.entries }
     {

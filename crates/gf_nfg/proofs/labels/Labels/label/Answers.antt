@@ -1,42 +1,35 @@
-use Rattle.std.proofs.Common.{◌≡◌, ◌-◌, ◌∙◌, sym, ap, arith, List, ℕ, length, take, drop, get_or, slice_get, Some}
-use Rattle.gf_nfg.specs.TableParts.{start_of}
-use Rattle.gf_nfg.proofs.TablePieces.{IsAt, within_ends, at_ordered, at_within, at_piece, at_spelled}
+use Rattle.std.proofs.Common.{◌≡◌, ◌∙◌, sym, ap, arith, slice_get, length, Some}
+use Rattle.gf_token.specs.LabelSpelling.{IsLabel}
+use Rattle.gf_fraction.proofs.AllElements.{all_at}
+use Rattle.gf_nfg.specs.TableParts.{pieces}
+use Rattle.gf_nfg.proofs.TablePieces.{within_ends}
 use Rattle.gf_nfg.proofs.labels.Labels.label.Goals as goal
 
-pub piece_at-own-requires : goal.piece_at-own-requires
-piece_at-own-requires c =
-    let here = within_ends c.self.inside.ends.items c.self.inside.bytes.items c.args.self.now c.args.at c.self.view_is c.requires in
-    let same : length c.deref.result.now ≡ length c.self.inside.ends.items = ap length c.deref.ensures.value in omega (arith, here, same)
+pub piece-requires : goal.piece-requires
+piece-requires c =
+    let l = c.self.inside in
+    let here = within_ends l.ends.items l.bytes.items c.args.self.now c.args.at c.self.view_is
+    c.requires in
+    let size = ap length c.deref-2.ensures.value in
+    record {
+      rises = rw (c.deref.ensures.value, c.deref-2.ensures.value) c.self.invariant.rises;
+      number = omega (arith, here, size);
+    }
 
-placed : (c : goal.After-deref-2) → IsAt c.self.inside.ends.items c.self.inside.bytes.items c.args.self.now c.args.at c.piece_at-own.result.start c.piece_at-own.result.end
-placed c = record {
-  is_cut = c.self.invariant;
-  view_is = c.self.view_is;
-  within = c.requires;
-  start_is = c.piece_at-own.ensures.start ∙ ap (λ es. start_of 0 es c.args.at) c.deref.ensures.value;
-  end_is = c.piece_at-own.ensures.end ∙ ap (λ es. get_or es c.args.at 0) c.deref.ensures.value;
-}
-
-pub label_between-requires-clause-ordered : goal.label_between-requires-clause-ordered
-label_between-requires-clause-ordered c = at_ordered _ _ _ _ _ _ (placed c)
-
-pub label_between-requires-clause-within : goal.label_between-requires-clause-within
-label_between-requires-clause-within c = rw c.deref-2.ensures.value (at_within _ _ _ _ _ _ (placed c))
-
-pub label_between-requires-clause-spelled : goal.label_between-requires-clause-spelled
-label_between-requires-clause-spelled c = rw c.deref-2.ensures.value (at_spelled _ _ _ _ _ _ (placed c))
+pub of_spelling-requires : goal.of_spelling-requires
+of_spelling-requires c =
+    let l = c.self.inside in
+    let found : slice_get (pieces 0 l.ends.items l.bytes.items) c.args.at
+    ≡ Some c.piece.result.now =
+    (λ i. slice_get
+    (pieces 0 (sym c.deref-2.ensures.value i) (sym c.deref.ensures.value i)) c.args.at)
+    ∙ c.piece.ensures in
+    all_at IsLabel (pieces 0 l.ends.items l.bytes.items) c.args.at c.piece.result.now
+    c.self.invariant.spelled found
 
 pub returns : goal.returns
 returns c =
-    let start = c.piece_at-own.result.start in
-    let end = c.piece_at-own.result.end in
-    let at = c.args.at in
-    let here : IsAt c.self.inside.ends.items c.self.inside.bytes.items c.args.self.now at start end = record {
-      is_cut = c.self.invariant;
-      view_is = c.self.view_is;
-      within = c.requires;
-      start_is = c.piece_at-own.ensures.start ∙ ap (λ es. start_of 0 es at) c.deref.ensures.value;
-      end_is = c.piece_at-own.ensures.end ∙ ap (λ es. get_or es at 0) c.deref.ensures.value;
-    } in
-    ap (λ (ls : List (List ℕ)). slice_get ls at) (sym c.self.view_is) ∙ at_piece _ _ _ _ _ _ here
-    ∙ ap (λ (bs : List ℕ). Some (take (end - start) (drop start bs))) (sym c.deref-2.ensures.value) ∙ ap Some (sym c.label_between.ensures)
+    ap (λ ls. slice_get ls c.args.at) (sym c.self.view_is)
+    ∙ (λ i. slice_get
+    (pieces 0 (sym c.deref-2.ensures.value i) (sym c.deref.ensures.value i)) c.args.at)
+    ∙ c.piece.ensures ∙ ap Some (sym c.of_spelling.ensures)

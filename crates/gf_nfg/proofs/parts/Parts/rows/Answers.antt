@@ -11,11 +11,13 @@ use Rattle.gf_nfg.specs.ReaderState.{content_of}
 use Rattle.gf_nfg.proofs.MeaningTables.{count_chosen, none_chosen, payoffs_in_turn, rows_chosen, some_chosen}
 use Rattle.gf_nfg.proofs.parts.Parts.rows.Goals as goal
 
-some : (size count : ℕ) (empty : Bool) → empty ≡ (size == 0) → empty ≡ false → size ≡ count → 0 < count
+some : (size count : ℕ) (empty : Bool) → empty ≡ (size == 0) → empty ≡ false → size ≡ count
+    → 0 < count
 some size count empty is given same =
     let test : (size == 0) ≡ false = sym is ∙ given in grind (arith, nat_tests, test, same)
 
-none : (size count : ℕ) (empty : Bool) → empty ≡ (size == 0) → empty ≡ true → size ≡ count → count ≡ 0
+none : (size count : ℕ) (empty : Bool) → empty ≡ (size == 0) → empty ≡ true → size ≡ count
+    → count ≡ 0
 none size count empty is lacking same =
     let test : (size == 0) ≡ true = sym is ∙ lacking in grind (arith, nat_tests, test, same)
 

@@ -16,7 +16,8 @@ returns-in-Some c =
     let found = payoffs_found _ rs c.args.self.now c.args.profile.now c.self.invariant.named.counted
     c.self.view_is in
     let place = sym c.place_of.ensures ∙ c.in-Some.is in
-    sym (found ∙ ap (λ (o : Option ℕ). option_and_then (λ k. slice_get rs k) o) place ∙ c.row.ensures)
+    sym (found ∙ ap (λ (o : Option ℕ). option_and_then (λ k. slice_get rs k) o) place
+    ∙ c.row.ensures)
 
 pub returns-in-None : goal.returns-in-None
 returns-in-None c =

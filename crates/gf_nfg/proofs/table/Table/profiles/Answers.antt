@@ -5,7 +5,8 @@ use Rattle.gf_nfg.proofs.table.Table.profiles.Goals as goal
 
 pub returns-clause-number : goal.returns-clause-number
 returns-clause-number c =
-    c.len.ensures ∙ sym (length-entries c.self.inside.names c.self.inside.payoffs c.self.invariant.named.counted)
+    let t = c.self.inside in
+    c.len.ensures ∙ sym (length-entries t.names t.payoffs c.self.invariant.named.counted)
     ∙ ap (λ t. length t.entries) c.self.view_is
 
 pub returns-clause-is_table : goal.returns-clause-is_table

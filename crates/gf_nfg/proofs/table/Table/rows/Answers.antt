@@ -4,4 +4,6 @@ use Rattle.gf_nfg.proofs.TableRows.{rows-table_with}
 use Rattle.gf_nfg.proofs.table.Table.rows.Goals as goal
 
 pub returns : goal.returns
-returns c = sym (rows-table_with c.self.inside.names c.self.inside.payoffs c.self.invariant.named.counted) ∙ ap rows c.self.view_is
+returns c =
+    let t = c.self.inside in
+    sym (rows-table_with t.names t.payoffs c.self.invariant.named.counted) ∙ ap rows c.self.view_is
