@@ -42,10 +42,9 @@ bounded_to : (r : Reading) → IsBounded r → is_bounded r ≡ true
 bounded_to (decimal digits places exponent) h =
     let power : int_le (pos places -ℤ exponent) (pos 38) ≡ true =
     (let p = h.power_within in grind (arith, ints, p)) in
-    and_from _ _ (and_from _ _
-    (and_from _ _ (and_from _ _ (lt-ltb _ _ h.digits_within) (le-leb _ _ h.places_within))
-    (le-leb _ _ h.exponent_within)) power)
-    (lt-ltb _ _ h.scaled_within)
+    let places_too = and_from _ _ (lt-ltb _ _ h.digits_within) (le-leb _ _ h.places_within) in
+    let exponent_too = and_from _ _ places_too (le-leb _ _ h.exponent_within) in
+    and_from _ _ (and_from _ _ exponent_too power) (lt-ltb _ _ h.scaled_within)
 bounded_to (rational num den) h = and_from _ _ (lt-ltb _ _ h.0) (lt-ltb _ _ h.1)
 
 power_within : (z : ℤ) → z ≤ℤ pos 38 → power_of_ten z < 2 ^ 127

@@ -21,6 +21,7 @@ use Rattle.gf_fraction.proofs.LeadingDigits.{leading_behind, capped-after}
 use Rattle.gf_fraction.proofs.SpelledIsFound.{AllDigits-leading, AllDigits-append}
 use Rattle.gf_fraction.proofs.SpelledIsFound.{digits_value_after-append}
 use Rattle.gf_fraction.proofs.SpelledIsFound.{held, capped_exponent, capped_exponent-signed}
+use Rattle.gf_fraction.proofs.SpelledIsFound.{exponent_if, rational_if}
 
 -- a sign, or none, and the rest
 record HasSign (text : List ℕ) : Type 0 where
@@ -74,18 +75,15 @@ found_exponent text e =
   where
     by_test : (some none : Bool)
         → has_digits (after_sign text) ≡ some → (length (behind (after_sign text)) == 0) ≡ none
-        → (if some && none
-        then Some (signed (is_minus text) (min (capped (leading_value 0 (after_sign text))) 39))
-        else None) ≡ Some e
+        → exponent_if (some && none) (is_minus text) (leading_value 0 (after_sign text)) ≡ Some e
         → FoundExponent text e
     by_test true true hs hn h =
         let s = has_sign text in
         let o = only_digits (after_sign text) hs hn in
         let v : leading_value 0 (after_sign text) ≡ digits_value 10 (after_sign text) =
         ap (digits_value 10) o.0 in
-        let found : signed (is_minus text) (min (capped (leading_value 0 (after_sign text))) 39)
-        ≡ e =
-        cc in
+        let size = min (capped (leading_value 0 (after_sign text))) 39 in
+        let found : signed (is_minus text) size ≡ e = cc in
         record {
           sign = s.sign;
           digits = after_sign text;
@@ -178,14 +176,12 @@ found_pointed ds cs s all h =
     append_assoc (ds ++ 46 ∷ []) after (behind cs)
     ∙ append_assoc ds (46 ∷ []) (after ++ behind cs)
     ∙ ap (λ t. ds ++ (46 ∷ t)) (leading_behind cs) in
-    let h' = subst (λ v.
-    scan_decimal v (nat_lt 0 (length ds) || has_digits cs) (length after) (behind cs) ≡ Some s)
-    value h in
+    let digits = AllDigits-append ds after all (AllDigits-leading cs) in
+    let some = nat_lt 0 (length ds) || has_digits cs in
+    let F : ℕ → Type 0 = λ v. scan_decimal v some (length after) (behind cs) ≡ Some s in
     subst (λ t. Found t s) turned
-    (found_decimal ((ds ++ 46 ∷ []) ++ after) (ds ++ after) (behind cs) (length after) _ s
-    (λ some. pointed ds after
-    (either_side ds after some, AllDigits-append ds after all (AllDigits-leading cs)))
-    h')
+    (found_decimal ((ds ++ 46 ∷ []) ++ after) (ds ++ after) (behind cs) (length after) some s
+    (λ is. pointed ds after (either_side ds after is, digits)) (subst F value h))
   where
     either_side : (ds after : List ℕ) → (nat_lt 0 (length ds) || nat_lt 0 (length after)) ≡ true
         → 0 < length (ds ++ after)
@@ -200,9 +196,7 @@ found_fraction ds cs s all =
   where
     by_test : (a b n : Bool)
         → nat_lt 0 (length ds) ≡ a → has_digits cs ≡ b → (length (behind cs) == 0) ≡ n
-        → (if a && b && n
-        then Some (Rational (capped (digits_value 10 ds)) (capped (leading_value 0 cs)))
-        else None) ≡ Some s
+        → rational_if (a && b && n) (capped (digits_value 10 ds)) (leading_value 0 cs) ≡ Some s
         → Found (ds ++ (47 ∷ cs)) s
     by_test true true true ha hb hn h =
         let o = only_digits cs hb hn in

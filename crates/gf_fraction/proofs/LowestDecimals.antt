@@ -59,12 +59,13 @@ next_left n d p q (suc f) some whole h =
 
 lowest_left : (n d p q f : ℕ) → IsGcd p (5 ^ f) 1 → IsLeft n d p q f → IsLowest n d p q
 lowest_left n d p q f fives h =
+    let turned : IsGcd (5 ^ f * h.rest) p 1 =
+    coprime-mul (5 ^ f) h.rest p (IsGcd-swap p (5 ^ f) 1 fives) (IsGcd-swap p h.rest 1 h.apart) in
     record {
       by = h.by;
       num = h.num;
       den = h.den;
-      apart = subst (λ x. IsGcd p x 1) h.parts (IsGcd-swap (5 ^ f * h.rest) p 1 (coprime-mul (5 ^ f)
-          h.rest p (IsGcd-swap p (5 ^ f) 1 fives) (IsGcd-swap p h.rest 1 h.apart)));
+      apart = subst (λ x. IsGcd p x 1) h.parts (IsGcd-swap (5 ^ f * h.rest) p 1 turned);
     }
 
 pub no_fives : (n d p q f : ℕ) → f ≡ 0 → IsLeft n d p q f → IsLowest n d p q

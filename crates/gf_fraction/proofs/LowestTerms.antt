@@ -57,8 +57,9 @@ pub reduced_value : (z low : ℤ) (size d p q : ℕ) → size ≡ unsigned_abs z
 reduced_value z low size d p q e is l =
     let s = int_lt z (pos 0) in
     let n : signed s size ≡ z = ap (signed s) e ∙ signed-unsigned_abs z in
-    subst (λ k. HasValue (record { num = k; den = q }) z d) (sym l) (subst
-    (λ k. HasValue (record { num = signed s p; den = q }) k d) n (value_from s size d p q is))
+    let F : ℤ → ℤ → Type 0 = λ num value. HasValue (record { num = num; den = q }) value d in
+    let value : F (signed s p) z = subst (F (signed s p)) n (value_from s size d p q is) in
+    subst (λ num. F num z) (sym l) value
 
 -- lowest terms, of any size
 pub record IsLowestRatio (r : Ratio) : Type 0 where

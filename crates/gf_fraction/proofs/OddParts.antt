@@ -112,14 +112,17 @@ common_twos a b s t x y g ha hb is = by_order (cases_lt s t)
         let low : s ≡ min s t = omega (arith, less) in
         let more : s + (t - s) ≡ t = omega (arith, less) in
         let right : y * 2 ^ (s + (t - s)) ≡ b = ap (λ k. y * 2 ^ k) more ∙ hb.parts in
-        subst (λ k. F a b k) low (subst (λ n. F a n s) right
-        (subst (λ m. F m (y * 2 ^ (s + (t - s))) s) ha.parts (with_twos x y s (t - s) g ha.odd is)))
+        let odd = with_twos x y s (t - s) g ha.odd is in
+        let whole : F a b s =
+        subst (λ n. F a n s) right (subst (λ m. F m (y * 2 ^ (s + (t - s))) s) ha.parts odd) in
+        subst (λ k. F a b k) low whole
     by_order (inr most) =
         let low : t ≡ min s t = omega (arith, most) in
         let more : t + (s - t) ≡ s = omega (arith, most) in
         let left : x * 2 ^ (t + (s - t)) ≡ a = ap (λ k. x * 2 ^ k) more ∙ ha.parts in
-        let whole : F b a t = subst (λ n. F b n t) left (subst (λ m. F m (x * 2 ^ (t + (s - t))) t)
-        hb.parts (with_twos y x t (s - t) g hb.odd (IsGcd-swap x y g is))) in
+        let odd = with_twos y x t (s - t) g hb.odd (IsGcd-swap x y g is) in
+        let whole : F b a t =
+        subst (λ n. F b n t) left (subst (λ m. F m (x * 2 ^ (t + (s - t))) t) hb.parts odd) in
         subst (λ k. F a b k) low (IsGcd-swap b a (g * 2 ^ t) whole)
 
 -- and no product of a common divisor wraps

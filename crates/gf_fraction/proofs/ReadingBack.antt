@@ -73,14 +73,14 @@ same_fault text NotANumber TooLarge a b = absurd (a b.negative b.reading b.spell
 same_fault text ZeroDenominator NotANumber a b = absurd (b a.negative a.reading a.spelled)
 same_fault text ZeroDenominator ZeroDenominator a b = refl
 same_fault text ZeroDenominator TooLarge a b =
-    absurd (let z =
-    zero_too text a.negative b.negative a.reading b.reading a.spelled b.spelled a.zero in
-    let above = b.den_above_zero in omega (arith, z, above))
+    let z = zero_too text a.negative b.negative a.reading b.reading a.spelled b.spelled a.zero in
+    let above = b.den_above_zero in
+    absurd (omega (arith, z, above))
 same_fault text TooLarge NotANumber a b = absurd (b a.negative a.reading a.spelled)
 same_fault text TooLarge ZeroDenominator a b =
-    absurd (let z =
-    zero_too text b.negative a.negative b.reading a.reading b.spelled a.spelled b.zero in
-    let above = a.den_above_zero in omega (arith, z, above))
+    let z = zero_too text b.negative a.negative b.reading a.reading b.spelled a.spelled b.zero in
+    let above = a.den_above_zero in
+    absurd (omega (arith, z, above))
 same_fault text TooLarge TooLarge a b = refl
 
 pub one_answer : (text : List ℕ) (a b : Result Ratio NumberFault) → Reads text a → Reads text b

@@ -1,6 +1,6 @@
 -- Where a text has a shape, the scan of it finds what the text says, capped.
 use Rattle.std.proofs.Common.{◌≡◌, ℕ, ℤ, pos, negsuc, suc, zero, ◌+◌, ◌*◌, ◌<◌, min}
-use Rattle.std.proofs.Common.{Bool, true, false, List, [], ◌∷◌, ◌++◌, length, Some, None}
+use Rattle.std.proofs.Common.{Bool, true, false, List, [], ◌∷◌, ◌++◌, length, Option, Some, None}
 use Rattle.std.proofs.Common.{arith, refl, ap, sym, ◌∙◌, subst, inl, inr, append_assoc}
 use Rattle.std.proofs.lemmas.List.{append-nil}
 use Rattle.std.specs.Prelude.{◌==◌, ◌||◌, ◌&&◌, ◌⊎◌, nat_lt, neg_ℤ, if◌then◌else◌, option_map}
@@ -115,6 +115,14 @@ capped_exponent-signed false n = refl
 capped_exponent-signed true zero = refl
 capped_exponent-signed true (suc n) = refl
 
+-- what a scan of an exponent and of a denominator answers by its test
+abbrev pub exponent_if : Bool → Bool → ℕ → Option ℤ
+exponent_if found negative value =
+    if found then Some (signed negative (min (capped value) 39)) else None
+
+abbrev pub rational_if : Bool → ℕ → ℕ → Option Spelling
+rational_if found num den = if found then Some (Rational num (capped den)) else None
+
 -- what has a shape is found
 
 above_zero : (ds : List ℕ) → 0 < length ds → nat_lt 0 (length ds) ≡ true
@@ -171,15 +179,11 @@ scan_exponent_is : (sign digits : List ℕ) (negative : Bool)
 scan_exponent_is sign digits negative is_sign is =
     let e = sign_split sign digits negative is_sign (Unsigned-digits digits is.1) in
     let f = leading-digits digits is.1 in
-    (λ i. if has_digits (e.1 i) && (length (behind (e.1 i)) == 0)
-    then Some (signed (e.0 i) (min (capped (leading_value 0 (e.1 i))) 39))
-    else None)
-    ∙ (λ i. if nat_lt 0 (length (f.0 i)) && (length (f.1 i) == 0)
-    then Some (signed negative (min (capped (digits_value 10 (f.0 i))) 39))
-    else None)
-    ∙ ap (λ b.
-    if b && true then Some (signed negative (min (capped (digits_value 10 digits)) 39)) else None)
-    (above_zero digits is.0)
+    let all = λ (t : List ℕ). length (behind t) == 0 in
+    (λ i. exponent_if (has_digits (e.1 i) && all (e.1 i)) (e.0 i) (leading_value 0 (e.1 i)))
+    ∙ (λ i. exponent_if (nat_lt 0 (length (f.0 i)) && (length (f.1 i) == 0)) negative
+    (digits_value 10 (f.0 i)))
+    ∙ ap (λ b. exponent_if (b && true) negative (digits_value 10 digits)) (above_zero digits is.0)
     ∙ ap Some (sym (capped_exponent-signed negative (digits_value 10 digits)))
 
 -- with an exponent
@@ -220,8 +224,6 @@ scan_shape _ _ (fraction num den is_num is_den) =
     ap scan turned
     ∙ (λ i. scan_rest (capped (digits_value 10 (e.0 i))) (nat_lt 0 (length (e.0 i))) (e.1 i))
     ∙ (λ i. scan_fraction v (above_zero num is_num.0 i) den)
-    ∙ (λ i. if true && nat_lt 0 (length (f.0 i)) && (length (f.1 i) == 0)
-    then Some (Rational v (capped (digits_value 10 (f.0 i))))
-    else None)
-    ∙ ap (λ b. if true && b && true then Some (Rational v (capped (digits_value 10 den))) else None)
-    (above_zero den is_den.0)
+    ∙ (λ i. rational_if (true && nat_lt 0 (length (f.0 i)) && (length (f.1 i) == 0)) v
+    (digits_value 10 (f.0 i)))
+    ∙ ap (λ b. rational_if (true && b && true) v (digits_value 10 den)) (above_zero den is_den.0)

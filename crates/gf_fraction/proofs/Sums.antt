@@ -47,8 +47,9 @@ quotients : (b d g : ℕ) → 0 < b → 0 < d → IsGcd b d g
 quotients b d g bs ds is =
     let p = d / g in
     let q = b / g in
-    let turned : b * p ≡ q * d = omega
-    (arith, ap (λ x. q * x) (div-mul_cancel g is.1), ap (λ x. x * p) (div-mul_cancel g is.0)) in
+    let pg = ap (λ x. q * x) (div-mul_cancel g is.1) in
+    let qg = ap (λ x. x * p) (div-mul_cancel g is.0) in
+    let turned : b * p ≡ q * d = omega (arith, pg, qg) in
     (mul-div_cancel_left p bs, ap (λ x. x / d) turned ∙ mul-div_cancel q ds)
 
 -- the sum fits exactly where its parts do, over the denominator that the code finds
