@@ -7,10 +7,12 @@ pub mod Denominators
 pub mod Followed
 pub mod Following
 pub mod FormTables
+pub mod Forms
 pub mod KnownSets
 pub mod Lookups
 pub mod Lotteries
 pub mod PlaySums
+pub mod ReducedForms
 pub mod ReducedPays
 pub mod Reducing
 pub mod SameForms

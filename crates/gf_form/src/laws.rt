@@ -17,7 +17,7 @@ ghost use Rattle.gf_form.specs.Plays.{follows, plays, HasActions, PartAtChance, 
 ghost use Rattle.gf_form.specs.Payoff.{payoff, play_probability};
 ghost use Rattle.gf_form.specs.BottomUp.{IsValue};
 ghost use Rattle.gf_form.specs.Refusal.{HasTooManyProfiles, OverflowsAt};
-ghost use Rattle.gf_form.specs.StrategicForm.{IsStrategicForm};
+ghost use Rattle.gf_form.specs.StrategicForm.{IsStrategicForm, PaysFractions};
 ghost use Rattle.gf_form.specs.Reduced.{agrees, reduced, reduced_by, reduced_label, reduced_strategies, IsReducedForm};
 ghost use Rattle.gf_form.specs.WorkedForms.{bonus_form, contradicted, ending, ending_form, ending_reduced, greatest, only, overflowing, second, unlikely};
 
@@ -112,6 +112,14 @@ pub fn reduced_strategies_agree()
 pub fn reduced_profiles_pay_alike()
     ensures { (g : Game) (player : ℕ) (p q : List ℕ) → Contains (full_profiles g) p → Contains (full_profiles g) q → reduced_by g p ≡ reduced_by g q
         → payoff g (choices_by g (strategies_at g p)) player ≡ payoff g (choices_by g (strategies_at g q)) player }
+{}
+
+/// A game has one strategic form and one reduced form at most, and it has them exactly where every payoff is a fraction.
+pub fn one_form()
+    ensures strategic { (g : Game) (t u : Table) → IsStrategicForm g t → IsStrategicForm g u → t ≡ u }
+    ensures reduced { (g : Game) (t u : Table) → IsReducedForm g t → IsReducedForm g u → t ≡ u }
+    ensures strategic_exists { (g : Game) → ((t : Table) × IsStrategicForm g t) ↔ PaysFractions g }
+    ensures reduced_exists { (g : Game) → ((t : Table) × IsReducedForm g t) ↔ PaysFractions g }
 {}
 
 /// The strategic form of a game is a table, with a strategy for each player and an entry for each profile.
