@@ -14,13 +14,13 @@ use Rattle.gf_form.specs.Strategies.{action_counts, strategies, strategy_label, 
 use Rattle.gf_form.specs.StrategicForm.{ArePayoffs, IsStrategicForm}
 use Rattle.gf_form.proofs.Choices.{length-all_choices}
 
-as_many : {A B : Type 0} (R : A → B → Type 0) (xs : List A) (ys : List B) → AllZip R xs ys → length xs ≡ length ys
+pub as_many : {A B : Type 0} (R : A → B → Type 0) (xs : List A) (ys : List B) → AllZip R xs ys → length xs ≡ length ys
 as_many R [] [] h = refl
 as_many R [] (y ∷ ys) h = absurd h
 as_many R (x ∷ xs) [] h = absurd h
 as_many R (x ∷ xs) (y ∷ ys) h = ap suc (as_many R xs ys h.1)
 
-product_above : (players player : ℕ) (ss : List (Described SetKey InformationSet)) → AllByRecursion (λ s. IsSet players s.key s.description) ss
+pub product_above : (players player : ℕ) (ss : List (Described SetKey InformationSet)) → AllByRecursion (λ s. IsSet players s.key s.description) ss
     → 0 < product (map (λ s. length s.description.actions) (filter (λ s. s.key.player == player) ss))
 product_above players player [] h = omega arith
 product_above players player (s ∷ ss) h = by_owner (s.key.player == player) (product_above players player ss h.1)

@@ -1,7 +1,7 @@
 -- Forms of a game: there is one at most, and one exists where there are payoffs at each profile.
 use Rattle.std.proofs.Common.{◌≡◌, ℕ, List, [], ◌∷◌, length, map, refl, sym, ap, ◌∙◌, subst, inl, inr}
 use Rattle.std.specs.Prelude.{◌↔◌}
-use Rattle.std.specs.List.{AllByRecursion, AllZip, Contains}
+use Rattle.std.specs.List.{AllByRecursion, AllZip}
 use Rattle.std.proofs.lemmas.List.{length-map}
 use Rattle.gf_fraction.specs.Ratio.{Ratio, IsFraction}
 use Rattle.gf_fraction.specs.Rational.{IsEqual}
@@ -13,7 +13,7 @@ use Rattle.gf_tree.specs.Game.{Game}
 use Rattle.gf_tree.proofs.Members.{map_same, map_twice}
 use Rattle.gf_tree.proofs.Uses.{Has, contains, has, each, mapped_from}
 use Rattle.gf_form.specs.Payoff.{payoff}
-use Rattle.gf_form.specs.StrategicForm.{ArePayoffs, ArePayoffsAt, IsFormBy, IsStrategicForm, PaysFraction, PaysFractions, strategy_labels}
+use Rattle.gf_form.specs.StrategicForm.{ArePayoffsAt, IsFormBy, IsStrategicForm, PaysFraction, PaysFractions, strategy_labels}
 use Rattle.gf_form.specs.Strategies.{choices_by, full_profiles, players_of, strategies, strategies_at, strategy_label}
 
 -- ---- forms by any labels

@@ -14,6 +14,8 @@ pub mod Lotteries
 pub mod PlaySums
 pub mod ReducedForms
 pub mod ReducedPays
+pub mod ReducedTables
+pub mod ReducedValues
 pub mod Reducing
 pub mod SameForms
 pub mod SameRefusals

@@ -1,26 +1,25 @@
 -- The reduced form of a game: each of its profiles is reduced to by a full profile, and each full profile reduces to one.
-use Rattle.std.proofs.Common.{◌≡◌, ℕ, zero, suc, ◌+◌, ◌<◌, ◌≤◌, List, [], ◌∷◌, Option, Some, None, length, map, refl, sym, ap, ◌∙◌, subst, arith, inl, inr}
-use Rattle.std.specs.Prelude.{◌↔◌, ◌==◌, unwrap_or, slice_get, zip}
+use Rattle.std.proofs.Common.{◌≡◌, ℕ, zero, suc, ◌≤◌, List, [], ◌∷◌, Option, Some, None, length, map, refl, sym, ap, ◌∙◌, subst, arith, inl, inr}
+use Rattle.std.specs.Prelude.{◌↔◌, unwrap_or, zip}
 use Rattle.std.specs.Bool.{Decides}
-use Rattle.std.specs.List.{AllByRecursion, AllZip, Contains}
+use Rattle.std.specs.List.{AllZip, Contains}
 use Rattle.std.specs.Cmp.Lexicographic.{pointwise}
 use Rattle.std.proofs.lemmas.Bool.{eqb-true, eq-eqb, false≢true}
 use Rattle.std.proofs.lemmas.List.{length-map}
-use Rattle.std.proofs.lemmas.Option.{slice_get_within}
 use Rattle.std.proofs.lemmas.Slice.Eq.{slice_eq-Decides}
 use Rattle.gf_fraction.specs.Ratio.{Ratio, IsFraction}
 use Rattle.gf_fraction.specs.Rational.{IsEqual}
 use Rattle.gf_nfg.specs.ProfilePlaces.{IsProfile}
 use Rattle.gf_nfg.specs.Profiles.{profiles}
-use Rattle.gf_nfg.specs.Table.{Entry, Table, IsTable}
+use Rattle.gf_nfg.specs.Table.{Table}
 use Rattle.gf_nfg.proofs.BackProfiles.{every_profile}
-use Rattle.gf_tree.specs.Game.{Game, IsGame}
+use Rattle.gf_tree.specs.Game.{Game}
 use Rattle.gf_tree.proofs.FirstUses.{is_used, was_used}
 use Rattle.gf_tree.proofs.Members.{map_same, map_twice}
-use Rattle.gf_tree.proofs.Uses.{Has, contains, has, has_map, mapped_from, each, all_of_each}
+use Rattle.gf_tree.proofs.Uses.{Has, contains, has, has_map, mapped_from, each}
 use Rattle.gf_form.specs.Payoff.{payoff}
 use Rattle.gf_form.specs.Reduced.{AreReducedPayoffsAt, IsReducedForm, reduced, reduced_at, reduced_by, reduced_label, reduced_labels, reduced_strategies, same_choice}
-use Rattle.gf_form.specs.StrategicForm.{ArePayoffsAt, IsFormBy, PaysFractions}
+use Rattle.gf_form.specs.StrategicForm.{ArePayoffsAt, PaysFractions}
 use Rattle.gf_form.specs.Strategies.{choices_by, full_profiles, players_of, strategies, strategies_at, strategy_at}
 use Rattle.gf_form.proofs.Forms.{form_profiles, of_row, one_form_by, one_row, row_of, rows_of_form, some_form_by}
 use Rattle.gf_form.proofs.ReducedPays.{reduced_pay}

@@ -44,7 +44,7 @@ chosen_of_own c (Some key) k h = by_owner (key.player == 0) refl
         let taken : (c key == k) ≡ true = subst (λ b. (not b || c key == k) ≡ true) (eq-eqb key.player key.player refl) (h key.player (omega (arith, personal))) in
         (λ i. e i || c key == k) ∙ taken
 
-all_own : (c : SetKey → ℕ) (p : ℕ) (steps : List Step) → 0 < p → list_all (is_chosen c) steps ≡ true → list_all (is_own_choice c p) steps ≡ true
+pub all_own : (c : SetKey → ℕ) (p : ℕ) (steps : List Step) → 0 < p → list_all (is_chosen c) steps ≡ true → list_all (is_own_choice c p) steps ≡ true
 all_own c p [] above h = refl
 all_own c p (s ∷ steps) above h =
     let both = and_parts (is_chosen c s) (list_all (is_chosen c) steps) h in and_from _ _ (own_of_chosen c p s.node.set s.taken above both.0) (all_own c p steps above both.1)
@@ -57,7 +57,7 @@ all_chosen c (s ∷ steps) h =
 
 -- what a player chooses is by his own strategy
 module _ (g : Game) (all : List (List ℕ)) (p : ℕ) where
-  abbrev his : SetKey → ℕ
+  abbrev pub his : SetKey → ℕ
   his key = choice_at (player_keys g p) (strategy_at all p) key
 
   his_step : (o : Option SetKey) (k : ℕ) → option_map_or (λ key. not (key.player == p) || choices_by g all key == k) o true ≡ option_map_or (λ key. not (key.player == p) || his key == k) o true
@@ -68,14 +68,14 @@ module _ (g : Game) (all : List (List ℕ)) (p : ℕ) where
       by_owner false e = (λ i. not (e i) || choices_by g all key == k) ∙ sym (λ i. not (e i) || his key == k)
       by_owner true e = λ i. not (key.player == p) || choice_at (player_keys g (eqb-true key.player p e i)) (strategy_at all (eqb-true key.player p e i)) key == k
 
-  his_steps : (steps : List Step) → list_all (is_own_choice (choices_by g all) p) steps ≡ list_all (is_own_choice his p) steps
+  pub his_steps : (steps : List Step) → list_all (is_own_choice (choices_by g all) p) steps ≡ list_all (is_own_choice his p) steps
   his_steps [] = refl
   his_steps (s ∷ steps) = λ i. his_step s.node.set s.taken i && his_steps steps i
 
 -- ---- profiles that reduce to one
 
 module _ (g : Game) where
-  abbrev AreReducedAlike : List (List ℕ) → List (List ℕ) → Type 0
+  abbrev pub AreReducedAlike : List (List ℕ) → List (List ℕ) → Type 0
   AreReducedAlike all others = (p : ℕ) → 0 < p → reduced g p (strategy_at all p) ≡ reduced g p (strategy_at others p)
 
   follows_too : (all others : List (List ℕ)) → AreReducedAlike all others → (play : Play) → Has (plays g.tree) play → follows (choices_by g all) play ≡ true → follows (choices_by g others) play ≡ true
@@ -118,14 +118,15 @@ module _ (g : Game) where
   one_each : (profile : List ℕ) → Contains (full_profiles g) profile → length (strategies_at g profile) ≡ length g.players
   one_each profile h = as_many (λ strategy player. Contains (strategies g player) strategy) (strategies_at g profile) (players_of g) (profile_strategies g profile h) ∙ length-numbers_from 1 (length g.players)
 
-  pub reduced_pay : (player : ℕ) (p q : List ℕ) → Contains (full_profiles g) p → Contains (full_profiles g) q → reduced_by g p ≡ reduced_by g q
-      → payoff g (choices_by g (strategies_at g p)) player ≡ payoff g (choices_by g (strategies_at g q)) player
-  reduced_pay player p q hp hq e =
-      let alike : AreReducedAlike (strategies_at g p) (strategies_at g q) =
-      λ k above.
+  pub reduced_alike : (p q : List ℕ) → Contains (full_profiles g) p → Contains (full_profiles g) q → reduced_by g p ≡ reduced_by g q → AreReducedAlike (strategies_at g p) (strategies_at g q)
+  reduced_alike p q hp hq e k above =
       let place : 1 + (k - 1) ≡ k = omega arith in
       ap (reduced g k) (strategy_before (strategies_at g p) k above)
       ∙ subst (λ m. reduced g m (get_or (strategies_at g p) (k - 1) []) ≡ reduced g m (get_or (strategies_at g q) (k - 1) [])) place
       (each_alike 1 (length g.players) (strategies_at g p) (strategies_at g q) (one_each p hp) (one_each q hq) e (k - 1))
-      ∙ ap (reduced g k) (sym (strategy_before (strategies_at g q) k above)) in
-      ap (λ ps. total (map (λ play. times (play_probability g play) (play_payoff g player play)) ps)) (same_plays (strategies_at g p) (strategies_at g q) alike)
+      ∙ ap (reduced g k) (sym (strategy_before (strategies_at g q) k above))
+
+  pub reduced_pay : (player : ℕ) (p q : List ℕ) → Contains (full_profiles g) p → Contains (full_profiles g) q → reduced_by g p ≡ reduced_by g q
+      → payoff g (choices_by g (strategies_at g p)) player ≡ payoff g (choices_by g (strategies_at g q)) player
+  reduced_pay player p q hp hq e =
+      ap (λ ps. total (map (λ play. times (play_probability g play) (play_payoff g player play)) ps)) (same_plays (strategies_at g p) (strategies_at g q) (reduced_alike p q hp hq e))

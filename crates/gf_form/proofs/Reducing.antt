@@ -61,10 +61,10 @@ in_or_none (k ∷ keys) key = by_test (same_set k key) refl (in_or_none keys key
     by_test false e (inr others) = inr (none_here false e others)
 
 module _ (g : Game) (player : ℕ) where
-  abbrev chosen : List ℕ → SetKey → ℕ
+  abbrev pub chosen : List ℕ → SetKey → ℕ
   chosen strategy key = choice_at (player_keys g player) strategy key
 
-  same_where_relevant : (s t : List ℕ) → reduced g player s ≡ reduced g player t → (key : SetKey) → is_relevant g (chosen s) key ≡ true → chosen s key ≡ chosen t key
+  pub same_where_relevant : (s t : List ℕ) → reduced g player s ≡ reduced g player t → (key : SetKey) → is_relevant g (chosen s) key ≡ true → chosen s key ≡ chosen t key
   same_where_relevant s t e key relevant =
       elim (in_or_none (player_keys g player) key) [
         | inl i ↦

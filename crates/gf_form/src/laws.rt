@@ -108,10 +108,14 @@ pub fn reduced_strategies_agree()
         → agrees (choice_at (player_keys g player) s) player play ≡ agrees (choice_at (player_keys g player) t) player play) }
 {}
 
-/// Full profiles that reduce to one have the same payoffs.
+/// Full profiles that reduce to one have the same payoffs, and bottom-up values that are the same, defined for both or
+/// for neither.
 pub fn reduced_profiles_pay_alike()
-    ensures { (g : Game) (player : ℕ) (p q : List ℕ) → Contains (full_profiles g) p → Contains (full_profiles g) q → reduced_by g p ≡ reduced_by g q
+    ensures payoffs { (g : Game) (player : ℕ) (p q : List ℕ) → Contains (full_profiles g) p → Contains (full_profiles g) q → reduced_by g p ≡ reduced_by g q
         → payoff g (choices_by g (strategies_at g p)) player ≡ payoff g (choices_by g (strategies_at g q)) player }
+    ensures values { (g : Game) (player : ℕ) (p q : List ℕ) (value : Ratio) → Contains (full_profiles g) p → Contains (full_profiles g) q
+        → reduced_by g p ≡ reduced_by g q → IsValue g (choices_by g (strategies_at g p)) player g.tree value
+        ↔ IsValue g (choices_by g (strategies_at g q)) player g.tree value }
 {}
 
 /// A game has one strategic form and one reduced form at most, and it has them exactly where every payoff is a fraction.
@@ -122,7 +126,9 @@ pub fn one_form()
     ensures reduced_exists { (g : Game) → ((t : Table) × IsReducedForm g t) ↔ PaysFractions g }
 {}
 
-/// The strategic form of a game is a table, with a strategy for each player and an entry for each profile.
+/// The strategic form of a game is a table, with a strategy for each player and an entry for each profile, and so is
+/// the reduced form.
 pub fn form_is_table()
-    ensures { (g : Game) (t : Table) → IsGame g → IsStrategicForm g t → IsTable t }
+    ensures strategic { (g : Game) (t : Table) → IsGame g → IsStrategicForm g t → IsTable t }
+    ensures reduced { (g : Game) (t : Table) → IsGame g → IsReducedForm g t → IsTable t }
 {}
