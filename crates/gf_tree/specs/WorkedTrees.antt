@@ -1,5 +1,5 @@
 -- Worked games, with files that mean them, and files that mean none.
-use Rattle.std.specs.Prelude.{ℕ, List, [], ◌∷◌, map, codes, pos, Option, Some, None}
+use Rattle.std.specs.Prelude.{ℕ, List, [], ◌∷◌, ◌++◌, map, codes, pos, Option, Some, None}
 use Rattle.gf_fraction.specs.Ratio.{Ratio, whole}
 use Rattle.gf_tree.specs.Tree.{Tree, Trees}
 use Rattle.gf_tree.specs.Tree.Tree.{branch}
@@ -88,6 +88,23 @@ forgetful = game (codes "w")
 abbrev pub forgetful_file : List ℕ
 forgetful_file = codes "EFG 2 R \"w\" { \"A\" } p \"\" 1 1 \"i\" { \"a\" \"b\" } 0 p \"\" 1 2 \"j\" { \"c\" \"d\" } 0 t \"\" 0 t \"\" 0 p \"\" 1 2 0 t \"\" 0 t \"\" 0"
 
+-- ---- a comment, the letter `D`, a comma behind the last payoff, and an outcome that is described twice
+
+abbrev pub noted : Game
+noted = record {
+  title = codes "d";
+  comment = codes "note";
+  players = codes "A" ∷ [];
+  tree = moves (set_of 1 1) None (two (ends (Some 1)) (ends (Some 1)));
+  sets = described (set_of 1 1) (choice (codes "i") (codes "L" ∷ codes "R" ∷ [])) ∷ [];
+  outcomes = described 1 (paying (codes "x") (whole (pos 5))) ∷ [];
+}
+
+abbrev pub noted_file : List ℕ
+noted_file =
+    codes "EFG 2 D \"d\" { \"A\" } \"note\"\np \"\" 1 1 \"i\" { \"L\" \"R\" } 0\n"
+    ++ codes "t \"\" 1 \"x\" { 5, }\nt \"\" 1 \"x\" { 5 }\n"
+
 -- ---- files that mean no game
 
 -- a set that is used first without a description
@@ -105,3 +122,39 @@ unknown_player_file = codes "EFG 2 R \"m\" { \"A\" } p \"\" 2 1 \"i\" { \"L\" } 
 -- probabilities that add to more than one
 abbrev pub too_likely_file : List ℕ
 too_likely_file = codes "EFG 2 R \"m\" { \"A\" } c \"\" 1 \"n\" { \"h\" 0.6 \"t\" 0.6 } 0 t \"\" 0 t \"\" 0"
+
+-- a set with two actions, described again with another one, with fewer and with more
+abbrev pub other_action_file : List ℕ
+other_action_file =
+    codes "EFG 2 R \"m\" { \"A\" } p \"\" 1 1 \"i\" { \"L\" \"R\" } 0 t \"\" 0 "
+    ++ codes "p \"\" 1 1 \"i\" { \"L\" \"X\" } 0 t \"\" 0 t \"\" 0"
+
+abbrev pub fewer_actions_file : List ℕ
+fewer_actions_file =
+    codes "EFG 2 R \"m\" { \"A\" } p \"\" 1 1 \"i\" { \"L\" \"R\" } 0 t \"\" 0 "
+    ++ codes "p \"\" 1 1 \"i\" { \"L\" } 0 t \"\" 0"
+
+abbrev pub more_actions_file : List ℕ
+more_actions_file =
+    codes "EFG 2 R \"m\" { \"A\" } p \"\" 1 1 \"i\" { \"L\" \"R\" } 0 t \"\" 0 "
+    ++ codes "p \"\" 1 1 \"i\" { \"L\" \"R\" \"S\" } 0 t \"\" 0 t \"\" 0 t \"\" 0"
+
+-- an outcome that is used first without a description
+abbrev pub unpaid_file : List ℕ
+unpaid_file = codes "EFG 2 R \"\" { } t \"\" 5"
+
+-- a player's move where there are no players
+abbrev pub nobody_file : List ℕ
+nobody_file = codes "EFG 2 R \"\" { } p \"\" 1 1 \"i\" { \"L\" } 0 t \"\" 0"
+
+-- a probability below zero, probabilities that add to less than one, and two whose sum does not fit
+abbrev pub negative_file : List ℕ
+negative_file = codes "EFG 2 R \"m\" { \"A\" } c \"\" 1 \"n\" { \"h\" -1/2 \"t\" 3/2 } 0 t \"\" 0 t \"\" 0"
+
+abbrev pub unlikely_file : List ℕ
+unlikely_file = codes "EFG 2 R \"m\" { \"A\" } c \"\" 1 \"n\" { \"h\" 1/2 \"t\" 1/4 } 0 t \"\" 0 t \"\" 0"
+
+abbrev pub unfitting_file : List ℕ
+unfitting_file =
+    codes "EFG 2 R \"m\" { \"A\" } c \"\" 1 \"n\" { \"h\" 1/170141183460469231731687303715884105727 "
+    ++ codes "\"t\" 1/2 } 0 t \"\" 0 t \"\" 0"

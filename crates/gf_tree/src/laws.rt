@@ -17,6 +17,7 @@ ghost use Rattle.gf_tree.specs.Renumbering.{IsRenumbering, Renumbering, renumber
 ghost use Rattle.gf_tree.specs.Spellable.{IsSpellable};
 ghost use Rattle.gf_tree.specs.Learned.{Learns, LearnsGame};
 ghost use Rattle.gf_tree.specs.WorkedTrees.{five, five_file, bonus, bonus_file, forgetful, forgetful_file, undescribed_file, mismatched_file, unknown_player_file, too_likely_file};
+ghost use Rattle.gf_tree.specs.WorkedTrees.{unlikely_file, negative_file, unfitting_file, other_action_file, fewer_actions_file, more_actions_file, unpaid_file, nobody_file};
 ghost use Rattle.gf_tree.specs.Game.{Game, IsGame, used_sets, used_outcomes};
 ghost use Rattle.gf_tree.specs.GameOf.{IsGameOf, MeansGame, SpellsGame};
 
@@ -89,11 +90,20 @@ pub fn worked_games()
     ensures forgetful { SpellsGame forgetful_file forgetful }
 {}
 
-/// Worked files that mean no game: a first use without a description, a description that differs from the first, a
-/// player whom there is not, and probabilities that add to more than one.
+/// Worked files that mean no game: a first use without a description, of a set and of an outcome; a description that
+/// differs from the first, by another action, by fewer and by more; a player whom there is not, among some and none;
+/// and probabilities that add to more than one or less, one below zero, and two whose sum does not fit.
 pub fn worked_refusals()
     ensures undescribed { (g : Game) → ¬ (SpellsGame undescribed_file g) }
     ensures mismatched { (g : Game) → ¬ (SpellsGame mismatched_file g) }
     ensures unknown_player { (g : Game) → ¬ (SpellsGame unknown_player_file g) }
     ensures too_likely { (g : Game) → ¬ (SpellsGame too_likely_file g) }
+    ensures unlikely { (g : Game) → ¬ (SpellsGame unlikely_file g) }
+    ensures negative { (g : Game) → ¬ (SpellsGame negative_file g) }
+    ensures unfitting { (g : Game) → ¬ (SpellsGame unfitting_file g) }
+    ensures other_action { (g : Game) → ¬ (SpellsGame other_action_file g) }
+    ensures fewer_actions { (g : Game) → ¬ (SpellsGame fewer_actions_file g) }
+    ensures more_actions { (g : Game) → ¬ (SpellsGame more_actions_file g) }
+    ensures unpaid { (g : Game) → ¬ (SpellsGame unpaid_file g) }
+    ensures nobody { (g : Game) → ¬ (SpellsGame nobody_file g) }
 {}
