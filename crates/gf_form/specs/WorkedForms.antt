@@ -2,9 +2,9 @@
 use Rattle.std.specs.Prelude.{ℕ, ◌^◌, ◌-◌, pos, neg_ℤ, List, [], ◌∷◌, codes, Some, None}
 use Rattle.gf_fraction.specs.Ratio.{Ratio, whole}
 use Rattle.gf_nfg.specs.Table.{Entry, Table}
-use Rattle.gf_tree.specs.Description.{InformationSet, set_of}
+use Rattle.gf_tree.specs.Description.{Action, set_of}
 use Rattle.gf_tree.specs.Game.{Game}
-use Rattle.gf_tree.specs.WorkedTrees.{moves, ends, choice, half, described, one, two, paying, game}
+use Rattle.gf_tree.specs.WorkedTrees.{moves, ends, choice, half, toss, described, one, two, paying, game}
 
 -- 2^127 - 1, the greatest payoff
 abbrev pub greatest : Ratio
@@ -46,17 +46,33 @@ second = (2 ∷ 1 ∷ []) ∷ []
 
 -- ---- a payoff that overflows where chance never comes
 
-abbrev pub sure : List ℕ → List ℕ → InformationSet
-sure first other = record { name = []; actions = record { label = first; probability = Some (whole (pos 1)) } ∷ record { label = other; probability = Some (whole (pos 0)) } ∷ [] }
+-- what chance does, with probability one
+abbrev pub sure : List ℕ → Action
+sure label = record { label = label; probability = Some (whole (pos 1)) }
+
+-- what it never does
+abbrev pub never : List ℕ → Action
+never label = record { label = label; probability = Some (whole (pos 0)) }
 
 abbrev pub unlikely : Game
 unlikely = game (codes "q")
-    (moves (set_of 0 1) None (two (ends (Some 1)) (moves (set_of 1 1) (Some 2) (one (ends (Some 1))))))
-    (described (set_of 0 1) (sure (codes "a") (codes "b")) ∷ described (set_of 1 1) (choice (codes "k") (codes "e" ∷ [])) ∷ [])
+    (moves (set_of 0 1) None (two (ends (Some 1)) (moves (set_of 0 2) (Some 2) (one (ends (Some 1))))))
+    (described (set_of 0 1) (record { name = codes "n"; actions = sure (codes "a") ∷ never (codes "b") ∷ [] })
+    ∷ described (set_of 0 2) (record { name = codes "k"; actions = sure (codes "e") ∷ [] }) ∷ [])
     (described 1 (paying (codes "x") (whole (pos 1))) ∷ described 2 (paying (codes "y") greatest) ∷ [])
 
+-- the only strategy of a player without sets
 abbrev pub only : List (List ℕ)
-only = (1 ∷ []) ∷ []
+only = [] ∷ []
+
+-- ---- a payoff at a node of chance, which fits beside each child's product, but is added behind their sum
+
+abbrev pub balancing : Game
+balancing = game (codes "b")
+    (moves (set_of 0 1) (Some 1) (two (ends (Some 2)) (ends (Some 3))))
+    (described (set_of 0 1) (toss (codes "n")) ∷ [])
+    (described 1 (paying (codes "x") (whole (neg_ℤ (pos (2 ^ 126 - 1)))))
+    ∷ described 2 (paying (codes "y") greatest) ∷ described 3 (paying (codes "z") (whole (pos (2 ^ 127 - 3)))) ∷ [])
 
 -- ---- a choice that does not matter behind an action that ends the play
 

@@ -1,6 +1,6 @@
 //! Laws of the definitions, each as the contract of a function that does nothing.
 
-ghost use Rattle.std.specs.Prelude.{◌≡◌, ◌↔◌, ◌⊎◌, ◌≤◌, ◌<◌, ◌^◌, ℕ, List, [], ◌∷◌, codes, filter, get_or, length, map, pos, Some, true};
+ghost use Rattle.std.specs.Prelude.{◌≡◌, ◌↔◌, ◌⊎◌, ◌≤◌, ◌<◌, ◌^◌, ◌-◌, ℕ, List, [], ◌∷◌, codes, filter, get_or, length, map, pos, Some, true};
 ghost use Rattle.std.specs.List.{AllByRecursion, AllZip, Contains};
 ghost use Rattle.gf_fraction.specs.Ratio.{Ratio, whole};
 ghost use Rattle.gf_nfg.specs.Profiles.{product};
@@ -19,12 +19,12 @@ ghost use Rattle.gf_form.specs.BottomUp.{IsValue};
 ghost use Rattle.gf_form.specs.Refusal.{HasTooManyProfiles, OverflowsAt};
 ghost use Rattle.gf_form.specs.StrategicForm.{IsStrategicForm, PaysFractions};
 ghost use Rattle.gf_form.specs.Reduced.{agrees, reduced, reduced_by, reduced_label, reduced_strategies, IsReducedForm};
-ghost use Rattle.gf_form.specs.WorkedForms.{bonus_form, contradicted, ending, ending_form, ending_reduced, greatest, only, overflowing, second, unlikely};
+ghost use Rattle.gf_form.specs.WorkedForms.{balancing, bonus_form, contradicted, ending, ending_form, ending_reduced, greatest, only, overflowing, second, unlikely};
 
 /// Worked games: plays, strategic and reduced forms, and payoffs that fit where the bottom-up value does not, once by
-/// a child that has no probability.
+/// a child that has no probability, and once by the sum of the children, to which the node's own payoff comes last.
 pub fn worked_forms()
-    ensures games { AllByRecursion (λ g. IsGame g × IsSpellable g) (overflowing ∷ unlikely ∷ ending ∷ contradicted ∷ []) }
+    ensures games { AllByRecursion (λ g. IsGame g × IsSpellable g) (overflowing ∷ unlikely ∷ balancing ∷ ending ∷ contradicted ∷ []) }
     ensures plays { map (λ play. map (λ s. s.taken) play.steps) (plays bonus.tree)
         ≡ (1 ∷ 1 ∷ []) ∷ (1 ∷ 2 ∷ []) ∷ (2 ∷ 1 ∷ []) ∷ (2 ∷ 2 ∷ []) ∷ [] }
     ensures form { IsStrategicForm bonus bonus_form }
@@ -32,6 +32,8 @@ pub fn worked_forms()
     ensures overflows { ¬ ((value : Ratio) × IsValue overflowing (choices_by overflowing second) 1 overflowing.tree value) }
     ensures fits_at_zero { IsEqual (whole (pos 1)) (payoff unlikely (choices_by unlikely only) 1) }
     ensures overflows_at_zero { ¬ ((value : Ratio) × IsValue unlikely (choices_by unlikely only) 1 unlikely.tree value) }
+    ensures fits_at_last { IsEqual (whole (pos (2 ^ 126 - 1))) (payoff balancing (choices_by balancing only) 1) }
+    ensures overflows_before { ¬ ((value : Ratio) × IsValue balancing (choices_by balancing only) 1 balancing.tree value) }
     ensures full { IsStrategicForm ending ending_form }
     ensures reduced { IsReducedForm ending ending_reduced }
     ensures forgetful { map reduced_label (reduced_strategies forgetful 1)

@@ -1,5 +1,5 @@
 -- Worked files, node by node: what is said, with the tokens that say it.
-use Rattle.std.proofs.Common.{◌≡◌, ℕ, suc, ◌<◌, ◌≤◌, ◌^◌, ◌≤ℤ◌, pos, List, [], ◌∷◌, ◌++◌, length, map, Some, None, Option, refl, subst, arith, inl}
+use Rattle.std.proofs.Common.{◌≡◌, ℕ, suc, ◌<◌, ◌≤◌, ◌^◌, ◌≤ℤ◌, pos, List, [], ◌∷◌, ◌++◌, length, map, Some, None, Option, refl, subst, arith, inl, inr}
 use Rattle.std.specs.Prelude.{codes, decimal, nat_lt, ◌&&◌, true}
 use Rattle.std.proofs.lemmas.Bool.Decides.{Decides-and, Decides-ltb}
 use Rattle.std.specs.List.{AllByRecursion, flat_map}
@@ -7,7 +7,7 @@ use Rattle.std.specs.Fmt.{digits}
 use Rattle.std.proofs.lemmas.Nat.Gcd.{dvd_refl}
 use Rattle.std.proofs.Math.Nat.{one-dvd}
 use Rattle.gf_token.specs.Token.{Token}
-use Rattle.gf_token.specs.Token.Token.{Text, Bare}
+use Rattle.gf_token.specs.Token.Token.{Comma, Text, Bare}
 use Rattle.gf_token.specs.Grammar.{Each, braced}
 use Rattle.gf_token.proofs.SpelledNumbers.{decimal_is_index}
 use Rattle.gf_fraction.specs.Ratio.{Ratio, whole}
@@ -147,7 +147,16 @@ one_paid n name bytes r h k = record {
   says = (decimal n, Text name ∷ braced (Bare bytes ∷ []), refl, numbered n h, (Bare bytes ∷ [], refl, (Bare bytes ∷ [], [], refl, (bytes, [], refl, k, inl refl), refl), refl));
 }
 
-whole_is : (n : ℕ) → n < 2 ^ 127 → IsNumber (decimal n) (whole (pos n))
+-- and so with a comma behind the number
+abbrev pub one_paid_with_comma : (n : ℕ) (name bytes : List ℕ) (r : Ratio) → IsSmall n → IsNumber bytes r → SaidResult 1
+one_paid_with_comma n name bytes r h k = record {
+  tokens = Bare (decimal n) ∷ Text name ∷ braced (Bare bytes ∷ Comma ∷ []);
+  outcome = Some (record { key = n; description = Some (record { name = name; payoffs = r ∷ [] }) });
+  says = (decimal n, Text name ∷ braced (Bare bytes ∷ Comma ∷ []), refl, numbered n h,
+      (Bare bytes ∷ Comma ∷ [], refl, (Bare bytes ∷ Comma ∷ [], [], refl, (bytes, Comma ∷ [], refl, k, inr refl), refl), refl));
+}
+
+pub whole_is : (n : ℕ) → n < 2 ^ 127 → IsNumber (decimal n) (whole (pos n))
 unfolding digits number_text
 whole_is n h = whole_spelled n h
 
@@ -213,7 +222,7 @@ entries _ _ = []
 abbrev pub file_of : List ℕ → (players : List (List ℕ)) → List (SaidNode (length players)) → List ℕ → FileTree
 file_of title players said counts = record { title = title; comment = []; players = players; tree = root (record { name = []; set = None; outcome = None }) (grow (entries said counts)) }
 
-each_said : {players : ℕ} → (said : List (SaidNode players)) → Each (IsNode players) (said_tokens said) (map (λ s. s.node) said)
+pub each_said : {players : ℕ} → (said : List (SaidNode players)) → Each (IsNode players) (said_tokens said) (map (λ s. s.node) said)
 each_said [] = refl
 each_said (s ∷ said) = (s.tokens, said_tokens said, refl, s.says, each_said said)
 

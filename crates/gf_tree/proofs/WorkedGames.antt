@@ -1,18 +1,23 @@
 -- Worked games: the files that mean them.
-use Rattle.std.proofs.Common.{◌≡◌, ℕ, List, [], ◌∷◌, length, map, refl, sym, subst, arith, inl, inr}
-use Rattle.std.specs.Prelude.{codes}
+use Rattle.std.proofs.Common.{◌≡◌, ℕ, pos, List, [], ◌∷◌, ◌++◌, length, map, refl, sym, subst, arith, inl, inr}
+use Rattle.std.specs.Prelude.{codes, decimal}
 use Rattle.std.specs.Fmt.{digits}
 use Rattle.gf_token.specs.Lexing.{lex}
 use Rattle.gf_token.specs.Lexing.Mode.{Gap}
+use Rattle.gf_token.specs.Grammar.{braced}
+use Rattle.gf_token.specs.Token.{Token}
+use Rattle.gf_token.specs.Token.Token.{Text, Bare}
 use Rattle.gf_token.proofs.Spelled.{found}
+use Rattle.gf_fraction.specs.Ratio.{whole}
 use Rattle.gf_tree.specs.PrefixOrder.{flatten}
 use Rattle.gf_tree.specs.Sentence.{Sentence}
+use Rattle.gf_tree.specs.FileTree.{FileTree}
 use Rattle.gf_tree.specs.Game.{Game}
 use Rattle.gf_tree.specs.GameOf.{SpellsGame}
 use Rattle.gf_tree.specs.Learned.{LearnsGame}
-use Rattle.gf_tree.specs.WorkedTrees.{toss, choice, two_paid, five, five_file, bonus, bonus_file, forgetful, forgetful_file}
+use Rattle.gf_tree.specs.WorkedTrees.{toss, choice, two_paid, five, five_file, bonus, bonus_file, forgetful, forgetful_file, noted, noted_file, paying}
 use Rattle.gf_tree.proofs.LearnedGames.{game_learned_once}
-use Rattle.gf_tree.proofs.Worked.{half_by_point, half_by_slash, half_by_places, tenth, tenth_by_exponent, toss_is_set, choice_is_set, no_description, said_toss, said_choice, no_outcome, again, one_paid, both_paid, SaidNode, at_end, at_chance, at_player, file_tokens, file_of, is_said}
+use Rattle.gf_tree.proofs.Worked.{half_by_point, half_by_slash, half_by_places, tenth, tenth_by_exponent, toss_is_set, choice_is_set, no_description, said_toss, said_choice, no_outcome, again, one_paid, both_paid, SaidNode, at_end, at_chance, at_player, file_tokens, file_of, is_said, said_tokens, each_said, one_paid_with_comma, whole_is}
 
 -- a game's file by these nodes, of which each has as many children as that of the game
 spells : (bytes : List ℕ) (g : Game) (said : List (SaidNode (length g.players))) (counts : List ℕ) → map (λ l. l.token) (lex Gap 0 bytes) ≡ file_tokens g.title g.players said
@@ -120,3 +125,50 @@ forgetful_lexed = refl
 
 pub forgetful_is_meant : SpellsGame forgetful_file forgetful
 forgetful_is_meant = spells forgetful_file forgetful forgetful_said forgetful_counts forgetful_lexed refl forgetful_learned
+
+-- ---- noted
+
+abbrev noted_said : List (SaidNode 1)
+noted_said =
+    at_player 0 1 refl refl (said_choice (codes "i") (codes "L" ∷ codes "R" ∷ [])) no_outcome
+    ∷ at_end (one_paid_with_comma 1 (codes "x") (decimal 5) (whole (pos 5)) refl (whole_is 5 (omega arith)))
+    ∷ at_end (one_paid 1 (codes "x") (decimal 5) (whole (pos 5)) refl (whole_is 5 (omega arith)))
+    ∷ []
+
+abbrev noted_tree : FileTree
+noted_tree = record (file_of noted.title noted.players noted_said (2 ∷ 0 ∷ 0 ∷ [])) { comment = noted.comment }
+
+abbrev noted_tokens : List Token
+noted_tokens =
+    Bare (codes "EFG") ∷ Bare (codes "2") ∷ Bare (codes "D") ∷ Text noted.title
+    ∷ (braced (map Text noted.players) ++ ((Text noted.comment ∷ []) ++ said_tokens noted_said))
+
+noted_is_said : Sentence noted_tokens noted_tree
+noted_is_said = record {
+  letter = codes "D";
+  comment = Text noted.comment ∷ [];
+  nodes = said_tokens noted_said;
+  parts = refl;
+  is_letter = inr refl;
+  is_comment = inr refl;
+  are_nodes = each_said noted_said;
+}
+
+noted_learned : LearnsGame noted_tree noted
+noted_learned = record {
+  kept = record { title = refl; comment = refl; players = refl; tree = refl };
+  sets = (choice (codes "i") (codes "L" ∷ codes "R" ∷ []), refl, refl);
+  outcomes = (paying (codes "x") (whole (pos 5)), refl, (inr refl, refl));
+  each_set = (choice_is_set 1 0 1 (codes "i") (codes "L") (codes "R" ∷ []) (omega arith) (omega arith), tt);
+  each_outcome = (record { number_from_one = omega arith; one_payoff_each = refl }, tt);
+  children = (refl, (refl, (refl, tt)));
+}
+
+noted_lexed : map (λ l. l.token) (lex Gap 0 noted_file) ≡ noted_tokens
+unfolding lex digits
+noted_lexed = refl
+
+pub noted_is_meant : SpellsGame noted_file noted
+noted_is_meant =
+    let of = (game_learned_once noted_tree noted).0 noted_learned in
+    (lex Gap 0 noted_file, found noted_file 0, (noted_tree, subst (λ ts. Sentence ts noted_tree) (sym noted_lexed) noted_is_said, of.0, of.1))

@@ -16,7 +16,7 @@ ghost use Rattle.gf_tree.specs.FirstUse.{first_use_numbers, outcome_keys, player
 ghost use Rattle.gf_tree.specs.Renumbering.{IsRenumbering, Renumbering, renumbered};
 ghost use Rattle.gf_tree.specs.Spellable.{IsSpellable};
 ghost use Rattle.gf_tree.specs.Learned.{Learns, LearnsGame};
-ghost use Rattle.gf_tree.specs.WorkedTrees.{five, five_file, bonus, bonus_file, forgetful, forgetful_file, undescribed_file, mismatched_file, unknown_player_file, too_likely_file};
+ghost use Rattle.gf_tree.specs.WorkedTrees.{five, five_file, bonus, bonus_file, forgetful, forgetful_file, noted, noted_file, undescribed_file, mismatched_file, unknown_player_file, too_likely_file};
 ghost use Rattle.gf_tree.specs.WorkedTrees.{unlikely_file, negative_file, unfitting_file, other_action_file, fewer_actions_file, more_actions_file, unpaid_file, nobody_file};
 ghost use Rattle.gf_tree.specs.Game.{Game, IsGame, used_sets, used_outcomes};
 ghost use Rattle.gf_tree.specs.GameOf.{IsGameOf, MeansGame, SpellsGame};
@@ -82,12 +82,14 @@ pub fn game_learned_once()
 {}
 
 /// Worked games and files that mean them: a set of chance met twice on a path with its description in two spellings,
-/// and an outcome used twice; an outcome at an inner node; and a player who forgets what he chose.
+/// and an outcome used twice; an outcome at an inner node; a player who forgets what he chose; and a comment, the
+/// letter `D`, a comma behind the last payoff, and an outcome described twice.
 pub fn worked_games()
     ensures five { SpellsGame five_file five }
     ensures five_uses { (used_sets five.tree ≡ set_of 0 9 ∷ set_of 1 7 ∷ set_of 0 9 ∷ set_of 1 3 ∷ []) × (used_outcomes five.tree ≡ 4 ∷ 4 ∷ []) }
     ensures bonus { SpellsGame bonus_file bonus }
     ensures forgetful { SpellsGame forgetful_file forgetful }
+    ensures noted { SpellsGame noted_file noted }
 {}
 
 /// Worked files that mean no game: a first use without a description, of a set and of an outcome; a description that
