@@ -8,7 +8,7 @@ use Rattle.gf_tree.specs.FiniteMap.{first_uses}
 use Rattle.gf_tree.specs.Game.{Game, IsGame, used_sets, used_outcomes}
 use Rattle.gf_tree.specs.Renumbering.{Renumbering, IsRenumbering, HasSet, HasOutcome, renumbered_set, renumbered}
 use Rattle.gf_canon.specs.SameGame.{Carries, SameGame}
-use Rattle.gf_tree.specs.FirstUse.{first_use_number, sets_of, first_use_numbers, player_keys, outcome_keys}
+use Rattle.gf_tree.specs.FirstUse.{first_use_number, sets_of, first_use_numbers, player_keys, outcome_numbers}
 use Rattle.gf_canon.specs.CanonicalGame.{canonical_game}
 use Rattle.gf_tree.proofs.Members.{filter_of_map, map_same}
 use Rattle.gf_tree.proofs.FirstUseNumbers.{number_kept}
@@ -111,7 +111,7 @@ sets_in_order g player game =
         let is : player ≡ key.player = sym (eqb-true key.player player mine.1) in
         ap (λ p. first_use_number same_set own (record { player = p; number = key.number })) is
 
-pub outcomes_in_order : (g : Game) → IsGame g → map (first_use_numbers g).outcome (outcome_keys g) ≡ positions (length (outcome_keys g))
+pub outcomes_in_order : (g : Game) → IsGame g → map (first_use_numbers g).outcome (outcome_numbers g) ≡ positions (length (outcome_numbers g))
 outcomes_in_order g game =
     subst (λ numbers. map (first_use_numbers g).outcome numbers ≡ positions (length numbers)) (sym game.one_entry_each_outcome)
     (numbered_in_order nat_eq Decides-eqb (used_outcomes g.tree))

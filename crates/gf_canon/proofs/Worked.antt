@@ -12,7 +12,7 @@ use Rattle.gf_canon.specs.SameGame.{Carries, SameGame}
 use Rattle.gf_tree.specs.FirstUse.{first_use_numbers}
 use Rattle.gf_canon.specs.CanonicalGame.{canonical_game}
 use Rattle.gf_canon.specs.GameText.{game_text}
-use Rattle.gf_canon.specs.WorkedGames.{numbered_five, five_text, bonus_text, no_players, no_players_text}
+use Rattle.gf_canon.specs.WorkedGames.{numbered_five, five_text, bonus_text, nobody, nobody_text}
 use Rattle.gf_canon.proofs.SameGames.{carried_sets, carried_outcomes}
 use Rattle.gf_canon.proofs.CanonicalGames.{same_by_canonical}
 
@@ -33,8 +33,8 @@ pub text_of_bonus : game_text (canonical_game bonus) ≡ bonus_text
 unfolding digits number_text
 text_of_bonus = refl
 
-pub text_of_no_players : game_text (canonical_game no_players) ≡ no_players_text
-text_of_no_players = refl
+pub text_of_nobody : game_text (canonical_game nobody) ≡ nobody_text
+text_of_nobody = refl
 
 -- ---- the same by other numbers
 

@@ -24,11 +24,11 @@ abbrev pub bonus_text : List ℕ
 bonus_text = codes "EFG 2 R \"g\" { \"A\" \"B\" }\n\"\"\n\nc \"\" 1 \"n\" { \"h\" 1/2 \"t\" 1/2 } 0\np \"\" 1 1 \"i\" { \"L\" \"R\" } 1 \"bonus\" { 1 0 }\nt \"\" 2 \"x\" { 2 0 }\nt \"\" 0\np \"\" 1 1 0\nt \"\" 0\nt \"\" 3 \"y\" { 3 1 }\n"
 
 -- without players, and without a name
-abbrev pub no_players : Game
-no_players = record { title = []; comment = []; players = []; tree = ends None; sets = []; outcomes = [] }
+abbrev pub nobody : Game
+nobody = record { title = []; comment = []; players = []; tree = ends None; sets = []; outcomes = [] }
 
-abbrev pub no_players_text : List ℕ
-no_players_text = codes "EFG 2 R \"\" { }\n\"\"\n\nt \"\" 0\n"
+abbrev pub nobody_text : List ℕ
+nobody_text = codes "EFG 2 R \"\" { }\n\"\"\n\nt \"\" 0\n"
 
 -- ---- one information set and two
 

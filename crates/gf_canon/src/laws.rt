@@ -13,14 +13,14 @@ ghost use Rattle.gf_canon.specs.SameGame.{Carries, SameGame};
 ghost use Rattle.gf_nfg.specs.SameTable.{SamePlay};
 ghost use Rattle.gf_nfg.specs.Table.{Table};
 ghost use Rattle.gf_tree.specs.FileTree.{FileTree};
-ghost use Rattle.gf_tree.specs.FirstUse.{first_use_number, first_use_numbers, outcome_keys, player_keys};
+ghost use Rattle.gf_tree.specs.FirstUse.{first_use_number, first_use_numbers, outcome_numbers, player_keys};
 ghost use Rattle.gf_canon.specs.CanonicalGame.{canonical_game};
 ghost use Rattle.gf_canon.specs.FirstDescribed.{IsFileOf, file_nodes};
 ghost use Rattle.gf_canon.specs.GameFile.{GameFile, IsGameFile, SameFile, SpellsFile, canonical_file, canonical_text};
 ghost use Rattle.gf_canon.specs.GameFile.GameFile.{extensive, strategic};
 ghost use Rattle.gf_canon.specs.GameText.{game_text};
 ghost use Rattle.gf_canon.specs.NamesAside.{SameAsideNames, unnamed};
-ghost use Rattle.gf_canon.specs.WorkedGames.{bonus_text, five_text, lower_case_prize, no_outcome, no_players, no_players_text, numbered_five, plain_prize, renamed_prize, seen, two_prizes, unseen, zero_outcome};
+ghost use Rattle.gf_canon.specs.WorkedGames.{bonus_text, five_text, lower_case_prize, no_outcome, nobody, nobody_text, numbered_five, plain_prize, renamed_prize, seen, two_prizes, unseen, zero_outcome};
 
 /// Sameness of games is reflexive, symmetric and transitive.
 pub fn same_is_equivalence()
@@ -55,7 +55,7 @@ pub fn numbered_in_order<K>()
         → map (λ key. (first_use_numbers g).set player key.number) (player_keys g player)
         ≡ positions (length (player_keys g player)) }
     ensures outcomes { (g : Game) → IsGame g
-        → map (first_use_numbers g).outcome (outcome_keys g) ≡ positions (length (outcome_keys g)) }
+        → map (first_use_numbers g).outcome (outcome_numbers g) ≡ positions (length (outcome_numbers g)) }
 {}
 
 /// The canonical game is a game, the first-use numbers carry the game to it, and it is its own canonical game.
@@ -112,7 +112,7 @@ pub fn same_aside_names()
 pub fn worked_texts()
     ensures five { game_text (canonical_game five) ≡ five_text }
     ensures bonus { game_text (canonical_game bonus) ≡ bonus_text }
-    ensures no_players { game_text (canonical_game no_players) ≡ no_players_text }
+    ensures nobody { game_text (canonical_game nobody) ≡ nobody_text }
 {}
 
 /// The game "five" by its first-use numbers; a copy by other numbers, and the only renumbering that carries the one to

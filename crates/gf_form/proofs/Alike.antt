@@ -14,9 +14,9 @@ use Rattle.gf_tree.specs.Description.{SetKey}
 use Rattle.gf_tree.specs.Game.{Node, Game}
 use Rattle.gf_tree.proofs.Members.{map_twice, filter_of_map}
 use Rattle.gf_fraction.specs.Rational.{plus, times, total, zero_ratio, one_ratio}
-use Rattle.gf_form.specs.Plays.{Step, Play, after, plays, plays_from, is_chosen, follows}
+use Rattle.gf_form.specs.Plays.{Step, Play, from_node, plays, plays_from, is_chosen, follows}
 use Rattle.gf_form.specs.Payoff.{probability, payoff_at, play_probability, play_payoff, payoff}
-use Rattle.gf_form.specs.BottomUp.{IsValue, IsChanceValue, IsValueOf}
+use Rattle.gf_form.specs.BottomUp.{IsValue, IsChanceValue, IsChildValue}
 use Rattle.gf_fraction.specs.Fits.{AddsTo, MultipliesTo}
 
 -- whether a play is followed, how probable it is, and what it pays
@@ -46,16 +46,16 @@ module _ (g h : Game) (c d : SetKey → ℕ) (player : ℕ) (f : Node → Node) 
   AreAlike es = AllByRecursion (λ e. IsAlike e.node) es
 
   child_views : (n : Node) (k : ℕ) (ps qs : List Play) → IsAlike n → map (view h d player) qs ≡ map (view g c player) ps
-      → map (view h d player) (map (after (f n) k) qs) ≡ map (view g c player) (map (after n k) ps)
+      → map (view h d player) (map (from_node (f n) k) qs) ≡ map (view g c player) (map (from_node n k) ps)
   unfolding view from_parent
   child_views n k ps qs a e =
       let s : Step = record { node = n; taken = k } in
       let t : Step = record { node = f n; taken = k } in
-      map_twice (view h d player) (after (f n) k) qs
+      map_twice (view h d player) (from_node (f n) k) qs
       ∙ sym (map_twice (from_parent (is_chosen d t) (probability h t) (payoff_at h player (f n))) (view h d player) qs)
       ∙ (λ i. map (from_parent (a.chosen k i) (a.chance k i) (a.pays i)) (e i))
       ∙ map_twice (from_parent (is_chosen c s) (probability g s) (payoff_at g player n)) (view g c player) ps
-      ∙ sym (map_twice (view g c player) (after n k) ps)
+      ∙ sym (map_twice (view g c player) (from_node n k) ps)
 
   leaf_view : (n : Node) → IsAlike n → map (view h d player) (plays (map_tree f (branch n none))) ≡ map (view g c player) (plays (branch n none))
   unfolding view
@@ -70,9 +70,9 @@ module _ (g h : Game) (c d : SetKey → ℕ) (player : ℕ) (f : Node → Node) 
     children_views none n k a all = refl
     children_views (more t ts) n k a all =
         let both = all_parts (λ e. IsAlike e.node) (flatten t) (flatten_all ts) all in
-        map-append (view h d player) (map (after (f n) k) (plays (map_tree f t))) (plays_from (f n) (k + 1) (map_trees f ts))
+        map-append (view h d player) (map (from_node (f n) k) (plays (map_tree f t))) (plays_from (f n) (k + 1) (map_trees f ts))
         ∙ (λ i. child_views n k (plays t) (plays (map_tree f t)) a (tree_views t both.0) i ++ children_views ts n (k + 1) a both.1 i)
-        ∙ sym (map-append (view g c player) (map (after n k) (plays t)) (plays_from n (k + 1) ts))
+        ∙ sym (map-append (view g c player) (map (from_node n k) (plays t)) (plays_from n (k + 1) ts))
 
 payoff_by_views : (g : Game) (c : SetKey → ℕ) (player : ℕ) → payoff g c player ≡ pays_by (map (view g c player) (plays g.tree))
 unfolding view pays_by
@@ -91,18 +91,18 @@ module _ (g h : Game) (c d : SetKey → ℕ) (player : ℕ) (f : Node → Node) 
   abbrev ValueAt : Game → (SetKey → ℕ) → Node → Trees Node → Ratio → Option SetKey → Type 0
   ValueAt game choices n ts value o = MatchOption o
       (value ≡ payoff_at game player n)
-      (λ key. (below : Ratio) × MatchBool (key.player == 0) (IsChanceValue game choices player n 1 zero_ratio ts below) (IsValueOf game choices player (choices key) ts below) × AddsTo (payoff_at game player n) below value)
+      (λ key. (below : Ratio) × MatchBool (key.player == 0) (IsChanceValue game choices player n 1 zero_ratio ts below) (IsChildValue game choices player (choices key) ts below) × AddsTo (payoff_at game player n) below value)
 
   abbrev ChanceGoes : Node → Trees Node → Type 0
   ChanceGoes n ts = (value : Ratio) → IsChanceValue g c player n 1 zero_ratio ts value → IsChanceValue h d player (f n) 1 zero_ratio (map_trees f ts) value
 
   abbrev ChildGoes : Trees Node → Type 0
-  ChildGoes ts = (position : ℕ) (value : Ratio) → IsValueOf g c player position ts value → IsValueOf h d player position (map_trees f ts) value
+  ChildGoes ts = (position : ℕ) (value : Ratio) → IsChildValue g c player position ts value → IsChildValue h d player position (map_trees f ts) value
 
   below_goes : (n : Node) (ts : Trees Node) (a b : Bool) (position place : ℕ) (value : Ratio) → b ≡ a → place ≡ position → ChanceGoes n ts → ChildGoes ts
-      → MatchBool a (IsChanceValue g c player n 1 zero_ratio ts value) (IsValueOf g c player position ts value) → MatchBool b (IsChanceValue h d player (f n) 1 zero_ratio (map_trees f ts) value) (IsValueOf h d player place (map_trees f ts) value)
+      → MatchBool a (IsChanceValue g c player n 1 zero_ratio ts value) (IsChildValue g c player position ts value) → MatchBool b (IsChanceValue h d player (f n) 1 zero_ratio (map_trees f ts) value) (IsChildValue h d player place (map_trees f ts) value)
   below_goes n ts true true position place value e p chance child v = chance value v
-  below_goes n ts false false position place value e p chance child v = subst (λ k. IsValueOf h d player k (map_trees f ts) value) (sym p) (child position value v)
+  below_goes n ts false false position place value e p chance child v = subst (λ k. IsChildValue h d player k (map_trees f ts) value) (sym p) (child position value v)
   below_goes n ts true false position place value e p chance child v = absurd (true≢false (sym e))
   below_goes n ts false true position place value e p chance child v = absurd (true≢false e)
 
@@ -126,7 +126,7 @@ module _ (g h : Game) (c d : SetKey → ℕ) (player : ℕ) (f : Node → Node) 
         let both = all_parts (λ e. IsAlike g h c d player f e.node) (flatten t) (flatten_all ts) all in
         (v.0, v.1, v.2, value_goes t v.0 both.0 v.3, subst (λ q. MultipliesTo q v.0 v.1) (sym (a.chance k)) v.4, v.5, chance_goes ts n (k + 1) v.2 value a both.1 v.6)
 
-    child_goes : (ts : Trees Node) (position : ℕ) (value : Ratio) → AreAlike g h c d player f (flatten_all ts) → IsValueOf g c player position ts value → IsValueOf h d player position (map_trees f ts) value
+    child_goes : (ts : Trees Node) (position : ℕ) (value : Ratio) → AreAlike g h c d player f (flatten_all ts) → IsChildValue g c player position ts value → IsChildValue h d player position (map_trees f ts) value
     child_goes none position value all v = absurd v
     child_goes (more t ts) zero value all v = absurd v
     child_goes (more t ts) (suc zero) value all v = let both = all_parts (λ e. IsAlike g h c d player f e.node) (flatten t) (flatten_all ts) all in value_goes t value both.0 v

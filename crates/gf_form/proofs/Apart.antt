@@ -16,7 +16,7 @@ use Rattle.gf_tree.specs.Spellable.{IsSpellable}
 use Rattle.gf_tree.proofs.Uses.{Has, contains, has_map}
 use Rattle.gf_tree.proofs.Members.{map_same}
 use Rattle.gf_form.specs.Strategies.{choice_at, strategies}
-use Rattle.gf_form.specs.Plays.{Step, Play, after, is_chosen, plays, plays_from, HasActions}
+use Rattle.gf_form.specs.Plays.{Step, Play, from_node, is_chosen, plays, plays_from, HasActions}
 use Rattle.gf_form.specs.Reduced.{is_own_choice, agrees, comes_to, is_relevant, reduced}
 use Rattle.gf_form.proofs.Chosen.{his_actions}
 use Rattle.gf_form.proofs.Following.{IsPlayOf, play_of, taken_child}
@@ -106,10 +106,10 @@ module _ (g : Game) (game : IsGame g) (spellable : IsSpellable g) (player : ℕ)
         let child = taken_child (more t ts) n 1 one.0 (play_of (more t ts) n 1 one.0 one.1) in
         (one.0, one.1, one.2, ([], n, child.0, child.1.steps, sym (ap (λ (p : Play). p.steps) child.3), this_set n.set here))
 
-    behind : (n : Node) (k : ℕ) (ps : List Play) → is_own_choice c player (record { node = n; taken = k }) ≡ true → Goes ps → Goes (map (after n k) ps)
+    behind : (n : Node) (k : ℕ) (ps : List Play) → is_own_choice c player (record { node = n; taken = k }) ≡ true → Goes ps → Goes (map (from_node n k) ps)
     behind n k ps move one = (
-      after n k one.0,
-      has_map (after n k) ps one.0 one.1,
+      from_node n k one.0,
+      has_map (from_node n k) ps one.0 one.1,
       and_from _ _ move one.2,
       (record { node = n; taken = k } ∷ one.3.0, one.3.1, one.3.2, one.3.3, ap (λ steps. record { node = n; taken = k } ∷ steps) one.3.4, one.3.5),
     )
@@ -128,14 +128,14 @@ module _ (g : Game) (game : IsGame g) (spellable : IsSpellable g) (player : ℕ)
       goes_on_in none n k children later p i h = absurd i
       goes_on_in (more t ts) n k children later p (inl i) h =
           let both = all_parts (HasChildren g) (flatten t) (flatten_all ts) children in
-          let comes : comes_to c key (after n k i.0).steps ≡ true = ap (λ (q : Play). comes_to c key q.steps) i.2 ∙ h in
+          let comes : comes_to c key (from_node n k i.0).steps ≡ true = ap (λ (q : Play). comes_to c key q.steps) i.2 ∙ h in
           let below = and_parts (is_own_choice c key.player (record { node = n; taken = k })) (comes_to c key i.0.steps)
           (subst (λ b. (b || (is_own_choice c key.player (record { node = n; taken = k }) && comes_to c key i.0.steps)) ≡ true) later comes) in
-          wider (map (after n k) (plays t)) (plays_from n k (more t ts)) (λ q j. in_joined (map (after n k) (plays t)) (plays_from n (k + 1) ts) q (inl j))
+          wider (map (from_node n k) (plays t)) (plays_from n k (more t ts)) (λ q j. in_joined (map (from_node n k) (plays t)) (plays_from n (k + 1) ts) q (inl j))
           (behind n k (plays t) (subst (λ p. is_own_choice c p (record { node = n; taken = k }) ≡ true) own below.0) (goes_on t both.0 i.0 i.1 below.1))
       goes_on_in (more t ts) n k children later p (inr i) h =
           let both = all_parts (HasChildren g) (flatten t) (flatten_all ts) children in
-          wider (plays_from n (k + 1) ts) (plays_from n k (more t ts)) (λ q j. in_joined (map (after n k) (plays t)) (plays_from n (k + 1) ts) q (inr j)) (goes_on_in ts n (k + 1) both.1 later p i h)
+          wider (plays_from n (k + 1) ts) (plays_from n k (more t ts)) (λ q j. in_joined (map (from_node n k) (plays t)) (plays_from n (k + 1) ts) q (inr j)) (goes_on_in ts n (k + 1) both.1 later p i h)
 
     pub passing_play : is_relevant g c key ≡ true → Goes (plays g.tree)
     passing_play relevant = let one = from_any (λ p. comes_to c key p.steps) (plays g.tree) relevant in goes_on g.tree game.children one.0 one.1 one.2

@@ -15,9 +15,9 @@ use Rattle.gf_tree.specs.Description.{SetKey}
 use Rattle.gf_tree.specs.Game.{Node, Game, IsGame, HasChildren, set_at}
 use Rattle.gf_tree.specs.Spellable.{IsSpellable}
 use Rattle.gf_fraction.specs.Rational.{IsEqual, zero_ratio, one_ratio, plus, times, total}
-use Rattle.gf_form.specs.Plays.{Play, after, is_chosen}
+use Rattle.gf_form.specs.Plays.{Play, from_node, is_chosen}
 use Rattle.gf_form.specs.Payoff.{probability, payoff_at, payoff, play_probability, play_payoff}
-use Rattle.gf_form.specs.BottomUp.{IsValue, IsChanceValue, IsValueOf}
+use Rattle.gf_form.specs.BottomUp.{IsValue, IsChanceValue, IsChildValue}
 use Rattle.gf_fraction.proofs.Rationals.{equal_refl, plus_both, plus_zero, plus_comm, plus_assoc, times_comm, times_assoc, times_plus, times_zero, times_one, IsAbove, plus_above, times_above}
 use Rattle.gf_fraction.proofs.Chains.{◌then◌, back, plus_left, plus_right, times_left, times_right, plus_across}
 use Rattle.gf_form.proofs.Denominators.{probability_above, payoff_above, payoff_fraction, play_probability_above, worth_above}
@@ -88,7 +88,7 @@ module _ (g : Game) (game : IsGame g) (spellable : IsSpellable g) (player : ℕ)
       → Pays x (followed_in choices t) → MultipliesTo (q n k) x y → AddsTo sum y next → Adds n (k + 1) next ts value → Adds n k sum (more t ts) value
   one_more n k sum value x y next t ts chosen above pays product adds others =
       let ps = followed_in choices t in
-      let first = map (after n k) ps in
+      let first = map (from_node n k) ps in
       let later = followed choices n (k + 1) ts in
       let all : followed choices n k (more t ts) ≡ first ++ later = first_chosen choices n k t ts (chosen k) in
       let x_above = pays.paid.left in
@@ -152,7 +152,7 @@ module _ (g : Game) (game : IsGame g) (spellable : IsSpellable g) (player : ℕ)
   ChanceAdds n ts = (sum value : Ratio) → ((k : ℕ) → is_chosen choices (record { node = n; taken = k }) ≡ true) → IsAbove sum → IsChanceValue g choices player n 1 sum ts value → Adds n 1 sum ts value
 
   abbrev ChildPays : Node → Trees Node → Type 0
-  ChildPays n ts = (key : SetKey) (value : Ratio) → n.set ≡ Some key → (key.player == 0) ≡ false → IsValueOf g choices player (choices key) ts value → Pays (plus (own n) value) (followed choices n 1 ts)
+  ChildPays n ts = (key : SetKey) (value : Ratio) → n.set ≡ Some key → (key.player == 0) ≡ false → IsChildValue g choices player (choices key) ts value → Pays (plus (own n) value) (followed choices n 1 ts)
 
   chance_pays : (n : Node) (ts : Trees Node) (key : SetKey) (below value : Ratio) → n.set ≡ Some key → (key.player == 0) ≡ true → option_map (λ set. length set.actions) (set_at g key) ≡ Some (count ts)
       → ChanceAdds n ts → IsChanceValue g choices player n 1 zero_ratio ts below → AddsTo (own n) below value → Pays value (followed_in choices (branch n ts))
@@ -169,7 +169,7 @@ module _ (g : Game) (game : IsGame g) (spellable : IsSpellable g) (player : ℕ)
       })
 
   player_pays : (n : Node) (ts : Trees Node) (key : SetKey) (below value : Ratio) → n.set ≡ Some key → (key.player == 0) ≡ false → option_map (λ set. length set.actions) (set_at g key) ≡ Some (count ts)
-      → ChildPays n ts → IsValueOf g choices player (choices key) ts below → AddsTo (own n) below value → Pays value (followed_in choices (branch n ts))
+      → ChildPays n ts → IsChildValue g choices player (choices key) ts below → AddsTo (own n) below value → Pays value (followed_in choices (branch n ts))
   player_pays n ts key below value at personal children child h adds =
       let some = some_child g game spellable choices n ts key children in
       let p = child key below at personal h in
@@ -185,12 +185,12 @@ module _ (g : Game) (game : IsGame g) (spellable : IsSpellable g) (player : ℕ)
       by_count (more t ts) e is = absurd (omega arith)
 
       by_kind : (key : SetKey) (b : Bool) (below : Ratio) → n.set ≡ Some key → (key.player == 0) ≡ b → option_map (λ set. length set.actions) (set_at g key) ≡ Some (count ts)
-          → MatchBool b (IsChanceValue g choices player n 1 zero_ratio ts below) (IsValueOf g choices player (choices key) ts below) → AddsTo (own n) below value → Pays value (followed_in choices (branch n ts))
+          → MatchBool b (IsChanceValue g choices player n 1 zero_ratio ts below) (IsChildValue g choices player (choices key) ts below) → AddsTo (own n) below value → Pays value (followed_in choices (branch n ts))
       by_kind key true below at is c v adds = chance_pays n ts key below value at is c chances v adds
       by_kind key false below at is c v adds = player_pays n ts key below value at is c child v adds
 
       by_set : (o : Option SetKey) → n.set ≡ o → MatchOption o (count ts ≡ 0) (λ key. option_map (λ set. length set.actions) (set_at g key) ≡ Some (count ts))
-          → MatchOption o (value ≡ own n) (λ key. (below : Ratio) × MatchBool (key.player == 0) (IsChanceValue g choices player n 1 zero_ratio ts below) (IsValueOf g choices player (choices key) ts below) × AddsTo (own n) below value)
+          → MatchOption o (value ≡ own n) (λ key. (below : Ratio) × MatchBool (key.player == 0) (IsChanceValue g choices player n 1 zero_ratio ts below) (IsChildValue g choices player (choices key) ts below) × AddsTo (own n) below value)
           → Pays value (followed_in choices (branch n ts))
       by_set None at c v = by_count ts c v
       by_set (Some key) at c v = by_kind key (key.player == 0) v.0 at refl c v.1 v.2
@@ -210,7 +210,7 @@ module _ (g : Game) (game : IsGame g) (spellable : IsSpellable g) (player : ℕ)
         one_more n k sum value h.0 h.1 h.2 t ts chosen above (tree_pays t h.0 c.0 h.3) h.4 h.5 (chance_adds ts n (k + 1) h.2 value chosen h.5.1.den_above_zero c.1 h.6)
 
     child_pays : (ts : Trees Node) (n : Node) (key : SetKey) (k a : ℕ) (value : Ratio) → n.set ≡ Some key → (key.player == 0) ≡ false → choices key + 1 ≡ k + a → AllByRecursion (HasChildren g) (flatten_all ts)
-        → IsValueOf g choices player a ts value → Pays (plus (own n) value) (followed choices n k ts)
+        → IsChildValue g choices player a ts value → Pays (plus (own n) value) (followed choices n k ts)
     child_pays none n key k a value at personal place children h = absurd h
     child_pays (more t ts) n key k zero value at personal place children h = absurd h
     child_pays (more t ts) n key k (suc zero) value at personal place children h =
@@ -224,7 +224,7 @@ module _ (g : Game) (game : IsGame g) (spellable : IsSpellable g) (player : ℕ)
   value_is_payoff value h = (tree_pays g.tree value game.children h).paid
 
   fraction_at : (n : Node) (ts : Trees Node) (value : Ratio) (o : Option SetKey)
-      → MatchOption o (value ≡ own n) (λ key. (below : Ratio) × MatchBool (key.player == 0) (IsChanceValue g choices player n 1 zero_ratio ts below) (IsValueOf g choices player (choices key) ts below) × AddsTo (own n) below value)
+      → MatchOption o (value ≡ own n) (λ key. (below : Ratio) × MatchBool (key.player == 0) (IsChanceValue g choices player n 1 zero_ratio ts below) (IsChildValue g choices player (choices key) ts below) × AddsTo (own n) below value)
       → IsFraction value
   fraction_at n ts value None h = subst IsFraction (sym h) (payoff_fraction g spellable player n)
   fraction_at n ts value (Some key) h = h.2.1

@@ -13,7 +13,7 @@ use Rattle.gf_tree.specs.PrefixOrder.{flatten, flatten_all}
 use Rattle.gf_tree.specs.Description.{SetKey}
 use Rattle.gf_tree.specs.Game.{Node, Game, HasChildren, set_at}
 use Rattle.gf_tree.proofs.Uses.{Has, mapped_from}
-use Rattle.gf_form.specs.Plays.{Step, Play, after, plays, plays_from, is_chosen, follows, PartAtChance}
+use Rattle.gf_form.specs.Plays.{Step, Play, from_node, plays, plays_from, is_chosen, follows, PartAtChance}
 
 -- ---- a play's moves are the choices
 
@@ -63,15 +63,15 @@ in_either (z ∷ xs) ys x (inr h) = elim (in_either xs ys x h) [ inl i ↦ inl (
 -- a play from the node on, of one of these children, the first of which has position k
 abbrev pub IsPlayOf : Node → ℕ → Trees Node → Play → Type 0
 IsPlayOf n k none p = ⊥
-IsPlayOf n k (more t ts) p = ((below : Play) × Has (plays t) below × (after n k below ≡ p)) ⊎ IsPlayOf n (k + 1) ts p
+IsPlayOf n k (more t ts) p = ((below : Play) × Has (plays t) below × (from_node n k below ≡ p)) ⊎ IsPlayOf n (k + 1) ts p
 
 pub play_of : (ts : Trees Node) (n : Node) (k : ℕ) (p : Play) → Has (plays_from n k ts) p → IsPlayOf n k ts p
 play_of none n k p h = absurd h
 play_of (more t ts) n k p h =
-    elim (in_either (map (after n k) (plays t)) (plays_from n (k + 1) ts) p h) [ inl i ↦ inl (mapped_from (after n k) (plays t) p i) | inr i ↦ inr (play_of ts n (k + 1) p i) ]
+    elim (in_either (map (from_node n k) (plays t)) (plays_from n (k + 1) ts) p h) [ inl i ↦ inl (mapped_from (from_node n k) (plays t) p i) | inr i ↦ inr (play_of ts n (k + 1) p i) ]
 
 -- the child that it takes has this position or a later one
-pub taken_child : (ts : Trees Node) (n : Node) (k : ℕ) (p : Play) → IsPlayOf n k ts p → (j : ℕ) × (below : Play) × (k ≤ j) × (after n j below ≡ p)
+pub taken_child : (ts : Trees Node) (n : Node) (k : ℕ) (p : Play) → IsPlayOf n k ts p → (j : ℕ) × (below : Play) × (k ≤ j) × (from_node n j below ≡ p)
 taken_child none n k p h = absurd h
 taken_child (more t ts) n k p (inl i) = (k, i.0, omega arith, i.2)
 taken_child (more t ts) n k p (inr i) = let c = taken_child ts n (k + 1) p i in (c.0, c.1, omega (arith, c.2), c.3)
@@ -84,10 +84,10 @@ module _ (choices : SetKey → ℕ) where
   SameOrPart p q = (p ≡ q) ⊎ PartAtChance p q
 
   -- two different children are taken by chance alone
-  part_here : (n : Node) (key : SetKey) (j k : ℕ) (p q : Play) → n.set ≡ Some key → ¬ (j ≡ k) → Follows (after n j p) → Follows (after n k q) → PartAtChance (after n j p) (after n k q)
+  part_here : (n : Node) (key : SetKey) (j k : ℕ) (p q : Play) → n.set ≡ Some key → ¬ (j ≡ k) → Follows (from_node n j p) → Follows (from_node n k q) → PartAtChance (from_node n j p) (from_node n k q)
   part_here n key j k p q at differ hp hq = by_kind (key.player == 0) refl
     where
-      by_kind : (b : Bool) → (key.player == 0) ≡ b → PartAtChance (after n j p) (after n k q)
+      by_kind : (b : Bool) → (key.player == 0) ≡ b → PartAtChance (from_node n j p) (from_node n k q)
       by_kind true e = record {
         common = [];
         node = n;
@@ -104,11 +104,11 @@ module _ (choices : SetKey → ℕ) where
       by_kind false e =
           let personal = eqb-false key.player 0 e in
           let above : 0 < key.player = omega (arith, personal) in
-          let to_j = ((follows_moves choices (after n j p)).0 hp).0 key at above in
-          let to_k = ((follows_moves choices (after n k q)).0 hq).0 key at above in
+          let to_j = ((follows_moves choices (from_node n j p)).0 hp).0 key at above in
+          let to_k = ((follows_moves choices (from_node n k q)).0 hq).0 key at above in
           absurd (differ (sym to_j ∙ to_k))
 
-  part_behind : (n : Node) (k : ℕ) (p q : Play) → PartAtChance p q → PartAtChance (after n k p) (after n k q)
+  part_behind : (n : Node) (k : ℕ) (p q : Play) → PartAtChance p q → PartAtChance (from_node n k p) (from_node n k q)
   part_behind n k p q h = record {
     common = record { node = n; taken = k } ∷ h.common;
     node = h.node;
@@ -123,17 +123,17 @@ module _ (choices : SetKey → ℕ) where
     second_steps = ap (λ steps. record { node = n; taken = k } ∷ steps) h.second_steps;
   }
 
-  follows_below : (n : Node) (k : ℕ) (p : Play) → Follows (after n k p) → Follows p
+  follows_below : (n : Node) (k : ℕ) (p : Play) → Follows (from_node n k p) → Follows p
   follows_below n k p h = (and_parts (is_chosen choices (record { node = n; taken = k })) (follows choices p) h).1
 
-  different : (n : Node) (key : SetKey) (j k : ℕ) (below above p q : Play) → n.set ≡ Some key → ¬ (j ≡ k) → after n j below ≡ p → after n k above ≡ q → Follows p → Follows q → SameOrPart p q
+  different : (n : Node) (key : SetKey) (j k : ℕ) (below above p q : Play) → n.set ≡ Some key → ¬ (j ≡ k) → from_node n j below ≡ p → from_node n k above ≡ q → Follows p → Follows q → SameOrPart p q
   different n key j k below above p q at differ ep eq hp hq =
       let part = part_here n key j k below above at differ (subst Follows (sym ep) hp) (subst Follows (sym eq) hq) in
-      inr (subst (λ x. PartAtChance x q) ep (subst (λ x. PartAtChance (after n j below) x) eq part))
+      inr (subst (λ x. PartAtChance x q) ep (subst (λ x. PartAtChance (from_node n j below) x) eq part))
 
-  alike_child : (n : Node) (k : ℕ) (below above p q : Play) → after n k below ≡ p → after n k above ≡ q → SameOrPart below above → SameOrPart p q
-  alike_child n k below above p q ep eq (inl e) = inl (sym ep ∙ ap (after n k) e ∙ eq)
-  alike_child n k below above p q ep eq (inr part) = inr (subst (λ x. PartAtChance x q) ep (subst (λ x. PartAtChance (after n k below) x) eq (part_behind n k below above part)))
+  alike_child : (n : Node) (k : ℕ) (below above p q : Play) → from_node n k below ≡ p → from_node n k above ≡ q → SameOrPart below above → SameOrPart p q
+  alike_child n k below above p q ep eq (inl e) = inl (sym ep ∙ ap (from_node n k) e ∙ eq)
+  alike_child n k below above p q ep eq (inr part) = inr (subst (λ x. PartAtChance x q) ep (subst (λ x. PartAtChance (from_node n k below) x) eq (part_behind n k below above part)))
 
   module _ (g : Game) where
     has_set : (o : Option SetKey) (n : ℕ) → 0 < n → MatchOption o (n ≡ 0) (λ key. option_map (λ set. length set.actions) (set_at g key) ≡ Some n) → (key : SetKey) × (o ≡ Some key)

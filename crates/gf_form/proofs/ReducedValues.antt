@@ -14,8 +14,8 @@ use Rattle.gf_tree.specs.Description.{SetKey, same_set}
 use Rattle.gf_tree.specs.Game.{Node, Game}
 use Rattle.gf_tree.proofs.TreesOnce.{same_set_equality}
 use Rattle.gf_tree.proofs.Uses.{Has, has_map}
-use Rattle.gf_form.specs.BottomUp.{IsChanceValue, IsMoveValue, IsTerminalValue, IsValue, IsValueOf}
-use Rattle.gf_form.specs.Plays.{Play, Step, after, is_chosen, plays, plays_from}
+use Rattle.gf_form.specs.BottomUp.{IsChanceValue, IsMoveValue, IsTerminalValue, IsValue, IsChildValue}
+use Rattle.gf_form.specs.Plays.{Play, Step, from_node, is_chosen, plays, plays_from}
 use Rattle.gf_form.specs.Reduced.{comes_to, is_own_choice, reduced_by}
 use Rattle.gf_form.specs.Strategies.{choices_by, full_profiles, strategies_at, strategy_at}
 use Rattle.gf_form.proofs.ReducedPays.{AreReducedAlike, all_own, his, his_steps, reduced_alike}
@@ -43,7 +43,7 @@ first_play : (t : Tree Node) → (p : Play) × Has (plays t) p
 first_play (branch n none) = (record { steps = []; leaf = n }, inl refl)
 first_play (branch n (more t ts)) =
     let p = first_play t in
-    (after n 1 p.0, in_front (map (after n 1) (plays t)) (plays_from n 2 ts) (after n 1 p.0) (has_map (after n 1) (plays t) p.0 p.1))
+    (from_node n 1 p.0, in_front (map (from_node n 1) (plays t)) (plays_from n 2 ts) (from_node n 1 p.0) (has_map (from_node n 1) (plays t) p.0 p.1))
 
 -- these steps, and then the play
 abbrev joined : List Step → Play → Play
@@ -68,13 +68,13 @@ module _ (g : Game) (c d : SetKey → ℕ) (player : ℕ) (agree : AgreeWhereCho
   abbrev ValueAt : (SetKey → ℕ) → Node → Trees Node → Ratio → Option SetKey → Type 0
   ValueAt choices n ts value o = MatchOption o (IsTerminalValue g player n value)
       (λ key. IsMoveValue g player n key (λ below. IsChanceValue g choices player n 1 zero_ratio ts below)
-      (λ below. IsValueOf g choices player (choices key) ts below) value)
+      (λ below. IsChildValue g choices player (choices key) ts below) value)
 
   abbrev ChanceToo : Node → Trees Node → Type 0
   ChanceToo n ts = (value : Ratio) → ((k : ℕ) → IsChosen n k) → IsChanceValue g c player n 1 zero_ratio ts value → IsChanceValue g d player n 1 zero_ratio ts value
 
   abbrev ChildToo : Node → Trees Node → Type 0
-  ChildToo n ts = (position : ℕ) (value : Ratio) → IsChosen n position → IsValueOf g c player position ts value → IsValueOf g d player position ts value
+  ChildToo n ts = (position : ℕ) (value : Ratio) → IsChosen n position → IsChildValue g c player position ts value → IsChildValue g d player position ts value
 
   at_chance : (n : Node) (key : SetKey) → n.set ≡ Some key → (key.player == 0) ≡ true → (k : ℕ) → IsChosen n k
   at_chance n key at e k =
@@ -87,22 +87,22 @@ module _ (g : Game) (c d : SetKey → ℕ) (player : ℕ) (agree : AgreeWhereCho
 
   -- a node with a child stands on a play
   choice_too : (n : Node) (ts : Trees Node) (before : List Step) (key : SetKey) (position : ℕ) (value : Ratio) → GoOn before (plays (branch n ts)) → list_all (is_chosen c) before ≡ true
-      → n.set ≡ Some key → 0 < key.player → IsValueOf g c player position ts value → c key ≡ d key
+      → n.set ≡ Some key → 0 < key.player → IsChildValue g c player position ts value → c key ≡ d key
   choice_too n none before key position value on chosen at above v = absurd v
   choice_too n (more t ts) before key position value on chosen at above v =
       let p = first_play t in
-      let there = on (after n 1 p.0) (in_front (map (after n 1) (plays t)) (plays_from n 2 ts) (after n 1 p.0) (has_map (after n 1) (plays t) p.0 p.1)) in
+      let there = on (from_node n 1 p.0) (in_front (map (from_node n 1) (plays t)) (plays_from n 2 ts) (from_node n 1 p.0) (has_map (from_node n 1) (plays t) p.0 p.1)) in
       agree before p.0.steps n 1 p.0.leaf key there chosen at above
 
   below_too : (n : Node) (ts : Trees Node) (before : List Step) (key : SetKey) (below : Ratio) → GoOn before (plays (branch n ts)) → list_all (is_chosen c) before ≡ true → n.set ≡ Some key
       → ChanceToo n ts → ChildToo n ts → (b : Bool) → (key.player == 0) ≡ b
-      → MatchBool b (IsChanceValue g c player n 1 zero_ratio ts below) (IsValueOf g c player (c key) ts below)
-      → MatchBool b (IsChanceValue g d player n 1 zero_ratio ts below) (IsValueOf g d player (d key) ts below)
+      → MatchBool b (IsChanceValue g c player n 1 zero_ratio ts below) (IsChildValue g c player (c key) ts below)
+      → MatchBool b (IsChanceValue g d player n 1 zero_ratio ts below) (IsChildValue g d player (d key) ts below)
   below_too n ts before key below on chosen at chance child true e v = chance below (at_chance n key at e) v
   below_too n ts before key below on chosen at chance child false e v =
       let personal = eqb-false key.player 0 e in
       let same = choice_too n ts before key (c key) below on chosen at (omega (arith, personal)) v in
-      subst (λ position. IsValueOf g d player position ts below) same (child (c key) below (at_choice n key at) v)
+      subst (λ position. IsChildValue g d player position ts below) same (child (c key) below (at_choice n key at) v)
 
   node_too : (n : Node) (ts : Trees Node) (value : Ratio) (before : List Step) → GoOn before (plays (branch n ts)) → list_all (is_chosen c) before ≡ true → ChanceToo n ts → ChildToo n ts
       → (o : Option SetKey) → n.set ≡ o → ValueAt c n ts value o → ValueAt d n ts value o
@@ -112,11 +112,11 @@ module _ (g : Game) (c d : SetKey → ℕ) (player : ℕ) (agree : AgreeWhereCho
 
   from_first : (n : Node) (k : ℕ) (t : Tree Node) (ts : Trees Node) (before : List Step) → GoOn before (plays_from n k (more t ts)) → GoOn (before ++ record { node = n; taken = k } ∷ []) (plays t)
   from_first n k t ts before on p i =
-      let there = on (after n k p) (in_front (map (after n k) (plays t)) (plays_from n (k + 1) ts) (after n k p) (has_map (after n k) (plays t) p i)) in
+      let there = on (from_node n k p) (in_front (map (from_node n k) (plays t)) (plays_from n (k + 1) ts) (from_node n k p) (has_map (from_node n k) (plays t) p i)) in
       subst (λ steps. Has (plays g.tree) (record { steps = steps; leaf = p.leaf })) (sym (append_assoc before (record { node = n; taken = k } ∷ []) p.steps)) there
 
   from_others : (n : Node) (k : ℕ) (t : Tree Node) (ts : Trees Node) (before : List Step) → GoOn before (plays_from n k (more t ts)) → GoOn before (plays_from n (k + 1) ts)
-  from_others n k t ts before on p i = on p (behind (map (after n k) (plays t)) (plays_from n (k + 1) ts) p i)
+  from_others n k t ts before on p i = on p (behind (map (from_node n k) (plays t)) (plays_from n (k + 1) ts) p i)
 
   all_of : (n : Node) (ts : Trees Node) (before : List Step) → GoOn before (plays (branch n ts)) → GoOn before (plays_from n 1 ts)
   all_of n none before on p i = absurd i
@@ -146,7 +146,7 @@ module _ (g : Game) (c d : SetKey → ℕ) (player : ℕ) (agree : AgreeWhereCho
 
     -- the child at this position is taken, which is the one of these at that position
     child_too : (ts : Trees Node) (n : Node) (k taken position : ℕ) (value : Ratio) (before : List Step) → GoOn before (plays_from n k ts) → list_all (is_chosen c) before ≡ true → IsChosen n taken
-        → suc taken ≡ position + k → IsValueOf g c player position ts value → IsValueOf g d player position ts value
+        → suc taken ≡ position + k → IsChildValue g c player position ts value → IsChildValue g d player position ts value
     child_too none n k taken position value before on chosen there e v = absurd v
     child_too (more t ts) n k taken zero value before on chosen there e v = absurd v
     child_too (more t ts) n k taken (suc zero) value before on chosen there e v =

@@ -17,7 +17,7 @@ use Rattle.gf_tree.specs.Spellable.{IsSpellable}
 use Rattle.gf_tree.proofs.Uses.{Has, contains}
 use Rattle.gf_tree.proofs.FirstUses.{of_filter}
 use Rattle.gf_fraction.specs.Rational.{IsEqual, zero_ratio, one_ratio, times, total}
-use Rattle.gf_form.specs.Plays.{Play, after, is_chosen, follows, plays, HasActions}
+use Rattle.gf_form.specs.Plays.{Play, from_node, is_chosen, follows, plays, HasActions}
 use Rattle.gf_form.specs.Payoff.{probability, play_probability}
 use Rattle.gf_fraction.proofs.Rationals.{equal_refl, plus_zero, plus_comm, times_comm, times_one, IsAbove}
 use Rattle.gf_fraction.proofs.Chains.{◌then◌, back, plus_left, plus_right, times_left, times_right}
@@ -63,7 +63,7 @@ module _ (g : Game) (game : IsGame g) (spellable : IsSpellable g) (choices : Set
 
   pub first_whole : (n : Node) (k : ℕ) (t : Tree Node) (ts : Trees Node) → is_chosen choices (record { node = n; taken = k }) ≡ true → IsWhole (followed_in choices t) → IsChanceOf n (k + 1) ts → IsChanceOf n k (more t ts)
   first_whole n k t ts chosen whole others =
-      let first = map (after n k) (followed_in choices t) in
+      let first = map (from_node n k) (followed_in choices t) in
       let later = followed choices n (k + 1) ts in
       subst (λ l. IsEqual (w l) (total (map (q n) (numbers_from k (count (more t ts)))))) (sym (first_chosen choices n k t ts chosen))
       (sum_joined (play_probability g) (play_probability_above g spellable) first later

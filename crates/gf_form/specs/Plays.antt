@@ -18,8 +18,8 @@ pub record Play : Type 0 where
   pub leaf : Node
 
 -- a play of a child, from the parent on
-abbrev pub after : Node → ℕ → Play → Play
-after n k play = record { steps = record { node = n; taken = k } ∷ play.steps; leaf = play.leaf }
+abbrev pub from_node : Node → ℕ → Play → Play
+from_node n k play = record { steps = record { node = n; taken = k } ∷ play.steps; leaf = play.leaf }
 
 -- all plays, in the order of their leaves
 abbrev mutual
@@ -30,7 +30,7 @@ abbrev mutual
   -- those that take one of these children of a node, the first of which has position k
   pub plays_from : Node → ℕ → Trees Node → List Play
   plays_from n k none = []
-  plays_from n k (more t ts) = map (after n k) (plays t) ++ plays_from n (k + 1) ts
+  plays_from n k (more t ts) = map (from_node n k) (plays t) ++ plays_from n (k + 1) ts
 
 abbrev pub nodes_of : Play → List Node
 nodes_of play = map (λ s. s.node) play.steps ++ play.leaf ∷ []

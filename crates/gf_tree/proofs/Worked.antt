@@ -22,7 +22,7 @@ use Rattle.gf_tree.specs.Grown.{grow, root}
 use Rattle.gf_tree.specs.Description.{Action, SetKey, InformationSet, Outcome, AddToOne, IsLottery, IsSet, set_of}
 use Rattle.gf_tree.specs.FileTree.{Use, FileNode, FileTree}
 use Rattle.gf_tree.specs.Sentence.{IsDescription, IsAction, IsInformationSet, IsPositive, IsMover, IsStep, IsResult, IsNode, Sentence, IsOutcomeDescription}
-use Rattle.gf_tree.specs.WorkedTrees.{half, toss, choice, two_paid}
+use Rattle.gf_tree.specs.WorkedTrees.{half, toss, choice, paying_two}
 
 -- ---- numbers
 
@@ -160,7 +160,7 @@ pub whole_is : (n : ℕ) → n < 2 ^ 127 → IsNumber (decimal n) (whole (pos n)
 unfolding digits number_text
 whole_is n h = whole_spelled n h
 
-pub two_are_paid : (name : List ℕ) (x y : ℕ) → x < 2 ^ 127 → y < 2 ^ 127 → IsOutcomeDescription 2 (Text name ∷ braced (Bare (decimal x) ∷ Bare (decimal y) ∷ [])) (two_paid name x y)
+pub two_are_paid : (name : List ℕ) (x y : ℕ) → x < 2 ^ 127 → y < 2 ^ 127 → IsOutcomeDescription 2 (Text name ∷ braced (Bare (decimal x) ∷ Bare (decimal y) ∷ [])) (paying_two name x y)
 two_are_paid name x y h k = (
   Bare (decimal x) ∷ Bare (decimal y) ∷ [],
   refl,
@@ -172,7 +172,7 @@ two_are_paid name x y h k = (
 abbrev pub both_paid : (n : ℕ) (name : List ℕ) (x y : ℕ) → IsSmall n → x < 2 ^ 127 → y < 2 ^ 127 → SaidResult 2
 both_paid n name x y h k l = record {
   tokens = Bare (decimal n) ∷ Text name ∷ braced (Bare (decimal x) ∷ Bare (decimal y) ∷ []);
-  outcome = Some (record { key = n; description = Some (two_paid name x y) });
+  outcome = Some (record { key = n; description = Some (paying_two name x y) });
   says = (decimal n, Text name ∷ braced (Bare (decimal x) ∷ Bare (decimal y) ∷ []), refl, numbered n h, two_are_paid name x y k l);
 }
 

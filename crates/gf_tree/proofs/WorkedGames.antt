@@ -15,7 +15,7 @@ use Rattle.gf_tree.specs.FileTree.{FileTree}
 use Rattle.gf_tree.specs.Game.{Game}
 use Rattle.gf_tree.specs.GameOf.{SpellsGame}
 use Rattle.gf_tree.specs.Learned.{LearnsGame}
-use Rattle.gf_tree.specs.WorkedTrees.{toss, choice, two_paid, five, five_file, bonus, bonus_file, forgetful, forgetful_file, noted, noted_file, paying}
+use Rattle.gf_tree.specs.WorkedTrees.{toss, choice, paying_two, five, five_file, bonus, bonus_file, forgetful, forgetful_file, noted, noted_file, paying}
 use Rattle.gf_tree.proofs.LearnedGames.{game_learned_once}
 use Rattle.gf_tree.proofs.Worked.{half_by_point, half_by_slash, half_by_places, tenth, tenth_by_exponent, toss_is_set, choice_is_set, no_description, said_toss, said_choice, no_outcome, again, one_paid, both_paid, SaidNode, at_end, at_chance, at_player, file_tokens, file_of, is_said, said_tokens, each_said, one_paid_with_comma, whole_is}
 
@@ -80,7 +80,7 @@ bonus_learned : LearnsGame (file_of bonus.title bonus.players bonus_said bonus_c
 bonus_learned = record {
   kept = record { title = refl; comment = refl; players = refl; tree = refl };
   sets = (toss (codes "n"), refl, (choice (codes "i") (codes "L" ∷ codes "R" ∷ []), refl, (inl refl, refl)));
-  outcomes = (two_paid (codes "bonus") 1 0, refl, (two_paid (codes "x") 2 0, refl, (two_paid (codes "y") 3 1, refl, refl)));
+  outcomes = (paying_two (codes "bonus") 1 0, refl, (paying_two (codes "x") 2 0, refl, (paying_two (codes "y") 3 1, refl, refl)));
   each_set = (toss_is_set 2 1 (codes "n") (omega arith), (choice_is_set 2 0 1 (codes "i") (codes "L") (codes "R" ∷ []) (omega arith) (omega arith), tt));
   each_outcome = (record { number_from_one = omega arith; one_payoff_each = refl }, (record { number_from_one = omega arith; one_payoff_each = refl }, (record { number_from_one = omega arith; one_payoff_each = refl }, tt)));
   children = (refl, (refl, (refl, (refl, (refl, (refl, (refl, tt)))))));

@@ -34,5 +34,5 @@ abbrev pub player_keys : Game → ℕ → List SetKey
 player_keys g player = map (λ s. s.key) (player_sets g player)
 
 -- the numbers of the outcomes, in order of first use
-abbrev pub outcome_keys : Game → List ℕ
-outcome_keys g = map (λ o. o.key) g.outcomes
+abbrev pub outcome_numbers : Game → List ℕ
+outcome_numbers g = map (λ o. o.key) g.outcomes

@@ -60,8 +60,8 @@ five_file =
 
 -- ---- an outcome at an inner node, and a set with two nodes
 
-abbrev pub two_paid : List ℕ → ℕ → ℕ → Outcome
-two_paid name x y = record { name = name; payoffs = whole (pos x) ∷ whole (pos y) ∷ [] }
+abbrev pub paying_two : List ℕ → ℕ → ℕ → Outcome
+paying_two name x y = record { name = name; payoffs = whole (pos x) ∷ whole (pos y) ∷ [] }
 
 abbrev pub bonus : Game
 bonus = record {
@@ -70,7 +70,7 @@ bonus = record {
   players = codes "A" ∷ codes "B" ∷ [];
   tree = moves (set_of 0 1) None (two (moves (set_of 1 1) (Some 1) (two (ends (Some 2)) (ends None))) (moves (set_of 1 1) None (two (ends None) (ends (Some 3)))));
   sets = described (set_of 0 1) (toss (codes "n")) ∷ described (set_of 1 1) (choice (codes "i") (codes "L" ∷ codes "R" ∷ [])) ∷ [];
-  outcomes = described 1 (two_paid (codes "bonus") 1 0) ∷ described 2 (two_paid (codes "x") 2 0) ∷ described 3 (two_paid (codes "y") 3 1) ∷ [];
+  outcomes = described 1 (paying_two (codes "bonus") 1 0) ∷ described 2 (paying_two (codes "x") 2 0) ∷ described 3 (paying_two (codes "y") 3 1) ∷ [];
 }
 
 abbrev pub bonus_file : List ℕ

@@ -12,7 +12,7 @@ ghost use Rattle.gf_tree.specs.FileTree.{Use, FileTree, set_uses, outcome_uses};
 ghost use Rattle.gf_tree.specs.Sentence.{Sentence};
 ghost use Rattle.gf_tree.specs.Consistent.{Describes, AreConsistent, IsConsistent};
 ghost use Rattle.gf_tree.specs.FiniteMap.{Described, first_uses};
-ghost use Rattle.gf_tree.specs.FirstUse.{first_use_numbers, outcome_keys, player_keys, sets_of};
+ghost use Rattle.gf_tree.specs.FirstUse.{first_use_numbers, outcome_numbers, player_keys, sets_of};
 ghost use Rattle.gf_tree.specs.Renumbering.{IsRenumbering, Renumbering, renumbered};
 ghost use Rattle.gf_tree.specs.Spellable.{IsSpellable};
 ghost use Rattle.gf_tree.specs.Learned.{Learns, LearnsGame};
@@ -59,7 +59,7 @@ pub fn keys_in_order()
 pub fn keys_by_first_use()
     ensures sets { (g : Game) (player : ℕ) → IsGame g
         → player_keys g player ≡ first_uses same_set (sets_of player (used_sets g.tree)) }
-    ensures outcomes { (g : Game) → IsGame g → outcome_keys g ≡ first_uses nat_eq (used_outcomes g.tree) }
+    ensures outcomes { (g : Game) → IsGame g → outcome_numbers g ≡ first_uses nat_eq (used_outcomes g.tree) }
 {}
 
 /// A game by its new numbers is a game, and first-use numbers are new numbers of its sets and outcomes.
