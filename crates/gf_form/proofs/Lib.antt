@@ -11,6 +11,7 @@ pub mod Forms
 pub mod KnownSets
 pub mod Lookups
 pub mod Lotteries
+pub mod NoPlayer
 pub mod PlaySums
 pub mod ReducedForms
 pub mod ReducedPays

@@ -5,16 +5,16 @@ ghost use Rattle.std.specs.List.{AllByRecursion, AllZip, Contains};
 ghost use Rattle.gf_fraction.specs.Ratio.{Ratio, whole};
 ghost use Rattle.gf_nfg.specs.Profiles.{product};
 ghost use Rattle.gf_nfg.specs.Table.{IsTable, Table};
-ghost use Rattle.gf_tree.specs.Description.{SetKey};
-ghost use Rattle.gf_tree.specs.Game.{Game, IsGame};
+ghost use Rattle.gf_tree.specs.Description.{SetKey, set_of};
+ghost use Rattle.gf_tree.specs.Game.{Game, IsGame, Node};
 ghost use Rattle.gf_tree.specs.FirstUse.{player_keys};
 ghost use Rattle.gf_tree.specs.Spellable.{IsSpellable};
 ghost use Rattle.gf_tree.specs.WorkedTrees.{bonus, forgetful};
 ghost use Rattle.gf_canon.specs.SameGame.{SameGame};
-ghost use Rattle.gf_fraction.specs.Rational.{IsEqual, one_ratio, total};
+ghost use Rattle.gf_fraction.specs.Rational.{IsEqual, one_ratio, total, zero_ratio};
 ghost use Rattle.gf_form.specs.Strategies.{action_counts, choice_at, choices_by, full_profiles, players_of, strategies, strategies_at, strategy_label};
 ghost use Rattle.gf_form.specs.Plays.{follows, plays, HasActions, PartAtChance, Play};
-ghost use Rattle.gf_form.specs.Payoff.{payoff, play_probability};
+ghost use Rattle.gf_form.specs.Payoff.{payoff, payoff_at, play_probability};
 ghost use Rattle.gf_form.specs.BottomUp.{IsValue};
 ghost use Rattle.gf_form.specs.Refusal.{HasTooManyProfiles, OverflowsAt};
 ghost use Rattle.gf_form.specs.StrategicForm.{IsStrategicForm, PaysFractions};
@@ -91,6 +91,12 @@ pub fn plays_follow_choices()
         → IsEqual (total (map (play_probability g) (filter (follows choices) (plays g.tree)))) one_ratio }
     ensures part_at_chance { (g : Game) (choices : SetKey → ℕ) (p q : Play) → IsGame g → Contains (plays g.tree) p → Contains (plays g.tree) q
         → follows choices p ≡ true → follows choices q ≡ true → (p ≡ q) ⊎ PartAtChance p q }
+{}
+
+/// Chance is no player: no strategy chooses at its sets, and nothing is paid to it.
+pub fn chance_is_no_player()
+    ensures choices { (g : Game) (all : List (List ℕ)) (number : ℕ) → choices_by g all (set_of 0 number) ≡ 0 }
+    ensures payoff { (g : Game) (n : Node) → payoff_at g 0 n ≡ zero_ratio }
 {}
 
 /// The strategies of a profile are those of its players, one of each, and they choose an action at each set.
