@@ -14,19 +14,23 @@ nothing_chosen : (keys : List SetKey) (key : SetKey) → choice_at keys [] key �
 nothing_chosen [] key = refl
 nothing_chosen (k ∷ keys) key = refl
 
-pub chance_chooses_nothing : (g : Game) (all : List (List ℕ)) (number : ℕ) → choices_by g all (set_of 0 number) ≡ 0
+pub chance_chooses_nothing : (g : Game) (all : List (List ℕ)) (number : ℕ)
+    → choices_by g all (set_of 0 number) ≡ 0
 chance_chooses_nothing g all number = nothing_chosen (player_keys g 0) (set_of 0 number)
 
 abbrev none_paid : Option Ratio
 none_paid = None
 
-nothing_paid : (o : Option Outcome) → option_and_then (λ outcome. at_position outcome.payoffs 0) o ≡ none_paid
+nothing_paid : (o : Option Outcome)
+    → option_and_then (λ outcome. at_position outcome.payoffs 0) o ≡ none_paid
 nothing_paid None = refl
 nothing_paid (Some outcome) = refl
 
 pub chance_is_paid_nothing : (g : Game) (n : Node) → payoff_at g 0 n ≡ zero_ratio
 chance_is_paid_nothing g n = by_outcome n.outcome
   where
-    by_outcome : (o : Option ℕ) → unwrap_or (option_and_then (λ number. option_and_then (λ outcome. at_position outcome.payoffs 0) (outcome_at g number)) o) zero_ratio ≡ zero_ratio
+    by_outcome : (o : Option ℕ) → unwrap_or (option_and_then
+        (λ number. option_and_then (λ outcome. at_position outcome.payoffs 0) (outcome_at g number))
+        o) zero_ratio ≡ zero_ratio
     by_outcome None = refl
     by_outcome (Some number) = λ i. unwrap_or (nothing_paid (outcome_at g number) i) zero_ratio

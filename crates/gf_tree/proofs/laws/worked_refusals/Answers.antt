@@ -1,5 +1,9 @@
-use Rattle.gf_tree.proofs.WorkedLotteries.{too_likely_is_none, unlikely_is_none, negative_is_none, unfitting_is_none}
-use Rattle.gf_tree.proofs.WorkedNone.{undescribed_is_none, mismatched_is_none, unknown_player_is_none, other_action_is_none, fewer_actions_is_none, more_actions_is_none, unpaid_is_none, nobody_is_none}
+use Rattle.gf_tree.proofs.WorkedLotteries.{too_likely_is_none, unlikely_is_none}
+use Rattle.gf_tree.proofs.WorkedLotteries.{negative_is_none, unfitting_is_none}
+use Rattle.gf_tree.proofs.WorkedNone.{undescribed_is_none, mismatched_is_none}
+use Rattle.gf_tree.proofs.WorkedNone.{unknown_player_is_none, other_action_is_none}
+use Rattle.gf_tree.proofs.WorkedNone.{fewer_actions_is_none, more_actions_is_none}
+use Rattle.gf_tree.proofs.WorkedNone.{unpaid_is_none, nobody_is_none}
 use Rattle.gf_tree.proofs.laws.worked_refusals.Goals as goal
 
 pub returns-clause-undescribed : goal.returns-clause-undescribed
