@@ -6,16 +6,20 @@ use Rattle.gf_nfg.specs.Profiles.{positions}
 use Rattle.gf_tree.specs.Description.{SetKey, same_set, set_of}
 use Rattle.gf_tree.specs.FiniteMap.{first_uses}
 use Rattle.gf_tree.specs.Game.{Game, IsGame, used_sets, used_outcomes}
-use Rattle.gf_tree.specs.Renumbering.{Renumbering, IsRenumbering, HasSet, HasOutcome, renumbered_set, renumbered}
+use Rattle.gf_tree.specs.Renumbering.{Renumbering, IsRenumbering, HasSet}
+use Rattle.gf_tree.specs.Renumbering.{HasOutcome, renumbered_set, renumbered}
 use Rattle.gf_canon.specs.SameGame.{Carries, SameGame}
-use Rattle.gf_tree.specs.FirstUse.{first_use_number, sets_of, first_use_numbers, player_keys, outcome_keys}
+use Rattle.gf_tree.specs.FirstUse.{first_use_number, sets_of, first_use_numbers}
+use Rattle.gf_tree.specs.FirstUse.{player_keys, outcome_numbers}
 use Rattle.gf_canon.specs.CanonicalGame.{canonical_game}
 use Rattle.gf_tree.proofs.Members.{filter_of_map, map_same}
 use Rattle.gf_tree.proofs.FirstUseNumbers.{number_kept}
 use Rattle.gf_tree.proofs.Carried.{carried_map}
-use Rattle.gf_tree.proofs.Renumberings.{Agree, agreed_games, composed, composed_games, sets_apart, outcomes_apart}
+use Rattle.gf_tree.proofs.Renumberings.{Agree, agreed_games, composed}
+use Rattle.gf_tree.proofs.Renumberings.{composed_games, sets_apart, outcomes_apart}
 use Rattle.gf_canon.proofs.SameGames.{carried_sets, carried_outcomes, same_back, same_on}
-use Rattle.gf_tree.proofs.RenumberedGames.{set_at_image, outcome_at_image, renumbered_is_game, own_set, first_use_is_renumbering}
+use Rattle.gf_tree.proofs.RenumberedGames.{set_at_image, outcome_at_image, renumbered_is_game}
+use Rattle.gf_tree.proofs.RenumberedGames.{own_set, first_use_is_renumbering}
 use Rattle.gf_tree.proofs.PlayerSets.{sets_by_first_use}
 use Rattle.gf_tree.proofs.FirstUses.{was_used, of_filter}
 use Rattle.gf_tree.proofs.TreesOnce.{same_set_equality}
@@ -25,7 +29,8 @@ use Rattle.gf_canon.proofs.NumbersInOrder.{numbered_in_order}
 
 -- ---- carried
 
-pub carries_to_renumbered : (g : Game) (r : Renumbering) → IsGame g → IsRenumbering g r → Carries r g (renumbered r g)
+pub carries_to_renumbered : (g : Game) (r : Renumbering) → IsGame g → IsRenumbering g r
+    → Carries r g (renumbered r g)
 carries_to_renumbered g r game h = record {
   renumbering = h;
   title = refl;
@@ -33,11 +38,13 @@ carries_to_renumbered g r game h = record {
   players = refl;
   tree = refl;
   sets = λ key i. sym (set_at_image g r game h key (has (used_sets g.tree) key i));
-  outcomes = λ number i. sym (outcome_at_image g r game h number (has (used_outcomes g.tree) number i));
+  outcomes =
+      λ number i. sym (outcome_at_image g r game h number (has (used_outcomes g.tree) number i));
 }
 
 -- a game is carried to the one by these new numbers, and to no other
-pub carried_is_renumbered : (r : Renumbering) (g h : Game) → IsGame g → IsGame h → Carries r g h → renumbered r g ≡ h
+pub carried_is_renumbered : (r : Renumbering) (g h : Game) → IsGame g → IsGame h → Carries r g h
+    → renumbered r g ≡ h
 carried_is_renumbered r g h game game' c =
     let sets =
     carried_map
@@ -63,20 +70,35 @@ carried_is_renumbered r g h game game' c =
     game.one_entry_each_outcome
     (game'.one_entry_each_outcome ∙ ap (first_uses nat_eq) (carried_outcomes r g h c))
     (λ k i. c.outcomes k (contains (used_outcomes g.tree) k i)) in
-    λ i. record { title = c.title i; comment = c.comment i; players = c.players i; tree = c.tree i; sets = sets i; outcomes = outcomes i }
+    λ i. record {
+      title = c.title i;
+      comment = c.comment i;
+      players = c.players i;
+      tree = c.tree i;
+      sets = sets i;
+      outcomes = outcomes i;
+    }
 
-pub carried_by_new_numbers : (r : Renumbering) (g h : Game) → IsGame g → IsGame h → Carries r g h ↔ (IsRenumbering g r × (renumbered r g ≡ h))
-carried_by_new_numbers r g h game game' = (λ c. (c.renumbering, carried_is_renumbered r g h game game' c), λ k. subst (Carries r g) k.1 (carries_to_renumbered g r game k.0))
+pub carried_by_new_numbers : (r : Renumbering) (g h : Game) → IsGame g → IsGame h
+    → Carries r g h ↔ (IsRenumbering g r × (renumbered r g ≡ h))
+carried_by_new_numbers r g h game game' = (
+  λ c. (c.renumbering, carried_is_renumbered r g h game game' c),
+  λ k. subst (Carries r g) k.1 (carries_to_renumbered g r game k.0),
+)
 
 -- ---- first-use numbers
 
-pub set_number_kept : (r : Renumbering) (g h : Game) → Carries r g h → (player number : ℕ) → HasSet g player number
-    → (first_use_numbers h).set player (r.set player number) ≡ (first_use_numbers g).set player number
+pub set_number_kept : (r : Renumbering) (g h : Game) → Carries r g h → (player number : ℕ)
+    → HasSet g player number
+    → (first_use_numbers h).set player (r.set player number)
+    ≡ (first_use_numbers g).set player number
 set_number_kept r g h c player number i =
     let key = set_of player number in
     let own = sets_of player (used_sets g.tree) in
     let mine = λ (k : SetKey). nat_eq k.player player in
-    let carried : sets_of player (used_sets h.tree) ≡ map (renumbered_set r) own = ap (sets_of player) (carried_sets r g h c) ∙ filter_of_map mine mine (renumbered_set r) (used_sets g.tree) (λ k j. refl) in
+    let carried : sets_of player (used_sets h.tree) ≡ map (renumbered_set r) own =
+    ap (sets_of player) (carried_sets r g h c)
+    ∙ filter_of_map mine mine (renumbered_set r) (used_sets g.tree) (λ k j. refl) in
     ap (λ ks. first_use_number same_set ks (renumbered_set r key)) carried
     ∙ number_kept
     same_set
@@ -86,65 +108,89 @@ set_number_kept r g h c player number i =
     (renumbered_set r)
     own
     key
-    (λ a b j k e. sets_apart g r c.renumbering a b (of_filter mine (used_sets g.tree) a j).0 (of_filter mine (used_sets g.tree) b k).0 e)
+    (λ a b j k e. sets_apart g r c.renumbering a b (of_filter mine (used_sets g.tree) a j).0
+    (of_filter mine (used_sets g.tree) b k).0 e)
     (own_set g key (has (used_sets g.tree) key i))
 
-pub outcome_number_kept : (r : Renumbering) (g h : Game) → Carries r g h → (number : ℕ) → HasOutcome g number → (first_use_numbers h).outcome (r.outcome number) ≡ (first_use_numbers g).outcome number
+pub outcome_number_kept : (r : Renumbering) (g h : Game)
+    → Carries r g h → (number : ℕ) → HasOutcome g number
+    → (first_use_numbers h).outcome (r.outcome number) ≡ (first_use_numbers g).outcome number
 outcome_number_kept r g h c number i =
     ap (λ ks. first_use_number nat_eq ks (r.outcome number)) (carried_outcomes r g h c)
-    ∙ number_kept nat_eq nat_eq Decides-eqb Decides-eqb r.outcome (used_outcomes g.tree) number (outcomes_apart g r c.renumbering) (has (used_outcomes g.tree) number i)
+    ∙ number_kept nat_eq nat_eq Decides-eqb Decides-eqb r.outcome (used_outcomes g.tree) number
+    (outcomes_apart g r c.renumbering) (has (used_outcomes g.tree) number i)
 
 pub sets_in_order : (g : Game) (player : ℕ) → IsGame g
-    → map (λ key. (first_use_numbers g).set player key.number) (player_keys g player) ≡ positions (length (player_keys g player))
+    → map (λ key. (first_use_numbers g).set player key.number) (player_keys g player)
+    ≡ positions (length (player_keys g player))
 sets_in_order g player game =
-    subst (λ keys. map (λ key. (first_use_numbers g).set player key.number) keys ≡ positions (length keys))
+    subst (λ keys.
+    map (λ key. (first_use_numbers g).set player key.number) keys ≡ positions (length keys))
     (sym (sets_by_first_use g player game))
-    (map_same (λ key. (first_use_numbers g).set player key.number) (first_use_number same_set own) (first_uses same_set own) number
+    (map_same (λ key. (first_use_numbers g).set player key.number) (first_use_number same_set own)
+    (first_uses same_set own) number
     ∙ numbered_in_order same_set same_set_equality own)
   where
     own : List SetKey
     own = sets_of player (used_sets g.tree)
 
-    number : (key : SetKey) → Has (first_uses same_set own) key → (first_use_numbers g).set player key.number ≡ first_use_number same_set own key
+    number : (key : SetKey) → Has (first_uses same_set own) key
+        → (first_use_numbers g).set player key.number ≡ first_use_number same_set own key
     number key i =
-        let mine = of_filter (λ (k : SetKey). nat_eq k.player player) (used_sets g.tree) key (was_used same_set own key i) in
+        let mine = of_filter (λ (k : SetKey). nat_eq k.player player) (used_sets g.tree) key
+        (was_used same_set own key i) in
         let is : player ≡ key.player = sym (eqb-true key.player player mine.1) in
         ap (λ p. first_use_number same_set own (record { player = p; number = key.number })) is
 
-pub outcomes_in_order : (g : Game) → IsGame g → map (first_use_numbers g).outcome (outcome_keys g) ≡ positions (length (outcome_keys g))
+pub outcomes_in_order : (g : Game) → IsGame g
+    → map (first_use_numbers g).outcome (outcome_numbers g) ≡ positions (length (outcome_numbers g))
 outcomes_in_order g game =
-    subst (λ numbers. map (first_use_numbers g).outcome numbers ≡ positions (length numbers)) (sym game.one_entry_each_outcome)
+    subst (λ numbers. map (first_use_numbers g).outcome numbers ≡ positions (length numbers))
+    (sym game.one_entry_each_outcome)
     (numbered_in_order nat_eq Decides-eqb (used_outcomes g.tree))
 
 -- ---- the canonical game
 
 pub canonical_is_game : (g : Game) → IsGame g → IsGame (canonical_game g)
-canonical_is_game g game = renumbered_is_game g (first_use_numbers g) game (first_use_is_renumbering g)
+canonical_is_game g game =
+    renumbered_is_game g (first_use_numbers g) game (first_use_is_renumbering g)
 
-pub carries_to_canonical : (g : Game) → IsGame g → Carries (first_use_numbers g) g (canonical_game g)
-carries_to_canonical g game = carries_to_renumbered g (first_use_numbers g) game (first_use_is_renumbering g)
+pub carries_to_canonical : (g : Game) → IsGame g
+    → Carries (first_use_numbers g) g (canonical_game g)
+carries_to_canonical g game =
+    carries_to_renumbered g (first_use_numbers g) game (first_use_is_renumbering g)
 
 pub canonical_is_same : (g : Game) → IsGame g → SameGame g (canonical_game g)
 canonical_is_same g game = (first_use_numbers g, carries_to_canonical g game)
 
-pub same_canonical : (g h : Game) → IsGame g → IsGame h → SameGame g h → canonical_game g ≡ canonical_game h
+pub same_canonical : (g h : Game) → IsGame g → IsGame h → SameGame g h
+    → canonical_game g ≡ canonical_game h
 same_canonical g h game game' (r, c) =
     sym (
-    ap canonical_game (sym (carried_is_renumbered r g h game game' c)) ∙ ap (λ s. renumbered s (renumbered r g)) (ap first_use_numbers (carried_is_renumbered r g h game game' c)) ∙ composed_games r (first_use_numbers h) g
+    ap canonical_game (sym (carried_is_renumbered r g h game game' c))
+    ∙ ap (λ s. renumbered s (renumbered r g))
+    (ap first_use_numbers (carried_is_renumbered r g h game game' c))
+    ∙ composed_games r (first_use_numbers h) g
     ∙ agreed_games (composed r (first_use_numbers h)) (first_use_numbers g) g game agree
     )
   where
     agree : Agree (composed r (first_use_numbers h)) (first_use_numbers g) g.tree
     agree = record {
-      sets = λ key i. let e = set_number_kept r g h c key.player key.number (contains (used_sets g.tree) key i) in λ j. record { player = key.player; number = e j };
-      outcomes = λ number i. outcome_number_kept r g h c number (contains (used_outcomes g.tree) number i);
+      sets = λ key i. let e =
+          set_number_kept r g h c key.player key.number (contains (used_sets g.tree) key i) in
+          λ j. record { player = key.player; number = e j };
+      outcomes =
+          λ number i. outcome_number_kept r g h c number (contains (used_outcomes g.tree) number i);
     }
 
-pub same_by_canonical : (g h : Game) → IsGame g → IsGame h → SameGame g h ↔ (canonical_game g ≡ canonical_game h)
+pub same_by_canonical : (g h : Game) → IsGame g → IsGame h
+    → SameGame g h ↔ (canonical_game g ≡ canonical_game h)
 same_by_canonical g h game game' = (
   same_canonical g h game game',
-  λ e. same_on g (canonical_game h) h (subst (SameGame g) e (canonical_is_same g game)) (same_back h (canonical_game h) game' (canonical_is_same h game')),
+  λ e. same_on g (canonical_game h) h (subst (SameGame g) e (canonical_is_same g game))
+      (same_back h (canonical_game h) game' (canonical_is_same h game')),
 )
 
 pub canonical_twice : (g : Game) → IsGame g → canonical_game (canonical_game g) ≡ canonical_game g
-canonical_twice g game = sym (same_canonical g (canonical_game g) game (canonical_is_game g game) (canonical_is_same g game))
+canonical_twice g game = sym
+    (same_canonical g (canonical_game g) game (canonical_is_game g game) (canonical_is_same g game))

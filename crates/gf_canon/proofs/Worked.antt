@@ -12,14 +12,16 @@ use Rattle.gf_canon.specs.SameGame.{Carries, SameGame}
 use Rattle.gf_tree.specs.FirstUse.{first_use_numbers}
 use Rattle.gf_canon.specs.CanonicalGame.{canonical_game}
 use Rattle.gf_canon.specs.GameText.{game_text}
-use Rattle.gf_canon.specs.WorkedGames.{numbered_five, five_text, bonus_text, no_players, no_players_text}
+use Rattle.gf_canon.specs.WorkedGames.{numbered_five, five_text, bonus_text, nobody, nobody_text}
 use Rattle.gf_canon.proofs.SameGames.{carried_sets, carried_outcomes}
 use Rattle.gf_canon.proofs.CanonicalGames.{same_by_canonical}
 
 pub five_numbered : five ≡ numbered_five 9 7 3 4
 five_numbered = refl
 
-pub five_first_uses : ((first_use_numbers five).set 0 9 ≡ 1) × ((first_use_numbers five).set 1 7 ≡ 1) × ((first_use_numbers five).set 1 3 ≡ 2) × ((first_use_numbers five).outcome 4 ≡ 1)
+pub five_first_uses : ((first_use_numbers five).set 0 9 ≡ 1)
+    × ((first_use_numbers five).set 1 7 ≡ 1) × ((first_use_numbers five).set 1 3 ≡ 2)
+    × ((first_use_numbers five).outcome 4 ≡ 1)
 five_first_uses = (refl, refl, refl, refl)
 
 pub canonical_five : canonical_game five ≡ numbered_five 1 1 2 1
@@ -33,8 +35,8 @@ pub text_of_bonus : game_text (canonical_game bonus) ≡ bonus_text
 unfolding digits number_text
 text_of_bonus = refl
 
-pub text_of_no_players : game_text (canonical_game no_players) ≡ no_players_text
-text_of_no_players = refl
+pub text_of_nobody : game_text (canonical_game nobody) ≡ nobody_text
+text_of_nobody = refl
 
 -- ---- the same by other numbers
 
@@ -48,10 +50,28 @@ copy_is_game =
       one_entry_each_set = refl;
       one_entry_each_outcome = refl;
       each_set = (
-        record { player = omega arith; number = omega arith; some_action = omega arith; actions = sets.0.actions },
+        record {
+          player = omega arith;
+          number = omega arith;
+          some_action = omega arith;
+          actions = sets.0.actions;
+        },
         (
-          record { player = omega arith; number = omega arith; some_action = omega arith; actions = sets.1.0.actions },
-          (record { player = omega arith; number = omega arith; some_action = omega arith; actions = sets.1.1.0.actions }, tt),
+          record {
+            player = omega arith;
+            number = omega arith;
+            some_action = omega arith;
+            actions = sets.1.0.actions;
+          },
+          (
+            record {
+              player = omega arith;
+              number = omega arith;
+              some_action = omega arith;
+              actions = sets.1.1.0.actions;
+            },
+            tt,
+          ),
         ),
       );
       each_outcome = (record { number_from_one = omega arith; one_payoff_each = refl }, tt);
@@ -61,7 +81,8 @@ copy_is_game =
 pub five_same : SameGame five (numbered_five 2 3 8 2)
 five_same = (same_by_canonical five (numbered_five 2 3 8 2) five_is_game copy_is_game).1 refl
 
-pub five_new_numbers : (r : Renumbering) → Carries r five (numbered_five 2 3 8 2) → (r.set 0 9 ≡ 2) × (r.set 1 7 ≡ 3) × (r.set 1 3 ≡ 8) × (r.outcome 4 ≡ 2)
+pub five_new_numbers : (r : Renumbering) → Carries r five (numbered_five 2 3 8 2)
+    → (r.set 0 9 ≡ 2) × (r.set 1 7 ≡ 3) × (r.set 1 3 ≡ 8) × (r.outcome 4 ≡ 2)
 five_new_numbers r c =
     let sets = sym (carried_sets r five (numbered_five 2 3 8 2) c) in
     let outcomes = sym (carried_outcomes r five (numbered_five 2 3 8 2) c) in (

@@ -1,6 +1,7 @@
--- How a file gives the nodes of a game: each use of a set or an outcome is described exactly where its
--- key was not used before.
-use Rattle.std.specs.Prelude.{◌≡◌, ◌↔◌, nat_eq, Bool, List, [], ◌∷◌, ◌++◌, map, Option, None, option_map, if◌then◌else◌}
+-- How a file gives the nodes of a game: each use of a set or an outcome is described exactly where
+-- its key was not used before.
+use Rattle.std.specs.Prelude.{◌≡◌, ◌↔◌, nat_eq, Bool, List, [], ◌∷◌, ◌++◌}
+use Rattle.std.specs.Prelude.{map, Option, None, option_map, if◌then◌else◌}
 use Rattle.std.specs.List.{filter_map, list_any}
 use Rattle.gf_tree.specs.PrefixOrder.{Entry, flatten}
 use Rattle.gf_tree.specs.Description.{same_set}
@@ -38,7 +39,8 @@ abbrev pub node_behind : Game → List (Entry Node) → Node → FileNode
 node_behind g before n = record {
   name = n.name;
   set = option_map (use_behind same_set (set_at g) (filter_map (λ e. e.node.set) before)) n.set;
-  outcome = option_map (use_behind nat_eq (outcome_at g) (filter_map (λ e. e.node.outcome) before)) n.outcome;
+  outcome = option_map (use_behind nat_eq (outcome_at g) (filter_map (λ e. e.node.outcome) before))
+      n.outcome;
 }
 
 -- the nodes in prefix order

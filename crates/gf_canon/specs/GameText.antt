@@ -1,5 +1,6 @@
 -- The text of a game.
-use Rattle.std.specs.Prelude.{ℕ, zero, suc, List, [], ◌∷◌, ◌++◌, map, codes, decimal, Option, Some, None}
+use Rattle.std.specs.Prelude.{ℕ, zero, suc, List, [], ◌∷◌, ◌++◌, map}
+use Rattle.std.specs.Prelude.{codes, decimal, Option, Some, None}
 use Rattle.std.specs.List.{flat_map}
 use Rattle.std.specs.Option.{option_to_list}
 use Rattle.gf_fraction.specs.NumberText.{number_text}
@@ -23,7 +24,8 @@ outcome_fields outcome = quoted outcome.name ∷ list_text (map number_text outc
 
 -- number, and the description where there is one
 abbrev pub described_fields : {D : Type 0} → (D → List (List ℕ)) → ℕ → Option D → List (List ℕ)
-described_fields fields number description = decimal number ∷ flat_map fields (option_to_list description)
+described_fields fields number description =
+    decimal number ∷ flat_map fields (option_to_list description)
 
 -- chance moves at `c`, and another player at `p`, by his number
 abbrev pub mover_fields : List ℕ → ℕ → List (List ℕ)
@@ -33,7 +35,8 @@ mover_fields name (suc player) = codes "p" ∷ quoted name ∷ decimal (suc play
 -- nobody moves at `t`
 abbrev pub step_fields : List ℕ → Option (Use SetKey InformationSet) → List (List ℕ)
 step_fields name None = codes "t" ∷ quoted name ∷ []
-step_fields name (Some set) = mover_fields name set.key.player ++ described_fields set_fields set.key.number set.description
+step_fields name (Some set) =
+    mover_fields name set.key.player ++ described_fields set_fields set.key.number set.description
 
 -- 0 is the null outcome
 abbrev pub result_fields : Option (Use ℕ Outcome) → List (List ℕ)
@@ -46,7 +49,8 @@ node_text n = spaced (step_fields n.name n.set ++ result_fields n.outcome)
 -- format, title and players; the comment; an empty line; the nodes in prefix order
 abbrev pub game_text : Game → List ℕ
 game_text g = lines_text
-    (spaced (codes "EFG" ∷ codes "2" ∷ codes "R" ∷ quoted g.title ∷ list_text (map quoted g.players) ∷ [])
+    (spaced (codes "EFG" ∷ codes "2" ∷ codes "R" ∷ quoted g.title ∷ list_text (map quoted g.players)
+    ∷ [])
     ∷ quoted g.comment
     ∷ []
     ∷ map node_text (file_nodes g))

@@ -16,7 +16,8 @@ unnamed_set set = record { name = []; actions = set.actions }
 abbrev pub unnamed_outcome : Outcome → Outcome
 unnamed_outcome outcome = record { name = []; payoffs = outcome.payoffs }
 
--- Title, comment, and the names of nodes, sets and outcomes are empty. Labels of players and actions stay.
+-- Title, comment, and the names of nodes, sets and outcomes are empty. Labels of players and
+-- actions stay.
 abbrev pub unnamed_game : Game → Game
 unnamed_game g = record {
   title = [];
@@ -24,12 +25,19 @@ unnamed_game g = record {
   players = g.players;
   tree = map_tree unnamed_node g.tree;
   sets = map (λ s. record { key = s.key; description = unnamed_set s.description }) g.sets;
-  outcomes = map (λ o. record { key = o.key; description = unnamed_outcome o.description }) g.outcomes;
+  outcomes =
+      map (λ o. record { key = o.key; description = unnamed_outcome o.description }) g.outcomes;
 }
 
 -- Title and comment are empty. Labels of players and strategies stay.
 abbrev pub unnamed_table : Table → Table
-unnamed_table t = record { title = []; comment = []; players = t.players; strategies = t.strategies; entries = t.entries }
+unnamed_table t = record {
+  title = [];
+  comment = [];
+  players = t.players;
+  strategies = t.strategies;
+  entries = t.entries;
+}
 
 abbrev pub unnamed : GameFile → GameFile
 unnamed (extensive g) = extensive (unnamed_game g)

@@ -8,19 +8,24 @@ ghost use Rattle.gf_tree.specs.GameOf.{SpellsGame};
 ghost use Rattle.gf_tree.specs.PrefixOrder.{flatten};
 ghost use Rattle.gf_tree.specs.Spellable.{IsSpellable};
 ghost use Rattle.gf_tree.specs.WorkedTrees.{bonus, five};
-ghost use Rattle.gf_tree.specs.Renumbering.{HasOutcome, HasSet, IsRenumbering, Renumbering, renumbered};
+ghost use Rattle.gf_tree.specs.Renumbering.{HasOutcome, HasSet, IsRenumbering};
+ghost use Rattle.gf_tree.specs.Renumbering.{Renumbering, renumbered};
 ghost use Rattle.gf_canon.specs.SameGame.{Carries, SameGame};
 ghost use Rattle.gf_nfg.specs.SameTable.{SamePlay};
 ghost use Rattle.gf_nfg.specs.Table.{Table};
 ghost use Rattle.gf_tree.specs.FileTree.{FileTree};
-ghost use Rattle.gf_tree.specs.FirstUse.{first_use_number, first_use_numbers, outcome_keys, player_keys};
+ghost use Rattle.gf_tree.specs.FirstUse.{first_use_number, first_use_numbers};
+ghost use Rattle.gf_tree.specs.FirstUse.{outcome_numbers, player_keys};
 ghost use Rattle.gf_canon.specs.CanonicalGame.{canonical_game};
 ghost use Rattle.gf_canon.specs.FirstDescribed.{IsFileOf, file_nodes};
-ghost use Rattle.gf_canon.specs.GameFile.{GameFile, IsGameFile, SameFile, SpellsFile, canonical_file, canonical_text};
+ghost use Rattle.gf_canon.specs.GameFile.{GameFile, IsGameFile, SameFile, SpellsFile};
+ghost use Rattle.gf_canon.specs.GameFile.{canonical_file, canonical_text};
 ghost use Rattle.gf_canon.specs.GameFile.GameFile.{extensive, strategic};
 ghost use Rattle.gf_canon.specs.GameText.{game_text};
 ghost use Rattle.gf_canon.specs.NamesAside.{SameAsideNames, unnamed};
-ghost use Rattle.gf_canon.specs.WorkedGames.{bonus_text, five_text, lower_case_prize, no_outcome, no_players, no_players_text, numbered_five, plain_prize, renamed_prize, seen, two_prizes, unseen, zero_outcome};
+ghost use Rattle.gf_canon.specs.WorkedGames.{bonus_text, five_text, lower_case_prize, no_outcome};
+ghost use Rattle.gf_canon.specs.WorkedGames.{nobody, nobody_text, numbered_five, plain_prize};
+ghost use Rattle.gf_canon.specs.WorkedGames.{renamed_prize, seen, two_prizes, unseen, zero_outcome};
 
 /// Sameness of games is reflexive, symmetric and transitive.
 pub fn same_is_equivalence()
@@ -31,58 +36,74 @@ pub fn same_is_equivalence()
 
 /// A renumbering carries a game to the same game by its new numbers, and to no other.
 pub fn carried_by_new_numbers()
-    ensures { (r : Renumbering) (g h : Game) → IsGame g → IsGame h → Carries r g h ↔ (IsRenumbering g r × (renumbered r g ≡ h)) }
+    ensures { (r : Renumbering) (g h : Game) → IsGame g → IsGame h
+        → Carries r g h ↔ (IsRenumbering g r × (renumbered r g ≡ h)) }
 {}
 
-/// No two renumberings carry one game to another: they give the game's sets and outcomes the same new numbers.
+/// No two renumberings carry one game to another: they give the game's sets and outcomes the same
+/// new numbers.
 pub fn one_renumbering()
-    ensures sets { (r s : Renumbering) (g h : Game) → Carries r g h → Carries s g h → (player number : ℕ) → HasSet g player number → r.set player number ≡ s.set player number }
-    ensures outcomes { (r s : Renumbering) (g h : Game) → Carries r g h → Carries s g h → (number : ℕ) → HasOutcome g number → r.outcome number ≡ s.outcome number }
+    ensures sets { (r s : Renumbering) (g h : Game) → Carries r g h → Carries s g h
+        → (player number : ℕ) → HasSet g player number → r.set player number ≡ s.set player number }
+    ensures outcomes { (r s : Renumbering) (g h : Game) → Carries r g h → Carries s g h
+        → (number : ℕ) → HasOutcome g number → r.outcome number ≡ s.outcome number }
 {}
 
 /// What a renumbering carries to each other has the same first-use number.
 pub fn first_use_numbers_stay()
-    ensures sets { (r : Renumbering) (g h : Game) → Carries r g h → (player number : ℕ) → HasSet g player number → (first_use_numbers h).set player (r.set player number) ≡ (first_use_numbers g).set player number }
-    ensures outcomes { (r : Renumbering) (g h : Game) → Carries r g h → (number : ℕ) → HasOutcome g number → (first_use_numbers h).outcome (r.outcome number) ≡ (first_use_numbers g).outcome number }
+    ensures sets { (r : Renumbering) (g h : Game) → Carries r g h → (player number : ℕ)
+        → HasSet g player number → (first_use_numbers h).set player (r.set player number)
+        ≡ (first_use_numbers g).set player number }
+    ensures outcomes { (r : Renumbering) (g h : Game)
+        → Carries r g h → (number : ℕ) → HasOutcome g number
+        → (first_use_numbers h).outcome (r.outcome number) ≡ (first_use_numbers g).outcome number }
 {}
 
-/// Keys in order of first use have the first-use numbers 1, 2 and so on; so have a player's sets in a game, and its
-/// outcomes.
+/// Keys in order of first use have the first-use numbers 1, 2 and so on; so have a player's sets in
+/// a game, and its outcomes.
 pub fn numbered_in_order<K>()
-    ensures keys { (same : K → K → Bool) → ((a b : K) → Decides (same a b) (a ≡ b)) → (uses : List K)
-        → map (first_use_number same uses) (first_uses same uses) ≡ positions (length (first_uses same uses)) }
+    ensures keys { (same : K → K → Bool) → ((a b : K) → Decides (same a b) (a ≡ b))
+        → (uses : List K)
+        → map (first_use_number same uses) (first_uses same uses)
+        ≡ positions (length (first_uses same uses)) }
     ensures sets { (g : Game) (player : ℕ) → IsGame g
         → map (λ key. (first_use_numbers g).set player key.number) (player_keys g player)
         ≡ positions (length (player_keys g player)) }
     ensures outcomes { (g : Game) → IsGame g
-        → map (first_use_numbers g).outcome (outcome_keys g) ≡ positions (length (outcome_keys g)) }
+        → map (first_use_numbers g).outcome (outcome_numbers g)
+        ≡ positions (length (outcome_numbers g)) }
 {}
 
-/// The canonical game is a game, the first-use numbers carry the game to it, and it is its own canonical game.
+/// The canonical game is a game, the first-use numbers carry the game to it, and it is its own
+/// canonical game.
 pub fn canonical_game_is_same()
     ensures is_game { (g : Game) → IsGame g → IsGame (canonical_game g) }
     ensures carried { (g : Game) → IsGame g → Carries (first_use_numbers g) g (canonical_game g) }
     ensures again { (g : Game) → IsGame g → canonical_game (canonical_game g) ≡ canonical_game g }
 {}
 
-/// Two games are the same exactly if their canonical games are equal. So are two tables, and a game and a table never
-/// are.
+/// Two games are the same exactly if their canonical games are equal. So are two tables, and a game
+/// and a table never are.
 pub fn same_by_canonical_game()
-    ensures games { (g h : Game) → IsGame g → IsGame h → SameGame g h ↔ (canonical_game g ≡ canonical_game h) }
-    ensures files { (a b : GameFile) → IsGameFile a → IsGameFile b → SameFile a b ↔ (canonical_file a ≡ canonical_file b) }
+    ensures games { (g h : Game) → IsGame g → IsGame h
+        → SameGame g h ↔ (canonical_game g ≡ canonical_game h) }
+    ensures files { (a b : GameFile) → IsGameFile a → IsGameFile b
+        → SameFile a b ↔ (canonical_file a ≡ canonical_file b) }
 {}
 
-/// Every game has a file tree in which exactly the first uses are described, whose nodes are those of the game's text.
+/// Every game has a file tree in which exactly the first uses are described, whose nodes are those
+/// of the game's text.
 pub fn file_of_each_game()
     ensures { (g : Game) → IsGame g
         → (f : FileTree) × IsFileOf g f × (map (λ e. e.node) (flatten f.tree) ≡ file_nodes g) }
 {}
 
-/// The text of a game is an extensive file that means this game, so that two games have two texts; and a file that can
-/// hold a game can hold its canonical game.
+/// The text of a game is an extensive file that means this game, so that two games have two texts;
+/// and a file that can hold a game can hold its canonical game.
 pub fn text_reads_back()
     ensures reads_back { (g : Game) → IsGame g → IsSpellable g → SpellsGame (game_text g) g }
-    ensures two_texts { (g h : Game) → IsGame g → IsSpellable g → IsGame h → IsSpellable h → (game_text g ≡ game_text h) ↔ (g ≡ h) }
+    ensures two_texts { (g h : Game) → IsGame g → IsSpellable g → IsGame h → IsSpellable h
+        → (game_text g ≡ game_text h) ↔ (g ≡ h) }
     ensures canonical { (g : Game) → IsGame g → IsSpellable g → IsSpellable (canonical_game g) }
 {}
 
@@ -91,52 +112,62 @@ pub fn means_one_file()
     ensures { (bytes : List ℕ) (x y : GameFile) → SpellsFile bytes x → SpellsFile bytes y → x ≡ y }
 {}
 
-/// Two files mean the same exactly if their canonical texts are equal. The canonical text of a file is a file that means
-/// the canonical game, or the table, and it is its own canonical text.
+/// Two files mean the same exactly if their canonical texts are equal. The canonical text of a file
+/// is a file that means the canonical game, or the table, and it is its own canonical text.
 pub fn equal_canonical_texts()
-    ensures equal { (a b : List ℕ) (x y : GameFile) → SpellsFile a x → SpellsFile b y → (canonical_text x ≡ canonical_text y) ↔ SameFile x y }
-    ensures reads_back { (bytes : List ℕ) (x : GameFile) → SpellsFile bytes x → SpellsFile (canonical_text x) (canonical_file x) }
-    ensures again { (bytes : List ℕ) (x y : GameFile) → SpellsFile bytes x → SpellsFile (canonical_text x) y → canonical_text y ≡ canonical_text x }
+    ensures equal { (a b : List ℕ) (x y : GameFile) → SpellsFile a x → SpellsFile b y
+        → (canonical_text x ≡ canonical_text y) ↔ SameFile x y }
+    ensures reads_back { (bytes : List ℕ) (x : GameFile) → SpellsFile bytes x
+        → SpellsFile (canonical_text x) (canonical_file x) }
+    ensures again { (bytes : List ℕ) (x y : GameFile) → SpellsFile bytes x
+        → SpellsFile (canonical_text x) y → canonical_text y ≡ canonical_text x }
 {}
 
-/// Files that mean the same do so aside from names. Two files mean the same aside from names exactly if the canonical
-/// texts of what they mean without its names are equal; two tables are so exactly if they play alike.
+/// Files that mean the same do so aside from names. Two files mean the same aside from names
+/// exactly if the canonical texts of what they mean without its names are equal; two tables are so
+/// exactly if they play alike.
 pub fn same_aside_names()
     ensures aside { (x y : GameFile) → SameFile x y → SameAsideNames x y }
-    ensures equal { (a b : List ℕ) (x y : GameFile) → SpellsFile a x → SpellsFile b y → (canonical_text (unnamed x) ≡ canonical_text (unnamed y)) ↔ SameAsideNames x y }
+    ensures equal { (a b : List ℕ) (x y : GameFile) → SpellsFile a x → SpellsFile b y
+        → (canonical_text (unnamed x) ≡ canonical_text (unnamed y)) ↔ SameAsideNames x y }
     ensures tables { (t u : Table) → SameAsideNames (strategic t) (strategic u) ↔ SamePlay t u }
 {}
 
-/// Worked games and their canonical texts: a set of chance met twice on a path, an outcome at an inner node, and no
-/// players.
+/// Worked games and their canonical texts: a set of chance met twice on a path, an outcome at an
+/// inner node, and no players.
 pub fn worked_texts()
     ensures five { game_text (canonical_game five) ≡ five_text }
     ensures bonus { game_text (canonical_game bonus) ≡ bonus_text }
-    ensures no_players { game_text (canonical_game no_players) ≡ no_players_text }
+    ensures nobody { game_text (canonical_game nobody) ≡ nobody_text }
 {}
 
-/// The game "five" by its first-use numbers; a copy by other numbers, and the only renumbering that carries the one to
-/// the other.
+/// The game "five" by its first-use numbers; a copy by other numbers, and the only renumbering that
+/// carries the one to the other.
 pub fn worked_numbers()
     ensures numbers { five ≡ numbered_five 9 7 3 4 }
-    ensures first_uses { ((first_use_numbers five).set 0 9 ≡ 1) × ((first_use_numbers five).set 1 7 ≡ 1) × ((first_use_numbers five).set 1 3 ≡ 2) × ((first_use_numbers five).outcome 4 ≡ 1) }
+    ensures first_uses { ((first_use_numbers five).set 0 9 ≡ 1)
+        × ((first_use_numbers five).set 1 7 ≡ 1) × ((first_use_numbers five).set 1 3 ≡ 2)
+        × ((first_use_numbers five).outcome 4 ≡ 1) }
     ensures canonical { canonical_game five ≡ numbered_five 1 1 2 1 }
     ensures copy { SameGame five (numbered_five 2 3 8 2) }
-    ensures new_numbers { (r : Renumbering) → Carries r five (numbered_five 2 3 8 2) → (r.set 0 9 ≡ 2) × (r.set 1 7 ≡ 3) × (r.set 1 3 ≡ 8) × (r.outcome 4 ≡ 2) }
+    ensures new_numbers { (r : Renumbering) → Carries r five (numbered_five 2 3 8 2)
+        → (r.set 0 9 ≡ 2) × (r.set 1 7 ≡ 3) × (r.set 1 3 ≡ 8) × (r.outcome 4 ≡ 2) }
 {}
 
-/// Worked games that are not the same: one set is not two with equal descriptions, nor is one outcome two, and no
-/// outcome is not one that pays zero.
+/// Worked games that are not the same: one set is not two with equal descriptions, nor is one
+/// outcome two, and no outcome is not one that pays zero.
 pub fn worked_differences()
     ensures sets { ¬ (SameGame unseen seen) × ¬ (SameGame seen unseen) }
     ensures outcomes { ¬ (SameGame plain_prize two_prizes) × ¬ (SameGame two_prizes plain_prize) }
-    ensures null_outcome { ¬ (SameGame no_outcome zero_outcome) × ¬ (SameGame zero_outcome no_outcome) }
+    ensures null_outcome { ¬ (SameGame no_outcome zero_outcome)
+        × ¬ (SameGame zero_outcome no_outcome) }
 {}
 
-/// Other names of a worked game, its first node, its set and its outcome make another game, which is the same aside
-/// from names. Another label of an action makes another game in both ways.
+/// Other names of a worked game, its first node, its set and its outcome make another game, which
+/// is the same aside from names. Another label of an action makes another game in both ways.
 pub fn worked_names()
     ensures other { ¬ (SameGame plain_prize renamed_prize) }
     ensures aside { SameAsideNames (extensive plain_prize) (extensive renamed_prize) }
-    ensures label { ¬ (SameGame plain_prize lower_case_prize) × ¬ (SameAsideNames (extensive plain_prize) (extensive lower_case_prize)) }
+    ensures label { ¬ (SameGame plain_prize lower_case_prize)
+        × ¬ (SameAsideNames (extensive plain_prize) (extensive lower_case_prize)) }
 {}

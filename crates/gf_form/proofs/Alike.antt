@@ -1,5 +1,7 @@
--- Trees whose nodes are alike, each to its image, in what is chosen, how probable it is and what it pays: they have the same payoff, and the same bottom-up value.
-use Rattle.std.proofs.Common.{◌≡◌, ℕ, zero, suc, ◌+◌, Bool, true, false, List, [], ◌∷◌, ◌++◌, Option, Some, None, map, refl, sym, ap, ◌∙◌, subst, true≢false}
+-- Trees whose nodes are alike, each to its image, in what is chosen, how probable it is and what it
+-- pays: they have the same payoff, and the same bottom-up value.
+use Rattle.std.proofs.Common.{◌≡◌, ℕ, zero, suc, ◌+◌, Bool, true, false, List, [], ◌∷◌, ◌++◌}
+use Rattle.std.proofs.Common.{Option, Some, None, map, refl, sym, ap, ◌∙◌, subst, true≢false}
 use Rattle.std.specs.Prelude.{◌==◌, ◌&&◌, filter, MatchOption}
 use Rattle.std.specs.Bool.{MatchBool}
 use Rattle.std.specs.List.{AllByRecursion}
@@ -14,9 +16,9 @@ use Rattle.gf_tree.specs.Description.{SetKey}
 use Rattle.gf_tree.specs.Game.{Node, Game}
 use Rattle.gf_tree.proofs.Members.{map_twice, filter_of_map}
 use Rattle.gf_fraction.specs.Rational.{plus, times, total, zero_ratio, one_ratio}
-use Rattle.gf_form.specs.Plays.{Step, Play, after, plays, plays_from, is_chosen, follows}
+use Rattle.gf_form.specs.Plays.{Step, Play, from_node, plays, plays_from, is_chosen, follows}
 use Rattle.gf_form.specs.Payoff.{probability, payoff_at, play_probability, play_payoff, payoff}
-use Rattle.gf_form.specs.BottomUp.{IsValue, IsChanceValue, IsValueOf}
+use Rattle.gf_form.specs.BottomUp.{IsValue, IsChanceValue, IsChildValue}
 use Rattle.gf_fraction.specs.Fits.{AddsTo, MultipliesTo}
 
 -- whether a play is followed, how probable it is, and what it pays
@@ -26,63 +28,91 @@ record View : Type 0 where
   paid : Ratio
 
 view : Game → (SetKey → ℕ) → ℕ → Play → View
-view g choices player play = record { followed = follows choices play; chance = play_probability g play; paid = play_payoff g player play }
+view g choices player play = record {
+  followed = follows choices play;
+  chance = play_probability g play;
+  paid = play_payoff g player play;
+}
 
 -- and from a parent on
 from_parent : Bool → Ratio → Ratio → View → View
-from_parent chosen q own v = record { followed = chosen && v.followed; chance = times q v.chance; paid = plus own v.paid }
+from_parent chosen q own v =
+    record { followed = chosen && v.followed; chance = times q v.chance; paid = plus own v.paid }
 
 pays_by : List View → Ratio
 pays_by vs = total (map (λ v. times v.chance v.paid) (filter (λ v. v.followed) vs))
 
 module _ (g h : Game) (c d : SetKey → ℕ) (player : ℕ) (f : Node → Node) where
   pub record IsAlike (n : Node) : Type 0 where
-    pub chosen : (k : ℕ) → is_chosen d (record { node = f n; taken = k }) ≡ is_chosen c (record { node = n; taken = k })
-    pub chance : (k : ℕ) → probability h (record { node = f n; taken = k }) ≡ probability g (record { node = n; taken = k })
+    pub chosen : (k : ℕ) → is_chosen d (record { node = f n; taken = k })
+        ≡ is_chosen c (record { node = n; taken = k })
+    pub chance : (k : ℕ) → probability h (record { node = f n; taken = k })
+        ≡ probability g (record { node = n; taken = k })
     pub pays : payoff_at h player (f n) ≡ payoff_at g player n
-    pub moves : MatchOption n.set ((f n).set ≡ None) (λ key. (other : SetKey) × ((f n).set ≡ Some other) × ((other.player == 0) ≡ (key.player == 0)) × (d other ≡ c key))
+    pub moves : MatchOption n.set ((f n).set ≡ None) (λ key. (other : SetKey)
+        × ((f n).set ≡ Some other) × ((other.player == 0) ≡ (key.player == 0)) × (d other ≡ c key))
 
   abbrev pub AreAlike : List (Entry Node) → Type 0
   AreAlike es = AllByRecursion (λ e. IsAlike e.node) es
 
-  child_views : (n : Node) (k : ℕ) (ps qs : List Play) → IsAlike n → map (view h d player) qs ≡ map (view g c player) ps
-      → map (view h d player) (map (after (f n) k) qs) ≡ map (view g c player) (map (after n k) ps)
+  child_views : (n : Node) (k : ℕ) (ps qs : List Play) → IsAlike n
+      → map (view h d player) qs ≡ map (view g c player) ps
+      → map (view h d player) (map (from_node (f n) k) qs)
+      ≡ map (view g c player) (map (from_node n k) ps)
   unfolding view from_parent
   child_views n k ps qs a e =
       let s : Step = record { node = n; taken = k } in
       let t : Step = record { node = f n; taken = k } in
-      map_twice (view h d player) (after (f n) k) qs
-      ∙ sym (map_twice (from_parent (is_chosen d t) (probability h t) (payoff_at h player (f n))) (view h d player) qs)
+      map_twice (view h d player) (from_node (f n) k) qs
+      ∙ sym (map_twice (from_parent (is_chosen d t) (probability h t) (payoff_at h player (f n)))
+      (view h d player) qs)
       ∙ (λ i. map (from_parent (a.chosen k i) (a.chance k i) (a.pays i)) (e i))
-      ∙ map_twice (from_parent (is_chosen c s) (probability g s) (payoff_at g player n)) (view g c player) ps
-      ∙ sym (map_twice (view g c player) (after n k) ps)
+      ∙ map_twice (from_parent (is_chosen c s) (probability g s) (payoff_at g player n))
+      (view g c player) ps
+      ∙ sym (map_twice (view g c player) (from_node n k) ps)
 
-  leaf_view : (n : Node) → IsAlike n → map (view h d player) (plays (map_tree f (branch n none))) ≡ map (view g c player) (plays (branch n none))
+  leaf_view : (n : Node) → IsAlike n → map (view h d player) (plays (map_tree f (branch n none)))
+      ≡ map (view g c player) (plays (branch n none))
   unfolding view
-  leaf_view n a = λ i. record { followed = true; chance = one_ratio; paid = plus (a.pays i) zero_ratio } ∷ []
+  leaf_view n a =
+      λ i. record { followed = true; chance = one_ratio; paid = plus (a.pays i) zero_ratio } ∷ []
 
   mutual
-    tree_views : (t : Tree Node) → AreAlike (flatten t) → map (view h d player) (plays (map_tree f t)) ≡ map (view g c player) (plays t)
+    tree_views : (t : Tree Node) → AreAlike (flatten t)
+        → map (view h d player) (plays (map_tree f t)) ≡ map (view g c player) (plays t)
     tree_views (branch n none) a = leaf_view n a.0
     tree_views (branch n (more t ts)) a = children_views (more t ts) n 1 a.0 a.1
 
-    children_views : (ts : Trees Node) (n : Node) (k : ℕ) → IsAlike n → AreAlike (flatten_all ts) → map (view h d player) (plays_from (f n) k (map_trees f ts)) ≡ map (view g c player) (plays_from n k ts)
+    children_views : (ts : Trees Node) (n : Node) (k : ℕ) → IsAlike n → AreAlike (flatten_all ts)
+        → map (view h d player) (plays_from (f n) k (map_trees f ts))
+        ≡ map (view g c player) (plays_from n k ts)
     children_views none n k a all = refl
     children_views (more t ts) n k a all =
         let both = all_parts (λ e. IsAlike e.node) (flatten t) (flatten_all ts) all in
-        map-append (view h d player) (map (after (f n) k) (plays (map_tree f t))) (plays_from (f n) (k + 1) (map_trees f ts))
-        ∙ (λ i. child_views n k (plays t) (plays (map_tree f t)) a (tree_views t both.0) i ++ children_views ts n (k + 1) a both.1 i)
-        ∙ sym (map-append (view g c player) (map (after n k) (plays t)) (plays_from n (k + 1) ts))
+        map-append (view h d player) (map (from_node (f n) k) (plays (map_tree f t)))
+        (plays_from (f n) (k + 1) (map_trees f ts))
+        ∙ (λ i. child_views n k (plays t) (plays (map_tree f t)) a (tree_views t both.0) i
+        ++ children_views ts n (k + 1) a both.1 i)
+        ∙ sym
+        (map-append (view g c player) (map (from_node n k) (plays t)) (plays_from n (k + 1) ts))
 
-payoff_by_views : (g : Game) (c : SetKey → ℕ) (player : ℕ) → payoff g c player ≡ pays_by (map (view g c player) (plays g.tree))
+payoff_by_views : (g : Game) (c : SetKey → ℕ) (player : ℕ)
+    → payoff g c player ≡ pays_by (map (view g c player) (plays g.tree))
 unfolding view pays_by
 payoff_by_views g c player =
-    ap total (sym (ap (map (λ v. times v.chance v.paid)) (filter_of_map (λ v. v.followed) (follows c) (view g c player) (plays g.tree) (λ p i. refl))
-    ∙ map_twice (λ (v : View). times v.chance v.paid) (view g c player) (filter (follows c) (plays g.tree))))
+    ap total (sym (ap (map (λ v. times v.chance v.paid))
+    (filter_of_map (λ v. v.followed) (follows c) (view g c player) (plays g.tree) (λ p i. refl))
+    ∙ map_twice (λ (v : View). times v.chance v.paid) (view g c player)
+    (filter (follows c) (plays g.tree))))
 
-pub same_payoff : (g h : Game) (c d : SetKey → ℕ) (player : ℕ) (f : Node → Node) → h.tree ≡ map_tree f g.tree → AreAlike g h c d player f (flatten g.tree) → payoff h d player ≡ payoff g c player
+pub same_payoff : (g h : Game) (c d : SetKey → ℕ) (player : ℕ) (f : Node → Node)
+    → h.tree ≡ map_tree f g.tree → AreAlike g h c d player f (flatten g.tree)
+    → payoff h d player ≡ payoff g c player
 same_payoff g h c d player f tree a =
-    payoff_by_views h d player ∙ ap (λ t. pays_by (map (view h d player) (plays t))) tree ∙ ap pays_by (tree_views g h c d player f g.tree a) ∙ sym (payoff_by_views g c player)
+    payoff_by_views h d player
+    ∙ ap (λ t. pays_by (map (view h d player) (plays t))) tree
+    ∙ ap pays_by (tree_views g h c d player f g.tree a)
+    ∙ sym (payoff_by_views g c player)
 
 -- ---- bottom-up values
 
@@ -91,46 +121,86 @@ module _ (g h : Game) (c d : SetKey → ℕ) (player : ℕ) (f : Node → Node) 
   abbrev ValueAt : Game → (SetKey → ℕ) → Node → Trees Node → Ratio → Option SetKey → Type 0
   ValueAt game choices n ts value o = MatchOption o
       (value ≡ payoff_at game player n)
-      (λ key. (below : Ratio) × MatchBool (key.player == 0) (IsChanceValue game choices player n 1 zero_ratio ts below) (IsValueOf game choices player (choices key) ts below) × AddsTo (payoff_at game player n) below value)
+      (λ key. (below : Ratio)
+      × MatchBool (key.player == 0) (IsChanceValue game choices player n 1 zero_ratio ts below)
+      (IsChildValue game choices player (choices key) ts below)
+      × AddsTo (payoff_at game player n) below value)
 
   abbrev ChanceGoes : Node → Trees Node → Type 0
-  ChanceGoes n ts = (value : Ratio) → IsChanceValue g c player n 1 zero_ratio ts value → IsChanceValue h d player (f n) 1 zero_ratio (map_trees f ts) value
+  ChanceGoes n ts = (value : Ratio) → IsChanceValue g c player n 1 zero_ratio ts value
+      → IsChanceValue h d player (f n) 1 zero_ratio (map_trees f ts) value
 
   abbrev ChildGoes : Trees Node → Type 0
-  ChildGoes ts = (position : ℕ) (value : Ratio) → IsValueOf g c player position ts value → IsValueOf h d player position (map_trees f ts) value
+  ChildGoes ts = (position : ℕ) (value : Ratio) → IsChildValue g c player position ts value
+      → IsChildValue h d player position (map_trees f ts) value
 
-  below_goes : (n : Node) (ts : Trees Node) (a b : Bool) (position place : ℕ) (value : Ratio) → b ≡ a → place ≡ position → ChanceGoes n ts → ChildGoes ts
-      → MatchBool a (IsChanceValue g c player n 1 zero_ratio ts value) (IsValueOf g c player position ts value) → MatchBool b (IsChanceValue h d player (f n) 1 zero_ratio (map_trees f ts) value) (IsValueOf h d player place (map_trees f ts) value)
+  below_goes : (n : Node) (ts : Trees Node) (a b : Bool) (position place : ℕ) (value : Ratio)
+      → b ≡ a → place ≡ position → ChanceGoes n ts → ChildGoes ts
+      → MatchBool a (IsChanceValue g c player n 1 zero_ratio ts value)
+      (IsChildValue g c player position ts value)
+      → MatchBool b (IsChanceValue h d player (f n) 1 zero_ratio (map_trees f ts) value)
+      (IsChildValue h d player place (map_trees f ts) value)
   below_goes n ts true true position place value e p chance child v = chance value v
-  below_goes n ts false false position place value e p chance child v = subst (λ k. IsValueOf h d player k (map_trees f ts) value) (sym p) (child position value v)
+  below_goes n ts false false position place value e p chance child v =
+      subst (λ k. IsChildValue h d player k (map_trees f ts) value) (sym p) (child position value v)
   below_goes n ts true false position place value e p chance child v = absurd (true≢false (sym e))
   below_goes n ts false true position place value e p chance child v = absurd (true≢false e)
 
-  node_goes : (n : Node) (ts : Trees Node) (value : Ratio) → IsAlike g h c d player f n → ChanceGoes n ts → ChildGoes ts → (o : Option SetKey)
-      → MatchOption o ((f n).set ≡ None) (λ key. (other : SetKey) × ((f n).set ≡ Some other) × ((other.player == 0) ≡ (key.player == 0)) × (d other ≡ c key))
+  node_goes : (n : Node) (ts : Trees Node) (value : Ratio)
+      → IsAlike g h c d player f n → ChanceGoes n ts → ChildGoes ts → (o : Option SetKey)
+      → MatchOption o ((f n).set ≡ None) (λ key. (other : SetKey) × ((f n).set ≡ Some other)
+      × ((other.player == 0) ≡ (key.player == 0)) × (d other ≡ c key))
       → ValueAt g c n ts value o → ValueAt h d (f n) (map_trees f ts) value (f n).set
-  node_goes n ts value a chance child None m v = subst (ValueAt h d (f n) (map_trees f ts) value) (sym m) (v ∙ sym a.pays)
+  node_goes n ts value a chance child None m v =
+      subst (ValueAt h d (f n) (map_trees f ts) value) (sym m) (v ∙ sym a.pays)
   node_goes n ts value a chance child (Some key) m v =
-      subst (ValueAt h d (f n) (map_trees f ts) value) (sym m.1)
-      (v.0, below_goes n ts (key.player == 0) (m.0.player == 0) (c key) (d m.0) v.0 m.2 m.3 chance child v.1, subst (λ own. AddsTo own v.0 value) (sym a.pays) v.2)
+      subst (ValueAt h d (f n) (map_trees f ts) value) (sym m.1) (
+        v.0,
+        below_goes n ts (key.player == 0) (m.0.player == 0)
+            (c key) (d m.0) v.0 m.2 m.3 chance child v.1,
+        subst (λ own. AddsTo own v.0 value) (sym a.pays) v.2,
+      )
 
   mutual
-    value_goes : (t : Tree Node) (value : Ratio) → AreAlike g h c d player f (flatten t) → IsValue g c player t value → IsValue h d player (map_tree f t) value
+    value_goes : (t : Tree Node) (value : Ratio) → AreAlike g h c d player f (flatten t)
+        → IsValue g c player t value → IsValue h d player (map_tree f t) value
     value_goes (branch n ts) value a v =
-        node_goes n ts value a.0 (λ below is. chance_goes ts n 1 zero_ratio below a.0 a.1 is) (λ position below is. child_goes ts position below a.1 is) n.set a.0.moves v
+        node_goes n ts value a.0 (λ below is. chance_goes ts n 1 zero_ratio below a.0 a.1 is)
+        (λ position below is. child_goes ts position below a.1 is) n.set a.0.moves v
 
-    chance_goes : (ts : Trees Node) (n : Node) (k : ℕ) (sum value : Ratio) → IsAlike g h c d player f n → AreAlike g h c d player f (flatten_all ts)
-        → IsChanceValue g c player n k sum ts value → IsChanceValue h d player (f n) k sum (map_trees f ts) value
+    chance_goes : (ts : Trees Node) (n : Node) (k : ℕ) (sum value : Ratio)
+        → IsAlike g h c d player f n → AreAlike g h c d player f (flatten_all ts)
+        → IsChanceValue g c player n k sum ts value
+        → IsChanceValue h d player (f n) k sum (map_trees f ts) value
     chance_goes none n k sum value a all v = v
     chance_goes (more t ts) n k sum value a all v =
-        let both = all_parts (λ e. IsAlike g h c d player f e.node) (flatten t) (flatten_all ts) all in
-        (v.0, v.1, v.2, value_goes t v.0 both.0 v.3, subst (λ q. MultipliesTo q v.0 v.1) (sym (a.chance k)) v.4, v.5, chance_goes ts n (k + 1) v.2 value a both.1 v.6)
+        let both =
+        all_parts (λ e. IsAlike g h c d player f e.node) (flatten t) (flatten_all ts) all in (
+          v.0,
+          v.1,
+          v.2,
+          value_goes t v.0 both.0 v.3,
+          subst (λ q. MultipliesTo q v.0 v.1) (sym (a.chance k)) v.4,
+          v.5,
+          chance_goes ts n (k + 1) v.2 value a both.1 v.6,
+        )
 
-    child_goes : (ts : Trees Node) (position : ℕ) (value : Ratio) → AreAlike g h c d player f (flatten_all ts) → IsValueOf g c player position ts value → IsValueOf h d player position (map_trees f ts) value
+    child_goes : (ts : Trees Node) (position : ℕ) (value : Ratio)
+        → AreAlike g h c d player f (flatten_all ts) → IsChildValue g c player position ts value
+        → IsChildValue h d player position (map_trees f ts) value
     child_goes none position value all v = absurd v
     child_goes (more t ts) zero value all v = absurd v
-    child_goes (more t ts) (suc zero) value all v = let both = all_parts (λ e. IsAlike g h c d player f e.node) (flatten t) (flatten_all ts) all in value_goes t value both.0 v
-    child_goes (more t ts) (suc (suc position)) value all v = let both = all_parts (λ e. IsAlike g h c d player f e.node) (flatten t) (flatten_all ts) all in child_goes ts (suc position) value both.1 v
+    child_goes (more t ts) (suc zero) value all v =
+        let both =
+        all_parts (λ e. IsAlike g h c d player f e.node) (flatten t) (flatten_all ts) all in
+        value_goes t value both.0 v
+    child_goes (more t ts) (suc (suc position)) value all v =
+        let both =
+        all_parts (λ e. IsAlike g h c d player f e.node) (flatten t) (flatten_all ts) all in
+        child_goes ts (suc position) value both.1 v
 
-pub same_value : (g h : Game) (c d : SetKey → ℕ) (player : ℕ) (f : Node → Node) (value : Ratio) → h.tree ≡ map_tree f g.tree → AreAlike g h c d player f (flatten g.tree) → IsValue g c player g.tree value → IsValue h d player h.tree value
-same_value g h c d player f value tree a v = subst (λ t. IsValue h d player t value) (sym tree) (value_goes g h c d player f g.tree value a v)
+pub same_value : (g h : Game) (c d : SetKey → ℕ) (player : ℕ) (f : Node → Node) (value : Ratio)
+    → h.tree ≡ map_tree f g.tree → AreAlike g h c d player f (flatten g.tree)
+    → IsValue g c player g.tree value → IsValue h d player h.tree value
+same_value g h c d player f value tree a v = subst (λ t. IsValue h d player t value) (sym tree)
+    (value_goes g h c d player f g.tree value a v)

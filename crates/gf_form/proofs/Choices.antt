@@ -1,5 +1,7 @@
--- All choices at sets with so many actions each: every one stands in the list, once and at its place.
-use Rattle.std.proofs.Common.{◌≡◌, ℕ, zero, suc, ◌+◌, ◌-◌, ◌*◌, ◌<◌, ◌≤◌, List, [], ◌∷◌, ◌++◌, length, map, get_or, refl, sym, ap, ◌∙◌, append_assoc, arith}
+-- All choices at sets with so many actions each: every one stands in the list, once and at its
+-- place.
+use Rattle.std.proofs.Common.{◌≡◌, ℕ, zero, suc, ◌+◌, ◌-◌, ◌*◌, ◌<◌, ◌≤◌, List, [], ◌∷◌, ◌++◌}
+use Rattle.std.proofs.Common.{length, map, get_or, refl, sym, ap, ◌∙◌, append_assoc, arith}
 use Rattle.std.specs.Prelude.{◌↔◌}
 use Rattle.std.specs.List.{AllByRecursion, AllZip, Contains, flat_map}
 use Rattle.std.proofs.lemmas.Grind.{flat_map-append}
@@ -7,7 +9,8 @@ use Rattle.std.proofs.lemmas.List.{length-map, map-append, get_or-map}
 use Rattle.std.proofs.lemmas.List.Elements.{All-contains, All-from_recursion}
 use Rattle.gf_fraction.proofs.AllElements.{all_both}
 use Rattle.gf_nfg.specs.Profiles.{numbers_from, product}
-use Rattle.gf_nfg.proofs.NumbersInTurn.{numbers_joined, length-numbers_from, get_or-numbers_from, IsIn, number_in, contains_in}
+use Rattle.gf_nfg.proofs.NumbersInTurn.{numbers_joined, length-numbers_from}
+use Rattle.gf_nfg.proofs.NumbersInTurn.{get_or-numbers_from, IsIn, number_in, contains_in}
 use Rattle.gf_tree.proofs.Members.{map_twice}
 use Rattle.gf_form.specs.Strategies.{all_choices}
 
@@ -22,7 +25,8 @@ place _ _ = 0
 
 -- ---- numbers in turn
 
-numbers_above : (by first n : ℕ) → map (λ k. by + k) (numbers_from first n) ≡ numbers_from (by + first) n
+numbers_above : (by first n : ℕ)
+    → map (λ k. by + k) (numbers_from first n) ≡ numbers_from (by + first) n
 numbers_above by first zero = refl
 numbers_above by first (suc n) =
     let e : by + (first + 1) ≡ by + first + 1 = omega arith in
@@ -30,40 +34,65 @@ numbers_above by first (suc n) =
 
 -- ---- places
 
-places_behind : (count : ℕ) (counts : List ℕ) (action n : ℕ) (all : List (List ℕ)) → map (place counts) all ≡ numbers_from 0 n
-    → map (place (count ∷ counts)) (behind action all) ≡ numbers_from ((action - 1) * product counts) n
+places_behind : (count : ℕ) (counts : List ℕ) (action n : ℕ) (all : List (List ℕ))
+    → map (place counts) all ≡ numbers_from 0 n
+    → map (place (count ∷ counts)) (behind action all)
+    ≡ numbers_from ((action - 1) * product counts) n
 places_behind count counts action n all h =
     let by = (action - 1) * product counts in
     let e : by + 0 ≡ by = omega arith in
-    map_twice (place (count ∷ counts)) (λ others. action ∷ others) all ∙ sym (map_twice (λ (k : ℕ). by + k) (place counts) all) ∙ ap (map (λ k. by + k)) h
+    map_twice (place (count ∷ counts)) (λ others. action ∷ others) all
+    ∙ sym (map_twice (λ (k : ℕ). by + k) (place counts) all)
+    ∙ ap (map (λ k. by + k)) h
     ∙ numbers_above by 0 n ∙ ap (λ (k : ℕ). numbers_from k n) e
 
-places_all : (count : ℕ) (counts : List ℕ) (all : List (List ℕ)) → map (place counts) all ≡ numbers_from 0 (product counts) → (s n : ℕ) → 1 ≤ s
-    → map (place (count ∷ counts)) (flat_map (λ action. behind action all) (numbers_from s n)) ≡ numbers_from ((s - 1) * product counts) (n * product counts)
-places_all count counts all h s zero above = let e : 0 * product counts ≡ 0 = omega arith in rw e refl
+places_all : (count : ℕ) (counts : List ℕ) (all : List (List ℕ))
+    → map (place counts) all ≡ numbers_from 0 (product counts) → (s n : ℕ) → 1 ≤ s
+    → map (place (count ∷ counts)) (flat_map (λ action. behind action all) (numbers_from s n))
+    ≡ numbers_from ((s - 1) * product counts) (n * product counts)
+places_all count counts all h s zero above =
+    let e : 0 * product counts ≡ 0 = omega arith in rw e refl
 places_all count counts all h s (suc n) above =
     let p = product counts in
-    let on : (s + 1 - 1) * p ≡ (s - 1) * p + p = let less : s + 1 - 1 ≡ s - 1 + 1 = omega arith in ap (λ (k : ℕ). k * p) less ∙ (let e : (s - 1 + 1) * p ≡ (s - 1) * p + p = omega arith in e) in
+    let on : (s + 1 - 1) * p ≡ (s - 1) * p + p =
+    let less : s + 1 - 1 ≡ s - 1 + 1 = omega arith in
+    ap (λ (k : ℕ). k * p) less ∙ (let e : (s - 1 + 1) * p ≡ (s - 1) * p + p = omega arith in e) in
     let size : p + n * p ≡ suc n * p = omega arith in
-    map-append (place (count ∷ counts)) (behind s all) (flat_map (λ action. behind action all) (numbers_from (s + 1) n))
-    ∙ (λ i. places_behind count counts s p all h i ++ (places_all count counts all h (s + 1) n (omega arith) ∙ ap (λ (k : ℕ). numbers_from k (n * p)) on) i)
+    map-append (place (count ∷ counts)) (behind s all)
+    (flat_map (λ action. behind action all) (numbers_from (s + 1) n))
+    ∙ (λ i. places_behind count counts s p all h i
+    ++ (places_all count counts all h (s + 1) n (omega arith)
+    ∙ ap (λ (k : ℕ). numbers_from k (n * p)) on) i)
     ∙ numbers_joined ((s - 1) * p) p (n * p) ∙ ap (numbers_from ((s - 1) * p)) size
 
-places_are : (counts : List ℕ) → map (place counts) (all_choices counts) ≡ numbers_from 0 (product counts)
+places_are : (counts : List ℕ)
+    → map (place counts) (all_choices counts) ≡ numbers_from 0 (product counts)
 places_are [] = refl
-places_are (count ∷ counts) = let e : (1 - 1) * product counts ≡ 0 = omega arith in places_all count counts (all_choices counts) (places_are counts) 1 count (omega arith) ∙ ap (λ (k : ℕ). numbers_from k (count * product counts)) e
+places_are (count ∷ counts) =
+    let e : (1 - 1) * product counts ≡ 0 = omega arith in
+    places_all count counts (all_choices counts) (places_are counts) 1 count (omega arith)
+    ∙ ap (λ (k : ℕ). numbers_from k (count * product counts)) e
 
 pub length-all_choices : (counts : List ℕ) → length (all_choices counts) ≡ product counts
-length-all_choices counts = sym (length-map (all_choices counts) (place counts)) ∙ ap length (places_are counts) ∙ length-numbers_from 0 (product counts)
+length-all_choices counts = sym (length-map (all_choices counts) (place counts))
+    ∙ ap length (places_are counts)
+    ∙ length-numbers_from 0 (product counts)
 
-place_at : (counts : List ℕ) (i : ℕ) (d : List ℕ) → i < length (all_choices counts) → place counts (get_or (all_choices counts) i d) ≡ i
+place_at : (counts : List ℕ) (i : ℕ) (d : List ℕ) → i < length (all_choices counts)
+    → place counts (get_or (all_choices counts) i d) ≡ i
 place_at counts i d h =
     let within : i < product counts = omega (arith, length-all_choices counts) in
-    sym (get_or-map (place counts) (all_choices counts) i d 0 h) ∙ ap (λ (ns : List ℕ). get_or ns i 0) (places_are counts) ∙ get_or-numbers_from 0 (product counts) i 0 within ∙ (let e : 0 + i ≡ i = omega arith in e)
+    sym (get_or-map (place counts) (all_choices counts) i d 0 h)
+    ∙ ap (λ (ns : List ℕ). get_or ns i 0) (places_are counts)
+    ∙ get_or-numbers_from 0 (product counts) i 0 within
+    ∙ (let e : 0 + i ≡ i = omega arith in e)
 
 -- no choice stands twice
-pub choices_distinct : (counts : List ℕ) (i j : ℕ) (d : List ℕ) → i < length (all_choices counts) → j < length (all_choices counts) → get_or (all_choices counts) i d ≡ get_or (all_choices counts) j d → i ≡ j
-choices_distinct counts i j d hi hj e = sym (place_at counts i d hi) ∙ ap (place counts) e ∙ place_at counts j d hj
+pub choices_distinct : (counts : List ℕ) (i j : ℕ) (d : List ℕ)
+    → i < length (all_choices counts) → j < length (all_choices counts)
+    → get_or (all_choices counts) i d ≡ get_or (all_choices counts) j d → i ≡ j
+choices_distinct counts i j d hi hj e =
+    sym (place_at counts i d hi) ∙ ap (place counts) e ∙ place_at counts j d hj
 
 -- ---- every choice
 
@@ -80,30 +109,46 @@ choice_in (count ∷ counts) (action ∷ others) h =
     let n = number_in 1 count action h.0.0 (omega (arith, h.0.1)) in
     let all = all_choices counts in
     let f = λ (a : ℕ). behind a all in
-    let here : f action ≡ behind action r.0 ++ (action ∷ others) ∷ behind action r.1 = ap (behind action) r.2 ∙ map-append (λ rest. action ∷ rest) r.0 (others ∷ r.1) in (
+    let here : f action ≡ behind action r.0 ++ (action ∷ others) ∷ behind action r.1 =
+    ap (behind action) r.2 ∙ map-append (λ rest. action ∷ rest) r.0 (others ∷ r.1) in (
       flat_map f n.0 ++ behind action r.0,
       behind action r.1 ++ flat_map f n.1,
-      ap (flat_map f) n.2 ∙ flat_map-append f n.0 (action ∷ n.1) ∙ ap (λ (cs : List (List ℕ)). flat_map f n.0 ++ (cs ++ flat_map f n.1)) here
-          ∙ ap (λ (cs : List (List ℕ)). flat_map f n.0 ++ cs) (append_assoc (behind action r.0) ((action ∷ others) ∷ behind action r.1) (flat_map f n.1))
-          ∙ sym (append_assoc (flat_map f n.0) (behind action r.0) ((action ∷ others) ∷ (behind action r.1 ++ flat_map f n.1))),
+      ap (flat_map f) n.2
+          ∙ flat_map-append f n.0 (action ∷ n.1)
+          ∙ ap (λ (cs : List (List ℕ)). flat_map f n.0 ++ (cs ++ flat_map f n.1)) here
+          ∙ ap (λ (cs : List (List ℕ)). flat_map f n.0 ++ cs) (append_assoc (behind action r.0)
+          ((action ∷ others) ∷ behind action r.1) (flat_map f n.1))
+          ∙ sym (append_assoc (flat_map f n.0) (behind action r.0)
+          ((action ∷ others) ∷ (behind action r.1 ++ flat_map f n.1))),
     )
 
-all_behind : (count : ℕ) (counts : List ℕ) (action : ℕ) (all : List (List ℕ)) → 1 ≤ action → action ≤ count → AllByRecursion (IsChoice counts) all → AllByRecursion (IsChoice (count ∷ counts)) (behind action all)
+all_behind : (count : ℕ) (counts : List ℕ) (action : ℕ) (all : List (List ℕ))
+    → 1 ≤ action → action ≤ count → AllByRecursion (IsChoice counts) all
+    → AllByRecursion (IsChoice (count ∷ counts)) (behind action all)
 all_behind count counts action [] above within h = tt
-all_behind count counts action (others ∷ all) above within h = (((above, within), h.0), all_behind count counts action all above within h.1)
+all_behind count counts action (others ∷ all) above within h =
+    (((above, within), h.0), all_behind count counts action all above within h.1)
 
-all_first : (count : ℕ) (counts : List ℕ) (all : List (List ℕ)) → AllByRecursion (IsChoice counts) all → (s n : ℕ) → 1 ≤ s → s + n ≤ count + 1 → AllByRecursion (IsChoice (count ∷ counts)) (flat_map (λ action. behind action all) (numbers_from s n))
+all_first : (count : ℕ) (counts : List ℕ) (all : List (List ℕ))
+    → AllByRecursion (IsChoice counts) all → (s n : ℕ) → 1 ≤ s → s + n ≤ count + 1
+    → AllByRecursion (IsChoice (count ∷ counts))
+    (flat_map (λ action. behind action all) (numbers_from s n))
 all_first count counts all h s zero above within = tt
 all_first count counts all h s (suc n) above within =
-    all_both (IsChoice (count ∷ counts)) (behind s all) (flat_map (λ action. behind action all) (numbers_from (s + 1) n)) (all_behind count counts s all above (omega arith) h)
+    all_both (IsChoice (count ∷ counts)) (behind s all)
+    (flat_map (λ action. behind action all) (numbers_from (s + 1) n))
+    (all_behind count counts s all above (omega arith) h)
     (all_first count counts all h (s + 1) n (omega arith) (omega arith))
 
 pub are_choices : (counts : List ℕ) → AllByRecursion (IsChoice counts) (all_choices counts)
 are_choices [] = (tt, tt)
-are_choices (count ∷ counts) = all_first count counts (all_choices counts) (are_choices counts) 1 count (omega arith) (omega arith)
+are_choices (count ∷ counts) = all_first count counts (all_choices counts) (are_choices counts) 1
+    count (omega arith) (omega arith)
 
-pub every_choice : (counts choice : List ℕ) → Contains (all_choices counts) choice ↔ IsChoice counts choice
+pub every_choice : (counts choice : List ℕ)
+    → Contains (all_choices counts) choice ↔ IsChoice counts choice
 every_choice counts choice = (
-  λ h. All-contains (IsChoice counts) (all_choices counts) choice (All-from_recursion (IsChoice counts) (all_choices counts) (are_choices counts)) h,
+  λ h. All-contains (IsChoice counts) (all_choices counts) choice
+      (All-from_recursion (IsChoice counts) (all_choices counts) (are_choices counts)) h,
   λ h. contains_in (all_choices counts) choice (choice_in counts choice h),
 )

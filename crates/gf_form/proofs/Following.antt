@@ -1,5 +1,7 @@
 -- Which plays follow the same choices.
-use Rattle.std.proofs.Common.{◌≡◌, ℕ, suc, ◌+◌, ◌<◌, ◌≤◌, Bool, true, false, List, [], ◌∷◌, ◌++◌, Option, Some, None, MatchOption, length, map, refl, sym, ap, ◌∙◌, subst, arith, inl, inr}
+use Rattle.std.proofs.Common.{◌≡◌, ℕ, suc, ◌+◌, ◌<◌, ◌≤◌, Bool, true, false, List}
+use Rattle.std.proofs.Common.{[], ◌∷◌, ◌++◌, Option, Some, None, MatchOption, length}
+use Rattle.std.proofs.Common.{map, refl, sym, ap, ◌∙◌, subst, arith, inl, inr}
 use Rattle.std.specs.Prelude.{◌⊎◌, ◌↔◌, ◌==◌, ◌||◌, option_map, unwrap_or}
 use Rattle.std.specs.List.{AllByRecursion, list_all}
 use Rattle.std.specs.Option.{option_map_or}
@@ -13,7 +15,8 @@ use Rattle.gf_tree.specs.PrefixOrder.{flatten, flatten_all}
 use Rattle.gf_tree.specs.Description.{SetKey}
 use Rattle.gf_tree.specs.Game.{Node, Game, HasChildren, set_at}
 use Rattle.gf_tree.proofs.Uses.{Has, mapped_from}
-use Rattle.gf_form.specs.Plays.{Step, Play, after, plays, plays_from, is_chosen, follows, PartAtChance}
+use Rattle.gf_form.specs.Plays.{Step, Play, from_node, plays, plays_from}
+use Rattle.gf_form.specs.Plays.{is_chosen, follows, PartAtChance}
 
 -- ---- a play's moves are the choices
 
@@ -23,34 +26,47 @@ chosen_number p a k false e h above = eqb-true a k (subst (λ b. (b || a == k) �
 
 number_chosen : (p a k : ℕ) (b : Bool) → (p == 0) ≡ b → (0 < p → a ≡ k) → (p == 0 || a == k) ≡ true
 number_chosen p a k true e h = λ i. e i || a == k
-number_chosen p a k false e h = let some = eqb-false p 0 e in λ i. e i || eq-eqb a k (h (omega (arith, some))) i
+number_chosen p a k false e h =
+    let some = eqb-false p 0 e in λ i. e i || eq-eqb a k (h (omega (arith, some))) i
 
 -- the choice at this set is this child
 abbrev Chooses : (SetKey → ℕ) → Option SetKey → ℕ → Type 0
 Chooses choices o k = (key : SetKey) → o ≡ Some key → 0 < key.player → choices key ≡ k
 
-chosen_move : (choices : SetKey → ℕ) (o : Option SetKey) (k : ℕ) → (option_map_or (λ key. key.player == 0 || choices key == k) o true ≡ true) ↔ Chooses choices o k
+chosen_move : (choices : SetKey → ℕ) (o : Option SetKey) (k : ℕ)
+    → (option_map_or (λ key. key.player == 0 || choices key == k) o true ≡ true)
+    ↔ Chooses choices o k
 chosen_move choices None k = (λ h key e above. absurd (none-some key e), λ h. refl)
-chosen_move choices (Some own) k = (to, λ h. number_chosen own.player (choices own) k (own.player == 0) refl (λ above. h own refl above))
+chosen_move choices (Some own) k = (
+  to,
+  λ h. number_chosen own.player (choices own) k (own.player == 0) refl (λ above. h own refl above),
+)
   where
     to : (own.player == 0 || choices own == k) ≡ true → Chooses choices (Some own) k
     to h key e above =
         let same : key ≡ own = sym (ap (λ o. unwrap_or o own) e) in
-        ap choices same ∙ chosen_number own.player (choices own) k (own.player == 0) refl h (subst (λ s. 0 < s.player) same above)
+        ap choices same ∙ chosen_number own.player (choices own) k (own.player == 0) refl h
+        (subst (λ s. 0 < s.player) same above)
 
 abbrev pub ChoosesMoves : (SetKey → ℕ) → List Step → Type 0
-ChoosesMoves choices steps = AllByRecursion (λ s. (key : SetKey) → s.node.set ≡ Some key → 0 < key.player → choices key ≡ s.taken) steps
+ChoosesMoves choices steps = AllByRecursion
+    (λ s. (key : SetKey) → s.node.set ≡ Some key → 0 < key.player → choices key ≡ s.taken) steps
 
-chosen_moves : (choices : SetKey → ℕ) (steps : List Step) → (list_all (is_chosen choices) steps ≡ true) ↔ ChoosesMoves choices steps
+chosen_moves : (choices : SetKey → ℕ) (steps : List Step)
+    → (list_all (is_chosen choices) steps ≡ true) ↔ ChoosesMoves choices steps
 chosen_moves choices [] = (λ h. tt, λ h. refl)
 chosen_moves choices (s ∷ steps) =
     let first = chosen_move choices s.node.set s.taken in
     let others = chosen_moves choices steps in (
-      λ h. (first.0 (and_parts (is_chosen choices s) (list_all (is_chosen choices) steps) h).0, others.0 (and_parts (is_chosen choices s) (list_all (is_chosen choices) steps) h).1),
+      λ h. (
+        first.0 (and_parts (is_chosen choices s) (list_all (is_chosen choices) steps) h).0,
+        others.0 (and_parts (is_chosen choices s) (list_all (is_chosen choices) steps) h).1,
+      ),
       λ h. and_from _ _ (first.1 h.0) (others.1 h.1),
     )
 
-pub follows_moves : (choices : SetKey → ℕ) (play : Play) → (follows choices play ≡ true) ↔ ChoosesMoves choices play.steps
+pub follows_moves : (choices : SetKey → ℕ) (play : Play)
+    → (follows choices play ≡ true) ↔ ChoosesMoves choices play.steps
 follows_moves choices play = chosen_moves choices play.steps
 
 -- ---- plays of the children of a node
@@ -63,18 +79,25 @@ in_either (z ∷ xs) ys x (inr h) = elim (in_either xs ys x h) [ inl i ↦ inl (
 -- a play from the node on, of one of these children, the first of which has position k
 abbrev pub IsPlayOf : Node → ℕ → Trees Node → Play → Type 0
 IsPlayOf n k none p = ⊥
-IsPlayOf n k (more t ts) p = ((below : Play) × Has (plays t) below × (after n k below ≡ p)) ⊎ IsPlayOf n (k + 1) ts p
+IsPlayOf n k (more t ts) p =
+    ((below : Play) × Has (plays t) below × (from_node n k below ≡ p)) ⊎ IsPlayOf n (k + 1) ts p
 
-pub play_of : (ts : Trees Node) (n : Node) (k : ℕ) (p : Play) → Has (plays_from n k ts) p → IsPlayOf n k ts p
+pub play_of : (ts : Trees Node) (n : Node) (k : ℕ) (p : Play) → Has (plays_from n k ts) p
+    → IsPlayOf n k ts p
 play_of none n k p h = absurd h
 play_of (more t ts) n k p h =
-    elim (in_either (map (after n k) (plays t)) (plays_from n (k + 1) ts) p h) [ inl i ↦ inl (mapped_from (after n k) (plays t) p i) | inr i ↦ inr (play_of ts n (k + 1) p i) ]
+    elim (in_either (map (from_node n k) (plays t)) (plays_from n (k + 1) ts) p h) [
+      | inl i ↦ inl (mapped_from (from_node n k) (plays t) p i)
+      | inr i ↦ inr (play_of ts n (k + 1) p i)
+    ]
 
 -- the child that it takes has this position or a later one
-pub taken_child : (ts : Trees Node) (n : Node) (k : ℕ) (p : Play) → IsPlayOf n k ts p → (j : ℕ) × (below : Play) × (k ≤ j) × (after n j below ≡ p)
+pub taken_child : (ts : Trees Node) (n : Node) (k : ℕ) (p : Play) → IsPlayOf n k ts p
+    → (j : ℕ) × (below : Play) × (k ≤ j) × (from_node n j below ≡ p)
 taken_child none n k p h = absurd h
 taken_child (more t ts) n k p (inl i) = (k, i.0, omega arith, i.2)
-taken_child (more t ts) n k p (inr i) = let c = taken_child ts n (k + 1) p i in (c.0, c.1, omega (arith, c.2), c.3)
+taken_child (more t ts) n k p (inr i) =
+    let c = taken_child ts n (k + 1) p i in (c.0, c.1, omega (arith, c.2), c.3)
 
 module _ (choices : SetKey → ℕ) where
   abbrev Follows : Play → Type 0
@@ -84,15 +107,19 @@ module _ (choices : SetKey → ℕ) where
   SameOrPart p q = (p ≡ q) ⊎ PartAtChance p q
 
   -- two different children are taken by chance alone
-  part_here : (n : Node) (key : SetKey) (j k : ℕ) (p q : Play) → n.set ≡ Some key → ¬ (j ≡ k) → Follows (after n j p) → Follows (after n k q) → PartAtChance (after n j p) (after n k q)
+  part_here : (n : Node) (key : SetKey) (j k : ℕ) (p q : Play)
+      → n.set ≡ Some key → ¬ (j ≡ k) → Follows (from_node n j p) → Follows (from_node n k q)
+      → PartAtChance (from_node n j p) (from_node n k q)
   part_here n key j k p q at differ hp hq = by_kind (key.player == 0) refl
     where
-      by_kind : (b : Bool) → (key.player == 0) ≡ b → PartAtChance (after n j p) (after n k q)
+      by_kind : (b : Bool) → (key.player == 0) ≡ b
+          → PartAtChance (from_node n j p) (from_node n k q)
       by_kind true e = record {
         common = [];
         node = n;
         number = key.number;
-        chance = at ∙ (λ i. Some (record { player = eqb-true key.player 0 e i; number = key.number }));
+        chance =
+            at ∙ (λ i. Some (record { player = eqb-true key.player 0 e i; number = key.number }));
         first = j;
         second = k;
         differ = differ;
@@ -104,11 +131,12 @@ module _ (choices : SetKey → ℕ) where
       by_kind false e =
           let personal = eqb-false key.player 0 e in
           let above : 0 < key.player = omega (arith, personal) in
-          let to_j = ((follows_moves choices (after n j p)).0 hp).0 key at above in
-          let to_k = ((follows_moves choices (after n k q)).0 hq).0 key at above in
+          let to_j = ((follows_moves choices (from_node n j p)).0 hp).0 key at above in
+          let to_k = ((follows_moves choices (from_node n k q)).0 hq).0 key at above in
           absurd (differ (sym to_j ∙ to_k))
 
-  part_behind : (n : Node) (k : ℕ) (p q : Play) → PartAtChance p q → PartAtChance (after n k p) (after n k q)
+  part_behind : (n : Node) (k : ℕ) (p q : Play) → PartAtChance p q
+      → PartAtChance (from_node n k p) (from_node n k q)
   part_behind n k p q h = record {
     common = record { node = n; taken = k } ∷ h.common;
     node = h.node;
@@ -123,41 +151,59 @@ module _ (choices : SetKey → ℕ) where
     second_steps = ap (λ steps. record { node = n; taken = k } ∷ steps) h.second_steps;
   }
 
-  follows_below : (n : Node) (k : ℕ) (p : Play) → Follows (after n k p) → Follows p
-  follows_below n k p h = (and_parts (is_chosen choices (record { node = n; taken = k })) (follows choices p) h).1
+  follows_below : (n : Node) (k : ℕ) (p : Play) → Follows (from_node n k p) → Follows p
+  follows_below n k p h =
+      (and_parts (is_chosen choices (record { node = n; taken = k })) (follows choices p) h).1
 
-  different : (n : Node) (key : SetKey) (j k : ℕ) (below above p q : Play) → n.set ≡ Some key → ¬ (j ≡ k) → after n j below ≡ p → after n k above ≡ q → Follows p → Follows q → SameOrPart p q
+  different : (n : Node) (key : SetKey) (j k : ℕ) (below above p q : Play) → n.set ≡ Some key
+      → ¬ (j ≡ k) → from_node n j below ≡ p → from_node n k above ≡ q → Follows p → Follows q
+      → SameOrPart p q
   different n key j k below above p q at differ ep eq hp hq =
-      let part = part_here n key j k below above at differ (subst Follows (sym ep) hp) (subst Follows (sym eq) hq) in
-      inr (subst (λ x. PartAtChance x q) ep (subst (λ x. PartAtChance (after n j below) x) eq part))
+      let part = part_here n key j k below above at differ (subst Follows (sym ep) hp)
+      (subst Follows (sym eq) hq) in
+      inr (subst (λ x. PartAtChance x q) ep
+      (subst (λ x. PartAtChance (from_node n j below) x) eq part))
 
-  alike_child : (n : Node) (k : ℕ) (below above p q : Play) → after n k below ≡ p → after n k above ≡ q → SameOrPart below above → SameOrPart p q
-  alike_child n k below above p q ep eq (inl e) = inl (sym ep ∙ ap (after n k) e ∙ eq)
-  alike_child n k below above p q ep eq (inr part) = inr (subst (λ x. PartAtChance x q) ep (subst (λ x. PartAtChance (after n k below) x) eq (part_behind n k below above part)))
+  alike_child : (n : Node) (k : ℕ) (below above p q : Play)
+      → from_node n k below ≡ p → from_node n k above ≡ q → SameOrPart below above → SameOrPart p q
+  alike_child n k below above p q ep eq (inl e) = inl (sym ep ∙ ap (from_node n k) e ∙ eq)
+  alike_child n k below above p q ep eq (inr part) = inr (subst (λ x. PartAtChance x q) ep
+      (subst (λ x. PartAtChance (from_node n k below) x) eq (part_behind n k below above part)))
 
   module _ (g : Game) where
-    has_set : (o : Option SetKey) (n : ℕ) → 0 < n → MatchOption o (n ≡ 0) (λ key. option_map (λ set. length set.actions) (set_at g key) ≡ Some n) → (key : SetKey) × (o ≡ Some key)
+    has_set : (o : Option SetKey) (n : ℕ) → 0 < n
+        → MatchOption o (n ≡ 0)
+        (λ key. option_map (λ set. length set.actions) (set_at g key) ≡ Some n)
+        → (key : SetKey) × (o ≡ Some key)
     has_set None n above e = absurd (omega arith)
     has_set (Some key) n above e = (key, refl)
 
     mutual
-      pub same_or_part : (t : Tree Node) → AllByRecursion (HasChildren g) (flatten t) → (p q : Play) → Has (plays t) p → Has (plays t) q → Follows p → Follows q → SameOrPart p q
+      pub same_or_part : (t : Tree Node) → AllByRecursion (HasChildren g) (flatten t) → (p q : Play)
+          → Has (plays t) p → Has (plays t) q → Follows p → Follows q → SameOrPart p q
       same_or_part (branch n none) children p q (inl e) (inl f) hp hq = inl (sym e ∙ f)
       same_or_part (branch n none) children p q (inl e) (inr f) hp hq = absurd f
       same_or_part (branch n none) children p q (inr e) f hp hq = absurd e
       same_or_part (branch n (more t ts)) children p q i j hp hq =
           let set = has_set n.set (suc (count ts)) (omega arith) children.0 in
-          same_or_part_of (more t ts) n 1 set.0 set.1 children.1 p q (play_of (more t ts) n 1 p i) (play_of (more t ts) n 1 q j) hp hq
+          same_or_part_of (more t ts) n 1 set.0 set.1 children.1 p q (play_of (more t ts) n 1 p i)
+          (play_of (more t ts) n 1 q j) hp hq
 
-      same_or_part_of : (ts : Trees Node) (n : Node) (k : ℕ) (key : SetKey) → n.set ≡ Some key → AllByRecursion (HasChildren g) (flatten_all ts) → (p q : Play) → IsPlayOf n k ts p → IsPlayOf n k ts q → Follows p → Follows q → SameOrPart p q
+      same_or_part_of : (ts : Trees Node) (n : Node) (k : ℕ) (key : SetKey)
+          → n.set ≡ Some key → AllByRecursion (HasChildren g) (flatten_all ts) → (p q : Play)
+          → IsPlayOf n k ts p → IsPlayOf n k ts q → Follows p → Follows q → SameOrPart p q
       same_or_part_of none n k key at children p q i j hp hq = absurd i
       same_or_part_of (more t ts) n k key at children p q (inl i) (inl j) hp hq =
           let both = all_parts (HasChildren g) (flatten t) (flatten_all ts) children in
-          alike_child n k i.0 j.0 p q i.2 j.2 (same_or_part t both.0 i.0 j.0 i.1 j.1 (follows_below n k i.0 (subst Follows (sym i.2) hp)) (follows_below n k j.0 (subst Follows (sym j.2) hq)))
+          alike_child n k i.0 j.0 p q i.2 j.2 (same_or_part t both.0 i.0
+          j.0 i.1 j.1 (follows_below n k i.0 (subst Follows (sym i.2) hp))
+          (follows_below n k j.0 (subst Follows (sym j.2) hq)))
       same_or_part_of (more t ts) n k key at children p q (inl i) (inr j) hp hq =
-          let c = taken_child ts n (k + 1) q j in different n key k c.0 i.0 c.1 p q at (λ e. omega (arith, c.2)) i.2 c.3 hp hq
+          let c = taken_child ts n (k + 1) q j in
+          different n key k c.0 i.0 c.1 p q at (λ e. omega (arith, c.2)) i.2 c.3 hp hq
       same_or_part_of (more t ts) n k key at children p q (inr i) (inl j) hp hq =
-          let c = taken_child ts n (k + 1) p i in different n key c.0 k c.1 j.0 p q at (λ e. omega (arith, c.2)) c.3 j.2 hp hq
+          let c = taken_child ts n (k + 1) p i in
+          different n key c.0 k c.1 j.0 p q at (λ e. omega (arith, c.2)) c.3 j.2 hp hq
       same_or_part_of (more t ts) n k key at children p q (inr i) (inr j) hp hq =
           let both = all_parts (HasChildren g) (flatten t) (flatten_all ts) children in
           same_or_part_of ts n (k + 1) key at both.1 p q i j hp hq

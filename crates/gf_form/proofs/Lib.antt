@@ -7,11 +7,16 @@ pub mod Denominators
 pub mod Followed
 pub mod Following
 pub mod FormTables
+pub mod Forms
 pub mod KnownSets
 pub mod Lookups
 pub mod Lotteries
+pub mod NoPlayer
 pub mod PlaySums
+pub mod ReducedForms
 pub mod ReducedPays
+pub mod ReducedTables
+pub mod ReducedValues
 pub mod Reducing
 pub mod SameForms
 pub mod SameRefusals

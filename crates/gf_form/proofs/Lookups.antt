@@ -1,5 +1,6 @@
 -- What is found in a list of which each element has a property.
-use Rattle.std.proofs.Common.{◌≡◌, ℕ, zero, suc, Bool, true, false, cond, List, [], ◌∷◌, Option, Some, None, MatchOption, refl, ap, ◌∙◌, ◌≤◌, ◌-◌, ◌+◌, get_or, arith}
+use Rattle.std.proofs.Common.{◌≡◌, ℕ, zero, suc, Bool, true, false, cond, List, [], ◌∷◌, Option}
+use Rattle.std.proofs.Common.{Some, None, MatchOption, refl, ap, ◌∙◌, ◌≤◌, ◌-◌, ◌+◌, get_or, arith}
 use Rattle.std.specs.Prelude.{option_map, unwrap_or, option_and_then, slice_get, ⊤}
 use Rattle.std.specs.List.{AllByRecursion, find}
 use Rattle.std.proofs.lemmas.Option.{unwrap_or-slice_get}
@@ -10,36 +11,44 @@ use Rattle.gf_form.specs.Strategies.{strategy_at}
 abbrev pub Each : {A : Type 0} → (A → Type 0) → Option A → Type 0
 Each P o = MatchOption o ⊤ P
 
-pub each_got : {A : Type 0} (P : A → Type 0) (xs : List A) (i : ℕ) → AllByRecursion P xs → Each P (slice_get xs i)
+pub each_got : {A : Type 0} (P : A → Type 0) (xs : List A) (i : ℕ) → AllByRecursion P xs
+    → Each P (slice_get xs i)
 each_got P [] i h = tt
 each_got P (x ∷ xs) zero h = h.0
 each_got P (x ∷ xs) (suc i) h = each_got P xs i h.1
 
-pub each_at : {A : Type 0} (P : A → Type 0) (xs : List A) (position : ℕ) → AllByRecursion P xs → Each P (at_position xs position)
+pub each_at : {A : Type 0} (P : A → Type 0) (xs : List A) (position : ℕ) → AllByRecursion P xs
+    → Each P (at_position xs position)
 each_at P xs zero h = tt
 each_at P xs (suc i) h = each_got P xs i h
 
-pub each_found : {A : Type 0} (P : A → Type 0) (test : A → Bool) (xs : List A) → AllByRecursion P xs → Each (λ x. P x × (test x ≡ true)) (find test xs)
+pub each_found : {A : Type 0} (P : A → Type 0) (test : A → Bool) (xs : List A) → AllByRecursion P xs
+    → Each (λ x. P x × (test x ≡ true)) (find test xs)
 each_found P test [] h = tt
 each_found {A} P test (x ∷ xs) h = by_test (test x) refl (each_found P test xs h.1)
   where
-    by_test : (b : Bool) → test x ≡ b → Each (λ y. P y × (test y ≡ true)) (find test xs) → Each (λ y. P y × (test y ≡ true)) (cond b (Some x) (find test xs))
+    by_test : (b : Bool) → test x ≡ b → Each (λ y. P y × (test y ≡ true)) (find test xs)
+        → Each (λ y. P y × (test y ≡ true)) (cond b (Some x) (find test xs))
     by_test true e others = (h.0, e)
     by_test false e others = others
 
-pub each_mapped : {A B : Type 0} (P : B → Type 0) (f : A → B) (o : Option A) → Each (λ x. P (f x)) o → Each P (option_map f o)
+pub each_mapped : {A B : Type 0} (P : B → Type 0) (f : A → B) (o : Option A) → Each (λ x. P (f x)) o
+    → Each P (option_map f o)
 each_mapped P f None h = tt
 each_mapped P f (Some x) h = h
 
-pub each_then : {A B : Type 0} (P : A → Type 0) (Q : B → Type 0) (f : A → Option B) (o : Option A) → ((x : A) → P x → Each Q (f x)) → Each P o → Each Q (option_and_then f o)
+pub each_then : {A B : Type 0} (P : A → Type 0) (Q : B → Type 0) (f : A → Option B) (o : Option A)
+    → ((x : A) → P x → Each Q (f x)) → Each P o → Each Q (option_and_then f o)
 each_then P Q f None each h = tt
 each_then P Q f (Some x) each h = each x h
 
-pub each_weaker : {A : Type 0} (P Q : A → Type 0) (o : Option A) → ((x : A) → P x → Q x) → Each P o → Each Q o
+pub each_weaker : {A : Type 0} (P Q : A → Type 0) (o : Option A) → ((x : A) → P x → Q x) → Each P o
+    → Each Q o
 each_weaker P Q None weaker h = tt
 each_weaker P Q (Some x) weaker h = weaker x h
 
-pub each_or : {A : Type 0} (P : A → Type 0) (o : Option A) (default : A) → P default → Each P o → P (unwrap_or o default)
+pub each_or : {A : Type 0} (P : A → Type 0) (o : Option A) (default : A) → P default → Each P o
+    → P (unwrap_or o default)
 each_or P None default d h = d
 each_or P (Some x) default d h = h
 
@@ -52,8 +61,12 @@ each_any (Some x) = tt
 pub next_position : {A : Type 0} (xs : List A) (i : ℕ) → at_position xs (1 + i) ≡ slice_get xs i
 next_position xs i = let next : 1 + i ≡ suc i = omega arith in ap (at_position xs) next
 
-pub next_strategy : {A : Type 0} (xs : List (List A)) (i : ℕ) → strategy_at xs (1 + i) ≡ get_or xs i []
+pub next_strategy : {A : Type 0} (xs : List (List A)) (i : ℕ)
+    → strategy_at xs (1 + i) ≡ get_or xs i []
 next_strategy xs i = ap (λ o. unwrap_or o []) (next_position xs i) ∙ unwrap_or-slice_get xs i []
 
-pub strategy_before : {A : Type 0} (xs : List (List A)) (position : ℕ) → 1 ≤ position → strategy_at xs position ≡ get_or xs (position - 1) []
-strategy_before xs position above = let place : position ≡ 1 + (position - 1) = omega arith in ap (strategy_at xs) place ∙ next_strategy xs (position - 1)
+pub strategy_before : {A : Type 0} (xs : List (List A)) (position : ℕ) → 1 ≤ position
+    → strategy_at xs position ≡ get_or xs (position - 1) []
+strategy_before xs position above =
+    let place : position ≡ 1 + (position - 1) = omega arith in
+    ap (strategy_at xs) place ∙ next_strategy xs (position - 1)

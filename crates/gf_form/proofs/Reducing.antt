@@ -1,5 +1,6 @@
 -- Strategies that reduce to one agree with the same plays.
-use Rattle.std.proofs.Common.{◌≡◌, ℕ, Bool, true, false, List, [], ◌∷◌, Option, Some, None, map, get_or, drop, refl, sym, ap, ◌∙◌, subst, inl, inr}
+use Rattle.std.proofs.Common.{◌≡◌, ℕ, Bool, true, false, List, [], ◌∷◌, Option, Some, None}
+use Rattle.std.proofs.Common.{map, get_or, drop, refl, sym, ap, ◌∙◌, subst, inl, inr}
 use Rattle.std.specs.Prelude.{◌⊎◌, ◌==◌, ◌||◌, ◌&&◌, not, unwrap_or, if◌then◌else◌}
 use Rattle.std.specs.List.{Contains, list_all, list_any}
 use Rattle.std.specs.Option.{option_map_or}
@@ -29,84 +30,125 @@ same_answer true b to from = sym (to refl)
 same_answer false true to from = from refl
 same_answer false false to from = refl
 
-pub any_has : {X : Type 0} (test : X → Bool) (xs : List X) (x : X) → Has xs x → test x ≡ true → list_any test xs ≡ true
+pub any_has : {X : Type 0} (test : X → Bool) (xs : List X) (x : X) → Has xs x → test x ≡ true
+    → list_any test xs ≡ true
 any_has test [] x i h = absurd i
 any_has test (y ∷ ys) x (inl e) h = or_left (test y) (list_any test ys) (ap test e ∙ h)
 any_has test (y ∷ ys) x (inr i) h = or_right (test y) (list_any test ys) (any_has test ys x i h)
 
 -- ---- equal reduced strategies
 
-shown_alike : (a b : Bool) (m n : ℕ) → a ≡ true → (if a then Some m else None) ≡ (if b then Some n else None) → m ≡ n
+shown_alike : (a b : Bool) (m n : ℕ)
+    → a ≡ true → (if a then Some m else None) ≡ (if b then Some n else None) → m ≡ n
 shown_alike true true m n h e = ap (λ o. unwrap_or o m) e
 shown_alike true false m n h e = absurd (none-some m (sym e))
 shown_alike false b m n h e = absurd (false≢true h)
 
-mapped_alike : {X : Type 0} (f h : X → Option ℕ) (xs : List X) (x : X) → map f xs ≡ map h xs → Has xs x → f x ≡ h x
+mapped_alike : {X : Type 0} (f h : X → Option ℕ) (xs : List X) (x : X)
+    → map f xs ≡ map h xs → Has xs x → f x ≡ h x
 mapped_alike f h [] x e i = absurd i
 mapped_alike f h (y ∷ ys) x e (inl q) = subst (λ z. f z ≡ h z) q (ap (λ l. get_or l 0 None) e)
 mapped_alike f h (y ∷ ys) x e (inr i) = mapped_alike f h ys x (ap (drop 1) e) i
 
 -- a set that is none of these has no choice
-in_or_none : (keys : List SetKey) (key : SetKey) → Has keys key ⊎ ((strategy : List ℕ) → choice_at keys strategy key ≡ 0)
+in_or_none : (keys : List SetKey) (key : SetKey)
+    → Has keys key ⊎ ((strategy : List ℕ) → choice_at keys strategy key ≡ 0)
 in_or_none [] key = inr (λ strategy. refl)
 in_or_none (k ∷ keys) key = by_test (same_set k key) refl (in_or_none keys key)
   where
-    none_here : (b : Bool) → same_set k key ≡ false → ((strategy : List ℕ) → choice_at keys strategy key ≡ 0) → (strategy : List ℕ) → choice_at (k ∷ keys) strategy key ≡ 0
+    none_here : (b : Bool) → same_set k key ≡ false
+        → ((strategy : List ℕ) → choice_at keys strategy key ≡ 0) → (strategy : List ℕ)
+        → choice_at (k ∷ keys) strategy key ≡ 0
     none_here b e others [] = refl
-    none_here b e others (action ∷ strategy) = ap (λ t. if t then action else choice_at keys strategy key) e ∙ others strategy
+    none_here b e others (action ∷ strategy) =
+        ap (λ t. if t then action else choice_at keys strategy key) e ∙ others strategy
 
-    by_test : (b : Bool) → same_set k key ≡ b → Has keys key ⊎ ((strategy : List ℕ) → choice_at keys strategy key ≡ 0) → Has (k ∷ keys) key ⊎ ((strategy : List ℕ) → choice_at (k ∷ keys) strategy key ≡ 0)
+    by_test : (b : Bool) → same_set k key ≡ b
+        → Has keys key ⊎ ((strategy : List ℕ) → choice_at keys strategy key ≡ 0)
+        → Has (k ∷ keys) key ⊎ ((strategy : List ℕ) → choice_at (k ∷ keys) strategy key ≡ 0)
     by_test true e others = inl (inl ((same_set_equality k key).0 e))
     by_test false e (inl i) = inl (inr i)
     by_test false e (inr others) = inr (none_here false e others)
 
 module _ (g : Game) (player : ℕ) where
-  abbrev chosen : List ℕ → SetKey → ℕ
+  abbrev pub chosen : List ℕ → SetKey → ℕ
   chosen strategy key = choice_at (player_keys g player) strategy key
 
-  same_where_relevant : (s t : List ℕ) → reduced g player s ≡ reduced g player t → (key : SetKey) → is_relevant g (chosen s) key ≡ true → chosen s key ≡ chosen t key
+  pub same_where_relevant : (s t : List ℕ) → reduced g player s ≡ reduced g player t
+      → (key : SetKey) → is_relevant g (chosen s) key ≡ true → chosen s key ≡ chosen t key
   same_where_relevant s t e key relevant =
       elim (in_or_none (player_keys g player) key) [
         | inl i ↦
-            let shown = mapped_alike (λ k. if is_relevant g (chosen s) k then Some (chosen s k) else None) (λ k. if is_relevant g (chosen t) k then Some (chosen t k) else None) (player_keys g player) key e i in
-            shown_alike (is_relevant g (chosen s) key) (is_relevant g (chosen t) key) (chosen s key) (chosen t key) relevant shown
+            let shown =
+            mapped_alike (λ k. if is_relevant g (chosen s) k then Some (chosen s k) else None)
+            (λ k. if is_relevant g (chosen t) k then Some (chosen t k) else None)
+            (player_keys g player) key e i in
+            shown_alike (is_relevant g (chosen s) key) (is_relevant g (chosen t) key) (chosen s key)
+            (chosen t key) relevant shown
         | inr z ↦ z s ∙ sym (z t)
       ]
 
   -- ---- along a play
 
-  module _ (c d : SetKey → ℕ) (same : (key : SetKey) → is_relevant g c key ≡ true → c key ≡ d key) where
+  module _ (c d : SetKey → ℕ)
+      (same : (key : SetKey) → is_relevant g c key ≡ true → c key ≡ d key) where
     -- what the rest of a play comes to is relevant
     abbrev IsRelevantBelow : List Step → Type 0
-    IsRelevantBelow rest = (key : SetKey) → key.player ≡ player → comes_to c key rest ≡ true → is_relevant g c key ≡ true
+    IsRelevantBelow rest = (key : SetKey) → key.player ≡ player → comes_to c key rest ≡ true
+        → is_relevant g c key ≡ true
 
-    own_move : (key : SetKey) (k : ℕ) (b : Bool) → (key.player == player) ≡ b → (b ≡ true → c key ≡ d key) → (not (key.player == player) || c key == k) ≡ true → (not (key.player == player) || d key == k) ≡ true
+    own_move : (key : SetKey) (k : ℕ) (b : Bool) → (key.player == player) ≡ b
+        → (b ≡ true → c key ≡ d key) → (not (key.player == player) || c key == k) ≡ true
+        → (not (key.player == player) || d key == k) ≡ true
     own_move key k true e alike h =
-        let taken : c key ≡ k = eqb-true (c key) k (subst (λ t. (not t || c key == k) ≡ true) e h) in
+        let taken : c key ≡ k =
+        eqb-true (c key) k (subst (λ t. (not t || c key == k) ≡ true) e h) in
         λ i. not (e i) || eq-eqb (d key) k (sym (alike refl) ∙ taken) i
     own_move key k false e alike h = λ i. not (e i) || d key == k
 
-    step_agrees : (s : Step) (rest : List Step) → IsRelevantBelow (s ∷ rest) → is_own_choice c player s ≡ true → is_own_choice d player s ≡ true
+    step_agrees : (s : Step) (rest : List Step) → IsRelevantBelow (s ∷ rest)
+        → is_own_choice c player s ≡ true → is_own_choice d player s ≡ true
     step_agrees s rest relevant h = by_set s.node.set refl h
       where
-        by_set : (o : Option SetKey) → s.node.set ≡ o → option_map_or (λ key. not (key.player == player) || c key == s.taken) o true ≡ true → option_map_or (λ key. not (key.player == player) || d key == s.taken) o true ≡ true
+        by_set : (o : Option SetKey) → s.node.set ≡ o
+            → option_map_or (λ key. not (key.player == player) || c key == s.taken) o true ≡ true
+            → option_map_or (λ key. not (key.player == player) || d key == s.taken) o true ≡ true
         by_set None at h = refl
         by_set (Some key) at h =
-            let here : option_map_or (same_set key) s.node.set false ≡ true = ap (λ o. option_map_or (same_set key) o false) at ∙ (same_set_equality key key).1 refl in
-            let come : comes_to c key (s ∷ rest) ≡ true = or_left (option_map_or (same_set key) s.node.set false) (is_own_choice c key.player s && comes_to c key rest) here in
-            own_move key s.taken (key.player == player) refl (λ own. same key (relevant key (eqb-true _ _ own) come)) h
+            let here : option_map_or (same_set key) s.node.set false ≡ true =
+            ap (λ o. option_map_or (same_set key) o false) at
+            ∙ (same_set_equality key key).1 refl in
+            let come : comes_to c key (s ∷ rest) ≡ true =
+            or_left (option_map_or (same_set key) s.node.set false)
+            (is_own_choice c key.player s && comes_to c key rest) here in
+            own_move key s.taken (key.player == player) refl
+            (λ own. same key (relevant key (eqb-true _ _ own) come)) h
 
-    rest_agrees : (rest : List Step) → IsRelevantBelow rest → list_all (is_own_choice c player) rest ≡ true → list_all (is_own_choice d player) rest ≡ true
+    rest_agrees : (rest : List Step)
+        → IsRelevantBelow rest → list_all (is_own_choice c player) rest ≡ true
+        → list_all (is_own_choice d player) rest ≡ true
     rest_agrees [] relevant h = refl
     rest_agrees (s ∷ rest) relevant h =
-        let both = and_parts (is_own_choice c player s) (list_all (is_own_choice c player) rest) h in
+        let both =
+        and_parts (is_own_choice c player s) (list_all (is_own_choice c player) rest) h in
         and_from _ _ (step_agrees s rest relevant both.0)
-        (rest_agrees rest (λ key own come. relevant key own (or_right (option_map_or (same_set key) s.node.set false) (is_own_choice c key.player s && comes_to c key rest) (and_from _ _ (subst (λ p. is_own_choice c p s ≡ true) (sym own) both.0) come))) both.1)
+        (rest_agrees rest
+        (λ key own come. relevant key own (or_right (option_map_or (same_set key) s.node.set false)
+        (is_own_choice c key.player s && comes_to c key rest)
+        (and_from _ _ (subst (λ p. is_own_choice c p s ≡ true) (sym own) both.0) come)))
+        both.1)
 
-  agrees_too : (s t : List ℕ) (play : Play) → reduced g player s ≡ reduced g player t → Has (plays g.tree) play → agrees (chosen s) player play ≡ true → agrees (chosen t) player play ≡ true
+  agrees_too : (s t : List ℕ) (play : Play) → reduced g player s ≡ reduced g player t
+      → Has (plays g.tree) play → agrees (chosen s) player play ≡ true
+      → agrees (chosen t) player play ≡ true
   agrees_too s t play e i h =
-      rest_agrees (chosen s) (chosen t) (same_where_relevant s t e) play.steps (λ key own come. any_has (λ p. comes_to (chosen s) key p.steps) (plays g.tree) play i come) h
+      rest_agrees (chosen s) (chosen t) (same_where_relevant s t e) play.steps
+      (λ key own come. any_has (λ p. comes_to (chosen s) key p.steps) (plays g.tree) play i come) h
 
-  pub reduced_agree : (s t : List ℕ) (play : Play) → reduced g player s ≡ reduced g player t → Contains (plays g.tree) play → agrees (choice_at (player_keys g player) s) player play ≡ agrees (choice_at (player_keys g player) t) player play
+  pub reduced_agree : (s t : List ℕ) (play : Play) → reduced g player s ≡ reduced g player t
+      → Contains (plays g.tree) play → agrees (choice_at (player_keys g player) s) player play
+      ≡ agrees (choice_at (player_keys g player) t) player play
   reduced_agree s t play e i =
-      same_answer (agrees (chosen s) player play) (agrees (chosen t) player play) (agrees_too s t play e (has (plays g.tree) play i)) (agrees_too t s play (sym e) (has (plays g.tree) play i))
+      same_answer (agrees (chosen s) player play) (agrees (chosen t) player play)
+      (agrees_too s t play e (has (plays g.tree) play i))
+      (agrees_too t s play (sym e) (has (plays g.tree) play i))

@@ -12,7 +12,8 @@ use Rattle.gf_canon.specs.SameGame.{SameGame}
 use Rattle.gf_canon.proofs.SameGames.{same_back}
 use Rattle.gf_form.specs.BottomUp.{IsValue}
 use Rattle.gf_form.specs.Refusal.{HasBottomUpValue, HasTooManyProfiles, HasValues, OverflowsAt}
-use Rattle.gf_form.specs.Strategies.{choices_by, full_profiles, players_of, strategies, strategies_at}
+use Rattle.gf_form.specs.Strategies.{choices_by, full_profiles, players_of}
+use Rattle.gf_form.specs.Strategies.{strategies, strategies_at}
 use Rattle.gf_form.proofs.SameForms.{same_strategies, same_strategies_at, same_values}
 
 module _ (g h : Game) (game : IsGame g) (game' : IsGame h) (same : SameGame g h) where
@@ -22,40 +23,49 @@ module _ (g h : Game) (game : IsGame g) (game' : IsGame h) (same : SameGame g h)
   pub same_profiles : full_profiles g ≡ full_profiles h
   same_profiles =
       ap profiles
-      (map_same (λ player. length (strategies g player)) (λ player. length (strategies h player)) (players_of g)
+      (map_same (λ player. length (strategies g player)) (λ player. length (strategies h player))
+      (players_of g)
       (λ player i. ap length (same_strategies g h game game' same player))
       ∙ ap (map (λ player. length (strategies h player))) players_too)
 
-  value_too : (profile : List ℕ) (player : ℕ) → HasBottomUpValue g profile player → HasBottomUpValue h profile player
+  value_too : (profile : List ℕ) (player : ℕ) → HasBottomUpValue g profile player
+      → HasBottomUpValue h profile player
   value_too profile player has = (
     has.0,
-    subst (λ all. IsValue h (choices_by h all) player h.tree has.0) (same_strategies_at g h game game' same profile)
-    ((same_values g h game game' same (strategies_at g profile) player has.0).0 has.1),
+    subst (λ all. IsValue h (choices_by h all) player h.tree has.0)
+        (same_strategies_at g h game game' same profile)
+        ((same_values g h game game' same (strategies_at g profile) player has.0).0 has.1),
   )
 
   pub values_too : (profile : List ℕ) → HasValues g profile → HasValues h profile
   values_too profile all =
-      all_weaker (HasBottomUpValue g profile) (HasBottomUpValue h profile) (value_too profile) (players_of h)
+      all_weaker (HasBottomUpValue g profile) (HasBottomUpValue h profile) (value_too profile)
+      (players_of h)
       (subst (AllByRecursion (HasBottomUpValue g profile)) players_too all)
 
-overflow_on : (g h : Game) → IsGame g → IsGame h → SameGame g h → (position : ℕ) → OverflowsAt g position → OverflowsAt h position
+overflow_on : (g h : Game) → IsGame g → IsGame h → SameGame g h → (position : ℕ)
+    → OverflowsAt g position → OverflowsAt h position
 overflow_on g h game game' same position o =
     let profiles_too = same_profiles g h game game' same in
     record {
       profile = o.profile;
       there = ap (λ ps. at_position ps position) (sym profiles_too) ∙ o.there;
-      overflows = λ all. o.overflows (values_too h g game' game (same_back g h game same) o.profile all);
+      overflows =
+          λ all. o.overflows (values_too h g game' game (same_back g h game same) o.profile all);
       first = λ earlier other before is.
-          values_too g h game game' same other (o.first earlier other before (ap (λ ps. at_position ps earlier) profiles_too ∙ is));
+          values_too g h game game' same other
+          (o.first earlier other before (ap (λ ps. at_position ps earlier) profiles_too ∙ is));
     }
 
-pub same_overflow : (g h : Game) → IsGame g → IsGame h → SameGame g h → (position : ℕ) → OverflowsAt g position ↔ OverflowsAt h position
+pub same_overflow : (g h : Game) → IsGame g → IsGame h → SameGame g h → (position : ℕ)
+    → OverflowsAt g position ↔ OverflowsAt h position
 same_overflow g h game game' same position = (
   overflow_on g h game game' same position,
   overflow_on h g game' game (same_back g h game same) position,
 )
 
-pub same_count : (g h : Game) → IsGame g → IsGame h → SameGame g h → HasTooManyProfiles g ↔ HasTooManyProfiles h
+pub same_count : (g h : Game) → IsGame g → IsGame h → SameGame g h
+    → HasTooManyProfiles g ↔ HasTooManyProfiles h
 same_count g h game game' same =
     let profiles_too = same_profiles g h game game' same in (
       subst (λ ps. profile_limit < length ps) profiles_too,

@@ -1,14 +1,16 @@
 -- Worked games: their plays and payoffs, and what is left out of their strategies.
-use Rattle.std.proofs.Common.{◌≡◌, ℕ, ℤ, pos, ◌+◌, ◌-◌, ◌*◌, ◌^◌, ◌<◌, true, false, Option, None, List, [], ◌∷◌, map, get_or, refl, ap, subst, arith}
+use Rattle.std.proofs.Common.{◌≡◌, ℕ, ℤ, pos, ◌+◌, ◌-◌, ◌*◌, ◌^◌, ◌<◌, true, false, Option}
+use Rattle.std.proofs.Common.{None, List, [], ◌∷◌, map, get_or, refl, ap, ◌∙◌, subst, arith}
 use Rattle.std.specs.Prelude.{codes, nat_eq, nat_lt, unwrap_or, unsigned_abs, ◌*ℤ◌}
 use Rattle.std.specs.List.{AllByRecursion, Contains}
 use Rattle.std.specs.Fmt.{digits}
 use Rattle.std.proofs.lemmas.List.Elements.{All-contains, All-from_recursion}
 use Rattle.std.proofs.lemmas.Bool.{ltb-true, eqb-false}
 use Rattle.gf_fraction.specs.Ratio.{Ratio, IsFraction, whole}
-use Rattle.gf_fraction.specs.Fits.{SumFits}
+use Rattle.gf_fraction.specs.Fits.{AddsTo, IsProduct, IsSum, MultipliesTo, SumFits}
 use Rattle.gf_fraction.specs.Computed.{lowest_of, gcd_within, sum_of}
 use Rattle.gf_fraction.proofs.ComputedArithmetic.{lowest_of-fraction, sum_is_computed}
+use Rattle.gf_fraction.proofs.LowestTerms.{one_fraction}
 use Rattle.gf_fraction.proofs.WholeNumbers.{whole_fraction, part_fraction}
 use Rattle.gf_fraction.specs.Rational.{IsEqual}
 use Rattle.gf_form.specs.Strategies.{choices_by, strategies_at, full_profiles}
@@ -16,20 +18,25 @@ use Rattle.gf_form.specs.Plays.{plays}
 use Rattle.gf_form.specs.Payoff.{payoff}
 use Rattle.gf_form.specs.BottomUp.{IsValue}
 use Rattle.gf_form.specs.StrategicForm.{ArePayoffs, IsStrategicForm}
-use Rattle.gf_form.specs.Reduced.{reduced_at, reduced_by, reduced_label, reduced_strategies, IsReducedForm}
-use Rattle.gf_tree.specs.WorkedTrees.{bonus, forgetful}
-use Rattle.gf_form.specs.WorkedForms.{greatest, bonus_form, overflowing, second, unlikely, only, ending, ending_form, ending_reduced, contradicted}
+use Rattle.gf_form.specs.Reduced.{reduced_at, reduced_by, reduced_label}
+use Rattle.gf_form.specs.Reduced.{reduced_strategies, IsReducedForm}
+use Rattle.gf_tree.specs.WorkedTrees.{bonus, forgetful, half}
+use Rattle.gf_form.specs.WorkedForms.{greatest, bonus_form, overflowing, second, unlikely, only}
+use Rattle.gf_form.specs.WorkedForms.{balancing, ending, ending_form, ending_reduced, contradicted}
 
 -- ---- fractions
 
-fraction : (z : ℤ) (d : ℕ) (r : Ratio) → 0 < d → d < 2 ^ 127 → unsigned_abs z < 2 ^ 127 → lowest_of z d ≡ r → IsFraction r
+fraction : (z : ℤ) (d : ℕ) (r : Ratio)
+    → 0 < d → d < 2 ^ 127 → unsigned_abs z < 2 ^ 127 → lowest_of z d ≡ r → IsFraction r
 fraction z d r above den num is = subst IsFraction is (lowest_of-fraction z d above den num)
 
 small : (n : ℕ) → n < 4 → IsFraction (whole (pos n))
 small n h = whole_fraction n (omega arith)
 
-equal : (x y : Ratio) → nat_lt 0 x.den ≡ true → nat_lt 0 y.den ≡ true → x.num *ℤ pos y.den ≡ y.num *ℤ pos x.den → IsEqual x y
-equal x y left right crosswise = record { left = ltb-true _ _ left; right = ltb-true _ _ right; crosswise = crosswise }
+equal : (x y : Ratio) → nat_lt 0 x.den ≡ true → nat_lt 0 y.den ≡ true
+    → x.num *ℤ pos y.den ≡ y.num *ℤ pos x.den → IsEqual x y
+equal x y left right crosswise =
+    record { left = ltb-true _ _ left; right = ltb-true _ _ right; crosswise = crosswise }
 
 three_halves : IsFraction (record { num = pos 3; den = 2 })
 unfolding lowest_of gcd_within
@@ -37,7 +44,8 @@ three_halves = fraction (pos 3) 2 _ (omega arith) (omega arith) (omega arith) re
 
 -- ---- the bonus
 
-pub plays_of_bonus : map (λ play. map (λ s. s.taken) play.steps) (plays bonus.tree) ≡ (1 ∷ 1 ∷ []) ∷ (1 ∷ 2 ∷ []) ∷ (2 ∷ 1 ∷ []) ∷ (2 ∷ 2 ∷ []) ∷ []
+pub plays_of_bonus : map (λ play. map (λ s. s.taken) play.steps) (plays bonus.tree)
+    ≡ (1 ∷ 1 ∷ []) ∷ (1 ∷ 2 ∷ []) ∷ (2 ∷ 1 ∷ []) ∷ (2 ∷ 2 ∷ []) ∷ []
 plays_of_bonus = refl
 
 pub form_of_bonus : IsStrategicForm bonus bonus_form
@@ -49,8 +57,17 @@ form_of_bonus = record {
   strategies = refl;
   profiles = refl;
   payoffs = (
-    ((three_halves, equal _ _ refl refl refl), ((small 0 (omega arith), equal _ _ refl refl refl), tt)),
-    (((small 2 (omega arith), equal _ _ refl refl refl), ((part_fraction 2 (omega arith) (omega arith), equal _ _ refl refl refl), tt)), tt),
+    (
+      (three_halves, equal _ _ refl refl refl),
+      ((small 0 (omega arith), equal _ _ refl refl refl), tt),
+    ),
+    (
+      (
+        (small 2 (omega arith), equal _ _ refl refl refl),
+        ((part_fraction 2 (omega arith) (omega arith), equal _ _ refl refl refl), tt),
+      ),
+      tt,
+    ),
   );
 }
 
@@ -61,24 +78,93 @@ greatest_payoff = record { left = omega arith; right = omega arith; crosswise = 
 
 no_sum : ¬ (SumFits greatest (whole (pos 1)))
 unfolding sum_of gcd_within
-no_sum = sum_is_computed greatest (whole (pos 1)) (whole_fraction (2 ^ 127 - 1) (omega arith)) (small 1 (omega arith))
+no_sum = sum_is_computed greatest (whole (pos 1)) (whole_fraction (2 ^ 127 - 1) (omega arith))
+    (small 1 (omega arith))
 
 greatest_and_one : (r : Ratio) → r ≡ whole (pos 1) → ¬ (SumFits greatest r)
 greatest_and_one r is fits = no_sum (subst (SumFits greatest) is fits)
 
-pub no_value : ¬ ((value : Ratio) × IsValue overflowing (choices_by overflowing second) 1 overflowing.tree value)
+pub no_value : ¬ ((value : Ratio)
+    × IsValue overflowing (choices_by overflowing second) 1 overflowing.tree value)
 no_value h = greatest_and_one h.1.1.0 h.1.1.1 h.1.1.2.0
+
+-- ---- products and sums that fit
+
+-- the product of these is this fraction
+one_product : (x y z r s : Ratio)
+    → y ≡ z → 0 < x.den * z.den → MultipliesTo x y r → IsFraction s → IsProduct s x z → r ≡ s
+one_product x y z r s same above multiplies fraction is =
+    let m = subst (λ w. MultipliesTo x w r) same multiplies in
+    one_fraction r s (x.num *ℤ z.num) (x.den * z.den) m.0 fraction above m.1 is
+
+-- added to nothing, a fraction stays
+first_sum : (y r s : Ratio) → y ≡ s → 0 < s.den → AddsTo (whole (pos 0)) y r → IsFraction s
+    → IsSum s (whole (pos 0)) s → r ≡ s
+first_sum y r s same above adds fraction is =
+    let a = subst (λ w. AddsTo (whole (pos 0)) w r) same adds in
+    one_fraction r s _ (1 * s.den) a.1 fraction (omega arith) a.2 is
+
+-- ---- the child that has no probability
 
 pub unlikely_payoff : IsEqual (whole (pos 1)) (payoff unlikely (choices_by unlikely only) 1)
 unlikely_payoff = equal _ _ refl refl refl
 
 -- the second child is evaluated, though chance never comes to it
-pub no_value_either : ¬ ((value : Ratio) × IsValue unlikely (choices_by unlikely only) 1 unlikely.tree value)
-no_value_either h = let child = h.1.1.6.3 in greatest_and_one child.0 child.1 child.2.0
+pub no_value_either : ¬ ((value : Ratio)
+    × IsValue unlikely (choices_by unlikely only) 1 unlikely.tree value)
+no_value_either h =
+    let child = h.1.1.6.3 in
+    let below = child.1 in
+    let product = one_product (whole (pos 1)) below.0 (whole (pos 1)) below.1 (whole (pos 1))
+    below.3 (omega arith) below.4 (small 1 (omega arith)) refl in
+    let sum = first_sum below.1 below.2 (whole (pos 1)) product (omega arith) below.5
+    (small 1 (omega arith)) refl in
+    greatest_and_one child.0 (below.6 ∙ sum) child.2.0
+
+-- ---- the products that are added before the node's own payoff
+
+pub balanced_payoff : IsEqual (whole (pos (2 ^ 126 - 1)))
+    (payoff balancing (choices_by balancing only) 1)
+balanced_payoff = equal _ _ refl refl refl
+
+abbrev half_of_greatest : Ratio
+half_of_greatest = record { num = pos (2 ^ 127 - 1); den = 2 }
+
+half_of_greatest_is : IsFraction half_of_greatest
+unfolding lowest_of gcd_within
+half_of_greatest_is =
+    fraction (pos (2 ^ 127 - 1)) 2 half_of_greatest (omega arith) (omega arith) (omega arith) refl
+
+abbrev half_of_next : Ratio
+half_of_next = record { num = pos (2 ^ 127 - 3); den = 2 }
+
+half_of_next_is : IsFraction half_of_next
+unfolding lowest_of gcd_within
+half_of_next_is =
+    fraction (pos (2 ^ 127 - 3)) 2 half_of_next (omega arith) (omega arith) (omega arith) refl
+
+no_sum_of_halves : ¬ (SumFits half_of_greatest half_of_next)
+unfolding sum_of gcd_within
+no_sum_of_halves = sum_is_computed half_of_greatest half_of_next half_of_greatest_is half_of_next_is
+
+pub no_balanced_value : ¬ ((value : Ratio)
+    × IsValue balancing (choices_by balancing only) 1 balancing.tree value)
+no_balanced_value h =
+    let first = h.1.1 in
+    let second = first.6 in
+    let left = one_product half first.0 greatest first.1 half_of_greatest first.3 (omega arith)
+    first.4 half_of_greatest_is refl in
+    let sum = first_sum first.1 first.2 half_of_greatest left (omega arith) first.5
+    half_of_greatest_is refl in
+    let right = one_product half second.0 (whole (pos (2 ^ 127 - 3))) second.1 half_of_next second.3
+    (omega arith) second.4 half_of_next_is refl in
+    no_sum_of_halves (subst (λ x. SumFits x half_of_next) sum
+    (subst (SumFits first.2) right second.5.0))
 
 -- ---- the action that ends the play
 
-paid : (n : ℕ) (r : Ratio) → n < 4 → nat_lt 0 r.den ≡ true → pos n *ℤ pos r.den ≡ r.num *ℤ pos 1 → IsFraction (whole (pos n)) × IsEqual (whole (pos n)) r
+paid : (n : ℕ) (r : Ratio) → n < 4 → nat_lt 0 r.den ≡ true → pos n *ℤ pos r.den ≡ r.num *ℤ pos 1
+    → IsFraction (whole (pos n)) × IsEqual (whole (pos n)) r
 paid n r h above crosswise = (small n h, equal (whole (pos n)) r refl above crosswise)
 
 pub form_of_ending : IsStrategicForm ending ending_form
@@ -91,7 +177,10 @@ form_of_ending = record {
   profiles = refl;
   payoffs = (
     (paid 1 _ (omega arith) refl refl, tt),
-    ((paid 1 _ (omega arith) refl refl, tt), ((paid 2 _ (omega arith) refl refl, tt), ((paid 3 _ (omega arith) refl refl, tt), tt))),
+    (
+      (paid 1 _ (omega arith) refl refl, tt),
+      ((paid 2 _ (omega arith) refl refl, tt), ((paid 3 _ (omega arith) refl refl, tt), tt)),
+    ),
   );
 }
 
@@ -99,17 +188,22 @@ form_of_ending = record {
 
 -- tells the reduced strategies of the one player apart
 abbrev code : List (List (Option ℕ)) → ℕ
-code all = unwrap_or (get_or (get_or all 0 []) 0 None) 0 * 3 + unwrap_or (get_or (get_or all 0 []) 1 None) 0
+code all = unwrap_or (get_or (get_or all 0 []) 0 None) 0 * 3
+    + unwrap_or (get_or (get_or all 0 []) 1 None) 0
 
 abbrev Pays : List ℕ → List Ratio → List ℕ → Type 0
-Pays profile payoffs full = reduced_by ending full ≡ reduced_at ending profile → ArePayoffs ending (choices_by ending (strategies_at ending full)) payoffs
+Pays profile payoffs full = reduced_by ending full ≡ reduced_at ending profile
+    → ArePayoffs ending (choices_by ending (strategies_at ending full)) payoffs
 
 -- this full profile reduces to another profile
 other : {P : Type 0} (a b : List (List (Option ℕ))) → nat_eq (code a) (code b) ≡ false → a ≡ b → P
 other a b h e = absurd (eqb-false _ _ h (ap code e))
 
-of_each : (profile : List ℕ) (payoffs : List Ratio) → AllByRecursion (Pays profile payoffs) (full_profiles ending) → (full : List ℕ) → Contains (full_profiles ending) full → Pays profile payoffs full
-of_each profile payoffs h full c = All-contains (Pays profile payoffs) (full_profiles ending) full (All-from_recursion (Pays profile payoffs) (full_profiles ending) h) c
+of_each : (profile : List ℕ) (payoffs : List Ratio)
+    → AllByRecursion (Pays profile payoffs) (full_profiles ending) → (full : List ℕ)
+    → Contains (full_profiles ending) full → Pays profile payoffs full
+of_each profile payoffs h full c = All-contains (Pays profile payoffs) (full_profiles ending) full
+    (All-from_recursion (Pays profile payoffs) (full_profiles ending) h) c
 
 pub reduced_of_ending : IsReducedForm ending ending_reduced
 unfolding digits
@@ -120,20 +214,34 @@ reduced_of_ending = record {
   strategies = refl;
   profiles = refl;
   payoffs = (
-    of_each (1 ∷ []) (whole (pos 1) ∷ []) (λ _. (paid 1 _ (omega arith) refl refl, tt), (λ _. (paid 1 _ (omega arith) refl refl, tt), (other _ _ refl, (other _ _ refl, tt)))),
+    of_each (1 ∷ []) (whole (pos 1) ∷ []) (
+      λ _. (paid 1 _ (omega arith) refl refl, tt),
+      (λ _. (paid 1 _ (omega arith) refl refl, tt), (other _ _ refl, (other _ _ refl, tt))),
+    ),
     (
-      of_each (2 ∷ []) (whole (pos 2) ∷ []) (other _ _ refl, (other _ _ refl, (λ _. (paid 2 _ (omega arith) refl refl, tt), (other _ _ refl, tt)))),
-      (of_each (3 ∷ []) (whole (pos 3) ∷ []) (other _ _ refl, (other _ _ refl, (other _ _ refl, (λ _. (paid 3 _ (omega arith) refl refl, tt), tt)))), tt),
+      of_each (2 ∷ []) (whole (pos 2) ∷ []) (
+        other _ _ refl,
+        (other _ _ refl, (λ _. (paid 2 _ (omega arith) refl refl, tt), (other _ _ refl, tt))),
+      ),
+      (
+        of_each (3 ∷ []) (whole (pos 3) ∷ []) (
+          other _ _ refl,
+          (other _ _ refl, (other _ _ refl, (λ _. (paid 3 _ (omega arith) refl refl, tt), tt))),
+        ),
+        tt,
+      ),
     ),
   );
 }
 
 -- ---- reduced strategies
 
-pub both_strategies : map reduced_label (reduced_strategies forgetful 1) ≡ codes "1-1" ∷ codes "1-2" ∷ codes "2-1" ∷ codes "2-2" ∷ []
+pub both_strategies : map reduced_label (reduced_strategies forgetful 1)
+    ≡ codes "1-1" ∷ codes "1-2" ∷ codes "2-1" ∷ codes "2-2" ∷ []
 unfolding digits
 both_strategies = refl
 
-pub contradicted_strategies : map reduced_label (reduced_strategies contradicted 1) ≡ codes "1-*" ∷ codes "2-*" ∷ []
+pub contradicted_strategies : map reduced_label (reduced_strategies contradicted 1)
+    ≡ codes "1-*" ∷ codes "2-*" ∷ []
 unfolding digits
 contradicted_strategies = refl

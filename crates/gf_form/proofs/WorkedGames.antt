@@ -7,16 +7,22 @@ use Rattle.gf_fraction.specs.Ratio.{IsFraction, whole}
 use Rattle.gf_fraction.specs.Fits.{AddsTo, SumFits}
 use Rattle.gf_fraction.specs.Computed.{lowest_of, gcd_within}
 use Rattle.gf_fraction.proofs.ComputedArithmetic.{lowest_of-fraction}
-use Rattle.gf_fraction.proofs.WholeNumbers.{whole_fraction}
+use Rattle.gf_fraction.proofs.WholeNumbers.{whole_fraction, part_fraction}
 use Rattle.gf_tree.specs.Description.{AddToOne, IsSet, set_of}
 use Rattle.gf_tree.specs.Game.{IsGame}
 use Rattle.gf_tree.specs.Spellable.{IsSpellable}
-use Rattle.gf_tree.proofs.Worked.{choice_is_set}
-use Rattle.gf_form.specs.WorkedForms.{greatest, sure, overflowing, unlikely, ending, contradicted}
+use Rattle.gf_tree.proofs.Worked.{choice_is_set, toss_is_set}
+use Rattle.gf_form.specs.WorkedForms.{greatest, sure, never, overflowing}
+use Rattle.gf_form.specs.WorkedForms.{unlikely, balancing, ending, contradicted}
 
 minus_one : IsFraction (whole (neg_ℤ (pos 1)))
 unfolding lowest_of gcd_within
 minus_one = lowest_of-fraction (neg_ℤ (pos 1)) 1 (omega arith) (omega arith) (omega arith)
+
+far_below : IsFraction (whole (neg_ℤ (pos (2 ^ 126 - 1))))
+unfolding lowest_of gcd_within
+far_below =
+    lowest_of-fraction (neg_ℤ (pos (2 ^ 126 - 1))) 1 (omega arith) (omega arith) (omega arith)
 
 greatest_is : IsFraction greatest
 greatest_is = whole_fraction (2 ^ 127 - 1) (omega arith)
@@ -41,8 +47,28 @@ sure_adds =
     (whole_fits 1 0 (omega arith) (omega arith), whole_fraction 1 (omega arith), refl) in
     (omega arith, (whole (pos 1), first, (omega arith, (whole (pos 1), second, refl))))
 
-sure_is_set : IsSet 1 (set_of 0 1) (sure (codes "a") (codes "b"))
-sure_is_set = record { player = omega arith; number = omega arith; some_action = omega arith; actions = (whole (pos 1) ∷ whole (pos 0) ∷ [], refl, sure_adds) }
+sure_is_set : IsSet 1 (set_of 0 1)
+    (record { name = codes "n"; actions = sure (codes "a") ∷ never (codes "b") ∷ [] })
+sure_is_set = record {
+  player = omega arith;
+  number = omega arith;
+  some_action = omega arith;
+  actions = (whole (pos 1) ∷ whole (pos 0) ∷ [], refl, sure_adds);
+}
+
+alone_adds : AddToOne (whole (pos 0)) (whole (pos 1) ∷ [])
+alone_adds =
+    let first : AddsTo (whole (pos 0)) (whole (pos 1)) (whole (pos 1)) =
+    (whole_fits 0 1 (omega arith) (omega arith), whole_fraction 1 (omega arith), refl) in
+    (omega arith, (whole (pos 1), first, refl))
+
+alone_is_set : IsSet 1 (set_of 0 2) (record { name = codes "k"; actions = sure (codes "e") ∷ [] })
+alone_is_set = record {
+  player = omega arith;
+  number = omega arith;
+  some_action = omega arith;
+  actions = (whole (pos 1) ∷ [], refl, alone_adds);
+}
 
 -- ---- games
 
@@ -50,8 +76,17 @@ overflowing_is_game : IsGame overflowing
 overflowing_is_game = record {
   one_entry_each_set = refl;
   one_entry_each_outcome = refl;
-  each_set = (choice_is_set 1 0 1 (codes "i") (codes "a") (codes "b" ∷ []) (omega arith) (omega arith), (choice_is_set 1 0 2 (codes "j") (codes "c") [] (omega arith) (omega arith), tt));
-  each_outcome = (record { number_from_one = omega arith; one_payoff_each = refl }, (record { number_from_one = omega arith; one_payoff_each = refl }, (record { number_from_one = omega arith; one_payoff_each = refl }, tt)));
+  each_set = (
+    choice_is_set 1 0 1 (codes "i") (codes "a") (codes "b" ∷ []) (omega arith) (omega arith),
+    (choice_is_set 1 0 2 (codes "j") (codes "c") [] (omega arith) (omega arith), tt),
+  );
+  each_outcome = (
+    record { number_from_one = omega arith; one_payoff_each = refl },
+    (
+      record { number_from_one = omega arith; one_payoff_each = refl },
+      (record { number_from_one = omega arith; one_payoff_each = refl }, tt),
+    ),
+  );
   children = (refl, (refl, (refl, (refl, tt))));
 }
 
@@ -59,17 +94,44 @@ unlikely_is_game : IsGame unlikely
 unlikely_is_game = record {
   one_entry_each_set = refl;
   one_entry_each_outcome = refl;
-  each_set = (sure_is_set, (choice_is_set 1 0 1 (codes "k") (codes "e") [] (omega arith) (omega arith), tt));
-  each_outcome = (record { number_from_one = omega arith; one_payoff_each = refl }, (record { number_from_one = omega arith; one_payoff_each = refl }, tt));
+  each_set = (sure_is_set, (alone_is_set, tt));
+  each_outcome = (
+    record { number_from_one = omega arith; one_payoff_each = refl },
+    (record { number_from_one = omega arith; one_payoff_each = refl }, tt),
+  );
   children = (refl, (refl, (refl, (refl, tt))));
+}
+
+balancing_is_game : IsGame balancing
+balancing_is_game = record {
+  one_entry_each_set = refl;
+  one_entry_each_outcome = refl;
+  each_set = (toss_is_set 1 1 (codes "n") (omega arith), tt);
+  each_outcome = (
+    record { number_from_one = omega arith; one_payoff_each = refl },
+    (
+      record { number_from_one = omega arith; one_payoff_each = refl },
+      (record { number_from_one = omega arith; one_payoff_each = refl }, tt),
+    ),
+  );
+  children = (refl, (refl, (refl, tt)));
 }
 
 ending_is_game : IsGame ending
 ending_is_game = record {
   one_entry_each_set = refl;
   one_entry_each_outcome = refl;
-  each_set = (choice_is_set 1 0 1 (codes "i") (codes "a") (codes "b" ∷ []) (omega arith) (omega arith), (choice_is_set 1 0 2 (codes "j") (codes "c") (codes "d" ∷ []) (omega arith) (omega arith), tt));
-  each_outcome = (record { number_from_one = omega arith; one_payoff_each = refl }, (record { number_from_one = omega arith; one_payoff_each = refl }, (record { number_from_one = omega arith; one_payoff_each = refl }, tt)));
+  each_set = (
+    choice_is_set 1 0 1 (codes "i") (codes "a") (codes "b" ∷ []) (omega arith) (omega arith),
+    (choice_is_set 1 0 2 (codes "j") (codes "c") (codes "d" ∷ []) (omega arith) (omega arith), tt),
+  );
+  each_outcome = (
+    record { number_from_one = omega arith; one_payoff_each = refl },
+    (
+      record { number_from_one = omega arith; one_payoff_each = refl },
+      (record { number_from_one = omega arith; one_payoff_each = refl }, tt),
+    ),
+  );
   children = (refl, (refl, (refl, (refl, (refl, tt)))));
 }
 
@@ -77,7 +139,10 @@ contradicted_is_game : IsGame contradicted
 contradicted_is_game = record {
   one_entry_each_set = refl;
   one_entry_each_outcome = refl;
-  each_set = (choice_is_set 1 0 1 [] [] ([] ∷ []) (omega arith) (omega arith), (choice_is_set 1 0 2 [] [] ([] ∷ []) (omega arith) (omega arith), tt));
+  each_set = (
+    choice_is_set 1 0 1 [] [] ([] ∷ []) (omega arith) (omega arith),
+    (choice_is_set 1 0 2 [] [] ([] ∷ []) (omega arith) (omega arith), tt),
+  );
   each_outcome = tt;
   children = (refl, (refl, (refl, (refl, (refl, (refl, (refl, tt)))))));
 }
@@ -90,10 +155,36 @@ overflowing_is_spellable = record {
   comment = refl;
   players = (refl, tt);
   nodes = (refl, (refl, (refl, (refl, tt))));
-  sets = (record { player = omega arith; number = omega arith; name = refl; actions = ((refl, tt), ((refl, tt), tt)) }, (record { player = omega arith; number = omega arith; name = refl; actions = ((refl, tt), tt) }, tt));
+  sets = (
+    record {
+      player = omega arith;
+      number = omega arith;
+      name = refl;
+      actions = ((refl, tt), ((refl, tt), tt));
+    },
+    (
+      record {
+        player = omega arith;
+        number = omega arith;
+        name = refl;
+        actions = ((refl, tt), tt);
+      },
+      tt,
+    ),
+  );
   outcomes = (
     record { number = omega arith; name = refl; payoffs = (minus_one, tt) },
-    (record { number = omega arith; name = refl; payoffs = (greatest_is, tt) }, (record { number = omega arith; name = refl; payoffs = (whole_fraction 1 (omega arith), tt) }, tt)),
+    (
+      record { number = omega arith; name = refl; payoffs = (greatest_is, tt) },
+      (
+        record {
+          number = omega arith;
+          name = refl;
+          payoffs = (whole_fraction 1 (omega arith), tt);
+        },
+        tt,
+      ),
+    ),
   );
 }
 
@@ -104,10 +195,61 @@ unlikely_is_spellable = record {
   players = (refl, tt);
   nodes = (refl, (refl, (refl, (refl, tt))));
   sets = (
-    record { player = omega arith; number = omega arith; name = refl; actions = ((refl, whole_fraction 1 (omega arith)), ((refl, whole_fraction 0 (omega arith)), tt)) },
-    (record { player = omega arith; number = omega arith; name = refl; actions = ((refl, tt), tt) }, tt),
+    record {
+      player = omega arith;
+      number = omega arith;
+      name = refl;
+      actions =
+          ((refl, whole_fraction 1 (omega arith)), ((refl, whole_fraction 0 (omega arith)), tt));
+    },
+    (
+      record {
+        player = omega arith;
+        number = omega arith;
+        name = refl;
+        actions = ((refl, whole_fraction 1 (omega arith)), tt);
+      },
+      tt,
+    ),
   );
-  outcomes = (record { number = omega arith; name = refl; payoffs = (whole_fraction 1 (omega arith), tt) }, (record { number = omega arith; name = refl; payoffs = (greatest_is, tt) }, tt));
+  outcomes = (
+    record { number = omega arith; name = refl; payoffs = (whole_fraction 1 (omega arith), tt) },
+    (record { number = omega arith; name = refl; payoffs = (greatest_is, tt) }, tt),
+  );
+}
+
+balancing_is_spellable : IsSpellable balancing
+balancing_is_spellable = record {
+  title = refl;
+  comment = refl;
+  players = (refl, tt);
+  nodes = (refl, (refl, (refl, tt)));
+  sets = (
+    record {
+      player = omega arith;
+      number = omega arith;
+      name = refl;
+      actions = (
+        (refl, part_fraction 2 (omega arith) (omega arith)),
+        ((refl, part_fraction 2 (omega arith) (omega arith)), tt),
+      );
+    },
+    tt,
+  );
+  outcomes = (
+    record { number = omega arith; name = refl; payoffs = (far_below, tt) },
+    (
+      record { number = omega arith; name = refl; payoffs = (greatest_is, tt) },
+      (
+        record {
+          number = omega arith;
+          name = refl;
+          payoffs = (whole_fraction (2 ^ 127 - 3) (omega arith), tt);
+        },
+        tt,
+      ),
+    ),
+  );
 }
 
 ending_is_spellable : IsSpellable ending
@@ -117,12 +259,39 @@ ending_is_spellable = record {
   players = (refl, tt);
   nodes = (refl, (refl, (refl, (refl, (refl, tt)))));
   sets = (
-    record { player = omega arith; number = omega arith; name = refl; actions = ((refl, tt), ((refl, tt), tt)) },
-    (record { player = omega arith; number = omega arith; name = refl; actions = ((refl, tt), ((refl, tt), tt)) }, tt),
+    record {
+      player = omega arith;
+      number = omega arith;
+      name = refl;
+      actions = ((refl, tt), ((refl, tt), tt));
+    },
+    (
+      record {
+        player = omega arith;
+        number = omega arith;
+        name = refl;
+        actions = ((refl, tt), ((refl, tt), tt));
+      },
+      tt,
+    ),
   );
   outcomes = (
     record { number = omega arith; name = refl; payoffs = (whole_fraction 1 (omega arith), tt) },
-    (record { number = omega arith; name = refl; payoffs = (whole_fraction 2 (omega arith), tt) }, (record { number = omega arith; name = refl; payoffs = (whole_fraction 3 (omega arith), tt) }, tt)),
+    (
+      record {
+        number = omega arith;
+        name = refl;
+        payoffs = (whole_fraction 2 (omega arith), tt);
+      },
+      (
+        record {
+          number = omega arith;
+          name = refl;
+          payoffs = (whole_fraction 3 (omega arith), tt);
+        },
+        tt,
+      ),
+    ),
   );
 }
 
@@ -133,11 +302,37 @@ contradicted_is_spellable = record {
   players = (refl, tt);
   nodes = (refl, (refl, (refl, (refl, (refl, (refl, (refl, tt)))))));
   sets = (
-    record { player = omega arith; number = omega arith; name = refl; actions = ((refl, tt), ((refl, tt), tt)) },
-    (record { player = omega arith; number = omega arith; name = refl; actions = ((refl, tt), ((refl, tt), tt)) }, tt),
+    record {
+      player = omega arith;
+      number = omega arith;
+      name = refl;
+      actions = ((refl, tt), ((refl, tt), tt));
+    },
+    (
+      record {
+        player = omega arith;
+        number = omega arith;
+        name = refl;
+        actions = ((refl, tt), ((refl, tt), tt));
+      },
+      tt,
+    ),
   );
   outcomes = tt;
 }
 
-pub worked_games : AllByRecursion (λ g. IsGame g × IsSpellable g) (overflowing ∷ unlikely ∷ ending ∷ contradicted ∷ [])
-worked_games = ((overflowing_is_game, overflowing_is_spellable), ((unlikely_is_game, unlikely_is_spellable), ((ending_is_game, ending_is_spellable), ((contradicted_is_game, contradicted_is_spellable), tt))))
+pub worked_games : AllByRecursion (λ g. IsGame g × IsSpellable g)
+    (overflowing ∷ unlikely ∷ balancing ∷ ending ∷ contradicted ∷ [])
+worked_games = (
+  (overflowing_is_game, overflowing_is_spellable),
+  (
+    (unlikely_is_game, unlikely_is_spellable),
+    (
+      (balancing_is_game, balancing_is_spellable),
+      (
+        (ending_is_game, ending_is_spellable),
+        ((contradicted_is_game, contradicted_is_spellable), tt),
+      ),
+    ),
+  ),
+)

@@ -16,7 +16,8 @@ abbrev pub IsTerminalValue : Game → ℕ → Node → Ratio → Type 0
 IsTerminalValue g player n value = value ≡ payoff_at g player n
 
 -- At a node of this set, its payoff plus what comes from its children: by chance, or by the choice.
-abbrev pub IsMoveValue : Game → ℕ → Node → SetKey → (Ratio → Type 0) → (Ratio → Type 0) → Ratio → Type 0
+abbrev pub IsMoveValue : Game → ℕ → Node → SetKey → (Ratio → Type 0) → (Ratio → Type 0) → Ratio
+    → Type 0
 IsMoveValue g player n key IsByChance IsByChoice value =
     (below : Ratio) × MatchBool (key.player == 0) (IsByChance below) (IsByChoice below)
     × AddsTo (payoff_at g player n) below value
@@ -25,19 +26,25 @@ abbrev mutual
   -- At a chance node the sum over the children comes from below, and at a player's node the value
   -- of the child that is chosen.
   pub IsValue : Game → (SetKey → ℕ) → ℕ → Tree Node → Ratio → Type 0
-  IsValue g choices player (branch n ts) value = MatchOption n.set (IsTerminalValue g player n value)
-      (λ key. IsMoveValue g player n key (λ below. IsChanceValue g choices player n 1 zero_ratio ts below)
-      (λ below. IsValueOf g choices player (choices key) ts below) value)
+  IsValue g choices player (branch n ts) value =
+      MatchOption n.set (IsTerminalValue g player n value)
+      (λ key.
+      IsMoveValue g player n key (λ below. IsChanceValue g choices player n 1 zero_ratio ts below)
+      (λ below. IsChildValue g choices player (choices key) ts below) value)
 
-  -- the sum so far, and probability times value of each of these children in turn, the first of which has position k
+  -- the sum so far, and probability times value of each of these children in turn, the first of
+  -- which has position k
   pub IsChanceValue : Game → (SetKey → ℕ) → ℕ → Node → ℕ → Ratio → Trees Node → Ratio → Type 0
   IsChanceValue g choices player n k sum none value = value ≡ sum
   IsChanceValue g choices player n k sum (more t ts) value =
-      (x y next : Ratio) × IsValue g choices player t x × MultipliesTo (probability g (record { node = n; taken = k })) x y × AddsTo sum y next × IsChanceValue g choices player n (k + 1) next ts value
+      (x y next : Ratio) × IsValue g choices player t x
+      × MultipliesTo (probability g (record { node = n; taken = k })) x y × AddsTo sum y next
+      × IsChanceValue g choices player n (k + 1) next ts value
 
   -- the value of the tree at this position, from 1
-  pub IsValueOf : Game → (SetKey → ℕ) → ℕ → ℕ → Trees Node → Ratio → Type 0
-  IsValueOf g choices player position none value = ⊥
-  IsValueOf g choices player zero (more t ts) value = ⊥
-  IsValueOf g choices player (suc zero) (more t ts) value = IsValue g choices player t value
-  IsValueOf g choices player (suc (suc position)) (more t ts) value = IsValueOf g choices player (suc position) ts value
+  pub IsChildValue : Game → (SetKey → ℕ) → ℕ → ℕ → Trees Node → Ratio → Type 0
+  IsChildValue g choices player position none value = ⊥
+  IsChildValue g choices player zero (more t ts) value = ⊥
+  IsChildValue g choices player (suc zero) (more t ts) value = IsValue g choices player t value
+  IsChildValue g choices player (suc (suc position)) (more t ts) value =
+      IsChildValue g choices player (suc position) ts value

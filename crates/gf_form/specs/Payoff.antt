@@ -9,7 +9,9 @@ use Rattle.gf_form.specs.Plays.{Step, Play, plays, nodes_of, follows}
 
 -- the action that is taken
 abbrev pub action_at : Game → Step → Option Action
-action_at g s = option_and_then (λ key. option_and_then (λ set. at_position set.actions s.taken) (set_at g key)) s.node.set
+action_at g s =
+    option_and_then (λ key. option_and_then (λ set. at_position set.actions s.taken) (set_at g key))
+    s.node.set
 
 -- its probability where chance moves, and one where a player does
 abbrev pub probability : Game → Step → Ratio
@@ -17,7 +19,9 @@ probability g s = unwrap_or (option_and_then (λ a. a.probability) (action_at g 
 
 -- what a node's outcome pays the player, and zero where there is none
 abbrev pub payoff_at : Game → ℕ → Node → Ratio
-payoff_at g player n = unwrap_or (option_and_then (λ number. option_and_then (λ outcome. at_position outcome.payoffs player) (outcome_at g number)) n.outcome) zero_ratio
+payoff_at g player n = unwrap_or (option_and_then (λ number.
+    option_and_then (λ outcome. at_position outcome.payoffs player) (outcome_at g number))
+    n.outcome) zero_ratio
 
 -- the product of the probabilities of its chance moves
 abbrev pub play_probability : Game → Play → Ratio
@@ -29,4 +33,6 @@ play_payoff g player play = total (map (payoff_at g player) (nodes_of play))
 
 -- the sum, over the plays that follow these choices, of probability times payoff
 abbrev pub payoff : Game → (SetKey → ℕ) → ℕ → Ratio
-payoff g choices player = total (map (λ play. times (play_probability g play) (play_payoff g player play)) (filter (follows choices) (plays g.tree)))
+payoff g choices player =
+    total (map (λ play. times (play_probability g play) (play_payoff g player play))
+    (filter (follows choices) (plays g.tree)))

@@ -1,5 +1,6 @@
 -- Plays: the paths from the root of a game to its leaves.
-use Rattle.std.specs.Prelude.{◌≡◌, ℕ, ◌+◌, ◌<◌, ◌≤◌, ◌==◌, ◌||◌, Bool, true, List, [], ◌∷◌, ◌++◌, length, map, Some}
+use Rattle.std.specs.Prelude.{◌≡◌, ℕ, ◌+◌, ◌<◌, ◌≤◌, ◌==◌, ◌||◌, Bool}
+use Rattle.std.specs.Prelude.{true, List, [], ◌∷◌, ◌++◌, length, map, Some}
 use Rattle.std.specs.List.{list_all}
 use Rattle.std.specs.Option.{option_map_or}
 use Rattle.gf_tree.specs.Tree.{Tree, Trees}
@@ -18,8 +19,9 @@ pub record Play : Type 0 where
   pub leaf : Node
 
 -- a play of a child, from the parent on
-abbrev pub after : Node → ℕ → Play → Play
-after n k play = record { steps = record { node = n; taken = k } ∷ play.steps; leaf = play.leaf }
+abbrev pub from_node : Node → ℕ → Play → Play
+from_node n k play =
+    record { steps = record { node = n; taken = k } ∷ play.steps; leaf = play.leaf }
 
 -- all plays, in the order of their leaves
 abbrev mutual
@@ -30,14 +32,15 @@ abbrev mutual
   -- those that take one of these children of a node, the first of which has position k
   pub plays_from : Node → ℕ → Trees Node → List Play
   plays_from n k none = []
-  plays_from n k (more t ts) = map (after n k) (plays t) ++ plays_from n (k + 1) ts
+  plays_from n k (more t ts) = map (from_node n k) (plays t) ++ plays_from n (k + 1) ts
 
 abbrev pub nodes_of : Play → List Node
 nodes_of play = map (λ s. s.node) play.steps ++ play.leaf ∷ []
 
 -- chance moves here, or the action taken is the one chosen at the set
 abbrev pub is_chosen : (SetKey → ℕ) → Step → Bool
-is_chosen choices s = option_map_or (λ key. key.player == 0 || choices key == s.taken) s.node.set true
+is_chosen choices s =
+    option_map_or (λ key. key.player == 0 || choices key == s.taken) s.node.set true
 
 -- a play follows a profile where each personal move on it is the profile's choice
 abbrev pub follows : (SetKey → ℕ) → Play → Bool
@@ -45,7 +48,8 @@ follows choices play = list_all (is_chosen choices) play.steps
 
 -- an action, by its position, at each of the players' sets
 abbrev pub HasActions : Game → (SetKey → ℕ) → Type 0
-HasActions g choices = (key : SetKey) (set : InformationSet) → set_at g key ≡ Some set → 0 < key.player → (1 ≤ choices key) × (choices key ≤ length set.actions)
+HasActions g choices = (key : SetKey) (set : InformationSet) → set_at g key ≡ Some set
+    → 0 < key.player → (1 ≤ choices key) × (choices key ≤ length set.actions)
 
 -- two plays have the same steps to a node at which chance moves, and take different children there
 pub record PartAtChance (p q : Play) : Type 0 where

@@ -1,5 +1,6 @@
 -- Reduced strategies, which leave out choices that cannot matter, and the reduced form.
-use Rattle.std.specs.Prelude.{◌≡◌, ℕ, ◌==◌, ◌&&◌, ◌||◌, not, Bool, true, false, List, [], ◌∷◌, map, zip, codes, decimal, Option, Some, None, if◌then◌else◌}
+use Rattle.std.specs.Prelude.{◌≡◌, ℕ, ◌==◌, ◌&&◌, ◌||◌, not, Bool, true, false, List, [], ◌∷◌}
+use Rattle.std.specs.Prelude.{map, zip, codes, decimal, Option, Some, None, if◌then◌else◌}
 use Rattle.std.specs.List.{Contains, join_with_byte, list_all, list_any}
 use Rattle.std.specs.Option.{option_map_or}
 use Rattle.std.specs.Cmp.Lexicographic.{pointwise}
@@ -11,12 +12,14 @@ use Rattle.gf_tree.specs.FiniteMap.{first_uses}
 use Rattle.gf_tree.specs.FirstUse.{player_keys}
 use Rattle.gf_tree.specs.Game.{Game}
 use Rattle.gf_form.specs.Plays.{Step, Play, plays}
-use Rattle.gf_form.specs.Strategies.{choice_at, strategies, players_of, strategies_at, strategy_at, full_profiles}
+use Rattle.gf_form.specs.Strategies.{choice_at, strategies, players_of}
+use Rattle.gf_form.specs.Strategies.{strategies_at, strategy_at, full_profiles}
 use Rattle.gf_form.specs.StrategicForm.{ArePayoffsAt, IsFormBy}
 
 -- not a move of this player, or the one that he chooses
 abbrev pub is_own_choice : (SetKey → ℕ) → ℕ → Step → Bool
-is_own_choice choices player s = option_map_or (λ key. not (key.player == player) || choices key == s.taken) s.node.set true
+is_own_choice choices player s =
+    option_map_or (λ key. not (key.player == player) || choices key == s.taken) s.node.set true
 
 -- a play agrees with choices where each of the player's moves on it is his choice
 abbrev pub agrees : (SetKey → ℕ) → ℕ → Play → Bool
@@ -25,7 +28,8 @@ agrees choices player play = list_all (is_own_choice choices player) play.steps
 -- the steps come to a node of this set, with all moves of its owner before it as he chooses
 abbrev pub comes_to : (SetKey → ℕ) → SetKey → List Step → Bool
 comes_to choices key [] = false
-comes_to choices key (s ∷ steps) = option_map_or (same_set key) s.node.set false || (is_own_choice choices key.player s && comes_to choices key steps)
+comes_to choices key (s ∷ steps) = option_map_or (same_set key) s.node.set false
+    || (is_own_choice choices key.player s && comes_to choices key steps)
 
 -- a set is relevant where some play comes to it so
 abbrev pub is_relevant : Game → (SetKey → ℕ) → SetKey → Bool
@@ -45,11 +49,13 @@ same_choice _ _ = false
 
 -- each reduced strategy once, in the order of the first strategies that give them
 abbrev pub reduced_strategies : Game → ℕ → List (List (Option ℕ))
-reduced_strategies g player = first_uses (pointwise same_choice) (map (reduced g player) (strategies g player))
+reduced_strategies g player =
+    first_uses (pointwise same_choice) (map (reduced g player) (strategies g player))
 
 -- its actions, and `*` where there is none, joined by `-`
 abbrev pub reduced_label : List (Option ℕ) → List ℕ
-reduced_label strategy = join_with_byte 45 (map (λ choice. option_map_or decimal choice (codes "*")) strategy)
+reduced_label strategy =
+    join_with_byte 45 (map (λ choice. option_map_or decimal choice (codes "*")) strategy)
 
 -- what the strategies of a full profile reduce to
 abbrev pub reduced_by : Game → List ℕ → List (List (Option ℕ))
@@ -57,7 +63,8 @@ reduced_by g profile = map (λ p. reduced g p.0 p.1) (zip (players_of g) (strate
 
 -- the strategies of a profile of the reduced form
 abbrev pub reduced_at : Game → List ℕ → List (List (Option ℕ))
-reduced_at g profile = map (λ p. strategy_at (reduced_strategies g p.0) p.1) (zip (players_of g) profile)
+reduced_at g profile =
+    map (λ p. strategy_at (reduced_strategies g p.0) p.1) (zip (players_of g) profile)
 
 -- the labels of a player's reduced strategies
 abbrev pub reduced_labels : Game → ℕ → List (List ℕ)

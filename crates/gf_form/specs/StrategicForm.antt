@@ -1,18 +1,31 @@
 -- The strategic form of a game.
 use Rattle.std.specs.Prelude.{◌≡◌, ℕ, List, length, map}
-use Rattle.std.specs.List.{AllByRecursion, AllZip}
+use Rattle.std.specs.List.{AllByRecursion, AllZip, Contains}
 use Rattle.gf_fraction.specs.Ratio.{Ratio, IsFraction}
 use Rattle.gf_nfg.specs.Profiles.{profiles}
 use Rattle.gf_nfg.specs.Table.{Table}
 use Rattle.gf_tree.specs.Description.{SetKey}
 use Rattle.gf_tree.specs.Game.{Game}
 use Rattle.gf_fraction.specs.Rational.{IsEqual}
-use Rattle.gf_form.specs.Strategies.{strategies, strategy_label, players_of, strategies_at, choices_by}
+use Rattle.gf_form.specs.Strategies.{strategies, strategy_label, players_of}
+use Rattle.gf_form.specs.Strategies.{strategies_at, choices_by, full_profiles}
 use Rattle.gf_form.specs.Payoff.{payoff}
 
 -- fractions, one for each player, that are the payoffs
 abbrev pub ArePayoffs : Game → (SetKey → ℕ) → List Ratio → Type 0
-ArePayoffs g choices payoffs = AllZip (λ paid player. IsFraction paid × IsEqual paid (payoff g choices player)) payoffs (players_of g)
+ArePayoffs g choices payoffs =
+    AllZip (λ paid player. IsFraction paid × IsEqual paid (payoff g choices player)) payoffs
+    (players_of g)
+
+-- the player's payoff is that of a fraction
+abbrev pub PaysFraction : Game → (SetKey → ℕ) → ℕ → Type 0
+PaysFraction g choices player =
+    (paid : Ratio) × IsFraction paid × IsEqual paid (payoff g choices player)
+
+-- each player's is, at each profile
+abbrev pub PaysFractions : Game → Type 0
+PaysFractions g = (profile : List ℕ) → Contains (full_profiles g) profile
+    → AllByRecursion (PaysFraction g (choices_by g (strategies_at g profile))) (players_of g)
 
 -- A table of the game, its title, its comment and its players: with these labels of each player's
 -- strategies, and at each profile payoffs that are right there.

@@ -1,5 +1,6 @@
 -- Pure strategies: an action at each of a player's information sets.
-use Rattle.std.specs.Prelude.{ℕ, List, [], ◌∷◌, length, map, flat_map, unwrap_or, zip, decimal, if◌then◌else◌}
+use Rattle.std.specs.Prelude.{ℕ, List, [], ◌∷◌, length, map, flat_map}
+use Rattle.std.specs.Prelude.{unwrap_or, zip, decimal, if◌then◌else◌}
 use Rattle.std.specs.List.{join_with_byte}
 use Rattle.gf_token.specs.Positions.{at_position}
 use Rattle.gf_nfg.specs.Profiles.{positions, profiles}
@@ -11,10 +12,12 @@ use Rattle.gf_tree.specs.Game.{Game}
 abbrev pub action_counts : Game → ℕ → List ℕ
 action_counts g player = map (λ s. length s.description.actions) (player_sets g player)
 
--- Where there are so many actions at each set: one action for each set, by its position from 1. The last set's advances fastest.
+-- Where there are so many actions at each set: one action for each set, by its position from 1. The
+-- last set's advances fastest.
 abbrev pub all_choices : List ℕ → List (List ℕ)
 all_choices [] = [] ∷ []
-all_choices (count ∷ counts) = flat_map (λ action. map (λ others. action ∷ others) (all_choices counts)) (positions count)
+all_choices (count ∷ counts) =
+    flat_map (λ action. map (λ others. action ∷ others) (all_choices counts)) (positions count)
 
 -- A strategy has an action for each of the player's sets, in order of first use.
 abbrev pub strategies : Game → ℕ → List (List ℕ)
@@ -38,10 +41,12 @@ strategies_at g profile = map (λ p. strategy_at (strategies g p.0) p.1) (zip (p
 
 -- what a strategy for these sets chooses at one of them, and 0 at any other
 abbrev pub choice_at : List SetKey → List ℕ → SetKey → ℕ
-choice_at (s ∷ sets) (action ∷ others) key = if same_set s key then action else choice_at sets others key
+choice_at (s ∷ sets) (action ∷ others) key =
+    if same_set s key then action else choice_at sets others key
 choice_at _ _ key = 0
 
--- what the owner of a set chooses at it, where these are the strategies of all players; chance has none
+-- what the owner of a set chooses at it, where these are the strategies of all players; chance has
+-- none
 abbrev pub choices_by : Game → List (List ℕ) → SetKey → ℕ
 choices_by g all key = choice_at (player_keys g key.player) (strategy_at all key.player) key
 

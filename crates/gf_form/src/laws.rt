@@ -1,101 +1,148 @@
 //! Laws of the definitions, each as the contract of a function that does nothing.
 
-ghost use Rattle.std.specs.Prelude.{◌≡◌, ◌↔◌, ◌⊎◌, ◌≤◌, ◌<◌, ◌^◌, ℕ, List, [], ◌∷◌, codes, filter, get_or, length, map, pos, Some, true};
+ghost use Rattle.std.specs.Prelude.{◌≡◌, ◌↔◌, ◌⊎◌, ◌≤◌, ◌<◌, ◌^◌, ◌-◌, ℕ, List, [], ◌∷◌};
+ghost use Rattle.std.specs.Prelude.{codes, filter, get_or, length, map, pos, Some, true};
 ghost use Rattle.std.specs.List.{AllByRecursion, AllZip, Contains};
 ghost use Rattle.gf_fraction.specs.Ratio.{Ratio, whole};
 ghost use Rattle.gf_nfg.specs.Profiles.{product};
 ghost use Rattle.gf_nfg.specs.Table.{IsTable, Table};
-ghost use Rattle.gf_tree.specs.Description.{SetKey};
-ghost use Rattle.gf_tree.specs.Game.{Game, IsGame};
+ghost use Rattle.gf_tree.specs.Description.{SetKey, set_of};
+ghost use Rattle.gf_tree.specs.Game.{Game, IsGame, Node};
 ghost use Rattle.gf_tree.specs.FirstUse.{player_keys};
 ghost use Rattle.gf_tree.specs.Spellable.{IsSpellable};
 ghost use Rattle.gf_tree.specs.WorkedTrees.{bonus, forgetful};
 ghost use Rattle.gf_canon.specs.SameGame.{SameGame};
-ghost use Rattle.gf_fraction.specs.Rational.{IsEqual, one_ratio, total};
-ghost use Rattle.gf_form.specs.Strategies.{action_counts, choice_at, choices_by, full_profiles, players_of, strategies, strategies_at, strategy_label};
+ghost use Rattle.gf_fraction.specs.Rational.{IsEqual, one_ratio, total, zero_ratio};
+ghost use Rattle.gf_form.specs.Strategies.{action_counts, choice_at, choices_by, full_profiles};
+ghost use Rattle.gf_form.specs.Strategies.{players_of, strategies, strategies_at, strategy_label};
 ghost use Rattle.gf_form.specs.Plays.{follows, plays, HasActions, PartAtChance, Play};
-ghost use Rattle.gf_form.specs.Payoff.{payoff, play_probability};
+ghost use Rattle.gf_form.specs.Payoff.{payoff, payoff_at, play_probability};
 ghost use Rattle.gf_form.specs.BottomUp.{IsValue};
 ghost use Rattle.gf_form.specs.Refusal.{HasTooManyProfiles, OverflowsAt};
-ghost use Rattle.gf_form.specs.StrategicForm.{IsStrategicForm};
-ghost use Rattle.gf_form.specs.Reduced.{agrees, reduced, reduced_by, reduced_label, reduced_strategies, IsReducedForm};
-ghost use Rattle.gf_form.specs.WorkedForms.{bonus_form, contradicted, ending, ending_form, ending_reduced, greatest, only, overflowing, second, unlikely};
+ghost use Rattle.gf_form.specs.StrategicForm.{IsStrategicForm, PaysFractions};
+ghost use Rattle.gf_form.specs.Reduced.{agrees, reduced, reduced_by, reduced_label};
+ghost use Rattle.gf_form.specs.Reduced.{reduced_strategies, IsReducedForm};
+ghost use Rattle.gf_form.specs.WorkedForms.{balancing, bonus_form, contradicted, ending};
+ghost use Rattle.gf_form.specs.WorkedForms.{ending_form, ending_reduced, greatest, only};
+ghost use Rattle.gf_form.specs.WorkedForms.{overflowing, second, unlikely};
 
-/// Worked games: plays, strategic and reduced forms, and payoffs that fit where the bottom-up value does not, once by
-/// a child that has no probability.
+/// Worked games: plays, strategic and reduced forms, and payoffs that fit where the bottom-up value
+/// does not, once by a child that has no probability, and once by the sum of the children, to which
+/// the node's own payoff comes last.
 pub fn worked_forms()
-    ensures games { AllByRecursion (λ g. IsGame g × IsSpellable g) (overflowing ∷ unlikely ∷ ending ∷ contradicted ∷ []) }
+    ensures games { AllByRecursion (λ g. IsGame g × IsSpellable g)
+        (overflowing ∷ unlikely ∷ balancing ∷ ending ∷ contradicted ∷ []) }
     ensures plays { map (λ play. map (λ s. s.taken) play.steps) (plays bonus.tree)
         ≡ (1 ∷ 1 ∷ []) ∷ (1 ∷ 2 ∷ []) ∷ (2 ∷ 1 ∷ []) ∷ (2 ∷ 2 ∷ []) ∷ [] }
     ensures form { IsStrategicForm bonus bonus_form }
     ensures fits { IsEqual greatest (payoff overflowing (choices_by overflowing second) 1) }
-    ensures overflows { ¬ ((value : Ratio) × IsValue overflowing (choices_by overflowing second) 1 overflowing.tree value) }
+    ensures overflows { ¬ ((value : Ratio)
+        × IsValue overflowing (choices_by overflowing second) 1 overflowing.tree value) }
     ensures fits_at_zero { IsEqual (whole (pos 1)) (payoff unlikely (choices_by unlikely only) 1) }
-    ensures overflows_at_zero { ¬ ((value : Ratio) × IsValue unlikely (choices_by unlikely only) 1 unlikely.tree value) }
+    ensures overflows_at_zero { ¬ ((value : Ratio)
+        × IsValue unlikely (choices_by unlikely only) 1 unlikely.tree value) }
+    ensures fits_at_last { IsEqual (whole (pos (2 ^ 126 - 1)))
+        (payoff balancing (choices_by balancing only) 1) }
+    ensures overflows_before { ¬ ((value : Ratio)
+        × IsValue balancing (choices_by balancing only) 1 balancing.tree value) }
     ensures full { IsStrategicForm ending ending_form }
     ensures reduced { IsReducedForm ending ending_reduced }
     ensures forgetful { map reduced_label (reduced_strategies forgetful 1)
         ≡ codes "1-1" ∷ codes "1-2" ∷ codes "2-1" ∷ codes "2-2" ∷ [] }
-    ensures contradicted { map reduced_label (reduced_strategies contradicted 1) ≡ codes "1-*" ∷ codes "2-*" ∷ [] }
+    ensures contradicted { map reduced_label (reduced_strategies contradicted 1)
+        ≡ codes "1-*" ∷ codes "2-*" ∷ [] }
 {}
 
-/// Where the bottom-up value is defined, it is one fraction, the payoff by plays, whatever is chosen.
+/// Where the bottom-up value is defined, it is one fraction, the payoff by plays, whatever is
+/// chosen.
 pub fn value_is_payoff()
-    ensures one_value { (g : Game) (choices : SetKey → ℕ) (player : ℕ) (x y : Ratio) → IsGame g → IsSpellable g
+    ensures one_value { (g : Game) (choices : SetKey → ℕ) (player : ℕ) (x y : Ratio) → IsGame g
+        → IsSpellable g
         → IsValue g choices player g.tree x → IsValue g choices player g.tree y → x ≡ y }
-    ensures payoff { (g : Game) (choices : SetKey → ℕ) (player : ℕ) (value : Ratio) → IsGame g → IsSpellable g
+    ensures payoff { (g : Game) (choices : SetKey → ℕ) (player : ℕ) (value : Ratio) → IsGame g
+        → IsSpellable g
         → IsValue g choices player g.tree value → IsEqual value (payoff g choices player) }
 {}
 
-/// The pure strategies of a player are all choices of an action at each of his sets, each once; there are as many as
-/// the product of the numbers of actions. Their labels differ, as long as no set has 2^64 actions.
+/// The pure strategies of a player are all choices of an action at each of his sets, each once;
+/// there are as many as the product of the numbers of actions. Their labels differ, as long as no
+/// set has 2^64 actions.
 pub fn every_strategy()
-    ensures each_choice { (g : Game) (player : ℕ) (strategy : List ℕ) → Contains (strategies g player) strategy
-        ↔ AllZip (λ action count. (1 ≤ action) × (action ≤ count)) strategy (action_counts g player) }
-    ensures count { (g : Game) (player : ℕ) → length (strategies g player) ≡ product (action_counts g player) }
-    ensures each_once { (g : Game) (player i j : ℕ) → i < length (strategies g player) → j < length (strategies g player)
+    ensures each_choice { (g : Game) (player : ℕ) (strategy : List ℕ)
+        → Contains (strategies g player) strategy
+        ↔ AllZip (λ action count. (1 ≤ action) × (action ≤ count)) strategy
+        (action_counts g player) }
+    ensures count { (g : Game) (player : ℕ)
+        → length (strategies g player) ≡ product (action_counts g player) }
+    ensures each_once { (g : Game) (player i j : ℕ) → i < length (strategies g player)
+        → j < length (strategies g player)
         → get_or (strategies g player) i [] ≡ get_or (strategies g player) j [] → i ≡ j }
-    ensures labels_differ { (g : Game) (player i j : ℕ) → AllByRecursion (λ count. count < 2 ^ 64) (action_counts g player)
+    ensures labels_differ { (g : Game) (player i j : ℕ)
+        → AllByRecursion (λ count. count < 2 ^ 64) (action_counts g player)
         → i < length (strategies g player) → j < length (strategies g player)
-        → strategy_label (get_or (strategies g player) i []) ≡ strategy_label (get_or (strategies g player) j []) → i ≡ j }
+        → strategy_label (get_or (strategies g player) i [])
+        ≡ strategy_label (get_or (strategies g player) j [])
+        → i ≡ j }
 {}
 
-/// Games that are the same have the same strategies, the same payoffs at every profile, the same bottom-up values, and
-/// the same strategic form, or no table for the same reason: none of these depends on the numbers of sets and outcomes.
+/// Games that are the same have the same strategies, the same payoffs at every profile, the same
+/// bottom-up values, and the same strategic form, or no table for the same reason: none of these
+/// depends on the numbers of sets and outcomes.
 pub fn same_games_same_form()
     ensures strategies { (g h : Game) → IsGame g → IsGame h → SameGame g h
         → (player : ℕ) → strategies g player ≡ strategies h player }
     ensures strategies_at { (g h : Game) → IsGame g → IsGame h → SameGame g h
         → (profile : List ℕ) → strategies_at g profile ≡ strategies_at h profile }
-    ensures payoffs { (g h : Game) → IsGame g → IsGame h → SameGame g h → (all : List (List ℕ)) (player : ℕ)
+    ensures payoffs { (g h : Game) → IsGame g → IsGame h → SameGame g h
+        → (all : List (List ℕ)) (player : ℕ)
         → payoff g (choices_by g all) player ≡ payoff h (choices_by h all) player }
-    ensures values { (g h : Game) → IsGame g → IsGame h → SameGame g h → (all : List (List ℕ)) (player : ℕ) (value : Ratio)
-        → IsValue g (choices_by g all) player g.tree value ↔ IsValue h (choices_by h all) player h.tree value }
-    ensures forms { (g h : Game) → IsGame g → IsGame h → SameGame g h → (t : Table) → IsStrategicForm g t ↔ IsStrategicForm h t }
-    ensures too_many { (g h : Game) → IsGame g → IsGame h → SameGame g h → HasTooManyProfiles g ↔ HasTooManyProfiles h }
+    ensures values { (g h : Game) → IsGame g → IsGame h → SameGame g h
+        → (all : List (List ℕ)) (player : ℕ) (value : Ratio)
+        → IsValue g (choices_by g all) player g.tree value
+        ↔ IsValue h (choices_by h all) player h.tree value }
+    ensures forms { (g h : Game) → IsGame g → IsGame h → SameGame g h → (t : Table)
+        → IsStrategicForm g t ↔ IsStrategicForm h t }
+    ensures too_many { (g h : Game) → IsGame g → IsGame h → SameGame g h
+        → HasTooManyProfiles g ↔ HasTooManyProfiles h }
     ensures overflow { (g h : Game) → IsGame g → IsGame h → SameGame g h
         → (position : ℕ) → OverflowsAt g position ↔ OverflowsAt h position }
 {}
 
-/// A play follows the choices exactly if its players' moves are those. Some play follows them, if they are actions,
-/// and all that do have probability one together: at a player's move they take one child, and they part only where
-/// chance moves.
+/// A play follows the choices exactly if its players' moves are those. Some play follows them, if
+/// they are actions, and all that do have probability one together: at a player's move they take
+/// one child, and they part only where chance moves.
 pub fn plays_follow_choices()
     ensures by_moves { (choices : SetKey → ℕ) (play : Play) → (follows choices play ≡ true)
-        ↔ AllByRecursion (λ s. (key : SetKey) → s.node.set ≡ Some key → 0 < key.player → choices key ≡ s.taken) play.steps }
-    ensures some_play { (g : Game) (choices : SetKey → ℕ) → IsGame g → IsSpellable g → HasActions g choices
+        ↔ AllByRecursion
+        (λ s. (key : SetKey) → s.node.set ≡ Some key → 0 < key.player → choices key ≡ s.taken)
+        play.steps }
+    ensures some_play { (g : Game) (choices : SetKey → ℕ) → IsGame g → IsSpellable g
+        → HasActions g choices
         → (play : Play) × Contains (plays g.tree) play × (follows choices play ≡ true) }
-    ensures probability_one { (g : Game) (choices : SetKey → ℕ) → IsGame g → IsSpellable g → HasActions g choices
-        → IsEqual (total (map (play_probability g) (filter (follows choices) (plays g.tree)))) one_ratio }
-    ensures part_at_chance { (g : Game) (choices : SetKey → ℕ) (p q : Play) → IsGame g → Contains (plays g.tree) p → Contains (plays g.tree) q
+    ensures probability_one { (g : Game) (choices : SetKey → ℕ) → IsGame g → IsSpellable g
+        → HasActions g choices
+        → IsEqual (total (map (play_probability g) (filter (follows choices) (plays g.tree))))
+        one_ratio }
+    ensures part_at_chance { (g : Game) (choices : SetKey → ℕ) (p q : Play)
+        → IsGame g → Contains (plays g.tree) p → Contains (plays g.tree) q
         → follows choices p ≡ true → follows choices q ≡ true → (p ≡ q) ⊎ PartAtChance p q }
 {}
 
-/// The strategies of a profile are those of its players, one of each, and they choose an action at each set.
+/// Chance is no player: no strategy chooses at its sets, and nothing is paid to it.
+pub fn chance_is_no_player()
+    ensures choices { (g : Game) (all : List (List ℕ)) (number : ℕ)
+        → choices_by g all (set_of 0 number) ≡ 0 }
+    ensures payoff { (g : Game) (n : Node) → payoff_at g 0 n ≡ zero_ratio }
+{}
+
+/// The strategies of a profile are those of its players, one of each, and they choose an action at
+/// each set.
 pub fn strategies_have_actions()
     ensures one_each { (g : Game) (profile : List ℕ) → Contains (full_profiles g) profile
-        → AllZip (λ strategy player. Contains (strategies g player) strategy) (strategies_at g profile) (players_of g) }
-    ensures actions { (g : Game) (all : List (List ℕ)) → IsGame g → AllZip (λ strategy player. Contains (strategies g player) strategy) all (players_of g)
+        → AllZip (λ strategy player. Contains (strategies g player) strategy)
+        (strategies_at g profile) (players_of g) }
+    ensures actions { (g : Game) (all : List (List ℕ)) → IsGame g
+        → AllZip (λ strategy player. Contains (strategies g player) strategy) all (players_of g)
         → HasActions g (choices_by g all) }
 {}
 
@@ -105,16 +152,37 @@ pub fn reduced_strategies_agree()
         → Contains (strategies g player) s → Contains (strategies g player) t
         → (reduced g player s ≡ reduced g player t)
         ↔ ((play : Play) → Contains (plays g.tree) play
-        → agrees (choice_at (player_keys g player) s) player play ≡ agrees (choice_at (player_keys g player) t) player play) }
+        → agrees (choice_at (player_keys g player) s) player play
+        ≡ agrees (choice_at (player_keys g player) t) player play) }
 {}
 
-/// Full profiles that reduce to one have the same payoffs.
+/// Full profiles that reduce to one have the same payoffs, and bottom-up values that are the same,
+/// defined for both or for neither.
 pub fn reduced_profiles_pay_alike()
-    ensures { (g : Game) (player : ℕ) (p q : List ℕ) → Contains (full_profiles g) p → Contains (full_profiles g) q → reduced_by g p ≡ reduced_by g q
-        → payoff g (choices_by g (strategies_at g p)) player ≡ payoff g (choices_by g (strategies_at g q)) player }
+    ensures payoffs { (g : Game) (player : ℕ) (p q : List ℕ) → Contains (full_profiles g) p
+        → Contains (full_profiles g) q → reduced_by g p ≡ reduced_by g q
+        → payoff g (choices_by g (strategies_at g p)) player
+        ≡ payoff g (choices_by g (strategies_at g q)) player }
+    ensures values { (g : Game) (player : ℕ) (p q : List ℕ) (value : Ratio)
+        → Contains (full_profiles g) p → Contains (full_profiles g) q
+        → reduced_by g p ≡ reduced_by g q
+        → IsValue g (choices_by g (strategies_at g p)) player g.tree value
+        ↔ IsValue g (choices_by g (strategies_at g q)) player g.tree value }
 {}
 
-/// The strategic form of a game is a table, with a strategy for each player and an entry for each profile.
+/// A game has one strategic form and one reduced form at most, and it has them exactly where every
+/// payoff is a fraction.
+pub fn one_form()
+    ensures strategic { (g : Game) (t u : Table) → IsStrategicForm g t → IsStrategicForm g u
+        → t ≡ u }
+    ensures reduced { (g : Game) (t u : Table) → IsReducedForm g t → IsReducedForm g u → t ≡ u }
+    ensures strategic_exists { (g : Game) → ((t : Table) × IsStrategicForm g t) ↔ PaysFractions g }
+    ensures reduced_exists { (g : Game) → ((t : Table) × IsReducedForm g t) ↔ PaysFractions g }
+{}
+
+/// The strategic form of a game is a table, with a strategy for each player and an entry for each
+/// profile, and so is the reduced form.
 pub fn form_is_table()
-    ensures { (g : Game) (t : Table) → IsGame g → IsStrategicForm g t → IsTable t }
+    ensures strategic { (g : Game) (t : Table) → IsGame g → IsStrategicForm g t → IsTable t }
+    ensures reduced { (g : Game) (t : Table) → IsGame g → IsReducedForm g t → IsTable t }
 {}

@@ -1,11 +1,13 @@
 -- Laws of rationals of any size, up to equality by cross multiplication.
-use Rattle.std.proofs.Common.{◌≡◌, ℕ, ℤ, pos, ◌*◌, ◌<◌, refl, ap, sym, ◌∙◌, subst, arith, List, [], ◌∷◌, map}
+use Rattle.std.proofs.Common.{◌≡◌, ℕ, ℤ, pos, ◌*◌, ◌<◌, refl, ap, sym}
+use Rattle.std.proofs.Common.{◌∙◌, subst, arith, List, [], ◌∷◌, map}
 use Rattle.std.specs.Prelude.{◌+ℤ◌, ◌*ℤ◌}
 use Rattle.std.proofs.Math.IntN.{*ℤ_comm, *ℤ-zero, +ℤ_comm, +ℤ_assoc, +ℤ_idl}
 use Rattle.gf_fraction.specs.Ratio.{Ratio}
 use Rattle.gf_fraction.proofs.Integers.{*ℤ_assoc, *ℤ_right_comm, add-*ℤ, *ℤ-one, *ℤ-cancel_right}
 use Rattle.gf_fraction.proofs.Products.{mul_above}
-use Rattle.gf_fraction.specs.Rational.{IsEqual, zero_ratio, one_ratio, plus, times, total, ratio_product}
+use Rattle.gf_fraction.specs.Rational.{IsEqual, zero_ratio, one_ratio}
+use Rattle.gf_fraction.specs.Rational.{plus, times, total, ratio_product}
 
 -- ---- denominators above zero
 
@@ -18,13 +20,17 @@ plus_above x y hx hy = mul_above x.den y.den hx hy
 pub times_above : (x y : Ratio) → IsAbove x → IsAbove y → IsAbove (times x y)
 times_above x y hx hy = mul_above x.den y.den hx hy
 
-pub total_above : {A : Type 0} (f : A → Ratio) → ((x : A) → IsAbove (f x)) → (xs : List A) → IsAbove (total (map f xs))
+pub total_above : {A : Type 0} (f : A → Ratio) → ((x : A) → IsAbove (f x)) → (xs : List A)
+    → IsAbove (total (map f xs))
 total_above f above [] = omega arith
-total_above f above (x ∷ xs) = plus_above (f x) (total (map f xs)) (above x) (total_above f above xs)
+total_above f above (x ∷ xs) =
+    plus_above (f x) (total (map f xs)) (above x) (total_above f above xs)
 
-pub ratio_product_above : {A : Type 0} (f : A → Ratio) → ((x : A) → IsAbove (f x)) → (xs : List A) → IsAbove (ratio_product (map f xs))
+pub ratio_product_above : {A : Type 0} (f : A → Ratio) → ((x : A) → IsAbove (f x)) → (xs : List A)
+    → IsAbove (ratio_product (map f xs))
 ratio_product_above f above [] = omega arith
-ratio_product_above f above (x ∷ xs) = times_above (f x) (ratio_product (map f xs)) (above x) (ratio_product_above f above xs)
+ratio_product_above f above (x ∷ xs) =
+    times_above (f x) (ratio_product (map f xs)) (above x) (ratio_product_above f above xs)
 
 -- ---- integers times numbers
 
@@ -62,11 +68,15 @@ equal_trans x y z h k = record {
 -- ---- sums and products of equal rationals
 
 -- one of the two parts of a sum, over the other denominators
-part : (x y : Ratio) (b d : ℕ) → IsEqual x y → (x.num *ℤ pos b) *ℤ pos (y.den * d) ≡ (y.num *ℤ pos d) *ℤ pos (x.den * b)
+part : (x y : Ratio) (b d : ℕ) → IsEqual x y
+    → (x.num *ℤ pos b) *ℤ pos (y.den * d) ≡ (y.num *ℤ pos d) *ℤ pos (x.den * b)
 part x y b d h =
     let left : b * (y.den * d) ≡ y.den * (b * d) = omega arith in
     let right : x.den * (b * d) ≡ d * (x.den * b) = omega arith in
-    over x.num b (y.den * d) ∙ at x.num _ _ left ∙ sym (over x.num y.den (b * d)) ∙ ap (λ n. n *ℤ pos (b * d)) h.crosswise
+    over x.num b (y.den * d)
+    ∙ at x.num _ _ left
+    ∙ sym (over x.num y.den (b * d))
+    ∙ ap (λ n. n *ℤ pos (b * d)) h.crosswise
     ∙ over y.num x.den (b * d) ∙ at y.num _ _ right ∙ sym (over y.num d (x.den * b))
 
 pub plus_both : (x u y v : Ratio) → IsEqual x u → IsEqual y v → IsEqual (plus x y) (plus u v)
@@ -77,7 +87,9 @@ plus_both x u y v h k =
       left = mul_above x.den y.den h.left k.left;
       right = mul_above u.den v.den h.right k.right;
       crosswise = add-*ℤ (x.num *ℤ pos y.den) (y.num *ℤ pos x.den) (pos (u.den * v.den))
-          ∙ (λ i. part x u y.den v.den h i +ℤ (at (y.num *ℤ pos x.den) _ _ turned ∙ part y v x.den u.den k ∙ at (v.num *ℤ pos u.den) _ _ back) i)
+          ∙ (λ i. part x u y.den v.den h i +ℤ (at (y.num *ℤ pos x.den) _ _ turned
+          ∙ part y v x.den u.den k
+          ∙ at (v.num *ℤ pos u.den) _ _ back) i)
           ∙ sym (add-*ℤ (u.num *ℤ pos v.den) (v.num *ℤ pos u.den) (pos (x.den * y.den)));
     }
 
@@ -90,31 +102,47 @@ pub times_both : (x u y v : Ratio) → IsEqual x u → IsEqual y v → IsEqual (
 times_both x u y v h k = record {
   left = mul_above x.den y.den h.left k.left;
   right = mul_above u.den v.den h.right k.right;
-  crosswise = across x.num y.num (pos u.den) (pos v.den) ∙ (λ i. h.crosswise i *ℤ k.crosswise i) ∙ across u.num (pos x.den) v.num (pos y.den);
+  crosswise = across x.num y.num (pos u.den) (pos v.den)
+      ∙ (λ i. h.crosswise i *ℤ k.crosswise i)
+      ∙ across u.num (pos x.den) v.num (pos y.den);
 }
 
 -- ---- laws
 
 pub plus_comm : (x y : Ratio) → 0 < x.den → 0 < y.den → IsEqual (plus x y) (plus y x)
-plus_comm x y hx hy = same_parts _ _ (mul_above x.den y.den hx hy) (+ℤ_comm (x.num *ℤ pos y.den) (y.num *ℤ pos x.den)) (omega arith)
+plus_comm x y hx hy = same_parts _ _ (mul_above x.den y.den hx hy)
+    (+ℤ_comm (x.num *ℤ pos y.den) (y.num *ℤ pos x.den)) (omega arith)
 
-pub plus_assoc : (x y z : Ratio) → 0 < x.den → 0 < y.den → 0 < z.den → IsEqual (plus (plus x y) z) (plus x (plus y z))
+pub plus_assoc : (x y z : Ratio) → 0 < x.den → 0 < y.den → 0 < z.den
+    → IsEqual (plus (plus x y) z) (plus x (plus y z))
 plus_assoc x y z hx hy hz =
     let turned : x.den * z.den ≡ z.den * x.den = omega arith in
     let back : x.den * y.den ≡ y.den * x.den = omega arith in
-    let left : (x.num *ℤ pos y.den +ℤ y.num *ℤ pos x.den) *ℤ pos z.den ≡ x.num *ℤ pos (y.den * z.den) +ℤ (y.num *ℤ pos z.den) *ℤ pos x.den =
-    add-*ℤ (x.num *ℤ pos y.den) (y.num *ℤ pos x.den) (pos z.den) ∙ (λ i. over x.num y.den z.den i +ℤ (over y.num x.den z.den ∙ at y.num _ _ turned ∙ sym (over y.num z.den x.den)) i) in
-    let right : (y.num *ℤ pos z.den) *ℤ pos x.den +ℤ z.num *ℤ pos (x.den * y.den) ≡ (y.num *ℤ pos z.den +ℤ z.num *ℤ pos y.den) *ℤ pos x.den =
-    ap (λ n. (y.num *ℤ pos z.den) *ℤ pos x.den +ℤ n) (at z.num _ _ back ∙ sym (over z.num y.den x.den)) ∙ sym (add-*ℤ (y.num *ℤ pos z.den) (z.num *ℤ pos y.den) (pos x.den)) in
+    let left : (x.num *ℤ pos y.den +ℤ y.num *ℤ pos x.den) *ℤ pos z.den
+    ≡ x.num *ℤ pos (y.den * z.den) +ℤ (y.num *ℤ pos z.den) *ℤ pos x.den =
+    add-*ℤ (x.num *ℤ pos y.den) (y.num *ℤ pos x.den) (pos z.den) ∙ (λ i. over x.num y.den z.den i
+    +ℤ (over y.num x.den z.den ∙ at y.num _ _ turned ∙ sym (over y.num z.den x.den)) i) in
+    let right : (y.num *ℤ pos z.den) *ℤ pos x.den +ℤ z.num *ℤ pos (x.den * y.den)
+    ≡ (y.num *ℤ pos z.den +ℤ z.num *ℤ pos y.den) *ℤ pos x.den =
+    ap (λ n. (y.num *ℤ pos z.den) *ℤ pos x.den +ℤ n)
+    (at z.num _ _ back ∙ sym (over z.num y.den x.den))
+    ∙ sym (add-*ℤ (y.num *ℤ pos z.den) (z.num *ℤ pos y.den) (pos x.den)) in
     same_parts _ _ (mul_above (x.den * y.den) z.den (mul_above x.den y.den hx hy) hz)
-    (ap (λ n. n +ℤ z.num *ℤ pos (x.den * y.den)) left ∙ +ℤ_assoc (x.num *ℤ pos (y.den * z.den)) ((y.num *ℤ pos z.den) *ℤ pos x.den) (z.num *ℤ pos (x.den * y.den)) ∙ ap (λ n. x.num *ℤ pos (y.den * z.den) +ℤ n) right)
+    (ap (λ n. n +ℤ z.num *ℤ pos (x.den * y.den)) left
+    ∙ +ℤ_assoc (x.num *ℤ pos (y.den * z.den))
+    ((y.num *ℤ pos z.den) *ℤ pos x.den) (z.num *ℤ pos (x.den * y.den))
+    ∙ ap (λ n. x.num *ℤ pos (y.den * z.den) +ℤ n) right)
     (omega arith)
 
 pub times_comm : (x y : Ratio) → 0 < x.den → 0 < y.den → IsEqual (times x y) (times y x)
-times_comm x y hx hy = same_parts _ _ (mul_above x.den y.den hx hy) (*ℤ_comm x.num y.num) (omega arith)
+times_comm x y hx hy =
+    same_parts _ _ (mul_above x.den y.den hx hy) (*ℤ_comm x.num y.num) (omega arith)
 
-pub times_assoc : (x y z : Ratio) → 0 < x.den → 0 < y.den → 0 < z.den → IsEqual (times (times x y) z) (times x (times y z))
-times_assoc x y z hx hy hz = same_parts _ _ (mul_above (x.den * y.den) z.den (mul_above x.den y.den hx hy) hz) (*ℤ_assoc x.num y.num z.num) (omega arith)
+pub times_assoc : (x y z : Ratio) → 0 < x.den → 0 < y.den → 0 < z.den
+    → IsEqual (times (times x y) z) (times x (times y z))
+times_assoc x y z hx hy hz =
+    same_parts _ _ (mul_above (x.den * y.den) z.den (mul_above x.den y.den hx hy) hz)
+    (*ℤ_assoc x.num y.num z.num) (omega arith)
 
 pub times_one : (x : Ratio) → 0 < x.den → IsEqual (times x one_ratio) x
 times_one x hx = same_parts _ _ (mul_above x.den 1 hx (omega arith)) (*ℤ-one x.num) (omega arith)
@@ -122,12 +150,14 @@ times_one x hx = same_parts _ _ (mul_above x.den 1 hx (omega arith)) (*ℤ-one x
 pub plus_zero : (x : Ratio) → 0 < x.den → IsEqual (plus zero_ratio x) x
 plus_zero x hx =
     let none : 0 * x.den ≡ 0 = omega arith in
-    same_parts _ _ (mul_above 1 x.den (omega arith) hx) ((λ i. pos (none i) +ℤ *ℤ-one x.num i) ∙ +ℤ_idl x.num) (omega arith)
+    same_parts _ _ (mul_above 1 x.den (omega arith) hx)
+    ((λ i. pos (none i) +ℤ *ℤ-one x.num i) ∙ +ℤ_idl x.num) (omega arith)
 
 mul-plus : (a b c : ℤ) → a *ℤ (b +ℤ c) ≡ a *ℤ b +ℤ a *ℤ c
 mul-plus a b c = *ℤ_comm a (b +ℤ c) ∙ add-*ℤ b c a ∙ (λ i. *ℤ_comm b a i +ℤ *ℤ_comm c a i)
 
-pub times_plus : (x y z : Ratio) → 0 < x.den → 0 < y.den → 0 < z.den → IsEqual (times x (plus y z)) (plus (times x y) (times x z))
+pub times_plus : (x y z : Ratio) → 0 < x.den → 0 < y.den → 0 < z.den
+    → IsEqual (times x (plus y z)) (plus (times x y) (times x z))
 times_plus x y z hx hy hz =
     let a = x.den in
     let b = y.den in
@@ -139,12 +169,14 @@ times_plus x y z hx hy hz =
     let first : c * n ≡ a * c * m = omega arith in
     let second : b * n ≡ a * b * m = omega arith in
     let num : x.num *ℤ (y.num *ℤ pos c +ℤ z.num *ℤ pos b) ≡ xy *ℤ pos c +ℤ xz *ℤ pos b =
-    mul-plus x.num (y.num *ℤ pos c) (z.num *ℤ pos b) ∙ (λ i. sym (*ℤ_assoc x.num y.num (pos c)) i +ℤ sym (*ℤ_assoc x.num z.num (pos b)) i) in
+    mul-plus x.num (y.num *ℤ pos c) (z.num *ℤ pos b)
+    ∙ (λ i. sym (*ℤ_assoc x.num y.num (pos c)) i +ℤ sym (*ℤ_assoc x.num z.num (pos b)) i) in
     record {
       left = mul_above a (b * c) hx (mul_above b c hy hz);
       right = mul_above (a * b) (a * c) (mul_above a b hx hy) (mul_above a c hx hz);
       crosswise = ap (λ k. k *ℤ pos n) num ∙ add-*ℤ (xy *ℤ pos c) (xz *ℤ pos b) (pos n)
-          ∙ (λ i. (over xy c n ∙ at xy _ _ first ∙ sym (over xy (a * c) m)) i +ℤ (over xz b n ∙ at xz _ _ second ∙ sym (over xz (a * b) m)) i)
+          ∙ (λ i. (over xy c n ∙ at xy _ _ first ∙ sym (over xy (a * c) m)) i
+          +ℤ (over xz b n ∙ at xz _ _ second ∙ sym (over xz (a * b) m)) i)
           ∙ sym (add-*ℤ (xy *ℤ pos (a * c)) (xz *ℤ pos (a * b)) (pos m));
     }
 

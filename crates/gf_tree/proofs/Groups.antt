@@ -1,5 +1,6 @@
 -- Groups of tokens at the front of a list: what they say is said once, and leaves one rest.
-use Rattle.std.proofs.Common.{◌≡◌, ℕ, List, [], ◌∷◌, ◌++◌, map, drop, Ok, refl, sym, ap, subst, ◌∙◌, append_assoc, inl, inr}
+use Rattle.std.proofs.Common.{◌≡◌, ℕ, List, [], ◌∷◌, ◌++◌, map, drop, Ok, refl}
+use Rattle.std.proofs.Common.{sym, ap, subst, ◌∙◌, append_assoc, inl, inr}
 use Rattle.std.specs.Prelude.{◌⊎◌, Option, Some, None}
 use Rattle.gf_token.specs.Token.{Token}
 use Rattle.gf_token.specs.Token.Token.{Closing, Comma, Text, Bare}
@@ -11,43 +12,66 @@ use Rattle.gf_tree.specs.Sentence.{IsDescription}
 
 -- what P says of the front of one list is one thing, and leaves one rest
 abbrev pub Agree : {A : Type 0} → (List Token → A → Type 0) → Type 0
-Agree {A} P = (first first' rest rest' : List Token) (x y : A) → P first x → P first' y → first ++ rest ≡ first' ++ rest' → (x ≡ y) × (rest ≡ rest')
+Agree {A} P = (first first' rest rest' : List Token) (x y : A)
+    → P first x → P first' y → first ++ rest ≡ first' ++ rest' → (x ≡ y) × (rest ≡ rest')
 
 -- a group is not empty, and begins with no closing brace
 abbrev pub Begun : {A : Type 0} → (List Token → A → Type 0) → Type 0
-Begun {A} P = (first rest others : List Token) (x : A) → P first x → first ++ rest ≡ Closing ∷ others → ⊥
+Begun {A} P =
+    (first rest others : List Token) (x : A) → P first x → first ++ rest ≡ Closing ∷ others → ⊥
 
 abbrev pub BeginsText : {A : Type 0} → (List Token → A → Type 0) → Type 0
-BeginsText {A} P = (first rest : List Token) (x : A) → P first x → (l : List ℕ) × (others : List Token) × (first ++ rest ≡ Text l ∷ others)
+BeginsText {A} P = (first rest : List Token) (x : A) → P first x
+    → (l : List ℕ) × (others : List Token) × (first ++ rest ≡ Text l ∷ others)
 
 abbrev pub NoText : List Token → Type 0
 NoText tokens = (l : List ℕ) (others : List Token) → tokens ≡ Text l ∷ others → ⊥
 
 -- the same tokens in front of a rest
-pub in_front : (first first' rest rest' : List Token) (a b : List Token) → first ≡ a → first' ≡ b → first ++ rest ≡ first' ++ rest' → a ++ rest ≡ b ++ rest'
-in_front first first' rest rest' a b h k e = ap (λ (ts : List Token). ts ++ rest) (sym h) ∙ e ∙ ap (λ (ts : List Token). ts ++ rest') k
+pub in_front : (first first' rest rest' : List Token) (a b : List Token)
+    → first ≡ a → first' ≡ b → first ++ rest ≡ first' ++ rest' → a ++ rest ≡ b ++ rest'
+in_front first first' rest rest' a b h k e =
+    ap (λ (ts : List Token). ts ++ rest) (sym h) ∙ e ∙ ap (λ (ts : List Token). ts ++ rest') k
 
-pub regroup : (tokens first others rest : List Token) → tokens ≡ first ++ others → tokens ++ rest ≡ first ++ (others ++ rest)
-regroup tokens first others rest e = ap (λ (ts : List Token). ts ++ rest) e ∙ append_assoc first others rest
+pub regroup : (tokens first others rest : List Token) → tokens ≡ first ++ others
+    → tokens ++ rest ≡ first ++ (others ++ rest)
+regroup tokens first others rest e =
+    ap (λ (ts : List Token). ts ++ rest) e ∙ append_assoc first others rest
 
 -- groups up to a closing brace
-pub closed_once : {A : Type 0} (P : List Token → A → Type 0) → Agree P → Begun P → (xs ys : List A) (inner inner' rest rest' : List Token)
-    → Each P inner xs → Each P inner' ys → inner ++ Closing ∷ rest ≡ inner' ++ Closing ∷ rest' → (xs ≡ ys) × (rest ≡ rest')
-closed_once P agree begun [] [] inner inner' rest rest' h k e = (refl, ap (drop 1) (in_front inner inner' (Closing ∷ rest) (Closing ∷ rest') [] [] h k e))
+pub closed_once : {A : Type 0} (P : List Token → A → Type 0) → Agree P → Begun P
+    → (xs ys : List A) (inner inner' rest rest' : List Token)
+    → Each P inner xs → Each P inner' ys → inner ++ Closing ∷ rest ≡ inner' ++ Closing ∷ rest'
+    → (xs ≡ ys) × (rest ≡ rest')
+closed_once P agree begun [] [] inner inner' rest rest' h k e =
+    (refl, ap (drop 1) (in_front inner inner' (Closing ∷ rest) (Closing ∷ rest') [] [] h k e))
 closed_once P agree begun [] (y ∷ ys) inner inner' rest rest' h k e =
-    absurd (begun k.0 (k.1 ++ Closing ∷ rest') rest y k.3 (sym (regroup inner' k.0 k.1 (Closing ∷ rest') k.2) ∙ sym e ∙ ap (λ (ts : List Token). ts ++ Closing ∷ rest) h))
+    absurd (begun k.0 (k.1 ++ Closing ∷ rest') rest y k.3
+    (sym (regroup inner' k.0 k.1 (Closing ∷ rest') k.2)
+    ∙ sym e
+    ∙ ap (λ (ts : List Token). ts ++ Closing ∷ rest) h))
 closed_once P agree begun (x ∷ xs) [] inner inner' rest rest' h k e =
-    absurd (begun h.0 (h.1 ++ Closing ∷ rest) rest' x h.3 (sym (regroup inner h.0 h.1 (Closing ∷ rest) h.2) ∙ e ∙ ap (λ (ts : List Token). ts ++ Closing ∷ rest') k))
+    absurd (begun h.0 (h.1 ++ Closing ∷ rest) rest' x h.3
+    (sym (regroup inner h.0 h.1 (Closing ∷ rest) h.2)
+    ∙ e
+    ∙ ap (λ (ts : List Token). ts ++ Closing ∷ rest') k))
 closed_once P agree begun (x ∷ xs) (y ∷ ys) inner inner' rest rest' h k e =
-    let a = agree h.0 k.0 (h.1 ++ Closing ∷ rest) (k.1 ++ Closing ∷ rest') x y h.3 k.3 (sym (regroup inner h.0 h.1 (Closing ∷ rest) h.2) ∙ e ∙ regroup inner' k.0 k.1 (Closing ∷ rest') k.2) in
+    let a = agree h.0 k.0 (h.1 ++ Closing ∷ rest) (k.1 ++ Closing ∷ rest') x y h.3 k.3
+    (sym (regroup inner h.0 h.1 (Closing ∷ rest) h.2)
+    ∙ e
+    ∙ regroup inner' k.0 k.1 (Closing ∷ rest') k.2) in
     let b = closed_once P agree begun xs ys h.1 k.1 rest rest' h.4 k.4 a.1 in
     (λ i. a.0 i ∷ b.0 i, b.1)
 
 -- what stands behind an opening brace
-pub opened : (inner inner' rest rest' : List Token) → braced inner ++ rest ≡ braced inner' ++ rest' → inner ++ Closing ∷ rest ≡ inner' ++ Closing ∷ rest'
-opened inner inner' rest rest' e = sym (append_assoc inner (Closing ∷ []) rest) ∙ ap (drop 1) e ∙ append_assoc inner' (Closing ∷ []) rest'
+pub opened : (inner inner' rest rest' : List Token) → braced inner ++ rest ≡ braced inner' ++ rest'
+    → inner ++ Closing ∷ rest ≡ inner' ++ Closing ∷ rest'
+opened inner inner' rest rest' e = sym (append_assoc inner (Closing ∷ []) rest)
+    ∙ ap (drop 1) e
+    ∙ append_assoc inner' (Closing ∷ []) rest'
 
-pub texts_once : (xs ys : List (List ℕ)) (rest rest' : List Token) → map Text xs ++ Closing ∷ rest ≡ map Text ys ++ Closing ∷ rest' → (xs ≡ ys) × (rest ≡ rest')
+pub texts_once : (xs ys : List (List ℕ)) (rest rest' : List Token)
+    → map Text xs ++ Closing ∷ rest ≡ map Text ys ++ Closing ∷ rest' → (xs ≡ ys) × (rest ≡ rest')
 texts_once [] [] rest rest' e = (refl, ap (drop 1) e)
 texts_once [] (y ∷ ys) rest rest' e = absurd cc
 texts_once (x ∷ xs) [] rest rest' e = absurd cc
@@ -56,13 +80,18 @@ texts_once (x ∷ xs) (y ∷ ys) rest rest' e =
     let b = texts_once xs ys rest rest' (ap (drop 1) e) in
     (λ i. same i ∷ b.0 i, b.1)
 
-pub numbers_once : (bytes bytes' : List ℕ) (x y : Ratio) → bytes ≡ bytes' → IsNumber bytes x → IsNumber bytes' y → x ≡ y
-numbers_once bytes bytes' x y e h k = let same = one_answer bytes' (Ok x) (Ok y) (subst (λ b. IsNumber b x) e h) k in cc
+pub numbers_once : (bytes bytes' : List ℕ) (x y : Ratio)
+    → bytes ≡ bytes' → IsNumber bytes x → IsNumber bytes' y → x ≡ y
+numbers_once bytes bytes' x y e h k =
+    let same = one_answer bytes' (Ok x) (Ok y) (subst (λ b. IsNumber b x) e h) k in cc
 
 -- a description or none, where no text follows
-pub descriptions_once : {D : Type 0} (P : List Token → D → Type 0) → Agree P → BeginsText P → (x y : Option D) (first first' rest rest' : List Token)
-    → IsDescription P first x → IsDescription P first' y → NoText rest → NoText rest' → first ++ rest ≡ first' ++ rest' → (x ≡ y) × (rest ≡ rest')
-descriptions_once P agree text None None first first' rest rest' h k n m e = (refl, in_front first first' rest rest' [] [] h k e)
+pub descriptions_once : {D : Type 0} (P : List Token → D → Type 0) → Agree P → BeginsText P
+    → (x y : Option D) (first first' rest rest' : List Token)
+    → IsDescription P first x → IsDescription P first' y → NoText rest → NoText rest'
+    → first ++ rest ≡ first' ++ rest' → (x ≡ y) × (rest ≡ rest')
+descriptions_once P agree text None None first first' rest rest' h k n m e =
+    (refl, in_front first first' rest rest' [] [] h k e)
 descriptions_once P agree text None (Some y) first first' rest rest' h k n m e =
     let t = text first' rest' y k in
     absurd (n t.0 t.1 (in_front first first' rest rest' [] first' h refl e ∙ t.2))
@@ -78,39 +107,62 @@ descriptions_once P agree text (Some x) (Some y) first first' rest rest' h k n m
 abbrev NoComma : List Token → Type 0
 NoComma tokens = (others : List Token) → tokens ≡ Comma ∷ others → ⊥
 
-comma_gone : (comma comma' rest rest' : List Token) → ((comma ≡ []) ⊎ (comma ≡ Comma ∷ [])) → ((comma' ≡ []) ⊎ (comma' ≡ Comma ∷ [])) → NoComma rest → NoComma rest'
+comma_gone : (comma comma' rest rest' : List Token) → ((comma ≡ []) ⊎ (comma ≡ Comma ∷ []))
+    → ((comma' ≡ []) ⊎ (comma' ≡ Comma ∷ [])) → NoComma rest → NoComma rest'
     → comma ++ rest ≡ comma' ++ rest' → rest ≡ rest'
-comma_gone comma comma' rest rest' (inl a) (inl b) n m e = in_front comma comma' rest rest' [] [] a b e
-comma_gone comma comma' rest rest' (inl a) (inr b) n m e = absurd (n rest' (in_front comma comma' rest rest' [] (Comma ∷ []) a b e))
-comma_gone comma comma' rest rest' (inr a) (inl b) n m e = absurd (m rest (sym (in_front comma comma' rest rest' (Comma ∷ []) [] a b e)))
-comma_gone comma comma' rest rest' (inr a) (inr b) n m e = ap (drop 1) (in_front comma comma' rest rest' (Comma ∷ []) (Comma ∷ []) a b e)
+comma_gone comma comma' rest rest' (inl a) (inl b) n m e =
+    in_front comma comma' rest rest' [] [] a b e
+comma_gone comma comma' rest rest' (inl a) (inr b) n m e =
+    absurd (n rest' (in_front comma comma' rest rest' [] (Comma ∷ []) a b e))
+comma_gone comma comma' rest rest' (inr a) (inl b) n m e =
+    absurd (m rest (sym (in_front comma comma' rest rest' (Comma ∷ []) [] a b e)))
+comma_gone comma comma' rest rest' (inr a) (inr b) n m e =
+    ap (drop 1) (in_front comma comma' rest rest' (Comma ∷ []) (Comma ∷ []) a b e)
 
 -- where a payoff or the closing brace is due stands no comma
-no_comma : (xs : List Ratio) (inner rest : List Token) → Each IsPayoffInBraces inner xs → NoComma (inner ++ Closing ∷ rest)
-no_comma [] inner rest h = λ others e. let whole : Closing ∷ rest ≡ Comma ∷ others = ap (λ (ts : List Token). ts ++ Closing ∷ rest) (sym h) ∙ e in absurd cc
+no_comma : (xs : List Ratio) (inner rest : List Token) → Each IsPayoffInBraces inner xs
+    → NoComma (inner ++ Closing ∷ rest)
+no_comma [] inner rest h = λ others e. let whole : Closing ∷ rest ≡ Comma ∷ others =
+    ap (λ (ts : List Token). ts ++ Closing ∷ rest) (sym h) ∙ e in
+    absurd cc
 no_comma (x ∷ xs) inner rest h = λ others e.
-    let whole = ap (λ (ts : List Token). ts ++ (h.1 ++ Closing ∷ rest)) (sym h.3.2) ∙ sym (regroup inner h.0 h.1 (Closing ∷ rest) h.2) ∙ e in
+    let whole = ap (λ (ts : List Token). ts ++ (h.1 ++ Closing ∷ rest)) (sym h.3.2)
+    ∙ sym (regroup inner h.0 h.1 (Closing ∷ rest) h.2)
+    ∙ e in
     absurd cc
 
 payoffs_begun : Begun IsPayoffInBraces
-payoffs_begun first rest others x h e = let whole = ap (λ (ts : List Token). ts ++ rest) (sym h.2) ∙ e in absurd cc
+payoffs_begun first rest others x h e =
+    let whole = ap (λ (ts : List Token). ts ++ rest) (sym h.2) ∙ e in absurd cc
 
-pub payoffs_once : (xs ys : List Ratio) (inner inner' rest rest' : List Token) → Each IsPayoffInBraces inner xs → Each IsPayoffInBraces inner' ys
+pub payoffs_once : (xs ys : List Ratio) (inner inner' rest rest' : List Token)
+    → Each IsPayoffInBraces inner xs → Each IsPayoffInBraces inner' ys
     → inner ++ Closing ∷ rest ≡ inner' ++ Closing ∷ rest' → (xs ≡ ys) × (rest ≡ rest')
-payoffs_once [] [] inner inner' rest rest' h k e = (refl, ap (drop 1) (in_front inner inner' (Closing ∷ rest) (Closing ∷ rest') [] [] h k e))
+payoffs_once [] [] inner inner' rest rest' h k e =
+    (refl, ap (drop 1) (in_front inner inner' (Closing ∷ rest) (Closing ∷ rest') [] [] h k e))
 payoffs_once [] (y ∷ ys) inner inner' rest rest' h k e =
-    absurd (payoffs_begun k.0 (k.1 ++ Closing ∷ rest') rest y k.3 (sym (regroup inner' k.0 k.1 (Closing ∷ rest') k.2) ∙ sym e ∙ ap (λ (ts : List Token). ts ++ Closing ∷ rest) h))
+    absurd (payoffs_begun k.0 (k.1 ++ Closing ∷ rest') rest y k.3
+    (sym (regroup inner' k.0 k.1 (Closing ∷ rest') k.2)
+    ∙ sym e
+    ∙ ap (λ (ts : List Token). ts ++ Closing ∷ rest) h))
 payoffs_once (x ∷ xs) [] inner inner' rest rest' h k e =
-    absurd (payoffs_begun h.0 (h.1 ++ Closing ∷ rest) rest' x h.3 (sym (regroup inner h.0 h.1 (Closing ∷ rest) h.2) ∙ e ∙ ap (λ (ts : List Token). ts ++ Closing ∷ rest') k))
+    absurd (payoffs_begun h.0 (h.1 ++ Closing ∷ rest) rest' x h.3
+    (sym (regroup inner h.0 h.1 (Closing ∷ rest) h.2)
+    ∙ e
+    ∙ ap (λ (ts : List Token). ts ++ Closing ∷ rest') k))
 payoffs_once (x ∷ xs) (y ∷ ys) inner inner' rest rest' h k e =
     let p = h.3 in
     let q = k.3 in
     let more = h.1 ++ Closing ∷ rest in
     let more' = k.1 ++ Closing ∷ rest' in
     let whole : Bare p.0 ∷ (p.1 ++ more) ≡ Bare q.0 ∷ (q.1 ++ more') =
-    in_front h.0 k.0 more more' (Bare p.0 ∷ p.1) (Bare q.0 ∷ q.1) p.2 q.2 (sym (regroup inner h.0 h.1 (Closing ∷ rest) h.2) ∙ e ∙ regroup inner' k.0 k.1 (Closing ∷ rest') k.2) in
+    in_front h.0 k.0 more more' (Bare p.0 ∷ p.1) (Bare q.0 ∷ q.1) p.2 q.2
+    (sym (regroup inner h.0 h.1 (Closing ∷ rest) h.2)
+    ∙ e
+    ∙ regroup inner' k.0 k.1 (Closing ∷ rest') k.2) in
     let bytes : p.0 ≡ q.0 = cc in
     let first = numbers_once p.0 q.0 x y bytes p.3 q.3 in
-    let on = comma_gone p.1 q.1 more more' p.4 q.4 (no_comma xs h.1 rest h.4) (no_comma ys k.1 rest' k.4) (ap (drop 1) whole) in
+    let on = comma_gone p.1 q.1 more more' p.4 q.4 (no_comma xs h.1 rest h.4)
+    (no_comma ys k.1 rest' k.4) (ap (drop 1) whole) in
     let b = payoffs_once xs ys h.1 k.1 rest rest' h.4 k.4 on in
     (λ i. first i ∷ b.0 i, b.1)

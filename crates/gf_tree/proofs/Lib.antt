@@ -19,6 +19,7 @@ pub mod TreesOnce
 pub mod Uses
 pub mod Worked
 pub mod WorkedGames
+pub mod WorkedLotteries
 pub mod WorkedNone
 pub mod WrittenGames
 pub mod WrittenNodes

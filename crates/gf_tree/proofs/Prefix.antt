@@ -1,5 +1,6 @@
 -- Trees and their flat lists in prefix order stand for each other.
-use Rattle.std.proofs.Common.{◌≡◌, ℕ, zero, suc, ◌+◌, List, [], ◌∷◌, ◌++◌, refl, sym, ap, subst, ◌∙◌, append_assoc, zero-add, arith}
+use Rattle.std.proofs.Common.{◌≡◌, ℕ, zero, suc, ◌+◌, List, [], ◌∷◌, ◌++◌, refl}
+use Rattle.std.proofs.Common.{sym, ap, subst, ◌∙◌, append_assoc, zero-add, arith}
 use Rattle.std.proofs.lemmas.List.{append-nil}
 use Rattle.gf_tree.specs.Tree.{Tree, Trees, count}
 use Rattle.gf_tree.specs.Tree.Tree.{branch}
@@ -22,12 +23,15 @@ others_join none us = refl
 others_join (more t ts) us = others_join ts us
 
 mutual
-  grow_tree : {N : Type 0} (t : Tree N) (es : List (Entry N)) → grow (flatten t ++ es) ≡ more t (grow es)
+  grow_tree : {N : Type 0} (t : Tree N) (es : List (Entry N))
+      → grow (flatten t ++ es) ≡ more t (grow es)
   grow_tree (branch n ts) es = rw (grow_trees ts es, first_join, others_join) refl
 
-  grow_trees : {N : Type 0} (ts : Trees N) (es : List (Entry N)) → grow (flatten_all ts ++ es) ≡ join ts (grow es)
+  grow_trees : {N : Type 0} (ts : Trees N) (es : List (Entry N))
+      → grow (flatten_all ts ++ es) ≡ join ts (grow es)
   grow_trees none es = refl
-  grow_trees (more t ts) es = rw (append_assoc, grow_tree t (flatten_all ts ++ es), grow_trees ts es) refl
+  grow_trees (more t ts) es =
+      rw (append_assoc, grow_tree t (flatten_all ts ++ es), grow_trees ts es) refl
 
 pub grows_again : {N : Type 0} (t : Tree N) → grow (flatten t) ≡ more t none
 grows_again t = ap grow (sym (append-nil (flatten t))) ∙ grow_tree t []
@@ -41,10 +45,13 @@ flatten_once t u e = ap (root_of t) (sym (grows_again t) ∙ ap grow e ∙ grows
 
 -- ---- what grows flattens to the entries
 
-parts : {N : Type 0} (n : ℕ) (ts : Trees N) → flatten_all (first n ts) ++ flatten_all (others n ts) ≡ flatten_all ts
+parts : {N : Type 0} (n : ℕ) (ts : Trees N)
+    → flatten_all (first n ts) ++ flatten_all (others n ts) ≡ flatten_all ts
 parts zero ts = refl
 parts (suc n) none = refl
-parts (suc n) (more t ts) = append_assoc (flatten t) (flatten_all (first n ts)) (flatten_all (others n ts)) ∙ ap (λ x. flatten t ++ x) (parts n ts)
+parts (suc n) (more t ts) =
+    append_assoc (flatten t) (flatten_all (first n ts)) (flatten_all (others n ts))
+    ∙ ap (λ x. flatten t ++ x) (parts n ts)
 
 count_first : {N : Type 0} (n m : ℕ) (ts : Trees N) → count ts ≡ n + m → count (first n ts) ≡ n
 count_first zero m ts e = refl
@@ -56,15 +63,21 @@ count_others zero m ts e = omega (arith, e)
 count_others (suc n) m none e = absurd (omega (arith, e))
 count_others (suc n) m (more t ts) e = count_others n m ts (omega (arith, e))
 
-grown : {N : Type 0} (due : ℕ) (es : List (Entry N)) → Fills due es → (count (grow es) ≡ due) × (flatten_all (grow es) ≡ es)
+grown : {N : Type 0} (due : ℕ) (es : List (Entry N)) → Fills due es
+    → (count (grow es) ≡ due) × (flatten_all (grow es) ≡ es)
 grown zero [] h = (refl, refl)
 grown zero (e ∷ es) h = absurd h
 grown (suc due) [] h = absurd h
 grown {N} (suc due) (e ∷ es) h =
     let r = grown (e.children + due) es h in
-    let k : count (first e.children (grow es)) ≡ e.children = count_first e.children due (grow es) r.0 in
-    let below : List (Entry N) = flatten_all (first e.children (grow es)) ++ flatten_all (others e.children (grow es)) in
-    (ap suc (count_others e.children due (grow es) r.0), (λ i. record { node = e.node; children = k i } ∷ below) ∙ ap (λ x. e ∷ x) (parts e.children (grow es) ∙ r.1))
+    let k : count (first e.children (grow es)) ≡ e.children =
+    count_first e.children due (grow es) r.0 in
+    let below : List (Entry N) =
+    flatten_all (first e.children (grow es)) ++ flatten_all (others e.children (grow es)) in (
+      ap suc (count_others e.children due (grow es) r.0),
+      (λ i. record { node = e.node; children = k i } ∷ below)
+          ∙ ap (λ x. e ∷ x) (parts e.children (grow es) ∙ r.1),
+    )
 
 single : {N : Type 0} (ts : Trees N) → count ts ≡ 1 → (t : Tree N) × (ts ≡ more t none)
 single none e = absurd (omega (arith, e))
@@ -80,14 +93,17 @@ one_tree es h =
 -- ---- the entries of a tree fill one place
 
 mutual
-  fills_tree : {N : Type 0} (t : Tree N) (due : ℕ) (es : List (Entry N)) → Fills due es → Fills (suc due) (flatten t ++ es)
+  fills_tree : {N : Type 0} (t : Tree N) (due : ℕ) (es : List (Entry N)) → Fills due es
+      → Fills (suc due) (flatten t ++ es)
   fills_tree (branch n ts) due es h = fills_trees ts due es h
 
-  fills_trees : {N : Type 0} (ts : Trees N) (due : ℕ) (es : List (Entry N)) → Fills due es → Fills (count ts + due) (flatten_all ts ++ es)
+  fills_trees : {N : Type 0} (ts : Trees N) (due : ℕ) (es : List (Entry N)) → Fills due es
+      → Fills (count ts + due) (flatten_all ts ++ es)
   fills_trees none due es h = rw zero-add h
   fills_trees (more t ts) due es h =
       let e : suc (count ts) + due ≡ suc (count ts + due) = omega arith in
-      rw (e, append_assoc) (fills_tree t (count ts + due) (flatten_all ts ++ es) (fills_trees ts due es h))
+      rw (e, append_assoc)
+      (fills_tree t (count ts + due) (flatten_all ts ++ es) (fills_trees ts due es h))
 
 pub fills_one : {N : Type 0} (t : Tree N) → Fills 1 (flatten t)
 fills_one t = subst (Fills 1) (append-nil (flatten t)) (fills_tree t 0 [] tt)

@@ -1,5 +1,6 @@
 -- Worked files, node by node: what is said, with the tokens that say it.
-use Rattle.std.proofs.Common.{◌≡◌, ℕ, suc, ◌<◌, ◌≤◌, ◌^◌, ◌≤ℤ◌, pos, List, [], ◌∷◌, ◌++◌, length, map, Some, None, Option, refl, subst, arith, inl}
+use Rattle.std.proofs.Common.{◌≡◌, ℕ, suc, ◌<◌, ◌≤◌, ◌^◌, ◌≤ℤ◌, pos, List, [], ◌∷◌, ◌++◌}
+use Rattle.std.proofs.Common.{length, map, Some, None, Option, refl, subst, arith, inl, inr}
 use Rattle.std.specs.Prelude.{codes, decimal, nat_lt, ◌&&◌, true}
 use Rattle.std.proofs.lemmas.Bool.Decides.{Decides-and, Decides-ltb}
 use Rattle.std.specs.List.{AllByRecursion, flat_map}
@@ -7,7 +8,7 @@ use Rattle.std.specs.Fmt.{digits}
 use Rattle.std.proofs.lemmas.Nat.Gcd.{dvd_refl}
 use Rattle.std.proofs.Math.Nat.{one-dvd}
 use Rattle.gf_token.specs.Token.{Token}
-use Rattle.gf_token.specs.Token.Token.{Text, Bare}
+use Rattle.gf_token.specs.Token.Token.{Comma, Text, Bare}
 use Rattle.gf_token.specs.Grammar.{Each, braced}
 use Rattle.gf_token.proofs.SpelledNumbers.{decimal_is_index}
 use Rattle.gf_fraction.specs.Ratio.{Ratio, whole}
@@ -19,10 +20,12 @@ use Rattle.gf_fraction.proofs.ComputedAnswers.{number_is}
 use Rattle.gf_fraction.proofs.WholeNumbers.{whole_fraction, part_fraction, whole_spelled}
 use Rattle.gf_tree.specs.PrefixOrder.{Entry, flatten}
 use Rattle.gf_tree.specs.Grown.{grow, root}
-use Rattle.gf_tree.specs.Description.{Action, SetKey, InformationSet, Outcome, AddToOne, IsLottery, IsSet, set_of}
+use Rattle.gf_tree.specs.Description.{Action, SetKey, InformationSet, Outcome}
+use Rattle.gf_tree.specs.Description.{AddToOne, IsLottery, IsSet, set_of}
 use Rattle.gf_tree.specs.FileTree.{Use, FileNode, FileTree}
-use Rattle.gf_tree.specs.Sentence.{IsDescription, IsAction, IsInformationSet, IsPositive, IsMover, IsStep, IsResult, IsNode, Sentence, IsOutcomeDescription}
-use Rattle.gf_tree.specs.WorkedTrees.{half, toss, choice, two_paid}
+use Rattle.gf_tree.specs.Sentence.{IsDescription, IsAction, IsInformationSet, IsPositive, IsMover}
+use Rattle.gf_tree.specs.Sentence.{IsStep, IsResult, IsNode, Sentence, IsOutcomeDescription}
+use Rattle.gf_tree.specs.WorkedTrees.{half, toss, choice, paying_two}
 
 -- ---- numbers
 
@@ -72,8 +75,10 @@ not_negative = omega arith
 
 halves : AddToOne (whole (pos 0)) (half ∷ half ∷ [])
 halves =
-    let first : AddsTo (whole (pos 0)) half half = (first_half_fits, part_fraction 2 (omega arith) (omega arith), refl) in
-    let second : AddsTo half half (whole (pos 1)) = (second_half_fits, whole_fraction 1 (omega arith), refl) in
+    let first : AddsTo (whole (pos 0)) half half =
+    (first_half_fits, part_fraction 2 (omega arith) (omega arith), refl) in
+    let second : AddsTo half half (whole (pos 1)) =
+    (second_half_fits, whole_fraction 1 (omega arith), refl) in
     (not_negative, (half, first, (not_negative, (whole (pos 1), second, refl))))
 
 tosses : (name : List ℕ) → IsLottery (toss name).actions
@@ -82,14 +87,27 @@ tosses name = (half ∷ half ∷ [], refl, halves)
 -- ---- sets
 
 pub toss_is_set : (players n : ℕ) (name : List ℕ) → 0 < n → IsSet players (set_of 0 n) (toss name)
-toss_is_set players n name above = record { player = omega arith; number = above; some_action = omega arith; actions = tosses name }
+toss_is_set players n name above = record {
+  player = omega arith;
+  number = above;
+  some_action = omega arith;
+  actions = tosses name;
+}
 
-no_probabilities : (labels : List (List ℕ)) → AllByRecursion (λ (a : Action). a.probability ≡ None) (map (λ label. record { label = label; probability = None }) labels)
+no_probabilities : (labels : List (List ℕ)) → AllByRecursion (λ (a : Action). a.probability ≡ None)
+    (map (λ label. record { label = label; probability = None }) labels)
 no_probabilities [] = tt
 no_probabilities (l ∷ ls) = (refl, no_probabilities ls)
 
-pub choice_is_set : (players player n : ℕ) (name label : List ℕ) (labels : List (List ℕ)) → suc player ≤ players → 0 < n → IsSet players (set_of (suc player) n) (choice name (label ∷ labels))
-choice_is_set players player n name label labels among above = record { player = among; number = above; some_action = omega arith; actions = (refl, no_probabilities labels) }
+pub choice_is_set : (players player n : ℕ) (name label : List ℕ) (labels : List (List ℕ))
+    → suc player ≤ players → 0 < n
+    → IsSet players (set_of (suc player) n) (choice name (label ∷ labels))
+choice_is_set players player n name label labels among above = record {
+  player = among;
+  number = above;
+  some_action = omega arith;
+  actions = (refl, no_probabilities labels);
+}
 
 -- ---- descriptions and the tokens that say them
 
@@ -102,22 +120,43 @@ abbrev pub no_description : {player : ℕ} → SaidSet player
 no_description = record { tokens = []; set = None; says = refl }
 
 -- two actions of chance, and their probabilities as these bytes spell them
-abbrev pub said_lottery : (name x y : List ℕ) (p q : Ratio) → IsNumber x p → IsNumber y q → SaidSet 0
+abbrev pub said_lottery : (name x y : List ℕ) (p q : Ratio) → IsNumber x p → IsNumber y q
+    → SaidSet 0
 said_lottery name x y p q h k = record {
   tokens = Text name ∷ braced (Text (codes "h") ∷ Bare x ∷ Text (codes "t") ∷ Bare y ∷ []);
-  set = Some (record { name = name; actions = record { label = codes "h"; probability = Some p } ∷ record { label = codes "t"; probability = Some q } ∷ [] });
-  says = (_, refl, (Text (codes "h") ∷ Bare x ∷ [], _, refl, (x, p, refl, h, refl), (Text (codes "t") ∷ Bare y ∷ [], [], refl, (y, q, refl, k, refl), refl)));
+  set = Some (record {
+    name = name;
+    actions = record { label = codes "h"; probability = Some p }
+        ∷ record { label = codes "t"; probability = Some q } ∷ [];
+  });
+  says = (
+    _,
+    refl,
+    (
+      Text (codes "h") ∷ Bare x ∷ [],
+      _,
+      refl,
+      (x, p, refl, h, refl),
+      (Text (codes "t") ∷ Bare y ∷ [], [], refl, (y, q, refl, k, refl), refl),
+    ),
+  );
 }
 
 abbrev pub said_toss : (name x y : List ℕ) → IsNumber x half → IsNumber y half → SaidSet 0
 said_toss name x y h k = said_lottery name x y half half h k
 
-pub choices : (player : ℕ) (labels : List (List ℕ)) → Each (IsAction (suc player)) (map Text labels) (map (λ label. record { label = label; probability = None }) labels)
+pub choices : (player : ℕ) (labels : List (List ℕ)) → Each (IsAction (suc player)) (map Text labels)
+    (map (λ label. record { label = label; probability = None }) labels)
 choices player [] = refl
 choices player (l ∷ ls) = (Text l ∷ [], map Text ls, refl, (refl, refl), choices player ls)
 
-abbrev pub said_choice : {player : ℕ} → (name : List ℕ) (labels : List (List ℕ)) → SaidSet (suc player)
-said_choice {player} name labels = record { tokens = Text name ∷ braced (map Text labels); set = Some (choice name labels); says = (map Text labels, refl, choices player labels) }
+abbrev pub said_choice : {player : ℕ} → (name : List ℕ) (labels : List (List ℕ))
+    → SaidSet (suc player)
+said_choice {player} name labels = record {
+  tokens = Text name ∷ braced (map Text labels);
+  set = Some (choice name labels);
+  says = (map Text labels, refl, choices player labels);
+}
 
 -- ---- outcomes and the tokens that say them
 
@@ -126,7 +165,9 @@ abbrev pub IsSmall : ℕ → Type 0
 IsSmall n = (nat_lt 0 n && nat_lt n 100) ≡ true
 
 pub numbered : (n : ℕ) → IsSmall n → IsPositive (decimal n) n
-numbered n h = let d = (Decides-and (nat_lt 0 n) (nat_lt n 100) (Decides-ltb 0 n) (Decides-ltb n 100)).0 h in (decimal_is_index n (omega (arith, d.1)), d.0)
+numbered n h =
+    let d = (Decides-and (nat_lt 0 n) (nat_lt n 100) (Decides-ltb 0 n) (Decides-ltb n 100)).0 h in
+    (decimal_is_index n (omega (arith, d.1)), d.0)
 
 pub record SaidResult (players : ℕ) : Type 0 where
   pub tokens : List Token
@@ -134,37 +175,93 @@ pub record SaidResult (players : ℕ) : Type 0 where
   pub says : IsResult players tokens outcome
 
 abbrev pub no_outcome : {players : ℕ} → SaidResult players
-no_outcome = record { tokens = Bare (decimal 0) ∷ []; outcome = None; says = (decimal 0, refl, decimal_is_index 0 (omega arith)) }
-
-abbrev pub again : {players : ℕ} → (n : ℕ) → IsSmall n → SaidResult players
-again n h = record { tokens = Bare (decimal n) ∷ []; outcome = Some (record { key = n; description = None }); says = (decimal n, [], refl, numbered n h, refl) }
-
--- one player is paid, as these bytes spell it
-abbrev pub one_paid : (n : ℕ) (name bytes : List ℕ) (r : Ratio) → IsSmall n → IsNumber bytes r → SaidResult 1
-one_paid n name bytes r h k = record {
-  tokens = Bare (decimal n) ∷ Text name ∷ braced (Bare bytes ∷ []);
-  outcome = Some (record { key = n; description = Some (record { name = name; payoffs = r ∷ [] }) });
-  says = (decimal n, Text name ∷ braced (Bare bytes ∷ []), refl, numbered n h, (Bare bytes ∷ [], refl, (Bare bytes ∷ [], [], refl, (bytes, [], refl, k, inl refl), refl), refl));
+no_outcome = record {
+  tokens = Bare (decimal 0) ∷ [];
+  outcome = None;
+  says = (decimal 0, refl, decimal_is_index 0 (omega arith));
 }
 
-whole_is : (n : ℕ) → n < 2 ^ 127 → IsNumber (decimal n) (whole (pos n))
+abbrev pub again : {players : ℕ} → (n : ℕ) → IsSmall n → SaidResult players
+again n h = record {
+  tokens = Bare (decimal n) ∷ [];
+  outcome = Some (record { key = n; description = None });
+  says = (decimal n, [], refl, numbered n h, refl);
+}
+
+-- one player is paid, as these bytes spell it
+abbrev pub one_paid : (n : ℕ) (name bytes : List ℕ) (r : Ratio) → IsSmall n → IsNumber bytes r
+    → SaidResult 1
+one_paid n name bytes r h k = record {
+  tokens = Bare (decimal n) ∷ Text name ∷ braced (Bare bytes ∷ []);
+  outcome =
+      Some (record { key = n; description = Some (record { name = name; payoffs = r ∷ [] }) });
+  says = (
+    decimal n,
+    Text name ∷ braced (Bare bytes ∷ []),
+    refl,
+    numbered n h,
+    (
+      Bare bytes ∷ [],
+      refl,
+      (Bare bytes ∷ [], [], refl, (bytes, [], refl, k, inl refl), refl),
+      refl,
+    ),
+  );
+}
+
+-- and so with a comma behind the number
+abbrev pub one_paid_with_comma : (n : ℕ) (name bytes : List ℕ) (r : Ratio)
+    → IsSmall n → IsNumber bytes r → SaidResult 1
+one_paid_with_comma n name bytes r h k = record {
+  tokens = Bare (decimal n) ∷ Text name ∷ braced (Bare bytes ∷ Comma ∷ []);
+  outcome =
+      Some (record { key = n; description = Some (record { name = name; payoffs = r ∷ [] }) });
+  says = (
+    decimal n,
+    Text name ∷ braced (Bare bytes ∷ Comma ∷ []),
+    refl,
+    numbered n h,
+    (
+      Bare bytes ∷ Comma ∷ [],
+      refl,
+      (Bare bytes ∷ Comma ∷ [], [], refl, (bytes, Comma ∷ [], refl, k, inr refl), refl),
+      refl,
+    ),
+  );
+}
+
+pub whole_is : (n : ℕ) → n < 2 ^ 127 → IsNumber (decimal n) (whole (pos n))
 unfolding digits number_text
 whole_is n h = whole_spelled n h
 
-pub two_are_paid : (name : List ℕ) (x y : ℕ) → x < 2 ^ 127 → y < 2 ^ 127 → IsOutcomeDescription 2 (Text name ∷ braced (Bare (decimal x) ∷ Bare (decimal y) ∷ [])) (two_paid name x y)
+pub two_are_paid : (name : List ℕ) (x y : ℕ) → x < 2 ^ 127 → y < 2 ^ 127 → IsOutcomeDescription 2
+    (Text name ∷ braced (Bare (decimal x) ∷ Bare (decimal y) ∷ [])) (paying_two name x y)
 two_are_paid name x y h k = (
   Bare (decimal x) ∷ Bare (decimal y) ∷ [],
   refl,
-  (Bare (decimal x) ∷ [], Bare (decimal y) ∷ [], refl, (decimal x, [], refl, whole_is x h, inl refl), (Bare (decimal y) ∷ [], [], refl, (decimal y, [], refl, whole_is y k, inl refl), refl)),
+  (
+    Bare (decimal x) ∷ [],
+    Bare (decimal y) ∷ [],
+    refl,
+    (decimal x, [], refl, whole_is x h, inl refl),
+    (Bare (decimal y) ∷ [], [], refl, (decimal y, [], refl, whole_is y k, inl refl), refl),
+  ),
   refl,
 )
 
 -- whole payoffs for two players
-abbrev pub both_paid : (n : ℕ) (name : List ℕ) (x y : ℕ) → IsSmall n → x < 2 ^ 127 → y < 2 ^ 127 → SaidResult 2
+abbrev pub both_paid : (n : ℕ) (name : List ℕ) (x y : ℕ) → IsSmall n → x < 2 ^ 127 → y < 2 ^ 127
+    → SaidResult 2
 both_paid n name x y h k l = record {
   tokens = Bare (decimal n) ∷ Text name ∷ braced (Bare (decimal x) ∷ Bare (decimal y) ∷ []);
-  outcome = Some (record { key = n; description = Some (two_paid name x y) });
-  says = (decimal n, Text name ∷ braced (Bare (decimal x) ∷ Bare (decimal y) ∷ []), refl, numbered n h, two_are_paid name x y k l);
+  outcome = Some (record { key = n; description = Some (paying_two name x y) });
+  says = (
+    decimal n,
+    Text name ∷ braced (Bare (decimal x) ∷ Bare (decimal y) ∷ []),
+    refl,
+    numbered n h,
+    two_are_paid name x y k l,
+  );
 }
 
 -- ---- nodes without names and the tokens that say them
@@ -174,50 +271,83 @@ pub record SaidNode (players : ℕ) : Type 0 where
   pub node : FileNode
   pub says : IsNode players tokens node
 
-abbrev pub said_node : {players : ℕ} → (letter : List ℕ) (step : List Token) (set : Option (Use SetKey InformationSet)) → IsStep letter step set → SaidResult players → SaidNode players
+abbrev pub said_node : {players : ℕ}
+    → (letter : List ℕ) (step : List Token) (set : Option (Use SetKey InformationSet))
+    → IsStep letter step set → SaidResult players → SaidNode players
 said_node letter step set h result = record {
   tokens = Bare letter ∷ Text [] ∷ (step ++ result.tokens);
   node = record { name = []; set = set; outcome = result.outcome };
-  says = record { letter = letter; step = step; result = result.tokens; parts = refl; is_step = h; is_result = result.says };
+  says = record {
+    letter = letter;
+    step = step;
+    result = result.tokens;
+    parts = refl;
+    is_step = h;
+    is_result = result.says;
+  };
 }
 
 abbrev pub at_end : {players : ℕ} → SaidResult players → SaidNode players
 at_end result = said_node (codes "t") [] None (refl, refl) result
 
-abbrev pub at_chance : {players : ℕ} → (n : ℕ) → IsSmall n → SaidSet 0 → SaidResult players → SaidNode players
+abbrev pub at_chance : {players : ℕ} → (n : ℕ) → IsSmall n → SaidSet 0 → SaidResult players
+    → SaidNode players
 at_chance n h set result =
-    said_node (codes "c") (Bare (decimal n) ∷ set.tokens) (Some (record { key = set_of 0 n; description = set.set })) ([], decimal n, set.tokens, refl, (refl, refl), numbered n h, set.says) result
+    said_node (codes "c") (Bare (decimal n) ∷ set.tokens)
+    (Some (record { key = set_of 0 n; description = set.set }))
+    ([], decimal n, set.tokens, refl, (refl, refl), numbered n h, set.says) result
 
-pub player_is : (player : ℕ) → IsSmall (suc player) → IsMover (codes "p") (Bare (decimal (suc player)) ∷ []) (suc player)
+pub player_is : (player : ℕ) → IsSmall (suc player)
+    → IsMover (codes "p") (Bare (decimal (suc player)) ∷ []) (suc player)
 player_is player h = (decimal (suc player), refl, refl, (numbered (suc player) h).0)
 
 -- the player's number less one, and the set's
-abbrev pub at_player : {players : ℕ} → (player n : ℕ) → IsSmall (suc player) → IsSmall n → SaidSet (suc player) → SaidResult players → SaidNode players
+abbrev pub at_player : {players : ℕ} → (player n : ℕ) → IsSmall (suc player) → IsSmall n
+    → SaidSet (suc player) → SaidResult players → SaidNode players
 at_player player n h k set result =
-    said_node (codes "p") (Bare (decimal (suc player)) ∷ Bare (decimal n) ∷ set.tokens) (Some (record { key = set_of (suc player) n; description = set.set }))
-    (Bare (decimal (suc player)) ∷ [], decimal n, set.tokens, refl, player_is player h, numbered n k, set.says) result
+    said_node (codes "p") (Bare (decimal (suc player)) ∷ Bare (decimal n) ∷ set.tokens)
+    (Some (record { key = set_of (suc player) n; description = set.set })) (
+      Bare (decimal (suc player)) ∷ [],
+      decimal n,
+      set.tokens,
+      refl,
+      player_is player h,
+      numbered n k,
+      set.says,
+    ) result
 
 -- ---- files without a comment
 
 abbrev pub said_tokens : {players : ℕ} → List (SaidNode players) → List Token
 said_tokens said = flat_map (λ s. s.tokens) said
 
-abbrev pub file_tokens : List ℕ → (players : List (List ℕ)) → List (SaidNode (length players)) → List Token
-file_tokens title players said = Bare (codes "EFG") ∷ Bare (codes "2") ∷ Bare (codes "R") ∷ Text title ∷ (braced (map Text players) ++ said_tokens said)
+abbrev pub file_tokens : List ℕ → (players : List (List ℕ)) → List (SaidNode (length players))
+    → List Token
+file_tokens title players said = Bare (codes "EFG") ∷ Bare (codes "2") ∷ Bare (codes "R")
+    ∷ Text title ∷ (braced (map Text players) ++ said_tokens said)
 
 -- the nodes in prefix order, with their numbers of children
 abbrev pub entries : {players : ℕ} → List (SaidNode players) → List ℕ → List (Entry FileNode)
 entries (s ∷ said) (n ∷ counts) = record { node = s.node; children = n } ∷ entries said counts
 entries _ _ = []
 
-abbrev pub file_of : List ℕ → (players : List (List ℕ)) → List (SaidNode (length players)) → List ℕ → FileTree
-file_of title players said counts = record { title = title; comment = []; players = players; tree = root (record { name = []; set = None; outcome = None }) (grow (entries said counts)) }
+abbrev pub file_of : List ℕ → (players : List (List ℕ)) → List (SaidNode (length players)) → List ℕ
+    → FileTree
+file_of title players said counts = record {
+  title = title;
+  comment = [];
+  players = players;
+  tree = root (record { name = []; set = None; outcome = None }) (grow (entries said counts));
+}
 
-each_said : {players : ℕ} → (said : List (SaidNode players)) → Each (IsNode players) (said_tokens said) (map (λ s. s.node) said)
+pub each_said : {players : ℕ} → (said : List (SaidNode players))
+    → Each (IsNode players) (said_tokens said) (map (λ s. s.node) said)
 each_said [] = refl
 each_said (s ∷ said) = (s.tokens, said_tokens said, refl, s.says, each_said said)
 
-pub is_said : (title : List ℕ) (players : List (List ℕ)) (said : List (SaidNode (length players))) (counts : List ℕ) → map (λ s. s.node) said ≡ map (λ e. e.node) (flatten (file_of title players said counts).tree)
+pub is_said : (title : List ℕ) (players : List (List ℕ))
+    (said : List (SaidNode (length players))) (counts : List ℕ)
+    → map (λ s. s.node) said ≡ map (λ e. e.node) (flatten (file_of title players said counts).tree)
     → Sentence (file_tokens title players said) (file_of title players said counts)
 is_said title players said counts e = record {
   letter = codes "R";

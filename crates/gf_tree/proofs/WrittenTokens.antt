@@ -1,5 +1,6 @@
 -- Bytes that spell given tokens: one space stands behind each.
-use Rattle.std.proofs.Common.{◌≡◌, ℕ, ◌+◌, List, [], ◌∷◌, ◌++◌, length, map, refl, ap, append_assoc, arith}
+use Rattle.std.proofs.Common.{◌≡◌, ℕ, ◌+◌, List, [], ◌∷◌, ◌++◌, length}
+use Rattle.std.proofs.Common.{map, refl, ap, append_assoc, arith}
 use Rattle.std.specs.List.{AllByRecursion, flat_map}
 use Rattle.gf_token.specs.Token.{Token, Lexeme, lexeme, spelling}
 use Rattle.gf_token.specs.Token.Token.{Opening, Closing, Comma, Text, Bare, Broken}
@@ -38,7 +39,8 @@ goes_on (Text l) ls A h a = a
 goes_on (Bare b) ls A h a = a
 goes_on Broken ls A h a = absurd h
 
-pub spell : (tokens : List Token) (at : ℕ) → AllByRecursion IsWhole tokens → (lexemes : List Lexeme) × Spells at (bytes_of tokens) lexemes × (map (λ l. l.token) lexemes ≡ tokens)
+pub spell : (tokens : List Token) (at : ℕ) → AllByRecursion IsWhole tokens → (lexemes : List Lexeme)
+    × Spells at (bytes_of tokens) lexemes × (map (λ l. l.token) lexemes ≡ tokens)
 spell [] at h = ([], tt, refl)
 spell (t ∷ ts) at h =
     let end = at + length (spelling t) in

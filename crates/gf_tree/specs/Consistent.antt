@@ -7,7 +7,8 @@ use Rattle.gf_tree.specs.FileTree.{Use, FileNode, FileTree, set_uses, outcome_us
 
 -- a use describes its key so
 abbrev pub Describes : {K D : Type 0} → List (Use K D) → K → D → Type 0
-Describes uses key description = Contains uses (record { key = key; description = Some description })
+Describes uses key description =
+    Contains uses (record { key = key; description = Some description })
 
 -- behind these uses, this one is the first of its key
 abbrev pub IsFirstUse : {K D : Type 0} → List (Use K D) → Use K D → Type 0
@@ -25,12 +26,18 @@ pub record AreConsistent {K D : Type 0} (uses : List (Use K D)) : Type 0 where
 
 -- a terminal node has no children, and another as many as its set has actions
 abbrev pub HasChildrenAsDescribed : List (Use SetKey InformationSet) → Entry FileNode → Type 0
-HasChildrenAsDescribed uses e = MatchOption e.node.set (e.children ≡ 0) (λ u. (set : InformationSet) → Describes uses u.key set → length set.actions ≡ e.children)
+HasChildrenAsDescribed uses e = MatchOption e.node.set (e.children ≡ 0)
+    (λ u. (set : InformationSet) → Describes uses u.key set → length set.actions ≡ e.children)
 
--- the uses of sets are consistent and those of outcomes; each description is one of a set or an outcome among these players; and each node has its children
+-- the uses of sets are consistent and those of outcomes; each description is one of a set or an
+-- outcome among these players; and each node has its children
 pub record IsConsistent (f : FileTree) : Type 0 where
   pub sets : AreConsistent (set_uses (flatten f.tree))
   pub outcomes : AreConsistent (outcome_uses (flatten f.tree))
-  pub each_set : (key : SetKey) (set : InformationSet) → Describes (set_uses (flatten f.tree)) key set → IsSet (length f.players) key set
-  pub each_outcome : (number : ℕ) (outcome : Outcome) → Describes (outcome_uses (flatten f.tree)) number outcome → IsOutcome (length f.players) number outcome
-  pub children : AllByRecursion (HasChildrenAsDescribed (set_uses (flatten f.tree))) (flatten f.tree)
+  pub each_set : (key : SetKey) (set : InformationSet)
+      → Describes (set_uses (flatten f.tree)) key set → IsSet (length f.players) key set
+  pub each_outcome : (number : ℕ) (outcome : Outcome)
+      → Describes (outcome_uses (flatten f.tree)) number outcome
+      → IsOutcome (length f.players) number outcome
+  pub children : AllByRecursion (HasChildrenAsDescribed (set_uses (flatten f.tree)))
+      (flatten f.tree)

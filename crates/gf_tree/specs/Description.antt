@@ -1,5 +1,6 @@
 -- Information sets and outcomes: what describes them, and by which numbers a file names them.
-use Rattle.std.specs.Prelude.{◌≡◌, ℕ, zero, suc, pos, ◌≤ℤ◌, ◌<◌, ◌≤◌, ◌==◌, ◌&&◌, Bool, List, [], ◌∷◌, length, map, Option, Some, None}
+use Rattle.std.specs.Prelude.{◌≡◌, ℕ, zero, suc, pos, ◌≤ℤ◌, ◌<◌, ◌≤◌, ◌==◌, ◌&&◌}
+use Rattle.std.specs.Prelude.{Bool, List, [], ◌∷◌, length, map, Option, Some, None}
 use Rattle.std.specs.List.{AllByRecursion}
 use Rattle.gf_fraction.specs.Ratio.{Ratio, whole}
 use Rattle.gf_fraction.specs.Fits.{AddsTo}
@@ -29,21 +30,25 @@ set_of player number = record { player = player; number = number }
 abbrev pub same_set : SetKey → SetKey → Bool
 same_set a b = a.player == b.player && a.number == b.number
 
--- added to this sum in their order, probabilities have sums that fit, and the last sum is one; none is negative
+-- added to this sum in their order, probabilities have sums that fit, and the last sum is one; none
+-- is negative
 abbrev pub AddToOne : Ratio → List Ratio → Type 0
 AddToOne sum [] = sum ≡ whole (pos 1)
 AddToOne sum (p ∷ ps) = (pos 0 ≤ℤ p.num) × ((next : Ratio) × AddsTo sum p next × AddToOne next ps)
 
 -- each action has a probability, and they add to one
 abbrev pub IsLottery : List Action → Type 0
-IsLottery actions = (probabilities : List Ratio) × (map (λ a. a.probability) actions ≡ map Some probabilities) × AddToOne (whole (pos 0)) probabilities
+IsLottery actions =
+    (probabilities : List Ratio) × (map (λ a. a.probability) actions ≡ map Some probabilities)
+    × AddToOne (whole (pos 0)) probabilities
 
 -- the actions of this player, who is chance if he is player 0
 abbrev pub AreActions : ℕ → List Action → Type 0
 AreActions zero actions = IsLottery actions
 AreActions (suc player) actions = AllByRecursion (λ a. a.probability ≡ None) actions
 
--- among so many players: a set of one of them or of chance, its number from 1, and with at least one action
+-- among so many players: a set of one of them or of chance, its number from 1, and with at least
+-- one action
 pub record IsSet (players : ℕ) (key : SetKey) (set : InformationSet) : Type 0 where
   pub player : key.player ≤ players
   pub number : 0 < key.number

@@ -8,7 +8,8 @@ pub record Described (K D : Type 0) : Type 0 where
 
 -- the description of a key, where it has one
 abbrev pub description_at : {K D : Type 0} → (K → K → Bool) → List (Described K D) → K → Option D
-description_at same entries key = option_map (λ e. e.description) (find (λ e. same e.key key) entries)
+description_at same entries key =
+    option_map (λ e. e.description) (find (λ e. same e.key key) entries)
 
 -- each of these keys once, at the place of its first use
 abbrev pub first_uses : {K : Type 0} → (K → K → Bool) → List K → List K

@@ -9,7 +9,8 @@ use Rattle.gf_tree.specs.Renumbering.{Renumbering}
 -- the uses through the first one of this key
 abbrev pub through_first_use : {K : Type 0} → (K → K → Bool) → K → List K → List K
 through_first_use same key [] = []
-through_first_use same key (used ∷ uses) = used ∷ (if same used key then [] else through_first_use same key uses)
+through_first_use same key (used ∷ uses) =
+    used ∷ (if same used key then [] else through_first_use same key uses)
 
 -- how many different keys are used until then
 abbrev pub first_use_number : {K : Type 0} → (K → K → Bool) → List K → K → ℕ
@@ -22,7 +23,8 @@ sets_of player uses = filter (λ key. key.player == player) uses
 -- the number of each player's set, chance's too, among that player's sets, and that of each outcome
 abbrev pub first_use_numbers : Game → Renumbering
 first_use_numbers g = record {
-  set = λ player number. first_use_number same_set (sets_of player (used_sets g.tree)) (set_of player number);
+  set = λ player number.
+      first_use_number same_set (sets_of player (used_sets g.tree)) (set_of player number);
   outcome = λ number. first_use_number nat_eq (used_outcomes g.tree) number;
 }
 
@@ -34,5 +36,5 @@ abbrev pub player_keys : Game → ℕ → List SetKey
 player_keys g player = map (λ s. s.key) (player_sets g player)
 
 -- the numbers of the outcomes, in order of first use
-abbrev pub outcome_keys : Game → List ℕ
-outcome_keys g = map (λ o. o.key) g.outcomes
+abbrev pub outcome_numbers : Game → List ℕ
+outcome_numbers g = map (λ o. o.key) g.outcomes

@@ -1,5 +1,6 @@
 -- The game that an extensive file means.
-use Rattle.std.specs.Prelude.{◌≡◌, ℕ, nat_eq, List, length, map, Option, MatchOption, Some, option_map}
+use Rattle.std.specs.Prelude.{◌≡◌, ℕ, nat_eq, List, length, map}
+use Rattle.std.specs.Prelude.{Option, MatchOption, Some, option_map}
 use Rattle.std.specs.List.{AllByRecursion, filter_map}
 use Rattle.gf_tree.specs.Tree.{Tree}
 use Rattle.gf_tree.specs.PrefixOrder.{Entry, flatten}
@@ -12,7 +13,8 @@ pub record Node : Type 0 where
   pub set : Option SetKey
   pub outcome : Option ℕ
 
--- `sets` and `outcomes` are the finite maps from the keys in the tree to their descriptions. Their entries stand in order of first use, so that there is one list for each map.
+-- `sets` and `outcomes` are the finite maps from the keys in the tree to their descriptions. Their
+-- entries stand in order of first use, so that there is one list for each map.
 pub record Game : Type 0 where
   pub title : List ℕ
   pub comment : List ℕ
@@ -36,12 +38,16 @@ outcome_at g number = description_at nat_eq g.outcomes number
 
 -- a terminal node has no children, and another as many as its set has actions
 abbrev pub HasChildren : Game → Entry Node → Type 0
-HasChildren g e = MatchOption e.node.set (e.children ≡ 0) (λ key. option_map (λ set. length set.actions) (set_at g key) ≡ Some e.children)
+HasChildren g e = MatchOption e.node.set (e.children ≡ 0)
+    (λ key. option_map (λ set. length set.actions) (set_at g key) ≡ Some e.children)
 
--- each key in the tree has one entry, and no other has one; the entries describe sets and outcomes; and each node has its children. That a file can hold its labels and numbers, `IsSpellable` says.
+-- each key in the tree has one entry, and no other has one; the entries describe sets and outcomes;
+-- and each node has its children. That a file can hold its labels and numbers, `IsSpellable` says.
 pub record IsGame (g : Game) : Type 0 where
   pub one_entry_each_set : map (λ s. s.key) g.sets ≡ first_uses same_set (used_sets g.tree)
-  pub one_entry_each_outcome : map (λ o. o.key) g.outcomes ≡ first_uses nat_eq (used_outcomes g.tree)
+  pub one_entry_each_outcome : map (λ o. o.key) g.outcomes
+      ≡ first_uses nat_eq (used_outcomes g.tree)
   pub each_set : AllByRecursion (λ s. IsSet (length g.players) s.key s.description) g.sets
-  pub each_outcome : AllByRecursion (λ o. IsOutcome (length g.players) o.key o.description) g.outcomes
+  pub each_outcome : AllByRecursion (λ o. IsOutcome (length g.players) o.key o.description)
+      g.outcomes
   pub children : AllByRecursion (HasChildren g) (flatten g.tree)

@@ -14,7 +14,11 @@ use Rattle.gf_tree.specs.Game.{Node, Game, used_sets, used_outcomes}
 
 -- a node without the descriptions
 abbrev pub keys_alone : FileNode → Node
-keys_alone n = record { name = n.name; set = option_map (λ u. u.key) n.set; outcome = option_map (λ u. u.key) n.outcome }
+keys_alone n = record {
+  name = n.name;
+  set = option_map (λ u. u.key) n.set;
+  outcome = option_map (λ u. u.key) n.outcome;
+}
 
 -- title, comment and players are equal, and the tree is the same without the descriptions
 pub record KeepsTree (f : FileTree) (g : Game) : Type 0 where
@@ -29,7 +33,8 @@ pub record IsGameOf (f : FileTree) (g : Game) : Type 0 where
   pub set_keys : map (λ s. s.key) g.sets ≡ first_uses same_set (used_sets g.tree)
   pub outcome_keys : map (λ o. o.key) g.outcomes ≡ first_uses nat_eq (used_outcomes g.tree)
   pub sets : AllByRecursion (λ s. Describes (set_uses (flatten f.tree)) s.key s.description) g.sets
-  pub outcomes : AllByRecursion (λ o. Describes (outcome_uses (flatten f.tree)) o.key o.description) g.outcomes
+  pub outcomes : AllByRecursion (λ o. Describes (outcome_uses (flatten f.tree)) o.key o.description)
+      g.outcomes
 
 -- the tokens of an extensive file that means this game
 abbrev pub MeansGame : List Token → Game → Type 0
@@ -37,4 +42,5 @@ MeansGame tokens g = (f : FileTree) × Sentence tokens f × IsConsistent f × Is
 
 -- and its bytes
 abbrev pub SpellsGame : List ℕ → Game → Type 0
-SpellsGame bytes g = (lexemes : List Lexeme) × Spells 0 bytes lexemes × MeansGame (map (λ l. l.token) lexemes) g
+SpellsGame bytes g =
+    (lexemes : List Lexeme) × Spells 0 bytes lexemes × MeansGame (map (λ l. l.token) lexemes) g

@@ -1,5 +1,6 @@
 -- Descriptions learned use by use, in the order of a file.
-use Rattle.std.specs.Prelude.{◌≡◌, nat_eq, length, Bool, ◌⊎◌, List, [], ◌∷◌, ◌++◌, Some, None, MatchOption}
+use Rattle.std.specs.Prelude.{◌≡◌, nat_eq, length, Bool, ◌⊎◌, List}
+use Rattle.std.specs.Prelude.{[], ◌∷◌, ◌++◌, Some, None, MatchOption}
 use Rattle.std.specs.List.{AllByRecursion}
 use Rattle.gf_tree.specs.PrefixOrder.{flatten}
 use Rattle.gf_tree.specs.Description.{same_set, IsSet, IsOutcome}
@@ -8,11 +9,14 @@ use Rattle.gf_tree.specs.FileTree.{Use, FileTree, set_uses, outcome_uses}
 use Rattle.gf_tree.specs.Game.{Game, HasChildren}
 use Rattle.gf_tree.specs.GameOf.{KeepsTree}
 
--- From what is known already, the uses lead to what is known in the end. The use of a key that is not known describes it; another has no description, or the one that is known.
-abbrev pub Learns : {K D : Type 0} → (K → K → Bool) → List (Described K D) → List (Use K D) → List (Described K D) → Type 0
+-- From what is known already, the uses lead to what is known in the end. The use of a key that is
+-- not known describes it; another has no description, or the one that is known.
+abbrev pub Learns : {K D : Type 0}
+    → (K → K → Bool) → List (Described K D) → List (Use K D) → List (Described K D) → Type 0
 Learns same known [] end = end ≡ known
 Learns {K} {D} same known (u ∷ us) end = MatchOption (description_at same known u.key)
-    ((d : D) × (u.description ≡ Some d) × Learns same (known ++ record { key = u.key; description = d } ∷ []) us end)
+    ((d : D) × (u.description ≡ Some d)
+    × Learns same (known ++ record { key = u.key; description = d } ∷ []) us end)
     (λ d. ((u.description ≡ None) ⊎ (u.description ≡ Some d)) × Learns same known us end)
 
 -- the game of a file, whose descriptions are learned in this way and are those of sets and outcomes
@@ -21,5 +25,6 @@ pub record LearnsGame (f : FileTree) (g : Game) : Type 0 where
   pub sets : Learns same_set [] (set_uses (flatten f.tree)) g.sets
   pub outcomes : Learns nat_eq [] (outcome_uses (flatten f.tree)) g.outcomes
   pub each_set : AllByRecursion (λ s. IsSet (length g.players) s.key s.description) g.sets
-  pub each_outcome : AllByRecursion (λ o. IsOutcome (length g.players) o.key o.description) g.outcomes
+  pub each_outcome : AllByRecursion (λ o. IsOutcome (length g.players) o.key o.description)
+      g.outcomes
   pub children : AllByRecursion (HasChildren g) (flatten g.tree)

@@ -1,4 +1,5 @@
--- Trees as flat lists in prefix order: a node, then the subtrees of its children from the first to the last.
+-- Trees as flat lists in prefix order: a node, then the subtrees of its children from the first to
+-- the last.
 use Rattle.std.specs.Prelude.{ℕ, zero, suc, ◌+◌, List, [], ◌∷◌, ◌++◌}
 use Rattle.gf_tree.specs.Tree.{Tree, Trees, count}
 use Rattle.gf_tree.specs.Tree.Tree.{branch}

@@ -1,5 +1,6 @@
 -- Which lists of tokens are extensive files, and what each of them says.
-use Rattle.std.specs.Prelude.{◌≡◌, ℕ, zero, suc, ◌⊎◌, ◌<◌, List, [], ◌∷◌, ◌++◌, length, map, codes, Option, Some, None}
+use Rattle.std.specs.Prelude.{◌≡◌, ℕ, zero, suc, ◌⊎◌, ◌<◌, List, [], ◌∷◌}
+use Rattle.std.specs.Prelude.{◌++◌, length, map, codes, Option, Some, None}
 use Rattle.gf_token.specs.Token.{Token}
 use Rattle.gf_token.specs.Token.Token.{Text, Bare}
 use Rattle.gf_token.specs.Index.{IsIndex}
@@ -21,35 +22,43 @@ IsDescription P tokens (Some d) = P tokens d
 
 -- Text number, where chance moves, and Text, where a player does
 abbrev pub IsAction : ℕ → List Token → Action → Type 0
-IsAction zero tokens a = (bytes : List ℕ) × (p : Ratio) × (tokens ≡ Text a.label ∷ Bare bytes ∷ []) × IsNumber bytes p × (a.probability ≡ Some p)
+IsAction zero tokens a = (bytes : List ℕ) × (p : Ratio) × (tokens ≡ Text a.label ∷ Bare bytes ∷ [])
+    × IsNumber bytes p × (a.probability ≡ Some p)
 IsAction (suc player) tokens a = (tokens ≡ Text a.label ∷ []) × (a.probability ≡ None)
 
 -- Text Opening action* Closing
 abbrev pub IsInformationSet : ℕ → List Token → InformationSet → Type 0
-IsInformationSet player tokens set = (inner : List Token) × (tokens ≡ Text set.name ∷ braced inner) × Each (IsAction player) inner set.actions
+IsInformationSet player tokens set = (inner : List Token) × (tokens ≡ Text set.name ∷ braced inner)
+    × Each (IsAction player) inner set.actions
 
 -- chance moves at `c`, and another player at `p`, which has his number behind the node's name
 abbrev pub IsMover : List ℕ → List Token → ℕ → Type 0
 IsMover letter tokens zero = (letter ≡ codes "c") × (tokens ≡ [])
-IsMover letter tokens (suc player) = (bytes : List ℕ) × (letter ≡ codes "p") × (tokens ≡ Bare bytes ∷ []) × IsIndex bytes (suc player)
+IsMover letter tokens (suc player) = (bytes : List ℕ) × (letter ≡ codes "p")
+    × (tokens ≡ Bare bytes ∷ []) × IsIndex bytes (suc player)
 
 -- nothing at `t`; else the player, and the number and the description of his set
 abbrev pub IsStep : List ℕ → List Token → Option (Use SetKey InformationSet) → Type 0
 IsStep letter tokens None = (letter ≡ codes "t") × (tokens ≡ [])
 IsStep letter tokens (Some u) =
-    (player : List Token) × (number : List ℕ) × (description : List Token) × (tokens ≡ player ++ Bare number ∷ description)
-    × IsMover letter player u.key.player × IsPositive number u.key.number × IsDescription (IsInformationSet u.key.player) description u.description
+    (player : List Token) × (number : List ℕ) × (description : List Token)
+    × (tokens ≡ player ++ Bare number ∷ description)
+    × IsMover letter player u.key.player × IsPositive number u.key.number
+    × IsDescription (IsInformationSet u.key.player) description u.description
 
 -- Text Opening payoffs Closing, a payoff for each player
 abbrev pub IsOutcomeDescription : ℕ → List Token → Outcome → Type 0
 IsOutcomeDescription players tokens outcome =
-    (inner : List Token) × (tokens ≡ Text outcome.name ∷ braced inner) × Each IsPayoffInBraces inner outcome.payoffs × (length outcome.payoffs ≡ players)
+    (inner : List Token) × (tokens ≡ Text outcome.name ∷ braced inner)
+    × Each IsPayoffInBraces inner outcome.payoffs × (length outcome.payoffs ≡ players)
 
 -- the number 0 alone; else the number and the description of the outcome
 abbrev pub IsResult : ℕ → List Token → Option (Use ℕ Outcome) → Type 0
 IsResult players tokens None = (bytes : List ℕ) × (tokens ≡ Bare bytes ∷ []) × IsIndex bytes 0
 IsResult players tokens (Some u) =
-    (number : List ℕ) × (description : List Token) × (tokens ≡ Bare number ∷ description) × IsPositive number u.key × IsDescription (IsOutcomeDescription players) description u.description
+    (number : List ℕ) × (description : List Token)
+    × (tokens ≡ Bare number ∷ description) × IsPositive number u.key
+    × IsDescription (IsOutcomeDescription players) description u.description
 
 -- letter Text step result
 pub record IsNode (players : ℕ) (tokens : List Token) (n : FileNode) : Type 0 where

@@ -12,16 +12,21 @@ ghost use Rattle.gf_tree.specs.FileTree.{Use, FileTree, set_uses, outcome_uses};
 ghost use Rattle.gf_tree.specs.Sentence.{Sentence};
 ghost use Rattle.gf_tree.specs.Consistent.{Describes, AreConsistent, IsConsistent};
 ghost use Rattle.gf_tree.specs.FiniteMap.{Described, first_uses};
-ghost use Rattle.gf_tree.specs.FirstUse.{first_use_numbers, outcome_keys, player_keys, sets_of};
+ghost use Rattle.gf_tree.specs.FirstUse.{first_use_numbers, outcome_numbers, player_keys, sets_of};
 ghost use Rattle.gf_tree.specs.Renumbering.{IsRenumbering, Renumbering, renumbered};
 ghost use Rattle.gf_tree.specs.Spellable.{IsSpellable};
 ghost use Rattle.gf_tree.specs.Learned.{Learns, LearnsGame};
-ghost use Rattle.gf_tree.specs.WorkedTrees.{five, five_file, bonus, bonus_file, forgetful, forgetful_file, undescribed_file, mismatched_file, unknown_player_file, too_likely_file};
+ghost use Rattle.gf_tree.specs.WorkedTrees.{five, five_file, bonus, bonus_file, forgetful};
+ghost use Rattle.gf_tree.specs.WorkedTrees.{forgetful_file, noted, noted_file, undescribed_file};
+ghost use Rattle.gf_tree.specs.WorkedTrees.{mismatched_file, unknown_player_file, too_likely_file};
+ghost use Rattle.gf_tree.specs.WorkedTrees.{unlikely_file, negative_file, unfitting_file};
+ghost use Rattle.gf_tree.specs.WorkedTrees.{other_action_file, fewer_actions_file};
+ghost use Rattle.gf_tree.specs.WorkedTrees.{more_actions_file, unpaid_file, nobody_file};
 ghost use Rattle.gf_tree.specs.Game.{Game, IsGame, used_sets, used_outcomes};
 ghost use Rattle.gf_tree.specs.GameOf.{IsGameOf, MeansGame, SpellsGame};
 
-/// A tree and its flat list in prefix order stand for each other: the lists that fill one place are those of trees,
-/// no two trees have one list, and from its list a tree grows again.
+/// A tree and its flat list in prefix order stand for each other: the lists that fill one place are
+/// those of trees, no two trees have one list, and from its list a tree grows again.
 pub fn one_tree_each<N>()
     ensures of_lists { (es : List (Entry N)) → Fills 1 es → (t : Tree N) × (flatten t ≡ es) }
     ensures of_trees { (t : Tree N) → Fills 1 (flatten t) }
@@ -31,69 +36,96 @@ pub fn one_tree_each<N>()
 
 /// Tokens say one consistent file tree at most, and so they mean one game at most, and so do bytes.
 pub fn means_one_game()
-    ensures of_trees { (tokens : List Token) (f g : FileTree) → Sentence tokens f → IsConsistent f → Sentence tokens g → IsConsistent g → f ≡ g }
-    ensures of_tokens { (tokens : List Token) (g h : Game) → MeansGame tokens g → MeansGame tokens h → g ≡ h }
-    ensures of_bytes { (bytes : List ℕ) (g h : Game) → SpellsGame bytes g → SpellsGame bytes h → g ≡ h }
+    ensures of_trees { (tokens : List Token) (f g : FileTree)
+        → Sentence tokens f → IsConsistent f → Sentence tokens g → IsConsistent g → f ≡ g }
+    ensures of_tokens { (tokens : List Token) (g h : Game) → MeansGame tokens g → MeansGame tokens h
+        → g ≡ h }
+    ensures of_bytes { (bytes : List ℕ) (g h : Game) → SpellsGame bytes g → SpellsGame bytes h
+        → g ≡ h }
 {}
 
 /// A consistent file tree has one game, and the games are those that some consistent file tree has.
 pub fn one_game_each()
-    ensures of_trees { (f : FileTree) → IsConsistent f → (g : Game) × IsGameOf f g × ((h : Game) → IsGameOf f h → h ≡ g) }
+    ensures of_trees { (f : FileTree) → IsConsistent f
+        → (g : Game) × IsGameOf f g × ((h : Game) → IsGameOf f h → h ≡ g) }
     ensures are_games { (g : Game) → IsGame g ↔ ((f : FileTree) × IsConsistent f × IsGameOf f g) }
 {}
 
-/// Files mean the games with labels that can be spelled, with fractions and with numbers that are indices, all of them
-/// and no others.
+/// Files mean the games with labels that can be spelled, with fractions and with numbers that are
+/// indices, all of them and no others.
 pub fn games_of_files()
     ensures { (g : Game) → ((bytes : List ℕ) × SpellsGame bytes g) ↔ (IsGame g × IsSpellable g) }
 {}
 
 /// The keys in a game's tree are those that the file tree uses, in the same order.
 pub fn keys_in_order()
-    ensures of_sets { (f : FileTree) (g : Game) → IsGameOf f g → used_sets g.tree ≡ map (λ u. u.key) (set_uses (flatten f.tree)) }
-    ensures of_outcomes { (f : FileTree) (g : Game) → IsGameOf f g → used_outcomes g.tree ≡ map (λ u. u.key) (outcome_uses (flatten f.tree)) }
+    ensures of_sets { (f : FileTree) (g : Game) → IsGameOf f g
+        → used_sets g.tree ≡ map (λ u. u.key) (set_uses (flatten f.tree)) }
+    ensures of_outcomes { (f : FileTree) (g : Game) → IsGameOf f g
+        → used_outcomes g.tree ≡ map (λ u. u.key) (outcome_uses (flatten f.tree)) }
 {}
 
 /// A game has each player's sets, and its outcomes, in the order of their first use.
 pub fn keys_by_first_use()
     ensures sets { (g : Game) (player : ℕ) → IsGame g
         → player_keys g player ≡ first_uses same_set (sets_of player (used_sets g.tree)) }
-    ensures outcomes { (g : Game) → IsGame g → outcome_keys g ≡ first_uses nat_eq (used_outcomes g.tree) }
+    ensures outcomes { (g : Game) → IsGame g
+        → outcome_numbers g ≡ first_uses nat_eq (used_outcomes g.tree) }
 {}
 
-/// A game by its new numbers is a game, and first-use numbers are new numbers of its sets and outcomes.
+/// A game by its new numbers is a game, and first-use numbers are new numbers of its sets and
+/// outcomes.
 pub fn new_numbers()
-    ensures is_game { (g : Game) (r : Renumbering) → IsGame g → IsRenumbering g r → IsGame (renumbered r g) }
+    ensures is_game { (g : Game) (r : Renumbering) → IsGame g → IsRenumbering g r
+        → IsGame (renumbered r g) }
     ensures first_use { (g : Game) → IsRenumbering g (first_use_numbers g) }
 {}
 
-/// Uses are consistent exactly if their descriptions can be learned one use after another, each judged once against
-/// what is known by then; and what is known in the end is the finite map from the keys, in order of first use, to
-/// their descriptions.
+/// Uses are consistent exactly if their descriptions can be learned one use after another, each
+/// judged once against what is known by then; and what is known in the end is the finite map from
+/// the keys, in order of first use, to their descriptions.
 pub fn learned_once<K, D>()
-    ensures { (same : K → K → Bool) → ((a b : K) → Decides (same a b) (a ≡ b)) → (uses : List (Use K D)) (end : List (Described K D)) → Learns same [] uses end ↔ (AreConsistent uses × (map (λ s. s.key) end ≡ first_uses same (map (λ u. u.key) uses)) × AllByRecursion (λ s. Describes uses s.key s.description) end) }
+    ensures { (same : K → K → Bool) → ((a b : K) → Decides (same a b) (a ≡ b))
+        → (uses : List (Use K D)) (end : List (Described K D)) → Learns same [] uses end
+        ↔ (AreConsistent uses × (map (λ s. s.key) end ≡ first_uses same (map (λ u. u.key) uses))
+        × AllByRecursion (λ s. Describes uses s.key s.description) end) }
 {}
 
-/// A game that is learned in the order of its file is the game of a consistent file tree, and each such game can be
-/// learned so.
+/// A game that is learned in the order of its file is the game of a consistent file tree, and each
+/// such game can be learned so.
 pub fn game_learned_once()
     ensures { (f : FileTree) (g : Game) → LearnsGame f g ↔ (IsConsistent f × IsGameOf f g) }
 {}
 
-/// Worked games and files that mean them: a set of chance met twice on a path with its description in two spellings,
-/// and an outcome used twice; an outcome at an inner node; and a player who forgets what he chose.
+/// Worked games and files that mean them: a set of chance met twice on a path with its description
+/// in two spellings, and an outcome used twice; an outcome at an inner node; a player who forgets
+/// what he chose; and a comment, the letter `D`, a comma behind the last payoff, and an outcome
+/// described twice.
 pub fn worked_games()
     ensures five { SpellsGame five_file five }
-    ensures five_uses { (used_sets five.tree ≡ set_of 0 9 ∷ set_of 1 7 ∷ set_of 0 9 ∷ set_of 1 3 ∷ []) × (used_outcomes five.tree ≡ 4 ∷ 4 ∷ []) }
+    ensures five_uses { (used_sets five.tree
+        ≡ set_of 0 9 ∷ set_of 1 7 ∷ set_of 0 9 ∷ set_of 1 3 ∷ [])
+        × (used_outcomes five.tree ≡ 4 ∷ 4 ∷ []) }
     ensures bonus { SpellsGame bonus_file bonus }
     ensures forgetful { SpellsGame forgetful_file forgetful }
+    ensures noted { SpellsGame noted_file noted }
 {}
 
-/// Worked files that mean no game: a first use without a description, a description that differs from the first, a
-/// player whom there is not, and probabilities that add to more than one.
+/// Worked files that mean no game: a first use without a description, of a set and of an outcome; a
+/// description that differs from the first, by another action, by fewer and by more; a player whom
+/// there is not, among some and none; and probabilities that add to more than one or less, one
+/// below zero, and two whose sum does not fit.
 pub fn worked_refusals()
     ensures undescribed { (g : Game) → ¬ (SpellsGame undescribed_file g) }
     ensures mismatched { (g : Game) → ¬ (SpellsGame mismatched_file g) }
     ensures unknown_player { (g : Game) → ¬ (SpellsGame unknown_player_file g) }
     ensures too_likely { (g : Game) → ¬ (SpellsGame too_likely_file g) }
+    ensures unlikely { (g : Game) → ¬ (SpellsGame unlikely_file g) }
+    ensures negative { (g : Game) → ¬ (SpellsGame negative_file g) }
+    ensures unfitting { (g : Game) → ¬ (SpellsGame unfitting_file g) }
+    ensures other_action { (g : Game) → ¬ (SpellsGame other_action_file g) }
+    ensures fewer_actions { (g : Game) → ¬ (SpellsGame fewer_actions_file g) }
+    ensures more_actions { (g : Game) → ¬ (SpellsGame more_actions_file g) }
+    ensures unpaid { (g : Game) → ¬ (SpellsGame unpaid_file g) }
+    ensures nobody { (g : Game) → ¬ (SpellsGame nobody_file g) }
 {}

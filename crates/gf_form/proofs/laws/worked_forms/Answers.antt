@@ -1,4 +1,7 @@
-use Rattle.gf_form.proofs.Worked.{plays_of_bonus, form_of_bonus, greatest_payoff, no_value, unlikely_payoff, no_value_either, form_of_ending, reduced_of_ending, both_strategies, contradicted_strategies}
+use Rattle.gf_form.proofs.Worked.{plays_of_bonus, form_of_bonus, greatest_payoff, no_value}
+use Rattle.gf_form.proofs.Worked.{unlikely_payoff, no_value_either, balanced_payoff}
+use Rattle.gf_form.proofs.Worked.{no_balanced_value, form_of_ending, reduced_of_ending}
+use Rattle.gf_form.proofs.Worked.{both_strategies, contradicted_strategies}
 use Rattle.gf_form.proofs.WorkedGames.{worked_games}
 use Rattle.gf_form.proofs.laws.worked_forms.Goals as goal
 
@@ -34,3 +37,9 @@ returns-clause-overflows_at_zero c = no_value_either
 
 pub returns-clause-games : goal.returns-clause-games
 returns-clause-games c = worked_games
+
+pub returns-clause-fits_at_last : goal.returns-clause-fits_at_last
+returns-clause-fits_at_last c = balanced_payoff
+
+pub returns-clause-overflows_before : goal.returns-clause-overflows_before
+returns-clause-overflows_before c = no_balanced_value

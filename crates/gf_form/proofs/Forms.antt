@@ -1,0 +1,178 @@
+-- Forms of a game: there is one at most, and one exists where there are payoffs at each profile.
+use Rattle.std.proofs.Common.{◌≡◌, ℕ, List, [], ◌∷◌, length, map}
+use Rattle.std.proofs.Common.{refl, sym, ap, ◌∙◌, subst, inl, inr}
+use Rattle.std.specs.Prelude.{◌↔◌}
+use Rattle.std.specs.List.{AllByRecursion, AllZip}
+use Rattle.std.proofs.lemmas.List.{length-map}
+use Rattle.gf_fraction.specs.Ratio.{Ratio, IsFraction}
+use Rattle.gf_fraction.specs.Rational.{IsEqual}
+use Rattle.gf_fraction.proofs.LowestTerms.{one_fraction}
+use Rattle.gf_nfg.specs.Profiles.{profiles}
+use Rattle.gf_nfg.specs.Table.{Entry, Table}
+use Rattle.gf_tree.specs.Description.{SetKey}
+use Rattle.gf_tree.specs.Game.{Game}
+use Rattle.gf_tree.proofs.Members.{map_same, map_twice}
+use Rattle.gf_tree.proofs.Uses.{Has, contains, has, each, mapped_from}
+use Rattle.gf_form.specs.Payoff.{payoff}
+use Rattle.gf_form.specs.StrategicForm.{ArePayoffsAt, IsFormBy, IsStrategicForm}
+use Rattle.gf_form.specs.StrategicForm.{PaysFraction, PaysFractions, strategy_labels}
+use Rattle.gf_form.specs.Strategies.{choices_by, full_profiles, players_of}
+use Rattle.gf_form.specs.Strategies.{strategies, strategies_at, strategy_label}
+
+-- ---- forms by any labels
+
+-- the profiles of a form by these labels
+abbrev pub form_profiles : (ℕ → List (List ℕ)) → Game → List (List ℕ)
+form_profiles labels g = profiles (map length (map labels (players_of g)))
+
+same_entries : (R : List ℕ → List Ratio → Type 0) (es fs : List Entry)
+    → map (λ e. e.profile) es ≡ map (λ e. e.profile) fs
+    → ((profile : List ℕ) → Has (map (λ e. e.profile) es) profile → (a b : List Ratio) → R profile a
+    → R profile b → a ≡ b)
+    → AllByRecursion (λ e. R e.profile e.payoffs) es
+    → AllByRecursion (λ e. R e.profile e.payoffs) fs → es ≡ fs
+same_entries R [] [] q one h k = refl
+same_entries R [] (f ∷ fs) q one h k = absurd cc
+same_entries R (e ∷ es) [] q one h k = absurd cc
+same_entries R (e ∷ es) (f ∷ fs) q one h k =
+    let profile : e.profile ≡ f.profile = cc in
+    let rest : map (λ e. e.profile) es ≡ map (λ e. e.profile) fs = cc in
+    let payoffs = one e.profile (inl refl) e.payoffs f.payoffs h.0
+    (subst (λ p. R p f.payoffs) (sym profile) k.0) in
+    let others = same_entries R es fs rest (λ p i. one p (inr i)) h.1 k.1 in
+    λ i. record { profile = profile i; payoffs = payoffs i } ∷ others i
+
+-- where at most one row of payoffs is right at each profile, there is one form at most
+pub one_form_by : (labels : ℕ → List (List ℕ)) (R : List ℕ → List Ratio → Type 0) (g : Game)
+    → ((profile : List ℕ)
+    → Has (form_profiles labels g) profile → (a b : List Ratio) → R profile a → R profile b → a ≡ b)
+    → (t u : Table) → IsFormBy labels R g t → IsFormBy labels R g u → t ≡ u
+one_form_by labels R g one t u h k =
+    let strategies = h.strategies ∙ sym k.strategies in
+    let listed : map (λ e. e.profile) t.entries ≡ form_profiles labels g =
+    h.profiles ∙ ap (λ s. profiles (map length s)) h.strategies in
+    let entries =
+    same_entries R t.entries u.entries
+    (h.profiles ∙ ap (λ s. profiles (map length s)) strategies ∙ sym k.profiles)
+    (λ p i. one p (subst (λ ps. Has ps p) listed i)) h.payoffs k.payoffs in
+    λ i. record {
+      title = (h.title ∙ sym k.title) i;
+      comment = (h.comment ∙ sym k.comment) i;
+      players = (h.players ∙ sym k.players) i;
+      strategies = strategies i;
+      entries = entries i;
+    }
+
+some_entries : (R : List ℕ → List Ratio → Type 0) (ps : List (List ℕ))
+    → ((p : List ℕ) → Has ps p → (row : List Ratio) × R p row)
+    → (es : List Entry) × (map (λ e. e.profile) es ≡ ps)
+    × AllByRecursion (λ e. R e.profile e.payoffs) es
+some_entries R [] rows = ([], refl, tt)
+some_entries R (p ∷ ps) rows =
+    let row = rows p (inl refl) in
+    let others = some_entries R ps (λ q i. rows q (inr i)) in (
+      record { profile = p; payoffs = row.0 } ∷ others.0,
+      ap (λ qs. p ∷ qs) others.1,
+      (row.1, others.2),
+    )
+
+-- a form exists exactly where there are right payoffs at each profile
+pub some_form_by : (labels : ℕ → List (List ℕ)) (R : List ℕ → List Ratio → Type 0) (g : Game)
+    → ((p : List ℕ) → Has (form_profiles labels g) p → (row : List Ratio) × R p row)
+    → (t : Table) × IsFormBy labels R g t
+some_form_by labels R g rows =
+    let es = some_entries R (form_profiles labels g) rows in (
+      record {
+        title = g.title;
+        comment = g.comment;
+        players = g.players;
+        strategies = map labels (players_of g);
+        entries = es.0;
+      },
+      record {
+        title = refl;
+        comment = refl;
+        players = refl;
+        strategies = refl;
+        profiles = es.1;
+        payoffs = es.2;
+      },
+    )
+
+pub rows_of_form : (labels : ℕ → List (List ℕ))
+    (R : List ℕ → List Ratio → Type 0) (g : Game) (t : Table)
+    → IsFormBy labels R g t
+    → (p : List ℕ) → Has (form_profiles labels g) p → (row : List Ratio) × R p row
+rows_of_form labels R g t form p i =
+    let listed : map (λ e. e.profile) t.entries ≡ form_profiles labels g =
+    form.profiles ∙ ap (λ s. profiles (map length s)) form.strategies in
+    let m =
+    mapped_from (λ (e : Entry). e.profile) t.entries p (subst (λ ps. Has ps p) (sym listed) i) in (
+      m.0.payoffs,
+      subst (λ q. R q m.0.payoffs) m.2
+          (each (λ (e : Entry). R e.profile e.payoffs) t.entries m.0 form.payoffs m.1),
+    )
+
+-- ---- rows of payoffs
+
+pub one_row : (g : Game) (choices : SetKey → ℕ) (row others : List Ratio) (players : List ℕ)
+    → AllZip (λ paid player. IsFraction paid × IsEqual paid (payoff g choices player)) row players
+    → AllZip (λ paid player. IsFraction paid × IsEqual paid (payoff g choices player))
+    others players
+    → row ≡ others
+one_row g choices [] [] [] h k = refl
+one_row g choices [] (b ∷ others) [] h k = absurd k
+one_row g choices (a ∷ row) others [] h k = absurd h
+one_row g choices [] others (player ∷ players) h k = absurd h
+one_row g choices (a ∷ row) [] (player ∷ players) h k = absurd k
+one_row g choices (a ∷ row) (b ∷ others) (player ∷ players) h k =
+    let sum = payoff g choices player in
+    let first : a ≡ b =
+    one_fraction a b sum.num sum.den h.0.0 k.0.0 h.0.1.right h.0.1.crosswise k.0.1.crosswise in
+    λ i. first i ∷ one_row g choices row others players h.1 k.1 i
+
+pub row_of : (g : Game) (choices : SetKey → ℕ) (players : List ℕ)
+    → AllByRecursion (PaysFraction g choices) players
+    → (row : List Ratio)
+    × AllZip (λ paid player. IsFraction paid × IsEqual paid (payoff g choices player)) row players
+row_of g choices [] h = ([], tt)
+row_of g choices (player ∷ players) h =
+    let others = row_of g choices players h.1 in (h.0.0 ∷ others.0, ((h.0.1, h.0.2), others.1))
+
+pub of_row : (g : Game) (choices : SetKey → ℕ) (row : List Ratio) (players : List ℕ)
+    → AllZip (λ paid player. IsFraction paid × IsEqual paid (payoff g choices player)) row players
+    → AllByRecursion (PaysFraction g choices) players
+of_row g choices [] [] h = tt
+of_row g choices (paid ∷ row) [] h = absurd h
+of_row g choices [] (player ∷ players) h = absurd h
+of_row g choices (paid ∷ row) (player ∷ players) h =
+    ((paid, h.0.0, h.0.1), of_row g choices row players h.1)
+
+-- ---- the strategic form
+
+pub one_strategic_form : (g : Game) (t u : Table) → IsStrategicForm g t → IsStrategicForm g u
+    → t ≡ u
+one_strategic_form g =
+    one_form_by (strategy_labels g) (ArePayoffsAt g) g
+    (λ profile i a b. one_row g (choices_by g (strategies_at g profile)) a b (players_of g))
+
+all_profiles : (g : Game) → form_profiles (strategy_labels g) g ≡ full_profiles g
+all_profiles g =
+    ap profiles
+    (map_twice length (strategy_labels g) (players_of g)
+    ∙ map_same (λ player. length (strategy_labels g player))
+    (λ player. length (strategies g player)) (players_of g)
+    (λ player i. length-map (strategies g player) strategy_label))
+
+pub strategic_form_exists : (g : Game) → ((t : Table) × IsStrategicForm g t) ↔ PaysFractions g
+strategic_form_exists g = (
+  λ form profile i.
+      let row =
+      rows_of_form (strategy_labels g) (ArePayoffsAt g) g form.0 form.1 profile
+      (subst (λ ps. Has ps profile) (sym (all_profiles g)) (has (full_profiles g) profile i)) in
+      of_row g (choices_by g (strategies_at g profile)) row.0 (players_of g) row.1,
+  λ pays. some_form_by (strategy_labels g) (ArePayoffsAt g) g (λ profile i.
+      row_of g (choices_by g (strategies_at g profile)) (players_of g)
+      (pays profile
+      (contains (full_profiles g) profile (subst (λ ps. Has ps profile) (all_profiles g) i)))),
+)

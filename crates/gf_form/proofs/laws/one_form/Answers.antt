@@ -1,0 +1,15 @@
+use Rattle.gf_form.proofs.Forms.{one_strategic_form, strategic_form_exists}
+use Rattle.gf_form.proofs.ReducedForms.{one_reduced_form, reduced_form_exists}
+use Rattle.gf_form.proofs.laws.one_form.Goals as goal
+
+pub returns-clause-strategic : goal.returns-clause-strategic
+returns-clause-strategic c = one_strategic_form
+
+pub returns-clause-reduced : goal.returns-clause-reduced
+returns-clause-reduced c = one_reduced_form
+
+pub returns-clause-strategic_exists : goal.returns-clause-strategic_exists
+returns-clause-strategic_exists c = strategic_form_exists
+
+pub returns-clause-reduced_exists : goal.returns-clause-reduced_exists
+returns-clause-reduced_exists c = reduced_form_exists
