@@ -20,6 +20,6 @@ pub record IsCanonicalText (bytes text : List ℕ) : Type 0 where
 
 -- the fault names the reason and the place of the refusal; and where memory suffices, the bytes
 -- spell no table
-pub record IsRefusal (bytes : List ℕ) (fault : Fault) : Type 0 where
+pub record IsRefusedWith (bytes : List ℕ) (fault : Fault) : Type 0 where
   pub judged : IsJudged fault.why bytes fault.span
   pub unless_memory : (t : Table) → SpellsWithin bytes t → fault.why ≡ Memory

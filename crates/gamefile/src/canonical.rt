@@ -1,7 +1,7 @@
 //! The canonical text of a game file.
 
 ghost use Rattle.std.specs.Prelude.{IfOk, IfErr};
-ghost use Rattle.gamefile.specs.CanonicalText.{IsCanonicalText, IsRefusal};
+ghost use Rattle.gamefile.specs.CanonicalText.{IsCanonicalText, IsRefusedWith};
 
 use gf_nfg::{read_nfg, write_nfg};
 use gf_token::Fault;
@@ -13,7 +13,7 @@ use std::alloc::Global;
 /// the end, as it is for the table: either way the bytes are a file within the limit.
 pub fn canonical(alloc: Global, input: Vec<u8>) -> Result<Vec<u8>, Fault>
     ensures text { IfOk result (λ text. IsCanonicalText input.items text.items) }
-    ensures refused { IfErr result (λ fault. IsRefusal input.items fault) }
+    ensures refused { IfErr result (λ fault. IsRefusedWith input.items fault) }
 {
     let end = input.len();
     let table = read_nfg(alloc, &input)?;

@@ -1,7 +1,7 @@
 //! What the program does: each run reads its inputs whole, makes its output, and writes it.
 
 ghost use Rattle.std.specs.Prelude.{◌≡◌, ◌≢◌, IfOk, IfErr, OnOk};
-ghost use Rattle.gamefile.specs.CanonicalText.{IsCanonicalText, IsRefusal};
+ghost use Rattle.gamefile.specs.CanonicalText.{IsCanonicalText, IsRefusedWith};
 ghost use Rattle.gamefile.specs.Input.{IsReadWhole};
 ghost use Rattle.gamefile.specs.Output.{IsWriteFault, IsWritten};
 ghost use Rattle.gamefile.specs.Run.{Answers, ReadsUntil};
@@ -35,7 +35,7 @@ pub fn run_canon<R: Source, W: Sink>(
         (IsWritten W.contents W.push_gives output.old output.new)) }
 
     ensures refused { IfErr result (λ fault. ReadsUntil
-        R.remaining R.count R.pull_gives IsRefusal Which.Only fault input.old input.new) }
+        R.remaining R.count R.pull_gives IsRefusedWith Which.Only fault input.old input.new) }
     ensures untouched { IfErr result (λ fault. fault ≢ RunFault.Write → output.new ≡ output.old) }
     ensures cut_off { result ≡ Err RunFault.Write → Answers IsCanonicalText
         (IsReadWhole R.remaining R.pull_gives input.old input.new)

@@ -14,7 +14,7 @@ use Rattle.gf_fraction.specs.Ratio.{Ratio, IsFraction, whole}
 use Rattle.gf_fraction.specs.NumberText.{number_text}
 use Rattle.gf_fraction.proofs.WholeNumbers.{whole_fraction, whole_spelled}
 use Rattle.gf_nfg.specs.Table.{IsTable, rows}
-use Rattle.gf_nfg.specs.Sentence.{IsCount, IsOutcome, Pays, IsOutcomeNumber, Sentence}
+use Rattle.gf_nfg.specs.Sentence.{IsCount, IsOutcomeInBraces, Pays, IsOutcomeNumber, Sentence}
 use Rattle.gf_nfg.specs.TableText.{table_text, SpellsTable}
 use Rattle.gf_nfg.specs.WorkedTables.{selten, selten_by_counts, selten_by_outcomes, selten_text, no_players, no_players_text}
 use Rattle.gf_nfg.specs.Profiles.{positions}
@@ -125,7 +125,7 @@ unfolding digits number_text
 in_braces n comma h c = (decimal n, comma, refl, whole_spelled n h, c)
 
 is_outcome : (name : List ℕ) (x y : ℕ) (comma comma' : List Token) → x < 2 ^ 127 → y < 2 ^ 127 → ((comma ≡ []) ⊎ (comma ≡ Comma ∷ [])) → ((comma' ≡ []) ⊎ (comma' ≡ Comma ∷ []))
-    → IsOutcome 2 (outcome name x comma y comma') (whole (pos x) ∷ whole (pos y) ∷ [])
+    → IsOutcomeInBraces 2 (outcome name x comma y comma') (whole (pos x) ∷ whole (pos y) ∷ [])
 is_outcome name x y comma comma' h k c d = (
   name,
   Bare (decimal x) ∷ comma ++ Bare (decimal y) ∷ comma',
@@ -134,7 +134,7 @@ is_outcome name x y comma comma' h k c d = (
   refl,
 )
 
-are_outcomes : Each (IsOutcome 2) outcomes (rows selten)
+are_outcomes : Each (IsOutcomeInBraces 2) outcomes (rows selten)
 are_outcomes = (
   outcome (codes "a") 1 (Comma ∷ []) 1 (Comma ∷ []),
   _,

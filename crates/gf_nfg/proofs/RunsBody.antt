@@ -7,7 +7,7 @@ use Rattle.gf_token.specs.Token.Token.{Opening, Closing, Text, Bare}
 use Rattle.gf_token.specs.Grammar.{Each, braced, IsComment}
 use Rattle.gf_fraction.specs.Ratio.{Ratio}
 use Rattle.gf_nfg.specs.declared.position.Position.TheVariants as p
-use Rattle.gf_nfg.specs.Sentence.{IsPayoff, IsOutcome}
+use Rattle.gf_nfg.specs.Sentence.{IsPayoff, IsOutcomeInBraces}
 use Rattle.gf_nfg.specs.Machine.{Content, at, run, with_comment, with_payoffs, with_choices}
 use Rattle.gf_nfg.proofs.MeaningLists.{joined}
 use Rattle.gf_nfg.proofs.RunsPayoffs.{flat_found, flat_again}
@@ -27,7 +27,7 @@ pub record OutcomeBody (ts : List Token) (c r : Content) : Type 0 where
   pub numbers : List Token
   pub outcomes : List (List Ratio)
   pub parts : ts ≡ braced list ++ numbers
-  pub each : Each (IsOutcome (length c.players)) list outcomes
+  pub each : Each (IsOutcomeInBraces (length c.players)) list outcomes
   pub choices : Choices numbers c.profiles (greatest (length outcomes)) (with_payoffs c (joined outcomes)) r
 
 abbrev pub Body : List Token → ℕ → Content → Content → Type 0
@@ -109,7 +109,7 @@ flat_body_again comment ts said from c numbers none (inr h) each count =
     ∙ flat_again numbers ts from 0 (with_comment c said) each
 
 numbered_again : (list numbers : List Token) (outcomes : List (List Ratio)) (choices : List ℕ) (due from : ℕ) (c : Content)
-    → Each (IsOutcome (length c.players)) list outcomes → Each IsChoice numbers choices → AllByRecursion (λ k. k ≤ greatest (length outcomes)) choices → length choices ≡ c.profiles
+    → Each (IsOutcomeInBraces (length c.players)) list outcomes → Each IsChoice numbers choices → AllByRecursion (λ k. k ≤ greatest (length outcomes)) choices → length choices ≡ c.profiles
     → run (at p.InOutcomes due from 0 c) ((list ++ Closing ∷ []) ++ numbers) ≡ Ok (with_choices (with_payoffs c (joined outcomes)) choices)
 numbered_again list numbers outcomes choices due from c listed each known count =
     ap (run (at p.InOutcomes due from 0 c)) (append_assoc list (Closing ∷ []) numbers)
@@ -118,7 +118,7 @@ numbered_again list numbers outcomes choices due from c listed each known count 
     ∙ choices_again choices numbers from (greatest (length outcomes)) (with_payoffs c (joined outcomes)) each known
 
 pub outcome_body_again : (comment list numbers : List Token) (outcomes : List (List Ratio)) (choices : List ℕ) (said : List ℕ) (from : ℕ) (c : Content) → c.comment ≡ [] → IsComment comment said
-    → Each (IsOutcome (length c.players)) list outcomes → Each IsChoice numbers choices → AllByRecursion (λ k. k ≤ greatest (length outcomes)) choices → length choices ≡ c.profiles
+    → Each (IsOutcomeInBraces (length c.players)) list outcomes → Each IsChoice numbers choices → AllByRecursion (λ k. k ≤ greatest (length outcomes)) choices → length choices ≡ c.profiles
     → run (ended from 0 c) (comment ++ (braced list ++ numbers)) ≡ Ok (with_choices (with_payoffs (with_comment c said) (joined outcomes)) choices)
 outcome_body_again comment list numbers outcomes choices said from c none (inl h) listed each known count =
     ap (λ (x : List Token). run (ended from 0 c) (x ++ (braced list ++ numbers))) h.0

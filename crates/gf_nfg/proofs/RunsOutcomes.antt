@@ -12,7 +12,7 @@ use Rattle.gf_token.specs.Grammar.{Each, braced, IsPayoffInBraces}
 use Rattle.gf_fraction.specs.Ratio.{Ratio}
 use Rattle.gf_nfg.specs.declared.position.Position.TheVariants as p
 use Rattle.gf_nfg.specs.Readings.{index_of}
-use Rattle.gf_nfg.specs.Sentence.{IsOutcome}
+use Rattle.gf_nfg.specs.Sentence.{IsOutcomeInBraces}
 use Rattle.gf_nfg.specs.Machine.{State, Content, at, run, chosen, with_payoffs, with_choices, next_outcome, ◌>>=◌}
 use Rattle.gf_nfg.proofs.ReadingIndices.{index_is, index_again}
 use Rattle.gf_nfg.proofs.MeaningLists.{joined}
@@ -34,7 +34,7 @@ pub record Outcomes (ts : List Token) (from before : ℕ) (c r : Content) : Type
   pub numbers : List Token
   pub outcomes : List (List Ratio)
   pub parts : ts ≡ list ++ Closing ∷ numbers
-  pub each : Each (IsOutcome (length c.players)) list outcomes
+  pub each : Each (IsOutcomeInBraces (length c.players)) list outcomes
   pub goes_on : run (at p.OutcomeNumbers c.profiles from (greatest (before + length outcomes)) (with_payoffs c (joined outcomes))) numbers ≡ Ok r
 
 -- a name, and where its payoffs begin
@@ -98,7 +98,7 @@ outcomes_in (suc steps) _ due from before c r less e = absurd cc
 pub outcomes_found : (ts : List Token) (due from : ℕ) (c r : Content) → run (at p.InOutcomes due from 0 c) ts ≡ Ok r → Outcomes ts from 0 c r
 outcomes_found ts due from c r e = outcomes_in (length ts + 1) ts due from 0 c r (omega arith) e
 
-outcomes_more : (outcomes : List (List Ratio)) (list rest : List Token) (due from before : ℕ) (c : Content) → Each (IsOutcome (length c.players)) list outcomes
+outcomes_more : (outcomes : List (List Ratio)) (list rest : List Token) (due from before : ℕ) (c : Content) → Each (IsOutcomeInBraces (length c.players)) list outcomes
     → run (at p.InOutcomes due from (greatest before) c) (list ++ Closing ∷ rest)
     ≡ run (at p.OutcomeNumbers c.profiles from (greatest (before + length outcomes)) (with_payoffs c (joined outcomes))) rest
 outcomes_more [] list rest due from before c h =
@@ -122,7 +122,7 @@ outcomes_more (payoffs ∷ outcomes) list rest due from before c h =
     ∙ ap (λ (k : ℕ). run (at p.OutcomeNumbers c.profiles from k (with_payoffs (with_payoffs c payoffs) (joined outcomes))) rest) more
     ∙ ap (λ (d : Content). run (at p.OutcomeNumbers c.profiles from (greatest (before + length (payoffs ∷ outcomes))) d) rest) (with_more_payoffs c payoffs (joined outcomes))
 
-pub outcomes_again : (outcomes : List (List Ratio)) (list rest : List Token) (due from : ℕ) (c : Content) → Each (IsOutcome (length c.players)) list outcomes
+pub outcomes_again : (outcomes : List (List Ratio)) (list rest : List Token) (due from : ℕ) (c : Content) → Each (IsOutcomeInBraces (length c.players)) list outcomes
     → run (at p.InOutcomes due from 0 c) (list ++ Closing ∷ rest) ≡ run (at p.OutcomeNumbers c.profiles from (greatest (length outcomes)) (with_payoffs c (joined outcomes))) rest
 outcomes_again outcomes list rest due from c h =
     let all : greatest (0 + length outcomes) ≡ greatest (length outcomes) = omega arith in

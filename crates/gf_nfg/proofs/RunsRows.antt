@@ -6,7 +6,7 @@ use Rattle.std.proofs.lemmas.Option.{slice_get_within}
 use Rattle.gf_token.specs.Token.{Token}
 use Rattle.gf_token.specs.Grammar.{Each}
 use Rattle.gf_fraction.specs.Ratio.{Ratio}
-use Rattle.gf_nfg.specs.Sentence.{IsPayoff, IsOutcome, IsOutcomeNumber, Pays}
+use Rattle.gf_nfg.specs.Sentence.{IsPayoff, IsOutcomeInBraces, IsOutcomeNumber, Pays}
 use Rattle.gf_nfg.specs.TableParts.{row_of}
 use Rattle.gf_nfg.proofs.MeaningLists.{joined, get-joined}
 use Rattle.gf_nfg.proofs.MeaningTables.{rows_of}
@@ -54,7 +54,7 @@ rows_joined (row ∷ rs) tokens h = subst (λ ts. Each IsPayoff ts (row ++ joine
 
 -- ---- the outcome version
 
-pub outcomes_full : (players : ℕ) (outcomes : List (List Ratio)) (list : List Token) → Each (IsOutcome players) list outcomes → AllByRecursion (λ row. length row ≡ players) outcomes
+pub outcomes_full : (players : ℕ) (outcomes : List (List Ratio)) (list : List Token) → Each (IsOutcomeInBraces players) list outcomes → AllByRecursion (λ row. length row ≡ players) outcomes
 outcomes_full players [] list h = tt
 outcomes_full players (row ∷ outcomes) list h = (h.3.4, outcomes_full players outcomes h.1 h.4)
 

@@ -11,7 +11,7 @@ use Rattle.gf_fraction.proofs.AllElements.{all_images}
 use Rattle.gf_nfg.specs.declared.position.Position.TheVariants as p
 use Rattle.gf_nfg.specs.Profiles.{positions, profiles, product}
 use Rattle.gf_nfg.specs.Table.{Table, IsTable, rows}
-use Rattle.gf_nfg.specs.Sentence.{Sentence, IsStrategies, IsPayoff, IsOutcome, IsPayoffBody, IsOutcomeBody, IsOutcomeNumber, IsCount, IsLabelList, counted_labels}
+use Rattle.gf_nfg.specs.Sentence.{Sentence, IsStrategies, IsPayoff, IsOutcomeInBraces, IsPayoffBody, IsOutcomeBody, IsOutcomeNumber, IsCount, IsLabelList, counted_labels}
 use Rattle.gf_nfg.specs.Machine.{Content, at, run, start}
 use Rattle.gf_nfg.specs.TableParts.{entries_of, row_of}
 use Rattle.gf_nfg.specs.Meaning.{strategies_of, rows_by, table_of, HasPayoffs, HasLabels, IsComplete}
@@ -117,7 +117,7 @@ flat_read body title comment players counts labels numbers each count =
     record { has_rows = count; spelled = inl (subst (λ (rs : List (List Ratio)). IsPayoffBody body rs) (sym (rows_in_turn (length players) (1 * product counts) numbers)) (rows_each (length players) (1 * product counts) numbers body count each)) }
 
 outcome_read : (list numbers : List Token) (title comment : List ℕ) (players : List (List ℕ)) (counts : List ℕ) (labels : List (List ℕ)) (outcomes : List (List Ratio)) (choices : List ℕ)
-    → Each (IsOutcome (length players)) list outcomes → Each IsChoice numbers choices → AllByRecursion (λ k. k ≤ greatest (length outcomes)) choices → length choices ≡ 1 * product counts → AllByRecursion (λ n. 0 < n) counts
+    → Each (IsOutcomeInBraces (length players)) list outcomes → Each IsChoice numbers choices → AllByRecursion (λ k. k ≤ greatest (length outcomes)) choices → length choices ≡ 1 * product counts → AllByRecursion (λ n. 0 < n) counts
     → BodyRead (braced list ++ numbers) (whole title comment players counts labels (joined outcomes) choices)
 outcome_read list numbers title comment players counts labels outcomes choices listed each known count positive =
     let c : Content = whole title comment players counts labels (joined outcomes) choices in

@@ -13,7 +13,7 @@ use Rattle.gf_fraction.proofs.WholeNumbers.{whole_fraction}
 use Rattle.gf_fraction.proofs.AllElements.{all_at, all_parts, all_both, all_joined, all_mapped}
 use Rattle.gf_nfg.specs.Profiles.{numbers_from}
 use Rattle.gf_nfg.specs.Table.{Table, IsTable, IsSpellable, rows}
-use Rattle.gf_nfg.specs.Sentence.{IsCount, IsLabelList, IsPayoff, IsOutcome, Pays, IsOutcomeNumber, IsPayoffBody, IsOutcomeBody, Sentence}
+use Rattle.gf_nfg.specs.Sentence.{IsCount, IsLabelList, IsPayoff, IsOutcomeInBraces, Pays, IsOutcomeNumber, IsPayoffBody, IsOutcomeBody, Sentence}
 use Rattle.gf_nfg.specs.TableText.{SpellsTable}
 use Rattle.gf_nfg.proofs.LabelsCounted.{decimal_label}
 
@@ -62,7 +62,7 @@ payoffs_spelled : (players : ℕ) (tokens : List Token) (rs : List (List Ratio))
 payoffs_spelled players tokens rs (inl h) =
     each_value (Each IsPayoff) AreFractions (λ ts row each. each_value IsPayoff IsFraction (λ us r is. is.2.fraction) row ts each) rs tokens h
 payoffs_spelled players tokens rs (inr h) =
-    let outcomes = each_value (IsOutcome players) AreFractions (λ ts row is. each_value IsPayoffInBraces IsFraction (λ us r one. one.3.fraction) row is.1 is.3) h.outcomes h.list h.listed in
+    let outcomes = each_value (IsOutcomeInBraces players) AreFractions (λ ts row is. each_value IsPayoffInBraces IsFraction (λ us r one. one.3.fraction) row is.1 is.3) h.outcomes h.list h.listed in
     each_value (IsOutcomeNumber players h.outcomes) AreFractions (λ ts row is. paid players is.1 h.outcomes row outcomes is.4) rs h.numbers h.chosen
 
 -- ---- the table

@@ -30,8 +30,8 @@ abbrev pub IsPayoff : List Token → Ratio → Type 0
 IsPayoff tokens number = (bytes : List ℕ) × (tokens ≡ Bare bytes ∷ []) × IsNumber bytes number
 
 -- Opening Text payoffs Closing
-abbrev pub IsOutcome : ℕ → List Token → List Ratio → Type 0
-IsOutcome players tokens payoffs =
+abbrev pub IsOutcomeInBraces : ℕ → List Token → List Ratio → Type 0
+IsOutcomeInBraces players tokens payoffs =
     (name : List ℕ) × (inner : List Token) × (tokens ≡ braced (Text name ∷ inner)) × Each IsPayoffInBraces inner payoffs × (length payoffs ≡ players)
 
 -- what outcome number k pays: outcomes are numbered from 1 in their order, and 0, the null outcome, pays every player zero
@@ -53,7 +53,7 @@ pub record IsOutcomeBody (players : ℕ) (tokens : List Token) (rows : List (Lis
   pub numbers : List Token
   pub outcomes : List (List Ratio)
   pub parts : tokens ≡ braced list ++ numbers
-  pub listed : Each (IsOutcome players) list outcomes
+  pub listed : Each (IsOutcomeInBraces players) list outcomes
   pub chosen : Each (IsOutcomeNumber players outcomes) numbers rows
 
 -- `NFG` `1` letter Text players strategies [Text] body
