@@ -1,5 +1,6 @@
 -- Worked tables: what their files mean, and their texts.
-use Rattle.std.proofs.Common.{◌≡◌, ℕ, pos, ◌^◌, ◌<◌, List, [], ◌∷◌, ◌++◌, map, refl, sym, subst, arith, inl, inr, append-nil}
+use Rattle.std.proofs.Common.{◌≡◌, ℕ, pos, ◌^◌, ◌<◌, List, [], ◌∷◌, ◌++◌, map}
+use Rattle.std.proofs.Common.{refl, sym, subst, arith, inl, inr, append-nil}
 use Rattle.std.specs.Prelude.{◌⊎◌, codes, decimal}
 use Rattle.std.specs.List.{AllByRecursion, flat_map}
 use Rattle.std.specs.Fmt.{digits}
@@ -16,7 +17,8 @@ use Rattle.gf_fraction.proofs.WholeNumbers.{whole_fraction, whole_spelled}
 use Rattle.gf_nfg.specs.Table.{IsTable, rows}
 use Rattle.gf_nfg.specs.Sentence.{IsCount, IsOutcomeInBraces, Pays, IsOutcomeNumber, Sentence}
 use Rattle.gf_nfg.specs.TableText.{table_text, SpellsTable}
-use Rattle.gf_nfg.specs.WorkedTables.{selten, selten_by_counts, selten_by_outcomes, selten_text, no_players, no_players_text}
+use Rattle.gf_nfg.specs.WorkedTables.{selten, selten_by_counts, selten_by_outcomes}
+use Rattle.gf_nfg.specs.WorkedTables.{selten_text, no_players, no_players_text}
 use Rattle.gf_nfg.specs.Profiles.{positions}
 use Rattle.gf_nfg.proofs.BackTables.{is_rows, row_tokens, strategies_tokens, are_label_lists}
 
@@ -32,10 +34,16 @@ text_of_no_players = refl
 -- ---- files
 
 is_table : IsTable selten
-is_table = record { one_list_each = refl; some_strategy = (omega arith, (omega arith, tt)); one_entry_each = refl; one_payoff_each = (refl, (refl, (refl, (refl, (refl, (refl, tt)))))) }
+is_table = record {
+  one_list_each = refl;
+  some_strategy = (omega arith, (omega arith, tt));
+  one_entry_each = refl;
+  one_payoff_each = (refl, (refl, (refl, (refl, (refl, (refl, tt))))));
+}
 
 abbrev heading : List ℕ → List Token
-heading letter = Bare (codes "NFG") ∷ Bare (codes "1") ∷ Bare letter ∷ Text (codes "Selten") ∷ braced (map Text selten.players)
+heading letter = Bare (codes "NFG") ∷ Bare (codes "1") ∷ Bare letter ∷ Text (codes "Selten")
+    ∷ braced (map Text selten.players)
 
 -- by counts
 
@@ -59,10 +67,17 @@ are_counts = (
   _,
   refl,
   (codes "3", 3, refl, decimal_is_index 3 (omega arith), refl),
-  (Bare (codes "2") ∷ [], [], refl, (codes "2", 2, refl, decimal_is_index 2 (omega arith), refl), refl),
+  (
+    Bare (codes "2") ∷ [],
+    [],
+    refl,
+    (codes "2", 2, refl, decimal_is_index 2 (omega arith), refl),
+    refl,
+  ),
 )
 
-two : (x y : ℕ) → x < 2 ^ 127 → y < 2 ^ 127 → AllByRecursion IsFraction (whole (pos x) ∷ whole (pos y) ∷ [])
+two : (x y : ℕ) → x < 2 ^ 127 → y < 2 ^ 127
+    → AllByRecursion IsFraction (whole (pos x) ∷ whole (pos y) ∷ [])
 two x y h k = (whole_fraction x h, (whole_fraction y k, tt))
 
 fractions : AllByRecursion (λ row. AllByRecursion IsFraction row) (rows selten)
@@ -98,39 +113,61 @@ counts_file_means = record {
 }
 
 pub by_counts : SpellsTable selten_by_counts selten
-by_counts = (lex Gap 0 selten_by_counts, found selten_by_counts 0, subst (λ tokens. Sentence tokens selten) (sym counts_file_tokens) counts_file_means)
+by_counts = (
+  lex Gap 0 selten_by_counts,
+  found selten_by_counts 0,
+  subst (λ tokens. Sentence tokens selten) (sym counts_file_tokens) counts_file_means,
+)
 
 -- by outcomes
 
 abbrev outcome : List ℕ → ℕ → List Token → ℕ → List Token → List Token
-outcome name x comma y comma' = braced (Text name ∷ (Bare (decimal x) ∷ comma ++ Bare (decimal y) ∷ comma'))
+outcome name x comma y comma' =
+    braced (Text name ∷ (Bare (decimal x) ∷ comma ++ Bare (decimal y) ∷ comma'))
 
 abbrev outcomes : List Token
 outcomes =
-    outcome (codes "a") 1 (Comma ∷ []) 1 (Comma ∷ []) ++ (outcome (codes "b") 0 (Comma ∷ []) 2 [] ++ (outcome (codes "c") 0 [] 2 []
-    ++ (outcome (codes "d") 1 [] 1 [] ++ (outcome (codes "e") 0 [] 3 [] ++ (outcome (codes "f") 2 [] 0 [] ++ [])))))
+    outcome (codes "a") 1 (Comma ∷ []) 1 (Comma ∷ [])
+    ++ (outcome (codes "b") 0 (Comma ∷ []) 2 [] ++ (outcome (codes "c") 0 [] 2 []
+    ++ (outcome (codes "d") 1 [] 1 []
+    ++ (outcome (codes "e") 0 [] 3 [] ++ (outcome (codes "f") 2 [] 0 [] ++ [])))))
 
 abbrev numbers : List Token
 numbers = map (λ k. Bare (decimal k)) (positions 6)
 
 abbrev outcomes_file : List Token
-outcomes_file = heading (codes "D") ++ (braced (strategies_tokens selten.strategies) ++ ((Text [] ∷ []) ++ (braced outcomes ++ numbers)))
+outcomes_file = heading (codes "D") ++ (braced (strategies_tokens selten.strategies)
+    ++ ((Text [] ∷ []) ++ (braced outcomes ++ numbers)))
 
 outcomes_file_tokens : map (λ l. l.token) (lex Gap 0 selten_by_outcomes) ≡ outcomes_file
 unfolding lex digits
 outcomes_file_tokens = refl
 
-in_braces : (n : ℕ) (comma : List Token) → n < 2 ^ 127 → ((comma ≡ []) ⊎ (comma ≡ Comma ∷ [])) → IsPayoffInBraces (Bare (decimal n) ∷ comma) (whole (pos n))
+in_braces : (n : ℕ) (comma : List Token) → n < 2 ^ 127 → ((comma ≡ []) ⊎ (comma ≡ Comma ∷ []))
+    → IsPayoffInBraces (Bare (decimal n) ∷ comma) (whole (pos n))
 unfolding digits number_text
 in_braces n comma h c = (decimal n, comma, refl, whole_spelled n h, c)
 
-is_outcome : (name : List ℕ) (x y : ℕ) (comma comma' : List Token) → x < 2 ^ 127 → y < 2 ^ 127 → ((comma ≡ []) ⊎ (comma ≡ Comma ∷ [])) → ((comma' ≡ []) ⊎ (comma' ≡ Comma ∷ []))
+is_outcome : (name : List ℕ) (x y : ℕ) (comma comma' : List Token) → x < 2 ^ 127 → y < 2 ^ 127
+    → ((comma ≡ []) ⊎ (comma ≡ Comma ∷ [])) → ((comma' ≡ []) ⊎ (comma' ≡ Comma ∷ []))
     → IsOutcomeInBraces 2 (outcome name x comma y comma') (whole (pos x) ∷ whole (pos y) ∷ [])
 is_outcome name x y comma comma' h k c d = (
   name,
   Bare (decimal x) ∷ comma ++ Bare (decimal y) ∷ comma',
   refl,
-  (Bare (decimal x) ∷ comma, Bare (decimal y) ∷ comma', refl, in_braces x comma h c, (Bare (decimal y) ∷ comma', [], sym (append-nil (Bare (decimal y) ∷ comma')), in_braces y comma' k d, refl)),
+  (
+    Bare (decimal x) ∷ comma,
+    Bare (decimal y) ∷ comma',
+    refl,
+    in_braces x comma h c,
+    (
+      Bare (decimal y) ∷ comma',
+      [],
+      sym (append-nil (Bare (decimal y) ∷ comma')),
+      in_braces y comma' k d,
+      refl,
+    ),
+  ),
   refl,
 )
 
@@ -139,7 +176,8 @@ are_outcomes = (
   outcome (codes "a") 1 (Comma ∷ []) 1 (Comma ∷ []),
   _,
   refl,
-  is_outcome (codes "a") 1 1 (Comma ∷ []) (Comma ∷ []) (omega arith) (omega arith) (inr refl) (inr refl),
+  is_outcome (codes "a") 1 1 (Comma ∷ []) (Comma ∷ []) (omega arith) (omega arith) (inr refl)
+      (inr refl),
   (
     outcome (codes "b") 0 (Comma ∷ []) 2 [],
     _,
@@ -160,14 +198,21 @@ are_outcomes = (
           _,
           refl,
           is_outcome (codes "e") 0 3 [] [] (omega arith) (omega arith) (inl refl) (inl refl),
-          (outcome (codes "f") 2 [] 0 [], [], refl, is_outcome (codes "f") 2 0 [] [] (omega arith) (omega arith) (inl refl) (inl refl), refl),
+          (
+            outcome (codes "f") 2 [] 0 [],
+            [],
+            refl,
+            is_outcome (codes "f") 2 0 [] [] (omega arith) (omega arith) (inl refl) (inl refl),
+            refl,
+          ),
         ),
       ),
     ),
   ),
 )
 
-is_chosen : (k : ℕ) (row : List Ratio) → k < 2 ^ 32 → Pays 2 (rows selten) k row → IsOutcomeNumber 2 (rows selten) (Bare (decimal k) ∷ []) row
+is_chosen : (k : ℕ) (row : List Ratio) → k < 2 ^ 32 → Pays 2 (rows selten) k row
+    → IsOutcomeNumber 2 (rows selten) (Bare (decimal k) ∷ []) row
 is_chosen k row h pays = (decimal k, k, refl, decimal_is_index k h, pays)
 
 are_chosen : Each (IsOutcomeNumber 2 (rows selten)) numbers (rows selten)
@@ -211,11 +256,23 @@ outcomes_file_means = record {
   body = braced outcomes ++ numbers;
   parts = refl;
   is_letter = inr refl;
-  is_strategies = (strategies_tokens selten.strategies, refl, inr (are_label_lists selten.strategies));
+  is_strategies =
+      (strategies_tokens selten.strategies, refl, inr (are_label_lists selten.strategies));
   is_comment = inr refl;
-  is_body = inr (record { list = outcomes; numbers = numbers; outcomes = rows selten; parts = refl; listed = are_outcomes; chosen = are_chosen });
+  is_body = inr (record {
+    list = outcomes;
+    numbers = numbers;
+    outcomes = rows selten;
+    parts = refl;
+    listed = are_outcomes;
+    chosen = are_chosen;
+  });
   is_table = is_table;
 }
 
 pub by_outcomes : SpellsTable selten_by_outcomes selten
-by_outcomes = (lex Gap 0 selten_by_outcomes, found selten_by_outcomes 0, subst (λ tokens. Sentence tokens selten) (sym outcomes_file_tokens) outcomes_file_means)
+by_outcomes = (
+  lex Gap 0 selten_by_outcomes,
+  found selten_by_outcomes 0,
+  subst (λ tokens. Sentence tokens selten) (sym outcomes_file_tokens) outcomes_file_means,
+)

@@ -1,5 +1,6 @@
 -- Lists that stand one behind the other, and their lengths.
-use Rattle.std.proofs.Common.{◌≡◌, ℕ, zero, suc, ◌+◌, ◌*◌, ◌<◌, List, [], ◌∷◌, ◌++◌, length, map, take, drop, Some, refl, sym, ap, subst, ◌∙◌, arith}
+use Rattle.std.proofs.Common.{◌≡◌, ℕ, zero, suc, ◌+◌, ◌*◌, ◌<◌, List, [], ◌∷◌, ◌++◌, length}
+use Rattle.std.proofs.Common.{map, take, drop, Some, refl, sym, ap, subst, ◌∙◌, arith}
 use Rattle.std.specs.Prelude.{decimal, sum, slice_get}
 use Rattle.std.specs.List.{AllByRecursion, flat_map}
 use Rattle.std.proofs.Math.Nat.{mul-suc, one-le-mul}
@@ -28,9 +29,12 @@ take-by n xs ys e = subst (λ k. take k (xs ++ ys) ≡ xs) e (take-front xs ys)
 pub drop-by : {A : Type 0} (n : ℕ) (xs ys : List A) → length xs ≡ n → drop n (xs ++ ys) ≡ ys
 drop-by n xs ys e = subst (λ k. drop k (xs ++ ys) ≡ ys) e (drop-front xs ys)
 
-drop-more : {A : Type 0} (n m : ℕ) (xs ys : List A) → length xs ≡ n → drop (n + m) (xs ++ ys) ≡ drop m ys
+drop-more : {A : Type 0} (n m : ℕ) (xs ys : List A) → length xs ≡ n
+    → drop (n + m) (xs ++ ys) ≡ drop m ys
 drop-more n m [] ys e = let f : n + m ≡ m = omega (arith, e) in ap (λ k. drop k ys) f
-drop-more n m (x ∷ xs) ys e = let f : n + m ≡ suc (length xs + m) = omega (arith, e) in ap (λ k. drop k (x ∷ (xs ++ ys))) f ∙ drop-more (length xs) m xs ys refl
+drop-more n m (x ∷ xs) ys e =
+    let f : n + m ≡ suc (length xs + m) = omega (arith, e) in
+    ap (λ k. drop k (x ∷ (xs ++ ys))) f ∙ drop-more (length xs) m xs ys refl
 
 pub length-counted_labels : (n : ℕ) → length (counted_labels n) ≡ n
 length-counted_labels n = length-map (positions n) decimal ∙ length-numbers_from 1 n
@@ -44,18 +48,24 @@ pub sum-cons : (n : ℕ) (ns : List ℕ) → sum (n ∷ ns) ≡ n + sum ns
 sum-cons n ns = sum_by-cons (λ (x : ℕ). x) n ns
 
 -- lists one behind the other are parted by their lengths
-pub groups-joined : {A : Type 0} (lists : List (List A)) → groups (map length lists) (joined lists) ≡ lists
+pub groups-joined : {A : Type 0} (lists : List (List A))
+    → groups (map length lists) (joined lists) ≡ lists
 groups-joined [] = refl
 groups-joined (xs ∷ lists) =
-    let rest : groups (map length lists) (drop (length xs) (xs ++ joined lists)) ≡ lists = ap (groups (map length lists)) (drop-front xs (joined lists)) ∙ groups-joined lists in
+    let rest : groups (map length lists) (drop (length xs) (xs ++ joined lists)) ≡ lists =
+    ap (groups (map length lists)) (drop-front xs (joined lists)) ∙ groups-joined lists in
     (λ i. take-front xs (joined lists) i ∷ rest i)
 
-pub length-joined : {A : Type 0} (lists : List (List A)) → length (joined lists) ≡ sum (map length lists)
+pub length-joined : {A : Type 0} (lists : List (List A))
+    → length (joined lists) ≡ sum (map length lists)
 length-joined [] = refl
-length-joined (xs ∷ lists) = length-append xs (joined lists) ∙ ap (λ n. length xs + n) (length-joined lists) ∙ sym (sum-cons (length xs) (map length lists))
+length-joined (xs ∷ lists) = length-append xs (joined lists)
+    ∙ ap (λ n. length xs + n) (length-joined lists)
+    ∙ sym (sum-cons (length xs) (map length lists))
 
 -- of one length each
-pub length-joined_rows : {A : Type 0} (size : ℕ) (lists : List (List A)) → AllByRecursion (λ xs. length xs ≡ size) lists → length (joined lists) ≡ size * length lists
+pub length-joined_rows : {A : Type 0} (size : ℕ) (lists : List (List A))
+    → AllByRecursion (λ xs. length xs ≡ size) lists → length (joined lists) ≡ size * length lists
 length-joined_rows size [] h = omega arith
 length-joined_rows size (xs ∷ lists) h =
     let first = length-append xs (joined lists) in
@@ -63,15 +73,19 @@ length-joined_rows size (xs ∷ lists) h =
     omega (arith, first, rest, h.0, mul-suc size (length lists))
 
 -- the k-th of them
-pub get-joined : {A : Type 0} (size : ℕ) (lists : List (List A)) (k : ℕ) → AllByRecursion (λ xs. length xs ≡ size) lists → k < length lists → slice_get lists k ≡ Some (take size (drop (k * size) (joined lists)))
+pub get-joined : {A : Type 0} (size : ℕ) (lists : List (List A)) (k : ℕ)
+    → AllByRecursion (λ xs. length xs ≡ size) lists → k < length lists
+    → slice_get lists k ≡ Some (take size (drop (k * size) (joined lists)))
 get-joined size [] k h less = absurd (omega arith)
 get-joined size (xs ∷ lists) zero h less =
     let none : zero * size ≡ 0 = omega arith in
-    let whole : take size (drop (zero * size) (xs ++ joined lists)) ≡ xs = ap (λ n. take size (drop n (xs ++ joined lists))) none ∙ take-by size xs (joined lists) h.0 in
+    let whole : take size (drop (zero * size) (xs ++ joined lists)) ≡ xs =
+    ap (λ n. take size (drop n (xs ++ joined lists))) none ∙ take-by size xs (joined lists) h.0 in
     ap Some (sym whole)
 get-joined size (xs ∷ lists) (suc k) h less =
     let more : suc k * size ≡ size + k * size = omega arith in
-    let same : drop (suc k * size) (xs ++ joined lists) ≡ drop (k * size) (joined lists) = ap (λ n. drop n (xs ++ joined lists)) more ∙ drop-more size (k * size) xs (joined lists) h.0 in
+    let same : drop (suc k * size) (xs ++ joined lists) ≡ drop (k * size) (joined lists) =
+    ap (λ n. drop n (xs ++ joined lists)) more ∙ drop-more size (k * size) xs (joined lists) h.0 in
     get-joined size lists k h.1 (omega arith) ∙ ap (λ ys. Some (take size ys)) (sym same)
 
 -- of positive counts there are some

@@ -1,5 +1,7 @@
 -- Where the reader refuses, no file goes on, or each that does is past the limit.
-use Rattle.std.proofs.Common.{◌≡◌, ℕ, ◌<◌, ◌≤◌, List, [], ◌∷◌, ◌++◌, length, Option, None, Some, Result, Ok, Err, IfErr, IsErrAnd, refl, sym, ap, subst, ◌∙◌, append_assoc, arith}
+use Rattle.std.proofs.Common.{◌≡◌, ℕ, ◌<◌, ◌≤◌, List, [], ◌∷◌, ◌++◌, length}
+use Rattle.std.proofs.Common.{Option, None, Some, Result, Ok, Err, IfErr, IsErrAnd}
+use Rattle.std.proofs.Common.{refl, sym, ap, subst, ◌∙◌, append_assoc, arith}
 use Rattle.std.proofs.lemmas.List.{append-nil, map-append}
 use Rattle.gf_token.specs.Token.{Token, Lexeme, lexeme}
 use Rattle.gf_token.specs.Token.Token.{Broken}
@@ -11,7 +13,8 @@ use Rattle.gf_token.specs.declared.fault.Fault.{Fault}
 use Rattle.gf_token.specs.declared.fault.Span.{Span}
 use Rattle.gf_token.specs.declared.fault.What.{What}
 use Rattle.gf_token.specs.declared.fault.Why.{Why}
-use Rattle.gf_token.specs.declared.fault.Why.TheVariants.{TooLong, Unterminated, Expected, Memory, TooManyProfiles}
+use Rattle.gf_token.specs.declared.fault.Why.TheVariants.{TooLong, Unterminated, Expected}
+use Rattle.gf_token.specs.declared.fault.Why.TheVariants.{Memory, TooManyProfiles}
 use Rattle.gf_nfg.specs.Limit.{profile_limit}
 use Rattle.gf_nfg.specs.Table.{Table}
 use Rattle.gf_nfg.specs.Sentence.{Sentence, IsStrategicFile}
@@ -37,7 +40,9 @@ end_of size = record { start = size; end = size }
 
 -- ---- a token that is refused
 
-abbrev offending : (bytes : List ℕ) (all rest : List Lexeme) (l : Lexeme) (s : State) (why : Why) → Spells 0 bytes all → Led all (l ∷ rest) s → step s l.token ≡ Err why → IsOffendingPlace IsStrategicFile bytes (span_of l)
+abbrev offending : (bytes : List ℕ) (all rest : List Lexeme) (l : Lexeme) (s : State) (why : Why)
+    → Spells 0 bytes all → Led all (l ∷ rest) s → step s l.token ≡ Err why
+    → IsOffendingPlace IsStrategicFile bytes (span_of l)
 offending bytes all rest l s why spelled h e = record {
   before = h.seen;
   after = l ∷ rest;
@@ -47,14 +52,19 @@ offending bytes all rest l s why spelled h e = record {
   refused = refused (tokens_of h.seen) l.token s why h.leads e;
 }
 
-pub refusal : (bytes : List ℕ) (all rest : List Lexeme) (l : Lexeme) (s : State) (why : Why) → Spells 0 bytes all → Led all (l ∷ rest) s → s.content.profiles ≤ profile_limit → IsWhole l.token → step s l.token ≡ Err why → IsRefusal why bytes (span_of l)
+pub refusal : (bytes : List ℕ) (all rest : List Lexeme) (l : Lexeme) (s : State) (why : Why)
+    → Spells 0 bytes all → Led all (l ∷ rest) s → s.content.profiles ≤ profile_limit
+    → IsWhole l.token → step s l.token ≡ Err why → IsRefusal why bytes (span_of l)
 refusal bytes all rest l s why spelled h within whole e = record {
   place = offending bytes all rest l s why spelled h e;
   reason = reason (tokens_of h.seen) (tokens_of rest) l.token s why h.leads whole e;
   within = stays_within (tokens_of h.seen) s h.leads within;
 }
 
-pub limit : (bytes : List ℕ) (all rest : List Lexeme) (l : Lexeme) (s after : State) → Spells 0 bytes all → Led all (l ∷ rest) s → s.content.profiles ≤ profile_limit → step s l.token ≡ Ok after → profile_limit < after.content.profiles → IsLimitPlace bytes (span_of l)
+pub limit : (bytes : List ℕ) (all rest : List Lexeme) (l : Lexeme) (s after : State)
+    → Spells 0 bytes all → Led all (l ∷ rest) s → s.content.profiles ≤ profile_limit
+    → step s l.token ≡ Ok after → profile_limit < after.content.profiles
+    → IsLimitPlace bytes (span_of l)
 limit bytes all rest l s after spelled h within e over =
     let leads = leads_more (tokens_of h.seen) l.token s after h.leads e in
     record {
@@ -66,7 +76,9 @@ limit bytes all rest l s after spelled h within e over =
       grows = makes_more s after l.token e (omega (arith, within, over));
       past = record {
         begins = begins (tokens_of h.seen ++ l.token ∷ []) after leads;
-        past = λ more t sentence. let grown = read_past (tokens_of h.seen ++ l.token ∷ []) after leads more t sentence in omega (arith, over, grown);
+        past = λ more t sentence.
+            let grown = read_past (tokens_of h.seen ++ l.token ∷ []) after leads more t sentence in
+            omega (arith, over, grown);
       };
       first = stays_within (tokens_of h.seen) s h.leads within;
     }
@@ -89,12 +101,16 @@ accepted bytes all rest l s after spelled h e within =
       within = stays_within through after leads within;
     }
 
-pub judged : (bytes : List ℕ) (all rest : List Lexeme) (l : Lexeme) (s : State) (why : Why) → Spells 0 bytes all → Led all (l ∷ rest) s → s.content.profiles ≤ profile_limit → IsWhole l.token → Fails why (step s l.token) → IsJudged why bytes (span_of l)
+pub judged : (bytes : List ℕ) (all rest : List Lexeme) (l : Lexeme) (s : State) (why : Why)
+    → Spells 0 bytes all → Led all (l ∷ rest) s → s.content.profiles ≤ profile_limit
+    → IsWhole l.token → Fails why (step s l.token) → IsJudged why bytes (span_of l)
 judged bytes all rest l s Memory spelled h within whole e =
     accepted bytes all rest l s e.0 spelled h e.1 e.2
-judged bytes all rest l s TooManyProfiles spelled h within whole e = limit bytes all rest l s e.0 spelled h within e.1 e.2
+judged bytes all rest l s TooManyProfiles spelled h within whole e =
+    limit bytes all rest l s e.0 spelled h within e.1 e.2
 judged bytes all rest l s TooLong spelled h within whole e = absurd e
-judged bytes all rest l s why spelled h within whole e = refusal bytes all rest l s why spelled h within whole e
+judged bytes all rest l s why spelled h within whole e =
+    refusal bytes all rest l s why spelled h within whole e
 
 -- the tokens that a cursor gives have an end
 pub whole : (kind : Kind) → IsWhole (token_of kind)
@@ -106,7 +122,10 @@ whole (kinds.Bare bytes) = tt
 
 -- ---- a text without an end
 
-pub broken : (bytes : List ℕ) (all rest : List Lexeme) (from to : ℕ) (s : State) → Spells 0 bytes all → Led all (lexeme from to Broken ∷ rest) s → s.content.profiles ≤ profile_limit → IsRefusal Unterminated bytes (record { start = from; end = to })
+pub broken : (bytes : List ℕ) (all rest : List Lexeme) (from to : ℕ) (s : State)
+    → Spells 0 bytes all → Led all (lexeme from to Broken ∷ rest) s
+    → s.content.profiles ≤ profile_limit
+    → IsRefusal Unterminated bytes (record { start = from; end = to })
 broken bytes all rest from to s spelled h within =
     let b = broken_refused s in
     record {
@@ -117,7 +136,10 @@ broken bytes all rest from to s spelled h within =
 
 -- ---- the end
 
-pub refusal_end : (bytes : List ℕ) (all : List Lexeme) (s : State) (expected : What) → Spells 0 bytes all → Led all [] s → s.content.profiles ≤ profile_limit → finish s ≡ Err (Expected expected) → IsRefusal (Expected expected) bytes (end_of (length bytes))
+pub refusal_end : (bytes : List ℕ) (all : List Lexeme) (s : State) (expected : What)
+    → Spells 0 bytes all → Led all [] s → s.content.profiles ≤ profile_limit
+    → finish s ≡ Err (Expected expected)
+    → IsRefusal (Expected expected) bytes (end_of (length bytes))
 refusal_end bytes all s expected spelled h within e = record {
   place = record {
     before = h.seen;
@@ -134,14 +156,18 @@ refusal_end bytes all s expected spelled h within e = record {
 abbrev pub err : Why → Result Content Why
 err why = Err why
 
-pub only_expected : (c : Content) (o : Option What) (why : Why) → ended c o ≡ Err why → (what : What) × (why ≡ Expected what)
+pub only_expected : (c : Content) (o : Option What) (why : Why) → ended c o ≡ Err why
+    → (what : What) × (why ≡ Expected what)
 only_expected c None why e = absurd cc
 only_expected c (Some what) why e = (what, cc)
 
-pub judged_end : (bytes : List ℕ) (all : List Lexeme) (s : State) (why : Why) → Spells 0 bytes all → Led all [] s → s.content.profiles ≤ profile_limit → finish s ≡ Err why → IsJudged why bytes (end_of (length bytes))
+pub judged_end : (bytes : List ℕ) (all : List Lexeme) (s : State) (why : Why)
+    → Spells 0 bytes all → Led all [] s → s.content.profiles ≤ profile_limit → finish s ≡ Err why
+    → IsJudged why bytes (end_of (length bytes))
 judged_end bytes all s why spelled h within e =
     let w = only_expected s.content (due_at s.position s.due) why e in
-    subst (λ (x : Why). IsJudged x bytes (end_of (length bytes))) (sym w.1) (refusal_end bytes all s w.0 spelled h within (e ∙ ap err w.1))
+    subst (λ (x : Why). IsJudged x bytes (end_of (length bytes))) (sym w.1)
+    (refusal_end bytes all s w.0 spelled h within (e ∙ ap err w.1))
 
 -- no front of a file within the limit passes it
 file_within : (tokens : List Token) (t : Table) → Sentence tokens t → IsWithinLimit t
@@ -171,24 +197,30 @@ pub memory_at_end : (bytes : List ℕ) (t : Table) (fault : Fault) (why : Why) �
 memory_at_end bytes t fault why h within is memory =
     let P : Why → Type 0 = λ w. IsJudged w bytes (end_of (length bytes)) in
     subst (λ (f : Fault). IsJudged f.why bytes f.span) (sym is)
-        (subst P (sym memory) (accepted_whole bytes t h within))
+    (subst P (sym memory) (accepted_whole bytes t h within))
 
 -- ---- no table within the limit is refused but for want of memory
 
-none_spelled : (bytes : List ℕ) (span : Span) (t : Table) → IsOffendingPlace IsStrategicFile bytes span → SpellsTable bytes t → ⊥
+none_spelled : (bytes : List ℕ) (span : Span) (t : Table)
+    → IsOffendingPlace IsStrategicFile bytes span → SpellsTable bytes t → ⊥
 none_spelled bytes span t h k =
     let sentence = spelled_as bytes (h.before ++ h.after) t h.spelled k in
     let parts = map-append (λ (x : Lexeme). x.token) h.before h.after in
     refused_no_file IsStrategicFile (tokens_of h.before) (tokens_of h.after) h.refused
-        (t, subst (λ (x : List Token). Sentence x t) parts sentence)
+    (t, subst (λ (x : List Token). Sentence x t) parts sentence)
 
-all_past : (bytes : List ℕ) (span : Span) (t : Table) → IsLimitPlace bytes span → SpellsTable bytes t → IsWithinLimit t → ⊥
+all_past : (bytes : List ℕ) (span : Span) (t : Table)
+    → IsLimitPlace bytes span → SpellsTable bytes t → IsWithinLimit t → ⊥
 all_past bytes span t h k within =
     let sentence = spelled_as bytes (h.before ++ h.lexeme ∷ h.after) t h.spelled k in
-    let over = h.past.past (tokens_of h.after) t (subst (λ (x : List Token). Sentence x t) (map-append (λ (x : Lexeme). x.token) h.before (h.lexeme ∷ h.after) ∙ sym (append_assoc (tokens_of h.before) (h.lexeme.token ∷ []) (tokens_of h.after))) sentence) in
+    let over = h.past.past (tokens_of h.after) t (subst (λ (x : List Token). Sentence x t)
+    (map-append (λ (x : Lexeme). x.token) h.before (h.lexeme ∷ h.after)
+    ∙ sym (append_assoc (tokens_of h.before) (h.lexeme.token ∷ []) (tokens_of h.after)))
+    sentence) in
     omega (arith, over, within)
 
-pub only_memory : (why : Why) (bytes : List ℕ) (span : Span) (t : Table) → IsJudged why bytes span → SpellsTable bytes t → IsWithinLimit t → why ≡ Memory
+pub only_memory : (why : Why) (bytes : List ℕ) (span : Span) (t : Table)
+    → IsJudged why bytes span → SpellsTable bytes t → IsWithinLimit t → why ≡ Memory
 only_memory Memory bytes span t h k within = refl
 only_memory TooManyProfiles bytes span t h k within = absurd (all_past bytes span t h k within)
 only_memory TooLong bytes span t h k within = absurd h
@@ -196,13 +228,18 @@ only_memory _ bytes span t h k within = absurd (none_spelled bytes span t h.plac
 
 -- ---- the answer at a text without an end
 
-pub answer_judged : {A : Type 0} (r : Result A Fault) (fault : Fault) (bytes : List ℕ) → IsErrAnd r (λ e. e ≡ fault) → fault.why ≡ Unterminated → IsRefusal Unterminated bytes fault.span
+pub answer_judged : {A : Type 0} (r : Result A Fault) (fault : Fault) (bytes : List ℕ)
+    → IsErrAnd r (λ e. e ≡ fault) → fault.why ≡ Unterminated
+    → IsRefusal Unterminated bytes fault.span
     → IfErr r (λ e. IsJudged e.why bytes e.span)
 answer_judged (Ok x) fault bytes is why refusal = absurd is
 answer_judged (Err e) fault bytes is why refusal =
     let P : Why → Type 0 = λ w. IsJudged w bytes fault.span in
     subst (λ (f : Fault). IsJudged f.why bytes f.span) (sym is) (subst P (sym why) refusal)
 
-pub answer_only : (r : Result Parts Fault) (fault : Fault) (bytes : List ℕ) (t : Table) → IsErrAnd r (λ e. e ≡ fault) → IsRefusal Unterminated bytes fault.span → SpellsTable bytes t → ArePartsOf r t
+pub answer_only : (r : Result Parts Fault) (fault : Fault) (bytes : List ℕ) (t : Table)
+    → IsErrAnd r (λ e. e ≡ fault) → IsRefusal Unterminated bytes fault.span → SpellsTable bytes t
+    → ArePartsOf r t
 answer_only (Ok x) fault bytes t is refusal k = absurd is
-answer_only (Err e) fault bytes t is refusal k = absurd (none_spelled bytes fault.span t refusal.place k)
+answer_only (Err e) fault bytes t is refusal k =
+    absurd (none_spelled bytes fault.span t refusal.place k)

@@ -1,5 +1,7 @@
 -- No token makes the profiles fewer, so that past their limit they stay.
-use Rattle.std.proofs.Common.{◌≡◌, ℕ, zero, suc, ◌-◌, ◌*◌, ◌<◌, ◌≤◌, Bool, true, false, cond, List, [], ◌∷◌, ◌++◌, length, Option, Some, None, Result, Ok, Err, refl, sym, ap, subst, ◌∙◌, arith, nat_eq}
+use Rattle.std.proofs.Common.{◌≡◌, ℕ, zero, suc, ◌-◌, ◌*◌, ◌<◌, ◌≤◌, Bool, true, false}
+use Rattle.std.proofs.Common.{cond, List, [], ◌∷◌, ◌++◌, length, Option, Some, None}
+use Rattle.std.proofs.Common.{Result, Ok, Err, refl, sym, ap, subst, ◌∙◌, arith, nat_eq}
 use Rattle.std.specs.Prelude.{nat_le}
 use Rattle.gf_token.specs.Token.{Token}
 use Rattle.gf_token.specs.Token.Token.{Opening, Closing, Comma, Text, Bare, Broken}
@@ -13,7 +15,11 @@ use Rattle.gf_fraction.specs.Computed.{number_of}
 use Rattle.gf_nfg.specs.Readings.{index_of, count_of}
 use Rattle.gf_nfg.specs.Table.{Table}
 use Rattle.gf_nfg.specs.Sentence.{Sentence}
-use Rattle.gf_nfg.specs.Machine.{State, Content, at, step, run, start, counted, listed, settled, paid, chosen, at_strategies_end, at_first, at_count, at_list_opening, at_payoff, at_flat_payoffs, at_after_comment, at_outcome_end, at_braced_payoff, at_outcome_number, due_at, ended, ◌>>=◌}
+use Rattle.gf_nfg.specs.Machine.{State, Content, at, step, run, start, counted, listed}
+use Rattle.gf_nfg.specs.Machine.{settled, paid, chosen, at_strategies_end, at_first}
+use Rattle.gf_nfg.specs.Machine.{at_count, at_list_opening, at_payoff, at_flat_payoffs}
+use Rattle.gf_nfg.specs.Machine.{at_after_comment, at_outcome_end, at_braced_payoff}
+use Rattle.gf_nfg.specs.Machine.{at_outcome_number, due_at, ended, ◌>>=◌}
 use Rattle.gf_nfg.specs.Meaning.{table_of}
 use Rattle.gf_nfg.specs.Limit.{profile_limit}
 use Rattle.gf_nfg.specs.LimitPlace.{BeginsWithinLimit, StaysWithinLimit, IsBareOrClosing}
@@ -24,7 +30,8 @@ use Rattle.gf_nfg.proofs.RunsSentence.{sentence_found, sentence_again}
 use Rattle.gf_nfg.proofs.RunsEnds.{IsSettled, settled_ends}
 use Rattle.gf_nfg.proofs.PlacesWalk.{Leads, walk, walk_split, walk_step, leads_more, leads_run}
 
--- what a token does to the profiles: a bare one or a closing brace makes them no fewer and leaves no list open, and another keeps them
+-- what a token does to the profiles: a bare one or a closing brace makes them no fewer and leaves
+-- no list open, and another keeps them
 abbrev Grown : Token → State → State → Type 0
 Grown (Bare b) s after = (s.content.profiles ≤ after.content.profiles) × IsSettled after.position
 Grown Closing s after = (s.content.profiles ≤ after.content.profiles) × IsSettled after.position
@@ -37,11 +44,13 @@ Grows t s (Err why) = Unit {0}
 same : (n : ℕ) → n ≤ n
 same n = omega arith
 
-by_test : (t : Token) (s : State) (b : Bool) (x y : Result State Why) → Grows t s x → Grows t s y → Grows t s (cond b x y)
+by_test : (t : Token) (s : State) (b : Bool) (x y : Result State Why) → Grows t s x → Grows t s y
+    → Grows t s (cond b x y)
 by_test t s true x y h k = h
 by_test t s false x y h k = k
 
-tested : (s next : State) (b : List ℕ) (test : Bool) (why : Why) → Grown (Bare b) s next → Grows (Bare b) s (cond test (Ok next) (Err why))
+tested : (s next : State) (b : List ℕ) (test : Bool) (why : Why) → Grown (Bare b) s next
+    → Grows (Bare b) s (cond test (Ok next) (Err why))
 tested s next b true why grown = grown
 tested s next b false why grown = tt
 
@@ -58,7 +67,8 @@ lists : (s : State) (n : ℕ) → Grows Closing s (listed s n)
 lists s zero = tt
 lists s (suc n) = (times s.content.profiles (suc n) (omega arith), tt)
 
-pays : (q : Position) → IsSettled q → (s : State) (b : List ℕ) (o : Result Ratio NumberFault) → Grows (Bare b) s (paid q s o)
+pays : (q : Position) → IsSettled q → (s : State) (b : List ℕ) (o : Result Ratio NumberFault)
+    → Grows (Bare b) s (paid q s o)
 pays q settled s b (Ok n) = (same s.content.profiles, settled)
 pays q settled s b (Err fault) = tt
 
@@ -103,18 +113,23 @@ ends_outcome s Closing = (same s.content.profiles, tt)
 ends_outcome s _ = tt
 
 braced_payoffs : (s : State) (t : Token) → Grows t s (at_braced_payoff s t)
-braced_payoffs s t = by_test t s (nat_eq s.due 0) _ _ (ends_outcome s t) (payoffs p.AfterBracedPayoff tt s t)
+braced_payoffs s t =
+    by_test t s (nat_eq s.due 0) _ _ (ends_outcome s t) (payoffs p.AfterBracedPayoff tt s t)
 
 numbers : (s : State) (t : Token) → Grows t s (at_outcome_number s t)
 numbers s (Bare b) = chooses s b (index_of b)
 numbers s _ = tt
 
-grows_at : (q : Position) (due from outcomes : ℕ) (c : Content) (t : Token) → Grows t (at q due from outcomes c) (step (at q due from outcomes c) t)
-grows_at p.Format due from outcomes c (Bare b) = tested (at p.Format due from outcomes c) (at p.Version due from outcomes c) b _ _ (same c.profiles, tt)
+grows_at : (q : Position) (due from outcomes : ℕ) (c : Content) (t : Token)
+    → Grows t (at q due from outcomes c) (step (at q due from outcomes c) t)
+grows_at p.Format due from outcomes c (Bare b) = tested (at p.Format due from outcomes c)
+    (at p.Version due from outcomes c) b _ _ (same c.profiles, tt)
 grows_at p.Format due from outcomes c _ = tt
-grows_at p.Version due from outcomes c (Bare b) = tested (at p.Version due from outcomes c) (at p.Letter due from outcomes c) b _ _ (same c.profiles, tt)
+grows_at p.Version due from outcomes c (Bare b) = tested (at p.Version due from outcomes c)
+    (at p.Letter due from outcomes c) b _ _ (same c.profiles, tt)
 grows_at p.Version due from outcomes c _ = tt
-grows_at p.Letter due from outcomes c (Bare b) = tested (at p.Letter due from outcomes c) (at p.Title due from outcomes c) b _ _ (same c.profiles, tt)
+grows_at p.Letter due from outcomes c (Bare b) = tested (at p.Letter due from outcomes c)
+    (at p.Title due from outcomes c) b _ _ (same c.profiles, tt)
 grows_at p.Letter due from outcomes c _ = tt
 grows_at p.Title due from outcomes c (Text label) = refl
 grows_at p.Title due from outcomes c _ = tt
@@ -125,18 +140,31 @@ grows_at p.InPlayers due from outcomes c Closing = (same c.profiles, tt)
 grows_at p.InPlayers due from outcomes c _ = tt
 grows_at p.BeforeStrategies due from outcomes c Opening = refl
 grows_at p.BeforeStrategies due from outcomes c _ = tt
-grows_at p.FirstStrategies due from outcomes c t = by_test t (at p.FirstStrategies due from outcomes c) (nat_eq due 0) _ _ (ends_strategies (at p.FirstStrategies due from outcomes c) t) (firsts (at p.FirstStrategies due from outcomes c) t)
-grows_at p.Counts due from outcomes c t = by_test t (at p.Counts due from outcomes c) (nat_eq due 0) _ _ (ends_strategies (at p.Counts due from outcomes c) t) (later_counts (at p.Counts due from outcomes c) t)
-grows_at p.BeforeList due from outcomes c t = by_test t (at p.BeforeList due from outcomes c) (nat_eq due 0) _ _ (ends_strategies (at p.BeforeList due from outcomes c) t) (opens (at p.BeforeList due from outcomes c) t)
+grows_at p.FirstStrategies due from outcomes c t =
+    by_test t (at p.FirstStrategies due from outcomes c) (nat_eq due 0)
+    _ _ (ends_strategies (at p.FirstStrategies due from outcomes c) t)
+    (firsts (at p.FirstStrategies due from outcomes c) t)
+grows_at p.Counts due from outcomes c t = by_test t (at p.Counts due from outcomes c)
+    (nat_eq due 0) _ _ (ends_strategies (at p.Counts due from outcomes c) t)
+    (later_counts (at p.Counts due from outcomes c) t)
+grows_at p.BeforeList due from outcomes c t = by_test t (at p.BeforeList due from outcomes c)
+    (nat_eq due 0) _ _ (ends_strategies (at p.BeforeList due from outcomes c) t)
+    (opens (at p.BeforeList due from outcomes c) t)
 grows_at p.InList due from outcomes c (Text label) = refl
-grows_at p.InList due from outcomes c Closing = lists (at p.InList due from outcomes c) (length c.labels - from)
+grows_at p.InList due from outcomes c Closing =
+    lists (at p.InList due from outcomes c) (length c.labels - from)
 grows_at p.InList due from outcomes c _ = tt
 grows_at p.AfterStrategies due from outcomes c (Text label) = refl
-grows_at p.AfterStrategies due from outcomes c Opening = bodies (at p.AfterStrategies due from outcomes c) Opening
-grows_at p.AfterStrategies due from outcomes c Closing = bodies (at p.AfterStrategies due from outcomes c) Closing
-grows_at p.AfterStrategies due from outcomes c Comma = bodies (at p.AfterStrategies due from outcomes c) Comma
-grows_at p.AfterStrategies due from outcomes c (Bare b) = bodies (at p.AfterStrategies due from outcomes c) (Bare b)
-grows_at p.AfterStrategies due from outcomes c Broken = bodies (at p.AfterStrategies due from outcomes c) Broken
+grows_at p.AfterStrategies due from outcomes c Opening =
+    bodies (at p.AfterStrategies due from outcomes c) Opening
+grows_at p.AfterStrategies due from outcomes c Closing =
+    bodies (at p.AfterStrategies due from outcomes c) Closing
+grows_at p.AfterStrategies due from outcomes c Comma =
+    bodies (at p.AfterStrategies due from outcomes c) Comma
+grows_at p.AfterStrategies due from outcomes c (Bare b) =
+    bodies (at p.AfterStrategies due from outcomes c) (Bare b)
+grows_at p.AfterStrategies due from outcomes c Broken =
+    bodies (at p.AfterStrategies due from outcomes c) Broken
 grows_at p.AfterComment due from outcomes c t = bodies (at p.AfterComment due from outcomes c) t
 grows_at p.FlatPayoffs due from outcomes c t = flats (at p.FlatPayoffs due from outcomes c) t
 grows_at p.InOutcomes due from outcomes c Opening = refl
@@ -144,52 +172,72 @@ grows_at p.InOutcomes due from outcomes c Closing = (same c.profiles, tt)
 grows_at p.InOutcomes due from outcomes c _ = tt
 grows_at p.OutcomeName due from outcomes c (Text label) = refl
 grows_at p.OutcomeName due from outcomes c _ = tt
-grows_at p.BracedPayoff due from outcomes c t = braced_payoffs (at p.BracedPayoff due from outcomes c) t
+grows_at p.BracedPayoff due from outcomes c t =
+    braced_payoffs (at p.BracedPayoff due from outcomes c) t
 grows_at p.AfterBracedPayoff due from outcomes c Comma = refl
-grows_at p.AfterBracedPayoff due from outcomes c Opening = braced_payoffs (at p.AfterBracedPayoff due from outcomes c) Opening
-grows_at p.AfterBracedPayoff due from outcomes c Closing = braced_payoffs (at p.AfterBracedPayoff due from outcomes c) Closing
-grows_at p.AfterBracedPayoff due from outcomes c (Text label) = braced_payoffs (at p.AfterBracedPayoff due from outcomes c) (Text label)
-grows_at p.AfterBracedPayoff due from outcomes c (Bare b) = braced_payoffs (at p.AfterBracedPayoff due from outcomes c) (Bare b)
-grows_at p.AfterBracedPayoff due from outcomes c Broken = braced_payoffs (at p.AfterBracedPayoff due from outcomes c) Broken
-grows_at p.OutcomeNumbers due from outcomes c t = by_test t (at p.OutcomeNumbers due from outcomes c) (nat_eq due 0) _ _ tt (numbers (at p.OutcomeNumbers due from outcomes c) t)
+grows_at p.AfterBracedPayoff due from outcomes c Opening =
+    braced_payoffs (at p.AfterBracedPayoff due from outcomes c) Opening
+grows_at p.AfterBracedPayoff due from outcomes c Closing =
+    braced_payoffs (at p.AfterBracedPayoff due from outcomes c) Closing
+grows_at p.AfterBracedPayoff due from outcomes c (Text label) =
+    braced_payoffs (at p.AfterBracedPayoff due from outcomes c) (Text label)
+grows_at p.AfterBracedPayoff due from outcomes c (Bare b) =
+    braced_payoffs (at p.AfterBracedPayoff due from outcomes c) (Bare b)
+grows_at p.AfterBracedPayoff due from outcomes c Broken =
+    braced_payoffs (at p.AfterBracedPayoff due from outcomes c) Broken
+grows_at p.OutcomeNumbers due from outcomes c t =
+    by_test t (at p.OutcomeNumbers due from outcomes c) (nat_eq due 0) _ _ tt
+    (numbers (at p.OutcomeNumbers due from outcomes c) t)
 
 grows : (s after : State) (t : Token) → step s t ≡ Ok after → Grown t s after
-grows s after t e = subst (Grows t s) e (grows_at s.position s.due s.list_start s.outcomes s.content t)
+grows s after t e =
+    subst (Grows t s) e (grows_at s.position s.due s.list_start s.outcomes s.content t)
 
-no_fewer : (s after : State) (t : Token) → Grown t s after → s.content.profiles ≤ after.content.profiles
+no_fewer : (s after : State) (t : Token) → Grown t s after
+    → s.content.profiles ≤ after.content.profiles
 no_fewer s after (Bare b) h = h.0
 no_fewer s after Closing h = h.0
 no_fewer s after _ h = omega (arith, h)
 
-more_by : (s after : State) (t : Token) → Grown t s after → s.content.profiles < after.content.profiles → IsBareOrClosing t
+more_by : (s after : State) (t : Token)
+    → Grown t s after → s.content.profiles < after.content.profiles → IsBareOrClosing t
 more_by s after (Bare b) h more = tt
 more_by s after Closing h more = tt
 more_by s after _ h more = absurd (omega (arith, h, more))
 
-settled_by : (s after : State) (t : Token) → Grown t s after → IsBareOrClosing t → IsSettled after.position
+settled_by : (s after : State) (t : Token) → Grown t s after → IsBareOrClosing t
+    → IsSettled after.position
 settled_by s after (Bare b) h k = h.1
 settled_by s after Closing h k = h.1
 settled_by s after _ h k = absurd k
 
 -- where it makes them more, it is one of these
-pub makes_more : (s after : State) (t : Token) → step s t ≡ Ok after → s.content.profiles < after.content.profiles → IsBareOrClosing t
+pub makes_more : (s after : State) (t : Token)
+    → step s t ≡ Ok after → s.content.profiles < after.content.profiles → IsBareOrClosing t
 makes_more s after t e more = more_by s after t (grows s after t e) more
 
 -- behind one of these no list is open
-pub settles : (s after : State) (t : Token) → step s t ≡ Ok after → IsBareOrClosing t → IsSettled after.position
+pub settles : (s after : State) (t : Token) → step s t ≡ Ok after → IsBareOrClosing t
+    → IsSettled after.position
 settles s after t e h = settled_by s after t (grows s after t e) h
 
-ended_keeps : (c : Content) (o : Option What) (r : Content) → ended c o ≡ Ok r → c.profiles ≤ r.profiles
-ended_keeps c None r e = let is : c ≡ r = ok_is c r e in subst (λ (x : Content). c.profiles ≤ x.profiles) is (omega arith)
+ended_keeps : (c : Content) (o : Option What) (r : Content) → ended c o ≡ Ok r
+    → c.profiles ≤ r.profiles
+ended_keeps c None r e =
+    let is : c ≡ r = ok_is c r e in
+    subst (λ (x : Content). c.profiles ≤ x.profiles) is (omega arith)
 ended_keeps c (Some what) r e = absurd cc
 
 -- a run that ends well has read no fewer profiles than there were
 
-run_step : (ts : List Token) (o : Result State Why) (r : Content) → (o >>= λ after. run after ts) ≡ Ok r → (after : State) × (o ≡ Ok after) × (run after ts ≡ Ok r)
+run_step : (ts : List Token) (o : Result State Why) (r : Content)
+    → (o >>= λ after. run after ts) ≡ Ok r
+    → (after : State) × (o ≡ Ok after) × (run after ts ≡ Ok r)
 run_step ts (Ok after) r e = (after, refl, e)
 run_step ts (Err why) r e = absurd cc
 
-pub run_grows : (ts : List Token) (s : State) (r : Content) → run s ts ≡ Ok r → s.content.profiles ≤ r.profiles
+pub run_grows : (ts : List Token) (s : State) (r : Content) → run s ts ≡ Ok r
+    → s.content.profiles ≤ r.profiles
 run_grows [] s r e = ended_keeps s.content (due_at s.position s.due) r e
 run_grows (t ∷ ts) s r e =
     let h = run_step ts (step s t) r e in
@@ -200,8 +248,11 @@ run_grows (t ∷ ts) s r e =
 -- ---- past the limit
 
 -- a walk makes them no fewer
-walk_grows : (ts : List Token) (s after : State) → walk s ts ≡ Ok after → s.content.profiles ≤ after.content.profiles
-walk_grows [] s after e = let is : s ≡ after = ok_is s after e in subst (λ (x : State). s.content.profiles ≤ x.content.profiles) is (same s.content.profiles)
+walk_grows : (ts : List Token) (s after : State) → walk s ts ≡ Ok after
+    → s.content.profiles ≤ after.content.profiles
+walk_grows [] s after e =
+    let is : s ≡ after = ok_is s after e in
+    subst (λ (x : State). s.content.profiles ≤ x.content.profiles) is (same s.content.profiles)
 walk_grows (t ∷ ts) s after e =
     let h = walk_step t ts s after e in
     let first = no_fewer s h.0 t (grows s h.0 t h.1) in
@@ -209,28 +260,39 @@ walk_grows (t ∷ ts) s after e =
     omega (arith, first, rest)
 
 -- a file has the profiles that were read
-size_read : (ts : List Token) (r : Content) → run start ts ≡ Ok r → length (table_of r).entries ≡ r.profiles
+size_read : (ts : List Token) (r : Content) → run start ts ≡ Ok r
+    → length (table_of r).entries ≡ r.profiles
 size_read ts r e = length-entries r (sentence_found ts r e).complete
 
-pub read_past : (ts : List Token) (s : State) → Leads ts s → (more : List Token) (t : Table) → Sentence (ts ++ more) t → s.content.profiles ≤ length t.entries
+pub read_past : (ts : List Token) (s : State) → Leads ts s → (more : List Token) (t : Table)
+    → Sentence (ts ++ more) t → s.content.profiles ≤ length t.entries
 read_past ts s h more t sentence =
     let p = sentence_again (ts ++ more) t sentence in
     let grown = run_grows more s p.content (sym (leads_run ts more s h) ∙ p.read) in
-    let size : length t.entries ≡ p.content.profiles = ap (λ (u : Table). length u.entries) (sym p.means) ∙ size_read (ts ++ more) p.content p.read in
+    let size : length t.entries ≡ p.content.profiles =
+    ap (λ (u : Table). length u.entries) (sym p.means) ∙ size_read (ts ++ more) p.content p.read in
     omega (arith, grown, size)
 
-begins_within : (ts : List Token) (s : State) → Leads ts s → IsSettled s.position → s.content.profiles ≤ profile_limit → BeginsWithinLimit ts
+begins_within : (ts : List Token) (s : State)
+    → Leads ts s → IsSettled s.position → s.content.profiles ≤ profile_limit → BeginsWithinLimit ts
 begins_within ts s h settled within =
     let e = settled_ends s settled in
     let all : run start (ts ++ e.0) ≡ Ok e.1 = leads_run ts e.0 s h ∙ e.2 in
     let size = size_read (ts ++ e.0) e.1 all in
-    let same_profiles = e.3 in
-    (e.0, table_of e.1, (sentence_found (ts ++ e.0) e.1 all).sentence, omega (arith, size, same_profiles, within))
+    let same_profiles = e.3 in (
+      e.0,
+      table_of e.1,
+      (sentence_found (ts ++ e.0) e.1 all).sentence,
+      omega (arith, size, same_profiles, within),
+    )
 
 -- up to there the limit was not passed
-pub stays_within : (ts : List Token) (s : State) → Leads ts s → s.content.profiles ≤ profile_limit → StaysWithinLimit ts
+pub stays_within : (ts : List Token) (s : State) → Leads ts s → s.content.profiles ≤ profile_limit
+    → StaysWithinLimit ts
 stays_within ts s h within front back token parts is =
-    let a = walk_split front (token ∷ back) start s (subst (λ (x : List Token). Leads x s) parts h) in
+    let a =
+    walk_split front (token ∷ back) start s (subst (λ (x : List Token). Leads x s) parts h) in
     let b = walk_step token back a.0 s a.2 in
     let grown = walk_grows back b.0 s b.2 in
-    begins_within (front ++ token ∷ []) b.0 (leads_more front token a.0 b.0 a.1 b.1) (settles a.0 b.0 token b.1 is) (omega (arith, grown, within))
+    begins_within (front ++ token ∷ []) b.0 (leads_more front token a.0 b.0 a.1 b.1)
+    (settles a.0 b.0 token b.1 is) (omega (arith, grown, within))

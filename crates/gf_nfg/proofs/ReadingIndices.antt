@@ -1,5 +1,6 @@
 -- The reading of an index, as a function, is the index that a text is.
-use Rattle.std.proofs.Common.{◌≡◌, ℕ, zero, suc, ◌<◌, ◌^◌, Bool, true, false, cond, List, [], ◌∷◌, length, arith, refl, Option, Some, None}
+use Rattle.std.proofs.Common.{◌≡◌, ℕ, zero, suc, ◌<◌, ◌^◌, Bool, true, false, cond}
+use Rattle.std.proofs.Common.{List, [], ◌∷◌, length, arith, refl, Option, Some, None}
 use Rattle.std.specs.Prelude.{nat_lt}
 use Rattle.std.specs.List.{list_all}
 use Rattle.std.specs.Char.{is_ascii_digit}
@@ -14,7 +15,10 @@ use Rattle.gf_nfg.specs.Readings.{is_numeral, index_of, count_of, positive}
 
 all_digits : (ds : List ℕ) → list_all is_ascii_digit ds ≡ true → AllDigits 10 ds
 all_digits [] h = tt
-all_digits (c ∷ cs) h = let k = and_parts (is_ascii_digit c) (list_all is_ascii_digit cs) h in (digit_from_ascii c k.0, all_digits cs k.1)
+all_digits (c ∷ cs) h = let k = and_parts (is_ascii_digit c) (list_all is_ascii_digit cs) h in (
+  digit_from_ascii c k.0,
+  all_digits cs k.1,
+)
 
 digits_all : (ds : List ℕ) → AllDigits 10 ds → list_all is_ascii_digit ds ≡ true
 digits_all [] h = refl
@@ -27,7 +31,8 @@ IsDigits-numeral bs h =
     (grind (arith, nat_tests), all_digits bs k.1)
 
 numeral_of : (bs : List ℕ) → IsDigits bs → is_numeral bs ≡ true
-numeral_of bs h = let e : nat_lt 0 (length bs) ≡ true = grind (arith, nat_tests) in rw (e, digits_all bs h.1) refl
+numeral_of bs h =
+    let e : nat_lt 0 (length bs) ≡ true = grind (arith, nat_tests) in rw (e, digits_all bs h.1) refl
 
 no_numeral : (bs : List ℕ) (b : Bool) → is_numeral bs ≡ b → ¬ (IsDigits bs) → is_numeral bs ≡ false
 no_numeral bs true e h = absurd (h (IsDigits-numeral bs e))
@@ -48,7 +53,8 @@ index_none bs TooLarge h =
     let large : nat_lt (digits_value 10 bs) (2 ^ 32) ≡ false = grind (arith, nat_tests, h.1) in
     rw (numeral_of bs h.0, large) refl
 
-index_by : (bs : List ℕ) (n : ℕ) (numeral small : Bool) → is_numeral bs ≡ numeral → nat_lt (digits_value 10 bs) (2 ^ 32) ≡ small
+index_by : (bs : List ℕ) (n : ℕ) (numeral small : Bool) → is_numeral bs ≡ numeral
+    → nat_lt (digits_value 10 bs) (2 ^ 32) ≡ small
     → cond numeral (cond small (Some (digits_value 10 bs)) None) None ≡ Some n → IsIndex bs n
 index_by bs n false small en es e = absurd cc
 index_by bs n true false en es e = absurd cc

@@ -1,5 +1,6 @@
 -- What the lemmas on runs of the machine share.
-use Rattle.std.proofs.Common.{◌≡◌, ℕ, suc, ◌-◌, Bool, true, false, cond, List, [], ◌∷◌, ◌++◌, Result, Ok, Err, refl, ap, append_assoc, arith, nat_eq, tests, rules}
+use Rattle.std.proofs.Common.{◌≡◌, ℕ, suc, ◌-◌, Bool, true, false, cond, List, [], ◌∷◌, ◌++◌}
+use Rattle.std.proofs.Common.{Result, Ok, Err, refl, ap, append_assoc, arith, nat_eq, tests, rules}
 use Rattle.std.specs.Cmp.Lexicographic.{pointwise}
 use Rattle.std.proofs.lemmas.List.{append-nil}
 use Rattle.std.proofs.lemmas.Slice.Eq.{slice_eq-Decides}
@@ -7,7 +8,8 @@ use Rattle.std.proofs.lemmas.Bool.Decides.{Decides-eqb}
 use Rattle.gf_token.specs.Token.{Token}
 use Rattle.gf_token.specs.declared.fault.Why.{Why}
 use Rattle.gf_fraction.specs.Ratio.{Ratio}
-use Rattle.gf_nfg.specs.Machine.{State, Content, run, with_players, with_labels, with_payoffs, with_choices, ◌>>=◌}
+use Rattle.gf_nfg.specs.Machine.{State, Content, run, with_players, with_labels}
+use Rattle.gf_nfg.specs.Machine.{with_payoffs, with_choices, ◌>>=◌}
 
 pub not_zero : (d : ℕ) → nat_eq (suc d) 0 ≡ false
 not_zero d = search (tests, rules)
@@ -22,7 +24,8 @@ pub ok_is : {A : Type 0} (x y : A) → ok_why x ≡ ok_why y → x ≡ y
 ok_is x y e = cc
 
 -- one token was taken at a test
-pub guard_ok : (b : Bool) (s : State) (why : Why) (ts : List Token) (r : Content) → (cond b (Ok s) (Err why) >>= λ after. run after ts) ≡ Ok r → (b ≡ true) × (run s ts ≡ Ok r)
+pub guard_ok : (b : Bool) (s : State) (why : Why) (ts : List Token) (r : Content)
+    → (cond b (Ok s) (Err why) >>= λ after. run after ts) ≡ Ok r → (b ≡ true) × (run s ts ≡ Ok r)
 guard_ok true s why ts r e = (refl, e)
 guard_ok false s why ts r e = absurd cc
 
@@ -34,23 +37,31 @@ same_bytes b word e = (slice_eq-Decides Decides-eqb b word (pointwise nat_eq b w
 pub with_no_players : (c : Content) → with_players c [] ≡ c
 with_no_players c = ap (λ (ps : List (List ℕ)). record c { players = ps }) (append-nil c.players)
 
-pub with_more_players : (c : Content) (p : List ℕ) (ps : List (List ℕ)) → with_players (with_players c (p ∷ [])) ps ≡ with_players c (p ∷ ps)
-with_more_players c p ps = ap (λ (qs : List (List ℕ)). record c { players = qs }) (append_assoc c.players (p ∷ []) ps)
+pub with_more_players : (c : Content) (p : List ℕ) (ps : List (List ℕ))
+    → with_players (with_players c (p ∷ [])) ps ≡ with_players c (p ∷ ps)
+with_more_players c p ps =
+    ap (λ (qs : List (List ℕ)). record c { players = qs }) (append_assoc c.players (p ∷ []) ps)
 
 pub with_no_labels : (c : Content) → with_labels c [] ≡ c
 with_no_labels c = ap (λ (ls : List (List ℕ)). record c { labels = ls }) (append-nil c.labels)
 
-pub with_more_labels : (c : Content) (ls ms : List (List ℕ)) → with_labels (with_labels c ls) ms ≡ with_labels c (ls ++ ms)
-with_more_labels c ls ms = ap (λ (ns : List (List ℕ)). record c { labels = ns }) (append_assoc c.labels ls ms)
+pub with_more_labels : (c : Content) (ls ms : List (List ℕ))
+    → with_labels (with_labels c ls) ms ≡ with_labels c (ls ++ ms)
+with_more_labels c ls ms =
+    ap (λ (ns : List (List ℕ)). record c { labels = ns }) (append_assoc c.labels ls ms)
 
 pub with_no_payoffs : (c : Content) → with_payoffs c [] ≡ c
 with_no_payoffs c = ap (λ (ns : List Ratio). record c { payoffs = ns }) (append-nil c.payoffs)
 
-pub with_more_payoffs : (c : Content) (ms ns : List Ratio) → with_payoffs (with_payoffs c ms) ns ≡ with_payoffs c (ms ++ ns)
-with_more_payoffs c ms ns = ap (λ (ls : List Ratio). record c { payoffs = ls }) (append_assoc c.payoffs ms ns)
+pub with_more_payoffs : (c : Content) (ms ns : List Ratio)
+    → with_payoffs (with_payoffs c ms) ns ≡ with_payoffs c (ms ++ ns)
+with_more_payoffs c ms ns =
+    ap (λ (ls : List Ratio). record c { payoffs = ls }) (append_assoc c.payoffs ms ns)
 
 pub with_no_choices : (c : Content) → with_choices c [] ≡ c
 with_no_choices c = ap (λ (ks : List ℕ). record c { choices = ks }) (append-nil c.choices)
 
-pub with_more_choices : (c : Content) (k : ℕ) (ks : List ℕ) → with_choices (with_choices c (k ∷ [])) ks ≡ with_choices c (k ∷ ks)
-with_more_choices c k ks = ap (λ (ls : List ℕ). record c { choices = ls }) (append_assoc c.choices (k ∷ []) ks)
+pub with_more_choices : (c : Content) (k : ℕ) (ks : List ℕ)
+    → with_choices (with_choices c (k ∷ [])) ks ≡ with_choices c (k ∷ ks)
+with_more_choices c k ks =
+    ap (λ (ls : List ℕ). record c { choices = ls }) (append_assoc c.choices (k ∷ []) ks)

@@ -1,5 +1,6 @@
 -- Which tokens a text spells that is made of pieces with whitespace between them.
-use Rattle.std.proofs.Common.{◌≡◌, ℕ, ◌+◌, true, false, List, [], ◌∷◌, ◌++◌, length, map, refl, ap, append_assoc, arith}
+use Rattle.std.proofs.Common.{◌≡◌, ℕ, ◌+◌, true, false, List, [], ◌∷◌, ◌++◌}
+use Rattle.std.proofs.Common.{length, map, refl, ap, append_assoc, arith}
 use Rattle.std.specs.Prelude.{codes}
 use Rattle.std.specs.List.{AllByRecursion, flat_map}
 use Rattle.gf_token.specs.Byte.{is_space, is_bare}
@@ -13,7 +14,8 @@ use Rattle.gf_nfg.specs.TableText.{spaced, list_text, quoted, lines_text}
 
 -- from any place on, the bytes spell these tokens
 abbrev pub Tells : List ℕ → List Token → Type 0
-Tells bytes tokens = (at : ℕ) → (lexemes : List Lexeme) × Spells at bytes lexemes × (map (λ l. l.token) lexemes ≡ tokens)
+Tells bytes tokens = (at : ℕ)
+    → (lexemes : List Lexeme) × Spells at bytes lexemes × (map (λ l. l.token) lexemes ≡ tokens)
 
 -- nothing, or whitespace first
 abbrev pub IsApart : List ℕ → Type 0
@@ -22,24 +24,39 @@ IsApart (b ∷ bytes) = is_space b ≡ true
 
 -- a piece of a text spells these tokens, with anything behind it that stands apart
 abbrev pub Says : List ℕ → List Token → Type 0
-Says piece tokens = (rest : List ℕ) (others : List Token) → IsApart rest → Tells rest others → Tells (piece ++ rest) (tokens ++ others)
+Says piece tokens = (rest : List ℕ) (others : List Token) → IsApart rest → Tells rest others
+    → Tells (piece ++ rest) (tokens ++ others)
 
 -- ---- whitespace
 
 pub tells_nothing : Tells [] []
 tells_nothing at = ([], tt, refl)
 
-tells_space : (b : ℕ) (rest : List ℕ) (tokens : List Token) → is_space b ≡ true → Tells rest tokens → Tells (b ∷ rest) tokens
+tells_space : (b : ℕ) (rest : List ℕ) (tokens : List Token) → is_space b ≡ true → Tells rest tokens
+    → Tells (b ∷ rest) tokens
 tells_space b rest tokens s h at = let k = h (at + 1) in (k.0, wider k.0 b at rest s k.1, k.2)
 
 -- ---- single tokens
 
-says_token : (t : Token) → IsSpelled t → ((rest : List ℕ) → IsApart rest → MayPrecede t rest) → ((ls : List Lexeme) (A : Type 0) → A → GoesOn t ls A) → Says (spelling t) (t ∷ [])
+says_token : (t : Token) → IsSpelled t → ((rest : List ℕ) → IsApart rest → MayPrecede t rest)
+    → ((ls : List Lexeme) (A : Type 0) → A → GoesOn t ls A) → Says (spelling t) (t ∷ [])
 says_token t h precedes on rest others apart told at =
     let end = at + length (spelling t) in
     let k = told end in (
       lexeme at end t ∷ k.0,
-      (record { gap = []; rest = rest; parts = refl; is_gap = tt; is_spelled = h; may_precede = precedes rest apart; start = omega arith; end = refl }, on k.0 (Spells end rest k.0) k.1),
+      (
+        record {
+          gap = [];
+          rest = rest;
+          parts = refl;
+          is_gap = tt;
+          is_spelled = h;
+          may_precede = precedes rest apart;
+          start = omega arith;
+          end = refl;
+        },
+        on k.0 (Spells end rest k.0) k.1,
+      ),
       ap (λ (ts : List Token). t ∷ ts) k.2,
     )
 
@@ -64,36 +81,53 @@ says_bare bytes h = says_token (Bare bytes) h (bare_apart bytes) (λ ls A a. a)
 
 -- ---- pieces with one space between them
 
-pub says_both : (p q : List ℕ) (xs ys : List Token) → Says p xs → Says q ys → Says (p ++ 32 ∷ q) (xs ++ ys)
+pub says_both : (p q : List ℕ) (xs ys : List Token) → Says p xs → Says q ys
+    → Says (p ++ 32 ∷ q) (xs ++ ys)
 says_both p q xs ys h k rest others apart told =
-    rw (append_assoc p (32 ∷ q) rest, append_assoc xs ys others) (h (32 ∷ (q ++ rest)) (ys ++ others) refl (tells_space 32 (q ++ rest) (ys ++ others) refl (k rest others apart told)))
+    rw (append_assoc p (32 ∷ q) rest, append_assoc xs ys others) (h (32 ∷ (q ++ rest))
+    (ys ++ others) refl (tells_space 32 (q ++ rest) (ys ++ others) refl (k rest others apart told)))
 
-pub says_spaced : {X : Type 0} (f : X → List ℕ) (g : X → List Token) (xs : List X) → AllByRecursion (λ x. Says (f x) (g x)) xs → Says (spaced (map f xs)) (flat_map g xs)
+pub says_spaced : {X : Type 0} (f : X → List ℕ) (g : X → List Token) (xs : List X)
+    → AllByRecursion (λ x. Says (f x) (g x)) xs → Says (spaced (map f xs)) (flat_map g xs)
 says_spaced f g [] h = λ rest others apart told. told
-says_spaced f g (x ∷ []) h = λ rest others apart told. rw (append_assoc (g x) [] others) (h.0 rest others apart told)
-says_spaced f g (x ∷ y ∷ xs) h = says_both (f x) (spaced (map f (y ∷ xs))) (g x) (flat_map g (y ∷ xs)) h.0 (says_spaced f g (y ∷ xs) h.1)
+says_spaced f g (x ∷ []) h =
+    λ rest others apart told. rw (append_assoc (g x) [] others) (h.0 rest others apart told)
+says_spaced f g (x ∷ y ∷ xs) h = says_both (f x) (spaced (map f (y ∷ xs))) (g x)
+    (flat_map g (y ∷ xs)) h.0 (says_spaced f g (y ∷ xs) h.1)
 
 -- the items of a list, and its closing brace
-spaced_more : (item : List ℕ) (items : List (List ℕ)) → spaced (item ∷ (items ++ codes "}" ∷ [])) ≡ item ++ 32 ∷ spaced (items ++ codes "}" ∷ [])
+spaced_more : (item : List ℕ) (items : List (List ℕ))
+    → spaced (item ∷ (items ++ codes "}" ∷ [])) ≡ item ++ 32 ∷ spaced (items ++ codes "}" ∷ [])
 spaced_more item [] = refl
 spaced_more item (other ∷ items) = refl
 
-says_items : {X : Type 0} (f : X → List ℕ) (g : X → List Token) (xs : List X) → AllByRecursion (λ x. Says (f x) (g x)) xs → Says (spaced (map f xs ++ codes "}" ∷ [])) (flat_map g xs ++ Closing ∷ [])
+says_items : {X : Type 0} (f : X → List ℕ) (g : X → List Token) (xs : List X)
+    → AllByRecursion (λ x. Says (f x) (g x)) xs
+    → Says (spaced (map f xs ++ codes "}" ∷ [])) (flat_map g xs ++ Closing ∷ [])
 says_items f g [] h = says_closing
 says_items f g (x ∷ xs) h =
     rw (spaced_more (f x) (map f xs), append_assoc (g x) (flat_map g xs) (Closing ∷ []))
-    (says_both (f x) (spaced (map f xs ++ codes "}" ∷ [])) (g x) (flat_map g xs ++ Closing ∷ []) h.0 (says_items f g xs h.1))
+    (says_both (f x) (spaced (map f xs ++ codes "}" ∷ [])) (g x) (flat_map g xs ++ Closing ∷ []) h.0
+    (says_items f g xs h.1))
 
-pub says_list : {X : Type 0} (f : X → List ℕ) (g : X → List Token) (xs : List X) → AllByRecursion (λ x. Says (f x) (g x)) xs → Says (list_text (map f xs)) (braced (flat_map g xs))
+pub says_list : {X : Type 0} (f : X → List ℕ) (g : X → List Token) (xs : List X)
+    → AllByRecursion (λ x. Says (f x) (g x)) xs
+    → Says (list_text (map f xs)) (braced (flat_map g xs))
 says_list f g xs h =
     rw (spaced_more (codes "{") (map f xs))
-    (says_both (codes "{") (spaced (map f xs ++ codes "}" ∷ [])) (Opening ∷ []) (flat_map g xs ++ Closing ∷ []) says_opening (says_items f g xs h))
+    (says_both (codes "{") (spaced (map f xs ++ codes "}" ∷ [])) (Opening ∷ [])
+    (flat_map g xs ++ Closing ∷ []) says_opening (says_items f g xs h))
 
 -- ---- lines
 
-pub tells_line : (line : List ℕ) (lines : List (List ℕ)) (tokens others : List Token) → Says line tokens → Tells (lines_text lines) others → Tells (lines_text (line ∷ lines)) (tokens ++ others)
-tells_line line lines tokens others h k = rw (append_assoc line (10 ∷ []) (lines_text lines)) (h (10 ∷ lines_text lines) others refl (tells_space 10 (lines_text lines) others refl k))
+pub tells_line : (line : List ℕ) (lines : List (List ℕ)) (tokens others : List Token)
+    → Says line tokens → Tells (lines_text lines) others
+    → Tells (lines_text (line ∷ lines)) (tokens ++ others)
+tells_line line lines tokens others h k = rw (append_assoc line (10 ∷ []) (lines_text lines))
+    (h (10 ∷ lines_text lines) others refl (tells_space 10 (lines_text lines) others refl k))
 
-pub tells_lines : {X : Type 0} (f : X → List ℕ) (g : X → List Token) (xs : List X) → AllByRecursion (λ x. Says (f x) (g x)) xs → Tells (lines_text (map f xs)) (flat_map g xs)
+pub tells_lines : {X : Type 0} (f : X → List ℕ) (g : X → List Token) (xs : List X)
+    → AllByRecursion (λ x. Says (f x) (g x)) xs → Tells (lines_text (map f xs)) (flat_map g xs)
 tells_lines f g [] h = tells_nothing
-tells_lines f g (x ∷ xs) h = tells_line (f x) (map f xs) (g x) (flat_map g xs) h.0 (tells_lines f g xs h.1)
+tells_lines f g (x ∷ xs) h =
+    tells_line (f x) (map f xs) (g x) (flat_map g xs) h.0 (tells_lines f g xs h.1)

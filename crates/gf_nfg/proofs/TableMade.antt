@@ -1,5 +1,6 @@
 -- A table that is made of labels and fractions.
-use Rattle.std.proofs.Common.{◌≡◌, ℕ, ◌*◌, ◌/◌, ◌<◌, ◌≤◌, List, [], ◌∷◌, length, map, sym, ap, subst, ◌∙◌, arith}
+use Rattle.std.proofs.Common.{◌≡◌, ℕ, ◌*◌, ◌/◌, ◌<◌, ◌≤◌, List, [], ◌∷◌}
+use Rattle.std.proofs.Common.{length, map, sym, ap, subst, ◌∙◌, arith}
 use Rattle.std.specs.Prelude.{Option, SomeIff, Vec, unwrap_or, vec_len}
 use Rattle.std.specs.List.{AllByRecursion, AllZip, flat_map}
 use Rattle.std.proofs.lemmas.List.{length-map}
@@ -13,7 +14,9 @@ use Rattle.gf_nfg.specs.Profiles.{positions, product}
 use Rattle.gf_nfg.specs.Table.{IsSpellable, Table}
 use Rattle.gf_nfg.specs.TableAccess.{IsTableOf}
 use Rattle.gf_nfg.specs.TableParts.{IsHeld, IsNamed, Names, row_of, table_with}
-use Rattle.gf_nfg.proofs.TableRows.{full_rows, length-kept, made_of_parts, named_by_lists, positions_have_rows, profiles_counted, rows-table_with, rows_in_turn}
+use Rattle.gf_nfg.proofs.TableRows.{full_rows, length-kept, made_of_parts}
+use Rattle.gf_nfg.proofs.TableRows.{named_by_lists, positions_have_rows}
+use Rattle.gf_nfg.proofs.TableRows.{profiles_counted, rows-table_with, rows_in_turn}
 
 labels_spelled : (ls : List Label) → AllByRecursion IsLabel (map label_of ls)
 labels_spelled [] = tt

@@ -1,22 +1,27 @@
 -- Lists that are cut into pieces.
-use Rattle.std.proofs.Common.{◌≡◌, ℕ, zero, suc, ◌+◌, ◌-◌, ◌<◌, ◌≤◌, List, [], ◌∷◌, ◌++◌, length, take, drop, get_or, Some, slice_get, refl, sym, ap, ◌∙◌, arith, true}
-use Rattle.std.proofs.lemmas.List.{take-append-le, drop-append-le, length-drop, length-append, take_all, drop_at}
+use Rattle.std.proofs.Common.{◌≡◌, ℕ, zero, suc, ◌+◌, ◌-◌, ◌<◌, ◌≤◌, List, [], ◌∷◌, ◌++◌, length}
+use Rattle.std.proofs.Common.{take, drop, get_or, Some, slice_get, refl, sym, ap, ◌∙◌, arith, true}
+use Rattle.std.proofs.lemmas.List.{take-append-le, drop-append-le, length-drop}
+use Rattle.std.proofs.lemmas.List.{length-append, take_all, drop_at}
 use Rattle.gf_fraction.proofs.AllElements.{all_both}
 use Rattle.gf_token.specs.LabelSpelling.{is_spelling, IsLabel}
 use Rattle.gf_nfg.specs.TableParts.{pieces, start_of, RisesTo, IsCut}
 
-pub start_of_suc : (from : ℕ) (ends : List ℕ) (k d : ℕ) → k < length ends → start_of from ends (suc k) ≡ get_or ends k d
+pub start_of_suc : (from : ℕ) (ends : List ℕ) (k d : ℕ) → k < length ends
+    → start_of from ends (suc k) ≡ get_or ends k d
 start_of_suc from [] k d h = absurd (omega (arith, h))
 start_of_suc from (end ∷ ends) zero d h = refl
 start_of_suc from (end ∷ ends) (suc k) d h = start_of_suc end ends k d (omega (arith, h))
 
-pub length-pieces : {A : Type 0} (from : ℕ) (ends : List ℕ) (items : List A) → length (pieces from ends items) ≡ length ends
+pub length-pieces : {A : Type 0} (from : ℕ) (ends : List ℕ) (items : List A)
+    → length (pieces from ends items) ≡ length ends
 length-pieces from [] items = refl
 length-pieces from (end ∷ ends) items = ap suc (length-pieces end ends items)
 
 -- each piece lies between its start and its end
 pub piece_at : {A : Type 0} (from : ℕ) (ends : List ℕ) (items : List A) (k d : ℕ) → k < length ends
-    → slice_get (pieces from ends items) k ≡ Some (take (get_or ends k d - start_of from ends k) (drop (start_of from ends k) items))
+    → slice_get (pieces from ends items) k
+    ≡ Some (take (get_or ends k d - start_of from ends k) (drop (start_of from ends k) items))
 piece_at from [] items k d h = absurd (omega (arith, h))
 piece_at from (end ∷ ends) items zero d h = refl
 piece_at from (end ∷ ends) items (suc k) d h = piece_at end ends items k d (omega (arith, h))
@@ -25,34 +30,43 @@ pub rises_within : (whole from : ℕ) (ends : List ℕ) → RisesTo whole from e
 rises_within whole from [] h = omega (arith, h)
 rises_within whole from (end ∷ ends) h = omega (arith, h.0, rises_within whole end ends h.1)
 
-pub start_before_end : (whole from : ℕ) (ends : List ℕ) (k d : ℕ) → RisesTo whole from ends → k < length ends → start_of from ends k ≤ get_or ends k d
+pub start_before_end : (whole from : ℕ) (ends : List ℕ) (k d : ℕ)
+    → RisesTo whole from ends → k < length ends → start_of from ends k ≤ get_or ends k d
 start_before_end whole from [] k d r h = absurd (omega (arith, h))
 start_before_end whole from (end ∷ ends) zero d r h = r.0
-start_before_end whole from (end ∷ ends) (suc k) d r h = start_before_end whole end ends k d r.1 (omega (arith, h))
+start_before_end whole from (end ∷ ends) (suc k) d r h =
+    start_before_end whole end ends k d r.1 (omega (arith, h))
 
-pub end_within : (whole from : ℕ) (ends : List ℕ) (k d : ℕ) → RisesTo whole from ends → k < length ends → get_or ends k d ≤ whole
+pub end_within : (whole from : ℕ) (ends : List ℕ) (k d : ℕ)
+    → RisesTo whole from ends → k < length ends → get_or ends k d ≤ whole
 end_within whole from [] k d r h = absurd (omega (arith, h))
 end_within whole from (end ∷ ends) zero d r h = rises_within whole end ends r.1
-end_within whole from (end ∷ ends) (suc k) d r h = end_within whole end ends k d r.1 (omega (arith, h))
+end_within whole from (end ∷ ends) (suc k) d r h =
+    end_within whole end ends k d r.1 (omega (arith, h))
 
-pub take_part : {A : Type 0} (n m : ℕ) (xs ys : List A) → m + n ≤ length xs → take n (drop m (xs ++ ys)) ≡ take n (drop m xs)
+pub take_part : {A : Type 0} (n m : ℕ) (xs ys : List A) → m + n ≤ length xs
+    → take n (drop m (xs ++ ys)) ≡ take n (drop m xs)
 take_part n m xs ys h =
     let inside : n ≤ length (drop m xs) = omega (arith, length-drop m xs) in
     rw (drop-append-le m xs ys (omega (arith, h))) (take-append-le n (drop m xs) ys inside)
 
 -- a piece more at the end
-pub pieces-push : {A : Type 0} (from : ℕ) (ends : List ℕ) (items more : List A) → RisesTo (length items) from ends
-    → pieces from (ends ++ (length items + length more) ∷ []) (items ++ more) ≡ pieces from ends items ++ more ∷ []
+pub pieces-push : {A : Type 0} (from : ℕ) (ends : List ℕ) (items more : List A)
+    → RisesTo (length items) from ends
+    → pieces from (ends ++ (length items + length more) ∷ []) (items ++ more)
+    ≡ pieces from ends items ++ more ∷ []
 pieces-push from [] items more h =
     let size : length items + length more - from ≡ length more = omega (arith, h) in
     let rest : drop from (items ++ more) ≡ more = drop_at items more from (sym h) in
     rw (size, rest, take_all (length more) more (omega arith)) refl
 pieces-push from (end ∷ ends) items more h =
     let within = rises_within (length items) end ends h.1 in
-    let part : take (end - from) (drop from (items ++ more)) ≡ take (end - from) (drop from items) = take_part (end - from) from items more (omega (arith, h.0, within)) in
+    let part : take (end - from) (drop from (items ++ more)) ≡ take (end - from) (drop from items) =
+    take_part (end - from) from items more (omega (arith, h.0, within)) in
     rw (part, pieces-push end ends items more h.1) refl
 
-pub rises-push : (from : ℕ) (ends : List ℕ) (whole more : ℕ) → RisesTo whole from ends → RisesTo (whole + more) from (ends ++ (whole + more) ∷ [])
+pub rises-push : (from : ℕ) (ends : List ℕ) (whole more : ℕ) → RisesTo whole from ends
+    → RisesTo (whole + more) from (ends ++ (whole + more) ∷ [])
 rises-push from [] whole more h = (omega (arith, h), refl)
 rises-push from (end ∷ ends) whole more h = (h.0, rises-push end ends whole more h.1)
 
@@ -63,19 +77,30 @@ pub record IsMore (ends bytes more ends' bytes' : List ℕ) : Type 0 where
   pub bytes_are : bytes' ≡ bytes ++ more
   pub ends_are : ends' ≡ ends ++ length bytes' ∷ []
 
-pub pieces-more : (ends bytes more ends' bytes' : List ℕ) → IsMore ends bytes more ends' bytes' → pieces 0 ends' bytes' ≡ pieces 0 ends bytes ++ more ∷ []
+pub pieces-more : (ends bytes more ends' bytes' : List ℕ) → IsMore ends bytes more ends' bytes'
+    → pieces 0 ends' bytes' ≡ pieces 0 ends bytes ++ more ∷ []
 pieces-more ends bytes more ends' bytes' m =
-    let e : ends' ≡ ends ++ (length bytes + length more) ∷ [] = m.ends_are ∙ ap (λ (bs : List ℕ). ends ++ length bs ∷ []) m.bytes_are ∙ ap (λ (n : ℕ). ends ++ n ∷ []) (length-append bytes more) in
+    let e : ends' ≡ ends ++ (length bytes + length more) ∷ [] = m.ends_are
+    ∙ ap (λ (bs : List ℕ). ends ++ length bs ∷ []) m.bytes_are
+    ∙ ap (λ (n : ℕ). ends ++ n ∷ []) (length-append bytes more) in
     rw (e, m.bytes_are) (pieces-push 0 ends bytes more m.is_cut.rises)
 
-pub cut_more : (ends bytes more ends' bytes' : List ℕ) → IsMore ends bytes more ends' bytes' → IsCut ends' bytes'
+pub cut_more : (ends bytes more ends' bytes' : List ℕ) → IsMore ends bytes more ends' bytes'
+    → IsCut ends' bytes'
 cut_more ends bytes more ends' bytes' m =
-    let e : ends' ≡ ends ++ (length bytes + length more) ∷ [] = m.ends_are ∙ ap (λ (bs : List ℕ). ends ++ length bs ∷ []) m.bytes_are ∙ ap (λ (n : ℕ). ends ++ n ∷ []) (length-append bytes more) in
-    let whole : length bytes' ≡ length bytes + length more = ap length m.bytes_are ∙ length-append bytes more in
+    let e : ends' ≡ ends ++ (length bytes + length more) ∷ [] = m.ends_are
+    ∙ ap (λ (bs : List ℕ). ends ++ length bs ∷ []) m.bytes_are
+    ∙ ap (λ (n : ℕ). ends ++ n ∷ []) (length-append bytes more) in
+    let whole : length bytes' ≡ length bytes + length more =
+    ap length m.bytes_are ∙ length-append bytes more in
     record {
       rises = rw (whole, e) (rises-push 0 ends (length bytes) (length more) m.is_cut.rises);
-      spelled = rw (pieces-more ends bytes more ends' bytes' m) (all_both IsLabel (pieces 0 ends bytes) (more ∷ []) m.is_cut.spelled (m.more_spelled, tt));
+      spelled = rw (pieces-more ends bytes more ends' bytes' m) (all_both IsLabel
+          (pieces 0 ends bytes) (more ∷ []) m.is_cut.spelled (m.more_spelled, tt));
     }
 
-pub within_ends : (ends bytes : List ℕ) (labels : List (List ℕ)) (at : ℕ) → pieces 0 ends bytes ≡ labels → at < length labels → at < length ends
-within_ends ends bytes labels at v h = let e : length labels ≡ length ends = ap length (sym v) ∙ length-pieces 0 ends bytes in omega (arith, h, e)
+pub within_ends : (ends bytes : List ℕ) (labels : List (List ℕ)) (at : ℕ)
+    → pieces 0 ends bytes ≡ labels → at < length labels → at < length ends
+within_ends ends bytes labels at v h =
+    let e : length labels ≡ length ends = ap length (sym v) ∙ length-pieces 0 ends bytes in
+    omega (arith, h, e)

@@ -1,5 +1,7 @@
 -- The places of profiles.
-use Rattle.std.proofs.Common.{◌≡◌, ℕ, zero, suc, ◌+◌, ◌-◌, ◌*◌, ◌<◌, ◌≤◌, Bool, true, false, nat_eq, nat_lt, List, [], ◌∷◌, ◌++◌, length, map, drop, get_or, Option, Some, None, slice_get, option_map, refl, sym, ap, ◌∙◌, arith, inl, inr}
+use Rattle.std.proofs.Common.{◌≡◌, ℕ, zero, suc, ◌+◌, ◌-◌, ◌*◌, ◌<◌, ◌≤◌, Bool, true, false, nat_eq}
+use Rattle.std.proofs.Common.{nat_lt, List, [], ◌∷◌, ◌++◌, length, map, drop, get_or, Option, Some}
+use Rattle.std.proofs.Common.{None, slice_get, option_map, refl, sym, ap, ◌∙◌, arith, inl, inr}
 use Rattle.std.specs.Prelude.{◌⊎◌, cond, option_and_then}
 use Rattle.std.specs.List.{AllByRecursion, flat_map}
 use Rattle.std.specs.Cmp.Lexicographic.{pointwise}
@@ -20,9 +22,12 @@ use Rattle.gf_nfg.proofs.TableRows.{matched}
 -- where a profile is first found
 abbrev position_of : List ℕ → List (List ℕ) → Option ℕ
 position_of profile [] = None
-position_of profile (p ∷ ps) = cond (pointwise nat_eq p profile) (Some 0) (option_map suc (position_of profile ps))
+position_of profile (p ∷ ps) =
+    cond (pointwise nat_eq p profile) (Some 0) (option_map suc (position_of profile ps))
 
-next_row : (row : List Ratio) (rows : List (List Ratio)) (o : Option ℕ) → option_and_then (λ k. slice_get rows k) o ≡ option_and_then (λ k. slice_get (row ∷ rows) k) (option_map suc o)
+next_row : (row : List Ratio) (rows : List (List Ratio)) (o : Option ℕ)
+    → option_and_then (λ k. slice_get rows k) o
+    ≡ option_and_then (λ k. slice_get (row ∷ rows) k) (option_map suc o)
 next_row row rows None = refl
 next_row row rows (Some k) = refl
 
@@ -30,11 +35,14 @@ pub true_or_false : (b : Bool) → (b ≡ true) ⊎ (b ≡ false)
 true_or_false true = inl refl
 true_or_false false = inr refl
 
-pub payoffs_at_position : (profile : List ℕ) (ps : List (List ℕ)) (rs : List (List Ratio)) → length ps ≡ length rs → payoffs_at profile (entries_of ps rs) ≡ option_and_then (λ k. slice_get rs k) (position_of profile ps)
+pub payoffs_at_position : (profile : List ℕ) (ps : List (List ℕ)) (rs : List (List Ratio))
+    → length ps ≡ length rs → payoffs_at profile (entries_of ps rs)
+    ≡ option_and_then (λ k. slice_get rs k) (position_of profile ps)
 payoffs_at_position profile [] rs h = refl
 payoffs_at_position profile (p ∷ ps) [] h = absurd (omega (arith, h))
 payoffs_at_position profile (p ∷ ps) (r ∷ rs) h =
-    let later = payoffs_at_position profile ps rs (omega (arith, h)) ∙ next_row r rs (position_of profile ps) in
+    let later =
+    payoffs_at_position profile ps rs (omega (arith, h)) ∙ next_row r rs (position_of profile ps) in
     elim (true_or_false (pointwise nat_eq p profile)) [ inl e ↦ rw e refl | inr e ↦ rw e later ]
 
 -- ---- where a profile is found among all
@@ -43,7 +51,8 @@ plus_none : (o : Option ℕ) → o ≡ option_map (λ k. 0 + k) o
 plus_none None = refl
 plus_none (Some k) = let e : k ≡ 0 + k = omega arith in ap Some e
 
-plus_more : (n : ℕ) (o : Option ℕ) → option_map suc (option_map (λ k. n + k) o) ≡ option_map (λ k. suc n + k) o
+plus_more : (n : ℕ) (o : Option ℕ)
+    → option_map suc (option_map (λ k. n + k) o) ≡ option_map (λ k. suc n + k) o
 plus_more n None = refl
 plus_more n (Some k) = let e : suc (n + k) ≡ suc n + k = omega arith in ap Some e
 
@@ -51,37 +60,47 @@ no_later : (o : Option ℕ) → option_map suc o ≡ None → o ≡ None
 no_later None h = refl
 no_later (Some k) h = absurd (cc)
 
-some_later : (o : Option ℕ) (k : ℕ) → option_map suc o ≡ Some k → (j : ℕ) × (o ≡ Some j) × (suc j ≡ k)
+some_later : (o : Option ℕ) (k : ℕ) → option_map suc o ≡ Some k
+    → (j : ℕ) × (o ≡ Some j) × (suc j ≡ k)
 some_later None k h = absurd (cc)
 some_later (Some j) k h = let e : suc j ≡ k = cc in (j, refl, e)
 
-found_left : (profile : List ℕ) (xs ys : List (List ℕ)) (k : ℕ) → position_of profile xs ≡ Some k → position_of profile (xs ++ ys) ≡ Some k
+found_left : (profile : List ℕ) (xs ys : List (List ℕ)) (k : ℕ) → position_of profile xs ≡ Some k
+    → position_of profile (xs ++ ys) ≡ Some k
 found_left profile [] ys k h = absurd (cc)
 found_left profile (x ∷ xs) ys k h =
     elim (true_or_false (pointwise nat_eq x profile)) [
       | inl e ↦ rw e (rw e at h)
-      | inr e ↦ rw e (let later = some_later (position_of profile xs) k (rw e at h) in ap (λ (o : Option ℕ). option_map suc o) (found_left profile xs ys later.0 later.1) ∙ ap Some later.2)
+      | inr e ↦ rw e (let later = some_later (position_of profile xs) k (rw e at h) in
+          ap (λ (o : Option ℕ). option_map suc o) (found_left profile xs ys later.0 later.1)
+          ∙ ap Some later.2)
     ]
 
-found_right : (profile : List ℕ) (xs ys : List (List ℕ)) → position_of profile xs ≡ None → position_of profile (xs ++ ys) ≡ option_map (λ k. length xs + k) (position_of profile ys)
+found_right : (profile : List ℕ) (xs ys : List (List ℕ)) → position_of profile xs ≡ None
+    → position_of profile (xs ++ ys) ≡ option_map (λ k. length xs + k) (position_of profile ys)
 found_right profile [] ys h = plus_none (position_of profile ys)
 found_right profile (x ∷ xs) ys h =
     elim (true_or_false (pointwise nat_eq x profile)) [
       | inl e ↦ let some : Some 0 ≡ None = rw e at h in absurd (cc)
-      | inr e ↦ rw e (let none = no_later (position_of profile xs) (rw e at h) in ap (λ (o : Option ℕ). option_map suc o) (found_right profile xs ys none) ∙ plus_more (length xs) (position_of profile ys))
+      | inr e ↦ rw e (let none = no_later (position_of profile xs) (rw e at h) in
+          ap (λ (o : Option ℕ). option_map suc o) (found_right profile xs ys none)
+          ∙ plus_more (length xs) (position_of profile ys))
     ]
 
 -- those that agree on the others' strategies, from this one of the first player's on
 abbrev block : List ℕ → ℕ → ℕ → List (List ℕ)
 block others first n = map (λ s. s ∷ others) (numbers_from first n)
 
-other_block : (others ts : List ℕ) (t first n : ℕ) → pointwise nat_eq others ts ≡ false → position_of (t ∷ ts) (block others first n) ≡ None
+other_block : (others ts : List ℕ) (t first n : ℕ) → pointwise nat_eq others ts ≡ false
+    → position_of (t ∷ ts) (block others first n) ≡ None
 other_block others ts t first zero h = refl
 other_block others ts t first (suc n) h =
-    let other : pointwise nat_eq (first ∷ others) (t ∷ ts) ≡ false = elim (true_or_false (nat_eq first t)) [ inl e ↦ rw (e, h) refl | inr e ↦ rw e refl ] in
+    let other : pointwise nat_eq (first ∷ others) (t ∷ ts) ≡ false =
+    elim (true_or_false (nat_eq first t)) [ inl e ↦ rw (e, h) refl | inr e ↦ rw e refl ] in
     rw (other, other_block others ts t (first + 1) n h) refl
 
-own_block : (others ts : List ℕ) (t first n k : ℕ) → pointwise nat_eq others ts ≡ true → k < n → t ≡ first + k → position_of (t ∷ ts) (block others first n) ≡ Some k
+own_block : (others ts : List ℕ) (t first n k : ℕ) → pointwise nat_eq others ts ≡ true → k < n
+    → t ≡ first + k → position_of (t ∷ ts) (block others first n) ≡ Some k
 own_block others ts t first zero k h l is = absurd (omega (arith, l))
 own_block others ts t first (suc n) zero h l is =
     let same : nat_eq first t ≡ true = grind (arith, nat_tests, is) in
@@ -90,35 +109,53 @@ own_block others ts t first (suc n) (suc k) h l is =
     let other : nat_eq first t ≡ false = grind (arith, nat_tests, is) in
     rw (other, own_block others ts t (first + 1) n k h (omega (arith, l)) (omega (arith, is))) refl
 
-beyond_block : (others ts : List ℕ) (t first n : ℕ) → ((k : ℕ) → k < n → first + k ≡ t → ⊥) → position_of (t ∷ ts) (block others first n) ≡ None
+beyond_block : (others ts : List ℕ) (t first n : ℕ) → ((k : ℕ) → k < n → first + k ≡ t → ⊥)
+    → position_of (t ∷ ts) (block others first n) ≡ None
 beyond_block others ts t first zero out = refl
 beyond_block others ts t first (suc n) out =
     let here : first ≡ t → ⊥ = λ e. out 0 (omega arith) (omega (arith, e)) in
     let other : nat_eq first t ≡ false = grind (arith, nat_tests, here) in
-    rw (other, beyond_block others ts t (first + 1) n (λ k l e. out (suc k) (omega (arith, l)) (omega (arith, e)))) refl
+    rw (
+      other,
+      beyond_block others ts t (first + 1) n
+          (λ k l e. out (suc k) (omega (arith, l)) (omega (arith, e))),
+    ) refl
 
 abbrev blocks : ℕ → List (List ℕ) → List (List ℕ)
 blocks n tails = flat_map (λ others. map (λ s. s ∷ others) (positions n)) tails
 
-next_block : (n k size : ℕ) (o : Option ℕ) → size ≡ n → option_map (λ j. size + j) (option_map (λ m. m * n + k) o) ≡ option_map (λ m. m * n + k) (option_map suc o)
+next_block : (n k size : ℕ) (o : Option ℕ) → size ≡ n
+    → option_map (λ j. size + j) (option_map (λ m. m * n + k) o)
+    ≡ option_map (λ m. m * n + k) (option_map suc o)
 next_block n k size None h = refl
-next_block n k size (Some m) h = let e : size + (m * n + k) ≡ suc m * n + k = omega (arith, h) in ap Some e
+next_block n k size (Some m) h =
+    let e : size + (m * n + k) ≡ suc m * n + k = omega (arith, h) in ap Some e
 
-in_blocks : (n k : ℕ) (ts : List ℕ) (tails : List (List ℕ)) → k < n → position_of (suc k ∷ ts) (blocks n tails) ≡ option_map (λ m. m * n + k) (position_of ts tails)
+in_blocks : (n k : ℕ) (ts : List ℕ) (tails : List (List ℕ)) → k < n
+    → position_of (suc k ∷ ts) (blocks n tails) ≡ option_map (λ m. m * n + k) (position_of ts tails)
 in_blocks n k ts [] l = refl
 in_blocks n k ts (others ∷ tails) l =
     elim (true_or_false (pointwise nat_eq others ts)) [
-      | inl e ↦ let here : position_of (suc k ∷ ts) (block others 1 n) ≡ Some k = own_block others ts (suc k) 1 n k e l (omega arith) in
+      | inl e ↦
+          let here : position_of (suc k ∷ ts) (block others 1 n) ≡ Some k =
+          own_block others ts (suc k) 1 n k e l (omega arith) in
           let first : k ≡ 0 * n + k = omega arith in
           rw e (found_left (suc k ∷ ts) (block others 1 n) (blocks n tails) k here ∙ ap Some first)
-      | inr e ↦ rw e (found_right (suc k ∷ ts) (block others 1 n) (blocks n tails) (other_block others ts (suc k) 1 n e)
-          ∙ ap (λ (o : Option ℕ). option_map (λ j. length (block others 1 n) + j) o) (in_blocks n k ts tails l) ∙ next_block n k (length (block others 1 n)) (position_of ts tails) (length-map (numbers_from 1 n) (λ s. s ∷ others) ∙ length-numbers_from 1 n))
+      | inr e ↦ rw e (found_right (suc k ∷ ts) (block others 1 n) (blocks n tails)
+          (other_block others ts (suc k) 1 n e)
+          ∙ ap (λ (o : Option ℕ). option_map (λ j. length (block others 1 n) + j) o)
+          (in_blocks n k ts tails l)
+          ∙ next_block n k (length (block others 1 n)) (position_of ts tails)
+          (length-map (numbers_from 1 n) (λ s. s ∷ others) ∙ length-numbers_from 1 n))
     ]
 
-out_blocks : (n t : ℕ) (ts : List ℕ) (tails : List (List ℕ)) → ((k : ℕ) → k < n → 1 + k ≡ t → ⊥) → position_of (t ∷ ts) (blocks n tails) ≡ None
+out_blocks : (n t : ℕ) (ts : List ℕ) (tails : List (List ℕ)) → ((k : ℕ) → k < n → 1 + k ≡ t → ⊥)
+    → position_of (t ∷ ts) (blocks n tails) ≡ None
 out_blocks n t ts [] out = refl
 out_blocks n t ts (others ∷ tails) out =
-    found_right (t ∷ ts) (block others 1 n) (blocks n tails) (beyond_block others ts t 1 n out) ∙ ap (λ (o : Option ℕ). option_map (λ j. length (block others 1 n) + j) o) (out_blocks n t ts tails out)
+    found_right (t ∷ ts) (block others 1 n) (blocks n tails) (beyond_block others ts t 1 n out)
+    ∙ ap (λ (o : Option ℕ). option_map (λ j. length (block others 1 n) + j) o)
+    (out_blocks n t ts tails out)
 
 no_block : (others : List ℕ) (first n : ℕ) → position_of [] (block others first n) ≡ None
 no_block others first zero = refl
@@ -126,43 +163,59 @@ no_block others first (suc n) = rw (no_block others (first + 1) n) refl
 
 no_blocks : (n : ℕ) (tails : List (List ℕ)) → position_of [] (blocks n tails) ≡ None
 no_blocks n [] = refl
-no_blocks n (others ∷ tails) = found_right [] (block others 1 n) (blocks n tails) (no_block others 1 n) ∙ ap (λ (o : Option ℕ). option_map (λ j. length (block others 1 n) + j) o) (no_blocks n tails)
+no_blocks n (others ∷ tails) =
+    found_right [] (block others 1 n) (blocks n tails) (no_block others 1 n)
+    ∙ ap (λ (o : Option ℕ). option_map (λ j. length (block others 1 n) + j) o) (no_blocks n tails)
 
 -- each profile is found at its place
-pub position_of-profiles : (profile counts : List ℕ) → position_of profile (profiles counts) ≡ place_of counts profile
+pub position_of-profiles : (profile counts : List ℕ)
+    → position_of profile (profiles counts) ≡ place_of counts profile
 position_of-profiles [] [] = refl
 position_of-profiles (s ∷ ss) [] = refl
 position_of-profiles [] (n ∷ counts) = no_blocks n (profiles counts)
-position_of-profiles (zero ∷ ss) (n ∷ counts) = out_blocks n 0 ss (profiles counts) (λ k l e. omega (arith, e))
+position_of-profiles (zero ∷ ss) (n ∷ counts) =
+    out_blocks n 0 ss (profiles counts) (λ k l e. omega (arith, e))
 position_of-profiles (suc k ∷ ss) (n ∷ counts) =
     elim (true_or_false (nat_lt k n)) [
       | inl e ↦ let l : k < n = grind (arith, nat_tests, e) in
-          rw e (in_blocks n k ss (profiles counts) l ∙ ap (λ (o : Option ℕ). option_map (λ m. m * n + k) o) (position_of-profiles ss counts))
-      | inr e ↦ let l : n ≤ k = grind (arith, nat_tests, e) in rw e (out_blocks n (suc k) ss (profiles counts) (λ j m f. omega (arith, l, m, f)))
+          rw e (in_blocks n k ss (profiles counts) l
+          ∙ ap (λ (o : Option ℕ). option_map (λ m. m * n + k) o) (position_of-profiles ss counts))
+      | inr e ↦
+          let l : n ≤ k = grind (arith, nat_tests, e) in
+          rw e (out_blocks n (suc k) ss (profiles counts) (λ j m f. omega (arith, l, m, f)))
     ]
 
 -- ---- the code's steps, from the last player to the first
 
 place_at : (counts profile : List ℕ) (at : ℕ) → at < length counts → at < length profile
-    → place_of (drop at counts) (drop at profile) ≡ place_of (get_or counts at 0 ∷ drop (at + 1) counts) (get_or profile at 0 ∷ drop (at + 1) profile)
+    → place_of (drop at counts) (drop at profile) ≡ place_of
+    (get_or counts at 0 ∷ drop (at + 1) counts) (get_or profile at 0 ∷ drop (at + 1) profile)
 place_at counts profile at h l = rw (drop_more counts at 0 h, drop_more profile at 0 l) refl
 
-pub place_more : (counts profile : List ℕ) (at count strategy place : ℕ) → at < length counts → at < length profile → count ≡ get_or counts at 0 → strategy ≡ get_or profile at 0
-    → 0 < strategy → strategy ≤ count → place_of (drop (at + 1) counts) (drop (at + 1) profile) ≡ Some place
+pub place_more : (counts profile : List ℕ) (at count strategy place : ℕ) → at < length counts
+    → at < length profile → count ≡ get_or counts at 0 → strategy ≡ get_or profile at 0
+    → 0 < strategy → strategy ≤ count
+    → place_of (drop (at + 1) counts) (drop (at + 1) profile) ≡ Some place
     → place_of (drop at counts) (drop at profile) ≡ Some (place * count + (strategy - 1))
 place_more counts profile at count strategy place h l c s above within found =
     let e : strategy ≡ suc (strategy - 1) = omega (arith, above) in
     let small : nat_lt (strategy - 1) count ≡ true = grind (arith, nat_tests, above, within) in
-    place_at counts profile at h l ∙ rw (sym c, sym s) (ap (λ (n : ℕ). place_of (count ∷ drop (at + 1) counts) (n ∷ drop (at + 1) profile)) e ∙ rw (small, found) refl)
+    place_at counts profile at h l ∙ rw (sym c, sym s)
+    (ap (λ (n : ℕ). place_of (count ∷ drop (at + 1) counts) (n ∷ drop (at + 1) profile)) e
+    ∙ rw (small, found) refl)
 
-pub place_none : (counts profile : List ℕ) (at count strategy : ℕ) → at < length counts → at < length profile → count ≡ get_or counts at 0 → strategy ≡ get_or profile at 0
+pub place_none : (counts profile : List ℕ) (at count strategy : ℕ) → at < length counts
+    → at < length profile → count ≡ get_or counts at 0 → strategy ≡ get_or profile at 0
     → (strategy ≡ 0) ⊎ (count < strategy) → place_of (drop at counts) (drop at profile) ≡ None
-place_none counts profile at count zero h l c s out = place_at counts profile at h l ∙ rw (sym c, sym s) refl
+place_none counts profile at count zero h l c s out =
+    place_at counts profile at h l ∙ rw (sym c, sym s) refl
 place_none counts profile at count (suc k) h l c s out =
-    let large : nat_lt k count ≡ false = elim out [ inl e ↦ absurd (omega (arith, e)) | inr m ↦ grind (arith, nat_tests, m) ] in
+    let large : nat_lt k count ≡ false =
+    elim out [ inl e ↦ absurd (omega (arith, e)) | inr m ↦ grind (arith, nat_tests, m) ] in
     place_at counts profile at h l ∙ rw (sym c, sym s, large) refl
 
-pub none_before : (counts profile : List ℕ) (at : ℕ) → at ≤ length counts → at ≤ length profile → place_of (drop at counts) (drop at profile) ≡ None → place_of counts profile ≡ None
+pub none_before : (counts profile : List ℕ) (at : ℕ) → at ≤ length counts → at ≤ length profile
+    → place_of (drop at counts) (drop at profile) ≡ None → place_of counts profile ≡ None
 none_before counts profile zero h l none = none
 none_before [] profile (suc at) h l none = absurd (omega (arith, h))
 none_before (n ∷ counts) [] (suc at) h l none = refl
@@ -171,7 +224,8 @@ none_before (n ∷ counts) (suc k ∷ profile) (suc at) h l none =
     let later = none_before counts profile at (omega (arith, h)) (omega (arith, l)) none in
     elim (true_or_false (nat_lt k n)) [ inl e ↦ rw (e, later) refl | inr e ↦ rw e refl ]
 
-pub none_by_length : (counts profile : List ℕ) → (length counts ≡ length profile → ⊥) → place_of counts profile ≡ None
+pub none_by_length : (counts profile : List ℕ) → (length counts ≡ length profile → ⊥)
+    → place_of counts profile ≡ None
 none_by_length [] [] h = absurd (h refl)
 none_by_length [] (s ∷ ss) h = refl
 none_by_length (n ∷ counts) [] h = refl
@@ -180,25 +234,32 @@ none_by_length (n ∷ counts) (suc k ∷ ss) h =
     let later = none_by_length counts ss (λ e. h (ap suc e)) in
     elim (true_or_false (nat_lt k n)) [ inl e ↦ rw (e, later) refl | inr e ↦ rw e refl ]
 
-place_below_by : (n k product : ℕ) (o : Option ℕ) (place : ℕ) → k < n → ((m : ℕ) → o ≡ Some m → m < product) → option_map (λ m. m * n + k) o ≡ Some place → place < n * product
+place_below_by : (n k product : ℕ) (o : Option ℕ) (place : ℕ)
+    → k < n → ((m : ℕ) → o ≡ Some m → m < product) → option_map (λ m. m * n + k) o ≡ Some place
+    → place < n * product
 place_below_by n k product None place l below h = absurd (cc)
 place_below_by n k product (Some m) place l below h =
     let is : m * n + k ≡ place = cc in
     let more : suc m * n ≤ product * n = mul-le-mul_right n (below m refl) in
     omega (arith, is, more, l)
 
-pub place_below : (counts profile : List ℕ) (place : ℕ) → place_of counts profile ≡ Some place → place < product counts
+pub place_below : (counts profile : List ℕ) (place : ℕ) → place_of counts profile ≡ Some place
+    → place < product counts
 place_below [] [] place h = let e : 0 ≡ place = cc in omega (arith, e)
 place_below [] (s ∷ ss) place h = absurd (cc)
 place_below (n ∷ counts) [] place h = absurd (cc)
 place_below (n ∷ counts) (zero ∷ ss) place h = absurd (cc)
 place_below (n ∷ counts) (suc k ∷ ss) place h =
     elim (true_or_false (nat_lt k n)) [
-      | inl e ↦ let l : k < n = grind (arith, nat_tests, e) in place_below_by n k (product counts) (place_of counts ss) place l (λ m f. place_below counts ss m f) (rw e at h)
+      | inl e ↦
+          let l : k < n = grind (arith, nat_tests, e) in
+          place_below_by n k (product counts) (place_of counts ss) place l
+          (λ m f. place_below counts ss m f) (rw e at h)
       | inr e ↦ let none : None ≡ Some place = rw e at h in absurd (cc)
     ]
 
-pub product_drop : (counts : List ℕ) (at : ℕ) → AllByRecursion (λ n. 0 < n) counts → product (drop at counts) ≤ product counts
+pub product_drop : (counts : List ℕ) (at : ℕ) → AllByRecursion (λ n. 0 < n) counts
+    → product (drop at counts) ≤ product counts
 product_drop counts zero h = omega arith
 product_drop [] (suc at) h = omega arith
 product_drop (n ∷ counts) (suc at) h =
@@ -213,32 +274,49 @@ pub record AtPlayer (names : Names) (profile : List ℕ) (at place count : ℕ) 
   pub within : product (map length names.strategies) ≤ profile_limit
   pub one_number_each : length profile ≡ length names.players
   pub player : at < length names.players
-  pub found : place_of (drop (at + 1) (map length names.strategies)) (drop (at + 1) profile) ≡ Some place
+  pub found : place_of (drop (at + 1) (map length names.strategies)) (drop (at + 1) profile)
+      ≡ Some place
   pub count_is : option_map length (slice_get names.strategies at) ≡ Some count
 
-at_count : (names : Names) (profile : List ℕ) (at place count : ℕ) → AtPlayer names profile at place count → (at < length (map length names.strategies)) × (count ≡ get_or (map length names.strategies) at 0)
+at_count : (names : Names) (profile : List ℕ) (at place count : ℕ)
+    → AtPlayer names profile at place count → (at < length (map length names.strategies))
+    × (count ≡ get_or (map length names.strategies) at 0)
 at_count names profile at place count a =
-    let here : slice_get (map length names.strategies) at ≡ Some count = slice_get-map length names.strategies at ∙ a.count_is in
-    (slice_get_within (map length names.strategies) at count here, sym (get_or_from_slice_get (map length names.strategies) at count 0 here))
+    let here : slice_get (map length names.strategies) at ≡ Some count =
+    slice_get-map length names.strategies at ∙ a.count_is in (
+      slice_get_within (map length names.strategies) at count here,
+      sym (get_or_from_slice_get (map length names.strategies) at count 0 here),
+    )
 
-pub strategy_out : (names : Names) (profile : List ℕ) (at place count : ℕ) → AtPlayer names profile at place count → (get_or profile at 0 ≡ 0) ⊎ (count < get_or profile at 0) → place_of (map length names.strategies) profile ≡ None
+pub strategy_out : (names : Names) (profile : List ℕ) (at place count : ℕ)
+    → AtPlayer names profile at place count
+    → (get_or profile at 0 ≡ 0) ⊎ (count < get_or profile at 0)
+    → place_of (map length names.strategies) profile ≡ None
 strategy_out names profile at place count a out =
     let here = at_count names profile at place count a in
     let long : at < length profile = omega (arith, a.player, a.one_number_each) in
-    none_before (map length names.strategies) profile at (omega (arith, here.0)) (omega (arith, long)) (place_none (map length names.strategies) profile at count (get_or profile at 0) here.0 long here.1 refl out)
+    none_before (map length names.strategies) profile at (omega (arith, here.0))
+    (omega (arith, long)) (place_none (map length names.strategies) profile at count
+    (get_or profile at 0) here.0 long here.1 refl out)
 
-pub strategy_in : (names : Names) (profile : List ℕ) (at place count : ℕ) → AtPlayer names profile at place count → 0 < get_or profile at 0 → get_or profile at 0 ≤ count
-    → place_of (drop at (map length names.strategies)) (drop at profile) ≡ Some (place * count + (get_or profile at 0 - 1))
+pub strategy_in : (names : Names) (profile : List ℕ) (at place count : ℕ)
+    → AtPlayer names profile at place count → 0 < get_or profile at 0 → get_or profile at 0 ≤ count
+    → place_of (drop at (map length names.strategies)) (drop at profile)
+    ≡ Some (place * count + (get_or profile at 0 - 1))
 strategy_in names profile at place count a above within =
     let here = at_count names profile at place count a in
     let long : at < length profile = omega (arith, a.player, a.one_number_each) in
-    place_more (map length names.strategies) profile at count (get_or profile at 0) place here.0 long here.1 refl above within a.found
+    place_more (map length names.strategies) profile at count (get_or profile at 0) place here.0
+    long here.1 refl above within a.found
 
-pub strategy_fits : (names : Names) (profile : List ℕ) (at place count : ℕ) → AtPlayer names profile at place count → 0 < get_or profile at 0 → get_or profile at 0 ≤ count
+pub strategy_fits : (names : Names) (profile : List ℕ) (at place count : ℕ)
+    → AtPlayer names profile at place count → 0 < get_or profile at 0 → get_or profile at 0 ≤ count
     → place * count + (get_or profile at 0 - 1) < profile_limit
 strategy_fits names profile at place count a above within =
-    let below = place_below (drop at (map length names.strategies)) (drop at profile) _ (strategy_in names profile at place count a above within) in
-    let whole = product_drop (map length names.strategies) at (all_images (λ n. 0 < n) length names.strategies a.some_strategy) in
+    let below = place_below (drop at (map length names.strategies)) (drop at profile) _
+    (strategy_in names profile at place count a above within) in
+    let whole = product_drop (map length names.strategies) at
+    (all_images (λ n. 0 < n) length names.strategies a.some_strategy) in
     omega (arith, below, whole, a.within)
 
 pub payoffs_found : (names : Names) (rs : List (List Ratio)) (t : Table) (profile : List ℕ)
@@ -249,4 +327,5 @@ payoffs_found names rs t profile one view =
     let counts = map length names.strategies in
     ap (λ (u : Table). payoffs_at profile u.entries) (sym view)
     ∙ payoffs_at_position profile (profiles counts) rs (matched names rs one)
-    ∙ ap (λ (o : Option ℕ). option_and_then (λ j. slice_get rs j) o) (position_of-profiles profile counts)
+    ∙ ap (λ (o : Option ℕ). option_and_then (λ j. slice_get rs j) o)
+    (position_of-profiles profile counts)

@@ -10,8 +10,8 @@ use Rattle.gf_fraction.specs.NumberSpelling.{IsNumber}
 use Rattle.gf_token.specs.Place.{MayFollow}
 use Rattle.gf_nfg.specs.Sentence.{IsStrategicFile}
 
--- what a bare token is in a file: one of its first three tokens, a count of strategies, a payoff, or
--- the number of one of so many outcomes
+-- what a bare token is in a file: one of its first three tokens, a count of strategies, a payoff,
+-- or the number of one of so many outcomes
 pub data Role : Type 0 where
   Format : Role
   Version : Role
@@ -30,13 +30,14 @@ Suits Payoff bytes = (n : Ratio) × IsNumber bytes n
 Suits (OutcomeNumber outcomes) bytes = (n : ℕ) × IsIndex bytes n × (n ≤ outcomes)
 
 -- A role is due where just those bare tokens may follow that suit it. So a role is told by what may
--- stand in its place: a count, a payoff and the number of an outcome do not suit the same tokens, nor
--- does one of the first three.
+-- stand in its place: a count, a payoff and the number of an outcome do not suit the same tokens,
+-- nor does one of the first three.
 abbrev pub RoleIsDue : List Token → Role → Type 0
 RoleIsDue before role =
     (bytes : List ℕ) → MayFollow IsStrategicFile before (Bare bytes) ↔ Suits role bytes
 
--- What a refusal names is due. `Strategies` is the first count, or the brace of the first list; there are no nodes.
+-- What a refusal names is due. `Strategies` is the first count, or the brace of the first list;
+-- there are no nodes.
 abbrev pub IsDue : List Token → What → Type 0
 IsDue before what.Format = RoleIsDue before Format
 IsDue before what.Version = RoleIsDue before Version

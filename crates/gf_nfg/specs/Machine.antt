@@ -1,12 +1,17 @@
--- The reader of strategic files as a machine: one token at a time. What it means is said in Sentence; no public contract cites this.
-use Rattle.std.specs.Prelude.{◌≡◌, ℕ, zero, suc, ◌<◌, ◌≤◌, ◌+◌, ◌-◌, ◌*◌, ◌^◌, ◌||◌, min, List, [], ◌∷◌, ◌++◌, length, codes, Option, Some, None, Result, Ok, Err, nat_eq, nat_le, ◌==◌, if◌then◌else◌}
+-- The reader of strategic files as a machine: one token at a time. What it means is said in
+-- Sentence; no public contract cites this.
+use Rattle.std.specs.Prelude.{◌≡◌, ℕ, zero, suc, ◌<◌, ◌≤◌, ◌+◌, ◌-◌, ◌*◌, ◌^◌, ◌||◌, min}
+use Rattle.std.specs.Prelude.{List, [], ◌∷◌, ◌++◌, length, codes, Option, Some, None}
+use Rattle.std.specs.Prelude.{Result, Ok, Err, nat_eq, nat_le, ◌==◌, if◌then◌else◌}
 use Rattle.std.specs.Cmp.Lexicographic.{pointwise}
 use Rattle.gf_token.specs.Token.{Token}
 use Rattle.gf_token.specs.Token.Token.{Opening, Closing, Comma, Text, Bare, Broken}
 use Rattle.gf_token.specs.declared.fault.What.{What}
 use Rattle.gf_token.specs.declared.fault.What.TheVariants as what
 use Rattle.gf_token.specs.declared.fault.Why.{Why}
-use Rattle.gf_token.specs.declared.fault.Why.TheVariants.{Expected, BadIndex, NoEntry, UnknownOutcome, Memory, TooManyProfiles, TooLong}
+use Rattle.gf_token.specs.declared.fault.Why.TheVariants.{Expected, BadIndex, NoEntry}
+use Rattle.gf_token.specs.declared.fault.Why.TheVariants.{UnknownOutcome, Memory}
+use Rattle.gf_token.specs.declared.fault.Why.TheVariants.{TooManyProfiles, TooLong}
 use Rattle.gf_fraction.specs.Ratio.{Ratio}
 use Rattle.gf_fraction.specs.declared.fraction.NumberFault.{NumberFault}
 use Rattle.gf_nfg.specs.Limit.{profile_limit}
@@ -16,7 +21,10 @@ use Rattle.gf_nfg.specs.Readings.{count_of, index_of}
 use Rattle.gf_nfg.specs.declared.position.Position.{Position}
 use Rattle.gf_nfg.specs.declared.position.Position.TheVariants as p
 
--- What was read so far. `counts` says how many strategies each player has, `profiles` is their product, and `labels` has their labels, or none where the file gives counts alone. `payoffs` are rows of the profiles or of the outcomes; `choices` has an outcome's number for each profile, or none in the payoff version.
+-- What was read so far. `counts` says how many strategies each player has, `profiles` is their
+-- product, and `labels` has their labels, or none where the file gives counts alone. `payoffs` are
+-- rows of the profiles or of the outcomes; `choices` has an outcome's number for each profile, or
+-- none in the payoff version.
 pub record Content : Type 0 where
   pub title : List ℕ
   pub comment : List ℕ
@@ -27,7 +35,9 @@ pub record Content : Type 0 where
   pub payoffs : List Ratio
   pub choices : List ℕ
 
--- Where the reader stands; how many counts, lists, payoffs or outcomes' numbers are still due; how many labels stood before the list that is being read; the greatest number of an outcome; and what was read.
+-- Where the reader stands; how many counts, lists, payoffs or outcomes' numbers are still due; how
+-- many labels stood before the list that is being read; the greatest number of an outcome; and what
+-- was read.
 pub record State : Type 0 where
   pub position : Position
   pub due : ℕ
@@ -36,10 +46,20 @@ pub record State : Type 0 where
   pub content : Content
 
 abbrev pub nothing : Content
-nothing = record { title = []; comment = []; players = []; counts = []; labels = []; profiles = 1; payoffs = []; choices = [] }
+nothing = record {
+  title = [];
+  comment = [];
+  players = [];
+  counts = [];
+  labels = [];
+  profiles = 1;
+  payoffs = [];
+  choices = [];
+}
 
 abbrev pub at : Position → ℕ → ℕ → ℕ → Content → State
-at q due from outcomes c = record { position = q; due = due; list_start = from; outcomes = outcomes; content = c }
+at q due from outcomes c =
+    record { position = q; due = due; list_start = from; outcomes = outcomes; content = c }
 
 abbrev pub to : Position → State → State
 to q s = at q s.due s.list_start s.outcomes s.content
@@ -69,19 +89,24 @@ with_choices c choices = record c { choices = c.choices ++ choices }
 -- ---- the heading
 
 abbrev pub at_format : State → Token → Result State Why
-at_format s (Bare b) = if pointwise nat_eq b (codes "NFG") then Ok (to p.Version s) else Err (Expected what.Format)
+at_format s (Bare b) =
+    if pointwise nat_eq b (codes "NFG") then Ok (to p.Version s) else Err (Expected what.Format)
 at_format s _ = Err (Expected what.Format)
 
 abbrev pub at_version : State → Token → Result State Why
-at_version s (Bare b) = if pointwise nat_eq b (codes "1") then Ok (to p.Letter s) else Err (Expected what.Version)
+at_version s (Bare b) =
+    if pointwise nat_eq b (codes "1") then Ok (to p.Letter s) else Err (Expected what.Version)
 at_version s _ = Err (Expected what.Version)
 
 abbrev pub at_letter : State → Token → Result State Why
-at_letter s (Bare b) = if pointwise nat_eq b (codes "R") || pointwise nat_eq b (codes "D") then Ok (to p.Title s) else Err (Expected what.Letter)
+at_letter s (Bare b) =
+    if pointwise nat_eq b (codes "R") || pointwise nat_eq b (codes "D") then Ok (to p.Title s)
+    else Err (Expected what.Letter)
 at_letter s _ = Err (Expected what.Letter)
 
 abbrev pub at_title : State → Token → Result State Why
-at_title s (Text label) = Ok (at p.BeforePlayers s.due s.list_start s.outcomes (with_title s.content label))
+at_title s (Text label) =
+    Ok (at p.BeforePlayers s.due s.list_start s.outcomes (with_title s.content label))
 at_title s _ = Err (Expected what.Text)
 
 abbrev pub at_before_players : State → Token → Result State Why
@@ -89,8 +114,10 @@ at_before_players s Opening = Ok (to p.InPlayers s)
 at_before_players s _ = Err (Expected what.Opening)
 
 abbrev pub at_players : State → Token → Result State Why
-at_players s (Text label) = Ok (at s.position s.due s.list_start s.outcomes (with_players s.content (label ∷ [])))
-at_players s Closing = Ok (at p.BeforeStrategies (length s.content.players) s.list_start s.outcomes s.content)
+at_players s (Text label) =
+    Ok (at s.position s.due s.list_start s.outcomes (with_players s.content (label ∷ [])))
+at_players s Closing =
+    Ok (at p.BeforeStrategies (length s.content.players) s.list_start s.outcomes s.content)
 at_players s _ = Err (Expected what.Text)
 
 -- ---- the strategies
@@ -118,7 +145,8 @@ listed s (suc n) = settled (to p.BeforeList s) (suc n)
 
 -- behind the strategies, a payoff is due for each player at each profile
 abbrev pub at_strategies_end : State → Token → Result State Why
-at_strategies_end s Closing = Ok (at p.AfterStrategies (length s.content.players * s.content.profiles) s.list_start s.outcomes s.content)
+at_strategies_end s Closing = Ok (at p.AfterStrategies
+    (length s.content.players * s.content.profiles) s.list_start s.outcomes s.content)
 at_strategies_end s _ = Err (Expected what.Closing)
 
 abbrev pub at_first : State → Token → Result State Why
@@ -144,7 +172,8 @@ abbrev pub at_before_list : State → Token → Result State Why
 at_before_list s t = if s.due == 0 then at_strategies_end s t else at_list_opening s t
 
 abbrev pub at_list : State → Token → Result State Why
-at_list s (Text label) = Ok (at s.position s.due s.list_start s.outcomes (with_labels s.content (label ∷ [])))
+at_list s (Text label) =
+    Ok (at s.position s.due s.list_start s.outcomes (with_labels s.content (label ∷ [])))
 at_list s Closing = listed s (length s.content.labels - s.list_start)
 at_list s _ = Err (Expected what.Text)
 
@@ -171,7 +200,8 @@ at_after_comment s (Bare b) = at_flat_payoffs s (Bare b)
 at_after_comment s Broken = at_flat_payoffs s Broken
 
 abbrev pub at_after_strategies : State → Token → Result State Why
-at_after_strategies s (Text label) = Ok (at p.AfterComment s.due s.list_start s.outcomes (with_comment s.content label))
+at_after_strategies s (Text label) =
+    Ok (at p.AfterComment s.due s.list_start s.outcomes (with_comment s.content label))
 at_after_strategies s Opening = at_after_comment s Opening
 at_after_strategies s Closing = at_after_comment s Closing
 at_after_strategies s Comma = at_after_comment s Comma
@@ -181,11 +211,13 @@ at_after_strategies s Broken = at_after_comment s Broken
 -- behind the outcomes, an outcome's number is due for each profile
 abbrev pub at_outcomes : State → Token → Result State Why
 at_outcomes s Opening = Ok (to p.OutcomeName s)
-at_outcomes s Closing = Ok (at p.OutcomeNumbers s.content.profiles s.list_start s.outcomes s.content)
+at_outcomes s Closing =
+    Ok (at p.OutcomeNumbers s.content.profiles s.list_start s.outcomes s.content)
 at_outcomes s _ = Err (Expected what.Opening)
 
 abbrev pub at_outcome_name : State → Token → Result State Why
-at_outcome_name s (Text label) = Ok (at p.BracedPayoff (length s.content.players) s.list_start s.outcomes s.content)
+at_outcome_name s (Text label) =
+    Ok (at p.BracedPayoff (length s.content.players) s.list_start s.outcomes s.content)
 at_outcome_name s _ = Err (Expected what.Text)
 
 -- no index is greater than 2^32 - 1, so that no outcome behind it is asked for
@@ -193,7 +225,8 @@ abbrev pub next_outcome : ℕ → ℕ
 next_outcome n = min (n + 1) (2 ^ 32 - 1)
 
 abbrev pub at_outcome_end : State → Token → Result State Why
-at_outcome_end s Closing = Ok (at p.InOutcomes s.due s.list_start (next_outcome s.outcomes) s.content)
+at_outcome_end s Closing =
+    Ok (at p.InOutcomes s.due s.list_start (next_outcome s.outcomes) s.content)
 at_outcome_end s _ = Err (Expected what.Closing)
 
 abbrev pub at_braced_payoff : State → Token → Result State Why
@@ -210,7 +243,11 @@ at_after_braced_payoff s Broken = at_braced_payoff s Broken
 -- an outcome's number was due, and bytes stood there
 abbrev pub chosen : State → Option ℕ → Result State Why
 chosen s None = Err BadIndex
-chosen s (Some k) = if nat_le k s.outcomes then Ok (at p.OutcomeNumbers (s.due - 1) s.list_start s.outcomes (with_choices s.content (k ∷ []))) else Err UnknownOutcome
+chosen s (Some k) =
+    if nat_le k s.outcomes
+    then Ok
+    (at p.OutcomeNumbers (s.due - 1) s.list_start s.outcomes (with_choices s.content (k ∷ [])))
+    else Err UnknownOutcome
 
 abbrev pub at_outcome_number : State → Token → Result State Why
 at_outcome_number s (Bare b) = chosen s (index_of b)
@@ -290,12 +327,13 @@ abbrev pub start : State
 start = at p.Format 0 0 0 nothing
 
 -- The code refuses a token as the machine does, but where the profiles would pass their limit, of
--- which the machine knows nothing. It wants memory only where the machine goes on, within the limit,
--- and it never refuses a token as too long.
+-- which the machine knows nothing. It wants memory only where the machine goes on, within the
+-- limit, and it never refuses a token as too long.
 abbrev pub Fails : Why → Result State Why → Type 0
 Fails Memory machine =
     (after : State) × (machine ≡ Ok after) × (after.content.profiles ≤ profile_limit)
-Fails TooManyProfiles machine = (after : State) × (machine ≡ Ok after) × (profile_limit < after.content.profiles)
+Fails TooManyProfiles machine =
+    (after : State) × (machine ≡ Ok after) × (profile_limit < after.content.profiles)
 Fails TooLong machine = ⊥
 Fails why machine = machine ≡ Err why
 

@@ -11,10 +11,12 @@ numbers_from first (suc n) = first ∷ numbers_from (first + 1) n
 abbrev pub positions : ℕ → List ℕ
 positions n = numbers_from 1 n
 
--- Of players with so many strategies each: one strategy for each player, by its position. The first player's advances fastest.
+-- Of players with so many strategies each: one strategy for each player, by its position. The first
+-- player's advances fastest.
 abbrev pub profiles : List ℕ → List (List ℕ)
 profiles [] = [] ∷ []
-profiles (count ∷ counts) = flat_map (λ others. map (λ s. s ∷ others) (positions count)) (profiles counts)
+profiles (count ∷ counts) =
+    flat_map (λ others. map (λ s. s ∷ others) (positions count)) (profiles counts)
 
 -- how many profiles there are
 abbrev pub product : List ℕ → ℕ

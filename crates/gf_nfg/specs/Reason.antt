@@ -5,7 +5,9 @@ use Rattle.gf_token.specs.Token.Token.{Closing, Text, Bare, Broken}
 use Rattle.gf_token.specs.Index.{IsIndex}
 use Rattle.gf_token.specs.Code.{code_of}
 use Rattle.gf_token.specs.declared.fault.Why.{Why}
-use Rattle.gf_token.specs.declared.fault.Why.TheVariants.{Unterminated, Expected, NotANumber, ZeroDenominator, NumberTooLarge, BadIndex, NoEntry, UnknownOutcome}
+use Rattle.gf_token.specs.declared.fault.Why.TheVariants.{Unterminated, Expected, NotANumber}
+use Rattle.gf_token.specs.declared.fault.Why.TheVariants.{ZeroDenominator, NumberTooLarge}
+use Rattle.gf_token.specs.declared.fault.Why.TheVariants.{BadIndex, NoEntry, UnknownOutcome}
 use Rattle.gf_fraction.specs.NumberSpelling.{HasNumberFault}
 use Rattle.gf_fraction.specs.declared.fraction.NumberFault.{NumberFault}
 use Rattle.gf_fraction.specs.declared.fraction.NumberFault.TheVariants as number
@@ -25,13 +27,16 @@ IsNoCount before bytes = RoleIsDue before Count × ¬ (Suits Count bytes)
 
 -- the number of one of so many outcomes is due, and the bytes are no index
 abbrev pub IsNoOutcomeNumber : List Token → List ℕ → ℕ → Type 0
-IsNoOutcomeNumber before bytes outcomes = RoleIsDue before (OutcomeNumber outcomes) × ((n : ℕ) → ¬ (IsIndex bytes n))
+IsNoOutcomeNumber before bytes outcomes =
+    RoleIsDue before (OutcomeNumber outcomes) × ((n : ℕ) → ¬ (IsIndex bytes n))
 
 -- the number of one of so many outcomes is due, and the bytes are a greater index
 abbrev pub IsPastOutcomes : List Token → List ℕ → ℕ → Type 0
-IsPastOutcomes before bytes outcomes = RoleIsDue before (OutcomeNumber outcomes) × ((n : ℕ) × IsIndex bytes n × (outcomes < n))
+IsPastOutcomes before bytes outcomes =
+    RoleIsDue before (OutcomeNumber outcomes) × ((n : ℕ) × IsIndex bytes n × (outcomes < n))
 
--- a player's list of labels has been opened, and nothing is in it: labels may follow, as many as one likes, but no closing brace
+-- a player's list of labels has been opened, and nothing is in it: labels may follow, as many as
+-- one likes, but no closing brace
 abbrev pub OpensLabels : List Token → Type 0
 OpensLabels before =
     ((labels : List (List ℕ)) → Begins IsStrategicFile (before ++ map Text labels))
@@ -43,7 +48,8 @@ Applies Unterminated before Broken = Unit {0}
 Applies NotANumber before (Bare bytes) = IsNoPayoff before bytes number.NotANumber
 Applies ZeroDenominator before (Bare bytes) = IsNoPayoff before bytes number.ZeroDenominator
 Applies NumberTooLarge before (Bare bytes) = IsNoPayoff before bytes number.TooLarge
-Applies BadIndex before (Bare bytes) = IsNoCount before bytes ⊎ ((outcomes : ℕ) × IsNoOutcomeNumber before bytes outcomes)
+Applies BadIndex before (Bare bytes) =
+    IsNoCount before bytes ⊎ ((outcomes : ℕ) × IsNoOutcomeNumber before bytes outcomes)
 Applies NoEntry before Closing = OpensLabels before
 Applies UnknownOutcome before (Bare bytes) = (outcomes : ℕ) × IsPastOutcomes before bytes outcomes
 Applies _ before token = ⊥

@@ -12,7 +12,8 @@ PaysAt t profile payoffs = Contains t.entries (record { profile = profile; payof
 pub record SamePlay (t u : Table) : Type 0 where
   pub players : t.players ≡ u.players
   pub strategies : t.strategies ≡ u.strategies
-  pub payoffs : (profile : List ℕ) (payoffs : List Ratio) → PaysAt t profile payoffs ↔ PaysAt u profile payoffs
+  pub payoffs : (profile : List ℕ) (payoffs : List Ratio)
+      → PaysAt t profile payoffs ↔ PaysAt u profile payoffs
 
 -- and title and comment too
 pub record SameTable (t u : Table) : Type 0 where

@@ -21,7 +21,8 @@ pub record Table : Type 0 where
 abbrev pub rows : Table → List (List Ratio)
 rows t = map (λ e. e.payoffs) t.entries
 
--- each player has a nonempty list of strategies, each profile one entry, and each entry one payoff for each player
+-- each player has a nonempty list of strategies, each profile one entry, and each entry one payoff
+-- for each player
 pub record IsTable (t : Table) : Type 0 where
   pub one_list_each : length t.strategies ≡ length t.players
   pub some_strategy : AllByRecursion (λ labels. 0 < length labels) t.strategies

@@ -1,5 +1,7 @@
 -- How the parts of a table are kept.
-use Rattle.std.specs.Prelude.{◌≡◌, ℕ, zero, suc, pos, ◌+◌, ◌-◌, ◌*◌, ◌<◌, ◌≤◌, List, [], ◌∷◌, take, drop, length, slice_get, replicate, Option, Some, None, option_map, unwrap_or, map, nat_lt, if◌then◌else◌}
+use Rattle.std.specs.Prelude.{◌≡◌, ℕ, zero, suc, pos, ◌+◌, ◌-◌, ◌*◌, ◌<◌, ◌≤◌, List, []}
+use Rattle.std.specs.Prelude.{◌∷◌, take, drop, length, slice_get, replicate, Option, Some}
+use Rattle.std.specs.Prelude.{None, option_map, unwrap_or, map, nat_lt, if◌then◌else◌}
 use Rattle.std.specs.List.{AllByRecursion}
 use Rattle.gf_fraction.specs.Ratio.{Ratio, whole}
 use Rattle.gf_token.specs.LabelSpelling.{IsLabel}
@@ -142,5 +144,6 @@ pub record HasRows (players count : ℕ) (payoffs zeros : List Ratio)
 abbrev pub place_of : List ℕ → List ℕ → Option ℕ
 place_of [] [] = Some 0
 place_of (count ∷ counts) (suc k ∷ others) =
-    if nat_lt k count then option_map (λ place. place * count + k) (place_of counts others) else None
+    if nat_lt k count then option_map (λ place. place * count + k) (place_of counts others)
+    else None
 place_of _ _ = None

@@ -22,10 +22,12 @@ quoted label = 34 ∷ (label ++ 34 ∷ [])
 abbrev pub lines_text : List (List ℕ) → List ℕ
 lines_text lines = flat_map (λ line. line ++ 10 ∷ []) lines
 
--- format, title and players; the strategies; the comment; an empty line; the payoffs at each profile
+-- format, title and players; the strategies; the comment; an empty line; the payoffs at each
+-- profile
 abbrev pub table_text : Table → List ℕ
 table_text t = lines_text
-    (spaced (codes "NFG" ∷ codes "1" ∷ codes "R" ∷ quoted t.title ∷ list_text (map quoted t.players) ∷ [])
+    (spaced (codes "NFG" ∷ codes "1" ∷ codes "R" ∷ quoted t.title ∷ list_text (map quoted t.players)
+    ∷ [])
     ∷ list_text (map (λ labels. list_text (map quoted labels)) t.strategies)
     ∷ quoted t.comment
     ∷ []
@@ -33,4 +35,5 @@ table_text t = lines_text
 
 -- the bytes of a strategic file that means this table
 abbrev pub SpellsTable : List ℕ → Table → Type 0
-SpellsTable bytes t = (lexemes : List Lexeme) × Spells 0 bytes lexemes × Sentence (map (λ l. l.token) lexemes) t
+SpellsTable bytes t =
+    (lexemes : List Lexeme) × Spells 0 bytes lexemes × Sentence (map (λ l. l.token) lexemes) t

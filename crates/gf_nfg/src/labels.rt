@@ -1,6 +1,7 @@
 //! Lists of labels that own their bytes.
 
-ghost use Rattle.std.specs.Prelude.{◌≡◌, ◌<◌, ◌++◌, ◌∷◌, [], Some, length, map, slice_get, OnErr, OnOk};
+ghost use Rattle.std.specs.Prelude.{◌≡◌, ◌<◌, ◌++◌, ◌∷◌, [], Some};
+ghost use Rattle.std.specs.Prelude.{length, map, slice_get, OnErr, OnOk};
 ghost use Rattle.gf_token.specs.Label.{label_of};
 ghost use Rattle.gf_nfg.specs.Sentence.{counted_labels};
 ghost use Rattle.gf_nfg.specs.TableParts.{AreSpellings};
@@ -68,8 +69,8 @@ impl Labels {
         Ok(())
     }
 
-    /// Adds the labels "1" to `count` at the end. Where memory is refused some of them may have been
-    /// added.
+    /// Adds the labels "1" to `count` at the end. Where memory is refused some of them may have
+    /// been added.
     pub(crate) fn extend_counted(&mut self, count: u32) -> Result<(), AllocError>
         ensures { OnOk result (self.new ≡ self.old ++ counted_labels count) }
     {

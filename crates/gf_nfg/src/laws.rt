@@ -15,20 +15,26 @@ ghost use Rattle.gf_nfg.specs.TableText.{table_text, SpellsTable};
 ghost use Rattle.gf_nfg.specs.LimitPlace.{IsLimitPlace, IsWithinLimit};
 ghost use Rattle.gf_nfg.specs.LimitByCounts.{PassesLimitAt};
 ghost use Rattle.gf_nfg.specs.Judgement.{IsRefused};
-ghost use Rattle.gf_nfg.specs.WorkedTables.{no_players, no_players_text, selten, selten_by_counts, selten_by_outcomes, selten_text};
+ghost use Rattle.gf_nfg.specs.WorkedTables.{no_players, no_players_text, selten};
+ghost use Rattle.gf_nfg.specs.WorkedTables.{selten_by_counts, selten_by_outcomes, selten_text};
 
 /// Tokens mean one table at most, and so do bytes.
 pub fn means_one_table()
-    ensures of_tokens { (tokens : List Token) (t u : Table) → Sentence tokens t → Sentence tokens u → t ≡ u }
-    ensures of_bytes { (bytes : List ℕ) (t u : Table) → SpellsTable bytes t → SpellsTable bytes u → t ≡ u }
+    ensures of_tokens { (tokens : List Token) (t u : Table) → Sentence tokens t → Sentence tokens u
+        → t ≡ u }
+    ensures of_bytes { (bytes : List ℕ) (t u : Table) → SpellsTable bytes t → SpellsTable bytes u
+        → t ≡ u }
 {}
 
-/// Each list of bytes spells a table within the limit of profiles, or it is refused. None does both, and none is refused
-/// at two places or with two codes.
+/// Each list of bytes spells a table within the limit of profiles, or it is refused. None does
+/// both, and none is refused at two places or with two codes.
 pub fn read_or_refused()
-    ensures one_of_both { (bytes : List ℕ) → ((t : Table) × SpellsTable bytes t × IsWithinLimit t) ⊎ ((why : Why) × (span : Span) × IsRefused why bytes span) }
-    ensures not_both { (bytes : List ℕ) (t : Table) (why : Why) (span : Span) → SpellsTable bytes t → IsWithinLimit t → ¬ (IsRefused why bytes span) }
-    ensures once { (bytes : List ℕ) (why other : Why) (span place : Span) → IsRefused why bytes span → IsRefused other bytes place → (span ≡ place) × (code_of why ≡ code_of other) }
+    ensures one_of_both { (bytes : List ℕ) → ((t : Table) × SpellsTable bytes t × IsWithinLimit t)
+        ⊎ ((why : Why) × (span : Span) × IsRefused why bytes span) }
+    ensures not_both { (bytes : List ℕ) (t : Table) (why : Why) (span : Span)
+        → SpellsTable bytes t → IsWithinLimit t → ¬ (IsRefused why bytes span) }
+    ensures once { (bytes : List ℕ) (why other : Why) (span place : Span) → IsRefused why bytes span
+        → IsRefused other bytes place → (span ≡ place) × (code_of why ≡ code_of other) }
 {}
 
 /// The limit place is where the product of the players' counts passes the limit. Counts of 1,024
@@ -42,40 +48,47 @@ pub fn limit_by_counts()
         → ¬ (PassesLimitAt (codes "NFG 1 R \"b\" { \"A\" \"B\" } { 1024 1024 }") span) }
 {}
 
-/// Files mean the tables with labels that can be spelled and with fractions as payoffs, all of them and no others.
+/// Files mean the tables with labels that can be spelled and with fractions as payoffs, all of them
+/// and no others.
 pub fn tables_of_files()
     ensures { (t : Table) → ((bytes : List ℕ) × SpellsTable bytes t) ↔ (IsTable t × IsSpellable t) }
 {}
 
-/// The canonical text of a table is a strategic file that means this table, and the canonical text of that file is
-/// the file itself.
+/// The canonical text of a table is a strategic file that means this table, and the canonical text
+/// of that file is the file itself.
 pub fn text_reads_back()
     ensures reads_back { (t : Table) → IsTable t → IsSpellable t → SpellsTable (table_text t) t }
-    ensures again { (bytes : List ℕ) (t u : Table) → SpellsTable bytes t → SpellsTable (table_text t) u → table_text u ≡ table_text t }
+    ensures again { (bytes : List ℕ) (t u : Table)
+        → SpellsTable bytes t → SpellsTable (table_text t) u → table_text u ≡ table_text t }
 {}
 
-/// The profiles of players with so many strategies each are all choices of one for each of them, each once and at its
-/// place.
+/// The profiles of players with so many strategies each are all choices of one for each of them,
+/// each once and at its place.
 pub fn every_profile()
-    ensures each_choice { (counts profile : List ℕ) → Contains (profiles counts) profile ↔ IsProfile counts profile }
-    ensures in_order { (counts : List ℕ) → map (place counts) (profiles counts) ≡ numbers_from 0 (product counts) }
+    ensures each_choice { (counts profile : List ℕ)
+        → Contains (profiles counts) profile ↔ IsProfile counts profile }
+    ensures in_order { (counts : List ℕ)
+        → map (place counts) (profiles counts) ≡ numbers_from 0 (product counts) }
 {}
 
-/// With an entry for each profile in turn, tables that are the same are equal, and those that are so in all that is
-/// played have the same rows.
+/// With an entry for each profile in turn, tables that are the same are equal, and those that are
+/// so in all that is played have the same rows.
 pub fn same_is_equal()
     ensures tables { (t u : Table) → IsTable t → IsTable u → SameTable t u ↔ (t ≡ u) }
-    ensures play { (t u : Table) → IsTable t → IsTable u → SamePlay t u ↔ ((t.players ≡ u.players) × (t.strategies ≡ u.strategies) × (rows t ≡ rows u)) }
+    ensures play { (t u : Table) → IsTable t → IsTable u → SamePlay t u
+        ↔ ((t.players ≡ u.players) × (t.strategies ≡ u.strategies) × (rows t ≡ rows u)) }
 {}
 
 /// Canonical texts are equal exactly if the tables are the same.
 pub fn equal_texts()
-    ensures of_tables { (t u : Table) → IsTable t → IsSpellable t → IsTable u → IsSpellable u → (table_text t ≡ table_text u) ↔ SameTable t u }
-    ensures of_files { (a b : List ℕ) (t u : Table) → SpellsTable a t → SpellsTable b u → (table_text t ≡ table_text u) ↔ SameTable t u }
+    ensures of_tables { (t u : Table) → IsTable t → IsSpellable t → IsTable u → IsSpellable u
+        → (table_text t ≡ table_text u) ↔ SameTable t u }
+    ensures of_files { (a b : List ℕ) (t u : Table) → SpellsTable a t → SpellsTable b u
+        → (table_text t ≡ table_text u) ↔ SameTable t u }
 {}
 
-/// A worked table: a file in payoff version and one in outcome version mean it, and this is its text. And the text of
-/// the table without players.
+/// A worked table: a file in payoff version and one in outcome version mean it, and this is its
+/// text. And the text of the table without players.
 pub fn worked_tables()
     ensures by_counts { SpellsTable selten_by_counts selten }
     ensures by_outcomes { SpellsTable selten_by_outcomes selten }

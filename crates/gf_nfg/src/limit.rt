@@ -22,10 +22,12 @@ impl ProfileCount {
         ProfileCount { count: 1 }
     }
 
-    /// The number of profiles with one player more, who has so many strategies; `None` past the limit.
+    /// The number of profiles with one player more, who has so many strategies; `None` past the
+    /// limit.
     pub fn times(self, strategies: usize) -> Option<ProfileCount>
         requires { 0 < strategies }
-        ensures { MatchOption result (profile_limit < self.count * strategies) (λ more. (more.count ≡ self.count * strategies) × (strategies ≤ profile_limit)) }
+        ensures { MatchOption result (profile_limit < self.count * strategies)
+            (λ more. (more.count ≡ self.count * strategies) × (strategies ≤ profile_limit)) }
     {
         let product = u128::from(self.count) * strategies as u128;
         if product > u128::from(PROFILE_LIMIT) {

@@ -1,6 +1,7 @@
 //! Everything of a table but its payoffs: its title, its comment, its players and their strategies.
 
-ghost use Rattle.std.specs.Prelude.{◌≡◌, ◌<◌, ◌∷◌, Some, IfOk, length, map, IsSomeAnd, option_and_then, option_map, slice_get, sum};
+ghost use Rattle.std.specs.Prelude.{◌≡◌, ◌<◌, ◌∷◌, Some, IfOk, length, map, IsSomeAnd};
+ghost use Rattle.std.specs.Prelude.{option_and_then, option_map, slice_get, sum};
 ghost use Rattle.gf_token.specs.Label.{label_of};
 ghost use Rattle.gf_nfg.specs.Sentence.{counted_labels};
 ghost use Rattle.gf_nfg.specs.TableParts.{AreStrategies, groups};
@@ -38,7 +39,8 @@ fn heading(
     comment: Label<'_>,
     players: &[Label<'_>],
 ) -> Result<Labels, AllocError>
-    ensures { IfOk result (λ labels. labels ≡ label_of title.entry ∷ label_of comment.entry ∷ map label_of players.now) }
+    ensures { IfOk result (λ labels.
+        labels ≡ label_of title.entry ∷ label_of comment.entry ∷ map label_of players.now) }
 {
     let mut labels = Labels::new(alloc);
     labels.push(title)?;
@@ -53,7 +55,8 @@ fn add_lists(
     strategies: &[Vec<Label<'_>>],
     labels: &mut Labels,
 ) -> Result<Vec<usize>, AllocError>
-    ensures { IfOk result (λ ends. AreStrategies labels.old labels.new ends.items (map (λ own. map label_of own.items) strategies.now)) }
+    ensures { IfOk result (λ ends. AreStrategies labels.old labels.new ends.items
+        (map (λ own. map label_of own.items) strategies.now)) }
 {
     let mut ends = Vec::new(alloc);
     for own in strategies {
@@ -65,7 +68,8 @@ fn add_lists(
 
 /// Adds the labels "1" to a count for each player, and answers where they end.
 fn add_counted(alloc: Global, counts: &[u32], labels: &mut Labels) -> Result<Vec<usize>, AllocError>
-    ensures { IfOk result (λ ends. AreStrategies labels.old labels.new ends.items (map counted_labels counts.now)) }
+    ensures { IfOk result
+        (λ ends. AreStrategies labels.old labels.new ends.items (map counted_labels counts.now)) }
 {
     let mut ends = Vec::new(alloc);
     for count in counts {
@@ -75,7 +79,8 @@ fn add_counted(alloc: Global, counts: &[u32], labels: &mut Labels) -> Result<Vec
     Ok(ends)
 }
 
-/// Adds labels that stand one behind the other, so many for each player, and answers where each player's end.
+/// Adds labels that stand one behind the other, so many for each player, and answers where each
+/// player's end.
 fn add_grouped(
     alloc: Global,
     counts: &[u32],
@@ -83,7 +88,8 @@ fn add_grouped(
     labels: &mut Labels,
 ) -> Result<Vec<usize>, AllocError>
     requires { sum counts.now ≡ length strategies.now }
-    ensures { IfOk result (λ ends. AreStrategies labels.old labels.new ends.items (groups counts.now (map label_of strategies.now))) }
+    ensures { IfOk result (λ ends. AreStrategies labels.old labels.new ends.items
+        (groups counts.now (map label_of strategies.now))) }
 {
     let mut ends = Vec::new(alloc);
     let mut start = 0;
@@ -106,7 +112,12 @@ impl Names {
         strategies: &[Vec<Label<'_>>],
     ) -> Result<Names, AllocError>
         requires { length strategies.now ≡ length players.now }
-        ensures { IfOk result (λ names. names ≡ record { title = label_of title.entry; comment = label_of comment.entry; players = map label_of players.now; strategies = map (λ own. map label_of own.items) strategies.now }) }
+        ensures { IfOk result (λ names. names ≡ record {
+          title = label_of title.entry;
+          comment = label_of comment.entry;
+          players = map label_of players.now;
+          strategies = map (λ own. map label_of own.items) strategies.now;
+        }) }
     {
         let mut labels = heading(alloc, title, comment, players)?;
         let ends = add_lists(alloc, strategies, &mut labels)?;
@@ -122,7 +133,12 @@ impl Names {
         counts: &[u32],
     ) -> Result<Names, AllocError>
         requires { length counts.now ≡ length players.now }
-        ensures { IfOk result (λ names. names ≡ record { title = label_of title.entry; comment = label_of comment.entry; players = map label_of players.now; strategies = map counted_labels counts.now }) }
+        ensures { IfOk result (λ names. names ≡ record {
+          title = label_of title.entry;
+          comment = label_of comment.entry;
+          players = map label_of players.now;
+          strategies = map counted_labels counts.now;
+        }) }
     {
         let mut labels = heading(alloc, title, comment, players)?;
         let ends = add_counted(alloc, counts, &mut labels)?;
@@ -140,7 +156,12 @@ impl Names {
     ) -> Result<Names, AllocError>
         requires one_count_each { length counts.now ≡ length players.now }
         requires one_label_each { sum counts.now ≡ length strategies.now }
-        ensures { IfOk result (λ names. names ≡ record { title = label_of title.entry; comment = label_of comment.entry; players = map label_of players.now; strategies = groups counts.now (map label_of strategies.now) }) }
+        ensures { IfOk result (λ names. names ≡ record {
+          title = label_of title.entry;
+          comment = label_of comment.entry;
+          players = map label_of players.now;
+          strategies = groups counts.now (map label_of strategies.now);
+        }) }
     {
         let mut labels = heading(alloc, title, comment, players)?;
         let ends = add_grouped(alloc, counts, strategies, &mut labels)?;
@@ -187,7 +208,8 @@ impl Names {
     /// The label of a strategy of the player at this place.
     pub(crate) fn strategy(&self, at: usize, strategy: usize) -> Label<'_>
         requires { IsSomeAnd (slice_get self.now.strategies at) (λ own. strategy < length own) }
-        ensures { option_and_then (λ own. slice_get own strategy) (slice_get self.now.strategies at) ≡ Some (label_of result) }
+        ensures { option_and_then (λ own. slice_get own strategy) (slice_get self.now.strategies at)
+            ≡ Some (label_of result) }
     {
         let own = piece_at(2 + self.ends.len(), &self.ends, at);
         self.labels.label(own.start + strategy)

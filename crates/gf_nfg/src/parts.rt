@@ -29,8 +29,8 @@ pub struct Parts<'a> {
     /// Rows of one payoff for each player, one row behind the other: those of the profiles in turn,
     /// the first player's strategy fastest, or those of the outcomes.
     pub payoffs: Vec<Fraction>,
-    /// For each profile the number of its outcome, from 1, or 0 where each player is paid zero; none
-    /// in the payoff version.
+    /// For each profile the number of its outcome, from 1, or 0 where each player is paid zero;
+    /// none in the payoff version.
     pub choices: Vec<u32>,
 }
 

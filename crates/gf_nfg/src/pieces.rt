@@ -1,6 +1,7 @@
 //! Pieces of a list that is cut at certain ends.
 
-ghost use Rattle.std.specs.Prelude.{◌≡◌, ◌-◌, ◌<◌, ◌≤◌, Some, drop, length, slice_get, slice_index, take};
+ghost use Rattle.std.specs.Prelude.{◌≡◌, ◌-◌, ◌<◌, ◌≤◌, Some, drop};
+ghost use Rattle.std.specs.Prelude.{length, slice_get, slice_index, take};
 ghost use Rattle.gf_nfg.specs.TableParts.{RisesTo, pieces, start_of};
 
 use std::ops::Range;

@@ -16,10 +16,12 @@ use std::alloc::Global;
 
 /// Reads the parts of the strategic file that bytes spell.
 fn read_parts<'a>(alloc: Global, input: &'a [u8]) -> Result<Parts<'a>, Fault>
-    ensures spelled { IfOk result (λ parts. SpellsTable input.entry.now (table_of (content_of parts))) }
+    ensures spelled { IfOk result
+        (λ parts. SpellsTable input.entry.now (table_of (content_of parts))) }
     ensures complete { IfOk result (λ parts. IsComplete (content_of parts)) }
     ensures within { IfOk result (λ parts. parts.profiles ≤ profile_limit) }
-    ensures only { (t : Table) → SpellsTable input.entry.now t → IsWithinLimit t → ArePartsOf result t }
+    ensures only { (t : Table) → SpellsTable input.entry.now t → IsWithinLimit t
+        → ArePartsOf result t }
     ensures judged { IfErr result (λ fault. IsJudged fault.why input.entry.now fault.span) }
 {
     let mut reader = Reader::new(alloc, input.len());

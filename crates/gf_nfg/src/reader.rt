@@ -1,4 +1,5 @@
-//! The reader of strategic files, one token at a time (Gambit documentation, "Game representation formats").
+//! The reader of strategic files, one token at a time (Gambit documentation, "Game representation
+//! formats").
 
 ghost use Rattle.std.specs.Prelude.{◌≡◌};
 ghost use Rattle.gf_token.specs.Cursor.{token_of};
@@ -67,7 +68,8 @@ impl<'a> Reader<'a> {
 
     /// Takes the next token, or answers why no file goes on with it.
     pub fn take(&mut self, kind: Kind<'a>) -> Result<(), Why>
-        ensures { Steps (step (state_of self.old) (token_of kind.entry)) result (state_of self.new) }
+        ensures { Steps (step (state_of self.old) (token_of kind.entry)) result
+            (state_of self.new) }
     {
         match self.position {
             Position::Format => self.at_format(kind),

@@ -1,6 +1,7 @@
 //! Rows of payoffs, one for each profile. Profiles may share them.
 
-ghost use Rattle.std.specs.Prelude.{◌≡◌, ◌*◌, ◌<◌, ◌≤◌, ◌^◌, Some, IfOk, IfSome, IsSome, length, map, option_map, slice_get};
+ghost use Rattle.std.specs.Prelude.{◌≡◌, ◌*◌, ◌<◌, ◌≤◌, ◌^◌, Some, IfOk, IfSome};
+ghost use Rattle.std.specs.Prelude.{IsSome, length, map, option_map, slice_get};
 ghost use Rattle.std.specs.List.{AllByRecursion};
 ghost use Rattle.gf_nfg.specs.Profiles.{positions};
 ghost use Rattle.gf_nfg.specs.TableParts.{AreShared, kept_row, number_in, row_of};

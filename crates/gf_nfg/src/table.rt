@@ -1,6 +1,7 @@
 //! Strategic files in memory: the players, their strategies, and the payoffs at each profile.
 
-ghost use Rattle.std.specs.Prelude.{◌≡◌, ◌*◌, ◌<◌, ◌≤◌, IfOk, length, map, min, option_and_then, option_map, vec_len};
+ghost use Rattle.std.specs.Prelude.{◌≡◌, ◌*◌, ◌<◌, ◌≤◌, IfOk, length, map};
+ghost use Rattle.std.specs.Prelude.{min, option_and_then, option_map, vec_len};
 ghost use Rattle.std.specs.List.{AllByRecursion};
 ghost use Rattle.gf_token.specs.Label.{label_of};
 ghost use Rattle.gf_nfg.specs.Limit.{profile_limit};
@@ -48,12 +49,12 @@ impl Table {
     }
 
     /// The table of these parts. The rows are the payoffs at each profile in the order of a file:
-    /// the first player's strategy advances fastest, and each profile has one payoff for each player
-    /// (Gambit documentation, "Game representation formats").
+    /// the first player's strategy advances fastest, and each profile has one payoff for each
+    /// player (Gambit documentation, "Game representation formats").
     ///
     /// The caller sees to it that there are at most 4,294,967,295 players, one list of at least one
-    /// strategy for each, at most 1,048,576 profiles (this project's profile), and as many payoffs as
-    /// profiles times players.
+    /// strategy for each, at most 1,048,576 profiles (this project's profile), and as many payoffs
+    /// as profiles times players.
     ///
     /// `AllocError` where memory is refused.
     pub fn new(
@@ -71,7 +72,8 @@ impl Table {
         requires rows { length rows.now
             ≡ product (map vec_len strategies.now) * length players.now }
         ensures { IfOk result (λ t. IsTableOf t (label_of title.entry) (label_of comment.entry)
-            (map label_of players.now) (map (λ own. map label_of own.items) strategies.now) rows.now) }
+            (map label_of players.now) (map (λ own. map label_of own.items) strategies.now)
+            rows.now) }
     {
         let names = Names::new(alloc, title, comment, players, strategies)?;
         let profiles = rows.len().checked_div(players.len()).unwrap_or(1);
@@ -158,9 +160,10 @@ impl Table {
 
     /// How many profiles there are: at most 1,048,576.
     ///
-    /// The contract says of each table that a file can hold it: each player has a strategy, and each
-    /// profile one entry with one payoff for each player (`is_table`); its labels can be spelled, and
-    /// its payoffs are fractions (`spellable`); and it is within the limit of profiles (`within`).
+    /// The contract says of each table that a file can hold it: each player has a strategy, and
+    /// each profile one entry with one payoff for each player (`is_table`); its labels can be
+    /// spelled, and its payoffs are fractions (`spellable`); and it is within the limit of profiles
+    /// (`within`).
     pub fn profiles(&self) -> u32
         ensures number { result ≡ length self.now.entries }
         ensures is_table { IsTable self.now }
@@ -170,8 +173,8 @@ impl Table {
         self.payoffs.len()
     }
 
-    /// The payoffs at the profile of these strategies, one for each player. `None` where the list has
-    /// another length than the players, or a number is no strategy of its player.
+    /// The payoffs at the profile of these strategies, one for each player. `None` where the list
+    /// has another length than the players, or a number is no strategy of its player.
     pub fn payoffs(&self, profile: &[u32]) -> Option<&[Fraction]>
         ensures { option_map (λ row. row.now) result ≡ payoffs_at profile.now self.now.entries }
     {

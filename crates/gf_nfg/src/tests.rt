@@ -108,7 +108,8 @@ fn keeps_its_payoffs(rt: HostRuntime) -> Result<(), Fail> {
     Ok(())
 }
 
-/// Files, and whether their tables agree in play with that of `NFG 1 R "z" { "A" "B" } { 2 1 } 1 2 0 0`.
+/// Files, and whether their tables agree in play with that of `NFG 1 R "z" { "A" "B" } { 2 1 } 1 2
+/// 0 0`.
 const AGREEING: [(&[u8], bool); 6] = [
     (
         b"NFG 1 R \"z\" { \"A\" \"B\" } { 2 1 } { { \"u\" 1 2 } } 1 0",

@@ -47,7 +47,8 @@ fn write_own(names: &Names, at: usize, out: &mut Vec<u8>) -> Result<(), AllocErr
 /// Appends the strategies of each player in braces, and all of them in braces.
 fn write_strategies(names: &Names, out: &mut Vec<u8>) -> Result<(), AllocError>
     ensures text { OnOk result (out.new.items
-        ≡ out.old.items ++ list_text (map (λ own. list_text (map quoted own)) names.now.strategies)) }
+        ≡ out.old.items
+        ++ list_text (map (λ own. list_text (map quoted own)) names.now.strategies)) }
     ensures kept { OnErr result (Keeps out.old.items out.new.items) }
 {
     out.extend_from_slice(b"{ ")?;

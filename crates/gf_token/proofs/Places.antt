@@ -1,5 +1,6 @@
 -- A file is refused at one place, with one code, whatever its format.
-use Rattle.std.proofs.Common.{◌≡◌, ℕ, ◌≤◌, List, [], ◌∷◌, ◌++◌, length, refl, sym, ap, subst, ◌∙◌, append_assoc, arith, inl, inr}
+use Rattle.std.proofs.Common.{◌≡◌, ℕ, ◌≤◌, List, [], ◌∷◌, ◌++◌, length, refl}
+use Rattle.std.proofs.Common.{sym, ap, subst, ◌∙◌, append_assoc, arith, inl, inr}
 use Rattle.std.specs.Prelude.{◌⊎◌}
 use Rattle.std.proofs.lemmas.List.{append-nil, map-append}
 use Rattle.gf_token.specs.Token.{Token, Lexeme}
@@ -66,7 +67,10 @@ module _ (IsFile : List Token → Type 0) where
       → ¬ (IsFile (before ++ after))
   no_file before [] h = λ k. h (subst (λ (x : List Token). IsFile x) (append-nil before) k)
   no_file before (token ∷ after) h =
-      λ k. h (after, subst (λ (x : List Token). IsFile x) (sym (append_assoc before (token ∷ []) after)) k)
+      λ k. h (
+        after,
+        subst (λ (x : List Token). IsFile x) (sym (append_assoc before (token ∷ []) after)) k,
+      )
 
   -- where tokens are refused, none begin a file that go on
   pub overtaken : (before after longer vs : List Lexeme)
@@ -74,18 +78,19 @@ module _ (IsFile : List Token → Type 0) where
       → PartsBefore before after longer vs → ¬ (Begins IsFile (tokens_of longer))
   overtaken before after longer vs refused h b =
       let s : ¬ (Begins IsFile (tokens_of before ++ h.0.token ∷ [])) =
-          subst (λ (ls : List Lexeme). ¬ (IsAccepted IsFile (tokens_of before) (tokens_of ls)))
-              h.3 refused in
+      subst (λ (ls : List Lexeme). ¬ (IsAccepted IsFile (tokens_of before) (tokens_of ls)))
+      h.3 refused in
       let whole : tokens_of longer ≡ (tokens_of before ++ h.0.token ∷ []) ++ tokens_of h.1 =
-          ap tokens_of h.2 ∙ tokens_on before h.1 h.0
-              ∙ sym (append_assoc (tokens_of before) (h.0.token ∷ []) (tokens_of h.1)) in
+      ap tokens_of h.2 ∙ tokens_on before h.1 h.0
+      ∙ sym (append_assoc (tokens_of before) (h.0.token ∷ []) (tokens_of h.1)) in
       s (begins_front (tokens_of before ++ h.0.token ∷ []) (tokens_of h.1)
-          (subst (Begins IsFile) whole b))
+      (subst (Begins IsFile) whole b))
 
   pub one_offending_place : (bytes : List ℕ) (s t : Span) (h : IsOffendingPlace IsFile bytes s)
       (k : IsOffendingPlace IsFile bytes t) → (h.before ≡ k.before) × (h.after ≡ k.after)
   one_offending_place bytes s t h k =
-      let same = same_tokens bytes (h.before ++ h.after) (k.before ++ k.after) h.spelled k.spelled in
+      let same =
+      same_tokens bytes (h.before ++ h.after) (k.before ++ k.after) h.spelled k.spelled in
       elim (parts h.before h.after k.before k.after same) [
         | inl p ↦ absurd (overtaken h.before h.after k.before k.after h.refused p k.begins)
         | inr (inl p) ↦ p

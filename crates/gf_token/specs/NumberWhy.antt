@@ -2,7 +2,8 @@
 use Rattle.gf_fraction.specs.declared.fraction.NumberFault.{NumberFault}
 use Rattle.gf_fraction.specs.declared.fraction.NumberFault.TheVariants as fault
 use Rattle.gf_token.specs.declared.fault.Why.{Why}
-use Rattle.gf_token.specs.declared.fault.Why.TheVariants.{NotANumber, ZeroDenominator, NumberTooLarge}
+use Rattle.gf_token.specs.declared.fault.Why.TheVariants.{NotANumber, ZeroDenominator}
+use Rattle.gf_token.specs.declared.fault.Why.TheVariants.{NumberTooLarge}
 
 -- the refusal of a text that spells no number
 abbrev pub why_of : NumberFault → Why

@@ -1,11 +1,13 @@
 //! The cursor, which finds the tokens of an input one after another.
 
-ghost use Rattle.std.specs.Prelude.{◌≡◌, ◌<◌, ◌≤◌, ◌+◌, [], ◌∷◌, length, slice_range, slice_index, MatchOption, true, false};
+ghost use Rattle.std.specs.Prelude.{◌≡◌, ◌<◌, ◌≤◌, ◌+◌, [], ◌∷◌, length, slice_range};
+ghost use Rattle.std.specs.Prelude.{slice_index, MatchOption, true, false};
 ghost use Rattle.gf_token.specs.Byte.{is_space, is_bare};
 ghost use Rattle.gf_token.specs.Finding.{lexed, ClosesText, EndsGap, Finds};
 ghost use Rattle.gf_token.specs.Token.{lexeme};
 ghost use Rattle.gf_token.specs.Label.{label_of};
-ghost use Rattle.gf_token.specs.Next.{starts, is_bare_token, is_closing, is_comma, is_opening, is_text_token};
+ghost use Rattle.gf_token.specs.Next.{starts, is_bare_token, is_closing};
+ghost use Rattle.gf_token.specs.Next.{is_comma, is_opening, is_text_token};
 ghost use Rattle.gf_token.specs.Token.Token.{Bare, Broken, Closing, Comma, Opening, Text};
 ghost use Rattle.gf_token.specs.TokenSpelling.{Spells};
 ghost use Rattle.gf_token.specs.Cursor.{Nexts};
@@ -19,8 +21,8 @@ use std::marker::Model;
 /// A place in an input, seen as the tokens that are still to come.
 ///
 /// Whitespace has no meaning between tokens (Gambit documentation, "Game representation formats");
-/// it is the bytes 9 to 13 and 32, and other bytes that begin nothing else are those of a bare token
-/// (this project's profile).
+/// it is the bytes 9 to 13 and 32, and other bytes that begin nothing else are those of a bare
+/// token (this project's profile).
 #[derive(Debug, Drop)]
 pub struct Cursor<'a> {
     input: &'a [u8],
@@ -135,8 +137,8 @@ impl<'a> Cursor<'a> {
 
     /// The next token, or `None` at the end, also where it is asked for again.
     ///
-    /// A text that has no end is refused with [`Why::Unterminated`], at its opening quote. The cursor
-    /// then stays before that quote, and refuses it again.
+    /// A text that has no end is refused with [`Why::Unterminated`], at its opening quote. The
+    /// cursor then stays before that quote, and refuses it again.
     pub fn next(&mut self) -> Result<Option<Token<'a>>, Fault>
         ensures { Nexts self.old result self.new }
     {

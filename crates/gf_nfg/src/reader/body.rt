@@ -1,8 +1,12 @@
-//! The body of a strategic file: the payoffs at each profile, or outcomes and the number of one at each profile.
+//! The body of a strategic file: the payoffs at each profile, or outcomes and the number of one at
+//! each profile.
 
 ghost use Rattle.std.specs.Prelude.{◌<◌};
 ghost use Rattle.gf_token.specs.Cursor.{token_of};
-ghost use Rattle.gf_nfg.specs.Machine.{Steps, at_payoff, at_flat_payoffs, at_after_comment, at_after_strategies, at_outcomes, at_outcome_name, at_outcome_end, at_braced_payoff, at_after_braced_payoff, at_outcome_number, at_outcome_numbers};
+ghost use Rattle.gf_nfg.specs.Machine.{Steps, at_payoff, at_flat_payoffs, at_after_comment};
+ghost use Rattle.gf_nfg.specs.Machine.{at_after_strategies, at_outcomes, at_outcome_name};
+ghost use Rattle.gf_nfg.specs.Machine.{at_outcome_end, at_braced_payoff, at_after_braced_payoff};
+ghost use Rattle.gf_nfg.specs.Machine.{at_outcome_number, at_outcome_numbers};
 ghost use Rattle.gf_nfg.specs.ReaderState.{state_of};
 
 use super::Reader;
@@ -14,7 +18,8 @@ impl<'a> Reader<'a> {
     /// Takes a payoff.
     fn at_payoff(&mut self, kind: Kind<'a>, next: Position) -> Result<(), Why>
         requires { 0 < self.old.due }
-        ensures { Steps (at_payoff next (state_of self.old) (token_of kind.entry)) result (state_of self.new) }
+        ensures { Steps (at_payoff next (state_of self.old) (token_of kind.entry)) result
+            (state_of self.new) }
     {
         match kind {
             Kind::Bare(text) => {
@@ -29,7 +34,8 @@ impl<'a> Reader<'a> {
     }
 
     pub(super) fn at_flat_payoffs(&mut self, kind: Kind<'a>) -> Result<(), Why>
-        ensures { Steps (at_flat_payoffs (state_of self.old) (token_of kind.entry)) result (state_of self.new) }
+        ensures { Steps (at_flat_payoffs (state_of self.old) (token_of kind.entry)) result
+            (state_of self.new) }
     {
         if self.due == 0 {
             return Err(Why::Expected(What::End));
@@ -47,7 +53,8 @@ impl<'a> Reader<'a> {
     }
 
     pub(super) fn at_after_comment(&mut self, kind: Kind<'a>) -> Result<(), Why>
-        ensures { Steps (at_after_comment (state_of self.old) (token_of kind.entry)) result (state_of self.new) }
+        ensures { Steps (at_after_comment (state_of self.old) (token_of kind.entry)) result
+            (state_of self.new) }
     {
         match kind {
             Kind::Opening => {
@@ -64,7 +71,8 @@ impl<'a> Reader<'a> {
     }
 
     pub(super) fn at_after_strategies(&mut self, kind: Kind<'a>) -> Result<(), Why>
-        ensures { Steps (at_after_strategies (state_of self.old) (token_of kind.entry)) result (state_of self.new) }
+        ensures { Steps (at_after_strategies (state_of self.old) (token_of kind.entry)) result
+            (state_of self.new) }
     {
         match kind {
             Kind::Text(label) => {
@@ -77,7 +85,8 @@ impl<'a> Reader<'a> {
     }
 
     pub(super) fn at_outcomes(&mut self, kind: Kind<'a>) -> Result<(), Why>
-        ensures { Steps (at_outcomes (state_of self.old) (token_of kind.entry)) result (state_of self.new) }
+        ensures { Steps (at_outcomes (state_of self.old) (token_of kind.entry)) result
+            (state_of self.new) }
     {
         match kind {
             Kind::Opening => {
@@ -96,7 +105,8 @@ impl<'a> Reader<'a> {
     }
 
     pub(super) fn at_outcome_name(&mut self, kind: Kind<'a>) -> Result<(), Why>
-        ensures { Steps (at_outcome_name (state_of self.old) (token_of kind.entry)) result (state_of self.new) }
+        ensures { Steps (at_outcome_name (state_of self.old) (token_of kind.entry)) result
+            (state_of self.new) }
     {
         match kind {
             Kind::Text(_) => {
@@ -110,7 +120,8 @@ impl<'a> Reader<'a> {
 
     /// Takes the closing brace of an outcome.
     fn at_outcome_end(&mut self, kind: Kind<'a>) -> Result<(), Why>
-        ensures { Steps (at_outcome_end (state_of self.old) (token_of kind.entry)) result (state_of self.new) }
+        ensures { Steps (at_outcome_end (state_of self.old) (token_of kind.entry)) result
+            (state_of self.new) }
     {
         match kind {
             Kind::Closing => {
@@ -123,7 +134,8 @@ impl<'a> Reader<'a> {
     }
 
     pub(super) fn at_braced_payoff(&mut self, kind: Kind<'a>) -> Result<(), Why>
-        ensures { Steps (at_braced_payoff (state_of self.old) (token_of kind.entry)) result (state_of self.new) }
+        ensures { Steps (at_braced_payoff (state_of self.old) (token_of kind.entry)) result
+            (state_of self.new) }
     {
         if self.due == 0 {
             return self.at_outcome_end(kind);
@@ -132,7 +144,8 @@ impl<'a> Reader<'a> {
     }
 
     pub(super) fn at_after_braced_payoff(&mut self, kind: Kind<'a>) -> Result<(), Why>
-        ensures { Steps (at_after_braced_payoff (state_of self.old) (token_of kind.entry)) result (state_of self.new) }
+        ensures { Steps (at_after_braced_payoff (state_of self.old) (token_of kind.entry)) result
+            (state_of self.new) }
     {
         match kind {
             Kind::Comma => {
@@ -146,7 +159,8 @@ impl<'a> Reader<'a> {
     /// Takes the number of an outcome.
     fn at_outcome_number(&mut self, kind: Kind<'a>) -> Result<(), Why>
         requires { 0 < self.old.due }
-        ensures { Steps (at_outcome_number (state_of self.old) (token_of kind.entry)) result (state_of self.new) }
+        ensures { Steps (at_outcome_number (state_of self.old) (token_of kind.entry)) result
+            (state_of self.new) }
     {
         match kind {
             Kind::Bare(text) => match readings::outcome_number(text) {
@@ -164,7 +178,8 @@ impl<'a> Reader<'a> {
     }
 
     pub(super) fn at_outcome_numbers(&mut self, kind: Kind<'a>) -> Result<(), Why>
-        ensures { Steps (at_outcome_numbers (state_of self.old) (token_of kind.entry)) result (state_of self.new) }
+        ensures { Steps (at_outcome_numbers (state_of self.old) (token_of kind.entry)) result
+            (state_of self.new) }
     {
         if self.due == 0 {
             return Err(Why::Expected(What::End));

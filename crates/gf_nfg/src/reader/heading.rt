@@ -1,7 +1,8 @@
 //! The heading of a strategic file: its format, title and players.
 
 ghost use Rattle.gf_token.specs.Cursor.{token_of};
-ghost use Rattle.gf_nfg.specs.Machine.{Steps, at_format, at_version, at_letter, at_title, at_before_players, at_players};
+ghost use Rattle.gf_nfg.specs.Machine.{Steps, at_format, at_version, at_letter};
+ghost use Rattle.gf_nfg.specs.Machine.{at_title, at_before_players, at_players};
 ghost use Rattle.gf_nfg.specs.ReaderState.{state_of};
 
 use super::Reader;
@@ -10,7 +11,8 @@ use gf_token::{Kind, What, Why};
 
 impl<'a> Reader<'a> {
     pub(super) fn at_format(&mut self, kind: Kind<'a>) -> Result<(), Why>
-        ensures { Steps (at_format (state_of self.old) (token_of kind.entry)) result (state_of self.new) }
+        ensures { Steps (at_format (state_of self.old) (token_of kind.entry)) result
+            (state_of self.new) }
     {
         match kind {
             Kind::Bare(text) => {
@@ -25,7 +27,8 @@ impl<'a> Reader<'a> {
     }
 
     pub(super) fn at_version(&mut self, kind: Kind<'a>) -> Result<(), Why>
-        ensures { Steps (at_version (state_of self.old) (token_of kind.entry)) result (state_of self.new) }
+        ensures { Steps (at_version (state_of self.old) (token_of kind.entry)) result
+            (state_of self.new) }
     {
         match kind {
             Kind::Bare(text) => {
@@ -40,7 +43,8 @@ impl<'a> Reader<'a> {
     }
 
     pub(super) fn at_letter(&mut self, kind: Kind<'a>) -> Result<(), Why>
-        ensures { Steps (at_letter (state_of self.old) (token_of kind.entry)) result (state_of self.new) }
+        ensures { Steps (at_letter (state_of self.old) (token_of kind.entry)) result
+            (state_of self.new) }
     {
         match kind {
             Kind::Bare(text) => {
@@ -55,7 +59,8 @@ impl<'a> Reader<'a> {
     }
 
     pub(super) fn at_title(&mut self, kind: Kind<'a>) -> Result<(), Why>
-        ensures { Steps (at_title (state_of self.old) (token_of kind.entry)) result (state_of self.new) }
+        ensures { Steps (at_title (state_of self.old) (token_of kind.entry)) result
+            (state_of self.new) }
     {
         match kind {
             Kind::Text(label) => {
@@ -68,7 +73,8 @@ impl<'a> Reader<'a> {
     }
 
     pub(super) fn at_before_players(&mut self, kind: Kind<'a>) -> Result<(), Why>
-        ensures { Steps (at_before_players (state_of self.old) (token_of kind.entry)) result (state_of self.new) }
+        ensures { Steps (at_before_players (state_of self.old) (token_of kind.entry)) result
+            (state_of self.new) }
     {
         match kind {
             Kind::Opening => {
@@ -81,7 +87,8 @@ impl<'a> Reader<'a> {
 
     #[tactic(auto, using(std::proofs::lemmas::List::map_push))]
     pub(super) fn at_players(&mut self, kind: Kind<'a>) -> Result<(), Why>
-        ensures { Steps (at_players (state_of self.old) (token_of kind.entry)) result (state_of self.new) }
+        ensures { Steps (at_players (state_of self.old) (token_of kind.entry)) result
+            (state_of self.new) }
     {
         match kind {
             Kind::Text(label) => {

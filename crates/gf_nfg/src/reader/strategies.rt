@@ -3,7 +3,9 @@
 ghost use Rattle.std.specs.Prelude.{◌≡◌, ◌<◌, ◌-◌, length};
 ghost use Rattle.gf_token.specs.Cursor.{token_of};
 ghost use Rattle.gf_nfg.specs.Readings.{count_of};
-ghost use Rattle.gf_nfg.specs.Machine.{Steps, at_before_strategies, settled, counted, at_strategies_end, at_first_strategies, at_counts, opened, listed, at_before_list, at_list};
+ghost use Rattle.gf_nfg.specs.Machine.{Steps, at_before_strategies, settled, counted};
+ghost use Rattle.gf_nfg.specs.Machine.{at_strategies_end, at_first_strategies, at_counts};
+ghost use Rattle.gf_nfg.specs.Machine.{opened, listed, at_before_list, at_list};
 ghost use Rattle.gf_nfg.specs.ReaderState.{state_of};
 
 use super::Reader;
@@ -13,7 +15,8 @@ use gf_token::{Kind, What, Why};
 
 impl<'a> Reader<'a> {
     pub(super) fn at_before_strategies(&mut self, kind: Kind<'a>) -> Result<(), Why>
-        ensures { Steps (at_before_strategies (state_of self.old) (token_of kind.entry)) result (state_of self.new) }
+        ensures { Steps (at_before_strategies (state_of self.old) (token_of kind.entry)) result
+            (state_of self.new) }
     {
         match kind {
             Kind::Opening => {
@@ -42,7 +45,8 @@ impl<'a> Reader<'a> {
     /// Takes a count, whose bytes these are.
     fn take_count(&mut self, text: &'a [u8]) -> Result<(), Why>
         requires { 0 < self.old.due }
-        ensures { Steps (counted (state_of self.old) (count_of text.entry.now)) result (state_of self.new) }
+        ensures { Steps (counted (state_of self.old) (count_of text.entry.now)) result
+            (state_of self.new) }
     {
         match readings::count(text) {
             Some(count) => {
@@ -66,7 +70,8 @@ impl<'a> Reader<'a> {
 
     /// Takes the closing brace behind the strategies.
     fn at_strategies_end(&mut self, kind: Kind<'a>) -> Result<(), Why>
-        ensures { Steps (at_strategies_end (state_of self.old) (token_of kind.entry)) result (state_of self.new) }
+        ensures { Steps (at_strategies_end (state_of self.old) (token_of kind.entry)) result
+            (state_of self.new) }
     {
         match kind {
             Kind::Closing => {
@@ -80,7 +85,8 @@ impl<'a> Reader<'a> {
     }
 
     pub(super) fn at_first_strategies(&mut self, kind: Kind<'a>) -> Result<(), Why>
-        ensures { Steps (at_first_strategies (state_of self.old) (token_of kind.entry)) result (state_of self.new) }
+        ensures { Steps (at_first_strategies (state_of self.old) (token_of kind.entry)) result
+            (state_of self.new) }
     {
         if self.due == 0 {
             return self.at_strategies_end(kind);
@@ -96,7 +102,8 @@ impl<'a> Reader<'a> {
     }
 
     pub(super) fn at_counts(&mut self, kind: Kind<'a>) -> Result<(), Why>
-        ensures { Steps (at_counts (state_of self.old) (token_of kind.entry)) result (state_of self.new) }
+        ensures { Steps (at_counts (state_of self.old) (token_of kind.entry)) result
+            (state_of self.new) }
     {
         if self.due == 0 {
             return self.at_strategies_end(kind);
@@ -108,7 +115,8 @@ impl<'a> Reader<'a> {
     }
 
     pub(super) fn at_before_list(&mut self, kind: Kind<'a>) -> Result<(), Why>
-        ensures { Steps (at_before_list (state_of self.old) (token_of kind.entry)) result (state_of self.new) }
+        ensures { Steps (at_before_list (state_of self.old) (token_of kind.entry)) result
+            (state_of self.new) }
     {
         if self.due == 0 {
             return self.at_strategies_end(kind);
@@ -124,7 +132,9 @@ impl<'a> Reader<'a> {
 
     /// Takes the closing brace of a list.
     fn close_list(&mut self) -> Result<(), Why>
-        ensures { Steps (listed (state_of self.old) (length self.old.labels.items - self.old.list_start)) result (state_of self.new) }
+        ensures { Steps
+            (listed (state_of self.old) (length self.old.labels.items - self.old.list_start)) result
+            (state_of self.new) }
     {
         // No list starts behind the labels.
         let strategies = self.labels.len().saturating_sub(self.list_start);
@@ -137,7 +147,8 @@ impl<'a> Reader<'a> {
 
     #[tactic(auto, using(std::proofs::lemmas::List::map_push))]
     pub(super) fn at_list(&mut self, kind: Kind<'a>) -> Result<(), Why>
-        ensures { Steps (at_list (state_of self.old) (token_of kind.entry)) result (state_of self.new) }
+        ensures { Steps (at_list (state_of self.old) (token_of kind.entry)) result
+            (state_of self.new) }
     {
         match kind {
             Kind::Text(label) => {

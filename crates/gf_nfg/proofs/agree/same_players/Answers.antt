@@ -5,5 +5,7 @@ use Rattle.gf_nfg.proofs.agree.same_players.Goals as goal
 
 pub loop-at-preserved : goal.loop-at-preserved
 loop-at-preserved c =
-    let same = same_labels (label_of c.player.result) (label_of c.player-in-loop-at.result) (sym c.if-ne.ensures) in
-    same_more c.args.a.now.players c.args.b.now.players c.loop-at.at _ _ c.player.ensures c.player-in-loop-at.ensures same c.loop-at.invariant
+    let same = same_labels (label_of c.player.result) (label_of c.player-in-loop-at.result)
+    (sym c.if-ne.ensures) in
+    same_more c.args.a.now.players c.args.b.now.players c.loop-at.at _ _ c.player.ensures
+    c.player-in-loop-at.ensures same c.loop-at.invariant

@@ -4,4 +4,5 @@ use Rattle.gf_nfg.proofs.TableNames.{AreAdded}
 use Rattle.gf_nfg.proofs.names.add_grouped.Given as goal
 
 abbrev pub invariant-loop-count : goal.invariant-loop-count
-invariant-loop-count l = AreAdded label_of l.initial.labels l.labels l.ends.items (take l.count-index l.counts) l.strategies l.start
+invariant-loop-count l = AreAdded label_of l.initial.labels l.labels l.ends.items
+    (take l.count-index l.counts) l.strategies l.start

@@ -1,7 +1,8 @@
 use Rattle.std.proofs.Common.{◌≡◌, ◌+◌, ◌-◌, ◌∙◌, sym, arith, map, length, Some, inl, inr}
 use Rattle.std.proofs.lemmas.List.{length-map}
 use Rattle.gf_nfg.specs.TableParts.{place_of}
-use Rattle.gf_nfg.proofs.TablePlaces.{AtPlayer, none_by_length, place_below, strategy_out, strategy_in, strategy_fits}
+use Rattle.gf_nfg.proofs.TablePlaces.{AtPlayer, none_by_length, place_below}
+use Rattle.gf_nfg.proofs.TablePlaces.{strategy_out, strategy_in, strategy_fits}
 use Rattle.gf_nfg.proofs.profile.place_of.Goals as goal
 
 pub returns-then-profile-players : goal.returns-then-profile-players
@@ -21,7 +22,8 @@ returns-then-strategy-eq0 c =
       some_strategy = c.requires.some_strategy;
       within = c.requires.within;
       one_number_each = c.if-profile-players.false ∙ c.players-players.ensures.players;
-      player = omega (arith, c.loop-at-test.true, c.loop-at.auto.at, c.players-players.ensures.players);
+      player =
+          omega (arith, c.loop-at-test.true, c.loop-at.auto.at, c.players-players.ensures.players);
       found = rw next c.loop-at.invariant;
       count_is = c.strategies-count.ensures;
     } in
@@ -38,7 +40,8 @@ overflow_mul-place c =
       some_strategy = c.requires.some_strategy;
       within = c.requires.within;
       one_number_each = c.if-profile-players.false ∙ c.players-players.ensures.players;
-      player = omega (arith, c.loop-at-test.true, c.loop-at.auto.at, c.players-players.ensures.players);
+      player =
+          omega (arith, c.loop-at-test.true, c.loop-at.auto.at, c.players-players.ensures.players);
       found = rw next c.loop-at.invariant;
       count_is = c.strategies-count.ensures;
     } in
@@ -56,7 +59,8 @@ overflow_add-place c =
       some_strategy = c.requires.some_strategy;
       within = c.requires.within;
       one_number_each = c.if-profile-players.false ∙ c.players-players.ensures.players;
-      player = omega (arith, c.loop-at-test.true, c.loop-at.auto.at, c.players-players.ensures.players);
+      player =
+          omega (arith, c.loop-at-test.true, c.loop-at.auto.at, c.players-players.ensures.players);
       found = rw next c.loop-at.invariant;
       count_is = c.strategies-count.ensures;
     } in
@@ -74,7 +78,8 @@ loop-at-preserved c =
       some_strategy = c.requires.some_strategy;
       within = c.requires.within;
       one_number_each = c.if-profile-players.false ∙ c.players-players.ensures.players;
-      player = omega (arith, c.loop-at-test.true, c.loop-at.auto.at, c.players-players.ensures.players);
+      player =
+          omega (arith, c.loop-at-test.true, c.loop-at.auto.at, c.players-players.ensures.players);
       found = rw next c.loop-at.invariant;
       count_is = c.strategies-count.ensures;
     } in

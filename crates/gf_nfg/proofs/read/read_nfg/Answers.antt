@@ -21,5 +21,5 @@ returns-in-Err-clause-judged c =
     let content = content_of c.in_ok-parts.parts in
     let count = length-entries content c.in_ok-parts.ensures.complete in
     memory_at_end c.args.input.now (table_of content) c.at_end.result c.into.result
-        c.in_ok-parts.ensures.spelled (omega (arith, count, c.in_ok-parts.ensures.within))
-        c.at_end.ensures c.into.ensures
+    c.in_ok-parts.ensures.spelled (omega (arith, count, c.in_ok-parts.ensures.within))
+    c.at_end.ensures c.into.ensures

@@ -6,4 +6,6 @@ use Rattle.gf_nfg.proofs.write.write_strategies.Given as goal
 
 abbrev pub invariant-loop-at : goal.invariant-loop-at
 invariant-loop-at l =
-    (l.out.items ++ rest_text (λ own. list_text (map quoted own)) l.names.strategies l.at ≡ l.initial.out.items ++ rest_text (λ own. list_text (map quoted own)) l.names.strategies 0) × Keeps l.fn.out.items l.out.items
+    (l.out.items ++ rest_text (λ own. list_text (map quoted own)) l.names.strategies l.at
+    ≡ l.initial.out.items ++ rest_text (λ own. list_text (map quoted own)) l.names.strategies 0)
+    × Keeps l.fn.out.items l.out.items

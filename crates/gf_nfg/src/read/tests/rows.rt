@@ -36,8 +36,8 @@ const NO_INDEX: Answer = Some(Why::BadIndex);
 
 const NO_ENTRY: Answer = Some(Why::NoEntry);
 
-/// The tokens that stand behind each row's, in the order of its answers; the last is the end. The bare token is no word
-/// of the format, no number and no index.
+/// The tokens that stand behind each row's, in the order of its answers; the last is the end. The
+/// bare token is no word of the format, no number and no index.
 const TOKENS: [&[u8]; 6] = [b"{", b"}", b",", b"\"t\"", b"x", b""];
 
 /// What stands before each row, and its answers.
@@ -128,7 +128,8 @@ const ROWS: [(&[u8], [Answer; 6]); 30] = [
         b"NFG 1 R \"\" { \"A\" } { 1 } { { ",
         [TEXT, TEXT, TEXT, YES, TEXT, TEXT],
     ),
-    // An outcome's payoffs: the first, behind one that is not the last, behind the last, and behind its comma.
+    // An outcome's payoffs: the first, behind one that is not the last, behind the last, and behind
+    // its comma.
     (
         b"NFG 1 R \"\" { \"A\" \"B\" } { 1 1 } { { \"a\" ",
         [NUMBER, NUMBER, NUMBER, NUMBER, NO_NUMBER, NUMBER],

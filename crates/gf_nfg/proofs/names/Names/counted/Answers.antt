@@ -5,10 +5,14 @@ use Rattle.gf_nfg.specs.Sentence.{counted_labels}
 use Rattle.gf_nfg.proofs.TableNames.{IsMade, made_rises, made_is}
 use Rattle.gf_nfg.proofs.names.Names.counted.Goals as goal
 
-made : (c : goal.In_ok-ends) → IsMade (label_of c.args.title) (label_of c.args.comment) (map label_of c.args.players.now) c.in_ok-labels.labels c.add_counted.new.labels c.in_ok-ends.ends.items (map counted_labels c.args.counts.now)
+made : (c : goal.In_ok-ends) → IsMade (label_of c.args.title) (label_of c.args.comment)
+    (map label_of c.args.players.now) c.in_ok-labels.labels c.add_counted.new.labels
+    c.in_ok-ends.ends.items (map counted_labels c.args.counts.now)
 made c = record {
   before_is = c.in_ok-labels.ensures;
-  one_list_each = length-map c.args.counts.now counted_labels ∙ c.requires ∙ sym (length-map c.args.players.now label_of);
+  one_list_each = length-map c.args.counts.now counted_labels
+      ∙ c.requires
+      ∙ sym (length-map c.args.players.now label_of);
   are = c.in_ok-ends.ensures;
 }
 

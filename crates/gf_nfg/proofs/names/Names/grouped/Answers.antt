@@ -5,10 +5,14 @@ use Rattle.gf_nfg.specs.TableParts.{groups}
 use Rattle.gf_nfg.proofs.TableNames.{IsMade, made_rises, made_is, length-groups}
 use Rattle.gf_nfg.proofs.names.Names.grouped.Goals as goal
 
-made : (c : goal.In_ok-ends) → IsMade (label_of c.args.title) (label_of c.args.comment) (map label_of c.args.players.now) c.in_ok-labels.labels c.add_grouped.new.labels c.in_ok-ends.ends.items (groups c.args.counts.now (map label_of c.args.strategies.now))
+made : (c : goal.In_ok-ends) → IsMade (label_of c.args.title) (label_of c.args.comment)
+    (map label_of c.args.players.now) c.in_ok-labels.labels c.add_grouped.new.labels
+    c.in_ok-ends.ends.items (groups c.args.counts.now (map label_of c.args.strategies.now))
 made c = record {
   before_is = c.in_ok-labels.ensures;
-  one_list_each = length-groups c.args.counts.now (map label_of c.args.strategies.now) ∙ c.requires.one_count_each ∙ sym (length-map c.args.players.now label_of);
+  one_list_each = length-groups c.args.counts.now (map label_of c.args.strategies.now)
+      ∙ c.requires.one_count_each
+      ∙ sym (length-map c.args.players.now label_of);
   are = c.in_ok-ends.ensures;
 }
 

@@ -1,4 +1,5 @@
-use Rattle.std.proofs.Common.{◌≡◌, ◌*◌, ◌∙◌, ◌<◌, ◌≤◌, true, false, IfOk, sym, subst, ap, arith, length, map, List, ℕ, Bool}
+use Rattle.std.proofs.Common.{◌≡◌, ◌*◌, ◌∙◌, ◌<◌, ◌≤◌, true, false, IfOk, sym}
+use Rattle.std.proofs.Common.{subst, ap, arith, length, map, List, ℕ, Bool}
 use Rattle.std.specs.Prelude.{◌==◌}
 use Rattle.std.specs.List.{AllByRecursion}
 use Rattle.std.proofs.lemmas.Bool.Decides.{nat_tests}
@@ -8,7 +9,8 @@ use Rattle.gf_token.specs.Label.{label_of}
 use Rattle.gf_nfg.specs.Meaning.{rows_by}
 use Rattle.gf_nfg.specs.TableParts.{row_of}
 use Rattle.gf_nfg.specs.ReaderState.{content_of}
-use Rattle.gf_nfg.proofs.MeaningTables.{count_chosen, none_chosen, payoffs_in_turn, rows_chosen, some_chosen}
+use Rattle.gf_nfg.proofs.MeaningTables.{count_chosen, none_chosen}
+use Rattle.gf_nfg.proofs.MeaningTables.{payoffs_in_turn, rows_chosen, some_chosen}
 use Rattle.gf_nfg.proofs.parts.Parts.rows.Goals as goal
 
 some : (size count : ℕ) (empty : Bool) → empty ≡ (size == 0) → empty ≡ false → size ≡ count

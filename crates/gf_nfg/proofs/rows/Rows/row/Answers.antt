@@ -1,6 +1,7 @@
 use Rattle.std.proofs.Common.{◌∙◌, sym, ap, arith, slice_get, Some, option_map}
 use Rattle.gf_nfg.specs.TableParts.{numbers_of}
-use Rattle.gf_nfg.proofs.TableRows.{kept_row_is, number_found, some_from, number_within, number_zero, row_is, place_within, numbered}
+use Rattle.gf_nfg.proofs.TableRows.{kept_row_is, number_found, some_from, number_within}
+use Rattle.gf_nfg.proofs.TableRows.{number_zero, row_is, place_within, numbered}
 use Rattle.gf_nfg.proofs.rows.Rows.row.Goals as goal
 
 pub number_in-number-requires : goal.number_in-number-requires
