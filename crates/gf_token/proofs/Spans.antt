@@ -1,5 +1,6 @@
 -- The span of a token is the slice of the bytes that spells it.
-use Rattle.std.proofs.Common.{◌≡◌, ℕ, ◌+◌, ◌-◌, ◌<◌, List, [], ◌∷◌, ◌++◌, length, take, drop, refl, sym, ap, subst, ◌∙◌, append_assoc, arith}
+use Rattle.std.proofs.Common.{◌≡◌, ℕ, ◌+◌, ◌-◌, ◌<◌, List, [], ◌∷◌, ◌++◌, length, take, drop, refl}
+use Rattle.std.proofs.Common.{sym, ap, subst, ◌∙◌, append_assoc, arith}
 use Rattle.std.specs.Prelude.{slice_range}
 use Rattle.std.proofs.Math.Seq.{take-append_seam, drop-append_seam}
 use Rattle.std.proofs.lemmas.List.{length-append}
@@ -17,21 +18,29 @@ some_byte (Bare []) h = absurd h
 some_byte (Bare (b ∷ bytes)) h = omega arith
 some_byte Broken h = omega arith
 
-slice_between : (front mid back : List ℕ) → slice_range (front ++ (mid ++ back)) (length front) (length front + length mid) ≡ mid
+slice_between : (front mid back : List ℕ)
+    → slice_range (front ++ (mid ++ back)) (length front) (length front + length mid) ≡ mid
 slice_between front mid back =
     let size : length front + length mid - length front ≡ length mid = omega arith in
-    ap (λ (k : ℕ). take k (drop (length front) (front ++ (mid ++ back)))) size ∙ ap (take (length mid)) (drop-append_seam front (mid ++ back)) ∙ take-append_seam mid back
+    ap (λ (k : ℕ). take k (drop (length front) (front ++ (mid ++ back)))) size
+    ∙ ap (take (length mid)) (drop-append_seam front (mid ++ back)) ∙ take-append_seam mid back
 
 -- a token that stands behind the bytes `front`
-stands_behind : (front bytes : List ℕ) (l : Lexeme) → Begins (length front) bytes l → StandsIn (front ++ bytes) l
+stands_behind : (front bytes : List ℕ) (l : Lexeme) → Begins (length front) bytes l
+    → StandsIn (front ++ bytes) l
 stands_behind front bytes l first =
     let before = front ++ first.gap in
-    let whole : front ++ bytes ≡ before ++ (spelling l.token ++ first.rest) = ap (λ x. front ++ x) first.parts ∙ sym (append_assoc front first.gap (spelling l.token ++ first.rest)) in
+    let whole : front ++ bytes ≡ before ++ (spelling l.token ++ first.rest) =
+    ap (λ x. front ++ x) first.parts
+    ∙ sym (append_assoc front first.gap (spelling l.token ++ first.rest)) in
     let start : l.start ≡ length before = first.start ∙ sym (length-append front first.gap) in
-    let end : l.end ≡ length before + length (spelling l.token) = first.end ∙ ap (λ n. n + length (spelling l.token)) start in
+    let end : l.end ≡ length before + length (spelling l.token) =
+    first.end ∙ ap (λ n. n + length (spelling l.token)) start in
     let some = some_byte l.token first.is_spelled in
-    let size : length (front ++ bytes) ≡ length before + (length (spelling l.token) + length first.rest) =
-    ap length whole ∙ length-append before (spelling l.token ++ first.rest) ∙ ap (λ n. length before + n) (length-append (spelling l.token) first.rest) in
+    let size : length (front ++ bytes)
+    ≡ length before + (length (spelling l.token) + length first.rest) =
+    ap length whole ∙ length-append before (spelling l.token ++ first.rest)
+    ∙ ap (λ n. length before + n) (length-append (spelling l.token) first.rest) in
     record {
       some = omega (arith, first.end, some);
       within = omega (arith, end, size);
@@ -39,7 +48,8 @@ stands_behind front bytes l first =
     }
 
 -- what goes on with a token goes on with what is spelled
-goes_on_some : (t : Token) (before after : List Lexeme) (l : Lexeme) (A : Type 0) → GoesOn t (before ++ l ∷ after) A → A
+goes_on_some : (t : Token) (before after : List Lexeme) (l : Lexeme) (A : Type 0)
+    → GoesOn t (before ++ l ∷ after) A → A
 goes_on_some Opening before after l A h = h
 goes_on_some Closing before after l A h = h
 goes_on_some Comma before after l A h = h
@@ -48,15 +58,31 @@ goes_on_some (Bare bytes) before after l A h = h
 goes_on_some Broken [] after l A h = absurd cc
 goes_on_some Broken (x ∷ before) after l A h = absurd cc
 
-stands : (before after : List Lexeme) (l : Lexeme) (front bytes : List ℕ) (at : ℕ) → at ≡ length front → Spells at bytes (before ++ l ∷ after) → StandsIn (front ++ bytes) l
-stands [] after l front bytes at e h = stands_behind front bytes l (subst (λ (i : ℕ). Begins i bytes l) e h.0)
+stands : (before after : List Lexeme) (l : Lexeme) (front bytes : List ℕ) (at : ℕ)
+    → at ≡ length front → Spells at bytes (before ++ l ∷ after) → StandsIn (front ++ bytes) l
+stands [] after l front bytes at e h =
+    stands_behind front bytes l (subst (λ (i : ℕ). Begins i bytes l) e h.0)
 stands (x ∷ before) after l front bytes at e h =
     let first = h.0 in
     let mid = first.gap ++ spelling x.token in
-    let further = goes_on_some x.token before after l (Spells x.end first.rest (before ++ l ∷ after)) h.1 in
-    let next : x.end ≡ length (front ++ mid) = omega (arith, first.start, first.end, length-append front mid, length-append first.gap (spelling x.token)) in
-    let whole : (front ++ mid) ++ first.rest ≡ front ++ bytes = append_assoc front mid first.rest ∙ ap (λ y. front ++ y) (append_assoc first.gap (spelling x.token) first.rest ∙ sym first.parts) in
-    subst (λ (y : List ℕ). StandsIn y l) whole (stands before after l (front ++ mid) first.rest x.end next further)
+    let further =
+    goes_on_some x.token before after l (Spells x.end first.rest (before ++ l ∷ after)) h.1 in
+    let next : x.end ≡ length (front ++ mid) =
+    omega (
+      arith,
+      first.start,
+      first.end,
+      length-append front mid,
+      length-append first.gap
+          (spelling x.token),
+    ) in
+    let whole : (front ++ mid) ++ first.rest ≡ front ++ bytes =
+    append_assoc front mid first.rest
+    ∙ ap (λ y. front ++ y)
+    (append_assoc first.gap (spelling x.token) first.rest ∙ sym first.parts) in
+    subst (λ (y : List ℕ). StandsIn y l) whole
+    (stands before after l (front ++ mid) first.rest x.end next further)
 
-pub stands_in : (bytes : List ℕ) (before after : List Lexeme) (l : Lexeme) → Spells 0 bytes (before ++ l ∷ after) → StandsIn bytes l
+pub stands_in : (bytes : List ℕ) (before after : List Lexeme) (l : Lexeme)
+    → Spells 0 bytes (before ++ l ∷ after) → StandsIn bytes l
 stands_in bytes before after l h = stands before after l [] bytes 0 refl h

@@ -1,5 +1,7 @@
 -- Each byte list spells exactly one list of tokens: those that are found in it byte by byte.
-use Rattle.std.proofs.Common.{◌≡◌, ℕ, suc, ◌+◌, Bool, true, false, ◌==◌, ◌&&◌, ◌||◌, cond, List, [], ◌∷◌, ◌++◌, length, refl, sym, ap, subst, ◌∙◌, append_assoc, arith, inl, inr}
+use Rattle.std.proofs.Common.{◌≡◌, ℕ, suc, ◌+◌, Bool, true, false, ◌==◌, ◌&&◌, ◌||◌, cond, List, []}
+use Rattle.std.proofs.Common.{◌∷◌, ◌++◌, length, refl, sym, ap, subst, ◌∙◌, append_assoc, arith}
+use Rattle.std.proofs.Common.{inl, inr}
 use Rattle.std.specs.Prelude.{not}
 use Rattle.std.specs.List.{AllByRecursion}
 use Rattle.std.proofs.lemmas.Bool.{cases_Bool, and_parts}
@@ -19,25 +21,36 @@ AllBare bytes = AllByRecursion (λ b. is_bare b ≡ true) bytes
 
 -- no label behind the byte `before` is closed by a quote
 abbrev ClosesNever : ℕ → List ℕ → Type 0
-ClosesNever before bytes = (label rest : List ℕ) → is_spelling_after before label ≡ true → bytes ≡ label ++ 34 ∷ rest → ⊥
+ClosesNever before bytes =
+    (label rest : List ℕ) → is_spelling_after before label ≡ true → bytes ≡ label ++ 34 ∷ rest → ⊥
 
 -- ---- what the bytes spell is found in them
 
-gap_again : (gap rest : List ℕ) (at : ℕ) → IsGap gap → lex Gap at (gap ++ rest) ≡ lex Gap (at + length gap) rest
+gap_again : (gap rest : List ℕ) (at : ℕ) → IsGap gap
+    → lex Gap at (gap ++ rest) ≡ lex Gap (at + length gap) rest
 unfolding lex
 gap_again [] rest at h = let e : at ≡ at + 0 = omega arith in ap (λ (i : ℕ). lex Gap i rest) e
 gap_again (b ∷ gap) rest at h =
     let e : at + 1 + length gap ≡ at + suc (length gap) = omega arith in
-    rw (space_out at b h.0, space_after at b h.0) (gap_again gap rest (at + 1) h.1 ∙ ap (λ (i : ℕ). lex Gap i rest) e)
+    rw (space_out at b h.0, space_after at b h.0)
+    (gap_again gap rest (at + 1) h.1 ∙ ap (λ (i : ℕ). lex Gap i rest) e)
 
-bare_again : (bs acc rest : List ℕ) (start at : ℕ) → AllBare bs → lex (InBare start acc) at (bs ++ rest) ≡ lex (InBare start (acc ++ bs)) (at + length bs) rest
+bare_again : (bs acc rest : List ℕ) (start at : ℕ) → AllBare bs
+    → lex (InBare start acc) at (bs ++ rest)
+    ≡ lex (InBare start (acc ++ bs)) (at + length bs) rest
 unfolding lex
-bare_again [] acc rest start at h = let e : at ≡ at + 0 = omega arith in rw append-nil (ap (λ (i : ℕ). lex (InBare start acc) i rest) e)
+bare_again [] acc rest start at h =
+    let e : at ≡ at + 0 = omega arith in
+    rw append-nil (ap (λ (i : ℕ). lex (InBare start acc) i rest) e)
 bare_again (b ∷ bs) acc rest start at h =
     let e : at + 1 + length bs ≡ at + suc (length bs) = omega arith in
-    rw h.0 (bare_again bs (acc ++ b ∷ []) rest start (at + 1) h.1 ∙ ap (λ (i : ℕ). lex (InBare start ((acc ++ b ∷ []) ++ bs)) i rest) e ∙ ap (λ (x : List ℕ). lex (InBare start x) (at + suc (length bs)) rest) (append_assoc acc (b ∷ []) bs))
+    rw h.0 (bare_again bs (acc ++ b ∷ []) rest start (at + 1) h.1
+    ∙ ap (λ (i : ℕ). lex (InBare start ((acc ++ b ∷ []) ++ bs)) i rest) e
+    ∙ ap (λ (x : List ℕ). lex (InBare start x) (at + suc (length bs)) rest)
+    (append_assoc acc (b ∷ []) bs))
 
-bare_ends : (text rest : List ℕ) (start at : ℕ) → MayPrecede (Bare text) rest → lex (InBare start text) at rest ≡ lexeme start at (Bare text) ∷ lex Gap at rest
+bare_ends : (text rest : List ℕ) (start at : ℕ) → MayPrecede (Bare text) rest
+    → lex (InBare start text) at rest ≡ lexeme start at (Bare text) ∷ lex Gap at rest
 unfolding lex
 bare_ends text [] start at h = refl
 bare_ends text (c ∷ rest) start at h = rw h refl
@@ -48,13 +61,15 @@ goes_on true true h = refl
 goes_on true false h = absurd cc
 goes_on false escaped h = refl
 
-goes_on_back : (quote escaped : Bool) → (quote && not escaped) ≡ false → (not quote || escaped) ≡ true
+goes_on_back : (quote escaped : Bool) → (quote && not escaped) ≡ false
+    → (not quote || escaped) ≡ true
 goes_on_back true true h = refl
 goes_on_back true false h = absurd cc
 goes_on_back false escaped h = refl
 
 text_again : (l acc rest : List ℕ) (start at before : ℕ) → is_spelling_after before l ≡ true
-    → lex (InText start before acc) at (l ++ 34 ∷ rest) ≡ lexeme start (at + length l + 1) (Text (acc ++ l)) ∷ lex Gap (at + length l + 1) rest
+    → lex (InText start before acc) at (l ++ 34 ∷ rest)
+    ≡ lexeme start (at + length l + 1) (Text (acc ++ l)) ∷ lex Gap (at + length l + 1) rest
 unfolding lex
 text_again [] acc rest start at before h =
     let e : at + 1 ≡ at + 0 + 1 = omega arith in
@@ -62,15 +77,21 @@ text_again [] acc rest start at before h =
 text_again (b ∷ l) acc rest start at before h =
     let k = and_parts (not (b == 34) || before == 92) (is_spelling_after b l) h in
     let e : at + 1 + length l + 1 ≡ at + suc (length l) + 1 = omega arith in
-    rw (goes_on (b == 34) (before == 92) k.0) (text_again l (acc ++ b ∷ []) rest start (at + 1) b k.1
+    rw (goes_on (b == 34) (before == 92) k.0)
+    (text_again l (acc ++ b ∷ []) rest start (at + 1) b k.1
     ∙ ap (λ (i : ℕ). lexeme start i (Text ((acc ++ b ∷ []) ++ l)) ∷ lex Gap i rest) e
-    ∙ ap (λ (x : List ℕ). lexeme start (at + suc (length l) + 1) (Text x) ∷ lex Gap (at + suc (length l) + 1) rest) (append_assoc acc (b ∷ []) l))
+    ∙ ap (λ (x : List ℕ). lexeme start (at + suc (length l) + 1) (Text x)
+    ∷ lex Gap (at + suc (length l) + 1) rest) (append_assoc acc (b ∷ []) l))
 
 -- one byte further, no label is closed either
-closes_never_on : (b before : ℕ) (bs : List ℕ) → ((b == 34) && not (before == 92)) ≡ false → ClosesNever before (b ∷ bs) → ClosesNever b bs
-closes_never_on b before bs s h = λ label rest spelled parts. h (b ∷ label) rest (rw (goes_on_back (b == 34) (before == 92) s) spelled) (ap (λ (x : List ℕ). b ∷ x) parts)
+closes_never_on : (b before : ℕ) (bs : List ℕ) → ((b == 34) && not (before == 92)) ≡ false
+    → ClosesNever before (b ∷ bs) → ClosesNever b bs
+closes_never_on b before bs s h =
+    λ label rest spelled parts. h (b ∷ label) rest
+    (rw (goes_on_back (b == 34) (before == 92) s) spelled) (ap (λ (x : List ℕ). b ∷ x) parts)
 
-text_breaks : (bytes acc : List ℕ) (start at before : ℕ) → ClosesNever before bytes → lex (InText start before acc) at bytes ≡ lexeme start (start + 1) Broken ∷ []
+text_breaks : (bytes acc : List ℕ) (start at before : ℕ) → ClosesNever before bytes
+    → lex (InText start before acc) at bytes ≡ lexeme start (start + 1) Broken ∷ []
 unfolding lex
 text_breaks [] acc start at before h = refl
 text_breaks (b ∷ bs) acc start at before h =
@@ -78,29 +99,42 @@ text_breaks (b ∷ bs) acc start at before h =
       | inl s ↦
           let q = and_parts (b == 34) (not (before == 92)) s in
           absurd (h [] bs q.1 (ap (λ (x : ℕ). x ∷ bs) ((Decides-eqb b 34).0 q.0)))
-      | inr s ↦ rw s (text_breaks bs (acc ++ b ∷ []) start (at + 1) b (closes_never_on b before bs s h))
+      | inr s ↦ rw s (text_breaks bs (acc ++ b ∷ []) start (at + 1) b
+          (closes_never_on b before bs s h))
     ]
 
 -- a token, and what the bytes behind it spell
-token_again : (t : Token) (at : ℕ) (rest : List ℕ) (others : List Lexeme) → IsSpelled t → MayPrecede t rest
+token_again : (t : Token) (at : ℕ) (rest : List ℕ) (others : List Lexeme) → IsSpelled t
+    → MayPrecede t rest
     → GoesOn t others (lex Gap (at + length (spelling t)) rest ≡ others)
     → lex Gap at (spelling t ++ rest) ≡ lexeme at (at + length (spelling t)) t ∷ others
 unfolding lex
-token_again Opening at rest others h s k = ap (λ (x : List Lexeme). lexeme at (at + 1) Opening ∷ x) k
-token_again Closing at rest others h s k = ap (λ (x : List Lexeme). lexeme at (at + 1) Closing ∷ x) k
+token_again Opening at rest others h s k =
+    ap (λ (x : List Lexeme). lexeme at (at + 1) Opening ∷ x) k
+token_again Closing at rest others h s k =
+    ap (λ (x : List Lexeme). lexeme at (at + 1) Closing ∷ x) k
 token_again Comma at rest others h s k = ap (λ (x : List Lexeme). lexeme at (at + 1) Comma ∷ x) k
 token_again (Text l) at rest others h s k =
-    let e : at + 1 + length l + 1 ≡ at + suc (length (l ++ 34 ∷ [])) = omega (arith, length-append l (34 ∷ [])) in
-    ap (λ (x : List ℕ). lex (InText at 34 []) (at + 1) x) (append_assoc l (34 ∷ []) rest) ∙ text_again l [] rest at (at + 1) 34 h ∙ ap (λ (i : ℕ). lexeme at i (Text l) ∷ lex Gap i rest) e
+    let e : at + 1 + length l + 1 ≡ at + suc (length (l ++ 34 ∷ [])) =
+    omega (arith, length-append l (34 ∷ [])) in
+    ap (λ (x : List ℕ). lex (InText at 34 []) (at + 1) x) (append_assoc l (34 ∷ []) rest)
+    ∙ text_again l [] rest at (at + 1) 34 h
+    ∙ ap (λ (i : ℕ). lexeme at i (Text l) ∷ lex Gap i rest) e
     ∙ ap (λ (x : List Lexeme). lexeme at (at + suc (length (l ++ 34 ∷ []))) (Text l) ∷ x) k
 token_again (Bare []) at rest others h s k = absurd h
 token_again (Bare (b ∷ bs)) at rest others h s k =
     let e : at + 1 + length bs ≡ at + suc (length bs) = omega arith in
-    rw (bare_out at b h.0, h.0) (bare_again bs (b ∷ []) rest at (at + 1) h.1 ∙ bare_ends (b ∷ bs) rest at (at + 1 + length bs) s ∙ ap (λ (i : ℕ). lexeme at i (Bare (b ∷ bs)) ∷ lex Gap i rest) e
+    rw (bare_out at b h.0, h.0)
+    (bare_again bs (b ∷ []) rest at (at + 1) h.1
+    ∙ bare_ends (b ∷ bs) rest at (at + 1 + length bs) s
+    ∙ ap (λ (i : ℕ). lexeme at i (Bare (b ∷ bs)) ∷ lex Gap i rest) e
     ∙ ap (λ (x : List Lexeme). lexeme at (at + suc (length bs)) (Bare (b ∷ bs)) ∷ x) k)
-token_again Broken at rest others h s k = text_breaks rest [] at (at + 1) 34 s ∙ ap (λ (x : List Lexeme). lexeme at (at + 1) Broken ∷ x) (sym k)
+token_again Broken at rest others h s k =
+    text_breaks rest [] at (at + 1) 34 s
+    ∙ ap (λ (x : List Lexeme). lexeme at (at + 1) Broken ∷ x) (sym k)
 
-goes_on_map : (t : Token) (others : List Lexeme) (A B : Type 0) → (A → B) → GoesOn t others A → GoesOn t others B
+goes_on_map : (t : Token) (others : List Lexeme) (A B : Type 0) → (A → B) → GoesOn t others A
+    → GoesOn t others B
 goes_on_map Opening others A B f g = f g
 goes_on_map Closing others A B f g = f g
 goes_on_map Comma others A B f g = f g
@@ -111,7 +145,8 @@ goes_on_map Broken others A B f g = g
 made : (l : Lexeme) (a b : ℕ) → l.start ≡ a → b ≡ l.end → lexeme a b l.token ≡ l
 made l a b p q = rw (← p, q) refl
 
-pub spelled : (ls : List Lexeme) (at : ℕ) (bytes : List ℕ) → Spells at bytes ls → lex Gap at bytes ≡ ls
+pub spelled : (ls : List Lexeme) (at : ℕ) (bytes : List ℕ) → Spells at bytes ls
+    → lex Gap at bytes ≡ ls
 unfolding lex
 spelled [] at bytes h = ap (lex Gap at) (sym (append-nil bytes)) ∙ gap_again bytes [] at h
 spelled (l ∷ ls) at bytes h =
@@ -119,14 +154,19 @@ spelled (l ∷ ls) at bytes h =
     let begin = at + length first.gap in
     let end = begin + length (spelling l.token) in
     let e : l.end ≡ end = omega (arith, first.start, first.end) in
-    let further = goes_on_map l.token ls (Spells l.end first.rest ls) (lex Gap end first.rest ≡ ls) (λ s. ap (λ (i : ℕ). lex Gap i first.rest) (sym e) ∙ spelled ls l.end first.rest s) h.1 in
-    ap (lex Gap at) first.parts ∙ gap_again first.gap (spelling l.token ++ first.rest) at first.is_gap ∙ token_again l.token begin first.rest ls first.is_spelled first.may_precede further
+    let further =
+    goes_on_map l.token ls (Spells l.end first.rest ls) (lex Gap end first.rest ≡ ls)
+    (λ s. ap (λ (i : ℕ). lex Gap i first.rest) (sym e) ∙ spelled ls l.end first.rest s) h.1 in
+    ap (lex Gap at) first.parts
+    ∙ gap_again first.gap (spelling l.token ++ first.rest) at first.is_gap
+    ∙ token_again l.token begin first.rest ls first.is_spelled first.may_precede further
     ∙ ap (λ (x : Lexeme). x ∷ ls) (made l begin end first.start (sym e))
 
 -- ---- what is found is spelled so
 
 -- what stands behind an open bare token
-record BareEnds (start : ℕ) (text : List ℕ) (at : ℕ) (bytes : List ℕ) (ls : List Lexeme) : Type 0 where
+record BareEnds (start : ℕ) (text : List ℕ) (at : ℕ) (bytes : List ℕ)
+    (ls : List Lexeme) : Type 0 where
   more : List ℕ
   rest : List ℕ
   others : List Lexeme
@@ -137,10 +177,14 @@ record BareEnds (start : ℕ) (text : List ℕ) (at : ℕ) (bytes : List ℕ) (l
   then : Spells (at + length more) rest others
 
 -- what stands behind an open text
-data TextEnds (start before : ℕ) (text : List ℕ) (at : ℕ) (bytes : List ℕ) (ls : List Lexeme) : Type 0 where
-  closed : (more rest : List ℕ) (others : List Lexeme) → bytes ≡ more ++ 34 ∷ rest → is_spelling_after before more ≡ true
-      → ls ≡ lexeme start (at + length more + 1) (Text (text ++ more)) ∷ others → Spells (at + length more + 1) rest others → TextEnds start before text at bytes ls
-  never : ClosesNever before bytes → ls ≡ lexeme start (start + 1) Broken ∷ [] → TextEnds start before text at bytes ls
+data TextEnds (start before : ℕ) (text : List ℕ) (at : ℕ) (bytes : List ℕ)
+    (ls : List Lexeme) : Type 0 where
+  closed : (more rest : List ℕ) (others : List Lexeme) → bytes ≡ more ++ 34 ∷ rest
+      → is_spelling_after before more ≡ true
+      → ls ≡ lexeme start (at + length more + 1) (Text (text ++ more)) ∷ others
+      → Spells (at + length more + 1) rest others → TextEnds start before text at bytes ls
+  never : ClosesNever before bytes → ls ≡ lexeme start (start + 1) Broken ∷ []
+      → TextEnds start before text at bytes ls
 
 abbrev Means : Mode → ℕ → List ℕ → List Lexeme → Type 0
 Means Gap at bytes ls = Spells at bytes ls
@@ -156,7 +200,8 @@ data Class (b : ℕ) : Type 0 where
   quote : b ≡ 34 → Class b
   bare : is_bare b ≡ true → Class b
 
-class_by : (b : ℕ) (x y z v w : Bool) → is_space b ≡ x → (b == 123) ≡ y → (b == 125) ≡ z → (b == 44) ≡ v → (b == 34) ≡ w → Class b
+class_by : (b : ℕ) (x y z v w : Bool) → is_space b ≡ x → (b == 123) ≡ y → (b == 125) ≡ z
+    → (b == 44) ≡ v → (b == 34) ≡ w → Class b
 class_by b true y z v w p q r s t = space p
 class_by b false true z v w p q r s t = opening ((Decides-eqb b 123).0 q)
 class_by b false false true v w p q r s t = closing ((Decides-eqb b 125).0 r)
@@ -165,10 +210,12 @@ class_by b false false false false true p q r s t = quote ((Decides-eqb b 34).0 
 class_by b false false false false false p q r s t = bare (rw (p, q, r, s, t) refl)
 
 class_of : (b : ℕ) → Class b
-class_of b = class_by b (is_space b) (b == 123) (b == 125) (b == 44) (b == 34) refl refl refl refl refl
+class_of b =
+    class_by b (is_space b) (b == 123) (b == 125) (b == 44) (b == 34) refl refl refl refl refl
 
 -- a gap with a byte of whitespace before it
-pub wider : (ls : List Lexeme) (b at : ℕ) (bs : List ℕ) → is_space b ≡ true → Spells (at + 1) bs ls → Spells at (b ∷ bs) ls
+pub wider : (ls : List Lexeme) (b at : ℕ) (bs : List ℕ) → is_space b ≡ true → Spells (at + 1) bs ls
+    → Spells at (b ∷ bs) ls
 wider [] b at bs s h = (s, h)
 wider (l ∷ ls) b at bs s h =
     let first = h.0 in (
@@ -186,10 +233,22 @@ wider (l ∷ ls) b at bs s h =
     )
 
 -- one token first
-after_one : (t : Token) (start end : ℕ) (rest : List ℕ) (ls : List Lexeme) → IsSpelled t → MayPrecede t rest → end ≡ start + length (spelling t) → GoesOn t ls (Spells end rest ls)
+after_one : (t : Token) (start end : ℕ) (rest : List ℕ) (ls : List Lexeme) → IsSpelled t
+    → MayPrecede t rest → end ≡ start + length (spelling t) → GoesOn t ls (Spells end rest ls)
     → Spells start (spelling t ++ rest) (lexeme start end t ∷ ls)
-after_one t start end rest ls h s e k =
-    (record { gap = []; rest = rest; parts = refl; is_gap = tt; is_spelled = h; may_precede = s; start = omega arith; end = e }, k)
+after_one t start end rest ls h s e k = (
+  record {
+    gap = [];
+    rest = rest;
+    parts = refl;
+    is_gap = tt;
+    is_spelled = h;
+    may_precede = s;
+    start = omega arith;
+    end = e;
+  },
+  k,
+)
 
 -- what is found in these bytes
 abbrev Known : ℕ → List ℕ → Type 0
@@ -201,20 +260,33 @@ from_gap b at bs = single at b ++ lex (begins at b) (at + 1) bs
 abbrev Goal : ℕ → ℕ → List ℕ → Type 0
 Goal at b bs = Spells at (b ∷ bs) (from_gap b at bs)
 
-text_parts : (at : ℕ) (bs : List ℕ) (ls : List Lexeme) → TextEnds at 34 [] (at + 1) bs ls → Spells at (34 ∷ bs) ls
+text_parts : (at : ℕ) (bs : List ℕ) (ls : List Lexeme) → TextEnds at 34 [] (at + 1) bs ls
+    → Spells at (34 ∷ bs) ls
 text_parts at bs ls (closed more rest others parts label first then) =
-    let e : at + 1 + length more + 1 ≡ at + length (spelling (Text more)) = omega (arith, length-append more (34 ∷ [])) in
-    let all : Spells at (34 ∷ ((more ++ 34 ∷ []) ++ rest)) (lexeme at (at + 1 + length more + 1) (Text more) ∷ others) = after_one (Text more) at (at + 1 + length more + 1) rest others label tt e then in
-    let k : 34 ∷ ((more ++ 34 ∷ []) ++ rest) ≡ 34 ∷ bs = ap (λ (x : List ℕ). 34 ∷ x) (append_assoc more (34 ∷ []) rest ∙ sym parts) in
-    subst (λ (x : List Lexeme). Spells at (34 ∷ bs) x) (sym first) (subst (λ (x : List ℕ). Spells at x (lexeme at (at + 1 + length more + 1) (Text more) ∷ others)) k all)
+    let e : at + 1 + length more + 1 ≡ at + length (spelling (Text more)) =
+    omega (arith, length-append more (34 ∷ [])) in
+    let found = lexeme at (at + 1 + length more + 1) (Text more) in
+    let all : Spells at (34 ∷ ((more ++ 34 ∷ []) ++ rest)) (found ∷ others) =
+    after_one (Text more) at (at + 1 + length more + 1) rest others label tt e then in
+    let k : 34 ∷ ((more ++ 34 ∷ []) ++ rest) ≡ 34 ∷ bs =
+    ap (λ (x : List ℕ). 34 ∷ x) (append_assoc more (34 ∷ []) rest ∙ sym parts) in
+    subst (λ (x : List Lexeme). Spells at (34 ∷ bs) x) (sym first)
+    (subst (λ (x : List ℕ). Spells at x (found ∷ others)) k all)
 text_parts at bs ls (never none first) =
-    subst (λ (x : List Lexeme). Spells at (34 ∷ bs) x) (sym first) (after_one Broken at (at + 1) bs [] tt none refl refl)
+    subst (λ (x : List Lexeme). Spells at (34 ∷ bs) x) (sym first)
+    (after_one Broken at (at + 1) bs [] tt none refl refl)
 
-bare_parts : (b at : ℕ) (bs : List ℕ) (ls : List Lexeme) → is_bare b ≡ true → BareEnds at (b ∷ []) (at + 1) bs ls → Spells at (b ∷ bs) ls
+bare_parts : (b at : ℕ) (bs : List ℕ) (ls : List Lexeme) → is_bare b ≡ true
+    → BareEnds at (b ∷ []) (at + 1) bs ls → Spells at (b ∷ bs) ls
 bare_parts b at bs ls s h =
     let e : at + 1 + length h.more ≡ at + length (b ∷ h.more) = omega arith in
-    let all : Spells at (b ∷ (h.more ++ h.rest)) (lexeme at (at + 1 + length h.more) (Bare (b ∷ h.more)) ∷ h.others) = after_one (Bare (b ∷ h.more)) at (at + 1 + length h.more) h.rest h.others (s, h.bare) h.stands e h.then in
-    subst (λ (x : List Lexeme). Spells at (b ∷ bs) x) (sym h.first) (subst (λ (x : List ℕ). Spells at x (lexeme at (at + 1 + length h.more) (Bare (b ∷ h.more)) ∷ h.others)) (ap (λ (x : List ℕ). b ∷ x) (sym h.parts)) all)
+    let found = lexeme at (at + 1 + length h.more) (Bare (b ∷ h.more)) in
+    let all : Spells at (b ∷ (h.more ++ h.rest)) (found ∷ h.others) =
+    after_one (Bare (b ∷ h.more)) at (at + 1 + length h.more) h.rest h.others
+    (s, h.bare) h.stands e h.then in
+    subst (λ (x : List Lexeme). Spells at (b ∷ bs) x) (sym h.first)
+    (subst (λ (x : List ℕ). Spells at x (found ∷ h.others))
+    (ap (λ (x : List ℕ). b ∷ x) (sym h.parts)) all)
 
 at_opening : (at : ℕ) (bs : List ℕ) → Known (at + 1) bs → Goal at 123 bs
 at_opening at bs ih = after_one Opening at (at + 1) bs (lex Gap (at + 1) bs) tt tt refl (ih Gap)
@@ -229,17 +301,23 @@ at_quote : (at : ℕ) (bs : List ℕ) → Known (at + 1) bs → Goal at 34 bs
 at_quote at bs ih = text_parts at bs (lex (InText at 34 []) (at + 1) bs) (ih (InText at 34 []))
 
 gap_step : (b at : ℕ) (bs : List ℕ) → Class b → Known (at + 1) bs → Goal at b bs
-gap_step b at bs (space s) ih = rw (space_out at b s, space_after at b s) (wider (lex Gap (at + 1) bs) b at bs s (ih Gap))
+gap_step b at bs (space s) ih =
+    rw (space_out at b s, space_after at b s) (wider (lex Gap (at + 1) bs) b at bs s (ih Gap))
 gap_step b at bs (opening s) ih = subst (λ (x : ℕ). Goal at x bs) (sym s) (at_opening at bs ih)
 gap_step b at bs (closing s) ih = subst (λ (x : ℕ). Goal at x bs) (sym s) (at_closing at bs ih)
 gap_step b at bs (comma s) ih = subst (λ (x : ℕ). Goal at x bs) (sym s) (at_comma at bs ih)
 gap_step b at bs (quote s) ih = subst (λ (x : ℕ). Goal at x bs) (sym s) (at_quote at bs ih)
-gap_step b at bs (bare s) ih = rw (bare_out at b s, s) (bare_parts b at bs (lex (InBare at (b ∷ [])) (at + 1) bs) s (ih (InBare at (b ∷ []))))
+gap_step b at bs (bare s) ih =
+    rw (bare_out at b s, s)
+    (bare_parts b at bs (lex (InBare at (b ∷ [])) (at + 1) bs) s (ih (InBare at (b ∷ []))))
 
 bare_step : (b at start : ℕ) (text bs : List ℕ) (c : Bool) → is_bare b ≡ c → Known (at + 1) bs
-    → BareEnds start text at (b ∷ bs) (cond c [] (lexeme start at (Bare text) ∷ single at b) ++ lex (cond c (InBare start (text ++ b ∷ [])) (begins at b)) (at + 1) bs)
+    → BareEnds start text at (b ∷ bs)
+    (cond c [] (lexeme start at (Bare text) ∷ single at b)
+    ++ lex (cond c (InBare start (text ++ b ∷ [])) (begins at b)) (at + 1) bs)
 bare_step b at start text bs true s ih =
-    let h : BareEnds start (text ++ b ∷ []) (at + 1) bs (lex (InBare start (text ++ b ∷ [])) (at + 1) bs) = ih (InBare start (text ++ b ∷ [])) in
+    let mode = InBare start (text ++ b ∷ []) in
+    let h : BareEnds start (text ++ b ∷ []) (at + 1) bs (lex mode (at + 1) bs) = ih mode in
     let e : at + 1 + length h.more ≡ at + length (b ∷ h.more) = omega arith in
     record {
       more = b ∷ h.more;
@@ -247,8 +325,13 @@ bare_step b at start text bs true s ih =
       others = h.others;
       parts = ap (λ (x : List ℕ). b ∷ x) h.parts;
       bare = (s, h.bare);
-      first = h.first ∙ ap (λ (x : List ℕ). lexeme start (at + 1 + length h.more) (Bare x) ∷ h.others) (append_assoc text (b ∷ []) h.more) ∙ ap (λ (i : ℕ). lexeme start i (Bare (text ++ b ∷ h.more)) ∷ h.others) e;
-      stands = subst (λ (x : List ℕ). MayPrecede (Bare x) h.rest) (append_assoc text (b ∷ []) h.more) h.stands;
+      first =
+          h.first ∙ ap (λ (x : List ℕ). lexeme start (at + 1 + length h.more) (Bare x) ∷ h.others)
+          (append_assoc text (b ∷ []) h.more)
+          ∙ ap (λ (i : ℕ). lexeme start i (Bare (text ++ b ∷ h.more)) ∷ h.others) e;
+      stands =
+          subst (λ (x : List ℕ). MayPrecede (Bare x) h.rest)
+          (append_assoc text (b ∷ []) h.more) h.stands;
       then = subst (λ (i : ℕ). Spells i h.rest h.others) e h.then;
     }
 bare_step b at start text bs false s ih =
@@ -259,13 +342,18 @@ bare_step b at start text bs false s ih =
       others = from_gap b at bs;
       parts = refl;
       bare = tt;
-      first = ap (λ (x : List ℕ). lexeme start at (Bare x) ∷ from_gap b at bs) (sym (append-nil text)) ∙ ap (λ (i : ℕ). lexeme start i (Bare (text ++ [])) ∷ from_gap b at bs) e;
+      first =
+          ap (λ (x : List ℕ). lexeme start at (Bare x) ∷ from_gap b at bs) (sym (append-nil text))
+          ∙ ap (λ (i : ℕ). lexeme start i (Bare (text ++ [])) ∷ from_gap b at bs) e;
       stands = s;
-      then = subst (λ (i : ℕ). Spells i (b ∷ bs) (from_gap b at bs)) e (gap_step b at bs (class_of b) ih);
+      then =
+          subst (λ (i : ℕ). Spells i (b ∷ bs) (from_gap b at bs)) e
+          (gap_step b at bs (class_of b) ih);
     }
 
 -- with one byte before that closes no text, no label is closed either
-closes_never_back : (b before : ℕ) (bs : List ℕ) → ((b == 34) && not (before == 92)) ≡ false → ClosesNever b bs → ClosesNever before (b ∷ bs)
+closes_never_back : (b before : ℕ) (bs : List ℕ) → ((b == 34) && not (before == 92)) ≡ false
+    → ClosesNever b bs → ClosesNever before (b ∷ bs)
 closes_never_back b before bs s h [] rest spelled parts =
     let q : b ≡ 34 = cc in
     absurd (grind (arith, nat_tests))
@@ -275,24 +363,36 @@ closes_never_back b before bs s h (c ∷ label) rest spelled parts =
     let tail : bs ≡ label ++ 34 ∷ rest = cc in
     h label rest (rw same k.1) tail
 
-text_on : (b at start before : ℕ) (text bs : List ℕ) (ls : List Lexeme) → ((b == 34) && not (before == 92)) ≡ false
+text_on : (b at start before : ℕ) (text bs : List ℕ) (ls : List Lexeme)
+    → ((b == 34) && not (before == 92)) ≡ false
     → TextEnds start b (text ++ b ∷ []) (at + 1) bs ls → TextEnds start before text at (b ∷ bs) ls
 text_on b at start before text bs ls s (closed more rest others parts label first then) =
     let e : at + 1 + length more + 1 ≡ at + length (b ∷ more) + 1 = omega arith in
-    closed (b ∷ more) rest others (ap (λ (x : List ℕ). b ∷ x) parts) (rw (goes_on_back (b == 34) (before == 92) s) label)
-    (first ∙ ap (λ (x : List ℕ). lexeme start (at + 1 + length more + 1) (Text x) ∷ others) (append_assoc text (b ∷ []) more) ∙ ap (λ (i : ℕ). lexeme start i (Text (text ++ b ∷ more)) ∷ others) e)
+    closed (b ∷ more) rest others (ap (λ (x : List ℕ). b ∷ x) parts)
+    (rw (goes_on_back (b == 34) (before == 92) s) label)
+    (first ∙ ap (λ (x : List ℕ). lexeme start (at + 1 + length more + 1) (Text x) ∷ others)
+    (append_assoc text (b ∷ []) more)
+    ∙ ap (λ (i : ℕ). lexeme start i (Text (text ++ b ∷ more)) ∷ others) e)
     (subst (λ (i : ℕ). Spells i rest others) e then)
-text_on b at start before text bs ls s (never none first) = never (closes_never_back b before bs s none) first
+text_on b at start before text bs ls s (never none first) =
+    never (closes_never_back b before bs s none) first
 
-text_step : (b at start before : ℕ) (text bs : List ℕ) (c : Bool) → ((b == 34) && not (before == 92)) ≡ c → Known (at + 1) bs
-    → TextEnds start before text at (b ∷ bs) (cond c (lexeme start (at + 1) (Text text) ∷ []) [] ++ lex (cond c Gap (InText start b (text ++ b ∷ []))) (at + 1) bs)
+text_step : (b at start before : ℕ) (text bs : List ℕ) (c : Bool)
+    → ((b == 34) && not (before == 92)) ≡ c → Known (at + 1) bs
+    → TextEnds start before text at (b ∷ bs)
+    (cond c (lexeme start (at + 1) (Text text) ∷ []) []
+    ++ lex (cond c Gap (InText start b (text ++ b ∷ []))) (at + 1) bs)
 text_step b at start before text bs true s ih =
     let q = and_parts (b == 34) (not (before == 92)) s in
     let e : at + 1 ≡ at + 0 + 1 = omega arith in
     closed [] bs (lex Gap (at + 1) bs) (ap (λ (x : ℕ). x ∷ bs) ((Decides-eqb b 34).0 q.0)) q.1
-    (ap (λ (x : List ℕ). lexeme start (at + 1) (Text x) ∷ lex Gap (at + 1) bs) (sym (append-nil text)) ∙ ap (λ (i : ℕ). lexeme start i (Text (text ++ [])) ∷ lex Gap (at + 1) bs) e)
+    (ap (λ (x : List ℕ). lexeme start (at + 1) (Text x) ∷ lex Gap (at + 1) bs)
+    (sym (append-nil text))
+    ∙ ap (λ (i : ℕ). lexeme start i (Text (text ++ [])) ∷ lex Gap (at + 1) bs) e)
     (subst (λ (i : ℕ). Spells i bs (lex Gap (at + 1) bs)) e (ih Gap))
-text_step b at start before text bs false s ih = text_on b at start before text bs (lex (InText start b (text ++ b ∷ [])) (at + 1) bs) s (ih (InText start b (text ++ b ∷ [])))
+text_step b at start before text bs false s ih =
+    text_on b at start before text bs (lex (InText start b (text ++ b ∷ [])) (at + 1) bs) s
+    (ih (InText start b (text ++ b ∷ [])))
 
 -- nothing is no label and a quote
 closes_never_none : (before : ℕ) → ClosesNever before []
@@ -311,21 +411,28 @@ means [] at (InBare start text) =
       others = [];
       parts = refl;
       bare = tt;
-      first = ap (λ (x : List ℕ). lexeme start at (Bare x) ∷ []) (sym (append-nil text)) ∙ ap (λ (i : ℕ). lexeme start i (Bare (text ++ [])) ∷ []) e;
+      first =
+          ap (λ (x : List ℕ). lexeme start at (Bare x) ∷ []) (sym (append-nil text))
+          ∙ ap (λ (i : ℕ). lexeme start i (Bare (text ++ [])) ∷ []) e;
       stands = tt;
       then = tt;
     }
 means (b ∷ bs) at Gap = gap_step b at bs (class_of b) (means bs (at + 1))
-means (b ∷ bs) at (InBare start text) = bare_step b at start text bs (is_bare b) refl (means bs (at + 1))
-means (b ∷ bs) at (InText start before text) = text_step b at start before text bs ((b == 34) && not (before == 92)) refl (means bs (at + 1))
+means (b ∷ bs) at (InBare start text) =
+    bare_step b at start text bs (is_bare b) refl (means bs (at + 1))
+means (b ∷ bs) at (InText start before text) =
+    text_step b at start before text bs ((b == 34) && not (before == 92)) refl (means bs (at + 1))
 
 pub found : (bytes : List ℕ) (at : ℕ) → Spells at bytes (lex Gap at bytes)
 found bytes at = means bytes at Gap
 
 -- ---- the law
 
-pub same_tokens : (bytes : List ℕ) (ls others : List Lexeme) → Spells 0 bytes ls → Spells 0 bytes others → ls ≡ others
+pub same_tokens : (bytes : List ℕ) (ls others : List Lexeme) → Spells 0 bytes ls
+    → Spells 0 bytes others → ls ≡ others
 same_tokens bytes ls others h k = sym (spelled ls 0 bytes h) ∙ spelled others 0 bytes k
 
-pub spelled_once : (bytes : List ℕ) → (ls : List Lexeme) × Spells 0 bytes ls × ((others : List Lexeme) → Spells 0 bytes others → others ≡ ls)
+pub spelled_once : (bytes : List ℕ)
+    → (ls : List Lexeme) × Spells 0 bytes ls
+    × ((others : List Lexeme) → Spells 0 bytes others → others ≡ ls)
 spelled_once bytes = (lex Gap 0 bytes, found bytes 0, λ others h. sym (spelled others 0 bytes h))

@@ -1,5 +1,6 @@
 -- What the parts of `Cursor::next` find. No public contract cites this file.
-use Rattle.std.specs.Prelude.{◌≡◌, ℕ, ◌+◌, ◌<◌, ◌≤◌, true, false, List, [], ◌∷◌, length, drop, get_or, slice_range, Result, Ok, Err}
+use Rattle.std.specs.Prelude.{◌≡◌, ℕ, ◌+◌, ◌<◌, ◌≤◌, true, false, List, [], ◌∷◌, length, drop}
+use Rattle.std.specs.Prelude.{get_or, slice_range, Result, Ok, Err}
 use Rattle.gf_token.specs.Byte.{is_space}
 use Rattle.gf_token.specs.LabelSpelling.{is_spelling}
 use Rattle.gf_token.specs.Token.{Lexeme, lexeme}
@@ -26,10 +27,12 @@ pub record ClosesText (bytes : List ℕ) (start end : ℕ) : Type 0 where
   pub begins : start < end
   pub within : end < length bytes
   pub spelled : is_spelling (slice_range bytes (start + 1) end) ≡ true
-  pub found : lexed bytes start ≡ lexeme start (end + 1) (Text (slice_range bytes (start + 1) end)) ∷ lexed bytes (end + 1)
+  pub found : lexed bytes start
+      ≡ lexeme start (end + 1) (Text (slice_range bytes (start + 1) end)) ∷ lexed bytes (end + 1)
 
 -- what stands at `start`
 abbrev pub Finds : List ℕ → ℕ → Result Token Fault → Type 0
-Finds bytes start (Ok t) = (t.span.end ≤ length bytes) × (lexed bytes start ≡ lexeme_of t ∷ lexed bytes t.span.end)
+Finds bytes start (Ok t) =
+    (t.span.end ≤ length bytes) × (lexed bytes start ≡ lexeme_of t ∷ lexed bytes t.span.end)
 Finds bytes start (Err f) =
     (f.why ≡ Unterminated) × (lexed bytes start ≡ lexeme f.span.start f.span.end Broken ∷ [])

@@ -5,8 +5,8 @@ use Rattle.gf_token.specs.Byte.{is_bare}
 use Rattle.gf_token.specs.Token.{Lexeme, lexeme}
 use Rattle.gf_token.specs.Token.Token.{Opening, Closing, Comma, Text, Bare, Broken}
 
--- between tokens; in a text, where it begins, the byte before, and the bytes behind its quote so far;
--- in a bare token, where it begins, and its bytes so far
+-- between tokens; in a text, where it begins, the byte before, and the bytes behind its quote so
+-- far; in a bare token, where it begins, and its bytes so far
 pub data Mode : Type 0 where
   Gap : Mode
   InText : ℕ → ℕ → List ℕ → Mode
@@ -26,13 +26,15 @@ single at b =
 -- the tokens that end at a byte
 abbrev pub ended : Mode → ℕ → ℕ → List Lexeme
 ended Gap at b = single at b
-ended (InText start before text) at b = if b == 34 && not (before == 92) then lexeme start (at + 1) (Text text) ∷ [] else []
+ended (InText start before text) at b =
+    if b == 34 && not (before == 92) then lexeme start (at + 1) (Text text) ∷ [] else []
 ended (InBare start text) at b = if is_bare b then [] else lexeme start at (Bare text) ∷ single at b
 
 -- where a byte leads
 abbrev pub after : Mode → ℕ → ℕ → Mode
 after Gap at b = begins at b
-after (InText start before text) at b = if b == 34 && not (before == 92) then Gap else InText start b (text ++ b ∷ [])
+after (InText start before text) at b =
+    if b == 34 && not (before == 92) then Gap else InText start b (text ++ b ∷ [])
 after (InBare start text) at b = if is_bare b then InBare start (text ++ b ∷ []) else begins at b
 
 -- the tokens that end where the bytes do

@@ -1,5 +1,6 @@
 -- Which bytes spell which tokens.
-use Rattle.std.specs.Prelude.{◌≡◌, ℕ, ◌+◌, ◌<◌, ◌≤◌, true, false, List, [], ◌∷◌, ◌++◌, length, slice_range}
+use Rattle.std.specs.Prelude.{◌≡◌, ℕ, ◌+◌, ◌<◌, ◌≤◌, true, false, List, [], ◌∷◌, ◌++◌, length}
+use Rattle.std.specs.Prelude.{slice_range}
 use Rattle.std.specs.List.{AllByRecursion}
 use Rattle.gf_token.specs.Byte.{is_space, is_bare}
 use Rattle.gf_token.specs.LabelSpelling.{is_spelling}
@@ -18,7 +19,8 @@ IsSpelled _ = Unit {0}
 
 -- no text begins with a quote and these bytes: no label at their front is closed by a quote
 abbrev pub BeginsNoText : List ℕ → Type 0
-BeginsNoText bytes = (label rest : List ℕ) → is_spelling label ≡ true → bytes ≡ label ++ 34 ∷ rest → ⊥
+BeginsNoText bytes =
+    (label rest : List ℕ) → is_spelling label ≡ true → bytes ≡ label ++ 34 ∷ rest → ⊥
 
 -- which bytes may directly follow a token: behind a bare token no byte of a bare token,
 -- and behind the quote that is a broken text none that make it a text
@@ -46,9 +48,11 @@ GoesOn _ others spelled = spelled
 -- from place `at` on, the bytes are gaps of whitespace and spellings of these tokens in turn
 abbrev pub Spells : ℕ → List ℕ → List Lexeme → Type 0
 Spells at bytes [] = IsGap bytes
-Spells at bytes (l ∷ ls) = (first : Begins at bytes l) × GoesOn l.token ls (Spells l.end first.rest ls)
+Spells at bytes (l ∷ ls) =
+    (first : Begins at bytes l) × GoesOn l.token ls (Spells l.end first.rest ls)
 
--- a token's span is not empty, lies within the bytes, and is the slice of them that spells the token
+-- a token's span is not empty, lies within the bytes, and is the slice of them that spells the
+-- token
 pub record StandsIn (bytes : List ℕ) (l : Lexeme) : Type 0 where
   pub some : l.start < l.end
   pub within : l.end ≤ length bytes

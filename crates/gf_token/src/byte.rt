@@ -3,8 +3,8 @@
 ghost use Rattle.std.specs.Prelude.{◌≡◌};
 ghost use Rattle.gf_token.specs.Byte.{is_space, is_bare};
 
-// An `s` at the place of each byte of whitespace, a dot at that of each byte of a bare token, and each
-// other byte at its own.
+// An `s` at the place of each byte of whitespace, a dot at that of each byte of a bare token, and
+// each other byte at its own.
 static CLASSES: [u8; 256] = *b"\
     .........sssss..................\
     s.\".........,...................\

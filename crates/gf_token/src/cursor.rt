@@ -1,6 +1,7 @@
 //! The cursor, which finds the tokens of an input one after another.
 
-ghost use Rattle.std.specs.Prelude.{◌≡◌, ◌<◌, ◌≤◌, ◌+◌, [], ◌∷◌, length, slice_range, slice_index, MatchOption, true, false};
+ghost use Rattle.std.specs.Prelude.{◌≡◌, ◌<◌, ◌≤◌, ◌+◌, [], ◌∷◌, length, slice_range, slice_index};
+ghost use Rattle.std.specs.Prelude.{MatchOption, true, false};
 ghost use Rattle.gf_token.specs.Byte.{is_space, is_bare};
 ghost use Rattle.gf_token.specs.Finding.{lexed, ClosesText, EndsGap, Finds};
 ghost use Rattle.gf_token.specs.Token.{lexeme};
@@ -17,8 +18,8 @@ use std::marker::Model;
 /// A place in an input, seen as the tokens that are still to come.
 ///
 /// Whitespace has no meaning between tokens (Gambit documentation, "Game representation formats");
-/// it is the bytes 9 to 13 and 32, and other bytes that begin nothing else are those of a bare token
-/// (this project's profile).
+/// it is the bytes 9 to 13 and 32, and other bytes that begin nothing else are those of a bare
+/// token (this project's profile).
 #[derive(Debug, Drop)]
 pub struct Cursor<'a> {
     input: &'a [u8],
@@ -133,8 +134,8 @@ impl<'a> Cursor<'a> {
 
     /// The next token, or `None` at the end, also where it is asked for again.
     ///
-    /// A text that has no end is refused with [`Why::Unterminated`], at its opening quote. The cursor
-    /// then stays before that quote, and refuses it again.
+    /// A text that has no end is refused with [`Why::Unterminated`], at its opening quote. The
+    /// cursor then stays before that quote, and refuses it again.
     pub fn next(&mut self) -> Result<Option<Token<'a>>, Fault>
         ensures { Nexts self.old result self.new }
     {

@@ -5,4 +5,5 @@ use Rattle.gf_token.specs.declared.byte.TheConstants.{CLASSES}
 use Rattle.gf_token.proofs.byte.is_bare.Goals as goal
 
 pub returns-else-matches : goal.returns-else-matches
-returns-else-matches c = agree_below_at (λ b. nat_eq (get_or CLASSES b 0) 46) is_bare 256 c.args.byte refl (omega arith)
+returns-else-matches c =
+    agree_below_at (λ b. nat_eq (get_or CLASSES b 0) 46) is_bare 256 c.args.byte refl (omega arith)

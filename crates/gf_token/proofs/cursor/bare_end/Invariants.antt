@@ -8,7 +8,8 @@ abbrev pub invariant-loop-at : goal.invariant-loop-at
 invariant-loop-at l = record {
   within : l.at ≤ length l.input;
   begins : l.start < l.at;
-  same : lex Gap l.start (drop l.start l.input) ≡ lex (InBare l.start (slice_range l.input l.start l.at)) l.at (drop l.at l.input);
+  same : lex Gap l.start (drop l.start l.input)
+      ≡ lex (InBare l.start (slice_range l.input l.start l.at)) l.at (drop l.at l.input);
 }
 
 abbrev pub decreases-loop-at : goal.decreases-loop-at

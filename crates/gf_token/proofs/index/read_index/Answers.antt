@@ -1,4 +1,5 @@
-use Rattle.std.proofs.Common.{◌≡◌, ℕ, ◌+◌, ◌*◌, ◌<◌, ◌≤◌, ◌^◌, ◌∙◌, ap, subst, inl, inr, length, get_or, arith, lit<}
+use Rattle.std.proofs.Common.{◌≡◌, ℕ, ◌+◌, ◌*◌, ◌<◌, ◌≤◌, ◌^◌, ◌∙◌, ap, subst, inl, inr, length}
+use Rattle.std.proofs.Common.{get_or, arith, lit<}
 use Rattle.std.specs.Char.{digit_value}
 use Rattle.std.proofs.Math.Nat.{pow-le-pow_right}
 use Rattle.std.proofs.lemmas.Bool.{cases_lt}
@@ -9,7 +10,8 @@ use Rattle.gf_token.proofs.index.read_index.Goals as goal
 use Rattle.gf_token.proofs.index.read_index.Goals.{then-is_long, else-is_long}
 
 -- a number behind which a further digit has room in 64 bits
-has_room : (i n value : ℕ) → i < n → (n ≤ 19 → value < 10 ^ i) → (19 < n → value ≤ 2 ^ 32) → value * 10 + 9 < 2 ^ 64
+has_room : (i n value : ℕ) → i < n → (n ≤ 19 → value < 10 ^ i) → (19 < n → value ≤ 2 ^ 32)
+    → value * 10 + 9 < 2 ^ 64
 has_room i n value h short long = elim (cases_lt 19 n) [
   | inl over ↦ omega (arith, long over)
   | inr within ↦
@@ -27,15 +29,23 @@ pub overflow_mul-value : goal.overflow_mul-value
 overflow_mul-value c =
     let l = c.loop-byte in
     let digits = length c.args.text.now in
-    let room = has_room l.byte-index digits l.value (omega arith) l.invariant.short l.invariant.long in
+    let room =
+    has_room l.byte-index digits l.value (omega arith) l.invariant.short l.invariant.long in
     omega (arith, room)
 
 pub overflow_add-value : goal.overflow_add-value
 overflow_add-value c =
     let l = c.loop-byte in
     let digits = length c.args.text.now in
-    let room = has_room l.byte-index digits l.value (omega arith) l.invariant.short l.invariant.long in
-    omega (arith, room, c.in-Some.ensures.value.0, c.in-Some.ensures.value.1, c.from-in-loop-byte.ensures)
+    let room =
+    has_room l.byte-index digits l.value (omega arith) l.invariant.short l.invariant.long in
+    omega (
+      arith,
+      room,
+      c.in-Some.ensures.value.0,
+      c.in-Some.ensures.value.1,
+      c.from-in-loop-byte.ensures,
+    )
 
 pub loop-byte-preserved : goal.loop-byte-preserved
 loop-byte-preserved c =
@@ -59,7 +69,15 @@ loop-byte-preserved c =
       | else-is_long w ↦ record {
         digits = digits;
         value = omega (arith, more, value, w.value-is, l.invariant.value);
-        short = λ short. omega (arith, digit, value, w.value-is, l.invariant.short short, pow_more 10 i);
+        short =
+            λ short. omega (
+              arith,
+              digit,
+              value,
+              w.value-is,
+              l.invariant.short short,
+              pow_more 10 i,
+            );
         long = λ long. absurd (omega (arith, w.if-is_long.false));
       }
     ]
