@@ -1,5 +1,5 @@
-# `make` builds the proved program as ./gamefile; `make test` proves and tests everything, and leaves
-# ./gamefile too; `make bench` times the program.
+# `make` builds the proved program as ./gamefile; `make test` proves and tests everything, and
+# builds ./gamefile too; `make bench` times the program.
 
 RT ?= rt
 export RT

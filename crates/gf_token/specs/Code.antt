@@ -11,21 +11,21 @@ use Rattle.gf_token.specs.declared.fault.Why.TheVariants.{UnknownOutcome, TooMan
 
 -- the number of a refusal; 17 is none's
 abbrev pub code_of : Why → ℕ
-code_of TooLong = 1
-code_of Unterminated = 2
-code_of (Expected what) = 3
-code_of NotANumber = 4
-code_of ZeroDenominator = 5
-code_of NumberTooLarge = 6
-code_of BadIndex = 7
-code_of UnknownPlayer = 8
-code_of NotDescribed = 9
-code_of Mismatch = 10
-code_of NegativeProbability = 11
-code_of SumAboveOne = 12
-code_of SumBelowOne = 13
-code_of SumOverflow = 14
-code_of NoEntry = 15
-code_of UnknownOutcome = 16
-code_of TooManyProfiles = 18
-code_of Memory = 19
+code_of why.TooLong = 1
+code_of why.Unterminated = 2
+code_of (why.Expected what) = 3
+code_of why.NotANumber = 4
+code_of why.ZeroDenominator = 5
+code_of why.NumberTooLarge = 6
+code_of why.BadIndex = 7
+code_of why.UnknownPlayer = 8
+code_of why.NotDescribed = 9
+code_of why.Mismatch = 10
+code_of why.NegativeProbability = 11
+code_of why.SumAboveOne = 12
+code_of why.SumBelowOne = 13
+code_of why.SumOverflow = 14
+code_of why.NoEntry = 15
+code_of why.UnknownOutcome = 16
+code_of why.TooManyProfiles = 18
+code_of why.Memory = 19

@@ -7,6 +7,6 @@ use Rattle.gf_token.specs.declared.fault.Why.TheVariants.{NumberTooLarge}
 
 -- the refusal of a text that spells no number
 abbrev pub why_of : NumberFault → Why
-why_of fault.NotANumber = NotANumber
-why_of fault.ZeroDenominator = ZeroDenominator
-why_of fault.TooLarge = NumberTooLarge
+why_of fault.NotANumber = why.NotANumber
+why_of fault.ZeroDenominator = why.ZeroDenominator
+why_of fault.TooLarge = why.NumberTooLarge
