@@ -14,7 +14,7 @@ use Rattle.gf_fraction.specs.NumberSpelling.IsPlain.{whole, pointed}
 use Rattle.gf_fraction.specs.NumberSpelling.HasShape.{plain, raised, fraction}
 use Rattle.gf_fraction.specs.NumberScan.{capped, leading, behind, leading_value, has_digits}
 use Rattle.gf_fraction.specs.NumberScan.{is_minus, after_sign, scan, scan_rest, scan_decimal}
-use Rattle.gf_fraction.specs.NumberScan.{scan_end, scan_exponent, scan_fraction}
+use Rattle.gf_fraction.specs.NumberScan.{scan_end, scan_pointed, scan_exponent, scan_fraction}
 use Rattle.gf_fraction.specs.declared.read.Spelling.{Spelling}
 use Rattle.gf_fraction.specs.declared.read.Spelling.TheVariants.{Decimal, Rational}
 use Rattle.gf_fraction.proofs.LeadingDigits.{leading_behind, capped-after}
@@ -163,8 +163,7 @@ found_whole ds rest s all h = found_decimal ds ds rest 0 (nat_lt 0 (length ds)) 
     (λ some. whole ds (ltb-true 0 (length ds) some, all)) h
 
 found_pointed : (ds cs : List ℕ) (s : Spelling) → AllDigits 10 ds
-    → scan_decimal (capped (leading_value (capped (digits_value 10 ds)) cs))
-    (nat_lt 0 (length ds) || has_digits cs) (length (leading cs)) (behind cs) ≡ Some s
+    → scan_pointed (capped (digits_value 10 ds)) (nat_lt 0 (length ds)) cs ≡ Some s
     → Found (ds ++ (46 ∷ cs)) s
 found_pointed ds cs s all h =
     let after = leading cs in
@@ -220,9 +219,7 @@ found_rest ds (c ∷ cs) s all h = by_byte (c == 47) (c == 46) refl refl h
   where
     by_byte : (slash point : Bool) → (c == 47) ≡ slash → (c == 46) ≡ point
         → (if slash then scan_fraction (capped (digits_value 10 ds)) (nat_lt 0 (length ds)) cs
-        else if point
-        then scan_decimal (capped (leading_value (capped (digits_value 10 ds)) cs))
-        (nat_lt 0 (length ds) || has_digits cs) (length (leading cs)) (behind cs)
+        else if point then scan_pointed (capped (digits_value 10 ds)) (nat_lt 0 (length ds)) cs
         else scan_decimal (capped (digits_value 10 ds)) (nat_lt 0 (length ds)) 0 (c ∷ cs)) ≡ Some s
         → Found (ds ++ (c ∷ cs)) s
     by_byte true point hs hp h = subst (λ k. Found (ds ++ (k ∷ cs)) s) (sym (eqb-true c 47 hs))

@@ -64,6 +64,12 @@ abbrev pub scan_decimal : ℕ → Bool → ℕ → List ℕ → Option Spelling
 scan_decimal digits true places rest = scan_end digits places rest
 scan_decimal digits false places rest = None
 
+-- digits behind a point
+abbrev pub scan_pointed : ℕ → Bool → List ℕ → Option Spelling
+scan_pointed digits some text =
+    scan_decimal (capped (leading_value digits text)) (some || has_digits text)
+    (length (leading text)) (behind text)
+
 -- a denominator behind a slash
 abbrev pub scan_fraction : ℕ → Bool → List ℕ → Option Spelling
 scan_fraction num some text =
@@ -76,8 +82,7 @@ abbrev pub scan_rest : ℕ → Bool → List ℕ → Option Spelling
 scan_rest digits some [] = scan_decimal digits some 0 []
 scan_rest digits some (c ∷ cs) =
     if c == 47 then scan_fraction digits some cs
-    else if c == 46 then scan_decimal (capped (leading_value digits cs)) (some || has_digits cs)
-    (length (leading cs)) (behind cs)
+    else if c == 46 then scan_pointed digits some cs
     else scan_decimal digits some 0 (c ∷ cs)
 
 -- a text behind its sign
