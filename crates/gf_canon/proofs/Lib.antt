@@ -2,6 +2,7 @@ pub mod CanonicalGames
 pub mod FileOf
 pub mod Files
 pub mod NumbersInOrder
+pub mod OneFile
 pub mod Pieces
 pub mod ReadsBack
 pub mod SameGames

@@ -91,11 +91,12 @@ pub fn same_by_canonical_game()
         → SameFile a b ↔ (canonical_file a ≡ canonical_file b) }
 {}
 
-/// Every game has a file tree in which exactly the first uses are described, whose nodes are those
-/// of the game's text.
+/// Every game has one file tree in which exactly the first uses are described, and no other; its
+/// nodes are those of the game's text.
 pub fn file_of_each_game()
-    ensures { (g : Game) → IsGame g
+    ensures some { (g : Game) → IsGame g
         → (f : FileTree) × IsFileOf g f × (map (λ e. e.node) (flatten f.tree) ≡ file_nodes g) }
+    ensures one { (g : Game) (f h : FileTree) → IsFileOf g f → IsFileOf g h → f ≡ h }
 {}
 
 /// The text of a game is an extensive file that means this game, so that two games have two texts;

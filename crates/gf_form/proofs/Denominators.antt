@@ -1,5 +1,5 @@
 -- The probabilities and payoffs of a game that a file can hold have denominators above zero.
-use Rattle.std.proofs.Common.{ℕ, ◌-◌, arith}
+use Rattle.std.proofs.Common.{ℕ, arith}
 use Rattle.std.specs.Prelude.{option_and_then, ⊤, ◌==◌}
 use Rattle.std.specs.List.{AllByRecursion, find}
 use Rattle.gf_fraction.specs.Ratio.{IsFraction}

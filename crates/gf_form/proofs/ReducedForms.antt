@@ -18,7 +18,7 @@ use Rattle.gf_nfg.proofs.BackProfiles.{every_profile}
 use Rattle.gf_tree.specs.Game.{Game}
 use Rattle.gf_tree.proofs.FirstUses.{is_used, was_used}
 use Rattle.gf_tree.proofs.Members.{map_same, map_twice}
-use Rattle.gf_tree.proofs.Uses.{Has, contains, has, has_map, mapped_from, each}
+use Rattle.gf_tree.proofs.Uses.{Has, contains, has, has_map, mapped_from}
 use Rattle.gf_form.specs.Payoff.{payoff}
 use Rattle.gf_form.specs.Reduced.{AreReducedPayoffsAt, IsReducedForm, reduced}
 use Rattle.gf_form.specs.Reduced.{reduced_at, reduced_by, reduced_label}

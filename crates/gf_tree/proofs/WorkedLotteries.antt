@@ -1,5 +1,5 @@
 -- Worked files whose probabilities are none: below zero, or not adding to one.
-use Rattle.std.proofs.Common.{◌≡◌, ℕ, ◌*◌, ◌<◌, ◌^◌, ◌-◌, ◌≤ℤ◌, ℤ, pos, negsuc, List, []}
+use Rattle.std.proofs.Common.{◌≡◌, ℕ, ◌*◌, ◌<◌, ◌^◌, ◌-◌, ◌≤ℤ◌, pos, negsuc, List, []}
 use Rattle.std.proofs.Common.{◌∷◌, map, drop, Some, refl, sym, ap, subst, ◌∙◌, arith}
 use Rattle.std.specs.Prelude.{codes}
 use Rattle.std.specs.Fmt.{digits}
