@@ -11,7 +11,10 @@ pub mod TreesOnce
 pub mod Uses
 pub mod Worked
 pub mod WorkedGames
+pub mod WorkedLotteries
 pub mod WorkedNone
+pub mod WorkedPlaces
+pub mod WorkedReasons
 pub mod WrittenGames
 pub mod WrittenNodes
 pub mod WrittenTokens

@@ -210,7 +210,7 @@ entries _ _ = []
 abbrev pub file_of : List ℕ → (players : List (List ℕ)) → List (SaidNode (length players)) → List ℕ → FileTree
 file_of title players said counts = record { title = title; comment = []; players = players; tree = root (record { name = []; set = None; outcome = None }) (grow (entries said counts)) }
 
-each_said : {players : ℕ} → (said : List (SaidNode players)) → Each (IsNode players) (said_tokens said) (map (λ s. s.node) said)
+pub each_said : {players : ℕ} → (said : List (SaidNode players)) → Each (IsNode players) (said_tokens said) (map (λ s. s.node) said)
 each_said [] = refl
 each_said (s ∷ said) = (s.tokens, said_tokens said, refl, s.says, each_said said)
 

@@ -13,4 +13,5 @@ pub mod Reason
 pub mod Sentence
 pub mod Spellable
 pub mod Tree
+pub mod WorkedReasons
 pub mod WorkedTrees
