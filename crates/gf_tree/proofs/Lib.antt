@@ -21,6 +21,8 @@ pub mod Worked
 pub mod WorkedGames
 pub mod WorkedLotteries
 pub mod WorkedNone
+pub mod WorkedPlaces
+pub mod WorkedReasons
 pub mod WrittenGames
 pub mod WrittenNodes
 pub mod WrittenTokens

@@ -7,7 +7,8 @@ use Rattle.gf_token.specs.declared.fault.What.{What}
 use Rattle.gf_token.specs.declared.fault.What.TheVariants as what
 use Rattle.gf_tree.specs.Description.{InformationSet, Outcome, SetKey}
 use Rattle.gf_tree.specs.FileTree.{Use, FileNode}
-use Rattle.gf_tree.specs.Front.{IsExtensiveFile, EndsInNode, ToPlayer, ToSet, ToProbability, ToOutcome, InPayoffs, IsSetKnown}
+use Rattle.gf_tree.specs.Front.{IsExtensiveFile, EndsInNode, ToPlayer, ToSet}
+use Rattle.gf_tree.specs.Front.{ToProbability, ToOutcome, InPayoffs, IsSetKnown}
 
 -- the letter of a node
 abbrev pub NodeIsDue : List Token → Type 0

@@ -1,6 +1,7 @@
--- The front of an extensive file: its heading, whole nodes one behind the other, and the front of the
--- next node. What is due behind it, and what is wrong there, is read off this shape.
-use Rattle.std.specs.Prelude.{◌≡◌, ℕ, ◌⊎◌, List, [], ◌∷◌, ◌++◌, codes, Option, Some, None, MatchOption}
+-- The front of an extensive file: its heading, whole nodes one behind the other, and the front of
+-- the next node. What is due behind it, and what is wrong there, is read off this shape.
+use Rattle.std.specs.Prelude.{◌≡◌, ℕ, ◌⊎◌, List, [], ◌∷◌, ◌++◌}
+use Rattle.std.specs.Prelude.{codes, Option, Some, MatchOption}
 use Rattle.std.specs.List.{filter_map}
 use Rattle.gf_token.specs.Token.{Token}
 use Rattle.gf_token.specs.Token.Token.{Opening, Text, Bare}
@@ -86,4 +87,5 @@ IsNewOutcome nodes number = (outcome : Outcome) → ¬ (KnowsOutcome nodes numbe
 -- the node describes its set, or these nodes do; a terminal node has none
 abbrev pub IsSetKnown : List FileNode → Option (Use SetKey InformationSet) → Type 0
 IsSetKnown nodes set = MatchOption set (Unit {0}) (λ u.
-    ((d : InformationSet) × (u.description ≡ Some d)) ⊎ ((d : InformationSet) × KnowsSet nodes u.key d))
+    ((d : InformationSet) × (u.description ≡ Some d))
+    ⊎ ((d : InformationSet) × KnowsSet nodes u.key d))

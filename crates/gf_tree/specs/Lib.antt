@@ -15,4 +15,5 @@ pub mod Renumbering
 pub mod Sentence
 pub mod Spellable
 pub mod Tree
+pub mod WorkedReasons
 pub mod WorkedTrees

@@ -1,11 +1,16 @@
 -- Why an extensive file is refused at its offending place.
-use Rattle.std.specs.Prelude.{◌≡◌, ◌≢◌, ℕ, pos, ◌<◌, ◌<ℤ◌, ◌⊎◌, List, [], ◌∷◌, ◌++◌, codes, length, map, Some}
+use Rattle.std.specs.Prelude.{◌≡◌, ◌≢◌, ℕ, pos, ◌<◌, ◌<ℤ◌, ◌⊎◌, List}
+use Rattle.std.specs.Prelude.{[], ◌∷◌, ◌++◌, codes, length, map, Some}
 use Rattle.gf_token.specs.Token.{Token}
 use Rattle.gf_token.specs.Token.Token.{Closing, Text, Bare, Broken}
 use Rattle.gf_token.specs.Index.{IsIndex}
 use Rattle.gf_token.specs.Reason as any_format
 use Rattle.gf_token.specs.declared.fault.Why.{Why}
-use Rattle.gf_token.specs.declared.fault.Why.TheVariants.{Unterminated, NotANumber, ZeroDenominator, NumberTooLarge, BadIndex, UnknownPlayer, NotDescribed, Mismatch, NegativeProbability, SumAboveOne, SumBelowOne, SumOverflow, NoEntry}
+use Rattle.gf_token.specs.declared.fault.Why.TheVariants.{Unterminated, NotANumber, ZeroDenominator}
+use Rattle.gf_token.specs.declared.fault.Why.TheVariants.{NumberTooLarge, BadIndex, UnknownPlayer}
+use Rattle.gf_token.specs.declared.fault.Why.TheVariants.{NotDescribed, Mismatch}
+use Rattle.gf_token.specs.declared.fault.Why.TheVariants.{NegativeProbability, SumAboveOne}
+use Rattle.gf_token.specs.declared.fault.Why.TheVariants.{SumBelowOne, SumOverflow, NoEntry}
 use Rattle.gf_fraction.specs.Fits.{IsSum, SumFits}
 use Rattle.gf_fraction.specs.NumberSpelling.{HasNumberFault, IsNumber}
 use Rattle.gf_fraction.specs.Ratio.{Ratio, IsFraction, whole}
@@ -14,8 +19,10 @@ use Rattle.gf_fraction.specs.declared.fraction.NumberFault.TheVariants as number
 use Rattle.gf_tree.specs.Description.{Action, InformationSet, Outcome, SetKey, set_of}
 use Rattle.gf_tree.specs.FileTree.{FileNode}
 use Rattle.gf_tree.specs.Sentence.{IsPositive}
-use Rattle.gf_tree.specs.Front.{EndsInNode, BehindSet, InActions, ToProbability, BehindOutcome, InPayoffs, KnowsSet, IsNewSet, KnowsOutcome, IsNewOutcome}
-use Rattle.gf_tree.specs.Due.{NodeIsDue, PlayerIsDue, SetIsDue, OutcomeIsDue, ProbabilityIsDue, PayoffIsDue, IsDue}
+use Rattle.gf_tree.specs.Front.{EndsInNode, BehindSet, InActions, ToProbability, BehindOutcome}
+use Rattle.gf_tree.specs.Front.{InPayoffs, KnowsSet, IsNewSet, KnowsOutcome, IsNewOutcome}
+use Rattle.gf_tree.specs.Due.{NodeIsDue, PlayerIsDue, SetIsDue, OutcomeIsDue}
+use Rattle.gf_tree.specs.Due.{ProbabilityIsDue, PayoffIsDue, IsDue}
 
 -- ---- numbers and indices
 
@@ -32,8 +39,8 @@ IsNoIndex before bytes =
     × ((n : ℕ) → ¬ (IsPositive bytes n)))
     ⊎ (OutcomeIsDue before × ((n : ℕ) → ¬ (IsIndex bytes n)))
 
--- a player's number is due, and the bytes are one above the number of players; or a node is due, and
--- a player is to move where there are none
+-- a player's number is due, and the bytes are one above the number of players; or a node is due,
+-- and a player is to move where there are none
 abbrev pub IsUnknownPlayer : List Token → List ℕ → Type 0
 IsUnknownPlayer before bytes =
     ((count : ℕ) × (n : ℕ) × PlayerIsDue before count × IsIndex bytes n × (count < n))
@@ -101,8 +108,9 @@ HasSum set sum = (probabilities : List Ratio)
     × AddsUp (whole (pos 0)) probabilities sum
 
 -- The probability of another action of a new set of chance is due, behind actions of this sum.
-abbrev pub AddsTo : List Token → Ratio → Type 0
-AddsTo before sum = (players : List (List ℕ)) × (nodes : List FileNode) × (front : List Token)
+abbrev pub NewProbabilityIsDue : List Token → Ratio → Type 0
+NewProbabilityIsDue before sum =
+    (players : List (List ℕ)) × (nodes : List FileNode) × (front : List Token)
     × (number : ℕ) × (set : InformationSet) × EndsInNode before players nodes front
     × ToProbability front number set × IsNewSet nodes (set_of 0 number) × HasSum set sum
 
@@ -110,13 +118,15 @@ AddsTo before sum = (players : List (List ℕ)) × (nodes : List FileNode) × (f
 abbrev pub IsWrongBehind : Why → Ratio → Ratio → Type 0
 IsWrongBehind NegativeProbability sum p = p.num <ℤ pos 0
 IsWrongBehind SumAboveOne sum p =
-    SumFits sum p × ((total : Ratio) × IsFraction total × IsSum total sum p × (pos total.den <ℤ total.num))
+    SumFits sum p
+    × ((total : Ratio) × IsFraction total × IsSum total sum p × (pos total.den <ℤ total.num))
 IsWrongBehind SumOverflow sum p = ¬ (SumFits sum p)
 IsWrongBehind _ sum p = ⊥
 
 abbrev pub IsWrongProbability : Why → List Token → List ℕ → Type 0
 IsWrongProbability why before bytes =
-    (sum : Ratio) × (p : Ratio) × AddsTo before sum × IsNumber bytes p × IsWrongBehind why sum p
+    (sum : Ratio) × (p : Ratio) × NewProbabilityIsDue before sum × IsNumber bytes p
+    × IsWrongBehind why sum p
 
 -- ---- lists of actions
 
@@ -127,8 +137,8 @@ ListsActions before key set = (players : List (List ℕ)) × (nodes : List FileN
     × IsNewSet nodes key
 
 -- the list of a set of chance has actions, which add to less than one
-abbrev pub AddsToLess : List Token → Type 0
-AddsToLess before = (number : ℕ) × (set : InformationSet) × (sum : Ratio)
+abbrev pub StaysBelowOne : List Token → Type 0
+StaysBelowOne before = (number : ℕ) × (set : InformationSet) × (sum : Ratio)
     × ListsActions before (set_of 0 number) set × (0 < length set.actions) × HasSum set sum
     × (sum.num <ℤ pos sum.den)
 
@@ -148,10 +158,11 @@ Applies NumberTooLarge before (Bare bytes) = IsNoNumber before bytes number.TooL
 Applies BadIndex before (Bare bytes) = IsNoIndex before bytes
 Applies UnknownPlayer before (Bare bytes) = IsUnknownPlayer before bytes
 Applies Mismatch before token = IsMismatch before token
-Applies NegativeProbability before (Bare bytes) = IsWrongProbability NegativeProbability before bytes
+Applies NegativeProbability before (Bare bytes) =
+    IsWrongProbability NegativeProbability before bytes
 Applies SumAboveOne before (Bare bytes) = IsWrongProbability SumAboveOne before bytes
 Applies SumOverflow before (Bare bytes) = IsWrongProbability SumOverflow before bytes
-Applies SumBelowOne before Closing = AddsToLess before
+Applies SumBelowOne before Closing = StaysBelowOne before
 Applies NoEntry before Closing = ListsNothing before
 Applies _ before token = ⊥
 

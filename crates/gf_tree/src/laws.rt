@@ -3,6 +3,11 @@
 ghost use Rattle.std.specs.Prelude.{◌≡◌, ◌↔◌, Bool, Decides, List, [], ◌∷◌, ℕ, map, nat_eq};
 ghost use Rattle.std.specs.List.{AllByRecursion};
 ghost use Rattle.gf_token.specs.Token.{Token};
+ghost use Rattle.gf_token.specs.declared.fault.Why.TheVariants.{NotANumber, BadIndex};
+ghost use Rattle.gf_token.specs.declared.fault.Why.TheVariants.{UnknownPlayer};
+ghost use Rattle.gf_token.specs.declared.fault.Why.TheVariants.{NotDescribed, Mismatch};
+ghost use Rattle.gf_token.specs.declared.fault.Why.TheVariants.{NegativeProbability, SumAboveOne};
+ghost use Rattle.gf_token.specs.declared.fault.Why.TheVariants.{SumBelowOne, SumOverflow, NoEntry};
 ghost use Rattle.gf_tree.specs.Tree.{Tree};
 ghost use Rattle.gf_tree.specs.Tree.Trees.{none, more};
 ghost use Rattle.gf_tree.specs.PrefixOrder.{Entry, Fills, flatten};
@@ -128,4 +133,26 @@ pub fn worked_refusals()
     ensures more_actions { (g : Game) → ¬ (SpellsGame more_actions_file g) }
     ensures unpaid { (g : Game) → ¬ (SpellsGame unpaid_file g) }
     ensures nobody { (g : Game) → ¬ (SpellsGame nobody_file g) }
+{}
+
+/// Worked files, each with a code that applies at a place of it: a probability that is no number; a
+/// set numbered 0; the second of one player, and a player where there are none; a set and an
+/// outcome without a description; a set described again with another action, without its last one,
+/// and with one too many; a negative probability, probabilities that add to more than one, to less,
+/// and to what does not fit; and a set without actions.
+pub fn worked_reasons()
+    ensures not_a_number { HoldsAt NotANumber no_number_file 33 34 }
+    ensures set_zero { HoldsAt BadIndex set_zero_file 27 28 }
+    ensures second_of_one { HoldsAt UnknownPlayer unknown_player_file 25 26 }
+    ensures no_players { HoldsAt UnknownPlayer no_players_file 15 16 }
+    ensures undescribed_set { HoldsAt NotDescribed undescribed_file 29 30 }
+    ensures undescribed_outcome { HoldsAt NotDescribed undescribed_outcome_file 21 21 }
+    ensures other_action { HoldsAt Mismatch other_action_file 73 76 }
+    ensures action_missing { HoldsAt Mismatch action_missing_file 73 74 }
+    ensures action_too_many { HoldsAt Mismatch action_too_many_file 77 80 }
+    ensures negative { HoldsAt NegativeProbability negative_file 33 37 }
+    ensures above_one { HoldsAt SumAboveOne above_one_file 41 44 }
+    ensures below_one { HoldsAt SumBelowOne below_one_file 68 69 }
+    ensures overflowing { HoldsAt SumOverflow overflowing_file 79 82 }
+    ensures no_action { HoldsAt NoEntry no_action_file 35 36 }
 {}

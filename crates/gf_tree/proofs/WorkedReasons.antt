@@ -1,0 +1,285 @@
+-- Worked files that are refused: the codes that apply at their places.
+use Rattle.std.proofs.Common.{◌≡◌, ℕ, suc, List, [], ◌∷◌, ◌++◌, length, map}
+use Rattle.std.proofs.Common.{get_or, None, refl, sym, ap, ◌∙◌, arith, inl, inr}
+use Rattle.std.specs.Prelude.{◌≢◌, codes, decimal}
+use Rattle.std.specs.Fmt.{digits}
+use Rattle.std.proofs.lemmas.List.{length-append}
+use Rattle.gf_token.specs.Token.{Token}
+use Rattle.gf_token.specs.Token.Token.{Opening, Closing, Text, Bare}
+use Rattle.gf_token.specs.Lexing.{lex}
+use Rattle.gf_token.specs.declared.fault.Why.TheVariants.{BadIndex, UnknownPlayer}
+use Rattle.gf_token.specs.declared.fault.Why.TheVariants.{NotDescribed, Mismatch, NoEntry}
+use Rattle.gf_tree.specs.Description.{Action, InformationSet, set_of}
+use Rattle.gf_tree.specs.Consistent.{AreConsistent, IsConsistent}
+use Rattle.gf_tree.specs.Sentence.{IsPositive}
+use Rattle.gf_tree.specs.Front.{BehindOutcome, KnowsSet}
+use Rattle.gf_tree.specs.Due.{NodeIsDue}
+use Rattle.gf_tree.specs.Reason.{GoesOnWith, Holds}
+use Rattle.gf_tree.specs.WorkedTrees.{choice, undescribed_file, unknown_player_file}
+use Rattle.gf_tree.specs.WorkedReasons.{HoldsAt, other_action_file, action_missing_file}
+use Rattle.gf_tree.specs.WorkedReasons.{action_too_many_file, undescribed_outcome_file}
+use Rattle.gf_tree.specs.WorkedReasons.{no_players_file, set_zero_file, no_action_file}
+use Rattle.gf_tree.proofs.Worked.{said_choice, no_outcome, SaidNode, at_end}
+use Rattle.gf_tree.proofs.Worked.{at_player, numbered, file_tokens, file_of, is_said}
+use Rattle.gf_tree.proofs.WorkedPlaces.{IsCutAt, said_at, stands, of_a, stands_a}
+use Rattle.gf_tree.proofs.WorkedPlaces.{to_a, to_a_is, at_a, behind_a, in_choice}
+use Rattle.gf_tree.proofs.WorkedPlaces.{in_choice_is, is_new, is_new_outcome}
+
+-- ---- a set that is described again
+
+abbrev left_right : List (SaidNode 1)
+left_right =
+    at_player 0 1 refl refl (said_choice (codes "i") (codes "L" ∷ codes "R" ∷ [])) no_outcome
+    ∷ at_end no_outcome
+    ∷ []
+
+abbrev known : InformationSet
+known = choice (codes "i") (codes "L" ∷ codes "R" ∷ [])
+
+is_known : KnowsSet (map (λ s. s.node) left_right) (set_of 1 1) known
+is_known = (0, omega arith, refl)
+
+abbrev before_again : List (List ℕ) → List Token
+before_again labels = of_a (codes "m") left_right (in_choice labels)
+
+other_action_cut : IsCutAt other_action_file 73 76 27 (before_again (codes "L" ∷ []))
+    (Text (codes "X") ∷ Closing ∷ Bare (codes "0") ∷ [])
+unfolding lex digits
+other_action_cut = ((refl, refl), refl, refl)
+
+-- the label of the action at a place
+abbrev label_at : ℕ → List Action → List ℕ
+label_at place actions = get_or (map (λ a. a.label) actions) place []
+
+not_next : (next : Action) → GoesOnWith known (choice (codes "i") (codes "L" ∷ [])) next
+    → codes "X" ≢ next.label
+not_next next h e =
+    let right : codes "R" ≡ next.label = ap (label_at 1) h.1 in
+    let bytes : 88 ≡ 82 = ap (λ label. get_or label 0 0) (e ∙ sym right) in
+    omega (arith, bytes)
+
+pub other_action : HoldsAt Mismatch other_action_file 73 76
+other_action =
+    said_at (Holds Mismatch) other_action_file 73 76 27 (before_again (codes "L" ∷ []))
+    (Text (codes "X") ∷ Closing ∷ Bare (codes "0") ∷ []) other_action_cut (
+      codes "A" ∷ [],
+      map (λ s. s.node) left_right,
+      in_choice (codes "L" ∷ []),
+      stands_a left_right (in_choice (codes "L" ∷ [])),
+      inl (
+        set_of 1 1,
+        known,
+        is_known,
+        inr (choice (codes "i") (codes "L" ∷ []), in_choice_is (codes "L" ∷ []), not_next),
+      ),
+    )
+
+action_missing_cut : IsCutAt action_missing_file 73 74 27 (before_again (codes "L" ∷ []))
+    (Closing ∷ Bare (codes "0") ∷ [])
+unfolding lex digits
+action_missing_cut = ((refl, refl), refl, refl)
+
+pub action_missing : HoldsAt Mismatch action_missing_file 73 74
+action_missing =
+    said_at (Holds Mismatch) action_missing_file 73 74 27 (before_again (codes "L" ∷ []))
+    (Closing ∷ Bare (codes "0") ∷ []) action_missing_cut (
+      codes "A" ∷ [],
+      map (λ s. s.node) left_right,
+      in_choice (codes "L" ∷ []),
+      stands_a left_right (in_choice (codes "L" ∷ [])),
+      inl (
+        set_of 1 1,
+        known,
+        choice (codes "i") (codes "L" ∷ []),
+        record { label = codes "R"; probability = None },
+        is_known,
+        in_choice_is (codes "L" ∷ []),
+        ([], refl),
+      ),
+    )
+
+action_too_many_cut : IsCutAt action_too_many_file 77 80 28
+    (before_again (codes "L" ∷ codes "R" ∷ []))
+    (Text (codes "S") ∷ Closing ∷ Bare (codes "0") ∷ [])
+unfolding lex digits
+action_too_many_cut = ((refl, refl), refl, refl)
+
+none_left : (next : Action) → GoesOnWith known known next → codes "S" ≢ next.label
+none_left next h e =
+    let more : 2 ≡ suc (suc (suc (length h.0))) = ap length h.1 in
+    omega (arith, more)
+
+pub action_too_many : HoldsAt Mismatch action_too_many_file 77 80
+action_too_many =
+    said_at (Holds Mismatch) action_too_many_file 77 80 28
+    (before_again (codes "L" ∷ codes "R" ∷ []))
+    (Text (codes "S") ∷ Closing ∷ Bare (codes "0") ∷ []) action_too_many_cut (
+      codes "A" ∷ [],
+      map (λ s. s.node) left_right,
+      in_choice (codes "L" ∷ codes "R" ∷ []),
+      stands_a left_right (in_choice (codes "L" ∷ codes "R" ∷ [])),
+      inl (
+        set_of 1 1,
+        known,
+        is_known,
+        inr (known, in_choice_is (codes "L" ∷ codes "R" ∷ []), none_left),
+      ),
+    )
+
+-- ---- first uses
+
+undescribed_set_cut : IsCutAt undescribed_file 29 30 11 (of_a (codes "m") [] at_a)
+    (Bare (codes "0") ∷ Bare (codes "t") ∷ Text [] ∷ Bare (codes "0") ∷ [])
+unfolding lex digits
+undescribed_set_cut = ((refl, refl), refl, refl)
+
+pub undescribed_set : HoldsAt NotDescribed undescribed_file 29 30
+undescribed_set =
+    said_at (Holds NotDescribed) undescribed_file 29 30 11 (of_a (codes "m") [] at_a)
+    (Bare (codes "0") ∷ Bare (codes "t") ∷ Text [] ∷ Bare (codes "0") ∷ []) undescribed_set_cut (
+      (
+        codes "A" ∷ [],
+        [],
+        at_a,
+        stands_a [] at_a,
+        inl (set_of 1 1, behind_a, is_new (set_of 1 1)),
+      ),
+      tt,
+    )
+
+abbrev to_end : List Token
+to_end = Bare (codes "t") ∷ Text [] ∷ []
+
+behind_five : BehindOutcome (to_end ++ Bare (decimal 5) ∷ []) 5
+behind_five =
+    (to_end, None, decimal 5, refl, (codes "t", [], [], refl, (refl, refl)), numbered 5 refl)
+
+undescribed_outcome_cut : IsCutAt undescribed_outcome_file 21 21 9
+    (file_tokens [] [] [] ++ (to_end ++ Bare (decimal 5) ∷ [])) []
+unfolding lex digits
+undescribed_outcome_cut = ((refl, refl), refl, refl)
+
+pub undescribed_outcome : HoldsAt NotDescribed undescribed_outcome_file 21 21
+undescribed_outcome =
+    said_at (Holds NotDescribed) undescribed_outcome_file 21 21 9
+    (file_tokens [] [] [] ++ (to_end ++ Bare (decimal 5) ∷ [])) [] undescribed_outcome_cut (
+      (
+        [],
+        [],
+        to_end ++ Bare (decimal 5) ∷ [],
+        stands [] [] [] (to_end ++ Bare (decimal 5) ∷ []),
+        inr (5, behind_five, is_new_outcome 5),
+      ),
+      tt,
+    )
+
+-- ---- unknown players
+
+abbrev to_player : List Token
+to_player = Bare (codes "p") ∷ Text [] ∷ []
+
+abbrev behind_second : List Token
+behind_second =
+    Bare (decimal 2) ∷ Bare (codes "1") ∷ Text (codes "i") ∷ Opening ∷ Text (codes "L") ∷ Closing
+    ∷ Bare (codes "0") ∷ Bare (codes "t") ∷ Text [] ∷ Bare (codes "0") ∷ []
+
+second_player_cut : IsCutAt unknown_player_file 25 26 9 (of_a (codes "m") [] to_player)
+    behind_second
+unfolding lex digits
+second_player_cut = ((refl, refl), refl, refl)
+
+pub second_player : HoldsAt UnknownPlayer unknown_player_file 25 26
+second_player =
+    said_at (Holds UnknownPlayer) unknown_player_file 25 26 9 (of_a (codes "m") [] to_player)
+    behind_second second_player_cut
+    (inl (
+      1,
+      2,
+      (codes "A" ∷ [], [], to_player, stands_a [] to_player, refl, ([], refl)),
+      (numbered 2 refl).0,
+      omega arith,
+    ))
+
+-- without players a file may be a terminal node
+abbrev ended : List (SaidNode 0)
+ended = at_end no_outcome ∷ []
+
+none_differ : {K D : Type 0} → AreConsistent {K = K} {D = D} []
+none_differ = record {
+  first_described =
+      λ before after u e _. absurd (omega (arith, ap length e, length-append before (u ∷ after)));
+  described_alike = λ key c d h _. absurd (omega (arith, h.1));
+}
+
+ended_is_consistent : IsConsistent (file_of [] [] ended (0 ∷ []))
+ended_is_consistent = record {
+  sets = none_differ;
+  outcomes = none_differ;
+  each_set = λ key set h. absurd (omega (arith, h.1));
+  each_outcome = λ n outcome h. absurd (omega (arith, h.1));
+  children = (refl, tt);
+}
+
+may_end : NodeIsDue (file_tokens [] [] [])
+may_end = (
+  Text [] ∷ Bare (decimal 0) ∷ [],
+  (file_of [] [] ended (0 ∷ []), is_said [] [] ended (0 ∷ []) refl, ended_is_consistent),
+)
+
+abbrev behind_p : List Token
+behind_p =
+    Text [] ∷ Bare (codes "1") ∷ Bare (codes "1") ∷ Text (codes "i") ∷ Opening ∷ Text (codes "L")
+    ∷ Closing ∷ Bare (codes "0") ∷ Bare (codes "t") ∷ Text [] ∷ Bare (codes "0") ∷ []
+
+no_players_cut : IsCutAt no_players_file 15 16 6 (file_tokens [] [] [])
+    (Bare (codes "p") ∷ behind_p)
+unfolding lex digits
+no_players_cut = ((refl, refl), refl, refl)
+
+pub no_players : HoldsAt UnknownPlayer no_players_file 15 16
+no_players =
+    said_at (Holds UnknownPlayer) no_players_file 15 16 6 (file_tokens [] [] [])
+    (Bare (codes "p") ∷ behind_p) no_players_cut
+    (inr ([], stands [] [] [] [], may_end, refl))
+
+-- ---- a set number that is zero, and a list without actions
+
+abbrev behind_zero : List Token
+behind_zero =
+    Text (codes "i") ∷ Opening ∷ Text (codes "L") ∷ Closing ∷ Bare (codes "0") ∷ Bare (codes "t")
+    ∷ Text [] ∷ Bare (codes "0") ∷ []
+
+set_zero_cut : IsCutAt set_zero_file 27 28 10 (of_a (codes "m") [] to_a)
+    (Bare (codes "0") ∷ behind_zero)
+unfolding lex digits
+set_zero_cut = ((refl, refl), refl, refl)
+
+zero_is_not_positive : (n : ℕ) → ¬ (IsPositive (codes "0") n)
+zero_is_not_positive n h = let e : 0 ≡ n = h.0.1 in absurd (omega (arith, e, h.1))
+
+pub set_zero : HoldsAt BadIndex set_zero_file 27 28
+set_zero =
+    said_at (Holds BadIndex) set_zero_file 27 28 10 (of_a (codes "m") [] to_a)
+    (Bare (codes "0") ∷ behind_zero) set_zero_cut
+    (inl (inr (codes "A" ∷ [], [], to_a, 1, stands_a [] to_a, to_a_is), zero_is_not_positive))
+
+no_action_cut : IsCutAt no_action_file 35 36 13 (of_a (codes "m") [] (in_choice []))
+    (Closing ∷ Bare (codes "0") ∷ [])
+unfolding lex digits
+no_action_cut = ((refl, refl), refl, refl)
+
+pub no_action : HoldsAt NoEntry no_action_file 35 36
+no_action =
+    said_at (Holds NoEntry) no_action_file 35 36 13 (of_a (codes "m") [] (in_choice []))
+    (Closing ∷ Bare (codes "0") ∷ []) no_action_cut (
+      set_of 1 1,
+      codes "i",
+      (
+        codes "A" ∷ [],
+        [],
+        in_choice [],
+        stands_a [] (in_choice []),
+        in_choice_is [],
+        is_new (set_of 1 1),
+      ),
+    )

@@ -1,0 +1,47 @@
+use Rattle.gf_tree.proofs.WorkedLotteries.{no_number, negative, above_one, below_one, overflowing}
+use Rattle.gf_tree.proofs.WorkedReasons.{set_zero, second_player, no_players}
+use Rattle.gf_tree.proofs.WorkedReasons.{undescribed_set, undescribed_outcome, other_action}
+use Rattle.gf_tree.proofs.WorkedReasons.{action_missing, action_too_many, no_action}
+use Rattle.gf_tree.proofs.laws.worked_reasons.Goals as goal
+
+pub returns-clause-not_a_number : goal.returns-clause-not_a_number
+returns-clause-not_a_number c = no_number
+
+pub returns-clause-set_zero : goal.returns-clause-set_zero
+returns-clause-set_zero c = set_zero
+
+pub returns-clause-second_of_one : goal.returns-clause-second_of_one
+returns-clause-second_of_one c = second_player
+
+pub returns-clause-no_players : goal.returns-clause-no_players
+returns-clause-no_players c = no_players
+
+pub returns-clause-undescribed_set : goal.returns-clause-undescribed_set
+returns-clause-undescribed_set c = undescribed_set
+
+pub returns-clause-undescribed_outcome : goal.returns-clause-undescribed_outcome
+returns-clause-undescribed_outcome c = undescribed_outcome
+
+pub returns-clause-other_action : goal.returns-clause-other_action
+returns-clause-other_action c = other_action
+
+pub returns-clause-action_missing : goal.returns-clause-action_missing
+returns-clause-action_missing c = action_missing
+
+pub returns-clause-action_too_many : goal.returns-clause-action_too_many
+returns-clause-action_too_many c = action_too_many
+
+pub returns-clause-negative : goal.returns-clause-negative
+returns-clause-negative c = negative
+
+pub returns-clause-above_one : goal.returns-clause-above_one
+returns-clause-above_one c = above_one
+
+pub returns-clause-below_one : goal.returns-clause-below_one
+returns-clause-below_one c = below_one
+
+pub returns-clause-overflowing : goal.returns-clause-overflowing
+returns-clause-overflowing c = overflowing
+
+pub returns-clause-no_action : goal.returns-clause-no_action
+returns-clause-no_action c = no_action
