@@ -1,11 +1,11 @@
 -- The spellings of labels, said of their quotes and their last byte.
-use Rattle.std.proofs.Common.{◌≡◌, ℕ, true, ◌==◌, ◌||◌, List, [], ◌∷◌}
-use Rattle.std.proofs.Common.{◌++◌, refl, ap, ◌∙◌, arith, IsTrue, ◌↔◌}
+use Rattle.std.proofs.Common.{◌≡◌, ℕ, true, ◌==◌, ◌||◌, List, [], ◌∷◌, ◌++◌, refl, ap, ◌∙◌, arith}
+use Rattle.std.proofs.Common.{IsTrue, ◌↔◌}
 use Rattle.std.specs.Prelude.{not}
 use Rattle.std.proofs.lemmas.Bool.{and_parts}
 use Rattle.std.proofs.lemmas.Bool.Decides.{nat_tests}
-use Rattle.gf_token.specs.LabelSpelling.{is_spelling, is_spelling_after}
-use Rattle.gf_token.specs.LabelSpelling.{EndsInBackslash, EscapesQuotes}
+use Rattle.gf_token.specs.LabelSpelling.{is_spelling, is_spelling_after, EndsInBackslash}
+use Rattle.gf_token.specs.LabelSpelling.{EscapesQuotes}
 
 -- the last of the bytes behind one
 last_of : ℕ → List ℕ → ℕ
@@ -15,8 +15,8 @@ last_of before (b ∷ bytes) = last_of b bytes
 quote_escaped : (before : ℕ) → (not (34 == 34) || before == 92) ≡ true → before ≡ 92
 quote_escaped before h = grind (arith, nat_tests)
 
-quotes_escaped : (bytes front back : List ℕ) (before : ℕ)
-    → is_spelling_after before bytes ≡ true → bytes ≡ front ++ 34 ∷ back → last_of before front ≡ 92
+quotes_escaped : (bytes front back : List ℕ) (before : ℕ) → is_spelling_after before bytes ≡ true
+    → bytes ≡ front ++ 34 ∷ back → last_of before front ≡ 92
 unfolding last_of
 quotes_escaped [] [] back before h e = absurd cc
 quotes_escaped [] (c ∷ front) back before h e = absurd cc
@@ -30,11 +30,12 @@ quotes_escaped (b ∷ bytes) (c ∷ front) back before h e =
     rw same (quotes_escaped bytes front back b
     (and_parts (not (b == 34) || before == 92) (is_spelling_after b bytes) h).1 tail)
 
-last_not_escape : (bytes : List ℕ) (before : ℕ)
-    → is_spelling_after before bytes ≡ true → last_of before bytes ≡ 92 → ⊥
+last_not_escape : (bytes : List ℕ) (before : ℕ) → is_spelling_after before bytes ≡ true
+    → last_of before bytes ≡ 92 → ⊥
 unfolding last_of
 last_not_escape [] before h e = grind (arith, nat_tests)
-last_not_escape (b ∷ bytes) before h e = last_not_escape bytes b
+last_not_escape (b ∷ bytes) before h e =
+    last_not_escape bytes b
     (and_parts (not (b == 34) || before == 92) (is_spelling_after b bytes) h).1 e
 
 spelling_back : (bytes : List ℕ) (before : ℕ)
@@ -43,7 +44,8 @@ spelling_back : (bytes : List ℕ) (before : ℕ)
 unfolding last_of
 spelling_back [] before quotes last = grind (arith, nat_tests)
 spelling_back (b ∷ bytes) before quotes last =
-    let rest = spelling_back bytes b
+    let rest =
+    spelling_back bytes b
     (λ front back e. quotes (b ∷ front) back (ap (λ (x : List ℕ). b ∷ x) e)) last in
     let first : b ≡ 34 → before ≡ 92 = λ quote. quotes [] bytes (ap (λ (x : ℕ). x ∷ bytes) quote) in
     grind (arith, nat_tests)
@@ -78,8 +80,10 @@ pub said_of_quotes : (bytes : List ℕ)
     → IsTrue (is_spelling bytes) ↔ (EscapesQuotes bytes × ¬ (EndsInBackslash bytes))
 said_of_quotes bytes = (
   λ h. (
-    λ front back e. ends front 34 (other_byte 34 refl) (quotes_escaped bytes front back 34 h e),
-    λ w. last_not_escape bytes 34 h (ap (last_of 34) w.1 ∙ ends_back w.0 34),
+    λ front back e. ends front 34 (other_byte 34 refl)
+        (quotes_escaped bytes front back 34 h e),
+    λ w. last_not_escape bytes 34 h
+        (ap (last_of 34) w.1 ∙ ends_back w.0 34),
   ),
   λ w. spelling_back bytes 34
       (λ front back e. let k = w.0 front back e in ap (last_of 34) k.1 ∙ ends_back k.0 34)

@@ -1,7 +1,7 @@
 -- Each byte list spells exactly one list of tokens: those that are found in it byte by byte.
-use Rattle.std.proofs.Common.{◌≡◌, ℕ, suc, ◌+◌, Bool, true, false, ◌==◌, ◌&&◌}
-use Rattle.std.proofs.Common.{◌||◌, cond, List, [], ◌∷◌, ◌++◌, length, refl, sym}
-use Rattle.std.proofs.Common.{ap, subst, ◌∙◌, append_assoc, arith, inl, inr}
+use Rattle.std.proofs.Common.{◌≡◌, ℕ, suc, ◌+◌, Bool, true, false, ◌==◌, ◌&&◌, ◌||◌, cond, List, []}
+use Rattle.std.proofs.Common.{◌∷◌, ◌++◌, length, refl, sym, ap, subst, ◌∙◌, append_assoc, arith}
+use Rattle.std.proofs.Common.{inl, inr}
 use Rattle.std.specs.Prelude.{not}
 use Rattle.std.specs.List.{AllByRecursion}
 use Rattle.std.proofs.lemmas.Bool.{cases_Bool, and_parts}
@@ -36,7 +36,8 @@ gap_again (b ∷ gap) rest at h =
     (gap_again gap rest (at + 1) h.1 ∙ ap (λ (i : ℕ). lex Gap i rest) e)
 
 bare_again : (bs acc rest : List ℕ) (start at : ℕ) → AllBare bs
-    → lex (InBare start acc) at (bs ++ rest) ≡ lex (InBare start (acc ++ bs)) (at + length bs) rest
+    → lex (InBare start acc) at (bs ++ rest)
+    ≡ lex (InBare start (acc ++ bs)) (at + length bs) rest
 unfolding lex
 bare_again [] acc rest start at h =
     let e : at ≡ at + 0 = omega arith in
@@ -79,14 +80,14 @@ text_again (b ∷ l) acc rest start at before h =
     rw (goes_on (b == 34) (before == 92) k.0)
     (text_again l (acc ++ b ∷ []) rest start (at + 1) b k.1
     ∙ ap (λ (i : ℕ). lexeme start i (Text ((acc ++ b ∷ []) ++ l)) ∷ lex Gap i rest) e
-    ∙ ap (λ (x : List ℕ).
-    lexeme start (at + suc (length l) + 1) (Text x) ∷ lex Gap (at + suc (length l) + 1) rest)
-    (append_assoc acc (b ∷ []) l))
+    ∙ ap (λ (x : List ℕ). lexeme start (at + suc (length l) + 1) (Text x)
+    ∷ lex Gap (at + suc (length l) + 1) rest) (append_assoc acc (b ∷ []) l))
 
 -- one byte further, no label is closed either
-closes_never_on : (b before : ℕ) (bs : List ℕ)
-    → ((b == 34) && not (before == 92)) ≡ false → ClosesNever before (b ∷ bs) → ClosesNever b bs
-closes_never_on b before bs s h = λ label rest spelled parts. h (b ∷ label) rest
+closes_never_on : (b before : ℕ) (bs : List ℕ) → ((b == 34) && not (before == 92)) ≡ false
+    → ClosesNever before (b ∷ bs) → ClosesNever b bs
+closes_never_on b before bs s h =
+    λ label rest spelled parts. h (b ∷ label) rest
     (rw (goes_on_back (b == 34) (before == 92) s) spelled) (ap (λ (x : List ℕ). b ∷ x) parts)
 
 text_breaks : (bytes acc : List ℕ) (start at before : ℕ) → ClosesNever before bytes
@@ -98,8 +99,8 @@ text_breaks (b ∷ bs) acc start at before h =
       | inl s ↦
           let q = and_parts (b == 34) (not (before == 92)) s in
           absurd (h [] bs q.1 (ap (λ (x : ℕ). x ∷ bs) ((Decides-eqb b 34).0 q.0)))
-      | inr s ↦
-          rw s (text_breaks bs (acc ++ b ∷ []) start (at + 1) b (closes_never_on b before bs s h))
+      | inr s ↦ rw s (text_breaks bs (acc ++ b ∷ []) start (at + 1) b
+          (closes_never_on b before bs s h))
     ]
 
 -- a token, and what the bytes behind it spell
@@ -123,11 +124,13 @@ token_again (Text l) at rest others h s k =
 token_again (Bare []) at rest others h s k = absurd h
 token_again (Bare (b ∷ bs)) at rest others h s k =
     let e : at + 1 + length bs ≡ at + suc (length bs) = omega arith in
-    rw (bare_out at b h.0, h.0) (bare_again bs (b ∷ []) rest at (at + 1) h.1
+    rw (bare_out at b h.0, h.0)
+    (bare_again bs (b ∷ []) rest at (at + 1) h.1
     ∙ bare_ends (b ∷ bs) rest at (at + 1 + length bs) s
     ∙ ap (λ (i : ℕ). lexeme at i (Bare (b ∷ bs)) ∷ lex Gap i rest) e
     ∙ ap (λ (x : List Lexeme). lexeme at (at + suc (length bs)) (Bare (b ∷ bs)) ∷ x) k)
-token_again Broken at rest others h s k = text_breaks rest [] at (at + 1) 34 s
+token_again Broken at rest others h s k =
+    text_breaks rest [] at (at + 1) 34 s
     ∙ ap (λ (x : List Lexeme). lexeme at (at + 1) Broken ∷ x) (sym k)
 
 goes_on_map : (t : Token) (others : List Lexeme) (A B : Type 0) → (A → B) → GoesOn t others A
@@ -151,7 +154,8 @@ spelled (l ∷ ls) at bytes h =
     let begin = at + length first.gap in
     let end = begin + length (spelling l.token) in
     let e : l.end ≡ end = omega (arith, first.start, first.end) in
-    let further = goes_on_map l.token ls (Spells l.end first.rest ls) (lex Gap end first.rest ≡ ls)
+    let further =
+    goes_on_map l.token ls (Spells l.end first.rest ls) (lex Gap end first.rest ≡ ls)
     (λ s. ap (λ (i : ℕ). lex Gap i first.rest) (sym e) ∙ spelled ls l.end first.rest s) h.1 in
     ap (lex Gap at) first.parts
     ∙ gap_again first.gap (spelling l.token ++ first.rest) at first.is_gap
@@ -161,8 +165,8 @@ spelled (l ∷ ls) at bytes h =
 -- ---- what is found is spelled so
 
 -- what stands behind an open bare token
-record BareEnds (start : ℕ) (text : List ℕ) (at : ℕ) (bytes : List ℕ) (ls : List Lexeme) : Type
-    0 where
+record BareEnds (start : ℕ) (text : List ℕ) (at : ℕ) (bytes : List ℕ)
+    (ls : List Lexeme) : Type 0 where
   more : List ℕ
   rest : List ℕ
   others : List Lexeme
@@ -196,8 +200,8 @@ data Class (b : ℕ) : Type 0 where
   quote : b ≡ 34 → Class b
   bare : is_bare b ≡ true → Class b
 
-class_by : (b : ℕ) (x y z v w : Bool)
-    → is_space b ≡ x → (b == 123) ≡ y → (b == 125) ≡ z → (b == 44) ≡ v → (b == 34) ≡ w → Class b
+class_by : (b : ℕ) (x y z v w : Bool) → is_space b ≡ x → (b == 123) ≡ y → (b == 125) ≡ z
+    → (b == 44) ≡ v → (b == 34) ≡ w → Class b
 class_by b true y z v w p q r s t = space p
 class_by b false true z v w p q r s t = opening ((Decides-eqb b 123).0 q)
 class_by b false false true v w p q r s t = closing ((Decides-eqb b 125).0 r)
@@ -261,28 +265,27 @@ text_parts : (at : ℕ) (bs : List ℕ) (ls : List Lexeme) → TextEnds at 34 []
 text_parts at bs ls (closed more rest others parts label first then) =
     let e : at + 1 + length more + 1 ≡ at + length (spelling (Text more)) =
     omega (arith, length-append more (34 ∷ [])) in
-    let all : Spells at (34 ∷ ((more ++ 34 ∷ []) ++ rest))
-    (lexeme at (at + 1 + length more + 1) (Text more) ∷ others) =
+    let found = lexeme at (at + 1 + length more + 1) (Text more) in
+    let all : Spells at (34 ∷ ((more ++ 34 ∷ []) ++ rest)) (found ∷ others) =
     after_one (Text more) at (at + 1 + length more + 1) rest others label tt e then in
     let k : 34 ∷ ((more ++ 34 ∷ []) ++ rest) ≡ 34 ∷ bs =
     ap (λ (x : List ℕ). 34 ∷ x) (append_assoc more (34 ∷ []) rest ∙ sym parts) in
     subst (λ (x : List Lexeme). Spells at (34 ∷ bs) x) (sym first)
-    (subst (λ (x : List ℕ). Spells at x (lexeme at (at + 1 + length more + 1) (Text more) ∷ others))
-    k all)
+    (subst (λ (x : List ℕ). Spells at x (found ∷ others)) k all)
 text_parts at bs ls (never none first) =
     subst (λ (x : List Lexeme). Spells at (34 ∷ bs) x) (sym first)
     (after_one Broken at (at + 1) bs [] tt none refl refl)
 
-bare_parts : (b at : ℕ) (bs : List ℕ) (ls : List Lexeme)
-    → is_bare b ≡ true → BareEnds at (b ∷ []) (at + 1) bs ls → Spells at (b ∷ bs) ls
+bare_parts : (b at : ℕ) (bs : List ℕ) (ls : List Lexeme) → is_bare b ≡ true
+    → BareEnds at (b ∷ []) (at + 1) bs ls → Spells at (b ∷ bs) ls
 bare_parts b at bs ls s h =
     let e : at + 1 + length h.more ≡ at + length (b ∷ h.more) = omega arith in
-    let all : Spells at (b ∷ (h.more ++ h.rest))
-    (lexeme at (at + 1 + length h.more) (Bare (b ∷ h.more)) ∷ h.others) =
-    after_one (Bare (b ∷ h.more)) at (at + 1 + length h.more) h.rest h.others (s, h.bare) h.stands e
-    h.then in
-    subst (λ (x : List Lexeme). Spells at (b ∷ bs) x) (sym h.first) (subst (λ (x : List ℕ).
-    Spells at x (lexeme at (at + 1 + length h.more) (Bare (b ∷ h.more)) ∷ h.others))
+    let found = lexeme at (at + 1 + length h.more) (Bare (b ∷ h.more)) in
+    let all : Spells at (b ∷ (h.more ++ h.rest)) (found ∷ h.others) =
+    after_one (Bare (b ∷ h.more)) at (at + 1 + length h.more) h.rest h.others
+    (s, h.bare) h.stands e h.then in
+    subst (λ (x : List Lexeme). Spells at (b ∷ bs) x) (sym h.first)
+    (subst (λ (x : List ℕ). Spells at x (found ∷ h.others))
     (ap (λ (x : List ℕ). b ∷ x) (sym h.parts)) all)
 
 at_opening : (at : ℕ) (bs : List ℕ) → Known (at + 1) bs → Goal at 123 bs
@@ -304,16 +307,17 @@ gap_step b at bs (opening s) ih = subst (λ (x : ℕ). Goal at x bs) (sym s) (at
 gap_step b at bs (closing s) ih = subst (λ (x : ℕ). Goal at x bs) (sym s) (at_closing at bs ih)
 gap_step b at bs (comma s) ih = subst (λ (x : ℕ). Goal at x bs) (sym s) (at_comma at bs ih)
 gap_step b at bs (quote s) ih = subst (λ (x : ℕ). Goal at x bs) (sym s) (at_quote at bs ih)
-gap_step b at bs (bare s) ih = rw (bare_out at b s, s)
+gap_step b at bs (bare s) ih =
+    rw (bare_out at b s, s)
     (bare_parts b at bs (lex (InBare at (b ∷ [])) (at + 1) bs) s (ih (InBare at (b ∷ []))))
 
 bare_step : (b at start : ℕ) (text bs : List ℕ) (c : Bool) → is_bare b ≡ c → Known (at + 1) bs
-    → BareEnds start text at (b ∷ bs) (cond c [] (lexeme start at (Bare text) ∷ single at b)
+    → BareEnds start text at (b ∷ bs)
+    (cond c [] (lexeme start at (Bare text) ∷ single at b)
     ++ lex (cond c (InBare start (text ++ b ∷ [])) (begins at b)) (at + 1) bs)
 bare_step b at start text bs true s ih =
-    let h : BareEnds start (text ++ b ∷ []) (at + 1) bs
-    (lex (InBare start (text ++ b ∷ [])) (at + 1) bs) =
-    ih (InBare start (text ++ b ∷ [])) in
+    let mode = InBare start (text ++ b ∷ []) in
+    let h : BareEnds start (text ++ b ∷ []) (at + 1) bs (lex mode (at + 1) bs) = ih mode in
     let e : at + 1 + length h.more ≡ at + length (b ∷ h.more) = omega arith in
     record {
       more = b ∷ h.more;
@@ -321,11 +325,12 @@ bare_step b at start text bs true s ih =
       others = h.others;
       parts = ap (λ (x : List ℕ). b ∷ x) h.parts;
       bare = (s, h.bare);
-      first = h.first
-          ∙ ap (λ (x : List ℕ). lexeme start (at + 1 + length h.more) (Bare x) ∷ h.others)
+      first =
+          h.first ∙ ap (λ (x : List ℕ). lexeme start (at + 1 + length h.more) (Bare x) ∷ h.others)
           (append_assoc text (b ∷ []) h.more)
           ∙ ap (λ (i : ℕ). lexeme start i (Bare (text ++ b ∷ h.more)) ∷ h.others) e;
-      stands = subst (λ (x : List ℕ). MayPrecede (Bare x) h.rest)
+      stands =
+          subst (λ (x : List ℕ). MayPrecede (Bare x) h.rest)
           (append_assoc text (b ∷ []) h.more) h.stands;
       then = subst (λ (i : ℕ). Spells i h.rest h.others) e h.then;
     }
@@ -341,13 +346,14 @@ bare_step b at start text bs false s ih =
           ap (λ (x : List ℕ). lexeme start at (Bare x) ∷ from_gap b at bs) (sym (append-nil text))
           ∙ ap (λ (i : ℕ). lexeme start i (Bare (text ++ [])) ∷ from_gap b at bs) e;
       stands = s;
-      then = subst (λ (i : ℕ). Spells i (b ∷ bs) (from_gap b at bs)) e
+      then =
+          subst (λ (i : ℕ). Spells i (b ∷ bs) (from_gap b at bs)) e
           (gap_step b at bs (class_of b) ih);
     }
 
 -- with one byte before that closes no text, no label is closed either
-closes_never_back : (b before : ℕ) (bs : List ℕ)
-    → ((b == 34) && not (before == 92)) ≡ false → ClosesNever b bs → ClosesNever before (b ∷ bs)
+closes_never_back : (b before : ℕ) (bs : List ℕ) → ((b == 34) && not (before == 92)) ≡ false
+    → ClosesNever b bs → ClosesNever before (b ∷ bs)
 closes_never_back b before bs s h [] rest spelled parts =
     let q : b ≡ 34 = cc in
     absurd (grind (arith, nat_tests))
@@ -364,8 +370,7 @@ text_on b at start before text bs ls s (closed more rest others parts label firs
     let e : at + 1 + length more + 1 ≡ at + length (b ∷ more) + 1 = omega arith in
     closed (b ∷ more) rest others (ap (λ (x : List ℕ). b ∷ x) parts)
     (rw (goes_on_back (b == 34) (before == 92) s) label)
-    (first
-    ∙ ap (λ (x : List ℕ). lexeme start (at + 1 + length more + 1) (Text x) ∷ others)
+    (first ∙ ap (λ (x : List ℕ). lexeme start (at + 1 + length more + 1) (Text x) ∷ others)
     (append_assoc text (b ∷ []) more)
     ∙ ap (λ (i : ℕ). lexeme start i (Text (text ++ b ∷ more)) ∷ others) e)
     (subst (λ (i : ℕ). Spells i rest others) e then)
@@ -374,7 +379,8 @@ text_on b at start before text bs ls s (never none first) =
 
 text_step : (b at start before : ℕ) (text bs : List ℕ) (c : Bool)
     → ((b == 34) && not (before == 92)) ≡ c → Known (at + 1) bs
-    → TextEnds start before text at (b ∷ bs) (cond c (lexeme start (at + 1) (Text text) ∷ []) []
+    → TextEnds start before text at (b ∷ bs)
+    (cond c (lexeme start (at + 1) (Text text) ∷ []) []
     ++ lex (cond c Gap (InText start b (text ++ b ∷ []))) (at + 1) bs)
 text_step b at start before text bs true s ih =
     let q = and_parts (b == 34) (not (before == 92)) s in
@@ -384,8 +390,9 @@ text_step b at start before text bs true s ih =
     (sym (append-nil text))
     ∙ ap (λ (i : ℕ). lexeme start i (Text (text ++ [])) ∷ lex Gap (at + 1) bs) e)
     (subst (λ (i : ℕ). Spells i bs (lex Gap (at + 1) bs)) e (ih Gap))
-text_step b at start before text bs false s ih = text_on b at start before text bs
-    (lex (InText start b (text ++ b ∷ [])) (at + 1) bs) s (ih (InText start b (text ++ b ∷ [])))
+text_step b at start before text bs false s ih =
+    text_on b at start before text bs (lex (InText start b (text ++ b ∷ [])) (at + 1) bs) s
+    (ih (InText start b (text ++ b ∷ [])))
 
 -- nothing is no label and a quote
 closes_never_none : (before : ℕ) → ClosesNever before []
@@ -404,7 +411,8 @@ means [] at (InBare start text) =
       others = [];
       parts = refl;
       bare = tt;
-      first = ap (λ (x : List ℕ). lexeme start at (Bare x) ∷ []) (sym (append-nil text))
+      first =
+          ap (λ (x : List ℕ). lexeme start at (Bare x) ∷ []) (sym (append-nil text))
           ∙ ap (λ (i : ℕ). lexeme start i (Bare (text ++ [])) ∷ []) e;
       stands = tt;
       then = tt;
@@ -420,10 +428,11 @@ found bytes at = means bytes at Gap
 
 -- ---- the law
 
-pub same_tokens : (bytes : List ℕ) (ls others : List Lexeme)
-    → Spells 0 bytes ls → Spells 0 bytes others → ls ≡ others
+pub same_tokens : (bytes : List ℕ) (ls others : List Lexeme) → Spells 0 bytes ls
+    → Spells 0 bytes others → ls ≡ others
 same_tokens bytes ls others h k = sym (spelled ls 0 bytes h) ∙ spelled others 0 bytes k
 
-pub spelled_once : (bytes : List ℕ) → (ls : List Lexeme) × Spells 0 bytes ls
+pub spelled_once : (bytes : List ℕ)
+    → (ls : List Lexeme) × Spells 0 bytes ls
     × ((others : List Lexeme) → Spells 0 bytes others → others ≡ ls)
 spelled_once bytes = (lex Gap 0 bytes, found bytes 0, λ others h. sym (spelled others 0 bytes h))

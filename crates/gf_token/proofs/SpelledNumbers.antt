@@ -1,7 +1,7 @@
 -- The texts of fractions and of indices are the bytes of bare tokens, and the texts of indices are
 -- read as indices.
-use Rattle.std.proofs.Common.{◌≡◌, ℕ, ℤ, pos, negsuc, suc, ◌^◌, ◌<◌, ◌≤◌, Bool, true, false}
-use Rattle.std.proofs.Common.{List, [], ◌∷◌, ◌++◌, length, refl, arith, length-append}
+use Rattle.std.proofs.Common.{◌≡◌, ℕ, ℤ, pos, negsuc, suc, ◌^◌, ◌<◌, ◌≤◌, Bool, true, false, List}
+use Rattle.std.proofs.Common.{[], ◌∷◌, ◌++◌, length, refl, arith, length-append}
 use Rattle.std.specs.Prelude.{◌==◌, decimal, unsigned_abs, if◌then◌else◌}
 use Rattle.std.specs.Fmt.{signed_decimal}
 use Rattle.std.specs.Char.{digit_value}
@@ -31,7 +31,8 @@ bare_digits (b ∷ bytes) h = (bare_digit b h.0, bare_digits bytes h.1)
 
 decimal_bare : (n : ℕ) → n < 2 ^ 127 → IsBareText (decimal n)
 decimal_bare n h =
-    let d = decimal_is_IsNumeral_wide n
+    let d =
+    decimal_is_IsNumeral_wide n
     (let wide : 2 ^ 127 ≤ 10 ^ 64 = omega arith in omega (arith, wide)) in
     record { some = d.0.0; bare = bare_digits (decimal n) d.0.1 }
 
@@ -51,15 +52,18 @@ number_bare r h = by_den (r.den == 1)
         let n = signed_bare r.num h.num_within in
         let d = decimal_bare r.den h.den_within in
         record {
-          some = omega (
-            arith,
-            n.some,
-            length-append (signed_decimal r.num) (47 ∷ []),
-            length-append (signed_decimal r.num ++ 47 ∷ []) (decimal r.den),
-          );
-          bare = all_both (λ b. is_bare b ≡ true) (signed_decimal r.num ++ 47 ∷ []) (decimal r.den)
-              (all_both (λ b. is_bare b ≡ true) (signed_decimal r.num) (47 ∷ []) n.bare (refl, tt))
-              d.bare;
+          some =
+              omega (
+                arith,
+                n.some,
+                length-append (signed_decimal r.num) (47 ∷ []),
+                length-append
+                    (signed_decimal r.num ++ 47 ∷ []) (decimal r.den),
+              );
+          bare =
+              all_both (λ b. is_bare b ≡ true) (signed_decimal r.num ++ 47 ∷ []) (decimal r.den)
+              (all_both (λ b. is_bare b ≡ true) (signed_decimal r.num) (47 ∷ []) n.bare
+              (refl, tt)) d.bare;
         }
 
 spelled_bare : (bytes : List ℕ) → IsBareText bytes → IsSpelled (Bare bytes)
@@ -70,11 +74,12 @@ pub number_spelled : (r : Ratio) → IsFraction r → IsSpelled (Bare (number_te
 number_spelled r h = spelled_bare (number_text r) (number_bare r h)
 
 pub index_spelled : (n : ℕ) → n < 2 ^ 32 → IsSpelled (Bare (decimal n))
-index_spelled n h = spelled_bare (decimal n)
+index_spelled n h =
+    spelled_bare (decimal n)
     (decimal_bare n (let wide : 2 ^ 32 ≤ 2 ^ 127 = omega arith in omega (arith, wide, h)))
 
 pub decimal_is_index : (n : ℕ) → n < 2 ^ 32 → IsIndex (decimal n) n
 decimal_is_index n h =
-    let d =
-    decimal_is_IsNumeral n (let wide : 2 ^ 32 ≤ 10 ^ 20 = omega arith in omega (arith, h, wide)) in
+    let wide : 2 ^ 32 ≤ 10 ^ 20 = omega arith in
+    let d = decimal_is_IsNumeral n (omega (arith, h, wide)) in
     (d.0, d.1, h)

@@ -26,7 +26,8 @@ pub all_spelled : (ls : List Lexeme) (at : ℕ) (bytes : List ℕ) → Spells at
 all_spelled [] at bytes h = tt
 all_spelled (l ∷ ls) at bytes h = (
   h.0.is_spelled,
-  on_spelled l.token ls (Spells l.end h.0.rest ls) (all_spelled ls l.end h.0.rest) h.1,
+  on_spelled l.token ls (Spells l.end h.0.rest ls)
+      (all_spelled ls l.end h.0.rest) h.1,
 )
 
 -- what stands between braces is spelled, and what stands behind them
@@ -36,7 +37,7 @@ braced_spelled inner rest h =
     let k = all_parts IsSpelled (inner ++ Closing ∷ []) rest h.1 in
     ((all_parts IsSpelled inner (Closing ∷ []) k.0).0, k.1)
 
-pub comment_spelled : (tokens : List Token) (comment : List ℕ)
-    → IsComment tokens comment → AllSpelled tokens → IsLabel comment
+pub comment_spelled : (tokens : List Token) (comment : List ℕ) → IsComment tokens comment
+    → AllSpelled tokens → IsLabel comment
 comment_spelled tokens comment (inl h) all = subst IsLabel (sym h.1) refl
 comment_spelled tokens comment (inr h) all = (subst AllSpelled h all).0

@@ -1,12 +1,12 @@
 -- What the cursor's loops find, one byte at a time.
-use Rattle.std.proofs.Common.{◌≡◌, ℕ, ◌+◌, ◌-◌, ◌<◌, ◌≤◌, true, false, ◌==◌, ◌&&◌}
-use Rattle.std.proofs.Common.{List, [], ◌∷◌, ◌++◌, length, get_or, take, drop}
-use Rattle.std.proofs.Common.{refl, sym, ap, ◌∙◌, arith, inl, inr, append_assoc}
+use Rattle.std.proofs.Common.{◌≡◌, ℕ, ◌+◌, ◌-◌, ◌<◌, ◌≤◌, true, false, ◌==◌, ◌&&◌, List, [], ◌∷◌}
+use Rattle.std.proofs.Common.{◌++◌, length, get_or, take, drop, refl, sym, ap, ◌∙◌, arith, inl, inr}
+use Rattle.std.proofs.Common.{append_assoc}
 use Rattle.std.specs.Prelude.{slice_range, not}
 use Rattle.std.proofs.lemmas.Bool.Decides.{nat_tests}
 use Rattle.std.proofs.lemmas.Bool.{cases_lt}
-use Rattle.std.proofs.lemmas.List.{at_drop_more, at_drop_all, take_more}
-use Rattle.std.proofs.lemmas.List.{get_or-drop, length-drop, append-nil}
+use Rattle.std.proofs.lemmas.List.{at_drop_more, at_drop_all, take_more, get_or-drop, length-drop}
+use Rattle.std.proofs.lemmas.List.{append-nil}
 use Rattle.gf_token.specs.Byte.{is_space, is_bare}
 use Rattle.gf_token.specs.LabelSpelling.{is_spelling, is_spelling_after}
 use Rattle.gf_token.specs.Token.{Lexeme, lexeme}
@@ -15,9 +15,9 @@ use Rattle.gf_token.specs.Lexing.{Mode, lex, ended, after, single, begins, last}
 use Rattle.gf_token.specs.Finding.{ClosesText}
 use Rattle.gf_token.specs.Lexing.Mode.{Gap, InText, InBare}
 
-pub lex_more : (m : Mode) (bytes : List ℕ) (at : ℕ) → at < length bytes
-    → lex m at (drop at bytes) ≡ ended m at (get_or bytes at 0)
-    ++ lex (after m at (get_or bytes at 0)) (at + 1) (drop (at + 1) bytes)
+pub lex_more : (m : Mode) (bytes : List ℕ) (at : ℕ) → at < length bytes → lex m at
+    (drop at bytes) ≡ ended m at (get_or bytes at 0) ++ lex (after m at (get_or bytes at 0))
+    (at + 1) (drop (at + 1) bytes)
 unfolding lex
 lex_more m bytes at h = at_drop_more (lex m at) bytes at 0 h
 
@@ -35,7 +35,8 @@ space_after at b h = grind (arith, nat_tests)
 
 pub gap_more : (bytes : List ℕ) (at : ℕ) → at < length bytes → is_space (get_or bytes at 0) ≡ true
     → lex Gap at (drop at bytes) ≡ lex Gap (at + 1) (drop (at + 1) bytes)
-gap_more bytes at h s = lex_more Gap bytes at h
+gap_more bytes at h s =
+    lex_more Gap bytes at h
     ∙ rw (space_out at (get_or bytes at 0) s, space_after at (get_or bytes at 0) s) refl
 
 pub range_more : (xs : List ℕ) (s at : ℕ) → s ≤ at → at < length xs
@@ -44,8 +45,7 @@ range_more xs s at le lt =
     let n : at + 1 - s ≡ at - s + 1 = omega arith in
     let k : s + (at - s) ≡ at = omega arith in
     let m : at - s < length (drop s xs) = omega (arith, length-drop s xs) in
-    ap (λ (i : ℕ). take i (drop s xs)) n
-    ∙ take_more (drop s xs) (at - s) 0 m
+    ap (λ (i : ℕ). take i (drop s xs)) n ∙ take_more (drop s xs) (at - s) 0 m
     ∙ ap (λ (x : ℕ). take (at - s) (drop s xs) ++ x ∷ [])
     (get_or-drop s xs (at - s) 0 ∙ ap (λ (i : ℕ). get_or xs i 0) k)
 
@@ -54,18 +54,16 @@ range_none xs at = let n : at - at ≡ 0 = omega arith in ap (λ (i : ℕ). take
 
 -- ---- tokens of one byte
 
-pub opening : (bytes : List ℕ) (at : ℕ) → at < length bytes → get_or bytes at 0 ≡ 123
-    → lex Gap at (drop at bytes)
-    ≡ lexeme at (at + 1) Opening ∷ lex Gap (at + 1) (drop (at + 1) bytes)
+pub opening : (bytes : List ℕ) (at : ℕ) → at < length bytes → get_or bytes at 0 ≡ 123 → lex Gap at
+    (drop at bytes) ≡ lexeme at (at + 1) Opening ∷ lex Gap (at + 1) (drop (at + 1) bytes)
 opening bytes at h s = lex_more Gap bytes at h ∙ rw s refl
 
-pub closing : (bytes : List ℕ) (at : ℕ) → at < length bytes → get_or bytes at 0 ≡ 125
-    → lex Gap at (drop at bytes)
-    ≡ lexeme at (at + 1) Closing ∷ lex Gap (at + 1) (drop (at + 1) bytes)
+pub closing : (bytes : List ℕ) (at : ℕ) → at < length bytes → get_or bytes at 0 ≡ 125 → lex Gap at
+    (drop at bytes) ≡ lexeme at (at + 1) Closing ∷ lex Gap (at + 1) (drop (at + 1) bytes)
 closing bytes at h s = lex_more Gap bytes at h ∙ rw s refl
 
-pub comma : (bytes : List ℕ) (at : ℕ) → at < length bytes → get_or bytes at 0 ≡ 44
-    → lex Gap at (drop at bytes) ≡ lexeme at (at + 1) Comma ∷ lex Gap (at + 1) (drop (at + 1) bytes)
+pub comma : (bytes : List ℕ) (at : ℕ) → at < length bytes → get_or bytes at 0 ≡ 44 → lex Gap at
+    (drop at bytes) ≡ lexeme at (at + 1) Comma ∷ lex Gap (at + 1) (drop (at + 1) bytes)
 comma bytes at h s = lex_more Gap bytes at h ∙ rw s refl
 
 -- ---- bare tokens
@@ -79,8 +77,8 @@ pub bare_out : (at b : ℕ) → is_bare b ≡ true → single at b ≡ []
 bare_out at b s = grind (arith, nat_tests)
 
 pub bare_open : (bytes : List ℕ) (at : ℕ) → at < length bytes → is_bare (get_or bytes at 0) ≡ true
-    → lex Gap at (drop at bytes)
-    ≡ lex (InBare at (slice_range bytes at (at + 1))) (at + 1) (drop (at + 1) bytes)
+    → lex Gap at (drop at bytes) ≡ lex (InBare at (slice_range bytes at (at + 1))) (at + 1)
+    (drop (at + 1) bytes)
 bare_open bytes at h s =
     let one : slice_range bytes at (at + 1) ≡ get_or bytes at 0 ∷ [] =
     range_more bytes at at (omega arith) h
@@ -89,19 +87,21 @@ bare_open bytes at h s =
 
 pub bare_more : (bytes : List ℕ) (start at : ℕ) → start < at → at < length bytes
     → is_bare (get_or bytes at 0) ≡ true
-    → lex (InBare start (slice_range bytes start at)) at (drop at bytes)
-    ≡ lex (InBare start (slice_range bytes start (at + 1))) (at + 1) (drop (at + 1) bytes)
-bare_more bytes start at lt h s = lex_more (InBare start (slice_range bytes start at)) bytes at h
+    → lex (InBare start (slice_range bytes start at)) at (drop at bytes) ≡ lex
+    (InBare start (slice_range bytes start (at + 1))) (at + 1) (drop (at + 1) bytes)
+bare_more bytes start at lt h s =
+    lex_more (InBare start (slice_range bytes start at)) bytes at h
     ∙ rw (s, range_more bytes start at (omega arith) h) refl
 
 pub bare_close : (bytes text : List ℕ) (start at : ℕ)
     → (at < length bytes → is_bare (get_or bytes at 0) ≡ false) → at ≤ length bytes
-    → lex (InBare start text) at (drop at bytes)
-    ≡ lexeme start at (Bare text) ∷ lex Gap at (drop at bytes)
+    → lex (InBare start text) at (drop at bytes) ≡ lexeme start at (Bare text) ∷ lex Gap at
+    (drop at bytes)
 bare_close bytes text start at s h =
     elim (cases_lt at (length bytes)) [
-      | inl lt ↦ lex_more (InBare start text) bytes at lt ∙ rw (s lt) refl ∙ ap
-          (λ (x : List Lexeme). lexeme start at (Bare text) ∷ x) (sym (lex_more Gap bytes at lt))
+      | inl lt ↦ lex_more (InBare start text) bytes at lt ∙ rw (s lt) refl
+          ∙ ap (λ (x : List Lexeme). lexeme start at (Bare text) ∷ x)
+          (sym (lex_more Gap bytes at lt))
       | inr le ↦ lex_all (InBare start text) bytes at le
           ∙ ap (λ (x : List Lexeme). lexeme start at (Bare text) ∷ x)
           (sym (lex_all Gap bytes at le))
@@ -115,8 +115,8 @@ pub record IsOpen (bytes : List ℕ) (start at : ℕ) : Type 0 where
   pub same : lex Gap start (drop start bytes)
       ≡ lex (InText start (get_or bytes (at - 1) 0) (slice_range bytes (start + 1) at)) at
       (drop at bytes)
-  pub spelled : (more : List ℕ) → is_spelling (slice_range bytes (start + 1) at ++ more)
-      ≡ is_spelling_after (get_or bytes (at - 1) 0) more
+  pub spelled : (more : List ℕ) → is_spelling
+      (slice_range bytes (start + 1) at ++ more) ≡ is_spelling_after (get_or bytes (at - 1) 0) more
 
 pub opens : (bytes : List ℕ) (start : ℕ) → start < length bytes → get_or bytes start 0 ≡ 34
     → IsOpen bytes start (start + 1)
@@ -152,8 +152,9 @@ stays_open bytes start at h quote o =
     record {
       begins = omega (arith, o.begins);
       same = o.same ∙ lex_more (InText start before text) bytes at h ∙ rw (s, k, more_text) refl;
-      spelled = λ more. rw (k, more_text) (ap is_spelling (append_assoc text (b ∷ []) more)
-          ∙ o.spelled (b ∷ more)
+      spelled =
+          λ more. rw (k, more_text)
+          (ap is_spelling (append_assoc text (b ∷ []) more) ∙ o.spelled (b ∷ more)
           ∙ goes_on b before more s);
     }
 
@@ -166,15 +167,16 @@ closes bytes start at h s other o =
       begins = o.begins;
       within = h;
       spelled = ap is_spelling (sym (append-nil text)) ∙ o.spelled [] ∙ rw e refl;
-      found = o.same
-          ∙ lex_more (InText start (get_or bytes (at - 1) 0) text) bytes at h
+      found =
+          o.same ∙ lex_more (InText start (get_or bytes (at - 1) 0) text) bytes at h
           ∙ rw (s, e) refl;
     }
 
 pub breaks : (bytes : List ℕ) (start at : ℕ) → length bytes ≤ at → IsOpen bytes start at
     → lex Gap start (drop start bytes) ≡ lexeme start (start + 1) Broken ∷ []
-breaks bytes start at h o = o.same
-    ∙ lex_all (InText start (get_or bytes (at - 1) 0) (slice_range bytes (start + 1) at)) bytes at h
+breaks bytes start at h o =
+    o.same ∙ lex_all (InText start (get_or bytes (at - 1) 0)
+    (slice_range bytes (start + 1) at)) bytes at h
 
 -- ---- what each loop and call uses
 

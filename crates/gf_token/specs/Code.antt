@@ -1,13 +1,7 @@
 -- The numbers of the refusals.
 use Rattle.std.specs.Prelude.{ℕ}
 use Rattle.gf_token.specs.declared.fault.Why.{Why}
-use Rattle.gf_token.specs.declared.fault.Why.TheVariants.{TooLong, Unterminated, Expected}
-use Rattle.gf_token.specs.declared.fault.Why.TheVariants.{NotANumber, ZeroDenominator}
-use Rattle.gf_token.specs.declared.fault.Why.TheVariants.{NumberTooLarge, BadIndex, UnknownPlayer}
-use Rattle.gf_token.specs.declared.fault.Why.TheVariants.{NotDescribed, Mismatch}
-use Rattle.gf_token.specs.declared.fault.Why.TheVariants.{NegativeProbability, SumAboveOne}
-use Rattle.gf_token.specs.declared.fault.Why.TheVariants.{SumBelowOne, SumOverflow, NoEntry}
-use Rattle.gf_token.specs.declared.fault.Why.TheVariants.{UnknownOutcome, TooManyProfiles, Memory}
+use Rattle.gf_token.specs.declared.fault.Why.TheVariants as why
 
 -- the number of a refusal; 17 is none's
 abbrev pub code_of : Why → ℕ

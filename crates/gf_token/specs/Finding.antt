@@ -1,6 +1,6 @@
 -- What the parts of `Cursor::next` find. No public contract cites this file.
-use Rattle.std.specs.Prelude.{◌≡◌, ℕ, ◌+◌, ◌<◌, ◌≤◌, true, false, List, [], ◌∷◌}
-use Rattle.std.specs.Prelude.{length, drop, get_or, slice_range, Result, Ok, Err}
+use Rattle.std.specs.Prelude.{◌≡◌, ℕ, ◌+◌, ◌<◌, ◌≤◌, true, false, List, [], ◌∷◌, length, drop}
+use Rattle.std.specs.Prelude.{get_or, slice_range, Result, Ok, Err}
 use Rattle.gf_token.specs.Byte.{is_space}
 use Rattle.gf_token.specs.LabelSpelling.{is_spelling}
 use Rattle.gf_token.specs.Token.{Lexeme, lexeme}

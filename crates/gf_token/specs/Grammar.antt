@@ -9,8 +9,9 @@ use Rattle.gf_token.specs.Token.Token.{Opening, Closing, Comma, Text, Bare}
 -- tokens that stand one group behind the other, a group for each of these values
 abbrev pub Each : {A : Type 0} → (List Token → A → Type 0) → List Token → List A → Type 0
 Each P tokens [] = tokens ≡ []
-Each P tokens (x ∷ xs) = (first : List Token) × (others : List Token) × (tokens ≡ first ++ others)
-    × P first x × Each P others xs
+Each P tokens (x ∷ xs) =
+    (first : List Token) × (others : List Token) × (tokens ≡ first ++ others) × P first x
+    × Each P others xs
 
 -- Opening tokens Closing
 abbrev pub braced : List Token → List Token

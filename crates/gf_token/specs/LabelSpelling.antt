@@ -1,8 +1,7 @@
 -- How a label is spelled between its quotes.
 use Rattle.std.specs.Prelude.{◌≡◌, ℕ, Bool, ◌&&◌, ◌||◌, not, List, [], ◌∷◌, ◌++◌, true, ◌==◌}
 
--- behind the byte `before`, each `"` directly follows a backslash, and the last byte is no
--- backslash
+-- behind the byte `before`, each `"` directly follows a backslash, and the last byte is none
 abbrev pub is_spelling_after : ℕ → List ℕ → Bool
 is_spelling_after before [] = not (before == 92)
 is_spelling_after before (b ∷ bytes) = (not (b == 34) || before == 92) && is_spelling_after b bytes

@@ -2,8 +2,7 @@
 use Rattle.gf_fraction.specs.declared.fraction.NumberFault.{NumberFault}
 use Rattle.gf_fraction.specs.declared.fraction.NumberFault.TheVariants as fault
 use Rattle.gf_token.specs.declared.fault.Why.{Why}
-use Rattle.gf_token.specs.declared.fault.Why.TheVariants.{NotANumber, ZeroDenominator}
-use Rattle.gf_token.specs.declared.fault.Why.TheVariants.{NumberTooLarge}
+use Rattle.gf_token.specs.declared.fault.Why.TheVariants as why
 
 -- the refusal of a text that spells no number
 abbrev pub why_of : NumberFault → Why

@@ -5,5 +5,6 @@ use Rattle.gf_token.specs.declared.byte.TheConstants.{CLASSES}
 use Rattle.gf_token.proofs.byte.is_space.Goals as goal
 
 pub returns : goal.returns
-returns c = agree_below_at (λ b. nat_eq (get_or CLASSES b 0) 115) is_space 256 c.args.byte refl
+returns c =
+    agree_below_at (λ b. nat_eq (get_or CLASSES b 0) 115) is_space 256 c.args.byte refl
     (omega arith)

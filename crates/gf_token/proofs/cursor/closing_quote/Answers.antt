@@ -1,13 +1,16 @@
 use Rattle.std.proofs.Common.{◌≡◌, ◌-◌, get_or, arith}
 use Rattle.gf_token.proofs.Steps.{stays_open, closes}
-use Rattle.gf_token.proofs.cursor.closing_quote.Goals.{else-input-at-eq34-via-then-input-at-eq34+else-input-at-ne92}
+use Rattle.gf_token.proofs.cursor.closing_quote.Goals.{}
+use Rattle.gf_token.proofs.cursor.closing_quote.Goals.{
+  else-input-at-eq34-via-then-input-at-eq34+else-input-at-ne92,
+}
 use Rattle.gf_token.proofs.cursor.closing_quote.Goals.{else-input-at-eq34-via-else-input-at-eq34}
 use Rattle.gf_token.proofs.cursor.closing_quote.Goals as goal
 
 pub returns-then-input-at-ne92 : goal.returns-then-input-at-ne92
 returns-then-input-at-ne92 c =
-    closes c.args.input.now c.args.start c.loop-at.at (omega arith) c.if-input-at-eq34.true
-    c.if-input-at-ne92.true c.loop-at.invariant.open_text
+    closes c.args.input.now c.args.start c.loop-at.at
+    (omega arith) c.if-input-at-eq34.true c.if-input-at-ne92.true c.loop-at.invariant.open_text
 
 pub loop-at-preserved : goal.loop-at-preserved
 loop-at-preserved c =
@@ -19,8 +22,6 @@ loop-at-preserved c =
           λ _. w.if-input-at-ne92.false
       | else-input-at-eq34-via-else-input-at-eq34 w ↦ λ e. absurd (w.if-input-at-eq34.false e)
     ] in
-    record {
-      within = omega arith;
-      open_text =
-          stays_open bytes c.args.start at (omega arith) escaped c.loop-at.invariant.open_text;
-    }
+    let before = c.loop-at.invariant.open_text in
+    let open_text = stays_open bytes c.args.start at (omega arith) escaped before in
+    record { within = omega arith; open_text = open_text }

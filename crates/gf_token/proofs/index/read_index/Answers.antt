@@ -1,5 +1,5 @@
-use Rattle.std.proofs.Common.{◌≡◌, ℕ, ◌+◌, ◌*◌, ◌<◌, ◌≤◌, ◌^◌, ◌∙◌, ap}
-use Rattle.std.proofs.Common.{subst, inl, inr, length, get_or, arith, lit<}
+use Rattle.std.proofs.Common.{◌≡◌, ℕ, ◌+◌, ◌*◌, ◌<◌, ◌≤◌, ◌^◌, ◌∙◌, ap, subst, inl, inr, length}
+use Rattle.std.proofs.Common.{get_or, arith, lit<}
 use Rattle.std.specs.Char.{digit_value}
 use Rattle.std.proofs.Math.Nat.{pow-le-pow_right}
 use Rattle.std.proofs.lemmas.Bool.{cases_lt}
@@ -39,8 +39,13 @@ overflow_add-value c =
     let digits = length c.args.text.now in
     let room =
     has_room l.byte-index digits l.value (omega arith) l.invariant.short l.invariant.long in
-    omega
-    (arith, room, c.in-Some.ensures.value.0, c.in-Some.ensures.value.1, c.from-in-loop-byte.ensures)
+    omega (
+      arith,
+      room,
+      c.in-Some.ensures.value.0,
+      c.in-Some.ensures.value.1,
+      c.from-in-loop-byte.ensures,
+    )
 
 pub loop-byte-preserved : goal.loop-byte-preserved
 loop-byte-preserved c =
@@ -64,8 +69,15 @@ loop-byte-preserved c =
       | else-is_long w ↦ record {
         digits = digits;
         value = omega (arith, more, value, w.value-is, l.invariant.value);
-        short = λ short.
-            omega (arith, digit, value, w.value-is, l.invariant.short short, pow_more 10 i);
+        short =
+            λ short. omega (
+              arith,
+              digit,
+              value,
+              w.value-is,
+              l.invariant.short short,
+              pow_more 10 i,
+            );
         long = λ long. absurd (omega (arith, w.if-is_long.false));
       }
     ]
