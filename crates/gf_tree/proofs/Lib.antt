@@ -18,6 +18,8 @@ pub mod SpelledGames
 pub mod TreesOnce
 pub mod Uses
 pub mod Worked
+mod WorkedCodes
+mod WorkedFronts
 pub mod WorkedGames
 pub mod WorkedLotteries
 pub mod WorkedNone

@@ -133,7 +133,7 @@ steps_once letter letter' (Some u) (Some v) first first' rest rest' l h k n m e 
 no_text : (bytes : List ℕ) (tokens rest : List Token) → tokens ≡ Bare bytes ∷ rest → NoText tokens
 no_text bytes tokens rest e l others f = let whole = sym e ∙ f in cc
 
-results_no_text : (players : ℕ) (x : Option (Use ℕ Outcome)) (tokens rest : List Token)
+pub results_no_text : (players : ℕ) (x : Option (Use ℕ Outcome)) (tokens rest : List Token)
     → IsResult players tokens x → NoText (tokens ++ rest)
 results_no_text players None tokens rest h =
     no_text h.0 (tokens ++ rest) rest (ap (λ (ts : List Token). ts ++ rest) h.1)
