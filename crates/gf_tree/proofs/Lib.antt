@@ -24,6 +24,7 @@ pub mod WorkedGames
 pub mod WorkedLotteries
 pub mod WorkedNone
 pub mod WorkedPlaces
+pub mod WorkedProbabilities
 pub mod WorkedReasons
 pub mod WrittenGames
 pub mod WrittenNodes

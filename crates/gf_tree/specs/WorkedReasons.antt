@@ -1,4 +1,5 @@
--- Worked files that are refused: where, and which code applies there.
+-- Fronts of files that are refused: where, and which code applies there. WorkedTrees has whole
+-- files.
 use Rattle.std.specs.Prelude.{ℕ, List, ◌++◌, codes, length}
 use Rattle.gf_token.specs.Token.{Token, Lexeme}
 use Rattle.gf_token.specs.TokenSpelling.{Spells}
@@ -34,22 +35,22 @@ abbrev pub lottery : List ℕ → List ℕ
 lottery more = codes "EFG 2 R \"c\" { } c \"\" 1 \"n\" { \"a\" " ++ more
 
 -- two of them make 6/5
-abbrev pub above_one_file : List ℕ
-above_one_file = lottery (codes "0.6 \"b\" 0.6 } 0")
+abbrev pub above_one_front : List ℕ
+above_one_front = lottery (codes "0.6 \"b\" 0.6 } 0")
 
 -- three thirds to six places make 999,999/1,000,000
-abbrev pub below_one_file : List ℕ
-below_one_file = lottery (codes "0.333333 \"b\" 0.333333 \"d\" 0.333333 } 0")
+abbrev pub below_one_front : List ℕ
+below_one_front = lottery (codes "0.333333 \"b\" 0.333333 \"d\" 0.333333 } 0")
 
-abbrev pub negative_file : List ℕ
-negative_file = lottery (codes "-1/2 \"b\" 3/2 } 0")
+abbrev pub negative_front : List ℕ
+negative_front = lottery (codes "-1/2 \"b\" 3/2 } 0")
 
 -- with M = 2^127 - 1, the common denominator of 1/M and 1/2 is 2M
-abbrev pub overflowing_file : List ℕ
-overflowing_file = lottery (codes "1/170141183460469231731687303715884105727 \"b\" 1/2 } 0")
+abbrev pub overflowing_front : List ℕ
+overflowing_front = lottery (codes "1/170141183460469231731687303715884105727 \"b\" 1/2 } 0")
 
-abbrev pub no_number_file : List ℕ
-no_number_file = lottery (codes "x } 0")
+abbrev pub no_number_front : List ℕ
+no_number_front = lottery (codes "x } 0")
 
 -- ---- what differs from a first description
 
@@ -60,28 +61,22 @@ repeated more =
     "EFG 2 R \"m\" { \"A\" } p \"\" 1 1 \"i\" { \"L\" \"R\" } 0 t \"\" 0 p \"\" 1 1 \"i\" { \"L\" "
     ++ more
 
-abbrev pub other_action_file : List ℕ
-other_action_file = repeated (codes "\"X\" } 0")
+abbrev pub other_action_front : List ℕ
+other_action_front = repeated (codes "\"X\" } 0")
 
-abbrev pub action_missing_file : List ℕ
-action_missing_file = repeated (codes "} 0")
+abbrev pub action_missing_front : List ℕ
+action_missing_front = repeated (codes "} 0")
 
-abbrev pub action_too_many_file : List ℕ
-action_too_many_file = repeated (codes "\"R\" \"S\" } 0")
-
--- ---- first uses and unknown players
-
-abbrev pub undescribed_outcome_file : List ℕ
-undescribed_outcome_file = codes "EFG 2 R \"\" { } t \"\" 5"
-
--- a player moves where there are none
-abbrev pub no_players_file : List ℕ
-no_players_file = codes "EFG 2 R \"\" { } p \"\" 1 1 \"i\" { \"L\" } 0 t \"\" 0"
+abbrev pub action_too_many_front : List ℕ
+action_too_many_front = repeated (codes "\"R\" \"S\" } 0")
 
 -- ---- indices and empty lists
 
-abbrev pub set_zero_file : List ℕ
-set_zero_file = codes "EFG 2 R \"m\" { \"A\" } p \"\" 1 0 \"i\" { \"L\" } 0 t \"\" 0"
+abbrev pub set_zero_front : List ℕ
+set_zero_front = codes "EFG 2 R \"m\" { \"A\" } p \"\" 1 0 \"i\" { \"L\" } 0 t \"\" 0"
 
-abbrev pub no_action_file : List ℕ
-no_action_file = codes "EFG 2 R \"m\" { \"A\" } p \"\" 1 1 \"i\" { } 0"
+abbrev pub no_action_front : List ℕ
+no_action_front = codes "EFG 2 R \"m\" { \"A\" } p \"\" 1 1 \"i\" { } 0"
+
+abbrev pub no_lottery_front : List ℕ
+no_lottery_front = codes "EFG 2 R \"m\" { \"A\" } c \"\" 1 \"n\" { } 0"

@@ -3,11 +3,11 @@
 ghost use Rattle.std.specs.Prelude.{◌≡◌, ◌↔◌, Bool, Decides, List, [], ◌∷◌, ℕ, map, nat_eq};
 ghost use Rattle.std.specs.List.{AllByRecursion};
 ghost use Rattle.gf_token.specs.Token.{Token};
-ghost use Rattle.gf_token.specs.declared.fault.Why.TheVariants.{NotANumber, BadIndex};
-ghost use Rattle.gf_token.specs.declared.fault.Why.TheVariants.{UnknownPlayer};
-ghost use Rattle.gf_token.specs.declared.fault.Why.TheVariants.{NotDescribed, Mismatch};
-ghost use Rattle.gf_token.specs.declared.fault.Why.TheVariants.{NegativeProbability, SumAboveOne};
-ghost use Rattle.gf_token.specs.declared.fault.Why.TheVariants.{SumBelowOne, SumOverflow, NoEntry};
+ghost use Rattle.gf_token.specs.declared.fault.Why.TheVariants.{BadIndex, Mismatch};
+ghost use Rattle.gf_token.specs.declared.fault.Why.TheVariants.{NegativeProbability, NoEntry};
+ghost use Rattle.gf_token.specs.declared.fault.Why.TheVariants.{NotANumber, NotDescribed};
+ghost use Rattle.gf_token.specs.declared.fault.Why.TheVariants.{SumAboveOne, SumBelowOne};
+ghost use Rattle.gf_token.specs.declared.fault.Why.TheVariants.{SumOverflow, UnknownPlayer};
 ghost use Rattle.gf_tree.specs.Tree.{Tree};
 ghost use Rattle.gf_tree.specs.Tree.Trees.{none, more};
 ghost use Rattle.gf_tree.specs.PrefixOrder.{Entry, Fills, flatten};
@@ -21,6 +21,11 @@ ghost use Rattle.gf_tree.specs.FirstUse.{first_use_numbers, outcome_numbers, pla
 ghost use Rattle.gf_tree.specs.Renumbering.{IsRenumbering, Renumbering, renumbered};
 ghost use Rattle.gf_tree.specs.Spellable.{IsSpellable};
 ghost use Rattle.gf_tree.specs.Learned.{Learns, LearnsGame};
+ghost use Rattle.gf_tree.specs.WorkedReasons.{HoldsAt, IsReasonAt, above_one_front};
+ghost use Rattle.gf_tree.specs.WorkedReasons.{below_one_front, negative_front, overflowing_front};
+ghost use Rattle.gf_tree.specs.WorkedReasons.{no_number_front, other_action_front};
+ghost use Rattle.gf_tree.specs.WorkedReasons.{action_missing_front, action_too_many_front};
+ghost use Rattle.gf_tree.specs.WorkedReasons.{set_zero_front, no_action_front, no_lottery_front};
 ghost use Rattle.gf_tree.specs.WorkedTrees.{five, five_file, bonus, bonus_file, forgetful};
 ghost use Rattle.gf_tree.specs.WorkedTrees.{forgetful_file, noted, noted_file, undescribed_file};
 ghost use Rattle.gf_tree.specs.WorkedTrees.{mismatched_file, unknown_player_file, too_likely_file};
@@ -135,24 +140,25 @@ pub fn worked_refusals()
     ensures nobody { (g : Game) → ¬ (SpellsGame nobody_file g) }
 {}
 
-/// Worked files, each with a code that applies at a place of it: a probability that is no number; a
-/// set numbered 0; the second of one player, and a player where there are none; a set and an
-/// outcome without a description; a set described again with another action, without its last one,
-/// and with one too many; a negative probability, probabilities that add to more than one, to less,
-/// and to what does not fit; and a set without actions.
+/// Worked files, and fronts of files, each with a code that applies at a place of it: a probability
+/// that is no number; a set numbered 0; the second of one player, and a player where there are
+/// none; a set and an outcome without a description; a set described again with another action,
+/// without its last one, and with one too many; a negative probability, probabilities that add to
+/// more than one, to less, and to what does not fit; and a set without actions.
 pub fn worked_reasons()
-    ensures not_a_number { HoldsAt NotANumber no_number_file 33 34 }
-    ensures set_zero { HoldsAt BadIndex set_zero_file 27 28 }
-    ensures second_of_one { HoldsAt UnknownPlayer unknown_player_file 25 26 }
-    ensures no_players { HoldsAt UnknownPlayer no_players_file 15 16 }
-    ensures undescribed_set { HoldsAt NotDescribed undescribed_file 29 30 }
-    ensures undescribed_outcome { HoldsAt NotDescribed undescribed_outcome_file 21 21 }
-    ensures other_action { HoldsAt Mismatch other_action_file 73 76 }
-    ensures action_missing { HoldsAt Mismatch action_missing_file 73 74 }
-    ensures action_too_many { HoldsAt Mismatch action_too_many_file 77 80 }
-    ensures negative { HoldsAt NegativeProbability negative_file 33 37 }
-    ensures above_one { HoldsAt SumAboveOne above_one_file 41 44 }
-    ensures below_one { HoldsAt SumBelowOne below_one_file 68 69 }
-    ensures overflowing { HoldsAt SumOverflow overflowing_file 79 82 }
-    ensures no_action { HoldsAt NoEntry no_action_file 35 36 }
+    ensures not_a_number { IsReasonAt NotANumber no_number_front 33 34 }
+    ensures set_zero { IsReasonAt BadIndex set_zero_front 27 28 }
+    ensures second_of_one { IsReasonAt UnknownPlayer unknown_player_file 25 26 }
+    ensures no_players { IsReasonAt UnknownPlayer nobody_file 15 16 }
+    ensures undescribed_set { IsReasonAt NotDescribed undescribed_file 29 30 }
+    ensures undescribed_outcome { IsReasonAt NotDescribed unpaid_file 21 21 }
+    ensures other_action { IsReasonAt Mismatch other_action_front 73 76 }
+    ensures action_missing { IsReasonAt Mismatch action_missing_front 73 74 }
+    ensures action_too_many { IsReasonAt Mismatch action_too_many_front 77 80 }
+    ensures negative { IsReasonAt NegativeProbability negative_front 33 37 }
+    ensures above_one { IsReasonAt SumAboveOne above_one_front 41 44 }
+    ensures below_one { IsReasonAt SumBelowOne below_one_front 68 69 }
+    ensures overflowing { HoldsAt SumOverflow overflowing_front 79 82 }
+    ensures no_lottery { IsReasonAt NoEntry no_lottery_front 33 34 }
+    ensures no_action { HoldsAt NoEntry no_action_front 35 36 }
 {}
