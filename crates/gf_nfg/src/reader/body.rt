@@ -1,7 +1,7 @@
 //! The body of a strategic file: the payoffs at each profile, or outcomes and the number of one at
 //! each profile.
 
-ghost use Rattle.std.specs.Prelude.{◌<◌};
+ghost use Rattle.std.specs.Prelude.{◌≡◌, ◌<◌, min};
 ghost use Rattle.gf_token.specs.Cursor.{token_of};
 ghost use Rattle.gf_nfg.specs.Machine.{Steps, at_payoff, at_flat_payoffs, at_after_comment};
 ghost use Rattle.gf_nfg.specs.Machine.{at_after_strategies, at_outcomes, at_outcome_name};
@@ -44,7 +44,9 @@ impl<'a> Reader<'a> {
     }
 
     /// How many of the numbers that are due the input has room for.
-    fn expected(&self) -> usize {
+    fn expected(&self) -> usize
+        ensures { result ≡ min self.now.due self.now.room }
+    {
         if self.due < self.room as u128 {
             self.due as usize
         } else {
