@@ -43,9 +43,6 @@ pub record AreMade (row : ℕ → List Ratio) (text ends : List ℕ) (number : �
   pub rises : RisesTo (length text) 0 ends
   pub lines : pieces 0 ends text ≡ map (λ n. line_text (row n)) (numbers_from 0 number)
 
-pub none_made : (row : ℕ → List Ratio) → AreMade row [] [] 0
-none_made row = record { rises = refl; lines = refl }
-
 -- the line of one row more
 line_more : (row : ℕ → List Ratio) (text ends : List ℕ) (number : ℕ) → AreMade row text ends number
     → AreMade row (text ++ line_text (row number))

@@ -132,7 +132,7 @@ fn write_shared(shared: Shared<'_>, out: &mut Vec<u8>) -> Result<(), AllocError>
 {
     let lines = Lines::of_rows(*out.allocator(), shared)?;
     let len = lines.len_of(shared.numbers).ok_or(AllocError)?;
-    out.reserve(len)?;
+    out.reserve_exact(len)?;
     lines.append(shared.numbers, out);
     Ok(())
 }

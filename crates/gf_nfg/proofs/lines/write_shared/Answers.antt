@@ -28,4 +28,4 @@ returns-clause-text c =
     let chosen =
     ap (λ (ls : List (List ℕ)). lines_with ls s.numbers.now) c.in_ok-lines.ensures
     ∙ lines_chosen row s.rows s.numbers.now c.requires.below in
-    c.append.ensures ∙ (λ i. c.in_ok-reserve.ensures.items i ++ chosen i)
+    c.append.ensures ∙ (λ i. c.in_ok-reserve_exact.ensures.items i ++ chosen i)
