@@ -1,8 +1,9 @@
 -- What holds of the bytes of each request may be said more weakly.
 use Rattle.std.proofs.Common.{ℕ, List, Result, zero, suc, inl, inr}
 use Rattle.std.specs.declared.io.Error.{Error}
+use Rattle.std.specs.declared.io.ErrorKind.{ErrorKind}
 use Rattle.gamefile.specs.Output.{Stops}
-use Rattle.gamefile.specs.Turns.{GivesUp, Interruptions, IsFailed, IsInterrupted, Moves}
+use Rattle.gamefile.specs.Turns.{GivesUp, Interruptions, IsError, Moves}
 
 -- where P holds, Q does
 abbrev IsWeaker : (List ℕ → Type 0) → (List ℕ → Type 0) → Type 0
@@ -10,19 +11,9 @@ IsWeaker P Q = (bytes : List ℕ) → P bytes → Q bytes
 
 -- of a reader or a writer: what a request gives
 module _ {S : Type 0} (gives : S → List ℕ → Result ℕ Error → S → Type 0) where
-  IsInterrupted-weaker : (P Q : List ℕ → Type 0) → IsWeaker P Q → (old new : S)
-      → IsInterrupted gives P old new → IsInterrupted gives Q old new
-  IsInterrupted-weaker P Q weaker old new h = record {
-    bytes = h.bytes;
-    asked = weaker h.bytes h.asked;
-    error = h.error;
-    given = h.given;
-    kind = h.kind;
-  }
-
-  IsFailed-weaker : (P Q : List ℕ → Type 0) → IsWeaker P Q → (old new : S)
-      → IsFailed gives P old new → IsFailed gives Q old new
-  IsFailed-weaker P Q weaker old new h = record {
+  IsError-weaker : (P Q : List ℕ → Type 0) → IsWeaker P Q → (Kind : ErrorKind → Type 0)
+      → (old new : S) → IsError gives P Kind old new → IsError gives Q Kind old new
+  IsError-weaker P Q weaker Kind old new h = record {
     bytes = h.bytes;
     asked = weaker h.bytes h.asked;
     error = h.error;
@@ -36,7 +27,7 @@ module _ {S : Type 0} (gives : S → List ℕ → Result ℕ Error → S → Typ
   Interruptions-weaker P Q weaker zero old new h = h
   Interruptions-weaker P Q weaker (suc n) old new h =
       let before = Interruptions-weaker P Q weaker n old h.0 h.1 in
-      (h.0, before, IsInterrupted-weaker P Q weaker h.0 new h.2)
+      (h.0, before, IsError-weaker P Q weaker _ h.0 new h.2)
 
   pub Moves-weaker : (P Q : List ℕ → Type 0) → IsWeaker P Q
       → (bytes : List ℕ) (n : ℕ) (old new : S)
@@ -60,7 +51,7 @@ module _ {S : Type 0} (gives : S → List ℕ → Result ℕ Error → S → Typ
     interruptions = h.interruptions;
     fewer = h.fewer;
     before = Interruptions-weaker P Q weaker h.interruptions old h.mid h.before;
-    last = IsFailed-weaker P Q weaker h.mid new h.last;
+    last = IsError-weaker P Q weaker _ h.mid new h.last;
   })
   GivesUp-weaker P Q weaker old new (inr h) = inr (Interruptions-weaker P Q weaker 16 old new h)
 

@@ -3,27 +3,28 @@ use Rattle.std.specs.Prelude.{◌≡◌, ◌≢◌, ℕ, ◌<◌, ◌≤◌, ◌
 use Rattle.std.specs.Prelude.{Result, Ok, Err}
 use Rattle.std.specs.IoError.{error_kind}
 use Rattle.std.specs.declared.io.Error.{Error}
+use Rattle.std.specs.declared.io.ErrorKind.{ErrorKind}
 use Rattle.std.specs.declared.io.ErrorKind.TheVariants.{Interrupted}
 
 -- `gives old bytes answer new` holds where a request with these bytes may be answered so at `old`,
 -- and leads to `new`. The bytes of a pull are its buffer as the pull leaves it, and those of a push
 -- are what it offers.
 module _ {S : Type 0} (gives : S → List ℕ → Result ℕ Error → S → Type 0) where
-  -- a request was interrupted, and P held of its bytes
-  pub record IsInterrupted (P : List ℕ → Type 0) (old new : S) : Type 0 where
+  -- a request was answered with such an error, and P held of its bytes
+  pub record IsError (P : List ℕ → Type 0) (Kind : ErrorKind → Type 0) (old new : S) : Type 0 where
     pub bytes : List ℕ
     pub asked : P bytes
     pub error : Error
     pub given : gives old bytes (Err error) new
-    pub kind : error_kind error ≡ Interrupted
+    pub kind : Kind (error_kind error)
+
+  -- a request was interrupted
+  abbrev pub IsInterrupted : (List ℕ → Type 0) → S → S → Type 0
+  IsInterrupted P = IsError P (λ kind. kind ≡ Interrupted)
 
   -- a request failed, and not by an interruption
-  pub record IsFailed (P : List ℕ → Type 0) (old new : S) : Type 0 where
-    pub bytes : List ℕ
-    pub asked : P bytes
-    pub error : Error
-    pub given : gives old bytes (Err error) new
-    pub kind : error_kind error ≢ Interrupted
+  abbrev pub IsFailed : (List ℕ → Type 0) → S → S → Type 0
+  IsFailed P = IsError P (λ kind. kind ≢ Interrupted)
 
   -- n requests in a row were interrupted
   unfoldable pub Interruptions : (List ℕ → Type 0) → ℕ → S → S → Type 0

@@ -1,6 +1,6 @@
 //! What the program does: each run reads its inputs whole, makes its output, and writes it.
 
-ghost use Rattle.std.specs.Prelude.{◌≡◌, ◌≢◌, IfOk, IfErr, OnOk};
+ghost use Rattle.std.specs.Prelude.{◌≡◌, ◌≢◌, IfErr, OnOk};
 ghost use Rattle.gamefile.specs.CanonicalText.{IsCanonicalText, IsRefusedWith};
 ghost use Rattle.gamefile.specs.Input.{IsReadWhole};
 ghost use Rattle.gamefile.specs.Output.{IsWriteFault, IsWritten};

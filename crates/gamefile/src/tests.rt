@@ -10,7 +10,7 @@ use gf_token::{Fault, Span, What, Why};
 use script::{
     ALL, INTERRUPTED, ScriptReader, ScriptWriter, Spaces, Step, interrupted_steps, steps,
 };
-use std::alloc::{AllocError, Global};
+use std::alloc::Global;
 use std::io::ErrorKind;
 use std::test::Fail;
 

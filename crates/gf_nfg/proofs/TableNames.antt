@@ -250,15 +250,16 @@ pub own_from : (labels : List (List ℕ)) (ends : List ℕ)
     → at < length names.players → items ≡ ends → first ≡ 2 + length ends
     → start ≡ start_of first items at → end ≡ get_or items at 0
     → IsOwn labels ends names at start end
-own_from labels ends names at start end first items rises view within same is starts stops = record {
-  rises = rises;
-  view_is = view;
-  within = omega (arith, within, length-players labels ends names rises view);
-  start_is = starts
-      ∙ ap (λ (n : ℕ). start_of n items at) is
-      ∙ ap (λ (es : List ℕ). start_of (2 + length ends) es at) same;
-  end_is = stops ∙ ap (λ (es : List ℕ). get_or es at 0) same;
-}
+own_from labels ends names at start end first items rises view within same is starts
+    stops = record {
+      rises = rises;
+      view_is = view;
+      within = omega (arith, within, length-players labels ends names rises view);
+      start_is = starts
+          ∙ ap (λ (n : ℕ). start_of n items at) is
+          ∙ ap (λ (es : List ℕ). start_of (2 + length ends) es at) same;
+      end_is = stops ∙ ap (λ (es : List ℕ). get_or es at 0) same;
+    }
 
 pub strategy_has_player : (labels : List (List ℕ)) (ends : List ℕ) (names : Names) (at strategy : ℕ)
     → RisesTo (length labels) (2 + length ends) ends → names_of labels ends ≡ names

@@ -334,15 +334,16 @@ pub made_of_parts : (t : Table) (names : Names) (title comment : List ℕ) (play
     → IsNamed names (length rs) → AllByRecursion (λ row. length row ≡ length names.players) rs
     → flat_map (λ row. row) rs ≡ given → t ≡ table_with names rs
     → IsTableOf t title comment players strategies given
-made_of_parts t names title comment players strategies rs given is named full in_turn made = record {
-  title_is = ap (λ (u : Table). u.title) made ∙ ap (λ (n : Names). n.title) is;
-  comment_is = ap (λ (u : Table). u.comment) made ∙ ap (λ (n : Names). n.comment) is;
-  players_are = ap (λ (u : Table). u.players) made ∙ ap (λ (n : Names). n.players) is;
-  strategies_are = ap (λ (u : Table). u.strategies) made ∙ ap (λ (n : Names). n.strategies) is;
-  payoffs_are =
-      ap (λ (u : Table). flat_map (λ row. row) (rows u)) made
-      ∙ ap (λ (xs : List (List Ratio)). flat_map (λ row. row) xs)
-      (rows-table_with names rs named.counted)
-      ∙ in_turn;
-  is_table = rw made (is_table names rs named full);
-}
+made_of_parts t names title comment players strategies rs given is named full in_turn
+    made = record {
+      title_is = ap (λ (u : Table). u.title) made ∙ ap (λ (n : Names). n.title) is;
+      comment_is = ap (λ (u : Table). u.comment) made ∙ ap (λ (n : Names). n.comment) is;
+      players_are = ap (λ (u : Table). u.players) made ∙ ap (λ (n : Names). n.players) is;
+      strategies_are = ap (λ (u : Table). u.strategies) made ∙ ap (λ (n : Names). n.strategies) is;
+      payoffs_are =
+          ap (λ (u : Table). flat_map (λ row. row) (rows u)) made
+          ∙ ap (λ (xs : List (List Ratio)). flat_map (λ row. row) xs)
+          (rows-table_with names rs named.counted)
+          ∙ in_turn;
+      is_table = rw made (is_table names rs named full);
+    }

@@ -1,5 +1,5 @@
 -- Worked tables, files that mean them, and their canonical texts.
-use Rattle.std.specs.Prelude.{ℕ, List, [], ◌∷◌, codes, pos}
+use Rattle.std.specs.Prelude.{ℕ, List, [], ◌∷◌, ◌++◌, codes, pos}
 use Rattle.gf_fraction.specs.Ratio.{whole}
 use Rattle.gf_nfg.specs.Table.{Entry, Table}
 
@@ -25,12 +25,17 @@ selten_by_counts =
 
 -- in outcome version, with labels, a comment, and some commas
 abbrev pub selten_by_outcomes : List ℕ
-selten_by_outcomes = codes
-    "NFG 1 D \"Selten\" { \"Player 1\" \"Player 2\" } { { \"1\" \"2\" \"3\" } { \"1\" \"2\" } } \"\" { { \"a\" 1, 1, } { \"b\" 0, 2 } { \"c\" 0 2 } { \"d\" 1 1 } { \"e\" 0 3 } { \"f\" 2 0 } } 1 2 3 4 5 6"
+selten_by_outcomes =
+    codes "NFG 1 D \"Selten\" { \"Player 1\" \"Player 2\" } "
+    ++ codes "{ { \"1\" \"2\" \"3\" } { \"1\" \"2\" } } \"\" "
+    ++ codes "{ { \"a\" 1, 1, } { \"b\" 0, 2 } { \"c\" 0 2 } { \"d\" 1 1 } { \"e\" 0 3 } "
+    ++ codes "{ \"f\" 2 0 } } 1 2 3 4 5 6"
 
 abbrev pub selten_text : List ℕ
-selten_text = codes
-    "NFG 1 R \"Selten\" { \"Player 1\" \"Player 2\" }\n{ { \"1\" \"2\" \"3\" } { \"1\" \"2\" } }\n\"\"\n\n1 1\n0 2\n0 2\n1 1\n0 3\n2 0\n"
+selten_text =
+    codes "NFG 1 R \"Selten\" { \"Player 1\" \"Player 2\" }\n"
+    ++ codes "{ { \"1\" \"2\" \"3\" } { \"1\" \"2\" } }\n\"\"\n\n"
+    ++ codes "1 1\n0 2\n0 2\n1 1\n0 3\n2 0\n"
 
 -- without players there is one profile
 abbrev pub no_players : Table
