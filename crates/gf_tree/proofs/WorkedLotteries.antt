@@ -1,16 +1,16 @@
 -- Worked files whose probabilities are none: below zero, or not adding to one.
-use Rattle.std.proofs.Common.{◌≡◌, ℕ, ◌*◌, ◌<◌, ◌^◌, ◌-◌, ◌≤ℤ◌, pos, negsuc, List, []}
+use Rattle.std.proofs.Common.{◌≡◌, ℕ, ◌^◌, ◌-◌, ◌≤ℤ◌, pos, negsuc, List, []}
 use Rattle.std.proofs.Common.{◌∷◌, map, drop, Some, refl, sym, ap, subst, ◌∙◌, arith}
 use Rattle.std.specs.Prelude.{codes}
 use Rattle.std.specs.Fmt.{digits}
 use Rattle.gf_token.specs.Lexing.{lex}
 use Rattle.gf_token.specs.Lexing.Mode.{Gap}
 use Rattle.gf_fraction.specs.Ratio.{Ratio, IsFraction, whole}
-use Rattle.gf_fraction.specs.Fits.{AddsTo, IsSum, SumFits}
+use Rattle.gf_fraction.specs.Fits.{AddsTo, SumFits}
 use Rattle.gf_fraction.specs.NumberSpelling.{IsNumber}
 use Rattle.gf_fraction.specs.Computed.{number_of, lowest_of, gcd_within, sum_of}
 use Rattle.gf_fraction.proofs.Computes.{lowest_of-fraction, sum_is_computed}
-use Rattle.gf_fraction.proofs.Lowest.{one_fraction}
+use Rattle.gf_fraction.proofs.SumsOnce.{first_sum, one_sum}
 use Rattle.gf_fraction.proofs.Numbers.{number_is}
 use Rattle.gf_fraction.proofs.WholeNumbers.{part_fraction}
 use Rattle.gf_tree.specs.Description.{InformationSet, AddToOne, IsLottery, set_of}
@@ -56,16 +56,6 @@ refuted_by x y p q h k wrong f one e outcomes ok =
     (ok.each_set (set_of 0 1) (toss_by p q) told).actions in
     wrong (subst (AddToOne (whole (pos 0))) (sym (somes_once (p ∷ q ∷ []) lottery.0 lottery.1))
     lottery.2)
-
--- a sum that fits is one fraction
-one_sum : (x y r s : Ratio) → 0 < x.den * y.den → AddsTo x y r → IsFraction s → IsSum s x y → r ≡ s
-one_sum x y r s above adds fraction is =
-    one_fraction r s _ (x.den * y.den) adds.1 fraction above adds.2 is
-
--- the first is the sum so far
-first_sum : (p r : Ratio)
-    → 0 < p.den → AddsTo (whole (pos 0)) p r → IsFraction p → IsSum p (whole (pos 0)) p → r ≡ p
-first_sum p r above adds fraction is = one_sum (whole (pos 0)) p r p (omega arith) adds fraction is
 
 -- ---- more than one
 
