@@ -13,8 +13,9 @@ use Rattle.gf_tree.specs.Tree.Trees.{none, more}
 use Rattle.gf_tree.specs.PrefixOrder.{flatten, flatten_all}
 use Rattle.gf_tree.specs.Description.{SetKey, same_set}
 use Rattle.gf_tree.specs.Game.{Node, Game, IsGame, HasChildren}
-use Rattle.gf_tree.proofs.TreesOnce.{same_set_equality}
 use Rattle.gf_tree.specs.Spellable.{IsSpellable}
+use Rattle.gf_tree.specs.FirstUse.{player_keys}
+use Rattle.gf_tree.proofs.TreesOnce.{same_set_equality}
 use Rattle.gf_tree.proofs.Uses.{Has, contains, has_map}
 use Rattle.gf_tree.proofs.Members.{map_same, in_left, in_right}
 use Rattle.gf_form.specs.Strategies.{choice_at, strategies}
@@ -26,7 +27,6 @@ use Rattle.gf_form.proofs.Lotteries.{actions_at}
 use Rattle.gf_form.proofs.Whole.{some_play_in}
 use Rattle.gf_form.proofs.Reducing.{or_left, or_right, any_has}
 use Rattle.gf_form.proofs.KnownSets.{own_set}
-use Rattle.gf_tree.specs.FirstUse.{player_keys}
 
 -- the steps go through a node of this set, and this child is taken there
 abbrev PassesBy : SetKey → List Step → Type 0

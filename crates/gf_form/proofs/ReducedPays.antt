@@ -6,22 +6,22 @@ use Rattle.std.specs.Prelude.{◌==◌, ◌||◌, ◌&&◌, not, zip, filter}
 use Rattle.std.specs.List.{Contains, list_all}
 use Rattle.std.specs.Option.{option_map_or}
 use Rattle.std.proofs.lemmas.Bool.{and_parts, and_from, eqb-true, eqb-false, eq-eqb, ne_eqb}
+use Rattle.gf_fraction.specs.Rational.{times, total}
 use Rattle.gf_nfg.specs.Profiles.{numbers_from}
 use Rattle.gf_nfg.proofs.NumbersInTurn.{length-numbers_from}
 use Rattle.gf_tree.specs.Description.{SetKey}
 use Rattle.gf_tree.specs.Game.{Game}
+use Rattle.gf_tree.specs.FirstUse.{player_keys}
 use Rattle.gf_tree.proofs.Uses.{Has, contains}
 use Rattle.gf_form.specs.Strategies.{choice_at, choices_by, players_of, strategies}
 use Rattle.gf_form.specs.Strategies.{strategies_at, strategy_at, full_profiles}
 use Rattle.gf_form.specs.Plays.{Step, Play, plays, is_chosen, follows}
 use Rattle.gf_form.specs.Payoff.{payoff, play_probability, play_payoff}
-use Rattle.gf_fraction.specs.Rational.{times, total}
 use Rattle.gf_form.specs.Reduced.{is_own_choice, reduced, reduced_by}
 use Rattle.gf_form.proofs.FormTables.{as_many}
 use Rattle.gf_form.proofs.Lookups.{strategy_before}
 use Rattle.gf_form.proofs.Chosen.{profile_strategies}
 use Rattle.gf_form.proofs.Reducing.{reduced_agree, same_answer}
-use Rattle.gf_tree.specs.FirstUse.{player_keys}
 
 -- ---- choices of all players are those of each
 

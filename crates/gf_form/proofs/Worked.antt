@@ -9,10 +9,11 @@ use Rattle.std.proofs.lemmas.Bool.{ltb-true, eqb-false}
 use Rattle.gf_fraction.specs.Ratio.{Ratio, IsFraction, whole}
 use Rattle.gf_fraction.specs.Fits.{AddsTo, MultipliesTo, SumFits}
 use Rattle.gf_fraction.specs.Computed.{lowest_of, gcd_within, sum_of}
+use Rattle.gf_fraction.specs.Rational.{IsEqual}
 use Rattle.gf_fraction.proofs.Computes.{lowest_of-fraction, sum_is_computed}
 use Rattle.gf_fraction.proofs.SumsOnce.{first_sum, one_product}
 use Rattle.gf_fraction.proofs.WholeNumbers.{whole_fraction, part_fraction}
-use Rattle.gf_fraction.specs.Rational.{IsEqual}
+use Rattle.gf_tree.specs.WorkedTrees.{bonus, forgetful, half}
 use Rattle.gf_form.specs.Strategies.{choices_by, strategies_at, full_profiles}
 use Rattle.gf_form.specs.Plays.{plays}
 use Rattle.gf_form.specs.Payoff.{payoff}
@@ -20,7 +21,6 @@ use Rattle.gf_form.specs.BottomUp.{IsValue}
 use Rattle.gf_form.specs.StrategicForm.{ArePayoffs, IsStrategicForm}
 use Rattle.gf_form.specs.Reduced.{reduced_at, reduced_by, reduced_label}
 use Rattle.gf_form.specs.Reduced.{reduced_strategies, IsReducedForm}
-use Rattle.gf_tree.specs.WorkedTrees.{bonus, forgetful, half}
 use Rattle.gf_form.specs.WorkedForms.{greatest, bonus_form, overflowing, second, unlikely, only}
 use Rattle.gf_form.specs.WorkedForms.{balancing, ending, ending_form, ending_reduced, contradicted}
 

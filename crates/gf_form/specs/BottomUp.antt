@@ -3,12 +3,12 @@ use Rattle.std.specs.Prelude.{◌≡◌, ℕ, zero, suc, ◌+◌, ◌==◌, Matc
 use Rattle.std.specs.Bool.{MatchBool}
 use Rattle.gf_fraction.specs.Ratio.{Ratio}
 use Rattle.gf_fraction.specs.Fits.{AddsTo, MultipliesTo}
+use Rattle.gf_fraction.specs.Rational.{zero_ratio}
 use Rattle.gf_tree.specs.Tree.{Tree, Trees}
 use Rattle.gf_tree.specs.Tree.Tree.{branch}
 use Rattle.gf_tree.specs.Tree.Trees.{none, more}
 use Rattle.gf_tree.specs.Description.{SetKey}
 use Rattle.gf_tree.specs.Game.{Node, Game}
-use Rattle.gf_fraction.specs.Rational.{zero_ratio}
 use Rattle.gf_form.specs.Payoff.{probability, payoff_at}
 
 -- nobody moves at the node: its payoff

@@ -3,8 +3,6 @@ use Rattle.std.proofs.Common.{◌≡◌, ℕ, ◌^◌, ◌-◌, ◌≤ℤ◌, po
 use Rattle.std.proofs.Common.{◌∷◌, map, drop, Some, refl, sym, ap, subst, ◌∙◌, arith}
 use Rattle.std.specs.Prelude.{codes}
 use Rattle.std.specs.Fmt.{digits}
-use Rattle.gf_token.specs.Lexing.{lex}
-use Rattle.gf_token.specs.Lexing.Mode.{Gap}
 use Rattle.gf_fraction.specs.Ratio.{Ratio, IsFraction, whole}
 use Rattle.gf_fraction.specs.Fits.{AddsTo, SumFits}
 use Rattle.gf_fraction.specs.NumberSpelling.{IsNumber}
@@ -13,6 +11,8 @@ use Rattle.gf_fraction.proofs.Computes.{lowest_of-fraction, sum_is_computed}
 use Rattle.gf_fraction.proofs.SumsOnce.{first_sum, one_sum}
 use Rattle.gf_fraction.proofs.Numbers.{number_is}
 use Rattle.gf_fraction.proofs.WholeNumbers.{part_fraction}
+use Rattle.gf_token.specs.Lexing.{lex}
+use Rattle.gf_token.specs.Lexing.Mode.{Gap}
 use Rattle.gf_tree.specs.Description.{InformationSet, AddToOne, IsLottery, set_of}
 use Rattle.gf_tree.specs.Consistent.{Describes}
 use Rattle.gf_tree.specs.Game.{Game}
