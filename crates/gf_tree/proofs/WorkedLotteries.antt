@@ -18,7 +18,7 @@ use Rattle.gf_tree.specs.Consistent.{Describes}
 use Rattle.gf_tree.specs.Game.{Game}
 use Rattle.gf_tree.specs.GameOf.{SpellsGame}
 use Rattle.gf_tree.specs.WorkedTrees.{half, negative_file, too_likely_file}
-use Rattle.gf_tree.specs.WorkedTrees.{unfitting_file, unlikely_file}
+use Rattle.gf_tree.specs.WorkedTrees.{unfitting_file, too_unlikely_file}
 use Rattle.gf_tree.proofs.Worked.{half_by_slash, said_lottery, no_outcome}
 use Rattle.gf_tree.proofs.Worked.{SaidNode, at_end, at_chance, file_tokens}
 use Rattle.gf_tree.proofs.WorkedNone.{IsRefuted, means_none_of_one, one_player}
@@ -127,17 +127,17 @@ quarter_by_slash : IsNumber (codes "1/4") quarter
 unfolding number_of lowest_of gcd_within
 quarter_by_slash = number_is (codes "1/4") quarter refl
 
-abbrev unlikely_said : List (SaidNode 1)
-unlikely_said = said_by (codes "1/2") (codes "1/4") half quarter half_by_slash quarter_by_slash
+abbrev too_unlikely_said : List (SaidNode 1)
+too_unlikely_said = said_by (codes "1/2") (codes "1/4") half quarter half_by_slash quarter_by_slash
 
-unlikely_lexed : map (λ l. l.token) (lex Gap 0 unlikely_file)
-    ≡ file_tokens (codes "m") one_player unlikely_said
+too_unlikely_lexed : map (λ l. l.token) (lex Gap 0 too_unlikely_file)
+    ≡ file_tokens (codes "m") one_player too_unlikely_said
 unfolding lex digits
-unlikely_lexed = refl
+too_unlikely_lexed = refl
 
-pub unlikely_is_none : (g : Game) → ¬ (SpellsGame unlikely_file g)
-unlikely_is_none =
-    means_none_of_one unlikely_file unlikely_said (2 ∷ 0 ∷ 0 ∷ []) unlikely_lexed refl
+pub too_unlikely_is_none : (g : Game) → ¬ (SpellsGame too_unlikely_file g)
+too_unlikely_is_none =
+    means_none_of_one too_unlikely_file too_unlikely_said (2 ∷ 0 ∷ 0 ∷ []) too_unlikely_lexed refl
     (refuted_by (codes "1/2") (codes "1/4") half quarter half_by_slash quarter_by_slash
     less_than_one)
 
