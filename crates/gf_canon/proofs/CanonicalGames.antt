@@ -2,29 +2,29 @@
 use Rattle.std.proofs.Common.{◌≡◌, ℕ, List, map, length, refl, sym, ap, subst, ◌∙◌}
 use Rattle.std.specs.Prelude.{nat_eq, ◌↔◌}
 use Rattle.std.proofs.lemmas.Bool.{eqb-true}
+use Rattle.std.proofs.lemmas.Bool.Decides.{Decides-eqb}
 use Rattle.gf_nfg.specs.Profiles.{positions}
 use Rattle.gf_tree.specs.Description.{SetKey, same_set, set_of}
 use Rattle.gf_tree.specs.FiniteMap.{first_uses}
 use Rattle.gf_tree.specs.Game.{Game, IsGame, used_sets, used_outcomes}
 use Rattle.gf_tree.specs.Renumbering.{Renumbering, IsRenumbering, HasSet}
 use Rattle.gf_tree.specs.Renumbering.{HasOutcome, renumbered_set, renumbered}
-use Rattle.gf_canon.specs.SameGame.{Carries, SameGame}
 use Rattle.gf_tree.specs.FirstUse.{first_use_number, sets_of, first_use_numbers}
 use Rattle.gf_tree.specs.FirstUse.{player_keys, outcome_numbers}
-use Rattle.gf_canon.specs.CanonicalGame.{canonical_game}
 use Rattle.gf_tree.proofs.Members.{filter_of_map, map_same}
 use Rattle.gf_tree.proofs.FirstUseNumbers.{number_kept}
 use Rattle.gf_tree.proofs.Carried.{carried_map}
 use Rattle.gf_tree.proofs.Renumberings.{Agree, agreed_games, composed}
 use Rattle.gf_tree.proofs.Renumberings.{composed_games, sets_apart, outcomes_apart}
-use Rattle.gf_canon.proofs.SameGames.{carried_sets, carried_outcomes, same_back, same_on}
 use Rattle.gf_tree.proofs.RenumberedGames.{set_at_image, outcome_at_image, renumbered_is_game}
 use Rattle.gf_tree.proofs.RenumberedGames.{own_set, first_use_is_renumbering}
 use Rattle.gf_tree.proofs.PlayerSets.{sets_by_first_use}
 use Rattle.gf_tree.proofs.FirstUses.{was_used, of_filter}
 use Rattle.gf_tree.proofs.TreesOnce.{same_set_equality}
 use Rattle.gf_tree.proofs.Uses.{Has, has, contains}
-use Rattle.std.proofs.lemmas.Bool.Decides.{Decides-eqb}
+use Rattle.gf_canon.specs.SameGame.{Carries, SameGame}
+use Rattle.gf_canon.specs.CanonicalGame.{canonical_game}
+use Rattle.gf_canon.proofs.SameGames.{carried_sets, carried_outcomes, same_back, same_on}
 use Rattle.gf_canon.proofs.NumbersInOrder.{numbered_in_order}
 
 -- ---- carried

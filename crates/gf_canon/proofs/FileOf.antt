@@ -23,11 +23,11 @@ use Rattle.gf_tree.proofs.FirstUses.{AreDistinct, found, is_used, was_used, firs
 use Rattle.gf_tree.proofs.TreesOnce.{same_set_equality}
 use Rattle.gf_tree.proofs.Games.{map_entry, flatten_map}
 use Rattle.gf_tree.proofs.Learning.{learned_once}
-use Rattle.gf_canon.specs.FirstDescribed.{with_those_before, use_behind, node_behind}
-use Rattle.gf_canon.specs.FirstDescribed.{file_nodes, DescribeFirstUses, IsFileOf}
 use Rattle.gf_tree.proofs.Lookups.{entry_at}
 use Rattle.gf_tree.proofs.Members.{map_same, map_twice}
 use Rattle.gf_tree.proofs.LearnedGames.{game_learned_once}
+use Rattle.gf_canon.specs.FirstDescribed.{with_those_before, use_behind, node_behind}
+use Rattle.gf_canon.specs.FirstDescribed.{file_nodes, DescribeFirstUses, IsFileOf}
 
 -- ---- uses
 

@@ -7,18 +7,18 @@ use Rattle.std.specs.Option.{option_to_list}
 use Rattle.std.specs.Fmt.{digits}
 use Rattle.std.proofs.lemmas.Grind.{flat_map-append}
 use Rattle.std.proofs.lemmas.List.{map-append, append-nil}
-use Rattle.gf_token.specs.Token.{Token}
-use Rattle.gf_token.specs.Token.Token.{Text, Bare}
 use Rattle.gf_fraction.specs.Ratio.{Ratio, IsFraction}
 use Rattle.gf_fraction.specs.NumberText.{number_text}
 use Rattle.gf_fraction.proofs.AllElements.{all_both}
-use Rattle.gf_nfg.specs.TableText.{spaced, list_text, quoted}
-use Rattle.gf_nfg.proofs.SpelledTexts.{Says, says_label, says_bare, says_spaced, says_list}
-use Rattle.gf_token.proofs.SpelledNumbers.{number_spelled, index_spelled}
-use Rattle.gf_tree.specs.Description.{Action, SetKey, InformationSet, Outcome, IsSet, IsOutcome}
-use Rattle.gf_tree.specs.FileTree.{Use, FileNode}
+use Rattle.gf_token.specs.Token.{Token}
+use Rattle.gf_token.specs.Token.Token.{Text, Bare}
 use Rattle.gf_token.specs.Grammar.{braced}
 use Rattle.gf_token.specs.LabelSpelling.{IsLabel}
+use Rattle.gf_token.proofs.SpelledNumbers.{number_spelled, index_spelled}
+use Rattle.gf_nfg.specs.TableText.{spaced, list_text, quoted}
+use Rattle.gf_nfg.proofs.SpelledTexts.{Says, says_label, says_bare, says_spaced, says_list}
+use Rattle.gf_tree.specs.Description.{Action, SetKey, InformationSet, Outcome, IsSet, IsOutcome}
+use Rattle.gf_tree.specs.FileTree.{Use, FileNode}
 use Rattle.gf_tree.specs.Spellable.{IsSpellableAction, IsSpellableSet, IsSpellableOutcome}
 use Rattle.gf_tree.proofs.WrittenNodes.{action_tokens, set_tokens, outcome_tokens, mover_letter}
 use Rattle.gf_tree.proofs.WrittenNodes.{mover_tokens, letter, step_tokens, result_tokens}

@@ -7,14 +7,14 @@ use Rattle.std.proofs.lemmas.Bool.Decides.{Decides-eqb}
 use Rattle.std.proofs.lemmas.List.{append-nil}
 use Rattle.gf_token.specs.Token.{Token}
 use Rattle.gf_token.specs.Token.Token.{Text, Bare}
+use Rattle.gf_token.specs.Grammar.{Each, braced}
+use Rattle.gf_token.specs.LabelSpelling.{IsLabel}
 use Rattle.gf_nfg.specs.TableText.{spaced, list_text, quoted}
 use Rattle.gf_nfg.proofs.SpelledTexts.{Tells, Says, says_label, says_bare}
 use Rattle.gf_nfg.proofs.SpelledTexts.{says_spaced, tells_line, tells_lines}
 use Rattle.gf_tree.specs.PrefixOrder.{Entry, flatten}
 use Rattle.gf_tree.specs.Description.{SetKey, InformationSet, Outcome, same_set, IsSet, IsOutcome}
 use Rattle.gf_tree.specs.FileTree.{FileNode, FileTree}
-use Rattle.gf_token.specs.Grammar.{Each, braced}
-use Rattle.gf_token.specs.LabelSpelling.{IsLabel}
 use Rattle.gf_tree.specs.Sentence.{IsNode, Sentence}
 use Rattle.gf_tree.specs.Game.{Node, Game, IsGame, used_sets, used_outcomes, set_at, outcome_at}
 use Rattle.gf_tree.specs.Consistent.{IsConsistent}
@@ -26,11 +26,11 @@ use Rattle.gf_tree.proofs.TreesOnce.{same_set_equality}
 use Rattle.gf_tree.proofs.WrittenNodes.{node_tokens, IsSetUse, IsOutcomeUse}
 use Rattle.gf_tree.proofs.WrittenNodes.{IsWritable, nodes_written}
 use Rattle.gf_tree.proofs.LearnedGames.{game_learned_once}
-use Rattle.gf_canon.specs.FirstDescribed.{use_behind, node_behind, file_nodes}
-use Rattle.gf_canon.specs.GameText.{node_text, game_text}
 use Rattle.gf_tree.proofs.Members.{map_twice}
 use Rattle.gf_tree.proofs.MappedTrees.{held}
 use Rattle.gf_tree.proofs.Carried.{in_keys}
+use Rattle.gf_canon.specs.FirstDescribed.{use_behind, node_behind, file_nodes}
+use Rattle.gf_canon.specs.GameText.{node_text, game_text}
 use Rattle.gf_canon.proofs.FileOf.{file_of, entries_behind, file_entries, file_nodes_are}
 use Rattle.gf_canon.proofs.Pieces.{Piece, texts, tokens_of, AllSaid, label}
 use Rattle.gf_canon.proofs.Pieces.{bare, listed, said_list, said_node}

@@ -1,12 +1,12 @@
 -- Sameness of games: identity, inverse and composition of renumberings.
 use Rattle.std.proofs.Common.{◌≡◌, ℕ, ◌<◌, List, [], ◌∷◌, map, refl, sym, ap, subst, ◌∙◌, inl, inr}
 use Rattle.std.specs.Prelude.{nat_eq}
+use Rattle.std.proofs.lemmas.Bool.Decides.{Decides-eqb}
 use Rattle.gf_tree.specs.Tree.{map_tree}
 use Rattle.gf_tree.specs.Description.{SetKey, same_set, set_of}
 use Rattle.gf_tree.specs.Game.{Game, IsGame, used_sets, used_outcomes, set_at, outcome_at}
 use Rattle.gf_tree.specs.Renumbering.{Renumbering, HasSet, HasOutcome}
 use Rattle.gf_tree.specs.Renumbering.{renumbered_set, renumbered_node}
-use Rattle.gf_canon.specs.SameGame.{Carries, SameGame}
 use Rattle.gf_tree.proofs.FirstUseNumbers.{AreApart}
 use Rattle.gf_tree.proofs.Carried.{undo, undone, undone_apart, apart_twice}
 use Rattle.gf_tree.proofs.Renumberings.{used_sets_of, used_outcomes_of, agreed_trees}
@@ -15,7 +15,7 @@ use Rattle.gf_tree.proofs.Renumberings.{sets_apart, outcomes_apart, is_renumberi
 use Rattle.gf_tree.proofs.Renumberings.{set_number_positive, outcome_number_positive}
 use Rattle.gf_tree.proofs.TreesOnce.{same_set_equality}
 use Rattle.gf_tree.proofs.Uses.{Has, has, contains, has_map, mapped_from}
-use Rattle.std.proofs.lemmas.Bool.Decides.{Decides-eqb}
+use Rattle.gf_canon.specs.SameGame.{Carries, SameGame}
 
 -- ---- what a carried game uses
 

@@ -14,18 +14,18 @@ use Rattle.gf_tree.specs.Description.{SetKey, InformationSet, Outcome, same_set}
 use Rattle.gf_tree.specs.FiniteMap.{Described, first_uses}
 use Rattle.gf_tree.specs.Game.{Node, Game, IsGame, used_sets, used_outcomes}
 use Rattle.gf_tree.specs.Spellable.{IsSpellable, IsSpellableSet, IsSpellableOutcome}
+use Rattle.gf_tree.specs.Renumbering.{renumbered_set, renumbered_node}
+use Rattle.gf_tree.specs.FirstUse.{first_use_number, sets_of, first_use_numbers}
 use Rattle.gf_tree.proofs.Uses.{Has, IsEquality, mapped_from, each, all_of_each}
 use Rattle.gf_tree.proofs.FirstUses.{AreDistinct, was_used, first_uses_distinct, of_filter}
 use Rattle.gf_tree.proofs.TreesOnce.{same_set_equality}
 use Rattle.gf_tree.proofs.Games.{map_entry, flatten_map}
-use Rattle.gf_tree.specs.Renumbering.{renumbered_set, renumbered_node}
-use Rattle.gf_tree.specs.FirstUse.{first_use_number, sets_of, first_use_numbers}
-use Rattle.gf_canon.specs.CanonicalGame.{canonical_game}
 use Rattle.gf_tree.proofs.FirstUseNumbers.{AreApart, number_at_most}
 use Rattle.gf_tree.proofs.Lookups.{at_images}
 use Rattle.gf_tree.proofs.Carried.{in_keys, entry_used}
 use Rattle.gf_tree.proofs.Renumberings.{set_number_positive, outcome_number_positive}
 use Rattle.gf_tree.proofs.RenumberedGames.{own_set}
+use Rattle.gf_canon.specs.CanonicalGame.{canonical_game}
 
 -- ---- different numbers from 1 below a bound are fewer than it
 

@@ -16,17 +16,17 @@ use Rattle.gf_tree.specs.FiniteMap.{Described, description_at, first_uses}
 use Rattle.gf_tree.specs.Game.{Node, Game, IsGame, HasChildren, used_sets}
 use Rattle.gf_tree.specs.Game.{used_outcomes, set_at, outcome_at}
 use Rattle.gf_tree.specs.Spellable.{IsSpellable, IsSpellableSet, IsSpellableOutcome}
-use Rattle.gf_tree.proofs.Games.{map_entry, flatten_map}
-use Rattle.gf_tree.proofs.SpelledGames.{spelled_is_spellable as spelled_game}
 use Rattle.gf_tree.specs.Renumbering.{Renumbering, IsRenumbering, HasSet}
 use Rattle.gf_tree.specs.Renumbering.{HasOutcome, renumbered_set, renumbered_node}
+use Rattle.gf_tree.proofs.Games.{map_entry, flatten_map}
+use Rattle.gf_tree.proofs.SpelledGames.{spelled_is_spellable as spelled_game}
+use Rattle.gf_tree.proofs.Members.{map_twice}
+use Rattle.gf_tree.proofs.MappedTrees.{map_tree_twice}
 use Rattle.gf_canon.specs.SameGame.{Carries}
 use Rattle.gf_canon.specs.GameFile.{GameFile, SpellsFile, SameFile, canonical_text, file_text}
 use Rattle.gf_canon.specs.GameFile.GameFile.{extensive, strategic}
 use Rattle.gf_canon.specs.NamesAside.{unnamed_node, unnamed_set, unnamed_outcome}
 use Rattle.gf_canon.specs.NamesAside.{unnamed_game, unnamed_table, unnamed, SameAsideNames}
-use Rattle.gf_tree.proofs.Members.{map_twice}
-use Rattle.gf_tree.proofs.MappedTrees.{map_tree_twice}
 use Rattle.gf_canon.proofs.ReadsBack.{text_reads_back}
 use Rattle.gf_canon.proofs.Files.{equal_canonical_texts}
 

@@ -5,11 +5,11 @@ use Rattle.gf_fraction.specs.NumberText.{number_text}
 use Rattle.gf_tree.specs.Description.{SetKey, set_of}
 use Rattle.gf_tree.specs.Game.{IsGame}
 use Rattle.gf_tree.specs.WorkedTrees.{five, five_file, bonus}
+use Rattle.gf_tree.specs.Renumbering.{Renumbering}
+use Rattle.gf_tree.specs.FirstUse.{first_use_numbers}
 use Rattle.gf_tree.proofs.SpelledGames.{spelled_is_spellable}
 use Rattle.gf_tree.proofs.WorkedGames.{five_is_meant}
-use Rattle.gf_tree.specs.Renumbering.{Renumbering}
 use Rattle.gf_canon.specs.SameGame.{Carries, SameGame}
-use Rattle.gf_tree.specs.FirstUse.{first_use_numbers}
 use Rattle.gf_canon.specs.CanonicalGame.{canonical_game}
 use Rattle.gf_canon.specs.GameText.{game_text}
 use Rattle.gf_canon.specs.WorkedGames.{numbered_five, five_text, bonus_text, nobody, nobody_text}

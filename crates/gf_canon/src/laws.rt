@@ -2,6 +2,8 @@
 
 ghost use Rattle.std.specs.Prelude.{◌≡◌, ◌↔◌, Bool, Decides, List, ℕ, length, map};
 ghost use Rattle.gf_nfg.specs.Profiles.{positions};
+ghost use Rattle.gf_nfg.specs.SameTable.{SamePlay};
+ghost use Rattle.gf_nfg.specs.Table.{Table};
 ghost use Rattle.gf_tree.specs.FiniteMap.{first_uses};
 ghost use Rattle.gf_tree.specs.Game.{Game, IsGame};
 ghost use Rattle.gf_tree.specs.GameOf.{SpellsGame};
@@ -10,12 +12,10 @@ ghost use Rattle.gf_tree.specs.Spellable.{IsSpellable};
 ghost use Rattle.gf_tree.specs.WorkedTrees.{bonus, five};
 ghost use Rattle.gf_tree.specs.Renumbering.{HasOutcome, HasSet, IsRenumbering};
 ghost use Rattle.gf_tree.specs.Renumbering.{Renumbering, renumbered};
-ghost use Rattle.gf_canon.specs.SameGame.{Carries, SameGame};
-ghost use Rattle.gf_nfg.specs.SameTable.{SamePlay};
-ghost use Rattle.gf_nfg.specs.Table.{Table};
 ghost use Rattle.gf_tree.specs.FileTree.{FileTree};
 ghost use Rattle.gf_tree.specs.FirstUse.{first_use_number, first_use_numbers};
 ghost use Rattle.gf_tree.specs.FirstUse.{outcome_numbers, player_keys};
+ghost use Rattle.gf_canon.specs.SameGame.{Carries, SameGame};
 ghost use Rattle.gf_canon.specs.CanonicalGame.{canonical_game};
 ghost use Rattle.gf_canon.specs.FirstDescribed.{IsFileOf, file_nodes};
 ghost use Rattle.gf_canon.specs.GameFile.{GameFile, IsGameFile, SameFile, SpellsFile};

@@ -7,6 +7,8 @@ use Rattle.std.specs.Bool.{MatchBool}
 use Rattle.std.specs.List.{AllByRecursion}
 use Rattle.std.proofs.lemmas.List.{map-append}
 use Rattle.gf_fraction.specs.Ratio.{Ratio}
+use Rattle.gf_fraction.specs.Rational.{plus, times, total, zero_ratio, one_ratio}
+use Rattle.gf_fraction.specs.Fits.{AddsTo, MultipliesTo}
 use Rattle.gf_fraction.proofs.AllElements.{all_parts}
 use Rattle.gf_tree.specs.Tree.{Tree, Trees, map_tree, map_trees}
 use Rattle.gf_tree.specs.Tree.Tree.{branch}
@@ -15,11 +17,9 @@ use Rattle.gf_tree.specs.PrefixOrder.{Entry, flatten, flatten_all}
 use Rattle.gf_tree.specs.Description.{SetKey}
 use Rattle.gf_tree.specs.Game.{Node, Game}
 use Rattle.gf_tree.proofs.Members.{map_twice, filter_of_map}
-use Rattle.gf_fraction.specs.Rational.{plus, times, total, zero_ratio, one_ratio}
 use Rattle.gf_form.specs.Plays.{Step, Play, from_node, plays, plays_from, is_chosen, follows}
 use Rattle.gf_form.specs.Payoff.{probability, payoff_at, play_probability, play_payoff, payoff}
 use Rattle.gf_form.specs.BottomUp.{IsValue, IsChanceValue, IsChildValue}
-use Rattle.gf_fraction.specs.Fits.{AddsTo, MultipliesTo}
 
 -- whether a play is followed, how probable it is, and what it pays
 record View : Type 0 where

@@ -1,7 +1,7 @@
 -- Strategies that agree with the same plays reduce to one.
 use Rattle.std.proofs.Common.{◌≡◌, ℕ, ◌+◌, ◌<◌, ◌≤◌, Bool, true, false, List, [], ◌∷◌, ◌++◌, Option}
 use Rattle.std.proofs.Common.{Some, None, length, map, refl, sym, ap, ◌∙◌, subst, arith, inl, inr}
-use Rattle.std.specs.Prelude.{◌⊎◌, ◌==◌, ◌||◌, ◌&&◌, not, if◌then◌else◌}
+use Rattle.std.specs.Prelude.{◌==◌, ◌||◌, ◌&&◌, not, if◌then◌else◌}
 use Rattle.std.specs.List.{AllByRecursion, Contains, list_all, list_any}
 use Rattle.std.specs.Option.{option_map_or}
 use Rattle.std.proofs.lemmas.Bool.{and_parts, and_from, cases_Bool}
@@ -13,10 +13,11 @@ use Rattle.gf_tree.specs.Tree.Trees.{none, more}
 use Rattle.gf_tree.specs.PrefixOrder.{flatten, flatten_all}
 use Rattle.gf_tree.specs.Description.{SetKey, same_set}
 use Rattle.gf_tree.specs.Game.{Node, Game, IsGame, HasChildren}
-use Rattle.gf_tree.proofs.TreesOnce.{same_set_equality}
 use Rattle.gf_tree.specs.Spellable.{IsSpellable}
+use Rattle.gf_tree.specs.FirstUse.{player_keys}
+use Rattle.gf_tree.proofs.TreesOnce.{same_set_equality}
 use Rattle.gf_tree.proofs.Uses.{Has, contains, has_map}
-use Rattle.gf_tree.proofs.Members.{map_same}
+use Rattle.gf_tree.proofs.Members.{map_same, in_left, in_right}
 use Rattle.gf_form.specs.Strategies.{choice_at, strategies}
 use Rattle.gf_form.specs.Plays.{Step, Play, from_node, is_chosen, plays, plays_from, HasActions}
 use Rattle.gf_form.specs.Reduced.{is_own_choice, agrees, comes_to, is_relevant, reduced}
@@ -26,7 +27,6 @@ use Rattle.gf_form.proofs.Lotteries.{actions_at}
 use Rattle.gf_form.proofs.Whole.{some_play_in}
 use Rattle.gf_form.proofs.Reducing.{or_left, or_right, any_has}
 use Rattle.gf_form.proofs.KnownSets.{own_set}
-use Rattle.gf_tree.specs.FirstUse.{player_keys}
 
 -- the steps go through a node of this set, and this child is taken there
 abbrev PassesBy : SetKey → List Step → Type 0
@@ -44,13 +44,6 @@ from_any test (x ∷ xs) h = by_test (test x) refl h (from_any test xs)
     by_test true e h others = (x, inl refl, e)
     by_test false e h others =
         let o = others (subst (λ b. (b || list_any test xs) ≡ true) e h) in (o.0, inr o.1, o.2)
-
-in_joined : {X : Type 0} (xs ys : List X) (x : X) → Has xs x ⊎ Has ys x → Has (xs ++ ys) x
-in_joined [] ys x (inl h) = absurd h
-in_joined [] ys x (inr h) = h
-in_joined (z ∷ xs) ys x (inl (inl e)) = inl e
-in_joined (z ∷ xs) ys x (inl (inr h)) = inr (in_joined xs ys x (inl h))
-in_joined (z ∷ xs) ys x (inr h) = inr (in_joined xs ys x (inr h))
 
 -- ---- a choice for everybody
 
@@ -186,14 +179,14 @@ module _ (g : Game) (game : IsGame g) (spellable : IsSpellable g) (player : ℕ)
           && comes_to c key i.0.steps)) ≡ true)
           later comes) in
           wider (map (from_node n k) (plays t)) (plays_from n k (more t ts))
-          (λ q j. in_joined (map (from_node n k) (plays t)) (plays_from n (k + 1) ts) q (inl j))
+          (λ q j. in_left (map (from_node n k) (plays t)) (plays_from n (k + 1) ts) q j)
           (behind n k (plays t)
           (subst (λ p. is_own_choice c p (record { node = n; taken = k }) ≡ true) own below.0)
           (goes_on t both.0 i.0 i.1 below.1))
       goes_on_in (more t ts) n k children later p (inr i) h =
           let both = all_parts (HasChildren g) (flatten t) (flatten_all ts) children in
           wider (plays_from n (k + 1) ts) (plays_from n k (more t ts))
-          (λ q j. in_joined (map (from_node n k) (plays t)) (plays_from n (k + 1) ts) q (inr j))
+          (λ q j. in_right (map (from_node n k) (plays t)) (plays_from n (k + 1) ts) q j)
           (goes_on_in ts n (k + 1) both.1 later p i h)
 
     pub passing_play : is_relevant g c key ≡ true → Goes (plays g.tree)

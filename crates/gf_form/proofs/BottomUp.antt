@@ -5,8 +5,15 @@ use Rattle.std.specs.Prelude.{◌==◌, option_map}
 use Rattle.std.specs.Bool.{MatchBool}
 use Rattle.std.specs.List.{AllByRecursion}
 use Rattle.gf_fraction.specs.Ratio.{Ratio, IsFraction}
+use Rattle.gf_fraction.specs.Rational.{IsEqual, zero_ratio, one_ratio, plus, times, total}
+use Rattle.gf_fraction.specs.Fits.{AddsTo, MultipliesTo}
 use Rattle.gf_fraction.proofs.LowestTerms.{mul_pos_right, one_fraction}
 use Rattle.gf_fraction.proofs.AllElements.{all_parts}
+use Rattle.gf_fraction.proofs.Rationals.{equal_refl, plus_both, plus_zero, plus_comm, plus_assoc}
+use Rattle.gf_fraction.proofs.Rationals.{times_comm, times_assoc, times_plus, times_zero}
+use Rattle.gf_fraction.proofs.Rationals.{times_one, IsAbove, plus_above, times_above}
+use Rattle.gf_fraction.proofs.Chains.{◌then◌, back, plus_left, plus_right}
+use Rattle.gf_fraction.proofs.Chains.{times_left, times_right, plus_across}
 use Rattle.gf_nfg.specs.Profiles.{numbers_from}
 use Rattle.gf_tree.specs.Tree.{Tree, Trees, count}
 use Rattle.gf_tree.specs.Tree.Tree.{branch}
@@ -15,15 +22,9 @@ use Rattle.gf_tree.specs.PrefixOrder.{flatten, flatten_all}
 use Rattle.gf_tree.specs.Description.{SetKey}
 use Rattle.gf_tree.specs.Game.{Node, Game, IsGame, HasChildren, set_at}
 use Rattle.gf_tree.specs.Spellable.{IsSpellable}
-use Rattle.gf_fraction.specs.Rational.{IsEqual, zero_ratio, one_ratio, plus, times, total}
 use Rattle.gf_form.specs.Plays.{Play, from_node, is_chosen}
 use Rattle.gf_form.specs.Payoff.{probability, payoff_at, payoff, play_probability, play_payoff}
 use Rattle.gf_form.specs.BottomUp.{IsValue, IsChanceValue, IsChildValue}
-use Rattle.gf_fraction.proofs.Rationals.{equal_refl, plus_both, plus_zero, plus_comm, plus_assoc}
-use Rattle.gf_fraction.proofs.Rationals.{times_comm, times_assoc, times_plus, times_zero}
-use Rattle.gf_fraction.proofs.Rationals.{times_one, IsAbove, plus_above, times_above}
-use Rattle.gf_fraction.proofs.Chains.{◌then◌, back, plus_left, plus_right}
-use Rattle.gf_fraction.proofs.Chains.{times_left, times_right, plus_across}
 use Rattle.gf_form.proofs.Denominators.{probability_above, payoff_above, payoff_fraction}
 use Rattle.gf_form.proofs.Denominators.{play_probability_above, worth_above}
 use Rattle.gf_form.proofs.Lotteries.{no_chance}
@@ -33,7 +34,6 @@ use Rattle.gf_form.proofs.Whole.{one_of, by_one, leaf_whole, first_whole}
 use Rattle.gf_form.proofs.Whole.{this_whole, chance_whole, some_child}
 use Rattle.gf_form.proofs.PlaySums.{sum_joined, weight_above, all_worth_above}
 use Rattle.gf_form.proofs.PlaySums.{weight_after, worth_after}
-use Rattle.gf_fraction.specs.Fits.{AddsTo, MultipliesTo}
 
 -- ---- what the arithmetic of values says
 

@@ -13,13 +13,13 @@ use Rattle.gf_nfg.proofs.BackProfiles.{every_profile}
 use Rattle.gf_tree.specs.Description.{SetKey, InformationSet, same_set}
 use Rattle.gf_tree.specs.FiniteMap.{Described, description_at}
 use Rattle.gf_tree.specs.Game.{Game, IsGame, set_at}
+use Rattle.gf_tree.specs.FirstUse.{player_keys, player_sets}
 use Rattle.gf_form.specs.Strategies.{action_counts, strategies, players_of, strategies_at}
 use Rattle.gf_form.specs.Strategies.{strategy_at, choice_at, choices_by, full_profiles}
 use Rattle.gf_form.specs.Plays.{HasActions}
 use Rattle.gf_form.proofs.Choices.{IsChoice, every_choice}
 use Rattle.gf_form.proofs.Lookups.{strategy_before}
 use Rattle.gf_form.proofs.KnownSets.{set_is}
-use Rattle.gf_tree.specs.FirstUse.{player_keys, player_sets}
 
 -- ---- a choice at each set of a list
 

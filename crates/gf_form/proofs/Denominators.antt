@@ -3,15 +3,15 @@ use Rattle.std.proofs.Common.{ℕ, arith}
 use Rattle.std.specs.Prelude.{option_and_then, ⊤, ◌==◌}
 use Rattle.std.specs.List.{AllByRecursion, find}
 use Rattle.gf_fraction.specs.Ratio.{IsFraction}
+use Rattle.gf_fraction.specs.Rational.{times, zero_ratio, one_ratio}
 use Rattle.gf_fraction.proofs.WholeNumbers.{whole_fraction}
+use Rattle.gf_fraction.proofs.Rationals.{IsAbove, times_above, total_above, ratio_product_above}
 use Rattle.gf_token.specs.Positions.{at_position}
 use Rattle.gf_tree.specs.Description.{SetKey, InformationSet, Outcome, same_set}
 use Rattle.gf_tree.specs.FiniteMap.{Described}
 use Rattle.gf_tree.specs.Game.{Node, Game, set_at, outcome_at}
 use Rattle.gf_tree.specs.Spellable.{IsSpellable, IsSpellableAction}
 use Rattle.gf_tree.specs.Spellable.{IsSpellableSet, IsSpellableOutcome}
-use Rattle.gf_fraction.specs.Rational.{times, zero_ratio, one_ratio}
-use Rattle.gf_fraction.proofs.Rationals.{IsAbove, times_above, total_above, ratio_product_above}
 use Rattle.gf_form.specs.Plays.{Step, Play, nodes_of}
 use Rattle.gf_form.specs.Payoff.{action_at, probability, payoff_at, play_probability, play_payoff}
 use Rattle.gf_form.proofs.Lookups.{Each, each_at, each_found, each_mapped}

@@ -5,11 +5,11 @@ use Rattle.std.proofs.lemmas.Bool.{eqb-true}
 use Rattle.gf_tree.specs.Description.{SetKey, InformationSet, same_set, IsSet}
 use Rattle.gf_tree.specs.FiniteMap.{Described}
 use Rattle.gf_tree.specs.Game.{Game, IsGame, set_at}
+use Rattle.gf_tree.specs.FirstUse.{player_keys, player_sets}
 use Rattle.gf_tree.proofs.TreesOnce.{same_set_equality}
 use Rattle.gf_tree.proofs.Uses.{Has, mapped_from}
 use Rattle.gf_tree.proofs.FirstUses.{of_filter}
 use Rattle.gf_form.proofs.Lookups.{Each, each_found, each_mapped, each_weaker}
-use Rattle.gf_tree.specs.FirstUse.{player_keys, player_sets}
 
 pub each_set : (g : Game) → IsGame g → (key : SetKey)
     → Each (IsSet (length g.players) key) (set_at g key)

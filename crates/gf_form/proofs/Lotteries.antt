@@ -7,17 +7,17 @@ use Rattle.std.specs.Prelude.{◌==◌, option_and_then, unwrap_or, slice_get}
 use Rattle.std.specs.List.{AllByRecursion}
 use Rattle.std.proofs.lemmas.List.{length-map}
 use Rattle.gf_fraction.specs.Ratio.{Ratio}
+use Rattle.gf_fraction.specs.Rational.{IsEqual, zero_ratio, one_ratio, plus, total}
+use Rattle.gf_fraction.proofs.Rationals.{equal_refl, plus_zero, plus_comm}
+use Rattle.gf_fraction.proofs.Rationals.{plus_assoc, IsAbove, plus_above}
+use Rattle.gf_fraction.proofs.Chains.{◌then◌, back, plus_left}
 use Rattle.gf_token.specs.Positions.{at_position}
 use Rattle.gf_nfg.specs.Profiles.{numbers_from}
 use Rattle.gf_tree.specs.Description.{Action, SetKey, InformationSet}
 use Rattle.gf_tree.specs.Description.{AddToOne, IsLottery, AreActions, IsSet}
 use Rattle.gf_tree.specs.Game.{Node, Game, IsGame, set_at}
 use Rattle.gf_tree.specs.Spellable.{IsSpellable}
-use Rattle.gf_fraction.specs.Rational.{IsEqual, zero_ratio, one_ratio, plus, total}
 use Rattle.gf_form.specs.Payoff.{action_at, probability}
-use Rattle.gf_fraction.proofs.Rationals.{equal_refl, plus_zero, plus_comm}
-use Rattle.gf_fraction.proofs.Rationals.{plus_assoc, IsAbove, plus_above}
-use Rattle.gf_fraction.proofs.Chains.{◌then◌, back, plus_left}
 use Rattle.gf_form.proofs.Denominators.{probability_above}
 use Rattle.gf_form.proofs.Lookups.{Each, each_at, each_weaker, next_position}
 use Rattle.gf_form.proofs.KnownSets.{each_set}

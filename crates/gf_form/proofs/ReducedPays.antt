@@ -3,24 +3,25 @@ use Rattle.std.proofs.Common.{◌≡◌, ℕ, zero, suc, ◌+◌, ◌-◌, ◌<�
 use Rattle.std.proofs.Common.{cond, List, [], ◌∷◌, Option, Some, None, length, map}
 use Rattle.std.proofs.Common.{get_or, drop, refl, sym, ap, ◌∙◌, subst, arith, inl, inr}
 use Rattle.std.specs.Prelude.{◌==◌, ◌||◌, ◌&&◌, not, zip, filter}
-use Rattle.std.specs.List.{AllZip, Contains, list_all}
+use Rattle.std.specs.List.{Contains, list_all}
 use Rattle.std.specs.Option.{option_map_or}
 use Rattle.std.proofs.lemmas.Bool.{and_parts, and_from, eqb-true, eqb-false, eq-eqb, ne_eqb}
+use Rattle.gf_fraction.specs.Rational.{times, total}
 use Rattle.gf_nfg.specs.Profiles.{numbers_from}
 use Rattle.gf_nfg.proofs.NumbersInTurn.{length-numbers_from}
 use Rattle.gf_tree.specs.Description.{SetKey}
 use Rattle.gf_tree.specs.Game.{Game}
+use Rattle.gf_tree.specs.FirstUse.{player_keys}
 use Rattle.gf_tree.proofs.Uses.{Has, contains}
 use Rattle.gf_form.specs.Strategies.{choice_at, choices_by, players_of, strategies}
 use Rattle.gf_form.specs.Strategies.{strategies_at, strategy_at, full_profiles}
 use Rattle.gf_form.specs.Plays.{Step, Play, plays, is_chosen, follows}
 use Rattle.gf_form.specs.Payoff.{payoff, play_probability, play_payoff}
-use Rattle.gf_fraction.specs.Rational.{times, total}
 use Rattle.gf_form.specs.Reduced.{is_own_choice, reduced, reduced_by}
+use Rattle.gf_form.proofs.FormTables.{as_many}
 use Rattle.gf_form.proofs.Lookups.{strategy_before}
 use Rattle.gf_form.proofs.Chosen.{profile_strategies}
 use Rattle.gf_form.proofs.Reducing.{reduced_agree, same_answer}
-use Rattle.gf_tree.specs.FirstUse.{player_keys}
 
 -- ---- choices of all players are those of each
 
@@ -145,13 +146,6 @@ module _ (g : Game) where
       let next : k + 1 + i ≡ k + suc i = omega arith in
       subst (λ p. reduced g p (get_or all i []) ≡ reduced g p (get_or others i [])) next
       (each_alike (k + 1) c all others (omega arith) (omega arith) (ap (drop 1) e) i)
-
-  as_many : (R : List ℕ → ℕ → Type 0) (all : List (List ℕ)) (players : List ℕ)
-      → AllZip R all players → length all ≡ length players
-  as_many R [] [] h = refl
-  as_many R [] (p ∷ players) h = absurd h
-  as_many R (s ∷ all) [] h = absurd h
-  as_many R (s ∷ all) (p ∷ players) h = ap suc (as_many R all players h.1)
 
   one_each : (profile : List ℕ) → Contains (full_profiles g) profile
       → length (strategies_at g profile) ≡ length g.players

@@ -1,7 +1,7 @@
 -- Full profiles that reduce to one have the same bottom-up values.
 use Rattle.std.proofs.Common.{◌≡◌, ℕ, zero, suc, ◌+◌, ◌<◌, Bool, true, false, List, []}
 use Rattle.std.proofs.Common.{◌∷◌, ◌++◌, Option, Some, None, MatchOption, map, refl}
-use Rattle.std.proofs.Common.{sym, ap, ◌∙◌, subst, arith, inl, inr, append_assoc}
+use Rattle.std.proofs.Common.{sym, ap, ◌∙◌, subst, arith, inl, append_assoc}
 use Rattle.std.specs.Prelude.{◌↔◌, ◌==◌, ◌||◌, ◌&&◌}
 use Rattle.std.specs.Bool.{MatchBool}
 use Rattle.std.specs.List.{Contains, list_all}
@@ -14,6 +14,7 @@ use Rattle.gf_tree.specs.Tree.Tree.{branch}
 use Rattle.gf_tree.specs.Tree.Trees.{none, more}
 use Rattle.gf_tree.specs.Description.{SetKey, same_set}
 use Rattle.gf_tree.specs.Game.{Node, Game}
+use Rattle.gf_tree.proofs.Members.{in_left, in_right}
 use Rattle.gf_tree.proofs.TreesOnce.{same_set_equality}
 use Rattle.gf_tree.proofs.Uses.{Has, has_map}
 use Rattle.gf_form.specs.BottomUp.{IsChanceValue, IsMoveValue}
@@ -25,15 +26,6 @@ use Rattle.gf_form.proofs.ReducedPays.{AreReducedAlike, all_own, his, his_steps,
 use Rattle.gf_form.proofs.Reducing.{any_has, or_left, or_right, same_where_relevant}
 
 -- ---- lists and plays
-
-in_front : {X : Type 0} (xs ys : List X) (x : X) → Has xs x → Has (xs ++ ys) x
-in_front [] ys x h = absurd h
-in_front (z ∷ xs) ys x (inl e) = inl e
-in_front (z ∷ xs) ys x (inr h) = inr (in_front xs ys x h)
-
-behind : {X : Type 0} (xs ys : List X) (x : X) → Has ys x → Has (xs ++ ys) x
-behind [] ys x h = h
-behind (z ∷ xs) ys x h = inr (behind xs ys x h)
 
 all_last : (test : Step → Bool) (before : List Step) (s : Step)
     → list_all test before ≡ true → test s ≡ true → list_all test (before ++ s ∷ []) ≡ true
@@ -48,7 +40,7 @@ first_play (branch n none) = (record { steps = []; leaf = n }, inl refl)
 first_play (branch n (more t ts)) =
     let p = first_play t in (
       from_node n 1 p.0,
-      in_front (map (from_node n 1) (plays t)) (plays_from n 2 ts)
+      in_left (map (from_node n 1) (plays t)) (plays_from n 2 ts)
           (from_node n 1 p.0) (has_map (from_node n 1) (plays t) p.0 p.1),
     )
 
@@ -108,7 +100,7 @@ module _ (g : Game) (c d : SetKey → ℕ) (player : ℕ) (agree : AgreeWhereCho
   choice_too n none before key position value on chosen at above v = absurd v
   choice_too n (more t ts) before key position value on chosen at above v =
       let p = first_play t in
-      let there = on (from_node n 1 p.0) (in_front (map (from_node n 1) (plays t))
+      let there = on (from_node n 1 p.0) (in_left (map (from_node n 1) (plays t))
       (plays_from n 2 ts) (from_node n 1 p.0) (has_map (from_node n 1) (plays t) p.0 p.1)) in
       agree before p.0.steps n 1 p.0.leaf key there chosen at above
 
@@ -140,7 +132,7 @@ module _ (g : Game) (c d : SetKey → ℕ) (player : ℕ) (agree : AgreeWhereCho
       → GoOn before (plays_from n k (more t ts))
       → GoOn (before ++ record { node = n; taken = k } ∷ []) (plays t)
   from_first n k t ts before on p i =
-      let there = on (from_node n k p) (in_front (map (from_node n k) (plays t))
+      let there = on (from_node n k p) (in_left (map (from_node n k) (plays t))
       (plays_from n (k + 1) ts) (from_node n k p) (has_map (from_node n k) (plays t) p i)) in
       subst (λ steps. Has (plays g.tree) (record { steps = steps; leaf = p.leaf }))
       (sym (append_assoc before (record { node = n; taken = k } ∷ []) p.steps)) there
@@ -148,7 +140,7 @@ module _ (g : Game) (c d : SetKey → ℕ) (player : ℕ) (agree : AgreeWhereCho
   from_others : (n : Node) (k : ℕ) (t : Tree Node) (ts : Trees Node) (before : List Step)
       → GoOn before (plays_from n k (more t ts)) → GoOn before (plays_from n (k + 1) ts)
   from_others n k t ts before on p i =
-      on p (behind (map (from_node n k) (plays t)) (plays_from n (k + 1) ts) p i)
+      on p (in_right (map (from_node n k) (plays t)) (plays_from n (k + 1) ts) p i)
 
   all_of : (n : Node) (ts : Trees Node) (before : List Step) → GoOn before (plays (branch n ts))
       → GoOn before (plays_from n 1 ts)

@@ -8,12 +8,12 @@ use Rattle.std.proofs.lemmas.Bool.{and_parts, and_from, eqb-true, eq-eqb, falseâ
 use Rattle.std.proofs.lemmas.Option.{none-some}
 use Rattle.gf_tree.specs.Description.{SetKey, same_set}
 use Rattle.gf_tree.specs.Game.{Game}
+use Rattle.gf_tree.specs.FirstUse.{player_keys}
 use Rattle.gf_tree.proofs.TreesOnce.{same_set_equality}
 use Rattle.gf_tree.proofs.Uses.{Has, has}
 use Rattle.gf_form.specs.Strategies.{choice_at}
 use Rattle.gf_form.specs.Plays.{Step, Play, plays}
 use Rattle.gf_form.specs.Reduced.{is_own_choice, agrees, comes_to, is_relevant, reduced}
-use Rattle.gf_tree.specs.FirstUse.{player_keys}
 
 -- ---- tests
 

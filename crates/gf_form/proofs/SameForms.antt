@@ -7,26 +7,28 @@ use Rattle.std.specs.Prelude.{option_and_then, unwrap_or, if◌then◌else◌}
 use Rattle.std.specs.List.{AllZip}
 use Rattle.std.specs.Option.{option_map_or}
 use Rattle.gf_fraction.specs.Ratio.{Ratio, IsFraction}
+use Rattle.gf_fraction.specs.Rational.{IsEqual, zero_ratio, one_ratio}
 use Rattle.gf_fraction.proofs.AllElements.{all_weaker}
+use Rattle.gf_token.specs.Positions.{at_position}
 use Rattle.gf_nfg.specs.Table.{Table}
 use Rattle.gf_tree.specs.PrefixOrder.{Entry, flatten}
-use Rattle.gf_token.specs.Positions.{at_position}
 use Rattle.gf_tree.specs.Description.{SetKey, InformationSet, same_set}
 use Rattle.gf_tree.specs.FiniteMap.{Described}
 use Rattle.gf_tree.specs.Game.{Node, Game, IsGame, used_sets, set_at, outcome_at}
-use Rattle.gf_tree.proofs.TreesOnce.{same_set_equality}
-use Rattle.gf_tree.proofs.Uses.{Has, all_of_each}
 use Rattle.gf_tree.specs.Renumbering.{Renumbering, IsRenumbering, renumbered_set}
 use Rattle.gf_tree.specs.Renumbering.{renumbered_node, renumbered}
-use Rattle.gf_canon.specs.SameGame.{SameGame}
+use Rattle.gf_tree.specs.FirstUse.{player_sets, player_keys}
+use Rattle.gf_tree.proofs.TreesOnce.{same_set_equality}
+use Rattle.gf_tree.proofs.Uses.{Has, all_of_each}
 use Rattle.gf_tree.proofs.Members.{filter_of_map, map_twice}
 use Rattle.gf_tree.proofs.FirstUseNumbers.{same_tests}
 use Rattle.gf_tree.proofs.Carried.{entry_used}
 use Rattle.gf_tree.proofs.MappedTrees.{held}
 use Rattle.gf_tree.proofs.Renumberings.{sets_apart}
+use Rattle.gf_tree.proofs.RenumberedGames.{set_at_image, outcome_at_image}
+use Rattle.gf_canon.specs.SameGame.{SameGame}
 use Rattle.gf_canon.proofs.SameGames.{same_back}
 use Rattle.gf_canon.proofs.CanonicalGames.{carried_is_renumbered}
-use Rattle.gf_fraction.specs.Rational.{IsEqual, zero_ratio, one_ratio}
 use Rattle.gf_form.specs.Strategies.{action_counts, strategies, all_choices, strategy_label}
 use Rattle.gf_form.specs.Strategies.{players_of, choice_at, choices_by, strategies_at, strategy_at}
 use Rattle.gf_form.specs.Payoff.{payoff}
@@ -34,8 +36,6 @@ use Rattle.gf_form.specs.BottomUp.{IsValue}
 use Rattle.gf_form.specs.StrategicForm.{ArePayoffs, IsStrategicForm}
 use Rattle.gf_form.proofs.Alike.{IsAlike, AreAlike, same_payoff, same_value}
 use Rattle.gf_form.proofs.KnownSets.{own_set}
-use Rattle.gf_tree.proofs.RenumberedGames.{set_at_image, outcome_at_image}
-use Rattle.gf_tree.specs.FirstUse.{player_sets, player_keys}
 
 -- what a strategy chooses at a set, by the new numbers
 choice_carried : (f : SetKey → SetKey) (keys : List SetKey) (strategy : List ℕ) (key : SetKey)

@@ -7,7 +7,11 @@ use Rattle.std.specs.List.{AllByRecursion, Contains}
 use Rattle.std.proofs.lemmas.Bool.{eqb-true, eqb-false}
 use Rattle.std.proofs.lemmas.Option.{none-some}
 use Rattle.gf_fraction.specs.Ratio.{Ratio}
+use Rattle.gf_fraction.specs.Rational.{IsEqual, zero_ratio, one_ratio, times, total}
 use Rattle.gf_fraction.proofs.AllElements.{all_parts}
+use Rattle.gf_fraction.proofs.Rationals.{equal_refl, plus_zero, plus_comm}
+use Rattle.gf_fraction.proofs.Rationals.{times_comm, times_one, IsAbove}
+use Rattle.gf_fraction.proofs.Chains.{◌then◌, back, plus_left, plus_right, times_left, times_right}
 use Rattle.gf_nfg.specs.Profiles.{numbers_from}
 use Rattle.gf_tree.specs.Tree.{Tree, Trees, count}
 use Rattle.gf_tree.specs.Tree.Tree.{branch}
@@ -18,12 +22,8 @@ use Rattle.gf_tree.specs.Game.{Node, Game, IsGame, HasChildren, set_at}
 use Rattle.gf_tree.specs.Spellable.{IsSpellable}
 use Rattle.gf_tree.proofs.Uses.{Has, contains}
 use Rattle.gf_tree.proofs.FirstUses.{of_filter}
-use Rattle.gf_fraction.specs.Rational.{IsEqual, zero_ratio, one_ratio, times, total}
 use Rattle.gf_form.specs.Plays.{Play, from_node, is_chosen, follows, plays, HasActions}
 use Rattle.gf_form.specs.Payoff.{probability, play_probability}
-use Rattle.gf_fraction.proofs.Rationals.{equal_refl, plus_zero, plus_comm}
-use Rattle.gf_fraction.proofs.Rationals.{times_comm, times_one, IsAbove}
-use Rattle.gf_fraction.proofs.Chains.{◌then◌, back, plus_left, plus_right, times_left, times_right}
 use Rattle.gf_form.proofs.Denominators.{probability_above, play_probability_above}
 use Rattle.gf_form.proofs.Lotteries.{actions_at, chances_add, no_chance}
 use Rattle.gf_form.proofs.PlaySums.{sum_joined, weight, weight_above, weight_after}

@@ -7,12 +7,13 @@ use Rattle.std.specs.Fmt.{digits}
 use Rattle.std.proofs.lemmas.List.Elements.{All-contains, All-from_recursion}
 use Rattle.std.proofs.lemmas.Bool.{ltb-true, eqb-false}
 use Rattle.gf_fraction.specs.Ratio.{Ratio, IsFraction, whole}
-use Rattle.gf_fraction.specs.Fits.{AddsTo, IsProduct, IsSum, MultipliesTo, SumFits}
+use Rattle.gf_fraction.specs.Fits.{AddsTo, MultipliesTo, SumFits}
 use Rattle.gf_fraction.specs.Computed.{lowest_of, gcd_within, sum_of}
-use Rattle.gf_fraction.proofs.ComputedArithmetic.{lowest_of-fraction, sum_is_computed}
-use Rattle.gf_fraction.proofs.LowestTerms.{one_fraction}
-use Rattle.gf_fraction.proofs.WholeNumbers.{whole_fraction, part_fraction}
 use Rattle.gf_fraction.specs.Rational.{IsEqual}
+use Rattle.gf_fraction.proofs.ComputedArithmetic.{lowest_of-fraction, sum_is_computed}
+use Rattle.gf_fraction.proofs.SumsOnce.{first_sum, one_product}
+use Rattle.gf_fraction.proofs.WholeNumbers.{whole_fraction, part_fraction}
+use Rattle.gf_tree.specs.WorkedTrees.{bonus, forgetful, half}
 use Rattle.gf_form.specs.Strategies.{choices_by, strategies_at, full_profiles}
 use Rattle.gf_form.specs.Plays.{plays}
 use Rattle.gf_form.specs.Payoff.{payoff}
@@ -20,7 +21,6 @@ use Rattle.gf_form.specs.BottomUp.{IsValue}
 use Rattle.gf_form.specs.StrategicForm.{ArePayoffs, IsStrategicForm}
 use Rattle.gf_form.specs.Reduced.{reduced_at, reduced_by, reduced_label}
 use Rattle.gf_form.specs.Reduced.{reduced_strategies, IsReducedForm}
-use Rattle.gf_tree.specs.WorkedTrees.{bonus, forgetful, half}
 use Rattle.gf_form.specs.WorkedForms.{greatest, bonus_form, overflowing, second, unlikely, only}
 use Rattle.gf_form.specs.WorkedForms.{balancing, ending, ending_form, ending_reduced, contradicted}
 
@@ -88,22 +88,6 @@ pub no_value : ¬ ((value : Ratio)
     × IsValue overflowing (choices_by overflowing second) 1 overflowing.tree value)
 no_value h = greatest_and_one h.1.1.0 h.1.1.1 h.1.1.2.0
 
--- ---- products and sums that fit
-
--- the product of these is this fraction
-one_product : (x y z r s : Ratio)
-    → y ≡ z → 0 < x.den * z.den → MultipliesTo x y r → IsFraction s → IsProduct s x z → r ≡ s
-one_product x y z r s same above multiplies fraction is =
-    let m = subst (λ w. MultipliesTo x w r) same multiplies in
-    one_fraction r s (x.num *ℤ z.num) (x.den * z.den) m.0 fraction above m.1 is
-
--- added to nothing, a fraction stays
-first_sum : (y r s : Ratio) → y ≡ s → 0 < s.den → AddsTo (whole (pos 0)) y r → IsFraction s
-    → IsSum s (whole (pos 0)) s → r ≡ s
-first_sum y r s same above adds fraction is =
-    let a = subst (λ w. AddsTo (whole (pos 0)) w r) same adds in
-    one_fraction r s _ (1 * s.den) a.1 fraction (omega arith) a.2 is
-
 -- ---- the child that has no probability
 
 pub unlikely_payoff : IsEqual (whole (pos 1)) (payoff unlikely (choices_by unlikely only) 1)
@@ -113,12 +97,13 @@ unlikely_payoff = equal _ _ refl refl refl
 pub no_value_either : ¬ ((value : Ratio)
     × IsValue unlikely (choices_by unlikely only) 1 unlikely.tree value)
 no_value_either h =
+    let one = whole (pos 1) in
     let child = h.1.1.6.3 in
     let below = child.1 in
-    let product = one_product (whole (pos 1)) below.0 (whole (pos 1)) below.1 (whole (pos 1))
-    below.3 (omega arith) below.4 (small 1 (omega arith)) refl in
-    let sum = first_sum below.1 below.2 (whole (pos 1)) product (omega arith) below.5
-    (small 1 (omega arith)) refl in
+    let product = one_product one one below.1 one (omega arith)
+    (subst (λ x. MultipliesTo one x below.1) below.3 below.4) (small 1 (omega arith)) refl in
+    let sum = first_sum one below.2 (omega arith)
+    (subst (λ y. AddsTo (whole (pos 0)) y below.2) product below.5) (small 1 (omega arith)) refl in
     greatest_and_one child.0 (below.6 ∙ sum) child.2.0
 
 -- ---- the products that are added before the node's own payoff
@@ -150,14 +135,15 @@ no_sum_of_halves = sum_is_computed half_of_greatest half_of_next half_of_greates
 pub no_balanced_value : ¬ ((value : Ratio)
     × IsValue balancing (choices_by balancing only) 1 balancing.tree value)
 no_balanced_value h =
+    let next = whole (pos (2 ^ 127 - 3)) in
     let first = h.1.1 in
     let second = first.6 in
-    let left = one_product half first.0 greatest first.1 half_of_greatest first.3 (omega arith)
-    first.4 half_of_greatest_is refl in
-    let sum = first_sum first.1 first.2 half_of_greatest left (omega arith) first.5
-    half_of_greatest_is refl in
-    let right = one_product half second.0 (whole (pos (2 ^ 127 - 3))) second.1 half_of_next second.3
-    (omega arith) second.4 half_of_next_is refl in
+    let left = one_product half greatest first.1 half_of_greatest (omega arith)
+    (subst (λ x. MultipliesTo half x first.1) first.3 first.4) half_of_greatest_is refl in
+    let sum = first_sum half_of_greatest first.2 (omega arith)
+    (subst (λ y. AddsTo (whole (pos 0)) y first.2) left first.5) half_of_greatest_is refl in
+    let right = one_product half next second.1 half_of_next (omega arith)
+    (subst (λ x. MultipliesTo half x second.1) second.3 second.4) half_of_next_is refl in
     no_sum_of_halves (subst (λ x. SumFits x half_of_next) sum
     (subst (SumFits first.2) right second.5.0))
 

@@ -3,19 +3,20 @@ use Rattle.std.specs.Prelude.{◌≡◌, ℕ, zero, suc, ◌+◌, ◌==◌, Matc
 use Rattle.std.specs.Bool.{MatchBool}
 use Rattle.gf_fraction.specs.Ratio.{Ratio}
 use Rattle.gf_fraction.specs.Fits.{AddsTo, MultipliesTo}
+use Rattle.gf_fraction.specs.Rational.{zero_ratio}
 use Rattle.gf_tree.specs.Tree.{Tree, Trees}
 use Rattle.gf_tree.specs.Tree.Tree.{branch}
 use Rattle.gf_tree.specs.Tree.Trees.{none, more}
 use Rattle.gf_tree.specs.Description.{SetKey}
 use Rattle.gf_tree.specs.Game.{Node, Game}
-use Rattle.gf_fraction.specs.Rational.{zero_ratio}
 use Rattle.gf_form.specs.Payoff.{probability, payoff_at}
 
 -- nobody moves at the node: its payoff
 abbrev pub IsTerminalValue : Game → ℕ → Node → Ratio → Type 0
 IsTerminalValue g player n value = value ≡ payoff_at g player n
 
--- At a node of this set, its payoff plus what comes from its children: by chance, or by the choice.
+-- At a node of this set, its payoff plus what comes from below: by chance, where chance moves, and
+-- by choice, where a player does.
 abbrev pub IsMoveValue : Game → ℕ → Node → SetKey → (Ratio → Type 0) → (Ratio → Type 0) → Ratio
     → Type 0
 IsMoveValue g player n key IsByChance IsByChoice value =
@@ -23,14 +24,13 @@ IsMoveValue g player n key IsByChance IsByChoice value =
     × AddsTo (payoff_at g player n) below value
 
 abbrev mutual
-  -- At a chance node the sum over the children comes from below, and at a player's node the value
-  -- of the child that is chosen.
+  -- By chance the sum over the children comes from below, and by choice the value of the child that
+  -- is chosen.
   pub IsValue : Game → (SetKey → ℕ) → ℕ → Tree Node → Ratio → Type 0
   IsValue g choices player (branch n ts) value =
       MatchOption n.set (IsTerminalValue g player n value)
-      (λ key.
-      IsMoveValue g player n key (λ below. IsChanceValue g choices player n 1 zero_ratio ts below)
-      (λ below. IsChildValue g choices player (choices key) ts below) value)
+      (λ key. IsMoveValue g player n key (IsChanceValue g choices player n 1 zero_ratio ts)
+      (IsChildValue g choices player (choices key) ts) value)
 
   -- the sum so far, and probability times value of each of these children in turn, the first of
   -- which has position k

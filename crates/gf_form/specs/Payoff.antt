@@ -1,10 +1,10 @@
 -- What the players are paid at a profile: the sum over the plays that follow it.
 use Rattle.std.specs.Prelude.{ℕ, map, Option, unwrap_or, option_and_then, filter}
 use Rattle.gf_fraction.specs.Ratio.{Ratio}
+use Rattle.gf_fraction.specs.Rational.{zero_ratio, one_ratio, times, total, ratio_product}
 use Rattle.gf_token.specs.Positions.{at_position}
 use Rattle.gf_tree.specs.Description.{Action, SetKey}
 use Rattle.gf_tree.specs.Game.{Node, Game, set_at, outcome_at}
-use Rattle.gf_fraction.specs.Rational.{zero_ratio, one_ratio, times, total, ratio_product}
 use Rattle.gf_form.specs.Plays.{Step, Play, plays, nodes_of, follows}
 
 -- the action that is taken

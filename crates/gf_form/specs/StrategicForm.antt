@@ -2,11 +2,11 @@
 use Rattle.std.specs.Prelude.{◌≡◌, ℕ, List, length, map}
 use Rattle.std.specs.List.{AllByRecursion, AllZip, Contains}
 use Rattle.gf_fraction.specs.Ratio.{Ratio, IsFraction}
+use Rattle.gf_fraction.specs.Rational.{IsEqual}
 use Rattle.gf_nfg.specs.Profiles.{profiles}
 use Rattle.gf_nfg.specs.Table.{Table}
 use Rattle.gf_tree.specs.Description.{SetKey}
 use Rattle.gf_tree.specs.Game.{Game}
-use Rattle.gf_fraction.specs.Rational.{IsEqual}
 use Rattle.gf_form.specs.Strategies.{strategies, strategy_label, players_of}
 use Rattle.gf_form.specs.Strategies.{strategies_at, choices_by, full_profiles}
 use Rattle.gf_form.specs.Payoff.{payoff}

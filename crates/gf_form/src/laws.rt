@@ -4,6 +4,7 @@ ghost use Rattle.std.specs.Prelude.{◌≡◌, ◌↔◌, ◌⊎◌, ◌≤◌, 
 ghost use Rattle.std.specs.Prelude.{codes, filter, get_or, length, map, pos, Some, true};
 ghost use Rattle.std.specs.List.{AllByRecursion, AllZip, Contains};
 ghost use Rattle.gf_fraction.specs.Ratio.{Ratio, whole};
+ghost use Rattle.gf_fraction.specs.Rational.{IsEqual, one_ratio, total, zero_ratio};
 ghost use Rattle.gf_nfg.specs.Profiles.{product};
 ghost use Rattle.gf_nfg.specs.Table.{IsTable, Table};
 ghost use Rattle.gf_tree.specs.Description.{SetKey, set_of};
@@ -12,7 +13,6 @@ ghost use Rattle.gf_tree.specs.FirstUse.{player_keys};
 ghost use Rattle.gf_tree.specs.Spellable.{IsSpellable};
 ghost use Rattle.gf_tree.specs.WorkedTrees.{bonus, forgetful};
 ghost use Rattle.gf_canon.specs.SameGame.{SameGame};
-ghost use Rattle.gf_fraction.specs.Rational.{IsEqual, one_ratio, total, zero_ratio};
 ghost use Rattle.gf_form.specs.Strategies.{action_counts, choice_at, choices_by, full_profiles};
 ghost use Rattle.gf_form.specs.Strategies.{players_of, strategies, strategies_at, strategy_label};
 ghost use Rattle.gf_form.specs.Plays.{follows, plays, HasActions, PartAtChance, Play};

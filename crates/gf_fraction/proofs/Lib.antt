@@ -20,3 +20,4 @@ pub mod Sums
 pub mod Products
 pub mod Rationals
 pub mod Chains
+pub mod SumsOnce

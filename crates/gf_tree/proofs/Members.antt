@@ -15,6 +15,16 @@ pub map_twice : {X Y Z : Type 0} (f : Y → Z) (g : X → Y) (xs : List X)
 map_twice f g [] = refl
 map_twice f g (x ∷ xs) = ap (λ ys. f (g x) ∷ ys) (map_twice f g xs)
 
+-- what is in one of two lists is in both together
+pub in_left : {X : Type 0} (xs ys : List X) (x : X) → Has xs x → Has (xs ++ ys) x
+in_left [] ys x h = absurd h
+in_left (y ∷ xs) ys x (inl e) = inl e
+in_left (y ∷ xs) ys x (inr h) = inr (in_left xs ys x h)
+
+pub in_right : {X : Type 0} (xs ys : List X) (x : X) → Has ys x → Has (xs ++ ys) x
+in_right [] ys x h = h
+in_right (y ∷ xs) ys x h = inr (in_right xs ys x h)
+
 -- ---- filters
 
 -- a filter of images is the images of a filter

@@ -3,6 +3,7 @@ use Rattle.std.proofs.Common.{◌≡◌, ℕ, map, length, Option, None, Some, r
 use Rattle.std.specs.Prelude.{nat_eq, option_map, MatchOption}
 use Rattle.std.specs.List.{AllByRecursion}
 use Rattle.std.proofs.lemmas.Bool.{eq-eqb}
+use Rattle.std.proofs.lemmas.Bool.Decides.{Decides-eqb}
 use Rattle.gf_tree.specs.PrefixOrder.{Entry, flatten}
 use Rattle.gf_tree.specs.Description.{SetKey, InformationSet, Outcome}
 use Rattle.gf_tree.specs.Description.{same_set, IsSet, IsOutcome, set_of}
@@ -21,7 +22,6 @@ use Rattle.gf_tree.proofs.FirstUses.{in_filter}
 use Rattle.gf_tree.proofs.Games.{map_entry, flatten_map}
 use Rattle.gf_tree.proofs.TreesOnce.{same_set_equality}
 use Rattle.gf_tree.proofs.Uses.{Has, has, contains, mapped_from, each, all_of_each}
-use Rattle.std.proofs.lemmas.Bool.Decides.{Decides-eqb}
 
 -- ---- a game by new numbers
 

@@ -2,6 +2,7 @@
 use Rattle.std.proofs.Common.{◌≡◌, ℕ, ◌<◌, map, Option, None, Some, refl, sym, ap, subst, ◌∙◌}
 use Rattle.std.specs.Prelude.{nat_eq, option_map}
 use Rattle.std.specs.List.{filter_map}
+use Rattle.std.proofs.lemmas.Bool.Decides.{Decides-eqb}
 use Rattle.gf_tree.specs.Tree.{Tree, map_tree}
 use Rattle.gf_tree.specs.PrefixOrder.{Entry, flatten}
 use Rattle.gf_tree.specs.Description.{SetKey, same_set, set_of}
@@ -15,7 +16,6 @@ use Rattle.gf_tree.proofs.MappedTrees.{map_tree_itself, held, held_map}
 use Rattle.gf_tree.proofs.Games.{flatten_map}
 use Rattle.gf_tree.proofs.TreesOnce.{same_set_equality}
 use Rattle.gf_tree.proofs.Uses.{Has, has, contains, mapped_from, each}
-use Rattle.std.proofs.lemmas.Bool.Decides.{Decides-eqb}
 
 -- ---- uses
 

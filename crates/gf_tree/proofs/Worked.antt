@@ -7,10 +7,6 @@ use Rattle.std.specs.List.{AllByRecursion, flat_map}
 use Rattle.std.specs.Fmt.{digits}
 use Rattle.std.proofs.lemmas.Nat.Gcd.{dvd_refl}
 use Rattle.std.proofs.Math.Nat.{one-dvd}
-use Rattle.gf_token.specs.Token.{Token}
-use Rattle.gf_token.specs.Token.Token.{Comma, Text, Bare}
-use Rattle.gf_token.specs.Grammar.{Each, braced}
-use Rattle.gf_token.proofs.SpelledNumbers.{decimal_is_index}
 use Rattle.gf_fraction.specs.Ratio.{Ratio, whole}
 use Rattle.gf_fraction.specs.Fits.{AddsTo, SumFits}
 use Rattle.gf_fraction.specs.NumberSpelling.{IsNumber}
@@ -18,6 +14,10 @@ use Rattle.gf_fraction.specs.NumberText.{number_text}
 use Rattle.gf_fraction.specs.Computed.{number_of, lowest_of, gcd_within}
 use Rattle.gf_fraction.proofs.ComputedAnswers.{number_is}
 use Rattle.gf_fraction.proofs.WholeNumbers.{whole_fraction, part_fraction, whole_spelled}
+use Rattle.gf_token.specs.Token.{Token}
+use Rattle.gf_token.specs.Token.Token.{Comma, Text, Bare}
+use Rattle.gf_token.specs.Grammar.{Each, braced}
+use Rattle.gf_token.proofs.SpelledNumbers.{decimal_is_index}
 use Rattle.gf_tree.specs.PrefixOrder.{Entry, flatten}
 use Rattle.gf_tree.specs.Grown.{grow, root}
 use Rattle.gf_tree.specs.Description.{Action, SetKey, InformationSet, Outcome}

@@ -3,13 +3,13 @@ use Rattle.std.proofs.Common.{◌≡◌, ℕ, pos, List, [], ◌∷◌, ◌++◌
 use Rattle.std.proofs.Common.{map, refl, sym, subst, arith, inl, inr}
 use Rattle.std.specs.Prelude.{codes, decimal}
 use Rattle.std.specs.Fmt.{digits}
+use Rattle.gf_fraction.specs.Ratio.{whole}
 use Rattle.gf_token.specs.Lexing.{lex}
 use Rattle.gf_token.specs.Lexing.Mode.{Gap}
 use Rattle.gf_token.specs.Grammar.{braced}
 use Rattle.gf_token.specs.Token.{Token}
 use Rattle.gf_token.specs.Token.Token.{Text, Bare}
 use Rattle.gf_token.proofs.Spelled.{found}
-use Rattle.gf_fraction.specs.Ratio.{whole}
 use Rattle.gf_tree.specs.PrefixOrder.{flatten}
 use Rattle.gf_tree.specs.Sentence.{Sentence}
 use Rattle.gf_tree.specs.FileTree.{FileTree}

@@ -1,24 +1,24 @@
 -- Worked files whose probabilities are none: below zero, or not adding to one.
-use Rattle.std.proofs.Common.{◌≡◌, ℕ, ◌*◌, ◌<◌, ◌^◌, ◌-◌, ◌≤ℤ◌, pos, negsuc, List, []}
+use Rattle.std.proofs.Common.{◌≡◌, ℕ, ◌^◌, ◌-◌, ◌≤ℤ◌, pos, negsuc, List, []}
 use Rattle.std.proofs.Common.{◌∷◌, map, drop, Some, refl, sym, ap, subst, ◌∙◌, arith}
 use Rattle.std.specs.Prelude.{codes}
 use Rattle.std.specs.Fmt.{digits}
-use Rattle.gf_token.specs.Lexing.{lex}
-use Rattle.gf_token.specs.Lexing.Mode.{Gap}
 use Rattle.gf_fraction.specs.Ratio.{Ratio, IsFraction, whole}
-use Rattle.gf_fraction.specs.Fits.{AddsTo, IsSum, SumFits}
+use Rattle.gf_fraction.specs.Fits.{AddsTo, SumFits}
 use Rattle.gf_fraction.specs.NumberSpelling.{IsNumber}
 use Rattle.gf_fraction.specs.Computed.{number_of, lowest_of, gcd_within, sum_of}
 use Rattle.gf_fraction.proofs.ComputedArithmetic.{lowest_of-fraction, sum_is_computed}
-use Rattle.gf_fraction.proofs.LowestTerms.{one_fraction}
+use Rattle.gf_fraction.proofs.SumsOnce.{first_sum, one_sum}
 use Rattle.gf_fraction.proofs.ComputedAnswers.{number_is}
 use Rattle.gf_fraction.proofs.WholeNumbers.{part_fraction}
+use Rattle.gf_token.specs.Lexing.{lex}
+use Rattle.gf_token.specs.Lexing.Mode.{Gap}
 use Rattle.gf_tree.specs.Description.{InformationSet, AddToOne, IsLottery, set_of}
 use Rattle.gf_tree.specs.Consistent.{Describes}
 use Rattle.gf_tree.specs.Game.{Game}
 use Rattle.gf_tree.specs.GameOf.{SpellsGame}
 use Rattle.gf_tree.specs.WorkedTrees.{half, negative_file, too_likely_file}
-use Rattle.gf_tree.specs.WorkedTrees.{unfitting_file, unlikely_file}
+use Rattle.gf_tree.specs.WorkedTrees.{unfitting_file, too_unlikely_file}
 use Rattle.gf_tree.proofs.Worked.{half_by_slash, said_lottery, no_outcome}
 use Rattle.gf_tree.proofs.Worked.{SaidNode, at_end, at_chance, file_tokens}
 use Rattle.gf_tree.proofs.WorkedNone.{IsRefuted, means_none_of_one, one_player}
@@ -56,16 +56,6 @@ refuted_by x y p q h k wrong f one e outcomes ok =
     (ok.each_set (set_of 0 1) (toss_by p q) told).actions in
     wrong (subst (AddToOne (whole (pos 0))) (sym (somes_once (p ∷ q ∷ []) lottery.0 lottery.1))
     lottery.2)
-
--- a sum that fits is one fraction
-one_sum : (x y r s : Ratio) → 0 < x.den * y.den → AddsTo x y r → IsFraction s → IsSum s x y → r ≡ s
-one_sum x y r s above adds fraction is =
-    one_fraction r s _ (x.den * y.den) adds.1 fraction above adds.2 is
-
--- the first is the sum so far
-first_sum : (p r : Ratio)
-    → 0 < p.den → AddsTo (whole (pos 0)) p r → IsFraction p → IsSum p (whole (pos 0)) p → r ≡ p
-first_sum p r above adds fraction is = one_sum (whole (pos 0)) p r p (omega arith) adds fraction is
 
 -- ---- more than one
 
@@ -137,17 +127,17 @@ quarter_by_slash : IsNumber (codes "1/4") quarter
 unfolding number_of lowest_of gcd_within
 quarter_by_slash = number_is (codes "1/4") quarter refl
 
-abbrev unlikely_said : List (SaidNode 1)
-unlikely_said = said_by (codes "1/2") (codes "1/4") half quarter half_by_slash quarter_by_slash
+abbrev too_unlikely_said : List (SaidNode 1)
+too_unlikely_said = said_by (codes "1/2") (codes "1/4") half quarter half_by_slash quarter_by_slash
 
-unlikely_lexed : map (λ l. l.token) (lex Gap 0 unlikely_file)
-    ≡ file_tokens (codes "m") one_player unlikely_said
+too_unlikely_lexed : map (λ l. l.token) (lex Gap 0 too_unlikely_file)
+    ≡ file_tokens (codes "m") one_player too_unlikely_said
 unfolding lex digits
-unlikely_lexed = refl
+too_unlikely_lexed = refl
 
-pub unlikely_is_none : (g : Game) → ¬ (SpellsGame unlikely_file g)
-unlikely_is_none =
-    means_none_of_one unlikely_file unlikely_said (2 ∷ 0 ∷ 0 ∷ []) unlikely_lexed refl
+pub too_unlikely_is_none : (g : Game) → ¬ (SpellsGame too_unlikely_file g)
+too_unlikely_is_none =
+    means_none_of_one too_unlikely_file too_unlikely_said (2 ∷ 0 ∷ 0 ∷ []) too_unlikely_lexed refl
     (refuted_by (codes "1/2") (codes "1/4") half quarter half_by_slash quarter_by_slash
     less_than_one)
 

@@ -4,10 +4,10 @@ use Rattle.std.proofs.Common.{Some, None, refl, sym, ap, subst, ◌∙◌, arith
 use Rattle.std.specs.Prelude.{codes}
 use Rattle.std.specs.List.{filter_map, cons_option}
 use Rattle.std.specs.Fmt.{digits}
+use Rattle.gf_fraction.specs.Computed.{number_of}
 use Rattle.gf_token.specs.Lexing.{lex}
 use Rattle.gf_token.specs.Lexing.Mode.{Gap}
 use Rattle.gf_token.proofs.Spelled.{spelled}
-use Rattle.gf_fraction.specs.Computed.{number_of}
 use Rattle.gf_tree.specs.PrefixOrder.{Entry, flatten}
 use Rattle.gf_tree.specs.Description.{SetKey, InformationSet, Outcome, set_of}
 use Rattle.gf_tree.specs.FileTree.{Use, FileNode, FileTree, set_uses, outcome_uses}

@@ -1,8 +1,8 @@
 -- Which games a file can hold.
 use Rattle.std.specs.Prelude.{ℕ, MatchOption, ◌^◌, ◌<◌, ⊤}
 use Rattle.std.specs.List.{AllByRecursion}
-use Rattle.gf_token.specs.LabelSpelling.{IsLabel}
 use Rattle.gf_fraction.specs.Ratio.{IsFraction}
+use Rattle.gf_token.specs.LabelSpelling.{IsLabel}
 use Rattle.gf_tree.specs.PrefixOrder.{flatten}
 use Rattle.gf_tree.specs.Description.{Action, SetKey, InformationSet, Outcome}
 use Rattle.gf_tree.specs.FiniteMap.{Described}

@@ -188,8 +188,8 @@ abbrev pub negative_file : List ℕ
 negative_file =
     codes "EFG 2 R \"m\" { \"A\" } c \"\" 1 \"n\" { \"h\" -1/2 \"t\" 3/2 } 0 t \"\" 0 t \"\" 0"
 
-abbrev pub unlikely_file : List ℕ
-unlikely_file =
+abbrev pub too_unlikely_file : List ℕ
+too_unlikely_file =
     codes "EFG 2 R \"m\" { \"A\" } c \"\" 1 \"n\" { \"h\" 1/2 \"t\" 1/4 } 0 t \"\" 0 t \"\" 0"
 
 abbrev pub unfitting_file : List ℕ

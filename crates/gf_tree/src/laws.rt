@@ -29,7 +29,7 @@ ghost use Rattle.gf_tree.specs.WorkedReasons.{set_zero_front, no_action_front, n
 ghost use Rattle.gf_tree.specs.WorkedTrees.{five, five_file, bonus, bonus_file, forgetful};
 ghost use Rattle.gf_tree.specs.WorkedTrees.{forgetful_file, noted, noted_file, undescribed_file};
 ghost use Rattle.gf_tree.specs.WorkedTrees.{mismatched_file, unknown_player_file, too_likely_file};
-ghost use Rattle.gf_tree.specs.WorkedTrees.{unlikely_file, negative_file, unfitting_file};
+ghost use Rattle.gf_tree.specs.WorkedTrees.{too_unlikely_file, negative_file, unfitting_file};
 ghost use Rattle.gf_tree.specs.WorkedTrees.{other_action_file, fewer_actions_file};
 ghost use Rattle.gf_tree.specs.WorkedTrees.{more_actions_file, unpaid_file, nobody_file};
 ghost use Rattle.gf_tree.specs.Game.{Game, IsGame, used_sets, used_outcomes};
@@ -130,7 +130,7 @@ pub fn worked_refusals()
     ensures mismatched { (g : Game) → ¬ (SpellsGame mismatched_file g) }
     ensures unknown_player { (g : Game) → ¬ (SpellsGame unknown_player_file g) }
     ensures too_likely { (g : Game) → ¬ (SpellsGame too_likely_file g) }
-    ensures unlikely { (g : Game) → ¬ (SpellsGame unlikely_file g) }
+    ensures too_unlikely { (g : Game) → ¬ (SpellsGame too_unlikely_file g) }
     ensures negative { (g : Game) → ¬ (SpellsGame negative_file g) }
     ensures unfitting { (g : Game) → ¬ (SpellsGame unfitting_file g) }
     ensures other_action { (g : Game) → ¬ (SpellsGame other_action_file g) }

@@ -1,4 +1,4 @@
-use Rattle.gf_tree.proofs.WorkedLotteries.{too_likely_is_none, unlikely_is_none}
+use Rattle.gf_tree.proofs.WorkedLotteries.{too_likely_is_none, too_unlikely_is_none}
 use Rattle.gf_tree.proofs.WorkedLotteries.{negative_is_none, unfitting_is_none}
 use Rattle.gf_tree.proofs.WorkedNone.{undescribed_is_none, mismatched_is_none}
 use Rattle.gf_tree.proofs.WorkedNone.{unknown_player_is_none, other_action_is_none}
@@ -18,8 +18,8 @@ returns-clause-unknown_player c = unknown_player_is_none
 pub returns-clause-too_likely : goal.returns-clause-too_likely
 returns-clause-too_likely c = too_likely_is_none
 
-pub returns-clause-unlikely : goal.returns-clause-unlikely
-returns-clause-unlikely c = unlikely_is_none
+pub returns-clause-too_unlikely : goal.returns-clause-too_unlikely
+returns-clause-too_unlikely c = too_unlikely_is_none
 
 pub returns-clause-negative : goal.returns-clause-negative
 returns-clause-negative c = negative_is_none
