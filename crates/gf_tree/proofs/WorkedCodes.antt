@@ -1,16 +1,23 @@
 -- No lower code applies: what is to be refuted of each code, by the token at the place.
-use Rattle.std.proofs.Common.{◌≡◌, ◌≤◌, ℕ, List, [], ◌∷◌, Ok, Err, arith}
+use Rattle.std.proofs.Common.{◌≤◌, ℕ, List, [], ◌∷◌, Ok, Err, arith}
 use Rattle.gf_token.specs.Token.{Token}
 use Rattle.gf_token.specs.Token.Token.{Closing, Text, Bare}
 use Rattle.gf_token.specs.Code.{code_of}
 use Rattle.gf_token.specs.declared.fault.Why.{Why}
-use Rattle.gf_token.specs.declared.fault.Why.TheVariants.{TooLong, Unterminated, Expected, NotANumber, ZeroDenominator, NumberTooLarge, BadIndex, UnknownPlayer, NotDescribed, Mismatch, NegativeProbability, SumAboveOne, SumBelowOne, SumOverflow, NoEntry, UnknownOutcome, TooManyProfiles, Memory}
+use Rattle.gf_token.specs.declared.fault.Why.TheVariants.{TooLong, Unterminated, Expected}
+use Rattle.gf_token.specs.declared.fault.Why.TheVariants.{NotANumber, ZeroDenominator}
+use Rattle.gf_token.specs.declared.fault.Why.TheVariants.{NumberTooLarge, BadIndex, UnknownPlayer}
+use Rattle.gf_token.specs.declared.fault.Why.TheVariants.{NotDescribed, Mismatch}
+use Rattle.gf_token.specs.declared.fault.Why.TheVariants.{NegativeProbability, SumAboveOne}
+use Rattle.gf_token.specs.declared.fault.Why.TheVariants.{SumBelowOne, SumOverflow, NoEntry}
+use Rattle.gf_token.specs.declared.fault.Why.TheVariants.{UnknownOutcome, TooManyProfiles, Memory}
 use Rattle.gf_fraction.specs.Ratio.{Ratio}
 use Rattle.gf_fraction.specs.NumberSpelling.{IsNumber, HasNumberFault}
 use Rattle.gf_fraction.specs.declared.fraction.NumberFault.{NumberFault}
 use Rattle.gf_fraction.specs.declared.fraction.NumberFault.TheVariants as number
 use Rattle.gf_fraction.proofs.Texts.{one_answer}
-use Rattle.gf_tree.specs.Reason.{IsNoNumber, IsNoIndex, IsUnknownPlayer, EndsInFirstUse, IsMismatch, IsWrongProbability, StaysBelowOne, ListsNothing, Holds}
+use Rattle.gf_tree.specs.Reason.{IsNoNumber, IsNoIndex, IsUnknownPlayer, EndsInFirstUse}
+use Rattle.gf_tree.specs.Reason.{IsMismatch, IsWrongProbability, StaysBelowOne, Holds}
 
 -- what the codes that may apply at a bare token have to be
 pub record AtBare (floor : ℕ) (before : List Token) (bytes : List ℕ) : Type 0 where

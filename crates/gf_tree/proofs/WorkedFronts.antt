@@ -1,6 +1,7 @@
 -- What may stand before a place in a worked file: its tokens part in one way, a heading and the
 -- front of the first node.
-use Rattle.std.proofs.Common.{◌≡◌, ◌<◌, ℕ, zero, suc, List, [], ◌∷◌, ◌++◌, length, map, drop, refl, sym, ap, subst, ◌∙◌, append_assoc, append-nil, arith, inl, inr}
+use Rattle.std.proofs.Common.{◌≡◌, ◌<◌, ℕ, zero, suc, List, [], ◌∷◌, ◌++◌, length, map, drop, refl}
+use Rattle.std.proofs.Common.{sym, ap, subst, ◌∙◌, append_assoc, append-nil, arith, inl, inr}
 use Rattle.std.specs.Prelude.{◌⊎◌, ◌≢◌, Option, Some, None, codes, decimal}
 use Rattle.std.proofs.lemmas.List.{length-append}
 use Rattle.gf_token.specs.Token.{Token}
@@ -8,10 +9,13 @@ use Rattle.gf_token.specs.Token.Token.{Opening, Closing, Comma, Text, Bare, Brok
 use Rattle.gf_token.specs.Grammar.{Each, braced, IsComment}
 use Rattle.gf_tree.specs.Description.{Action, InformationSet, Outcome, SetKey, set_of}
 use Rattle.gf_tree.specs.FileTree.{Use, FileNode}
-use Rattle.gf_tree.specs.Sentence.{IsAction, IsInformationSet, IsMover, IsStep, IsNode, IsResult, IsDescription}
-use Rattle.gf_tree.specs.Front.{EndsInNode, ToOutcome, BehindSet, BehindOutcome, KnowsSet, KnowsOutcome, IsNewSet, IsNewOutcome}
+use Rattle.gf_tree.specs.Sentence.{IsAction, IsInformationSet, IsMover}
+use Rattle.gf_tree.specs.Sentence.{IsStep, IsNode, IsResult, IsDescription}
+use Rattle.gf_tree.specs.Front.{EndsInNode, ToOutcome, BehindSet, BehindOutcome}
+use Rattle.gf_tree.specs.Front.{KnowsSet, KnowsOutcome, IsNewSet, IsNewOutcome}
 use Rattle.gf_tree.specs.Due.{PlayerIsDue, SetIsDue, OutcomeIsDue, ProbabilityIsDue, PayoffIsDue}
-use Rattle.gf_tree.specs.Reason.{IsNoIndex, IsUnknownPlayer, EndsInFirstUse, DiffersFromSet, DiffersFromOutcome, IsMismatch, StaysBelowOne}
+use Rattle.gf_tree.specs.Reason.{IsNoIndex, IsUnknownPlayer, EndsInFirstUse, DiffersFromSet}
+use Rattle.gf_tree.specs.Reason.{DiffersFromOutcome, IsMismatch, StaysBelowOne}
 use Rattle.gf_tree.proofs.Groups.{NoText, opened, texts_once}
 use Rattle.gf_tree.proofs.SentencesOnce.{results_no_text}
 use Rattle.gf_tree.proofs.Worked.{file_tokens}
@@ -183,7 +187,8 @@ whole_front front behind inner to_set mover letter name number label e f g =
     ∙ sym (append_assoc to_set (Bare number ∷ []) more)
     ∙ ap (λ (ts : List Token). ts ++ more) (sym f) ∙ sym e
 
-module _ (title : List ℕ) (names : List (List ℕ)) (inner : List Token) (unclosed : IsOpen inner) where
+module _ (title : List ℕ) (names : List (List ℕ)) (inner : List Token)
+    (unclosed : IsOpen inner) where
   abbrev before_open : List Token
   before_open = file_tokens title names [] ++ open_node inner
 
@@ -215,7 +220,8 @@ module _ (title : List ℕ) (names : List (List ℕ)) (inner : List Token) (uncl
   no_outcome_behind : (front : List Token) (number : ℕ) → front ≡ open_node inner
       → ¬ (BehindOutcome front number)
   no_outcome_behind front number e h =
-      ends_no_step h.0 (Bare h.2 ∷ []) inner h.1 h.4 (λ l others f. absurd cc) unclosed (sym h.3 ∙ e)
+      ends_no_step h.0 (Bare h.2 ∷ []) inner h.1 h.4 (λ l others f. absurd cc) unclosed
+      (sym h.3 ∙ e)
 
   pub no_first_use : ¬ (EndsInFirstUse before_open)
   no_first_use h = by_kind h.4
@@ -269,10 +275,15 @@ module _ (title : List ℕ) (names : List (List ℕ)) where
       let behind = inside.3 in
       let to_set = behind.3 in
       let front = (parted title names [] tt lists.0 lists.1 lists.2 lists.3).1 in
-      let node : Bare to_set.0 ∷ Text to_set.1 ∷ (to_set.2 ++ Bare behind.1 ∷ Text h.1.name ∷ Opening ∷ inside.1)
-      ≡ open_node [] = whole_front lists.2 inside.0 inside.1 behind.0 to_set.2 to_set.0 to_set.1 behind.1 h.1.name inside.2 behind.2 to_set.3 ∙ front in
+      let node : Bare to_set.0 ∷ Text to_set.1
+      ∷ (to_set.2 ++ Bare behind.1 ∷ Text h.1.name ∷ Opening ∷ inside.1)
+      ≡ open_node [] = whole_front lists.2 inside.0 inside.1 behind.0 to_set.2 to_set.0 to_set.1
+      behind.1 h.1.name inside.2 behind.2 to_set.3 ∙ front in
       let none : inside.1 ≡ [] = ap (drop 5)
-      (ap (λ (ts : List Token). Bare to_set.0 ∷ Text to_set.1 ∷ (ts ++ Bare behind.1 ∷ Text h.1.name ∷ Opening ∷ inside.1)) (sym to_set.4.1) ∙ node) in
+      (ap (λ (ts : List Token).
+      Bare to_set.0 ∷ Text to_set.1 ∷ (ts ++ Bare behind.1 ∷ Text h.1.name ∷ Opening ∷ inside.1))
+      (sym to_set.4.1)
+      ∙ node) in
       no_actions inside.1 h.1.actions none inside.4 h.4
 
 -- ---- a heading alone, of no players

@@ -1,7 +1,7 @@
 -- Worked files with a set of chance: the codes that apply to its probabilities.
-use Rattle.std.proofs.Common.{◌≡◌, ℕ, pos, negsuc, List, [], ◌∷◌, ◌++◌}
+use Rattle.std.proofs.Common.{◌≡◌, ◌<◌, ◌≤◌, ◌<ℤ◌, ℕ, get_or, ap, pos, negsuc, List, [], ◌∷◌, ◌++◌}
 use Rattle.std.proofs.Common.{Some, None, MatchOption, refl, subst, arith, inl}
-use Rattle.std.specs.Prelude.{codes, decimal}
+use Rattle.std.specs.Prelude.{◌≢◌, codes, decimal}
 use Rattle.std.specs.Fmt.{digits}
 use Rattle.std.proofs.lemmas.Int.{ints}
 use Rattle.gf_token.specs.Token.{Token}
@@ -9,7 +9,8 @@ use Rattle.gf_token.specs.Token.Token.{Opening, Closing, Text, Bare}
 use Rattle.gf_token.specs.Grammar.{Each}
 use Rattle.gf_token.specs.Lexing.{lex}
 use Rattle.gf_token.specs.declared.fault.Why.TheVariants.{NotANumber, NegativeProbability}
-use Rattle.gf_token.specs.declared.fault.Why.TheVariants.{SumAboveOne, SumBelowOne, SumOverflow}
+use Rattle.gf_token.specs.declared.fault.Why.TheVariants.{SumAboveOne, SumBelowOne}
+use Rattle.gf_token.specs.declared.fault.Why.TheVariants.{SumOverflow, NoEntry}
 use Rattle.gf_fraction.specs.Ratio.{Ratio, IsFraction, whole}
 use Rattle.gf_fraction.specs.Fits.{IsSum, SumFits}
 use Rattle.gf_fraction.specs.NumberSpelling.{IsNumber, HasNumberFault}
@@ -22,11 +23,17 @@ use Rattle.gf_tree.specs.Description.{Action, InformationSet, set_of}
 use Rattle.gf_tree.specs.Sentence.{IsAction}
 use Rattle.gf_tree.specs.Front.{InActions}
 use Rattle.gf_tree.specs.Due.{ProbabilityIsDue}
-use Rattle.gf_tree.specs.Reason.{AddsUp, HasSum, NewProbabilityIsDue, Holds}
+use Rattle.gf_tree.specs.Reason.{AddsUp, HasSum, NewProbabilityIsDue}
+use Rattle.gf_tree.specs.Reason.{IsWrongProbability, Holds, IsReason}
 use Rattle.gf_tree.specs.WorkedTrees.{half}
-use Rattle.gf_tree.specs.WorkedReasons.{HoldsAt, above_one_file, below_one_file}
+use Rattle.gf_tree.specs.WorkedReasons.{HoldsAt, IsReasonAt, no_lottery_file}
+use Rattle.gf_tree.specs.WorkedReasons.{above_one_file, below_one_file}
 use Rattle.gf_tree.specs.WorkedReasons.{negative_file, overflowing_file, no_number_file}
 use Rattle.gf_tree.proofs.Worked.{half_by_slash, file_tokens}
+use Rattle.gf_tree.proofs.Groups.{numbers_once}
+use Rattle.gf_tree.proofs.WorkedCodes.{AtBare, at_bare, at_closing, no_fault}
+use Rattle.gf_tree.proofs.WorkedFronts.{IsOpen, open_node, no_first_use, no_mismatch}
+use Rattle.gf_tree.proofs.WorkedFronts.{no_index_due, no_unknown, adds_nothing}
 use Rattle.gf_tree.proofs.WorkedPlaces.{IsCutAt, said_at, stands, at_c, behind_c, is_new}
 
 -- ---- sums
@@ -107,6 +114,37 @@ sums_on : (x p next total : Ratio) (ps : List Ratio)
     → AddsUp next ps total → AddsUp x (p ∷ ps) total
 sums_on x p next total ps h k = (h.0, (next, h.1, h.2, k))
 
+-- ---- what else might apply
+
+abbrev first_byte : List ℕ → ℕ
+first_byte bytes = get_or bytes 0 0
+
+no_p : (byte : ℕ) → byte < 112 → byte ≢ 112
+no_p byte h e = omega (arith, h, e)
+
+not_below_zero : (before : List Token) (bytes : List ℕ) (p : Ratio) → IsNumber bytes p
+    → ¬ (p.num <ℤ pos 0) → ¬ (IsWrongProbability NegativeProbability before bytes)
+not_below_zero before bytes p is above h =
+    let same = numbers_once bytes bytes h.1 p refl h.3 is in
+    above (subst (λ r. r.num <ℤ pos 0) same h.4)
+
+-- to a number behind an open list of a new set, no code below E11
+at_number : (floor : ℕ) (inner : List Token) → IsOpen inner → (bytes : List ℕ) (p : Ratio)
+    → IsNumber bytes p → bytes ≢ codes "p"
+    → (IsWrongProbability NegativeProbability (behind_heading (open_node inner)) bytes
+    → floor ≤ 11)
+    → floor ≤ 12 → AtBare floor (behind_heading (open_node inner)) bytes
+at_number floor inner unclosed bytes p is other negative low = record {
+  no_number = λ fault h. absurd (no_fault bytes p fault is h.1);
+  no_index = λ h. absurd (no_index_due (codes "c") [] inner unclosed bytes h);
+  unknown_player = λ h. absurd (no_unknown (codes "c") [] inner unclosed bytes other h);
+  first_use = λ h. absurd (no_first_use (codes "c") [] inner unclosed h);
+  mismatch = λ h. absurd (no_mismatch (codes "c") [] inner unclosed (Bare bytes) h);
+  negative = negative;
+  above = λ h. low;
+  overflows = omega (arith, low);
+}
+
 -- ---- 0.6 twice
 
 abbrev three_fifths : Ratio
@@ -147,17 +185,32 @@ above_one_cut : IsCutAt above_one_file 41 44 14 before_second
 unfolding lex digits
 above_one_cut = ((refl, refl), refl, refl)
 
-pub above_one : HoldsAt SumAboveOne above_one_file 41 44
-above_one =
+above_one_holds : Holds SumAboveOne before_second
+    (Bare (codes "0.6") ∷ Closing ∷ Bare (codes "0") ∷ [])
+above_one_holds =
     let sum = added three_fifths three_fifths (record { num = pos 6; den = 5 }) by_point.fraction
-    by_point.fraction twice in
-    said_at (Holds SumAboveOne) above_one_file 41 44 14 before_second
-    (Bare (codes "0.6") ∷ Closing ∷ Bare (codes "0") ∷ []) above_one_cut (
+    by_point.fraction twice in (
       three_fifths,
       three_fifths,
       three_fifths_before,
       by_point,
       (sum.0, (record { num = pos 6; den = 5 }, sum.1, sum.2, omega arith)),
+    )
+
+pub above_one : IsReasonAt SumAboveOne above_one_file 41 44
+above_one =
+    said_at (IsReason SumAboveOne) above_one_file 41 44 14 before_second
+    (Bare (codes "0.6") ∷ Closing ∷ Bare (codes "0") ∷ [])
+    above_one_cut (
+      above_one_holds,
+      at_bare 12 before_second (codes "0.6")
+          (Closing ∷ Bare (codes "0") ∷ [])
+          (at_number 12 (Text (codes "a") ∷ Bare (codes "0.6") ∷ Text (codes "b") ∷ []) tt
+          (codes "0.6")
+          three_fifths by_point (λ e. no_p 48 (omega arith) (ap first_byte e))
+          (λ h. absurd (not_below_zero before_second (codes "0.6")
+          three_fifths by_point (λ k. omega (arith, ints, k)) h))
+          (omega arith)),
     )
 
 -- ---- three thirds to six places
@@ -222,24 +275,37 @@ below_one_cut : IsCutAt below_one_file 68 69 17 (behind_heading (in_lottery thir
 unfolding lex digits
 below_one_cut = ((refl, refl), refl, refl)
 
-pub below_one : HoldsAt SumBelowOne below_one_file 68 69
+below_one_holds : Holds SumBelowOne (behind_heading (in_lottery thirds))
+    (Closing ∷ Bare (codes "0") ∷ [])
+below_one_holds = (
+  1,
+  listed by_thirds,
+  near_one,
+  (
+    [],
+    [],
+    in_lottery thirds,
+    stands (codes "c") [] [] (in_lottery thirds),
+    in_new thirds by_thirds are_thirds,
+    is_new (set_of 0 1),
+  ),
+  omega arith,
+  (near_third ∷ near_third ∷ near_third ∷ [], refl, thirds_add),
+  omega arith,
+)
+
+pub below_one : IsReasonAt SumBelowOne below_one_file 68 69
 below_one =
-    said_at (Holds SumBelowOne) below_one_file 68 69 17 (behind_heading (in_lottery thirds))
-    (Closing ∷ Bare (codes "0") ∷ []) below_one_cut (
-      1,
-      listed by_thirds,
-      near_one,
-      (
-        [],
-        [],
-        in_lottery thirds,
-        stands (codes "c") [] [] (in_lottery thirds),
-        in_new thirds by_thirds are_thirds,
-        is_new (set_of 0 1),
-      ),
-      omega arith,
-      (near_third ∷ near_third ∷ near_third ∷ [], refl, thirds_add),
-      omega arith,
+    said_at (IsReason SumBelowOne) below_one_file 68 69 17 (behind_heading (in_lottery thirds))
+    (Closing ∷ Bare (codes "0") ∷ [])
+    below_one_cut (
+      below_one_holds,
+      at_closing 13 (behind_heading (in_lottery thirds)) (Bare (codes "0") ∷ []) (record {
+        first_use = λ h. absurd (no_first_use (codes "c") [] thirds tt h);
+        mismatch = λ h. absurd (no_mismatch (codes "c") [] thirds tt Closing h);
+        below = λ h. omega arith;
+        no_entry = omega arith;
+      }),
     )
 
 -- ---- the first probability
@@ -262,11 +328,22 @@ negative_cut : IsCutAt negative_file 33 37 12 before_first
 unfolding lex digits
 negative_cut = ((refl, refl), refl, refl)
 
-pub negative : HoldsAt NegativeProbability negative_file 33 37
-negative =
-    said_at (Holds NegativeProbability) negative_file 33 37 12 before_first
+negative_holds : Holds NegativeProbability before_first
     (Bare (codes "-1/2") ∷ Text (codes "b") ∷ Bare (codes "3/2") ∷ Closing ∷ Bare (codes "0") ∷ [])
-    negative_cut (whole (pos 0), minus_half, nothing_before, by_minus, omega (arith, ints))
+negative_holds =
+    (whole (pos 0), minus_half, nothing_before, by_minus, omega (arith, ints))
+
+pub negative : IsReasonAt NegativeProbability negative_file 33 37
+negative =
+    said_at (IsReason NegativeProbability) negative_file 33 37 12 before_first
+    (Bare (codes "-1/2") ∷ Text (codes "b") ∷ Bare (codes "3/2") ∷ Closing ∷ Bare (codes "0") ∷ [])
+    negative_cut (
+      negative_holds,
+      at_bare 11 before_first (codes "-1/2")
+          (Text (codes "b") ∷ Bare (codes "3/2") ∷ Closing ∷ Bare (codes "0") ∷ [])
+          (at_number 11 (Text (codes "a") ∷ []) tt (codes "-1/2") minus_half by_minus
+          (λ e. no_p 45 (omega arith) (ap first_byte e)) (λ h. omega arith) (omega arith)),
+    )
 
 no_number_cut : IsCutAt no_number_file 33 34 12 before_first
     (Bare (codes "x") ∷ Closing ∷ Bare (codes "0") ∷ [])
@@ -277,11 +354,28 @@ is_no_number : HasNumberFault (codes "x") number.NotANumber
 unfolding number_of
 is_no_number = number_is_computed (codes "x")
 
-pub no_number : HoldsAt NotANumber no_number_file 33 34
-no_number =
-    said_at (Holds NotANumber) no_number_file 33 34 12 before_first
-    (Bare (codes "x") ∷ Closing ∷ Bare (codes "0") ∷ []) no_number_cut
+no_number_holds : Holds NotANumber before_first
+    (Bare (codes "x") ∷ Closing ∷ Bare (codes "0") ∷ [])
+no_number_holds =
     (inl (probability_due [] [] (codes "a") refl), is_no_number)
+
+pub no_number : IsReasonAt NotANumber no_number_file 33 34
+no_number =
+    said_at (IsReason NotANumber) no_number_file 33 34 12 before_first
+    (Bare (codes "x") ∷ Closing ∷ Bare (codes "0") ∷ [])
+    no_number_cut (
+      no_number_holds,
+      at_bare 4 before_first (codes "x") (Closing ∷ Bare (codes "0") ∷ []) (record {
+        no_number = λ fault h. omega arith;
+        no_index = λ h. omega arith;
+        unknown_player = λ h. omega arith;
+        first_use = λ h. omega arith;
+        mismatch = λ h. omega arith;
+        negative = λ h. omega arith;
+        above = λ h. omega arith;
+        overflows = omega arith;
+      }),
+    )
 
 -- ---- 1/M and 1/2
 
@@ -333,4 +427,40 @@ overflowing =
       least_before,
       half_by_slash,
       not_added least_ratio half by_slash.fraction half_by_slash.fraction least_and_half,
+    )
+
+-- ---- a set of chance without actions
+
+abbrev before_none : List Token
+before_none = file_tokens (codes "m") (codes "A" ∷ []) [] ++ in_lottery []
+
+no_lottery_cut : IsCutAt no_lottery_file 33 34 12 before_none (Closing ∷ Bare (codes "0") ∷ [])
+unfolding lex digits
+no_lottery_cut = ((refl, refl), refl, refl)
+
+no_lottery_holds : Holds NoEntry before_none (Closing ∷ Bare (codes "0") ∷ [])
+no_lottery_holds = (
+  set_of 0 1,
+  codes "n",
+  (
+    codes "A" ∷ [],
+    [],
+    in_lottery [],
+    stands (codes "m") (codes "A" ∷ []) [] (in_lottery []),
+    in_new [] [] refl,
+    is_new (set_of 0 1),
+  ),
+)
+
+pub no_lottery : IsReasonAt NoEntry no_lottery_file 33 34
+no_lottery =
+    said_at (IsReason NoEntry) no_lottery_file 33 34 12 before_none
+    (Closing ∷ Bare (codes "0") ∷ []) no_lottery_cut (
+      no_lottery_holds,
+      at_closing 15 before_none (Bare (codes "0") ∷ []) (record {
+        first_use = λ h. absurd (no_first_use (codes "m") (codes "A" ∷ []) [] tt h);
+        mismatch = λ h. absurd (no_mismatch (codes "m") (codes "A" ∷ []) [] tt Closing h);
+        below = λ h. absurd (adds_nothing (codes "m") (codes "A" ∷ []) h);
+        no_entry = omega arith;
+      }),
     )

@@ -1,5 +1,5 @@
 -- Worked files that are refused: the codes that apply at their places.
-use Rattle.std.proofs.Common.{◌≡◌, ℕ, suc, List, [], ◌∷◌, ◌++◌, length, map}
+use Rattle.std.proofs.Common.{◌≡◌, ℕ, suc, pos, List, [], ◌∷◌, ◌++◌, length, map}
 use Rattle.std.proofs.Common.{get_or, None, refl, sym, ap, ◌∙◌, arith, inl, inr}
 use Rattle.std.specs.Prelude.{◌≢◌, codes, decimal}
 use Rattle.std.specs.Fmt.{digits}
@@ -9,20 +9,38 @@ use Rattle.gf_token.specs.Token.Token.{Opening, Closing, Text, Bare}
 use Rattle.gf_token.specs.Lexing.{lex}
 use Rattle.gf_token.specs.declared.fault.Why.TheVariants.{BadIndex, UnknownPlayer}
 use Rattle.gf_token.specs.declared.fault.Why.TheVariants.{NotDescribed, Mismatch, NoEntry}
+use Rattle.gf_token.specs.Index.{IsIndex}
+use Rattle.gf_token.proofs.SpelledNumbers.{decimal_is_index}
+use Rattle.gf_fraction.specs.Ratio.{whole}
+use Rattle.gf_fraction.specs.NumberSpelling.{IsNumber}
+use Rattle.gf_fraction.specs.Computed.{number_of, lowest_of, gcd_within}
+use Rattle.gf_fraction.proofs.Numbers.{number_is}
 use Rattle.gf_tree.specs.Description.{Action, InformationSet, set_of}
 use Rattle.gf_tree.specs.Consistent.{AreConsistent, IsConsistent}
 use Rattle.gf_tree.specs.Sentence.{IsPositive}
 use Rattle.gf_tree.specs.Front.{BehindOutcome, KnowsSet}
 use Rattle.gf_tree.specs.Due.{NodeIsDue}
-use Rattle.gf_tree.specs.Reason.{GoesOnWith, Holds}
+use Rattle.gf_tree.specs.Reason.{IsNoIndex, IsUnknownPlayer, GoesOnWith, Holds, IsReason}
 use Rattle.gf_tree.specs.WorkedTrees.{choice, undescribed_file, unknown_player_file}
-use Rattle.gf_tree.specs.WorkedReasons.{HoldsAt, other_action_file, action_missing_file}
+use Rattle.gf_tree.specs.WorkedReasons.{HoldsAt, IsReasonAt, other_action_file, action_missing_file}
 use Rattle.gf_tree.specs.WorkedReasons.{action_too_many_file, undescribed_outcome_file}
 use Rattle.gf_tree.specs.WorkedReasons.{no_players_file, set_zero_file, no_action_file}
 use Rattle.gf_tree.proofs.Worked.{said_choice, no_outcome, SaidNode, at_end}
 use Rattle.gf_tree.proofs.Worked.{at_player, numbered, file_tokens, file_of, is_said}
+use Rattle.gf_tree.proofs.WorkedCodes.{at_bare, at_closing, at_text, no_fault}
+use Rattle.gf_tree.proofs.WorkedCodes as codes_at
+use Rattle.gf_tree.proofs.WorkedFronts.{heading, heading_wants_no_number, heading_wants_no_index}
+use Rattle.gf_tree.proofs.WorkedFronts.{no_player_again, no_set_again, text_is_no_number}
 use Rattle.gf_tree.proofs.WorkedPlaces.{IsCutAt, said_at, stands, of_a, stands_a}
+use Rattle.gf_tree.proofs.WorkedCodes.{at_bare, at_closing, at_text, no_fault}
+use Rattle.gf_tree.proofs.WorkedCodes as codes_at
+use Rattle.gf_tree.proofs.WorkedFronts.{heading, heading_wants_no_number, heading_wants_no_index}
+use Rattle.gf_tree.proofs.WorkedFronts.{no_player_again, no_set_again, text_is_no_number}
 use Rattle.gf_tree.proofs.WorkedPlaces.{to_a, to_a_is, at_a, behind_a, in_choice}
+use Rattle.gf_tree.proofs.WorkedCodes.{at_bare, at_closing, at_text, no_fault}
+use Rattle.gf_tree.proofs.WorkedCodes as codes_at
+use Rattle.gf_tree.proofs.WorkedFronts.{heading, heading_wants_no_number, heading_wants_no_index}
+use Rattle.gf_tree.proofs.WorkedFronts.{no_player_again, no_set_again, text_is_no_number}
 use Rattle.gf_tree.proofs.WorkedPlaces.{in_choice_is, is_new, is_new_outcome}
 
 -- ---- a set that is described again
@@ -58,20 +76,28 @@ not_next next h e =
     let bytes : 88 ≡ 82 = ap (λ label. get_or label 0 0) (e ∙ sym right) in
     omega (arith, bytes)
 
-pub other_action : HoldsAt Mismatch other_action_file 73 76
+other_action_holds : Holds Mismatch (before_again (codes "L" ∷ []))
+    (Text (codes "X") ∷ Closing ∷ Bare (codes "0") ∷ [])
+other_action_holds = (
+  codes "A" ∷ [],
+  map (λ s. s.node) left_right,
+  in_choice (codes "L" ∷ []),
+  stands_a left_right (in_choice (codes "L" ∷ [])),
+  inl (
+    set_of 1 1,
+    known,
+    is_known,
+    inr (choice (codes "i") (codes "L" ∷ []), in_choice_is (codes "L" ∷ []), not_next),
+  ),
+)
+
+pub other_action : IsReasonAt Mismatch other_action_file 73 76
 other_action =
-    said_at (Holds Mismatch) other_action_file 73 76 27 (before_again (codes "L" ∷ []))
-    (Text (codes "X") ∷ Closing ∷ Bare (codes "0") ∷ []) other_action_cut (
-      codes "A" ∷ [],
-      map (λ s. s.node) left_right,
-      in_choice (codes "L" ∷ []),
-      stands_a left_right (in_choice (codes "L" ∷ [])),
-      inl (
-        set_of 1 1,
-        known,
-        is_known,
-        inr (choice (codes "i") (codes "L" ∷ []), in_choice_is (codes "L" ∷ []), not_next),
-      ),
+    said_at (IsReason Mismatch) other_action_file 73 76 27 (before_again (codes "L" ∷ []))
+    (Text (codes "X") ∷ Closing ∷ Bare (codes "0") ∷ [])
+    other_action_cut (
+      other_action_holds,
+      at_text (before_again (codes "L" ∷ [])) (codes "X") (Closing ∷ Bare (codes "0") ∷ []),
     )
 
 action_missing_cut : IsCutAt action_missing_file 73 74 27 (before_again (codes "L" ∷ []))
@@ -79,23 +105,37 @@ action_missing_cut : IsCutAt action_missing_file 73 74 27 (before_again (codes "
 unfolding lex digits
 action_missing_cut = ((refl, refl), refl, refl)
 
-pub action_missing : HoldsAt Mismatch action_missing_file 73 74
+action_missing_holds : Holds Mismatch (before_again (codes "L" ∷ []))
+    (Closing ∷ Bare (codes "0") ∷ [])
+action_missing_holds = (
+  codes "A" ∷ [],
+  map (λ s. s.node) left_right,
+  in_choice (codes "L" ∷ []),
+  stands_a left_right (in_choice (codes "L" ∷ [])),
+  inl (
+    set_of 1 1,
+    known,
+    choice (codes "i") (codes "L" ∷ []),
+    record { label = codes "R"; probability = None },
+    is_known,
+    in_choice_is (codes "L" ∷ []),
+    ([], refl),
+  ),
+)
+
+pub action_missing : IsReasonAt Mismatch action_missing_file 73 74
 action_missing =
-    said_at (Holds Mismatch) action_missing_file 73 74 27 (before_again (codes "L" ∷ []))
-    (Closing ∷ Bare (codes "0") ∷ []) action_missing_cut (
-      codes "A" ∷ [],
-      map (λ s. s.node) left_right,
-      in_choice (codes "L" ∷ []),
-      stands_a left_right (in_choice (codes "L" ∷ [])),
-      inl (
-        set_of 1 1,
-        known,
-        choice (codes "i") (codes "L" ∷ []),
-        record { label = codes "R"; probability = None },
-        is_known,
-        in_choice_is (codes "L" ∷ []),
-        ([], refl),
-      ),
+    said_at (IsReason Mismatch) action_missing_file 73 74 27 (before_again (codes "L" ∷ []))
+    (Closing ∷ Bare (codes "0") ∷ [])
+    action_missing_cut (
+      action_missing_holds,
+      at_closing 10 (before_again (codes "L" ∷ [])) (Bare (codes "0") ∷ []) (record {
+        first_use =
+            λ h. absurd (text_is_no_number (before_again (codes "L" ∷ [])) (codes "L") refl h);
+        mismatch = λ h. omega arith;
+        below = λ h. omega arith;
+        no_entry = omega arith;
+      }),
     )
 
 action_too_many_cut : IsCutAt action_too_many_file 77 80 28
@@ -109,42 +149,90 @@ none_left next h e =
     let more : 2 ≡ suc (suc (suc (length h.0))) = ap length h.1 in
     omega (arith, more)
 
-pub action_too_many : HoldsAt Mismatch action_too_many_file 77 80
+action_too_many_holds : Holds Mismatch (before_again (codes "L" ∷ codes "R" ∷ []))
+    (Text (codes "S") ∷ Closing ∷ Bare (codes "0") ∷ [])
+action_too_many_holds = (
+  codes "A" ∷ [],
+  map (λ s. s.node) left_right,
+  in_choice (codes "L" ∷ codes "R" ∷ []),
+  stands_a left_right (in_choice (codes "L" ∷ codes "R" ∷ [])),
+  inl (
+    set_of 1 1,
+    known,
+    is_known,
+    inr (known, in_choice_is (codes "L" ∷ codes "R" ∷ []), none_left),
+  ),
+)
+
+pub action_too_many : IsReasonAt Mismatch action_too_many_file 77 80
 action_too_many =
-    said_at (Holds Mismatch) action_too_many_file 77 80 28
+    said_at (IsReason Mismatch) action_too_many_file 77 80 28
     (before_again (codes "L" ∷ codes "R" ∷ []))
-    (Text (codes "S") ∷ Closing ∷ Bare (codes "0") ∷ []) action_too_many_cut (
-      codes "A" ∷ [],
-      map (λ s. s.node) left_right,
-      in_choice (codes "L" ∷ codes "R" ∷ []),
-      stands_a left_right (in_choice (codes "L" ∷ codes "R" ∷ [])),
-      inl (
-        set_of 1 1,
-        known,
-        is_known,
-        inr (known, in_choice_is (codes "L" ∷ codes "R" ∷ []), none_left),
-      ),
+    (Text (codes "S") ∷ Closing ∷ Bare (codes "0") ∷ [])
+    action_too_many_cut (
+      action_too_many_holds,
+      at_text (before_again (codes "L" ∷ codes "R" ∷ []))
+          (codes "S") (Closing ∷ Bare (codes "0") ∷ []),
     )
 
 -- ---- first uses
+
+zero_is_number : IsNumber (codes "0") (whole (pos 0))
+unfolding number_of lowest_of gcd_within
+zero_is_number = number_is (codes "0") (whole (pos 0)) refl
+
+zero_is_index : IsIndex (codes "0") 0
+unfolding digits
+zero_is_index = decimal_is_index 0 (omega arith)
+
+zero_is_no_fault : ¬ (IsNoIndex (of_a (codes "m") [] at_a) (codes "0"))
+zero_is_no_fault (inl h) = elim h.0 [
+  | inl p ↦ no_player_again (codes "m") (codes "A" ∷ []) p.0 p.1
+  | inr s ↦ no_set_again (codes "m") (codes "A" ∷ []) s
+]
+zero_is_no_fault (inr h) = h.1 0 zero_is_index
+
+zero_is_no_player : ¬ (IsUnknownPlayer (of_a (codes "m") [] at_a) (codes "0"))
+zero_is_no_player (inl h) = no_player_again (codes "m") (codes "A" ∷ []) h.0 h.2
+zero_is_no_player (inr h) =
+    let byte : 48 ≡ 112 = ap (λ bytes. get_or bytes 0 0) h.3 in omega (arith, byte)
 
 undescribed_set_cut : IsCutAt undescribed_file 29 30 11 (of_a (codes "m") [] at_a)
     (Bare (codes "0") ∷ Bare (codes "t") ∷ Text [] ∷ Bare (codes "0") ∷ [])
 unfolding lex digits
 undescribed_set_cut = ((refl, refl), refl, refl)
 
-pub undescribed_set : HoldsAt NotDescribed undescribed_file 29 30
+undescribed_set_holds : Holds NotDescribed (of_a (codes "m") [] at_a)
+    (Bare (codes "0") ∷ Bare (codes "t") ∷ Text [] ∷ Bare (codes "0") ∷ [])
+undescribed_set_holds = (
+  (
+    codes "A" ∷ [],
+    [],
+    at_a,
+    stands_a [] at_a,
+    inl (set_of 1 1, behind_a, is_new (set_of 1 1)),
+  ),
+  tt,
+)
+
+pub undescribed_set : IsReasonAt NotDescribed undescribed_file 29 30
 undescribed_set =
-    said_at (Holds NotDescribed) undescribed_file 29 30 11 (of_a (codes "m") [] at_a)
-    (Bare (codes "0") ∷ Bare (codes "t") ∷ Text [] ∷ Bare (codes "0") ∷ []) undescribed_set_cut (
-      (
-        codes "A" ∷ [],
-        [],
-        at_a,
-        stands_a [] at_a,
-        inl (set_of 1 1, behind_a, is_new (set_of 1 1)),
-      ),
-      tt,
+    said_at (IsReason NotDescribed) undescribed_file 29 30 11 (of_a (codes "m") [] at_a)
+    (Bare (codes "0") ∷ Bare (codes "t") ∷ Text [] ∷ Bare (codes "0") ∷ [])
+    undescribed_set_cut (
+      undescribed_set_holds,
+      at_bare 9 (of_a (codes "m") [] at_a) (codes "0")
+          (Bare (codes "t") ∷ Text [] ∷ Bare (codes "0") ∷ []) (record {
+            no_number =
+                λ fault h. absurd (no_fault (codes "0") (whole (pos 0)) fault zero_is_number h.1);
+            no_index = λ h. absurd (zero_is_no_fault h);
+            unknown_player = λ h. absurd (zero_is_no_player h);
+            first_use = λ h. omega arith;
+            mismatch = λ h. omega arith;
+            negative = λ h. omega arith;
+            above = λ h. omega arith;
+            overflows = omega arith;
+          }),
     )
 
 abbrev to_end : List Token
@@ -159,18 +247,26 @@ undescribed_outcome_cut : IsCutAt undescribed_outcome_file 21 21 9
 unfolding lex digits
 undescribed_outcome_cut = ((refl, refl), refl, refl)
 
-pub undescribed_outcome : HoldsAt NotDescribed undescribed_outcome_file 21 21
+undescribed_outcome_holds : Holds NotDescribed
+    (file_tokens [] [] [] ++ (to_end ++ Bare (decimal 5) ∷ [])) []
+undescribed_outcome_holds = (
+  (
+    [],
+    [],
+    to_end ++ Bare (decimal 5) ∷ [],
+    stands [] [] [] (to_end ++ Bare (decimal 5) ∷ []),
+    inr (5, behind_five, is_new_outcome 5),
+  ),
+  tt,
+)
+
+pub undescribed_outcome : IsReasonAt NotDescribed undescribed_outcome_file 21 21
 undescribed_outcome =
-    said_at (Holds NotDescribed) undescribed_outcome_file 21 21 9
-    (file_tokens [] [] [] ++ (to_end ++ Bare (decimal 5) ∷ [])) [] undescribed_outcome_cut (
-      (
-        [],
-        [],
-        to_end ++ Bare (decimal 5) ∷ [],
-        stands [] [] [] (to_end ++ Bare (decimal 5) ∷ []),
-        inr (5, behind_five, is_new_outcome 5),
-      ),
-      tt,
+    said_at (IsReason NotDescribed) undescribed_outcome_file 21 21 9
+    (file_tokens [] [] [] ++ (to_end ++ Bare (decimal 5) ∷ [])) []
+    undescribed_outcome_cut (
+      undescribed_outcome_holds,
+      codes_at.at_end (file_tokens [] [] [] ++ (to_end ++ Bare (decimal 5) ∷ [])),
     )
 
 -- ---- unknown players
@@ -178,20 +274,27 @@ undescribed_outcome =
 abbrev to_player : List Token
 to_player = Bare (codes "p") ∷ Text [] ∷ []
 
-abbrev behind_second : List Token
-behind_second =
-    Bare (decimal 2) ∷ Bare (codes "1") ∷ Text (codes "i") ∷ Opening ∷ Text (codes "L") ∷ Closing
+abbrev behind_two : List Token
+behind_two =
+    Bare (codes "1") ∷ Text (codes "i") ∷ Opening ∷ Text (codes "L") ∷ Closing
     ∷ Bare (codes "0") ∷ Bare (codes "t") ∷ Text [] ∷ Bare (codes "0") ∷ []
 
+two_is_number : IsNumber (decimal 2) (whole (pos 2))
+unfolding digits number_of lowest_of gcd_within
+two_is_number = number_is (decimal 2) (whole (pos 2)) refl
+
+two_is_no_fault : ¬ (IsNoIndex (of_a (codes "m") [] to_player) (decimal 2))
+two_is_no_fault (inl h) = h.1 2 (numbered 2 refl)
+two_is_no_fault (inr h) = h.1 2 (numbered 2 refl).0
+
 second_player_cut : IsCutAt unknown_player_file 25 26 9 (of_a (codes "m") [] to_player)
-    behind_second
+    (Bare (decimal 2) ∷ behind_two)
 unfolding lex digits
 second_player_cut = ((refl, refl), refl, refl)
 
-pub second_player : HoldsAt UnknownPlayer unknown_player_file 25 26
-second_player =
-    said_at (Holds UnknownPlayer) unknown_player_file 25 26 9 (of_a (codes "m") [] to_player)
-    behind_second second_player_cut
+second_player_holds : Holds UnknownPlayer (of_a (codes "m") [] to_player)
+    (Bare (decimal 2) ∷ behind_two)
+second_player_holds =
     (inl (
       1,
       2,
@@ -199,6 +302,25 @@ second_player =
       (numbered 2 refl).0,
       omega arith,
     ))
+
+pub second_player : IsReasonAt UnknownPlayer unknown_player_file 25 26
+second_player =
+    said_at (IsReason UnknownPlayer) unknown_player_file 25 26 9 (of_a (codes "m") [] to_player)
+    (Bare (decimal 2) ∷ behind_two)
+    second_player_cut (
+      second_player_holds,
+      at_bare 8 (of_a (codes "m") [] to_player) (decimal 2) behind_two (record {
+        no_number =
+            λ fault h. absurd (no_fault (decimal 2) (whole (pos 2)) fault two_is_number h.1);
+        no_index = λ h. absurd (two_is_no_fault h);
+        unknown_player = λ h. omega arith;
+        first_use = λ h. omega arith;
+        mismatch = λ h. omega arith;
+        negative = λ h. omega arith;
+        above = λ h. omega arith;
+        overflows = omega arith;
+      }),
+    )
 
 -- without players a file may be a terminal node
 abbrev ended : List (SaidNode 0)
@@ -236,11 +358,28 @@ no_players_cut : IsCutAt no_players_file 15 16 6 (file_tokens [] [] [])
 unfolding lex digits
 no_players_cut = ((refl, refl), refl, refl)
 
-pub no_players : HoldsAt UnknownPlayer no_players_file 15 16
-no_players =
-    said_at (Holds UnknownPlayer) no_players_file 15 16 6 (file_tokens [] [] [])
-    (Bare (codes "p") ∷ behind_p) no_players_cut
+no_players_holds : Holds UnknownPlayer (file_tokens [] [] [])
+    (Bare (codes "p") ∷ behind_p)
+no_players_holds =
     (inr ([], stands [] [] [] [], may_end, refl))
+
+pub no_players : IsReasonAt UnknownPlayer no_players_file 15 16
+no_players =
+    said_at (IsReason UnknownPlayer) no_players_file 15 16 6 (file_tokens [] [] [])
+    (Bare (codes "p") ∷ behind_p)
+    no_players_cut (
+      no_players_holds,
+      at_bare 8 heading (codes "p") behind_p (record {
+        no_number = λ fault h. absurd (heading_wants_no_number h.0);
+        no_index = λ h. absurd (heading_wants_no_index (codes "p") h);
+        unknown_player = λ h. omega arith;
+        first_use = λ h. omega arith;
+        mismatch = λ h. omega arith;
+        negative = λ h. omega arith;
+        above = λ h. omega arith;
+        overflows = omega arith;
+      }),
+    )
 
 -- ---- a set number that is zero, and a list without actions
 
@@ -257,11 +396,29 @@ set_zero_cut = ((refl, refl), refl, refl)
 zero_is_not_positive : (n : ℕ) → ¬ (IsPositive (codes "0") n)
 zero_is_not_positive n h = let e : 0 ≡ n = h.0.1 in absurd (omega (arith, e, h.1))
 
-pub set_zero : HoldsAt BadIndex set_zero_file 27 28
-set_zero =
-    said_at (Holds BadIndex) set_zero_file 27 28 10 (of_a (codes "m") [] to_a)
-    (Bare (codes "0") ∷ behind_zero) set_zero_cut
+set_zero_holds : Holds BadIndex (of_a (codes "m") [] to_a)
+    (Bare (codes "0") ∷ behind_zero)
+set_zero_holds =
     (inl (inr (codes "A" ∷ [], [], to_a, 1, stands_a [] to_a, to_a_is), zero_is_not_positive))
+
+pub set_zero : IsReasonAt BadIndex set_zero_file 27 28
+set_zero =
+    said_at (IsReason BadIndex) set_zero_file 27 28 10 (of_a (codes "m") [] to_a)
+    (Bare (codes "0") ∷ behind_zero)
+    set_zero_cut (
+      set_zero_holds,
+      at_bare 7 (of_a (codes "m") [] to_a) (codes "0") behind_zero (record {
+        no_number =
+            λ fault h. absurd (no_fault (codes "0") (whole (pos 0)) fault zero_is_number h.1);
+        no_index = λ h. omega arith;
+        unknown_player = λ h. omega arith;
+        first_use = λ h. omega arith;
+        mismatch = λ h. omega arith;
+        negative = λ h. omega arith;
+        above = λ h. omega arith;
+        overflows = omega arith;
+      }),
+    )
 
 no_action_cut : IsCutAt no_action_file 35 36 13 (of_a (codes "m") [] (in_choice []))
     (Closing ∷ Bare (codes "0") ∷ [])

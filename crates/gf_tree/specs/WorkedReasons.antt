@@ -85,3 +85,6 @@ set_zero_file = codes "EFG 2 R \"m\" { \"A\" } p \"\" 1 0 \"i\" { \"L\" } 0 t \"
 
 abbrev pub no_action_file : List ℕ
 no_action_file = codes "EFG 2 R \"m\" { \"A\" } p \"\" 1 1 \"i\" { } 0"
+
+abbrev pub no_lottery_file : List ℕ
+no_lottery_file = codes "EFG 2 R \"m\" { \"A\" } c \"\" 1 \"n\" { } 0"

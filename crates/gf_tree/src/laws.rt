@@ -20,13 +20,13 @@ ghost use Rattle.gf_tree.specs.FiniteMap.{Described, first_uses};
 ghost use Rattle.gf_tree.specs.Spellable.{IsSpellable};
 ghost use Rattle.gf_tree.specs.Learned.{Learns, LearnsGame};
 ghost use Rattle.gf_tree.specs.WorkedTrees.{five, five_file, bonus, bonus_file, forgetful, forgetful_file, undescribed_file, mismatched_file, unknown_player_file, too_likely_file};
-ghost use Rattle.gf_tree.specs.WorkedReasons.{HoldsAt};
+ghost use Rattle.gf_tree.specs.WorkedReasons.{HoldsAt, IsReasonAt};
 ghost use Rattle.gf_tree.specs.WorkedReasons.{no_number_file, negative_file, above_one_file};
 ghost use Rattle.gf_tree.specs.WorkedReasons.{below_one_file, overflowing_file};
 ghost use Rattle.gf_tree.specs.WorkedReasons.{other_action_file, action_missing_file};
 ghost use Rattle.gf_tree.specs.WorkedReasons.{action_too_many_file};
 ghost use Rattle.gf_tree.specs.WorkedReasons.{undescribed_outcome_file, no_players_file};
-ghost use Rattle.gf_tree.specs.WorkedReasons.{set_zero_file, no_action_file};
+ghost use Rattle.gf_tree.specs.WorkedReasons.{set_zero_file, no_lottery_file, no_action_file};
 ghost use Rattle.gf_tree.specs.Game.{Game, IsGame, used_sets, used_outcomes};
 ghost use Rattle.gf_tree.specs.GameOf.{IsGameOf, MeansGame, SpellsGame};
 
@@ -101,18 +101,19 @@ pub fn worked_refusals()
 /// and with one too many; a negative probability, probabilities that add to more than one, to less,
 /// and to what does not fit; and a set without actions.
 pub fn worked_reasons()
-    ensures not_a_number { HoldsAt NotANumber no_number_file 33 34 }
-    ensures set_zero { HoldsAt BadIndex set_zero_file 27 28 }
-    ensures second_of_one { HoldsAt UnknownPlayer unknown_player_file 25 26 }
-    ensures no_players { HoldsAt UnknownPlayer no_players_file 15 16 }
-    ensures undescribed_set { HoldsAt NotDescribed undescribed_file 29 30 }
-    ensures undescribed_outcome { HoldsAt NotDescribed undescribed_outcome_file 21 21 }
-    ensures other_action { HoldsAt Mismatch other_action_file 73 76 }
-    ensures action_missing { HoldsAt Mismatch action_missing_file 73 74 }
-    ensures action_too_many { HoldsAt Mismatch action_too_many_file 77 80 }
-    ensures negative { HoldsAt NegativeProbability negative_file 33 37 }
-    ensures above_one { HoldsAt SumAboveOne above_one_file 41 44 }
-    ensures below_one { HoldsAt SumBelowOne below_one_file 68 69 }
+    ensures not_a_number { IsReasonAt NotANumber no_number_file 33 34 }
+    ensures set_zero { IsReasonAt BadIndex set_zero_file 27 28 }
+    ensures second_of_one { IsReasonAt UnknownPlayer unknown_player_file 25 26 }
+    ensures no_players { IsReasonAt UnknownPlayer no_players_file 15 16 }
+    ensures undescribed_set { IsReasonAt NotDescribed undescribed_file 29 30 }
+    ensures undescribed_outcome { IsReasonAt NotDescribed undescribed_outcome_file 21 21 }
+    ensures other_action { IsReasonAt Mismatch other_action_file 73 76 }
+    ensures action_missing { IsReasonAt Mismatch action_missing_file 73 74 }
+    ensures action_too_many { IsReasonAt Mismatch action_too_many_file 77 80 }
+    ensures negative { IsReasonAt NegativeProbability negative_file 33 37 }
+    ensures above_one { IsReasonAt SumAboveOne above_one_file 41 44 }
+    ensures below_one { IsReasonAt SumBelowOne below_one_file 68 69 }
     ensures overflowing { HoldsAt SumOverflow overflowing_file 79 82 }
+    ensures no_lottery { IsReasonAt NoEntry no_lottery_file 33 34 }
     ensures no_action { HoldsAt NoEntry no_action_file 35 36 }
 {}

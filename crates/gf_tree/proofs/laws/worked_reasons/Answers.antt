@@ -1,4 +1,5 @@
-use Rattle.gf_tree.proofs.WorkedLotteries.{no_number, negative, above_one, below_one, overflowing}
+use Rattle.gf_tree.proofs.WorkedLotteries.{no_number, negative, above_one}
+use Rattle.gf_tree.proofs.WorkedLotteries.{below_one, overflowing, no_lottery}
 use Rattle.gf_tree.proofs.WorkedReasons.{set_zero, second_player, no_players}
 use Rattle.gf_tree.proofs.WorkedReasons.{undescribed_set, undescribed_outcome, other_action}
 use Rattle.gf_tree.proofs.WorkedReasons.{action_missing, action_too_many, no_action}
@@ -45,3 +46,6 @@ returns-clause-overflowing c = overflowing
 
 pub returns-clause-no_action : goal.returns-clause-no_action
 returns-clause-no_action c = no_action
+
+pub returns-clause-no_lottery : goal.returns-clause-no_lottery
+returns-clause-no_lottery c = no_lottery
