@@ -17,6 +17,8 @@ pub mod WorkedLotteries
 pub mod WorkedNone
 pub mod WorkedPlaces
 pub mod WorkedReasons
+pub mod WorkedRepeats
+pub mod WorkedVersion
 pub mod WrittenGames
 pub mod WrittenNodes
 pub mod WrittenTokens

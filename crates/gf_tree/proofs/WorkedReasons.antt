@@ -22,7 +22,8 @@ use Rattle.gf_tree.specs.Front.{BehindOutcome, KnowsSet}
 use Rattle.gf_tree.specs.Due.{NodeIsDue}
 use Rattle.gf_tree.specs.Reason.{IsNoIndex, IsUnknownPlayer, GoesOnWith, Holds, IsReason}
 use Rattle.gf_tree.specs.WorkedTrees.{choice, undescribed_file, unknown_player_file}
-use Rattle.gf_tree.specs.WorkedReasons.{HoldsAt, IsReasonAt, other_action_file, action_missing_file}
+use Rattle.gf_tree.specs.WorkedReasons.{CodeHoldsAt, IsReasonAt}
+use Rattle.gf_tree.specs.WorkedReasons.{other_action_file, action_missing_file}
 use Rattle.gf_tree.specs.WorkedReasons.{action_too_many_file, undescribed_outcome_file}
 use Rattle.gf_tree.specs.WorkedReasons.{no_players_file, set_zero_file, no_action_file}
 use Rattle.gf_tree.proofs.Worked.{said_choice, no_outcome, SaidNode, at_end}
@@ -231,7 +232,7 @@ undescribed_set =
             mismatch = λ h. omega arith;
             negative = λ h. omega arith;
             above = λ h. omega arith;
-            overflows = omega arith;
+            overflows = λ h. omega arith;
           }),
     )
 
@@ -318,12 +319,12 @@ second_player =
         mismatch = λ h. omega arith;
         negative = λ h. omega arith;
         above = λ h. omega arith;
-        overflows = omega arith;
+        overflows = λ h. omega arith;
       }),
     )
 
 -- without players a file may be a terminal node
-abbrev ended : List (SaidNode 0)
+abbrev pub ended : List (SaidNode 0)
 ended = at_end no_outcome ∷ []
 
 none_differ : {K D : Type 0} → AreConsistent {K = K} {D = D} []
@@ -333,7 +334,7 @@ none_differ = record {
   described_alike = λ key c d h _. absurd (omega (arith, h.1));
 }
 
-ended_is_consistent : IsConsistent (file_of [] [] ended (0 ∷ []))
+pub ended_is_consistent : IsConsistent (file_of [] [] ended (0 ∷ []))
 ended_is_consistent = record {
   sets = none_differ;
   outcomes = none_differ;
@@ -377,7 +378,7 @@ no_players =
         mismatch = λ h. omega arith;
         negative = λ h. omega arith;
         above = λ h. omega arith;
-        overflows = omega arith;
+        overflows = λ h. omega arith;
       }),
     )
 
@@ -416,7 +417,7 @@ set_zero =
         mismatch = λ h. omega arith;
         negative = λ h. omega arith;
         above = λ h. omega arith;
-        overflows = omega arith;
+        overflows = λ h. omega arith;
       }),
     )
 
@@ -425,7 +426,7 @@ no_action_cut : IsCutAt no_action_file 35 36 13 (of_a (codes "m") [] (in_choice 
 unfolding lex digits
 no_action_cut = ((refl, refl), refl, refl)
 
-pub no_action : HoldsAt NoEntry no_action_file 35 36
+pub no_action : CodeHoldsAt NoEntry no_action_file 35 36
 no_action =
     said_at (Holds NoEntry) no_action_file 35 36 13 (of_a (codes "m") [] (in_choice []))
     (Closing ∷ Bare (codes "0") ∷ []) no_action_cut (

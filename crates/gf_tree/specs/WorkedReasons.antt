@@ -20,8 +20,8 @@ abbrev pub span_of : ℕ → ℕ → Span
 span_of start end = record { start = start; end = end }
 
 -- the code applies at these bytes
-abbrev pub HoldsAt : Why → List ℕ → ℕ → ℕ → Type 0
-HoldsAt why bytes start end = IsSaidAt bytes (span_of start end) (Holds why)
+abbrev pub CodeHoldsAt : Why → List ℕ → ℕ → ℕ → Type 0
+CodeHoldsAt why bytes start end = IsSaidAt bytes (span_of start end) (Holds why)
 
 -- it is the reason there
 abbrev pub IsReasonAt : Why → List ℕ → ℕ → ℕ → Type 0
@@ -88,3 +88,35 @@ no_action_file = codes "EFG 2 R \"m\" { \"A\" } p \"\" 1 1 \"i\" { } 0"
 
 abbrev pub no_lottery_file : List ℕ
 no_lottery_file = codes "EFG 2 R \"m\" { \"A\" } c \"\" 1 \"n\" { } 0"
+
+-- ---- outcomes, and repeated probabilities
+
+abbrev pub outcome_plus_one_file : List ℕ
+outcome_plus_one_file = codes "EFG 2 R \"m\" { \"A\" } t \"\" +1"
+
+abbrev pub no_denominator_file : List ℕ
+no_denominator_file = codes "EFG 2 R \"m\" { \"A\" } t \"\" 1 \"x\" { 1/0 }"
+
+-- an outcome that pays 5, up to its number where it is used again
+abbrev pub paid_again : List ℕ → List ℕ
+paid_again more =
+    codes
+    "EFG 2 R \"m\" { \"A\" } p \"\" 1 1 \"i\" { \"L\" \"R\" } 0 t \"\" 1 \"x\" { 5 } t \"\" 1 "
+    ++ more
+
+abbrev pub other_name_file : List ℕ
+other_name_file = paid_again (codes "\"y\" { 5 }")
+
+abbrev pub other_payoff_file : List ℕ
+other_payoff_file = paid_again (codes "\"x\" { 6 }")
+
+-- a probability of 0 that is 1/2 where it is given again
+abbrev pub other_probability_file : List ℕ
+other_probability_file =
+    codes "EFG 2 R \"m\" { } c \"\" 1 \"n\" { \"h\" 1 \"t\" 0 } 0 t \"\" 0 "
+    ++ codes "c \"\" 1 \"n\" { \"h\" 1 \"t\" 1/2 } 0"
+
+-- ---- the heading
+
+abbrev pub no_version_file : List ℕ
+no_version_file = codes "EFG x"

@@ -3,11 +3,14 @@
 ghost use Rattle.std.specs.Prelude.{◌≡◌, ◌↔◌, Bool, Decides, List, [], ◌∷◌, ℕ, map};
 ghost use Rattle.std.specs.List.{AllByRecursion};
 ghost use Rattle.gf_token.specs.Token.{Token};
-ghost use Rattle.gf_token.specs.declared.fault.Why.TheVariants.{NotANumber, BadIndex};
+ghost use Rattle.gf_token.specs.declared.fault.Why.TheVariants.{Expected, NotANumber, ZeroDenominator, BadIndex};
 ghost use Rattle.gf_token.specs.declared.fault.Why.TheVariants.{UnknownPlayer};
 ghost use Rattle.gf_token.specs.declared.fault.Why.TheVariants.{NotDescribed, Mismatch};
 ghost use Rattle.gf_token.specs.declared.fault.Why.TheVariants.{NegativeProbability, SumAboveOne};
 ghost use Rattle.gf_token.specs.declared.fault.Why.TheVariants.{SumBelowOne, SumOverflow, NoEntry};
+ghost use Rattle.gf_token.specs.declared.fault.What.TheVariants.{Version};
+ghost use Rattle.gf_token.specs.Place.{IsOffendingPlace};
+ghost use Rattle.gf_tree.specs.Front.{IsExtensiveFile};
 ghost use Rattle.gf_tree.specs.Tree.{Tree};
 ghost use Rattle.gf_tree.specs.Tree.Trees.{none, more};
 ghost use Rattle.gf_tree.specs.PrefixOrder.{Entry, Fills, flatten};
@@ -20,12 +23,15 @@ ghost use Rattle.gf_tree.specs.FiniteMap.{Described, first_uses};
 ghost use Rattle.gf_tree.specs.Spellable.{IsSpellable};
 ghost use Rattle.gf_tree.specs.Learned.{Learns, LearnsGame};
 ghost use Rattle.gf_tree.specs.WorkedTrees.{five, five_file, bonus, bonus_file, forgetful, forgetful_file, undescribed_file, mismatched_file, unknown_player_file, too_likely_file};
-ghost use Rattle.gf_tree.specs.WorkedReasons.{HoldsAt, IsReasonAt};
+ghost use Rattle.gf_tree.specs.WorkedReasons.{CodeHoldsAt, IsReasonAt, span_of};
 ghost use Rattle.gf_tree.specs.WorkedReasons.{no_number_file, negative_file, above_one_file};
 ghost use Rattle.gf_tree.specs.WorkedReasons.{below_one_file, overflowing_file};
 ghost use Rattle.gf_tree.specs.WorkedReasons.{other_action_file, action_missing_file};
 ghost use Rattle.gf_tree.specs.WorkedReasons.{action_too_many_file};
 ghost use Rattle.gf_tree.specs.WorkedReasons.{undescribed_outcome_file, no_players_file};
+ghost use Rattle.gf_tree.specs.WorkedReasons.{no_version_file, no_denominator_file};
+ghost use Rattle.gf_tree.specs.WorkedReasons.{outcome_plus_one_file, other_probability_file};
+ghost use Rattle.gf_tree.specs.WorkedReasons.{other_name_file, other_payoff_file};
 ghost use Rattle.gf_tree.specs.WorkedReasons.{set_zero_file, no_lottery_file, no_action_file};
 ghost use Rattle.gf_tree.specs.Game.{Game, IsGame, used_sets, used_outcomes};
 ghost use Rattle.gf_tree.specs.GameOf.{IsGameOf, MeansGame, SpellsGame};
@@ -95,14 +101,20 @@ pub fn worked_refusals()
     ensures too_likely { (g : Game) → ¬ (SpellsGame too_likely_file g) }
 {}
 
-/// Worked files, each with a code that applies at a place of it: a probability that is no number; a
-/// set numbered 0; the second of one player, and a player where there are none; a set and an
-/// outcome without a description; a set described again with another action, without its last one,
-/// and with one too many; a negative probability, probabilities that add to more than one, to less,
-/// and to what does not fit; and a set without actions.
+/// Worked files, each with its reason at a place, or with a code that holds there. A version that is
+/// none, with the whole of why it is refused there. A probability that is no number, and a payoff
+/// without a denominator; a set numbered 0, and an outcome numbered `+1`; the second of one player,
+/// and a player where there are none; a set and an outcome without a description. A set described
+/// again with another action, without its last one, with one too many and with another probability,
+/// and an outcome with another name and another payoff. A negative probability; probabilities that
+/// add to more than one, to less, and to what does not fit; and sets without actions.
 pub fn worked_reasons()
+    ensures no_version { IsReasonAt (Expected Version) no_version_file 4 5 }
+    ensures no_version_place { IsOffendingPlace IsExtensiveFile no_version_file (span_of 4 5) }
     ensures not_a_number { IsReasonAt NotANumber no_number_file 33 34 }
+    ensures no_denominator { CodeHoldsAt ZeroDenominator no_denominator_file 33 36 }
     ensures set_zero { IsReasonAt BadIndex set_zero_file 27 28 }
+    ensures outcome_plus_one { IsReasonAt BadIndex outcome_plus_one_file 25 27 }
     ensures second_of_one { IsReasonAt UnknownPlayer unknown_player_file 25 26 }
     ensures no_players { IsReasonAt UnknownPlayer no_players_file 15 16 }
     ensures undescribed_set { IsReasonAt NotDescribed undescribed_file 29 30 }
@@ -110,10 +122,13 @@ pub fn worked_reasons()
     ensures other_action { IsReasonAt Mismatch other_action_file 73 76 }
     ensures action_missing { IsReasonAt Mismatch action_missing_file 73 74 }
     ensures action_too_many { IsReasonAt Mismatch action_too_many_file 77 80 }
+    ensures other_probability { CodeHoldsAt Mismatch other_probability_file 75 78 }
+    ensures other_name { IsReasonAt Mismatch other_name_file 71 74 }
+    ensures other_payoff { CodeHoldsAt Mismatch other_payoff_file 77 78 }
     ensures negative { IsReasonAt NegativeProbability negative_file 33 37 }
     ensures above_one { IsReasonAt SumAboveOne above_one_file 41 44 }
     ensures below_one { IsReasonAt SumBelowOne below_one_file 68 69 }
-    ensures overflowing { HoldsAt SumOverflow overflowing_file 79 82 }
+    ensures overflowing { CodeHoldsAt SumOverflow overflowing_file 79 82 }
     ensures no_lottery { IsReasonAt NoEntry no_lottery_file 33 34 }
-    ensures no_action { HoldsAt NoEntry no_action_file 35 36 }
+    ensures no_action { CodeHoldsAt NoEntry no_action_file 35 36 }
 {}
