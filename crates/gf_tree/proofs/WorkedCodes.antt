@@ -16,13 +16,13 @@ use Rattle.gf_fraction.specs.NumberSpelling.{IsNumber, HasNumberFault}
 use Rattle.gf_fraction.specs.declared.fraction.NumberFault.{NumberFault}
 use Rattle.gf_fraction.specs.declared.fraction.NumberFault.TheVariants as number
 use Rattle.gf_fraction.proofs.Texts.{one_answer}
-use Rattle.gf_tree.specs.Reason.{IsNoNumber, IsNoIndex, IsUnknownPlayer, EndsInFirstUse}
+use Rattle.gf_tree.specs.Reason.{IsNoNumber, IsBadIndex, IsUnknownPlayer, EndsInFirstUse}
 use Rattle.gf_tree.specs.Reason.{IsMismatch, IsWrongProbability, StaysBelowOne, Holds}
 
 -- what the codes that may apply at a bare token have to be
 pub record AtBare (floor : ℕ) (before : List Token) (bytes : List ℕ) : Type 0 where
   pub no_number : (fault : NumberFault) → IsNoNumber before bytes fault → floor ≤ 4
-  pub no_index : IsNoIndex before bytes → floor ≤ 7
+  pub no_index : IsBadIndex before bytes → floor ≤ 7
   pub unknown_player : IsUnknownPlayer before bytes → floor ≤ 8
   pub first_use : EndsInFirstUse before → floor ≤ 9
   pub mismatch : IsMismatch before (Bare bytes) → floor ≤ 10

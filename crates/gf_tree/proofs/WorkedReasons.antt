@@ -18,9 +18,9 @@ use Rattle.gf_fraction.proofs.Numbers.{number_is}
 use Rattle.gf_tree.specs.Description.{Action, InformationSet, set_of}
 use Rattle.gf_tree.specs.Consistent.{AreConsistent, IsConsistent}
 use Rattle.gf_tree.specs.Sentence.{IsPositive}
-use Rattle.gf_tree.specs.Front.{BehindOutcome, KnowsSet}
+use Rattle.gf_tree.specs.Front.{BehindOutcomeNumber, KnowsSet}
 use Rattle.gf_tree.specs.Due.{NodeIsDue}
-use Rattle.gf_tree.specs.Reason.{IsNoIndex, IsUnknownPlayer, GoesOnWith, Holds, IsReason}
+use Rattle.gf_tree.specs.Reason.{IsBadIndex, IsUnknownPlayer, GoesOnWith, Holds, IsReason}
 use Rattle.gf_tree.specs.WorkedTrees.{choice, undescribed_file, unknown_player_file}
 use Rattle.gf_tree.specs.WorkedReasons.{CodeHoldsAt, IsReasonAt}
 use Rattle.gf_tree.specs.WorkedReasons.{other_action_file, action_missing_file}
@@ -186,7 +186,7 @@ zero_is_index : IsIndex (codes "0") 0
 unfolding digits
 zero_is_index = decimal_is_index 0 (omega arith)
 
-zero_is_no_fault : ¬ (IsNoIndex (of_a (codes "m") [] at_a) (codes "0"))
+zero_is_no_fault : ¬ (IsBadIndex (of_a (codes "m") [] at_a) (codes "0"))
 zero_is_no_fault (inl h) = elim h.0 [
   | inl p ↦ no_player_again (codes "m") (codes "A" ∷ []) p.0 p.1
   | inr s ↦ no_set_again (codes "m") (codes "A" ∷ []) s
@@ -239,7 +239,7 @@ undescribed_set =
 abbrev to_end : List Token
 to_end = Bare (codes "t") ∷ Text [] ∷ []
 
-behind_five : BehindOutcome (to_end ++ Bare (decimal 5) ∷ []) 5
+behind_five : BehindOutcomeNumber (to_end ++ Bare (decimal 5) ∷ []) 5
 behind_five =
     (to_end, None, decimal 5, refl, (codes "t", [], [], refl, (refl, refl)), numbered 5 refl)
 
@@ -284,7 +284,7 @@ two_is_number : IsNumber (decimal 2) (whole (pos 2))
 unfolding digits number_of lowest_of gcd_within
 two_is_number = number_is (decimal 2) (whole (pos 2)) refl
 
-two_is_no_fault : ¬ (IsNoIndex (of_a (codes "m") [] to_player) (decimal 2))
+two_is_no_fault : ¬ (IsBadIndex (of_a (codes "m") [] to_player) (decimal 2))
 two_is_no_fault (inl h) = h.1 2 (numbered 2 refl)
 two_is_no_fault (inr h) = h.1 2 (numbered 2 refl).0
 

@@ -14,7 +14,7 @@ use Rattle.gf_fraction.specs.Computed.{number_of, lowest_of, gcd_within}
 use Rattle.gf_fraction.specs.declared.fraction.NumberFault.TheVariants as number
 use Rattle.gf_fraction.proofs.Numbers.{number_is, number_is_computed}
 use Rattle.gf_tree.specs.Description.{Action, InformationSet, Outcome, set_of}
-use Rattle.gf_tree.specs.Front.{BehindOutcome, InPayoffs, InActions}
+use Rattle.gf_tree.specs.Front.{BehindOutcomeNumber, InPayoffs, InActions}
 use Rattle.gf_tree.specs.Reason.{Holds, IsReason}
 use Rattle.gf_tree.specs.WorkedTrees.{half}
 use Rattle.gf_tree.specs.WorkedReasons.{CodeHoldsAt, IsReasonAt, outcome_plus_one_file}
@@ -78,7 +78,7 @@ outcome_plus_one =
 abbrev at_one : List Token
 at_one = to_end ++ Bare (decimal 1) ∷ []
 
-behind_one : BehindOutcome at_one 1
+behind_one : BehindOutcomeNumber at_one 1
 behind_one =
     (to_end, None, decimal 1, refl, (codes "t", [], [], refl, (refl, refl)), numbered 1 refl)
 

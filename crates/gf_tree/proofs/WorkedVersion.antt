@@ -24,7 +24,7 @@ use Rattle.gf_token.proofs.Spelled.{found}
 use Rattle.gf_tree.specs.FileTree.{FileNode}
 use Rattle.gf_tree.specs.Front.{IsExtensiveFile, EndsInNode}
 use Rattle.gf_tree.specs.Due.{ProbabilityIsDue, PayoffIsDue}
-use Rattle.gf_tree.specs.Reason.{IsNoIndex, IsUnknownPlayer, IsWrongProbability, Holds, IsReason}
+use Rattle.gf_tree.specs.Reason.{IsBadIndex, IsUnknownPlayer, IsWrongProbability, Holds, IsReason}
 use Rattle.gf_tree.specs.WorkedReasons.{IsReasonAt, span_of, no_version_file}
 use Rattle.gf_tree.proofs.Worked.{file_of, is_said}
 use Rattle.gf_tree.proofs.WorkedCodes.{at_bare}
@@ -83,7 +83,7 @@ no_number_due : ¬ (ProbabilityIsDue before ⊎ PayoffIsDue before)
 no_number_due (inl h) = none_stands h.0 h.1 h.2 h.5
 no_number_due (inr h) = none_stands h.0 h.1 h.2 h.5
 
-no_index_due : (bytes : List ℕ) → ¬ (IsNoIndex before bytes)
+no_index_due : (bytes : List ℕ) → ¬ (IsBadIndex before bytes)
 no_index_due bytes (inl h) = elim h.0 [
   | inl p ↦ none_stands p.1.0 p.1.1 p.1.2 p.1.3
   | inr s ↦ none_stands s.0 s.1 s.2 s.4
