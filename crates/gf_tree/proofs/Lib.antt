@@ -26,6 +26,8 @@ pub mod WorkedNone
 pub mod WorkedPlaces
 pub mod WorkedProbabilities
 pub mod WorkedReasons
+pub mod WorkedRepeats
+pub mod WorkedVersion
 pub mod WrittenGames
 pub mod WrittenNodes
 pub mod WrittenTokens

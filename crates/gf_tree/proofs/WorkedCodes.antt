@@ -22,13 +22,13 @@ use Rattle.gf_tree.specs.Reason.{IsMismatch, IsWrongProbability, StaysBelowOne, 
 -- what the codes that may apply at a bare token have to be
 pub record AtBare (floor : ℕ) (before : List Token) (bytes : List ℕ) : Type 0 where
   pub no_number : (fault : NumberFault) → IsNoNumber before bytes fault → floor ≤ 4
-  pub no_index : IsNoIndex before bytes → floor ≤ 7
+  pub no_index : IsBadIndex before bytes → floor ≤ 7
   pub unknown_player : IsUnknownPlayer before bytes → floor ≤ 8
   pub first_use : EndsInFirstUse before → floor ≤ 9
   pub mismatch : IsMismatch before (Bare bytes) → floor ≤ 10
   pub negative : IsWrongProbability NegativeProbability before bytes → floor ≤ 11
   pub above : IsWrongProbability SumAboveOne before bytes → floor ≤ 12
-  pub overflows : floor ≤ 14
+  pub overflows : IsWrongProbability SumOverflow before bytes → floor ≤ 14
 
 pub at_bare : (floor : ℕ) (before : List Token) (bytes : List ℕ) (after : List Token)
     → AtBare floor before bytes → (other : Why) → Holds other before (Bare bytes ∷ after)
@@ -48,7 +48,7 @@ at_bare floor before bytes after k Mismatch h = k.mismatch h
 at_bare floor before bytes after k NegativeProbability h = k.negative h
 at_bare floor before bytes after k SumAboveOne h = k.above h
 at_bare floor before bytes after k SumBelowOne h = absurd h
-at_bare floor before bytes after k SumOverflow h = k.overflows
+at_bare floor before bytes after k SumOverflow h = k.overflows h
 at_bare floor before bytes after k NoEntry h = absurd h
 at_bare floor before bytes after k UnknownOutcome h = absurd h
 at_bare floor before bytes after k TooManyProfiles h = absurd h

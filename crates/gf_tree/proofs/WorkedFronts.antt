@@ -144,7 +144,7 @@ short_mover letter mover zero t u ts h e = let none = sym h.1 ∙ e in absurd cc
 short_mover letter mover (suc player) t u ts h e = let one = sym h.2 ∙ e in absurd cc
 
 no_set_behind : (front inner : List Token) (key : SetKey) → front ≡ open_node inner
-    → ¬ (BehindSet front key)
+    → ¬ (BehindSetNumber front key)
 no_set_behind front inner key e h =
     let to_set = h.3 in
     let node : Bare to_set.0 ∷ Text to_set.1 ∷ (to_set.2 ++ Bare h.1 ∷ []) ≡ open_node inner =
@@ -160,7 +160,7 @@ no_set_behind front inner key e h =
 
 -- nor is there all that stands before the number of an outcome
 ends_no_step : (front rest inner : List Token) (set : Option (Use SetKey InformationSet))
-    → ToOutcome front set → NoText rest → IsOpen inner → front ++ rest ≡ open_node inner → ⊥
+    → ToOutcomeNumber front set → NoText rest → IsOpen inner → front ++ rest ≡ open_node inner → ⊥
 ends_no_step front rest inner set h plain unclosed e =
     let whole = ap (λ (ts : List Token). ts ++ rest) (sym h.3) ∙ e in
     let letter : h.0 ≡ codes "c" = cc in
@@ -218,7 +218,7 @@ module _ (title : List ℕ) (names : List (List ℕ)) (inner : List Token)
       (append-nil h.2 ∙ front)
 
   no_outcome_behind : (front : List Token) (number : ℕ) → front ≡ open_node inner
-      → ¬ (BehindOutcome front number)
+      → ¬ (BehindOutcomeNumber front number)
   no_outcome_behind front number e h =
       ends_no_step h.0 (Bare h.2 ∷ []) inner h.1 h.4 (λ l others f. absurd cc) unclosed
       (sym h.3 ∙ e)
@@ -229,8 +229,8 @@ module _ (title : List ℕ) (names : List (List ℕ)) (inner : List Token)
       front : h.2 ≡ open_node inner
       front = (parted h.0 h.1 h.2 h.3).1
 
-      by_kind : (((key : SetKey) × BehindSet h.2 key × IsNewSet h.1 key)
-          ⊎ ((number : ℕ) × BehindOutcome h.2 number × IsNewOutcome h.1 number)) → ⊥
+      by_kind : (((key : SetKey) × BehindSetNumber h.2 key × IsNewSet h.1 key)
+          ⊎ ((number : ℕ) × BehindOutcomeNumber h.2 number × IsNewOutcome h.1 number)) → ⊥
       by_kind (inl s) = no_set_behind h.2 inner s.0 front s.1
       by_kind (inr o) = no_outcome_behind h.2 o.0 front o.1
 
@@ -249,7 +249,7 @@ module _ (title : List ℕ) (names : List (List ℕ)) (inner : List Token)
       by_token Comma none d = elim d [ inl x ↦ absurd x | inr x ↦ absurd x ]
       by_token Broken none d = elim d [ inl x ↦ absurd x | inr x ↦ absurd x ]
 
-  pub no_index_due : (bytes : List ℕ) → ¬ (IsNoIndex before_open bytes)
+  pub no_index_due : (bytes : List ℕ) → ¬ (IsBadIndex before_open bytes)
   no_index_due bytes (inl h) = elim h.0 [ inl p ↦ no_player p.0 p.1 | inr s ↦ no_set s ]
   no_index_due bytes (inr h) = no_outcome_due h.0
 
@@ -309,7 +309,7 @@ heading_wants_no_number (inl h) =
 heading_wants_no_number (inr h) =
     not_empty h.6.0 (Text h.4.name) (Opening ∷ h.6.1) (sym h.6.2 ∙ alone h.0 h.1 h.2 h.5)
 
-pub heading_wants_no_index : (bytes : List ℕ) → ¬ (IsNoIndex heading bytes)
+pub heading_wants_no_index : (bytes : List ℕ) → ¬ (IsBadIndex heading bytes)
 heading_wants_no_index bytes (inl h) = elim h.0 [
   | inl p ↦ let e = sym p.1.5.1 ∙ alone p.1.0 p.1.1 p.1.2 p.1.3 in absurd cc
   | inr s ↦ let e = sym s.5.3 ∙ alone s.0 s.1 s.2 s.4 in absurd cc
@@ -398,7 +398,7 @@ text_is_no_number before label e h = by_kind h.4
         sym e ∙ ap (final Comma) whole ∙ final_is Comma (Bare bytes) (h.3.whole ++ behind) in
         absurd cc
 
-    by_kind : (((key : SetKey) × BehindSet h.2 key × IsNewSet h.1 key)
-        ⊎ ((number : ℕ) × BehindOutcome h.2 number × IsNewOutcome h.1 number)) → ⊥
+    by_kind : (((key : SetKey) × BehindSetNumber h.2 key × IsNewSet h.1 key)
+        ⊎ ((number : ℕ) × BehindOutcomeNumber h.2 number × IsNewOutcome h.1 number)) → ⊥
     by_kind (inl s) = by_end h.2 s.1.0 s.1.1 s.1.2 h.3.parts
     by_kind (inr o) = by_end h.2 o.1.0 o.1.2 o.1.3 h.3.parts

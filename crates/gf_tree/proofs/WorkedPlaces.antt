@@ -11,7 +11,8 @@ use Rattle.gf_token.specs.Lexing.{lex}
 use Rattle.gf_token.specs.Lexing.Mode.{Gap}
 use Rattle.gf_token.proofs.Spelled.{found}
 use Rattle.gf_tree.specs.Description.{SetKey, set_of}
-use Rattle.gf_tree.specs.Front.{EndsInNode, ToSet, BehindSet, InActions, IsNewSet, IsNewOutcome}
+use Rattle.gf_tree.specs.Front.{EndsInNode, ToSetNumber, BehindSetNumber}
+use Rattle.gf_tree.specs.Front.{InActions, IsNewSet, IsNewOutcome}
 use Rattle.gf_tree.specs.WorkedTrees.{choice}
 use Rattle.gf_tree.specs.WorkedReasons.{IsSaidAt, span_of}
 use Rattle.gf_tree.proofs.Worked.{SaidNode, player_is, numbered, choices}
@@ -66,7 +67,7 @@ stands title players said front = record {
 abbrev pub at_c : List ℕ → List Token
 at_c number = Bare (codes "c") ∷ Text [] ∷ Bare number ∷ []
 
-pub behind_c : (n : ℕ) → IsSmall n → BehindSet (at_c (decimal n)) (set_of 0 n)
+pub behind_c : (n : ℕ) → IsSmall n → BehindSetNumber (at_c (decimal n)) (set_of 0 n)
 behind_c n h = (
   Bare (codes "c") ∷ Text [] ∷ [],
   decimal n,
@@ -87,13 +88,13 @@ stands_a said front = stands (codes "m") (codes "A" ∷ []) said front
 abbrev pub to_a : List Token
 to_a = Bare (codes "p") ∷ Text [] ∷ Bare (decimal 1) ∷ []
 
-pub to_a_is : ToSet to_a 1
+pub to_a_is : ToSetNumber to_a 1
 to_a_is = (codes "p", [], Bare (decimal 1) ∷ [], refl, player_is 0 refl)
 
 abbrev pub at_a : List Token
 at_a = to_a ++ Bare (decimal 1) ∷ []
 
-pub behind_a : BehindSet at_a (set_of 1 1)
+pub behind_a : BehindSetNumber at_a (set_of 1 1)
 behind_a = (to_a, decimal 1, refl, to_a_is, numbered 1 refl)
 
 abbrev pub in_choice : List (List ℕ) → List Token

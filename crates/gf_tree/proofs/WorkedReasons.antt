@@ -18,7 +18,7 @@ use Rattle.gf_fraction.proofs.ComputedAnswers.{number_is}
 use Rattle.gf_tree.specs.Description.{Action, InformationSet, set_of}
 use Rattle.gf_tree.specs.Consistent.{AreConsistent, IsConsistent}
 use Rattle.gf_tree.specs.Sentence.{IsPositive}
-use Rattle.gf_tree.specs.Front.{BehindOutcome, KnowsSet}
+use Rattle.gf_tree.specs.Front.{BehindOutcomeNumber, KnowsSet}
 use Rattle.gf_tree.specs.Due.{NodeIsDue}
 use Rattle.gf_tree.specs.Reason.{IsNoIndex, IsUnknownPlayer, GoesOnWith, Holds, IsReason}
 use Rattle.gf_tree.specs.WorkedTrees.{choice, undescribed_file, unknown_player_file}
@@ -241,7 +241,7 @@ undescribed_set =
 abbrev to_end : List Token
 to_end = Bare (codes "t") ∷ Text [] ∷ []
 
-behind_five : BehindOutcome (to_end ++ Bare (decimal 5) ∷ []) 5
+behind_five : BehindOutcomeNumber (to_end ++ Bare (decimal 5) ∷ []) 5
 behind_five =
     (to_end, None, decimal 5, refl, (codes "t", [], [], refl, (refl, refl)), numbered 5 refl)
 
@@ -326,7 +326,7 @@ second_player =
     )
 
 -- without players a file may be a terminal node
-abbrev ended : List (SaidNode 0)
+abbrev pub ended : List (SaidNode 0)
 ended = at_end no_outcome ∷ []
 
 none_differ : {K D : Type 0} → AreConsistent {K = K} {D = D} []
@@ -336,7 +336,7 @@ none_differ = record {
   described_alike = λ key c d h _. absurd (omega (arith, h.1));
 }
 
-ended_is_consistent : IsConsistent (file_of [] [] ended (0 ∷ []))
+pub ended_is_consistent : IsConsistent (file_of [] [] ended (0 ∷ []))
 ended_is_consistent = record {
   sets = none_differ;
   outcomes = none_differ;

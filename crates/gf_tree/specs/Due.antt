@@ -7,8 +7,8 @@ use Rattle.gf_token.specs.declared.fault.What.{What}
 use Rattle.gf_token.specs.declared.fault.What.TheVariants as what
 use Rattle.gf_tree.specs.Description.{InformationSet, Outcome, SetKey}
 use Rattle.gf_tree.specs.FileTree.{Use, FileNode}
-use Rattle.gf_tree.specs.Front.{IsExtensiveFile, EndsInNode, ToPlayer, ToSet}
-use Rattle.gf_tree.specs.Front.{ToProbability, ToOutcome, InPayoffs, IsSetKnown}
+use Rattle.gf_tree.specs.Front.{IsExtensiveFile, EndsInNode, ToPlayerNumber, ToSetNumber}
+use Rattle.gf_tree.specs.Front.{ToProbability, ToOutcomeNumber, InPayoffs, IsSetKnown}
 
 -- the letter of a node
 abbrev pub NodeIsDue : List Token → Type 0
@@ -18,18 +18,18 @@ NodeIsDue before = MayFollow IsExtensiveFile before (Bare (codes "t"))
 abbrev pub PlayerIsDue : List Token → ℕ → Type 0
 PlayerIsDue before count = (players : List (List ℕ)) × (nodes : List FileNode)
     × (front : List Token) × EndsInNode before players nodes front × (count ≡ length players)
-    × ToPlayer front
+    × ToPlayerNumber front
 
 -- the number of a set
 abbrev pub SetIsDue : List Token → Type 0
 SetIsDue before = (players : List (List ℕ)) × (nodes : List FileNode) × (front : List Token)
-    × (player : ℕ) × EndsInNode before players nodes front × ToSet front player
+    × (player : ℕ) × EndsInNode before players nodes front × ToSetNumber front player
 
 -- the number of an outcome, behind a set that is known
 abbrev pub OutcomeIsDue : List Token → Type 0
 OutcomeIsDue before = (players : List (List ℕ)) × (nodes : List FileNode) × (front : List Token)
     × (set : Option (Use SetKey InformationSet)) × EndsInNode before players nodes front
-    × ToOutcome front set × IsSetKnown nodes set
+    × ToOutcomeNumber front set × IsSetKnown nodes set
 
 -- a probability
 abbrev pub ProbabilityIsDue : List Token → Type 0

@@ -27,23 +27,24 @@ pub record EndsInNode (before : List Token) (players : List (List ℕ)) (nodes :
 -- ---- how far a node has come
 
 -- its letter, its name and, where a player moves, his number; the set's number is next
-abbrev pub ToSet : List Token → ℕ → Type 0
-ToSet front player = (letter : List ℕ) × (name : List ℕ) × (mover : List Token)
+abbrev pub ToSetNumber : List Token → ℕ → Type 0
+ToSetNumber front player = (letter : List ℕ) × (name : List ℕ) × (mover : List Token)
     × (front ≡ Bare letter ∷ Text name ∷ mover) × IsMover letter mover player
 
 -- a player's node with its name; his number is next
-abbrev pub ToPlayer : List Token → Type 0
-ToPlayer front = (name : List ℕ) × (front ≡ Bare (codes "p") ∷ Text name ∷ [])
+abbrev pub ToPlayerNumber : List Token → Type 0
+ToPlayerNumber front = (name : List ℕ) × (front ≡ Bare (codes "p") ∷ Text name ∷ [])
 
 -- the set's number too; its name is next, or the number of the outcome
-abbrev pub BehindSet : List Token → SetKey → Type 0
-BehindSet front key = (to_set : List Token) × (number : List ℕ)
-    × (front ≡ to_set ++ Bare number ∷ []) × ToSet to_set key.player × IsPositive number key.number
+abbrev pub BehindSetNumber : List Token → SetKey → Type 0
+BehindSetNumber front key = (to_set : List Token) × (number : List ℕ)
+    × (front ≡ to_set ++ Bare number ∷ []) × ToSetNumber to_set key.player
+    × IsPositive number key.number
 
 -- the set's name too and, in braces, these actions; an action's label is next, or the closing brace
 abbrev pub InActions : List Token → SetKey → InformationSet → Type 0
 InActions front key set = (behind : List Token) × (inner : List Token)
-    × (front ≡ behind ++ Text set.name ∷ Opening ∷ inner) × BehindSet behind key
+    × (front ≡ behind ++ Text set.name ∷ Opening ∷ inner) × BehindSetNumber behind key
     × Each (IsAction key.player) inner set.actions
 
 -- behind these actions of a set of chance another label; its probability is next
@@ -52,20 +53,21 @@ ToProbability front number set = (actions : List Token) × (label : List ℕ)
     × (front ≡ actions ++ Text label ∷ []) × InActions actions (set_of 0 number) set
 
 -- all that stands before the number of the outcome
-abbrev pub ToOutcome : List Token → Option (Use SetKey InformationSet) → Type 0
-ToOutcome front set = (letter : List ℕ) × (name : List ℕ) × (step : List Token)
+abbrev pub ToOutcomeNumber : List Token → Option (Use SetKey InformationSet) → Type 0
+ToOutcomeNumber front set = (letter : List ℕ) × (name : List ℕ) × (step : List Token)
     × (front ≡ Bare letter ∷ Text name ∷ step) × IsStep letter step set
 
 -- the number of an outcome too, other than 0; its name is next, or what follows the node
-abbrev pub BehindOutcome : List Token → ℕ → Type 0
-BehindOutcome front number =
+abbrev pub BehindOutcomeNumber : List Token → ℕ → Type 0
+BehindOutcomeNumber front number =
     (to_outcome : List Token) × (set : Option (Use SetKey InformationSet)) × (bytes : List ℕ)
-    × (front ≡ to_outcome ++ Bare bytes ∷ []) × ToOutcome to_outcome set × IsPositive bytes number
+    × (front ≡ to_outcome ++ Bare bytes ∷ []) × ToOutcomeNumber to_outcome set
+    × IsPositive bytes number
 
 -- the outcome's name too and, in braces, these payoffs; a payoff is next, or the closing brace
 abbrev pub InPayoffs : List Token → ℕ → Outcome → Type 0
 InPayoffs front number outcome = (behind : List Token) × (inner : List Token)
-    × (front ≡ behind ++ Text outcome.name ∷ Opening ∷ inner) × BehindOutcome behind number
+    × (front ≡ behind ++ Text outcome.name ∷ Opening ∷ inner) × BehindOutcomeNumber behind number
     × Each IsPayoffInBraces inner outcome.payoffs
 
 -- ---- what is known

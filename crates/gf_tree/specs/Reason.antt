@@ -19,7 +19,8 @@ use Rattle.gf_fraction.specs.declared.fraction.NumberFault.TheVariants as number
 use Rattle.gf_tree.specs.Description.{Action, InformationSet, Outcome, SetKey, set_of}
 use Rattle.gf_tree.specs.FileTree.{FileNode}
 use Rattle.gf_tree.specs.Sentence.{IsPositive}
-use Rattle.gf_tree.specs.Front.{EndsInNode, BehindSet, InActions, ToProbability, BehindOutcome}
+use Rattle.gf_tree.specs.Front.{EndsInNode, BehindSetNumber, InActions}
+use Rattle.gf_tree.specs.Front.{ToProbability, BehindOutcomeNumber}
 use Rattle.gf_tree.specs.Front.{InPayoffs, KnowsSet, IsNewSet, KnowsOutcome, IsNewOutcome}
 use Rattle.gf_tree.specs.Due.{NodeIsDue, PlayerIsDue, SetIsDue, OutcomeIsDue}
 use Rattle.gf_tree.specs.Due.{ProbabilityIsDue, PayoffIsDue, IsDue}
@@ -33,8 +34,8 @@ IsNoNumber before bytes fault =
 
 -- the number of a player or a set is due, and the bytes are no index above 0; or that of an outcome
 -- is, and they are no index
-abbrev pub IsNoIndex : List Token → List ℕ → Type 0
-IsNoIndex before bytes =
+abbrev pub IsBadIndex : List Token → List ℕ → Type 0
+IsBadIndex before bytes =
     ((((count : ℕ) × PlayerIsDue before count) ⊎ SetIsDue before)
     × ((n : ℕ) → ¬ (IsPositive bytes n)))
     ⊎ (OutcomeIsDue before × ((n : ℕ) → ¬ (IsIndex bytes n)))
@@ -53,8 +54,8 @@ IsUnknownPlayer before bytes =
 abbrev pub EndsInFirstUse : List Token → Type 0
 EndsInFirstUse before = (players : List (List ℕ)) × (nodes : List FileNode) × (front : List Token)
     × EndsInNode before players nodes front
-    × (((key : SetKey) × BehindSet front key × IsNewSet nodes key)
-    ⊎ ((number : ℕ) × BehindOutcome front number × IsNewOutcome nodes number))
+    × (((key : SetKey) × BehindSetNumber front key × IsNewSet nodes key)
+    ⊎ ((number : ℕ) × BehindOutcomeNumber front number × IsNewOutcome nodes number))
 
 -- behind these actions of a known set another one stands
 abbrev pub GoesOnWith : InformationSet → InformationSet → Action → Type 0
@@ -65,7 +66,7 @@ GoesOnWith known seen next =
 abbrev pub DiffersFromSet : List FileNode → List Token → Token → Type 0
 DiffersFromSet nodes front (Text label) = (key : SetKey) × (known : InformationSet)
     × KnowsSet nodes key known
-    × ((BehindSet front key × (label ≢ known.name))
+    × ((BehindSetNumber front key × (label ≢ known.name))
     ⊎ ((seen : InformationSet) × InActions front key seen
     × ((next : Action) → GoesOnWith known seen next → label ≢ next.label)))
 DiffersFromSet nodes front Closing = (key : SetKey) × (known : InformationSet)
@@ -80,7 +81,7 @@ DiffersFromSet nodes front _ = ⊥
 -- a known outcome has another name or another payoff
 abbrev pub DiffersFromOutcome : List FileNode → List Token → Token → Type 0
 DiffersFromOutcome nodes front (Text label) = (n : ℕ) × (known : Outcome)
-    × KnowsOutcome nodes n known × BehindOutcome front n × (label ≢ known.name)
+    × KnowsOutcome nodes n known × BehindOutcomeNumber front n × (label ≢ known.name)
 DiffersFromOutcome nodes front (Bare bytes) = (n : ℕ) × (known : Outcome) × (seen : Outcome)
     × (next : Ratio) × (others : List Ratio) × (p : Ratio)
     × KnowsOutcome nodes n known × InPayoffs front n seen
@@ -155,7 +156,7 @@ Applies Unterminated before Broken = Unit {0}
 Applies NotANumber before (Bare bytes) = IsNoNumber before bytes number.NotANumber
 Applies ZeroDenominator before (Bare bytes) = IsNoNumber before bytes number.ZeroDenominator
 Applies NumberTooLarge before (Bare bytes) = IsNoNumber before bytes number.TooLarge
-Applies BadIndex before (Bare bytes) = IsNoIndex before bytes
+Applies BadIndex before (Bare bytes) = IsBadIndex before bytes
 Applies UnknownPlayer before (Bare bytes) = IsUnknownPlayer before bytes
 Applies Mismatch before token = IsMismatch before token
 Applies NegativeProbability before (Bare bytes) =

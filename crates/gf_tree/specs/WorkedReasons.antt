@@ -21,8 +21,8 @@ abbrev pub span_of : ℕ → ℕ → Span
 span_of start end = record { start = start; end = end }
 
 -- the code applies at these bytes
-abbrev pub HoldsAt : Why → List ℕ → ℕ → ℕ → Type 0
-HoldsAt why bytes start end = IsSaidAt bytes (span_of start end) (Holds why)
+abbrev pub CodeHoldsAt : Why → List ℕ → ℕ → ℕ → Type 0
+CodeHoldsAt why bytes start end = IsSaidAt bytes (span_of start end) (Holds why)
 
 -- it is the reason there
 abbrev pub IsReasonAt : Why → List ℕ → ℕ → ℕ → Type 0

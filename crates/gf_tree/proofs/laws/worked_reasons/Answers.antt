@@ -3,6 +3,9 @@ use Rattle.gf_tree.proofs.WorkedProbabilities.{below_one, overflowing, no_lotter
 use Rattle.gf_tree.proofs.WorkedReasons.{set_zero, second_player, no_players}
 use Rattle.gf_tree.proofs.WorkedReasons.{undescribed_set, undescribed_outcome, other_action}
 use Rattle.gf_tree.proofs.WorkedReasons.{action_missing, action_too_many, no_action}
+use Rattle.gf_tree.proofs.WorkedRepeats.{outcome_plus_one, no_denominator}
+use Rattle.gf_tree.proofs.WorkedRepeats.{other_probability, other_name, other_payoff}
+use Rattle.gf_tree.proofs.WorkedVersion.{no_version, no_version_place}
 use Rattle.gf_tree.proofs.laws.worked_reasons.Goals as goal
 
 pub returns-clause-not_a_number : goal.returns-clause-not_a_number

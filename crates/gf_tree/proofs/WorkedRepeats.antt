@@ -1,0 +1,281 @@
+-- Worked files that are refused at an outcome, or at a probability that is given again.
+use Rattle.std.proofs.Common.{◌≡◌, ℕ, pos, unsigned_abs, List, [], ◌∷◌, ◌++◌}
+use Rattle.std.proofs.Common.{map, get_or, Some, None, refl, ap, arith, inl, inr}
+use Rattle.std.specs.Prelude.{◌≢◌, codes, decimal}
+use Rattle.std.specs.Fmt.{digits}
+use Rattle.gf_token.specs.Token.{Token}
+use Rattle.gf_token.specs.Token.Token.{Opening, Closing, Text, Bare}
+use Rattle.gf_token.specs.Index.{IsIndex}
+use Rattle.gf_token.specs.Lexing.{lex}
+use Rattle.gf_token.specs.declared.fault.Why.TheVariants.{ZeroDenominator, BadIndex, Mismatch}
+use Rattle.gf_fraction.specs.Ratio.{Ratio, whole}
+use Rattle.gf_fraction.specs.NumberSpelling.{IsNumber, HasNumberFault}
+use Rattle.gf_fraction.specs.Computed.{number_of, lowest_of, gcd_within}
+use Rattle.gf_fraction.specs.declared.fraction.NumberFault.TheVariants as number
+use Rattle.gf_fraction.proofs.Numbers.{number_is, number_is_computed}
+use Rattle.gf_tree.specs.Description.{Action, InformationSet, Outcome, set_of}
+use Rattle.gf_tree.specs.Front.{BehindOutcomeNumber, InPayoffs, InActions}
+use Rattle.gf_tree.specs.Reason.{Holds, IsReason}
+use Rattle.gf_tree.specs.WorkedTrees.{half}
+use Rattle.gf_tree.specs.WorkedReasons.{CodeHoldsAt, IsReasonAt, outcome_plus_one_file}
+use Rattle.gf_tree.specs.WorkedReasons.{no_denominator_file, other_name_file}
+use Rattle.gf_tree.specs.WorkedReasons.{other_payoff_file, other_probability_file}
+use Rattle.gf_tree.proofs.Worked.{half_by_slash, said_choice, said_lottery, no_outcome, one_paid}
+use Rattle.gf_tree.proofs.Worked.{SaidNode, at_end, at_chance, at_player, numbered, file_tokens}
+use Rattle.gf_tree.proofs.WorkedCodes.{at_bare, at_text, no_fault}
+use Rattle.gf_tree.proofs.WorkedPlaces.{IsCutAt, said_at, stands, of_a, stands_a, at_c, behind_c}
+
+-- ---- the number of an outcome, and a payoff
+
+abbrev to_end : List Token
+to_end = Bare (codes "t") ∷ Text [] ∷ []
+
+one_with_plus : IsNumber (codes "+1") (whole (pos 1))
+unfolding number_of lowest_of gcd_within
+one_with_plus = number_is (codes "+1") (whole (pos 1)) refl
+
+no_digit : (n : ℕ) → ¬ (IsIndex (codes "+1") n)
+no_digit n h = absurd (omega (arith, h.0.1.0))
+
+outcome_plus_one_cut : IsCutAt outcome_plus_one_file 25 27 9 (of_a (codes "m") [] to_end)
+    (Bare (codes "+1") ∷ [])
+unfolding lex digits
+outcome_plus_one_cut = ((refl, refl), refl, refl)
+
+outcome_plus_one_holds : Holds BadIndex (of_a (codes "m") [] to_end) (Bare (codes "+1") ∷ [])
+outcome_plus_one_holds =
+    inr (
+      (
+        codes "A" ∷ [],
+        [],
+        to_end,
+        None,
+        stands_a [] to_end,
+        (codes "t", [], [], refl, (refl, refl)),
+        tt,
+      ),
+      no_digit,
+    )
+
+pub outcome_plus_one : IsReasonAt BadIndex outcome_plus_one_file 25 27
+outcome_plus_one =
+    said_at (IsReason BadIndex) outcome_plus_one_file 25 27 9 (of_a (codes "m") [] to_end)
+    (Bare (codes "+1") ∷ []) outcome_plus_one_cut (
+      outcome_plus_one_holds,
+      at_bare 7 (of_a (codes "m") [] to_end) (codes "+1") [] (record {
+        no_number =
+            λ fault h. absurd (no_fault (codes "+1") (whole (pos 1)) fault one_with_plus h.1);
+        no_index = λ h. omega arith;
+        unknown_player = λ h. omega arith;
+        first_use = λ h. omega arith;
+        mismatch = λ h. omega arith;
+        negative = λ h. omega arith;
+        above = λ h. omega arith;
+        overflows = λ h. omega arith;
+      }),
+    )
+
+abbrev at_one : List Token
+at_one = to_end ++ Bare (decimal 1) ∷ []
+
+behind_one : BehindOutcomeNumber at_one 1
+behind_one =
+    (to_end, None, decimal 1, refl, (codes "t", [], [], refl, (refl, refl)), numbered 1 refl)
+
+abbrev in_outcome : List Token
+in_outcome = at_one ++ Text (codes "x") ∷ Opening ∷ []
+
+abbrev unpaid : Outcome
+unpaid = record { name = codes "x"; payoffs = [] }
+
+in_outcome_is : InPayoffs in_outcome 1 unpaid
+in_outcome_is = (at_one, [], refl, behind_one, refl)
+
+no_denominator_cut : IsCutAt no_denominator_file 33 36 12 (of_a (codes "m") [] in_outcome)
+    (Bare (codes "1/0") ∷ Closing ∷ [])
+unfolding lex digits
+no_denominator_cut = ((refl, refl), refl, refl)
+
+has_no_denominator : HasNumberFault (codes "1/0") number.ZeroDenominator
+unfolding number_of
+has_no_denominator = number_is_computed (codes "1/0")
+
+pub no_denominator : CodeHoldsAt ZeroDenominator no_denominator_file 33 36
+no_denominator =
+    said_at (Holds ZeroDenominator) no_denominator_file 33 36 12 (of_a (codes "m") [] in_outcome)
+    (Bare (codes "1/0") ∷ Closing ∷ []) no_denominator_cut (
+      inr (
+        codes "A" ∷ [],
+        [],
+        in_outcome,
+        1,
+        unpaid,
+        stands_a [] in_outcome,
+        in_outcome_is,
+        omega arith,
+      ),
+      has_no_denominator,
+    )
+
+-- ---- an outcome that is described again
+
+five_is : IsNumber (codes "5") (whole (pos 5))
+unfolding number_of lowest_of gcd_within
+five_is = number_is (codes "5") (whole (pos 5)) refl
+
+six_is : IsNumber (codes "6") (whole (pos 6))
+unfolding number_of lowest_of gcd_within
+six_is = number_is (codes "6") (whole (pos 6)) refl
+
+abbrev paying_five : List (SaidNode 1)
+paying_five =
+    at_player 0 1 refl refl (said_choice (codes "i") (codes "L" ∷ codes "R" ∷ [])) no_outcome
+    ∷ at_end (one_paid 1 (codes "x") (codes "5") (whole (pos 5)) refl five_is)
+    ∷ []
+
+abbrev paid : Outcome
+paid = record { name = codes "x"; payoffs = whole (pos 5) ∷ [] }
+
+other_name_cut : IsCutAt other_name_file 71 74 27 (of_a (codes "m") paying_five at_one)
+    (Text (codes "y") ∷ Opening ∷ Bare (codes "5") ∷ Closing ∷ [])
+unfolding lex digits
+other_name_cut = ((refl, refl), refl, refl)
+
+not_x : codes "y" ≢ codes "x"
+not_x e = let byte : 121 ≡ 120 = ap (λ bytes. get_or bytes 0 0) e in omega (arith, byte)
+
+other_name_holds : Holds Mismatch (of_a (codes "m") paying_five at_one)
+    (Text (codes "y") ∷ Opening ∷ Bare (codes "5") ∷ Closing ∷ [])
+other_name_holds = (
+  codes "A" ∷ [],
+  map (λ s. s.node) paying_five,
+  at_one,
+  stands_a paying_five at_one,
+  inr (1, paid, (0, omega arith, refl), behind_one, not_x),
+)
+
+pub other_name : IsReasonAt Mismatch other_name_file 71 74
+other_name =
+    said_at (IsReason Mismatch) other_name_file 71 74 27 (of_a (codes "m") paying_five at_one)
+    (Text (codes "y") ∷ Opening ∷ Bare (codes "5") ∷ Closing ∷ []) other_name_cut (
+      other_name_holds,
+      at_text (of_a (codes "m") paying_five at_one) (codes "y")
+          (Opening ∷ Bare (codes "5") ∷ Closing ∷ []),
+    )
+
+other_payoff_cut : IsCutAt other_payoff_file 77 78 29 (of_a (codes "m") paying_five in_outcome)
+    (Bare (codes "6") ∷ Closing ∷ [])
+unfolding lex digits
+other_payoff_cut = ((refl, refl), refl, refl)
+
+not_five : whole (pos 6) ≢ whole (pos 5)
+not_five e = let size : 6 ≡ 5 = ap (λ (r : Ratio). unsigned_abs r.num) e in omega (arith, size)
+
+pub other_payoff : CodeHoldsAt Mismatch other_payoff_file 77 78
+other_payoff =
+    said_at (Holds Mismatch) other_payoff_file 77 78 29 (of_a (codes "m") paying_five in_outcome)
+    (Bare (codes "6") ∷ Closing ∷ []) other_payoff_cut (
+      codes "A" ∷ [],
+      map (λ s. s.node) paying_five,
+      in_outcome,
+      stands_a paying_five in_outcome,
+      inr (
+        1,
+        paid,
+        unpaid,
+        whole (pos 5),
+        [],
+        whole (pos 6),
+        (0, omega arith, refl),
+        in_outcome_is,
+        refl,
+        six_is,
+        not_five,
+      ),
+    )
+
+-- ---- a probability that is given again
+
+one_is : IsNumber (codes "1") (whole (pos 1))
+unfolding number_of lowest_of gcd_within
+one_is = number_is (codes "1") (whole (pos 1)) refl
+
+zero_is : IsNumber (codes "0") (whole (pos 0))
+unfolding number_of lowest_of gcd_within
+zero_is = number_is (codes "0") (whole (pos 0)) refl
+
+abbrev sure : List (SaidNode 0)
+sure =
+    at_chance 1 refl (said_lottery (codes "n") (codes "1")
+    (codes "0") (whole (pos 1)) (whole (pos 0)) one_is zero_is)
+    no_outcome
+    ∷ at_end no_outcome
+    ∷ []
+
+abbrev sure_head : Action
+sure_head = record { label = codes "h"; probability = Some (whole (pos 1)) }
+
+abbrev no_tail : Action
+no_tail = record { label = codes "t"; probability = Some (whole (pos 0)) }
+
+abbrev heads : InformationSet
+heads = record { name = codes "n"; actions = sure_head ∷ no_tail ∷ [] }
+
+abbrev head_again : InformationSet
+head_again = record { name = codes "n"; actions = sure_head ∷ [] }
+
+abbrev in_heads : List Token
+in_heads = at_c (decimal 1) ++ Text (codes "n") ∷ Opening ∷ Text (codes "h") ∷ Bare (codes "1") ∷ []
+
+in_heads_is : InActions in_heads (set_of 0 1) head_again
+in_heads_is = (
+  at_c (decimal 1),
+  Text (codes "h") ∷ Bare (codes "1") ∷ [],
+  refl,
+  behind_c 1 refl,
+  (
+    Text (codes "h") ∷ Bare (codes "1") ∷ [],
+    [],
+    refl,
+    (codes "1", whole (pos 1), refl, one_is, refl),
+    refl,
+  ),
+)
+
+abbrev to_tail : List Token
+to_tail = in_heads ++ Text (codes "t") ∷ []
+
+abbrev before_tail : List Token
+before_tail = file_tokens (codes "m") [] sure ++ to_tail
+
+other_probability_cut : IsCutAt other_probability_file 75 78 28 before_tail
+    (Bare (codes "1/2") ∷ Closing ∷ Bare (codes "0") ∷ [])
+unfolding lex digits
+other_probability_cut = ((refl, refl), refl, refl)
+
+not_half : Some (whole (pos 0)) ≢ Some half
+not_half e =
+    let same : whole (pos 0) ≡ half = cc in
+    let den : 1 ≡ 2 = ap (λ (r : Ratio). r.den) same in omega (arith, den)
+
+pub other_probability : CodeHoldsAt Mismatch other_probability_file 75 78
+other_probability =
+    said_at (Holds Mismatch) other_probability_file 75 78 28 before_tail
+    (Bare (codes "1/2") ∷ Closing ∷ Bare (codes "0") ∷ []) other_probability_cut (
+      [],
+      map (λ s. s.node) sure,
+      to_tail,
+      stands (codes "m") [] sure to_tail,
+      inl (
+        1,
+        heads,
+        head_again,
+        no_tail,
+        half,
+        (0, omega arith, refl),
+        (in_heads, codes "t", refl, in_heads_is),
+        ([], refl),
+        half_by_slash,
+        not_half,
+      ),
+    )
