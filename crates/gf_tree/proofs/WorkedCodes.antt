@@ -16,7 +16,7 @@ use Rattle.gf_fraction.specs.NumberSpelling.{IsNumber, HasNumberFault}
 use Rattle.gf_fraction.specs.declared.fraction.NumberFault.{NumberFault}
 use Rattle.gf_fraction.specs.declared.fraction.NumberFault.TheVariants as number
 use Rattle.gf_fraction.proofs.ReadingBack.{one_answer}
-use Rattle.gf_tree.specs.Reason.{IsNoNumber, IsNoIndex, IsUnknownPlayer, EndsInFirstUse}
+use Rattle.gf_tree.specs.Reason.{IsNoNumber, IsBadIndex, IsUnknownPlayer, EndsInFirstUse}
 use Rattle.gf_tree.specs.Reason.{IsMismatch, IsWrongProbability, StaysBelowOne, Holds}
 
 -- what the codes that may apply at a bare token have to be

@@ -11,10 +11,10 @@ use Rattle.gf_tree.specs.Description.{Action, InformationSet, Outcome, SetKey, s
 use Rattle.gf_tree.specs.FileTree.{Use, FileNode}
 use Rattle.gf_tree.specs.Sentence.{IsAction, IsInformationSet, IsMover}
 use Rattle.gf_tree.specs.Sentence.{IsStep, IsNode, IsResult, IsDescription}
-use Rattle.gf_tree.specs.Front.{EndsInNode, ToOutcome, BehindSet, BehindOutcome}
+use Rattle.gf_tree.specs.Front.{EndsInNode, ToOutcomeNumber, BehindSetNumber, BehindOutcomeNumber}
 use Rattle.gf_tree.specs.Front.{KnowsSet, KnowsOutcome, IsNewSet, IsNewOutcome}
 use Rattle.gf_tree.specs.Due.{PlayerIsDue, SetIsDue, OutcomeIsDue, ProbabilityIsDue, PayoffIsDue}
-use Rattle.gf_tree.specs.Reason.{IsNoIndex, IsUnknownPlayer, EndsInFirstUse, DiffersFromSet}
+use Rattle.gf_tree.specs.Reason.{IsBadIndex, IsUnknownPlayer, EndsInFirstUse, DiffersFromSet}
 use Rattle.gf_tree.specs.Reason.{DiffersFromOutcome, IsMismatch, StaysBelowOne}
 use Rattle.gf_tree.proofs.Groups.{NoText, opened, texts_once}
 use Rattle.gf_tree.proofs.SentencesOnce.{results_no_text}

@@ -26,7 +26,7 @@ use Rattle.gf_tree.specs.Due.{ProbabilityIsDue}
 use Rattle.gf_tree.specs.Reason.{AddsUp, HasSum, NewProbabilityIsDue}
 use Rattle.gf_tree.specs.Reason.{IsWrongProbability, Holds, IsReason}
 use Rattle.gf_tree.specs.WorkedTrees.{half}
-use Rattle.gf_tree.specs.WorkedReasons.{HoldsAt, IsReasonAt, no_lottery_front}
+use Rattle.gf_tree.specs.WorkedReasons.{CodeHoldsAt, IsReasonAt, no_lottery_front}
 use Rattle.gf_tree.specs.WorkedReasons.{above_one_front, below_one_front}
 use Rattle.gf_tree.specs.WorkedReasons.{negative_front, overflowing_front, no_number_front}
 use Rattle.gf_tree.proofs.Worked.{half_by_slash, file_tokens}
@@ -142,7 +142,7 @@ at_number floor inner unclosed bytes p is other negative low = record {
   mismatch = λ h. absurd (no_mismatch (codes "c") [] inner unclosed (Bare bytes) h);
   negative = negative;
   above = λ h. low;
-  overflows = omega (arith, low);
+  overflows = λ h. omega (arith, low);
 }
 
 -- ---- 0.6 twice
@@ -373,7 +373,7 @@ no_number =
         mismatch = λ h. omega arith;
         negative = λ h. omega arith;
         above = λ h. omega arith;
-        overflows = omega arith;
+        overflows = λ h. omega arith;
       }),
     )
 
@@ -418,7 +418,7 @@ overflowing_cut : IsCutAt overflowing_front 79 82 14 before_half
 unfolding lex digits
 overflowing_cut = ((refl, refl), refl, refl)
 
-pub overflowing : HoldsAt SumOverflow overflowing_front 79 82
+pub overflowing : CodeHoldsAt SumOverflow overflowing_front 79 82
 overflowing =
     said_at (Holds SumOverflow) overflowing_front 79 82 14 before_half
     (Bare (codes "1/2") ∷ Closing ∷ Bare (codes "0") ∷ []) overflowing_cut (

@@ -20,10 +20,10 @@ use Rattle.gf_tree.specs.Consistent.{AreConsistent, IsConsistent}
 use Rattle.gf_tree.specs.Sentence.{IsPositive}
 use Rattle.gf_tree.specs.Front.{BehindOutcomeNumber, KnowsSet}
 use Rattle.gf_tree.specs.Due.{NodeIsDue}
-use Rattle.gf_tree.specs.Reason.{IsNoIndex, IsUnknownPlayer, GoesOnWith, Holds, IsReason}
+use Rattle.gf_tree.specs.Reason.{IsBadIndex, IsUnknownPlayer, GoesOnWith, Holds, IsReason}
 use Rattle.gf_tree.specs.WorkedTrees.{choice, undescribed_file, unknown_player_file}
-use Rattle.gf_tree.specs.WorkedReasons.{HoldsAt, IsReasonAt, other_action_front}
-use Rattle.gf_tree.specs.WorkedReasons.{action_missing_front}
+use Rattle.gf_tree.specs.WorkedReasons.{CodeHoldsAt, IsReasonAt}
+use Rattle.gf_tree.specs.WorkedReasons.{other_action_front, action_missing_front}
 use Rattle.gf_tree.specs.WorkedReasons.{action_too_many_front}
 use Rattle.gf_tree.specs.WorkedTrees.{unpaid_file}
 use Rattle.gf_tree.specs.WorkedReasons.{set_zero_front, no_action_front}
@@ -188,7 +188,7 @@ zero_is_index : IsIndex (codes "0") 0
 unfolding digits
 zero_is_index = decimal_is_index 0 (omega arith)
 
-zero_is_no_fault : ¬ (IsNoIndex (of_a (codes "m") [] at_a) (codes "0"))
+zero_is_no_fault : ¬ (IsBadIndex (of_a (codes "m") [] at_a) (codes "0"))
 zero_is_no_fault (inl h) = elim h.0 [
   | inl p ↦ no_player_again (codes "m") (codes "A" ∷ []) p.0 p.1
   | inr s ↦ no_set_again (codes "m") (codes "A" ∷ []) s
@@ -234,7 +234,7 @@ undescribed_set =
             mismatch = λ h. omega arith;
             negative = λ h. omega arith;
             above = λ h. omega arith;
-            overflows = omega arith;
+            overflows = λ h. omega arith;
           }),
     )
 
@@ -286,7 +286,7 @@ two_is_number : IsNumber (decimal 2) (whole (pos 2))
 unfolding digits number_of lowest_of gcd_within
 two_is_number = number_is (decimal 2) (whole (pos 2)) refl
 
-two_is_no_fault : ¬ (IsNoIndex (of_a (codes "m") [] to_player) (decimal 2))
+two_is_no_fault : ¬ (IsBadIndex (of_a (codes "m") [] to_player) (decimal 2))
 two_is_no_fault (inl h) = h.1 2 (numbered 2 refl)
 two_is_no_fault (inr h) = h.1 2 (numbered 2 refl).0
 
@@ -321,7 +321,7 @@ second_player =
         mismatch = λ h. omega arith;
         negative = λ h. omega arith;
         above = λ h. omega arith;
-        overflows = omega arith;
+        overflows = λ h. omega arith;
       }),
     )
 
@@ -380,7 +380,7 @@ no_players =
         mismatch = λ h. omega arith;
         negative = λ h. omega arith;
         above = λ h. omega arith;
-        overflows = omega arith;
+        overflows = λ h. omega arith;
       }),
     )
 
@@ -419,7 +419,7 @@ set_zero =
         mismatch = λ h. omega arith;
         negative = λ h. omega arith;
         above = λ h. omega arith;
-        overflows = omega arith;
+        overflows = λ h. omega arith;
       }),
     )
 
@@ -428,7 +428,7 @@ no_action_cut : IsCutAt no_action_front 35 36 13 (of_a (codes "m") [] (in_choice
 unfolding lex digits
 no_action_cut = ((refl, refl), refl, refl)
 
-pub no_action : HoldsAt NoEntry no_action_front 35 36
+pub no_action : CodeHoldsAt NoEntry no_action_front 35 36
 no_action =
     said_at (Holds NoEntry) no_action_front 35 36 13 (of_a (codes "m") [] (in_choice []))
     (Closing ∷ Bare (codes "0") ∷ []) no_action_cut (

@@ -12,14 +12,14 @@ use Rattle.gf_fraction.specs.Ratio.{Ratio, whole}
 use Rattle.gf_fraction.specs.NumberSpelling.{IsNumber, HasNumberFault}
 use Rattle.gf_fraction.specs.Computed.{number_of, lowest_of, gcd_within}
 use Rattle.gf_fraction.specs.declared.fraction.NumberFault.TheVariants as number
-use Rattle.gf_fraction.proofs.Numbers.{number_is, number_is_computed}
+use Rattle.gf_fraction.proofs.ComputedAnswers.{number_is, number_is_computed}
 use Rattle.gf_tree.specs.Description.{Action, InformationSet, Outcome, set_of}
 use Rattle.gf_tree.specs.Front.{BehindOutcomeNumber, InPayoffs, InActions}
 use Rattle.gf_tree.specs.Reason.{Holds, IsReason}
 use Rattle.gf_tree.specs.WorkedTrees.{half}
-use Rattle.gf_tree.specs.WorkedReasons.{CodeHoldsAt, IsReasonAt, outcome_plus_one_file}
-use Rattle.gf_tree.specs.WorkedReasons.{no_denominator_file, other_name_file}
-use Rattle.gf_tree.specs.WorkedReasons.{other_payoff_file, other_probability_file}
+use Rattle.gf_tree.specs.WorkedReasons.{CodeHoldsAt, IsReasonAt, outcome_plus_one_front}
+use Rattle.gf_tree.specs.WorkedReasons.{no_denominator_front, other_name_front}
+use Rattle.gf_tree.specs.WorkedReasons.{other_payoff_front, other_probability_front}
 use Rattle.gf_tree.proofs.Worked.{half_by_slash, said_choice, said_lottery, no_outcome, one_paid}
 use Rattle.gf_tree.proofs.Worked.{SaidNode, at_end, at_chance, at_player, numbered, file_tokens}
 use Rattle.gf_tree.proofs.WorkedCodes.{at_bare, at_text, no_fault}
@@ -37,7 +37,7 @@ one_with_plus = number_is (codes "+1") (whole (pos 1)) refl
 no_digit : (n : ℕ) → ¬ (IsIndex (codes "+1") n)
 no_digit n h = absurd (omega (arith, h.0.1.0))
 
-outcome_plus_one_cut : IsCutAt outcome_plus_one_file 25 27 9 (of_a (codes "m") [] to_end)
+outcome_plus_one_cut : IsCutAt outcome_plus_one_front 25 27 9 (of_a (codes "m") [] to_end)
     (Bare (codes "+1") ∷ [])
 unfolding lex digits
 outcome_plus_one_cut = ((refl, refl), refl, refl)
@@ -57,9 +57,9 @@ outcome_plus_one_holds =
       no_digit,
     )
 
-pub outcome_plus_one : IsReasonAt BadIndex outcome_plus_one_file 25 27
+pub outcome_plus_one : IsReasonAt BadIndex outcome_plus_one_front 25 27
 outcome_plus_one =
-    said_at (IsReason BadIndex) outcome_plus_one_file 25 27 9 (of_a (codes "m") [] to_end)
+    said_at (IsReason BadIndex) outcome_plus_one_front 25 27 9 (of_a (codes "m") [] to_end)
     (Bare (codes "+1") ∷ []) outcome_plus_one_cut (
       outcome_plus_one_holds,
       at_bare 7 (of_a (codes "m") [] to_end) (codes "+1") [] (record {
@@ -91,7 +91,7 @@ unpaid = record { name = codes "x"; payoffs = [] }
 in_outcome_is : InPayoffs in_outcome 1 unpaid
 in_outcome_is = (at_one, [], refl, behind_one, refl)
 
-no_denominator_cut : IsCutAt no_denominator_file 33 36 12 (of_a (codes "m") [] in_outcome)
+no_denominator_cut : IsCutAt no_denominator_front 33 36 12 (of_a (codes "m") [] in_outcome)
     (Bare (codes "1/0") ∷ Closing ∷ [])
 unfolding lex digits
 no_denominator_cut = ((refl, refl), refl, refl)
@@ -100,9 +100,9 @@ has_no_denominator : HasNumberFault (codes "1/0") number.ZeroDenominator
 unfolding number_of
 has_no_denominator = number_is_computed (codes "1/0")
 
-pub no_denominator : CodeHoldsAt ZeroDenominator no_denominator_file 33 36
+pub no_denominator : CodeHoldsAt ZeroDenominator no_denominator_front 33 36
 no_denominator =
-    said_at (Holds ZeroDenominator) no_denominator_file 33 36 12 (of_a (codes "m") [] in_outcome)
+    said_at (Holds ZeroDenominator) no_denominator_front 33 36 12 (of_a (codes "m") [] in_outcome)
     (Bare (codes "1/0") ∷ Closing ∷ []) no_denominator_cut (
       inr (
         codes "A" ∷ [],
@@ -136,7 +136,7 @@ paying_five =
 abbrev paid : Outcome
 paid = record { name = codes "x"; payoffs = whole (pos 5) ∷ [] }
 
-other_name_cut : IsCutAt other_name_file 71 74 27 (of_a (codes "m") paying_five at_one)
+other_name_cut : IsCutAt other_name_front 71 74 27 (of_a (codes "m") paying_five at_one)
     (Text (codes "y") ∷ Opening ∷ Bare (codes "5") ∷ Closing ∷ [])
 unfolding lex digits
 other_name_cut = ((refl, refl), refl, refl)
@@ -154,16 +154,16 @@ other_name_holds = (
   inr (1, paid, (0, omega arith, refl), behind_one, not_x),
 )
 
-pub other_name : IsReasonAt Mismatch other_name_file 71 74
+pub other_name : IsReasonAt Mismatch other_name_front 71 74
 other_name =
-    said_at (IsReason Mismatch) other_name_file 71 74 27 (of_a (codes "m") paying_five at_one)
+    said_at (IsReason Mismatch) other_name_front 71 74 27 (of_a (codes "m") paying_five at_one)
     (Text (codes "y") ∷ Opening ∷ Bare (codes "5") ∷ Closing ∷ []) other_name_cut (
       other_name_holds,
       at_text (of_a (codes "m") paying_five at_one) (codes "y")
           (Opening ∷ Bare (codes "5") ∷ Closing ∷ []),
     )
 
-other_payoff_cut : IsCutAt other_payoff_file 77 78 29 (of_a (codes "m") paying_five in_outcome)
+other_payoff_cut : IsCutAt other_payoff_front 77 78 29 (of_a (codes "m") paying_five in_outcome)
     (Bare (codes "6") ∷ Closing ∷ [])
 unfolding lex digits
 other_payoff_cut = ((refl, refl), refl, refl)
@@ -171,9 +171,9 @@ other_payoff_cut = ((refl, refl), refl, refl)
 not_five : whole (pos 6) ≢ whole (pos 5)
 not_five e = let size : 6 ≡ 5 = ap (λ (r : Ratio). unsigned_abs r.num) e in omega (arith, size)
 
-pub other_payoff : CodeHoldsAt Mismatch other_payoff_file 77 78
+pub other_payoff : CodeHoldsAt Mismatch other_payoff_front 77 78
 other_payoff =
-    said_at (Holds Mismatch) other_payoff_file 77 78 29 (of_a (codes "m") paying_five in_outcome)
+    said_at (Holds Mismatch) other_payoff_front 77 78 29 (of_a (codes "m") paying_five in_outcome)
     (Bare (codes "6") ∷ Closing ∷ []) other_payoff_cut (
       codes "A" ∷ [],
       map (λ s. s.node) paying_five,
@@ -248,7 +248,7 @@ to_tail = in_heads ++ Text (codes "t") ∷ []
 abbrev before_tail : List Token
 before_tail = file_tokens (codes "m") [] sure ++ to_tail
 
-other_probability_cut : IsCutAt other_probability_file 75 78 28 before_tail
+other_probability_cut : IsCutAt other_probability_front 75 78 28 before_tail
     (Bare (codes "1/2") ∷ Closing ∷ Bare (codes "0") ∷ [])
 unfolding lex digits
 other_probability_cut = ((refl, refl), refl, refl)
@@ -258,9 +258,9 @@ not_half e =
     let same : whole (pos 0) ≡ half = cc in
     let den : 1 ≡ 2 = ap (λ (r : Ratio). r.den) same in omega (arith, den)
 
-pub other_probability : CodeHoldsAt Mismatch other_probability_file 75 78
+pub other_probability : CodeHoldsAt Mismatch other_probability_front 75 78
 other_probability =
-    said_at (Holds Mismatch) other_probability_file 75 78 28 before_tail
+    said_at (Holds Mismatch) other_probability_front 75 78 28 before_tail
     (Bare (codes "1/2") ∷ Closing ∷ Bare (codes "0") ∷ []) other_probability_cut (
       [],
       map (λ s. s.node) sure,

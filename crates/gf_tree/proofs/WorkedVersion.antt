@@ -25,7 +25,7 @@ use Rattle.gf_tree.specs.FileTree.{FileNode}
 use Rattle.gf_tree.specs.Front.{IsExtensiveFile, EndsInNode}
 use Rattle.gf_tree.specs.Due.{ProbabilityIsDue, PayoffIsDue}
 use Rattle.gf_tree.specs.Reason.{IsBadIndex, IsUnknownPlayer, IsWrongProbability, Holds, IsReason}
-use Rattle.gf_tree.specs.WorkedReasons.{IsReasonAt, span_of, no_version_file}
+use Rattle.gf_tree.specs.WorkedReasons.{IsReasonAt, span_of, no_version_front}
 use Rattle.gf_tree.proofs.Worked.{file_of, is_said}
 use Rattle.gf_tree.proofs.WorkedCodes.{at_bare}
 use Rattle.gf_tree.proofs.WorkedPlaces.{IsCutAt, said_at}
@@ -34,7 +34,7 @@ use Rattle.gf_tree.proofs.WorkedReasons.{ended, ended_is_consistent}
 abbrev before : List Token
 before = Bare (codes "EFG") ∷ []
 
-no_version_cut : IsCutAt no_version_file 4 5 1 before (Bare (codes "x") ∷ [])
+no_version_cut : IsCutAt no_version_front 4 5 1 before (Bare (codes "x") ∷ [])
 unfolding lex digits
 no_version_cut = ((refl, refl), refl, refl)
 
@@ -55,16 +55,16 @@ refused h =
     let byte : 120 ≡ 50 = ap (λ bytes. get_or bytes 0 0) version in
     omega (arith, byte)
 
-pub no_version_place : IsOffendingPlace IsExtensiveFile no_version_file (span_of 4 5)
+pub no_version_place : IsOffendingPlace IsExtensiveFile no_version_front (span_of 4 5)
 no_version_place = record {
-  before = take 1 (lex Gap 0 no_version_file);
-  after = drop 1 (lex Gap 0 no_version_file);
-  spelled = subst (Spells 0 no_version_file)
-      (sym (take-append-drop 1 (lex Gap 0 no_version_file))) (found no_version_file 0);
+  before = take 1 (lex Gap 0 no_version_front);
+  after = drop 1 (lex Gap 0 no_version_front);
+  spelled = subst (Spells 0 no_version_front)
+      (sym (take-append-drop 1 (lex Gap 0 no_version_front))) (found no_version_front 0);
   place = no_version_cut.0;
   begins = subst (Begins IsExtensiveFile) (sym no_version_cut.1) begins;
   refused = subst
-      (λ ts. ¬ (IsAccepted IsExtensiveFile ts (tokens_of (drop 1 (lex Gap 0 no_version_file)))))
+      (λ ts. ¬ (IsAccepted IsExtensiveFile ts (tokens_of (drop 1 (lex Gap 0 no_version_front)))))
       (sym no_version_cut.1)
       (subst (λ ts. ¬ (IsAccepted IsExtensiveFile before ts)) (sym no_version_cut.2) refused);
 }
@@ -132,7 +132,7 @@ none_holds why h =
     let below = codes_below why in
     omega (arith, above, below)
 
-pub no_version : IsReasonAt (Expected what.Version) no_version_file 4 5
+pub no_version : IsReasonAt (Expected what.Version) no_version_front 4 5
 no_version =
-    said_at (IsReason (Expected what.Version)) no_version_file 4 5 1 before (Bare (codes "x") ∷ [])
+    said_at (IsReason (Expected what.Version)) no_version_front 4 5 1 before (Bare (codes "x") ∷ [])
     no_version_cut (refl, none_holds)

@@ -80,3 +80,35 @@ no_action_front = codes "EFG 2 R \"m\" { \"A\" } p \"\" 1 1 \"i\" { } 0"
 
 abbrev pub no_lottery_front : List ℕ
 no_lottery_front = codes "EFG 2 R \"m\" { \"A\" } c \"\" 1 \"n\" { } 0"
+
+-- ---- outcomes, and repeated probabilities
+
+abbrev pub outcome_plus_one_front : List ℕ
+outcome_plus_one_front = codes "EFG 2 R \"m\" { \"A\" } t \"\" +1"
+
+abbrev pub no_denominator_front : List ℕ
+no_denominator_front = codes "EFG 2 R \"m\" { \"A\" } t \"\" 1 \"x\" { 1/0 }"
+
+-- an outcome that pays 5, up to its number where it is used again
+abbrev pub paid_again : List ℕ → List ℕ
+paid_again more =
+    codes
+    "EFG 2 R \"m\" { \"A\" } p \"\" 1 1 \"i\" { \"L\" \"R\" } 0 t \"\" 1 \"x\" { 5 } t \"\" 1 "
+    ++ more
+
+abbrev pub other_name_front : List ℕ
+other_name_front = paid_again (codes "\"y\" { 5 }")
+
+abbrev pub other_payoff_front : List ℕ
+other_payoff_front = paid_again (codes "\"x\" { 6 }")
+
+-- a probability of 0 that is 1/2 where it is given again
+abbrev pub other_probability_front : List ℕ
+other_probability_front =
+    codes "EFG 2 R \"m\" { } c \"\" 1 \"n\" { \"h\" 1 \"t\" 0 } 0 t \"\" 0 "
+    ++ codes "c \"\" 1 \"n\" { \"h\" 1 \"t\" 1/2 } 0"
+
+-- ---- the heading
+
+abbrev pub no_version_front : List ℕ
+no_version_front = codes "EFG x"

@@ -3,11 +3,15 @@
 ghost use Rattle.std.specs.Prelude.{◌≡◌, ◌↔◌, Bool, Decides, List, [], ◌∷◌, ℕ, map, nat_eq};
 ghost use Rattle.std.specs.List.{AllByRecursion};
 ghost use Rattle.gf_token.specs.Token.{Token};
-ghost use Rattle.gf_token.specs.declared.fault.Why.TheVariants.{BadIndex, Mismatch};
+ghost use Rattle.gf_token.specs.Place.{IsOffendingPlace};
+ghost use Rattle.gf_token.specs.declared.fault.What.TheVariants.{Version};
+ghost use Rattle.gf_token.specs.declared.fault.Why.TheVariants.{BadIndex, Expected, Mismatch};
 ghost use Rattle.gf_token.specs.declared.fault.Why.TheVariants.{NegativeProbability, NoEntry};
 ghost use Rattle.gf_token.specs.declared.fault.Why.TheVariants.{NotANumber, NotDescribed};
 ghost use Rattle.gf_token.specs.declared.fault.Why.TheVariants.{SumAboveOne, SumBelowOne};
 ghost use Rattle.gf_token.specs.declared.fault.Why.TheVariants.{SumOverflow, UnknownPlayer};
+ghost use Rattle.gf_token.specs.declared.fault.Why.TheVariants.{ZeroDenominator};
+ghost use Rattle.gf_tree.specs.Front.{IsExtensiveFile};
 ghost use Rattle.gf_tree.specs.Tree.{Tree};
 ghost use Rattle.gf_tree.specs.Tree.Trees.{none, more};
 ghost use Rattle.gf_tree.specs.PrefixOrder.{Entry, Fills, flatten};
@@ -21,11 +25,15 @@ ghost use Rattle.gf_tree.specs.FirstUse.{first_use_numbers, outcome_numbers, pla
 ghost use Rattle.gf_tree.specs.Renumbering.{IsRenumbering, Renumbering, renumbered};
 ghost use Rattle.gf_tree.specs.Spellable.{IsSpellable};
 ghost use Rattle.gf_tree.specs.Learned.{Learns, LearnsGame};
-ghost use Rattle.gf_tree.specs.WorkedReasons.{HoldsAt, IsReasonAt, above_one_front};
-ghost use Rattle.gf_tree.specs.WorkedReasons.{below_one_front, negative_front, overflowing_front};
-ghost use Rattle.gf_tree.specs.WorkedReasons.{no_number_front, other_action_front};
-ghost use Rattle.gf_tree.specs.WorkedReasons.{action_missing_front, action_too_many_front};
-ghost use Rattle.gf_tree.specs.WorkedReasons.{set_zero_front, no_action_front, no_lottery_front};
+ghost use Rattle.gf_tree.specs.WorkedReasons.{CodeHoldsAt, IsReasonAt, span_of};
+ghost use Rattle.gf_tree.specs.WorkedReasons.{outcome_plus_one_front, no_denominator_front};
+ghost use Rattle.gf_tree.specs.WorkedReasons.{other_name_front, other_payoff_front};
+ghost use Rattle.gf_tree.specs.WorkedReasons.{other_probability_front, no_version_front};
+ghost use Rattle.gf_tree.specs.WorkedReasons.{above_one_front, below_one_front, negative_front};
+ghost use Rattle.gf_tree.specs.WorkedReasons.{overflowing_front, no_number_front};
+ghost use Rattle.gf_tree.specs.WorkedReasons.{other_action_front, action_missing_front};
+ghost use Rattle.gf_tree.specs.WorkedReasons.{action_too_many_front, set_zero_front};
+ghost use Rattle.gf_tree.specs.WorkedReasons.{no_action_front, no_lottery_front};
 ghost use Rattle.gf_tree.specs.WorkedTrees.{five, five_file, bonus, bonus_file, forgetful};
 ghost use Rattle.gf_tree.specs.WorkedTrees.{forgetful_file, noted, noted_file, undescribed_file};
 ghost use Rattle.gf_tree.specs.WorkedTrees.{mismatched_file, unknown_player_file, too_likely_file};
@@ -140,14 +148,21 @@ pub fn worked_refusals()
     ensures nobody { (g : Game) → ¬ (SpellsGame nobody_file g) }
 {}
 
-/// Worked files, and fronts of files, each with a code that applies at a place of it: a probability
-/// that is no number; a set numbered 0; the second of one player, and a player where there are
-/// none; a set and an outcome without a description; a set described again with another action,
-/// without its last one, and with one too many; a negative probability, probabilities that add to
-/// more than one, to less, and to what does not fit; and a set without actions.
+/// Worked files, and fronts of files, each with its reason at a place, or with a code that holds
+/// there. A version that is none, with the whole of why it is refused there. A probability that is
+/// no number, and a payoff without a denominator; a set numbered 0, and an outcome numbered `+1`;
+/// the second of one player, and a player where there are none; a set and an outcome without a
+/// description. A set described again with another action, without its last one, with one too many
+/// and with another probability, and an outcome with another name and another payoff. A negative
+/// probability; probabilities that add to more than one, to less, and to what does not fit; and
+/// sets without actions.
 pub fn worked_reasons()
+    ensures no_version { IsReasonAt (Expected Version) no_version_front 4 5 }
+    ensures no_version_place { IsOffendingPlace IsExtensiveFile no_version_front (span_of 4 5) }
     ensures not_a_number { IsReasonAt NotANumber no_number_front 33 34 }
+    ensures no_denominator { CodeHoldsAt ZeroDenominator no_denominator_front 33 36 }
     ensures set_zero { IsReasonAt BadIndex set_zero_front 27 28 }
+    ensures outcome_plus_one { IsReasonAt BadIndex outcome_plus_one_front 25 27 }
     ensures second_of_one { IsReasonAt UnknownPlayer unknown_player_file 25 26 }
     ensures no_players { IsReasonAt UnknownPlayer nobody_file 15 16 }
     ensures undescribed_set { IsReasonAt NotDescribed undescribed_file 29 30 }
@@ -155,10 +170,13 @@ pub fn worked_reasons()
     ensures other_action { IsReasonAt Mismatch other_action_front 73 76 }
     ensures action_missing { IsReasonAt Mismatch action_missing_front 73 74 }
     ensures action_too_many { IsReasonAt Mismatch action_too_many_front 77 80 }
+    ensures other_probability { CodeHoldsAt Mismatch other_probability_front 75 78 }
+    ensures other_name { IsReasonAt Mismatch other_name_front 71 74 }
+    ensures other_payoff { CodeHoldsAt Mismatch other_payoff_front 77 78 }
     ensures negative { IsReasonAt NegativeProbability negative_front 33 37 }
     ensures above_one { IsReasonAt SumAboveOne above_one_front 41 44 }
     ensures below_one { IsReasonAt SumBelowOne below_one_front 68 69 }
-    ensures overflowing { HoldsAt SumOverflow overflowing_front 79 82 }
+    ensures overflowing { CodeHoldsAt SumOverflow overflowing_front 79 82 }
     ensures no_lottery { IsReasonAt NoEntry no_lottery_front 33 34 }
-    ensures no_action { HoldsAt NoEntry no_action_front 35 36 }
+    ensures no_action { CodeHoldsAt NoEntry no_action_front 35 36 }
 {}

@@ -52,3 +52,24 @@ returns-clause-no_action c = no_action
 
 pub returns-clause-no_lottery : goal.returns-clause-no_lottery
 returns-clause-no_lottery c = no_lottery
+
+pub returns-clause-outcome_plus_one : goal.returns-clause-outcome_plus_one
+returns-clause-outcome_plus_one c = outcome_plus_one
+
+pub returns-clause-no_denominator : goal.returns-clause-no_denominator
+returns-clause-no_denominator c = no_denominator
+
+pub returns-clause-other_probability : goal.returns-clause-other_probability
+returns-clause-other_probability c = other_probability
+
+pub returns-clause-other_name : goal.returns-clause-other_name
+returns-clause-other_name c = other_name
+
+pub returns-clause-other_payoff : goal.returns-clause-other_payoff
+returns-clause-other_payoff c = other_payoff
+
+pub returns-clause-no_version : goal.returns-clause-no_version
+returns-clause-no_version c = no_version
+
+pub returns-clause-no_version_place : goal.returns-clause-no_version_place
+returns-clause-no_version_place c = no_version_place
