@@ -6,4 +6,3 @@ pub mod Grammar
 pub mod Places
 pub mod SpelledNumbers
 pub mod SpelledTokens
-pub mod Starts

@@ -9,7 +9,6 @@ pub mod Label
 pub mod Cursor
 pub mod Lexing
 pub mod Finding
-pub mod Next
 pub mod NumberWhy
 pub mod Place
 pub mod Reason
