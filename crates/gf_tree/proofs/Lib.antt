@@ -15,6 +15,7 @@ mod WorkedFronts
 pub mod WorkedGames
 pub mod WorkedLotteries
 pub mod WorkedNone
+pub mod WorkedOverflow
 pub mod WorkedPlaces
 pub mod WorkedReasons
 pub mod WorkedRepeats

@@ -80,7 +80,7 @@ stays_open ts (t ∷ inner) rest h e =
     (open_on t (inner ++ Closing ∷ rest) (subst IsOpen (sym e) h)) refl
 
 -- behind the number of its set, the name, and this in braces so far
-abbrev open_list : List Token → List Token
+abbrev pub open_list : List Token → List Token
 open_list inner = Text (codes "n") ∷ Opening ∷ inner
 
 abbrev pub open_node : List Token → List Token
@@ -177,7 +177,7 @@ knows_no_outcome nodes n outcome e h =
     let none = subst (λ ns. KnowsOutcome ns n outcome) e h in absurd (omega (arith, none.1))
 
 -- the tokens of a front up to what is listed
-whole_front : (front behind inner to_set mover : List Token) (letter name number label : List ℕ)
+pub whole_front : (front behind inner to_set mover : List Token) (letter name number label : List ℕ)
     → front ≡ behind ++ Text label ∷ Opening ∷ inner → behind ≡ to_set ++ Bare number ∷ []
     → to_set ≡ Bare letter ∷ Text name ∷ mover
     → Bare letter ∷ Text name ∷ (mover ++ Bare number ∷ Text label ∷ Opening ∷ inner) ≡ front
@@ -189,10 +189,10 @@ whole_front front behind inner to_set mover letter name number label e f g =
 
 module _ (title : List ℕ) (names : List (List ℕ)) (inner : List Token)
     (unclosed : IsOpen inner) where
-  abbrev before_open : List Token
+  abbrev pub before_open : List Token
   before_open = file_tokens title names [] ++ open_node inner
 
-  parted : (players : List (List ℕ)) (nodes : List FileNode) (front : List Token)
+  pub parted : (players : List (List ℕ)) (nodes : List FileNode) (front : List Token)
       → EndsInNode before_open players nodes front → (nodes ≡ []) × (front ≡ open_node inner)
   parted players nodes front h =
       one_front title names (open_node inner) (begins_bare inner) (no_node inner unclosed) players

@@ -128,7 +128,7 @@ pub fn worked_reasons()
     ensures negative { IsReasonAt NegativeProbability negative_file 33 37 }
     ensures above_one { IsReasonAt SumAboveOne above_one_file 41 44 }
     ensures below_one { IsReasonAt SumBelowOne below_one_file 68 69 }
-    ensures overflowing { CodeHoldsAt SumOverflow overflowing_file 79 82 }
+    ensures overflowing { IsReasonAt SumOverflow overflowing_file 79 82 }
     ensures no_lottery { IsReasonAt NoEntry no_lottery_file 33 34 }
     ensures no_action { CodeHoldsAt NoEntry no_action_file 35 36 }
 {}
