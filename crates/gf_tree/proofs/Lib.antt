@@ -11,6 +11,7 @@ pub mod TreesOnce
 pub mod Uses
 pub mod Worked
 mod WorkedCodes
+mod WorkedEnds
 mod WorkedFronts
 pub mod WorkedGames
 pub mod WorkedLotteries

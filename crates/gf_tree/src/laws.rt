@@ -122,7 +122,7 @@ pub fn worked_reasons()
     ensures other_action { IsReasonAt Mismatch other_action_file 73 76 }
     ensures action_missing { IsReasonAt Mismatch action_missing_file 73 74 }
     ensures action_too_many { IsReasonAt Mismatch action_too_many_file 77 80 }
-    ensures other_probability { CodeHoldsAt Mismatch other_probability_file 75 78 }
+    ensures other_probability { IsReasonAt Mismatch other_probability_file 75 78 }
     ensures other_name { IsReasonAt Mismatch other_name_file 71 74 }
     ensures other_payoff { CodeHoldsAt Mismatch other_payoff_file 77 78 }
     ensures negative { IsReasonAt NegativeProbability negative_file 33 37 }
