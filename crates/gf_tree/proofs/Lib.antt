@@ -19,10 +19,12 @@ pub mod TreesOnce
 pub mod Uses
 pub mod Worked
 mod WorkedCodes
+mod WorkedEnds
 mod WorkedFronts
 pub mod WorkedGames
 pub mod WorkedLotteries
 pub mod WorkedNone
+pub mod WorkedOverflow
 pub mod WorkedPlaces
 pub mod WorkedProbabilities
 pub mod WorkedReasons

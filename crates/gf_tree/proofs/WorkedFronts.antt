@@ -80,7 +80,7 @@ stays_open ts (t ∷ inner) rest h e =
     (open_on t (inner ++ Closing ∷ rest) (subst IsOpen (sym e) h)) refl
 
 -- behind the number of its set, the name, and this in braces so far
-abbrev open_list : List Token → List Token
+abbrev pub open_list : List Token → List Token
 open_list inner = Text (codes "n") ∷ Opening ∷ inner
 
 abbrev pub open_node : List Token → List Token
@@ -177,7 +177,7 @@ knows_no_outcome nodes n outcome e h =
     let none = subst (λ ns. KnowsOutcome ns n outcome) e h in absurd (omega (arith, none.1))
 
 -- the tokens of a front up to what is listed
-whole_front : (front behind inner to_set mover : List Token) (letter name number label : List ℕ)
+pub whole_front : (front behind inner to_set mover : List Token) (letter name number label : List ℕ)
     → front ≡ behind ++ Text label ∷ Opening ∷ inner → behind ≡ to_set ++ Bare number ∷ []
     → to_set ≡ Bare letter ∷ Text name ∷ mover
     → Bare letter ∷ Text name ∷ (mover ++ Bare number ∷ Text label ∷ Opening ∷ inner) ≡ front
@@ -189,10 +189,10 @@ whole_front front behind inner to_set mover letter name number label e f g =
 
 module _ (title : List ℕ) (names : List (List ℕ)) (inner : List Token)
     (unclosed : IsOpen inner) where
-  abbrev before_open : List Token
+  abbrev pub before_open : List Token
   before_open = file_tokens title names [] ++ open_node inner
 
-  parted : (players : List (List ℕ)) (nodes : List FileNode) (front : List Token)
+  pub parted : (players : List (List ℕ)) (nodes : List FileNode) (front : List Token)
       → EndsInNode before_open players nodes front → (nodes ≡ []) × (front ≡ open_node inner)
   parted players nodes front h =
       one_front title names (open_node inner) (begins_bare inner) (no_node inner unclosed) players
@@ -373,32 +373,3 @@ module _ (title : List ℕ) (names : List (List ℕ)) where
       let to_set = h.5 in
       short_mover to_set.0 to_set.2 h.3 (Bare (decimal 1)) (Bare (decimal 1)) [] to_set.4
       (ap (drop 2) (sym to_set.3 ∙ numbered_front h.0 h.1 h.2 h.4))
-
--- ---- the last token
-
-abbrev final : Token → List Token → Token
-final token [] = token
-final token (t ∷ ts) = final t ts
-
-final_is : (first token : Token) (ts : List Token) → final first (ts ++ token ∷ []) ≡ token
-final_is first token [] = refl
-final_is first token (t ∷ ts) = final_is t token ts
-
--- behind a text stands no number of a set or an outcome
-pub text_is_no_number : (before : List Token) (label : List ℕ)
-    → final Comma before ≡ Text label → ¬ (EndsInFirstUse before)
-text_is_no_number before label e h = by_kind h.4
-  where
-    by_end : (front behind : List Token) (bytes : List ℕ) → front ≡ behind ++ Bare bytes ∷ []
-        → before ≡ h.3.whole ++ front → ⊥
-    by_end front behind bytes f g =
-        let whole = g ∙ ap (λ (ts : List Token). h.3.whole ++ ts) f
-        ∙ sym (append_assoc h.3.whole behind (Bare bytes ∷ [])) in
-        let same : Text label ≡ Bare bytes =
-        sym e ∙ ap (final Comma) whole ∙ final_is Comma (Bare bytes) (h.3.whole ++ behind) in
-        absurd cc
-
-    by_kind : (((key : SetKey) × BehindSetNumber h.2 key × IsNewSet h.1 key)
-        ⊎ ((number : ℕ) × BehindOutcomeNumber h.2 number × IsNewOutcome h.1 number)) → ⊥
-    by_kind (inl s) = by_end h.2 s.1.0 s.1.1 s.1.2 h.3.parts
-    by_kind (inr o) = by_end h.2 o.1.0 o.1.2 o.1.3 h.3.parts

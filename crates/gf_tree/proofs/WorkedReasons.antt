@@ -32,18 +32,19 @@ use Rattle.gf_tree.proofs.Worked.{said_choice, no_outcome, SaidNode, at_end}
 use Rattle.gf_tree.proofs.Worked.{at_player, numbered, file_tokens, file_of, is_said}
 use Rattle.gf_tree.proofs.WorkedCodes.{at_bare, at_closing, at_text, no_fault}
 use Rattle.gf_tree.proofs.WorkedCodes as codes_at
+use Rattle.gf_tree.proofs.WorkedEnds.{text_is_no_number}
 use Rattle.gf_tree.proofs.WorkedFronts.{heading, heading_wants_no_number, heading_wants_no_index}
-use Rattle.gf_tree.proofs.WorkedFronts.{no_player_again, no_set_again, text_is_no_number}
+use Rattle.gf_tree.proofs.WorkedFronts.{no_player_again, no_set_again}
 use Rattle.gf_tree.proofs.WorkedPlaces.{IsCutAt, said_at, stands, of_a, stands_a}
 use Rattle.gf_tree.proofs.WorkedCodes.{at_bare, at_closing, at_text, no_fault}
 use Rattle.gf_tree.proofs.WorkedCodes as codes_at
 use Rattle.gf_tree.proofs.WorkedFronts.{heading, heading_wants_no_number, heading_wants_no_index}
-use Rattle.gf_tree.proofs.WorkedFronts.{no_player_again, no_set_again, text_is_no_number}
+use Rattle.gf_tree.proofs.WorkedFronts.{no_player_again, no_set_again}
 use Rattle.gf_tree.proofs.WorkedPlaces.{to_a, to_a_is, at_a, behind_a, in_choice}
 use Rattle.gf_tree.proofs.WorkedCodes.{at_bare, at_closing, at_text, no_fault}
 use Rattle.gf_tree.proofs.WorkedCodes as codes_at
 use Rattle.gf_tree.proofs.WorkedFronts.{heading, heading_wants_no_number, heading_wants_no_index}
-use Rattle.gf_tree.proofs.WorkedFronts.{no_player_again, no_set_again, text_is_no_number}
+use Rattle.gf_tree.proofs.WorkedFronts.{no_player_again, no_set_again}
 use Rattle.gf_tree.proofs.WorkedPlaces.{in_choice_is, is_new, is_new_outcome}
 
 -- ---- a set that is described again
