@@ -1,5 +1,6 @@
 -- A worked file with probabilities whose sum does not fit: 1/M and 1/2, with M = 2^127 - 1.
-use Rattle.std.proofs.Common.{◌≡◌, ◌<◌, ◌<ℤ◌, ◌*◌, ◌+ℤ◌, ◌*ℤ◌, ℕ, pos, List, [], ◌∷◌, ◌++◌, map, drop, Some, None, refl, sym, ap, subst, ◌∙◌, arith, inl}
+use Rattle.std.proofs.Common.{◌≡◌, ◌<◌, ◌<ℤ◌, ◌*◌, ◌+ℤ◌, ◌*ℤ◌, ℕ, pos, List, [], ◌∷◌, ◌++◌}
+use Rattle.std.proofs.Common.{map, drop, Some, None, refl, sym, ap, subst, ◌∙◌, arith, inl}
 use Rattle.std.specs.Prelude.{codes, decimal}
 use Rattle.std.specs.Fmt.{digits}
 use Rattle.std.proofs.lemmas.Int.{ints}
@@ -12,18 +13,21 @@ use Rattle.gf_fraction.specs.Ratio.{Ratio, whole}
 use Rattle.gf_fraction.specs.Fits.{SumFits}
 use Rattle.gf_fraction.specs.NumberSpelling.{IsNumber}
 use Rattle.gf_fraction.specs.Computed.{number_of, lowest_of, gcd_within, sum_of}
-use Rattle.gf_fraction.proofs.Numbers.{number_is}
-use Rattle.gf_fraction.proofs.Lowest.{one_fraction}
+use Rattle.gf_fraction.proofs.ComputedAnswers.{number_is}
+use Rattle.gf_fraction.proofs.LowestTerms.{one_fraction}
 use Rattle.gf_tree.specs.Description.{Action}
 use Rattle.gf_tree.specs.Sentence.{IsAction}
 use Rattle.gf_tree.specs.Reason.{NewProbabilityIsDue, AddsUp, IsWrongProbability, Holds, IsReason}
 use Rattle.gf_tree.specs.WorkedTrees.{half}
-use Rattle.gf_tree.specs.WorkedReasons.{IsReasonAt, overflowing_file}
+use Rattle.gf_tree.specs.WorkedReasons.{IsReasonAt, overflowing_front}
 use Rattle.gf_tree.proofs.Groups.{numbers_once}
 use Rattle.gf_tree.proofs.Worked.{half_by_slash}
 use Rattle.gf_tree.proofs.WorkedCodes.{at_bare}
 use Rattle.gf_tree.proofs.WorkedFronts.{open_node, parted, whole_front}
-use Rattle.gf_tree.proofs.WorkedLotteries.{in_lottery, behind_heading, new_probability_due, action, one_more, sums_on, added, not_added, zero_is_fraction, at_number, not_below_zero, no_p, first_byte}
+use Rattle.gf_tree.proofs.WorkedProbabilities.{in_lottery, behind_heading}
+use Rattle.gf_tree.proofs.WorkedProbabilities.{new_probability_due, action, one_more}
+use Rattle.gf_tree.proofs.WorkedProbabilities.{sums_on, added, not_added, zero_is_fraction}
+use Rattle.gf_tree.proofs.WorkedProbabilities.{at_number, not_below_zero, no_p, first_byte}
 use Rattle.gf_tree.proofs.WorkedPlaces.{IsCutAt, said_at}
 
 abbrev least : List ℕ
@@ -60,7 +64,7 @@ least_before =
           refl,
     )
 
-overflowing_cut : IsCutAt overflowing_file 79 82 14 before_half
+overflowing_cut : IsCutAt overflowing_front 79 82 14 before_half
     (Bare (codes "1/2") ∷ Closing ∷ Bare (codes "0") ∷ [])
 unfolding lex digits
 overflowing_cut = ((refl, refl), refl, refl)
@@ -124,7 +128,8 @@ sum_is_least sum h =
     least_alone in
     sym sums.3
     ∙ one_fraction sums.0 least_ratio
-    (pos 0 *ℤ pos least_ratio.den +ℤ least_ratio.num *ℤ pos 1) (1 * least_ratio.den) sums.1 by_slash.fraction (omega arith)
+    (pos 0 *ℤ pos least_ratio.den +ℤ least_ratio.num *ℤ pos 1) (1 * least_ratio.den) sums.1
+    by_slash.fraction (omega arith)
     sums.2 alone.2
 
 no_other_sum : (sum : Ratio) → NewProbabilityIsDue before_half sum → sum ≡ least_ratio
@@ -160,9 +165,9 @@ not_above h =
 
 -- ---- so that is the reason
 
-pub overflowing : IsReasonAt SumOverflow overflowing_file 79 82
+pub overflowing : IsReasonAt SumOverflow overflowing_front 79 82
 overflowing =
-    said_at (IsReason SumOverflow) overflowing_file 79 82 14 before_half
+    said_at (IsReason SumOverflow) overflowing_front 79 82 14 before_half
     (Bare (codes "1/2") ∷ Closing ∷ Bare (codes "0") ∷ []) overflowing_cut (
       overflowing_holds,
       at_bare 14 before_half (codes "1/2") (Closing ∷ Bare (codes "0") ∷ [])

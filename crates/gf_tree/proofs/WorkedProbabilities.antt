@@ -10,7 +10,7 @@ use Rattle.gf_token.specs.Grammar.{Each}
 use Rattle.gf_token.specs.Lexing.{lex}
 use Rattle.gf_token.specs.declared.fault.Why.TheVariants.{NotANumber, NegativeProbability}
 use Rattle.gf_token.specs.declared.fault.Why.TheVariants.{SumAboveOne, SumBelowOne}
-use Rattle.gf_token.specs.declared.fault.Why.TheVariants.{SumOverflow, NoEntry}
+use Rattle.gf_token.specs.declared.fault.Why.TheVariants.{NoEntry}
 use Rattle.gf_fraction.specs.Ratio.{Ratio, IsFraction, whole}
 use Rattle.gf_fraction.specs.Fits.{IsSum, SumFits}
 use Rattle.gf_fraction.specs.NumberSpelling.{IsNumber, HasNumberFault}
@@ -28,7 +28,7 @@ use Rattle.gf_tree.specs.Reason.{IsWrongProbability, Holds, IsReason}
 use Rattle.gf_tree.specs.WorkedTrees.{half}
 use Rattle.gf_tree.specs.WorkedReasons.{CodeHoldsAt, IsReasonAt, no_lottery_front}
 use Rattle.gf_tree.specs.WorkedReasons.{above_one_front, below_one_front}
-use Rattle.gf_tree.specs.WorkedReasons.{negative_front, overflowing_front, no_number_front}
+use Rattle.gf_tree.specs.WorkedReasons.{negative_front, no_number_front}
 use Rattle.gf_tree.proofs.Worked.{half_by_slash, file_tokens}
 use Rattle.gf_tree.proofs.Groups.{numbers_once}
 use Rattle.gf_tree.proofs.WorkedCodes.{AtBare, at_bare, at_closing, no_fault}
@@ -38,27 +38,27 @@ use Rattle.gf_tree.proofs.WorkedPlaces.{IsCutAt, said_at, stands, at_c, behind_c
 
 -- ---- sums
 
-added : (x y r : Ratio) → IsFraction x → IsFraction y → sum_of x y ≡ Some r
+pub added : (x y r : Ratio) → IsFraction x → IsFraction y → sum_of x y ≡ Some r
     → SumFits x y × IsFraction r × IsSum r x y
 added x y r h k e =
     subst
     (λ o. MatchOption o (¬ (SumFits x y)) (λ s. SumFits x y × IsFraction s × IsSum s x y)) e
     (sum_is_computed x y h k)
 
-not_added : (x y : Ratio) → IsFraction x → IsFraction y → sum_of x y ≡ None
+pub not_added : (x y : Ratio) → IsFraction x → IsFraction y → sum_of x y ≡ None
     → ¬ (SumFits x y)
 not_added x y h k e =
     subst
     (λ o. MatchOption o (¬ (SumFits x y)) (λ s. SumFits x y × IsFraction s × IsSum s x y)) e
     (sum_is_computed x y h k)
 
-zero_is_fraction : IsFraction (whole (pos 0))
+pub zero_is_fraction : IsFraction (whole (pos 0))
 zero_is_fraction = whole_fraction 0 (omega arith)
 
 -- ---- the probabilities of a new set
 
 -- the heading, and a set of chance with these tokens in its braces
-abbrev in_lottery : List Token → List Token
+abbrev pub in_lottery : List Token → List Token
 in_lottery inner = at_c (decimal 1) ++ (Text (codes "n") ∷ Opening ∷ inner)
 
 abbrev listed : List Action → InformationSet
@@ -68,7 +68,7 @@ in_new : (inner : List Token) (actions : List Action) → Each (IsAction 0) inne
     → InActions (in_lottery inner) (set_of 0 1) (listed actions)
 in_new inner actions h = (at_c (decimal 1), inner, refl, behind_c 1 refl, h)
 
-abbrev behind_heading : List Token → List Token
+abbrev pub behind_heading : List Token → List Token
 behind_heading front = file_tokens (codes "c") [] [] ++ front
 
 probability_due : (inner : List Token) (actions : List Action) (label : List ℕ)
@@ -84,7 +84,8 @@ probability_due inner actions label h = (
   (in_lottery inner, label, refl, in_new inner actions h),
 )
 
-new_probability_due : (inner : List Token) (actions : List Action) (label : List ℕ) (sum : Ratio)
+pub new_probability_due : (inner : List Token) (actions : List Action) (label : List ℕ)
+    (sum : Ratio)
     → Each (IsAction 0) inner actions → HasSum (listed actions) sum
     → NewProbabilityIsDue (behind_heading (in_lottery inner ++ Text label ∷ [])) sum
 new_probability_due inner actions label sum h k = (
@@ -100,49 +101,50 @@ new_probability_due inner actions label sum h k = (
 )
 
 -- one action more
-abbrev action : List ℕ → Ratio → Action
+abbrev pub action : List ℕ → Ratio → Action
 action label p = record { label = label; probability = Some p }
 
-one_more : (label bytes : List ℕ) (p : Ratio) (inner : List Token) (actions : List Action)
+pub one_more : (label bytes : List ℕ) (p : Ratio) (inner : List Token) (actions : List Action)
     → IsNumber bytes p → Each (IsAction 0) inner actions
     → Each (IsAction 0) (Text label ∷ Bare bytes ∷ inner) (action label p ∷ actions)
 one_more label bytes p inner actions h k =
     (Text label ∷ Bare bytes ∷ [], inner, refl, (bytes, p, refl, h, refl), k)
 
-sums_on : (x p next total : Ratio) (ps : List Ratio)
+pub sums_on : (x p next total : Ratio) (ps : List Ratio)
     → SumFits x p × IsFraction next × IsSum next x p
     → AddsUp next ps total → AddsUp x (p ∷ ps) total
 sums_on x p next total ps h k = (h.0, (next, h.1, h.2, k))
 
 -- ---- what else might apply
 
-abbrev first_byte : List ℕ → ℕ
+abbrev pub first_byte : List ℕ → ℕ
 first_byte bytes = get_or bytes 0 0
 
-no_p : (byte : ℕ) → byte < 112 → byte ≢ 112
+pub no_p : (byte : ℕ) → byte < 112 → byte ≢ 112
 no_p byte h e = omega (arith, h, e)
 
-not_below_zero : (before : List Token) (bytes : List ℕ) (p : Ratio) → IsNumber bytes p
+pub not_below_zero : (before : List Token) (bytes : List ℕ) (p : Ratio) → IsNumber bytes p
     → ¬ (p.num <ℤ pos 0) → ¬ (IsWrongProbability NegativeProbability before bytes)
 not_below_zero before bytes p is above h =
     let same = numbers_once bytes bytes h.1 p refl h.3 is in
     above (subst (λ r. r.num <ℤ pos 0) same h.4)
 
 -- to a number behind an open list of a new set, no code below E11
-at_number : (floor : ℕ) (inner : List Token) → IsOpen inner → (bytes : List ℕ) (p : Ratio)
+pub at_number : (floor : ℕ) (inner : List Token) → IsOpen inner → (bytes : List ℕ) (p : Ratio)
     → IsNumber bytes p → bytes ≢ codes "p"
     → (IsWrongProbability NegativeProbability (behind_heading (open_node inner)) bytes
     → floor ≤ 11)
-    → floor ≤ 12 → AtBare floor (behind_heading (open_node inner)) bytes
-at_number floor inner unclosed bytes p is other negative low = record {
+    → (IsWrongProbability SumAboveOne (behind_heading (open_node inner)) bytes → floor ≤ 12)
+    → floor ≤ 14 → AtBare floor (behind_heading (open_node inner)) bytes
+at_number floor inner unclosed bytes p is other negative above low = record {
   no_number = λ fault h. absurd (no_fault bytes p fault is h.1);
   no_index = λ h. absurd (no_index_due (codes "c") [] inner unclosed bytes h);
   unknown_player = λ h. absurd (no_unknown (codes "c") [] inner unclosed bytes other h);
   first_use = λ h. absurd (no_first_use (codes "c") [] inner unclosed h);
   mismatch = λ h. absurd (no_mismatch (codes "c") [] inner unclosed (Bare bytes) h);
   negative = negative;
-  above = λ h. low;
-  overflows = λ h. omega (arith, low);
+  above = above;
+  overflows = λ h. low;
 }
 
 -- ---- 0.6 twice
@@ -210,7 +212,7 @@ above_one =
           three_fifths by_point (λ e. no_p 48 (omega arith) (ap first_byte e))
           (λ h. absurd (not_below_zero before_second (codes "0.6")
           three_fifths by_point (λ k. omega (arith, ints, k)) h))
-          (omega arith)),
+          (λ h. omega arith) (omega arith)),
     )
 
 -- ---- three thirds to six places
@@ -342,7 +344,8 @@ negative =
       at_bare 11 before_first (codes "-1/2")
           (Text (codes "b") ∷ Bare (codes "3/2") ∷ Closing ∷ Bare (codes "0") ∷ [])
           (at_number 11 (Text (codes "a") ∷ []) tt (codes "-1/2") minus_half by_minus
-          (λ e. no_p 45 (omega arith) (ap first_byte e)) (λ h. omega arith) (omega arith)),
+          (λ e. no_p 45 (omega arith) (ap first_byte e)) (λ h. omega arith)
+          (λ h. omega arith) (omega arith)),
     )
 
 no_number_cut : IsCutAt no_number_front 33 34 12 before_first
@@ -375,58 +378,6 @@ no_number =
         above = λ h. omega arith;
         overflows = λ h. omega arith;
       }),
-    )
-
--- ---- 1/M and 1/2
-
-abbrev least : List ℕ
-least = codes "1/170141183460469231731687303715884105727"
-
-abbrev least_ratio : Ratio
-least_ratio = record { num = pos 1; den = 170141183460469231731687303715884105727 }
-
-by_slash : IsNumber least least_ratio
-unfolding number_of lowest_of gcd_within
-by_slash = number_is least least_ratio refl
-
-least_alone : sum_of (whole (pos 0)) least_ratio ≡ Some least_ratio
-unfolding sum_of lowest_of gcd_within
-least_alone = refl
-
-least_and_half : sum_of least_ratio half ≡ None
-unfolding sum_of lowest_of gcd_within
-least_and_half = refl
-
-abbrev before_half : List Token
-before_half =
-    behind_heading (in_lottery (Text (codes "a") ∷ Bare least ∷ []) ++ Text (codes "b") ∷ [])
-
-least_before : NewProbabilityIsDue before_half least_ratio
-least_before =
-    new_probability_due (Text (codes "a") ∷ Bare least ∷ []) (action (codes "a") least_ratio ∷ [])
-    (codes "b") least_ratio (one_more (codes "a") least least_ratio [] [] by_slash refl) (
-      least_ratio ∷ [],
-      refl,
-      sums_on (whole (pos 0)) least_ratio least_ratio least_ratio []
-          (added (whole (pos 0)) least_ratio least_ratio zero_is_fraction by_slash.fraction
-          least_alone)
-          refl,
-    )
-
-overflowing_cut : IsCutAt overflowing_front 79 82 14 before_half
-    (Bare (codes "1/2") ∷ Closing ∷ Bare (codes "0") ∷ [])
-unfolding lex digits
-overflowing_cut = ((refl, refl), refl, refl)
-
-pub overflowing : CodeHoldsAt SumOverflow overflowing_front 79 82
-overflowing =
-    said_at (Holds SumOverflow) overflowing_front 79 82 14 before_half
-    (Bare (codes "1/2") ∷ Closing ∷ Bare (codes "0") ∷ []) overflowing_cut (
-      least_ratio,
-      half,
-      least_before,
-      half_by_slash,
-      not_added least_ratio half by_slash.fraction half_by_slash.fraction least_and_half,
     )
 
 -- ---- a set of chance without actions

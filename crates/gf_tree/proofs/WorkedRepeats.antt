@@ -23,7 +23,8 @@ use Rattle.gf_tree.specs.WorkedReasons.{other_payoff_front, other_probability_fr
 use Rattle.gf_tree.proofs.Worked.{half_by_slash, said_choice, said_lottery, no_outcome, one_paid}
 use Rattle.gf_tree.proofs.Worked.{SaidNode, at_end, at_chance, at_player, numbered, file_tokens}
 use Rattle.gf_tree.proofs.WorkedCodes.{at_bare, at_text, no_fault}
-use Rattle.gf_tree.proofs.WorkedEnds.{text_is_no_number, label_wants_no_index, label_wants_no_player}
+use Rattle.gf_tree.proofs.WorkedEnds.{text_is_no_number, label_wants_no_index}
+use Rattle.gf_tree.proofs.WorkedEnds.{label_wants_no_player}
 use Rattle.gf_tree.proofs.WorkedPlaces.{IsCutAt, said_at, stands, of_a, stands_a, at_c, behind_c}
 
 -- ---- the number of an outcome, and a payoff
@@ -259,14 +260,39 @@ not_half e =
     let same : whole (pos 0) ≡ half = cc in
     let den : 1 ≡ 2 = ap (λ (r : Ratio). r.den) same in omega (arith, den)
 
-pub other_probability : CodeHoldsAt Mismatch other_probability_front 75 78
+other_probability_holds : Holds Mismatch before_tail
+    (Bare (codes "1/2") ∷ Closing ∷ Bare (codes "0") ∷ [])
+other_probability_holds = (
+  [],
+  map (λ s. s.node) sure,
+  to_tail,
+  stands (codes "m") [] sure to_tail,
+  inl (
+    1,
+    heads,
+    head_again,
+    no_tail,
+    half,
+    (0, omega arith, refl),
+    (in_heads, codes "t", refl, in_heads_is),
+    ([], refl),
+    half_by_slash,
+    not_half,
+  ),
+)
+
+not_p : codes "1/2" ≢ codes "p"
+not_p e = let byte : 49 ≡ 112 = ap (λ bytes. get_or bytes 0 0) e in omega (arith, byte)
+
+pub other_probability : IsReasonAt Mismatch other_probability_front 75 78
 other_probability =
-    said_at (Holds Mismatch) other_probability_front 75 78 28 before_tail
+    said_at (IsReason Mismatch) other_probability_front 75 78 28 before_tail
     (Bare (codes "1/2") ∷ Closing ∷ Bare (codes "0") ∷ []) other_probability_cut (
       other_probability_holds,
       at_bare 10 before_tail (codes "1/2") (Closing ∷ Bare (codes "0") ∷ []) (record {
         no_number = λ fault h. absurd (no_fault (codes "1/2") half fault half_by_slash h.1);
-        no_index = λ h. absurd (label_wants_no_index before_tail (codes "t") refl refl (codes "1/2") h);
+        no_index =
+            λ h. absurd (label_wants_no_index before_tail (codes "t") refl refl (codes "1/2") h);
         unknown_player = λ h. absurd
             (label_wants_no_player before_tail (codes "t") refl refl (codes "1/2") not_p h);
         first_use = λ h. absurd (text_is_no_number before_tail (codes "t") refl h);

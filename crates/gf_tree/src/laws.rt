@@ -3,14 +3,14 @@
 ghost use Rattle.std.specs.Prelude.{◌≡◌, ◌↔◌, Bool, Decides, List, [], ◌∷◌, ℕ, map, nat_eq};
 ghost use Rattle.std.specs.List.{AllByRecursion};
 ghost use Rattle.gf_token.specs.Token.{Token};
-ghost use Rattle.gf_token.specs.Place.{IsOffendingPlace};
-ghost use Rattle.gf_token.specs.declared.fault.What.TheVariants.{Version};
 ghost use Rattle.gf_token.specs.declared.fault.Why.TheVariants.{BadIndex, Expected, Mismatch};
 ghost use Rattle.gf_token.specs.declared.fault.Why.TheVariants.{NegativeProbability, NoEntry};
 ghost use Rattle.gf_token.specs.declared.fault.Why.TheVariants.{NotANumber, NotDescribed};
 ghost use Rattle.gf_token.specs.declared.fault.Why.TheVariants.{SumAboveOne, SumBelowOne};
 ghost use Rattle.gf_token.specs.declared.fault.Why.TheVariants.{SumOverflow, UnknownPlayer};
 ghost use Rattle.gf_token.specs.declared.fault.Why.TheVariants.{ZeroDenominator};
+ghost use Rattle.gf_token.specs.Place.{IsOffendingPlace};
+ghost use Rattle.gf_token.specs.declared.fault.What.TheVariants.{Version};
 ghost use Rattle.gf_tree.specs.Front.{IsExtensiveFile};
 ghost use Rattle.gf_tree.specs.Tree.{Tree};
 ghost use Rattle.gf_tree.specs.Tree.Trees.{none, more};
@@ -170,13 +170,13 @@ pub fn worked_reasons()
     ensures other_action { IsReasonAt Mismatch other_action_front 73 76 }
     ensures action_missing { IsReasonAt Mismatch action_missing_front 73 74 }
     ensures action_too_many { IsReasonAt Mismatch action_too_many_front 77 80 }
-    ensures other_probability { CodeHoldsAt Mismatch other_probability_front 75 78 }
+    ensures other_probability { IsReasonAt Mismatch other_probability_front 75 78 }
     ensures other_name { IsReasonAt Mismatch other_name_front 71 74 }
     ensures other_payoff { CodeHoldsAt Mismatch other_payoff_front 77 78 }
     ensures negative { IsReasonAt NegativeProbability negative_front 33 37 }
     ensures above_one { IsReasonAt SumAboveOne above_one_front 41 44 }
     ensures below_one { IsReasonAt SumBelowOne below_one_front 68 69 }
-    ensures overflowing { CodeHoldsAt SumOverflow overflowing_front 79 82 }
+    ensures overflowing { IsReasonAt SumOverflow overflowing_front 79 82 }
     ensures no_lottery { IsReasonAt NoEntry no_lottery_front 33 34 }
     ensures no_action { CodeHoldsAt NoEntry no_action_front 35 36 }
 {}

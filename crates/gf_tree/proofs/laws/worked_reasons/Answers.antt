@@ -1,5 +1,6 @@
 use Rattle.gf_tree.proofs.WorkedProbabilities.{no_number, negative, above_one}
-use Rattle.gf_tree.proofs.WorkedProbabilities.{below_one, overflowing, no_lottery}
+use Rattle.gf_tree.proofs.WorkedProbabilities.{below_one, no_lottery}
+use Rattle.gf_tree.proofs.WorkedOverflow.{overflowing}
 use Rattle.gf_tree.proofs.WorkedReasons.{set_zero, second_player, no_players}
 use Rattle.gf_tree.proofs.WorkedReasons.{undescribed_set, undescribed_outcome, other_action}
 use Rattle.gf_tree.proofs.WorkedReasons.{action_missing, action_too_many, no_action}
