@@ -24,10 +24,10 @@ use Rattle.gf_nfg.specs.declared.position.Position.{Position}
 use Rattle.gf_nfg.specs.declared.position.Position.TheVariants as p
 use Rattle.gf_nfg.specs.Due.{Role, Suits}
 use Rattle.gf_nfg.specs.Due.Role.{Format, Version, Letter, Count, Payoff, OutcomeNumber}
-use Rattle.gf_nfg.specs.Readings.{index_of, count_of}
+use Rattle.gf_token.specs.Indices.{index_of, count_of}
 use Rattle.gf_nfg.specs.Machine.{State, Content, at, step, counted, listed, paid, chosen}
 use Rattle.gf_nfg.specs.Machine.{at_strategies_end, at_first, at_count, at_list_opening}
-use Rattle.gf_nfg.proofs.ReadingIndices.{index_is, index_again, count_is, count_again}
+use Rattle.gf_token.proofs.ReadingIndices.{index_is, index_again, count_is, count_again}
 use Rattle.gf_nfg.proofs.RunsCommon.{not_zero, same_bytes}
 
 -- Which tokens a row accepts, bare ones by their role; the `What` of its E3; and whether a closing

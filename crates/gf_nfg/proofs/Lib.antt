@@ -27,7 +27,6 @@ pub mod PlacesLed
 pub mod PlacesLimit
 pub mod PlacesOnce
 pub mod PlacesWalk
-pub mod ReadingIndices
 pub mod ReasonFound
 pub mod RunsBody
 pub mod RunsCommon

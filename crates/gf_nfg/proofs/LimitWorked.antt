@@ -19,7 +19,7 @@ use Rattle.gf_nfg.specs.Profiles.{product}
 use Rattle.gf_nfg.specs.Sentence.{IsCount, counted_labels}
 use Rattle.gf_token.specs.Place.{tokens_of}
 use Rattle.gf_nfg.specs.LimitByCounts.{GivesCounts, PassesLimitAt}
-use Rattle.gf_nfg.specs.Readings.{index_of}
+use Rattle.gf_token.specs.Indices.{index_of}
 use Rattle.gf_nfg.specs.Machine.{State}
 use Rattle.gf_nfg.proofs.MeaningLists.{counts_back}
 use Rattle.gf_nfg.proofs.PlacesWalk.{Leads}

@@ -12,7 +12,7 @@ use Rattle.gf_fraction.specs.declared.fraction.NumberFault.{NumberFault}
 use Rattle.gf_nfg.specs.declared.position.Position.{Position}
 use Rattle.gf_nfg.specs.declared.position.Position.TheVariants as p
 use Rattle.gf_fraction.specs.Computed.{number_of}
-use Rattle.gf_nfg.specs.Readings.{index_of, count_of}
+use Rattle.gf_token.specs.Indices.{index_of, count_of}
 use Rattle.gf_nfg.specs.Table.{Table}
 use Rattle.gf_nfg.specs.Sentence.{Sentence}
 use Rattle.gf_nfg.specs.Machine.{State, Content, at, step, run, start, counted, listed}
@@ -23,7 +23,7 @@ use Rattle.gf_nfg.specs.Machine.{at_outcome_number, due_at, ended, ◌>>=◌}
 use Rattle.gf_nfg.specs.Meaning.{table_of}
 use Rattle.gf_nfg.specs.Limit.{profile_limit}
 use Rattle.gf_nfg.specs.LimitPlace.{BeginsWithinLimit, StaysWithinLimit, IsBareOrClosing}
-use Rattle.gf_nfg.proofs.ReadingIndices.{count_is}
+use Rattle.gf_token.proofs.ReadingIndices.{count_is}
 use Rattle.gf_nfg.proofs.MeaningTables.{length-entries}
 use Rattle.gf_nfg.proofs.RunsCommon.{ok_is}
 use Rattle.gf_nfg.proofs.RunsSentence.{sentence_found, sentence_again}

@@ -15,7 +15,7 @@ use Rattle.gf_fraction.specs.Ratio.{Ratio, whole}
 use Rattle.gf_nfg.specs.declared.position.Position.{Position}
 use Rattle.gf_nfg.specs.declared.position.Position.TheVariants as p
 use Rattle.gf_fraction.specs.Computed.{number_of, lowest_of, gcd_within}
-use Rattle.gf_nfg.specs.Readings.{index_of, count_of}
+use Rattle.gf_token.specs.Indices.{index_of, count_of}
 use Rattle.gf_nfg.specs.Machine.{State, Content, at, step, run, listed, with_title, with_labels}
 use Rattle.gf_nfg.specs.Machine.{with_count, with_payoffs, with_choices, next_outcome}
 use Rattle.gf_nfg.proofs.RunsCommon.{not_zero, pred_suc}

@@ -13,11 +13,11 @@ use Rattle.gf_token.specs.declared.fault.Why.{Why}
 use Rattle.gf_token.specs.Grammar.{Each, braced, IsPayoffInBraces}
 use Rattle.gf_fraction.specs.Ratio.{Ratio}
 use Rattle.gf_nfg.specs.declared.position.Position.TheVariants as p
-use Rattle.gf_nfg.specs.Readings.{index_of}
+use Rattle.gf_token.specs.Indices.{index_of}
 use Rattle.gf_nfg.specs.Sentence.{IsOutcomeInBraces}
 use Rattle.gf_nfg.specs.Machine.{State, Content, at, run, chosen, with_payoffs}
 use Rattle.gf_nfg.specs.Machine.{with_choices, next_outcome, ◌>>=◌}
-use Rattle.gf_nfg.proofs.ReadingIndices.{index_is, index_again}
+use Rattle.gf_token.proofs.ReadingIndices.{index_is, index_again}
 use Rattle.gf_nfg.proofs.MeaningLists.{joined}
 use Rattle.gf_nfg.proofs.RunsCommon.{not_zero, pred_suc, ok_why, ok_is, with_no_payoffs}
 use Rattle.gf_nfg.proofs.RunsCommon.{with_more_payoffs, with_no_choices, with_more_choices}

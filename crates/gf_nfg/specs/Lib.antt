@@ -8,7 +8,6 @@ pub mod Meaning
 pub mod ProfilePlaces
 pub mod Profiles
 pub mod ReaderState
-pub mod Readings
 pub mod Reason
 pub mod SameTable
 pub mod Sentence

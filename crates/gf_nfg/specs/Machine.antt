@@ -17,7 +17,7 @@ use Rattle.gf_fraction.specs.declared.fraction.NumberFault.{NumberFault}
 use Rattle.gf_nfg.specs.Limit.{profile_limit}
 use Rattle.gf_fraction.specs.Computed.{number_of}
 use Rattle.gf_token.specs.NumberWhy.{why_of}
-use Rattle.gf_nfg.specs.Readings.{count_of, index_of}
+use Rattle.gf_token.specs.Indices.{count_of, index_of}
 use Rattle.gf_nfg.specs.declared.position.Position.{Position}
 use Rattle.gf_nfg.specs.declared.position.Position.TheVariants as p
 

@@ -2,7 +2,7 @@
 
 ghost use Rattle.std.specs.Prelude.{◌≡◌};
 ghost use Rattle.gf_fraction.specs.Computed.{number_of};
-ghost use Rattle.gf_nfg.specs.Readings.{count_of, index_of};
+ghost use Rattle.gf_token.specs.Indices.{count_of, index_of};
 
 use gf_fraction::{Fraction, NumberFault};
 use gf_token::read_index;

@@ -4,5 +4,7 @@ pub mod Spans
 pub mod Labels
 pub mod Grammar
 pub mod Places
+pub mod ReadingIndices
 pub mod SpelledNumbers
 pub mod SpelledTokens
+pub mod Starts

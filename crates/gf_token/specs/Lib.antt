@@ -3,12 +3,14 @@ pub mod LabelSpelling
 pub mod Token
 pub mod TokenSpelling
 pub mod Index
+pub mod Indices
 pub mod Grammar
 pub mod Code
 pub mod Label
 pub mod Cursor
 pub mod Lexing
 pub mod Finding
+pub mod Next
 pub mod NumberWhy
 pub mod Place
 pub mod Reason

@@ -5,14 +5,17 @@ ghost use Rattle.std.specs.Prelude.{slice_index, MatchOption, true, false};
 ghost use Rattle.gf_token.specs.Byte.{is_space, is_bare};
 ghost use Rattle.gf_token.specs.Finding.{lexed, ClosesText, EndsGap, Finds};
 ghost use Rattle.gf_token.specs.Token.{lexeme};
-ghost use Rattle.gf_token.specs.Token.Token.{Bare, Broken};
+ghost use Rattle.gf_token.specs.Label.{label_of};
+ghost use Rattle.gf_token.specs.Next.{starts, is_bare_token, is_closing};
+ghost use Rattle.gf_token.specs.Next.{is_comma, is_opening, is_text_token};
+ghost use Rattle.gf_token.specs.Token.Token.{Bare, Broken, Closing, Comma, Opening, Text};
 ghost use Rattle.gf_token.specs.TokenSpelling.{Spells};
 ghost use Rattle.gf_token.specs.Cursor.{Nexts};
 
 use crate::byte::{is_bare, is_space};
 use crate::fault::{Fault, Span, Why};
 use crate::label::Label;
-use crate::token::{Kind, Token};
+use crate::token::{BareToken, Kind, TextToken, Token};
 use std::marker::Model;
 
 /// A place in an input, seen as the tokens that are still to come.
@@ -145,5 +148,92 @@ impl<'a> Cursor<'a> {
         let token = token_at(self.input, start)?;
         self.at = token.span.end;
         Ok(Some(token))
+    }
+
+    /// The next token where it is a bare one, or `None`, and then the cursor stays.
+    #[tactic(auto, using(crate::proofs::Starts::starts_steps))]
+    pub fn bare(&mut self) -> Option<BareToken<'a>>
+        ensures { MatchOption result
+            ((self.new ≡ self.old) × (starts is_bare_token self.old ≡ false))
+            (λ t. self.old ≡ lexeme t.span.start t.span.end (Bare t.bytes.now) ∷ self.new) }
+    {
+        let start = gap_end(self.input, self.at)?;
+        if !is_bare(self.input[start]) {
+            return None;
+        }
+        let end = bare_end(self.input, start);
+        let bytes = &self.input[start..end];
+        self.at = end;
+        let span = Span { start, end };
+        Some(BareToken { span, bytes })
+    }
+
+    /// The next token where it is a text, or `None`, and then the cursor stays.
+    #[tactic(auto, using(crate::proofs::Starts::starts_steps))]
+    pub fn text(&mut self) -> Option<TextToken<'a>>
+        ensures { MatchOption result
+            ((self.new ≡ self.old) × (starts is_text_token self.old ≡ false))
+            (λ t. self.old ≡ lexeme t.span.start t.span.end (Text (label_of t.label)) ∷ self.new) }
+    {
+        let start = gap_end(self.input, self.at)?;
+        if self.input[start] != b'"' {
+            return None;
+        }
+        let quote = closing_quote(self.input, start)?;
+        let label = Label::of_spelling(&self.input[start + 1..quote]);
+        let end = quote + 1;
+        self.at = end;
+        let span = Span { start, end };
+        Some(TextToken { span, label })
+    }
+
+    /// The place of the next token where it is an opening brace, or `None`, and then the cursor
+    /// stays.
+    #[tactic(auto, using(crate::proofs::Starts::starts_steps))]
+    pub fn opening(&mut self) -> Option<Span>
+        ensures { MatchOption result
+            ((self.new ≡ self.old) × (starts is_opening self.old ≡ false))
+            (λ s. self.old ≡ lexeme s.start s.end Opening ∷ self.new) }
+    {
+        let start = gap_end(self.input, self.at)?;
+        if self.input[start] != b'{' {
+            return None;
+        }
+        let end = start + 1;
+        self.at = end;
+        Some(Span { start, end })
+    }
+
+    /// The place of the next token where it is a closing brace, or `None`, and then the cursor
+    /// stays.
+    #[tactic(auto, using(crate::proofs::Starts::starts_steps))]
+    pub fn closing(&mut self) -> Option<Span>
+        ensures { MatchOption result
+            ((self.new ≡ self.old) × (starts is_closing self.old ≡ false))
+            (λ s. self.old ≡ lexeme s.start s.end Closing ∷ self.new) }
+    {
+        let start = gap_end(self.input, self.at)?;
+        if self.input[start] != b'}' {
+            return None;
+        }
+        let end = start + 1;
+        self.at = end;
+        Some(Span { start, end })
+    }
+
+    /// The place of the next token where it is a comma, or `None`, and then the cursor stays.
+    #[tactic(auto, using(crate::proofs::Starts::starts_steps))]
+    pub fn comma(&mut self) -> Option<Span>
+        ensures { MatchOption result
+            ((self.new ≡ self.old) × (starts is_comma self.old ≡ false))
+            (λ s. self.old ≡ lexeme s.start s.end Comma ∷ self.new) }
+    {
+        let start = gap_end(self.input, self.at)?;
+        if self.input[start] != b',' {
+            return None;
+        }
+        let end = start + 1;
+        self.at = end;
+        Some(Span { start, end })
     }
 }

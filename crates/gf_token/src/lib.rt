@@ -20,5 +20,5 @@ pub use cursor::Cursor;
 pub use fault::{Fault, Span, What, Why};
 pub use index::{IndexFault, read_index};
 pub use label::Label;
-pub use token::{Kind, Token};
+pub use token::{BareToken, Kind, TextToken, Token};
 pub use write::write_label;

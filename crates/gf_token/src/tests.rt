@@ -3,7 +3,10 @@
 ghost use Rattle.std.specs.Prelude.{◌≡◌, ◌↔◌, IsTrue};
 ghost use Rattle.gf_token.specs.Label.{label_of};
 
-use crate::{Cursor, Fault, IndexFault, Kind, Label, Span, What, Why, read_index, write_label};
+use crate::{
+    BareToken, Cursor, Fault, IndexFault, Kind, Label, Span, TextToken, What, Why, read_index,
+    write_label,
+};
 use std::alloc::AllocError;
 use std::test::Fail;
 
@@ -24,6 +27,35 @@ fn sign(kind: Kind<'_>) -> char {
         Kind::Text(_) => 't',
         Kind::Bare(_) => 'b',
     }
+}
+
+#[test]
+fn gives_the_token_that_is_asked_for(rt: HostRuntime) {
+    let mut cursor = Cursor::new(b"EFG{\"a\",}!");
+    assert_eq!(rt; cursor.text(), None);
+    assert_eq!(rt; cursor.opening(), None);
+    assert_eq!(rt;
+        cursor.bare(),
+        Some(BareToken {
+            span: Span { start: 0, end: 3 },
+            bytes: b"EFG",
+        })
+    );
+    assert_eq!(rt; cursor.bare(), None);
+    assert_eq!(rt; cursor.closing(), None);
+    assert_eq!(rt; cursor.opening(), Some(Span { start: 3, end: 4 }));
+    assert_eq!(rt; cursor.comma(), None);
+    assert_eq!(rt;
+        cursor.text(),
+        Some(TextToken {
+            span: Span { start: 4, end: 7 },
+            label: Label::new(b"a").unwrap(),
+        })
+    );
+    assert_eq!(rt; cursor.comma(), Some(Span { start: 7, end: 8 }));
+    assert_eq!(rt; cursor.closing(), Some(Span { start: 8, end: 9 }));
+    assert_eq!(rt; found(&mut cursor), ('b', 9, 10));
+    assert_eq!(rt; cursor.bare(), None);
 }
 
 #[test]

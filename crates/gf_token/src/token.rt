@@ -25,3 +25,17 @@ pub struct Token<'a> {
     pub span: Span,
     pub kind: Kind<'a>,
 }
+
+/// A bare token, where one was asked for.
+#[derive(Clone, Copy, Debug, PartialEq, Eq)]
+pub struct BareToken<'a> {
+    pub span: Span,
+    pub bytes: &'a [u8],
+}
+
+/// A text, where one was asked for; its quotes are within its span.
+#[derive(Clone, Copy, Debug, PartialEq, Eq)]
+pub struct TextToken<'a> {
+    pub span: Span,
+    pub label: Label<'a>,
+}

@@ -2,7 +2,7 @@
 
 ghost use Rattle.std.specs.Prelude.{◌≡◌, ◌<◌, ◌-◌, length};
 ghost use Rattle.gf_token.specs.Cursor.{token_of};
-ghost use Rattle.gf_nfg.specs.Readings.{count_of};
+ghost use Rattle.gf_token.specs.Indices.{count_of};
 ghost use Rattle.gf_nfg.specs.Machine.{Steps, at_before_strategies, settled, counted};
 ghost use Rattle.gf_nfg.specs.Machine.{at_strategies_end, at_first_strategies, at_counts};
 ghost use Rattle.gf_nfg.specs.Machine.{opened, listed, at_before_list, at_list};

@@ -1,5 +1,5 @@
 use Rattle.std.proofs.Common.{sym}
-use Rattle.gf_nfg.proofs.ReadingIndices.{index_again, index_none}
+use Rattle.gf_token.proofs.ReadingIndices.{index_again, index_none}
 use Rattle.gf_nfg.proofs.readings.outcome_number.Goals as goal
 
 pub returns-in-Ok : goal.returns-in-Ok

@@ -11,7 +11,7 @@ use Rattle.gf_fraction.proofs.SpelledIsFound.{ascii_from_digit, digit_from_ascii
 use Rattle.gf_token.specs.Index.{IsDigits, IsIndex, IsNoIndex}
 use Rattle.gf_token.specs.declared.index.IndexFault.{IndexFault}
 use Rattle.gf_token.specs.declared.index.IndexFault.TheVariants.{NotDigits, TooLarge}
-use Rattle.gf_nfg.specs.Readings.{is_numeral, index_of, count_of, positive}
+use Rattle.gf_token.specs.Indices.{is_numeral, index_of, count_of, positive}
 
 all_digits : (ds : List ℕ) → list_all is_ascii_digit ds ≡ true → AllDigits 10 ds
 all_digits [] h = tt

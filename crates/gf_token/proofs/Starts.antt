@@ -1,0 +1,122 @@
+-- What the byte at a place says of the token that begins there.
+use Rattle.std.proofs.Common.{◌≡◌, ℕ, ◌+◌, ◌<◌, Bool, true, false, ◌==◌, ◌&&◌}
+use Rattle.std.proofs.Common.{not, List, [], ◌∷◌, ◌++◌, length, get_or, drop}
+use Rattle.std.proofs.Common.{refl, ap, ◌∙◌, if◌then◌else◌, inl, inr}
+use Rattle.std.proofs.lemmas.Bool.{cases_eq}
+use Rattle.gf_token.specs.Byte.{is_space, is_bare}
+use Rattle.gf_token.specs.Token.{Token, Lexeme, lexeme}
+use Rattle.gf_token.specs.Token.Token.{Opening, Closing, Comma, Text, Bare, Broken}
+use Rattle.gf_token.specs.Lexing.{lex, ended, after, single, begins}
+use Rattle.gf_token.specs.Lexing.Mode.{Gap, InText, InBare}
+use Rattle.gf_token.specs.Next.{starts, is_text_token, is_bare_token}
+use Rattle.gf_token.specs.Next.{is_opening, is_closing, is_comma}
+use Rattle.gf_token.proofs.Steps.{lex_more, bare_out, bare_if, opening, closing, comma}
+
+-- what begins with a byte of a bare token is one
+pub in_bare : (test : Token → Bool) → ((text : List ℕ) → test (Bare text) ≡ false)
+    → (start : ℕ) (text : List ℕ) (at : ℕ) (bytes : List ℕ)
+    → starts test (lex (InBare start text) at bytes) ≡ false
+unfolding lex
+in_bare test none start text at [] = none text
+in_bare test none start text at (b ∷ bytes) =
+    elim (is_bare b) as
+    (λ v. starts test ((if v then [] else lexeme start at (Bare text) ∷ single at b)
+    ++ lex (if v then InBare start (text ++ b ∷ []) else begins at b) (at + 1) bytes)
+    ≡ false)
+    [ true ↦ in_bare test none start (text ++ b ∷ []) (at + 1) bytes | false ↦ none text ]
+
+-- what begins with a quote is a text, or broken
+pub in_text : (test : Token → Bool) → ((text : List ℕ) → test (Text text) ≡ false)
+    → test Broken ≡ false → (start before : ℕ) (text : List ℕ) (at : ℕ) (bytes : List ℕ)
+    → starts test (lex (InText start before text) at bytes) ≡ false
+unfolding lex
+in_text test none broken start before text at [] = broken
+in_text test none broken start before text at (b ∷ bytes) =
+    elim (b == 34 && not (before == 92)) as
+    (λ v. starts test ((if v then lexeme start (at + 1) (Text text) ∷ [] else [])
+    ++ lex (if v then Gap else InText start b (text ++ b ∷ [])) (at + 1) bytes)
+    ≡ false) [
+      | true ↦ none text
+      | false ↦ in_text test none broken start b (text ++ b ∷ []) (at + 1) bytes
+    ]
+
+-- the token that begins with the byte b at a place
+front : (test : Token → Bool) (bytes : List ℕ) (at b : ℕ) (rest : List ℕ)
+    → starts test (ended Gap at b ++ lex (after Gap at b) (at + 1) rest) ≡ false
+    → at < length bytes → get_or bytes at 0 ≡ b → rest ≡ drop (at + 1) bytes
+    → starts test (lex Gap at (drop at bytes)) ≡ false
+front test bytes at b rest h lt is others =
+    ap (starts test) (lex_more Gap bytes at lt) ∙ rw (is, ← others) h
+
+bare_front : (test : Token → Bool)
+    → ((text : List ℕ) → test (Bare text) ≡ false) → (at b : ℕ) (rest : List ℕ) → is_bare b ≡ true
+    → starts test (ended Gap at b ++ lex (after Gap at b) (at + 1) rest) ≡ false
+bare_front test none at b rest h =
+    rw (bare_out at b h, h) (in_bare test none at (b ∷ []) (at + 1) rest)
+
+-- A test that the token passes by none of the bytes that it may begin with.
+module _ (test : Token → Bool) (bytes : List ℕ) (at : ℕ) (lt : at < length bytes)
+    (space : is_space (get_or bytes at 0) ≡ false)
+    (bare : is_bare (get_or bytes at 0) ≡ true → (text : List ℕ) → test (Bare text) ≡ false)
+    (quoted : get_or bytes at 0 ≡ 34 → (text : List ℕ) → test (Text text) ≡ false)
+    (broken : get_or bytes at 0 ≡ 34 → test Broken ≡ false)
+    (opens : get_or bytes at 0 ≡ 123 → test Opening ≡ false)
+    (closes : get_or bytes at 0 ≡ 125 → test Closing ≡ false)
+    (comma_out : get_or bytes at 0 ≡ 44 → test Comma ≡ false) where
+  pub not_in_front : starts test (lex Gap at (drop at bytes)) ≡ false
+  not_in_front =
+      elim (cases_eq (get_or bytes at 0) 34) [
+        | inl e ↦ front test bytes at 34 (drop (at + 1) bytes)
+            (in_text test (quoted e) (broken e) at 34 [] (at + 1) (drop (at + 1) bytes)) lt e refl
+        | inr q ↦ elim (cases_eq (get_or bytes at 0) 123) [
+          | inl e ↦ front test bytes at 123 (drop (at + 1) bytes) (opens e) lt e refl
+          | inr o ↦ elim (cases_eq (get_or bytes at 0) 125) [
+            | inl e ↦ front test bytes at 125 (drop (at + 1) bytes) (closes e) lt e refl
+            | inr c ↦ elim (cases_eq (get_or bytes at 0) 44) [
+              | inl e ↦ front test bytes at 44 (drop (at + 1) bytes) (comma_out e) lt e refl
+              | inr m ↦
+                  let b : is_bare (get_or bytes at 0) ≡ true =
+                  bare_if (get_or bytes at 0) space o c m q in
+                  front test bytes at (get_or bytes at 0) (drop (at + 1) bytes)
+                  (bare_front test (bare b) at (get_or bytes at 0) (drop (at + 1) bytes) b) lt refl
+                  refl
+            ]
+          ]
+        ]
+      ]
+
+pub no_text : (bytes : List ℕ) (at : ℕ) → at < length bytes → is_space (get_or bytes at 0) ≡ false
+    → (get_or bytes at 0 ≡ 34 → ⊥) → starts is_text_token (lex Gap at (drop at bytes)) ≡ false
+no_text bytes at lt s q = not_in_front is_text_token bytes at lt s (λ b t. refl) (λ e. absurd (q e))
+    (λ e. absurd (q e)) (λ e. refl) (λ e. refl) (λ e. refl)
+
+pub no_bare : (bytes : List ℕ) (at : ℕ)
+    → at < length bytes → is_space (get_or bytes at 0) ≡ false → is_bare (get_or bytes at 0) ≡ false
+    → starts is_bare_token (lex Gap at (drop at bytes)) ≡ false
+no_bare bytes at lt s q = not_in_front is_bare_token bytes at lt s (λ b t. cc) (λ e t. refl)
+    (λ e. refl) (λ e. refl) (λ e. refl) (λ e. refl)
+
+pub no_opening : (bytes : List ℕ) (at : ℕ)
+    → at < length bytes → is_space (get_or bytes at 0) ≡ false → (get_or bytes at 0 ≡ 123 → ⊥)
+    → starts is_opening (lex Gap at (drop at bytes)) ≡ false
+no_opening bytes at lt s q = not_in_front is_opening bytes at lt s (λ b t. refl) (λ e t. refl)
+    (λ e. refl) (λ e. absurd (q e)) (λ e. refl) (λ e. refl)
+
+pub no_closing : (bytes : List ℕ) (at : ℕ)
+    → at < length bytes → is_space (get_or bytes at 0) ≡ false → (get_or bytes at 0 ≡ 125 → ⊥)
+    → starts is_closing (lex Gap at (drop at bytes)) ≡ false
+no_closing bytes at lt s q = not_in_front is_closing bytes at lt s (λ b t. refl) (λ e t. refl)
+    (λ e. refl) (λ e. refl) (λ e. absurd (q e)) (λ e. refl)
+
+pub no_comma : (bytes : List ℕ) (at : ℕ) → at < length bytes → is_space (get_or bytes at 0) ≡ false
+    → (get_or bytes at 0 ≡ 44 → ⊥) → starts is_comma (lex Gap at (drop at bytes)) ≡ false
+no_comma bytes at lt s q = not_in_front is_comma bytes at lt s (λ b t. refl) (λ e t. refl)
+    (λ e. refl) (λ e. refl) (λ e. refl) (λ e. absurd (q e))
+
+-- a text that has no end
+pub broken_front : (test : Token → Bool) (ls : List Lexeme) (start end : ℕ)
+    → ls ≡ lexeme start end Broken ∷ [] → test Broken ≡ false → starts test ls ≡ false
+broken_front test ls start end e h = ap (starts test) e ∙ h
+
+pub ruleset starts_steps =
+    (no_text, no_bare, no_opening, no_closing, no_comma, opening, closing, comma)
