@@ -1,5 +1,5 @@
 -- No lower code applies: what is to be refuted of each code, by the token at the place.
-use Rattle.std.proofs.Common.{◌≤◌, ℕ, List, [], ◌∷◌, Ok, Err, arith}
+use Rattle.std.proofs.Common.{◌≡◌, ◌≤◌, ℕ, List, [], ◌∷◌, Ok, Err, arith}
 use Rattle.gf_token.specs.Token.{Token}
 use Rattle.gf_token.specs.Token.Token.{Closing, Text, Bare}
 use Rattle.gf_token.specs.Code.{code_of}
@@ -19,9 +19,15 @@ use Rattle.gf_fraction.proofs.ReadingBack.{one_answer}
 use Rattle.gf_tree.specs.Reason.{IsNoNumber, IsBadIndex, IsUnknownPlayer, EndsInFirstUse}
 use Rattle.gf_tree.specs.Reason.{IsMismatch, IsWrongProbability, StaysBelowOne, Holds}
 
+-- the code of a text that spells no number
+abbrev pub number_code : NumberFault → ℕ
+number_code number.NotANumber = 4
+number_code number.ZeroDenominator = 5
+number_code number.TooLarge = 6
+
 -- what the codes that may apply at a bare token have to be
 pub record AtBare (floor : ℕ) (before : List Token) (bytes : List ℕ) : Type 0 where
-  pub no_number : (fault : NumberFault) → IsNoNumber before bytes fault → floor ≤ 4
+  pub no_number : (fault : NumberFault) → IsNoNumber before bytes fault → floor ≤ number_code fault
   pub no_index : IsBadIndex before bytes → floor ≤ 7
   pub unknown_player : IsUnknownPlayer before bytes → floor ≤ 8
   pub first_use : EndsInFirstUse before → floor ≤ 9
@@ -37,10 +43,8 @@ at_bare floor before bytes after k TooLong h = absurd h
 at_bare floor before bytes after k Unterminated h = absurd h
 at_bare floor before bytes after k (Expected what) h = absurd h
 at_bare floor before bytes after k NotANumber h = k.no_number number.NotANumber h
-at_bare floor before bytes after k ZeroDenominator h =
-    let low = k.no_number number.ZeroDenominator h in omega (arith, low)
-at_bare floor before bytes after k NumberTooLarge h =
-    let low = k.no_number number.TooLarge h in omega (arith, low)
+at_bare floor before bytes after k ZeroDenominator h = k.no_number number.ZeroDenominator h
+at_bare floor before bytes after k NumberTooLarge h = k.no_number number.TooLarge h
 at_bare floor before bytes after k BadIndex h = k.no_index h
 at_bare floor before bytes after k UnknownPlayer h = k.unknown_player h
 at_bare floor before bytes after k NotDescribed h = k.first_use h.0
@@ -129,3 +133,8 @@ at_end before Memory h = absurd h
 pub no_fault : (bytes : List ℕ) (p : Ratio) (fault : NumberFault) → IsNumber bytes p
     → ¬ (HasNumberFault bytes fault)
 no_fault bytes p fault h k = let same = one_answer bytes (Ok p) (Err fault) h k in absurd cc
+
+-- nor has another text two
+pub one_fault : (bytes : List ℕ) (a b : NumberFault) → HasNumberFault bytes a
+    → HasNumberFault bytes b → a ≡ b
+one_fault bytes a b h k = let same = one_answer bytes (Err a) (Err b) h k in cc

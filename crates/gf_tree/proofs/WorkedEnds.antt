@@ -19,26 +19,32 @@ final_is : (first token : Token) (ts : List Token) → final first (ts ++ token 
 final_is first token [] = refl
 final_is first token (t ∷ ts) = final_is t token ts
 
--- behind a text stands no number of a set or an outcome
-pub text_is_no_number : (before : List Token) (label : List ℕ)
-    → final Comma before ≡ Text label → ¬ (EndsInFirstUse before)
-text_is_no_number before label e h = by_kind h.4
+last_is : (before front : List Token) (token : Token) → before ≡ front ++ token ∷ []
+    → final Comma before ≡ token
+last_is before front token e = ap (final Comma) e ∙ final_is Comma token front
+
+-- where no bare token is the last, no number of a set or an outcome is
+no_number_last : (before : List Token)
+    → ((front : List Token) (bytes : List ℕ) → before ≡ front ++ Bare bytes ∷ [] → ⊥)
+    → ¬ (EndsInFirstUse before)
+no_number_last before not_bare h = by_kind h.4
   where
     by_end : (front behind : List Token) (bytes : List ℕ) → front ≡ behind ++ Bare bytes ∷ []
         → before ≡ h.3.whole ++ front → ⊥
     by_end front behind bytes f g =
-        let whole = g ∙ ap (λ (ts : List Token). h.3.whole ++ ts) f
-        ∙ sym (append_assoc h.3.whole behind (Bare bytes ∷ [])) in
-        let same : Text label ≡ Bare bytes =
-        sym e ∙ ap (final Comma) whole ∙ final_is Comma (Bare bytes) (h.3.whole ++ behind) in
-        absurd cc
+        not_bare (h.3.whole ++ behind) bytes
+        (g ∙ ap (λ (ts : List Token). h.3.whole ++ ts) f
+        ∙ sym (append_assoc h.3.whole behind (Bare bytes ∷ [])))
 
     by_kind : (((key : SetKey) × BehindSetNumber h.2 key × IsNewSet h.1 key)
         ⊎ ((number : ℕ) × BehindOutcomeNumber h.2 number × IsNewOutcome h.1 number)) → ⊥
     by_kind (inl s) = by_end h.2 s.1.0 s.1.1 s.1.2 h.3.parts
     by_kind (inr o) = by_end h.2 o.1.0 o.1.2 o.1.3 h.3.parts
 
--- ---- behind a text that follows 1
+pub text_is_no_number : (before : List Token) (label : List ℕ)
+    → final Comma before ≡ Text label → ¬ (EndsInFirstUse before)
+text_is_no_number before label e = no_number_last before (λ front bytes f.
+    let same : Text label ≡ Bare bytes = sym e ∙ last_is before front (Bare bytes) f in absurd cc)
 
 -- the token before the last
 abbrev pub late : Token → Token → List Token → Token
@@ -49,29 +55,47 @@ late_is : (s t x y : Token) (ts : List Token) → late s t (ts ++ x ∷ y ∷ []
 late_is s t x y [] = refl
 late_is s t x y (u ∷ ts) = late_is t u x y ts
 
-module _ (before : List Token) (label : List ℕ) (last : final Comma before ≡ Text label)
-    (one : late Comma Comma before ≡ Bare (codes "1")) where
-  not_bare : (front : List Token) (bytes : List ℕ) → before ≡ front ++ Bare bytes ∷ [] → ⊥
-  not_bare front bytes e =
-      let same : Text label ≡ Bare bytes =
-      sym last ∙ ap (final Comma) e ∙ final_is Comma (Bare bytes) front in
-      absurd cc
-
-  not_closing : (front : List Token) → before ≡ front ++ Closing ∷ [] → ⊥
-  not_closing front e =
-      let same : Text label ≡ Closing =
-      sym last ∙ ap (final Comma) e ∙ final_is Comma Closing front in
-      absurd cc
-
-  -- a node's letter and its name
-  not_letter : (front : List Token) (letter name : List ℕ) → letter ≢ codes "1"
+-- the last token is neither bare nor a closing brace, nor the name of a node by such a letter
+pub record EndsOtherwise (before : List Token) : Type 0 where
+  pub not_bare : (front : List Token) (bytes : List ℕ) → before ≡ front ++ Bare bytes ∷ [] → ⊥
+  pub not_closing : (front : List Token) → before ≡ front ++ Closing ∷ [] → ⊥
+  pub not_letter : (front : List Token) (letter name : List ℕ) → letter ≢ codes "1"
       → before ≡ front ++ Bare letter ∷ Text name ∷ [] → ⊥
-  not_letter front letter name other e =
+
+-- a label behind 1
+pub behind_label : (before : List Token) (label : List ℕ) → final Comma before ≡ Text label
+    → late Comma Comma before ≡ Bare (codes "1") → EndsOtherwise before
+behind_label before label last one = record {
+  not_bare = λ front bytes e.
+      let same : Text label ≡ Bare bytes = sym last ∙ last_is before front (Bare bytes) e in
+      absurd cc;
+  not_closing = λ front e.
+      let same : Text label ≡ Closing = sym last ∙ last_is before front Closing e in
+      absurd cc;
+  not_letter = λ front letter name other e.
       let same : Bare (codes "1") ≡ Bare letter =
       sym one ∙ ap (late Comma Comma) e ∙ late_is Comma Comma (Bare letter) (Text name) front in
       let bytes : letter ≡ codes "1" = cc in
-      other bytes
+      other bytes;
+}
 
+-- an opening brace
+pub behind_brace : (before : List Token) → final Comma before ≡ Opening → EndsOtherwise before
+behind_brace before last = record {
+  not_bare = λ front bytes e.
+      let same : Opening ≡ Bare bytes = sym last ∙ last_is before front (Bare bytes) e in
+      absurd cc;
+  not_closing = λ front e.
+      let same : Opening ≡ Closing = sym last ∙ last_is before front Closing e in
+      absurd cc;
+  not_letter = λ front letter name other e.
+      let same : Opening ≡ Text name =
+      sym last ∙ last_is before (front ++ Bare letter ∷ []) (Text name)
+      (e ∙ sym (append_assoc front (Bare letter ∷ []) (Text name ∷ []))) in
+      absurd cc;
+}
+
+module _ (before : List Token) (ends : EndsOtherwise before) where
   is_letter : (letter word : List ℕ) (byte : ℕ) → letter ≡ word → get_or word 0 0 ≡ byte
       → ¬ (byte ≡ 49) → letter ≢ codes "1"
   is_letter letter word byte e f other g =
@@ -79,18 +103,18 @@ module _ (before : List Token) (label : List ℕ) (last : final Comma before ≡
 
   no_player : (count : ℕ) → ¬ (PlayerIsDue before count)
   no_player count h =
-      not_letter h.3.whole (codes "p") h.5.0
+      ends.not_letter h.3.whole (codes "p") h.5.0
       (is_letter (codes "p") (codes "p") 112 refl refl (λ k. omega (arith, k)))
       (h.3.parts ∙ ap (λ (ts : List Token). h.3.whole ++ ts) h.5.1)
 
   no_mover : (whole mover : List Token) (letter name : List ℕ) (player : ℕ)
       → IsMover letter mover player → before ≡ whole ++ Bare letter ∷ Text name ∷ mover → ⊥
   no_mover whole mover letter name zero m e =
-      not_letter whole letter name
+      ends.not_letter whole letter name
       (is_letter letter (codes "c") 99 m.0 refl (λ k. omega (arith, k)))
       (e ∙ ap (λ (ts : List Token). whole ++ Bare letter ∷ Text name ∷ ts) m.1)
   no_mover whole mover letter name (suc player) m e =
-      not_bare (whole ++ Bare letter ∷ Text name ∷ []) m.0
+      ends.not_bare (whole ++ Bare letter ∷ Text name ∷ []) m.0
       (e ∙ ap (λ (ts : List Token). whole ++ Bare letter ∷ Text name ∷ ts) m.2
       ∙ sym (append_assoc whole (Bare letter ∷ Text name ∷ []) (Bare m.0 ∷ [])))
 
@@ -103,9 +127,9 @@ module _ (before : List Token) (label : List ℕ) (last : final Comma before ≡
       (d : Option InformationSet) → IsDescription (IsInformationSet player) description d
       → before ≡ front ++ Bare number ∷ description → ⊥
   no_description player front description number None h e =
-      not_bare front number (e ∙ ap (λ (ts : List Token). front ++ Bare number ∷ ts) h)
+      ends.not_bare front number (e ∙ ap (λ (ts : List Token). front ++ Bare number ∷ ts) h)
   no_description player front description number (Some d) h e =
-      not_closing (front ++ Bare number ∷ Text d.name ∷ Opening ∷ h.0)
+      ends.not_closing (front ++ Bare number ∷ Text d.name ∷ Opening ∷ h.0)
       (e ∙ ap (λ (ts : List Token). front ++ Bare number ∷ ts) h.1
       ∙ sym (append_assoc front (Bare number ∷ Text d.name ∷ Opening ∷ h.0) (Closing ∷ [])))
 
@@ -113,7 +137,7 @@ module _ (before : List Token) (label : List ℕ) (last : final Comma before ≡
       (set : Option (Use SetKey InformationSet)) → IsStep letter step set
       → before ≡ whole ++ Bare letter ∷ Text name ∷ step → ⊥
   no_step whole step letter name None h e =
-      not_letter whole letter name
+      ends.not_letter whole letter name
       (is_letter letter (codes "t") 116 h.0 refl (λ k. omega (arith, k)))
       (e ∙ ap (λ (ts : List Token). whole ++ Bare letter ∷ Text name ∷ ts) h.1)
   no_step whole step letter name (Some u) h e =
@@ -127,12 +151,15 @@ module _ (before : List Token) (label : List ℕ) (last : final Comma before ≡
       no_step h.4.whole h.5.2 h.5.0 h.5.1 h.3 h.5.4
       (h.4.parts ∙ ap (λ (ts : List Token). h.4.whole ++ ts) h.5.3)
 
-  pub label_wants_no_index : (bytes : List ℕ) → ¬ (IsBadIndex before bytes)
-  label_wants_no_index bytes (inl h) =
+  pub end_wants_no_index : (bytes : List ℕ) → ¬ (IsBadIndex before bytes)
+  end_wants_no_index bytes (inl h) =
       elim h.0 [ inl p ↦ no_player p.0 p.1 | inr s ↦ no_set s ]
-  label_wants_no_index bytes (inr h) = no_outcome h.0
+  end_wants_no_index bytes (inr h) = no_outcome h.0
 
-  pub label_wants_no_player : (bytes : List ℕ) → bytes ≢ codes "p"
+  pub end_wants_no_player : (bytes : List ℕ) → bytes ≢ codes "p"
       → ¬ (IsUnknownPlayer before bytes)
-  label_wants_no_player bytes other (inl h) = no_player h.0 h.2
-  label_wants_no_player bytes other (inr h) = other h.3
+  end_wants_no_player bytes other (inl h) = no_player h.0 h.2
+  end_wants_no_player bytes other (inr h) = other h.3
+
+  pub end_wants_no_text : ¬ (EndsInFirstUse before)
+  end_wants_no_text = no_number_last before ends.not_bare

@@ -86,12 +86,12 @@ open_list inner = Text (codes "n") ∷ Opening ∷ inner
 abbrev pub open_node : List Token → List Token
 open_node inner = Bare (codes "c") ∷ Text [] ∷ Bare (decimal 1) ∷ open_list inner
 
-by_description : (player : ℕ) (description rest inner : List Token) (d : Option InformationSet)
-    → IsDescription (IsInformationSet player) description d → NoText rest → IsOpen inner
-    → description ++ rest ≡ open_list inner → ⊥
-by_description player description rest inner None h plain unclosed e =
-    plain (codes "n") (Opening ∷ inner) (ap (λ (ts : List Token). ts ++ rest) (sym h) ∙ e)
-by_description player description rest inner (Some d) h plain unclosed e =
+by_description : (player : ℕ) (name : List ℕ) (description rest inner : List Token)
+    (d : Option InformationSet) → IsDescription (IsInformationSet player) description d
+    → NoText rest → IsOpen inner → description ++ rest ≡ Text name ∷ Opening ∷ inner → ⊥
+by_description player name description rest inner None h plain unclosed e =
+    plain name (Opening ∷ inner) (ap (λ (ts : List Token). ts ++ rest) (sym h) ∙ e)
+by_description player name description rest inner (Some d) h plain unclosed e =
     let whole = ap (λ (ts : List Token). ts ++ rest) (sym h.1) ∙ e in
     stays_open inner h.0 rest unclosed
     (sym (append_assoc h.0 (Closing ∷ []) rest) ∙ ap (drop 2) whole)
@@ -123,7 +123,7 @@ no_step : (letter : List ℕ) (step rest inner : List Token)
 no_step letter step rest inner None l h plain unclosed e = no_t letter l h.0
 no_step letter step rest inner (Some u) l h plain unclosed e =
     let whole = ap (λ (ts : List Token). ts ++ rest) (sym h.3) ∙ e in
-    by_description u.key.player h.2 rest inner u.description h.6 plain unclosed
+    by_description u.key.player (codes "n") h.2 rest inner u.description h.6 plain unclosed
     (by_mover letter h.1 h.0 h.2 rest inner u.key.player l h.4 whole)
 
 no_node : (inner : List Token) → IsOpen inner → (players : ℕ) → NoNode players (open_node inner)
@@ -373,3 +373,64 @@ module _ (title : List ℕ) (names : List (List ℕ)) where
       let to_set = h.5 in
       short_mover to_set.0 to_set.2 h.3 (Bare (decimal 1)) (Bare (decimal 1)) [] to_set.4
       (ap (drop 2) (sym to_set.3 ∙ numbered_front h.0 h.1 h.2 h.4))
+
+-- ---- a player's node whose list of actions has been opened
+
+abbrev pub opened_choice : List Token
+opened_choice =
+    Bare (codes "p") ∷ Text [] ∷ Bare (decimal 1) ∷ Bare (decimal 1) ∷ Text (codes "i") ∷ Opening
+    ∷ []
+
+no_choice_step : (letter : List ℕ) (step rest : List Token)
+    (set : Option (Use SetKey InformationSet)) → letter ≡ codes "p" → IsStep letter step set
+    → NoText rest
+    → step ++ rest ≡ Bare (decimal 1) ∷ Bare (decimal 1) ∷ Text (codes "i") ∷ Opening ∷ [] → ⊥
+no_choice_step letter step rest None l h plain e =
+    let f : 112 ≡ 116 = apart letter 112 116 l h.0 in omega (arith, f)
+no_choice_step letter step rest (Some u) l h plain e =
+    by_player u.key.player h.4 (ap (λ (x : List Token). x ++ rest) (sym h.3) ∙ e)
+  where
+    by_player : (player : ℕ) → IsMover letter h.0 player
+        → (h.0 ++ Bare h.1 ∷ h.2) ++ rest
+        ≡ Bare (decimal 1) ∷ Bare (decimal 1) ∷ Text (codes "i") ∷ Opening ∷ [] → ⊥
+    by_player zero m f = no_p letter m.0 l
+    by_player (suc player) m f =
+        by_description u.key.player (codes "i") h.2 rest [] u.description h.6 plain tt
+        (ap (drop 2) (ap (λ (x : List Token). (x ++ Bare h.1 ∷ h.2) ++ rest) (sym m.2) ∙ f))
+
+no_choice : (count : ℕ) → NoNode count opened_choice
+no_choice count n first rest h e =
+    let whole = ap (λ (ts : List Token). ts ++ rest) (sym h.parts) ∙ e in
+    let letter : h.letter ≡ codes "p" = cc in
+    no_choice_step h.letter h.step (h.result ++ rest) n.set letter h.is_step
+    (results_no_text count n.outcome h.result rest h.is_result)
+    (sym (append_assoc h.step h.result rest) ∙ ap (drop 2) whole)
+
+module _ (title : List ℕ) (names : List (List ℕ)) where
+  abbrev before_choice : List Token
+  before_choice = file_tokens title names [] ++ opened_choice
+
+  chosen : (players : List (List ℕ)) (nodes : List FileNode) (front : List Token)
+      → EndsInNode before_choice players nodes front → (nodes ≡ []) × (front ≡ opened_choice)
+  chosen players nodes front h =
+      one_front title names opened_choice (λ l others e. absurd cc) no_choice players nodes front h
+
+  pub choice_differs_not : ¬ (IsMismatch before_choice Closing)
+  choice_differs_not h = by_kind h.4
+    where
+      by_kind : (DiffersFromSet h.1 h.2 Closing ⊎ DiffersFromOutcome h.1 h.2 Closing) → ⊥
+      by_kind (inl d) = knows_no_set h.1 d.0 d.1 (chosen h.0 h.1 h.2 h.3).0 d.4
+      by_kind (inr d) = absurd d
+
+  pub choice_adds_nothing : ¬ (StaysBelowOne before_choice)
+  choice_adds_nothing h =
+      let lists = h.3 in
+      let inside = lists.4 in
+      let behind = inside.3 in
+      let to_set = behind.3 in
+      let front = (chosen lists.0 lists.1 lists.2 lists.3).1 in
+      let node =
+      whole_front lists.2 inside.0 inside.1 behind.0 to_set.2 to_set.0 to_set.1 behind.1
+      h.1.name inside.2 behind.2 to_set.3 ∙ front in
+      let letter : to_set.0 ≡ codes "p" = cc in
+      no_p to_set.0 to_set.4.0 letter

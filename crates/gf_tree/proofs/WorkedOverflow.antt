@@ -1,7 +1,7 @@
 -- A worked file with probabilities whose sum does not fit: 1/M and 1/2, with M = 2^127 - 1.
-use Rattle.std.proofs.Common.{◌≡◌, ◌<◌, ◌<ℤ◌, ◌*◌, ◌+ℤ◌, ◌*ℤ◌, ℕ, pos, List, [], ◌∷◌, ◌++◌}
-use Rattle.std.proofs.Common.{map, drop, Some, None, refl, sym, ap, subst, ◌∙◌, arith, inl}
-use Rattle.std.specs.Prelude.{codes, decimal}
+use Rattle.std.proofs.Common.{◌≡◌, ◌*◌, ◌+ℤ◌, ◌*ℤ◌, ℕ, pos, List, [], ◌∷◌, ◌++◌, map}
+use Rattle.std.proofs.Common.{drop, Some, None, refl, sym, ap, subst, ◌∙◌, arith}
+use Rattle.std.specs.Prelude.{codes}
 use Rattle.std.specs.Fmt.{digits}
 use Rattle.std.proofs.lemmas.Int.{ints}
 use Rattle.gf_token.specs.Token.{Token}
@@ -17,7 +17,7 @@ use Rattle.gf_fraction.proofs.ComputedAnswers.{number_is}
 use Rattle.gf_fraction.proofs.LowestTerms.{one_fraction}
 use Rattle.gf_tree.specs.Description.{Action}
 use Rattle.gf_tree.specs.Sentence.{IsAction}
-use Rattle.gf_tree.specs.Reason.{NewProbabilityIsDue, AddsUp, IsWrongProbability, Holds, IsReason}
+use Rattle.gf_tree.specs.Reason.{NewProbabilityIsDue, AddsUp, IsWrongProbability, Holds}
 use Rattle.gf_tree.specs.WorkedTrees.{half}
 use Rattle.gf_tree.specs.WorkedReasons.{IsReasonAt, overflowing_front}
 use Rattle.gf_tree.proofs.Groups.{numbers_once}
@@ -25,10 +25,11 @@ use Rattle.gf_tree.proofs.Worked.{half_by_slash}
 use Rattle.gf_tree.proofs.WorkedCodes.{at_bare}
 use Rattle.gf_tree.proofs.WorkedFronts.{open_node, parted, whole_front}
 use Rattle.gf_tree.proofs.WorkedProbabilities.{in_lottery, behind_heading}
-use Rattle.gf_tree.proofs.WorkedProbabilities.{new_probability_due, action, one_more}
-use Rattle.gf_tree.proofs.WorkedProbabilities.{sums_on, added, not_added, zero_is_fraction}
+use Rattle.gf_tree.proofs.WorkedProbabilities.{new_probability_due, action}
+use Rattle.gf_tree.proofs.WorkedProbabilities.{one_more, sums_on, added}
+use Rattle.gf_tree.proofs.WorkedProbabilities.{not_added, zero_is_fraction}
 use Rattle.gf_tree.proofs.WorkedProbabilities.{at_number, not_below_zero, no_p, first_byte}
-use Rattle.gf_tree.proofs.WorkedPlaces.{IsCutAt, said_at}
+use Rattle.gf_tree.proofs.WorkedPlaces.{IsCutAt, reason_at}
 
 abbrev least : List ℕ
 least = codes "1/170141183460469231731687303715884105727"
@@ -167,7 +168,7 @@ not_above h =
 
 pub overflowing : IsReasonAt SumOverflow overflowing_front 79 82
 overflowing =
-    said_at (IsReason SumOverflow) overflowing_front 79 82 14 before_half
+    reason_at SumOverflow overflowing_front 79 82 14 before_half
     (Bare (codes "1/2") ∷ Closing ∷ Bare (codes "0") ∷ []) overflowing_cut (
       overflowing_holds,
       at_bare 14 before_half (codes "1/2") (Closing ∷ Bare (codes "0") ∷ [])

@@ -9,12 +9,14 @@ use Rattle.gf_token.specs.TokenSpelling.{Spells}
 use Rattle.gf_token.specs.Place.{tokens_of, IsSpanOf}
 use Rattle.gf_token.specs.Lexing.{lex}
 use Rattle.gf_token.specs.Lexing.Mode.{Gap}
+use Rattle.gf_token.specs.declared.fault.Why.{Why}
 use Rattle.gf_token.proofs.Spelled.{found}
 use Rattle.gf_tree.specs.Description.{SetKey, set_of}
 use Rattle.gf_tree.specs.Front.{EndsInNode, ToSetNumber, BehindSetNumber}
 use Rattle.gf_tree.specs.Front.{InActions, IsNewSet, IsNewOutcome}
+use Rattle.gf_tree.specs.Reason.{IsReason}
 use Rattle.gf_tree.specs.WorkedTrees.{choice}
-use Rattle.gf_tree.specs.WorkedReasons.{IsSaidAt, span_of}
+use Rattle.gf_tree.specs.WorkedReasons.{IsReasonAt, span_of}
 use Rattle.gf_tree.proofs.Worked.{SaidNode, player_is, numbered, choices}
 use Rattle.gf_tree.proofs.Worked.{each_said, said_tokens, file_tokens, IsSmall}
 
@@ -28,18 +30,17 @@ IsCutAt bytes start end count before after =
     × (tokens_of (take count (lex Gap 0 bytes)) ≡ before)
     × (tokens_of (drop count (lex Gap 0 bytes)) ≡ after)
 
-pub said_at : (Said : List Token → List Token → Type 0) (bytes : List ℕ)
-    (start end count : ℕ) (before after : List Token)
-    → IsCutAt bytes start end count before after → Said before after
-    → IsSaidAt bytes (span_of start end) Said
-said_at Said bytes start end count before after cut said = record {
+pub reason_at : (why : Why) (bytes : List ℕ) (start end count : ℕ) (before after : List Token)
+    → IsCutAt bytes start end count before after → IsReason why before after
+    → IsReasonAt why bytes start end
+reason_at why bytes start end count before after cut reason = record {
   before = take count (lex Gap 0 bytes);
   after = drop count (lex Gap 0 bytes);
   spelled = subst (Spells 0 bytes) (sym (take-append-drop count (lex Gap 0 bytes)))
       (found bytes 0);
   place = cut.0;
-  said = subst (λ ts. Said ts (tokens_of (drop count (lex Gap 0 bytes)))) (sym cut.1)
-      (subst (Said before) (sym cut.2) said);
+  reason = subst (λ ts. IsReason why ts (tokens_of (drop count (lex Gap 0 bytes)))) (sym cut.1)
+      (subst (IsReason why before) (sym cut.2) reason);
 }
 
 -- a heading without a comment, these nodes and this front of the next

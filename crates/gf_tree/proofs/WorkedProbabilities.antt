@@ -15,6 +15,7 @@ use Rattle.gf_fraction.specs.Ratio.{Ratio, IsFraction, whole}
 use Rattle.gf_fraction.specs.Fits.{IsSum, SumFits}
 use Rattle.gf_fraction.specs.NumberSpelling.{IsNumber, HasNumberFault}
 use Rattle.gf_fraction.specs.Computed.{number_of, lowest_of, gcd_within, sum_of}
+use Rattle.gf_fraction.specs.declared.fraction.NumberFault.{NumberFault}
 use Rattle.gf_fraction.specs.declared.fraction.NumberFault.TheVariants as number
 use Rattle.gf_fraction.proofs.ComputedAnswers.{number_is, number_is_computed}
 use Rattle.gf_fraction.proofs.ComputedArithmetic.{sum_is_computed}
@@ -24,17 +25,16 @@ use Rattle.gf_tree.specs.Sentence.{IsAction}
 use Rattle.gf_tree.specs.Front.{InActions}
 use Rattle.gf_tree.specs.Due.{ProbabilityIsDue}
 use Rattle.gf_tree.specs.Reason.{AddsUp, HasSum, NewProbabilityIsDue}
-use Rattle.gf_tree.specs.Reason.{IsWrongProbability, Holds, IsReason}
-use Rattle.gf_tree.specs.WorkedTrees.{half}
-use Rattle.gf_tree.specs.WorkedReasons.{CodeHoldsAt, IsReasonAt, no_lottery_front}
+use Rattle.gf_tree.specs.Reason.{IsWrongProbability, Holds}
+use Rattle.gf_tree.specs.WorkedReasons.{IsReasonAt, no_lottery_front}
 use Rattle.gf_tree.specs.WorkedReasons.{above_one_front, below_one_front}
 use Rattle.gf_tree.specs.WorkedReasons.{negative_front, no_number_front}
-use Rattle.gf_tree.proofs.Worked.{half_by_slash, file_tokens}
+use Rattle.gf_tree.proofs.Worked.{file_tokens}
 use Rattle.gf_tree.proofs.Groups.{numbers_once}
-use Rattle.gf_tree.proofs.WorkedCodes.{AtBare, at_bare, at_closing, no_fault}
+use Rattle.gf_tree.proofs.WorkedCodes.{number_code, AtBare, at_bare, at_closing, no_fault}
 use Rattle.gf_tree.proofs.WorkedFronts.{IsOpen, open_node, no_first_use, no_mismatch}
 use Rattle.gf_tree.proofs.WorkedFronts.{no_index_due, no_unknown, adds_nothing}
-use Rattle.gf_tree.proofs.WorkedPlaces.{IsCutAt, said_at, stands, at_c, behind_c, is_new}
+use Rattle.gf_tree.proofs.WorkedPlaces.{IsCutAt, reason_at, stands, at_c, behind_c, is_new}
 
 -- ---- sums
 
@@ -201,7 +201,7 @@ above_one_holds =
 
 pub above_one : IsReasonAt SumAboveOne above_one_front 41 44
 above_one =
-    said_at (IsReason SumAboveOne) above_one_front 41 44 14 before_second
+    reason_at SumAboveOne above_one_front 41 44 14 before_second
     (Bare (codes "0.6") ∷ Closing ∷ Bare (codes "0") ∷ [])
     above_one_cut (
       above_one_holds,
@@ -298,7 +298,7 @@ below_one_holds = (
 
 pub below_one : IsReasonAt SumBelowOne below_one_front 68 69
 below_one =
-    said_at (IsReason SumBelowOne) below_one_front 68 69 17 (behind_heading (in_lottery thirds))
+    reason_at SumBelowOne below_one_front 68 69 17 (behind_heading (in_lottery thirds))
     (Closing ∷ Bare (codes "0") ∷ [])
     below_one_cut (
       below_one_holds,
@@ -337,7 +337,7 @@ negative_holds =
 
 pub negative : IsReasonAt NegativeProbability negative_front 33 37
 negative =
-    said_at (IsReason NegativeProbability) negative_front 33 37 12 before_first
+    reason_at NegativeProbability negative_front 33 37 12 before_first
     (Bare (codes "-1/2") ∷ Text (codes "b") ∷ Bare (codes "3/2") ∷ Closing ∷ Bare (codes "0") ∷ [])
     negative_cut (
       negative_holds,
@@ -357,6 +357,11 @@ is_no_number : HasNumberFault (codes "x") number.NotANumber
 unfolding number_of
 is_no_number = number_is_computed (codes "x")
 
+none_lower : (fault : NumberFault) → 4 ≤ number_code fault
+none_lower number.NotANumber = omega arith
+none_lower number.ZeroDenominator = omega arith
+none_lower number.TooLarge = omega arith
+
 no_number_holds : Holds NotANumber before_first
     (Bare (codes "x") ∷ Closing ∷ Bare (codes "0") ∷ [])
 no_number_holds =
@@ -364,12 +369,12 @@ no_number_holds =
 
 pub no_number : IsReasonAt NotANumber no_number_front 33 34
 no_number =
-    said_at (IsReason NotANumber) no_number_front 33 34 12 before_first
+    reason_at NotANumber no_number_front 33 34 12 before_first
     (Bare (codes "x") ∷ Closing ∷ Bare (codes "0") ∷ [])
     no_number_cut (
       no_number_holds,
       at_bare 4 before_first (codes "x") (Closing ∷ Bare (codes "0") ∷ []) (record {
-        no_number = λ fault h. omega arith;
+        no_number = λ fault h. none_lower fault;
         no_index = λ h. omega arith;
         unknown_player = λ h. omega arith;
         first_use = λ h. omega arith;
@@ -405,7 +410,7 @@ no_lottery_holds = (
 
 pub no_lottery : IsReasonAt NoEntry no_lottery_front 33 34
 no_lottery =
-    said_at (IsReason NoEntry) no_lottery_front 33 34 12 before_none
+    reason_at NoEntry no_lottery_front 33 34 12 before_none
     (Closing ∷ Bare (codes "0") ∷ []) no_lottery_cut (
       no_lottery_holds,
       at_closing 15 before_none (Bare (codes "0") ∷ []) (record {

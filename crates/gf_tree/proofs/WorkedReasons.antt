@@ -20,9 +20,9 @@ use Rattle.gf_tree.specs.Consistent.{AreConsistent, IsConsistent}
 use Rattle.gf_tree.specs.Sentence.{IsPositive}
 use Rattle.gf_tree.specs.Front.{BehindOutcomeNumber, KnowsSet}
 use Rattle.gf_tree.specs.Due.{NodeIsDue}
-use Rattle.gf_tree.specs.Reason.{IsBadIndex, IsUnknownPlayer, GoesOnWith, Holds, IsReason}
+use Rattle.gf_tree.specs.Reason.{IsBadIndex, IsUnknownPlayer, GoesOnWith, Holds}
 use Rattle.gf_tree.specs.WorkedTrees.{choice, undescribed_file, unknown_player_file}
-use Rattle.gf_tree.specs.WorkedReasons.{CodeHoldsAt, IsReasonAt}
+use Rattle.gf_tree.specs.WorkedReasons.{IsReasonAt}
 use Rattle.gf_tree.specs.WorkedReasons.{other_action_front, action_missing_front}
 use Rattle.gf_tree.specs.WorkedReasons.{action_too_many_front}
 use Rattle.gf_tree.specs.WorkedTrees.{unpaid_file}
@@ -32,10 +32,11 @@ use Rattle.gf_tree.proofs.Worked.{said_choice, no_outcome, SaidNode, at_end}
 use Rattle.gf_tree.proofs.Worked.{at_player, numbered, file_tokens, file_of, is_said}
 use Rattle.gf_tree.proofs.WorkedCodes.{at_bare, at_closing, at_text, no_fault}
 use Rattle.gf_tree.proofs.WorkedCodes as codes_at
-use Rattle.gf_tree.proofs.WorkedEnds.{text_is_no_number}
+use Rattle.gf_tree.proofs.WorkedEnds.{text_is_no_number, behind_brace, end_wants_no_text}
 use Rattle.gf_tree.proofs.WorkedFronts.{heading, heading_wants_no_number, heading_wants_no_index}
 use Rattle.gf_tree.proofs.WorkedFronts.{no_player_again, no_set_again}
-use Rattle.gf_tree.proofs.WorkedPlaces.{IsCutAt, said_at, stands, of_a, stands_a}
+use Rattle.gf_tree.proofs.WorkedFronts.{choice_differs_not, choice_adds_nothing}
+use Rattle.gf_tree.proofs.WorkedPlaces.{IsCutAt, reason_at, stands, of_a, stands_a}
 use Rattle.gf_tree.proofs.WorkedCodes.{at_bare, at_closing, at_text, no_fault}
 use Rattle.gf_tree.proofs.WorkedCodes as codes_at
 use Rattle.gf_tree.proofs.WorkedFronts.{heading, heading_wants_no_number, heading_wants_no_index}
@@ -97,7 +98,7 @@ other_action_holds = (
 
 pub other_action : IsReasonAt Mismatch other_action_front 73 76
 other_action =
-    said_at (IsReason Mismatch) other_action_front 73 76 27 (before_again (codes "L" ∷ []))
+    reason_at Mismatch other_action_front 73 76 27 (before_again (codes "L" ∷ []))
     (Text (codes "X") ∷ Closing ∷ Bare (codes "0") ∷ [])
     other_action_cut (
       other_action_holds,
@@ -129,7 +130,7 @@ action_missing_holds = (
 
 pub action_missing : IsReasonAt Mismatch action_missing_front 73 74
 action_missing =
-    said_at (IsReason Mismatch) action_missing_front 73 74 27 (before_again (codes "L" ∷ []))
+    reason_at Mismatch action_missing_front 73 74 27 (before_again (codes "L" ∷ []))
     (Closing ∷ Bare (codes "0") ∷ [])
     action_missing_cut (
       action_missing_holds,
@@ -170,7 +171,7 @@ action_too_many_holds = (
 
 pub action_too_many : IsReasonAt Mismatch action_too_many_front 77 80
 action_too_many =
-    said_at (IsReason Mismatch) action_too_many_front 77 80 28
+    reason_at Mismatch action_too_many_front 77 80 28
     (before_again (codes "L" ∷ codes "R" ∷ []))
     (Text (codes "S") ∷ Closing ∷ Bare (codes "0") ∷ [])
     action_too_many_cut (
@@ -221,7 +222,7 @@ undescribed_set_holds = (
 
 pub undescribed_set : IsReasonAt NotDescribed undescribed_file 29 30
 undescribed_set =
-    said_at (IsReason NotDescribed) undescribed_file 29 30 11 (of_a (codes "m") [] at_a)
+    reason_at NotDescribed undescribed_file 29 30 11 (of_a (codes "m") [] at_a)
     (Bare (codes "0") ∷ Bare (codes "t") ∷ Text [] ∷ Bare (codes "0") ∷ [])
     undescribed_set_cut (
       undescribed_set_holds,
@@ -266,7 +267,7 @@ undescribed_outcome_holds = (
 
 pub undescribed_outcome : IsReasonAt NotDescribed unpaid_file 21 21
 undescribed_outcome =
-    said_at (IsReason NotDescribed) unpaid_file 21 21 9
+    reason_at NotDescribed unpaid_file 21 21 9
     (file_tokens [] [] [] ++ (to_end ++ Bare (decimal 5) ∷ [])) []
     undescribed_outcome_cut (
       undescribed_outcome_holds,
@@ -309,7 +310,7 @@ second_player_holds =
 
 pub second_player : IsReasonAt UnknownPlayer unknown_player_file 25 26
 second_player =
-    said_at (IsReason UnknownPlayer) unknown_player_file 25 26 9 (of_a (codes "m") [] to_player)
+    reason_at UnknownPlayer unknown_player_file 25 26 9 (of_a (codes "m") [] to_player)
     (Bare (decimal 2) ∷ behind_two)
     second_player_cut (
       second_player_holds,
@@ -369,7 +370,7 @@ no_players_holds =
 
 pub no_players : IsReasonAt UnknownPlayer nobody_file 15 16
 no_players =
-    said_at (IsReason UnknownPlayer) nobody_file 15 16 6 (file_tokens [] [] [])
+    reason_at UnknownPlayer nobody_file 15 16 6 (file_tokens [] [] [])
     (Bare (codes "p") ∷ behind_p)
     no_players_cut (
       no_players_holds,
@@ -407,7 +408,7 @@ set_zero_holds =
 
 pub set_zero : IsReasonAt BadIndex set_zero_front 27 28
 set_zero =
-    said_at (IsReason BadIndex) set_zero_front 27 28 10 (of_a (codes "m") [] to_a)
+    reason_at BadIndex set_zero_front 27 28 10 (of_a (codes "m") [] to_a)
     (Bare (codes "0") ∷ behind_zero)
     set_zero_cut (
       set_zero_holds,
@@ -429,18 +430,32 @@ no_action_cut : IsCutAt no_action_front 35 36 13 (of_a (codes "m") [] (in_choice
 unfolding lex digits
 no_action_cut = ((refl, refl), refl, refl)
 
-pub no_action : CodeHoldsAt NoEntry no_action_front 35 36
+no_action_holds : Holds NoEntry (of_a (codes "m") [] (in_choice []))
+    (Closing ∷ Bare (codes "0") ∷ [])
+no_action_holds = (
+  set_of 1 1,
+  codes "i",
+  (
+    codes "A" ∷ [],
+    [],
+    in_choice [],
+    stands_a [] (in_choice []),
+    in_choice_is [],
+    is_new (set_of 1 1),
+  ),
+)
+
+pub no_action : IsReasonAt NoEntry no_action_front 35 36
 no_action =
-    said_at (Holds NoEntry) no_action_front 35 36 13 (of_a (codes "m") [] (in_choice []))
-    (Closing ∷ Bare (codes "0") ∷ []) no_action_cut (
-      set_of 1 1,
-      codes "i",
-      (
-        codes "A" ∷ [],
-        [],
-        in_choice [],
-        stands_a [] (in_choice []),
-        in_choice_is [],
-        is_new (set_of 1 1),
-      ),
+    reason_at NoEntry no_action_front 35 36 13 (of_a (codes "m") [] (in_choice []))
+    (Closing ∷ Bare (codes "0") ∷ [])
+    no_action_cut (
+      no_action_holds,
+      at_closing 15 (of_a (codes "m") [] (in_choice [])) (Bare (codes "0") ∷ []) (record {
+        first_use = λ h. absurd (end_wants_no_text (of_a (codes "m") [] (in_choice []))
+            (behind_brace (of_a (codes "m") [] (in_choice [])) refl) h);
+        mismatch = λ h. absurd (choice_differs_not (codes "m") (codes "A" ∷ []) h);
+        below = λ h. absurd (choice_adds_nothing (codes "m") (codes "A" ∷ []) h);
+        no_entry = omega arith;
+      }),
     )

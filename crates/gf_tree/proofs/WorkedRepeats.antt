@@ -1,5 +1,5 @@
 -- Worked files that are refused at an outcome, or at a probability that is given again.
-use Rattle.std.proofs.Common.{◌≡◌, ℕ, pos, unsigned_abs, List, [], ◌∷◌, ◌++◌}
+use Rattle.std.proofs.Common.{◌≡◌, ◌≤◌, ℕ, pos, unsigned_abs, List, [], ◌∷◌, ◌++◌}
 use Rattle.std.proofs.Common.{map, get_or, Some, None, refl, ap, arith, inl, inr}
 use Rattle.std.specs.Prelude.{◌≢◌, codes, decimal}
 use Rattle.std.specs.Fmt.{digits}
@@ -11,21 +11,22 @@ use Rattle.gf_token.specs.declared.fault.Why.TheVariants.{ZeroDenominator, BadIn
 use Rattle.gf_fraction.specs.Ratio.{Ratio, whole}
 use Rattle.gf_fraction.specs.NumberSpelling.{IsNumber, HasNumberFault}
 use Rattle.gf_fraction.specs.Computed.{number_of, lowest_of, gcd_within}
+use Rattle.gf_fraction.specs.declared.fraction.NumberFault.{NumberFault}
 use Rattle.gf_fraction.specs.declared.fraction.NumberFault.TheVariants as number
 use Rattle.gf_fraction.proofs.ComputedAnswers.{number_is, number_is_computed}
 use Rattle.gf_tree.specs.Description.{Action, InformationSet, Outcome, set_of}
 use Rattle.gf_tree.specs.Front.{BehindOutcomeNumber, InPayoffs, InActions}
-use Rattle.gf_tree.specs.Reason.{Holds, IsReason}
+use Rattle.gf_tree.specs.Reason.{Holds}
 use Rattle.gf_tree.specs.WorkedTrees.{half}
-use Rattle.gf_tree.specs.WorkedReasons.{CodeHoldsAt, IsReasonAt, outcome_plus_one_front}
+use Rattle.gf_tree.specs.WorkedReasons.{IsReasonAt, outcome_plus_one_front}
 use Rattle.gf_tree.specs.WorkedReasons.{no_denominator_front, other_name_front}
 use Rattle.gf_tree.specs.WorkedReasons.{other_payoff_front, other_probability_front}
 use Rattle.gf_tree.proofs.Worked.{half_by_slash, said_choice, said_lottery, no_outcome, one_paid}
 use Rattle.gf_tree.proofs.Worked.{SaidNode, at_end, at_chance, at_player, numbered, file_tokens}
-use Rattle.gf_tree.proofs.WorkedCodes.{at_bare, at_text, no_fault}
-use Rattle.gf_tree.proofs.WorkedEnds.{text_is_no_number, label_wants_no_index}
-use Rattle.gf_tree.proofs.WorkedEnds.{label_wants_no_player}
-use Rattle.gf_tree.proofs.WorkedPlaces.{IsCutAt, said_at, stands, of_a, stands_a, at_c, behind_c}
+use Rattle.gf_tree.proofs.WorkedCodes.{number_code, one_fault, at_bare, at_text, no_fault}
+use Rattle.gf_tree.proofs.WorkedEnds.{EndsOtherwise, behind_label, behind_brace}
+use Rattle.gf_tree.proofs.WorkedEnds.{end_wants_no_index, end_wants_no_player, end_wants_no_text}
+use Rattle.gf_tree.proofs.WorkedPlaces.{IsCutAt, reason_at, stands, of_a, stands_a, at_c, behind_c}
 
 -- ---- the number of an outcome, and a payoff
 
@@ -61,7 +62,7 @@ outcome_plus_one_holds =
 
 pub outcome_plus_one : IsReasonAt BadIndex outcome_plus_one_front 25 27
 outcome_plus_one =
-    said_at (IsReason BadIndex) outcome_plus_one_front 25 27 9 (of_a (codes "m") [] to_end)
+    reason_at BadIndex outcome_plus_one_front 25 27 9 (of_a (codes "m") [] to_end)
     (Bare (codes "+1") ∷ []) outcome_plus_one_cut (
       outcome_plus_one_holds,
       at_bare 7 (of_a (codes "m") [] to_end) (codes "+1") [] (record {
@@ -102,21 +103,45 @@ has_no_denominator : HasNumberFault (codes "1/0") number.ZeroDenominator
 unfolding number_of
 has_no_denominator = number_is_computed (codes "1/0")
 
-pub no_denominator : CodeHoldsAt ZeroDenominator no_denominator_front 33 36
+no_denominator_holds : Holds ZeroDenominator (of_a (codes "m") [] in_outcome)
+    (Bare (codes "1/0") ∷ Closing ∷ [])
+no_denominator_holds = (
+  inr (
+    codes "A" ∷ [],
+    [],
+    in_outcome,
+    1,
+    unpaid,
+    stands_a [] in_outcome,
+    in_outcome_is,
+    omega arith,
+  ),
+  has_no_denominator,
+)
+
+none_lower : (fault : NumberFault) → HasNumberFault (codes "1/0") fault → 5 ≤ number_code fault
+none_lower number.NotANumber h =
+    let same = one_fault (codes "1/0") number.NotANumber number.ZeroDenominator h
+    has_no_denominator in
+    absurd cc
+none_lower number.ZeroDenominator h = omega arith
+none_lower number.TooLarge h = omega arith
+
+pub no_denominator : IsReasonAt ZeroDenominator no_denominator_front 33 36
 no_denominator =
-    said_at (Holds ZeroDenominator) no_denominator_front 33 36 12 (of_a (codes "m") [] in_outcome)
-    (Bare (codes "1/0") ∷ Closing ∷ []) no_denominator_cut (
-      inr (
-        codes "A" ∷ [],
-        [],
-        in_outcome,
-        1,
-        unpaid,
-        stands_a [] in_outcome,
-        in_outcome_is,
-        omega arith,
-      ),
-      has_no_denominator,
+    reason_at ZeroDenominator no_denominator_front 33 36 12
+    (of_a (codes "m") [] in_outcome) (Bare (codes "1/0") ∷ Closing ∷ []) no_denominator_cut (
+      no_denominator_holds,
+      at_bare 5 (of_a (codes "m") [] in_outcome) (codes "1/0") (Closing ∷ []) (record {
+        no_number = λ fault h. none_lower fault h.1;
+        no_index = λ h. omega arith;
+        unknown_player = λ h. omega arith;
+        first_use = λ h. omega arith;
+        mismatch = λ h. omega arith;
+        negative = λ h. omega arith;
+        above = λ h. omega arith;
+        overflows = λ h. omega arith;
+      }),
     )
 
 -- ---- an outcome that is described again
@@ -158,7 +183,7 @@ other_name_holds = (
 
 pub other_name : IsReasonAt Mismatch other_name_front 71 74
 other_name =
-    said_at (IsReason Mismatch) other_name_front 71 74 27 (of_a (codes "m") paying_five at_one)
+    reason_at Mismatch other_name_front 71 74 27 (of_a (codes "m") paying_five at_one)
     (Text (codes "y") ∷ Opening ∷ Bare (codes "5") ∷ Closing ∷ []) other_name_cut (
       other_name_holds,
       at_text (of_a (codes "m") paying_five at_one) (codes "y")
@@ -173,27 +198,53 @@ other_payoff_cut = ((refl, refl), refl, refl)
 not_five : whole (pos 6) ≢ whole (pos 5)
 not_five e = let size : 6 ≡ 5 = ap (λ (r : Ratio). unsigned_abs r.num) e in omega (arith, size)
 
-pub other_payoff : CodeHoldsAt Mismatch other_payoff_front 77 78
+other_payoff_holds : Holds Mismatch (of_a (codes "m") paying_five in_outcome)
+    (Bare (codes "6") ∷ Closing ∷ [])
+other_payoff_holds = (
+  codes "A" ∷ [],
+  map (λ s. s.node) paying_five,
+  in_outcome,
+  stands_a paying_five in_outcome,
+  inr (
+    1,
+    paid,
+    unpaid,
+    whole (pos 5),
+    [],
+    whole (pos 6),
+    (0, omega arith, refl),
+    in_outcome_is,
+    refl,
+    six_is,
+    not_five,
+  ),
+)
+
+six_is_no_p : codes "6" ≢ codes "p"
+six_is_no_p e = let byte : 54 ≡ 112 = ap (λ bytes. get_or bytes 0 0) e in omega (arith, byte)
+
+brace_ends : EndsOtherwise (of_a (codes "m") paying_five in_outcome)
+brace_ends = behind_brace (of_a (codes "m") paying_five in_outcome) refl
+
+pub other_payoff : IsReasonAt Mismatch other_payoff_front 77 78
 other_payoff =
-    said_at (Holds Mismatch) other_payoff_front 77 78 29 (of_a (codes "m") paying_five in_outcome)
+    reason_at Mismatch other_payoff_front 77 78 29 (of_a (codes "m") paying_five in_outcome)
     (Bare (codes "6") ∷ Closing ∷ []) other_payoff_cut (
-      codes "A" ∷ [],
-      map (λ s. s.node) paying_five,
-      in_outcome,
-      stands_a paying_five in_outcome,
-      inr (
-        1,
-        paid,
-        unpaid,
-        whole (pos 5),
-        [],
-        whole (pos 6),
-        (0, omega arith, refl),
-        in_outcome_is,
-        refl,
-        six_is,
-        not_five,
-      ),
+      other_payoff_holds,
+      at_bare 10 (of_a (codes "m") paying_five in_outcome) (codes "6") (Closing ∷ []) (record {
+        no_number = λ fault h. absurd (no_fault (codes "6") (whole (pos 6)) fault six_is h.1);
+        no_index = λ h. absurd (end_wants_no_index (of_a (codes "m") paying_five in_outcome)
+            brace_ends (codes "6") h);
+        unknown_player = λ h. absurd
+            (end_wants_no_player (of_a (codes "m") paying_five in_outcome) brace_ends (codes "6")
+            six_is_no_p h);
+        first_use =
+            λ h. absurd (end_wants_no_text (of_a (codes "m") paying_five in_outcome) brace_ends h);
+        mismatch = λ h. omega arith;
+        negative = λ h. omega arith;
+        above = λ h. omega arith;
+        overflows = λ h. omega arith;
+      }),
     )
 
 -- ---- a probability that is given again
@@ -284,18 +335,21 @@ other_probability_holds = (
 not_p : codes "1/2" ≢ codes "p"
 not_p e = let byte : 49 ≡ 112 = ap (λ bytes. get_or bytes 0 0) e in omega (arith, byte)
 
+tail_ends : EndsOtherwise before_tail
+tail_ends = behind_label before_tail (codes "t") refl refl
+
 pub other_probability : IsReasonAt Mismatch other_probability_front 75 78
 other_probability =
-    said_at (IsReason Mismatch) other_probability_front 75 78 28 before_tail
+    reason_at Mismatch other_probability_front 75 78 28 before_tail
     (Bare (codes "1/2") ∷ Closing ∷ Bare (codes "0") ∷ []) other_probability_cut (
       other_probability_holds,
       at_bare 10 before_tail (codes "1/2") (Closing ∷ Bare (codes "0") ∷ []) (record {
         no_number = λ fault h. absurd (no_fault (codes "1/2") half fault half_by_slash h.1);
         no_index =
-            λ h. absurd (label_wants_no_index before_tail (codes "t") refl refl (codes "1/2") h);
+            λ h. absurd (end_wants_no_index before_tail tail_ends (codes "1/2") h);
         unknown_player = λ h. absurd
-            (label_wants_no_player before_tail (codes "t") refl refl (codes "1/2") not_p h);
-        first_use = λ h. absurd (text_is_no_number before_tail (codes "t") refl h);
+            (end_wants_no_player before_tail tail_ends (codes "1/2") not_p h);
+        first_use = λ h. absurd (end_wants_no_text before_tail tail_ends h);
         mismatch = λ h. omega arith;
         negative = λ h. omega arith;
         above = λ h. omega arith;

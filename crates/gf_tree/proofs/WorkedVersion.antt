@@ -24,11 +24,11 @@ use Rattle.gf_token.proofs.Spelled.{found}
 use Rattle.gf_tree.specs.FileTree.{FileNode}
 use Rattle.gf_tree.specs.Front.{IsExtensiveFile, EndsInNode}
 use Rattle.gf_tree.specs.Due.{ProbabilityIsDue, PayoffIsDue}
-use Rattle.gf_tree.specs.Reason.{IsBadIndex, IsUnknownPlayer, IsWrongProbability, Holds, IsReason}
+use Rattle.gf_tree.specs.Reason.{IsBadIndex, IsUnknownPlayer, IsWrongProbability, Holds}
 use Rattle.gf_tree.specs.WorkedReasons.{IsReasonAt, span_of, no_version_front}
 use Rattle.gf_tree.proofs.Worked.{file_of, is_said}
 use Rattle.gf_tree.proofs.WorkedCodes.{at_bare}
-use Rattle.gf_tree.proofs.WorkedPlaces.{IsCutAt, said_at}
+use Rattle.gf_tree.proofs.WorkedPlaces.{IsCutAt, reason_at}
 use Rattle.gf_tree.proofs.WorkedReasons.{ended, ended_is_consistent}
 
 abbrev before : List Token
@@ -134,5 +134,5 @@ none_holds why h =
 
 pub no_version : IsReasonAt (Expected what.Version) no_version_front 4 5
 no_version =
-    said_at (IsReason (Expected what.Version)) no_version_front 4 5 1 before (Bare (codes "x") ∷ [])
+    reason_at (Expected what.Version) no_version_front 4 5 1 before (Bare (codes "x") ∷ [])
     no_version_cut (refl, none_holds)

@@ -1,32 +1,23 @@
--- Fronts of files that are refused: where, and which code applies there. WorkedTrees has whole
+-- Fronts of files that are refused: where, and for which reason. WorkedTrees has whole
 -- files.
 use Rattle.std.specs.Prelude.{ℕ, List, ◌++◌, codes, length}
-use Rattle.gf_token.specs.Token.{Token, Lexeme}
+use Rattle.gf_token.specs.Token.{Lexeme}
 use Rattle.gf_token.specs.TokenSpelling.{Spells}
 use Rattle.gf_token.specs.Place.{tokens_of, IsSpanOf}
 use Rattle.gf_token.specs.declared.fault.Span.{Span}
 use Rattle.gf_token.specs.declared.fault.Why.{Why}
-use Rattle.gf_tree.specs.Reason.{Holds, IsReason}
-
--- at the span, this is said of the tokens before it and of those from there on
-pub record IsSaidAt (bytes : List ℕ) (span : Span)
-    (Said : List Token → List Token → Type 0) : Type 0 where
-  pub before : List Lexeme
-  pub after : List Lexeme
-  pub spelled : Spells 0 bytes (before ++ after)
-  pub place : IsSpanOf after (length bytes) span
-  pub said : Said (tokens_of before) (tokens_of after)
+use Rattle.gf_tree.specs.Reason.{IsReason}
 
 abbrev pub span_of : ℕ → ℕ → Span
 span_of start end = record { start = start; end = end }
 
--- the code applies at these bytes
-abbrev pub CodeHoldsAt : Why → List ℕ → ℕ → ℕ → Type 0
-CodeHoldsAt why bytes start end = IsSaidAt bytes (span_of start end) (Holds why)
-
--- it is the reason there
-abbrev pub IsReasonAt : Why → List ℕ → ℕ → ℕ → Type 0
-IsReasonAt why bytes start end = IsSaidAt bytes (span_of start end) (IsReason why)
+-- the span is that of a token of these bytes, or of their end, and this is the reason there
+pub record IsReasonAt (why : Why) (bytes : List ℕ) (start end : ℕ) : Type 0 where
+  pub before : List Lexeme
+  pub after : List Lexeme
+  pub spelled : Spells 0 bytes (before ++ after)
+  pub place : IsSpanOf after (length bytes) (span_of start end)
+  pub reason : IsReason why (tokens_of before) (tokens_of after)
 
 -- ---- probabilities
 

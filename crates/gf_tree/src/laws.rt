@@ -22,10 +22,11 @@ ghost use Rattle.gf_tree.specs.Sentence.{Sentence};
 ghost use Rattle.gf_tree.specs.Consistent.{Describes, AreConsistent, IsConsistent};
 ghost use Rattle.gf_tree.specs.FiniteMap.{Described, first_uses};
 ghost use Rattle.gf_tree.specs.FirstUse.{first_use_numbers, outcome_numbers, player_keys, sets_of};
+ghost use Rattle.gf_tree.specs.Listed.{AreListed, listed_numbers};
 ghost use Rattle.gf_tree.specs.Renumbering.{IsRenumbering, Renumbering, renumbered};
 ghost use Rattle.gf_tree.specs.Spellable.{IsSpellable};
 ghost use Rattle.gf_tree.specs.Learned.{Learns, LearnsGame};
-ghost use Rattle.gf_tree.specs.WorkedReasons.{CodeHoldsAt, IsReasonAt, span_of};
+ghost use Rattle.gf_tree.specs.WorkedReasons.{IsReasonAt, span_of};
 ghost use Rattle.gf_tree.specs.WorkedReasons.{outcome_plus_one_front, no_denominator_front};
 ghost use Rattle.gf_tree.specs.WorkedReasons.{other_name_front, other_payoff_front};
 ghost use Rattle.gf_tree.specs.WorkedReasons.{other_probability_front, no_version_front};
@@ -91,12 +92,15 @@ pub fn keys_by_first_use()
         → outcome_numbers g ≡ first_uses nat_eq (used_outcomes g.tree) }
 {}
 
-/// A game by its new numbers is a game, and first-use numbers are new numbers of its sets and
-/// outcomes.
+/// A game by its new numbers is a game. First-use numbers are new numbers of its sets and outcomes,
+/// and so are positive numbers that are listed for them in order of first use, none of them twice
+/// in a list.
 pub fn new_numbers()
     ensures is_game { (g : Game) (r : Renumbering) → IsGame g → IsRenumbering g r
         → IsGame (renumbered r g) }
     ensures first_use { (g : Game) → IsRenumbering g (first_use_numbers g) }
+    ensures listed { (g : Game) (sets : List (List ℕ)) (outcomes : List ℕ) → IsGame g
+        → AreListed g sets outcomes → IsRenumbering g (listed_numbers g sets outcomes) }
 {}
 
 /// Uses are consistent exactly if their descriptions can be learned one use after another, each
@@ -148,19 +152,19 @@ pub fn worked_refusals()
     ensures nobody { (g : Game) → ¬ (SpellsGame nobody_file g) }
 {}
 
-/// Worked files, and fronts of files, each with its reason at a place, or with a code that holds
-/// there. A version that is none, with the whole of why it is refused there. A probability that is
-/// no number, and a payoff without a denominator; a set numbered 0, and an outcome numbered `+1`;
-/// the second of one player, and a player where there are none; a set and an outcome without a
-/// description. A set described again with another action, without its last one, with one too many
-/// and with another probability, and an outcome with another name and another payoff. A negative
+/// Worked files and fronts of files, each with the reason for which it is refused at a place. A
+/// version that is none, and that this is the offending place. A probability that is no number,
+/// and a payoff without a denominator; a set numbered 0, and an outcome numbered `+1`; the second
+/// of one player, and a player where there are none; a set and an outcome without a description. A
+/// set described again with another action, without its last one, with one too many and with
+/// another probability, and an outcome with another name and another payoff. A negative
 /// probability; probabilities that add to more than one, to less, and to what does not fit; and
 /// sets without actions.
 pub fn worked_reasons()
     ensures no_version { IsReasonAt (Expected Version) no_version_front 4 5 }
     ensures no_version_place { IsOffendingPlace IsExtensiveFile no_version_front (span_of 4 5) }
     ensures not_a_number { IsReasonAt NotANumber no_number_front 33 34 }
-    ensures no_denominator { CodeHoldsAt ZeroDenominator no_denominator_front 33 36 }
+    ensures no_denominator { IsReasonAt ZeroDenominator no_denominator_front 33 36 }
     ensures set_zero { IsReasonAt BadIndex set_zero_front 27 28 }
     ensures outcome_plus_one { IsReasonAt BadIndex outcome_plus_one_front 25 27 }
     ensures second_of_one { IsReasonAt UnknownPlayer unknown_player_file 25 26 }
@@ -172,11 +176,11 @@ pub fn worked_reasons()
     ensures action_too_many { IsReasonAt Mismatch action_too_many_front 77 80 }
     ensures other_probability { IsReasonAt Mismatch other_probability_front 75 78 }
     ensures other_name { IsReasonAt Mismatch other_name_front 71 74 }
-    ensures other_payoff { CodeHoldsAt Mismatch other_payoff_front 77 78 }
+    ensures other_payoff { IsReasonAt Mismatch other_payoff_front 77 78 }
     ensures negative { IsReasonAt NegativeProbability negative_front 33 37 }
     ensures above_one { IsReasonAt SumAboveOne above_one_front 41 44 }
     ensures below_one { IsReasonAt SumBelowOne below_one_front 68 69 }
     ensures overflowing { IsReasonAt SumOverflow overflowing_front 79 82 }
     ensures no_lottery { IsReasonAt NoEntry no_lottery_front 33 34 }
-    ensures no_action { CodeHoldsAt NoEntry no_action_front 35 36 }
+    ensures no_action { IsReasonAt NoEntry no_action_front 35 36 }
 {}

@@ -1,0 +1,139 @@
+-- Probabilities as the machine adds them: each is judged by itself, and the sums are those of a
+-- lottery.
+use Rattle.std.proofs.Common.{◌≡◌, ◌<◌, ◌≤◌, ◌*◌, ◌+◌, ◌-◌, ℕ, zero, suc, Bool, true, false, cond}
+use Rattle.std.proofs.Common.{List, refl, sym, ap, ◌∙◌, arith, Result, Ok, Err, Option, Some, None}
+use Rattle.std.specs.Prelude.{ℤ, pos, negsuc, neg_ℤ, ◌≤ℤ◌, ◌*ℤ◌, ◌+ℤ◌}
+use Rattle.std.specs.Prelude.{int_lt, MatchOption, unsigned_abs}
+use Rattle.std.proofs.Math.Nat.{mul-le-mul_right, le_of_mul-le-mul_right}
+use Rattle.std.proofs.lemmas.Int.{ints}
+use Rattle.gf_fraction.specs.Ratio.{Ratio, IsFraction}
+use Rattle.gf_fraction.specs.NumberSpelling.{IsNumber}
+use Rattle.gf_fraction.specs.Fits.{SumFits, IsSum, AddsTo}
+use Rattle.gf_fraction.specs.Computed.{number_of, sum_of}
+use Rattle.gf_fraction.specs.declared.fraction.NumberFault.{NumberFault}
+use Rattle.gf_fraction.proofs.ComputedArithmetic.{sum_is_computed, sum_of-some}
+use Rattle.gf_fraction.proofs.ComputedAnswers.{number_is, number_again}
+use Rattle.gf_fraction.proofs.Products.{mul_above}
+use Rattle.gf_token.specs.declared.fault.Why.{Why}
+use Rattle.gf_token.specs.declared.fault.Why.TheVariants.{SumAboveOne, NegativeProbability}
+use Rattle.gf_tree.specs.Probability.{Share, share_of, share_by, up_to_one}
+
+abbrev ok_share : Share → Result Share Why
+ok_share s = Ok s
+
+not_negative : (z : ℤ) → int_lt z (pos 0) ≡ false → pos 0 ≤ℤ z
+not_negative (pos n) h = omega (arith, ints)
+not_negative (negsuc n) h = absurd cc
+
+test_negative : (z : ℤ) → pos 0 ≤ℤ z → int_lt z (pos 0) ≡ false
+test_negative z h = grind (arith, ints)
+
+test_above : (z : ℤ) (d : ℕ) → z ≤ℤ pos d → int_lt (pos d) z ≡ false
+test_above z d h = grind (arith, ints)
+
+-- ---- what was read
+
+-- the probability that was read, and the sum through it
+pub record Shared (sum : Ratio) (b : List ℕ) (s : Share) : Type 0 where
+  pub number : IsNumber b s.probability
+  pub not_below : pos 0 ≤ℤ s.probability.num
+  pub adds : AddsTo sum s.probability s.sum
+  pub not_above : s.sum.num ≤ℤ pos s.sum.den
+
+not_above : (z : ℤ) (d : ℕ) → int_lt (pos d) z ≡ false → z ≤ℤ pos d
+not_above z d h = grind (arith, ints)
+
+by_bound : (sum p next : Ratio) (b : List ℕ) (s : Share) (above : Bool)
+    → IsNumber b p → pos 0 ≤ℤ p.num → AddsTo sum p next → int_lt (pos next.den) next.num ≡ above
+    → cond above (Err SumAboveOne) (Ok (record { probability = p; sum = next })) ≡ ok_share s
+    → Shared sum b s
+by_bound sum p next b s true number low adds test e = absurd cc
+by_bound sum p next b s false number low adds test e =
+    let same : ok_share (record { probability = p; sum = next }) ≡ ok_share s = e in
+    let is : record { probability = p; sum = next } ≡ s = cc in
+    let found : Shared sum b (record { probability = p; sum = next }) =
+    record {
+      number = number;
+      not_below = low;
+      adds = adds;
+      not_above = not_above next.num next.den test;
+    } in
+    subst_share is found
+  where
+    subst_share : {t u : Share} → t ≡ u → Shared sum b t → Shared sum b u
+    subst_share q x = rw (← q) x
+
+by_sum : (sum p : Ratio) (b : List ℕ) (s : Share) (o : Option Ratio)
+    → MatchOption o (¬ (SumFits sum p)) (λ r. SumFits sum p × IsFraction r × IsSum r sum p)
+    → IsNumber b p → pos 0 ≤ℤ p.num → up_to_one p o ≡ ok_share s → Shared sum b s
+by_sum sum p b s None computed number low e = absurd cc
+by_sum sum p b s (Some next) computed number low e =
+    by_bound sum p next b s (int_lt (pos next.den) next.num) number low computed refl e
+
+by_sign : (sum p : Ratio) (b : List ℕ) (s : Share) (below : Bool) → IsFraction sum → IsNumber b p
+    → int_lt p.num (pos 0) ≡ below
+    → cond below (Err NegativeProbability) (up_to_one p (sum_of sum p)) ≡ ok_share s
+    → Shared sum b s
+by_sign sum p b s true fraction number is e = absurd cc
+by_sign sum p b s false fraction number is e =
+    by_sum sum p b s (sum_of sum p) (sum_is_computed sum p fraction number.fraction) number
+    (not_negative p.num is) e
+
+by_number : (sum : Ratio) (b : List ℕ) (s : Share) (o : Result Ratio NumberFault)
+    → number_of b ≡ o → IsFraction sum → share_by sum o ≡ ok_share s → Shared sum b s
+by_number sum b s (Err fault) is fraction e = absurd cc
+by_number sum b s (Ok p) is fraction e =
+    by_sign sum p b s (int_lt p.num (pos 0)) fraction (number_is b p is) refl e
+
+pub share_found : (sum : Ratio) (b : List ℕ) (s : Share)
+    → IsFraction sum → share_of sum b ≡ ok_share s → Shared sum b s
+share_found sum b s fraction e = by_number sum b s (number_of b) refl fraction e
+
+-- ---- each probability of a lottery is read
+
+pub share_again : (sum p next : Ratio) (b : List ℕ)
+    → IsFraction sum → IsNumber b p → pos 0 ≤ℤ p.num → AddsTo sum p next → next.num ≤ℤ pos next.den
+    → share_of sum b ≡ ok_share (record { probability = p; sum = next })
+share_again sum p next b fraction number low adds high =
+    let known = number_again b p number in
+    let sign = test_negative p.num low in
+    let added = sum_of-some sum p fraction number.fraction next adds.0 adds.1 adds.2 in
+    let bound = test_above next.num next.den high in
+    ap (share_by sum) known ∙ rw (sign, added, bound) refl
+
+pub no_sign : (k d a b u v e : ℕ)
+    → 0 < d → negsuc k *ℤ pos d ≡ (pos a *ℤ pos u +ℤ pos b *ℤ pos v) *ℤ pos e → ⊥
+no_sign k zero a b u v e some h = absurd (omega arith)
+no_sign k (suc d) a b u v e some h =
+    let m : suc k * suc d ≡ suc (suc k * suc d - 1) =
+    omega (arith, mul_above (suc k) (suc d) (omega arith) (omega arith)) in
+    let both : negsuc (suc k * suc d - 1) ≡ pos ((a * u + b * v) * e) =
+    ap (λ (n : ℕ). neg_ℤ (pos n)) (sym m) ∙ h in
+    cc
+
+naturals : (z x y a b n : ℕ) → 0 < n → 0 < y → z * (x * y) ≡ (a * y + b * x) * n → z ≤ n → a ≤ x
+naturals z x y a b n some above e high =
+    let wide : z * (x * y) ≤ n * (x * y) = mul-le-mul_right (x * y) high in
+    let turned : n * (x * y) ≡ (x * y) * n = omega arith in
+    let within : (a * y + b * x) * n ≤ (x * y) * n = omega (arith, wide, turned, e) in
+    let parts : a * y + b * x ≤ x * y = le_of_mul-le-mul_right within some in
+    le_of_mul-le-mul_right (let low : a * y ≤ x * y = omega (arith, parts) in low) above
+
+-- a sum that a number not below zero leads to one at most is one at most
+pub sum_high : (sum p next : Ratio) → 0 < p.den → 0 < sum.den → pos 0 ≤ℤ p.num → AddsTo sum p next
+    → next.num ≤ℤ pos next.den → sum.num ≤ℤ pos sum.den
+sum_high sum p next above some low adds high = by sum.num p.num next.num low high adds.2
+  where
+    by : (a b z : ℤ) → pos 0 ≤ℤ b → z ≤ℤ pos next.den
+        → z *ℤ pos (sum.den * p.den) ≡ (a *ℤ pos p.den +ℤ b *ℤ pos sum.den) *ℤ pos next.den
+        → a ≤ℤ pos sum.den
+    by (negsuc a) b z l h e = omega (arith, ints)
+    by (pos a) (negsuc b) z l h e = absurd (omega (arith, ints))
+    by (pos a) (pos b) (negsuc z) l h e = absurd (no_sign z (sum.den * p.den) a b p.den sum.den
+        next.den (mul_above sum.den p.den some above) e)
+    by (pos a) (pos b) (pos z) l h e =
+        let sizes : z * (sum.den * p.den) ≡ (a * p.den + b * sum.den) * next.den =
+        ap unsigned_abs e in
+        let small : z ≤ next.den = omega (arith, ints, h) in
+        let least = naturals z sum.den p.den a b next.den adds.1.den_above_zero above sizes small in
+        omega (arith, ints, least)

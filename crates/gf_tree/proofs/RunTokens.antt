@@ -1,0 +1,62 @@
+-- What the lemmas on runs of the machine share.
+use Rattle.std.proofs.Common.{◌≡◌, ℕ, Bool, true, false, cond, List, Result, Ok, Err, refl, nat_eq}
+use Rattle.std.specs.Prelude.{◌==◌}
+use Rattle.std.specs.Ordering.{int_eq}
+use Rattle.std.specs.Cmp.Lexicographic.{pointwise}
+use Rattle.std.proofs.lemmas.Bool.{and_parts}
+use Rattle.std.proofs.lemmas.Slice.Eq.{slice_eq-Decides}
+use Rattle.std.proofs.lemmas.Bool.Decides.{Decides-eqb, Decides-int_eq}
+use Rattle.gf_fraction.specs.Ratio.{Ratio}
+use Rattle.gf_token.specs.Token.{Token}
+use Rattle.gf_token.specs.declared.fault.Why.{Why}
+use Rattle.gf_tree.specs.Probability.{same_ratio}
+use Rattle.gf_tree.specs.Machine.{Content, Position, State, same_text}
+use Rattle.gf_tree.specs.ReadGame.{run_tokens, then_run}
+
+-- from a position and what was read before, the tokens to come are read, and this is what was read
+abbrev pub Reads : Position → Content → List Token → Content → Type 0
+Reads q c ts r = run_tokens q c ts ≡ Ok r
+
+abbrev pub run_on : List Token → State → Result Content Why
+run_on ts s = run_tokens s.position s.content ts
+
+abbrev pub ok_read : Content → Result Content Why
+ok_read r = Ok r
+
+pub ok_is : (x y : Content) → ok_read x ≡ ok_read y → x ≡ y
+ok_is x y e = cc
+
+-- ---- tests
+
+pub guard_ok : (b : Bool) (s : State) (why : Why) (ts : List Token) (r : Content)
+    → then_run (cond b (Ok s) (Err why)) (run_on ts) ≡ Ok r
+    → (b ≡ true) × Reads s.position s.content ts r
+guard_ok true s why ts r e = (refl, e)
+guard_ok false s why ts r e = absurd cc
+
+pub same_bytes : (b word : List ℕ) → pointwise nat_eq b word ≡ true → b ≡ word
+same_bytes b word e = (slice_eq-Decides Decides-eqb b word (pointwise nat_eq b word) refl).0 e
+
+pub bytes_same : (b : List ℕ) → pointwise nat_eq b b ≡ true
+bytes_same b = (slice_eq-Decides Decides-eqb b b (pointwise nat_eq b b) refl).1 refl
+
+-- a text that was to be this one
+pub text_found : (wanted label : List ℕ) (s : State) (ts : List Token) (r : Content)
+    → then_run (same_text wanted label s) (run_on ts) ≡ Ok r
+    → (label ≡ wanted) × Reads s.position s.content ts r
+text_found wanted label s ts r e =
+    let h = guard_ok (pointwise nat_eq label wanted) s _ ts r e in
+    (same_bytes label wanted h.0, h.1)
+
+pub text_again : (wanted : List ℕ) (s : State) → same_text wanted wanted s ≡ Ok s
+text_again wanted s = rw (bytes_same wanted) refl
+
+pub ratio_is : (x y : Ratio) → same_ratio x y ≡ true → x ≡ y
+ratio_is x y e =
+    let h = and_parts (int_eq x.num y.num) (x.den == y.den) e in
+    let num = (Decides-int_eq x.num y.num).0 h.0 in
+    let den = (Decides-eqb x.den y.den).0 h.1 in
+    λ i. record { num = num i; den = den i }
+
+pub ratio_same : (x : Ratio) → same_ratio x x ≡ true
+ratio_same x = rw ((Decides-int_eq x.num x.num).1 refl, (Decides-eqb x.den x.den).1 refl) refl

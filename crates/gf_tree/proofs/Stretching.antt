@@ -1,0 +1,64 @@
+-- Stretches of a list of items, where items or entries come behind.
+use Rattle.std.proofs.Common.{◌≡◌, ℕ, ◌-◌, ◌≤◌, List, [], ◌∷◌, ◌++◌, length, map, take, drop, refl}
+use Rattle.std.proofs.Common.{ap, ◌∙◌, arith}
+use Rattle.std.specs.Prelude.{slice_range}
+use Rattle.std.specs.List.{AllByRecursion}
+use Rattle.std.proofs.lemmas.List.{take-append-le, drop-append-le, length-drop}
+use Rattle.gf_tree.specs.Stretches.{AreStretches}
+
+same_part : {T : Type 0} (items more : List T) (i j : ℕ) → i ≤ j → j ≤ length items
+    → slice_range (items ++ more) i j ≡ slice_range items i j
+same_part items more i j ordered within =
+    ap (take (j - i)) (drop-append-le i items more (omega arith))
+    ∙ take-append-le (j - i) (drop i items) more (omega (arith, length-drop i items))
+
+abbrev Ends : {E : Type 0} → (E → ℕ) → (E → ℕ) → ℕ → E → Type 0
+Ends start end from e = (start e ≤ end e) × (end e ≤ from)
+
+up_to : {E : Type 0} (start end : E → ℕ) (entries : List E) (from to : ℕ) → from ≤ to
+    → AllByRecursion (Ends start end from) entries
+    → AllByRecursion (Ends start end to) entries
+up_to start end [] from to more all = all
+up_to start end (e ∷ es) from to more all =
+    ((all.0.0, omega (arith, all.0.1)), up_to start end es from to more all.1)
+
+one_behind : {E : Type 0} (P : E → Type 0) (entries : List E) (e : E) → AllByRecursion P entries
+    → P e → AllByRecursion P (entries ++ e ∷ [])
+one_behind P [] e all one = (one, tt)
+one_behind P (x ∷ xs) e all one = (all.0, one_behind P xs e all.1 one)
+
+module _ {E T : Type 0} (start end : E → ℕ) where
+  -- what is made of the entries' stretches
+  abbrev pub made : {D : Type 0} → (E → List T → D) → List T → E → D
+  made make items e = make e (slice_range items (start e) (end e))
+
+  same_made : {D : Type 0} (make : E → List T
+      → D) (entries : List E) (items more : List T) (from : ℕ)
+      → AllByRecursion (Ends start end from) entries
+      → from ≤ length items → map (made make (items ++ more)) entries
+      ≡ map (made make items) entries
+  same_made make [] items more from all within = refl
+  same_made make (e ∷ es) items more from all within =
+      let this = same_part items more (start e) (end e) all.0.0 (omega (arith, all.0.1)) in
+      let those = same_made make es items more from all.1 within in
+      λ i. make e (this i) ∷ those i
+
+  -- items behind change nothing of it
+  pub items_behind : {D : Type 0} (make : E → List T
+      → D) (entries : List E) (items more : List T) (from : ℕ)
+      → AreStretches start end entries items from
+      → map (made make (items ++ more)) entries ≡ map (made make items) entries
+  items_behind make entries items more from are =
+      same_made make entries items more from are.ordered are.within
+
+  -- the items so far become the stretch of a new entry
+  pub entry_behind : (entries : List E) (items : List T) (from : ℕ) (e : E)
+      → AreStretches start end entries items from
+      → start e ≡ from → end e ≡ length items
+      → AreStretches start end (entries ++ e ∷ []) items (length items)
+  entry_behind entries items from e are starts ends = record {
+    within = omega arith;
+    ordered = one_behind (Ends start end (length items)) entries e
+        (up_to start end entries from (length items) are.within are.ordered)
+        (omega (arith, are.within), omega arith);
+  }

@@ -1,0 +1,24 @@
+use Rattle.std.proofs.Common.{◌+◌, ◌∙◌, List, ap, drop, slice_get}
+use Rattle.gf_tree.specs.KeptNodes.{sizes_of}
+use Rattle.gf_tree.specs.Skipped.{skipped}
+use Rattle.gf_tree.specs.Subtrees.{subtrees}
+use Rattle.gf_tree.specs.Game.{Game}
+use Rattle.gf_tree.specs.declared.kept.Stored.{Stored}
+use Rattle.gf_tree.proofs.GameNodes.{child_there}
+use Rattle.gf_tree.proofs.game.Game.child_place.Goals as goal
+
+pub skip-requires-clause-trees : goal.skip-requires-clause-trees
+skip-requires-clause-trees c =
+    let there = child_there _ _ _ _ c.args.at c.args.child
+    (record { are = c.self.invariant.nodes_are; is = ap (λ (g : Game). g.tree) c.self.view_is })
+    c.requires.node c.requires.child in
+    rw c.deref.ensures.value there.0
+
+pub returns : goal.returns
+returns c =
+    let there = child_there _ _ _ _ c.args.at c.args.child
+    (record { are = c.self.invariant.nodes_are; is = ap (λ (g : Game). g.tree) c.self.view_is })
+    c.requires.node c.requires.child in
+    let place = c.skip.ensures.place ∙ ap (λ (ns : List Stored). c.args.at + 1
+    + skipped c.args.child (drop (c.args.at + 1) (sizes_of ns))) c.deref.ensures.value in
+    ap (slice_get (subtrees c.args.self.now.tree)) place ∙ there.1

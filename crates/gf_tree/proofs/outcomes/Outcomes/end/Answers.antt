@@ -1,0 +1,25 @@
+use Rattle.std.proofs.Common.{refl, ◌∙◌, arith, rules}
+use Rattle.gf_tree.specs.declared.outcomes.Entry.{Entry}
+use Rattle.gf_tree.proofs.OutcomePlaces.{found}
+use Rattle.gf_tree.proofs.StoredPayoffs.{outcomes_stored}
+use Rattle.gf_tree.proofs.outcomes.Outcomes.end.Goals as goal
+
+pub insert-requires : goal.insert-requires
+insert-requires c =
+    let o = c.self.inside in
+    found o.numbers o.entries.items o.payoffs.items o.from c.args.self.now c.self.invariant
+    c.self.view_is c.args.number ∙ c.requires
+
+pub invariant_of-self-2 : goal.invariant_of-self-2
+invariant_of-self-2 c =
+    let o = c.self.inside in
+    let new : Entry = record {
+      number = c.args.number;
+      name = c.args.name;
+      start = o.from;
+      end = c.len-end.result;
+    } in
+    outcomes_stored o.numbers o.entries.items o.payoffs.items o.from c.args.self.now
+    c.self.invariant c.self.view_is new c.push.new.self.items (search rules)
+    c.in_ok-place.place c.len-end.result (omega (arith, c.in_ok-place.ensures.ok)) (omega arith)
+    refl refl c.insert.new.self (search rules) (omega (arith, c.in_ok-place.ensures.ok))

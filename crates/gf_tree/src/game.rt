@@ -1,0 +1,229 @@
+//! Games in memory.
+
+ghost use Rattle.std.specs.Prelude.{◌≡◌, ◌<◌, ℕ, length, map, option_map, slice_get};
+ghost use Rattle.gf_token.specs.Label.{label_of};
+ghost use Rattle.gf_token.specs.Positions.{at_position};
+ghost use Rattle.gf_tree.specs.Actions.{actions_of};
+ghost use Rattle.gf_tree.specs.Branches.{game_of, tree_of};
+ghost use Rattle.gf_tree.specs.NodesLeft.{nodes_left};
+ghost use Rattle.gf_tree.specs.PrefixOrder.{Fills, flatten};
+ghost use Rattle.gf_tree.specs.Description.{set_of};
+ghost use Rattle.gf_tree.specs.FirstUse.{outcome_numbers, player_keys};
+ghost use Rattle.gf_tree.specs.Game.{IsGame, outcome_at, set_at};
+ghost use Rattle.gf_tree.specs.GameParts.{game_with, outcome_with, set_with};
+ghost use Rattle.gf_tree.specs.KeptNodes.{ArePlaced, entries_with};
+ghost use Rattle.gf_tree.specs.NodeOf.{node_of};
+ghost use Rattle.gf_tree.specs.Spellable.{IsSpellable};
+ghost use Rattle.gf_tree.specs.Subtrees.{child_trees, root_node, subtree_at, subtrees};
+
+use crate::action::Action;
+use crate::branch::Branch;
+use crate::kept::{NodeList, Stored, child_count, outcome_number, skip, step};
+use crate::node::Node;
+use crate::nodes::Nodes;
+use crate::outcomes::Outcomes;
+use crate::sets::Sets;
+use gf_fraction::Fraction;
+use gf_token::Label;
+use std::marker::Model;
+
+mod renumbering;
+
+/// A game: a title, a comment, players, and a tree with information sets and outcomes. Every label
+/// is a slice of the file. Players are counted from 1, chance is player 0, and numbers of sets and
+/// outcomes are those of the file.
+#[derive(Drop)]
+pub struct Game<'a> {
+    title: Label<'a>,
+    comment: Label<'a>,
+    players: Vec<Label<'a>>,
+    sets: Sets<'a>,
+    outcomes: Outcomes<'a>,
+    nodes: Vec<Stored<'a>>,
+}
+
+impl<'a> Model for Game<'a> {
+    ghost use Rattle.std.specs.Prelude.{map};
+    ghost use Rattle.gf_token.specs.Label.{label_of};
+    ghost use Rattle.gf_tree.specs.Game.{Game};
+    ghost use Rattle.gf_tree.specs.GameCode.{game_code};
+    ghost use Rattle.gf_tree.specs.GameParts.{IsHeld, game_with};
+    ghost use Rattle.gf_tree.specs.KeptNodes.{kept_of};
+
+    ghost Value = { Game };
+
+    ghost coded = { game_code };
+
+    ghost view = { λ g. game_with (label_of g.title) (label_of g.comment)
+        (map label_of g.players.items) g.sets.known g.outcomes.known (map kept_of g.nodes.items) };
+
+    ghost invariant = { λ g. IsHeld (label_of g.title) (label_of g.comment)
+        (map label_of g.players.items) g.sets.known g.outcomes.known g.nodes.items };
+}
+
+impl<'a> Game<'a> {
+    /// The game of these parts. The caller sees to it that the nodes fill one tree.
+    pub(crate) fn new(
+        title: Label<'a>,
+        comment: Label<'a>,
+        players: Vec<Label<'a>>,
+        sets: Sets<'a>,
+        outcomes: Outcomes<'a>,
+        nodes: NodeList<'a>,
+    ) -> Game<'a>
+        requires placed { ArePlaced (length sets.known) (length outcomes.known) nodes }
+        requires fills { Fills 1 (entries_with sets.known outcomes.known nodes) }
+        requires is_game { IsGame (game_with (label_of title) (label_of comment)
+            (map label_of players.items) sets.known outcomes.known nodes) }
+        requires spellable { IsSpellable (game_with (label_of title) (label_of comment)
+            (map label_of players.items) sets.known outcomes.known nodes) }
+        ensures { result ≡ game_with (label_of title.entry) (label_of comment.entry)
+            (map label_of players.entry.items) sets.entry.known outcomes.entry.known nodes.entry }
+    {
+        let nodes = nodes.sized(&sets);
+        Game {
+            title,
+            comment,
+            players,
+            sets,
+            outcomes,
+            nodes,
+        }
+    }
+
+    /// The title.
+    pub fn title(&self) -> Label<'a>
+        ensures { label_of result ≡ self.now.title }
+    {
+        self.title
+    }
+
+    /// The comment, which is empty where the file has none.
+    pub fn comment(&self) -> Label<'a>
+        ensures { label_of result ≡ self.now.comment }
+    {
+        self.comment
+    }
+
+    /// The names of the players, from the first to the last.
+    ///
+    /// The other clauses hold of each game: each key in its tree has its description, and each node
+    /// as many children as its set has actions; and a file can hold its labels and numbers.
+    pub fn players(&self) -> &[Label<'a>]
+        ensures names { map label_of result.now ≡ self.now.players }
+        ensures is_game { IsGame self.now }
+        ensures spellable { IsSpellable self.now }
+    {
+        &self.players
+    }
+
+    /// The name and the actions of a player's set, chance being player 0. `None` where there is no
+    /// such set.
+    pub fn infoset(&self, player: u32, number: u32) -> Option<(Label<'a>, &[Action<'a>])>
+        ensures { option_map (λ p. set_with (label_of p.0) (actions_of p.1.now)) result
+            ≡ set_at self.now (set_of player number) }
+    {
+        match self.sets.find(player, number) {
+            Some(place) => Some((self.sets.name(place), self.sets.actions(place))),
+            None => None,
+        }
+    }
+
+    /// The name of an outcome and its payoffs, one for each player. `None` where there is no such
+    /// outcome, and so at 0.
+    pub fn outcome(&self, number: u32) -> Option<(Label<'a>, &[Fraction])>
+        ensures { option_map (λ p. outcome_with (label_of p.0) p.1.now) result
+            ≡ outcome_at self.now number }
+    {
+        match self.outcomes.find(number) {
+            Some(place) => Some((self.outcomes.name(place), self.outcomes.payoffs(place))),
+            None => None,
+        }
+    }
+
+    /// How many sets a player has, chance being player 0; 0 where there is no such player.
+    pub fn set_count(&self, player: u32) -> usize
+        ensures { result ≡ length (player_keys self.now player) }
+    {
+        self.sets.count(player)
+    }
+
+    /// The number of a player's set, by its position from 1 among his sets in order of first use.
+    /// `None` where there is no such set.
+    pub fn set_number(&self, player: u32, i: usize) -> Option<u32>
+        ensures { result
+            ≡ at_position (map (λ key. key.number) (player_keys self.now player)) i }
+    {
+        self.sets.number(player, i)
+    }
+
+    /// How many outcomes there are. 0 is none.
+    pub fn outcome_count(&self) -> usize
+        ensures { result ≡ length (outcome_numbers self.now) }
+    {
+        self.outcomes.len()
+    }
+
+    /// The number of an outcome, by its position from 1 among the outcomes in order of first use.
+    /// `None` where there is no such outcome.
+    pub fn outcome_number(&self, i: usize) -> Option<u32>
+        ensures { result ≡ at_position (outcome_numbers self.now) i }
+    {
+        self.outcomes.at(i)
+    }
+
+    /// The whole tree.
+    pub fn root(&self) -> Branch<'_, 'a>
+        ensures game { game_of result ≡ self.now }
+        ensures tree { tree_of result ≡ self.now.tree }
+    {
+        Branch::whole(self)
+    }
+
+    /// The nodes in prefix order: a node, then the subtrees of its children from the first to the
+    /// last.
+    pub fn nodes(&self) -> Nodes<'_, 'a>
+        ensures { nodes_left result ≡ map (λ e. e.node) (flatten self.now.tree) }
+    {
+        Nodes::all(self)
+    }
+
+    /// How many nodes there are.
+    pub(crate) fn len(&self) -> usize
+        ensures { result ≡ length (subtrees self.now.tree) }
+    {
+        self.nodes.len()
+    }
+
+    /// The node at this place, from 0, in prefix order.
+    pub(crate) fn node(&self, at: usize) -> Node<'a>
+        requires { at < length (subtrees self.now.tree) }
+        ensures { node_of result ≡ root_node (subtree_at self.now.tree at) }
+    {
+        let node = self.nodes[at];
+        Node {
+            name: node.name,
+            step: step(&self.sets, node.set),
+            outcome: outcome_number(&self.outcomes, node.outcome),
+        }
+    }
+
+    /// How many children the node at this place has.
+    pub(crate) fn child_count(&self, at: usize) -> usize
+        requires { at < length (subtrees self.now.tree) }
+        ensures { result ≡ length (child_trees (subtree_at self.now.tree at)) }
+    {
+        child_count(&self.sets, self.nodes[at].set)
+    }
+
+    /// The place of a child of the node at this place, by its own place, from 0, among the
+    /// children.
+    pub(crate) fn child_place(&self, at: usize, child: usize) -> usize
+        requires node { at < length (subtrees self.now.tree) }
+        requires child { child < length (child_trees (subtree_at self.now.tree at)) }
+        ensures { slice_get (subtrees self.now.tree) result
+            ≡ slice_get (child_trees (subtree_at self.now.tree at)) child }
+    {
+        skip(&self.nodes, at + 1, child)
+    }
+}

@@ -1,0 +1,139 @@
+//! Games by other numbers of their sets and outcomes.
+
+ghost use Rattle.std.specs.Prelude.{◌≡◌, ◌<◌, ◌^◌, ◌++◌, ◌∷◌, [], ℕ, List, None, ⊤, IfOk};
+ghost use Rattle.std.specs.Prelude.{MatchOption, OnOk, length, map, nat_eq, position, slice_get};
+ghost use Rattle.std.specs.List.{AllByRecursion};
+ghost use Rattle.gf_tree.specs.Description.{same_set, set_of};
+ghost use Rattle.gf_tree.specs.Listed.{AreListed, listed_numbers};
+ghost use Rattle.gf_tree.specs.Renumbering.{renumbered};
+
+use crate::game::Game;
+use crate::outcomes::Outcomes;
+use crate::sets::Sets;
+use std::alloc::{AllocError, Global};
+
+/// Adds the set at this place, by another number.
+fn add_set<'a>(
+    to: &mut Sets<'a>,
+    from: &Sets<'a>,
+    place: u32,
+    number: u32,
+) -> Result<(), AllocError>
+    requires within { place < length from.now.known }
+    requires absent { MatchOption (slice_get from.now.known place) ⊤ (λ s.
+        position (same_set (set_of s.key.player number)) (map (λ t. t.key) to.old.known) ≡ None) }
+    ensures { OnOk result (MatchOption (slice_get from.now.known place) ⊤ (λ s. to.new.known
+        ≡ to.old.known ++ record { key = set_of s.key.player number; description = s.description }
+        ∷ [])) }
+{
+    to.begin();
+    for action in from.actions(place) {
+        to.push(action.label, action.probability)?;
+    }
+    let (player, _) = from.key(place);
+    to.end(player, number, from.name(place))?;
+    Ok(())
+}
+
+/// Adds the outcome at this place, by another number.
+fn add_outcome<'a>(
+    to: &mut Outcomes<'a>,
+    from: &Outcomes<'a>,
+    place: u32,
+    number: u32,
+) -> Result<(), AllocError>
+    requires within { place < length from.now.known }
+    requires absent { position (nat_eq number) (map (λ t. t.key) to.old.known) ≡ None }
+    ensures { OnOk result (MatchOption (slice_get from.now.known place) ⊤ (λ o. to.new.known
+        ≡ to.old.known ++ record { key = number; description = o.description } ∷ [])) }
+{
+    to.begin();
+    for payoff in from.payoffs(place) {
+        to.push(*payoff)?;
+    }
+    to.end(number, from.name(place))?;
+    Ok(())
+}
+
+impl<'a> Game<'a> {
+    /// The number that is listed for the set at this place.
+    fn listed_number(&self, sets: &[Vec<u32>], place: u32) -> u32
+        requires listed { (outcomes : List ℕ)
+            × AreListed self.now (map (λ own. own.items) sets.now) outcomes }
+        requires within { place < length self.now.sets }
+        ensures { MatchOption (slice_get self.now.sets place) ⊤ (λ s. result
+            ≡ (listed_numbers self.now (map (λ own. own.items) sets.now) []).set s.key.player
+            s.key.number) }
+    {
+        let (player, _) = self.sets.key(place);
+        let own = &sets[player as usize];
+        own[self.sets.first_use_number(place) as usize - 1]
+    }
+
+    /// The sets by their listed numbers.
+    fn renumbered_sets(&self, alloc: Global, sets: &[Vec<u32>]) -> Result<Sets<'a>, AllocError>
+        requires { (outcomes : List ℕ)
+            × AreListed self.now (map (λ own. own.items) sets.now) outcomes }
+        ensures known { IfOk result (λ r. r.known ≡ (renumbered
+            (listed_numbers self.now (map (λ own. own.items) sets.now) []) self.now).sets) }
+        ensures small { IfOk result (λ r. AllByRecursion (λ s. s.key.number < 2 ^ 32) r.known) }
+    {
+        let mut renumbered = self.sets.emptied(alloc);
+        for place in 0..self.sets.len() as u32 {
+            let number = self.listed_number(sets, place);
+            add_set(&mut renumbered, &self.sets, place, number)?;
+        }
+        Ok(renumbered)
+    }
+
+    /// The outcomes by their listed numbers.
+    fn renumbered_outcomes(
+        &self,
+        alloc: Global,
+        outcomes: &[u32],
+    ) -> Result<Outcomes<'a>, AllocError>
+        requires { (sets : List (List ℕ)) × AreListed self.now sets outcomes.now }
+        ensures known { IfOk result (λ r. r.known
+            ≡ (renumbered (listed_numbers self.now [] outcomes.now) self.now).outcomes) }
+        ensures small { IfOk result (λ r. AllByRecursion (λ o. o.key < 2 ^ 32) r.known) }
+    {
+        let mut renumbered = self.outcomes.emptied(alloc);
+        for place in 0..self.outcomes.len() as u32 {
+            let number = outcomes[place as usize];
+            add_outcome(&mut renumbered, &self.outcomes, place, number)?;
+        }
+        Ok(renumbered)
+    }
+
+    /// The same game by other numbers of its sets and outcomes. The i-th set of each player, and
+    /// the i-th outcome, in order of first use, gets the i-th number of its list.
+    ///
+    /// The caller sees to it that there is one list for chance, then one for each player, each as
+    /// long as his sets, and that the list of outcomes is as long as the outcomes; and that in each
+    /// list the numbers are positive and none stands twice.
+    ///
+    /// `AllocError` where memory is refused.
+    pub fn with_numbers(
+        &self,
+        alloc: Global,
+        sets: &[Vec<u32>],
+        outcomes: &[u32],
+    ) -> Result<Game<'a>, AllocError>
+        requires { AreListed self.now (map (λ own. own.items) sets.now) outcomes.now }
+        ensures { IfOk result (λ game. game ≡ renumbered
+            (listed_numbers self.now (map (λ own. own.items) sets.now) outcomes.now) self.now) }
+    {
+        let players = Vec::from_clones(alloc, &self.players)?;
+        let sets = self.renumbered_sets(alloc, sets)?;
+        let outcomes = self.renumbered_outcomes(alloc, outcomes)?;
+        let nodes = Vec::from_clones(alloc, &self.nodes)?;
+        Ok(Game {
+            title: self.title,
+            comment: self.comment,
+            players,
+            sets,
+            outcomes,
+            nodes,
+        })
+    }
+}

@@ -1,0 +1,195 @@
+//! The nodes of a game as they are kept: one list in prefix order, each with the size of its
+//! subtree.
+
+ghost use Rattle.std.specs.Prelude.{◌≡◌, ◌+◌, ◌<◌, ◌≤◌, ◌++◌, ◌∷◌, [], ℕ, ⊤, MatchOption};
+ghost use Rattle.std.specs.Prelude.{OnErr, OnOk, drop, length, map, option_map};
+ghost use Rattle.std.specs.List.{AllByRecursion};
+ghost use Rattle.gf_token.specs.Label.{label_of};
+ghost use Rattle.gf_token.specs.Positions.{at_position};
+ghost use Rattle.gf_tree.specs.Tree.{Tree};
+ghost use Rattle.gf_tree.specs.PrefixOrder.{flatten};
+ghost use Rattle.gf_tree.specs.Game.{Node};
+ghost use Rattle.gf_tree.specs.KeptNodes.{ArePlaced, child_count, child_counts};
+ghost use Rattle.gf_tree.specs.KeptNodes.{kept_of, position_of, sizes_of};
+ghost use Rattle.gf_tree.specs.NodeOf.{outcome_of, set_of_step};
+ghost use Rattle.gf_tree.specs.Skipped.{Begin, skipped};
+ghost use Rattle.gf_tree.specs.Subtrees.{subtree_sizes};
+
+use crate::node::Step;
+use crate::outcomes::Outcomes;
+use crate::sets::Sets;
+use gf_token::Label;
+use std::alloc::{AllocError, Global};
+use std::marker::Model;
+
+/// A node of 32 bytes.
+#[derive(Clone, Copy, Debug)]
+pub(crate) struct Stored<'a> {
+    pub(crate) name: Label<'a>,
+    /// How many nodes its subtree has, itself counted.
+    pub(crate) size: usize,
+    /// The position of its set among those known, from 1, or 0 where it has none.
+    pub(crate) set: u32,
+    /// The position of its outcome among those known, from 1, or 0 where it has none.
+    pub(crate) outcome: u32,
+}
+
+/// How many children a node has whose set has this position.
+pub(crate) fn child_count(sets: &Sets<'_>, set: u32) -> usize
+    requires { set ≤ length sets.now.known }
+    ensures { result ≡ child_count sets.now.known set }
+{
+    if set == 0 {
+        0
+    } else {
+        sets.actions(set - 1).len()
+    }
+}
+
+/// What happens at a node whose set has this position.
+pub(crate) fn step(sets: &Sets<'_>, set: u32) -> Step
+    requires { set ≤ length sets.now.known }
+    ensures { set_of_step result ≡ option_map (λ s. s.key) (at_position sets.now.known set) }
+{
+    if set == 0 {
+        return Step::Terminal;
+    }
+    let (player, set) = sets.key(set - 1);
+    if player == 0 {
+        Step::Chance { set }
+    } else {
+        Step::Personal { player, set }
+    }
+}
+
+/// The number of the outcome with this position, or 0 where there is none.
+pub(crate) fn outcome_number(outcomes: &Outcomes<'_>, outcome: u32) -> u32
+    requires within { outcome ≤ length outcomes.now.known }
+    requires positive { AllByRecursion (λ o. 0 < o.key) outcomes.now.known }
+    ensures { outcome_of result
+        ≡ option_map (λ o. o.key) (at_position outcomes.now.known outcome) }
+{
+    if outcome == 0 {
+        0
+    } else {
+        outcomes.number(outcome - 1)
+    }
+}
+
+/// The place behind so many subtrees, the first of which begins at `from`.
+pub(crate) fn skip(nodes: &[Stored<'_>], from: usize, count: usize) -> usize
+    requires within { from ≤ length nodes.now }
+    requires trees { Begin count (drop from (sizes_of nodes.now)) }
+    ensures place { result ≡ from + skipped count (drop from (sizes_of nodes.now)) }
+    ensures ends { result ≤ length nodes.now }
+{
+    let mut at = from;
+    let mut left = count;
+    while left > 0 {
+        at += nodes[at].size;
+        left -= 1;
+    }
+    at
+}
+
+/// Fills in the sizes of subtrees, from the last node to the first.
+fn fill_sizes(nodes: &mut [Stored<'_>], sets: &Sets<'_>)
+    requires placed { (outcomes : ℕ)
+        × ArePlaced (length sets.now.known) outcomes (map kept_of nodes.old) }
+    requires tree { (t : Tree Node)
+        × (map (λ e. e.children) (flatten t)
+        ≡ child_counts sets.now.known (map kept_of nodes.old)) }
+    ensures kept { map kept_of nodes.new ≡ map kept_of nodes.old }
+    ensures sizes { (t : Tree Node)
+        → map (λ e. e.children) (flatten t) ≡ child_counts sets.now.known (map kept_of nodes.old)
+        → sizes_of nodes.new ≡ subtree_sizes t }
+{
+    let mut at = nodes.len();
+    while at > 0 {
+        at -= 1;
+        let children = child_count(sets, nodes[at].set);
+        let end = skip(nodes, at + 1, children);
+        let node = &mut nodes[at];
+        node.size = end - at;
+    }
+}
+
+/// The position of a place, or 0 where there is none.
+fn position(place: Option<u32>) -> u32
+    requires { MatchOption place ⊤ (λ p. p < 4294967295) }
+    ensures { result ≡ position_of place }
+{
+    match place {
+        Some(place) => place + 1,
+        None => 0,
+    }
+}
+
+/// Nodes in prefix order, the sizes of whose subtrees are not known yet.
+#[derive(Debug, Drop)]
+pub(crate) struct NodeList<'a> {
+    nodes: Vec<Stored<'a>>,
+}
+
+impl<'a> Model for NodeList<'a> {
+    ghost use Rattle.std.specs.Prelude.{List, map};
+    ghost use Rattle.gf_tree.specs.KeptNodes.{Kept, kept_of};
+
+    ghost Value = { List Kept };
+
+    ghost view = { λ l. map kept_of l.nodes.items };
+}
+
+impl<'a> NodeList<'a> {
+    /// No nodes.
+    pub(crate) fn new(alloc: Global) -> NodeList<'a>
+        ensures { result ≡ [] }
+    {
+        NodeList {
+            nodes: Vec::new(alloc),
+        }
+    }
+
+    /// Adds a node at the end: its name, and the places of its set and of its outcome, from 0,
+    /// where it has them.
+    pub(crate) fn push(
+        &mut self,
+        name: Label<'a>,
+        set: Option<u32>,
+        outcome: Option<u32>,
+    ) -> Result<(), AllocError>
+        requires set { MatchOption set ⊤ (λ p. p < 4294967295) }
+        requires outcome { MatchOption outcome ⊤ (λ p. p < 4294967295) }
+        ensures ok { OnOk result (self.new ≡ self.old ++ record {
+          name = label_of name.entry;
+          set = position_of set;
+          outcome = position_of outcome;
+        } ∷ []) }
+        ensures err { OnErr result (self.new ≡ self.old) }
+    {
+        let (set, outcome) = (position(set), position(outcome));
+        self.nodes.push(Stored {
+            name,
+            size: 0,
+            set,
+            outcome,
+        })?;
+        Ok(())
+    }
+
+    /// The nodes with the sizes of their subtrees. The caller sees to it that they are those of a
+    /// tree.
+    pub(crate) fn sized(self, sets: &Sets<'_>) -> Vec<Stored<'a>>
+        requires placed { (outcomes : ℕ) × ArePlaced (length sets.now.known) outcomes self }
+        requires tree { (t : Tree Node)
+            × (map (λ e. e.children) (flatten t) ≡ child_counts sets.now.known self) }
+        ensures kept { map kept_of result.items ≡ self.entry }
+        ensures sizes { (t : Tree Node)
+            → map (λ e. e.children) (flatten t) ≡ child_counts sets.now.known self.entry
+            → sizes_of result.items ≡ subtree_sizes t }
+    {
+        let mut nodes = self.nodes;
+        fill_sizes(&mut nodes, sets);
+        nodes
+    }
+}

@@ -1,0 +1,22 @@
+//! Nodes as callers see them.
+
+use gf_token::Label;
+
+/// What happens at a node. Numbers of sets are those of the file.
+#[derive(Clone, Copy, Debug, PartialEq, Eq)]
+pub enum Step {
+    /// Chance moves, at this set of chance.
+    Chance { set: u32 },
+    /// A player moves, counted from 1, at this set of his.
+    Personal { player: u32, set: u32 },
+    /// The game ends.
+    Terminal,
+}
+
+/// A node: its name, what happens there, and the number of its outcome, or 0 where it has none.
+#[derive(Clone, Copy, Debug, PartialEq, Eq)]
+pub struct Node<'a> {
+    pub name: Label<'a>,
+    pub step: Step,
+    pub outcome: u32,
+}

@@ -1,0 +1,172 @@
+//! The outcomes that are known.
+
+ghost use Rattle.std.specs.Prelude.{◌≡◌, ◌<◌, ◌^◌, ◌++◌, [], ◌∷◌, None, Some, nat_eq, map, length};
+ghost use Rattle.std.specs.Prelude.{slice_get, option_map, position, OnOk, OnErr, IfOk};
+ghost use Rattle.gf_token.specs.Label.{label_of};
+ghost use Rattle.gf_token.specs.Positions.{at_position};
+ghost use Rattle.gf_tree.specs.KnownOutcomes.{with_outcome, with_payoff};
+
+use crate::numbers::{Numbers, next_place};
+use crate::seeded::Seeded;
+use gf_fraction::Fraction;
+use gf_token::Label;
+use std::alloc::{AllocError, Global};
+use std::marker::Model;
+
+/// An outcome that is known: its number, its name, and where its payoffs lie among those of all
+/// outcomes.
+#[derive(Clone, Copy)]
+struct Entry<'a> {
+    number: u32,
+    name: Label<'a>,
+    start: usize,
+    end: usize,
+}
+
+/// The outcomes that are known, each with its description, in order of first use; and the payoffs
+/// so far of an outcome whose description is being read.
+///
+/// An outcome has the place at which it became known, from 0. There are fewer than 2^32 outcomes:
+/// room for more is refused.
+#[derive(Drop)]
+pub(crate) struct Outcomes<'a> {
+    alloc: Global,
+    hasher: Seeded,
+    numbers: Numbers,
+    entries: Vec<Entry<'a>>,
+    payoffs: Vec<Fraction>,
+    from: usize,
+}
+
+impl<'a> Model for Outcomes<'a> {
+    ghost use Rattle.gf_tree.specs.KnownOutcomes.{KnownOutcomes};
+    ghost use Rattle.gf_tree.specs.StoredOutcomes.{stored_outcomes, AreOutcomes};
+
+    ghost Value = { KnownOutcomes };
+
+    ghost view = { λ o. stored_outcomes o.entries.items o.payoffs.items o.from };
+
+    ghost invariant = { λ o. AreOutcomes o.numbers o.entries.items o.payoffs.items o.from };
+}
+
+impl<'a> Outcomes<'a> {
+    /// No outcomes.
+    pub(crate) fn new(alloc: Global, hasher: Seeded) -> Outcomes<'a>
+        ensures { result ≡ record { known = []; pending = [] } }
+    {
+        Outcomes {
+            alloc,
+            hasher,
+            numbers: Numbers::new(),
+            entries: Vec::new(alloc),
+            payoffs: Vec::new(alloc),
+            from: 0,
+        }
+    }
+
+    /// No outcomes, to be found by the same hasher.
+    pub(crate) fn emptied(&self, alloc: Global) -> Outcomes<'a>
+        ensures { result ≡ record { known = []; pending = [] } }
+    {
+        Outcomes::new(alloc, self.hasher)
+    }
+
+    /// The place of an outcome.
+    pub(crate) fn find(&self, number: u32) -> Option<u32>
+        ensures { result ≡ position (nat_eq number) (map (λ o. o.key) self.now.known) }
+    {
+        self.numbers.place(number)
+    }
+
+    /// How many outcomes there are.
+    pub(crate) fn len(&self) -> usize
+        ensures len { result ≡ length self.now.known }
+        ensures few { result < 2 ^ 32 }
+    {
+        self.entries.len()
+    }
+
+    /// The number of the outcome at a place.
+    pub(crate) fn number(&self, place: u32) -> u32
+        requires { place < length self.now.known }
+        ensures { option_map (λ o. o.key) (slice_get self.now.known place) ≡ Some result }
+    {
+        self.entries[place as usize].number
+    }
+
+    /// The name of the outcome at a place.
+    pub(crate) fn name(&self, place: u32) -> Label<'a>
+        requires { place < length self.now.known }
+        ensures { option_map (λ o. o.description.name) (slice_get self.now.known place)
+            ≡ Some (label_of result) }
+    {
+        self.entries[place as usize].name
+    }
+
+    /// The payoffs of the outcome at a place.
+    pub(crate) fn payoffs(&self, place: u32) -> &[Fraction]
+        requires { place < length self.now.known }
+        ensures { option_map (λ o. o.description.payoffs) (slice_get self.now.known place)
+            ≡ Some result.now }
+    {
+        let entry = self.entries[place as usize];
+        &self.payoffs[entry.start..entry.end]
+    }
+
+    /// The number of the outcome at a position, from 1.
+    pub(crate) fn at(&self, i: usize) -> Option<u32>
+        ensures { result ≡ at_position (map (λ o. o.key) self.now.known) i }
+    {
+        self.numbers.number(i)
+    }
+
+    /// A description begins.
+    pub(crate) fn begin(&mut self)
+        ensures { self.new ≡ record self.old { pending = [] } }
+    {
+        self.from = self.payoffs.len();
+    }
+
+    /// It has one payoff more. On an `Err` nothing has changed.
+    pub(crate) fn push(&mut self, payoff: Fraction) -> Result<(), AllocError>
+        ensures ok { OnOk result (self.new ≡ with_payoff self.old payoff) }
+        ensures err { OnErr result (self.new ≡ self.old) }
+    {
+        if self.payoffs.push(payoff).is_err() {
+            return Err(AllocError);
+        }
+        Ok(())
+    }
+
+    /// Its payoffs so far.
+    pub(crate) fn pending(&self) -> &[Fraction]
+        ensures { result.now ≡ self.now.pending }
+    {
+        &self.payoffs[self.from..]
+    }
+
+    /// The description is complete, and this outcome, which was not known, has it. Answers the
+    /// outcome's place. On an `Err` nothing has changed.
+    pub(crate) fn end(&mut self, number: u32, name: Label<'a>) -> Result<u32, AllocError>
+        requires { position (nat_eq number) (map (λ o. o.key) self.old.known) ≡ None }
+        ensures ok { OnOk result (self.new ≡ with_outcome self.old number (label_of name.entry)) }
+        ensures place { IfOk result (λ place. place ≡ length self.old.known) }
+        ensures err { OnErr result (self.new ≡ self.old) }
+    {
+        let place = next_place(self.entries.len())?;
+        self.entries.reserve(1)?;
+        self.numbers.insert(self.alloc, self.hasher, number, place)?;
+        let end = self.payoffs.len();
+        let entry = Entry {
+            number,
+            name,
+            start: self.from,
+            end,
+        };
+        if self.entries.push(entry).is_err() {
+            return Err(AllocError);
+        }
+        self.from = end;
+        Ok(place)
+    }
+}
