@@ -8,3 +8,4 @@ pub mod ReadingIndices
 pub mod SpelledNumbers
 pub mod SpelledTokens
 pub mod Starts
+pub mod TokensAhead

@@ -15,3 +15,4 @@ pub mod NumberWhy
 pub mod Place
 pub mod Reason
 pub mod Positions
+pub mod Remaining

@@ -1,7 +1,8 @@
 -- What stands at the front of tokens to come.
-use Rattle.std.specs.Prelude.{Bool, true, false, List, [], ◌∷◌}
+use Rattle.std.specs.Prelude.{Bool, true, false, ◌||◌, nat_eq, ℕ, List, [], ◌∷◌, codes}
+use Rattle.std.specs.Cmp.Lexicographic.{pointwise}
 use Rattle.gf_token.specs.Token.{Token, Lexeme}
-use Rattle.gf_token.specs.Token.Token.{Opening, Closing, Comma, Text, Bare}
+use Rattle.gf_token.specs.Token.Token.{Opening, Closing, Comma, Text, Bare, Broken}
 
 -- the next token is one of these
 abbrev pub starts : (Token → Bool) → List Lexeme → Bool
@@ -27,3 +28,18 @@ is_text_token _ = false
 abbrev pub is_bare_token : Token → Bool
 is_bare_token (Bare _) = true
 is_bare_token _ = false
+
+-- a text that has no end
+abbrev pub is_broken : Token → Bool
+is_broken Broken = true
+is_broken _ = false
+
+-- this word
+abbrev pub is_word : List ℕ → Token → Bool
+is_word word (Bare bytes) = pointwise nat_eq bytes word
+is_word word _ = false
+
+-- the letter that tells how numbers are written
+abbrev pub is_letter : Token → Bool
+is_letter (Bare bytes) = pointwise nat_eq bytes (codes "R") || pointwise nat_eq bytes (codes "D")
+is_letter _ = false

@@ -8,12 +8,14 @@
 mod byte;
 mod cursor;
 mod fault;
+mod heading;
 mod index;
 mod label;
 pub mod laws;
 #[cfg(test)]
 mod tests;
 mod token;
+mod tokens;
 mod write;
 
 pub use cursor::Cursor;
@@ -21,4 +23,5 @@ pub use fault::{Fault, Span, What, Why};
 pub use index::{IndexFault, read_index};
 pub use label::Label;
 pub use token::{BareToken, Kind, TextToken, Token};
+pub use tokens::Tokens;
 pub use write::write_label;

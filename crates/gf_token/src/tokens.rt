@@ -1,0 +1,130 @@
+//! The tokens of an input, of which a reader asks for the one that is due.
+
+ghost use Rattle.std.specs.Prelude.{◌≡◌, ◌≤◌, ◌∷◌, [], false, length, IfSome, MatchOption};
+ghost use Rattle.gf_token.specs.Cursor.{Nexts};
+ghost use Rattle.gf_token.specs.Label.{label_of};
+ghost use Rattle.gf_token.specs.Next.{starts, is_bare_token, is_closing};
+ghost use Rattle.gf_token.specs.Next.{is_comma, is_opening, is_text_token};
+ghost use Rattle.gf_token.specs.Remaining.{refusal, StandsBefore};
+ghost use Rattle.gf_token.specs.Token.{lexeme};
+ghost use Rattle.gf_token.specs.Token.Token.{Bare, Closing, Comma, Opening, Text};
+ghost use Rattle.gf_token.specs.TokenSpelling.{Spells};
+
+use crate::cursor::Cursor;
+use crate::fault::{Fault, Span, Why};
+use crate::token::{BareToken, TextToken, Token};
+use std::marker::Model;
+
+/// An input, seen with the tokens that are still to come.
+///
+/// A token that is asked for is taken where it comes next; where another one does, nothing is
+/// taken.
+#[derive(Debug, Drop)]
+pub struct Tokens<'a> {
+    input: &'a [u8],
+    cursor: Cursor<'a>,
+}
+
+impl<'a> Model for Tokens<'a> {
+    ghost use Rattle.gf_token.specs.Remaining.{AreAhead, Remaining};
+
+    ghost Value = { Remaining };
+
+    ghost view = { λ t. record { input = t.input.now; ahead = t.cursor } };
+
+    ghost invariant = { λ t. AreAhead t.input.now t.cursor };
+}
+
+impl<'a> Tokens<'a> {
+    /// All tokens of an input.
+    #[tactic(auto, using(crate::proofs::TokensAhead::tokens_steps))]
+    pub fn new(input: &'a [u8]) -> Tokens<'a>
+        ensures input { result.input ≡ input.entry.now }
+        ensures spelled { Spells 0 input.entry.now result.ahead }
+        ensures few { length result.ahead ≤ length input.entry.now }
+    {
+        Tokens {
+            input,
+            cursor: Cursor::new(input),
+        }
+    }
+
+    /// The next token where it is a bare one.
+    pub fn bare(&mut self) -> Option<BareToken<'a>>
+        ensures next { MatchOption result
+            ((self.new ≡ self.old) × (starts is_bare_token self.old.ahead ≡ false))
+            (λ t. self.old.ahead
+            ≡ lexeme t.span.start t.span.end (Bare t.bytes.now) ∷ self.new.ahead) }
+        ensures input { self.new.input ≡ self.old.input }
+        ensures place { IfSome result (λ t. StandsBefore self.new t.span) }
+    {
+        self.cursor.bare()
+    }
+
+    /// The next token where it is a text.
+    pub fn text(&mut self) -> Option<TextToken<'a>>
+        ensures next { MatchOption result
+            ((self.new ≡ self.old) × (starts is_text_token self.old.ahead ≡ false))
+            (λ t. self.old.ahead
+            ≡ lexeme t.span.start t.span.end (Text (label_of t.label)) ∷ self.new.ahead) }
+        ensures input { self.new.input ≡ self.old.input }
+        ensures place { IfSome result (λ t. StandsBefore self.new t.span) }
+    {
+        self.cursor.text()
+    }
+
+    /// The place of the next token where it is an opening brace.
+    pub fn opening(&mut self) -> Option<Span>
+        ensures next { MatchOption result
+            ((self.new ≡ self.old) × (starts is_opening self.old.ahead ≡ false))
+            (λ s. self.old.ahead ≡ lexeme s.start s.end Opening ∷ self.new.ahead) }
+        ensures input { self.new.input ≡ self.old.input }
+        ensures place { IfSome result (λ s. StandsBefore self.new s) }
+    {
+        self.cursor.opening()
+    }
+
+    /// The place of the next token where it is a closing brace.
+    pub fn closing(&mut self) -> Option<Span>
+        ensures next { MatchOption result
+            ((self.new ≡ self.old) × (starts is_closing self.old.ahead ≡ false))
+            (λ s. self.old.ahead ≡ lexeme s.start s.end Closing ∷ self.new.ahead) }
+        ensures input { self.new.input ≡ self.old.input }
+        ensures place { IfSome result (λ s. StandsBefore self.new s) }
+    {
+        self.cursor.closing()
+    }
+
+    /// The place of the next token where it is a comma.
+    pub fn comma(&mut self) -> Option<Span>
+        ensures next { MatchOption result
+            ((self.new ≡ self.old) × (starts is_comma self.old.ahead ≡ false))
+            (λ s. self.old.ahead ≡ lexeme s.start s.end Comma ∷ self.new.ahead) }
+        ensures input { self.new.input ≡ self.old.input }
+        ensures place { IfSome result (λ s. StandsBefore self.new s) }
+    {
+        self.cursor.comma()
+    }
+
+    /// The next token, whatever it is, or `None` at the end. A text that has no end is refused with
+    /// [`Why::Unterminated`], at its opening quote, and not taken.
+    pub fn next(&mut self) -> Result<Option<Token<'a>>, Fault>
+        ensures next { Nexts self.old.ahead result self.new.ahead }
+        ensures input { self.new.input ≡ self.old.input }
+    {
+        self.cursor.next()
+    }
+
+    /// The refusal of what comes next, where something else is due: it stands at the next token, or
+    /// at the end. A text that has no end is refused with [`Why::Unterminated`] all the same.
+    #[cold]
+    pub fn refusal(&mut self, due: Why) -> Fault
+        ensures { result ≡ refusal (length self.old.input) due self.old.ahead }
+    {
+        match self.cursor.next() {
+            Ok(Some(token)) => Fault::at(token.span, due),
+            Ok(None) => Fault::at_end(self.input.len(), due),
+            Err(broken) => broken,
+        }
+    }
+}
