@@ -21,7 +21,7 @@ either_way same tells key k = by (same k key) refl (same key k) refl
 
 module _ {K D : Type 0} (same : K → K → Bool) (tells : IsEquality same) (key : K) where
   -- the place k from the start is the first one with the key
-  abbrev IsFirst : List (Described K D) → ℕ → ℕ → Type 0
+  abbrev pub IsFirst : List (Described K D) → ℕ → ℕ → Type 0
   IsFirst es start place =
       (k : ℕ) × (start + k ≡ place) × (find (λ e. same e.key key) es ≡ slice_get es k)
 
@@ -39,7 +39,7 @@ module _ {K D : Type 0} (same : K → K → Bool) (tells : IsEquality same) (key
       let r = later (rw q at h) in
       (suc r.0, omega (arith, r.1), rw (either_way same tells key e.key, q) r.2)
 
-  found_from : (es : List (Described K D)) (start place : ℕ)
+  pub found_from : (es : List (Described K D)) (start place : ℕ)
       → position_from (same key) start (map (λ e. e.key) es) ≡ Some place → IsFirst es start place
   found_from [] start place h = absurd cc
   found_from (e ∷ es) start place h =

@@ -1,3 +1,4 @@
+pub mod ReaderSteps
 pub mod Carried
 pub mod FilesOfGames
 pub mod FirstUseNumbers
@@ -6,8 +7,9 @@ pub mod FoundKeys
 pub mod GameMade
 pub mod GameNodes
 pub mod Games
+pub mod GivenNodes
 mod Groups
-pub mod KnownParts
+pub mod KnownKeys
 pub mod KeptSizes
 pub mod LearnedGames
 pub mod Learning
@@ -70,3 +72,5 @@ pub mod WorkedVersion
 pub mod WrittenGames
 pub mod WrittenNodes
 pub mod WrittenTokens
+pub mod RunFront
+pub mod Telling

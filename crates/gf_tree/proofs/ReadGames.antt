@@ -1,6 +1,6 @@
 -- The answer of the machine to the tokens of a file is what the file means: the one game that its
 -- bytes spell, or a refusal where it is due.
-use Rattle.std.proofs.Common.{◌≡◌, ◌≢◌, ◌⊎◌, ℕ, List, ◌++◌, length, Result, Ok, Err, inl, inr}
+use Rattle.std.proofs.Common.{◌≡◌, ℕ, List, ◌++◌, length, Result, Ok, Err}
 use Rattle.std.proofs.Common.{refl, sym, ap, subst, ◌∙◌}
 use Rattle.gf_token.specs.Token.{Lexeme}
 use Rattle.gf_token.specs.TokenSpelling.{Spells}
@@ -24,6 +24,8 @@ use Rattle.gf_tree.specs.Machine.Position.{Format}
 use Rattle.gf_tree.specs.Passed.{HasPassed}
 use Rattle.gf_tree.specs.PrefixOrder.{Entry, Fills}
 use Rattle.gf_tree.specs.ReadGame.{game_of}
+use Rattle.gf_tree.specs.ReaderState.{Answer, Fails, HasPassedPlace, heard}
+use Rattle.gf_tree.specs.ReaderState.Fails.{of_file, of_memory}
 use Rattle.gf_tree.specs.Spellable.{IsSpellable}
 use Rattle.gf_tree.proofs.RunGames.{file_found}
 use Rattle.gf_tree.proofs.RunPassed.{accepted}
@@ -149,43 +151,28 @@ whole bytes ls c nodes spelled e kept =
 
 -- ---- a fault, of memory or of the machine
 
-memory_or : (why : Why) → (why ≡ Memory) ⊎ (why ≢ Memory)
-memory_or Memory = inl refl
-memory_or _ = inr (λ h. absurd cc)
+-- what the machine answers to all tokens of an input
+abbrev to_all : List ℕ → List Lexeme → Answer
+to_all bytes ls = heard Format nothing (record { input = bytes; ahead = ls })
 
--- the place of a fault is one that the machine has passed
-pub record IsPassed (bytes : List ℕ) (ls : List Lexeme) (span : Span) : Type 0 where
-  pub before : List Lexeme
-  pub after : List Lexeme
-  pub parts : ls ≡ before ++ after
-  pub place : IsSpanOf after (length bytes) span
-  pub passed : HasPassed (run (length bytes) Format nothing ls) span.start
-
--- where memory was wanting at a place that the machine has passed, or the machine refuses
-pub record IsAnswered (bytes : List ℕ) (ls : List Lexeme) (fault : Fault) : Type 0 where
-  pub of_memory : fault.why ≡ Memory → IsPassed bytes ls fault.span
-  pub of_file : fault.why ≢ Memory → run (length bytes) Format nothing ls ≡ Err fault
-
-passed_judged : (bytes : List ℕ) (ls : List Lexeme) (span : Span)
-    → Spells 0 bytes ls → IsPassed bytes ls span → IsJudged Memory bytes span
+passed_judged : (bytes : List ℕ) (ls : List Lexeme) (span : Span) → Spells 0 bytes ls
+    → HasPassedPlace (to_all bytes ls) span → IsJudged Memory bytes span
 passed_judged bytes ls span spelled h =
-    memory_judged bytes h.before h.after span (subst (Spells 0 bytes) h.parts spelled) h.place
-    (subst (λ (x : List Lexeme). HasPassed (run (length bytes) Format nothing x) span.start)
-    h.parts h.passed)
+    let p = h.place in
+    let same : ls ≡ p.0 ++ p.1 = same_tokens bytes ls (p.0 ++ p.1) spelled p.2 in
+    memory_judged bytes p.0 p.1 span p.2 p.3
+    (subst (λ (x : List Lexeme). HasPassed (run (length bytes) Format nothing x) span.start) same
+    h.passed)
 
 pub answer_judged : (bytes : List ℕ) (ls : List Lexeme) (fault : Fault) → Spells 0 bytes ls
-    → IsAnswered bytes ls fault → IsJudged fault.why bytes fault.span
-answer_judged bytes ls fault spelled h = by (memory_or fault.why)
-  where
-    by : (fault.why ≡ Memory) ⊎ (fault.why ≢ Memory) → IsJudged fault.why bytes fault.span
-    by (inl is) = subst (λ why. IsJudged why bytes fault.span) (sym is)
-        (passed_judged bytes ls fault.span spelled (h.of_memory is))
-    by (inr is) = refused_judged bytes ls fault spelled (h.of_file is)
+    → Fails fault (to_all bytes ls) → IsJudged fault.why bytes fault.span
+answer_judged bytes ls fault spelled (of_file e) = refused_judged bytes ls fault spelled e
+answer_judged bytes ls fault spelled (of_memory is h) =
+    subst (λ why. IsJudged why bytes fault.span) (sym is)
+    (passed_judged bytes ls fault.span spelled h)
 
 pub answer_only : (bytes : List ℕ) (ls : List Lexeme) (fault : Fault) (g : Game)
-    → Spells 0 bytes ls → IsAnswered bytes ls fault → SpellsGame bytes g → fault.why ≡ Memory
-answer_only bytes ls fault g spelled h spells = by (memory_or fault.why)
-  where
-    by : (fault.why ≡ Memory) ⊎ (fault.why ≢ Memory) → fault.why ≡ Memory
-    by (inl is) = is
-    by (inr is) = absurd (refused_none bytes ls fault g spelled (h.of_file is) spells)
+    → Spells 0 bytes ls → Fails fault (to_all bytes ls) → SpellsGame bytes g → fault.why ≡ Memory
+answer_only bytes ls fault g spelled (of_file e) spells =
+    absurd (refused_none bytes ls fault g spelled e spells)
+answer_only bytes ls fault g spelled (of_memory is h) spells = is

@@ -2,63 +2,24 @@
 use Rattle.std.proofs.Common.{◌≡◌, ℕ, ◌+◌, ◌<◌, ◌≤◌, Bool, true, false, cond, List}
 use Rattle.std.proofs.Common.{[], ◌∷◌, ◌++◌, length, Result, Ok, Err, refl, sym, ap}
 use Rattle.std.proofs.Common.{subst, ◌∙◌, append_assoc, append-nil, arith, inl, inr}
-use Rattle.std.proofs.lemmas.List.{length-append}
-use Rattle.gf_token.specs.Token.{Token, Lexeme, spelling}
-use Rattle.gf_token.specs.Token.Token.{Opening, Closing, Comma, Text, Bare, Broken}
-use Rattle.gf_token.specs.TokenSpelling.{GoesOn, IsSpelled, Spells}
+use Rattle.gf_token.specs.Token.{Lexeme}
+use Rattle.gf_token.specs.TokenSpelling.{Spells}
 use Rattle.gf_token.specs.Place.{tokens_of, IsSpanOf, Begins, IsAccepted, IsAcceptedThrough}
 use Rattle.gf_token.specs.declared.fault.Fault.{Fault}
 use Rattle.gf_token.specs.declared.fault.Span.{Span}
 use Rattle.gf_token.specs.declared.fault.Why.{Why}
+use Rattle.gf_token.specs.Remaining.{AreInOrder, Remaining, StandsBefore}
 use Rattle.gf_token.proofs.Places.{parts, Parts, tokens_on, begins_front}
+use Rattle.gf_token.proofs.TokensAhead.{in_order}
 use Rattle.gf_tree.specs.Front.{IsExtensiveFile}
 use Rattle.gf_tree.specs.Machine.{Content, Position, State, due, may_end}
 use Rattle.gf_tree.specs.Machine.{nothing, refused, run, step, then_on}
 use Rattle.gf_tree.specs.Machine.Position.{Format}
-use Rattle.gf_tree.specs.Passed.{AreInOrder, HasPassed}
+use Rattle.gf_tree.specs.Passed.{HasPassed}
 use Rattle.gf_tree.proofs.RunStops.{Stopped, run_reads, stopped}
 use Rattle.gf_tree.proofs.RunPlaces.{begins, read_is}
 
 -- ---- tokens stand in their order
-
-some_byte : (t : Token) → IsSpelled t → 0 < length (spelling t)
-some_byte Opening h = omega arith
-some_byte Closing h = omega arith
-some_byte Comma h = omega arith
-some_byte (Text label) h = omega arith
-some_byte (Bare []) h = absurd h
-some_byte (Bare (b ∷ bytes)) h = omega arith
-some_byte Broken h = omega arith
-
-pub in_order : (from : ℕ) (bytes : List ℕ) (ls : List Lexeme) → Spells from bytes ls
-    → AreInOrder (from + length bytes) from ls
-in_order from bytes [] h = omega arith
-in_order from bytes (l ∷ ls) h =
-    let first = h.0 in
-    let some = some_byte l.token first.is_spelled in
-    let start = first.start in
-    let end = first.end in
-    let size = ap length first.parts in
-    let all = length-append first.gap (spelling l.token ++ first.rest) in
-    let last = length-append (spelling l.token) first.rest in
-    let whole : l.end + length first.rest ≡ from + length bytes =
-    omega (arith, start, end, size, all, last) in (
-      omega (arith, start),
-      omega (arith, end, some),
-      subst (λ (n : ℕ). AreInOrder n l.end ls) whole
-          (behind l.token ls l.end first.rest h.1 (λ k. in_order l.end first.rest ls k)),
-    )
-  where
-    behind : (t : Token) (ls : List Lexeme) (end : ℕ) (rest : List ℕ)
-        → GoesOn t ls (Spells end rest ls)
-        → (Spells end rest ls → AreInOrder (end + length rest) end ls)
-        → AreInOrder (end + length rest) end ls
-    behind Broken ls end rest h later = rw h (omega arith)
-    behind Opening ls end rest h later = later h
-    behind Closing ls end rest h later = later h
-    behind Comma ls end rest h later = later h
-    behind (Text label) ls end rest h later = later h
-    behind (Bare bytes) ls end rest h later = later h
 
 pub within : (end from : ℕ) (ls : List Lexeme) → AreInOrder end from ls → from ≤ end
 within end from [] h = h
@@ -95,19 +56,16 @@ refused_later end from q c (l ∷ ls) fault h e =
         ≡ fault = cc in
         subst (λ (f : Fault). from ≤ f.span.start) same h.0
 
--- so where it goes on with a token, it has passed it
-pub passes : (end from : ℕ) (q : Position) (c : Content) (l : Lexeme) (ls : List Lexeme) (s : State)
-    → AreInOrder end from (l ∷ ls) → step q c l.token ≡ Ok s
-    → HasPassed (run end q c (l ∷ ls)) l.start
-passes end from q c l ls s h is =
-    subst (λ o. HasPassed (then_on l o (λ x. run end x.position x.content ls)) l.start) (sym is)
-    (by (run end s.position s.content ls) refl)
+-- so where it goes on behind a token, it has passed the token
+pub passed_before : (t : Remaining) (span : Span) → StandsBefore t span
+    → (q : Position) (c : Content) → HasPassed (run (length t.input) q c t.ahead) span.start
+passed_before t span h q c = by (run (length t.input) q c t.ahead) refl
   where
-    by : (o : Result Content Fault) → run end s.position s.content ls ≡ o → HasPassed o l.start
+    by : (o : Result Content Fault) → run (length t.input) q c t.ahead ≡ o → HasPassed o span.start
     by (Ok r) e = tt
     by (Err fault) e =
-        let far = refused_later end l.end s.position s.content ls fault h.2 e in
-        let some = h.1 in omega (arith, far, some)
+        let far = refused_later (length t.input) span.end q c t.ahead fault h.order e in
+        let some = h.some in omega (arith, far, some)
 
 -- ---- so some file goes on
 

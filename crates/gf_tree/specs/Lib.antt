@@ -1,8 +1,14 @@
+pub mod AddsUp
+pub mod FoundSet
+pub mod Shares
+pub mod ReaderState
 pub mod Actions
 pub mod Branches
 pub mod Consistent
 pub mod Description
 pub mod Due
+pub mod FileNodeOf
+pub mod FileNodes
 pub mod FileTree
 pub mod FiniteMap
 pub mod FirstUse
@@ -17,6 +23,7 @@ pub mod Judgement
 pub mod KeptNodes
 pub mod KnownOutcomes
 pub mod KnownSets
+pub mod KnownUses
 pub mod Learned
 pub mod Listed
 pub mod NodeOf
@@ -40,3 +47,4 @@ pub mod Subtrees
 pub mod Tree
 pub mod WorkedReasons
 pub mod WorkedTrees
+pub mod Told

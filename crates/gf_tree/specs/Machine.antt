@@ -1,6 +1,6 @@
 -- The reader of extensive files as a machine: one token at a time. What it means is said in
 -- Sentence and Consistent; no public contract cites this.
-use Rattle.std.specs.Prelude.{ℕ, zero, suc, ◌+◌, ◌-◌, ◌==◌, ◌||◌, Bool, true, false}
+use Rattle.std.specs.Prelude.{ℕ, zero, suc, ◌+◌, ◌-◌, ◌==◌, ◌||◌, Bool, false}
 use Rattle.std.specs.Prelude.{List, [], ◌∷◌, ◌++◌, length, codes, Option, Some, None}
 use Rattle.std.specs.Prelude.{Result, Ok, Err, nat_eq, nat_le, pos, if◌then◌else◌}
 use Rattle.std.specs.Cmp.Lexicographic.{pointwise}
@@ -8,8 +8,9 @@ use Rattle.gf_fraction.specs.Ratio.{Ratio, whole}
 use Rattle.gf_fraction.specs.Computed.{number_of}
 use Rattle.gf_fraction.specs.declared.fraction.NumberFault.{NumberFault}
 use Rattle.gf_token.specs.Token.{Token, Lexeme}
-use Rattle.gf_token.specs.Token.Token.{Opening, Closing, Comma, Text, Bare, Broken}
-use Rattle.gf_token.specs.Next.{is_opening, is_closing, is_comma, is_text_token, is_bare_token}
+use Rattle.gf_token.specs.Token.Token.{Opening, Closing, Comma, Text, Bare}
+use Rattle.gf_token.specs.Next.{is_opening, is_closing, is_comma, is_text_token}
+use Rattle.gf_token.specs.Next.{is_bare_token, is_broken}
 use Rattle.gf_token.specs.NumberWhy.{why_of}
 use Rattle.gf_token.specs.Indices.{count_of, index_of}
 use Rattle.gf_token.specs.declared.fault.Fault.{Fault}
@@ -365,10 +366,6 @@ taken (AfterKnownPayoff (p ∷ ps)) c (Bare t) =
     same_number p (at (AfterKnownPayoff ps) c) (number_of t)
 taken q c t = Err (due q c.due)
 
-abbrev pub is_broken : Token → Bool
-is_broken Broken = true
-is_broken _ = false
-
 abbrev pub step : Position → Content → Token → Result State Why
 step q c t =
     if is_broken t then Err Unterminated
@@ -390,12 +387,3 @@ then_on l (Err why) f = refused l.start l.end why
 abbrev pub run : ℕ → Position → Content → List Lexeme → Result Content Fault
 run end q c [] = if may_end q c.due then Ok c else refused end end (due q c.due)
 run end q c (l ∷ ls) = then_on l (step q c l.token) (λ s. run end s.position s.content ls)
-
--- the refusal of what comes next, where something else is due
-abbrev pub refusal : ℕ → Why → List Lexeme → Fault
-refusal end why [] = record { span = record { start = end; end = end }; why = why }
-refusal end why (l ∷ ls) =
-    record {
-      span = record { start = l.start; end = l.end };
-      why = if is_broken l.token then Unterminated else why;
-    }

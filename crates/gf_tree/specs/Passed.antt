@@ -1,6 +1,5 @@
 -- Where the machine of the reader has refused nothing, so that only memory can be wanting there.
-use Rattle.std.specs.Prelude.{ℕ, ◌<◌, ◌≤◌, List, [], ◌∷◌, Result, Ok, Err}
-use Rattle.gf_token.specs.Token.{Lexeme}
+use Rattle.std.specs.Prelude.{ℕ, ◌<◌, Result, Ok, Err}
 use Rattle.gf_token.specs.declared.fault.Fault.{Fault}
 use Rattle.gf_tree.specs.Machine.{Content}
 
@@ -8,8 +7,3 @@ use Rattle.gf_tree.specs.Machine.{Content}
 abbrev pub HasPassed : Result Content Fault → ℕ → Type 0
 HasPassed (Ok content) start = Unit {0}
 HasPassed (Err fault) start = start < fault.span.start
-
--- tokens in their order from a byte on, of an input of so many bytes
-abbrev pub AreInOrder : ℕ → ℕ → List Lexeme → Type 0
-AreInOrder end from [] = from ≤ end
-AreInOrder end from (l ∷ ls) = (from ≤ l.start) × (l.start < l.end) × AreInOrder end l.end ls

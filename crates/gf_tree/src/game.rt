@@ -1,6 +1,6 @@
 //! Games in memory.
 
-ghost use Rattle.std.specs.Prelude.{◌≡◌, ◌<◌, ℕ, length, map, option_map, slice_get};
+ghost use Rattle.std.specs.Prelude.{◌≡◌, ◌<◌, ◌^◌, ℕ, length, map, option_map, slice_get};
 ghost use Rattle.gf_token.specs.Label.{label_of};
 ghost use Rattle.gf_token.specs.Positions.{at_position};
 ghost use Rattle.gf_tree.specs.Actions.{actions_of};
@@ -27,7 +27,10 @@ use gf_fraction::Fraction;
 use gf_token::Label;
 use std::marker::Model;
 
+mod file_nodes;
 mod renumbering;
+
+pub use file_nodes::FileNodes;
 
 /// A game: a title, a comment, players, and a tree with information sets and outcomes. Every label
 /// is a slice of the file. Players are counted from 1, chance is player 0, and numbers of sets and
@@ -143,9 +146,12 @@ impl<'a> Game<'a> {
 
     /// How many sets a player has, chance being player 0; 0 where there is no such player.
     pub fn set_count(&self, player: u32) -> usize
-        ensures { result ≡ length (player_keys self.now player) }
+        ensures count { result ≡ length (player_keys self.now player) }
+        ensures few { result < 2 ^ 32 }
     {
-        self.sets.count(player)
+        let count = self.sets.count(player);
+        prove!(count <= self.sets.len());
+        count
     }
 
     /// The number of a player's set, by its position from 1 among his sets in order of first use.
@@ -159,7 +165,8 @@ impl<'a> Game<'a> {
 
     /// How many outcomes there are. 0 is none.
     pub fn outcome_count(&self) -> usize
-        ensures { result ≡ length (outcome_numbers self.now) }
+        ensures count { result ≡ length (outcome_numbers self.now) }
+        ensures few { result < 2 ^ 32 }
     {
         self.outcomes.len()
     }

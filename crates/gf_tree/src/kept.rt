@@ -1,7 +1,7 @@
 //! The nodes of a game as they are kept: one list in prefix order, each with the size of its
 //! subtree.
 
-ghost use Rattle.std.specs.Prelude.{◌≡◌, ◌+◌, ◌<◌, ◌≤◌, ◌++◌, ◌∷◌, [], ℕ, ⊤, MatchOption};
+ghost use Rattle.std.specs.Prelude.{◌≡◌, ◌^◌, ◌+◌, ◌<◌, ◌≤◌, ◌++◌, ◌∷◌, [], ℕ, ⊤, MatchOption};
 ghost use Rattle.std.specs.Prelude.{OnErr, OnOk, drop, length, map, option_map};
 ghost use Rattle.std.specs.List.{AllByRecursion};
 ghost use Rattle.gf_token.specs.Label.{label_of};
@@ -17,6 +17,7 @@ ghost use Rattle.gf_tree.specs.Subtrees.{subtree_sizes};
 
 use crate::node::Step;
 use crate::outcomes::Outcomes;
+use crate::receive::{Receive, ToldNode};
 use crate::sets::Sets;
 use gf_token::Label;
 use std::alloc::{AllocError, Global};
@@ -115,7 +116,7 @@ fn fill_sizes(nodes: &mut [Stored<'_>], sets: &Sets<'_>)
 }
 
 /// The position of a place, or 0 where there is none.
-fn position(place: Option<u32>) -> u32
+pub(crate) fn position(place: Option<u32>) -> u32
     requires { MatchOption place ⊤ (λ p. p < 4294967295) }
     ensures { result ≡ position_of place }
 {
@@ -150,33 +151,6 @@ impl<'a> NodeList<'a> {
         }
     }
 
-    /// Adds a node at the end: its name, and the places of its set and of its outcome, from 0,
-    /// where it has them.
-    pub(crate) fn push(
-        &mut self,
-        name: Label<'a>,
-        set: Option<u32>,
-        outcome: Option<u32>,
-    ) -> Result<(), AllocError>
-        requires set { MatchOption set ⊤ (λ p. p < 4294967295) }
-        requires outcome { MatchOption outcome ⊤ (λ p. p < 4294967295) }
-        ensures ok { OnOk result (self.new ≡ self.old ++ record {
-          name = label_of name.entry;
-          set = position_of set;
-          outcome = position_of outcome;
-        } ∷ []) }
-        ensures err { OnErr result (self.new ≡ self.old) }
-    {
-        let (set, outcome) = (position(set), position(outcome));
-        self.nodes.push(Stored {
-            name,
-            size: 0,
-            set,
-            outcome,
-        })?;
-        Ok(())
-    }
-
     /// The nodes with the sizes of their subtrees. The caller sees to it that they are those of a
     /// tree.
     pub(crate) fn sized(self, sets: &Sets<'_>) -> Vec<Stored<'a>>
@@ -191,5 +165,23 @@ impl<'a> NodeList<'a> {
         let mut nodes = self.nodes;
         fill_sizes(&mut nodes, sets);
         nodes
+    }
+}
+
+impl<'a> Receive<'a> for NodeList<'a> {
+    ghost use Rattle.std.specs.Prelude.{◌≡◌, map};
+    ghost use Rattle.gf_tree.specs.Told.{kept_as};
+
+    ghost holds = { λ nodes told. nodes ≡ map kept_as told };
+
+    #[tactic(auto, using(std::proofs::lemmas::List::map_push))]
+    fn node(&mut self, node: ToldNode<'_, 'a>) -> Result<(), AllocError> {
+        self.nodes.push(Stored {
+            name: node.node.name,
+            size: 0,
+            set: node.set,
+            outcome: node.outcome,
+        })?;
+        Ok(())
     }
 }

@@ -2,7 +2,9 @@
 #![tactic(auto)]
 
 mod action;
+mod again;
 mod branch;
+mod file_node;
 mod game;
 mod kept;
 pub mod laws;
@@ -10,11 +12,21 @@ mod node;
 mod nodes;
 mod numbers;
 mod outcomes;
+mod read;
+mod reader;
+mod readings;
+mod receive;
 mod seeded;
 mod sets;
 
 pub use crate::action::Action;
 pub use crate::branch::Branch;
-pub use crate::game::Game;
+pub use crate::file_node::{FileNode, OutcomeDescription, OutcomeUse, SetDescription, SetUse};
+pub use crate::game::{FileNodes, Game};
 pub use crate::node::{Node, Step};
 pub use crate::nodes::Nodes;
+pub use crate::read::read_efg;
+pub use crate::receive::{Receive, ToldNode};
+
+#[cfg(test)]
+mod tests;

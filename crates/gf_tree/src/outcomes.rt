@@ -1,6 +1,7 @@
 //! The outcomes that are known.
 
-ghost use Rattle.std.specs.Prelude.{◌≡◌, ◌<◌, ◌^◌, ◌++◌, [], ◌∷◌, None, Some, nat_eq, map, length};
+ghost use Rattle.std.specs.Prelude.{◌+◌, ◌≡◌, ◌<◌, ◌^◌, ◌++◌, [], ◌∷◌};
+ghost use Rattle.std.specs.Prelude.{None, Some, nat_eq, map, length};
 ghost use Rattle.std.specs.Prelude.{slice_get, option_map, position, OnOk, OnErr, IfOk};
 ghost use Rattle.gf_token.specs.Label.{label_of};
 ghost use Rattle.gf_token.specs.Positions.{at_position};
@@ -151,6 +152,7 @@ impl<'a> Outcomes<'a> {
         requires { position (nat_eq number) (map (λ o. o.key) self.old.known) ≡ None }
         ensures ok { OnOk result (self.new ≡ with_outcome self.old number (label_of name.entry)) }
         ensures place { IfOk result (λ place. place ≡ length self.old.known) }
+        ensures few { IfOk result (λ place. place + 1 < 2 ^ 32) }
         ensures err { OnErr result (self.new ≡ self.old) }
     {
         let place = next_place(self.entries.len())?;

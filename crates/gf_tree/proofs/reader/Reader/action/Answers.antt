@@ -1,0 +1,10 @@
+use Rattle.gf_tree.specs.GameParts.{set_with}
+use Rattle.gf_tree.specs.ReaderState.{content_of}
+use Rattle.gf_tree.proofs.ReaderSteps.{labelled, wants_memory}
+use Rattle.gf_tree.proofs.reader.Reader.action.Goals as goal
+
+pub returns-in-Err-clause-machine : goal.returns-in-Err-clause-machine
+returns-in-Err-clause-machine c = λ node number name.
+    wants_memory c.requires.place c.at.ensures _ _
+    (labelled c.args.self.now.tokens c.args.label (content_of c.args.self.now) node c.args.player
+    number (set_with name c.args.self.now.sets.pending) c.args.sum c.if-player-eq0.false)

@@ -1,0 +1,20 @@
+use Rattle.std.proofs.Common.{◌≡◌, ◌-◌, ◌∙◌, ℕ, suc, ap, arith, rules}
+use Rattle.gf_token.specs.Label.{label_of}
+use Rattle.gf_tree.specs.GameParts.{outcome_with}
+use Rattle.gf_tree.specs.KeptNodes.{position_of}
+use Rattle.gf_tree.specs.Machine.Position.{NewPayoff}
+use Rattle.gf_tree.specs.ReaderState.{answer, begun_with}
+use Rattle.gf_tree.proofs.ReaderSteps.{carried, fails_back}
+use Rattle.gf_tree.proofs.reader.Reader.new_outcome.Goals as goal
+
+pub returns-in_err-payoff-clause-machine : goal.returns-in_err-payoff-clause-machine
+returns-in_err-payoff-clause-machine g c =
+    let some = c.loop-left-test.true in
+    let more : c.loop-left.left ≡ suc (c.loop-left.left - 1) = omega (arith, some) in
+    fails_back {r = c.from_residual.result} _ (search rules)
+    (carried (c.in_err-payoff.ensures.machine _ _ _ (c.loop-left.left - 1))
+    (c.loop-left.invariant.goes
+    ∙ ap (λ (n : ℕ). answer (NewPayoff (begun_with c.args.self.now.sets.known
+    (label_of c.args.node) (position_of c.args.set)) c.args.number
+    (outcome_with (label_of c.in-Some.name.label) c.loop-left.self.outcomes.pending) n)
+    c.loop-left.self) more))

@@ -1,0 +1,26 @@
+use Rattle.std.proofs.Common.{◌≡◌, ◌≤◌, length}
+use Rattle.gf_fraction.specs.Ratio.{IsFraction}
+use Rattle.gf_token.specs.Label.{label_of}
+use Rattle.std.proofs.Common.{ℕ, List}
+use Rattle.gf_tree.specs.Description.{set_of}
+use Rattle.gf_tree.specs.GameParts.{set_with}
+use Rattle.gf_tree.specs.Machine.Position.{NewSetName, NewAction}
+use Rattle.gf_tree.specs.ReaderState.{answer}
+use Rattle.gf_tree.proofs.reader.Reader.new_set.Given as goal
+
+abbrev pub invariant-loop-label : goal.invariant-loop-label
+invariant-loop-label l = record {
+  goes : (node : List ℕ) → answer (NewSetName node (set_of l.player l.number)) l.fn.self
+      ≡ answer (NewAction node (set_of l.player l.number)
+      (set_with (label_of l.name.label) l.self.sets.pending) l.sum)
+      l.self;
+  kept : l.self ≡ record l.fn.self {
+    tokens = l.self.tokens;
+    sets = record l.fn.self.sets { pending = l.self.sets.pending };
+  };
+  shorter : length l.self.tokens.ahead ≤ length l.fn.self.tokens.ahead;
+  fraction : IsFraction l.sum;
+}
+
+abbrev pub decreases-loop-label : goal.decreases-loop-label
+decreases-loop-label l = length l.self.tokens.ahead

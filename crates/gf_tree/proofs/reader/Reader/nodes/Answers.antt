@@ -1,0 +1,9 @@
+use Rattle.gf_tree.proofs.Telling.{read_one_more}
+use Rattle.gf_tree.proofs.reader.Reader.nodes.Goals as goal
+
+pub loop-self-preserved : goal.loop-self-preserved
+loop-self-preserved g c = record {
+  read = read_one_more c.loop-self.invariant.read c.in_ok-node.ensures.machine;
+  sound = c.in_ok-node.ensures.sound;
+  room = c.in_ok-node.ensures.room;
+}

@@ -1,0 +1,13 @@
+use Rattle.std.proofs.Common.{rules}
+use Rattle.gf_token.specs.Label.{label_of}
+use Rattle.gf_tree.proofs.ReaderSteps.{carried, fails_back}
+use Rattle.gf_tree.proofs.reader.Reader.personal_node.Goals as goal
+
+pub returns-in_err-player-clause-machine : goal.returns-in_err-player-clause-machine
+returns-in_err-player-clause-machine g c = fails_back {r = c.from_residual.result} _ (search rules)
+    (carried (c.in_err-player.ensures.machine (label_of c.in-Some.name.label)) (search rules))
+
+pub returns-in_err-place-clause-machine : goal.returns-in_err-place-clause-machine
+returns-in_err-place-clause-machine g c =
+    fails_back {r = c.from_residual-in_err-place.result} _ (search rules)
+    (carried (c.in_err-place.ensures.machine (label_of c.in-Some.name.label)) (search rules))

@@ -1,0 +1,13 @@
+use Rattle.std.proofs.Common.{rules}
+use Rattle.gf_token.specs.Label.{label_of}
+use Rattle.gf_tree.specs.Machine.{with_player}
+use Rattle.gf_tree.specs.Machine.Position.{InPlayers}
+use Rattle.gf_tree.specs.ReaderState.{content_of}
+use Rattle.gf_tree.proofs.ReaderSteps.{wants_memory}
+use Rattle.gf_tree.proofs.reader.Reader.players.Goals as goal
+
+pub returns-in_default-push-clause-machine : goal.returns-in_default-push-clause-machine
+returns-in_default-push-clause-machine c =
+    wants_memory c.in-Some-text.ensures.place c.at.ensures InPlayers
+    (with_player (content_of c.loop-player.self) (label_of c.in-Some-text.player.label))
+    (search rules)

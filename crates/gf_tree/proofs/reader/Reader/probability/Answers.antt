@@ -1,0 +1,16 @@
+use Rattle.std.proofs.Common.{Some, rules}
+use Rattle.gf_token.specs.Label.{label_of}
+use Rattle.gf_tree.specs.Description.{set_of}
+use Rattle.gf_tree.specs.GameParts.{set_with}
+use Rattle.gf_tree.specs.Machine.{with_action}
+use Rattle.gf_tree.specs.Machine.Position.{NewAction}
+use Rattle.gf_tree.specs.ReaderState.{content_of}
+use Rattle.gf_tree.proofs.ReaderSteps.{wants_memory}
+use Rattle.gf_tree.proofs.reader.Reader.probability.Goals as goal
+
+pub returns-in-Err-push-clause-machine : goal.returns-in-Err-push-clause-machine
+returns-in-Err-push-clause-machine c = λ node number name.
+    wants_memory c.in-Some.ensures.place c.at.ensures
+    (NewAction node (set_of 0 number) (with_action (set_with name c.args.self.now.sets.pending)
+    (label_of c.args.label) (Some c.in-Ok.share.probability)) c.in-Ok.share.sum)
+    (content_of c.args.self.now) (search rules)

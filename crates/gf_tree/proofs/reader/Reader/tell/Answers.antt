@@ -1,0 +1,39 @@
+use Rattle.std.proofs.Common.{◌≡◌, ◌+◌, ◌-◌, ◌++◌, ◌∷◌, [], ℕ, ap, arith, refl, rules, subst}
+use Rattle.gf_token.specs.Label.{label_of}
+use Rattle.gf_tree.specs.KeptNodes.{child_count, position_of}
+use Rattle.gf_tree.specs.ReaderState.{content_of}
+use Rattle.gf_tree.specs.Told.{Told}
+use Rattle.gf_tree.proofs.Telling.{told_goes}
+use Rattle.gf_tree.proofs.reader.Reader.tell.Goals as goal
+
+pub returns-clause-told : goal.returns-clause-told
+returns-clause-told g c =
+    let some = c.requires.due in
+    let children = c.children-children.ensures in
+    let due : c.args.self.now.due - 1 + c.children-children.result
+    ≡ child_count c.args.self.now.sets.known (position_of c.args.set) + (c.args.self.now.due - 1) =
+    omega (arith, some, children) in
+    record {
+      goes = told_goes c.args.self.now (record c.args.self.now {
+        due = c.args.self.now.due - 1 + c.children-children.result;
+        told_sets = c.max-self.result;
+        told_outcomes = c.max-self-2.result;
+      }) (record {
+        name = label_of c.args.name;
+        set = position_of c.args.set;
+        outcome = position_of c.args.outcome;
+      }) (ap (λ (n : ℕ). record (content_of c.args.self.now) { due = n }) due) refl refl refl;
+      kept = refl;
+      told = λ told holding. subst (λ (t : Told). g.R.Receive.holds c.node.new.self (told ++ t ∷ []))
+          (λ i. record {
+            node = record {
+              name = label_of c.args.name;
+              set = c.set_use.ensures i;
+              outcome = c.outcome_use.ensures i;
+            };
+            set = c.position.ensures i;
+            outcome = c.position-2.ensures i;
+          }) (c.in_ok-node.ensures told holding);
+      told_sets = search rules;
+      told_outcomes = search rules;
+    }

@@ -1,0 +1,14 @@
+use Rattle.std.proofs.Common.{◌∙◌, sym}
+use Rattle.std.specs.Prelude.{nat_eq}
+use Rattle.std.proofs.lemmas.Bool.Decides.{Decides-eqb}
+use Rattle.gf_tree.proofs.FoundKeys.{not_described}
+use Rattle.gf_tree.proofs.ReaderSteps.{found_outcome}
+use Rattle.gf_tree.proofs.reader.outcome.found.Goals as goal
+
+pub returns-in-Some-clause-known : goal.returns-in-Some-clause-known
+returns-in-Some-clause-known c = found_outcome c.args.outcomes.now.known c.args.number
+    c.in-Some.place (sym c.find.ensures ∙ c.in-Some.is)
+
+pub returns-in-None-clause-unknown : goal.returns-in-None-clause-unknown
+returns-in-None-clause-unknown c = not_described nat_eq Decides-eqb c.args.number
+    c.args.outcomes.now.known (sym c.find.ensures ∙ c.in-None.is)

@@ -1,0 +1,72 @@
+-- What a reader tells of the nodes of a file, one behind the other in prefix order.
+use Rattle.std.specs.Prelude.{ℕ, suc, ◌==◌, max, List, [], ◌∷◌, length, take, Some, None, Option}
+use Rattle.std.specs.Prelude.{option_map, if◌then◌else◌}
+use Rattle.gf_token.specs.Positions.{at_position}
+use Rattle.gf_tree.specs.Description.{InformationSet, Outcome, SetKey, set_of}
+use Rattle.gf_tree.specs.FileNodeOf.{file_node_of}
+use Rattle.gf_tree.specs.FileTree.{FileNode, Use}
+use Rattle.gf_tree.specs.FiniteMap.{Described}
+use Rattle.gf_tree.specs.KeptNodes.{Kept}
+use Rattle.gf_tree.specs.KnownSets.{known_of}
+use Rattle.gf_tree.specs.declared.receive.ToldNode.{ToldNode}
+
+-- A node by first-use numbers, which describes a set and an outcome where it is their first use;
+-- and the positions of its set and of its outcome in order of first use, or 0 where it has none.
+pub record Told : Type 0 where
+  pub node : FileNode
+  pub set : ℕ
+  pub outcome : ℕ
+
+abbrev pub told_of : ToldNode → Told
+told_of n = record { node = file_node_of n.node; set = n.set; outcome = n.outcome }
+
+abbrev pub kept_as : Told → Kept
+kept_as t = record { name = t.node.name; set = t.set; outcome = t.outcome }
+
+-- what is described where the position is the next one behind so many
+abbrev pub if_next : {D : Type 0} → ℕ → ℕ → D → Option D
+if_next known position d = if position == suc known then Some d else None
+
+-- the use of the set with this position, by its number among the sets of its player
+abbrev pub told_set : List (Described SetKey InformationSet) → ℕ → ℕ
+    → Option (Use SetKey InformationSet)
+told_set sets known position = option_map (λ s. record {
+  key = set_of s.key.player (length (known_of s.key.player (take position sets)));
+  description = if_next known position s.description;
+}) (at_position sets position)
+
+-- the use of the outcome with this position, which is its number
+abbrev pub told_outcome : List (Described ℕ Outcome) → ℕ → ℕ → Option (Use ℕ Outcome)
+told_outcome outcomes known position = option_map (λ o. record {
+  key = position;
+  description = if_next known position o.description;
+}) (at_position outcomes position)
+
+-- where so many sets and outcomes were used before it
+abbrev pub told_node : List (Described SetKey InformationSet) → List (Described ℕ Outcome)
+    → ℕ → ℕ → Kept → Told
+told_node sets outcomes known_sets known_outcomes n = record {
+  node = record {
+    name = n.name;
+    set = told_set sets known_sets n.set;
+    outcome = told_outcome outcomes known_outcomes n.outcome;
+  };
+  set = n.set;
+  outcome = n.outcome;
+}
+
+abbrev pub told_from : List (Described SetKey InformationSet) → List (Described ℕ Outcome)
+    → ℕ → ℕ → List Kept → List Told
+told_from sets outcomes known_sets known_outcomes [] = []
+told_from sets outcomes known_sets known_outcomes (n ∷ ns) =
+    told_node sets outcomes known_sets known_outcomes n
+    ∷ told_from sets outcomes (max known_sets n.set) (max known_outcomes n.outcome) ns
+
+-- so many positions are used at these nodes, as each is first used in its turn
+abbrev pub used_sets_from : ℕ → List Kept → ℕ
+used_sets_from known [] = known
+used_sets_from known (n ∷ ns) = used_sets_from (max known n.set) ns
+
+abbrev pub used_outcomes_from : ℕ → List Kept → ℕ
+used_outcomes_from known [] = known
+used_outcomes_from known (n ∷ ns) = used_outcomes_from (max known n.outcome) ns

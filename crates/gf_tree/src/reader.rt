@@ -1,0 +1,102 @@
+//! The reader of extensive files, which asks for the token that is due (Gambit documentation, "Game
+//! representation formats").
+
+ghost use Rattle.std.specs.Prelude.{◌≡◌, ◌<◌, ◌≤◌, ◌∷◌, [], ℕ, List, Ok, length, OnOk, MatchResult};
+ghost use Rattle.gf_token.specs.TokenSpelling.{Spells};
+ghost use Rattle.gf_token.specs.Token.{Lexeme};
+ghost use Rattle.gf_tree.specs.Machine.{nothing, run};
+ghost use Rattle.gf_tree.specs.Machine.Position.{Format, NodeDue};
+ghost use Rattle.gf_tree.specs.ReadGame.{game_of};
+ghost use Rattle.gf_tree.specs.KeptNodes.{ArePlaced};
+ghost use Rattle.gf_tree.specs.ReaderState.{answer, content_of, content_with, Goes, HasRoom, IsSound};
+
+mod heading;
+mod nodes;
+mod outcome;
+mod set;
+mod telling;
+
+use crate::game::Game;
+use crate::kept::NodeList;
+use crate::outcomes::Outcomes;
+use crate::seeded::Seeded;
+use crate::sets::Sets;
+use gf_token::{Fault, Label, Tokens};
+use std::alloc::Global;
+
+/// Reads an extensive file.
+#[derive(Drop)]
+pub(crate) struct Reader<'a> {
+    tokens: Tokens<'a>,
+    title: Label<'a>,
+    comment: Label<'a>,
+    players: Vec<Label<'a>>,
+    sets: Sets<'a>,
+    outcomes: Outcomes<'a>,
+    /// How many nodes are still to come.
+    due: u128,
+    /// How many sets and outcomes the nodes use that were told.
+    told_sets: u32,
+    told_outcomes: u32,
+}
+
+impl<'a> Reader<'a> {
+    /// A reader before the first token of the input.
+    pub(crate) fn new(alloc: Global, input: &'a [u8]) -> Reader<'a>
+        ensures content { content_of result ≡ nothing }
+        ensures input { result.tokens.input ≡ input.entry.now }
+        ensures spelled { Spells 0 input.entry.now result.tokens.ahead }
+        ensures sound { IsSound result }
+        ensures due { result.due ≡ 1 }
+        ensures room { HasRoom 0 result }
+        ensures untold { (result.told_sets ≡ 0) × (result.told_outcomes ≡ 0) }
+    {
+        let empty = Label::new(&[]).unwrap();
+        let hasher = Seeded::of(input);
+        Reader {
+            tokens: Tokens::new(input),
+            title: empty,
+            comment: empty,
+            players: Vec::new(alloc),
+            sets: Sets::new(alloc, hasher),
+            outcomes: Outcomes::new(alloc, hasher),
+            due: 1,
+            told_sets: 0,
+            told_outcomes: 0,
+        }
+    }
+
+    /// Reads the heading: all that stands before the first node.
+    pub(crate) fn begin(&mut self) -> Result<(), Fault>
+        requires due { self.old.due ≡ 1 }
+        requires sound { IsSound self.old }
+        requires room { HasRoom 0 self.old }
+        ensures machine { Goes (answer Format self.old) result (answer NodeDue self.new) }
+        ensures sound { OnOk result (IsSound self.new) }
+        ensures room { OnOk result (HasRoom 0 self.new) }
+        ensures untold { OnOk result ((self.new.told_sets ≡ self.old.told_sets)
+            × (self.new.told_outcomes ≡ self.old.told_outcomes)) }
+    {
+        self.heading()?;
+        self.players()?;
+        self.comment();
+        Ok(())
+    }
+
+    /// The game of the file, which was read to its end, and whose nodes these are.
+    pub(crate) fn into_game(self, nodes: NodeList<'a>) -> Game<'a>
+        requires placed { ArePlaced (length self.sets.known) (length self.outcomes.known) nodes }
+        requires read { (bytes : List ℕ) × (tokens : List Lexeme) × Spells 0 bytes tokens
+            × (run (length bytes) Format nothing tokens ≡ Ok (content_with self nodes)) }
+        ensures { result ≡ game_of (content_with self.entry nodes.entry) }
+    {
+        Game::new(
+            self.title,
+            self.comment,
+            self.players,
+            self.sets,
+            self.outcomes,
+            nodes,
+        )
+    }
+}

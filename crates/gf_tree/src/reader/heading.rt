@@ -1,0 +1,64 @@
+//! The heading of an extensive file: its format, title and players, and the comment.
+
+ghost use Rattle.std.specs.Prelude.{◌≡◌, ◌≤◌, ◌∷◌, length, OnOk};
+ghost use Rattle.gf_tree.specs.Machine.Position.{AfterPlayers, BeforePlayers, Format};
+ghost use Rattle.gf_tree.specs.Machine.Position.{NodeDue};
+ghost use Rattle.gf_tree.specs.ReaderState.{answer, Goes, IsSound};
+
+use super::Reader;
+use gf_token::{Fault, What, Why};
+
+impl<'a> Reader<'a> {
+    /// Reads all that stands before the players.
+    pub(super) fn heading(&mut self) -> Result<(), Fault>
+        ensures machine { Goes (answer Format self.old) result (answer BeforePlayers self.new) }
+        ensures kept { OnOk result (self.new
+            ≡ record self.old { tokens = self.new.tokens; title = self.new.title }) }
+        ensures shorter { OnOk result (length self.new.tokens.ahead ≤ length self.old.tokens.ahead) }
+    {
+        self.tokens.word(b"EFG", What::Format)?;
+        self.tokens.word(b"2", What::Version)?;
+        self.tokens.letter()?;
+        let Some(title) = self.tokens.text() else {
+            return Err(self.tokens.refusal(Why::Expected(What::Text)));
+        };
+        self.title = title.label;
+        Ok(())
+    }
+
+    /// Reads the players.
+    #[tactic(auto, using(std::proofs::lemmas::List::map_push))]
+    pub(super) fn players(&mut self) -> Result<(), Fault>
+        ensures machine { Goes (answer BeforePlayers self.old) result
+            (answer AfterPlayers self.new) }
+        ensures kept { OnOk result (self.new
+            ≡ record self.old { tokens = self.new.tokens; players = self.new.players }) }
+        ensures shorter { OnOk result (length self.new.tokens.ahead ≤ length self.old.tokens.ahead) }
+    {
+        let Some(_) = self.tokens.opening() else {
+            return Err(self.tokens.refusal(Why::Expected(What::Opening)));
+        };
+        while let Some(player) = self.tokens.text() {
+            let Ok(()) = self.players.push(player.label) else {
+                return Err(Fault::at(player.span, Why::Memory));
+            };
+        }
+        let Some(_) = self.tokens.closing() else {
+            return Err(self.tokens.refusal(Why::Expected(What::Text)));
+        };
+        Ok(())
+    }
+
+    /// Reads the comment, if there is one.
+    pub(super) fn comment(&mut self)
+        requires { self.old.due ≡ 1 }
+        ensures machine { answer AfterPlayers self.old ≡ answer NodeDue self.new }
+        ensures kept { self.new
+            ≡ record self.old { tokens = self.new.tokens; comment = self.new.comment } }
+        ensures shorter { length self.new.tokens.ahead ≤ length self.old.tokens.ahead }
+    {
+        if let Some(comment) = self.tokens.text() {
+            self.comment = comment.label;
+        }
+    }
+}

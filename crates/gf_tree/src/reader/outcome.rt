@@ -1,0 +1,210 @@
+//! The outcome of a node, with which the node is whole.
+
+ghost use Rattle.std.specs.Prelude.{◌≡◌, ◌<◌, ◌≤◌, suc, ℕ, List, Some, None, length};
+ghost use Rattle.std.specs.Prelude.{map, nat_eq, option_map, position, slice_get};
+ghost use Rattle.std.specs.Prelude.{IfNone, IfOk, IfSome, OnOk, MatchOption, ⊤};
+ghost use Rattle.gf_token.specs.Label.{label_of};
+ghost use Rattle.gf_token.specs.Positions.{at_position};
+ghost use Rattle.gf_tree.specs.Description.{Outcome};
+ghost use Rattle.gf_tree.specs.FiniteMap.{description_at};
+ghost use Rattle.gf_tree.specs.FoundSet.{FoundOutcome};
+ghost use Rattle.gf_tree.specs.GameParts.{outcome_with};
+ghost use Rattle.gf_tree.specs.KeptNodes.{position_of};
+ghost use Rattle.gf_tree.specs.Machine.{Begun, with_outcome};
+ghost use Rattle.gf_tree.specs.Machine.Position.{KnownOutcomeName, NewOutcomeName};
+ghost use Rattle.gf_tree.specs.Machine.Position.{NewPayoff, NodeDue, OutcomeNumber};
+ghost use Rattle.gf_tree.specs.ReaderState.{answer, begun_with, content_of, Goes};
+ghost use Rattle.gf_tree.specs.ReaderState.{GoesTelling, Grows, HasRoom, IsSound};
+
+use super::Reader;
+use crate::again::same_outcome;
+use crate::outcomes::Outcomes;
+use crate::readings;
+use crate::receive::Receive;
+use gf_token::{Fault, Label, What, Why};
+use std::alloc::AllocError;
+
+/// The place of an outcome, where it is known.
+fn found(outcomes: &Outcomes<'_>, number: u32) -> Option<u32>
+    ensures absent { IfNone result (position (nat_eq number) (map (λ o. o.key) outcomes.now.known)
+        ≡ None) }
+    ensures unknown { IfNone result (description_at nat_eq outcomes.now.known number ≡ None) }
+    ensures known { IfSome result (λ place. FoundOutcome outcomes.now.known number place) }
+{
+    match outcomes.find(number) {
+        Some(place) => Some(place),
+        None => None,
+    }
+}
+
+impl<'a> Reader<'a> {
+    /// The description of an outcome, which was not known, is complete. Answers its place.
+    fn keep_outcome(&mut self, number: u32, name: Label<'a>) -> Result<u32, AllocError>
+        requires absent { position (nat_eq number) (map (λ o. o.key) self.old.outcomes.known)
+            ≡ None }
+        requires sound { IsSound self.old }
+        ensures content { OnOk result (content_of self.new ≡ with_outcome (content_of self.old)
+            number (outcome_with (label_of name.entry) self.old.outcomes.pending)) }
+        ensures kept { self.new ≡ record self.old { outcomes = self.new.outcomes } }
+        ensures grows { OnOk result (Grows self.old.outcomes.known self.new.outcomes.known) }
+        ensures key { IfOk result (λ place. option_map (λ o. o.key)
+            (at_position self.new.outcomes.known (suc place)) ≡ Some number) }
+        ensures sound { OnOk result (IsSound self.new) }
+        ensures place { IfOk result (λ place. place < length self.new.outcomes.known) }
+    {
+        self.outcomes.end(number, name)
+    }
+
+    /// Reads a payoff of a new outcome, and one comma if there is one.
+    fn payoff(&mut self) -> Result<(), Fault>
+        ensures machine { (b : Begun) (number : ℕ) (name : List ℕ) (left : ℕ) → Goes
+            (answer (NewPayoff b number (outcome_with name self.old.outcomes.pending) (suc left))
+            self.old) result
+            (answer (NewPayoff b number (outcome_with name self.new.outcomes.pending) left)
+            self.new) }
+        ensures kept { OnOk result (self.new ≡ record self.old {
+          tokens = self.new.tokens;
+          outcomes = record self.old.outcomes { pending = self.new.outcomes.pending };
+        }) }
+        ensures shorter { OnOk result (length self.new.tokens.ahead ≤ length self.old.tokens.ahead) }
+    {
+        let Some(word) = self.tokens.bare() else {
+            return Err(self.tokens.refusal(Why::Expected(What::Number)));
+        };
+        match readings::number(word.bytes) {
+            Ok(payoff) => {
+                let Ok(()) = self.outcomes.push(payoff) else {
+                    return Err(Fault::at(word.span, Why::Memory));
+                };
+                self.tokens.comma();
+                Ok(())
+            }
+            Err(cause) => Err(Fault::at(word.span, Why::from(cause))),
+        }
+    }
+
+    /// Reads the closing brace of a new outcome, with which its node is whole.
+    fn end_outcome<R: Receive<'a>>(
+        &mut self,
+        node: Label<'a>,
+        set: Option<u32>,
+        number: u32,
+        name: Label<'a>,
+        to: &mut R,
+    ) -> Result<(), Fault>
+        requires absent { position (nat_eq number) (map (λ o. o.key) self.old.outcomes.known)
+            ≡ None }
+        requires sound { IsSound self.old }
+        requires due { 0 < self.old.due }
+        requires room { HasRoom 1 self.old }
+        requires set { MatchOption set ⊤ (λ place. place < length self.old.sets.known) }
+        ensures machine { GoesTelling R.holds result (answer
+            (NewPayoff (begun_with self.old.sets.known (label_of node.entry) (position_of set))
+            number (outcome_with (label_of name.entry) self.old.outcomes.pending) 0) self.old)
+            self.old self.new to.old to.new }
+        ensures sound { OnOk result (IsSound self.new) }
+        ensures room { OnOk result (HasRoom 0 self.new) }
+        ensures shorter { OnOk result (length self.new.tokens.ahead ≤ length self.old.tokens.ahead) }
+    {
+        let Some(brace) = self.tokens.closing() else {
+            return Err(self.tokens.refusal(Why::Expected(What::Closing)));
+        };
+        let Ok(place) = self.keep_outcome(number, name) else {
+            return Err(Fault::at(brace, Why::Memory));
+        };
+        let Ok(()) = self.tell(node, set, Some(place), to) else {
+            return Err(Fault::at(brace, Why::Memory));
+        };
+        Ok(())
+    }
+
+    /// Reads the first description of an outcome, which is not known, with which its node is whole.
+    fn new_outcome<R: Receive<'a>>(
+        &mut self,
+        node: Label<'a>,
+        set: Option<u32>,
+        number: u32,
+        to: &mut R,
+    ) -> Result<(), Fault>
+        requires absent { position (nat_eq number) (map (λ o. o.key) self.old.outcomes.known)
+            ≡ None }
+        requires sound { IsSound self.old }
+        requires due { 0 < self.old.due }
+        requires room { HasRoom 1 self.old }
+        requires set { MatchOption set ⊤ (λ place. place < length self.old.sets.known) }
+        ensures machine { GoesTelling R.holds result (answer (NewOutcomeName
+            (begun_with self.old.sets.known (label_of node.entry) (position_of set)) number)
+            self.old) self.old self.new to.old to.new }
+        ensures sound { OnOk result (IsSound self.new) }
+        ensures room { OnOk result (HasRoom 0 self.new) }
+        ensures shorter { OnOk result (length self.new.tokens.ahead ≤ length self.old.tokens.ahead) }
+    {
+        let Some(name) = self.tokens.text() else {
+            return Err(self.tokens.refusal(Why::NotDescribed));
+        };
+        let Some(_) = self.tokens.opening() else {
+            return Err(self.tokens.refusal(Why::Expected(What::Opening)));
+        };
+        self.outcomes.begin();
+        let mut left = self.players.len();
+        while left > 0 {
+            self.payoff()?;
+            left -= 1;
+        }
+        self.end_outcome(node, set, number, name.label, to)
+    }
+
+    /// Reads the description of a known outcome, if there is one, behind its node.
+    fn outcome_again(&mut self, place: u32) -> Result<(), Fault>
+        requires place { place < length self.old.outcomes.known }
+        ensures machine { (outcome : Outcome)
+            → option_map (λ o. o.description) (slice_get self.old.outcomes.known place)
+            ≡ Some outcome
+            → Goes (answer (KnownOutcomeName outcome) self.old) result (answer NodeDue self.new) }
+        ensures kept { self.new ≡ record self.old { tokens = self.new.tokens } }
+        ensures shorter { OnOk result (length self.new.tokens.ahead ≤ length self.old.tokens.ahead) }
+    {
+        let (name, payoffs) = (self.outcomes.name(place), self.outcomes.payoffs(place));
+        same_outcome(&mut self.tokens, name, payoffs)
+    }
+
+    /// Reads the number of a node's outcome, or 0 for none, and the outcome's description, if there
+    /// is one. With it the node is whole.
+    pub(super) fn outcome<R: Receive<'a>>(
+        &mut self,
+        node: Label<'a>,
+        set: Option<u32>,
+        to: &mut R,
+    ) -> Result<(), Fault>
+        requires sound { IsSound self.old }
+        requires due { 0 < self.old.due }
+        requires room { HasRoom 1 self.old }
+        requires set { MatchOption set ⊤ (λ place. place < length self.old.sets.known) }
+        ensures machine { GoesTelling R.holds result (answer (OutcomeNumber
+            (begun_with self.old.sets.known (label_of node.entry) (position_of set))) self.old)
+            self.old self.new to.old to.new }
+        ensures sound { OnOk result (IsSound self.new) }
+        ensures room { OnOk result (HasRoom 0 self.new) }
+        ensures shorter { OnOk result (length self.new.tokens.ahead ≤ length self.old.tokens.ahead) }
+    {
+        let Some(word) = self.tokens.bare() else {
+            return Err(self.tokens.refusal(Why::Expected(What::Index)));
+        };
+        let Some(number) = readings::index(word.bytes) else {
+            return Err(Fault::at(word.span, Why::BadIndex));
+        };
+        if number == 0 {
+            let Ok(()) = self.tell(node, set, None, to) else {
+                return Err(Fault::at(word.span, Why::Memory));
+            };
+            return Ok(());
+        }
+        let Some(place) = found(&self.outcomes, number) else {
+            return self.new_outcome(node, set, number, to);
+        };
+        let Ok(()) = self.tell(node, set, Some(place), to) else {
+            return Err(Fault::at(word.span, Why::Memory));
+        };
+        self.outcome_again(place)
+    }
+}

@@ -1,0 +1,243 @@
+//! The information set of a node.
+
+ghost use Rattle.std.specs.Prelude.{◌≡◌, ◌<◌, ◌≤◌, ◌∷◌, suc, false, ℕ, List, None, map};
+ghost use Rattle.std.specs.Prelude.{length, position, IfOk, IfNone, IfSome, OnOk, MatchResult};
+ghost use Rattle.gf_fraction.specs.Ratio.{IsFraction};
+ghost use Rattle.gf_token.specs.Label.{label_of};
+ghost use Rattle.gf_token.specs.Remaining.{StandsBefore};
+ghost use Rattle.gf_token.specs.Next.{starts, is_text_token};
+ghost use Rattle.gf_tree.specs.Actions.{actions_of};
+ghost use Rattle.gf_tree.specs.AddsUp.{adds_up};
+ghost use Rattle.gf_tree.specs.Description.{same_set, set_of};
+ghost use Rattle.gf_tree.specs.FiniteMap.{description_at};
+ghost use Rattle.gf_tree.specs.FoundSet.{FoundSet};
+ghost use Rattle.gf_tree.specs.GameParts.{set_with};
+ghost use Rattle.gf_tree.specs.Machine.{begun, with_set};
+ghost use Rattle.gf_tree.specs.Machine.Position.{NewAction, NewProbability};
+ghost use Rattle.gf_tree.specs.Machine.Position.{NewSetName, OutcomeNumber, SetNumber};
+ghost use Rattle.gf_tree.specs.ReaderState.{answer, begun_with, behind_label, content_of};
+ghost use Rattle.gf_tree.specs.ReaderState.{Fails, Grows, heard, IsSound};
+
+use super::Reader;
+use crate::action::Action;
+use crate::again::same_set;
+use crate::readings;
+use crate::sets::Sets;
+use gf_fraction::Fraction;
+use gf_token::{Fault, Label, TextToken, What, Why};
+use std::alloc::AllocError;
+
+/// A set that is known: its place, its name and its actions.
+#[derive(Drop)]
+struct KnownSet<'s, 'a> {
+    place: u32,
+    name: Label<'a>,
+    actions: &'s [Action<'a>],
+}
+
+/// The set with this key, where it is known.
+fn described<'s, 'a>(sets: &'s Sets<'a>, player: u32, number: u32) -> Option<KnownSet<'s, 'a>>
+    ensures absent { IfNone result (position (same_set (set_of player number))
+        (map (λ s. s.key) sets.now.known) ≡ None) }
+    ensures unknown { IfNone result
+        (description_at same_set sets.now.known (set_of player number) ≡ None) }
+    ensures known { IfSome result (λ set. FoundSet sets.now.known (set_of player number) set.place
+        (set_with (label_of set.name) (actions_of set.actions.now))) }
+{
+    let place = sets.find(player, number)?;
+    Some(KnownSet {
+        place,
+        name: sets.name(place),
+        actions: sets.actions(place),
+    })
+}
+
+/// Whether the actions of a set may end whose probabilities have this sum; a player's have none.
+fn adds_up(player: u32, sum: Fraction) -> bool
+    ensures { result ≡ adds_up player sum }
+{
+    player != 0 || sum == Fraction::one()
+}
+
+impl<'a> Reader<'a> {
+    /// Reads the probability of an action, and answers the sum through it.
+    fn probability(&mut self, label: Label<'a>, sum: Fraction) -> Result<Fraction, Fault>
+        requires { IsFraction sum }
+        ensures machine { (node : List ℕ) (number : ℕ) (name : List ℕ) → MatchResult result
+            (λ through. answer (NewProbability node (set_of 0 number)
+            (set_with name self.old.sets.pending) sum (label_of label.entry)) self.old
+            ≡ answer (NewAction node (set_of 0 number)
+            (set_with name self.new.sets.pending) through) self.new)
+            (λ f. Fails f (answer (NewProbability node (set_of 0 number)
+            (set_with name self.old.sets.pending) sum (label_of label.entry)) self.old)) }
+        ensures fraction { IfOk result IsFraction }
+        ensures kept { OnOk result (self.new ≡ record self.old {
+          tokens = self.new.tokens;
+          sets = record self.old.sets { pending = self.new.sets.pending };
+        }) }
+        ensures shorter { OnOk result (length self.new.tokens.ahead ≤ length self.old.tokens.ahead) }
+    {
+        let Some(word) = self.tokens.bare() else {
+            return Err(self.tokens.refusal(Why::Expected(What::Number)));
+        };
+        match readings::next_share(sum, word.bytes) {
+            Ok(share) => match self.sets.push(label, Some(share.probability)) {
+                Ok(()) => Ok(share.sum),
+                Err(_) => Err(Fault::at(word.span, Why::Memory)),
+            },
+            Err(why) => Err(Fault::at(word.span, why)),
+        }
+    }
+    /// Reads what follows the label of an action of a new set, which of chance is a probability.
+    /// Answers the sum of the probabilities through this action.
+    fn action(
+        &mut self,
+        player: u32,
+        label: TextToken<'a>,
+        sum: Fraction,
+    ) -> Result<Fraction, Fault>
+        requires fraction { IsFraction sum }
+        requires place { StandsBefore self.old.tokens label.span }
+        ensures machine { (node : List ℕ) (number : ℕ) (name : List ℕ) → MatchResult result
+            (λ through. heard (NewAction node (set_of player number)
+            (set_with name self.old.sets.pending) sum) (content_of self.old)
+            (behind_label self.old.tokens label.entry)
+            ≡ answer (NewAction node (set_of player number)
+            (set_with name self.new.sets.pending) through) self.new)
+            (λ f. Fails f (heard (NewAction node (set_of player number)
+            (set_with name self.old.sets.pending) sum) (content_of self.old)
+            (behind_label self.old.tokens label.entry))) }
+        ensures fraction { IfOk result IsFraction }
+        ensures kept { OnOk result (self.new ≡ record self.old {
+          tokens = self.new.tokens;
+          sets = record self.old.sets { pending = self.new.sets.pending };
+        }) }
+        ensures shorter { OnOk result (length self.new.tokens.ahead ≤ length self.old.tokens.ahead) }
+    {
+        if player == 0 {
+            return self.probability(label.label, sum);
+        }
+        match self.sets.push(label.label, None) {
+            Ok(()) => Ok(sum),
+            Err(_) => Err(Fault::at(label.span, Why::Memory)),
+        }
+    }
+
+    /// The description of a set, which was not known, is complete. Answers the set's place.
+    fn keep_set(&mut self, player: u32, number: u32, name: Label<'a>) -> Result<u32, AllocError>
+        requires absent { position (same_set (set_of player number))
+            (map (λ s. s.key) self.old.sets.known) ≡ None }
+        requires sound { IsSound self.old }
+        ensures content { OnOk result (content_of self.new ≡ with_set (content_of self.old)
+            (set_of player number) (set_with (label_of name.entry) self.old.sets.pending)) }
+        ensures kept { self.new ≡ record self.old { sets = self.new.sets } }
+        ensures grows { OnOk result (Grows self.old.sets.known self.new.sets.known) }
+        ensures begins { (node : List ℕ) → IfOk result (λ place.
+            begun_with self.new.sets.known node (suc place) ≡ begun node (set_of player number)
+            (set_with (label_of name.entry) self.old.sets.pending)) }
+        ensures sound { OnOk result (IsSound self.new) }
+        ensures place { IfOk result (λ place. place < length self.new.sets.known) }
+    {
+        self.sets.end(player, number, name)
+    }
+
+    /// Reads the closing brace of the actions of a set, which is not known, and answers the set's
+    /// place.
+    #[tactic(auto, using(crate::proofs::ReaderSteps::set_ends_by))]
+    fn end_set(
+        &mut self,
+        player: u32,
+        number: u32,
+        name: Label<'a>,
+        sum: Fraction,
+    ) -> Result<u32, Fault>
+        requires absent { position (same_set (set_of player number))
+            (map (λ s. s.key) self.old.sets.known) ≡ None }
+        requires sound { IsSound self.old }
+        requires behind { starts is_text_token self.old.tokens.ahead ≡ false }
+        ensures machine { (node : List ℕ) → MatchResult result
+            (λ place. answer (NewAction node (set_of player number)
+            (set_with (label_of name.entry) self.old.sets.pending) sum) self.old
+            ≡ answer (OutcomeNumber (begun_with self.new.sets.known node (suc place))) self.new)
+            (λ f. Fails f (answer (NewAction node (set_of player number)
+            (set_with (label_of name.entry) self.old.sets.pending) sum) self.old)) }
+        ensures sound { OnOk result (IsSound self.new) }
+        ensures kept { OnOk result (self.new
+            ≡ record self.old { tokens = self.new.tokens; sets = self.new.sets }) }
+        ensures grows { OnOk result (Grows self.old.sets.known self.new.sets.known) }
+        ensures place { IfOk result (λ place. place < length self.new.sets.known) }
+        ensures shorter { OnOk result (length self.new.tokens.ahead ≤ length self.old.tokens.ahead) }
+    {
+        let Some(brace) = self.tokens.closing() else {
+            return Err(self.tokens.refusal(Why::Expected(What::Text)));
+        };
+        if self.sets.pending().is_empty() {
+            return Err(Fault::at(brace, Why::NoEntry));
+        }
+        if !adds_up(player, sum) {
+            return Err(Fault::at(brace, Why::SumBelowOne));
+        }
+        match self.keep_set(player, number, name) {
+            Ok(place) => Ok(place),
+            Err(_) => Err(Fault::at(brace, Why::Memory)),
+        }
+    }
+
+    /// Reads the first description of a set, which is not known, and answers the set's place.
+    fn new_set(&mut self, player: u32, number: u32) -> Result<u32, Fault>
+        requires absent { position (same_set (set_of player number))
+            (map (λ s. s.key) self.old.sets.known) ≡ None }
+        requires sound { IsSound self.old }
+        ensures machine { (node : List ℕ) → MatchResult result
+            (λ place. answer (NewSetName node (set_of player number)) self.old
+            ≡ answer (OutcomeNumber (begun_with self.new.sets.known node (suc place))) self.new)
+            (λ f. Fails f (answer (NewSetName node (set_of player number)) self.old)) }
+        ensures sound { OnOk result (IsSound self.new) }
+        ensures kept { OnOk result (self.new
+            ≡ record self.old { tokens = self.new.tokens; sets = self.new.sets }) }
+        ensures grows { OnOk result (Grows self.old.sets.known self.new.sets.known) }
+        ensures place { IfOk result (λ place. place < length self.new.sets.known) }
+        ensures shorter { OnOk result (length self.new.tokens.ahead ≤ length self.old.tokens.ahead) }
+    {
+        let Some(name) = self.tokens.text() else {
+            return Err(self.tokens.refusal(Why::NotDescribed));
+        };
+        let Some(_) = self.tokens.opening() else {
+            return Err(self.tokens.refusal(Why::Expected(What::Opening)));
+        };
+        self.sets.begin();
+        let mut sum = Fraction::zero();
+        while let Some(label) = self.tokens.text() {
+            sum = self.action(player, label, sum)?;
+        }
+        self.end_set(player, number, name.label, sum)
+    }
+
+    /// Reads the number of a player's set, chance being player 0, and its description, if there is
+    /// one. Answers the set's place.
+    pub(super) fn set(&mut self, player: u32) -> Result<u32, Fault>
+        requires sound { IsSound self.old }
+        ensures machine { (node : List ℕ) → MatchResult result
+            (λ place. answer (SetNumber node player) self.old
+            ≡ answer (OutcomeNumber (begun_with self.new.sets.known node (suc place))) self.new)
+            (λ f. Fails f (answer (SetNumber node player) self.old)) }
+        ensures sound { OnOk result (IsSound self.new) }
+        ensures kept { OnOk result (self.new
+            ≡ record self.old { tokens = self.new.tokens; sets = self.new.sets }) }
+        ensures grows { OnOk result (Grows self.old.sets.known self.new.sets.known) }
+        ensures place { IfOk result (λ place. place < length self.new.sets.known) }
+        ensures shorter { OnOk result (length self.new.tokens.ahead ≤ length self.old.tokens.ahead) }
+    {
+        let Some(word) = self.tokens.bare() else {
+            return Err(self.tokens.refusal(Why::Expected(What::Index)));
+        };
+        let Some(number) = readings::count(word.bytes) else {
+            return Err(Fault::at(word.span, Why::BadIndex));
+        };
+        let Some(set) = described(&self.sets, player, number) else {
+            return self.new_set(player, number);
+        };
+        same_set(&mut self.tokens, set.name, set.actions)?;
+        Ok(set.place)
+    }
+}

@@ -1,0 +1,117 @@
+//! What the reader tells of a node: its uses by first-use numbers, described where they are first.
+
+ghost use Rattle.std.specs.Prelude.{◌≡◌, ◌<◌, length};
+ghost use Rattle.std.specs.Prelude.{option_map, MatchOption, OnOk, ⊤};
+ghost use Rattle.gf_token.specs.Label.{label_of};
+ghost use Rattle.gf_tree.specs.FileNodeOf.{outcome_use_of, set_use_of};
+ghost use Rattle.gf_tree.specs.KeptNodes.{child_count, position_of};
+ghost use Rattle.gf_tree.specs.ReaderState.{HasRoom, IsSound, TellsNode};
+ghost use Rattle.gf_tree.specs.Told.{told_outcome, told_set};
+
+use super::Reader;
+use crate::file_node::{FileNode, OutcomeDescription, OutcomeUse, SetDescription, SetUse};
+use crate::kept::position;
+use crate::outcomes::Outcomes;
+use crate::receive::{Receive, ToldNode};
+use crate::sets::Sets;
+use gf_token::Label;
+use std::alloc::AllocError;
+
+/// The use of the set with this place, where so many were used before.
+fn set_use<'s, 'a>(sets: &'s Sets<'a>, used: u32, place: Option<u32>) -> Option<SetUse<'s, 'a>>
+    requires { MatchOption place ⊤ (λ p. p < length sets.now.known) }
+    ensures { option_map set_use_of result ≡ told_set sets.now.known used (position_of place) }
+{
+    let place = place?;
+    let (player, _) = sets.key(place);
+    let description = if place == used {
+        Some(SetDescription {
+            name: sets.name(place),
+            actions: sets.actions(place),
+        })
+    } else {
+        None
+    };
+    Some(SetUse {
+        player,
+        number: sets.first_use_number(place),
+        description,
+    })
+}
+
+/// The use of the outcome with this place, where so many were used before.
+fn outcome_use<'o, 'a>(
+    outcomes: &'o Outcomes<'a>,
+    used: u32,
+    place: Option<u32>,
+) -> Option<OutcomeUse<'o, 'a>>
+    requires within { MatchOption place ⊤ (λ p. p < length outcomes.now.known) }
+    requires few { MatchOption place ⊤ (λ p. p < 4294967295) }
+    ensures { option_map outcome_use_of result
+        ≡ told_outcome outcomes.now.known used (position_of place) }
+{
+    let place = place?;
+    let description = if place == used {
+        Some(OutcomeDescription {
+            name: outcomes.name(place),
+            payoffs: outcomes.payoffs(place),
+        })
+    } else {
+        None
+    };
+    Some(OutcomeUse {
+        number: place + 1,
+        description,
+    })
+}
+
+impl<'a> Reader<'a> {
+    /// How many children a node has whose set has this place, where it has one.
+    fn children(&self, set: Option<u32>) -> usize
+        requires { MatchOption set ⊤ (λ place. place < length self.now.sets.known) }
+        ensures { result ≡ child_count self.now.sets.known (position_of set) }
+    {
+        match set {
+            Some(place) => self.sets.actions(place).len(),
+            None => 0,
+        }
+    }
+
+    /// Tells a node with the places of its set and of its outcome, where it has them. Its children
+    /// are due.
+    pub(super) fn tell<R: Receive<'a>>(
+        &mut self,
+        name: Label<'a>,
+        set: Option<u32>,
+        outcome: Option<u32>,
+        to: &mut R,
+    ) -> Result<(), AllocError>
+        requires sound { IsSound self.old }
+        requires due { 0 < self.old.due }
+        requires room { HasRoom 1 self.old }
+        requires set { MatchOption set ⊤ (λ place. place < length self.old.sets.known) }
+        requires outcome { MatchOption outcome ⊤ (λ place. place < length self.old.outcomes.known) }
+        ensures told { OnOk result (TellsNode R.holds self.old self.new to.old to.new (record {
+          name = label_of name.entry;
+          set = position_of set;
+          outcome = position_of outcome;
+        })) }
+        ensures room { OnOk result (HasRoom 0 self.new) }
+    {
+        let children = self.children(set);
+        let node = ToldNode {
+            node: FileNode {
+                name,
+                set: set_use(&self.sets, self.told_sets, set),
+                outcome: outcome_use(&self.outcomes, self.told_outcomes, outcome),
+            },
+            set: position(set),
+            outcome: position(outcome),
+        };
+        to.node(node)?;
+        self.told_sets = self.told_sets.max(node.set);
+        self.told_outcomes = self.told_outcomes.max(node.outcome);
+        self.due = self.due - 1 + children as u128;
+        Ok(())
+    }
+}

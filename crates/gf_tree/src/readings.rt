@@ -1,0 +1,78 @@
+//! What bare tokens are read as: numbers of players, sets and outcomes, payoffs and probabilities.
+
+ghost use Rattle.std.specs.Prelude.{◌≡◌, IfOk, IfSome};
+ghost use Rattle.gf_fraction.specs.Ratio.{IsFraction};
+ghost use Rattle.gf_fraction.specs.Computed.{number_of, sum_of};
+ghost use Rattle.gf_token.specs.Indices.{count_of, index_of};
+ghost use Rattle.gf_tree.specs.Probability.{share_of};
+ghost use Rattle.gf_tree.specs.Shares.{shared};
+
+use gf_fraction::{Fraction, NumberFault};
+use gf_token::{Why, read_index};
+
+/// The index that a bare token is.
+pub(crate) fn index(text: &[u8]) -> Option<u32>
+    ensures { result ≡ index_of text.now }
+{
+    match read_index(text) {
+        Ok(index) => Some(index),
+        Err(_) => None,
+    }
+}
+
+/// The count that a bare token is: an index above zero.
+pub(crate) fn count(text: &[u8]) -> Option<u32>
+    ensures { result ≡ count_of text.now }
+{
+    match index(text) {
+        Some(count) if count > 0 => Some(count),
+        _ => None,
+    }
+}
+
+/// The number that a bare token spells.
+pub(crate) fn number(text: &[u8]) -> Result<Fraction, NumberFault>
+    ensures number { result ≡ number_of text.now }
+    ensures fraction { IfOk result IsFraction }
+{
+    Fraction::read(text)
+}
+
+/// The sum of two fractions, where it fits.
+fn sum(left: Fraction, right: Fraction) -> Option<Fraction>
+    requires left { IsFraction left }
+    requires right { IsFraction right }
+    ensures sum { result ≡ sum_of left right }
+    ensures fraction { IfSome result IsFraction }
+{
+    match left.add(right) {
+        Ok(sum) => Some(sum),
+        Err(_) => None,
+    }
+}
+
+/// A probability, with the sum through it.
+#[derive(Clone, Copy)]
+pub(crate) struct Share {
+    pub(crate) probability: Fraction,
+    pub(crate) sum: Fraction,
+}
+
+/// The probability that a bare token spells, behind probabilities of this sum.
+pub(crate) fn next_share(before: Fraction, text: &[u8]) -> Result<Share, Why>
+    requires { IsFraction before }
+    ensures machine { shared result ≡ share_of before text.now }
+    ensures fraction { IfOk result (λ s. IsFraction s.sum) }
+{
+    let probability = number(text)?;
+    if probability.is_negative() {
+        return Err(Why::NegativeProbability);
+    }
+    let Some(sum) = sum(before, probability) else {
+        return Err(Why::SumOverflow);
+    };
+    if sum.exceeds_one() {
+        return Err(Why::SumAboveOne);
+    }
+    Ok(Share { probability, sum })
+}

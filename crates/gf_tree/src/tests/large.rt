@@ -1,0 +1,35 @@
+//! Deep trees.
+
+use crate::read_efg;
+use std::alloc::{AllocError, Global};
+use std::test::Fail;
+
+/// A file in which the player moves so many times, one move below the other.
+fn chain(alloc: Global, moves: usize) -> Result<Vec<u8>, AllocError> {
+    let mut file = Vec::from_slice(
+        alloc,
+        b"EFG 2 R \"d\" { \"A\" }\np \"\" 1 1 \"i\" { \"L\" } 0\n",
+    )?;
+    for _ in 1..moves {
+        file.extend_from_slice(b"p \"\" 1 1 0\n")?;
+    }
+    file.extend_from_slice(b"t \"\" 0\n")?;
+    Ok(file)
+}
+
+#[test]
+fn reads_a_tree_of_any_depth(rt: HostRuntime) -> Result<(), Fail> {
+    for moves in [1, 511, 512, 100_000, 1_500_000] {
+        let file = chain(rt.alloc(), moves)?;
+        let game = read_efg(rt.alloc(), &file).expect(&rt, "a file");
+        assert_eq!(rt; game.set_count(1), 1);
+        let mut branch = game.root();
+        for left in 0..moves {
+            assert_eq!(rt; branch.children(), 1, "above {left}");
+            branch = branch.child(1).expect(&rt, "a child");
+        }
+        assert_eq!(rt; branch.children(), 0);
+        assert_eq!(rt; game.nodes().len().checked_sub(1), Some(moves));
+    }
+    Ok(())
+}

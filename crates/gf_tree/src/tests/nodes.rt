@@ -1,0 +1,107 @@
+//! The nodes of games that were read, in prefix order and as a tree.
+
+use super::{BONUS, FIVE, label};
+use crate::{Branch, Game, Node, Step, read_efg};
+use std::process::Abort;
+
+/// The nodes of `FIVE` in prefix order: how many are left, what happens there, and the number of
+/// the outcome.
+const FIVE_NODES: [(usize, Step, u32); 7] = [
+    (7, Step::Chance { set: 9 }, 0),
+    (6, Step::Personal { player: 1, set: 7 }, 0),
+    (5, Step::Chance { set: 9 }, 0),
+    (4, Step::Terminal, 0),
+    (3, Step::Terminal, 0),
+    (2, Step::Personal { player: 1, set: 3 }, 4),
+    (1, Step::Terminal, 4),
+];
+
+/// The nodes of `BONUS`, alike.
+const BONUS_NODES: [(usize, Step, u32); 7] = [
+    (7, Step::Chance { set: 1 }, 0),
+    (6, Step::Personal { player: 1, set: 1 }, 1),
+    (5, Step::Terminal, 2),
+    (4, Step::Terminal, 0),
+    (3, Step::Personal { player: 1, set: 1 }, 0),
+    (2, Step::Terminal, 0),
+    (1, Step::Terminal, 3),
+];
+
+/// The branches of `BONUS` in the order of its nodes: the positions of the children on the way from
+/// the root, and how many children there are.
+const BONUS_BRANCHES: [(&[usize], usize); 7] = [
+    (&[], 2),
+    (&[1], 2),
+    (&[1, 1], 0),
+    (&[1, 2], 0),
+    (&[2], 2),
+    (&[2, 1], 0),
+    (&[2, 2], 0),
+];
+
+/// Asserts that a game has these nodes, and no names at them.
+pub(super) fn assert_nodes(rt: &impl Abort, game: &Game<'_>, wanted: &[(usize, Step, u32)]) {
+    let mut nodes = game.nodes();
+    for (left, step, outcome) in wanted.iter().copied() {
+        let node = Node {
+            name: label(rt, b""),
+            step,
+            outcome,
+        };
+        assert_eq!(rt; nodes.len(), left);
+        assert_eq!(rt; nodes.size_hint(), (left, Some(left)));
+        assert_eq!(rt; nodes.next(), Some(node), "where {left} are left");
+    }
+    assert_eq!(rt; nodes.len(), 0);
+    assert_eq!(rt; nodes.next(), None);
+    assert_eq!(rt; nodes.next(), None);
+}
+
+#[test]
+fn gives_nodes_in_prefix_order(rt: HostRuntime) {
+    let five = read_efg(rt.alloc(), FIVE).expect(&rt, "a file");
+    assert_nodes(&rt, &five, &FIVE_NODES);
+    let bonus = read_efg(rt.alloc(), BONUS).expect(&rt, "a file");
+    assert_nodes(&rt, &bonus, &BONUS_NODES);
+}
+
+/// The branch that is reached from the root by the positions of these children.
+fn reached<'g, 'a>(game: &'g Game<'a>, way: &[usize]) -> Option<Branch<'g, 'a>> {
+    let mut branch = game.root();
+    for i in way {
+        branch = branch.child(*i)?;
+    }
+    Some(branch)
+}
+
+#[test]
+fn gives_each_node_its_branches(rt: HostRuntime) {
+    let game = read_efg(rt.alloc(), BONUS).expect(&rt, "a file");
+    let mut nodes = game.nodes();
+    for (way, children) in BONUS_BRANCHES {
+        let branch = reached(&game, way).expect(&rt, "a branch");
+        assert_eq!(rt; Some(branch.node()), nodes.next(), "at {way:?}");
+        assert_eq!(rt; branch.children(), children, "at {way:?}");
+        for i in [0, 3, usize::MAX] {
+            assert!(rt; branch.child(i).is_none());
+        }
+        assert_eq!(rt; branch.child(1).is_some(), children == 2, "at {way:?}");
+        assert_eq!(rt; branch.child(2).is_some(), children == 2, "at {way:?}");
+    }
+    assert_eq!(rt; nodes.next(), None);
+}
+
+#[test]
+fn keeps_the_names_of_nodes(rt: HostRuntime) {
+    let file: &[u8] = b"EFG 2 R \"q\" { \"A\" }
+p \"w\" 1 1 \"k\" { \"L\" \"R\" } 0
+t \"x\" 1 \"v\" { 5 }
+t \"say \\\"hi\\\"\" 1";
+    let game = read_efg(rt.alloc(), file).expect(&rt, "a file");
+    let mut nodes = game.nodes();
+    let names: [&[u8]; 3] = [b"w", b"x", b"say \\\"hi\\\""];
+    for name in names {
+        assert_eq!(rt; nodes.next().map(|node| node.name), Some(label(&rt, name)));
+    }
+    assert_eq!(rt; game.root().node().name, label(&rt, b"w"));
+}
