@@ -2,4 +2,5 @@ pub mod Errors
 pub mod Interruptions
 pub mod MoreRead
 pub mod MoreWritten
+pub mod Refusals
 pub mod WeakerRequests

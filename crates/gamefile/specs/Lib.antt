@@ -1,9 +1,9 @@
-pub mod CanonicalText
 pub mod Counted
 pub mod Failures
 pub mod FaultLine
 pub mod FaultStatus
 pub mod Input
 pub mod Output
+pub mod Refusal
 pub mod Run
 pub mod Turns

@@ -5,7 +5,6 @@
 use counted::Counted;
 use std::process::ExitCode;
 
-mod canonical;
 mod counted;
 mod fault;
 mod line;

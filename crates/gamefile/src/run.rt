@@ -1,15 +1,16 @@
 //! What the program does: each run reads its inputs whole, makes its output, and writes it.
 
 ghost use Rattle.std.specs.Prelude.{◌≡◌, ◌≢◌, IfErr, OnOk};
-ghost use Rattle.gamefile.specs.CanonicalText.{IsCanonicalText, IsRefusedWith};
+ghost use Rattle.gf_canon.specs.Judgement.{IsCanonicalText};
 ghost use Rattle.gamefile.specs.Input.{IsReadWhole};
 ghost use Rattle.gamefile.specs.Output.{IsWriteFault, IsWritten};
+ghost use Rattle.gamefile.specs.Refusal.{IsRefusedWith};
 ghost use Rattle.gamefile.specs.Run.{Answers, ReadsUntil};
 
-use crate::canonical::canonical;
 use crate::fault::{RunFault, Which};
 use crate::sink::{Sink, push_all};
 use crate::source::{Source, load};
+use gf_canon::canonical;
 use std::alloc::Global;
 
 /// Writes the canonical text of the file that it reads.
@@ -18,10 +19,10 @@ use std::alloc::Global;
 /// is written. So only after `Write` has a front of the text gone out, and before any other fault
 /// nothing is asked of the output.
 ///
-/// - `Refused`: the file is refused as `read_nfg` refuses it, or it has a byte past the first
-///   16,777,216, which is the last one that is read. With E19, memory ran out for the table or the
-///   text, and there was nothing else to refuse: at a token, a file begins with the tokens through
-///   it and none of them passes the limit; at the end, the bytes are a file within the limit.
+/// - `Refused`: the file is refused as `canonical` refuses it, or it has a byte past the first
+///   16,777,216, which is the last one that is read. With E19, memory ran out for the game, the
+///   table or the text, and there was nothing else to refuse: at a token, a file begins with the
+///   tokens through it; at the end, the bytes are a file. No profiles pass their limit there.
 /// - `Read`, `Write`: the reader or the writer failed, or was interrupted sixteen times in a row,
 ///   or the writer took nothing. `failures` has counted it.
 /// - `Memory`: memory ran out while the input was read.
@@ -42,7 +43,7 @@ pub fn run_canon<R: Source, W: Sink>(
         (IsWriteFault W.contents W.count W.push_gives output.old output.new) }
 {
     let bytes = load(alloc, input, Which::Only)?;
-    let text = canonical(alloc, bytes).map_err(|fault| RunFault::Refused {
+    let text = canonical(alloc, &bytes).map_err(|fault| RunFault::Refused {
         which: Which::Only,
         fault,
     })?;

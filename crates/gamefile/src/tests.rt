@@ -16,6 +16,7 @@ use std::test::Fail;
 
 mod canon;
 mod script;
+mod trees;
 
 const INPUT: &[u8] = b"NFG 1 R \"\" { } { }";
 

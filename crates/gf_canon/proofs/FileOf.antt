@@ -26,8 +26,8 @@ use Rattle.gf_tree.proofs.Learning.{learned_once}
 use Rattle.gf_tree.proofs.Lookups.{entry_at}
 use Rattle.gf_tree.proofs.Members.{map_same, map_twice}
 use Rattle.gf_tree.proofs.LearnedGames.{game_learned_once}
-use Rattle.gf_canon.specs.FirstDescribed.{with_those_before, use_behind, node_behind}
-use Rattle.gf_canon.specs.FirstDescribed.{file_nodes, DescribeFirstUses, IsFileOf}
+use Rattle.gf_tree.specs.FileNodes.{with_those_before, use_behind, node_behind, file_nodes}
+use Rattle.gf_canon.specs.FirstDescribed.{DescribeFirstUses, IsFileOf}
 
 -- ---- uses
 

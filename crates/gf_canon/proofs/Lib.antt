@@ -1,12 +1,17 @@
 pub mod CanonicalGames
+pub mod CanonicalNumbers
+pub mod EitherFormat
 pub mod FileOf
 pub mod Files
+pub mod FilesJudged
+pub mod Formats
 pub mod NumbersInOrder
 pub mod OneFile
 pub mod Pieces
 pub mod ReadsBack
 pub mod SameGames
 pub mod Spellables
+pub mod TextPieces
 pub mod Unnamed
 pub mod Worked
 pub mod WorkedPairs

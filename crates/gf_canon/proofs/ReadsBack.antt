@@ -29,7 +29,7 @@ use Rattle.gf_tree.proofs.LearnedGames.{game_learned_once}
 use Rattle.gf_tree.proofs.Members.{map_twice}
 use Rattle.gf_tree.proofs.MappedTrees.{held}
 use Rattle.gf_tree.proofs.Carried.{in_keys}
-use Rattle.gf_canon.specs.FirstDescribed.{use_behind, node_behind, file_nodes}
+use Rattle.gf_tree.specs.FileNodes.{use_behind, node_behind, file_nodes}
 use Rattle.gf_canon.specs.GameText.{node_text, game_text}
 use Rattle.gf_canon.proofs.FileOf.{file_of, entries_behind, file_entries, file_nodes_are}
 use Rattle.gf_canon.proofs.Pieces.{Piece, texts, tokens_of, AllSaid, label}

@@ -1,13 +1,10 @@
--- How a file gives the nodes of a game: each use of a set or an outcome is described exactly where
--- its key was not used before.
-use Rattle.std.specs.Prelude.{◌≡◌, ◌↔◌, nat_eq, Bool, List, [], ◌∷◌, ◌++◌}
-use Rattle.std.specs.Prelude.{map, Option, None, option_map, if◌then◌else◌}
-use Rattle.std.specs.List.{filter_map, list_any}
-use Rattle.gf_tree.specs.PrefixOrder.{Entry, flatten}
-use Rattle.gf_tree.specs.Description.{same_set}
-use Rattle.gf_tree.specs.FileTree.{Use, FileNode, FileTree, set_uses, outcome_uses}
+-- The file of a game in which each use of a set or an outcome is described exactly where its key was
+-- not used before.
+use Rattle.std.specs.Prelude.{◌≡◌, ◌↔◌, List, ◌∷◌, ◌++◌}
+use Rattle.gf_tree.specs.PrefixOrder.{flatten}
+use Rattle.gf_tree.specs.FileTree.{Use, FileTree, set_uses, outcome_uses}
 use Rattle.gf_tree.specs.Consistent.{IsConsistent, IsDescribed, IsFirstUse}
-use Rattle.gf_tree.specs.Game.{Node, Game, set_at, outcome_at}
+use Rattle.gf_tree.specs.Game.{Game}
 use Rattle.gf_tree.specs.GameOf.{IsGameOf}
 
 -- exactly the first uses are described
@@ -21,28 +18,3 @@ pub record IsFileOf (g : Game) (f : FileTree) : Type 0 where
   pub game : IsGameOf f g
   pub sets : DescribeFirstUses (set_uses (flatten f.tree))
   pub outcomes : DescribeFirstUses (outcome_uses (flatten f.tree))
-
--- ---- its nodes
-
--- each item with those before it
-abbrev pub with_those_before : {A : Type 0} → List A → List (List A × A)
-with_those_before [] = []
-with_those_before (x ∷ xs) = ([], x) ∷ map (λ p. (x ∷ p.0, p.1)) (with_those_before xs)
-
--- a use of this key behind uses of those, described where it is the first
-abbrev pub use_behind : {K D : Type 0} → (K → K → Bool) → (K → Option D) → List K → K → Use K D
-use_behind same description before key =
-    record { key = key; description = if list_any (same key) before then None else description key }
-
--- a node behind those
-abbrev pub node_behind : Game → List (Entry Node) → Node → FileNode
-node_behind g before n = record {
-  name = n.name;
-  set = option_map (use_behind same_set (set_at g) (filter_map (λ e. e.node.set) before)) n.set;
-  outcome = option_map (use_behind nat_eq (outcome_at g) (filter_map (λ e. e.node.outcome) before))
-      n.outcome;
-}
-
--- the nodes in prefix order
-abbrev pub file_nodes : Game → List FileNode
-file_nodes g = map (λ p. node_behind g p.0 p.1.node) (with_those_before (flatten g.tree))

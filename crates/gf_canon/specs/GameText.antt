@@ -8,7 +8,7 @@ use Rattle.gf_nfg.specs.TableText.{spaced, list_text, quoted, lines_text}
 use Rattle.gf_tree.specs.Description.{Action, SetKey, InformationSet, Outcome}
 use Rattle.gf_tree.specs.FileTree.{Use, FileNode}
 use Rattle.gf_tree.specs.Game.{Game}
-use Rattle.gf_canon.specs.FirstDescribed.{file_nodes}
+use Rattle.gf_tree.specs.FileNodes.{file_nodes}
 
 -- label, and the probability of chance taking it
 abbrev pub action_fields : Action → List (List ℕ)

@@ -1,7 +1,11 @@
 pub mod CanonicalGame
 pub mod FirstDescribed
+pub mod FormatWord
 pub mod GameFile
 pub mod GameText
+pub mod Judgement
+pub mod ListedInOrder
 pub mod NamesAside
 pub mod SameGame
+pub mod TextParts
 pub mod WorkedGames

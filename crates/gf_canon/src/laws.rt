@@ -4,6 +4,7 @@ ghost use Rattle.std.specs.Prelude.{◌≡◌, ◌↔◌, Bool, Decides, List, �
 ghost use Rattle.gf_nfg.specs.Profiles.{positions};
 ghost use Rattle.gf_nfg.specs.SameTable.{SamePlay};
 ghost use Rattle.gf_nfg.specs.Table.{Table};
+ghost use Rattle.gf_tree.specs.FileNodes.{file_nodes};
 ghost use Rattle.gf_tree.specs.FiniteMap.{first_uses};
 ghost use Rattle.gf_tree.specs.Game.{Game, IsGame};
 ghost use Rattle.gf_tree.specs.GameOf.{SpellsGame};
@@ -17,7 +18,7 @@ ghost use Rattle.gf_tree.specs.FirstUse.{first_use_number, first_use_numbers};
 ghost use Rattle.gf_tree.specs.FirstUse.{outcome_numbers, player_keys};
 ghost use Rattle.gf_canon.specs.SameGame.{Carries, SameGame};
 ghost use Rattle.gf_canon.specs.CanonicalGame.{canonical_game};
-ghost use Rattle.gf_canon.specs.FirstDescribed.{IsFileOf, file_nodes};
+ghost use Rattle.gf_canon.specs.FirstDescribed.{IsFileOf};
 ghost use Rattle.gf_canon.specs.GameFile.{GameFile, IsGameFile, SameFile, SpellsFile};
 ghost use Rattle.gf_canon.specs.GameFile.{canonical_file, canonical_text};
 ghost use Rattle.gf_canon.specs.GameFile.GameFile.{extensive, strategic};

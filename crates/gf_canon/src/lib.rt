@@ -2,4 +2,17 @@
 //! for all of them.
 #![tactic(auto)]
 
+mod braces;
+mod canonise;
+mod format;
 pub mod laws;
+mod node_line;
+mod numbering;
+mod write;
+
+pub use canonise::canonical;
+pub use numbering::renumber;
+pub use write::write_efg;
+
+#[cfg(test)]
+mod tests;

@@ -1,4 +1,4 @@
-//! Runs over worked files: what is written of them, and where they are refused.
+//! Runs over worked strategic files: what is written of them, and where they are refused.
 
 use crate::counted::Counted;
 use crate::fault::{RunFault, Which};
@@ -30,7 +30,7 @@ const SELTEN_TEXT: &[u8] = b"NFG 1 R \"Selten\" { \"Player 1\" \"Player 2\" }
 ";
 
 /// What a run over these bytes answers, and what it writes.
-fn canon(alloc: Global, mut input: &[u8]) -> (Result<(), RunFault>, Vec<u8>) {
+pub(super) fn canon(alloc: Global, mut input: &[u8]) -> (Result<(), RunFault>, Vec<u8>) {
     let mut output = Vec::new(alloc);
     let answer = run_canon(
         alloc,
@@ -87,14 +87,17 @@ fn writes_canonical_texts(rt: HostRuntime) -> Result<(), Fail> {
 #[test]
 fn refuses_and_writes_nothing(rt: HostRuntime) -> Result<(), Fail> {
     let alloc = rt.alloc();
-    let rows: [(&[u8], usize, usize, Why); 4] = [
+    let rows: [(&[u8], usize, usize, Why); 7] = [
         (b"", 0, 0, Why::Expected(What::Format)),
+        (b" nfg 1 R \"\" { } { }", 1, 4, Why::Expected(What::Format)),
         (
-            b"EFG 2 R \"\" { } t \"\" 0",
+            b"\"NFG\" 1 R \"\" { } { }",
             0,
-            3,
+            5,
             Why::Expected(What::Format),
         ),
+        (b"\"NFG 1 R", 0, 1, Why::Unterminated),
+        (b"NFG 2 R \"\" { } { }", 4, 5, Why::Expected(What::Version)),
         (b"NFG 1 R \"abc", 8, 9, Why::Unterminated),
         (
             b"NFG 1 R \"z\" { \"A\" \"B\" } { 2 1 } { { \"u\" 1 2 } } 1 2",

@@ -1,0 +1,76 @@
+-- What is answered to the bytes of a game file of either format, and how they are refused.
+use Rattle.std.specs.Prelude.{◌≡◌, ◌⊎◌, ℕ, List, [], ◌∷◌, codes}
+use Rattle.gf_token.specs.Place.{tokens_of, IsAcceptedThrough, IsOffendingPlace}
+use Rattle.gf_token.specs.Token.{Token, Lexeme}
+use Rattle.gf_token.specs.Token.Token.{Bare, Broken}
+use Rattle.gf_token.specs.TokenSpelling.{Spells}
+use Rattle.gf_token.specs.declared.fault.Span.{Span}
+use Rattle.gf_token.specs.declared.fault.What.TheVariants.{Format}
+use Rattle.gf_token.specs.declared.fault.Why.{Why}
+use Rattle.gf_token.specs.declared.fault.Why.TheVariants.{Unterminated, Expected}
+use Rattle.gf_token.specs.declared.fault.Why.TheVariants.{TooManyProfiles, Memory}
+use Rattle.gf_nfg.specs.Judgement as strategic_file
+use Rattle.gf_nfg.specs.LimitPlace.{IsLimitPlace, IsWithinLimit}
+use Rattle.gf_nfg.specs.Sentence.{IsStrategicFile}
+use Rattle.gf_tree.specs.Front.{IsExtensiveFile}
+use Rattle.gf_tree.specs.Judgement as extensive_file
+use Rattle.gf_canon.specs.GameFile.{GameFile, SpellsFile, canonical_text}
+use Rattle.gf_canon.specs.GameFile.GameFile.{extensive, strategic}
+
+-- ---- texts
+
+-- a table has no more profiles than it may have; of a game there is no limit
+abbrev pub IsFileWithinLimit : GameFile → Type 0
+IsFileWithinLimit (extensive g) = Unit {0}
+IsFileWithinLimit (strategic t) = IsWithinLimit t
+
+-- the bytes mean this file, and it is within the limit
+pub record SpellsWithin (bytes : List ℕ) (x : GameFile) : Type 0 where
+  pub spelled : SpellsFile bytes x
+  pub within : IsFileWithinLimit x
+
+-- the bytes mean a file, and this is its canonical text
+pub record IsCanonicalText (bytes text : List ℕ) : Type 0 where
+  pub file : GameFile
+  pub spelled : SpellsWithin bytes file
+  pub is_text : text ≡ canonical_text file
+
+-- ---- refusals
+
+-- the language of both formats
+abbrev pub IsInEitherFormat : List Token → Type 0
+IsInEitherFormat tokens = IsExtensiveFile tokens ⊎ IsStrategicFile tokens
+
+-- The place of a refusal, by its reason, in the language of both formats: where the profiles of a
+-- strategic file pass their limit, or the offending place. Memory is wanted only where there is
+-- nothing to refuse.
+abbrev pub IsPlaced : Why → List ℕ → Span → Type 0
+IsPlaced Memory bytes span = IsAcceptedThrough IsInEitherFormat bytes span
+IsPlaced TooManyProfiles bytes span = IsLimitPlace bytes span
+IsPlaced why bytes span = IsOffendingPlace IsInEitherFormat bytes span
+
+-- the first token is this word
+pub record BeginsWithWord (word bytes : List ℕ) : Type 0 where
+  pub first : Lexeme
+  pub others : List Lexeme
+  pub spelled : Spells 0 bytes (first ∷ others)
+  pub is_word : first.token ≡ Bare word
+
+-- E2 at a text that has no end, else E3: a format is due
+abbrev pub IsFormatReason : Why → List Token → Type 0
+IsFormatReason why (Broken ∷ after) = why ≡ Unterminated
+IsFormatReason why _ = why ≡ Expected Format
+
+-- no file of either format begins with the first token, or there is none
+pub record IsWithoutFormat (why : Why) (bytes : List ℕ) (span : Span) : Type 0 where
+  pub place : IsOffendingPlace IsInEitherFormat bytes span
+  pub at_first : place.before ≡ []
+  pub reason : IsFormatReason why (tokens_of place.after)
+
+-- a refusal, by the format that the first token names
+pub data IsJudged (why : Why) (bytes : List ℕ) (span : Span) : Type 0 where
+  of_extensive : BeginsWithWord (codes "EFG") bytes → extensive_file.IsJudged why bytes span
+      → IsJudged why bytes span
+  of_strategic : BeginsWithWord (codes "NFG") bytes → strategic_file.IsJudged why bytes span
+      → IsJudged why bytes span
+  of_neither : IsWithoutFormat why bytes span → IsJudged why bytes span

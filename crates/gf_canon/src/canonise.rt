@@ -1,0 +1,101 @@
+//! The canonical text of a game file.
+
+ghost use Rattle.std.specs.Prelude.{◌≡◌, ℕ, IfErr, IfOk, MatchResult, length};
+ghost use Rattle.gf_token.specs.declared.fault.Why.TheVariants.{Memory};
+ghost use Rattle.gf_nfg.specs.Judgement.{IsJudged as IsStrategicJudged};
+ghost use Rattle.gf_nfg.specs.LimitPlace.{IsWithinLimit};
+ghost use Rattle.gf_nfg.specs.Table.{Table as table};
+ghost use Rattle.gf_nfg.specs.TableText.{SpellsTable};
+ghost use Rattle.gf_tree.specs.Game.{Game as game};
+ghost use Rattle.gf_tree.specs.GameOf.{SpellsGame};
+ghost use Rattle.gf_tree.specs.Judgement.{IsJudged as IsExtensiveJudged};
+ghost use Rattle.gf_canon.specs.CanonicalGame.{canonical_game};
+ghost use Rattle.gf_canon.specs.GameFile.{GameFile, canonical_text};
+ghost use Rattle.gf_canon.specs.Judgement.{IsCanonicalText, IsJudged, IsPlaced, SpellsWithin};
+
+use crate::format::{Format, format_of};
+use crate::numbering::renumber;
+use crate::write::write_efg;
+use gf_nfg::{read_nfg, write_nfg};
+use gf_token::{Fault, Why};
+use gf_tree::{Game, read_efg};
+use std::alloc::Global;
+
+/// Memory is refused behind the last token.
+fn memory_at_end(input: &[u8]) -> Fault
+    ensures { result ≡ record {
+      span = record { start = length input.now; end = length input.now };
+      why = Memory;
+    } }
+{
+    Fault::at_end(input.len(), Why::Memory)
+}
+
+/// The canonical game of an extensive file.
+fn read_canonical<'a>(alloc: Global, input: &'a [u8]) -> Result<Game<'a>, Fault>
+    ensures canonical { IfOk result (λ canonical.
+        (g : game) × SpellsGame input.entry.now g × (canonical ≡ canonical_game g)) }
+    ensures judged { IfErr result (λ fault. IsExtensiveJudged fault.why input.entry.now fault.span) }
+    ensures memory { IfErr result (λ fault. (g : game) → SpellsGame input.entry.now g
+        → fault.why ≡ Memory) }
+{
+    let game = read_efg(alloc, input)?;
+    let Ok(canonical) = renumber(alloc, &game) else {
+        return Err(memory_at_end(input));
+    };
+    Ok(canonical)
+}
+
+/// The canonical text of an extensive file.
+fn canonical_efg(alloc: Global, input: &[u8]) -> Result<Vec<u8>, Fault>
+    ensures text { IfOk result (λ text. IsCanonicalText input.now text.items) }
+    ensures judged { IfErr result (λ fault. IsExtensiveJudged fault.why input.now fault.span) }
+    ensures memory { IfErr result (λ fault. (g : game) → SpellsGame input.now g
+        → fault.why ≡ Memory) }
+{
+    let game = read_canonical(alloc, input)?;
+    let mut text = Vec::new(alloc);
+    let Ok(()) = write_efg(&game, &mut text) else {
+        return Err(memory_at_end(input));
+    };
+    Ok(text)
+}
+
+/// The canonical text of a strategic file.
+fn canonical_nfg(alloc: Global, input: &[u8]) -> Result<Vec<u8>, Fault>
+    ensures text { IfOk result (λ text. IsCanonicalText input.now text.items) }
+    ensures judged { IfErr result (λ fault. IsStrategicJudged fault.why input.now fault.span) }
+    ensures memory { IfErr result (λ fault. (t : table) → SpellsTable input.now t
+        → IsWithinLimit t → fault.why ≡ Memory) }
+{
+    let table = read_nfg(alloc, input)?;
+    let mut text = Vec::new(alloc);
+    let Ok(()) = write_nfg(&table, &mut text) else {
+        return Err(memory_at_end(input));
+    };
+    Ok(text)
+}
+
+/// The canonical text of a game file, laid out by this project's profile: that of a tree by its
+/// canonical numbers, or that of a table. The first token tells the format, `EFG` or `NFG` (Gambit
+/// documentation, "Game representation formats").
+///
+/// A file is refused as `read_efg` or `read_nfg` refuses one of its format: at the first token with
+/// which no file goes on, at the end where more is due, or where the profiles of a table pass their
+/// limit. Spans are in bytes of the input, from 0. Beside those refusals come:
+/// - E2: the first token is a text that has no end; at its opening quote.
+/// - E3: the first token is anything else but a word above, or there is none; there.
+/// - E19: memory for the canonical game or for the text is refused; at the end. The bytes are a file
+///   then, and a table is within the limit of profiles.
+pub fn canonical(alloc: Global, input: &[u8]) -> Result<Vec<u8>, Fault>
+    ensures text { IfOk result (λ text. IsCanonicalText input.now text.items) }
+    ensures only { (x : GameFile) → SpellsWithin input.now x → MatchResult result
+        (λ text. text.items ≡ canonical_text x) (λ fault. fault.why ≡ Memory) }
+    ensures judged { IfErr result (λ fault. IsJudged fault.why input.now fault.span) }
+    ensures placed { IfErr result (λ fault. IsPlaced fault.why input.now fault.span) }
+{
+    match format_of(input)? {
+        Format::Extensive => canonical_efg(alloc, input),
+        Format::Strategic => canonical_nfg(alloc, input),
+    }
+}
