@@ -74,3 +74,5 @@ pub mod WrittenNodes
 pub mod WrittenTokens
 pub mod RunFront
 pub mod Telling
+pub mod ToldGames
+pub mod ToldNodes

@@ -425,8 +425,8 @@ pub refused_only : (f : Fault) (g : Game) (result : Result Game Fault) → resul
     → f.why ≡ Memory → IsReadAs result g
 refused_only f g result e h = subst (λ r. IsReadAs r g) (sym e) h
 
-pub refused_why : (f : Fault) (P : Fault → Type 0) (result : Result Game Fault) → result ≡ Err f
-    → P f → IfErr result P
+pub refused_why : {A : Type 0} (f : Fault) (P : Fault → Type 0) (result : Result A Fault)
+    → result ≡ Err f → P f → IfErr result P
 refused_why f P result e h = subst (λ r. IfErr r P) (sym e) h
 
 -- ---- memory that is wanting

@@ -48,3 +48,4 @@ pub mod Tree
 pub mod WorkedReasons
 pub mod WorkedTrees
 pub mod Told
+pub mod ToldGame

@@ -20,7 +20,9 @@ use Rattle.gf_tree.specs.Machine.{Begun, Content, Position, run, with_node}
 use Rattle.gf_tree.specs.Machine.Position.{NodeDue}
 use Rattle.gf_tree.specs.Passed.{HasPassed}
 use Rattle.gf_tree.specs.PrefixOrder.{Entry}
-use Rattle.gf_tree.specs.Told.{Told, told_from, told_node, used_outcomes_from, used_sets_from}
+use Rattle.gf_tree.specs.ReadGame.{game_of}
+use Rattle.gf_tree.specs.Told.{Heading, Told, heading_in, told_from, told_node}
+use Rattle.gf_tree.specs.Told.{used_outcomes_from, used_sets_from}
 use Rattle.gf_tree.specs.declared.reader.Reader.{Reader}
 
 abbrev pub content_of : Reader → Content
@@ -33,6 +35,10 @@ content_of r = record {
   sets = r.sets.known;
   outcomes = r.outcomes.known;
 }
+
+-- the heading that was read
+abbrev pub heading_read : Reader → Heading
+heading_read r = heading_in (game_of (content_of r))
 
 -- with these nodes, of which it was told
 abbrev pub content_with : Reader → List Kept → Content
@@ -88,8 +94,8 @@ pub record Grows {A : Type 0} (old new : List A) : Type 0 where
   pub parts : new ≡ old ++ more
 
 -- This node was told, and the machine goes on as behind it; nothing else has changed.
-pub record TellsNode {T : Type 0} (holds : T → List Told → Type 0) (old new : Reader) (from to : T)
-    (node : Kept) : Type 0 where
+pub record TellsNode {T : Type 0} (holds : T → Heading → List Told → Type 0) (old new : Reader)
+    (from to : T) (node : Kept) : Type 0 where
   pub goes : (q : Position) → heard q (with_node (content_of old)
       (begun_with old.sets.known node.name node.set)
       (option_map (λ o. o.key) (at_position old.outcomes.known node.outcome))) old.tokens
@@ -99,19 +105,21 @@ pub record TellsNode {T : Type 0} (holds : T → List Told → Type 0) (old new 
     told_sets = new.told_sets;
     told_outcomes = new.told_outcomes;
   }
-  pub told : (told : List Told) → holds from told → holds to (told ++ told_node old.sets.known
+  pub told : (heading : Heading) (told : List Told) → holds from heading told
+      → holds to heading (told ++ told_node old.sets.known
       old.outcomes.known old.told_sets old.told_outcomes node ∷ [])
   pub told_sets : new.told_sets ≡ max old.told_sets node.set
   pub told_outcomes : new.told_outcomes ≡ max old.told_outcomes node.outcome
 
 -- One node more was told, behind which the machine goes on.
-pub record Tells {T : Type 0} (holds : T → List Told → Type 0) (before : Answer)
+pub record Tells {T : Type 0} (holds : T → Heading → List Told → Type 0) (before : Answer)
     (old new : Reader) (from to : T) : Type 0 where
   pub node : Kept
   pub goes : before
       ≡ behind (entry_with new.sets.known new.outcomes.known node ∷ []) (answer NodeDue new)
   pub placed : IsPlaced (length new.sets.known) (length new.outcomes.known) node
-  pub told : (told : List Told) → holds from told → holds to (told ++ told_node new.sets.known
+  pub told : (heading : Heading) (told : List Told) → holds from heading told
+      → holds to heading (told ++ told_node new.sets.known
       new.outcomes.known old.told_sets old.told_outcomes node ∷ [])
   pub told_sets : new.told_sets ≡ max old.told_sets node.set
   pub told_outcomes : new.told_outcomes ≡ max old.told_outcomes node.outcome
@@ -158,7 +166,7 @@ Goes before (Ok _) after = before ≡ after
 Goes before (Err f) after = Fails f before
 
 -- the same of a call that tells a node
-abbrev pub GoesTelling : {A T : Type 0} → (T → List Told → Type 0) → Result A Fault → Answer
+abbrev pub GoesTelling : {A T : Type 0} → (T → Heading → List Told → Type 0) → Result A Fault → Answer
     → Reader → Reader → T → T → Type 0
 GoesTelling holds result before old new from to =
     MatchResult result (λ _. Tells holds before old new from to) (λ f. Fails f before)

@@ -1,14 +1,33 @@
--- What a reader tells of the nodes of a file, one behind the other in prefix order.
+-- What a reader tells of a file: its heading, then its nodes one behind the other in prefix order.
 use Rattle.std.specs.Prelude.{ℕ, suc, ◌==◌, max, List, [], ◌∷◌, length, take, Some, None, Option}
-use Rattle.std.specs.Prelude.{option_map, if◌then◌else◌}
+use Rattle.std.specs.Prelude.{option_map, if◌then◌else◌, map}
+use Rattle.gf_token.specs.Label.{label_of}
 use Rattle.gf_token.specs.Positions.{at_position}
 use Rattle.gf_tree.specs.Description.{InformationSet, Outcome, SetKey, set_of}
 use Rattle.gf_tree.specs.FileNodeOf.{file_node_of}
 use Rattle.gf_tree.specs.FileTree.{FileNode, Use}
 use Rattle.gf_tree.specs.FiniteMap.{Described}
+use Rattle.gf_tree.specs.Game.{Game}
 use Rattle.gf_tree.specs.KeptNodes.{Kept}
 use Rattle.gf_tree.specs.KnownSets.{known_of}
+use Rattle.gf_tree.specs.declared.receive.ToldHeading.{ToldHeading}
 use Rattle.gf_tree.specs.declared.receive.ToldNode.{ToldNode}
+
+-- All that stands before the nodes. Labels are lists of bytes.
+pub record Heading : Type 0 where
+  pub title : List ℕ
+  pub comment : List ℕ
+  pub players : List (List ℕ)
+
+abbrev pub heading_of : ToldHeading → Heading
+heading_of h = record {
+  title = label_of h.title;
+  comment = label_of h.comment;
+  players = map label_of h.players.now;
+}
+
+abbrev pub heading_in : Game → Heading
+heading_in g = record { title = g.title; comment = g.comment; players = g.players }
 
 -- A node by first-use numbers, which describes a set and an outcome where it is their first use;
 -- and the positions of its set and of its outcome in order of first use, or 0 where it has none.

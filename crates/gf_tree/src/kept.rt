@@ -17,7 +17,7 @@ ghost use Rattle.gf_tree.specs.Subtrees.{subtree_sizes};
 
 use crate::node::Step;
 use crate::outcomes::Outcomes;
-use crate::receive::{Receive, ToldNode};
+use crate::receive::{Receive, ToldHeading, ToldNode};
 use crate::sets::Sets;
 use gf_token::Label;
 use std::alloc::{AllocError, Global};
@@ -169,10 +169,16 @@ impl<'a> NodeList<'a> {
 }
 
 impl<'a> Receive<'a> for NodeList<'a> {
-    ghost use Rattle.std.specs.Prelude.{◌≡◌, map};
+    ghost use Rattle.std.specs.Prelude.{◌≡◌, [], map};
     ghost use Rattle.gf_tree.specs.Told.{kept_as};
 
-    ghost holds = { λ nodes told. nodes ≡ map kept_as told };
+    ghost untold = { λ nodes. nodes ≡ [] };
+
+    ghost holds = { λ nodes heading told. nodes ≡ map kept_as told };
+
+    fn heading(&mut self, _heading: ToldHeading<'_, 'a>) -> Result<(), AllocError> {
+        Ok(())
+    }
 
     #[tactic(auto, using(std::proofs::lemmas::List::map_push))]
     fn node(&mut self, node: ToldNode<'_, 'a>) -> Result<(), AllocError> {

@@ -25,8 +25,8 @@ pub use crate::file_node::{FileNode, OutcomeDescription, OutcomeUse, SetDescript
 pub use crate::game::{FileNodes, Game};
 pub use crate::node::{Node, Step};
 pub use crate::nodes::Nodes;
-pub use crate::read::read_efg;
-pub use crate::receive::{Receive, ToldNode};
+pub use crate::read::{read_efg, tell_efg};
+pub use crate::receive::{Receive, ToldHeading, ToldNode};
 
 #[cfg(test)]
 mod tests;

@@ -1,13 +1,16 @@
-//! Extensive files as they are read from bytes.
+//! Extensive files as they are read from bytes: to a game, or told to a receiver.
 
-ghost use Rattle.std.specs.Prelude.{IfErr, IfOk};
+ghost use Rattle.std.specs.Prelude.{◌≡◌, IfErr, IfOk, OnOk};
+ghost use Rattle.gf_token.specs.declared.fault.Why.TheVariants.{Memory};
 ghost use Rattle.gf_tree.specs.Game.{Game as game};
 ghost use Rattle.gf_tree.specs.GameOf.{SpellsGame};
 ghost use Rattle.gf_tree.specs.Judgement.{IsJudged, IsReadAs};
+ghost use Rattle.gf_tree.specs.ToldGame.{HasToldGame};
 
 use crate::game::Game;
 use crate::kept::NodeList;
 use crate::reader::Reader;
+use crate::receive::Receive;
 use gf_token::Fault;
 use std::alloc::Global;
 
@@ -26,4 +29,22 @@ pub fn read_efg<'a>(alloc: Global, input: &'a [u8]) -> Result<Game<'a>, Fault>
     let mut nodes = NodeList::new(alloc);
     reader.nodes(&mut nodes)?;
     Ok(reader.into_game(nodes))
+}
+
+/// Reads an extensive file from its bytes, and tells its heading and its nodes to a receiver: by
+/// first-use numbers, each set and each outcome described where it is first used. No game is built.
+///
+/// Refused as `read_efg` refuses, also where the receiver wants memory; it has then been told a part.
+pub fn tell_efg<'a, R: Receive<'a>>(alloc: Global, input: &'a [u8], to: &mut R) -> Result<(), Fault>
+    requires untold { R.untold to.old }
+    ensures told { OnOk result ((g : game) × SpellsGame input.entry.now g
+        × HasToldGame R.holds to.new g) }
+    ensures only { IfErr result (λ fault. (g : game) → SpellsGame input.entry.now g
+        → fault.why ≡ Memory) }
+    ensures judged { IfErr result (λ fault. IsJudged fault.why input.entry.now fault.span) }
+{
+    let mut reader = Reader::new(alloc, input);
+    let last = reader.begin()?;
+    reader.tell_heading(last, to)?;
+    reader.nodes(to)
 }

@@ -1,7 +1,8 @@
 //! The reader of extensive files, which asks for the token that is due (Gambit documentation, "Game
 //! representation formats").
 
-ghost use Rattle.std.specs.Prelude.{◌≡◌, ◌<◌, ◌≤◌, ◌∷◌, [], ℕ, List, Ok, length, OnOk, MatchResult};
+ghost use Rattle.std.specs.Prelude.{◌≡◌, ◌<◌, ◌≤◌, ◌∷◌, [], ℕ, List, Ok, length, IfOk, OnOk, MatchResult};
+ghost use Rattle.gf_token.specs.Remaining.{StandsBefore};
 ghost use Rattle.gf_token.specs.TokenSpelling.{Spells};
 ghost use Rattle.gf_token.specs.Token.{Lexeme};
 ghost use Rattle.gf_tree.specs.Machine.{nothing, run};
@@ -21,7 +22,7 @@ use crate::kept::NodeList;
 use crate::outcomes::Outcomes;
 use crate::seeded::Seeded;
 use crate::sets::Sets;
-use gf_token::{Fault, Label, Tokens};
+use gf_token::{Fault, Label, Span, Tokens};
 use std::alloc::Global;
 
 /// Reads an extensive file.
@@ -66,8 +67,9 @@ impl<'a> Reader<'a> {
         }
     }
 
-    /// Reads the heading: all that stands before the first node.
-    pub(crate) fn begin(&mut self) -> Result<(), Fault>
+    /// Reads the heading: all that stands before the first node. Answers where its last token
+    /// stands.
+    pub(crate) fn begin(&mut self) -> Result<Span, Fault>
         requires due { self.old.due ≡ 1 }
         requires sound { IsSound self.old }
         requires room { HasRoom 0 self.old }
@@ -76,11 +78,13 @@ impl<'a> Reader<'a> {
         ensures room { OnOk result (HasRoom 0 self.new) }
         ensures untold { OnOk result ((self.new.told_sets ≡ self.old.told_sets)
             × (self.new.told_outcomes ≡ self.old.told_outcomes)) }
+        ensures unknown { OnOk result ((self.new.sets ≡ self.old.sets)
+            × (self.new.outcomes ≡ self.old.outcomes)) }
+        ensures place { IfOk result (λ last. StandsBefore self.new.tokens last) }
     {
         self.heading()?;
-        self.players()?;
-        self.comment();
-        Ok(())
+        let brace = self.players()?;
+        Ok(self.comment(brace))
     }
 
     /// The game of the file, which was read to its end, and whose nodes these are.

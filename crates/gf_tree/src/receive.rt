@@ -1,7 +1,17 @@
-//! What becomes of the nodes of a file: a reader tells each to a receiver.
+//! What becomes of what stands in a file: a reader tells it to a receiver, node by node.
 
 use crate::file_node::FileNode;
+use gf_token::Label;
 use std::alloc::AllocError;
+
+/// What stands before the nodes of a file: its title, its comment, which is empty where there is
+/// none, and the names of the players.
+#[derive(Clone, Copy, Debug)]
+pub struct ToldHeading<'n, 'a> {
+    pub title: Label<'a>,
+    pub comment: Label<'a>,
+    pub players: &'n [Label<'a>],
+}
 
 /// A node, as a reader tells it. It has first-use numbers, and describes a set and an outcome where
 /// it is their first use.
@@ -16,16 +26,24 @@ pub struct ToldNode<'n, 'a> {
     pub outcome: u32,
 }
 
-/// Who is told the nodes of a file, one behind the other in prefix order.
+/// Who is told the heading of a file, and then its nodes one behind the other in prefix order.
 pub trait Receive<'a> {
     ghost use Rattle.std.specs.Prelude.{List, [], ◌∷◌, ◌++◌, OnOk};
-    ghost use Rattle.gf_tree.specs.Told.{Told, told_of};
+    ghost use Rattle.gf_tree.specs.Told.{Heading, Told, heading_of, told_of};
 
-    /// What it has of the nodes that it was told.
-    ghost holds: { Self → List Told → Type 0 };
+    /// It was told nothing.
+    ghost untold: { Self → Type 0 };
+
+    /// What it has of the heading and the nodes that it was told.
+    ghost holds: { Self → Heading → List Told → Type 0 };
+
+    /// Takes the heading.
+    fn heading(&mut self, heading: ToldHeading<'_, 'a>) -> Result<(), AllocError>
+        requires { untold self.old }
+        ensures { OnOk result (holds self.new (heading_of heading.entry) []) };
 
     /// Takes the next node.
     fn node(&mut self, node: ToldNode<'_, 'a>) -> Result<(), AllocError>
-        ensures { OnOk result ((told : List Told) → holds self.old told
-            → holds self.new (told ++ told_of node.entry ∷ [])) };
+        ensures { OnOk result ((heading : Heading) (told : List Told) → holds self.old heading told
+            → holds self.new heading (told ++ told_of node.entry ∷ [])) };
 }

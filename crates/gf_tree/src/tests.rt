@@ -13,6 +13,7 @@ mod nodes;
 mod places;
 mod refusals;
 mod renumbering;
+mod telling;
 
 /// Chance has a set twice, and the player's sets, 7 and 3, are used in another order than that of
 /// their numbers.

@@ -1,12 +1,13 @@
 //! The heading of an extensive file: its format, title and players, and the comment.
 
-ghost use Rattle.std.specs.Prelude.{◌≡◌, ◌≤◌, ◌∷◌, length, OnOk};
+ghost use Rattle.std.specs.Prelude.{◌≡◌, ◌≤◌, ◌∷◌, length, IfOk, OnOk};
+ghost use Rattle.gf_token.specs.Remaining.{StandsBefore};
 ghost use Rattle.gf_tree.specs.Machine.Position.{AfterPlayers, BeforePlayers, Format};
 ghost use Rattle.gf_tree.specs.Machine.Position.{NodeDue};
 ghost use Rattle.gf_tree.specs.ReaderState.{answer, Goes, IsSound};
 
 use super::Reader;
-use gf_token::{Fault, What, Why};
+use gf_token::{Fault, Span, What, Why};
 
 impl<'a> Reader<'a> {
     /// Reads all that stands before the players.
@@ -26,13 +27,14 @@ impl<'a> Reader<'a> {
         Ok(())
     }
 
-    /// Reads the players.
+    /// Reads the players. Answers where their closing brace stands.
     #[tactic(auto, using(std::proofs::lemmas::List::map_push))]
-    pub(super) fn players(&mut self) -> Result<(), Fault>
+    pub(super) fn players(&mut self) -> Result<Span, Fault>
         ensures machine { Goes (answer BeforePlayers self.old) result
             (answer AfterPlayers self.new) }
         ensures kept { OnOk result (self.new
             ≡ record self.old { tokens = self.new.tokens; players = self.new.players }) }
+        ensures place { IfOk result (λ brace. StandsBefore self.new.tokens brace) }
         ensures shorter { OnOk result (length self.new.tokens.ahead ≤ length self.old.tokens.ahead) }
     {
         let Some(_) = self.tokens.opening() else {
@@ -43,22 +45,26 @@ impl<'a> Reader<'a> {
                 return Err(Fault::at(player.span, Why::Memory));
             };
         }
-        let Some(_) = self.tokens.closing() else {
+        let Some(brace) = self.tokens.closing() else {
             return Err(self.tokens.refusal(Why::Expected(What::Text)));
         };
-        Ok(())
+        Ok(brace)
     }
 
-    /// Reads the comment, if there is one.
-    pub(super) fn comment(&mut self)
-        requires { self.old.due ≡ 1 }
+    /// Reads the comment, if there is one, behind the brace. Answers where the last of both stands.
+    pub(super) fn comment(&mut self, brace: Span) -> Span
+        requires due { self.old.due ≡ 1 }
+        requires place { StandsBefore self.old.tokens brace }
         ensures machine { answer AfterPlayers self.old ≡ answer NodeDue self.new }
         ensures kept { self.new
             ≡ record self.old { tokens = self.new.tokens; comment = self.new.comment } }
+        ensures place { StandsBefore self.new.tokens result }
         ensures shorter { length self.new.tokens.ahead ≤ length self.old.tokens.ahead }
     {
-        if let Some(comment) = self.tokens.text() {
-            self.comment = comment.label;
-        }
+        let Some(comment) = self.tokens.text() else {
+            return brace;
+        };
+        self.comment = comment.label;
+        comment.span
     }
 }

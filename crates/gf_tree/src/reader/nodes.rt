@@ -4,7 +4,7 @@ ghost use Rattle.std.specs.Prelude.{◌≡◌, ◌<◌, ◌≤◌, ℕ, List, []
 ghost use Rattle.gf_tree.specs.Machine.Position.{ChanceName, NodeDue, PersonalName};
 ghost use Rattle.gf_tree.specs.Machine.Position.{PlayerNumber, SetNumber, TerminalName};
 ghost use Rattle.gf_tree.specs.ReaderState.{answer, content_of, Fails, Goes, GoesTelling};
-ghost use Rattle.gf_tree.specs.ReaderState.{HasReadAll, HasRoom, IsSound};
+ghost use Rattle.gf_tree.specs.ReaderState.{HasReadAll, HasRoom, IsSound, heading_read};
 
 use super::Reader;
 use crate::readings;
@@ -136,9 +136,10 @@ impl<'a> Reader<'a> {
         requires sound { IsSound self.old }
         requires room { HasRoom 0 self.old }
         requires untold { (self.old.told_sets ≡ 0) × (self.old.told_outcomes ≡ 0) }
-        requires begun { R.holds to.old [] }
+        requires begun { R.holds to.old (heading_read self.old) [] }
         ensures machine { MatchResult result
-            (λ _. HasReadAll R.holds (answer NodeDue self.old) self.new to.new)
+            (λ _. HasReadAll (λ r told. R.holds r (heading_read self.old) told)
+            (answer NodeDue self.old) self.new to.new)
             (λ f. Fails f (answer NodeDue self.old)) }
     {
         while self.due > 0 {

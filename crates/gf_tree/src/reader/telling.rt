@@ -1,20 +1,23 @@
 //! What the reader tells of a node: its uses by first-use numbers, described where they are first.
 
-ghost use Rattle.std.specs.Prelude.{◌≡◌, ◌<◌, length};
-ghost use Rattle.std.specs.Prelude.{option_map, MatchOption, OnOk, ⊤};
+ghost use Rattle.std.specs.Prelude.{◌≡◌, ◌<◌, [], length};
+ghost use Rattle.std.specs.Prelude.{option_map, MatchOption, MatchResult, OnOk, ⊤};
 ghost use Rattle.gf_token.specs.Label.{label_of};
+ghost use Rattle.gf_token.specs.Remaining.{StandsBefore};
 ghost use Rattle.gf_tree.specs.FileNodeOf.{outcome_use_of, set_use_of};
 ghost use Rattle.gf_tree.specs.KeptNodes.{child_count, position_of};
-ghost use Rattle.gf_tree.specs.ReaderState.{HasRoom, IsSound, TellsNode};
+ghost use Rattle.gf_tree.specs.Machine.Position.{NodeDue};
+ghost use Rattle.gf_tree.specs.ReaderState.{Fails, HasRoom, IsSound, TellsNode, answer};
+ghost use Rattle.gf_tree.specs.ReaderState.{heading_read};
 ghost use Rattle.gf_tree.specs.Told.{told_outcome, told_set};
 
 use super::Reader;
 use crate::file_node::{FileNode, OutcomeDescription, OutcomeUse, SetDescription, SetUse};
 use crate::kept::position;
 use crate::outcomes::Outcomes;
-use crate::receive::{Receive, ToldNode};
+use crate::receive::{Receive, ToldHeading, ToldNode};
 use crate::sets::Sets;
-use gf_token::Label;
+use gf_token::{Fault, Label, Span, Why};
 use std::alloc::AllocError;
 
 /// The use of the set with this place, where so many were used before.
@@ -66,6 +69,23 @@ fn outcome_use<'o, 'a>(
 }
 
 impl<'a> Reader<'a> {
+    /// Tells the heading, whose last token stands there.
+    pub(crate) fn tell_heading<R: Receive<'a>>(&self, last: Span, to: &mut R) -> Result<(), Fault>
+        requires untold { R.untold to.old }
+        requires place { StandsBefore self.now.tokens last }
+        ensures { MatchResult result (λ _. R.holds to.new (heading_read self.now) [])
+            (λ f. Fails f (answer NodeDue self.now)) }
+    {
+        let Ok(()) = to.heading(ToldHeading {
+            title: self.title,
+            comment: self.comment,
+            players: &self.players,
+        }) else {
+            return Err(Fault::at(last, Why::Memory));
+        };
+        Ok(())
+    }
+
     /// How many children a node has whose set has this place, where it has one.
     fn children(&self, set: Option<u32>) -> usize
         requires { MatchOption set ⊤ (λ place. place < length self.now.sets.known) }

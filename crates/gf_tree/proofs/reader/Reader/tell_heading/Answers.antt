@@ -1,0 +1,9 @@
+use Rattle.std.proofs.Common.{refl}
+use Rattle.gf_tree.specs.Machine.Position.{NodeDue}
+use Rattle.gf_tree.specs.ReaderState.{content_of}
+use Rattle.gf_tree.proofs.ReaderSteps.{wants_memory}
+use Rattle.gf_tree.proofs.reader.Reader.tell_heading.Goals as goal
+
+pub returns-in_default : goal.returns-in_default
+returns-in_default g c =
+    wants_memory c.requires.place c.at.ensures NodeDue (content_of c.args.self.now) refl
