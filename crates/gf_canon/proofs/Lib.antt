@@ -12,6 +12,7 @@ pub mod ReadsBack
 pub mod SameGames
 pub mod Spellables
 pub mod TextPieces
+pub mod ToldTexts
 pub mod Unnamed
 pub mod Worked
 pub mod WorkedPairs

@@ -3,6 +3,7 @@ use Rattle.std.specs.Prelude.{ℕ, List, [], ◌∷◌, ◌++◌, map, codes}
 use Rattle.std.specs.List.{flat_map}
 use Rattle.gf_nfg.specs.TableText.{spaced, list_text, quoted, lines_text}
 use Rattle.gf_tree.specs.FileTree.{FileNode}
+use Rattle.gf_tree.specs.Told.{Heading, Told}
 use Rattle.gf_canon.specs.GameText.{node_text}
 
 -- each with a space behind it
@@ -22,3 +23,8 @@ heading_text title comment players =
 -- a node's line
 abbrev pub node_line : FileNode → List ℕ
 node_line n = node_text n ++ 10 ∷ []
+
+-- the lines of what was told
+abbrev pub told_text : Heading → List Told → List ℕ
+told_text heading told = heading_text heading.title heading.comment heading.players
+    ++ flat_map (λ t. node_line t.node) told

@@ -9,16 +9,14 @@ ghost use Rattle.gf_nfg.specs.TableText.{SpellsTable};
 ghost use Rattle.gf_tree.specs.Game.{Game as game};
 ghost use Rattle.gf_tree.specs.GameOf.{SpellsGame};
 ghost use Rattle.gf_tree.specs.Judgement.{IsJudged as IsExtensiveJudged};
-ghost use Rattle.gf_canon.specs.CanonicalGame.{canonical_game};
 ghost use Rattle.gf_canon.specs.GameFile.{GameFile, canonical_text};
 ghost use Rattle.gf_canon.specs.Judgement.{IsCanonicalText, IsJudged, IsPlaced, SpellsWithin};
 
 use crate::format::{Format, format_of};
-use crate::numbering::renumber;
-use crate::write::write_efg;
+use crate::lines::Lines;
 use gf_nfg::{read_nfg, write_nfg};
 use gf_token::{Fault, Why};
-use gf_tree::{Game, read_efg};
+use gf_tree::tell_efg;
 use std::alloc::Global;
 
 /// Memory is refused behind the last token.
@@ -31,34 +29,17 @@ fn memory_at_end(input: &[u8]) -> Fault
     Fault::at_end(input.len(), Why::Memory)
 }
 
-/// The canonical game of an extensive file.
-fn read_canonical<'a>(alloc: Global, input: &'a [u8]) -> Result<Game<'a>, Fault>
-    ensures canonical { IfOk result (λ canonical.
-        (g : game) × SpellsGame input.entry.now g × (canonical ≡ canonical_game g)) }
-    ensures judged { IfErr result (λ fault. IsExtensiveJudged fault.why input.entry.now fault.span) }
-    ensures memory { IfErr result (λ fault. (g : game) → SpellsGame input.entry.now g
-        → fault.why ≡ Memory) }
-{
-    let game = read_efg(alloc, input)?;
-    let Ok(canonical) = renumber(alloc, &game) else {
-        return Err(memory_at_end(input));
-    };
-    Ok(canonical)
-}
-
-/// The canonical text of an extensive file.
+/// The canonical text of an extensive file, written while it is read.
 fn canonical_efg(alloc: Global, input: &[u8]) -> Result<Vec<u8>, Fault>
     ensures text { IfOk result (λ text. IsCanonicalText input.now text.items) }
     ensures judged { IfErr result (λ fault. IsExtensiveJudged fault.why input.now fault.span) }
     ensures memory { IfErr result (λ fault. (g : game) → SpellsGame input.now g
         → fault.why ≡ Memory) }
 {
-    let game = read_canonical(alloc, input)?;
-    let mut text = Vec::new(alloc);
-    let Ok(()) = write_efg(&game, &mut text) else {
-        return Err(memory_at_end(input));
-    };
-    Ok(text)
+    // A canonical text is seldom longer than the file.
+    let mut lines = Lines::new(alloc, input.len());
+    tell_efg(alloc, input, &mut lines)?;
+    Ok(lines.text)
 }
 
 /// The canonical text of a strategic file.
@@ -85,8 +66,8 @@ fn canonical_nfg(alloc: Global, input: &[u8]) -> Result<Vec<u8>, Fault>
 /// limit. Spans are in bytes of the input, from 0. Beside those refusals come:
 /// - E2: the first token is a text that has no end; at its opening quote.
 /// - E3: the first token is anything else but a word above, or there is none; there.
-/// - E19: memory for the canonical game or for the text is refused; at the end. The bytes are a file
-///   then, and a table is within the limit of profiles.
+/// - E19: memory for the text is refused; of a tree at the token where it was wanted, of a table at
+///   the end. There was nothing else to refuse.
 pub fn canonical(alloc: Global, input: &[u8]) -> Result<Vec<u8>, Fault>
     ensures text { IfOk result (λ text. IsCanonicalText input.now text.items) }
     ensures only { (x : GameFile) → SpellsWithin input.now x → MatchResult result

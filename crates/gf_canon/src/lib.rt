@@ -6,6 +6,7 @@ mod braces;
 mod canonise;
 mod format;
 pub mod laws;
+mod lines;
 mod node_line;
 mod numbering;
 mod write;
