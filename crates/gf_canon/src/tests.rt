@@ -4,6 +4,11 @@ use crate::{renumber, write_efg};
 use gf_tree::{Game, read_efg};
 use std::alloc::{AllocError, Global};
 
+mod extensive;
+mod strategic;
+
+/// Chance has a set twice, and the player's sets, 7 and 3, are used in another order than that of
+/// their numbers.
 const FIVE: &[u8] = b"EFG 2 R \"five\" { \"A\" }
 c \"\" 9 \"n\" { \"h\" 0.5 \"t\" 1/2 } 0
 p \"\" 1 7 \"i\" { \"L\" } 0
@@ -39,6 +44,7 @@ p \"\" 1 8 \"j\" { \"R\" } 2 \"w\" { 1/10 }
 t \"\" 2
 ";
 
+/// An outcome pays at a node that has children.
 const BONUS: &[u8] = b"EFG 2 R \"g\" { \"A\" \"B\" }
 c \"\" 1 \"n\" { \"h\" 1/2 \"t\" 1/2 } 0
 p \"\" 1 1 \"i\" { \"L\" \"R\" } 1 \"bonus\" { 1 0 }

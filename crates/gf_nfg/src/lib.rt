@@ -1,4 +1,6 @@
 //! Strategic files of Gambit: their tables, their reader and their canonical text.
+//!
+//! Tests of these calls stand in gf_canon: a crate with tests is proved a second time for them.
 #![tactic(auto)]
 
 mod agree;
@@ -21,6 +23,3 @@ mod write;
 pub use read::read_nfg;
 pub use table::Table;
 pub use write::write_nfg;
-
-#[cfg(test)]
-mod tests;

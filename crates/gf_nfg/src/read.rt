@@ -69,6 +69,3 @@ pub fn read_nfg(alloc: Global, input: &[u8]) -> Result<Table, Fault>
         Err(error) => Err(Fault::at_end(input.len(), error.into())),
     }
 }
-
-#[cfg(test)]
-mod tests;

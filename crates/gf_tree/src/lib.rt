@@ -1,4 +1,6 @@
 //! Extensive files of Gambit: the trees that they say, and the games that they mean.
+//!
+//! Tests of these calls stand in gf_canon: a crate with tests is proved a second time for them.
 #![tactic(auto)]
 
 mod action;
@@ -27,6 +29,3 @@ pub use crate::node::{Node, Step};
 pub use crate::nodes::Nodes;
 pub use crate::read::{read_efg, tell_efg};
 pub use crate::receive::{Receive, ToldHeading, ToldNode};
-
-#[cfg(test)]
-mod tests;

@@ -1,7 +1,7 @@
 //! Strategic files as they are read, and where they are refused.
 
-use crate::tests::SELTEN;
-use crate::{read_nfg, write_nfg};
+use super::SELTEN;
+use gf_nfg::{read_nfg, write_nfg};
 use gf_token::{Fault, Span, What, Why};
 use std::test::Fail;
 

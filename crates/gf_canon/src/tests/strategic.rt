@@ -1,14 +1,16 @@
 //! Tables made of parts, their accessors, their texts, and which of them are the same to play.
 
-use crate::{Table, read_nfg, write_nfg};
 use gf_fraction::Fraction;
+use gf_nfg::{Table, read_nfg, write_nfg};
 use gf_token::Label;
 use std::alloc::{AllocError, Global};
 use std::process::Abort;
 use std::test::Fail;
 
+mod reading;
+
 /// The canonical text of the table of Selten.
-pub(crate) const SELTEN: &[u8] = b"NFG 1 R \"Selten\" { \"Player 1\" \"Player 2\" }
+const SELTEN: &[u8] = b"NFG 1 R \"Selten\" { \"Player 1\" \"Player 2\" }
 { { \"1\" \"2\" \"3\" } { \"1\" \"2\" } }
 \"\"
 

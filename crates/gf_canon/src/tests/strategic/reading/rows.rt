@@ -1,6 +1,6 @@
 //! What each row of the table of positions answers to a token of each kind, and to the end.
 
-use crate::read_nfg;
+use gf_nfg::read_nfg;
 use gf_token::{Fault, Span, What, Why};
 use std::alloc::{AllocError, Global};
 use std::test::Fail;

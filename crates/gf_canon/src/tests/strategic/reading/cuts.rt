@@ -1,7 +1,7 @@
 //! Files that are cut at each of their bytes.
 
 use super::FILES;
-use crate::read_nfg;
+use gf_nfg::read_nfg;
 use gf_token::{Cursor, Fault, Kind, Span, Token, Why};
 use std::test::Fail;
 

@@ -1,7 +1,7 @@
 //! The nodes of games that were read, in prefix order and as a tree.
 
 use super::{BONUS, FIVE, label};
-use crate::{Branch, Game, Node, Step, read_efg};
+use gf_tree::{Branch, Game, Node, Step, read_efg};
 use std::process::Abort;
 
 /// The nodes of `FIVE` in prefix order: how many are left, what happens there, and the number of

@@ -3,7 +3,7 @@
 use super::FIVE;
 use super::games::assert_described;
 use super::nodes::assert_nodes;
-use crate::{Game, Step, read_efg};
+use gf_tree::{Game, Step, read_efg};
 use std::alloc::{AllocError, Global};
 use std::process::Abort;
 use std::test::Fail;

@@ -1,6 +1,6 @@
 //! Deep trees.
 
-use crate::read_efg;
+use gf_tree::read_efg;
 use std::alloc::{AllocError, Global};
 use std::test::Fail;
 

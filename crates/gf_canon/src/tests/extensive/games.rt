@@ -1,8 +1,8 @@
 //! Games that were read, by their players, sets and outcomes.
 
 use super::{BONUS, FIVE, fraction, label};
-use crate::{Action, Game, read_efg};
 use gf_fraction::Fraction;
+use gf_tree::{Action, Game, read_efg};
 use std::process::Abort;
 
 fn action<'a>(rt: &impl Abort, raw: &'a [u8], probability: Option<Fraction>) -> Action<'a> {

@@ -1,7 +1,7 @@
 //! Files that are told to a receiver.
 
 use super::FIVE;
-use crate::{Receive, ToldHeading, ToldNode, tell_efg};
+use gf_tree::{Receive, ToldHeading, ToldNode, tell_efg};
 use std::alloc::AllocError;
 use std::test::Fail;
 
@@ -51,6 +51,9 @@ fn tells_first_use_numbers(rt: HostRuntime) -> Result<(), Fail> {
         uses.sets.as_slice(),
         [(0, 1, true), (1, 1, true), (0, 1, false), (1, 2, true)].as_slice()
     );
-    assert_eq!(rt; uses.outcomes.as_slice(), [(1, true), (1, false)].as_slice());
+    assert_eq!(rt;
+        uses.outcomes.as_slice(),
+        [(1, true), (1, false)].as_slice()
+    );
     Ok(())
 }

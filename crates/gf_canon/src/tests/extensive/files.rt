@@ -1,7 +1,7 @@
 //! Files that are read.
 
 use super::{BONUS, FIVE, label, refusal};
-use crate::read_efg;
+use gf_tree::read_efg;
 
 /// Files as they stand in examples.
 const ROWS: [&[u8]; 12] = [
