@@ -1,27 +1,30 @@
 //! The hasher of the maps from a file's numbers.
 
 ghost use Rattle.std.specs.Prelude.{◌≡◌};
-ghost use Rattle.std.specs.Hash.DefaultHasher as sip;
+ghost use Rattle.gf_tree.specs.Seeded.{start_for};
 
-use std::hash::{BuildHasher, DefaultHasher, Hasher};
+use std::hash::{BuildHasher, DefaultHasher, FoldHasher, Hasher};
 
-/// Makes hashers that have read the whole input already.
+/// Makes hashers whose start hangs on the whole input.
 ///
 /// With a fixed start, whoever writes a file can choose set numbers whose hashes are all alike, and
 /// each look-up then tries thousands of them. Here each number that is chosen changes every hash.
-/// The hasher is SipHash: the kit's faster one can be brought to any state by bytes of the file.
+/// The input is hashed by SipHash: the kit's faster hasher can be brought to any state by bytes of
+/// the file. It takes the numbers, from a start that nobody chose.
 #[derive(Clone, Copy)]
 pub(crate) struct Seeded {
-    start: DefaultHasher,
+    start: FoldHasher,
 }
 
 impl Seeded {
     /// The hashers of an input.
     pub(crate) fn of(input: &[u8]) -> Seeded
-        ensures { result.start ≡ sip.write sip.initial input.now }
+        ensures { result.start ≡ start_for input.now }
     {
-        let mut start = DefaultHasher::new();
-        start.write(input);
+        let mut whole = DefaultHasher::new();
+        whole.write(input);
+        let mut start = FoldHasher::default();
+        start.write_u64(whole.finish());
         Seeded { start }
     }
 }
@@ -29,11 +32,11 @@ impl Seeded {
 impl BuildHasher for Seeded {
     ghost use Rattle.gf_tree.specs.Seeded.{start_of};
 
-    type Hasher = DefaultHasher;
+    type Hasher = FoldHasher;
 
     ghost build_hasher = { start_of };
 
-    fn build_hasher(&self) -> DefaultHasher {
+    fn build_hasher(&self) -> FoldHasher {
         self.start
     }
 }
