@@ -15,12 +15,14 @@ static CLASSES: [u8; 256] = *b"\
     ................................\
     ................................";
 
+#[inline(always)]
 pub(crate) fn is_space(byte: u8) -> bool
     ensures { result ≡ is_space byte }
 {
     CLASSES[byte as usize] == b's'
 }
 
+#[inline(always)]
 pub(crate) fn is_bare(byte: u8) -> bool
     ensures { result ≡ is_bare byte }
 {

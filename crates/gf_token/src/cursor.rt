@@ -1,4 +1,7 @@
 //! The cursor, which finds the tokens of an input one after another.
+//!
+//! What is asked for at each token is `inline(always)`: wide values would otherwise pass through
+//! memory.
 
 ghost use Rattle.std.specs.Prelude.{◌≡◌, ◌<◌, ◌≤◌, ◌+◌, [], ◌∷◌, length, slice_range};
 ghost use Rattle.std.specs.Prelude.{slice_index, MatchOption, true, false};
@@ -43,6 +46,7 @@ impl<'a> Model for Cursor<'a> {
 
 /// Where the gap ends that begins at `from`, or `None` where no token follows it.
 #[tactic(auto, using(crate::proofs::Steps::gap_steps))]
+#[inline(always)]
 fn gap_end(input: &[u8], from: usize) -> Option<usize>
     ensures { MatchOption result (lexed input.now from ≡ []) (EndsGap input.now from) }
 {
@@ -58,6 +62,7 @@ fn gap_end(input: &[u8], from: usize) -> Option<usize>
 
 /// Where the bare token ends that begins at `start`.
 #[tactic(auto, using(crate::proofs::Steps::bare_steps))]
+#[inline(always)]
 fn bare_end(input: &[u8], start: usize) -> usize
     requires within { start < length input.now }
     requires bare { is_bare (slice_index input.now start) ≡ true }
@@ -75,6 +80,7 @@ fn bare_end(input: &[u8], start: usize) -> usize
 
 /// The quote that closes the text which the quote at `start` opens.
 #[tactic(auto, using(crate::proofs::Steps::text_steps))]
+#[inline(always)]
 fn closing_quote(input: &[u8], start: usize) -> Option<usize>
     requires within { start < length input.now }
     requires quote { slice_index input.now start ≡ 34 }
@@ -152,6 +158,7 @@ impl<'a> Cursor<'a> {
 
     /// The next token where it is a bare one, or `None`, and then the cursor stays.
     #[tactic(auto, using(crate::proofs::Starts::starts_steps))]
+    #[inline(always)]
     pub fn bare(&mut self) -> Option<BareToken<'a>>
         ensures { MatchOption result
             ((self.new ≡ self.old) × (starts is_bare_token self.old ≡ false))
@@ -170,6 +177,7 @@ impl<'a> Cursor<'a> {
 
     /// The next token where it is a text, or `None`, and then the cursor stays.
     #[tactic(auto, using(crate::proofs::Starts::starts_steps))]
+    #[inline(always)]
     pub fn text(&mut self) -> Option<TextToken<'a>>
         ensures { MatchOption result
             ((self.new ≡ self.old) × (starts is_text_token self.old ≡ false))
@@ -190,6 +198,7 @@ impl<'a> Cursor<'a> {
     /// The place of the next token where it is an opening brace, or `None`, and then the cursor
     /// stays.
     #[tactic(auto, using(crate::proofs::Starts::starts_steps))]
+    #[inline(always)]
     pub fn opening(&mut self) -> Option<Span>
         ensures { MatchOption result
             ((self.new ≡ self.old) × (starts is_opening self.old ≡ false))
@@ -207,6 +216,7 @@ impl<'a> Cursor<'a> {
     /// The place of the next token where it is a closing brace, or `None`, and then the cursor
     /// stays.
     #[tactic(auto, using(crate::proofs::Starts::starts_steps))]
+    #[inline(always)]
     pub fn closing(&mut self) -> Option<Span>
         ensures { MatchOption result
             ((self.new ≡ self.old) × (starts is_closing self.old ≡ false))
@@ -223,6 +233,7 @@ impl<'a> Cursor<'a> {
 
     /// The place of the next token where it is a comma, or `None`, and then the cursor stays.
     #[tactic(auto, using(crate::proofs::Starts::starts_steps))]
+    #[inline(always)]
     pub fn comma(&mut self) -> Option<Span>
         ensures { MatchOption result
             ((self.new ≡ self.old) × (starts is_comma self.old ≡ false))

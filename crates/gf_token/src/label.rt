@@ -48,6 +48,7 @@ impl<'a> Label<'a> {
     ///
     /// The caller sees to it that `raw` does not end in a backslash, and that each `"` in it
     /// directly follows one. `Label::new` checks bytes that may be anything.
+    #[inline(always)]
     pub fn of_spelling(raw: &'a [u8]) -> Label<'a>
         requires { IsTrue (is_spelling raw.now) }
         ensures { label_of result ≡ raw.entry.now }
@@ -56,6 +57,7 @@ impl<'a> Label<'a> {
     }
 
     /// The bytes between the label's quotes.
+    #[inline(always)]
     pub fn raw(self) -> &'a [u8]
         ensures same { result.now ≡ label_of self.entry }
         ensures spelled { IsTrue (is_spelling result.now) }

@@ -50,6 +50,7 @@ impl<'a> Tokens<'a> {
     }
 
     /// The next token where it is a bare one.
+    #[inline(always)]
     pub fn bare(&mut self) -> Option<BareToken<'a>>
         ensures next { MatchOption result
             ((self.new ≡ self.old) × (starts is_bare_token self.old.ahead ≡ false))
@@ -62,6 +63,7 @@ impl<'a> Tokens<'a> {
     }
 
     /// The next token where it is a text.
+    #[inline(always)]
     pub fn text(&mut self) -> Option<TextToken<'a>>
         ensures next { MatchOption result
             ((self.new ≡ self.old) × (starts is_text_token self.old.ahead ≡ false))
@@ -74,6 +76,7 @@ impl<'a> Tokens<'a> {
     }
 
     /// The place of the next token where it is an opening brace.
+    #[inline(always)]
     pub fn opening(&mut self) -> Option<Span>
         ensures next { MatchOption result
             ((self.new ≡ self.old) × (starts is_opening self.old.ahead ≡ false))
@@ -85,6 +88,7 @@ impl<'a> Tokens<'a> {
     }
 
     /// The place of the next token where it is a closing brace.
+    #[inline(always)]
     pub fn closing(&mut self) -> Option<Span>
         ensures next { MatchOption result
             ((self.new ≡ self.old) × (starts is_closing self.old.ahead ≡ false))
@@ -96,6 +100,7 @@ impl<'a> Tokens<'a> {
     }
 
     /// The place of the next token where it is a comma.
+    #[inline(always)]
     pub fn comma(&mut self) -> Option<Span>
         ensures next { MatchOption result
             ((self.new ≡ self.old) × (starts is_comma self.old.ahead ≡ false))
