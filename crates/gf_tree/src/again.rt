@@ -10,12 +10,12 @@ ghost use Rattle.gf_tree.specs.Machine.{Begun, Content, begun};
 ghost use Rattle.gf_tree.specs.Machine.Position.{KnownAction, KnownOutcomeName};
 ghost use Rattle.gf_tree.specs.Machine.Position.{KnownPayoff, KnownProbability};
 ghost use Rattle.gf_tree.specs.Machine.Position.{KnownSetName, NodeDue, OutcomeNumber};
-ghost use Rattle.gf_tree.specs.ReaderState.{Goes, heard};
+ghost use Rattle.gf_tree.specs.ReaderState.{behind_label, Goes, heard};
 
 use crate::action::Action;
 use crate::readings;
 use gf_fraction::Fraction;
-use gf_token::{Fault, Label, Tokens, What, Why};
+use gf_token::{Fault, Label, TextToken, Tokens, What, Why};
 
 /// Reads a number that is to have this value.
 fn same_probability(tokens: &mut Tokens<'_>, probability: Fraction) -> Result<(), Fault>
@@ -77,7 +77,36 @@ fn same_actions_end(tokens: &mut Tokens<'_>) -> Result<(), Fault>
     }
 }
 
+/// Reads the description of a set that is known, behind the text that stands where its name is due.
+#[inline(never)]
+fn same_set_named<'a>(
+    tokens: &mut Tokens<'a>,
+    text: TextToken<'a>,
+    name: Label<'a>,
+    actions: &[Action<'a>],
+) -> Result<(), Fault>
+    ensures machine { (c : Content) (node : List ℕ) (key : SetKey)
+        → Goes (heard (KnownSetName node key
+        (set_with (label_of name.entry) (actions_of actions.now))) c
+        (behind_label tokens.old text.entry)) result
+        (heard (OutcomeNumber (begun node key
+        (set_with (label_of name.entry) (actions_of actions.now)))) c tokens.new) }
+    ensures shorter { OnOk result (length tokens.new.ahead ≤ length tokens.old.ahead) }
+{
+    if text.label != name {
+        return Err(Fault::at(text.span, Why::Mismatch));
+    }
+    let Some(_) = tokens.opening() else {
+        return Err(tokens.refusal(Why::Expected(What::Opening)));
+    };
+    for action in actions {
+        same_action(tokens, action)?;
+    }
+    same_actions_end(tokens)
+}
+
 /// Reads the description of a set that is known, if there is one.
+#[inline(always)]
 pub(crate) fn same_set<'a>(
     tokens: &mut Tokens<'a>,
     name: Label<'a>,
@@ -90,19 +119,10 @@ pub(crate) fn same_set<'a>(
         (set_with (label_of name.entry) (actions_of actions.now)))) c tokens.new) }
     ensures shorter { OnOk result (length tokens.new.ahead ≤ length tokens.old.ahead) }
 {
-    let Some(text) = tokens.text() else {
-        return Ok(());
-    };
-    if text.label != name {
-        return Err(Fault::at(text.span, Why::Mismatch));
+    match tokens.text() {
+        Some(text) => same_set_named(tokens, text, name, actions),
+        None => Ok(()),
     }
-    let Some(_) = tokens.opening() else {
-        return Err(tokens.refusal(Why::Expected(What::Opening)));
-    };
-    for action in actions {
-        same_action(tokens, action)?;
-    }
-    same_actions_end(tokens)
 }
 
 /// Reads a payoff of an outcome that is known, and one comma if there is one.
@@ -128,21 +148,21 @@ fn same_payoff(tokens: &mut Tokens<'_>, payoff: Fraction) -> Result<(), Fault>
     }
 }
 
-/// Reads the description of an outcome that is known, if there is one.
-pub(crate) fn same_outcome<'a>(
+/// Reads the description of an outcome that is known, behind the text that stands where its name is
+/// due.
+#[inline(never)]
+fn same_outcome_named<'a>(
     tokens: &mut Tokens<'a>,
+    text: TextToken<'a>,
     name: Label<'a>,
     payoffs: &[Fraction],
 ) -> Result<(), Fault>
     ensures machine { (c : Content)
         → Goes (heard (KnownOutcomeName (outcome_with (label_of name.entry) payoffs.now)) c
-        tokens.old) result
+        (behind_label tokens.old text.entry)) result
         (heard NodeDue c tokens.new) }
     ensures shorter { OnOk result (length tokens.new.ahead ≤ length tokens.old.ahead) }
 {
-    let Some(text) = tokens.text() else {
-        return Ok(());
-    };
     if text.label != name {
         return Err(Fault::at(text.span, Why::Mismatch));
     }
@@ -156,4 +176,23 @@ pub(crate) fn same_outcome<'a>(
         return Err(tokens.refusal(Why::Expected(What::Closing)));
     };
     Ok(())
+}
+
+/// Reads the description of an outcome that is known, if there is one.
+#[inline(always)]
+pub(crate) fn same_outcome<'a>(
+    tokens: &mut Tokens<'a>,
+    name: Label<'a>,
+    payoffs: &[Fraction],
+) -> Result<(), Fault>
+    ensures machine { (c : Content)
+        → Goes (heard (KnownOutcomeName (outcome_with (label_of name.entry) payoffs.now)) c
+        tokens.old) result
+        (heard NodeDue c tokens.new) }
+    ensures shorter { OnOk result (length tokens.new.ahead ≤ length tokens.old.ahead) }
+{
+    match tokens.text() {
+        Some(text) => same_outcome_named(tokens, text, name, payoffs),
+        None => Ok(()),
+    }
 }

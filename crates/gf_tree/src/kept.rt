@@ -116,6 +116,7 @@ fn fill_sizes(nodes: &mut [Stored<'_>], sets: &Sets<'_>)
 }
 
 /// The position of a place, or 0 where there is none.
+#[inline(always)]
 pub(crate) fn position(place: Option<u32>) -> u32
     requires { MatchOption place ⊤ (λ p. p < 4294967295) }
     ensures { result ≡ position_of place }

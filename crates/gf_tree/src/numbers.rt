@@ -52,6 +52,7 @@ impl Numbers {
     }
 
     /// The place that a number has.
+    #[inline(always)]
     pub(crate) fn place(&self, number: u32) -> Option<u32>
         ensures { result ≡ lookup (nat_eq number) self.now }
     {
@@ -89,6 +90,7 @@ impl Numbers {
     }
 
     /// Adds a number that is not there, and its place. On an `Err` nothing has changed.
+    #[inline(never)]
     pub(crate) fn insert(
         &mut self,
         alloc: Global,

@@ -73,6 +73,7 @@ impl<'a> Outcomes<'a> {
     }
 
     /// The place of an outcome.
+    #[inline(always)]
     pub(crate) fn find(&self, number: u32) -> Option<u32>
         ensures { result ≡ position (nat_eq number) (map (λ o. o.key) self.now.known) }
     {
@@ -96,6 +97,7 @@ impl<'a> Outcomes<'a> {
     }
 
     /// The name of the outcome at a place.
+    #[inline(always)]
     pub(crate) fn name(&self, place: u32) -> Label<'a>
         requires { place < length self.now.known }
         ensures { option_map (λ o. o.description.name) (slice_get self.now.known place)
@@ -105,6 +107,7 @@ impl<'a> Outcomes<'a> {
     }
 
     /// The payoffs of the outcome at a place.
+    #[inline(always)]
     pub(crate) fn payoffs(&self, place: u32) -> &[Fraction]
         requires { place < length self.now.known }
         ensures { option_map (λ o. o.description.payoffs) (slice_get self.now.known place)

@@ -1,5 +1,8 @@
 //! The reader of extensive files, which asks for the token that is due (Gambit documentation, "Game
 //! representation formats").
+//!
+//! A node without descriptions is one straight way, whose functions are `inline(always)`: wide
+//! values would otherwise pass through memory. Descriptions stand apart from it, `inline(never)`.
 
 ghost use Rattle.std.specs.Prelude.{◌≡◌, ◌<◌, ◌≤◌, ◌∷◌, [], ℕ, List, Ok, length, IfOk, OnOk, MatchResult};
 ghost use Rattle.gf_token.specs.Remaining.{StandsBefore};

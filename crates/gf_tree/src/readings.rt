@@ -11,6 +11,7 @@ use gf_fraction::{Fraction, NumberFault};
 use gf_token::{Why, read_index};
 
 /// The index that a bare token is.
+#[inline(always)]
 pub(crate) fn index(text: &[u8]) -> Option<u32>
     ensures { result ≡ index_of text.now }
 {
@@ -21,6 +22,7 @@ pub(crate) fn index(text: &[u8]) -> Option<u32>
 }
 
 /// The count that a bare token is: an index above zero.
+#[inline(always)]
 pub(crate) fn count(text: &[u8]) -> Option<u32>
     ensures { result ≡ count_of text.now }
 {

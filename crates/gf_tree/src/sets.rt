@@ -31,6 +31,7 @@ struct Entry<'a> {
 }
 
 /// The numbers of a player's sets, where he has had any.
+#[inline(always)]
 fn numbers_of(players: &[Numbers], player: u32) -> Option<&Numbers>
     ensures { MatchOption result (get_or players.now player [] ≡ [])
         (λ numbers. numbers.now ≡ get_or players.now player []) }
@@ -126,6 +127,7 @@ impl<'a> Sets<'a> {
     }
 
     /// The place of a set.
+    #[inline(always)]
     pub(crate) fn find(&self, player: u32, number: u32) -> Option<u32>
         ensures { result
             ≡ position (same_set (set_of player number)) (map (λ s. s.key) self.now.known) }
@@ -145,6 +147,7 @@ impl<'a> Sets<'a> {
     }
 
     /// The player and the number of the set at a place.
+    #[inline(always)]
     pub(crate) fn key(&self, place: u32) -> (u32, u32)
         requires { place < length self.now.known }
         ensures { option_map (λ s. s.key) (slice_get self.now.known place)
@@ -155,6 +158,7 @@ impl<'a> Sets<'a> {
     }
 
     /// The name of the set at a place.
+    #[inline(always)]
     pub(crate) fn name(&self, place: u32) -> Label<'a>
         requires { place < length self.now.known }
         ensures { option_map (λ s. s.description.name) (slice_get self.now.known place)
@@ -164,6 +168,7 @@ impl<'a> Sets<'a> {
     }
 
     /// The actions of the set at a place.
+    #[inline(always)]
     pub(crate) fn actions(&self, place: u32) -> &[Action<'a>]
         requires { place < length self.now.known }
         ensures { option_map (λ s. s.description.actions) (slice_get self.now.known place)
@@ -174,6 +179,7 @@ impl<'a> Sets<'a> {
     }
 
     /// The number of the set at a place, from 1, among the sets of its player.
+    #[inline(always)]
     pub(crate) fn first_use_number(&self, place: u32) -> u32
         requires { place < length self.now.known }
         ensures { number_among self.now.known place ≡ Some result }

@@ -13,6 +13,7 @@ use gf_token::{Fault, What, Why};
 
 impl<'a> Reader<'a> {
     /// Reads a node of chance, behind its letter.
+    #[inline(always)]
     fn chance_node<R: Receive<'a>>(&mut self, to: &mut R) -> Result<(), Fault>
         requires sound { IsSound self.old }
         requires due { 0 < self.old.due }
@@ -31,6 +32,7 @@ impl<'a> Reader<'a> {
     }
 
     /// Reads the number of a player.
+    #[inline(always)]
     fn player(&mut self) -> Result<u32, Fault>
         ensures machine { (node : List ℕ) → MatchResult result
             (λ player.
@@ -52,6 +54,7 @@ impl<'a> Reader<'a> {
     }
 
     /// Reads a node of a player, behind its letter.
+    #[inline(always)]
     fn personal_node<R: Receive<'a>>(&mut self, to: &mut R) -> Result<(), Fault>
         requires sound { IsSound self.old }
         requires due { 0 < self.old.due }
@@ -71,6 +74,7 @@ impl<'a> Reader<'a> {
     }
 
     /// Reads a terminal node, behind its letter.
+    #[inline(always)]
     fn terminal_node<R: Receive<'a>>(&mut self, to: &mut R) -> Result<(), Fault>
         requires sound { IsSound self.old }
         requires due { 0 < self.old.due }
@@ -88,6 +92,7 @@ impl<'a> Reader<'a> {
     }
 
     /// Reads a node, which is due.
+    #[inline(always)]
     fn node<R: Receive<'a>>(&mut self, to: &mut R) -> Result<(), Fault>
         requires sound { IsSound self.old }
         requires due { 0 < self.old.due }

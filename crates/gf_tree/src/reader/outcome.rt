@@ -25,6 +25,7 @@ use gf_token::{Fault, Label, What, Why};
 use std::alloc::AllocError;
 
 /// The place of an outcome, where it is known.
+#[inline(always)]
 fn found(outcomes: &Outcomes<'_>, number: u32) -> Option<u32>
     ensures absent { IfNone result (position (nat_eq number) (map (λ o. o.key) outcomes.now.known)
         ≡ None) }
@@ -119,6 +120,7 @@ impl<'a> Reader<'a> {
     }
 
     /// Reads the first description of an outcome, which is not known, with which its node is whole.
+    #[inline(never)]
     fn new_outcome<R: Receive<'a>>(
         &mut self,
         node: Label<'a>,
@@ -155,6 +157,7 @@ impl<'a> Reader<'a> {
     }
 
     /// Reads the description of a known outcome, if there is one, behind its node.
+    #[inline(always)]
     fn outcome_again(&mut self, place: u32) -> Result<(), Fault>
         requires place { place < length self.old.outcomes.known }
         ensures machine { (outcome : Outcome)
@@ -170,6 +173,7 @@ impl<'a> Reader<'a> {
 
     /// Reads the number of a node's outcome, or 0 for none, and the outcome's description, if there
     /// is one. With it the node is whole.
+    #[inline(always)]
     pub(super) fn outcome<R: Receive<'a>>(
         &mut self,
         node: Label<'a>,

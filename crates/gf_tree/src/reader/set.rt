@@ -36,6 +36,7 @@ struct KnownSet<'s, 'a> {
 }
 
 /// The set with this key, where it is known.
+#[inline(always)]
 fn described<'s, 'a>(sets: &'s Sets<'a>, player: u32, number: u32) -> Option<KnownSet<'s, 'a>>
     ensures absent { IfNone result (position (same_set (set_of player number))
         (map (λ s. s.key) sets.now.known) ≡ None) }
@@ -184,6 +185,7 @@ impl<'a> Reader<'a> {
     }
 
     /// Reads the first description of a set, which is not known, and answers the set's place.
+    #[inline(never)]
     fn new_set(&mut self, player: u32, number: u32) -> Result<u32, Fault>
         requires absent { position (same_set (set_of player number))
             (map (λ s. s.key) self.old.sets.known) ≡ None }
@@ -215,6 +217,7 @@ impl<'a> Reader<'a> {
 
     /// Reads the number of a player's set, chance being player 0, and its description, if there is
     /// one. Answers the set's place.
+    #[inline(always)]
     pub(super) fn set(&mut self, player: u32) -> Result<u32, Fault>
         requires sound { IsSound self.old }
         ensures machine { (node : List ℕ) → MatchResult result

@@ -21,6 +21,7 @@ use gf_token::{Fault, Label, Span, Why};
 use std::alloc::AllocError;
 
 /// The use of the set with this place, where so many were used before.
+#[inline(always)]
 fn set_use<'s, 'a>(sets: &'s Sets<'a>, used: u32, place: Option<u32>) -> Option<SetUse<'s, 'a>>
     requires { MatchOption place ⊤ (λ p. p < length sets.now.known) }
     ensures { option_map set_use_of result ≡ told_set sets.now.known used (position_of place) }
@@ -43,6 +44,7 @@ fn set_use<'s, 'a>(sets: &'s Sets<'a>, used: u32, place: Option<u32>) -> Option<
 }
 
 /// The use of the outcome with this place, where so many were used before.
+#[inline(always)]
 fn outcome_use<'o, 'a>(
     outcomes: &'o Outcomes<'a>,
     used: u32,
@@ -87,6 +89,7 @@ impl<'a> Reader<'a> {
     }
 
     /// How many children a node has whose set has this place, where it has one.
+    #[inline(always)]
     fn children(&self, set: Option<u32>) -> usize
         requires { MatchOption set ⊤ (λ place. place < length self.now.sets.known) }
         ensures { result ≡ child_count self.now.sets.known (position_of set) }
@@ -99,6 +102,7 @@ impl<'a> Reader<'a> {
 
     /// Tells a node with the places of its set and of its outcome, where it has them. Its children
     /// are due.
+    #[inline(always)]
     pub(super) fn tell<R: Receive<'a>>(
         &mut self,
         name: Label<'a>,

@@ -8,7 +8,7 @@ use Rattle.gf_tree.specs.Machine.Position.{KnownAction}
 use Rattle.gf_tree.specs.ReaderState.{heard}
 use Rattle.gf_tree.specs.declared.action.Action.{Action}
 use Rattle.gf_tree.proofs.ReaderSteps.{carried, goes_back}
-use Rattle.gf_tree.proofs.again.same_set.Goals as goal
+use Rattle.gf_tree.proofs.again.same_set_named.Goals as goal
 
 pub returns-in_err-same_action-clause-machine : goal.returns-in_err-same_action-clause-machine
 returns-in_err-same_action-clause-machine c = λ content node key.
