@@ -8,6 +8,7 @@ pub mod Formats
 pub mod NumbersInOrder
 pub mod OneFile
 pub mod Pieces
+pub mod PlainLines
 pub mod ReadsBack
 pub mod SameGames
 pub mod Spellables

@@ -1,8 +1,10 @@
 -- The pieces of the text of a game, for the functions that append them.
-use Rattle.std.specs.Prelude.{ℕ, List, [], ◌∷◌, ◌++◌, map, codes}
+use Rattle.std.specs.Prelude.{ℕ, zero, suc, List, [], ◌∷◌, ◌++◌, map, codes, decimal}
+use Rattle.std.specs.Prelude.{Option, None, Some}
 use Rattle.std.specs.List.{flat_map}
 use Rattle.gf_nfg.specs.TableText.{spaced, list_text, quoted, lines_text}
-use Rattle.gf_tree.specs.FileTree.{FileNode}
+use Rattle.gf_tree.specs.Description.{InformationSet, SetKey}
+use Rattle.gf_tree.specs.FileTree.{FileNode, Use}
 use Rattle.gf_tree.specs.Told.{Heading, Told}
 use Rattle.gf_canon.specs.GameText.{node_text}
 
@@ -23,6 +25,34 @@ heading_text title comment players =
 -- a node's line
 abbrev pub node_line : FileNode → List ℕ
 node_line n = node_text n ++ 10 ∷ []
+
+abbrev pub player_letter : ℕ → ℕ
+player_letter zero = 99
+player_letter (suc _) = 112
+
+-- `t` where the game ends, `c` where chance moves, and else `p`
+abbrev pub mover_letter : Option (Use SetKey InformationSet) → ℕ
+mover_letter None = 116
+mover_letter (Some set) = player_letter set.key.player
+
+-- a number behind a space, and what follows
+abbrev pub number_then : ℕ → List ℕ → List ℕ
+number_then number rest = 32 ∷ (decimal number ++ rest)
+
+-- the number of a player other than chance, and what follows
+abbrev pub player_then : ℕ → List ℕ → List ℕ
+player_then zero rest = rest
+player_then (suc player) rest = number_then (suc player) rest
+
+-- what stands behind the name of a node that describes nothing
+abbrev pub tail_text : Option (Use SetKey InformationSet) → ℕ → List ℕ
+tail_text None outcome = number_then outcome (10 ∷ [])
+tail_text (Some set) outcome = player_then set.key.player
+    (number_then set.key.number (number_then outcome (10 ∷ [])))
+
+-- its line
+abbrev pub plain_line : List ℕ → Option (Use SetKey InformationSet) → ℕ → List ℕ
+plain_line name set outcome = mover_letter set ∷ 32 ∷ (quoted name ++ tail_text set outcome)
 
 -- the lines of what was told
 abbrev pub told_text : Heading → List Told → List ℕ

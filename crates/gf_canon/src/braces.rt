@@ -91,6 +91,7 @@ fn write_name(name: Label<'_>, out: &mut Vec<u8>) -> Result<(), AllocError>
 }
 
 /// Appends the description of a set: its name and its actions.
+#[inline(never)]
 pub(crate) fn write_set(
     description: SetDescription<'_, '_>,
     out: &mut Vec<u8>,
@@ -104,6 +105,7 @@ pub(crate) fn write_set(
 }
 
 /// Appends the description of an outcome: its name and its payoffs.
+#[inline(never)]
 pub(crate) fn write_outcome(
     description: OutcomeDescription<'_, '_>,
     out: &mut Vec<u8>,

@@ -9,6 +9,7 @@ pub mod laws;
 mod lines;
 mod node_line;
 mod numbering;
+mod plain_line;
 mod write;
 
 pub use canonise::canonical;

@@ -46,6 +46,7 @@ impl<'a> Receive<'a> for Lines {
     }
 
     #[tactic(auto, using(crate::proofs::ToldTexts::one_line_more))]
+    #[inline(always)]
     fn node(&mut self, node: ToldNode<'_, 'a>) -> Result<(), AllocError> {
         write_node(&node.node, &mut self.text)
     }

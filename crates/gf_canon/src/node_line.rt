@@ -10,6 +10,7 @@ ghost use Rattle.gf_canon.specs.GameText.{set_fields, step_fields};
 ghost use Rattle.gf_canon.specs.TextParts.{node_line};
 
 use crate::braces::{write_outcome, write_set};
+use crate::plain_line::write_plain;
 use gf_token::{Label, write_label};
 use gf_tree::{FileNode, OutcomeUse, SetUse};
 use itoa::write_digits;
@@ -60,6 +61,7 @@ fn write_set_use(set: SetUse<'_, '_>, out: &mut Vec<u8>) -> Result<(), AllocErro
 
 /// Appends who moves at a node with this name, and at which set.
 #[tactic(auto, using(crate::proofs::TextPieces::mover_joined))]
+#[inline(always)]
 fn write_step(
     name: Label<'_>,
     set: Option<SetUse<'_, '_>>,
@@ -97,9 +99,10 @@ fn write_result(outcome: Option<OutcomeUse<'_, '_>>, out: &mut Vec<u8>) -> Resul
     }
 }
 
-/// Appends the line of a node.
+/// Appends the line of a node that describes its set or its outcome.
+#[inline(never)]
 #[tactic(auto, using(crate::proofs::TextPieces::step_joined))]
-pub(crate) fn write_node(node: &FileNode<'_, '_>, out: &mut Vec<u8>) -> Result<(), AllocError>
+fn write_described(node: &FileNode<'_, '_>, out: &mut Vec<u8>) -> Result<(), AllocError>
     ensures text { OnOk result (out.new.items ≡ out.old.items ++ node_line (file_node_of node.now)) }
     ensures kept { OnErr result (Keeps out.old.items out.new.items) }
 {
@@ -107,4 +110,27 @@ pub(crate) fn write_node(node: &FileNode<'_, '_>, out: &mut Vec<u8>) -> Result<(
     write_result(node.outcome, out)?;
     out.push(b'\n')?;
     Ok(())
+}
+
+/// Appends the line of a node.
+#[inline(always)]
+#[tactic(auto, using(crate::proofs::PlainLines::zero_text))]
+pub(crate) fn write_node(node: &FileNode<'_, '_>, out: &mut Vec<u8>) -> Result<(), AllocError>
+    ensures text { OnOk result (out.new.items ≡ out.old.items ++ node_line (file_node_of node.now)) }
+    ensures kept { OnErr result (Keeps out.old.items out.new.items) }
+{
+    if let Some(set) = node.set {
+        if set.description.is_some() {
+            return write_described(node, out);
+        }
+    }
+    match node.outcome {
+        Some(outcome) => {
+            if outcome.description.is_some() {
+                return write_described(node, out);
+            }
+            write_plain(node.name, node.set, outcome.number, out)
+        }
+        None => write_plain(node.name, node.set, 0, out),
+    }
 }

@@ -1,18 +1,15 @@
-use Rattle.std.proofs.Common.{◌++◌, option_map}
-use Rattle.gf_nfg.specs.TableText.{spaced}
-use Rattle.gf_nfg.specs.TextParts.{others_text}
+use Rattle.std.proofs.Common.{option_map, rules}
 use Rattle.gf_token.specs.Label.{label_of}
-use Rattle.gf_tree.specs.FileNodeOf.{outcome_use_of, set_use_of}
-use Rattle.gf_canon.specs.GameText.{result_fields, step_fields}
-use Rattle.gf_canon.proofs.TextPieces.{line_written, step_joined}
+use Rattle.gf_tree.specs.FileNodeOf.{file_node_of, set_use_of}
+use Rattle.gf_canon.proofs.PlainLines.{null_written, plain_none, plain_some}
 use Rattle.gf_canon.proofs.node_line.write_node.Goals as goal
+use Rattle.gf_canon.proofs.node_line.write_node.Goals.{in-Some+else-is_some, in_default}
 
-pub returns-clause-text : goal.returns-clause-text
-returns-clause-text c =
-    let name = label_of c.args.node.now.name in
-    let set = option_map set_use_of c.args.node.now.set in
-    let fields = result_fields (option_map outcome_use_of c.args.node.now.outcome) in
-    line_written c.args.out.now.items c.write_step.new.out.items c.write_result.new.out.items
-    c.push.new.self.items (spaced (step_fields name set)) (others_text fields)
-    (spaced (step_fields name set ++ fields)) c.in_ok-write_step.ensures.text
-    c.in_ok-write_result.ensures.text c.in_ok-push.ensures.items (step_joined name set fields)
+pub returns-in-None-clause-text : goal.returns-in-None-clause-text
+returns-in-None-clause-text c =
+    let node = c.args.node.now in
+    null_written c.write_plain-in-None.result c.args.out.now.items
+    c.write_plain-in-None.new.out.items (label_of node.name) (option_map set_use_of node.set)
+    (file_node_of node) (search rules)
+    (elim c.match-node.branch [ in-Some+else-is_some w ↦ plain_some node.set w.in-Some.set w.in-Some.is (search rules) | in_default w ↦ plain_none node.set w.in_default.is ])
+    c.write_plain-in-None.ensures.text
