@@ -12,6 +12,7 @@ mod games;
 mod large;
 mod nodes;
 mod places;
+mod random;
 mod refusals;
 mod renumbering;
 mod telling;
