@@ -13,7 +13,7 @@ use Rattle.gf_tree.specs.Description.{InformationSet, SetKey}
 use Rattle.gf_tree.specs.FileTree.{FileNode, Use}
 use Rattle.gf_nfg.specs.TableText.{quoted, spaced}
 use Rattle.gf_canon.specs.GameText.{described_fields, mover_fields, set_fields}
-use Rattle.gf_canon.specs.TextParts.{node_line, number_then, plain_line, player_letter}
+use Rattle.gf_canon.specs.TextParts.{mover_letter, node_line, number_then, plain_line, player_letter}
 use Rattle.gf_canon.specs.TextParts.{player_then, tail_text}
 
 pub zero_text : decimal 0 ≡ codes "0"
@@ -24,12 +24,12 @@ then_joined : (n : ℕ) (xs rest : List ℕ) → number_then n xs ++ rest ≡ nu
 then_joined n xs rest = ap (λ (bs : List ℕ). 32 ∷ bs) (append_assoc (decimal n) xs rest)
 
 -- the outcome's number, behind which the line feed was set
-pub outcome_tail : (outcome : ℕ) (text new : List ℕ) (r : ℕ) → 33 < length text
-    → drop r new ≡ number_then outcome (drop 33 (set text 33 10))
-    → drop r new ≡ number_then outcome (10 ∷ []) ++ drop 34 text
+pub outcome_tail : (outcome : ℕ) (text new : List ℕ) (r : ℕ) → 37 < length text
+    → drop r new ≡ number_then outcome (drop 37 (set text 37 10))
+    → drop r new ≡ number_then outcome (10 ∷ []) ++ drop 38 text
 outcome_tail outcome text new r h e =
-    e ∙ ap (number_then outcome) (drop-set text 33 10 h)
-    ∙ sym (then_joined outcome (10 ∷ []) (drop 34 text))
+    e ∙ ap (number_then outcome) (drop-set text 37 10 h)
+    ∙ sym (then_joined outcome (10 ∷ []) (drop 38 text))
 
 -- a number more
 pub number_tail : (n : ℕ) (tail rest before new : List ℕ) (r s : ℕ) → drop s before ≡ tail ++ rest
@@ -69,34 +69,62 @@ tail_player set used outcome rest x e n h =
     (player_numbered used.player (number_then used.number (number_then outcome (10 ∷ []))) n)
     ∙ ap (λ (s : Option SetUse). tail_text (option_map set_use_of s) outcome ++ rest) (sym e)
 
-pub tail_length : (text old tail : List ℕ) (start : ℕ) → length text ≡ 68 → length old ≡ 68
-    → start ≤ 34 → drop start text ≡ tail ++ drop 34 old → length tail ≡ 34 - start
+-- with as much as stands before it, the tail is as long as the line may be
+pub tail_length : (text old tail : List ℕ) (start : ℕ) → length text ≡ 76 → length old ≡ 76
+    → start ≤ 38 → drop start text ≡ tail ++ drop 38 old → length tail + start ≡ 38
 tail_length text old tail start l l' within written = omega (
   arith,
   l,
   l',
   within,
   ap length written,
-  length-append tail (drop 34 old),
+  length-append tail (drop 38 old),
   length-drop start text,
-  length-drop 34 old,
+  length-drop 38 old,
 )
 
--- of what is appended from the tail on, as much is cut off as stands before it
-pub cut_off : (old new text tail rest : List ℕ) (start n : ℕ)
-    → new ≡ old ++ take 34 (drop start text) → n ≡ length old + (34 - start)
-    → drop start text ≡ tail ++ rest → start ≤ 34 → length tail ≡ 34 - start
-    → take n new ≡ old ++ tail
-cut_off old new text tail rest start n e is written within short =
-    let split : 34 ≡ length tail + start = omega (arith, within, short) in
-    let shown : take 34 (drop start text) ≡ tail ++ take start rest =
-    ap (take 34) written ∙ ap (λ (k : ℕ). take k (tail ++ rest)) split
-    ∙ take-append-add tail rest start in
-    let seam : n ≡ length (old ++ tail) = omega (arith, is, short, length-append old tail) in
+-- of what is appended from the start of a line on, as much is cut off as stands before it
+pub cut_off : (old new text line rest : List ℕ) (start n : ℕ)
+    → new ≡ old ++ take 38 (drop start text) → n ≡ length old + (38 - start)
+    → drop start text ≡ line ++ rest → length line + start ≡ 38 → take n new ≡ old ++ line
+cut_off old new text line rest start n e is written whole =
+    let split : 38 ≡ length line + start = omega (arith, whole) in
+    let shown : take 38 (drop start text) ≡ line ++ take start rest =
+    ap (take 38) written ∙ ap (λ (k : ℕ). take k (line ++ rest)) split
+    ∙ take-append-add line rest start in
+    let seam : n ≡ length (old ++ line) = omega (arith, is, whole, length-append old line) in
     ap (take n) (e ∙ ap (λ (bs : List ℕ). old ++ bs) shown
-    ∙ sym (append_assoc old tail (take start rest)))
-    ∙ ap (λ (k : ℕ). take k ((old ++ tail) ++ take start rest)) seam
-    ∙ take-append_seam (old ++ tail) (take start rest)
+    ∙ sym (append_assoc old line (take start rest)))
+    ∙ ap (λ (k : ℕ). take k ((old ++ line) ++ take start rest)) seam
+    ∙ take-append_seam (old ++ line) (take start rest)
+
+-- ---- the line of a node with a name, and of one without
+
+pub unnamed_written : {A E : Type 0} (r : Result A E) (old new name : List ℕ) (letter : ℕ)
+    (set : Option (Use SetKey InformationSet)) (outcome : ℕ) → name ≡ [] → letter ≡ mover_letter set
+    → OnOk r (new ≡ old ++ letter ∷ 32 ∷ 34 ∷ 34 ∷ tail_text set outcome)
+    → OnOk r (new ≡ old ++ plain_line name set outcome)
+unnamed_written (Ok a) old new name letter set outcome e l h =
+    h ∙ ap (λ (k : ℕ). old ++ k ∷ 32 ∷ 34 ∷ 34 ∷ tail_text set outcome) l
+    ∙ ap (λ (bs : List ℕ). old ++ mover_letter set ∷ 32 ∷ (quoted bs ++ tail_text set outcome))
+    (sym e)
+unnamed_written (Err a) old new name letter set outcome e l h = tt
+
+pub named_written : {A E : Type 0} (r : Result A E) (old o1 o2 o3 new name : List ℕ) (letter : ℕ)
+    (set : Option (Use SetKey InformationSet)) (outcome : ℕ) → letter ≡ mover_letter set
+    → o1 ≡ old ++ letter ∷ [] → o2 ≡ o1 ++ 32 ∷ [] → o3 ≡ o2 ++ quoted name
+    → OnOk r (new ≡ o3 ++ tail_text set outcome)
+    → OnOk r (new ≡ old ++ plain_line name set outcome)
+named_written (Ok a) old o1 o2 o3 new name letter set outcome l e1 e2 e3 h =
+    let tail = tail_text set outcome in
+    h ∙ ap (λ (bs : List ℕ). bs ++ tail) e3
+    ∙ append_assoc o2 (quoted name) tail
+    ∙ ap (λ (bs : List ℕ). bs ++ (quoted name ++ tail))
+    (e2 ∙ ap (λ (bs : List ℕ). bs ++ 32 ∷ []) e1)
+    ∙ append_assoc (old ++ letter ∷ []) (32 ∷ []) (quoted name ++ tail)
+    ∙ append_assoc old (letter ∷ []) (32 ∷ (quoted name ++ tail))
+    ∙ ap (λ (k : ℕ). old ++ k ∷ 32 ∷ (quoted name ++ tail)) l
+named_written (Err a) old o1 o2 o3 new name letter set outcome l e1 e2 e3 h = tt
 
 -- ---- a node without an outcome
 

@@ -1,7 +1,7 @@
 //! The lines of nodes that describe neither a set nor an outcome, which most nodes are.
 
-ghost use Rattle.std.specs.Prelude.{◌≡◌, ◌++◌, ◌∷◌, ◌≤◌, ◌<◌, ◌+◌, OnErr, OnOk};
-ghost use Rattle.std.specs.Prelude.{decimal, drop, option_map};
+ghost use Rattle.std.specs.Prelude.{◌≡◌, ◌++◌, ◌∷◌, ◌≤◌, ◌+◌, ℕ, List, OnErr, OnOk};
+ghost use Rattle.std.specs.Prelude.{decimal, drop, length, option_map};
 ghost use Rattle.gf_nfg.specs.TextParts.{Keeps};
 ghost use Rattle.gf_token.specs.Label.{label_of};
 ghost use Rattle.gf_tree.specs.FileNodeOf.{set_use_of};
@@ -12,17 +12,17 @@ use gf_tree::SetUse;
 use itoa::write_digits;
 use std::alloc::AllocError;
 
-/// Room for what stands behind a node's name: the numbers of its player, its set and its outcome,
-/// each a space and ten digits, and a line feed.
-const TAIL_LEN: usize = 34;
+/// Room for a line without a node's name: a letter and a space, two quotes, the numbers of its
+/// player, its set and its outcome, each a space and ten digits, and a line feed.
+const LINE_LEN: usize = 38;
 
-/// Room for a tail that ends at `TAIL_LEN`, and for `TAIL_LEN` bytes from wherever it begins.
-const ROOM: usize = 2 * TAIL_LEN;
+/// Room for a line that ends at `LINE_LEN`, and for `LINE_LEN` bytes from wherever it begins.
+const ROOM: usize = 2 * LINE_LEN;
 
 /// Writes a space and the digits of a number so that they end at `end`. Answers where they begin.
 #[inline(always)]
 fn write_number_before(end: usize, number: u32, text: &mut [u8; ROOM]) -> usize
-    requires within { (11 ≤ end) × (end ≤ 34) }
+    requires within { (11 ≤ end) × (end ≤ 38) }
     ensures within { (end ≤ result + 11) × (result ≤ end) }
     ensures written { drop result text.new ≡ 32 ∷ (decimal number ++ drop end text.old) }
 {
@@ -31,15 +31,15 @@ fn write_number_before(end: usize, number: u32, text: &mut [u8; ROOM]) -> usize
     at
 }
 
-/// Writes what stands behind a node's name so that it ends at `TAIL_LEN`. Answers where it begins.
+/// Writes what stands behind a node's name so that it ends at `LINE_LEN`. Answers where it begins.
 #[inline(always)]
 fn write_tail(set: Option<SetUse<'_, '_>>, outcome: u32, text: &mut [u8; ROOM]) -> usize
-    ensures within { result ≤ 34 }
+    ensures within { (4 ≤ result) × (result ≤ 38) }
     ensures written { drop result text.new
-        ≡ tail_text (option_map set_use_of set.entry) outcome ++ drop 34 text.old }
+        ≡ tail_text (option_map set_use_of set.entry) outcome ++ drop 38 text.old }
 {
-    text[TAIL_LEN - 1] = b'\n';
-    let at = write_number_before(TAIL_LEN - 1, outcome, text);
+    text[LINE_LEN - 1] = b'\n';
+    let at = write_number_before(LINE_LEN - 1, outcome, text);
     let Some(set) = set else {
         return at;
     };
@@ -61,21 +61,31 @@ fn letter(set: Option<SetUse<'_, '_>>) -> u8
     }
 }
 
-/// Appends what stands behind a node's name. On an `Err` the items are as they were.
+/// Writes a letter, a space and two quotes before a place. Answers where they begin.
 #[inline(always)]
-fn append_tail(
-    set: Option<SetUse<'_, '_>>,
-    outcome: u32,
-    out: &mut Vec<u8>,
-) -> Result<(), AllocError>
-    ensures ok { OnOk result (out.new.items
-        ≡ out.old.items ++ tail_text (option_map set_use_of set.entry) outcome) }
+fn write_front_before(at: usize, letter: u8, text: &mut [u8; ROOM]) -> usize
+    requires within { (4 ≤ at) × (at ≤ 38) }
+    ensures front { result + 4 ≡ at }
+    ensures written { drop result text.new ≡ letter ∷ 32 ∷ 34 ∷ 34 ∷ drop at text.old }
+{
+    text[at - 1] = b'"';
+    text[at - 2] = b'"';
+    text[at - 3] = b' ';
+    text[at - 4] = letter;
+    at - 4
+}
+
+/// Appends what was written so that it ends at `LINE_LEN`, from where it begins. On an `Err` the
+/// items are as they were.
+#[inline(always)]
+fn append_from(start: usize, text: &[u8; ROOM], out: &mut Vec<u8>) -> Result<(), AllocError>
+    requires within { start ≤ 38 }
+    ensures ok { (line rest : List ℕ) → drop start text.now ≡ line ++ rest
+        → length line + start ≡ 38 → OnOk result (out.new.items ≡ out.old.items ++ line) }
     ensures err { OnErr result (out.new.items ≡ out.old.items) }
 {
-    let mut text = [0; ROOM];
-    let start = write_tail(set, outcome, &mut text);
-    // A copy of a known length needs no call. What it takes behind the tail is cut off.
-    out.extend_from_slice(&text[start..start + TAIL_LEN])?;
+    // A copy of a known length needs no call. What it takes behind the line is cut off.
+    out.extend_from_slice(&text[start..start + LINE_LEN])?;
     out.truncate(out.len() - start);
     Ok(())
 }
@@ -92,8 +102,14 @@ pub(crate) fn write_plain(
         ++ plain_line (label_of name.entry) (option_map set_use_of set.entry) outcome) }
     ensures kept { OnErr result (Keeps out.old.items out.new.items) }
 {
+    let mut text = [0; ROOM];
+    let tail = write_tail(set, outcome, &mut text);
+    if name.raw().is_empty() {
+        let start = write_front_before(tail, letter(set), &mut text);
+        return append_from(start, &text, out);
+    }
     out.push(letter(set))?;
     out.push(b' ')?;
     write_label(name, out)?;
-    append_tail(set, outcome, out)
+    append_from(tail, &text, out)
 }

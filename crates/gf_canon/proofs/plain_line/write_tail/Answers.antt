@@ -8,7 +8,7 @@ use Rattle.gf_canon.proofs.plain_line.write_tail.Goals as goal
 pub returns-in_default-clause-written : goal.returns-in_default-clause-written
 returns-in_default-clause-written c =
     let a = c.write_number_before-at in
-    tail_none c.args.set c.args.outcome (drop 34 c.args.text.now) _ (search rules)
+    tail_none c.args.set c.args.outcome (drop 38 c.args.text.now) _ (search rules)
     (outcome_tail c.args.outcome c.args.text.now a.new.text a.result (omega arith)
     a.ensures.written)
 
@@ -16,10 +16,10 @@ pub returns-then-set-eq0-clause-written : goal.returns-then-set-eq0-clause-writt
 returns-then-set-eq0-clause-written c =
     let a = c.write_number_before-at in
     let b = c.write_number_before-at-2 in
-    tail_chance c.args.set c.in-Some.set c.args.outcome (drop 34 c.args.text.now) _ (search rules)
+    tail_chance c.args.set c.in-Some.set c.args.outcome (drop 38 c.args.text.now) _ (search rules)
     (grind (arith, nat_tests, c.if-set-eq0.true))
     (number_tail c.in-Some.set.number (number_then c.args.outcome (10 ∷ []))
-    (drop 34 c.args.text.now) a.new.text b.new.text b.result a.result
+    (drop 38 c.args.text.now) a.new.text b.new.text b.result a.result
     (outcome_tail c.args.outcome c.args.text.now a.new.text a.result (omega arith)
     a.ensures.written)
     b.ensures.written)
@@ -29,13 +29,13 @@ returns-clause-written c =
     let a = c.write_number_before-at in
     let b = c.write_number_before-at-2 in
     let p = c.write_number_before in
-    tail_player c.args.set c.in-Some.set c.args.outcome (drop 34 c.args.text.now) _ (search rules)
+    tail_player c.args.set c.in-Some.set c.args.outcome (drop 38 c.args.text.now) _ (search rules)
     c.if-set-eq0.false
     (number_tail c.in-Some.set.player
     (number_then c.in-Some.set.number (number_then c.args.outcome (10 ∷ [])))
-    (drop 34 c.args.text.now) b.new.text p.new.text p.result b.result
+    (drop 38 c.args.text.now) b.new.text p.new.text p.result b.result
     (number_tail c.in-Some.set.number (number_then c.args.outcome (10 ∷ []))
-    (drop 34 c.args.text.now) a.new.text b.new.text b.result a.result
+    (drop 38 c.args.text.now) a.new.text b.new.text b.result a.result
     (outcome_tail c.args.outcome c.args.text.now a.new.text a.result (omega arith)
     a.ensures.written)
     b.ensures.written)
