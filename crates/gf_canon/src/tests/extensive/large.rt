@@ -1,5 +1,8 @@
 //! Deep trees.
 
+use super::{joined, refusal};
+use crate::canonical;
+use gf_token::{Fault, Why};
 use gf_tree::read_efg;
 use std::alloc::{AllocError, Global};
 use std::test::Fail;
@@ -31,5 +34,27 @@ fn reads_a_tree_of_any_depth(rt: HostRuntime) -> Result<(), Fail> {
         assert_eq!(rt; branch.children(), 0);
         assert_eq!(rt; game.nodes().len().checked_sub(1), Some(moves));
     }
+    Ok(())
+}
+
+#[test]
+fn writes_a_deep_tree_as_it_is(rt: HostRuntime) -> Result<(), Fail> {
+    let file = chain(rt.alloc(), 100_000)?;
+    let text = canonical(rt.alloc(), &file).expect(&rt, "a file");
+    assert_eq!(rt; text.len(), 1_100_043);
+    let again = canonical(rt.alloc(), &text).expect(&rt, "a canonical text");
+    assert_eq!(rt; again, text);
+    Ok(())
+}
+
+#[test]
+fn refuses_the_last_node_of_a_deep_tree(rt: HostRuntime) -> Result<(), Fail> {
+    let file = chain(rt.alloc(), 100_000)?;
+    let front = file
+        .strip_suffix(b"0\n".as_slice())
+        .expect(&rt, "a last outcome");
+    let broken = joined(rt.alloc(), front, b"5\n")?;
+    let fault = Fault::at_end(broken.len(), Why::NotDescribed);
+    assert_eq!(rt; refusal(rt.alloc(), &broken), Some(fault));
     Ok(())
 }
