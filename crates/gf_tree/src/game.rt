@@ -28,9 +28,11 @@ use gf_token::Label;
 use std::marker::Model;
 
 mod file_nodes;
+mod nodes_by_first_use;
 mod renumbering;
 
 pub use file_nodes::FileNodes;
+pub use nodes_by_first_use::NodesByFirstUse;
 
 /// A game: a title, a comment, players, and a tree with information sets and outcomes. Every label
 /// is a slice of the file. Players are counted from 1, chance is player 0, and numbers of sets and

@@ -127,6 +127,14 @@ pub(crate) fn position(place: Option<u32>) -> u32
     }
 }
 
+/// The place of a position; `None` where there is none.
+pub(crate) fn place(position: u32) -> Option<u32>
+    ensures is { position_of result ≡ position }
+    ensures few { MatchOption result ⊤ (λ p. p < 4294967295) }
+{
+    position.checked_sub(1)
+}
+
 /// Nodes in prefix order, the sizes of whose subtrees are not known yet.
 #[derive(Debug, Drop)]
 pub(crate) struct NodeList<'a> {

@@ -20,11 +20,12 @@ mod readings;
 mod receive;
 mod seeded;
 mod sets;
+mod told;
 
 pub use crate::action::Action;
 pub use crate::branch::Branch;
 pub use crate::file_node::{FileNode, OutcomeDescription, OutcomeUse, SetDescription, SetUse};
-pub use crate::game::{FileNodes, Game};
+pub use crate::game::{FileNodes, Game, NodesByFirstUse};
 pub use crate::node::{Node, Step};
 pub use crate::nodes::Nodes;
 pub use crate::read::{read_efg, tell_efg};

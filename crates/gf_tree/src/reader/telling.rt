@@ -1,74 +1,21 @@
-//! What the reader tells of a node: its uses by first-use numbers, described where they are first.
+//! What the reader tells: the heading of a file, and then its nodes.
 
 ghost use Rattle.std.specs.Prelude.{◌≡◌, ◌<◌, [], length};
-ghost use Rattle.std.specs.Prelude.{option_map, MatchOption, MatchResult, OnOk, ⊤};
+ghost use Rattle.std.specs.Prelude.{MatchOption, MatchResult, OnOk, ⊤};
 ghost use Rattle.gf_token.specs.Label.{label_of};
 ghost use Rattle.gf_token.specs.Remaining.{StandsBefore};
-ghost use Rattle.gf_tree.specs.FileNodeOf.{outcome_use_of, set_use_of};
 ghost use Rattle.gf_tree.specs.KeptNodes.{child_count, position_of};
 ghost use Rattle.gf_tree.specs.Machine.Position.{NodeDue};
 ghost use Rattle.gf_tree.specs.ReaderState.{Fails, HasRoom, IsSound, TellsNode, answer};
 ghost use Rattle.gf_tree.specs.ReaderState.{heading_read};
-ghost use Rattle.gf_tree.specs.Told.{told_outcome, told_set};
 
 use super::Reader;
-use crate::file_node::{FileNode, OutcomeDescription, OutcomeUse, SetDescription, SetUse};
+use crate::file_node::FileNode;
 use crate::kept::position;
-use crate::outcomes::Outcomes;
 use crate::receive::{Receive, ToldHeading, ToldNode};
-use crate::sets::Sets;
+use crate::told::{outcome_use, set_use};
 use gf_token::{Fault, Label, Span, Why};
 use std::alloc::AllocError;
-
-/// The use of the set with this place, where so many were used before.
-#[inline(always)]
-fn set_use<'s, 'a>(sets: &'s Sets<'a>, used: u32, place: Option<u32>) -> Option<SetUse<'s, 'a>>
-    requires { MatchOption place ⊤ (λ p. p < length sets.now.known) }
-    ensures { option_map set_use_of result ≡ told_set sets.now.known used (position_of place) }
-{
-    let place = place?;
-    let (player, _) = sets.key(place);
-    let description = if place == used {
-        Some(SetDescription {
-            name: sets.name(place),
-            actions: sets.actions(place),
-        })
-    } else {
-        None
-    };
-    Some(SetUse {
-        player,
-        number: sets.first_use_number(place),
-        description,
-    })
-}
-
-/// The use of the outcome with this place, where so many were used before.
-#[inline(always)]
-fn outcome_use<'o, 'a>(
-    outcomes: &'o Outcomes<'a>,
-    used: u32,
-    place: Option<u32>,
-) -> Option<OutcomeUse<'o, 'a>>
-    requires within { MatchOption place ⊤ (λ p. p < length outcomes.now.known) }
-    requires few { MatchOption place ⊤ (λ p. p < 4294967295) }
-    ensures { option_map outcome_use_of result
-        ≡ told_outcome outcomes.now.known used (position_of place) }
-{
-    let place = place?;
-    let description = if place == used {
-        Some(OutcomeDescription {
-            name: outcomes.name(place),
-            payoffs: outcomes.payoffs(place),
-        })
-    } else {
-        None
-    };
-    Some(OutcomeUse {
-        number: place + 1,
-        description,
-    })
-}
 
 impl<'a> Reader<'a> {
     /// Tells the heading, whose last token stands there.

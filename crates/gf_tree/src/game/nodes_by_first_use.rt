@@ -1,0 +1,85 @@
+//! The nodes of a game by its first-use numbers.
+
+ghost use Rattle.std.specs.Prelude.{◌≡◌};
+ghost use Rattle.gf_tree.specs.FileNodeOf.{file_node_of};
+ghost use Rattle.gf_tree.specs.FileNodes.{file_nodes};
+ghost use Rattle.gf_tree.specs.FirstUse.{first_use_numbers};
+ghost use Rattle.gf_tree.specs.Renumbering.{renumbered};
+
+use crate::file_node::FileNode;
+use crate::game::Game;
+use crate::kept::{Stored, place};
+use crate::outcomes::Outcomes;
+use crate::sets::Sets;
+use crate::told::{outcome_use, set_use};
+use std::marker::Model;
+use std::slice;
+
+impl<'a> Game<'a> {
+    /// The nodes in prefix order, as a file gives them, but by first-use numbers: the number of a
+    /// set is its position among the sets of its player, that of an outcome its position among the
+    /// outcomes. Each set and each outcome is described where it is used first, and nowhere else.
+    /// Takes no memory.
+    pub fn nodes_by_first_use(&self) -> NodesByFirstUse<'_, 'a>
+        ensures { result ≡ file_nodes (renumbered (first_use_numbers self.now) self.now) }
+    {
+        NodesByFirstUse {
+            sets: &self.sets,
+            outcomes: &self.outcomes,
+            nodes: self.nodes.iter(),
+            used_sets: 0,
+            used_outcomes: 0,
+        }
+    }
+}
+
+/// An iterator over the nodes of a game in prefix order, as a file gives them, by first-use
+/// numbers.
+#[derive(Drop)]
+pub struct NodesByFirstUse<'g, 'a> {
+    sets: &'g Sets<'a>,
+    outcomes: &'g Outcomes<'a>,
+    /// The nodes that come next.
+    nodes: slice::Iter<'g, Stored<'a>>,
+    /// How many sets and outcomes are used before them.
+    used_sets: u32,
+    used_outcomes: u32,
+}
+
+impl<'g, 'a> Model for NodesByFirstUse<'g, 'a> {
+    ghost use Rattle.std.specs.Prelude.{List, length, map};
+    ghost use Rattle.std.specs.Slice.Iter.{iter_rest};
+    ghost use Rattle.gf_tree.specs.FileTree.{FileNode};
+    ghost use Rattle.gf_tree.specs.KeptNodes.{ArePlaced, kept_of};
+    ghost use Rattle.gf_tree.specs.Told.{told_from};
+
+    ghost Value = { List FileNode };
+
+    ghost view = { λ n. map (λ t. t.node) (told_from n.sets.now.known n.outcomes.now.known
+        n.used_sets n.used_outcomes (map kept_of (iter_rest n.nodes))) };
+
+    ghost invariant = { λ n. ArePlaced (length n.sets.now.known) (length n.outcomes.now.known)
+        (map kept_of (iter_rest n.nodes)) };
+}
+
+impl<'g, 'a> Iterator for NodesByFirstUse<'g, 'a> {
+    ghost use Rattle.std.specs.Iterator.{YieldsFirstBy, item_count};
+
+    type Item = FileNode<'g, 'a>;
+
+    ghost next_gives = { YieldsFirstBy file_node_of (λ left. left) };
+
+    ghost remaining = { item_count (λ left. left) };
+
+    fn next(&mut self) -> Option<FileNode<'g, 'a>> {
+        let stored = self.nodes.next()?;
+        let node = FileNode {
+            name: stored.name,
+            set: set_use(self.sets, self.used_sets, place(stored.set)),
+            outcome: outcome_use(self.outcomes, self.used_outcomes, place(stored.outcome)),
+        };
+        self.used_sets = self.used_sets.max(stored.set);
+        self.used_outcomes = self.used_outcomes.max(stored.outcome);
+        Some(node)
+    }
+}
