@@ -3,10 +3,9 @@ use Rattle.std.proofs.Common.{◌≡◌, ℕ, List, [], ◌∷◌, ◌++◌, map
 use Rattle.std.proofs.Common.{append-nil}
 use Rattle.std.specs.List.{flat_map}
 use Rattle.std.proofs.lemmas.Grind.{flat_map-append}
-use Rattle.gf_tree.specs.FileNodes.{file_nodes}
 use Rattle.gf_tree.specs.FileTree.{FileNode}
 use Rattle.gf_tree.specs.Game.{Game}
-use Rattle.gf_tree.specs.Told.{Heading, Told, heading_in}
+use Rattle.gf_tree.specs.Told.{Heading, Told}
 use Rattle.gf_tree.specs.ToldGame.{HasToldGame}
 use Rattle.gf_canon.specs.CanonicalGame.{canonical_game}
 use Rattle.gf_canon.specs.GameText.{game_text}

@@ -32,23 +32,23 @@ use Rattle.gf_canon.proofs.Files.{equal_canonical_texts}
 
 -- ---- the same keys
 
-unnamed_sets_of : (es : List (Entry Node))
+pub unnamed_sets_of : (es : List (Entry Node))
     → filter_map (λ e. e.node.set) (map (map_entry unnamed_node) es)
     ≡ filter_map (λ e. e.node.set) es
 unnamed_sets_of [] = refl
 unnamed_sets_of (e ∷ es) = ap (cons_option e.node.set) (unnamed_sets_of es)
 
-unnamed_outcomes_of : (es : List (Entry Node))
+pub unnamed_outcomes_of : (es : List (Entry Node))
     → filter_map (λ e. e.node.outcome) (map (map_entry unnamed_node) es)
     ≡ filter_map (λ e. e.node.outcome) es
 unnamed_outcomes_of [] = refl
 unnamed_outcomes_of (e ∷ es) = ap (cons_option e.node.outcome) (unnamed_outcomes_of es)
 
-unnamed_sets : (g : Game) → used_sets (unnamed_game g).tree ≡ used_sets g.tree
+pub unnamed_sets : (g : Game) → used_sets (unnamed_game g).tree ≡ used_sets g.tree
 unnamed_sets g = ap (filter_map (λ (e : Entry Node). e.node.set)) (flatten_map unnamed_node g.tree)
     ∙ unnamed_sets_of (flatten g.tree)
 
-unnamed_outcomes : (g : Game) → used_outcomes (unnamed_game g).tree ≡ used_outcomes g.tree
+pub unnamed_outcomes : (g : Game) → used_outcomes (unnamed_game g).tree ≡ used_outcomes g.tree
 unnamed_outcomes g =
     ap (filter_map (λ (e : Entry Node). e.node.outcome)) (flatten_map unnamed_node g.tree)
     ∙ unnamed_outcomes_of (flatten g.tree)
@@ -74,11 +74,11 @@ description_redescribed same f (e ∷ es) key =
     either f (same e.key key) e (find (λ d. same d.key key) es)
     (find (λ d. same d.key key) (redescribed f es)) (description_redescribed same f es key)
 
-unnamed_set_at : (g : Game) (key : SetKey)
+pub unnamed_set_at : (g : Game) (key : SetKey)
     → set_at (unnamed_game g) key ≡ option_map unnamed_set (set_at g key)
 unnamed_set_at g key = description_redescribed same_set unnamed_set g.sets key
 
-unnamed_outcome_at : (g : Game) (number : ℕ)
+pub unnamed_outcome_at : (g : Game) (number : ℕ)
     → outcome_at (unnamed_game g) number ≡ option_map unnamed_outcome (outcome_at g number)
 unnamed_outcome_at g number = description_redescribed nat_eq unnamed_outcome g.outcomes number
 
@@ -162,7 +162,7 @@ outcomes_spellable [] h = tt
 outcomes_spellable (o ∷ os) h =
     (record { number = h.0.number; name = refl; payoffs = h.0.payoffs }, outcomes_spellable os h.1)
 
-unnamed_is_spellable : (g : Game) → IsSpellable g → IsSpellable (unnamed_game g)
+pub unnamed_is_spellable : (g : Game) → IsSpellable g → IsSpellable (unnamed_game g)
 unnamed_is_spellable g can = record {
   title = refl;
   comment = refl;

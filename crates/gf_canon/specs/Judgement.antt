@@ -4,6 +4,7 @@ use Rattle.gf_token.specs.Place.{tokens_of, IsAcceptedThrough, IsOffendingPlace}
 use Rattle.gf_token.specs.Token.{Token, Lexeme}
 use Rattle.gf_token.specs.Token.Token.{Bare, Broken}
 use Rattle.gf_token.specs.TokenSpelling.{Spells}
+use Rattle.gf_token.specs.declared.fault.Fault.{Fault}
 use Rattle.gf_token.specs.declared.fault.Span.{Span}
 use Rattle.gf_token.specs.declared.fault.What.TheVariants.{Format}
 use Rattle.gf_token.specs.declared.fault.Why.{Why}
@@ -28,6 +29,10 @@ IsFileWithinLimit (strategic t) = IsWithinLimit t
 pub record SpellsWithin (bytes : List ℕ) (x : GameFile) : Type 0 where
   pub spelled : SpellsFile bytes x
   pub within : IsFileWithinLimit x
+
+-- the bytes mean a file within the limit
+abbrev pub MeansFile : List ℕ → Type 0
+MeansFile bytes = (x : GameFile) × SpellsWithin bytes x
 
 -- the bytes mean a file, and this is its canonical text
 pub record IsCanonicalText (bytes text : List ℕ) : Type 0 where
@@ -74,3 +79,9 @@ pub data IsJudged (why : Why) (bytes : List ℕ) (span : Span) : Type 0 where
   of_strategic : BeginsWithWord (codes "NFG") bytes → strategic_file.IsJudged why bytes span
       → IsJudged why bytes span
   of_neither : IsWithoutFormat why bytes span → IsJudged why bytes span
+
+-- the fault names the reason and the place, and where memory suffices the bytes mean no file
+pub record IsRefusedWith (bytes : List ℕ) (fault : Fault) : Type 0 where
+  pub judged : IsJudged fault.why bytes fault.span
+  pub placed : IsPlaced fault.why bytes fault.span
+  pub unless_memory : (x : GameFile) → SpellsWithin bytes x → fault.why ≡ Memory

@@ -5,7 +5,13 @@ pub mod GameFile
 pub mod GameText
 pub mod Judgement
 pub mod ListedInOrder
+pub mod MeaningOf
+pub mod NamedBy
 pub mod NamesAside
+pub mod NewNumbers
+pub mod Noted
+pub mod SameBy
 pub mod SameGame
+pub mod Sameness
 pub mod TextParts
 pub mod WorkedGames

@@ -4,16 +4,25 @@
 
 mod braces;
 mod canonise;
+mod carry;
+mod compare;
 mod format;
 pub mod laws;
 mod lines;
+mod meaning;
+mod new_numbers;
 mod node_line;
 mod numbering;
 mod plain_line;
+mod sameness;
+mod walk;
 mod write;
 
 pub use canonise::canonical;
+pub use carry::renumbering;
+pub use new_numbers::Renumbering;
 pub use numbering::renumber;
+pub use sameness::{Names, SameFault, same, same_by};
 pub use write::write_efg;
 
 #[cfg(test)]

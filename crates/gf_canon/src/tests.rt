@@ -1,5 +1,7 @@
 //! Files, and the texts of their games.
 
+mod sameness;
+
 use crate::{renumber, write_efg};
 use gf_tree::{Game, read_efg};
 use std::alloc::{AllocError, Global};

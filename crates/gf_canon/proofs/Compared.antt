@@ -1,0 +1,105 @@
+-- What a test of two lists says of what their items stand for.
+use Rattle.std.proofs.Common.{◌≡◌, ℕ, zero, suc, ◌+◌, ◌<◌, ◌≤◌, Bool, true, false, List, [], ◌∷◌}
+use Rattle.std.proofs.Common.{length, map, take, get_or, nat_eq, refl, sym, ap, ◌∙◌, arith}
+use Rattle.std.specs.Prelude.{◌&&◌}
+use Rattle.std.specs.Bool.{Decides}
+use Rattle.std.specs.Cmp.Lexicographic.{pointwise}
+use Rattle.std.specs.Ordering.{int_eq}
+use Rattle.std.proofs.lemmas.Bool.Decides.{Decides-eqb, Decides-int_eq}
+use Rattle.std.proofs.lemmas.List.{length-map, take_all}
+use Rattle.std.proofs.lemmas.Slice.Eq.{slice_eq-Decides}
+use Rattle.gf_fraction.specs.Ratio.{Ratio}
+use Rattle.gf_token.specs.Label.{label_of}
+use Rattle.gf_token.specs.declared.label.Label.{Label}
+
+both_pass : (p q : Bool) → p && q ≡ true → (p ≡ true) × (q ≡ true)
+both_pass true q h = (refl, h)
+both_pass false q h = absurd cc
+
+-- ---- ratios
+
+pub Decides-ratio : (a b : Ratio) → Decides (int_eq a.num b.num && nat_eq a.den b.den) (a ≡ b)
+Decides-ratio a b = (
+  λ h. let both = both_pass (int_eq a.num b.num) (nat_eq a.den b.den) h in
+      let num = (Decides-int_eq a.num b.num).0 both.0 in
+      let den = (Decides-eqb a.den b.den).0 both.1 in
+      λ i. record { num = num i; den = den i },
+  λ e. let num = (Decides-int_eq a.num b.num).1 (ap (λ (r : Ratio). r.num) e) in
+      let den = (Decides-eqb a.den b.den).1 (ap (λ (r : Ratio). r.den) e) in rw (num, den) refl,
+)
+
+-- ---- what items stand for
+
+module _ {A B : Type 0} (f : A → B) (same : A → A → Bool)
+    (tells : (x y : A) → Decides (same x y) (f x ≡ f y)) where
+  tested : (xs ys : List A) → Decides (pointwise same xs ys) (map f xs ≡ map f ys)
+  tested [] [] = (λ h. refl, λ h. refl)
+  tested [] (y ∷ ys) = (λ h. absurd cc, λ h. absurd cc)
+  tested (x ∷ xs) [] = (λ h. absurd cc, λ h. absurd cc)
+  tested (x ∷ xs) (y ∷ ys) = (
+    λ h. let both = both_pass (same x y) (pointwise same xs ys) h in
+        let first = (tells x y).0 both.0 in
+        let others = (tested xs ys).0 both.1 in
+        λ i. first i ∷ others i,
+    λ e. let first : f x ≡ f y = cc in
+        let others : map f xs ≡ map f ys = cc in
+        rw ((tells x y).1 first, (tested xs ys).1 others) refl,
+  )
+
+  pub tested_by : (xs ys : List A) (r : Bool) → r ≡ pointwise same xs ys
+      → Decides r (map f xs ≡ map f ys)
+  tested_by xs ys r is = rw is (tested xs ys)
+
+-- ---- labels
+
+label_bytes : (x y : Label) → Decides (pointwise nat_eq x.raw.now y.raw.now) (label_of x ≡ label_of y)
+label_bytes x y =
+    slice_eq-Decides Decides-eqb (label_of x) (label_of y) (pointwise nat_eq x.raw.now y.raw.now) refl
+
+pub same_labels : (xs ys : List Label) (r : Bool)
+    → r ≡ pointwise (λ x y. pointwise nat_eq x.raw.now y.raw.now) xs ys
+    → Decides r (map label_of xs ≡ map label_of ys)
+same_labels = tested_by label_of (λ x y. pointwise nat_eq x.raw.now y.raw.now) label_bytes
+
+-- ---- lists that are tested item by item
+
+module _ {A B : Type 0} (f : A → B) where
+  -- the items at one place stand for the same
+  there : (xs ys : List A) (k : ℕ) (x y : A) → k < length xs → map f xs ≡ map f ys
+      → f (get_or xs k x) ≡ f (get_or ys k y)
+  there [] ys k x y h e = absurd (omega (arith, h))
+  there (a ∷ xs) [] k x y h e = absurd cc
+  there (a ∷ xs) (b ∷ ys) zero x y h e = cc
+  there (a ∷ xs) (b ∷ ys) (suc k) x y h e =
+      let others : map f xs ≡ map f ys = cc in there xs ys k x y (omega (arith, h)) others
+
+  pub same_there : (xs ys : List A) (k : ℕ) (x y : A) → k < length xs
+      → x ≡ get_or xs k x → y ≡ get_or ys k y → map f xs ≡ map f ys → f x ≡ f y
+  same_there xs ys k x y h at_x at_y e = ap f at_x ∙ there xs ys k x y h e ∙ ap f (sym at_y)
+
+  one_further : (xs ys : List A) (k : ℕ) (x y : A) → k < length xs → length xs ≡ length ys
+      → f (get_or xs k x) ≡ f (get_or ys k y) → take k (map f xs) ≡ take k (map f ys)
+      → take (suc k) (map f xs) ≡ take (suc k) (map f ys)
+  one_further [] ys k x y h n e s = absurd (omega (arith, h))
+  one_further (a ∷ xs) [] k x y h n e s = absurd (omega (arith, n))
+  one_further (a ∷ xs) (b ∷ ys) zero x y h n e s = ap (λ (z : B). z ∷ []) e
+  one_further (a ∷ xs) (b ∷ ys) (suc k) x y h n e s =
+      let first : f a ≡ f b = cc in
+      let rest : take k (map f xs) ≡ take k (map f ys) = cc in
+      let others = one_further xs ys k x y (omega (arith, h)) (omega (arith, n)) e rest in
+      λ i. first i ∷ others i
+
+  -- one place more
+  pub same_more : (xs ys : List A) (k : ℕ) (x y : A) → k < length xs → length xs ≡ length ys
+      → x ≡ get_or xs k x → y ≡ get_or ys k y → f x ≡ f y
+      → take k (map f xs) ≡ take k (map f ys) → take (k + 1) (map f xs) ≡ take (k + 1) (map f ys)
+  same_more xs ys k x y h n at_x at_y e s =
+      let next : k + 1 ≡ suc k = omega arith in
+      rw next (one_further xs ys k x y h n (ap f (sym at_x) ∙ e ∙ ap f at_y) s)
+
+  -- at the end
+  pub same_all : (xs ys : List A) (k : ℕ) → length xs ≤ k → length xs ≡ length ys
+      → take k (map f xs) ≡ take k (map f ys) → map f xs ≡ map f ys
+  same_all xs ys k h n s =
+      sym (take_all k (map f xs) (omega (arith, h, length-map xs f))) ∙ s
+      ∙ take_all k (map f ys) (omega (arith, h, n, length-map ys f))

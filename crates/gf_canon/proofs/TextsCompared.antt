@@ -1,0 +1,30 @@
+-- The answer of a comparison speaks of whatever the two files mean, and of their canonical texts.
+use Rattle.std.proofs.Common.{◌≡◌, ℕ, Bool, List, Result, Ok, Err, IfOk, MatchResult, sym, subst, ◌∙◌}
+use Rattle.std.specs.Prelude.{◌↔◌, IsTrue}
+use Rattle.gf_canon.specs.GameFile.{GameFile, SameFile}
+use Rattle.gf_canon.specs.Judgement.{IsCanonicalText, SpellsWithin}
+use Rattle.gf_canon.specs.SameBy.{SameBy}
+use Rattle.gf_canon.specs.Sameness.{WantsMemory}
+use Rattle.gf_canon.specs.declared.sameness.Names.{Names}
+use Rattle.gf_canon.specs.declared.sameness.SameFault.{SameFault}
+use Rattle.gf_canon.proofs.Files.{equal_canonical_texts, spells_one_file}
+
+pub same_as_read : (names : Names) (answer : Bool) (a b : List ℕ) (first second : GameFile)
+    → SpellsWithin a first → SpellsWithin b second → IsTrue answer ↔ SameBy names first second
+    → (x y : GameFile) → SpellsWithin a x → SpellsWithin b y → IsTrue answer ↔ SameBy names x y
+same_as_read names answer a b first second of_a of_b same x y of_x of_y =
+    subst (λ (z : GameFile). IsTrue answer ↔ SameBy names z y)
+    (spells_one_file a first x of_a.spelled of_x.spelled)
+    (subst (λ (z : GameFile). IsTrue answer ↔ SameBy names first z)
+    (spells_one_file b second y of_b.spelled of_y.spelled) same)
+
+pub same_as_texts : (result : Result Bool SameFault) (a b s t : List ℕ)
+    → (p : IsCanonicalText a s) → (q : IsCanonicalText b t)
+    → MatchResult result (λ answer. IsTrue answer ↔ SameFile p.file q.file) WantsMemory
+    → IfOk result (λ answer. IsTrue answer ↔ (s ≡ t))
+same_as_texts (Ok answer) a b s t p q same =
+    let texts = equal_canonical_texts a b p.file q.file p.spelled.spelled q.spelled.spelled in (
+      λ yes. p.is_text ∙ texts.1 (same.0 yes) ∙ sym q.is_text,
+      λ e. same.1 (texts.0 (sym p.is_text ∙ e ∙ q.is_text)),
+    )
+same_as_texts (Err fault) a b s t p q same = tt

@@ -1,0 +1,168 @@
+//! Whether parts of games are the same, by first-use numbers, with their names or without.
+
+ghost use Rattle.std.specs.Prelude.{◌≡◌, ◌↔◌, IsTrue, map, option_map};
+ghost use Rattle.gf_token.specs.Label.{label_of};
+ghost use Rattle.gf_tree.specs.Actions.{action_of, actions_of};
+ghost use Rattle.gf_tree.specs.FileNodeOf.{described_outcome, described_set, file_node_of};
+ghost use Rattle.gf_tree.specs.FileNodeOf.{outcome_use_of, set_use_of};
+ghost use Rattle.gf_tree.specs.Game.{IsGame};
+ghost use Rattle.gf_tree.specs.Spellable.{IsSpellable};
+ghost use Rattle.gf_tree.specs.Told.{heading_in};
+ghost use Rattle.gf_canon.specs.NamedBy.{heading_by, name_by, node_by, outcome_by, use_by, set_by};
+
+use crate::sameness::Names;
+use gf_fraction::Fraction;
+use gf_token::Label;
+use gf_tree::{Action, FileNode, Game, OutcomeDescription, OutcomeUse, SetDescription, SetUse};
+
+/// Whether two names are the same, as far as names count.
+pub(crate) fn same_name(a: Label<'_>, b: Label<'_>, names: Names) -> bool
+    ensures { IsTrue result
+        ↔ (name_by names (label_of a.entry) ≡ name_by names (label_of b.entry)) }
+{
+    match names {
+        Names::Kept => a == b,
+        Names::Aside => true,
+    }
+}
+
+/// Whether two lists of labels are the same.
+fn same_labels(a: &[Label<'_>], b: &[Label<'_>]) -> bool
+    ensures { IsTrue result ↔ (map label_of a.now ≡ map label_of b.now) }
+{
+    a == b
+}
+
+/// Whether two probabilities are the same, or both are not there.
+fn same_probability(a: Option<Fraction>, b: Option<Fraction>) -> bool
+    ensures { IsTrue result ↔ (a ≡ b) }
+{
+    match (a, b) {
+        (Some(a), Some(b)) => a == b,
+        (None, None) => true,
+        _ => false,
+    }
+}
+
+/// Whether two actions are the same.
+fn same_action(a: &Action<'_>, b: &Action<'_>) -> bool
+    ensures { IsTrue result ↔ (action_of a.now ≡ action_of b.now) }
+{
+    a.label == b.label && same_probability(a.probability, b.probability)
+}
+
+/// Whether two lists of actions are the same.
+fn same_actions(a: &[Action<'_>], b: &[Action<'_>]) -> bool
+    ensures { IsTrue result ↔ (actions_of a.now ≡ actions_of b.now) }
+{
+    if a.len() != b.len() {
+        return false;
+    }
+    for at in 0..a.len() {
+        if !same_action(&a[at], &b[at]) {
+            return false;
+        }
+    }
+    true
+}
+
+/// Whether two lists of payoffs are the same.
+fn same_payoffs(a: &[Fraction], b: &[Fraction]) -> bool
+    ensures { IsTrue result ↔ (a.now ≡ b.now) }
+{
+    a == b
+}
+
+/// Whether two descriptions of sets are the same, or both are not there.
+fn same_set_description(
+    a: Option<SetDescription<'_, '_>>,
+    b: Option<SetDescription<'_, '_>>,
+    names: Names,
+) -> bool
+    ensures { IsTrue result
+        ↔ (option_map (set_by names) (option_map described_set a.entry)
+        ≡ option_map (set_by names) (option_map described_set b.entry)) }
+{
+    match (a, b) {
+        (Some(a), Some(b)) => same_name(a.name, b.name, names)
+            && same_actions(a.actions, b.actions),
+        (None, None) => true,
+        _ => false,
+    }
+}
+
+/// Whether two descriptions of outcomes are the same, or both are not there.
+fn same_outcome_description(
+    a: Option<OutcomeDescription<'_, '_>>,
+    b: Option<OutcomeDescription<'_, '_>>,
+    names: Names,
+) -> bool
+    ensures { IsTrue result
+        ↔ (option_map (outcome_by names) (option_map described_outcome a.entry)
+        ≡ option_map (outcome_by names) (option_map described_outcome b.entry)) }
+{
+    match (a, b) {
+        (Some(a), Some(b)) => same_name(a.name, b.name, names)
+            && same_payoffs(a.payoffs, b.payoffs),
+        (None, None) => true,
+        _ => false,
+    }
+}
+
+/// Whether two uses of sets are the same, or both are not there.
+fn same_set_use(a: Option<SetUse<'_, '_>>, b: Option<SetUse<'_, '_>>, names: Names) -> bool
+    ensures { IsTrue result
+        ↔ (option_map (use_by (set_by names)) (option_map set_use_of a.entry)
+        ≡ option_map (use_by (set_by names)) (option_map set_use_of b.entry)) }
+{
+    match (a, b) {
+        (Some(a), Some(b)) => {
+            a.player == b.player
+                && a.number == b.number
+                && same_set_description(a.description, b.description, names)
+        }
+        (None, None) => true,
+        _ => false,
+    }
+}
+
+/// Whether two uses of outcomes are the same, or both are not there.
+fn same_outcome_use(
+    a: Option<OutcomeUse<'_, '_>>,
+    b: Option<OutcomeUse<'_, '_>>,
+    names: Names,
+) -> bool
+    ensures { IsTrue result
+        ↔ (option_map (use_by (outcome_by names)) (option_map outcome_use_of a.entry)
+        ≡ option_map (use_by (outcome_by names)) (option_map outcome_use_of b.entry)) }
+{
+    match (a, b) {
+        (Some(a), Some(b)) => {
+            a.number == b.number && same_outcome_description(a.description, b.description, names)
+        }
+        (None, None) => true,
+        _ => false,
+    }
+}
+
+/// Whether two nodes are the same.
+pub(crate) fn same_node(a: &FileNode<'_, '_>, b: &FileNode<'_, '_>, names: Names) -> bool
+    ensures { IsTrue result
+        ↔ (node_by names (file_node_of a.now) ≡ node_by names (file_node_of b.now)) }
+{
+    same_name(a.name, b.name, names)
+        && same_set_use(a.set, b.set, names)
+        && same_outcome_use(a.outcome, b.outcome, names)
+}
+
+/// Whether all that stands before the nodes is the same. The other clauses hold of each game.
+pub(crate) fn same_heading(g: &Game<'_>, h: &Game<'_>, names: Names) -> bool
+    ensures same { IsTrue result
+        ↔ (heading_by names (heading_in g.now) ≡ heading_by names (heading_in h.now)) }
+    ensures games { IsGame g.now × IsGame h.now }
+    ensures spellable { IsSpellable g.now × IsSpellable h.now }
+{
+    same_labels(g.players(), h.players())
+        && same_name(g.title(), h.title(), names)
+        && same_name(g.comment(), h.comment(), names)
+}

@@ -1,0 +1,39 @@
+//! What a file of either format means.
+
+ghost use Rattle.std.specs.Prelude.{IfErr, IfOk};
+ghost use Rattle.gf_canon.specs.Judgement.{IsRefusedWith, SpellsWithin};
+ghost use Rattle.gf_canon.specs.MeaningOf.{file_of};
+
+use crate::format::{Format, format_of};
+use gf_nfg::{Table, read_nfg};
+use gf_token::Fault;
+use gf_tree::{Game, read_efg};
+use std::alloc::Global;
+
+/// What a file means.
+#[derive(Drop)]
+pub(crate) enum Meaning<'a> {
+    /// An extensive file.
+    Tree(Game<'a>),
+    /// A strategic file.
+    Table(Table),
+}
+
+/// Reads the file of either format, which its first token names.
+///
+/// Refused as `canonical` refuses.
+pub(crate) fn read_file<'a>(alloc: Global, input: &'a [u8]) -> Result<Meaning<'a>, Fault>
+    ensures spelled { IfOk result (λ meaning. SpellsWithin input.entry.now (file_of meaning)) }
+    ensures refused { IfErr result (IsRefusedWith input.entry.now) }
+{
+    match format_of(input)? {
+        Format::Extensive => match read_efg(alloc, input) {
+            Ok(game) => Ok(Meaning::Tree(game)),
+            Err(fault) => Err(fault),
+        },
+        Format::Strategic => match read_nfg(alloc, input) {
+            Ok(table) => Ok(Meaning::Table(table)),
+            Err(fault) => Err(fault),
+        },
+    }
+}

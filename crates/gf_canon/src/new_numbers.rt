@@ -1,0 +1,36 @@
+//! New numbers of the sets and outcomes of a game.
+
+ghost use Rattle.std.specs.Prelude.{◌≡◌};
+ghost use Rattle.gf_canon.specs.NewNumbers.{new_outcome_number, new_set_number};
+
+use std::alloc::Global;
+use std::collections::BTreeMap;
+
+/// A renumbering of a game: the new number of each player's information sets, chance being player
+/// 0, and of each outcome.
+#[derive(Drop)]
+pub struct Renumbering {
+    /// By player and number.
+    pub(crate) sets: BTreeMap<(u32, u32), u32>,
+    pub(crate) outcomes: BTreeMap<u32, u32>,
+}
+
+impl Renumbering {
+    /// The new number of a player's set. `None` where the game has no such set.
+    pub fn set(&self, player: u32, number: u32) -> Option<u32>
+        ensures { result ≡ new_set_number self.now player number }
+    {
+        self.sets.get(&(player, number)).copied()
+    }
+
+    /// The new number of an outcome; 0, the null outcome, stays 0. `None` where the game has no such
+    /// outcome.
+    pub fn outcome(&self, number: u32) -> Option<u32>
+        ensures { result ≡ new_outcome_number self.now number }
+    {
+        if number == 0 {
+            return Some(0);
+        }
+        self.outcomes.get(&number).copied()
+    }
+}

@@ -1,0 +1,101 @@
+//! Whether two files mean the same.
+
+ghost use Rattle.std.specs.Prelude.{◌≡◌, ◌↔◌, ℕ, List, IsTrue, IfErr, IfOk, MatchResult, OnOk};
+ghost use Rattle.gf_canon.specs.GameFile.{GameFile, SameFile};
+ghost use Rattle.gf_canon.specs.GameFile.GameFile.{strategic};
+ghost use Rattle.gf_canon.specs.Judgement.{IsCanonicalText, MeansFile, SpellsWithin};
+ghost use Rattle.gf_canon.specs.MeaningOf.{file_of};
+ghost use Rattle.gf_canon.specs.SameBy.{SameBy};
+ghost use Rattle.gf_canon.specs.Sameness.{AreRefusedWith, WantsMemory};
+
+use crate::compare::same_name;
+use crate::meaning::{Meaning, read_file};
+use crate::walk::same_games;
+use gf_nfg::Table;
+use gf_token::Fault;
+use std::alloc::Global;
+
+/// Why two files are not compared.
+#[derive(Clone, Copy, Debug, PartialEq, Eq)]
+pub enum SameFault {
+    /// The first file is refused so.
+    First(Fault),
+    /// The first file is accepted, and the second is refused so.
+    Second(Fault),
+    /// Both are accepted, and memory to compare them is refused.
+    Memory,
+}
+
+/// Whether names count where files are compared.
+#[derive(Clone, Copy, Debug, PartialEq, Eq)]
+pub enum Names {
+    /// All names count.
+    Kept,
+    /// Title, comment, and the names of nodes, information sets and outcomes count as empty. The
+    /// labels of players, actions and strategies count.
+    Aside,
+}
+
+/// Whether two tables are the same.
+fn same_tables(t: &Table, u: &Table, names: Names) -> bool
+    ensures { IsTrue result ↔ SameBy names (strategic t.now) (strategic u.now) }
+{
+    same_name(t.title(), u.title(), names)
+        && same_name(t.comment(), u.comment(), names)
+        && t.play_agrees(u)
+}
+
+/// Whether two files mean the same.
+fn same_meaning(a: &Meaning<'_>, b: &Meaning<'_>, names: Names) -> bool
+    ensures { IsTrue result ↔ SameBy names (file_of a.now) (file_of b.now) }
+{
+    match (a, b) {
+        (Meaning::Tree(g), Meaning::Tree(h)) => same_games(g, h, names),
+        (Meaning::Table(t), Meaning::Table(u)) => same_tables(t, u, names),
+        _ => false,
+    }
+}
+
+/// Whether two files mean the same, with their names or without (this project's profile): two trees
+/// where some renumbering of information sets, player by player, and of outcomes carries the one to
+/// the other; two tables where the labels that count and the payoffs at each profile agree; and
+/// never a tree and a table.
+///
+/// The first file is judged whole, and then the second, as `canonical` judges a file; what is put
+/// aside is matched while it is read, as ever. Spans are in bytes of the file that is refused.
+/// - `First`: the first file is refused.
+/// - `Second`: the first file is accepted, and the second is refused.
+/// - `Memory`: both are accepted, and memory to compare them is refused.
+pub fn same_by(alloc: Global, a: &[u8], b: &[u8], names: Names) -> Result<bool, SameFault>
+    ensures same { (x y : GameFile) → SpellsWithin a.now x → SpellsWithin b.now y
+        → MatchResult result (λ answer. IsTrue answer ↔ SameBy names x y) WantsMemory }
+    ensures accepted { OnOk result (MeansFile a.now × MeansFile b.now) }
+    ensures refused { IfErr result (AreRefusedWith a.now b.now) }
+{
+    let first = match read_file(alloc, a) {
+        Ok(first) => first,
+        Err(fault) => return Err(SameFault::First(fault)),
+    };
+    let second = match read_file(alloc, b) {
+        Ok(second) => second,
+        Err(fault) => return Err(SameFault::Second(fault)),
+    };
+    Ok(same_meaning(&first, &second, names))
+}
+
+/// Whether two files mean the same (this project's profile), which they do exactly if their
+/// canonical texts are equal: two trees where some renumbering of information sets, player by
+/// player, and of outcomes carries the one to the other; two tables where title, comment, players,
+/// strategy labels and the payoffs at each profile agree; and never a tree and a table.
+///
+/// Refused as `same_by` refuses.
+pub fn same(alloc: Global, a: &[u8], b: &[u8]) -> Result<bool, SameFault>
+    ensures same { (x y : GameFile) → SpellsWithin a.now x → SpellsWithin b.now y
+        → MatchResult result (λ answer. IsTrue answer ↔ SameFile x y) WantsMemory }
+    ensures texts { (s t : List ℕ) → IsCanonicalText a.now s → IsCanonicalText b.now t
+        → IfOk result (λ answer. IsTrue answer ↔ (s ≡ t)) }
+    ensures accepted { OnOk result (MeansFile a.now × MeansFile b.now) }
+    ensures refused { IfErr result (AreRefusedWith a.now b.now) }
+{
+    same_by(alloc, a, b, Names::Kept)
+}
