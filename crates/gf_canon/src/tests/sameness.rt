@@ -6,7 +6,7 @@ use gf_token::{Fault, Span, What, Why};
 use gf_tree::read_efg;
 use std::test::Fail;
 
-/// `FIVE` by other numbers, and so with another comment.
+/// `FIVE` by other numbers.
 const COPY: &[u8] = b"EFG 2 R \"five\" { \"A\" }
 c \"\" 2 \"n\" { \"h\" 0.5 \"t\" 1/2 } 0
 p \"\" 1 3 \"i\" { \"L\" } 0
@@ -17,6 +17,7 @@ p \"\" 1 8 \"j\" { \"R\" } 2 \"w\" { 1e-1 }
 t \"\" 2
 ";
 
+/// The same with a comment.
 const NOTED_COPY: &[u8] = b"EFG 2 R \"five\" { \"A\" } \"k\"
 c \"\" 2 \"n\" { \"h\" 0.5 \"t\" 1/2 } 0
 p \"\" 1 3 \"i\" { \"L\" } 0
