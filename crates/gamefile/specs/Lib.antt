@@ -4,6 +4,8 @@ pub mod FaultLine
 pub mod FaultStatus
 pub mod Input
 pub mod Output
-pub mod Refusal
 pub mod Run
+pub mod RunOfTwo
+pub mod SameFaults
+pub mod SameText
 pub mod Turns

@@ -2,8 +2,10 @@
 
 ghost use Rattle.std.specs.Prelude.{◌≡◌};
 ghost use Rattle.gamefile.specs.FaultStatus.{status_of};
+ghost use Rattle.gamefile.specs.SameFaults.{fault_of};
 ghost use Rattle.gamefile.specs.declared.fault.RunFault.TheVariants.{Memory, Write};
 
+use gf_canon::SameFault;
 use gf_token::{Fault, Why};
 use std::alloc::AllocError;
 use thiserror::Error;
@@ -41,6 +43,24 @@ impl From<AllocError> for RunFault {
 
     fn from(_: AllocError) -> RunFault {
         RunFault::Memory
+    }
+}
+
+impl From<SameFault> for RunFault {
+    ghost from_gives = { λ same fault. fault ≡ fault_of same };
+
+    fn from(same: SameFault) -> RunFault {
+        match same {
+            SameFault::First(fault) => RunFault::Refused {
+                which: Which::First,
+                fault,
+            },
+            SameFault::Second(fault) => RunFault::Refused {
+                which: Which::Second,
+                fault,
+            },
+            SameFault::Memory => RunFault::Memory,
+        }
     }
 }
 

@@ -1,10 +1,9 @@
 //! What the program does: each run reads its inputs whole, makes its output, and writes it.
 
 ghost use Rattle.std.specs.Prelude.{◌≡◌, ◌≢◌, IfErr, OnOk};
-ghost use Rattle.gf_canon.specs.Judgement.{IsCanonicalText};
+ghost use Rattle.gf_canon.specs.Judgement.{IsCanonicalText, IsRefusedWith};
 ghost use Rattle.gamefile.specs.Input.{IsReadWhole};
 ghost use Rattle.gamefile.specs.Output.{IsWriteFault, IsWritten};
-ghost use Rattle.gamefile.specs.Refusal.{IsRefusedWith};
 ghost use Rattle.gamefile.specs.Run.{Answers, ReadsUntil};
 
 use crate::fault::{RunFault, Which};

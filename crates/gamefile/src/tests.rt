@@ -15,6 +15,7 @@ use std::io::ErrorKind;
 use std::test::Fail;
 
 mod canon;
+mod same;
 mod script;
 mod trees;
 

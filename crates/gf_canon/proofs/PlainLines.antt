@@ -1,7 +1,7 @@
 -- The line of a node that describes nothing, piece by piece.
 use Rattle.std.proofs.Common.{◌≡◌, ℕ, zero, suc, ◌+◌, ◌<◌, List, [], ◌∷◌, ◌++◌, length, drop, set}
 use Rattle.std.proofs.Common.{Option, None, Some, refl, sym, ap, ◌∙◌, append_assoc}
-use Rattle.std.proofs.Common.{option_map, rules, false, is_some, OnOk, Result, Ok, Err, ◌≤◌, ◌-◌, arith, take, length-append, length-drop}
+use Rattle.std.proofs.Common.{option_map, false, is_some, OnOk, Result, Ok, Err, ◌≤◌, ◌-◌, arith, take, length-append, length-drop}
 use Rattle.std.proofs.Math.Seq.{take-append-add, take-append_seam}
 use Rattle.std.proofs.lemmas.List.{drop-set}
 use Rattle.std.specs.Fmt.{digits}

@@ -20,9 +20,10 @@ mod write;
 
 pub use canonise::canonical;
 pub use carry::renumbering;
+pub use meaning::{Meaning, read_file};
 pub use new_numbers::Renumbering;
 pub use numbering::renumber;
-pub use sameness::{Names, SameFault, same, same_by};
+pub use sameness::{Names, SameFault, same, same_by, same_meaning};
 pub use write::write_efg;
 
 #[cfg(test)]

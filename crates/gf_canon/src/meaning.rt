@@ -10,19 +10,20 @@ use gf_token::Fault;
 use gf_tree::{Game, read_efg};
 use std::alloc::Global;
 
-/// What a file means.
+/// What a game file means.
 #[derive(Drop)]
-pub(crate) enum Meaning<'a> {
-    /// An extensive file.
+pub enum Meaning<'a> {
+    /// The game of an extensive file.
     Tree(Game<'a>),
-    /// A strategic file.
+    /// The table of a strategic file.
     Table(Table),
 }
 
-/// Reads the file of either format, which its first token names.
+/// Reads a game file of either format, which its first token tells: `EFG` or `NFG` (Gambit
+/// documentation, "Game representation formats").
 ///
-/// Refused as `canonical` refuses.
-pub(crate) fn read_file<'a>(alloc: Global, input: &'a [u8]) -> Result<Meaning<'a>, Fault>
+/// Refused as `canonical` refuses it; E19 where memory for the game or the table is refused.
+pub fn read_file<'a>(alloc: Global, input: &'a [u8]) -> Result<Meaning<'a>, Fault>
     ensures spelled { IfOk result (λ meaning. SpellsWithin input.entry.now (file_of meaning)) }
     ensures refused { IfErr result (IsRefusedWith input.entry.now) }
 {

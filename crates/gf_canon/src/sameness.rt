@@ -45,8 +45,9 @@ fn same_tables(t: &Table, u: &Table, names: Names) -> bool
         && t.play_agrees(u)
 }
 
-/// Whether two files mean the same.
-fn same_meaning(a: &Meaning<'_>, b: &Meaning<'_>, names: Names) -> bool
+/// Whether two files that were read mean the same, as `same_by` says of their bytes. Takes no
+/// memory.
+pub fn same_meaning(a: &Meaning<'_>, b: &Meaning<'_>, names: Names) -> bool
     ensures { IsTrue result ↔ SameBy names (file_of a.now) (file_of b.now) }
 {
     match (a, b) {

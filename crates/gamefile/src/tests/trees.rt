@@ -7,7 +7,7 @@ use std::alloc::{AllocError, Global};
 use std::test::Fail;
 
 /// A set of chance met twice on a path, each number in another spelling.
-const FIVE: &[u8] = b"EFG 2 R \"five\" { \"A\" }
+pub(super) const FIVE: &[u8] = b"EFG 2 R \"five\" { \"A\" }
 c \"\" 9 \"n\" { \"h\" 0.5 \"t\" 1/2 } 0
 p \"\" 1 7 \"i\" { \"L\" } 0
 c \"\" 9 \"n\" { \"h\" 1/2 \"t\" 0.50 } 0
@@ -18,7 +18,7 @@ t \"\" 4
 ";
 
 /// The same game by other numbers.
-const FIVE_BY_OTHER_NUMBERS: &[u8] = b"EFG 2 R \"five\" { \"A\" }
+pub(super) const FIVE_BY_OTHER_NUMBERS: &[u8] = b"EFG 2 R \"five\" { \"A\" }
 c \"\" 2 \"n\" { \"h\" 0.5 \"t\" 1/2 } 0
 p \"\" 1 3 \"i\" { \"L\" } 0
 c \"\" 2 \"n\" { \"h\" 1/2 \"t\" 0.50 } 0
@@ -28,7 +28,7 @@ p \"\" 1 8 \"j\" { \"R\" } 2 \"w\" { 1e-1 }
 t \"\" 2
 ";
 
-const FIVE_TEXT: &[u8] = b"EFG 2 R \"five\" { \"A\" }
+pub(super) const FIVE_TEXT: &[u8] = b"EFG 2 R \"five\" { \"A\" }
 \"\"
 
 c \"\" 1 \"n\" { \"h\" 1/2 \"t\" 1/2 } 0

@@ -1,7 +1,7 @@
 //! Which files are the same, and how two files are refused.
 
 use super::{COPY_TEXT, FIVE, FIVE_TEXT, NOBODY};
-use crate::{Names, SameFault, renumbering, same, same_by};
+use crate::{Meaning, Names, SameFault, read_file, renumbering, same, same_by};
 use gf_token::{Fault, Span, What, Why};
 use gf_tree::read_efg;
 use std::test::Fail;
@@ -131,6 +131,16 @@ fn gives_the_new_numbers(rt: HostRuntime) -> Result<(), Fail> {
         assert_eq!(rt; found.outcome(number), new, "outcome {number}");
     }
     Ok(())
+}
+
+#[test]
+fn reads_files_of_either_format(rt: HostRuntime) {
+    let tree = read_file(rt.alloc(), FIVE).expect(&rt, "a game file");
+    assert!(rt; matches!(tree, Meaning::Tree(_)));
+    let table = read_file(rt.alloc(), SELTEN).expect(&rt, "a game file");
+    assert!(rt; matches!(table, Meaning::Table(_)));
+    let refusal = read_file(rt.alloc(), b"").err();
+    assert_eq!(rt; refusal, Some(fault(0, 0, Why::Expected(What::Format))));
 }
 
 fn fault(start: usize, end: usize, why: Why) -> Fault {

@@ -1,4 +1,4 @@
-use Rattle.std.proofs.Common.{◌≡◌, ℕ, ◌+◌, ◌∙◌, ◌++◌, ◌-◌, ap, drop, take, arith, rules}
+use Rattle.std.proofs.Common.{◌≡◌, ℕ, ◌+◌, ◌∙◌, ◌++◌, ◌-◌, ap, drop, take, arith}
 use Rattle.gf_canon.proofs.PlainLines.{cut_off}
 use Rattle.gf_canon.proofs.plain_line.append_from.Goals as goal
 

@@ -1,5 +1,5 @@
-use Rattle.std.proofs.Common.{◌≡◌, replicate, ℕ, List, ◌+◌, ◌∙◌, ◌∷◌, ap, drop, length, option_map}
-use Rattle.std.proofs.Common.{arith, refl, rules, sym}
+use Rattle.std.proofs.Common.{◌≡◌, replicate, ℕ, List, ◌∙◌, ◌∷◌, ap, drop, length, option_map}
+use Rattle.std.proofs.Common.{arith, refl, sym}
 use Rattle.std.proofs.lemmas.Bool.Decides.{nat_tests}
 use Rattle.std.proofs.lemmas.List.{nil_from_length}
 use Rattle.gf_token.specs.Label.{label_of}

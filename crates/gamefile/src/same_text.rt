@@ -1,0 +1,90 @@
+//! What is written of two files that are compared.
+
+ghost use Rattle.std.specs.Prelude.{◌≡◌, ◌↔◌, IfErr, IfOk, IsTrue};
+ghost use Rattle.gf_canon.specs.GameFile.GameFile.{extensive};
+ghost use Rattle.gf_canon.specs.GameFile.{SameFile};
+ghost use Rattle.gf_canon.specs.MeaningOf.{file_of};
+ghost use Rattle.gf_canon.specs.Sameness.{AreRefusedWith};
+ghost use Rattle.gamefile.specs.SameText.{IsAnswer, IsLineAndMap, answer_line};
+
+use crate::renumbering_text::push_renumbering;
+use gf_canon::{Meaning, Names, SameFault, read_file, renumbering, same_meaning};
+use gf_tree::Game;
+use std::alloc::{AllocError, Global};
+
+/// Whether two files are the same, and what is written of it.
+#[derive(Drop)]
+pub struct Answer {
+    pub same: bool,
+    pub text: Vec<u8>,
+}
+
+/// The line of an answer.
+pub fn answer_line(same: bool) -> &'static [u8]
+    ensures { result.now ≡ answer_line same }
+{
+    if same { b"same\n" } else { b"different\n" }
+}
+
+/// An answer of one line.
+fn line(alloc: Global, same: bool) -> Result<Answer, AllocError>
+    ensures same { IfOk result (λ answer. answer.same ≡ same) }
+    ensures text { IfOk result (λ answer. answer.text.items ≡ answer_line same) }
+{
+    let mut text = Vec::new(alloc);
+    text.extend_from_slice(answer_line(same))?;
+    Ok(Answer { same, text })
+}
+
+/// The answer about two games, with the lines of the renumbering.
+fn answer_of_games(alloc: Global, g: &Game<'_>, h: &Game<'_>) -> Result<Answer, AllocError>
+    ensures same { IfOk result (λ answer.
+        IsTrue answer.same ↔ SameFile (extensive g.now) (extensive h.now)) }
+    ensures text { IfOk result (λ answer.
+        IsLineAndMap (extensive g.now) (extensive h.now) answer.same answer.text.items) }
+{
+    match renumbering(alloc, g, h)? {
+        Some(numbers) => {
+            let mut answer = line(alloc, true)?;
+            push_renumbering(g, &numbers, &mut answer.text)?;
+            Ok(answer)
+        }
+        None => line(alloc, false),
+    }
+}
+
+/// The answer about two files that were read.
+fn answer_of(alloc: Global, a: &Meaning<'_>, b: &Meaning<'_>) -> Result<Answer, AllocError>
+    ensures same { IfOk result (λ answer.
+        IsTrue answer.same ↔ SameFile (file_of a.now) (file_of b.now)) }
+    ensures text { IfOk result (λ answer.
+        IsLineAndMap (file_of a.now) (file_of b.now) answer.same answer.text.items) }
+{
+    match (a, b) {
+        (Meaning::Tree(g), Meaning::Tree(h)) => answer_of_games(alloc, g, h),
+        _ => line(alloc, same_meaning(a, b, Names::Kept)),
+    }
+}
+
+/// Whether two files are the same; and where they are trees, the lines of the only renumbering that
+/// carries the first to the second.
+///
+/// Refused as `same` refuses.
+pub fn answer_with_map(alloc: Global, a: &[u8], b: &[u8]) -> Result<Answer, SameFault>
+    ensures answer { IfOk result (λ answer.
+        IsAnswer SameFile IsLineAndMap answer.same a.now b.now answer.text.items) }
+    ensures refused { IfErr result (AreRefusedWith a.now b.now) }
+{
+    let first = match read_file(alloc, a) {
+        Ok(first) => first,
+        Err(fault) => return Err(SameFault::First(fault)),
+    };
+    let second = match read_file(alloc, b) {
+        Ok(second) => second,
+        Err(fault) => return Err(SameFault::Second(fault)),
+    };
+    match answer_of(alloc, &first, &second) {
+        Ok(answer) => Ok(answer),
+        Err(_) => Err(SameFault::Memory),
+    }
+}
