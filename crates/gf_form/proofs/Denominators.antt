@@ -28,7 +28,7 @@ module _ (g : Game) (spellable : IsSpellable g) where
       (each_weaker _ P (find (λ e. same_set e.key key) g.sets) (λ s h. h.0.actions)
       (each_found IsSpellableSet (λ e. same_set e.key key) g.sets spellable.sets))
 
-  payoffs_of : (number : ℕ)
+  pub payoffs_of : (number : ℕ)
       → Each (λ outcome. AllByRecursion IsFraction outcome.payoffs) (outcome_at g number)
   payoffs_of number =
       let test = λ (e : Described ℕ Outcome). e.key == number in
@@ -37,8 +37,8 @@ module _ (g : Game) (spellable : IsSpellable g) where
       (each_weaker _ (λ o. AllByRecursion IsFraction o.description.payoffs) (find test g.outcomes)
       (λ o h. h.0.payoffs) (each_found IsSpellableOutcome test g.outcomes spellable.outcomes))
 
-  pub probability_above : (s : Step) → IsAbove (probability g s)
-  probability_above s =
+  pub probability_fraction : (s : Step) → IsFraction (probability g s)
+  probability_fraction s =
       let taken : Each IsSpellableAction (action_at g s) =
       each_then (λ _. ⊤) IsSpellableAction
       (λ key. option_and_then (λ set. at_position set.actions s.taken) (set_at g key)) s.node.set
@@ -46,9 +46,13 @@ module _ (g : Game) (spellable : IsSpellable g) where
       (λ set. at_position set.actions s.taken) (set_at g key)
       (λ set h. each_at IsSpellableAction set.actions s.taken h) (actions_of key))
       (each_any s.node.set) in
-      each_or IsAbove (option_and_then (λ a. a.probability) (action_at g s)) one_ratio (omega arith)
-      (each_then IsSpellableAction IsAbove (λ a. a.probability) (action_at g s)
-      (λ a h. each_weaker IsFraction IsAbove a.probability (λ r f. f.den_above_zero) h.1) taken)
+      each_or IsFraction (option_and_then (λ a. a.probability) (action_at g s)) one_ratio
+      (whole_fraction 1 (omega arith))
+      (each_then IsSpellableAction IsFraction (λ a. a.probability) (action_at g s) (λ a h. h.1)
+      taken)
+
+  pub probability_above : (s : Step) → IsAbove (probability g s)
+  probability_above s = (probability_fraction s).den_above_zero
 
   pub payoff_fraction : (player : ℕ) (n : Node) → IsFraction (payoff_at g player n)
   payoff_fraction player n =

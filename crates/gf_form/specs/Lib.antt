@@ -1,8 +1,14 @@
 pub mod BottomUp
+pub mod CodeLeft
+pub mod PaidRows
 pub mod Payoff
 pub mod Plays
+pub mod Program
 pub mod Reduced
 pub mod Refusal
+pub mod Rows
+pub mod RowsOn
 pub mod StrategicForm
 pub mod Strategies
+pub mod Values
 pub mod WorkedForms

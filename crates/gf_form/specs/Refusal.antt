@@ -4,6 +4,7 @@ use Rattle.std.specs.List.{AllByRecursion}
 use Rattle.gf_fraction.specs.Ratio.{Ratio}
 use Rattle.gf_token.specs.Positions.{at_position}
 use Rattle.gf_nfg.specs.Limit.{profile_limit}
+use Rattle.gf_tree.specs.Description.{SetKey}
 use Rattle.gf_tree.specs.Game.{Game}
 use Rattle.gf_form.specs.Strategies.{choices_by, full_profiles, players_of, strategies_at}
 use Rattle.gf_form.specs.BottomUp.{IsValue}
@@ -11,6 +12,11 @@ use Rattle.gf_form.specs.BottomUp.{IsValue}
 -- its profiles pass their limit
 abbrev pub HasTooManyProfiles : Game → Type 0
 HasTooManyProfiles g = profile_limit < length (full_profiles g)
+
+-- each player has a bottom-up value, where these are the choices
+abbrev pub HasValuesBy : Game → (SetKey → ℕ) → Type 0
+HasValuesBy g choices = AllByRecursion
+    (λ player. (value : Ratio) × IsValue g choices player g.tree value) (players_of g)
 
 -- the player has a bottom-up value at this profile
 abbrev pub HasBottomUpValue : Game → List ℕ → ℕ → Type 0

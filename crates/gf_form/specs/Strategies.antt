@@ -1,7 +1,7 @@
 -- Pure strategies: an action at each of a player's information sets.
-use Rattle.std.specs.Prelude.{ℕ, List, [], ◌∷◌, length, map, flat_map}
+use Rattle.std.specs.Prelude.{ℕ, ◌≤◌, List, [], ◌∷◌, length, map, flat_map}
 use Rattle.std.specs.Prelude.{unwrap_or, zip, decimal, if◌then◌else◌}
-use Rattle.std.specs.List.{join_with_byte}
+use Rattle.std.specs.List.{AllZip, join_with_byte}
 use Rattle.gf_token.specs.Positions.{at_position}
 use Rattle.gf_nfg.specs.Profiles.{positions, profiles}
 use Rattle.gf_tree.specs.Description.{SetKey, same_set}
@@ -22,6 +22,12 @@ all_choices (count ∷ counts) =
 -- A strategy has an action for each of the player's sets, in order of first use.
 abbrev pub strategies : Game → ℕ → List (List ℕ)
 strategies g player = all_choices (action_counts g player)
+
+-- one strategy for each player
+abbrev pub AreStrategies : Game → List (List ℕ) → Type 0
+AreStrategies g all = AllZip (λ strategy player.
+    AllZip (λ action count. (1 ≤ action) × (action ≤ count)) strategy (action_counts g player)) all
+    (positions (length g.players))
 
 -- its actions, joined by `-`
 abbrev pub strategy_label : List ℕ → List ℕ

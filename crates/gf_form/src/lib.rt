@@ -1,4 +1,18 @@
-//! The strategic form of an extensive game: pure strategies, plays, payoffs and reduced strategies.
+//! The strategic form of an extensive game: pure strategies, plays, payoffs and reduced strategies;
+//! and what the players are paid where they choose given actions.
 #![tactic(auto)]
 
+mod evaluate;
+mod expectation;
+mod fault;
 pub mod laws;
+mod op;
+mod payoffs;
+mod rows;
+#[cfg(test)]
+mod tests;
+mod values;
+mod walk;
+
+pub use crate::expectation::expected;
+pub use crate::fault::EvalFault;

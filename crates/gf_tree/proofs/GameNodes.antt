@@ -89,6 +89,7 @@ get_or_from_drop (y ∷ xs) ys (suc at) x d e = get_or_from_drop xs ys at x d e
 
 pub record IsChildPlace {N : Type 0} (t : Tree N) (at i : ℕ) : Type 0 where
   pub begin : Begin i (drop (at + 1) (subtree_sizes t))
+  pub begin_more : Begin (suc i) (drop (at + 1) (subtree_sizes t))
   pub there : slice_get (subtrees t) (at + 1 + skipped i (drop (at + 1) (subtree_sizes t)))
       ≡ slice_get (child_trees (subtree_at t at)) i
 
@@ -113,6 +114,8 @@ child_is_there {N} t at i h j =
     subst (λ n. i < n) (ap (λ s. length (child_trees s)) tree ∙ length-list_of r.below) j in
     record {
       begin = rw sizes (begin_first i r.below (subtrees_all r.others) (omega (arith, less)));
+      begin_more =
+          rw sizes (begin_first (suc i) r.below (subtrees_all r.others) (omega (arith, less)));
       there =
           rw (sizes, tree)
           (slice_get_behind (subtrees t) (at + 1) (skipped i

@@ -76,3 +76,4 @@ pub mod RunFront
 pub mod Telling
 pub mod ToldGames
 pub mod ToldNodes
+pub mod NodeParts

@@ -31,7 +31,7 @@ use Rattle.gf_tree.proofs.Uses.{Has, IsEquality}
 pub some_same : {X : Type 0} (x y : X) → Some x ≡ Some y → x ≡ y
 some_same x y e = cc
 
-has_place : {X : Type 0} (xs : List X) (place : ℕ) (x : X) → slice_get xs place ≡ Some x → Has xs x
+pub has_place : {X : Type 0} (xs : List X) (place : ℕ) (x : X) → slice_get xs place ≡ Some x → Has xs x
 has_place [] zero x h = absurd cc
 has_place [] (suc place) x h = absurd cc
 has_place (y ∷ xs) zero x h = inl cc

@@ -12,7 +12,7 @@ use Rattle.gf_tree.specs.GameOf.{SpellsGame}
 use Rattle.gf_tree.specs.Machine.{Content, nothing, run}
 use Rattle.gf_tree.specs.Machine.Position.{Format, NodeDue}
 use Rattle.gf_tree.specs.ReadGame.{game_of}
-use Rattle.gf_tree.specs.ReaderState.{Answer, Fails, HasReadAll, answer, content_of, content_with}
+use Rattle.gf_tree.specs.ReaderState.{Answer, HasReadAll, answer, content_of, content_with}
 use Rattle.gf_tree.specs.ReaderState.{heading_read, heard}
 use Rattle.gf_tree.specs.Told.{Heading, Told, heading_in, told_from}
 use Rattle.gf_tree.specs.ToldGame.{HasToldGame}

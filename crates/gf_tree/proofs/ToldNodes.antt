@@ -2,7 +2,7 @@
 -- a file gives them.
 use Rattle.std.proofs.Common.{◌≡◌, ℕ, zero, suc, ◌+◌, ◌<◌, ◌≤◌, List, [], ◌∷◌, ◌++◌, length, map}
 use Rattle.std.proofs.Common.{take, max, Option, None, Some, option_map, slice_get, nat_eq, refl}
-use Rattle.std.proofs.Common.{sym, ap, subst, ◌∙◌, arith, append_assoc, append-nil, length-append}
+use Rattle.std.proofs.Common.{sym, ap, ◌∙◌, arith, append_assoc, append-nil, length-append}
 use Rattle.std.specs.Prelude.{Bool, true, ◌==◌, Ok}
 use Rattle.std.specs.List.{filter, filter_map, cons_option}
 use Rattle.std.proofs.Math.Nat.{max-zero}
@@ -16,9 +16,8 @@ use Rattle.gf_token.specs.Token.{Lexeme}
 use Rattle.gf_token.specs.TokenSpelling.{Spells}
 use Rattle.gf_tree.specs.Description.{SetKey, InformationSet, Outcome, same_set}
 use Rattle.gf_tree.specs.FileNodes.{file_nodes, node_behind, use_behind, with_those_before}
-use Rattle.gf_tree.specs.FileTree.{FileNode, Use}
 use Rattle.gf_tree.specs.FiniteMap.{Described, description_at, first_uses}
-use Rattle.gf_tree.specs.FirstUse.{first_use_number, first_use_numbers, player_sets, sets_of}
+use Rattle.gf_tree.specs.FirstUse.{first_use_numbers, sets_of}
 use Rattle.gf_tree.specs.Game.{Game, Node, IsGame, used_outcomes, used_sets}
 use Rattle.gf_tree.specs.GameCode.{no_node}
 use Rattle.gf_tree.specs.KeptNodes.{ArePlaced, IsPlaced, Kept, entries_with, entry_with}
@@ -29,7 +28,7 @@ use Rattle.gf_tree.specs.Machine.Position.{Format}
 use Rattle.gf_tree.specs.PrefixOrder.{Entry, flatten}
 use Rattle.gf_tree.specs.ReadGame.{game_of}
 use Rattle.gf_tree.specs.Renumbering.{Renumbering, renumbered, renumbered_node}
-use Rattle.gf_tree.specs.Told.{Told, told_from, told_node, told_outcome, told_set}
+use Rattle.gf_tree.specs.Told.{told_from, told_node, told_outcome, told_set}
 use Rattle.gf_tree.proofs.FirstUseNumbers.{number_at}
 use Rattle.gf_tree.proofs.GameNodes.{flatten_grown}
 use Rattle.gf_tree.proofs.Games.{map_entry, flatten_map}

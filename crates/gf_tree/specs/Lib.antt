@@ -4,6 +4,7 @@ pub mod Shares
 pub mod ReaderState
 pub mod Actions
 pub mod Branches
+pub mod BranchesLeft
 pub mod Consistent
 pub mod Description
 pub mod Due
@@ -28,8 +29,10 @@ pub mod Learned
 pub mod Listed
 pub mod NodeOf
 pub mod NodesLeft
+pub mod OutcomePositions
 pub mod Numbers
 pub mod Machine
+pub mod Movers
 pub mod Passed
 pub mod PrefixOrder
 pub mod Probability

@@ -1,6 +1,7 @@
 //! Games in memory.
 
-ghost use Rattle.std.specs.Prelude.{◌≡◌, ◌<◌, ◌^◌, ℕ, length, map, option_map, slice_get};
+ghost use Rattle.std.specs.Prelude.{◌≡◌, ◌+◌, ◌<◌, ◌≤◌, ◌^◌, ℕ, [], Some, MatchOption, drop, length};
+ghost use Rattle.std.specs.Prelude.{map, option_map, slice_get};
 ghost use Rattle.gf_token.specs.Label.{label_of};
 ghost use Rattle.gf_token.specs.Positions.{at_position};
 ghost use Rattle.gf_tree.specs.Actions.{actions_of};
@@ -12,9 +13,13 @@ ghost use Rattle.gf_tree.specs.FirstUse.{outcome_numbers, player_keys};
 ghost use Rattle.gf_tree.specs.Game.{IsGame, outcome_at, set_at};
 ghost use Rattle.gf_tree.specs.GameParts.{game_with, outcome_with, set_with};
 ghost use Rattle.gf_tree.specs.KeptNodes.{ArePlaced, entries_with};
+ghost use Rattle.gf_tree.specs.Movers.{IsMover};
 ghost use Rattle.gf_tree.specs.NodeOf.{node_of};
+ghost use Rattle.gf_tree.specs.OutcomePositions.{position_among};
+ghost use Rattle.gf_tree.specs.Skipped.{skipped};
 ghost use Rattle.gf_tree.specs.Spellable.{IsSpellable};
-ghost use Rattle.gf_tree.specs.Subtrees.{child_trees, root_node, subtree_at, subtrees};
+ghost use Rattle.gf_tree.specs.Subtrees.{child_trees, root_node, subtree_at, subtree_sizes};
+ghost use Rattle.gf_tree.specs.Subtrees.{subtrees};
 
 use crate::action::Action;
 use crate::branch::Branch;
@@ -234,5 +239,61 @@ impl<'a> Game<'a> {
             ≡ slice_get (child_trees (subtree_at self.now.tree at)) child }
     {
         skip(&self.nodes, at + 1, child)
+    }
+    /// The place of the first node below the node at this place, if there is one.
+    pub(crate) fn place_below(&self, at: usize) -> usize
+        requires { at < length (subtrees self.now.tree) }
+        ensures { result ≡ at + 1 }
+    {
+        prove!(at < self.nodes.len());
+        at + 1
+    }
+
+    /// The place behind the subtree of the node at this place.
+    pub(crate) fn place_behind(&self, at: usize) -> usize
+        requires { at < length (subtrees self.now.tree) }
+        ensures { result ≡ at + skipped 1 (drop at (subtree_sizes self.now.tree)) }
+    {
+        skip(&self.nodes, at, 1)
+    }
+
+    /// Who moves at the node at this place, chance being player 0, and the position of its set,
+    /// from 1, among his sets in order of first use. `None` where the game ends.
+    pub(crate) fn mover(&self, at: usize) -> Option<(u32, u32)>
+        requires { at < length (subtrees self.now.tree) }
+        ensures mover { IsMover self.now (root_node (subtree_at self.now.tree at)).set result }
+        ensures is_game { IsGame self.now }
+    {
+        let set = self.nodes[at].set;
+        if set == 0 {
+            return None;
+        }
+        let place = set - 1;
+        let (player, _) = self.sets.key(place);
+        Some((player, self.sets.first_use_number(place)))
+    }
+
+    /// The actions at the node at this place; none where the game ends.
+    pub(crate) fn actions(&self, at: usize) -> &[Action<'a>]
+        requires { at < length (subtrees self.now.tree) }
+        ensures { MatchOption (root_node (subtree_at self.now.tree at)).set (actions_of result.now ≡ [])
+            (λ key. option_map (λ set. set.actions) (set_at self.now key)
+            ≡ Some (actions_of result.now)) }
+    {
+        let set = self.nodes[at].set;
+        if set == 0 {
+            return &[];
+        }
+        self.sets.actions(set - 1)
+    }
+
+    /// The position of the outcome of the node at this place among the outcomes in order of first
+    /// use, from 1, or 0 where it has none.
+    pub(crate) fn outcome_position(&self, at: usize) -> u32
+        requires { at < length (subtrees self.now.tree) }
+        ensures { result ≡ position_among (outcome_numbers self.now)
+            (root_node (subtree_at self.now.tree at)).outcome }
+    {
+        self.nodes[at].outcome
     }
 }

@@ -6,6 +6,7 @@
 mod action;
 mod again;
 mod branch;
+mod branches;
 mod file_node;
 mod game;
 mod kept;
@@ -24,6 +25,7 @@ mod told;
 
 pub use crate::action::Action;
 pub use crate::branch::Branch;
+pub use crate::branches::Branches;
 pub use crate::file_node::{FileNode, OutcomeDescription, OutcomeUse, SetDescription, SetUse};
 pub use crate::game::{FileNodes, Game, NodesByFirstUse};
 pub use crate::node::{Node, Step};

@@ -91,6 +91,60 @@ fn gives_each_node_its_branches(rt: HostRuntime) {
     assert_eq!(rt; nodes.next(), None);
 }
 
+/// Who moves at the nodes of `BONUS`, the position of the set and that of the outcome.
+const BONUS_MOVERS: [(&[usize], Option<(u32, u32)>, u32); 7] = [
+    (&[], Some((0, 1)), 0),
+    (&[1], Some((1, 1)), 1),
+    (&[1, 1], None, 2),
+    (&[1, 2], None, 0),
+    (&[2], Some((1, 1)), 0),
+    (&[2, 1], None, 0),
+    (&[2, 2], None, 3),
+];
+
+/// The same of `FIVE`, whose numbers are not the positions.
+const FIVE_MOVERS: [(&[usize], Option<(u32, u32)>, u32); 7] = [
+    (&[], Some((0, 1)), 0),
+    (&[1], Some((1, 1)), 0),
+    (&[1, 1], Some((0, 1)), 0),
+    (&[1, 1, 1], None, 0),
+    (&[1, 1, 2], None, 0),
+    (&[2], Some((1, 2)), 1),
+    (&[2, 1], None, 1),
+];
+
+#[test]
+fn gives_movers_and_outcomes_by_position(rt: HostRuntime) {
+    for (file, movers) in [(BONUS, BONUS_MOVERS), (FIVE, FIVE_MOVERS)] {
+        let game = read_efg(rt.alloc(), file).expect(&rt, "a file");
+        for (way, mover, outcome) in movers {
+            let branch = reached(&game, way).expect(&rt, "a branch");
+            assert_eq!(rt; branch.mover(), mover, "at {way:?}");
+            assert_eq!(rt; branch.outcome_position(), outcome, "at {way:?}");
+            assert_eq!(rt; branch.actions().len(), branch.children(), "at {way:?}");
+        }
+    }
+}
+
+#[test]
+fn gives_the_branches_below_a_node(rt: HostRuntime) {
+    let game = read_efg(rt.alloc(), BONUS).expect(&rt, "a file");
+    for (way, children) in BONUS_BRANCHES {
+        let branch = reached(&game, way).expect(&rt, "a branch");
+        let mut below = branch.child_branches();
+        for before in 0..children {
+            assert_eq!(rt; below.given(), before);
+            let child = branch.child(before.saturating_add(1));
+            assert_eq!(rt;
+                below.next().map(|branch| branch.node()),
+                child.map(|branch| branch.node()),
+                "below {way:?}"
+            );
+        }
+        assert!(rt; below.next().is_none());
+    }
+}
+
 #[test]
 fn keeps_the_names_of_nodes(rt: HostRuntime) {
     let file: &[u8] = b"EFG 2 R \"q\" { \"A\" }

@@ -1,0 +1,92 @@
+-- How many actions there are at a player's set, by its position among his.
+use Rattle.std.proofs.Common.{◌≡◌, ℕ, zero, suc, ◌<◌, List, [], ◌∷◌, length, map, get_or}
+use Rattle.std.proofs.Common.{Option, Some, None, refl, sym, ap, subst, ◌∙◌, arith}
+use Rattle.std.specs.Prelude.{◌==◌, option_map, slice_get}
+use Rattle.std.specs.List.{AllZip}
+use Rattle.std.proofs.lemmas.Bool.{eqb-true}
+use Rattle.std.proofs.lemmas.Option.{slice_get-map}
+use Rattle.gf_token.specs.Positions.{at_position}
+use Rattle.gf_tree.specs.Description.{SetKey, InformationSet, same_set, set_of}
+use Rattle.gf_tree.specs.FiniteMap.{Described}
+use Rattle.gf_tree.specs.FirstUse.{player_keys, player_sets}
+use Rattle.gf_tree.specs.Game.{Game, IsGame, set_at, used_sets}
+use Rattle.gf_tree.proofs.FirstUses.{AreDistinct, first_uses_distinct, of_filter}
+use Rattle.gf_tree.proofs.Lookups.{entry_at}
+use Rattle.gf_tree.proofs.RenumberedStores.{has_place}
+use Rattle.gf_tree.proofs.TreesOnce.{same_set_equality}
+use Rattle.gf_form.specs.Strategies.{action_counts}
+
+abbrev Known : Type 0
+Known = Described SetKey InformationSet
+
+-- a player's set, by its number
+his_set : (g : Game) → IsGame g → (player : ℕ) (s : Known) (k : ℕ)
+    → slice_get (player_sets g player) k ≡ Some s
+    → set_at g (set_of player s.key.number) ≡ Some s.description
+his_set g game player s k is =
+    let his = λ (s : Known). s.key.player == player in
+    let there = of_filter his g.sets s (has_place (player_sets g player) k s is) in
+    let owner : s.key.player ≡ player = eqb-true s.key.player player there.1 in
+    let distinct : AreDistinct (map (λ (s : Known). s.key) g.sets) =
+    subst AreDistinct (sym game.one_entry_each_set)
+    (first_uses_distinct same_set same_set_equality (used_sets g.tree)) in
+    ap (λ (p : ℕ). set_at g (set_of p s.key.number)) (sym owner)
+    ∙ entry_at same_set same_set_equality g.sets s distinct there.0
+
+-- the set at a position, by its number, and how many actions it has
+pub record IsThere (g : Game) (player position number : ℕ) : Type 0 where
+  pub set : InformationSet
+  pub found : set_at g (set_of player number) ≡ Some set
+  pub count : at_position (action_counts g player) position ≡ Some (length set.actions)
+
+pub set_there : (g : Game) → IsGame g → (player position number : ℕ)
+    → at_position (map (λ key. key.number) (player_keys g player)) position ≡ Some number
+    → IsThere g player position number
+set_there g game player zero number h = absurd cc
+set_there g game player (suc k) number h =
+    by (slice_get (player_sets g player) k) refl
+    (sym (slice_get-map (λ (s : SetKey). s.number) (player_keys g player) k
+    ∙ ap (option_map (λ (s : SetKey). s.number))
+    (slice_get-map (λ (s : Known). s.key) (player_sets g player) k)) ∙ h)
+  where
+    by : (o : Option Known) → slice_get (player_sets g player) k ≡ o
+        → option_map (λ (s : SetKey). s.number) (option_map (λ (s : Known). s.key) o) ≡ Some number
+        → IsThere g player (suc k) number
+    by None is e = absurd cc
+    by (Some s) is e =
+        let same : s.key.number ≡ number = cc in
+        record {
+          set = s.description;
+          found = ap (λ (n : ℕ). set_at g (set_of player n)) (sym same)
+              ∙ his_set g game player s k is;
+          count = slice_get-map (λ (s : Known). length s.description.actions) (player_sets g player) k
+              ∙ ap (option_map (λ (s : Known). length s.description.actions)) is;
+        }
+
+pub none_there : (g : Game) (player position : ℕ)
+    → at_position (map (λ key. key.number) (player_keys g player)) position ≡ None
+    → at_position (action_counts g player) position ≡ None
+none_there g player zero h = refl
+none_there g player (suc k) h =
+    slice_get-map (λ (s : Known). length s.description.actions) (player_sets g player) k
+    ∙ by (slice_get (player_sets g player) k)
+    (sym (slice_get-map (λ (s : SetKey). s.number) (player_keys g player) k
+    ∙ ap (option_map (λ (s : SetKey). s.number))
+    (slice_get-map (λ (s : Known). s.key) (player_sets g player) k)) ∙ h)
+  where
+    by : (o : Option Known)
+        → option_map (λ (s : SetKey). s.number) (option_map (λ (s : Known). s.key) o) ≡ None
+        → option_map (λ (s : Known). length s.description.actions) o ≡ None
+    by None e = refl
+    by (Some s) e = absurd cc
+
+-- ---- lists place by place
+
+pub zip_places : {A : Type 0} (R : A → ℕ → Type 0) (d : A) (xs : List A) (ys : List ℕ)
+    → length xs ≡ length ys → ((k : ℕ) → k < length xs → R (get_or xs k d) (get_or ys k 0))
+    → AllZip R xs ys
+zip_places R d [] [] e h = tt
+zip_places R d [] (y ∷ ys) e h = absurd (omega (arith, e))
+zip_places R d (x ∷ xs) [] e h = absurd (omega (arith, e))
+zip_places R d (x ∷ xs) (y ∷ ys) e h =
+    (h 0 (omega arith), zip_places R d xs ys (omega (arith, e)) (λ k less. h (suc k) (omega (arith, less))))

@@ -1,0 +1,8 @@
+use Rattle.std.proofs.Common.{Some}
+use Rattle.gf_form.specs.Values.{plus_of}
+use Rattle.gf_form.proofs.RowSums.{Added}
+use Rattle.gf_form.proofs.rows.pay.Given as goal
+
+abbrev pub invariant-loop-i : goal.invariant-loop-i
+invariant-loop-i l = Added (λ s x. plus_of (Some x) (Some s)) l.fn.row.items l.row.items l.payoffs
+    l.i

@@ -1,0 +1,8 @@
+use Rattle.std.proofs.Common.{Some}
+use Rattle.gf_form.specs.Values.{plus_of, times_of}
+use Rattle.gf_form.proofs.RowSums.{Added}
+use Rattle.gf_form.proofs.rows.weigh.Given as goal
+
+abbrev pub invariant-loop-i : goal.invariant-loop-i
+invariant-loop-i l = Added (λ s x. plus_of (Some s) (times_of l.fn.chance (Some x))) l.fn.sum.items
+    l.sum.items l.row l.i

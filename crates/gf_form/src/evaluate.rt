@@ -1,0 +1,77 @@
+//! The values of a tree for given choices.
+
+ghost use Rattle.std.specs.Prelude.{◌≡◌, ◌<◌, ◌≤◌, ℕ, suc, List, [], ◌∷◌, None, Option, Some, IfOk};
+ghost use Rattle.std.specs.Prelude.{IsErrOf, OnOk, length, map};
+ghost use Rattle.gf_fraction.specs.Ratio.{Ratio};
+ghost use Rattle.gf_tree.specs.Game.{Game, IsGame};
+ghost use Rattle.gf_tree.specs.Spellable.{IsSpellable};
+ghost use Rattle.gf_form.specs.PaidRows.{rows_of};
+ghost use Rattle.gf_form.specs.Program.{operands, run};
+ghost use Rattle.gf_form.specs.Rows.{ArePaid, AreRows, IsRow, at_place, column};
+ghost use Rattle.gf_form.specs.RowsOn.{rows_on};
+ghost use Rattle.gf_form.specs.Strategies.{choices_by};
+ghost use Rattle.gf_form.specs.Values.{value};
+ghost use Rattle.gf_form.specs.declared.op.Op.{Op};
+
+use crate::fault::EvalFault;
+use crate::op::Op;
+use crate::payoffs::Payoffs;
+use crate::values::Values;
+use crate::walk::Walk;
+use gf_fraction::Fraction;
+use gf_tree::Game;
+use std::alloc::Global;
+
+/// Does an operation on the values so far.
+fn step(payoffs: &Payoffs<'_>, op: Op, values: &mut Values) -> Result<(), EvalFault>
+    requires shape { operands op ≤ length (rows_on values.old) }
+    requires rows { (g : Game) × ArePaid g (rows_of payoffs.now)
+        × AreRows (length g.players) (rows_on values.old) }
+    ensures rows { OnOk result ((g : Game) → ArePaid g (rows_of payoffs.now)
+        → AreRows (length g.players) (rows_on values.old)
+        → AreRows (length g.players) (rows_on values.new)) }
+    ensures done { OnOk result ((g : Game) (k : ℕ) (ops : List Op) → ArePaid g (rows_of payoffs.now)
+        → run g (suc k) (op ∷ ops) (column k (rows_on values.old))
+        ≡ run g (suc k) ops (column k (rows_on values.new))) }
+    ensures overflow { IsErrOf result EvalFault.Overflow → (k : ℕ) × ((g : Game)
+        → ArePaid g (rows_of payoffs.now) → AreRows (length g.players) (rows_on values.old)
+        → 0 < length g.players → (k < length g.players) × ((ops : List Op) (v : Option Ratio)
+        → run g (suc k) (op ∷ ops) (column k (rows_on values.old)) ≡ v ∷ [] → v ≡ None)) }
+{
+    match op {
+        Op::Push(outcome) => values.push(payoffs.at(outcome)),
+        Op::Begin => values.push(&[]),
+        Op::Nothing => Err(EvalFault::Overflow),
+        Op::Weigh(chance) => values.weigh(chance),
+        Op::Pay(outcome) => values.pay(payoffs.at(outcome)),
+    }
+}
+
+/// The value of the whole tree for each player, where these are the choices of all players. The row
+/// is empty where each is zero.
+pub(crate) fn evaluate(
+    alloc: Global,
+    game: &Game<'_>,
+    choices: &[Vec<u32>],
+) -> Result<Vec<Fraction>, EvalFault>
+    requires some_player { 0 < length game.now.players }
+    requires is_game { IsGame game.now }
+    requires spellable { IsSpellable game.now }
+    ensures row { IfOk result (λ row. IsRow (length game.now.players) row.items) }
+    ensures values { IfOk result (λ row. (k : ℕ)
+        → value game.now (choices_by game.now (map (λ own. own.items) choices.now)) (suc k)
+        game.now.tree ≡ Some (at_place row.items k)) }
+    ensures overflow { IsErrOf result EvalFault.Overflow → (k : ℕ) × (k < length game.now.players)
+        × (value game.now (choices_by game.now (map (λ own. own.items) choices.now)) (suc k)
+        game.now.tree ≡ None) }
+{
+    let payoffs = Payoffs::new(alloc, game)?;
+    let mut walk = Walk::new(alloc, game, choices);
+    let mut values = Values::new(alloc);
+    while let Some(op) = walk.next()? {
+        if let Err(fault) = step(&payoffs, op, &mut values) {
+            return Err(fault);
+        }
+    }
+    Ok(values.top())
+}

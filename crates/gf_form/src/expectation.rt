@@ -1,0 +1,51 @@
+//! The payoffs where players choose these actions.
+
+ghost use Rattle.std.specs.Prelude.{◌≤◌, IfOk, IsErrOf, OnOk, map};
+ghost use Rattle.std.specs.List.{AllZip};
+ghost use Rattle.gf_form.specs.Refusal.{HasValuesBy};
+ghost use Rattle.gf_form.specs.StrategicForm.{ArePayoffs};
+ghost use Rattle.gf_form.specs.Strategies.{AreStrategies, choices_by};
+
+use crate::evaluate::evaluate;
+use crate::fault::EvalFault;
+use crate::rows::write_out;
+use gf_fraction::Fraction;
+use gf_tree::Game;
+use std::alloc::Global;
+
+/// What each player is paid, in their order, where the players choose these actions: the sum, over
+/// the plays that follow the choices, of the probability of the play times the payoffs of its
+/// outcomes.
+///
+/// The caller sees to it that there is one list for each player, with the position of an action,
+/// from 1, for each of his sets in order of first use.
+///
+/// `Overflow` where the bottom-up value of some player is not defined: the value at a leaf is its
+/// payoff, at a node of a player its payoff and the value of the child that is chosen, and at a node
+/// of chance its payoff and the sum of the children's values times their probabilities, added in
+/// their order from 0; and it is not defined where a sum or a product on the way does not fit (this
+/// project's profile). `Memory` where memory is refused.
+pub fn expected(
+    alloc: Global,
+    game: &Game<'_>,
+    choices: &[Vec<u32>],
+) -> Result<Vec<Fraction>, EvalFault>
+    requires { AreStrategies game.now (map (λ own. own.items) choices.now) }
+    ensures payoffs { IfOk result (λ payoffs. ArePayoffs game.now
+        (choices_by game.now (map (λ own. own.items) choices.now)) payoffs.items) }
+    ensures values { OnOk result (HasValuesBy game.now
+        (choices_by game.now (map (λ own. own.items) choices.now))) }
+    ensures overflow { IsErrOf result EvalFault.Overflow → ¬ (HasValuesBy game.now
+        (choices_by game.now (map (λ own. own.items) choices.now))) }
+{
+    let players = game.players().len();
+    if players == 0 {
+        return Ok(Vec::new(alloc));
+    }
+    let mut row = match evaluate(alloc, game, choices) {
+        Ok(row) => row,
+        Err(fault) => return Err(fault),
+    };
+    write_out(&mut row, players)?;
+    Ok(row)
+}

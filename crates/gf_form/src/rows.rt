@@ -1,0 +1,80 @@
+//! Rows of numbers, one for each player, that are added up. An empty row is one of zeros.
+
+ghost use Rattle.std.specs.Prelude.{◌≡◌, ◌<◌, ◌≤◌, ℕ, None, Some, OnOk, IsErrOf, length};
+ghost use Rattle.gf_fraction.specs.Ratio.{IsFraction};
+ghost use Rattle.gf_form.specs.Rows.{IsRow, at_place};
+ghost use Rattle.gf_form.specs.Values.{plus_of, times_of};
+
+use crate::fault::EvalFault;
+use gf_fraction::Fraction;
+use std::alloc::AllocError;
+
+/// Writes the zeros of an empty row out.
+pub(crate) fn write_out(row: &mut Vec<Fraction>, players: usize) -> Result<(), AllocError>
+    requires { IsRow players row.old.items }
+    ensures length { OnOk result (length row.new.items ≡ players) }
+    ensures row { OnOk result (IsRow players row.new.items) }
+    ensures same { (k : ℕ) → at_place row.new.items k ≡ at_place row.old.items k }
+{
+    if row.is_empty() {
+        row.reserve(players)?;
+        while row.len() < players {
+            row.push(Fraction::zero())?;
+        }
+    }
+    Ok(())
+}
+
+/// Adds a row times a probability to a sum.
+pub(crate) fn weigh(
+    sum: &mut Vec<Fraction>,
+    chance: Fraction,
+    row: &[Fraction],
+) -> Result<(), EvalFault>
+    requires { (players : ℕ) × IsRow players sum.old.items × IsRow players row.now }
+    ensures row { OnOk result ((players : ℕ) → IsRow players sum.old.items → IsRow players row.now
+        → IsRow players sum.new.items) }
+    ensures added { OnOk result ((k : ℕ) → plus_of (Some (at_place sum.old.items k))
+        (times_of chance (Some (at_place row.now k))) ≡ Some (at_place sum.new.items k)) }
+    ensures overflow { IsErrOf result EvalFault.Overflow → (k : ℕ) × (k < length row.now)
+        × (plus_of (Some (at_place sum.old.items k)) (times_of chance (Some (at_place row.now k)))
+        ≡ None) }
+{
+    if chance.num() == 0 || row.is_empty() {
+        return Ok(());
+    }
+    write_out(sum, row.len())?;
+    for i in 0..row.len() {
+        let Ok(product) = chance.mul(row[i]) else {
+            return Err(EvalFault::Overflow);
+        };
+        let Ok(total) = sum[i].add(product) else {
+            return Err(EvalFault::Overflow);
+        };
+        sum[i] = total;
+    }
+    Ok(())
+}
+
+/// Adds payoffs to a row.
+pub(crate) fn pay(payoffs: &[Fraction], row: &mut Vec<Fraction>) -> Result<(), EvalFault>
+    requires { (players : ℕ) × IsRow players payoffs.now × IsRow players row.old.items }
+    ensures row { OnOk result ((players : ℕ) → IsRow players payoffs.now
+        → IsRow players row.old.items → IsRow players row.new.items) }
+    ensures added { OnOk result ((k : ℕ) → plus_of (Some (at_place payoffs.now k))
+        (Some (at_place row.old.items k)) ≡ Some (at_place row.new.items k)) }
+    ensures overflow { IsErrOf result EvalFault.Overflow → (k : ℕ) × (k < length payoffs.now)
+        × (plus_of (Some (at_place payoffs.now k)) (Some (at_place row.old.items k)) ≡ None) }
+{
+    if payoffs.is_empty() {
+        return Ok(());
+    }
+    write_out(row, payoffs.len())?;
+    for i in 0..payoffs.len() {
+        let Ok(total) = payoffs[i].add(row[i]) else {
+            return Err(EvalFault::Overflow);
+        };
+        row[i] = total;
+    }
+    Ok(())
+}

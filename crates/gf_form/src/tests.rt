@@ -1,0 +1,131 @@
+//! What the players are paid at worked games, and which choices have no payoffs.
+
+use crate::{EvalFault, expected};
+use gf_fraction::Fraction;
+use gf_tree::read_efg;
+use std::alloc::{AllocError, Global};
+use std::process::Abort;
+use std::test::Fail;
+use strategies::are_strategies;
+
+mod random;
+mod strategies;
+
+/// Outcomes at an inner node and at leaves, and a player who never moves.
+const BONUS: &[u8] = b"EFG 2 R \"g\" { \"A\" \"B\" }
+c \"\" 1 \"n\" { \"h\" 1/2 \"t\" 1/2 } 0
+p \"\" 1 1 \"i\" { \"L\" \"R\" } 1 \"bonus\" { 1 0 }
+t \"\" 2 \"x\" { 2 0 }
+t \"\" 0
+p \"\" 1 1 0
+t \"\" 0
+t \"\" 3 \"y\" { 3 1 }
+";
+
+/// The greatest number and one more behind the second action, above which one less is paid.
+const OVERFLOWING: &[u8] = b"EFG 2 R \"o\" { \"A\" }
+p \"\" 1 1 \"i\" { \"a\" \"b\" } 1 \"x\" { -1 }
+t \"\" 0
+p \"\" 1 2 \"j\" { \"c\" } 2 \"y\" { 170141183460469231731687303715884105727 }
+t \"\" 3 \"z\" { 1 }
+";
+
+/// A payoff of 5 where chance never comes, and one more below it.
+const UNLIKELY: &[u8] = b"EFG 2 R \"q\" { \"A\" }
+c \"\" 1 \"n\" { \"a\" 1 \"b\" 0 } 0
+t \"\" 1 \"x\" { 1 }
+c \"\" 2 \"k\" { \"e\" 1 } 2 \"y\" { 5 }
+t \"\" 1
+";
+
+/// The same, with the greatest number in place of 5.
+const UNLIKELY_AND_GREAT: &[u8] = b"EFG 2 R \"q\" { \"A\" }
+c \"\" 1 \"n\" { \"a\" 1 \"b\" 0 } 0
+t \"\" 1 \"x\" { 1 }
+c \"\" 2 \"k\" { \"e\" 1 } 2 \"y\" { 170141183460469231731687303715884105727 }
+t \"\" 1
+";
+
+/// Two halves of great numbers, to whose sum a negative one is added where chance moves.
+const BALANCING: &[u8] = b"EFG 2 R \"b\" { \"A\" }
+c \"\" 1 \"n\" { \"h\" 1/2 \"t\" 1/2 } 1 \"x\" { -85070591730234615865843651857942052863 }
+t \"\" 2 \"y\" { 170141183460469231731687303715884105727 }
+t \"\" 3 \"z\" { 170141183460469231731687303715884105725 }
+";
+
+const NOBODY: &[u8] = b"EFG 2 R \"\" { } t \"\" 0";
+
+/// What the players of a file are paid at these choices.
+fn paid(
+    rt: &impl Abort,
+    alloc: Global,
+    file: &[u8],
+    choices: &[&[u32]],
+) -> Result<Result<Vec<Fraction>, EvalFault>, AllocError> {
+    let game = read_efg(alloc, file).expect(rt, "a file");
+    let mut own = Vec::new(alloc);
+    for strategy in choices {
+        own.push(Vec::from_slice(alloc, strategy)?)?;
+    }
+    assert!(rt; are_strategies(&game, &own), "{choices:?}");
+    Ok(expected(alloc, &game, &own))
+}
+
+/// Fractions by their parts.
+fn fractions(
+    rt: &impl Abort,
+    alloc: Global,
+    parts: &[(i128, u128)],
+) -> Result<Vec<Fraction>, AllocError> {
+    let mut all = Vec::new(alloc);
+    for (num, den) in parts {
+        all.push(Fraction::new(*num, *den).expect(rt, "a fraction"))?;
+    }
+    Ok(all)
+}
+
+#[test]
+fn pays_what_the_plays_pay(rt: HostRuntime) -> Result<(), Fail> {
+    let alloc = rt.alloc();
+    let rows: [(&[u8], &[&[u32]], &[(i128, u128)]); 5] = [
+        (BONUS, &[&[1], &[]], &[(3, 2), (0, 1)]),
+        (BONUS, &[&[2], &[]], &[(2, 1), (1, 2)]),
+        (OVERFLOWING, &[&[1, 1]], &[(-1, 1)]),
+        (UNLIKELY, &[&[]], &[(1, 1)]),
+        (NOBODY, &[], &[]),
+    ];
+    for (file, choices, payoffs) in rows {
+        let payoffs = fractions(&rt, alloc, payoffs)?;
+        assert_eq!(rt; paid(&rt, alloc, file, choices)?, Ok(payoffs));
+    }
+    Ok(())
+}
+
+#[test]
+fn overflows_where_a_value_on_the_way_does(rt: HostRuntime) -> Result<(), Fail> {
+    let rows: [(&[u8], &[&[u32]]); 3] = [
+        (OVERFLOWING, &[&[2, 1]]),
+        (UNLIKELY_AND_GREAT, &[&[]]),
+        (BALANCING, &[&[]]),
+    ];
+    for (file, choices) in rows {
+        let answer = paid(&rt, rt.alloc(), file, choices)?;
+        assert_eq!(rt; answer, Err(EvalFault::Overflow));
+    }
+    Ok(())
+}
+
+#[test]
+fn evaluates_a_tree_of_any_depth(rt: HostRuntime) -> Result<(), Fail> {
+    let mut file = Vec::from_slice(
+        rt.alloc(),
+        b"EFG 2 R \"d\" { \"A\" }\np \"\" 1 1 \"i\" { \"L\" } 1 \"x\" { 1/2 }\n",
+    )?;
+    for _ in 1..100_000 {
+        file.extend_from_slice(b"p \"\" 1 1 1\n")?;
+    }
+    file.extend_from_slice(b"t \"\" 0\n")?;
+    let payoffs = fractions(&rt, rt.alloc(), &[(50_000, 1)])?;
+    assert_eq!(rt; paid(&rt, rt.alloc(), &file, &[&[1]])?, Ok(payoffs));
+    Ok(())
+}

@@ -1,0 +1,13 @@
+use Rattle.std.proofs.Common.{ap}
+use Rattle.gf_tree.specs.Game.{Game}
+use Rattle.gf_tree.proofs.GameNodes.{IsTreeOf, sizes_beside}
+use Rattle.gf_tree.proofs.NodeParts.{begin_here}
+use Rattle.gf_tree.proofs.game.Game.place_behind.Goals as goal
+
+pub skip-requires-clause-trees : goal.skip-requires-clause-trees
+skip-requires-clause-trees c =
+    let tree : IsTreeOf c.self.inside.sets.known c.self.inside.outcomes.known
+    c.self.inside.nodes.items c.args.self.now.tree =
+    record { are = c.self.invariant.nodes_are; is = ap (λ (g : Game). g.tree) c.self.view_is } in
+    rw (c.deref.ensures.value, sizes_beside _ _ _ _ tree)
+    (begin_here c.args.self.now.tree c.args.at c.requires)

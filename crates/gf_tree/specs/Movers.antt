@@ -1,0 +1,12 @@
+-- Who moves at a node, and at which of his sets.
+use Rattle.std.specs.Prelude.{◌≡◌, ℕ, Option, Some, None, MatchOption}
+use Rattle.gf_token.specs.Positions.{at_position}
+use Rattle.gf_tree.specs.Description.{SetKey}
+use Rattle.gf_tree.specs.FirstUse.{player_keys}
+use Rattle.gf_tree.specs.Game.{Game}
+
+-- the owner of the set, chance being player 0, and its position, from 1, among his sets in order of
+-- first use; none where there is no set
+abbrev pub IsMover : Game → Option SetKey → Option (ℕ × ℕ) → Type 0
+IsMover g set mover = MatchOption mover (set ≡ None) (λ m. (key : SetKey) × (set ≡ Some key)
+    × (key.player ≡ m.0) × (at_position (player_keys g m.0) m.1 ≡ Some key))
