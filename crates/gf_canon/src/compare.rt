@@ -2,7 +2,6 @@
 
 ghost use Rattle.std.specs.Prelude.{◌≡◌, ◌↔◌, IsTrue, map, option_map};
 ghost use Rattle.gf_token.specs.Label.{label_of};
-ghost use Rattle.gf_tree.specs.Actions.{action_of, actions_of};
 ghost use Rattle.gf_tree.specs.FileNodeOf.{described_outcome, described_set, file_node_of};
 ghost use Rattle.gf_tree.specs.FileNodeOf.{outcome_use_of, set_use_of};
 ghost use Rattle.gf_tree.specs.Game.{IsGame};
@@ -13,7 +12,9 @@ ghost use Rattle.gf_canon.specs.NamedBy.{heading_by, name_by, node_by, outcome_b
 use crate::sameness::Names;
 use gf_fraction::Fraction;
 use gf_token::Label;
-use gf_tree::{Action, FileNode, Game, OutcomeDescription, OutcomeUse, SetDescription, SetUse};
+use gf_tree::{
+    FileNode, Game, OutcomeDescription, OutcomeUse, SetDescription, SetUse, same_actions,
+};
 
 /// Whether two names are the same, as far as names count.
 pub(crate) fn same_name(a: Label<'_>, b: Label<'_>, names: Names) -> bool
@@ -31,39 +32,6 @@ fn same_labels(a: &[Label<'_>], b: &[Label<'_>]) -> bool
     ensures { IsTrue result ↔ (map label_of a.now ≡ map label_of b.now) }
 {
     a == b
-}
-
-/// Whether two probabilities are the same, or both are not there.
-fn same_probability(a: Option<Fraction>, b: Option<Fraction>) -> bool
-    ensures { IsTrue result ↔ (a ≡ b) }
-{
-    match (a, b) {
-        (Some(a), Some(b)) => a == b,
-        (None, None) => true,
-        _ => false,
-    }
-}
-
-/// Whether two actions are the same.
-fn same_action(a: &Action<'_>, b: &Action<'_>) -> bool
-    ensures { IsTrue result ↔ (action_of a.now ≡ action_of b.now) }
-{
-    a.label == b.label && same_probability(a.probability, b.probability)
-}
-
-/// Whether two lists of actions are the same.
-fn same_actions(a: &[Action<'_>], b: &[Action<'_>]) -> bool
-    ensures { IsTrue result ↔ (actions_of a.now ≡ actions_of b.now) }
-{
-    if a.len() != b.len() {
-        return false;
-    }
-    for at in 0..a.len() {
-        if !same_action(&a[at], &b[at]) {
-            return false;
-        }
-    }
-    true
 }
 
 /// Whether two lists of payoffs are the same.

@@ -46,8 +46,10 @@ pub mod RunShares
 pub mod RunStops
 pub mod RunTokens
 mod SentencesOnce
+pub mod SameLists
 pub mod SetNumbers
 pub mod SetPlaces
+pub mod SmallPlaces
 pub mod SetsEnded
 pub mod SpelledGames
 pub mod StoredActions

@@ -8,10 +8,10 @@ use Rattle.gf_tree.specs.Actions.{action_of, actions_of}
 use Rattle.gf_tree.specs.Description.{InformationSet, SetKey, set_of}
 use Rattle.gf_tree.specs.FiniteMap.{Described}
 use Rattle.gf_tree.specs.KnownSets.{KnownSets}
-use Rattle.gf_tree.specs.StoredSets.{described, stored_sets, AreSets}
+use Rattle.gf_tree.specs.StoredSets.{described, end_of, stored_sets, AreSets}
 use Rattle.gf_tree.proofs.Stretching.{items_behind}
 
-abbrev set_made : Entry → List Held → Described SetKey InformationSet
+abbrev pub set_made : Entry → List Held → Described SetKey InformationSet
 set_made e actions = record {
   key = set_of e.player e.number;
   description =
@@ -28,7 +28,7 @@ pub action_pushed : (players : List (List (ℕ × ℕ))) (entries : List Entry)
     }
 action_pushed players entries actions after from action whole are view is =
     let known : map (described (actions ++ action ∷ [])) entries ≡ map (described actions) entries =
-    items_behind (λ e. e.start) (λ e. e.end) set_made entries actions
+    items_behind (λ e. e.start) end_of set_made entries actions
     (action ∷ []) from are.stretches in
     let rest : actions_of (drop from (actions ++ action ∷ []))
     ≡ actions_of (drop from actions) ++ action_of action ∷ [] =

@@ -8,7 +8,7 @@ use Rattle.gf_tree.specs.declared.outcomes.Entry.{Entry}
 use Rattle.gf_tree.specs.Description.{Outcome}
 use Rattle.gf_tree.specs.FiniteMap.{Described}
 use Rattle.gf_tree.specs.KnownOutcomes.{KnownOutcomes}
-use Rattle.gf_tree.specs.StoredOutcomes.{described, stored_outcomes, AreOutcomes}
+use Rattle.gf_tree.specs.StoredOutcomes.{described, end_of, stored_outcomes, AreOutcomes}
 use Rattle.gf_tree.proofs.OutcomePlaces.{places_then}
 use Rattle.gf_tree.proofs.Stretching.{entry_behind, items_behind}
 
@@ -27,7 +27,7 @@ module _ (ns : List (ℕ × ℕ)) (entries : List Entry) (payoffs : List Ratio) 
   payoff_pushed after payoff is =
       let known : map (described (payoffs ++ payoff ∷ [])) entries
       ≡ map (described payoffs) entries =
-      items_behind (λ e. e.start) (λ e. e.end) made_of entries payoffs
+      items_behind (λ e. e.start) end_of made_of entries payoffs
       (payoff ∷ []) from are.stretches in
       let rest : drop from (payoffs ++ payoff ∷ []) ≡ drop from payoffs ++ payoff ∷ [] =
       drop-append-le from payoffs (payoff ∷ []) are.stretches.within in
@@ -44,13 +44,13 @@ module _ (ns : List (ℕ × ℕ)) (entries : List Entry) (payoffs : List Ratio) 
   -- one outcome more, with the payoffs from here on
   module _ (new : Entry) (stored : List Entry) (is : stored ≡ entries ++ new ∷ []) (place last : ℕ)
       (at : place ≡ length entries) (all : last ≡ length payoffs)
-      (starts : new.start ≡ from) (ends : new.end ≡ last) where
+      (starts : new.start ≡ from) (ends : end_of new ≡ last) where
     pub outcomes_stored : (after : List (ℕ × ℕ)) → after ≡ ns ++ (new.number, place) ∷ []
         → place + 1 < 2 ^ 32 → AreOutcomes after stored payoffs last
     outcomes_stored after own room =
         let are_then : AreOutcomes after (entries ++ new ∷ []) payoffs (length payoffs) = record {
           stretches = entry_behind (λ e. e.start)
-              (λ e. e.end) entries payoffs from new are.stretches starts (ends ∙ all);
+              end_of entries payoffs from new are.stretches starts (ends ∙ all);
           places = own ∙ ap (λ (k : ℕ). ns ++ (new.number, k) ∷ []) at
               ∙ places_then ns entries new are.places;
           few = omega (arith, room, at, length-append entries (new ∷ []));

@@ -1,9 +1,10 @@
 -- Stretches of a list of items, where items or entries come behind.
 use Rattle.std.proofs.Common.{◌≡◌, ℕ, ◌-◌, ◌≤◌, List, [], ◌∷◌, ◌++◌, length, map, take, drop, refl}
-use Rattle.std.proofs.Common.{ap, ◌∙◌, arith}
+use Rattle.std.proofs.Common.{sym, ap, ◌∙◌, arith}
 use Rattle.std.specs.Prelude.{slice_range}
 use Rattle.std.specs.List.{AllByRecursion}
-use Rattle.std.proofs.lemmas.List.{take-append-le, drop-append-le, length-drop}
+use Rattle.std.proofs.lemmas.List.{take-append-le, take-append-drop, drop-append-le}
+use Rattle.std.proofs.lemmas.List.{length-drop, length-take-le}
 use Rattle.gf_tree.specs.Stretches.{AreStretches}
 
 same_part : {T : Type 0} (items more : List T) (i j : ℕ) → i ≤ j → j ≤ length items
@@ -62,3 +63,39 @@ module _ {E T : Type 0} (start end : E → ℕ) where
         (up_to start end entries from (length items) are.within are.ordered)
         (omega (arith, are.within), omega arith);
   }
+
+  -- items behind the stretches may go
+  until : (entries : List E) (items : List T) (from last : ℕ)
+      → AreStretches start end entries items from → from ≤ last → last ≤ length items
+      → AreStretches start end entries (take last items) from
+  until entries items from last are behind within = record {
+    within = omega (arith, behind, length-take-le last items within);
+    ordered = are.ordered;
+  }
+
+  pub items_until : {D : Type 0} (make : E → List T → D) (entries : List E) (items : List T)
+      (from last : ℕ) → AreStretches start end entries items from → from ≤ last
+      → last ≤ length items
+      → map (made make (take last items)) entries ≡ map (made make items) entries
+  items_until make entries items from last are behind within =
+      sym (items_behind make entries (take last items) (drop last items) from
+      (until entries items from last are behind within))
+      ∙ ap (λ (xs : List T). map (made make xs) entries) (take-append-drop last items)
+
+  -- a stretch of the items so far becomes that of a new entry, and the items behind all go
+  pub entry_within : (entries : List E) (items : List T) (from last : ℕ) (e : E)
+      → AreStretches start end entries items from → from ≤ last → last ≤ length items
+      → start e ≤ end e → end e ≤ last
+      → AreStretches start end (entries ++ e ∷ []) (take last items) last
+  entry_within entries items from last e are behind within ordered ends = record {
+    within = omega (arith, length-take-le last items within);
+    ordered = one_behind (Ends start end last) entries e
+        (up_to start end entries from last behind are.ordered) (ordered, ends);
+  }
+
+pub part_until : {T : Type 0} (items : List T) (i j last : ℕ) → i ≤ j → j ≤ last
+    → last ≤ length items → slice_range (take last items) i j ≡ slice_range items i j
+part_until items i j last ordered ends within =
+    sym (same_part (take last items) (drop last items) i j ordered
+    (omega (arith, ends, length-take-le last items within)))
+    ∙ ap (λ (xs : List _). slice_range xs i j) (take-append-drop last items)

@@ -42,6 +42,7 @@ pub mod Renumbering
 pub mod Seeded
 pub mod Sentence
 pub mod Skipped
+pub mod SmallNumbers
 pub mod Spellable
 pub mod StoredOutcomes
 pub mod StoredSets

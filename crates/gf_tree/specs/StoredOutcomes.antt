@@ -8,10 +8,14 @@ use Rattle.gf_tree.specs.FiniteMap.{Described}
 use Rattle.gf_tree.specs.KnownOutcomes.{KnownOutcomes}
 use Rattle.gf_tree.specs.Stretches.{AreStretches}
 
+-- behind its payoffs
+abbrev pub end_of : Entry → ℕ
+end_of e = e.start + e.count
+
 abbrev pub described : List Ratio → Entry → Described ℕ Outcome
 described payoffs e = record {
   key = e.number;
-  description = record { name = label_of e.name; payoffs = slice_range payoffs e.start e.end };
+  description = record { name = label_of e.name; payoffs = slice_range payoffs e.start (end_of e) };
 }
 
 abbrev pub stored_outcomes : List Entry → List Ratio → ℕ → KnownOutcomes
@@ -27,6 +31,6 @@ places_from place (e ∷ es) = (e.number, place) ∷ places_from (place + 1) es
 
 pub record AreOutcomes (numbers : List (ℕ × ℕ)) (entries : List Entry) (payoffs : List Ratio)
     (from : ℕ) : Type 0 where
-  pub stretches : AreStretches (λ e. e.start) (λ e. e.end) entries payoffs from
+  pub stretches : AreStretches (λ e. e.start) end_of entries payoffs from
   pub places : numbers ≡ places_from 0 entries
   pub few : length entries < 2 ^ 32

@@ -150,8 +150,7 @@ fn same_payoff(tokens: &mut Tokens<'_>, payoff: Fraction) -> Result<(), Fault>
 
 /// Reads the description of an outcome that is known, behind the text that stands where its name is
 /// due.
-#[inline(never)]
-fn same_outcome_named<'a>(
+pub(crate) fn same_outcome<'a>(
     tokens: &mut Tokens<'a>,
     text: TextToken<'a>,
     name: Label<'a>,
@@ -176,23 +175,4 @@ fn same_outcome_named<'a>(
         return Err(tokens.refusal(Why::Expected(What::Closing)));
     };
     Ok(())
-}
-
-/// Reads the description of an outcome that is known, if there is one.
-#[inline(always)]
-pub(crate) fn same_outcome<'a>(
-    tokens: &mut Tokens<'a>,
-    name: Label<'a>,
-    payoffs: &[Fraction],
-) -> Result<(), Fault>
-    ensures machine { (c : Content)
-        → Goes (heard (KnownOutcomeName (outcome_with (label_of name.entry) payoffs.now)) c
-        tokens.old) result
-        (heard NodeDue c tokens.new) }
-    ensures shorter { OnOk result (length tokens.new.ahead ≤ length tokens.old.ahead) }
-{
-    match tokens.text() {
-        Some(text) => same_outcome_named(tokens, text, name, payoffs),
-        None => Ok(()),
-    }
 }

@@ -21,9 +21,10 @@ mod readings;
 mod receive;
 mod seeded;
 mod sets;
+mod small_numbers;
 mod told;
 
-pub use crate::action::Action;
+pub use crate::action::{Action, same_actions};
 pub use crate::branch::Branch;
 pub use crate::branches::Branches;
 pub use crate::file_node::{FileNode, OutcomeDescription, OutcomeUse, SetDescription, SetUse};

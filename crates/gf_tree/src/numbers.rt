@@ -1,12 +1,14 @@
 //! Numbers of a file, each with the place of what it names.
 
 ghost use Rattle.std.specs.Prelude.{◌≡◌, ◌+◌, ◌<◌, ◌≤◌, ◌^◌, ◌++◌, [], ◌∷◌, None, nat_eq, map};
-ghost use Rattle.std.specs.Prelude.{length, OnOk, OnErr, IfOk};
+ghost use Rattle.std.specs.Prelude.{length, option_map, slice_get, OnOk, OnErr, IfOk};
 ghost use Rattle.std.specs.Map.{lookup};
 ghost use Rattle.indexmap.specs.IndexMap.{get};
 ghost use Rattle.gf_token.specs.Positions.{at_position};
+ghost use Rattle.gf_tree.specs.Numbers.{pairs_in};
 
 use crate::seeded::Seeded;
+use crate::small_numbers::SmallNumbers;
 use indexmap::IndexMap;
 use std::alloc::{AllocError, Global};
 use std::marker::Model;
@@ -24,14 +26,110 @@ pub(crate) fn next_place(len: usize) -> Result<u32, AllocError>
 
 type Places = IndexMap<u32, u32, Seeded>;
 
+/// Numbers in order of first use. The first ones are small, and found by a table; those from the
+/// first other one on are found by a map.
+#[derive(Drop)]
+struct Index {
+    small: SmallNumbers,
+    others: Option<Places>,
+}
+
+impl Index {
+    /// No numbers.
+    fn new(alloc: Global) -> Index
+        ensures { (result.small ≡ []) × (result.others ≡ None) }
+    {
+        Index {
+            small: SmallNumbers::new(alloc),
+            others: None,
+        }
+    }
+
+    /// The place that a number has.
+    #[inline(always)]
+    fn place(&self, number: u32) -> Option<u32>
+        ensures { result ≡ lookup (nat_eq number) (pairs_in self.now) }
+    {
+        if let Some(place) = self.small.place(number) {
+            return Some(place);
+        }
+        match &self.others {
+            Some(others) => others.get(&number).copied(),
+            None => None,
+        }
+    }
+
+    /// How many numbers there are.
+    fn len(&self) -> usize
+        ensures { result ≡ length (pairs_in self.now) }
+    {
+        match &self.others {
+            Some(others) => self.small.len() + others.len(),
+            None => self.small.len(),
+        }
+    }
+
+    /// The number at an index.
+    fn number(&self, at: usize) -> Option<u32>
+        ensures { result ≡ option_map (λ p. p.0) (slice_get (pairs_in self.now) at) }
+    {
+        if at < self.small.len() {
+            return self.small.number(at);
+        }
+        let Some(others) = &self.others else {
+            return None;
+        };
+        match others.get_index(at - self.small.len()) {
+            Some((number, _)) => Some(*number),
+            None => None,
+        }
+    }
+
+    /// The place of the last number.
+    fn last_place(&self) -> Option<u32> {
+        match &self.others {
+            Some(others) => match others.last() {
+                Some((_, place)) => Some(*place),
+                None => None,
+            },
+            None => self.small.last_place(),
+        }
+    }
+
+    /// Adds a number that is not there, and its place. On an `Err` nothing has changed.
+    fn insert(
+        &mut self,
+        alloc: Global,
+        hasher: Seeded,
+        number: u32,
+        place: u32,
+    ) -> Result<(), AllocError>
+        requires absent { lookup (nat_eq number) (pairs_in self.old) ≡ None }
+        requires few { place + 1 < 2 ^ 32 }
+        ensures ok { OnOk result (pairs_in self.new ≡ pairs_in self.old ++ (number, place) ∷ []) }
+        ensures err { OnErr result (pairs_in self.new ≡ pairs_in self.old) }
+    {
+        if let Some(others) = &mut self.others {
+            return add(others, number, place);
+        }
+        if self.small.have_room_for(number) {
+            return self.small.push(number, place);
+        }
+        let mut others = IndexMap::with_hasher(alloc, hasher);
+        add(&mut others, number, place)?;
+        self.others = Some(others);
+        Ok(())
+    }
+}
+
 /// The numbers of a player's sets, or those of outcomes, in order of first use, each with the place
 /// of its set or outcome.
 ///
-/// There is a map only where there is a number: many players have no sets, and each of these costs
-/// a pointer.
+/// There is an index only where there is a number: many players have no sets, and each of these
+/// costs a pointer.
 #[derive(Drop)]
 pub(crate) struct Numbers {
-    places: Option<Box<Places>>,
+    index: Option<Box<Index>>,
 }
 
 impl Model for Numbers {
@@ -40,7 +138,7 @@ impl Model for Numbers {
 
     ghost Value = { List (ℕ × ℕ) };
 
-    ghost view = { λ n. pairs_of n.places };
+    ghost view = { λ n. pairs_of n.index };
 }
 
 impl Numbers {
@@ -48,7 +146,7 @@ impl Numbers {
     pub(crate) fn new() -> Numbers
         ensures { result ≡ [] }
     {
-        Numbers { places: None }
+        Numbers { index: None }
     }
 
     /// The place that a number has.
@@ -56,8 +154,8 @@ impl Numbers {
     pub(crate) fn place(&self, number: u32) -> Option<u32>
         ensures { result ≡ lookup (nat_eq number) self.now }
     {
-        match &self.places {
-            Some(places) => places.get(&number).copied(),
+        match &self.index {
+            Some(index) => index.place(number),
             None => None,
         }
     }
@@ -66,8 +164,8 @@ impl Numbers {
     pub(crate) fn len(&self) -> usize
         ensures { result ≡ length self.now }
     {
-        match &self.places {
-            Some(places) => places.len(),
+        match &self.index {
+            Some(index) => index.len(),
             None => 0,
         }
     }
@@ -77,14 +175,19 @@ impl Numbers {
     pub(crate) fn number(&self, i: usize) -> Option<u32>
         ensures { result ≡ at_position (map (λ p. p.0) self.now) i }
     {
-        let Some(places) = &self.places else {
+        let Some(index) = &self.index else {
             return None;
         };
         if i == 0 {
             return None;
         }
-        match places.get_index(i - 1) {
-            Some((number, _)) => Some(*number),
+        index.number(i - 1)
+    }
+
+    /// The place of the last number.
+    pub(crate) fn last_place(&self) -> Option<u32> {
+        match &self.index {
+            Some(index) => index.last_place(),
             None => None,
         }
     }
@@ -98,16 +201,17 @@ impl Numbers {
         number: u32,
         place: u32,
     ) -> Result<(), AllocError>
-        requires { lookup (nat_eq number) self.old ≡ None }
+        requires absent { lookup (nat_eq number) self.old ≡ None }
+        requires few { place + 1 < 2 ^ 32 }
         ensures ok { OnOk result (self.new ≡ self.old ++ (number, place) ∷ []) }
         ensures err { OnErr result (self.new ≡ self.old) }
     {
-        match &mut self.places {
-            Some(places) => add(places, number, place),
+        match &mut self.index {
+            Some(index) => index.insert(alloc, hasher, number, place),
             None => {
-                let mut places = IndexMap::with_hasher(alloc, hasher);
-                add(&mut places, number, place)?;
-                self.places = Some(Box::new(alloc, places)?);
+                let mut index = Index::new(alloc);
+                index.insert(alloc, hasher, number, place)?;
+                self.index = Some(Box::new(alloc, index)?);
                 Ok(())
             }
         }

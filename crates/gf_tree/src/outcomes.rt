@@ -6,6 +6,7 @@ ghost use Rattle.std.specs.Prelude.{slice_get, option_map, position, OnOk, OnErr
 ghost use Rattle.gf_token.specs.Label.{label_of};
 ghost use Rattle.gf_token.specs.Positions.{at_position};
 ghost use Rattle.gf_tree.specs.KnownOutcomes.{with_outcome, with_payoff};
+ghost use Rattle.gf_tree.specs.StoredOutcomes.{end_of};
 
 use crate::numbers::{Numbers, next_place};
 use crate::seeded::Seeded;
@@ -14,21 +15,31 @@ use gf_token::Label;
 use std::alloc::{AllocError, Global};
 use std::marker::Model;
 
-/// An outcome that is known: its number, its name, and where its payoffs lie among those of all
-/// outcomes.
+/// An outcome that is known, in 32 bytes: its number, how many payoffs it has, its name, and where
+/// its payoffs begin among those of all outcomes.
 #[derive(Clone, Copy)]
 struct Entry<'a> {
     number: u32,
+    count: u32,
     name: Label<'a>,
     start: usize,
-    end: usize,
+}
+
+impl<'a> Entry<'a> {
+    /// Where its payoffs end.
+    fn end(&self) -> usize
+        requires { end_of self.now < 2 ^ 64 }
+        ensures { result ≡ end_of self.now }
+    {
+        self.start + self.count as usize
+    }
 }
 
 /// The outcomes that are known, each with its description, in order of first use; and the payoffs
 /// so far of an outcome whose description is being read.
 ///
-/// An outcome has the place at which it became known, from 0. There are fewer than 2^32 outcomes:
-/// room for more is refused.
+/// An outcome has the place at which it became known, from 0. There are fewer than 2^32 outcomes,
+/// and none has as many payoffs: room for more is refused.
 #[derive(Drop)]
 pub(crate) struct Outcomes<'a> {
     alloc: Global,
@@ -114,7 +125,7 @@ impl<'a> Outcomes<'a> {
             ≡ Some result.now }
     {
         let entry = self.entries[place as usize];
-        &self.payoffs[entry.start..entry.end]
+        &self.payoffs[entry.start..entry.end()]
     }
 
     /// The number of the outcome at a position, from 1.
@@ -159,14 +170,17 @@ impl<'a> Outcomes<'a> {
         ensures err { OnErr result (self.new ≡ self.old) }
     {
         let place = next_place(self.entries.len())?;
+        let end = self.payoffs.len();
+        let Ok(count) = u32::try_from(end - self.from) else {
+            return Err(AllocError);
+        };
         self.entries.reserve(1)?;
         self.numbers.insert(self.alloc, self.hasher, number, place)?;
-        let end = self.payoffs.len();
         let entry = Entry {
             number,
+            count,
             name,
             start: self.from,
-            end,
         };
         if self.entries.push(entry).is_err() {
             return Err(AllocError);

@@ -8,9 +8,11 @@ ghost use Rattle.gf_token.specs.Label.{label_of};
 ghost use Rattle.gf_token.specs.Positions.{at_position};
 ghost use Rattle.gf_tree.specs.Actions.{action_of, actions_of};
 ghost use Rattle.gf_tree.specs.Description.{same_set, set_of};
+ghost use Rattle.gf_tree.specs.Stretches.{AreStretches};
+ghost use Rattle.gf_tree.specs.StoredSets.{HoldActions, end_of};
 ghost use Rattle.gf_tree.specs.KnownSets.{known_of, number_among, with_action, with_set};
 
-use crate::action::Action;
+use crate::action::{Action, same_actions};
 use crate::numbers::{Numbers, next_place};
 use crate::seeded::Seeded;
 use gf_fraction::Fraction;
@@ -18,16 +20,27 @@ use gf_token::Label;
 use std::alloc::{AllocError, Global};
 use std::marker::Model;
 
-/// A set that is known: its key, its number among the sets of its player, its name, and where its
-/// actions lie among those of all sets.
+/// A set that is known, in 40 bytes: its key, its number among the sets of its player, how many
+/// actions it has, its name, and where its actions begin among those of all sets.
 #[derive(Clone, Copy)]
 struct Entry<'a> {
     player: u32,
     number: u32,
     among: u32,
+    count: u32,
     name: Label<'a>,
     start: usize,
-    end: usize,
+}
+
+impl<'a> Entry<'a> {
+    /// Where its actions end.
+    #[inline(always)]
+    fn end(&self) -> usize
+        requires { end_of self.now < 2 ^ 64 }
+        ensures { result ≡ end_of self.now }
+    {
+        self.start + self.count as usize
+    }
 }
 
 /// The numbers of a player's sets, where he has had any.
@@ -63,6 +76,7 @@ fn note(
 ) -> Result<u32, AllocError>
     requires absent { lookup (nat_eq number) (get_or players.old.items player []) ≡ None }
     requires few { length (get_or players.old.items player []) + 1 < 2 ^ 32 }
+    requires place { place + 1 < 2 ^ 32 }
     ensures others { (other : ℕ) → other ≢ player
         → get_or players.new.items other [] ≡ get_or players.old.items other [] }
     ensures own { OnOk result (get_or players.new.items player []
@@ -78,11 +92,44 @@ fn note(
     Ok(before + 1)
 }
 
+/// The place of a player's last set, where he has any.
+fn last_place(players: &[Numbers], player: u32) -> Option<u32> {
+    match numbers_of(players, player) {
+        Some(numbers) => numbers.last_place(),
+        None => None,
+    }
+}
+
+/// Where the actions from here on begin, and how many there are: if they are the same as those of
+/// the set at a place, where these begin.
+fn stretch_like(
+    entries: &[Entry<'_>],
+    actions: &[Action<'_>],
+    from: usize,
+    place: Option<u32>,
+) -> Result<(usize, u32), AllocError>
+    requires { AreStretches (λ e. e.start) end_of entries.now actions.now from }
+    ensures { IfOk result (λ s. HoldActions actions.now from s.0 (s.0 + s.1)) }
+{
+    if let Some(place) = place {
+        if let Some(entry) = entries.get(place as usize) {
+            if same_actions(&actions[entry.start..entry.end()], &actions[from..]) {
+                return Ok((entry.start, entry.count));
+            }
+        }
+    }
+    match u32::try_from(actions.len() - from) {
+        Ok(count) => Ok((from, count)),
+        Err(_) => Err(AllocError),
+    }
+}
+
 /// The information sets that are known, each with its description, in order of first use; and the
 /// actions so far of a set whose description is being read.
 ///
-/// A set has the place at which it became known, from 0. There are fewer than 2^32 sets: room for
-/// more is refused.
+/// A set has the place at which it became known, from 0. There are fewer than 2^32 sets, and none
+/// has as many actions: room for more is refused. The sets of a player often have the same actions, one after another: these are
+/// kept once.
 #[derive(Drop)]
 pub(crate) struct Sets<'a> {
     alloc: Global,
@@ -175,7 +222,7 @@ impl<'a> Sets<'a> {
             ≡ Some (actions_of result.now) }
     {
         let entry = self.entries[place as usize];
-        &self.actions[entry.start..entry.end]
+        &self.actions[entry.start..entry.end()]
     }
 
     /// The number of the set at a place, from 1, among the sets of its player.
@@ -256,6 +303,8 @@ impl<'a> Sets<'a> {
     {
         let place = next_place(self.entries.len())?;
         self.entries.reserve(1)?;
+        let like = last_place(&self.players, player);
+        let (start, count) = stretch_like(&self.entries, &self.actions, self.from, like)?;
         let among = note(
             &mut self.players,
             self.alloc,
@@ -264,19 +313,19 @@ impl<'a> Sets<'a> {
             number,
             place,
         )?;
-        let end = self.actions.len();
         let entry = Entry {
             player,
             number,
             among,
+            count,
             name,
-            start: self.from,
-            end,
+            start,
         };
         if self.entries.push(entry).is_err() {
             return Err(AllocError);
         }
-        self.from = end;
+        self.from = self.from.max(entry.end());
+        self.actions.truncate(self.from);
         Ok(place)
     }
 }

@@ -11,6 +11,7 @@ mod files;
 mod games;
 mod large;
 mod nodes;
+mod numbers;
 mod places;
 mod random;
 mod refusals;

@@ -13,15 +13,15 @@ ghost use Rattle.gf_tree.specs.KeptNodes.{position_of};
 ghost use Rattle.gf_tree.specs.Machine.{Begun, with_outcome};
 ghost use Rattle.gf_tree.specs.Machine.Position.{KnownOutcomeName, NewOutcomeName};
 ghost use Rattle.gf_tree.specs.Machine.Position.{NewPayoff, NodeDue, OutcomeNumber};
-ghost use Rattle.gf_tree.specs.ReaderState.{answer, begun_with, content_of, Goes};
-ghost use Rattle.gf_tree.specs.ReaderState.{GoesTelling, Grows, HasRoom, IsSound};
+ghost use Rattle.gf_tree.specs.ReaderState.{answer, begun_with, behind_label, content_of};
+ghost use Rattle.gf_tree.specs.ReaderState.{Goes, GoesTelling, Grows, HasRoom, IsSound, heard};
 
 use super::Reader;
 use crate::again::same_outcome;
 use crate::outcomes::Outcomes;
 use crate::readings;
 use crate::receive::Receive;
-use gf_token::{Fault, Label, What, Why};
+use gf_token::{Fault, Label, TextToken, What, Why};
 use std::alloc::AllocError;
 
 /// The place of an outcome, where it is known.
@@ -156,7 +156,24 @@ impl<'a> Reader<'a> {
         self.end_outcome(node, set, number, name.label, to)
     }
 
-    /// Reads the description of a known outcome, if there is one, behind its node.
+    /// Reads the description of a known outcome, behind the text that stands where its name is due.
+    #[inline(never)]
+    fn outcome_repeated(&mut self, place: u32, text: TextToken<'a>) -> Result<(), Fault>
+        requires place { place < length self.old.outcomes.known }
+        ensures machine { (outcome : Outcome)
+            → option_map (λ o. o.description) (slice_get self.old.outcomes.known place)
+            ≡ Some outcome
+            → Goes (heard (KnownOutcomeName outcome) (content_of self.old)
+            (behind_label self.old.tokens text.entry)) result (answer NodeDue self.new) }
+        ensures kept { self.new ≡ record self.old { tokens = self.new.tokens } }
+        ensures shorter { OnOk result (length self.new.tokens.ahead ≤ length self.old.tokens.ahead) }
+    {
+        let (name, payoffs) = (self.outcomes.name(place), self.outcomes.payoffs(place));
+        same_outcome(&mut self.tokens, text, name, payoffs)
+    }
+
+    /// Reads the description of a known outcome, if there is one, behind its node. Most uses have
+    /// none, and then nothing is looked up.
     #[inline(always)]
     fn outcome_again(&mut self, place: u32) -> Result<(), Fault>
         requires place { place < length self.old.outcomes.known }
@@ -167,8 +184,10 @@ impl<'a> Reader<'a> {
         ensures kept { self.new ≡ record self.old { tokens = self.new.tokens } }
         ensures shorter { OnOk result (length self.new.tokens.ahead ≤ length self.old.tokens.ahead) }
     {
-        let (name, payoffs) = (self.outcomes.name(place), self.outcomes.payoffs(place));
-        same_outcome(&mut self.tokens, name, payoffs)
+        let Some(text) = self.tokens.text() else {
+            return Ok(());
+        };
+        self.outcome_repeated(place, text)
     }
 
     /// Reads the number of a node's outcome, or 0 for none, and the outcome's description, if there

@@ -1,6 +1,8 @@
-use Rattle.std.proofs.Common.{refl, arith, rules}
-use Rattle.gf_tree.proofs.SetsEnded.{absent, has_fewer, are_stored}
+use Rattle.std.proofs.Common.{List, arith, rules, subst}
+use Rattle.gf_tree.proofs.SetsEnded.{absent, has_fewer, are_stored, view_then}
+use Rattle.gf_tree.specs.declared.action.Action.{Action as Held}
 use Rattle.gf_tree.specs.declared.sets.Entry.{Entry}
+use Rattle.gf_tree.specs.StoredSets.{HoldActions, end_of}
 use Rattle.gf_tree.proofs.sets.Sets.end.Goals as goal
 
 pub note-requires-clause-absent : goal.note-requires-clause-absent
@@ -27,12 +29,33 @@ invariant_of-self-2 c =
       player = c.args.player;
       number = c.args.number;
       among = c.in_ok-among.among;
+      count = c.in_ok-start.count;
       name = c.args.name;
-      start = s.from;
-      end = c.len-end.result;
+      start = c.in_ok-start.start;
     } in
+    let Holds : List Held → Type 0 = λ actions. HoldActions actions s.from new.start (end_of new) in
     are_stored s.players.items s.entries.items s.actions.items s.from c.self.invariant new
-    c.push.new.self.items (search rules) c.in_ok-place.place c.len-end.result
-    (omega (arith, c.in_ok-place.ensures.ok)) (omega arith) refl refl
-    c.note.new.players.items c.note.ensures.others
-    c.in_ok-among.ensures.own c.in_ok-among.ensures.count (omega (arith, c.in_ok-place.ensures.ok))
+    c.max-self-inside.result
+    (subst Holds c.deref-3.ensures.value c.in_ok-start.ensures) (search rules)
+    c.note.new.players.items c.push.new.self.items c.truncate.new.self.items c.in_ok-place.place
+    (search rules) (search rules) (omega (arith, c.in_ok-place.ensures.ok))
+    c.note.ensures.others c.in_ok-among.ensures.own c.in_ok-among.ensures.count
+    (omega (arith, c.in_ok-place.ensures.ok))
+
+pub returns-clause-ok : goal.returns-clause-ok
+returns-clause-ok c =
+    let s = c.self.inside in
+    let new : Entry = record {
+      player = c.args.player;
+      number = c.args.number;
+      among = c.in_ok-among.among;
+      count = c.in_ok-start.count;
+      name = c.args.name;
+      start = c.in_ok-start.start;
+    } in
+    let Holds : List Held → Type 0 = λ actions. HoldActions actions s.from new.start (end_of new) in
+    view_then s.players.items s.entries.items s.actions.items s.from c.self.invariant new
+    c.max-self-inside.result
+    (subst Holds c.deref-3.ensures.value c.in_ok-start.ensures) (search rules)
+    c.args.self.now c.self.view_is c.push.new.self.items (search rules)
+    c.truncate.new.self.items (search rules)

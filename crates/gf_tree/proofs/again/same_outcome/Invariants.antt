@@ -4,7 +4,7 @@ use Rattle.gf_tree.specs.GameParts.{outcome_with}
 use Rattle.gf_tree.specs.Machine.{Content}
 use Rattle.gf_tree.specs.Machine.Position.{KnownOutcomeName, KnownPayoff}
 use Rattle.gf_tree.specs.ReaderState.{behind_label, heard}
-use Rattle.gf_tree.proofs.again.same_outcome_named.Given as goal
+use Rattle.gf_tree.proofs.again.same_outcome.Given as goal
 
 abbrev pub invariant-loop-payoff : goal.invariant-loop-payoff
 invariant-loop-payoff l = record {

@@ -1,7 +1,7 @@
 use Rattle.std.proofs.Common.{refl}
 use Rattle.gf_tree.specs.Actions.{action_of}
-use Rattle.gf_canon.proofs.Compared.{same_all, same_more, same_there}
-use Rattle.gf_canon.proofs.compare.same_actions.Goals as goal
+use Rattle.gf_tree.proofs.SameLists.{same_all, same_more, same_there}
+use Rattle.gf_tree.proofs.action.same_actions.Goals as goal
 
 pub returns-then-not-same_action : goal.returns-then-not-same_action
 returns-then-not-same_action c = (

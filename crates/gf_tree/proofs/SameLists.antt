@@ -1,0 +1,45 @@
+-- Lists whose items are tested one by one for what they stand for.
+use Rattle.std.proofs.Common.{◌≡◌, ℕ, zero, suc, ◌+◌, ◌<◌, ◌≤◌, List, [], ◌∷◌, length, map, take}
+use Rattle.std.proofs.Common.{get_or, sym, ap, ◌∙◌, arith}
+use Rattle.std.proofs.lemmas.List.{length-map, take_all}
+
+module _ {A B : Type 0} (f : A → B) where
+  -- the items at one place stand for the same
+  there : (xs ys : List A) (k : ℕ) (x y : A) → k < length xs → map f xs ≡ map f ys
+      → f (get_or xs k x) ≡ f (get_or ys k y)
+  there [] ys k x y h e = absurd (omega (arith, h))
+  there (a ∷ xs) [] k x y h e = absurd cc
+  there (a ∷ xs) (b ∷ ys) zero x y h e = cc
+  there (a ∷ xs) (b ∷ ys) (suc k) x y h e =
+      let others : map f xs ≡ map f ys = cc in there xs ys k x y (omega (arith, h)) others
+
+  pub same_there : (xs ys : List A) (k : ℕ) (x y : A) → k < length xs
+      → x ≡ get_or xs k x → y ≡ get_or ys k y → map f xs ≡ map f ys → f x ≡ f y
+  same_there xs ys k x y h at_x at_y e = ap f at_x ∙ there xs ys k x y h e ∙ ap f (sym at_y)
+
+  one_further : (xs ys : List A) (k : ℕ) (x y : A) → k < length xs → length xs ≡ length ys
+      → f (get_or xs k x) ≡ f (get_or ys k y) → take k (map f xs) ≡ take k (map f ys)
+      → take (suc k) (map f xs) ≡ take (suc k) (map f ys)
+  one_further [] ys k x y h n e s = absurd (omega (arith, h))
+  one_further (a ∷ xs) [] k x y h n e s = absurd (omega (arith, n))
+  one_further (a ∷ xs) (b ∷ ys) zero x y h n e s = ap (λ (z : B). z ∷ []) e
+  one_further (a ∷ xs) (b ∷ ys) (suc k) x y h n e s =
+      let first : f a ≡ f b = cc in
+      let rest : take k (map f xs) ≡ take k (map f ys) = cc in
+      let others = one_further xs ys k x y (omega (arith, h)) (omega (arith, n)) e rest in
+      λ i. first i ∷ others i
+
+  -- one place more
+  pub same_more : (xs ys : List A) (k : ℕ) (x y : A) → k < length xs → length xs ≡ length ys
+      → x ≡ get_or xs k x → y ≡ get_or ys k y → f x ≡ f y
+      → take k (map f xs) ≡ take k (map f ys) → take (k + 1) (map f xs) ≡ take (k + 1) (map f ys)
+  same_more xs ys k x y h n at_x at_y e s =
+      let next : k + 1 ≡ suc k = omega arith in
+      rw next (one_further xs ys k x y h n (ap f (sym at_x) ∙ e ∙ ap f at_y) s)
+
+  -- at the end
+  pub same_all : (xs ys : List A) (k : ℕ) → length xs ≤ k → length xs ≡ length ys
+      → take k (map f xs) ≡ take k (map f ys) → map f xs ≡ map f ys
+  same_all xs ys k h n s =
+      sym (take_all k (map f xs) (omega (arith, h, length-map xs f))) ∙ s
+      ∙ take_all k (map f ys) (omega (arith, h, n, length-map ys f))

@@ -1,0 +1,12 @@
+use Rattle.std.proofs.Common.{nat_eq, ap, sym, ◌∙◌}
+use Rattle.std.specs.Map.{lookup}
+use Rattle.gf_tree.proofs.SmallPlaces.{absent_behind}
+use Rattle.gf_tree.specs.Numbers.{entries_of}
+use Rattle.gf_tree.proofs.numbers.Index.insert.Goals as goal
+
+pub add-requires : goal.add-requires
+add-requires c =
+    let test = nat_eq c.args.number in
+    ap (λ others. lookup test (entries_of others)) (sym c.in-Some.is)
+    ∙ absent_behind test c.args.self.now.small (entries_of c.args.self.now.others)
+    c.requires.absent

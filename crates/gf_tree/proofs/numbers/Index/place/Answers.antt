@@ -1,0 +1,18 @@
+use Rattle.std.proofs.Common.{nat_eq, sym, ap, ◌∙◌}
+use Rattle.std.specs.Map.{lookup}
+use Rattle.gf_tree.proofs.SmallPlaces.{found_before, found_behind}
+use Rattle.gf_tree.specs.Numbers.{entries_of}
+use Rattle.gf_tree.proofs.numbers.Index.place.Goals as goal
+
+pub returns-in-Some : goal.returns-in-Some
+returns-in-Some c =
+    sym (found_before (nat_eq c.args.number) c.args.self.now.small
+    (entries_of c.args.self.now.others) c.in-Some.place (sym c.in-Some.ensures))
+
+pub returns-in-Some-others : goal.returns-in-Some-others
+returns-in-Some-others c =
+    let test = nat_eq c.args.number in
+    c.copied.ensures ∙ c.get.ensures.value
+    ∙ ap (λ others. lookup test (entries_of others)) (sym c.in-Some-others.is)
+    ∙ sym (found_behind test c.args.self.now.small (entries_of c.args.self.now.others)
+    (sym c.in_default.ensures))
