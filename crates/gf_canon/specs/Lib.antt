@@ -1,4 +1,5 @@
 pub mod CanonicalGame
+pub mod FileFormat
 pub mod FirstDescribed
 pub mod FormatWord
 pub mod GameFile

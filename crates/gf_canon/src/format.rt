@@ -7,8 +7,8 @@ ghost use Rattle.gf_canon.specs.Judgement.{BeginsWithWord, IsWithoutFormat};
 use gf_token::{Fault, Tokens, What, Why};
 
 /// The format of a game file.
-#[derive(Clone, Copy)]
-pub(crate) enum Format {
+#[derive(Clone, Copy, Debug, PartialEq, Eq)]
+pub enum Format {
     /// `EFG`: the file holds a tree.
     Extensive,
     /// `NFG`: the file holds a table.

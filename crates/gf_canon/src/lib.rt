@@ -5,6 +5,7 @@
 mod braces;
 mod canonise;
 mod carry;
+mod checking;
 mod compare;
 mod format;
 pub mod laws;
@@ -20,6 +21,8 @@ mod write;
 
 pub use canonise::canonical;
 pub use carry::renumbering;
+pub use checking::check;
+pub use format::Format;
 pub use meaning::{Meaning, read_file};
 pub use new_numbers::Renumbering;
 pub use numbering::renumber;

@@ -6,6 +6,7 @@ use crate::{renumber, write_efg};
 use gf_tree::{Game, read_efg};
 use std::alloc::{AllocError, Global};
 
+mod checking;
 mod extensive;
 mod strategic;
 

@@ -1,0 +1,69 @@
+//! Whether a file is right, with nothing of it kept.
+
+ghost use Rattle.std.specs.Prelude.{◌≡◌, IfErr, IfOk, OnOk};
+ghost use Rattle.gf_token.specs.declared.fault.Why.TheVariants.{Memory};
+ghost use Rattle.gf_nfg.specs.Judgement.{IsJudged as IsStrategicJudged};
+ghost use Rattle.gf_nfg.specs.LimitPlace.{IsWithinLimit};
+ghost use Rattle.gf_nfg.specs.Table.{Table as table};
+ghost use Rattle.gf_nfg.specs.TableText.{SpellsTable};
+ghost use Rattle.gf_canon.specs.FileFormat.{MeansFileOf};
+ghost use Rattle.gf_canon.specs.Judgement.{IsRefusedWith};
+
+use crate::format::{Format, format_of};
+use gf_nfg::read_nfg;
+use gf_token::Fault;
+use gf_tree::{Receive, ToldHeading, ToldNode, tell_efg};
+use std::alloc::{AllocError, Global};
+
+/// A receiver that keeps nothing.
+#[derive(Drop)]
+struct Unkept;
+
+impl<'a> Receive<'a> for Unkept {
+    ghost use Rattle.std.specs.Prelude.{⊤};
+
+    ghost untold = { λ _. ⊤ };
+
+    ghost holds = { λ _ _ _. ⊤ };
+
+    fn heading(&mut self, _heading: ToldHeading<'_, 'a>) -> Result<(), AllocError> {
+        Ok(())
+    }
+
+    #[inline(always)]
+    fn node(&mut self, _node: ToldNode<'_, 'a>) -> Result<(), AllocError> {
+        Ok(())
+    }
+}
+
+/// Reads a strategic file, and keeps nothing of it.
+fn check_nfg(alloc: Global, input: &[u8]) -> Result<(), Fault>
+    ensures spelled { OnOk result ((t : table) × SpellsTable input.now t × IsWithinLimit t) }
+    ensures only { IfErr result (λ fault. (t : table) → SpellsTable input.now t → IsWithinLimit t
+        → fault.why ≡ Memory) }
+    ensures judged { IfErr result (λ fault. IsStrategicJudged fault.why input.now fault.span) }
+{
+    read_nfg(alloc, input)?;
+    Ok(())
+}
+
+/// The format of a game file, which is read whole: that of a tree, whose nodes are not kept and whose
+/// text is not made, or that of a table.
+///
+/// Refused as `canonical` refuses it; E19 where memory for the descriptions of sets and outcomes, or
+/// for the table, is refused.
+pub fn check(alloc: Global, input: &[u8]) -> Result<Format, Fault>
+    ensures format { IfOk result (MeansFileOf input.now) }
+    ensures refused { IfErr result (IsRefusedWith input.now) }
+{
+    match format_of(input)? {
+        Format::Extensive => match tell_efg(alloc, input, &mut Unkept) {
+            Ok(()) => Ok(Format::Extensive),
+            Err(fault) => Err(fault),
+        },
+        Format::Strategic => match check_nfg(alloc, input) {
+            Ok(()) => Ok(Format::Strategic),
+            Err(fault) => Err(fault),
+        },
+    }
+}
