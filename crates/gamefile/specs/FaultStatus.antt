@@ -1,5 +1,5 @@
--- The exit status of each fault of a run.
-use Rattle.std.specs.Prelude.{ℕ}
+-- The exit status of a run that compares two files, and of each fault.
+use Rattle.std.specs.Prelude.{ℕ, Bool, true, false}
 use Rattle.gf_token.specs.declared.fault.Why.{Why}
 use Rattle.gf_token.specs.declared.fault.Why.TheVariants as why
 use Rattle.gamefile.specs.declared.fault.RunFault.{RunFault}
@@ -16,3 +16,8 @@ status_of (Refused which fault) = refusal_status fault.why
 status_of (Read which) = 4
 status_of Write = 4
 status_of Memory = 5
+
+-- the exit status where two files mean the same, and where they differ
+abbrev pub answer_status : Bool → ℕ
+answer_status true = 0
+answer_status false = 1

@@ -2,6 +2,7 @@ pub mod Counted
 pub mod Failures
 pub mod FaultLine
 pub mod FaultStatus
+pub mod FileKinds
 pub mod Input
 pub mod Output
 pub mod Run

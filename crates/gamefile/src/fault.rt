@@ -1,7 +1,7 @@
 //! How a run may fail, and its exit status.
 
 ghost use Rattle.std.specs.Prelude.{◌≡◌};
-ghost use Rattle.gamefile.specs.FaultStatus.{status_of};
+ghost use Rattle.gamefile.specs.FaultStatus.{answer_status, status_of};
 ghost use Rattle.gamefile.specs.SameFaults.{fault_of};
 ghost use Rattle.gamefile.specs.declared.fault.RunFault.TheVariants.{Memory, Write};
 
@@ -90,4 +90,12 @@ pub fn status(fault: &RunFault) -> u8
         RunFault::Read(_) | RunFault::Write => 4,
         RunFault::Memory => 5,
     }
+}
+
+/// The exit status of an answer whether two files mean the same: 0 where they do, and 1 where they
+/// differ.
+pub fn answer_status(same: bool) -> u8
+    ensures { result ≡ answer_status same }
+{
+    if same { 0 } else { 1 }
 }

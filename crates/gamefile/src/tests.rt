@@ -1,7 +1,8 @@
 //! Runs with readers and writers that answer in pieces, are interrupted or fail.
 
+use crate::check::run_check;
 use crate::counted::Counted;
-use crate::fault::{RunFault, Which, WriteFault, status};
+use crate::fault::{RunFault, Which, WriteFault, answer_status, status};
 use crate::report::write_fault;
 use crate::run::run_canon;
 use crate::sink::Sink;
@@ -15,13 +16,44 @@ use std::io::ErrorKind;
 use std::test::Fail;
 
 mod canon;
+mod check;
 mod same;
 mod script;
 mod trees;
+mod words;
 
 const INPUT: &[u8] = b"NFG 1 R \"\" { } { }";
 
-const OUTPUT: &[u8] = b"NFG 1 R \"\" { }\n{ }\n\"\"\n\n\n";
+/// A run of one file.
+#[derive(Clone, Copy, Debug)]
+enum Run {
+    Canon,
+    Check,
+}
+
+impl Run {
+    /// What it writes of `INPUT`.
+    fn output(self) -> &'static [u8] {
+        match self {
+            Run::Canon => b"NFG 1 R \"\" { }\n{ }\n\"\"\n\n\n",
+            Run::Check => b"table\n",
+        }
+    }
+
+    fn over<R: Source, W: Sink>(
+        self,
+        alloc: Global,
+        input: &mut R,
+        output: &mut W,
+    ) -> Result<(), RunFault> {
+        match self {
+            Run::Canon => run_canon(alloc, input, output),
+            Run::Check => run_check(alloc, input, output).map(|_| ()),
+        }
+    }
+}
+
+const RUNS: [Run; 2] = [Run::Canon, Run::Check];
 
 /// What a run answered, what it wrote, and how many failures its reader and its writer counted.
 #[derive(Drop)]
@@ -32,8 +64,8 @@ struct Outcome {
     write_failures: u64,
 }
 
-/// A run of `INPUT`.
-fn run(alloc: Global, reads: &[Step], writes: &[Step]) -> Outcome {
+/// What comes of a run of `INPUT`.
+fn outcome_of(alloc: Global, run: Run, reads: &[Step], writes: &[Step]) -> Outcome {
     let mut input = Counted::new(ScriptReader {
         steps: reads,
         text: INPUT,
@@ -43,7 +75,7 @@ fn run(alloc: Global, reads: &[Step], writes: &[Step]) -> Outcome {
         taken: Vec::new(alloc),
     };
     let mut output = Counted::new(&mut writer);
-    let answer = run_canon(alloc, &mut input, &mut output);
+    let answer = run.over(alloc, &mut input, &mut output);
     let read_failures = Source::failures(&input);
     let write_failures = Sink::failures(&output);
     Outcome {
@@ -57,20 +89,23 @@ fn run(alloc: Global, reads: &[Step], writes: &[Step]) -> Outcome {
 #[test]
 fn goes_on_after_short_and_interrupted_answers(rt: HostRuntime) -> Result<(), Fail> {
     let alloc = rt.alloc();
-    // One more read finds the end.
-    let reads = interrupted_steps(alloc, INPUT.len() + 1)?;
-    let writes = interrupted_steps(alloc, OUTPUT.len())?;
-    let rows = [
-        (&[ALL][..], &[ALL][..], 0, 0),
-        (&[Step::Move(1)][..], &[Step::Move(1)][..], 0, 0),
-        (reads.as_slice(), writes.as_slice(), 15 * 19, 15 * 24),
-    ];
-    for (reads, writes, read_failures, write_failures) in rows {
-        let run = run(alloc, reads, writes);
-        assert_eq!(rt; run.answer, Ok(()));
-        assert_eq!(rt; run.output.as_slice(), OUTPUT);
-        assert_eq!(rt; run.read_failures, read_failures);
-        assert_eq!(rt; run.write_failures, write_failures);
+    for (run, write_failures) in [(Run::Canon, 15 * 24), (Run::Check, 15 * 6)] {
+        let text = run.output();
+        // One more read finds the end.
+        let reads = interrupted_steps(alloc, INPUT.len() + 1)?;
+        let writes = interrupted_steps(alloc, text.len())?;
+        let rows = [
+            (&[ALL][..], &[ALL][..], 0, 0),
+            (&[Step::Move(1)][..], &[Step::Move(1)][..], 0, 0),
+            (reads.as_slice(), writes.as_slice(), 15 * 19, write_failures),
+        ];
+        for (reads, writes, read_failures, write_failures) in rows {
+            let outcome = outcome_of(alloc, run, reads, writes);
+            assert_eq!(rt; outcome.answer, Ok(()), "{run:?}");
+            assert_eq!(rt; outcome.output.as_slice(), text);
+            assert_eq!(rt; outcome.read_failures, read_failures);
+            assert_eq!(rt; outcome.write_failures, write_failures);
+        }
     }
     Ok(())
 }
@@ -85,14 +120,13 @@ fn stops_where_the_reader_fails(rt: HostRuntime) -> Result<(), Fail> {
             (steps(alloc, before, Step::Move(1), INTERRUPTED)?, 16),
         ];
         for (reads, failures) in &rows {
-            let run = run(alloc, reads.as_slice(), &[ALL]);
-            assert_eq!(rt;
-                run.answer,
-                Err(RunFault::Read(Which::Only)),
-                "after {before}"
-            );
-            assert_eq!(rt; run.read_failures, *failures, "after {before}");
-            assert!(rt; run.output.is_empty(), "after {before}");
+            for run in RUNS {
+                let outcome = outcome_of(alloc, run, reads.as_slice(), &[ALL]);
+                let fault = RunFault::Read(Which::Only);
+                assert_eq!(rt; outcome.answer, Err(fault), "{run:?} after {before}");
+                assert_eq!(rt; outcome.read_failures, *failures, "{run:?} after {before}");
+                assert!(rt; outcome.output.is_empty(), "{run:?} after {before}");
+            }
         }
     }
     Ok(())
@@ -102,17 +136,24 @@ fn stops_where_the_reader_fails(rt: HostRuntime) -> Result<(), Fail> {
 fn stops_where_the_writer_fails(rt: HostRuntime) -> Result<(), Fail> {
     let alloc = rt.alloc();
     let broken = Step::Fail(ErrorKind::StorageFull);
-    for before in 0..OUTPUT.len() {
-        let rows = [
-            (steps(alloc, before, Step::Move(1), broken)?, 1),
-            (steps(alloc, before, Step::Move(1), Step::Move(0))?, 1),
-            (steps(alloc, before, Step::Move(1), INTERRUPTED)?, 16),
-        ];
-        for (writes, failures) in &rows {
-            let run = run(alloc, &[ALL], writes.as_slice());
-            assert_eq!(rt; run.answer, Err(RunFault::Write), "after {before}");
-            assert_eq!(rt; run.write_failures, *failures, "after {before}");
-            assert_eq!(rt; run.output.as_slice(), &OUTPUT[..before]);
+    for run in RUNS {
+        let text = run.output();
+        for before in 0..text.len() {
+            let rows = [
+                (steps(alloc, before, Step::Move(1), broken)?, 1),
+                (steps(alloc, before, Step::Move(1), Step::Move(0))?, 1),
+                (steps(alloc, before, Step::Move(1), INTERRUPTED)?, 16),
+            ];
+            for (writes, failures) in &rows {
+                let outcome = outcome_of(alloc, run, &[ALL], writes.as_slice());
+                assert_eq!(rt;
+                    outcome.answer,
+                    Err(RunFault::Write),
+                    "{run:?} after {before}"
+                );
+                assert_eq!(rt; outcome.write_failures, *failures, "{run:?} after {before}");
+                assert_eq!(rt; outcome.output.as_slice(), &text[..before]);
+            }
         }
     }
     Ok(())
@@ -137,16 +178,18 @@ fn refuses_what_is_too_long(rt: HostRuntime) -> Result<(), Fail> {
         (usize::MAX, too_long, usize::MAX - LIMIT - 1),
     ];
     for (count, fault, left) in rows {
-        let mut spaces = Spaces { left: count };
-        let mut output = Vec::new(alloc);
-        let answer = run_canon(
-            alloc,
-            &mut Counted::new(&mut spaces),
-            &mut Counted::new(&mut output),
-        );
-        assert_eq!(rt; answer, Err(fault), "{count} spaces");
-        assert_eq!(rt; spaces.left, left, "{count} spaces");
-        assert!(rt; output.is_empty(), "{count} spaces");
+        for run in RUNS {
+            let mut spaces = Spaces { left: count };
+            let mut output = Vec::new(alloc);
+            let answer = run.over(
+                alloc,
+                &mut Counted::new(&mut spaces),
+                &mut Counted::new(&mut output),
+            );
+            assert_eq!(rt; answer, Err(fault), "{run:?} of {count} spaces");
+            assert_eq!(rt; spaces.left, left, "{run:?} of {count} spaces");
+            assert!(rt; output.is_empty(), "{run:?} of {count} spaces");
+        }
     }
     Ok(())
 }
@@ -194,6 +237,8 @@ fn tells_each_fault(rt: HostRuntime) -> Result<(), Fail> {
         assert_eq!(rt; line(alloc, &fault)?.as_slice(), text.as_bytes());
         assert_eq!(rt; status(&fault), number, "{text}");
     }
+
+    assert_eq!(rt; [answer_status(true), answer_status(false)], [0, 1]);
 
     let mut writer = ScriptWriter {
         steps: &[Step::Move(1), Step::Move(1), Step::Move(0)],

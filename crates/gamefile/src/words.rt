@@ -1,0 +1,172 @@
+//! The words of the command line, and what they ask for.
+
+ghost use Rattle.std.specs.Prelude.{◌≡◌};
+ghost use Rattle.gamefile.specs.declared.words.WordsFault.TheVariants.{Memory};
+
+use crate::help;
+use clap::error::ErrorKind;
+use clap::{Arg, ArgAction, ArgMatches, Command, Error};
+use gf_canon::Names;
+use std::alloc::{AllocError, Global};
+
+/// Where a file is read from.
+#[derive(Debug, Drop)]
+pub enum Input {
+    /// Standard input.
+    Standard,
+    /// The file of this name.
+    File(String),
+}
+
+/// What the words ask for.
+#[derive(Debug, Drop)]
+pub enum Job {
+    /// The canonical text of a file.
+    Canon(Input),
+    /// What a file holds.
+    Check(Input),
+    /// Whether the files of these names mean the same; with the renumbering where `map` is true.
+    Same {
+        a: String,
+        b: String,
+        map: bool,
+        names: Names,
+    },
+}
+
+/// Why the words ask for no job.
+#[derive(Debug, Drop)]
+pub enum WordsFault {
+    /// Help is asked for, and this is its text.
+    Help(String),
+    /// The words are wrong, and this text says how.
+    Usage(String),
+    /// Memory ran out.
+    Memory,
+}
+
+impl From<AllocError> for WordsFault {
+    ghost from_gives = { λ _ fault. fault ≡ Memory };
+
+    fn from(_: AllocError) -> WordsFault {
+        WordsFault::Memory
+    }
+}
+
+/// A command with its texts.
+fn command<'a>(alloc: Global, name: &'a str, about: &'a str, after: &'a str) -> Command<'a> {
+    Command::new(alloc, name)
+        .before_help(help::VERSION)
+        .about(about)
+        .after_help(after)
+}
+
+fn flag<'a>(alloc: Global, name: &'a str, about: &'a str) -> Arg<'a> {
+    Arg::new(alloc, name)
+        .long(name)
+        .action(ArgAction::SetTrue)
+        .help(about)
+}
+
+/// A file that has to be named.
+fn named<'a>(alloc: Global, name: &'a str, about: &'a str) -> Arg<'a> {
+    Arg::new(alloc, name).required(true).help(about)
+}
+
+/// A command that reads one file.
+fn on_one_file<'a>(command: Command<'a>, alloc: Global) -> Result<Command<'a>, AllocError> {
+    command.arg(Arg::new(alloc, "FILE").help(help::FILE))
+}
+
+fn canon<'a>(alloc: Global) -> Result<Command<'a>, AllocError> {
+    on_one_file(
+        command(alloc, "canon", help::CANON, help::AFTER_CANON),
+        alloc,
+    )
+}
+
+fn check<'a>(alloc: Global) -> Result<Command<'a>, AllocError> {
+    on_one_file(
+        command(alloc, "check", help::CHECK, help::AFTER_CHECK),
+        alloc,
+    )
+}
+
+fn with_same_options<'a>(command: Command<'a>, alloc: Global) -> Result<Command<'a>, AllocError> {
+    let no_names = flag(alloc, "no-names", help::NO_NAMES).conflicts_with("map")?;
+    command.arg(flag(alloc, "map", help::MAP))?.arg(no_names)
+}
+
+fn same<'a>(alloc: Global) -> Result<Command<'a>, AllocError> {
+    let same = command(alloc, "same", help::SAME, help::AFTER_SAME);
+    with_same_options(same, alloc)?
+        .arg(named(alloc, "A", help::FIRST))?
+        .arg(named(alloc, "B", help::SECOND))
+}
+
+fn gamefile<'a>(alloc: Global) -> Result<Command<'a>, AllocError> {
+    command(alloc, "gamefile", help::ABOUT, help::AFTER)
+        .no_binary_name(true)
+        .bin_name("gamefile")?
+        .subcommand(canon(alloc)?)?
+        .subcommand(check(alloc)?)?
+        .subcommand(same(alloc)?)
+}
+
+fn input_of(alloc: Global, matches: &ArgMatches<'_>) -> Result<Input, AllocError> {
+    match matches.get_str("FILE") {
+        Some(name) => Ok(Input::File(String::from_str(alloc, name)?)),
+        None => Ok(Input::Standard),
+    }
+}
+
+/// The name of a file that has to be named, so that there is one.
+fn name_of(alloc: Global, matches: &ArgMatches<'_>, id: &str) -> Result<String, AllocError> {
+    String::from_str(alloc, matches.get_str(id).unwrap_or(""))
+}
+
+fn same_of(alloc: Global, matches: &ArgMatches<'_>) -> Result<Job, AllocError> {
+    let names = if matches.get_flag("no-names") {
+        Names::Aside
+    } else {
+        Names::Kept
+    };
+    Ok(Job::Same {
+        a: name_of(alloc, matches, "A")?,
+        b: name_of(alloc, matches, "B")?,
+        map: matches.get_flag("map"),
+        names,
+    })
+}
+
+fn job_of(alloc: Global, matches: &ArgMatches<'_>) -> Result<Job, AllocError> {
+    match matches.subcommand() {
+        Some(("check", inner)) => Ok(Job::Check(input_of(alloc, inner)?)),
+        Some(("same", inner)) => same_of(alloc, inner),
+        Some((_, inner)) => Ok(Job::Canon(input_of(alloc, inner)?)),
+        None => Ok(Job::Canon(Input::Standard)),
+    }
+}
+
+fn fault_of(alloc: Global, error: &Error) -> Result<WordsFault, AllocError> {
+    let text = error.to_string(alloc)?;
+    Ok(match error.kind() {
+        ErrorKind::OutOfMemory => WordsFault::Memory,
+        ErrorKind::DisplayHelp => WordsFault::Help(text),
+        _ => WordsFault::Usage(text),
+    })
+}
+
+/// What the words behind the program's name ask for: `canon [FILE]`, `check [FILE]`,
+/// `same [--map | --no-names] A B`, or none of these, which is `canon` of standard input.
+///
+/// - `Help`: the words ask for help, as `--help` does, or `help`, behind a command too.
+/// - `Usage`: they are no such words.
+/// - `Memory`: memory ran out. Where it ran out while the words were judged, `Usage` may come in its
+///   place, and never a job.
+pub fn parse_words<'a>(alloc: Global, words: &'a [&'a str]) -> Result<Job, WordsFault> {
+    match gamefile(alloc)?.try_get_matches_from(words) {
+        Ok(matches) => Ok(job_of(alloc, &matches)?),
+        Err(error) => Err(fault_of(alloc, &error)?),
+    }
+}
