@@ -163,7 +163,7 @@ fn fault_of(alloc: Global, error: &Error) -> Result<WordsFault, AllocError> {
 /// - `Help`: the words ask for help, as `--help` does, or `help`, behind a command too.
 /// - `Usage`: they are no such words.
 /// - `Memory`: memory ran out. Where it ran out while the words were judged, `Usage` may come in its
-///   place, and never a job.
+///   place.
 pub fn parse_words<'a>(alloc: Global, words: &'a [&'a str]) -> Result<Job, WordsFault> {
     match gamefile(alloc)?.try_get_matches_from(words) {
         Ok(matches) => Ok(job_of(alloc, &matches)?),
