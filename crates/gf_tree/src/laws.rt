@@ -1,8 +1,11 @@
 //! Laws of the definitions, each as the contract of a function that does nothing.
 
-ghost use Rattle.std.specs.Prelude.{◌≡◌, ◌↔◌, Bool, Decides, List, [], ◌∷◌, ℕ, map, nat_eq};
+ghost use Rattle.std.specs.Prelude.{◌≡◌, ◌↔◌, ◌⊎◌, Bool, Decides, List, [], ◌∷◌, ℕ, map, nat_eq};
 ghost use Rattle.std.specs.List.{AllByRecursion};
 ghost use Rattle.gf_token.specs.Token.{Token};
+ghost use Rattle.gf_token.specs.Code.{code_of};
+ghost use Rattle.gf_token.specs.declared.fault.Span.{Span};
+ghost use Rattle.gf_token.specs.declared.fault.Why.{Why};
 ghost use Rattle.gf_token.specs.declared.fault.Why.TheVariants.{BadIndex, Expected, Mismatch};
 ghost use Rattle.gf_token.specs.declared.fault.Why.TheVariants.{NegativeProbability, NoEntry};
 ghost use Rattle.gf_token.specs.declared.fault.Why.TheVariants.{NotANumber, NotDescribed};
@@ -26,6 +29,7 @@ ghost use Rattle.gf_tree.specs.Listed.{AreListed, listed_numbers};
 ghost use Rattle.gf_tree.specs.Renumbering.{IsRenumbering, Renumbering, renumbered};
 ghost use Rattle.gf_tree.specs.Spellable.{IsSpellable};
 ghost use Rattle.gf_tree.specs.Learned.{Learns, LearnsGame};
+ghost use Rattle.gf_tree.specs.Judgement.{IsRefused};
 ghost use Rattle.gf_tree.specs.WorkedReasons.{IsReasonAt, span_of};
 ghost use Rattle.gf_tree.specs.WorkedReasons.{outcome_plus_one_front, no_denominator_front};
 ghost use Rattle.gf_tree.specs.WorkedReasons.{other_name_front, other_payoff_front};
@@ -61,6 +65,17 @@ pub fn means_one_game()
         → g ≡ h }
     ensures of_bytes { (bytes : List ℕ) (g h : Game) → SpellsGame bytes g → SpellsGame bytes h
         → g ≡ h }
+{}
+
+/// Each list of bytes spells a game, or it is refused. None does both, and none is refused at two
+/// places or with two codes.
+pub fn read_or_refused()
+    ensures one_of_both { (bytes : List ℕ) → ((g : Game) × SpellsGame bytes g)
+        ⊎ ((why : Why) × (span : Span) × IsRefused why bytes span) }
+    ensures not_both { (bytes : List ℕ) (g : Game) (why : Why) (span : Span)
+        → SpellsGame bytes g → ¬ (IsRefused why bytes span) }
+    ensures once { (bytes : List ℕ) (why other : Why) (span place : Span) → IsRefused why bytes span
+        → IsRefused other bytes place → (span ≡ place) × (code_of why ≡ code_of other) }
 {}
 
 /// A consistent file tree has one game, and the games are those that some consistent file tree has.
