@@ -58,18 +58,9 @@ pub mod SubtreeSizes
 pub mod TreesOnce
 pub mod Uses
 pub mod Worked
-mod WorkedCodes
-mod WorkedEnds
-mod WorkedFronts
 pub mod WorkedGames
-pub mod WorkedLotteries
 pub mod WorkedNone
-pub mod WorkedOverflow
-pub mod WorkedPlaces
-pub mod WorkedProbabilities
 pub mod WorkedReasons
-pub mod WorkedRepeats
-pub mod WorkedVersion
 pub mod WrittenGames
 pub mod WrittenNodes
 pub mod WrittenTokens
