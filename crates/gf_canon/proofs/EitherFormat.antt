@@ -106,7 +106,7 @@ extensive_placed TooLong bytes span named h = absurd h
 extensive_placed UnknownOutcome bytes span named h = absurd h
 extensive_placed TooManyProfiles bytes span named h = absurd h
 extensive_placed _ bytes span named h =
-    offending (codes "EFG") IsExtensiveFile extensive_within bytes span named h
+    offending (codes "EFG") IsExtensiveFile extensive_within bytes span named h.place
 
 pub strategic_placed : (why : Why) (bytes : List ℕ) (span : Span) → BeginsWithWord (codes "NFG") bytes
     → strategic_file.IsJudged why bytes span → IsPlaced why bytes span

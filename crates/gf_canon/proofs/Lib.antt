@@ -14,6 +14,7 @@ pub mod Pieces
 pub mod PlainLines
 pub mod ReadsBack
 pub mod RefusedFiles
+pub mod RefusedOnce
 pub mod SameGames
 pub mod Spellables
 pub mod TextPieces

@@ -25,12 +25,12 @@ use Rattle.gf_canon.proofs.Formats.{none_without_format}
 
 -- for its format
 
-reason_at_first : (why : Why) (ts : List Token) → IsFormatReason why ts
+pub reason_at_first : (why : Why) (ts : List Token) → IsFormatReason why ts
     → (why ≡ Unterminated) ⊎ (why ≡ Expected Format)
 reason_at_first why (Broken ∷ after) e = inl e
 reason_at_first why _ e = inr e
 
-placed_at_first : (why : Why) (bytes : List ℕ) (span : Span) → IsWithoutFormat why bytes span
+pub placed_at_first : (why : Why) (bytes : List ℕ) (span : Span) → IsWithoutFormat why bytes span
     → IsPlaced why bytes span
 placed_at_first why bytes span h = by (reason_at_first why (tokens_of h.place.after) h.reason)
   where

@@ -80,6 +80,10 @@ pub data IsJudged (why : Why) (bytes : List ℕ) (span : Span) : Type 0 where
       → IsJudged why bytes span
   of_neither : IsWithoutFormat why bytes span → IsJudged why bytes span
 
+-- a refusal for another cause than want of memory
+abbrev pub IsRefused : Why → List ℕ → Span → Type 0
+IsRefused why bytes span = ¬ (why ≡ Memory) × IsJudged why bytes span
+
 -- the fault names the reason and the place, and where memory suffices the bytes mean no file
 pub record IsRefusedWith (bytes : List ℕ) (fault : Fault) : Type 0 where
   pub judged : IsJudged fault.why bytes fault.span

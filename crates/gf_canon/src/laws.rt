@@ -1,6 +1,9 @@
 //! Laws of the definitions, each as the contract of a function that does nothing.
 
-ghost use Rattle.std.specs.Prelude.{◌≡◌, ◌↔◌, Bool, Decides, List, ℕ, length, map};
+ghost use Rattle.std.specs.Prelude.{◌≡◌, ◌↔◌, ◌⊎◌, Bool, Decides, List, ℕ, length, map};
+ghost use Rattle.gf_token.specs.Code.{code_of};
+ghost use Rattle.gf_token.specs.declared.fault.Span.{Span};
+ghost use Rattle.gf_token.specs.declared.fault.Why.{Why};
 ghost use Rattle.gf_nfg.specs.Profiles.{positions};
 ghost use Rattle.gf_nfg.specs.SameTable.{SamePlay};
 ghost use Rattle.gf_nfg.specs.Table.{Table};
@@ -23,6 +26,7 @@ ghost use Rattle.gf_canon.specs.GameFile.{GameFile, IsGameFile, SameFile, Spells
 ghost use Rattle.gf_canon.specs.GameFile.{canonical_file, canonical_text};
 ghost use Rattle.gf_canon.specs.GameFile.GameFile.{extensive, strategic};
 ghost use Rattle.gf_canon.specs.GameText.{game_text};
+ghost use Rattle.gf_canon.specs.Judgement.{IsPlaced, IsRefused, MeansFile, SpellsWithin};
 ghost use Rattle.gf_canon.specs.NamesAside.{SameAsideNames, unnamed};
 ghost use Rattle.gf_canon.specs.WorkedGames.{bonus_text, five_text, lower_case_prize, no_outcome};
 ghost use Rattle.gf_canon.specs.WorkedGames.{nobody, nobody_text, numbered_five, plain_prize};
@@ -112,6 +116,20 @@ pub fn text_reads_back()
 /// Bytes mean one game or one table at most, and never both.
 pub fn means_one_file()
     ensures { (bytes : List ℕ) (x y : GameFile) → SpellsFile bytes x → SpellsFile bytes y → x ≡ y }
+{}
+
+/// Each list of bytes means a game, or a table within the limit of profiles, or it is refused. None
+/// does both, and none is refused at two places or with two codes. A refusal stands at the offending
+/// place in the language of both formats, or where the profiles of a table pass their limit.
+pub fn read_or_refused()
+    ensures one_of_both { (bytes : List ℕ) → MeansFile bytes
+        ⊎ ((why : Why) × (span : Span) × IsRefused why bytes span) }
+    ensures not_both { (bytes : List ℕ) (x : GameFile) (why : Why) (span : Span)
+        → SpellsWithin bytes x → ¬ (IsRefused why bytes span) }
+    ensures once { (bytes : List ℕ) (why other : Why) (span place : Span) → IsRefused why bytes span
+        → IsRefused other bytes place → (span ≡ place) × (code_of why ≡ code_of other) }
+    ensures placed { (bytes : List ℕ) (why : Why) (span : Span) → IsRefused why bytes span
+        → IsPlaced why bytes span }
 {}
 
 /// Two files mean the same exactly if their canonical texts are equal. The canonical text of a file

@@ -19,7 +19,7 @@ use Rattle.gf_tree.proofs.Games.{map_entry, flatten_map, used_sets_are, used_out
 use Rattle.gf_tree.proofs.Learning.{learned_once}
 
 -- a description is the one that is found
-told_found : {K D : Type 0} (same : K → K → Bool)
+pub told_found : {K D : Type 0} (same : K → K → Bool)
     → IsEquality same → (uses : List (Use K D)) (end : List (Described K D)) → AreConsistent uses
     → map (λ s. s.key) end ≡ first_uses same (map (λ u. u.key) uses)
     → AllByRecursion (λ s. Describes uses s.key s.description) end

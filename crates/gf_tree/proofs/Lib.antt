@@ -38,7 +38,6 @@ pub mod RunNodes
 pub mod RunPassed
 pub mod RunPayoffs
 pub mod RunPlaces
-pub mod RunReasons
 pub mod RunRemainders
 pub mod RunResults
 pub mod RunSets
@@ -59,22 +58,29 @@ pub mod SubtreeSizes
 pub mod TreesOnce
 pub mod Uses
 pub mod Worked
-mod WorkedCodes
-mod WorkedEnds
-mod WorkedFronts
 pub mod WorkedGames
-pub mod WorkedLotteries
 pub mod WorkedNone
-pub mod WorkedOverflow
-pub mod WorkedPlaces
-pub mod WorkedProbabilities
 pub mod WorkedReasons
-pub mod WorkedRepeats
-pub mod WorkedVersion
 pub mod WrittenGames
 pub mod WrittenNodes
 pub mod WrittenTokens
 pub mod RunFront
+pub mod FrontPlaces
+pub mod FrontSetSteps
+pub mod FrontOutcomeSteps
+pub mod FrontSteps
+pub mod FrontNodes
+pub mod FrontRuns
+pub mod FrontLists
+pub mod FrontPayoffs
+pub mod FrontCodes
+pub mod FrontRefusals
+pub mod FrontShares
+pub mod FrontDue
+pub mod FrontReasons
+pub mod FrontOwned
+pub mod FrontJudged
+pub mod RefusedOnce
 pub mod Telling
 pub mod ToldGames
 pub mod ToldNodes

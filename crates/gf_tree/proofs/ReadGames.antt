@@ -1,10 +1,10 @@
 -- The answer of the machine to the tokens of a file is what the file means: the one game that its
 -- bytes spell, or a refusal where it is due.
-use Rattle.std.proofs.Common.{◌≡◌, ℕ, List, ◌++◌, length, Result, Ok, Err}
+use Rattle.std.proofs.Common.{◌≡◌, ℕ, List, [], ◌∷◌, ◌++◌, length, Result, Ok, Err}
 use Rattle.std.proofs.Common.{refl, sym, ap, subst, ◌∙◌}
-use Rattle.gf_token.specs.Token.{Lexeme}
+use Rattle.gf_token.specs.Token.{Token, Lexeme}
 use Rattle.gf_token.specs.TokenSpelling.{Spells}
-use Rattle.gf_token.specs.Place.{tokens_of, IsSpanOf, IsOffendingPlace}
+use Rattle.gf_token.specs.Place.{tokens_of, IsSpanOf}
 use Rattle.gf_token.specs.declared.fault.Fault.{Fault}
 use Rattle.gf_token.specs.declared.fault.Span.{Span}
 use Rattle.gf_token.specs.declared.fault.Why.{Why}
@@ -13,24 +13,24 @@ use Rattle.gf_token.specs.declared.fault.Why.TheVariants.{TooManyProfiles, Memor
 use Rattle.gf_token.proofs.Spelled.{same_tokens}
 use Rattle.gf_tree.specs.Description.{SetKey, InformationSet, Outcome}
 use Rattle.gf_tree.specs.FiniteMap.{Described}
-use Rattle.gf_tree.specs.Front.{IsExtensiveFile}
 use Rattle.gf_tree.specs.Game.{Game, IsGame, Node}
 use Rattle.gf_tree.specs.GameOf.{SpellsGame}
 use Rattle.gf_tree.specs.GameParts.{game_with}
-use Rattle.gf_tree.specs.Judgement.{IsJudged}
+use Rattle.gf_tree.specs.Judgement.{IsJudged, IsRefusal}
 use Rattle.gf_tree.specs.KeptNodes.{Kept, entries_with}
 use Rattle.gf_tree.specs.Machine.{Content, nothing, run}
 use Rattle.gf_tree.specs.Machine.Position.{Format}
 use Rattle.gf_tree.specs.Passed.{HasPassed}
 use Rattle.gf_tree.specs.PrefixOrder.{Entry, Fills}
 use Rattle.gf_tree.specs.ReadGame.{game_of}
+use Rattle.gf_tree.specs.Reason.{IsReason}
 use Rattle.gf_tree.specs.ReaderState.{Answer, Fails, HasPassedPlace, heard}
 use Rattle.gf_tree.specs.ReaderState.Fails.{of_file, of_memory}
 use Rattle.gf_tree.specs.Spellable.{IsSpellable}
+use Rattle.gf_tree.proofs.FrontJudged.{refuses}
 use Rattle.gf_tree.proofs.RunGames.{file_found}
 use Rattle.gf_tree.proofs.RunPassed.{accepted}
-use Rattle.gf_tree.proofs.RunReasons.{LiesInFile, lies_in_file}
-use Rattle.gf_tree.proofs.RunStops.{machine_spells, run_reads, refuses}
+use Rattle.gf_tree.proofs.RunStops.{machine_spells, run_reads}
 use Rattle.gf_tree.proofs.SpelledGames.{spelled_is_spellable}
 
 -- ---- what is read
@@ -90,24 +90,50 @@ refused_none bytes ls fault g spelled e = λ h.
 
 -- ---- refusals
 
+-- a reason lies in the file
+abbrev LiesInFile : Why → Type 0
+LiesInFile Memory = ⊥
+LiesInFile TooLong = ⊥
+LiesInFile UnknownOutcome = ⊥
+LiesInFile TooManyProfiles = ⊥
+LiesInFile why = Unit {0}
+
+lies_in_file : (why : Why) (before after : List Token) → IsReason why before after → LiesInFile why
+lies_in_file Memory before [] h = h.0
+lies_in_file Memory before (t ∷ after) h = h.0
+lies_in_file TooLong before [] h = h.0
+lies_in_file TooLong before (t ∷ after) h = h.0
+lies_in_file UnknownOutcome before [] h = h.0
+lies_in_file UnknownOutcome before (t ∷ after) h = h.0
+lies_in_file TooManyProfiles before [] h = h.0
+lies_in_file TooManyProfiles before (t ∷ after) h = h.0
+lies_in_file _ before after h = tt
+
+refusal_lies : (why : Why) (bytes : List ℕ) (span : Span) → IsRefusal why bytes span
+    → LiesInFile why
+refusal_lies why bytes span h =
+    lies_in_file why (tokens_of h.place.before) (tokens_of h.place.after) h.reason
+
 judged_by : (why : Why) (bytes : List ℕ) (span : Span) → LiesInFile why
-    → IsOffendingPlace IsExtensiveFile bytes span → IsJudged why bytes span
-judged_by Memory bytes span h place = absurd h
-judged_by TooLong bytes span h place = absurd h
-judged_by UnknownOutcome bytes span h place = absurd h
-judged_by TooManyProfiles bytes span h place = absurd h
-judged_by _ bytes span h place = place
+    → IsRefusal why bytes span → IsJudged why bytes span
+judged_by Memory bytes span h refusal = absurd h
+judged_by TooLong bytes span h refusal = absurd h
+judged_by UnknownOutcome bytes span h refusal = absurd h
+judged_by TooManyProfiles bytes span h refusal = absurd h
+judged_by _ bytes span h refusal = refusal
 
 pub refused_judged : (bytes : List ℕ) (ls : List Lexeme) (fault : Fault) → Spells 0 bytes ls
     → run (length bytes) Format nothing ls ≡ Err fault → IsJudged fault.why bytes fault.span
-refused_judged bytes ls fault spelled e = judged_by fault.why bytes fault.span
-    (lies_in_file (length bytes) Format nothing ls fault e) (refuses bytes ls fault spelled e)
+refused_judged bytes ls fault spelled e =
+    let refusal = refuses bytes ls fault spelled e in
+    judged_by fault.why bytes fault.span (refusal_lies fault.why bytes fault.span refusal) refusal
 
 -- it never refuses for want of memory
-pub not_memory : (bytes : List ℕ) (ls : List Lexeme) (fault : Fault)
+pub not_memory : (bytes : List ℕ) (ls : List Lexeme) (fault : Fault) → Spells 0 bytes ls
     → run (length bytes) Format nothing ls ≡ Err fault → ¬ (fault.why ≡ Memory)
-not_memory bytes ls fault e = λ h.
-    subst LiesInFile h (lies_in_file (length bytes) Format nothing ls fault e)
+not_memory bytes ls fault spelled e = λ h.
+    subst LiesInFile h
+    (refusal_lies fault.why bytes fault.span (refuses bytes ls fault spelled e))
 
 -- where memory is wanting at a place that it has passed
 pub memory_judged : (bytes : List ℕ) (before after : List Lexeme) (span : Span)

@@ -78,7 +78,7 @@ no_nodes c r true due is test sets outcomes e =
     })
 
 -- the uses of the first node, and the others
-more_uses : {K D : Type 0} (o : Option (Use K D)) (us : List (Use K D))
+pub more_uses : {K D : Type 0} (o : Option (Use K D)) (us : List (Use K D))
     → uses_of o ++ us ≡ cons_option o us
 more_uses None us = refl
 more_uses (Some u) us = refl
@@ -140,7 +140,7 @@ shorter ts c r h =
     let sizes = length-append behind h.rest in
     omega (arith, size, sizes)
 
-due_by : (b : List ℕ) (ts : List Token) (due : ℕ) (c r : Content)
+pub due_by : (b : List ℕ) (ts : List Token) (due : ℕ) (c r : Content)
     → c.due ≡ due → AreSets (length c.players) c.sets → AreOutcomes (length c.players) c.outcomes
     → then_run (after_node c due b) (run_on ts) ≡ Ok r
     → NodeRead (Bare b ∷ ts) c r × ((left : ℕ) × (c.due ≡ suc left))

@@ -31,7 +31,7 @@ use Rattle.gf_tree.proofs.RunFiles.{nodes_again, behind_nodes, no_text}
 
 -- ---- the comment
 
-abbrev headed : List ℕ → List ℕ → List (List ℕ) → Content
+abbrev pub headed : List ℕ → List ℕ → List (List ℕ) → Content
 headed title comment players = record (heading title players) { comment = comment }
 
 record CommentRead (ts : List Token) (title : List ℕ) (players : List (List ℕ))
@@ -71,7 +71,7 @@ not_said (Text label ∷ ts) title players h = absurd (h label ts refl)
 not_said (Bare b ∷ ts) title players h = refl
 not_said (_ ∷ ts) title players h = refl
 
-comment_again : (comment nodes : List Token) (note title : List ℕ) (players : List (List ℕ))
+pub comment_again : (comment nodes : List Token) (note title : List ℕ) (players : List (List ℕ))
     → IsComment comment note → NoText nodes
     → run_tokens AfterPlayers (heading title players) (comment ++ nodes)
     ≡ run_tokens NodeDue (headed title note players) nodes

@@ -28,7 +28,7 @@ only_version (Bare b ∷ rest) c r e =
     (rest, ap (λ (x : List ℕ). Bare x ∷ rest) (same_bytes b (codes "2") h.0), h.1)
 only_version _ c r e = absurd cc
 
-either_letter : (b : List ℕ) (is_r is_d : Bool) → pointwise nat_eq b (codes "R") ≡ is_r
+pub either_letter : (b : List ℕ) (is_r is_d : Bool) → pointwise nat_eq b (codes "R") ≡ is_r
     → pointwise nat_eq b (codes "D") ≡ is_d → (is_r || is_d) ≡ true
     → (b ≡ codes "R") ⊎ (b ≡ codes "D")
 either_letter b true is_d er ed h = inl (same_bytes b (codes "R") er)

@@ -54,7 +54,7 @@ known_more first ts player a actions b c r is h = record {
   goes_on = h.goes_on;
 }
 
-probability_found : (b : Begun) (p : Ratio)
+pub probability_found : (b : Begun) (p : Ratio)
     (actions : List Action) (ts : List Token) (c r : Content)
     → Reads (KnownProbability b p actions) c ts r
     → (t : List ℕ) × (others : List Token) × (ts ≡ Bare t ∷ others) × IsNumber t p
@@ -95,7 +95,7 @@ known_found (a ∷ actions) player (Text label ∷ ts) b c r has e =
     (λ us f. known_found actions player us b c r has.1 f)
 known_found (a ∷ actions) player _ b c r has e = absurd cc
 
-label_again : (a : Action) (actions : List Action)
+pub label_again : (a : Action) (actions : List Action)
     (o : Option Ratio) (ts : List Token) (b : Begun) (c : Content)
     → a.probability ≡ o
     → run_tokens (KnownAction b (a ∷ actions)) c (Text a.label ∷ ts)

@@ -116,7 +116,7 @@ chance_found (Text name ∷ ts) c r sets outcomes e =
     mover_found (codes "c") [] ts name 0 c r (refl, refl) (omega arith) sets outcomes e
 chance_found _ c r sets outcomes e = absurd cc
 
-player_by : (name : List ℕ) (t : List ℕ) (o : Option ℕ) (ts : List Token) (c r : Content)
+pub player_by : (name : List ℕ) (t : List ℕ) (o : Option ℕ) (ts : List Token) (c r : Content)
     → count_of t ≡ o → then_run (player_number c name o) (run_on ts) ≡ Ok r
     → (n : ℕ) × (count_of t ≡ Some n) × (n ≤ length c.players) × Reads (SetNumber name n) c ts r
 player_by name t None ts c r is e = absurd cc
@@ -143,7 +143,7 @@ personal_found (Text name ∷ Bare t ∷ ts) c r sets outcomes e =
 personal_found (Text name ∷ _) c r sets outcomes e = absurd cc
 personal_found _ c r sets outcomes e = absurd cc
 
-some_player : (players : List (List ℕ)) (ts : List Token) (c r : Content)
+pub some_player : (players : List (List ℕ)) (ts : List Token) (c r : Content)
     → then_run (personal_node c players) (run_on ts) ≡ Ok r → Reads PersonalName c ts r
 some_player [] ts c r e = absurd cc
 some_player (player ∷ players) ts c r e = e
@@ -218,12 +218,12 @@ counted : (o : Option InformationSet) (children : ℕ)
 counted None children e = absurd cc
 counted (Some set) children e = (set, refl, cc)
 
-personal_again : (players : List (List ℕ)) (c : Content) → 0 < length players
+pub personal_again : (players : List (List ℕ)) (c : Content) → 0 < length players
     → personal_node c players ≡ Ok (at PersonalName c)
 personal_again [] c some = absurd (omega (arith, some))
 personal_again (player ∷ players) c some = refl
 
-mover_again : (letter : List ℕ) (mover rest : List Token)
+pub mover_again : (letter : List ℕ) (mover rest : List Token)
     (name : List ℕ) (player due : ℕ) (c : Content)
     → IsMover letter mover player → player ≤ length c.players → c.due ≡ suc due
     → run_tokens NodeDue c (Bare letter ∷ Text name ∷ (mover ++ rest))
@@ -247,7 +247,7 @@ mover_again letter mover rest name (suc player) due c moves among is =
     then_run (cond b (Ok (at (SetNumber name (suc player)) c)) (Err UnknownPlayer)) (run_on rest))
     within
 
-terminal_again : (letter : List ℕ) (rest : List Token) (name : List ℕ) (due : ℕ) (c : Content)
+pub terminal_again : (letter : List ℕ) (rest : List Token) (name : List ℕ) (due : ℕ) (c : Content)
     → letter ≡ codes "t" → c.due ≡ suc due
     → run_tokens NodeDue c (Bare letter ∷ Text name ∷ rest)
     ≡ run_tokens (OutcomeNumber (record { name = name; set = None; children = 0 })) c rest

@@ -80,11 +80,11 @@ with_payoffs outcome ps = record outcome { payoffs = outcome.payoffs ++ ps }
 abbrev pub new_result : Content → Begun → ℕ → Outcome → Content
 new_result c b n outcome = with_node (with_outcome c n outcome) b (Some n)
 
-no_payoffs : (outcome : Outcome) → with_payoffs outcome [] ≡ outcome
+pub no_payoffs : (outcome : Outcome) → with_payoffs outcome [] ≡ outcome
 no_payoffs outcome =
     ap (λ (ps : List Ratio). record outcome { payoffs = ps }) (append-nil outcome.payoffs)
 
-more_payoffs : (outcome : Outcome) (p : Ratio) (ps : List Ratio)
+pub more_payoffs : (outcome : Outcome) (p : Ratio) (ps : List Ratio)
     → with_payoffs (with_payoff outcome p) ps ≡ with_payoffs outcome (p ∷ ps)
 more_payoffs outcome p ps = ap (λ (qs : List Ratio). record outcome { payoffs = qs })
     (append_assoc outcome.payoffs (p ∷ []) ps)
@@ -97,7 +97,7 @@ pub record NewPayoffs (may : Bool) (ts : List Token) (b : Begun) (n : ℕ) (outc
   pub count : length numbers ≡ left
   pub goes_on : Reads NodeDue (new_result c b n (with_payoffs outcome numbers)) rest r
 
-paid_found : (c : Content) (b : Begun) (n : ℕ) (outcome : Outcome) (left : ℕ)
+pub paid_found : (c : Content) (b : Begun) (n : ℕ) (outcome : Outcome) (left : ℕ)
     (o : Result Ratio NumberFault) (ts : List Token) (r : Content)
     → then_run (paid c b n outcome left o) (run_on ts) ≡ Ok r
     → (p : Ratio) × (o ≡ Ok p) × Reads (AfterNewPayoff b n (with_payoff outcome p) left) c ts r
@@ -130,7 +130,7 @@ new_more may t p ts b n outcome left c r e h = record {
       (more_payoffs outcome p h.numbers) h.goes_on;
 }
 
-new_comma : (b : Begun) (n : ℕ) (outcome : Outcome) (left : ℕ) (c : Content) (ts : List Token)
+pub new_comma : (b : Begun) (n : ℕ) (outcome : Outcome) (left : ℕ) (c : Content) (ts : List Token)
     → run_tokens (AfterNewPayoff b n outcome left) c (Comma ∷ ts)
     ≡ run_tokens (NewPayoff b n outcome left) c ts
 new_comma b n outcome zero c ts = refl
@@ -164,7 +164,7 @@ new_found true _ b n outcome (suc left) c r e = absurd cc
 new_found false _ b n outcome zero c r e = absurd cc
 new_found false _ b n outcome (suc left) c r e = absurd cc
 
-new_step : (may : Bool) (t : List ℕ) (p : Ratio) (b : Begun) (n : ℕ)
+pub new_step : (may : Bool) (t : List ℕ) (p : Ratio) (b : Begun) (n : ℕ)
     (outcome : Outcome) (left : ℕ) (c : Content) (ts : List Token)
     → number_of t ≡ Ok p
     → run_tokens (new_at may b n outcome (suc left)) c (Bare t ∷ ts)
@@ -173,7 +173,7 @@ new_step true t p b n outcome left c ts e = rw e refl
 new_step false t p b n outcome left c ts e = rw e refl
 
 -- a comma may stand before the rest or not
-comma_again : (at_comma : Bool → List Token → Result Content Why)
+pub comma_again : (at_comma : Bool → List Token → Result Content Why)
     (comma ts : List Token) (o : Result Content Why)
     → ((us : List Token) → at_comma true (Comma ∷ us) ≡ at_comma false us)
     → (comma ≡ []) ⊎ (comma ≡ Comma ∷ []) → ((may : Bool) → at_comma may ts ≡ o)
@@ -236,7 +236,7 @@ pub number_same : (p : Ratio) (s : State) (t : List ℕ) → IsNumber t p
     → same_number p s (number_of t) ≡ Ok s
 number_same p s t is = ap (same_number p s) (number_again t p is) ∙ rw (ratio_same p) refl
 
-known_comma : (ps : List Ratio) (c : Content) (ts : List Token)
+pub known_comma : (ps : List Ratio) (c : Content) (ts : List Token)
     → run_tokens (AfterKnownPayoff ps) c (Comma ∷ ts) ≡ run_tokens (KnownPayoff ps) c ts
 known_comma [] c ts = refl
 known_comma (p ∷ ps) c ts = refl
@@ -262,7 +262,7 @@ known_found true _ (p ∷ ps) c r e = absurd cc
 known_found false _ [] c r e = absurd cc
 known_found false _ (p ∷ ps) c r e = absurd cc
 
-known_step : (may : Bool) (t : List ℕ) (p : Ratio) (ps : List Ratio) (c : Content) (ts : List Token)
+pub known_step : (may : Bool) (t : List ℕ) (p : Ratio) (ps : List Ratio) (c : Content) (ts : List Token)
     → IsNumber t p
     → run_tokens (known_at may (p ∷ ps)) c (Bare t ∷ ts) ≡ run_tokens (AfterKnownPayoff ps) c ts
 known_step true t p ps c ts is =

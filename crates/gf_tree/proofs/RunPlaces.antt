@@ -33,10 +33,10 @@ Leads ts s = walk Format nothing ts ≡ Ok s
 abbrev ok_state : State → Result State Why
 ok_state s = Ok s
 
-state_is : (s t : State) → ok_state s ≡ ok_state t → s ≡ t
+pub state_is : (s t : State) → ok_state s ≡ ok_state t → s ≡ t
 state_is s t e = cc
 
-walked : (o : Result State Why) (f : State → Result State Why) (after : State)
+pub walked : (o : Result State Why) (f : State → Result State Why) (after : State)
     → then_walk o f ≡ ok_state after → (mid : State) × (o ≡ Ok mid) × (f mid ≡ Ok after)
 walked (Ok mid) f after e = (mid, refl, e)
 walked (Err why) f after e = absurd cc

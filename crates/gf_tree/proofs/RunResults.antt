@@ -271,7 +271,7 @@ behind_again tokens rest b u outcomes c is none (inr h) =
         (text_again d.name (at (KnownOutcomeOpening d.payoffs) (with_node c b (Some u.key))))
         ∙ known_again d.payoffs is.0 rest (with_node c b (Some u.key)) is.2 false
 
-number_again : (t : List ℕ) (k : ℕ) (b : Begun) (c : Content) (ts : List Token) → 0 < k
+pub number_again : (t : List ℕ) (k : ℕ) (b : Begun) (c : Content) (ts : List Token) → 0 < k
     → IsIndex t k
     → run_tokens (OutcomeNumber b) c (Bare t ∷ ts)
     ≡ run_on ts (behind_outcome c b k (description_at nat_eq c.outcomes k))

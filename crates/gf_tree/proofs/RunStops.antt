@@ -3,7 +3,7 @@ use Rattle.std.proofs.Common.{◌≡◌, ◌↔◌, ℕ, Bool, true, false, cond
 use Rattle.std.proofs.Common.{◌++◌, length, Result, Ok, Err, refl, ap, subst, ◌∙◌}
 use Rattle.gf_token.specs.Token.{Token, Lexeme}
 use Rattle.gf_token.specs.TokenSpelling.{Spells}
-use Rattle.gf_token.specs.Place.{tokens_of, IsSpanOf, IsAccepted, IsOffendingPlace}
+use Rattle.gf_token.specs.Place.{tokens_of, IsSpanOf, IsAccepted}
 use Rattle.gf_token.specs.declared.fault.Fault.{Fault}
 use Rattle.gf_token.specs.declared.fault.Why.{Why}
 use Rattle.gf_tree.specs.Game.{Game}
@@ -15,7 +15,7 @@ use Rattle.gf_tree.specs.Machine.Position.{Format}
 use Rattle.gf_tree.specs.ReadGame.{game_of, then_run}
 use Rattle.gf_tree.proofs.RunTokens.{Reads, run_on, ok_read}
 use Rattle.gf_tree.proofs.RunGames.{machine_means}
-use Rattle.gf_tree.proofs.RunPlaces.{Leads, walk, then_walk, begins, not_follows, no_file}
+use Rattle.gf_tree.proofs.RunPlaces.{Leads, walk, then_walk, not_follows, no_file}
 
 -- ---- a run over lexemes reads their tokens
 
@@ -148,23 +148,7 @@ stopped end q c [] fault e = stopped_at_end end q c fault (may_end q c.due) refl
 stopped end q c (l ∷ ls) fault e = stopped_at_token end q c l ls fault (step q c l.token) refl e
     (λ s f. stopped end s.position s.content ls fault f)
 
-not_accepted : (before after : List Token) (s : State) (why : Why)
+pub not_accepted : (before after : List Token) (s : State) (why : Why)
     → Leads before s → StopsAt s after why → ¬ (IsAccepted IsExtensiveFile before after)
 not_accepted before [] s why h k = no_file before s h k.0
 not_accepted before (t ∷ after) s why h k = not_follows before t s why h k
-
--- where it refuses bytes is the offending place
-pub refuses : (bytes : List ℕ) (ls : List Lexeme) (fault : Fault)
-    → Spells 0 bytes ls → run (length bytes) Format nothing ls ≡ Err fault
-    → IsOffendingPlace IsExtensiveFile bytes fault.span
-refuses bytes ls fault spelled e =
-    let h = stopped (length bytes) Format nothing ls fault e in
-    record {
-      before = h.before;
-      after = h.after;
-      spelled = subst (Spells 0 bytes) h.parts spelled;
-      place = h.place;
-      begins = begins (tokens_of h.before) h.state h.leads;
-      refused =
-          not_accepted (tokens_of h.before) (tokens_of h.after) h.state fault.why h.leads h.stops;
-    }

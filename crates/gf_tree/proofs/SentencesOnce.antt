@@ -166,7 +166,7 @@ results_once players (Some u) (Some v) first first' rest rest' h k n m e =
 
 -- ---- nodes
 
-node_once : (players : ℕ) (x y : FileNode) (first first' rest rest' : List Token)
+pub node_once : (players : ℕ) (x y : FileNode) (first first' rest rest' : List Token)
     → IsNode players first x → IsNode players first' y → NoText rest → NoText rest'
     → first ++ rest ≡ first' ++ rest' → (x ≡ y) × (rest ≡ rest')
 node_once players x y first first' rest rest' h k n m e =

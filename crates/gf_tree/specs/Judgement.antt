@@ -1,6 +1,6 @@
 -- What the reader of extensive files answers.
 use Rattle.std.specs.Prelude.{◌≡◌, ℕ, List, Result, Ok, Err}
-use Rattle.gf_token.specs.Place.{IsAcceptedThrough, IsOffendingPlace}
+use Rattle.gf_token.specs.Place.{tokens_of, IsAcceptedThrough, IsOffendingPlace}
 use Rattle.gf_token.specs.declared.fault.Fault.{Fault}
 use Rattle.gf_token.specs.declared.fault.Span.{Span}
 use Rattle.gf_token.specs.declared.fault.Why.{Why}
@@ -8,6 +8,12 @@ use Rattle.gf_token.specs.declared.fault.Why.TheVariants.{TooLong, UnknownOutcom
 use Rattle.gf_token.specs.declared.fault.Why.TheVariants.{TooManyProfiles, Memory}
 use Rattle.gf_tree.specs.Front.{IsExtensiveFile}
 use Rattle.gf_tree.specs.Game.{Game}
+use Rattle.gf_tree.specs.Reason.{IsReason}
+
+-- the span is that of the offending place, and the refusal is for what stands there
+pub record IsRefusal (why : Why) (bytes : List ℕ) (span : Span) : Type 0 where
+  pub place : IsOffendingPlace IsExtensiveFile bytes span
+  pub reason : IsReason why (tokens_of place.before) (tokens_of place.after)
 
 -- A refusal, by its reason. Memory is wanted only where there is nothing to refuse; three reasons
 -- are of strategic files and of programs, and never of an extensive file.
@@ -16,7 +22,11 @@ IsJudged Memory bytes span = IsAcceptedThrough IsExtensiveFile bytes span
 IsJudged TooLong bytes span = ⊥
 IsJudged UnknownOutcome bytes span = ⊥
 IsJudged TooManyProfiles bytes span = ⊥
-IsJudged why bytes span = IsOffendingPlace IsExtensiveFile bytes span
+IsJudged why bytes span = IsRefusal why bytes span
+
+-- a refusal for another cause than want of memory
+abbrev pub IsRefused : Why → List ℕ → Span → Type 0
+IsRefused why bytes span = ¬ (why ≡ Memory) × IsJudged why bytes span
 
 -- this game, or want of memory
 abbrev pub IsReadAs : Result Game Fault → Game → Type 0

@@ -1,23 +1,10 @@
 -- Fronts of files that are refused: where, and for which reason. WorkedTrees has whole
 -- files.
-use Rattle.std.specs.Prelude.{ℕ, List, ◌++◌, codes, length}
-use Rattle.gf_token.specs.Token.{Lexeme}
-use Rattle.gf_token.specs.TokenSpelling.{Spells}
-use Rattle.gf_token.specs.Place.{tokens_of, IsSpanOf}
+use Rattle.std.specs.Prelude.{ℕ, List, ◌++◌, codes}
 use Rattle.gf_token.specs.declared.fault.Span.{Span}
-use Rattle.gf_token.specs.declared.fault.Why.{Why}
-use Rattle.gf_tree.specs.Reason.{IsReason}
 
 abbrev pub span_of : ℕ → ℕ → Span
 span_of start end = record { start = start; end = end }
-
--- the span is that of a token of these bytes, or of their end, and this is the reason there
-pub record IsReasonAt (why : Why) (bytes : List ℕ) (start end : ℕ) : Type 0 where
-  pub before : List Lexeme
-  pub after : List Lexeme
-  pub spelled : Spells 0 bytes (before ++ after)
-  pub place : IsSpanOf after (length bytes) (span_of start end)
-  pub reason : IsReason why (tokens_of before) (tokens_of after)
 
 -- ---- probabilities
 

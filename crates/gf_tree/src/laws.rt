@@ -1,17 +1,18 @@
 //! Laws of the definitions, each as the contract of a function that does nothing.
 
-ghost use Rattle.std.specs.Prelude.{◌≡◌, ◌↔◌, Bool, Decides, List, [], ◌∷◌, ℕ, map, nat_eq};
+ghost use Rattle.std.specs.Prelude.{◌≡◌, ◌↔◌, ◌⊎◌, Bool, Decides, List, [], ◌∷◌, ℕ, map, nat_eq};
 ghost use Rattle.std.specs.List.{AllByRecursion};
 ghost use Rattle.gf_token.specs.Token.{Token};
+ghost use Rattle.gf_token.specs.Code.{code_of};
+ghost use Rattle.gf_token.specs.declared.fault.Span.{Span};
+ghost use Rattle.gf_token.specs.declared.fault.Why.{Why};
 ghost use Rattle.gf_token.specs.declared.fault.Why.TheVariants.{BadIndex, Expected, Mismatch};
 ghost use Rattle.gf_token.specs.declared.fault.Why.TheVariants.{NegativeProbability, NoEntry};
 ghost use Rattle.gf_token.specs.declared.fault.Why.TheVariants.{NotANumber, NotDescribed};
 ghost use Rattle.gf_token.specs.declared.fault.Why.TheVariants.{SumAboveOne, SumBelowOne};
 ghost use Rattle.gf_token.specs.declared.fault.Why.TheVariants.{SumOverflow, UnknownPlayer};
 ghost use Rattle.gf_token.specs.declared.fault.Why.TheVariants.{ZeroDenominator};
-ghost use Rattle.gf_token.specs.Place.{IsOffendingPlace};
 ghost use Rattle.gf_token.specs.declared.fault.What.TheVariants.{Version};
-ghost use Rattle.gf_tree.specs.Front.{IsExtensiveFile};
 ghost use Rattle.gf_tree.specs.Tree.{Tree};
 ghost use Rattle.gf_tree.specs.Tree.Trees.{none, more};
 ghost use Rattle.gf_tree.specs.PrefixOrder.{Entry, Fills, flatten};
@@ -26,7 +27,8 @@ ghost use Rattle.gf_tree.specs.Listed.{AreListed, listed_numbers};
 ghost use Rattle.gf_tree.specs.Renumbering.{IsRenumbering, Renumbering, renumbered};
 ghost use Rattle.gf_tree.specs.Spellable.{IsSpellable};
 ghost use Rattle.gf_tree.specs.Learned.{Learns, LearnsGame};
-ghost use Rattle.gf_tree.specs.WorkedReasons.{IsReasonAt, span_of};
+ghost use Rattle.gf_tree.specs.Judgement.{IsRefusal, IsRefused};
+ghost use Rattle.gf_tree.specs.WorkedReasons.{span_of};
 ghost use Rattle.gf_tree.specs.WorkedReasons.{outcome_plus_one_front, no_denominator_front};
 ghost use Rattle.gf_tree.specs.WorkedReasons.{other_name_front, other_payoff_front};
 ghost use Rattle.gf_tree.specs.WorkedReasons.{other_probability_front, no_version_front};
@@ -61,6 +63,17 @@ pub fn means_one_game()
         → g ≡ h }
     ensures of_bytes { (bytes : List ℕ) (g h : Game) → SpellsGame bytes g → SpellsGame bytes h
         → g ≡ h }
+{}
+
+/// Each list of bytes spells a game, or it is refused. None does both, and none is refused at two
+/// places or with two codes.
+pub fn read_or_refused()
+    ensures one_of_both { (bytes : List ℕ) → ((g : Game) × SpellsGame bytes g)
+        ⊎ ((why : Why) × (span : Span) × IsRefused why bytes span) }
+    ensures not_both { (bytes : List ℕ) (g : Game) (why : Why) (span : Span)
+        → SpellsGame bytes g → ¬ (IsRefused why bytes span) }
+    ensures once { (bytes : List ℕ) (why other : Why) (span place : Span) → IsRefused why bytes span
+        → IsRefused other bytes place → (span ≡ place) × (code_of why ≡ code_of other) }
 {}
 
 /// A consistent file tree has one game, and the games are those that some consistent file tree has.
@@ -152,35 +165,33 @@ pub fn worked_refusals()
     ensures nobody { (g : Game) → ¬ (SpellsGame nobody_file g) }
 {}
 
-/// Worked files and fronts of files, each with the reason for which it is refused at a place. A
-/// version that is none, and that this is the offending place. A probability that is no number,
-/// and a payoff without a denominator; a set numbered 0, and an outcome numbered `+1`; the second
-/// of one player, and a player where there are none; a set and an outcome without a description. A
-/// set described again with another action, without its last one, with one too many and with
-/// another probability, and an outcome with another name and another payoff. A negative
-/// probability; probabilities that add to more than one, to less, and to what does not fit; and
-/// sets without actions.
+/// Worked files and fronts of files, each with its offending place and the reason there. A version
+/// that is none. A probability that is no number, and a payoff without a denominator; a set numbered
+/// 0, and an outcome numbered `+1`; the second of one player, and a player where there are none; a
+/// set and an outcome without a description. A set described again with another action, without its
+/// last one, with one too many and with another probability, and an outcome with another name and
+/// another payoff. A negative probability; probabilities that add to more than one, to less, and to
+/// what does not fit; and sets without actions.
 pub fn worked_reasons()
-    ensures no_version { IsReasonAt (Expected Version) no_version_front 4 5 }
-    ensures no_version_place { IsOffendingPlace IsExtensiveFile no_version_front (span_of 4 5) }
-    ensures not_a_number { IsReasonAt NotANumber no_number_front 33 34 }
-    ensures no_denominator { IsReasonAt ZeroDenominator no_denominator_front 33 36 }
-    ensures set_zero { IsReasonAt BadIndex set_zero_front 27 28 }
-    ensures outcome_plus_one { IsReasonAt BadIndex outcome_plus_one_front 25 27 }
-    ensures second_of_one { IsReasonAt UnknownPlayer unknown_player_file 25 26 }
-    ensures no_players { IsReasonAt UnknownPlayer nobody_file 15 16 }
-    ensures undescribed_set { IsReasonAt NotDescribed undescribed_file 29 30 }
-    ensures undescribed_outcome { IsReasonAt NotDescribed unpaid_file 21 21 }
-    ensures other_action { IsReasonAt Mismatch other_action_front 73 76 }
-    ensures action_missing { IsReasonAt Mismatch action_missing_front 73 74 }
-    ensures action_too_many { IsReasonAt Mismatch action_too_many_front 77 80 }
-    ensures other_probability { IsReasonAt Mismatch other_probability_front 75 78 }
-    ensures other_name { IsReasonAt Mismatch other_name_front 71 74 }
-    ensures other_payoff { IsReasonAt Mismatch other_payoff_front 77 78 }
-    ensures negative { IsReasonAt NegativeProbability negative_front 33 37 }
-    ensures above_one { IsReasonAt SumAboveOne above_one_front 41 44 }
-    ensures below_one { IsReasonAt SumBelowOne below_one_front 68 69 }
-    ensures overflowing { IsReasonAt SumOverflow overflowing_front 79 82 }
-    ensures no_lottery { IsReasonAt NoEntry no_lottery_front 33 34 }
-    ensures no_action { IsReasonAt NoEntry no_action_front 35 36 }
+    ensures no_version { IsRefusal (Expected Version) no_version_front (span_of 4 5) }
+    ensures not_a_number { IsRefusal NotANumber no_number_front (span_of 33 34) }
+    ensures no_denominator { IsRefusal ZeroDenominator no_denominator_front (span_of 33 36) }
+    ensures set_zero { IsRefusal BadIndex set_zero_front (span_of 27 28) }
+    ensures outcome_plus_one { IsRefusal BadIndex outcome_plus_one_front (span_of 25 27) }
+    ensures second_of_one { IsRefusal UnknownPlayer unknown_player_file (span_of 25 26) }
+    ensures no_players { IsRefusal UnknownPlayer nobody_file (span_of 15 16) }
+    ensures undescribed_set { IsRefusal NotDescribed undescribed_file (span_of 29 30) }
+    ensures undescribed_outcome { IsRefusal NotDescribed unpaid_file (span_of 21 21) }
+    ensures other_action { IsRefusal Mismatch other_action_front (span_of 73 76) }
+    ensures action_missing { IsRefusal Mismatch action_missing_front (span_of 73 74) }
+    ensures action_too_many { IsRefusal Mismatch action_too_many_front (span_of 77 80) }
+    ensures other_probability { IsRefusal Mismatch other_probability_front (span_of 75 78) }
+    ensures other_name { IsRefusal Mismatch other_name_front (span_of 71 74) }
+    ensures other_payoff { IsRefusal Mismatch other_payoff_front (span_of 77 78) }
+    ensures negative { IsRefusal NegativeProbability negative_front (span_of 33 37) }
+    ensures above_one { IsRefusal SumAboveOne above_one_front (span_of 41 44) }
+    ensures below_one { IsRefusal SumBelowOne below_one_front (span_of 68 69) }
+    ensures overflowing { IsRefusal SumOverflow overflowing_front (span_of 79 82) }
+    ensures no_lottery { IsRefusal NoEntry no_lottery_front (span_of 33 34) }
+    ensures no_action { IsRefusal NoEntry no_action_front (span_of 35 36) }
 {}

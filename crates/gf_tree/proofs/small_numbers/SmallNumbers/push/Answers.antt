@@ -1,4 +1,4 @@
-use Rattle.std.proofs.Common.{rules, sym, ap, ◌∙◌, List, ℕ, None, nat_eq}
+use Rattle.std.proofs.Common.{rules, ap, ◌∙◌, nat_eq}
 use Rattle.std.specs.Map.{lookup}
 use Rattle.gf_tree.proofs.SmallPlaces.{found_then}
 use Rattle.gf_tree.proofs.small_numbers.SmallNumbers.push.Goals as goal

@@ -1,0 +1,211 @@
+-- The machine of the reader refuses for the reason at the place.
+use Rattle.std.proofs.Common.{◌≡◌, ℕ, ◌≤◌, Bool, cond, List, [], ◌∷◌, ◌++◌, length, Result, Ok, Err}
+use Rattle.std.proofs.Common.{sym, ap, subst, ◌∙◌, arith, inl, inr}
+use Rattle.std.specs.Prelude.{◌⊎◌}
+use Rattle.gf_fraction.specs.declared.fraction.NumberFault.TheVariants as number
+use Rattle.gf_token.specs.Token.{Token, Lexeme}
+use Rattle.gf_token.specs.Token.Token.{Opening, Closing, Comma, Text, Bare, Broken}
+use Rattle.gf_token.specs.TokenSpelling.{Spells}
+use Rattle.gf_token.specs.Code.{code_of}
+use Rattle.gf_token.specs.Place.{tokens_of}
+use Rattle.gf_token.specs.declared.fault.Fault.{Fault}
+use Rattle.gf_token.specs.declared.fault.Why.{Why}
+use Rattle.gf_token.specs.declared.fault.Why.TheVariants.{Unterminated, Expected, NotANumber}
+use Rattle.gf_token.specs.declared.fault.Why.TheVariants.{ZeroDenominator, NumberTooLarge, BadIndex}
+use Rattle.gf_token.specs.declared.fault.Why.TheVariants.{UnknownPlayer, NotDescribed, Mismatch}
+use Rattle.gf_token.specs.declared.fault.Why.TheVariants.{NegativeProbability, SumAboveOne}
+use Rattle.gf_token.specs.declared.fault.Why.TheVariants.{SumBelowOne, SumOverflow, NoEntry}
+use Rattle.gf_tree.specs.Judgement.{IsRefusal}
+use Rattle.gf_tree.specs.Machine.{Content, State, due, nothing, run, step}
+use Rattle.gf_tree.specs.Machine.Position.{Format}
+use Rattle.gf_tree.specs.ReadGame.{run_tokens, then_run}
+use Rattle.gf_tree.specs.Reason.{Holds, IsReason}
+use Rattle.gf_tree.proofs.FrontCodes.{IsUpTo, ReadsOn, bad_index, no_number, refused}
+use Rattle.gf_tree.proofs.FrontDue.{wanted}
+use Rattle.gf_tree.proofs.FrontOwned.{owned}
+use Rattle.gf_tree.proofs.FrontReasons.{Own, Owns, wanted_own}
+use Rattle.gf_tree.proofs.FrontRefusals.{first_of, first_use, mismatch, unknown_player}
+use Rattle.gf_tree.proofs.FrontShares.{above, below_one, lists_nothing, negative, overflows}
+use Rattle.gf_tree.proofs.FrontSteps.{stands_at}
+use Rattle.gf_tree.proofs.RunEnds.{ends}
+use Rattle.gf_tree.proofs.RunPlaces.{Leads, begins, leads_fine, walk_run}
+use Rattle.gf_tree.proofs.RunStops.{StopsAt, not_accepted, stopped}
+use Rattle.gf_tree.proofs.RunTokens.{run_on}
+
+-- ---- no lower code applies
+
+-- some tokens follow those that lead to a state
+reads_on : (before : List Token) (s : State) → Leads before s → ReadsOn before
+reads_on before s h =
+    let e = ends s.position s.content (leads_fine before s h) in
+    record { more = e.0; read = e.1; reads = walk_run before e.0 Format nothing s h ∙ e.2 }
+
+-- what the machine answers to the first token there, or to the end
+machine_refuses : (before after : List Token) (s : State) (why : Why) → Leads before s
+    → StopsAt s after why → run_tokens Format nothing (before ++ first_of after) ≡ refused why
+machine_refuses before [] s why l h = walk_run before [] Format nothing s l
+    ∙ ap (λ (b : Bool). cond b (Ok s.content) (Err (due s.position s.content.due))) h.0
+    ∙ ap refused h.1
+machine_refuses before (t ∷ after) s why l h =
+    walk_run before (t ∷ []) Format nothing s l ∙ ap (λ o. then_run o (run_on [])) h
+
+one_refusal : (o : Result Content Why) (why other : Why) → o ≡ refused why → o ≡ refused other
+    → why ≡ other
+one_refusal o why other h k = cc
+
+module _ (before after : List Token) (s : State) (why : Why) (l : Leads before s)
+    (h : StopsAt s after why) where
+  reads : ReadsOn before
+  reads = reads_on before s l
+
+  low_as : (other : Why) (bound : ℕ) → run_tokens Format nothing (before ++ first_of after)
+      ≡ refused other → IsUpTo other bound → IsUpTo why bound
+  low_as other bound e low = subst (λ (w : Why). IsUpTo w bound)
+      (one_refusal (run_tokens Format nothing (before ++ first_of after)) other why e
+      (machine_refuses before after s why l h)) low
+
+  low_as_either : (other lower named : Why) (bound : ℕ)
+      → run_tokens Format nothing (before ++ first_of after) ≡ refused other
+      → ((other ≡ lower) ⊎ (other ≡ named)) → IsUpTo lower bound → IsUpTo named bound
+      → IsUpTo why bound
+  low_as_either other lower named bound e (inl q) low high =
+      low_as lower bound (e ∙ ap refused q) low
+  low_as_either other lower named bound e (inr q) low high =
+      low_as named bound (e ∙ ap refused q) high
+
+  -- in a first use without a description
+  undescribed : Holds NotDescribed before after → IsUpTo why 9
+  undescribed k =
+      let f = first_use before after reads k.0 k.1 in
+      low_as_either f.0 Unterminated NotDescribed 9 f.1 f.2 (omega arith) (omega arith)
+
+abbrev Lower : List Token → List Token → Why → Type 0
+Lower before after why = (other : Why) → Holds other before after → IsUpTo why (code_of other)
+
+module _ (before after : List Token) (s : State) (why : Why) (l : Leads before s) where
+  lower_bare : (b : List ℕ) → StopsAt s (Bare b ∷ after) why → Lower before (Bare b ∷ after) why
+  lower_bare b h NotANumber k = low_as before (Bare b ∷ after) s why l h NotANumber 4
+      (no_number before b number.NotANumber (reads_on before s l) k.0 k.1) (omega arith)
+  lower_bare b h ZeroDenominator k = low_as before (Bare b ∷ after) s why l h ZeroDenominator 5
+      (no_number before b number.ZeroDenominator (reads_on before s l) k.0 k.1) (omega arith)
+  lower_bare b h NumberTooLarge k = low_as before (Bare b ∷ after) s why l h NumberTooLarge 6
+      (no_number before b number.TooLarge (reads_on before s l) k.0 k.1) (omega arith)
+  lower_bare b h BadIndex k = low_as before (Bare b ∷ after) s why l h BadIndex 7
+      (bad_index before b (reads_on before s l) k) (omega arith)
+  lower_bare b h UnknownPlayer k = low_as before (Bare b ∷ after) s why l h UnknownPlayer 8
+      (unknown_player before b (reads_on before s l) k) (omega arith)
+  lower_bare b h NotDescribed k = undescribed before (Bare b ∷ after) s why l h k
+  lower_bare b h Mismatch k = low_as before (Bare b ∷ after) s why l h Mismatch 10
+      (mismatch before (Bare b) (reads_on before s l) k) (omega arith)
+  lower_bare b h NegativeProbability k = low_as before (Bare b ∷ after) s why l h NegativeProbability 11
+      (negative before b (reads_on before s l) k) (omega arith)
+  lower_bare b h SumAboveOne k =
+      let r = above before b (reads_on before s l) k in
+      low_as_either before (Bare b ∷ after) s why l h r.0 NegativeProbability SumAboveOne 12 r.1 r.2
+      (omega arith) (omega arith)
+  lower_bare b h SumOverflow k =
+      let r = overflows before b (reads_on before s l) k in
+      low_as_either before (Bare b ∷ after) s why l h r.0 NegativeProbability SumOverflow 14 r.1 r.2
+      (omega arith) (omega arith)
+  lower_bare b h _ k = absurd k
+
+  lower_closing : StopsAt s (Closing ∷ after) why → Lower before (Closing ∷ after) why
+  lower_closing h NotDescribed k = undescribed before (Closing ∷ after) s why l h k
+  lower_closing h Mismatch k = low_as before (Closing ∷ after) s why l h Mismatch 10
+      (mismatch before Closing (reads_on before s l) k) (omega arith)
+  lower_closing h SumBelowOne k = low_as before (Closing ∷ after) s why l h SumBelowOne 13
+      (below_one before (reads_on before s l) k) (omega arith)
+  lower_closing h NoEntry k = low_as before (Closing ∷ after) s why l h NoEntry 15
+      (lists_nothing before (reads_on before s l) k) (omega arith)
+  lower_closing h _ k = absurd k
+
+  lower_text : (label : List ℕ) → StopsAt s (Text label ∷ after) why
+      → Lower before (Text label ∷ after) why
+  lower_text label h NotDescribed k = undescribed before (Text label ∷ after) s why l h k
+  lower_text label h Mismatch k = low_as before (Text label ∷ after) s why l h Mismatch 10
+      (mismatch before (Text label) (reads_on before s l) k) (omega arith)
+  lower_text label h _ k = absurd k
+
+  lower_opening : StopsAt s (Opening ∷ after) why → Lower before (Opening ∷ after) why
+  lower_opening h NotDescribed k = undescribed before (Opening ∷ after) s why l h k
+  lower_opening h Mismatch k = low_as before (Opening ∷ after) s why l h Mismatch 10
+      (mismatch before Opening (reads_on before s l) k) (omega arith)
+  lower_opening h _ k = absurd k
+
+  lower_comma : StopsAt s (Comma ∷ after) why → Lower before (Comma ∷ after) why
+  lower_comma h NotDescribed k = undescribed before (Comma ∷ after) s why l h k
+  lower_comma h Mismatch k = low_as before (Comma ∷ after) s why l h Mismatch 10
+      (mismatch before Comma (reads_on before s l) k) (omega arith)
+  lower_comma h _ k = absurd k
+
+  -- a text without an end has the lowest code of all
+  lower_broken : why ≡ Unterminated → Lower before (Broken ∷ after) why
+  lower_broken e other k = subst (λ (w : Why). IsUpTo w (code_of other)) (sym e) (by other k)
+    where
+      by : (w : Why) → Holds w before (Broken ∷ after) → 2 ≤ code_of w
+      by Unterminated k = omega arith
+      by NotDescribed k = omega arith
+      by Mismatch k = omega arith
+      by _ k = absurd k
+
+  lower_end : StopsAt s [] why → Lower before [] why
+  lower_end h NotDescribed k = undescribed before [] s why l h k
+  lower_end h _ k = absurd k
+
+abbrev refused_state : Why → Result State Why
+refused_state why = Err why
+
+-- what is refused at a text without an end
+broken_is : (s : State) (why : Why) → step s.position s.content Broken ≡ Err why
+    → why ≡ Unterminated
+broken_is s why e = let f : refused_state Unterminated ≡ refused_state why = e in cc
+
+lower : (before after : List Token) (s : State) (why : Why) → Leads before s → StopsAt s after why
+    → Lower before after why
+lower before [] s why l h = lower_end before [] s why l h
+lower before (Bare b ∷ after) s why l h = lower_bare before after s why l b h
+lower before (Closing ∷ after) s why l h = lower_closing before after s why l h
+lower before (Text label ∷ after) s why l h = lower_text before after s why l label h
+lower before (Opening ∷ after) s why l h = lower_opening before after s why l h
+lower before (Comma ∷ after) s why l h = lower_comma before after s why l h
+lower before (Broken ∷ after) s why l h = lower_broken before after s why l (broken_is s why h)
+
+-- ---- the reason
+
+own : (before after : List Token) (s : State) (why : Why) → Leads before s → StopsAt s after why
+    → Own why before after
+own before [] s why l h = subst (λ (w : Why). Own w before []) h.1
+    (wanted_own (due s.position s.content.due) before []
+    (wanted s.position s.content before l (stands_at before s l)) tt)
+own before (t ∷ after) s why l h = subst (λ o. Owns o before (t ∷ after)) h
+    (owned before after s.position s.content t (leads_fine before s l) l (stands_at before s l))
+
+reason_by : (why : Why) (before after : List Token) → Own why before after
+    → Lower before after why → IsReason why before after
+reason_by (Expected what) before after h low = (h, low)
+reason_by _ before after h low = (h, low)
+
+reason : (before after : List Token) (s : State) (why : Why) → Leads before s → StopsAt s after why
+    → IsReason why before after
+reason before after s why l h =
+    reason_by why before after (own before after s why l h) (lower before after s why l h)
+
+-- bytes are refused at the offending place, for the reason there
+pub refuses : (bytes : List ℕ) (ls : List Lexeme) (fault : Fault)
+    → Spells 0 bytes ls → run (length bytes) Format nothing ls ≡ Err fault
+    → IsRefusal fault.why bytes fault.span
+refuses bytes ls fault spelled e =
+    let h = stopped (length bytes) Format nothing ls fault e in
+    let before = tokens_of h.before in
+    let after = tokens_of h.after in
+    record {
+      place = record {
+        before = h.before;
+        after = h.after;
+        spelled = subst (Spells 0 bytes) h.parts spelled;
+        place = h.place;
+        begins = begins before h.state h.leads;
+        refused = not_accepted before after h.state fault.why h.leads h.stops;
+      };
+      reason = reason before after h.state fault.why h.leads h.stops;
+    }
