@@ -1,5 +1,5 @@
 -- Places in classes that grow, and the rows at them.
-use Rattle.std.proofs.Common.{◌≡◌, ◌≢◌, ℕ, ◌+◌, ◌-◌, ◌*◌, ◌<◌, ◌≤◌, List, length, get_or, set, take}
+use Rattle.std.proofs.Common.{◌≡◌, ◌≢◌, ℕ, ◌+◌, ◌-◌, ◌<◌, ◌≤◌, List, length, get_or, set, take}
 use Rattle.std.proofs.Common.{Option, Some, slice_get, option_map, refl, sym, ap, subst, ◌∙◌, arith, inl, inr}
 use Rattle.std.specs.Prelude.{if◌then◌else◌, max, min, nat_lt}
 use Rattle.std.specs.List.{range_with_len}
@@ -144,7 +144,6 @@ pub record IsRowAt (rows : List (List Ratio)) (players : ℕ) (payoffs zeros : L
     (bound at number : ℕ) : Type 0 where
   pub row : slice_get rows at ≡ Some (kept_row players payoffs zeros number)
   pub below : number < bound
-  pub kept : number * players ≤ length payoffs
 
 pub row_at : (rows : List (List Ratio)) (numbers : List ℕ) (players : ℕ) (payoffs zeros : List Ratio)
     (bound at : ℕ) → AreShared rows numbers players payoffs zeros bound → at < length numbers
@@ -152,14 +151,11 @@ pub row_at : (rows : List (List Ratio)) (numbers : List ℕ) (players : ℕ) (pa
 row_at rows numbers players payoffs zeros bound at shared h =
     let number = get_or numbers at 0 in
     let found = slice_get-get_or numbers at 0 h in
-    let below : number < bound =
-    all_at (λ number. number < bound) numbers at number shared.below found in
     record {
       row = ap (λ (rs : List (List Ratio)). slice_get rs at) shared.rows_are
           ∙ slice_get-map (kept_row players payoffs zeros) numbers at
           ∙ ap (λ (o : Option ℕ). option_map (kept_row players payoffs zeros) o) found;
-      below = below;
-      kept = shared.kept number below;
+      below = all_at (λ number. number < bound) numbers at number shared.below found;
     }
 
 -- the rows at the first profiles of two tables are the same
