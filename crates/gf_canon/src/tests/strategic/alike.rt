@@ -1,7 +1,6 @@
 //! Which tables play alike.
 
 use gf_nfg::read_nfg;
-use std::process::Abort;
 use std::test::Fail;
 
 /// Files by payoffs and by outcomes, each with the number of its kind: those of one kind play
