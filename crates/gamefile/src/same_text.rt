@@ -62,7 +62,7 @@ fn answer_of(alloc: Global, a: &Meaning<'_>, b: &Meaning<'_>) -> Result<Answer, 
 {
     match (a, b) {
         (Meaning::Tree(g), Meaning::Tree(h)) => answer_of_games(alloc, g, h),
-        _ => line(alloc, same_meaning(a, b, Names::Kept)),
+        _ => line(alloc, same_meaning(alloc, a, b, Names::Kept)?),
     }
 }
 

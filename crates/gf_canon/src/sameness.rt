@@ -13,7 +13,7 @@ use crate::meaning::{Meaning, read_file};
 use crate::walk::same_games;
 use gf_nfg::Table;
 use gf_token::Fault;
-use std::alloc::Global;
+use std::alloc::{AllocError, Global};
 
 /// Why two files are not compared.
 #[derive(Clone, Copy, Debug, PartialEq, Eq)]
@@ -37,23 +37,33 @@ pub enum Names {
 }
 
 /// Whether two tables are the same.
-fn same_tables(t: &Table, u: &Table, names: Names) -> bool
-    ensures { IsTrue result ↔ SameBy names (strategic t.now) (strategic u.now) }
+fn same_tables(alloc: Global, t: &Table, u: &Table, names: Names) -> Result<bool, AllocError>
+    ensures { IfOk result (λ answer.
+        IsTrue answer ↔ SameBy names (strategic t.now) (strategic u.now)) }
 {
-    same_name(t.title(), u.title(), names)
-        && same_name(t.comment(), u.comment(), names)
-        && t.play_agrees(u)
+    Ok(
+        same_name(t.title(), u.title(), names)
+            && same_name(t.comment(), u.comment(), names)
+            && t.plays_alike(alloc, u)?,
+    )
 }
 
-/// Whether two files that were read mean the same, as `same_by` says of their bytes. Takes no
-/// memory.
-pub fn same_meaning(a: &Meaning<'_>, b: &Meaning<'_>, names: Names) -> bool
-    ensures { IsTrue result ↔ SameBy names (file_of a.now) (file_of b.now) }
+/// Whether two files that were read mean the same, as `same_by` says of their bytes.
+///
+/// `AllocError` where memory to compare tables is refused. Trees take none.
+pub fn same_meaning(
+    alloc: Global,
+    a: &Meaning<'_>,
+    b: &Meaning<'_>,
+    names: Names,
+) -> Result<bool, AllocError>
+    ensures { IfOk result (λ answer.
+        IsTrue answer ↔ SameBy names (file_of a.now) (file_of b.now)) }
 {
     match (a, b) {
-        (Meaning::Tree(g), Meaning::Tree(h)) => same_games(g, h, names),
-        (Meaning::Table(t), Meaning::Table(u)) => same_tables(t, u, names),
-        _ => false,
+        (Meaning::Tree(g), Meaning::Tree(h)) => Ok(same_games(g, h, names)),
+        (Meaning::Table(t), Meaning::Table(u)) => same_tables(alloc, t, u, names),
+        _ => Ok(false),
     }
 }
 
@@ -81,7 +91,10 @@ pub fn same_by(alloc: Global, a: &[u8], b: &[u8], names: Names) -> Result<bool, 
         Ok(second) => second,
         Err(fault) => return Err(SameFault::Second(fault)),
     };
-    Ok(same_meaning(&first, &second, names))
+    match same_meaning(alloc, &first, &second, names) {
+        Ok(same) => Ok(same),
+        Err(_) => Err(SameFault::Memory),
+    }
 }
 
 /// Whether two files mean the same (this project's profile), which they do exactly if their

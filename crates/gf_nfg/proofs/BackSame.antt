@@ -1,11 +1,13 @@
 -- Tables that are the same are equal.
 use Rattle.std.proofs.Common.{◌≡◌, ℕ, ◌<◌, List, [], length, map}
 use Rattle.std.proofs.Common.{get_or, sym, ap, subst, ◌∙◌, arith}
-use Rattle.std.specs.Prelude.{◌↔◌}
+use Rattle.std.specs.Prelude.{◌↔◌, Bool, IsTrue}
 use Rattle.std.specs.List.{Contains}
 use Rattle.std.proofs.lemmas.List.{length-map, get_or-map, get_or_default, same_lists}
+use Rattle.gf_fraction.specs.Ratio.{Ratio}
 use Rattle.gf_nfg.specs.Profiles.{profiles}
 use Rattle.gf_nfg.specs.Table.{Entry, Table, IsTable, rows}
+use Rattle.gf_nfg.specs.TableParts.{Names}
 use Rattle.gf_nfg.specs.SameTable.{SamePlay, SameTable}
 use Rattle.gf_nfg.proofs.TableAgrees as agrees
 use Rattle.gf_nfg.proofs.BackProfiles.{profiles_distinct}
@@ -68,6 +70,28 @@ same_play_by_rows t u ht hu = (to, from)
                 (sym same) c,
           );
         }
+
+-- a table but for its payoffs
+abbrev pub names_in : Table → Names
+names_in t = record {
+  title = t.title;
+  comment = t.comment;
+  players = t.players;
+  strategies = t.strategies;
+}
+
+-- by what is kept of both tables, where the names are the same
+pub same_play_as_kept : (t u : Table) (m n : Names) (xs ys : List (List Ratio)) (answer : Bool)
+    → IsTable t → IsTable u → m ≡ names_in t → n ≡ names_in u
+    → (m.players ≡ n.players) × (m.strategies ≡ n.strategies) → xs ≡ rows t → ys ≡ rows u
+    → IsTrue answer ↔ (xs ≡ ys) → IsTrue answer ↔ SamePlay t u
+same_play_as_kept t u m n xs ys answer ht hu left right both mine others same =
+    let players = sym (ap (λ n. n.players) left) ∙ both.0 ∙ ap (λ n. n.players) right in
+    let strategies = sym (ap (λ n. n.strategies) left) ∙ both.1 ∙ ap (λ n. n.strategies) right in
+    let by_rows = same_play_by_rows t u ht hu in (
+      λ h. by_rows.1 (players, strategies, sym mine ∙ same.0 h ∙ others),
+      λ play. same.1 (mine ∙ (by_rows.0 play).2 ∙ sym others),
+    )
 
 pub same_is_equal : (t u : Table) → IsTable t → IsTable u → SameTable t u ↔ (t ≡ u)
 same_is_equal t u ht hu = (to, from)

@@ -11,6 +11,7 @@ pub mod BackProfiles
 pub mod BackSame
 pub mod BackTables
 pub mod BackWorked
+pub mod ClassesJoined
 pub mod DueRows
 pub mod DueTable
 pub mod LimitCounts

@@ -1,3 +1,4 @@
+pub mod Classes
 pub mod Due
 pub mod Judgement
 pub mod Limit

@@ -1,13 +1,15 @@
 //! Whether two tables are the same to play.
 
-ghost use Rattle.std.specs.Prelude.{◌≡◌, ◌<◌, ◌↔◌, IsTrue, length};
+ghost use Rattle.std.specs.Prelude.{◌≡◌, ◌<◌, ◌↔◌, IfOk, IsTrue, length};
 ghost use Rattle.gf_nfg.specs.SameTable.{SamePlay};
 ghost use Rattle.gf_nfg.specs.TableParts.{own_of};
 
+use crate::classes::Classes;
 use crate::names::Names;
 use crate::rows::Rows;
 use crate::table::Table;
 use gf_fraction::Fraction;
+use std::alloc::{AllocError, Global};
 
 /// Whether the player at this place has the same strategies in both.
 fn same_own(a: &Names, b: &Names, at: usize) -> bool
@@ -86,12 +88,47 @@ fn same_rows(a: &Rows, b: &Rows) -> bool
     true
 }
 
+/// Whether both have the same rows. Where profiles share them in both, rows that were found the same
+/// are in one class from then on, so that no more are compared than there are.
+fn same_kept_rows(alloc: Global, a: &Rows, b: &Rows) -> Result<bool, AllocError>
+    ensures { IfOk result (λ answer. IsTrue answer ↔ (a.now ≡ b.now)) }
+{
+    let (Some(left), Some(right)) = (a.shared(), b.shared()) else {
+        return Ok(same_rows(a, b));
+    };
+    if left.numbers.len() != right.numbers.len() {
+        return Ok(false);
+    }
+    let mut classes = Classes::new(alloc, left.rows + right.rows)?;
+    for place in 0..left.numbers.len() {
+        let (m, n) = (left.numbers[place] as usize, right.numbers[place] as usize);
+        if classes.unite(m, left.rows + n) && !same_row(left.row(m), right.row(n)) {
+            return Ok(false);
+        }
+    }
+    Ok(true)
+}
+
 impl Table {
     /// Whether the players, the labels of their strategies and the payoffs at each profile are the
     /// same in both. Titles and comments do not count. Takes no memory.
+    ///
+    /// That takes time for each payoff that is spelled, and a file by outcomes can spell a hundred
+    /// thousand for each of its bytes. `plays_alike` takes time for what the tables keep.
     pub fn play_agrees(&self, o: &Table) -> bool
         ensures { IsTrue result ↔ SamePlay self.now o.now }
     {
         same_names(self.names(), o.names()) && same_rows(self.rows(), o.rows())
+    }
+
+    /// What `play_agrees` answers, in time that grows with what both tables keep: payoffs for each
+    /// outcome, and for each profile the number of its outcome. Takes memory for a place for each
+    /// outcome.
+    ///
+    /// `AllocError` where memory is refused.
+    pub fn plays_alike(&self, alloc: Global, o: &Table) -> Result<bool, AllocError>
+        ensures { IfOk result (λ answer. IsTrue answer ↔ SamePlay self.now o.now) }
+    {
+        Ok(same_names(self.names(), o.names()) && same_kept_rows(alloc, self.rows(), o.rows())?)
     }
 }

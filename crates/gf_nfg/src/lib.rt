@@ -4,6 +4,7 @@
 #![tactic(auto)]
 
 mod agree;
+mod classes;
 mod labels;
 pub mod laws;
 mod limit;

@@ -148,8 +148,9 @@ impl Rows {
 
     /// The rows and their numbers, where profiles may share them.
     pub(crate) fn shared(&self) -> Option<Shared<'_>>
-        ensures { IfSome result (λ s. AreShared self.now
+        ensures shared { IfSome result (λ s. AreShared self.now
             s.numbers.now s.players s.payoffs.now s.zeros.now s.rows) }
+        ensures few { IfSome result (λ s. s.rows < 2 ^ 63) }
     {
         match &self.choices {
             Some(choices) if self.players > 0 => Some(Shared {

@@ -10,10 +10,10 @@ pub returns-in-Tree-Tree-clause-same : goal.returns-in-Tree-Tree-clause-same
 returns-in-Tree-Tree-clause-same c =
     rw (c.in-Tree-Tree.is-0, c.in-Tree-Tree.is-1) c.answer_of_games.ensures.same
 
-pub returns-in_default-clause-same : goal.returns-in_default-clause-same
-returns-in_default-clause-same c =
-    IfOk-all c.line.result (λ (answer : Answer). answer.same ≡ c.same_meaning.result)
+pub returns-in_ok-same_meaning-in_default-clause-same : goal.returns-in_ok-same_meaning-in_default-clause-same
+returns-in_ok-same_meaning-in_default-clause-same c =
+    IfOk-all c.line.result (λ (answer : Answer). answer.same ≡ c.in_ok-same_meaning-in_default.field-0)
     (λ (answer : Answer). IsTrue answer.same
     ↔ SameFile (file_of c.args.a.now) (file_of c.args.b.now))
-    (λ answer is. rw is c.same_meaning.ensures)
+    (λ answer is. rw is c.in_ok-same_meaning-in_default.ensures)
     c.line.ensures.same

@@ -5,8 +5,8 @@ use Rattle.gf_nfg.specs.TableParts.{AreShared, numbers_of}
 use Rattle.gf_nfg.proofs.TextShared.{kept_rows_are, rows_below, rows_kept}
 use Rattle.gf_nfg.proofs.rows.Rows.shared.Goals as goal
 
-pub returns-in-Some : goal.returns-in-Some
-returns-in-Some c =
+pub returns-in-Some-clause-shared : goal.returns-in-Some-clause-shared
+returns-in-Some-clause-shared c =
     let r = c.self.inside in
     let payoffs = r.payoffs.items in
     let zeros = r.zeros.items in
