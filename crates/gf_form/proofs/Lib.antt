@@ -4,6 +4,7 @@ pub mod Apart
 pub mod BottomUp
 pub mod Choices
 pub mod Chosen
+pub mod CountedActions
 pub mod Denominators
 pub mod Followed
 pub mod Following
@@ -26,6 +27,7 @@ pub mod RowSums
 pub mod SameForms
 pub mod SameRefusals
 pub mod Stacks
+pub mod StrategiesByNumber
 pub mod StrategyLabels
 pub mod ValuesComputed
 pub mod Walks

@@ -1,5 +1,6 @@
 pub mod BottomUp
 pub mod CodeLeft
+pub mod Counted
 pub mod PaidRows
 pub mod Payoff
 pub mod Plays

@@ -2,6 +2,7 @@
 //! and what the players are paid where they choose given actions.
 #![tactic(auto)]
 
+mod counts;
 mod evaluate;
 mod expectation;
 mod fault;
@@ -9,6 +10,7 @@ pub mod laws;
 mod op;
 mod payoffs;
 mod rows;
+mod strategies;
 #[cfg(test)]
 mod tests;
 mod values;
