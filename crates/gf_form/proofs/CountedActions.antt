@@ -141,11 +141,12 @@ pub as_many_players : {A : Type 0} (g : Game) (f : ℕ → A)
 as_many_players g f =
     length-map (players_of g) f ∙ length-numbers_from 1 (length g.players)
 
-pub one_list_more : (all kept next : List (List ℕ)) (i : ℕ) (own : List ℕ) → i < length all
-    → own ≡ get_or all i [] → kept ≡ take i all → next ≡ kept ++ own ∷ []
+-- a list is kept item by item
+pub one_item_more : {A : Type 0} (all kept next : List A) (i : ℕ) (item d : A) → i < length all
+    → item ≡ get_or all i d → kept ≡ take i all → next ≡ kept ++ item ∷ []
     → next ≡ take (i + 1) all
-one_list_more all kept next i own h is kept_is next_is =
-    next_is ∙ (λ j. kept_is j ++ is j ∷ []) ∙ sym (take-suc all i [] h)
+one_item_more all kept next i item d h is kept_is next_is =
+    next_is ∙ (λ j. kept_is j ++ is j ∷ []) ∙ sym (take-suc all i d h)
     ∙ ap (λ (n : ℕ). take n all) (sym (add-one i))
 
 pub counted_sets : (g : Game) (player before count : ℕ) → count ≡ length (player_keys g player)

@@ -5,9 +5,11 @@ pub mod BottomUp
 pub mod Choices
 pub mod Chosen
 pub mod CountedActions
+pub mod CountsGiven
 pub mod Denominators
 pub mod Followed
 pub mod Following
+pub mod FormMade
 pub mod FormTables
 pub mod Forms
 pub mod KnownSets
@@ -17,6 +19,7 @@ pub mod NoPlayer
 pub mod PaidRowsKept
 pub mod PayoffsGiven
 pub mod PlaySums
+pub mod ProfilesByNumber
 pub mod ProgramRuns
 pub mod ReducedForms
 pub mod ReducedPays
@@ -24,6 +27,7 @@ pub mod ReducedTables
 pub mod ReducedValues
 pub mod Reducing
 pub mod RowSums
+pub mod RowsMade
 pub mod SameForms
 pub mod SameRefusals
 pub mod Stacks

@@ -4,6 +4,7 @@ pub mod Counted
 pub mod PaidRows
 pub mod Payoff
 pub mod Plays
+pub mod ProfileRows
 pub mod Program
 pub mod Reduced
 pub mod Refusal

@@ -6,10 +6,13 @@ mod counts;
 mod evaluate;
 mod expectation;
 mod fault;
+mod form_labels;
 pub mod laws;
 mod op;
 mod payoffs;
+mod profile_rows;
 mod rows;
+mod strategic_form;
 mod strategies;
 #[cfg(test)]
 mod tests;
@@ -17,4 +20,5 @@ mod values;
 mod walk;
 
 pub use crate::expectation::expected;
-pub use crate::fault::EvalFault;
+pub use crate::fault::{EvalFault, FormFault};
+pub use crate::strategic_form::table;

@@ -5,7 +5,7 @@ use Rattle.gf_token.specs.Label.{label_of}
 use Rattle.gf_nfg.specs.Profiles.{product}
 use Rattle.gf_nfg.proofs.BackProfiles.{length-profiles}
 use Rattle.gf_form.specs.Strategies.{action_counts, players_of, strategies}
-use Rattle.gf_form.proofs.CountedActions.{as_many_players, no_counts, of_player, one_list_more}
+use Rattle.gf_form.proofs.CountedActions.{as_many_players, no_counts, of_player, one_item_more}
 use Rattle.gf_form.proofs.CountedActions.{one_more, past_alone, past_limit, some_counts}
 use Rattle.gf_form.proofs.CountedActions.{strategies_positive, strategy_counts, take_past, too_many}
 use Rattle.gf_form.proofs.counts.Counts.new.Goals as goal
@@ -68,10 +68,10 @@ loop-before-preserved c =
     (omega (arith, less, as_many_players g count))
     (own.1 ∙ sym (of_player g count before 0 less)) c.loop-before.invariant.1
     c.loop-before.invariant.2 c.in-Some-times.ensures.0 c.in_ok-push-2.ensures.items in (
-      one_list_more (map (action_counts g) (players_of g))
+      one_item_more (map (action_counts g) (players_of g))
           (map (λ (own : Vec ℕ Global). own.items) c.loop-before.actions.items)
           (map (λ (own : Vec ℕ Global). own.items) c.push.new.self.items) before
-          c.in-Some.own.items (omega (arith, less, as_many_players g (action_counts g)))
+          c.in-Some.own.items [] (omega (arith, less, as_many_players g (action_counts g)))
           (own.0 ∙ sym (of_player g (action_counts g) before [] less)) c.loop-before.invariant.0
           (ap (map (λ (own : Vec ℕ Global). own.items)) c.in_ok-push.ensures.items
           ∙ map-append (λ (own : Vec ℕ Global). own.items) c.loop-before.actions.items
