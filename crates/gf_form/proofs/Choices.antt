@@ -19,7 +19,7 @@ abbrev behind : ℕ → List (List ℕ) → List (List ℕ)
 behind action all = map (λ others. action ∷ others) all
 
 -- the place of a choice, from 0
-abbrev place : List ℕ → List ℕ → ℕ
+abbrev pub place : List ℕ → List ℕ → ℕ
 place (count ∷ counts) (action ∷ others) = (action - 1) * product counts + place counts others
 place _ _ = 0
 
@@ -78,7 +78,7 @@ length-all_choices counts = sym (length-map (all_choices counts) (place counts))
     ∙ ap length (places_are counts)
     ∙ length-numbers_from 0 (product counts)
 
-place_at : (counts : List ℕ) (i : ℕ) (d : List ℕ) → i < length (all_choices counts)
+pub place_at : (counts : List ℕ) (i : ℕ) (d : List ℕ) → i < length (all_choices counts)
     → place counts (get_or (all_choices counts) i d) ≡ i
 place_at counts i d h =
     let within : i < product counts = omega (arith, length-all_choices counts) in

@@ -4,9 +4,12 @@ pub mod Apart
 pub mod BottomUp
 pub mod Choices
 pub mod Chosen
+pub mod CountedActions
+pub mod CountsGiven
 pub mod Denominators
 pub mod Followed
 pub mod Following
+pub mod FormMade
 pub mod FormTables
 pub mod Forms
 pub mod KnownSets
@@ -16,6 +19,7 @@ pub mod NoPlayer
 pub mod PaidRowsKept
 pub mod PayoffsGiven
 pub mod PlaySums
+pub mod ProfilesByNumber
 pub mod ProgramRuns
 pub mod ReducedForms
 pub mod ReducedPays
@@ -23,9 +27,11 @@ pub mod ReducedTables
 pub mod ReducedValues
 pub mod Reducing
 pub mod RowSums
+pub mod RowsMade
 pub mod SameForms
 pub mod SameRefusals
 pub mod Stacks
+pub mod StrategiesByNumber
 pub mod StrategyLabels
 pub mod ValuesComputed
 pub mod Walks

@@ -1,8 +1,10 @@
 pub mod BottomUp
 pub mod CodeLeft
+pub mod Counted
 pub mod PaidRows
 pub mod Payoff
 pub mod Plays
+pub mod ProfileRows
 pub mod Program
 pub mod Reduced
 pub mod Refusal

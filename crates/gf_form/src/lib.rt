@@ -2,17 +2,23 @@
 //! and what the players are paid where they choose given actions.
 #![tactic(auto)]
 
+mod counts;
 mod evaluate;
 mod expectation;
 mod fault;
+mod form_labels;
 pub mod laws;
 mod op;
 mod payoffs;
+mod profile_rows;
 mod rows;
+mod strategic_form;
+mod strategies;
 #[cfg(test)]
 mod tests;
 mod values;
 mod walk;
 
 pub use crate::expectation::expected;
-pub use crate::fault::EvalFault;
+pub use crate::fault::{EvalFault, FormFault};
+pub use crate::strategic_form::table;

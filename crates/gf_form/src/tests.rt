@@ -10,6 +10,7 @@ use strategies::are_strategies;
 
 mod random;
 mod strategies;
+mod tables;
 
 /// Outcomes at an inner node and at leaves, and a player who never moves.
 const BONUS: &[u8] = b"EFG 2 R \"g\" { \"A\" \"B\" }

@@ -77,7 +77,7 @@ pub profiles_in_order : (counts : List ℕ)
     → map (place counts) (profiles counts) ≡ numbers_from 0 (product counts)
 profiles_in_order counts = places_are counts ∙ ap (numbers_from 0) (length-profiles counts)
 
-place_at : (counts : List ℕ) (i : ℕ) (d : List ℕ) → i < length (profiles counts)
+pub place_at : (counts : List ℕ) (i : ℕ) (d : List ℕ) → i < length (profiles counts)
     → place counts (get_or (profiles counts) i d) ≡ i
 place_at counts i d h =
     sym (get_or-map (place counts) (profiles counts) i d 0 h)
@@ -131,7 +131,7 @@ all_profiles count counts (others ∷ tails) h =
     (all_first count counts others h.0 1 count (omega arith) (omega arith))
     (all_profiles count counts tails h.1)
 
-are_profiles : (counts : List ℕ) → AllByRecursion (IsProfile counts) (profiles counts)
+pub are_profiles : (counts : List ℕ) → AllByRecursion (IsProfile counts) (profiles counts)
 are_profiles [] = (tt, tt)
 are_profiles (count ∷ counts) = all_profiles count counts (profiles counts) (are_profiles counts)
 

@@ -14,7 +14,7 @@ use std::marker::Model;
 
 /// Labels in one buffer, with the place where each ends.
 #[derive(Debug, Drop)]
-pub(crate) struct Labels {
+pub struct Labels {
     bytes: Vec<u8>,
     ends: Vec<usize>,
 }
@@ -32,7 +32,7 @@ impl Model for Labels {
 
 impl Labels {
     /// No labels.
-    pub(crate) fn new(alloc: Global) -> Labels
+    pub fn new(alloc: Global) -> Labels
         ensures { result ≡ [] }
     {
         Labels {
@@ -41,15 +41,16 @@ impl Labels {
         }
     }
 
-    pub(crate) fn len(&self) -> usize
+    /// How many labels there are.
+    pub fn len(&self) -> usize
         ensures len { result ≡ length self.now }
         ensures spelled { AreSpellings self.now }
     {
         self.ends.len()
     }
 
-    /// Adds a label at the end.
-    pub(crate) fn push(&mut self, label: Label<'_>) -> Result<(), AllocError>
+    /// Adds a label at the end. `AllocError` where memory is refused, and then nothing is added.
+    pub fn push(&mut self, label: Label<'_>) -> Result<(), AllocError>
         ensures ok { OnOk result (self.new ≡ self.old ++ label_of label.entry ∷ []) }
         ensures err { OnErr result (self.new ≡ self.old) }
     {
@@ -83,7 +84,7 @@ impl Labels {
     }
 
     /// The label at this place, from 0.
-    pub(crate) fn label(&self, at: usize) -> Label<'_>
+    pub fn label(&self, at: usize) -> Label<'_>
         requires { at < length self.now }
         ensures { slice_get self.now at ≡ Some (label_of result) }
     {

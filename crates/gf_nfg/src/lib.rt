@@ -21,6 +21,8 @@ mod rows;
 mod table;
 mod write;
 
+pub use labels::Labels;
+pub use limit::ProfileCount;
 pub use read::read_nfg;
 pub use table::Table;
 pub use write::write_nfg;

@@ -3,6 +3,7 @@
 ghost use Rattle.std.specs.Prelude.{◌≡◌, ◌*◌, ◌<◌, ◌≤◌, IfOk, length, map};
 ghost use Rattle.std.specs.Prelude.{min, option_and_then, option_map, vec_len};
 ghost use Rattle.std.specs.List.{AllByRecursion};
+ghost use Rattle.gf_fraction.specs.Ratio.{IsFraction};
 ghost use Rattle.gf_token.specs.Label.{label_of};
 ghost use Rattle.gf_nfg.specs.Limit.{profile_limit};
 ghost use Rattle.gf_nfg.specs.LimitPlace.{IsWithinLimit};
@@ -75,10 +76,33 @@ impl Table {
             (map label_of players.now) (map (λ own. map label_of own.items) strategies.now)
             rows.now) }
     {
+        let rows = Vec::from_clones(alloc, rows)?;
+        Table::with_rows(alloc, title, comment, players, strategies, rows)
+    }
+
+    /// The table of these parts, as `new` makes it. The payoffs are not copied.
+    pub fn with_rows(
+        alloc: Global,
+        title: Label<'_>,
+        comment: Label<'_>,
+        players: &[Label<'_>],
+        strategies: &[Vec<Label<'_>>],
+        rows: Vec<Fraction>,
+    ) -> Result<Table, AllocError>
+        requires players { length players.now ≤ 4294967295 }
+        requires one_list_each { length strategies.now ≡ length players.now }
+        requires some_strategy { AllByRecursion (λ own. 0 < vec_len own) strategies.now }
+        requires profiles { product (map vec_len strategies.now) ≤ profile_limit }
+        requires fractions { AllByRecursion IsFraction rows.items }
+        requires rows { length rows.items
+            ≡ product (map vec_len strategies.now) * length players.now }
+        ensures { IfOk result (λ t. IsTableOf t (label_of title.entry) (label_of comment.entry)
+            (map label_of players.now) (map (λ own. map label_of own.items) strategies.now)
+            rows.items) }
+    {
         let names = Names::new(alloc, title, comment, players, strategies)?;
         let profiles = rows.len().checked_div(players.len()).unwrap_or(1);
-        let payoffs = Vec::from_clones(alloc, rows)?;
-        let payoffs = Rows::in_turn(alloc, players.len(), profiles as u32, payoffs);
+        let payoffs = Rows::in_turn(alloc, players.len(), profiles as u32, rows);
         Ok(Table::of_parts(names, payoffs))
     }
 

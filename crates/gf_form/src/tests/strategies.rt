@@ -1,25 +1,11 @@
 //! Strategies that a game has.
 
-ghost use Rattle.std.specs.Prelude.{◌≡◌, ◌≤◌, IsTrue, map, unwrap_or};
+ghost use Rattle.std.specs.Prelude.{◌≤◌, IsTrue, map};
 ghost use Rattle.std.specs.List.{AllZip};
-ghost use Rattle.gf_token.specs.Positions.{at_position};
 ghost use Rattle.gf_form.specs.Strategies.{AreStrategies, action_counts};
 
+use crate::counts::action_count;
 use gf_tree::Game;
-
-/// How many actions there are at a player's set, by its position from 1 among his.
-fn action_count(game: &Game<'_>, player: u32, position: usize) -> usize
-    ensures { result ≡ unwrap_or (at_position (action_counts game.now player) position) 0 }
-{
-    let _players = game.players();
-    let Some(number) = game.set_number(player, position) else {
-        return 0;
-    };
-    match game.infoset(player, number) {
-        Some((_, actions)) => actions.len(),
-        None => 0,
-    }
-}
 
 /// Whether these are an action for each set of a player.
 fn is_strategy(game: &Game<'_>, player: u32, strategy: &[u32]) -> bool

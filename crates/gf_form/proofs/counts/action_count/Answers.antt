@@ -4,7 +4,7 @@ use Rattle.std.proofs.lemmas.List.{length-map}
 use Rattle.gf_tree.specs.Actions.{action_of}
 use Rattle.gf_tree.specs.Description.{InformationSet}
 use Rattle.gf_form.proofs.ActionCounts.{none_there, set_there}
-use Rattle.gf_form.proofs.tests.strategies.action_count.Goals as goal
+use Rattle.gf_form.proofs.counts.action_count.Goals as goal
 
 pub returns-in_default : goal.returns-in_default
 returns-in_default c =

@@ -1,0 +1,40 @@
+use Rattle.std.proofs.Common.{◌∙◌, List, Vec, Global, ℕ, ap, arith, map, subst, sym}
+use Rattle.std.specs.Prelude.{IfOk, OnOk}
+use Rattle.gf_form.specs.Refusal.{HasValuesBy}
+use Rattle.gf_form.specs.StrategicForm.{ArePayoffs}
+use Rattle.gf_form.specs.Strategies.{AreStrategies, choices_by}
+use Rattle.gf_form.proofs.ProfilesByNumber.{are_strategies}
+use Rattle.gf_form.proofs.profile_rows.row_at.Goals as goal
+
+pub expected-requires : goal.expected-requires
+expected-requires c =
+    let g = c.args.game.now in
+    subst (AreStrategies g)
+    (sym (ap (map (λ (own : Vec ℕ Global). own.items)) c.deref.ensures.value
+    ∙ c.in_ok-strategies.ensures g c.requires.counts))
+    (are_strategies g c.args.profile (omega (arith, c.requires.within, c.requires.counts.profiles)))
+
+pub returns-clause-payoffs : goal.returns-clause-payoffs
+returns-clause-payoffs c =
+    let g = c.args.game.now in
+    subst (λ (all : List (List ℕ)). IfOk c.expected.result
+    (λ row. ArePayoffs g (choices_by g all) row.items))
+    (ap (map (λ (own : Vec ℕ Global). own.items)) c.deref.ensures.value
+    ∙ c.in_ok-strategies.ensures g c.requires.counts)
+    c.expected.ensures.payoffs
+
+pub returns-clause-values : goal.returns-clause-values
+returns-clause-values c =
+    let g = c.args.game.now in
+    subst (λ (all : List (List ℕ)). OnOk c.expected.result (HasValuesBy g (choices_by g all)))
+    (ap (map (λ (own : Vec ℕ Global). own.items)) c.deref.ensures.value
+    ∙ c.in_ok-strategies.ensures g c.requires.counts)
+    c.expected.ensures.values
+
+pub returns-clause-overflow : goal.returns-clause-overflow
+returns-clause-overflow c h =
+    let g = c.args.game.now in
+    subst (λ (all : List (List ℕ)). HasValuesBy g (choices_by g all) → ⊥)
+    (ap (map (λ (own : Vec ℕ Global). own.items)) c.deref.ensures.value
+    ∙ c.in_ok-strategies.ensures g c.requires.counts)
+    (c.expected.ensures.overflow h)

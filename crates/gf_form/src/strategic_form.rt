@@ -1,0 +1,75 @@
+//! The strategic form of a game.
+
+ghost use Rattle.std.specs.Prelude.{◌≡◌, ◌≤◌, ℕ, List, IfOk, IsErrOf, OnOk, length};
+ghost use Rattle.std.specs.List.{Contains};
+ghost use Rattle.gf_form.specs.Counted.{AreCounts};
+ghost use Rattle.gf_form.specs.ProfileRows.{AreRowsAt};
+ghost use Rattle.gf_form.specs.Refusal.{HasTooManyProfiles, HasValues, OverflowsAt};
+ghost use Rattle.gf_form.specs.StrategicForm.{ArePayoffsAt, IsStrategicForm};
+ghost use Rattle.gf_form.specs.Strategies.{full_profiles};
+
+use crate::counts::Counts;
+use crate::fault::FormFault;
+use crate::form_labels::{all_labels, label_lists};
+use crate::profile_rows::profile_rows;
+use gf_fraction::Fraction;
+use gf_nfg::Table;
+use gf_tree::Game;
+use std::alloc::{AllocError, Global};
+
+/// The table of a game with these payoffs at its profiles.
+fn table_with(
+    alloc: Global,
+    game: &Game<'_>,
+    counts: &Counts,
+    rows: Vec<Fraction>,
+) -> Result<Table, AllocError>
+    requires players { length game.now.players ≤ 4294967295 }
+    requires counts { AreCounts game.now counts.now }
+    requires rows { AreRowsAt (ArePayoffsAt game.now) (full_profiles game.now) rows.items }
+    ensures { IfOk result (λ t. IsStrategicForm game.now t) }
+{
+    let labels = all_labels(alloc, counts)?;
+    let strategies = label_lists(alloc, &labels)?;
+    Table::with_rows(
+        alloc,
+        game.title(),
+        game.comment(),
+        game.players(),
+        &strategies,
+        rows,
+    )
+}
+
+/// The strategic form of a game: the table of its players and of their pure strategies, with the
+/// payoffs at each profile.
+///
+/// A pure strategy has an action at each of its player's sets, in order of first use. Its label is
+/// their positions, from 1, joined by `-`: `1-2` (this project's profile). The last set's action
+/// advances fastest. The payoffs at a profile are those of [`expected`](crate::expected).
+///
+/// The caller sees to it that there are at most 4,294,967,295 players.
+///
+/// `TooManyProfiles` where there are more than 1,048,576 profiles (this project's profile), whatever
+/// their payoffs. `Overflow` with the number of a profile, from 1 in the order of the table, where
+/// some player has no bottom-up value at it and each has at all profiles before it. `Memory` where
+/// memory is refused.
+pub fn table(alloc: Global, game: &Game<'_>) -> Result<Table, FormFault>
+    requires { length game.now.players ≤ 4294967295 }
+    ensures form { IfOk result (λ t. IsStrategicForm game.now t) }
+    ensures few { OnOk result (¬ (HasTooManyProfiles game.now)) }
+    ensures values { OnOk result ((profile : List ℕ) → Contains (full_profiles game.now) profile
+        → HasValues game.now profile) }
+    ensures too_many { IsErrOf result FormFault.TooManyProfiles → HasTooManyProfiles game.now }
+    ensures overflow { (position : ℕ) → IsErrOf result (FormFault.Overflow position)
+        → ¬ (HasTooManyProfiles game.now) × OverflowsAt game.now position }
+{
+    let Some(counts) = Counts::new(alloc, game)? else {
+        return Err(FormFault::TooManyProfiles);
+    };
+    let rows = match profile_rows(alloc, game, &counts) {
+        Ok(rows) => rows,
+        Err(fault) => return Err(fault),
+    };
+    Ok(table_with(alloc, game, &counts, rows)?)
+}
