@@ -9,11 +9,14 @@ mod fault;
 pub mod laws;
 mod op;
 mod payoffs;
+mod reduced;
+mod relevance;
 mod rows;
 mod strategies;
 #[cfg(test)]
 mod tests;
 mod values;
+mod visits;
 mod walk;
 
 pub use crate::expectation::expected;
