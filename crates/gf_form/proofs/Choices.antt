@@ -65,7 +65,7 @@ places_all count counts all h s (suc n) above =
     ∙ ap (λ (k : ℕ). numbers_from k (n * p)) on) i)
     ∙ numbers_joined ((s - 1) * p) p (n * p) ∙ ap (numbers_from ((s - 1) * p)) size
 
-places_are : (counts : List ℕ)
+pub places_are : (counts : List ℕ)
     → map (place counts) (all_choices counts) ≡ numbers_from 0 (product counts)
 places_are [] = refl
 places_are (count ∷ counts) =

@@ -71,7 +71,7 @@ follows_moves choices play = chosen_moves choices play.steps
 
 -- ---- plays of the children of a node
 
-in_either : {X : Type 0} (xs ys : List X) (x : X) → Has (xs ++ ys) x → Has xs x ⊎ Has ys x
+pub in_either : {X : Type 0} (xs ys : List X) (x : X) → Has (xs ++ ys) x → Has xs x ⊎ Has ys x
 in_either [] ys x h = inr h
 in_either (z ∷ xs) ys x (inl e) = inl (inl e)
 in_either (z ∷ xs) ys x (inr h) = elim (in_either xs ys x h) [ inl i ↦ inl (inr i) | inr i ↦ inr i ]

@@ -4,9 +4,12 @@ pub mod Apart
 pub mod BottomUp
 pub mod Choices
 pub mod Chosen
+pub mod Coming
 pub mod CountedActions
 pub mod CountsGiven
 pub mod Denominators
+pub mod FirstNumbers
+pub mod FirstStrategies
 pub mod Followed
 pub mod Following
 pub mod FormMade
@@ -26,6 +29,7 @@ pub mod ReducedPays
 pub mod ReducedTables
 pub mod ReducedValues
 pub mod Reducing
+pub mod RelevantSets
 pub mod RowSums
 pub mod RowsMade
 pub mod SameForms
@@ -33,7 +37,9 @@ pub mod SameRefusals
 pub mod Stacks
 pub mod StrategiesByNumber
 pub mod StrategyLabels
+pub mod Surveys
 pub mod ValuesComputed
+pub mod VisitsMet
 pub mod Walks
 pub mod Whole
 pub mod Worked

@@ -62,7 +62,7 @@ choice_equality (Some a) None = (λ h. absurd (false≢true h), λ e. absurd cc)
 choice_equality (Some a) (Some b) =
     (λ h. ap Some (eqb-true a b h), λ e. eq-eqb a b (ap (λ o. unwrap_or o a) e))
 
-choices_equality : (a b : List (Option ℕ)) → Decides (pointwise same_choice a b) (a ≡ b)
+pub choices_equality : (a b : List (Option ℕ)) → Decides (pointwise same_choice a b) (a ≡ b)
 choices_equality a b =
     slice_eq-Decides {E = same_choice} choice_equality a b (pointwise same_choice a b) refl
 

@@ -35,7 +35,7 @@ all_last test (b ∷ before) s h e =
     and_from (test b) (list_all test (before ++ s ∷ [])) both.0 (all_last test before s both.1 e)
 
 -- every tree has a play
-first_play : (t : Tree Node) → (p : Play) × Has (plays t) p
+pub first_play : (t : Tree Node) → (p : Play) × Has (plays t) p
 first_play (branch n none) = (record { steps = []; leaf = n }, inl refl)
 first_play (branch n (more t ts)) =
     let p = first_play t in (

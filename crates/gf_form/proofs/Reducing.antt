@@ -4,7 +4,7 @@ use Rattle.std.proofs.Common.{map, get_or, drop, refl, sym, ap, ◌∙◌, subst
 use Rattle.std.specs.Prelude.{◌⊎◌, ◌==◌, ◌||◌, ◌&&◌, not, unwrap_or, if◌then◌else◌}
 use Rattle.std.specs.List.{Contains, list_all, list_any}
 use Rattle.std.specs.Option.{option_map_or}
-use Rattle.std.proofs.lemmas.Bool.{and_parts, and_from, eqb-true, eq-eqb, false≢true}
+use Rattle.std.proofs.lemmas.Bool.{and_parts, and_from, eqb-true, false≢true}
 use Rattle.std.proofs.lemmas.Option.{none-some}
 use Rattle.gf_tree.specs.Description.{SetKey, same_set}
 use Rattle.gf_tree.specs.Game.{Game}
@@ -98,23 +98,21 @@ module _ (g : Game) (player : ℕ) where
         → is_relevant g c key ≡ true
 
     own_move : (key : SetKey) (k : ℕ) (b : Bool) → (key.player == player) ≡ b
-        → (b ≡ true → c key ≡ d key) → (not (key.player == player) || c key == k) ≡ true
-        → (not (key.player == player) || d key == k) ≡ true
-    own_move key k true e alike h =
-        let taken : c key ≡ k =
-        eqb-true (c key) k (subst (λ t. (not t || c key == k) ≡ true) e h) in
-        λ i. not (e i) || eq-eqb (d key) k (sym (alike refl) ∙ taken) i
-    own_move key k false e alike h = λ i. not (e i) || d key == k
+        → (b ≡ true → c key ≡ d key)
+        → (not (key.player == player) || c key == k) ≡ (not (key.player == player) || d key == k)
+    own_move key k true e alike = λ i. not (key.player == player) || alike refl i == k
+    own_move key k false e alike =
+        (λ i. not (e i) || c key == k) ∙ sym (λ i. not (e i) || d key == k)
 
-    step_agrees : (s : Step) (rest : List Step) → IsRelevantBelow (s ∷ rest)
-        → is_own_choice c player s ≡ true → is_own_choice d player s ≡ true
-    step_agrees s rest relevant h = by_set s.node.set refl h
+    step_same : (s : Step) (rest : List Step) → IsRelevantBelow (s ∷ rest)
+        → is_own_choice c player s ≡ is_own_choice d player s
+    step_same s rest relevant = by_set s.node.set refl
       where
         by_set : (o : Option SetKey) → s.node.set ≡ o
-            → option_map_or (λ key. not (key.player == player) || c key == s.taken) o true ≡ true
-            → option_map_or (λ key. not (key.player == player) || d key == s.taken) o true ≡ true
-        by_set None at h = refl
-        by_set (Some key) at h =
+            → option_map_or (λ key. not (key.player == player) || c key == s.taken) o true
+            ≡ option_map_or (λ key. not (key.player == player) || d key == s.taken) o true
+        by_set None at = refl
+        by_set (Some key) at =
             let here : option_map_or (same_set key) s.node.set false ≡ true =
             ap (λ o. option_map_or (same_set key) o false) at
             ∙ (same_set_equality key key).1 refl in
@@ -122,7 +120,35 @@ module _ (g : Game) (player : ℕ) where
             or_left (option_map_or (same_set key) s.node.set false)
             (is_own_choice c key.player s && comes_to c key rest) here in
             own_move key s.taken (key.player == player) refl
-            (λ own. same key (relevant key (eqb-true _ _ own) come)) h
+            (λ own. same key (relevant key (eqb-true _ _ own) come))
+
+    -- behind a move that he chooses, the rest is relevant too
+    relevant_on : (s : Step) (rest : List Step) → IsRelevantBelow (s ∷ rest)
+        → is_own_choice c player s ≡ true → IsRelevantBelow rest
+    relevant_on s rest relevant h key own come =
+        relevant key own (or_right (option_map_or (same_set key) s.node.set false)
+        (is_own_choice c key.player s && comes_to c key rest)
+        (and_from _ _ (subst (λ p. is_own_choice c p s ≡ true) (sym own) h) come))
+
+    comes_same : (key : SetKey) → key.player ≡ player → (rest : List Step) → IsRelevantBelow rest
+        → comes_to c key rest ≡ comes_to d key rest
+    comes_same key own [] relevant = refl
+    comes_same key own (s ∷ rest) relevant =
+        ap (λ b. option_map_or (same_set key) s.node.set false || b)
+        (by (is_own_choice c player s) refl (λ below. comes_same key own rest below))
+      where
+        his : (e : SetKey → ℕ) → is_own_choice e key.player s ≡ is_own_choice e player s
+        his e = ap (λ p. is_own_choice e p s) own
+
+        by : (b : Bool) → is_own_choice c player s ≡ b
+            → (IsRelevantBelow rest → comes_to c key rest ≡ comes_to d key rest)
+            → (is_own_choice c key.player s && comes_to c key rest)
+            ≡ (is_own_choice d key.player s && comes_to d key rest)
+        by true e others = λ i. (his c ∙ step_same s rest relevant ∙ sym (his d)) i
+            && others (relevant_on s rest relevant e) i
+        by false e others =
+            (λ i. (his c ∙ e) i && comes_to c key rest)
+            ∙ sym (λ i. (his d ∙ sym (step_same s rest relevant) ∙ e) i && comes_to d key rest)
 
     rest_agrees : (rest : List Step)
         → IsRelevantBelow rest → list_all (is_own_choice c player) rest ≡ true
@@ -131,12 +157,22 @@ module _ (g : Game) (player : ℕ) where
     rest_agrees (s ∷ rest) relevant h =
         let both =
         and_parts (is_own_choice c player s) (list_all (is_own_choice c player) rest) h in
-        and_from _ _ (step_agrees s rest relevant both.0)
-        (rest_agrees rest
-        (λ key own come. relevant key own (or_right (option_map_or (same_set key) s.node.set false)
-        (is_own_choice c key.player s && comes_to c key rest)
-        (and_from _ _ (subst (λ p. is_own_choice c p s ≡ true) (sym own) both.0) come)))
-        both.1)
+        and_from _ _ (sym (step_same s rest relevant) ∙ both.0)
+        (rest_agrees rest (relevant_on s rest relevant both.0) both.1)
+
+    any_same : (p q : Play → Bool) (ps : List Play) → ((x : Play) → Has ps x → p x ≡ q x)
+        → list_any p ps ≡ list_any q ps
+    any_same p q [] h = refl
+    any_same p q (x ∷ ps) h = λ i. h x (inl refl) i || any_same p q ps (λ y j. h y (inr j)) i
+
+    -- choices that are equal at the sets that are relevant under some have the same relevant sets
+    pub relevance_same : (key : SetKey) → key.player ≡ player
+        → is_relevant g c key ≡ is_relevant g d key
+    relevance_same key own =
+        any_same (λ play. comes_to c key play.steps) (λ play. comes_to d key play.steps)
+        (plays g.tree)
+        (λ play i. comes_same key own play.steps (λ k his come.
+        any_has (λ p. comes_to c k p.steps) (plays g.tree) play i come))
 
   agrees_too : (s t : List ℕ) (play : Play) → reduced g player s ≡ reduced g player t
       → Has (plays g.tree) play → agrees (chosen s) player play ≡ true

@@ -1,5 +1,6 @@
 pub mod BottomUp
 pub mod CodeLeft
+pub mod Comes
 pub mod Counted
 pub mod PaidRows
 pub mod Payoff
@@ -8,9 +9,14 @@ pub mod ProfileRows
 pub mod Program
 pub mod Reduced
 pub mod Refusal
+pub mod Relevance
 pub mod Rows
 pub mod RowsOn
+pub mod Shown
 pub mod StrategicForm
 pub mod Strategies
+pub mod Survey
+pub mod TellsRelevance
 pub mod Values
+pub mod Visits
 pub mod WorkedForms

@@ -11,12 +11,15 @@ pub mod laws;
 mod op;
 mod payoffs;
 mod profile_rows;
+mod reduced;
+mod relevance;
 mod rows;
 mod strategic_form;
 mod strategies;
 #[cfg(test)]
 mod tests;
 mod values;
+mod visits;
 mod walk;
 
 pub use crate::expectation::expected;

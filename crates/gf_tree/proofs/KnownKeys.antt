@@ -47,7 +47,7 @@ module _ {K : Type 0} (same : K → K → Bool) (tells : IsEquality same) where
 
   -- ---- a key that was used and one that was not
 
-  used_before : (before : List K) (key : K) → list_any (same key) before ≡ true → Has before key
+  pub used_before : (before : List K) (key : K) → list_any (same key) before ≡ true → Has before key
   used_before [] key h = absurd cc
   used_before (b ∷ before) key h = by (same key b) refl h (used_before before key)
     where
@@ -83,11 +83,11 @@ module _ {K : Type 0} (same : K → K → Bool) (tells : IsEquality same) where
       by false e h more = rw (either_way key b, e) (ap (λ ks. b ∷ ks) (more h))
 
   -- the keys that are known then
-  abbrev more_known : Bool → List K → K → List K
+  abbrev pub more_known : Bool → List K → K → List K
   more_known true ks key = ks
   more_known false ks key = ks ++ key ∷ []
 
-  known_more : (before : List K) (key : K)
+  pub known_more : (before : List K) (key : K)
       → first_uses same (before ++ key ∷ [])
       ≡ more_known (list_any (same key) before) (first_uses same before) key
   known_more [] key = refl
