@@ -1,4 +1,6 @@
 pub mod Errors
+pub mod FewPlayers
+pub mod FormTexts
 pub mod Interruptions
 pub mod LinesInTurn
 pub mod MoreRead

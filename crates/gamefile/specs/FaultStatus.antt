@@ -2,19 +2,27 @@
 use Rattle.std.specs.Prelude.{ℕ, Bool, true, false}
 use Rattle.gf_token.specs.declared.fault.Why.{Why}
 use Rattle.gf_token.specs.declared.fault.Why.TheVariants as why
+use Rattle.gf_form.specs.declared.fault.FormFault.{FormFault}
+use Rattle.gf_form.specs.declared.fault.FormFault.TheVariants as form
 use Rattle.gamefile.specs.declared.fault.RunFault.{RunFault}
-use Rattle.gamefile.specs.declared.fault.RunFault.TheVariants.{Refused, Read, Write, Memory}
+use Rattle.gamefile.specs.declared.fault.RunFault.TheVariants.{Refused, Read, Write, Form, Memory}
 
 -- the exit status of a refusal
 abbrev pub refusal_status : Why → ℕ
 refusal_status why.Memory = 5
 refusal_status _ = 2
 
+-- the exit status where a game has no table
+abbrev pub form_status : FormFault → ℕ
+form_status form.Memory = 5
+form_status _ = 2
+
 -- the exit status of a fault
 abbrev pub status_of : RunFault → ℕ
 status_of (Refused which fault) = refusal_status fault.why
 status_of (Read which) = 4
 status_of Write = 4
+status_of (Form fault) = form_status fault
 status_of Memory = 5
 
 -- the exit status where two files mean the same, and where they differ

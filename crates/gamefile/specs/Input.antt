@@ -5,7 +5,7 @@ use Rattle.std.specs.declared.io.Error.{Error}
 use Rattle.gf_token.specs.declared.fault.Fault.{Fault}
 use Rattle.gf_token.specs.declared.fault.Why.TheVariants.{TooLong}
 use Rattle.gamefile.specs.declared.fault.RunFault.{RunFault}
-use Rattle.gamefile.specs.declared.fault.RunFault.TheVariants.{Refused, Read, Write, Memory}
+use Rattle.gamefile.specs.declared.fault.RunFault.TheVariants.{Refused, Read, Write, Form, Memory}
 use Rattle.gamefile.specs.declared.fault.Which.{Which}
 use Rattle.gamefile.specs.Failures.{HasRisen}
 use Rattle.gamefile.specs.Turns.{GivesUp, Moves, Transfers}
@@ -76,4 +76,5 @@ module _ {S : Type 0} (remaining : S → Option (List ℕ)) (count : S → ℕ)
       (which ≡ input) × (fault ≡ too_long) × IsTooLong remaining gives old new
   IsNotRead input (Read which) old new = (which ≡ input) × IsReadFault old new
   IsNotRead input Write old new = ⊥
+  IsNotRead input (Form fault) old new = ⊥
   IsNotRead input Memory old new = IsReadInPart remaining gives old new

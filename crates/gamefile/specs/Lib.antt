@@ -3,6 +3,8 @@ pub mod Failures
 pub mod FaultLine
 pub mod FaultStatus
 pub mod FileKinds
+pub mod FormFaults
+pub mod FormText
 pub mod Input
 pub mod Output
 pub mod Run

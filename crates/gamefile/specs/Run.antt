@@ -3,7 +3,7 @@ use Rattle.std.specs.Prelude.{◌≡◌, ℕ, ◌⊎◌, List, Option, Result}
 use Rattle.std.specs.declared.io.Error.{Error}
 use Rattle.gf_token.specs.declared.fault.Fault.{Fault}
 use Rattle.gamefile.specs.declared.fault.RunFault.{RunFault}
-use Rattle.gamefile.specs.declared.fault.RunFault.TheVariants.{Refused, Read, Write, Memory}
+use Rattle.gamefile.specs.declared.fault.RunFault.TheVariants.{Refused, Read, Write, Form, Memory}
 use Rattle.gamefile.specs.declared.fault.Which.{Which}
 use Rattle.gamefile.specs.Input.{IsReadFault, IsReadInPart, IsReadWhole, IsTooLong, too_long}
 
@@ -36,4 +36,5 @@ module _ {S : Type 0} (remaining : S → Option (List ℕ)) (count : S → ℕ)
       (which ≡ input) × IsReadFault remaining count gives old new
   ReadsUntil IsRefusal input Write old new =
       (bytes : List ℕ) × IsReadWhole remaining gives old new bytes
+  ReadsUntil IsRefusal input (Form fault) old new = ⊥
   ReadsUntil IsRefusal input Memory old new = IsReadInPart remaining gives old new

@@ -3,7 +3,7 @@ use Rattle.std.specs.Prelude.{◌≡◌, ℕ, List, Option, Result}
 use Rattle.std.specs.declared.io.Error.{Error}
 use Rattle.gf_canon.specs.Judgement.{IsRefusedWith, MeansFile}
 use Rattle.gamefile.specs.declared.fault.RunFault.{RunFault}
-use Rattle.gamefile.specs.declared.fault.RunFault.TheVariants.{Refused, Read, Write, Memory}
+use Rattle.gamefile.specs.declared.fault.RunFault.TheVariants.{Refused, Read, Write, Form, Memory}
 use Rattle.gamefile.specs.declared.fault.Which.TheVariants.{Only, First, Second}
 use Rattle.gamefile.specs.Input.{IsNotRead, IsReadWhole}
 
@@ -26,6 +26,7 @@ IsFaultOfFiles a b (Refused Second fault) = MeansFile a × IsRefusedWith b fault
 IsFaultOfFiles a b (Refused Only fault) = ⊥
 IsFaultOfFiles a b (Read which) = ⊥
 IsFaultOfFiles a b Write = MeansFile a × MeansFile b
+IsFaultOfFiles a b (Form fault) = ⊥
 IsFaultOfFiles a b Memory = MeansFile a × MeansFile b
 
 -- of two readers: the bytes that each has left, where it tells them, its count of failures, and

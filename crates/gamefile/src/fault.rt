@@ -2,10 +2,12 @@
 
 ghost use Rattle.std.specs.Prelude.{◌≡◌};
 ghost use Rattle.gamefile.specs.FaultStatus.{answer_status, status_of};
+ghost use Rattle.gamefile.specs.FormFaults.{form_fault};
 ghost use Rattle.gamefile.specs.SameFaults.{fault_of};
 ghost use Rattle.gamefile.specs.declared.fault.RunFault.TheVariants.{Memory, Write};
 
 use gf_canon::SameFault;
+use gf_form::FormFault;
 use gf_token::{Fault, Why};
 use std::alloc::AllocError;
 use thiserror::Error;
@@ -33,6 +35,9 @@ pub enum RunFault {
     /// The writer failed.
     #[error("the output could not be written")]
     Write,
+    /// A game has no table. For want of memory it is `Memory` below that a run answers.
+    #[error("the game has no table")]
+    Form(FormFault),
     /// Memory ran out.
     #[error("memory ran out")]
     Memory,
@@ -64,6 +69,17 @@ impl From<SameFault> for RunFault {
     }
 }
 
+impl From<FormFault> for RunFault {
+    ghost from_gives = { λ form fault. fault ≡ form_fault form };
+
+    fn from(form: FormFault) -> RunFault {
+        match form {
+            FormFault::Memory => RunFault::Memory,
+            form => RunFault::Form(form),
+        }
+    }
+}
+
 /// The writer failed.
 #[derive(Clone, Copy, Debug, PartialEq, Eq, Hash, Error)]
 #[error("the text could not be written")]
@@ -77,7 +93,7 @@ impl From<WriteFault> for RunFault {
     }
 }
 
-/// The exit status of a fault: 2 for a refusal, 4 where a reader or the writer failed, and 5 for
+/// The exit status of a fault: 2 for a refusal, of a game without a table too, 4 where a reader or the writer failed, and 5 for
 /// want of memory.
 pub fn status(fault: &RunFault) -> u8
     ensures { result ≡ status_of fault.now }
@@ -87,8 +103,9 @@ pub fn status(fault: &RunFault) -> u8
             Why::Memory => 5,
             _ => 2,
         },
+        RunFault::Form(FormFault::TooManyProfiles | FormFault::Overflow { .. }) => 2,
         RunFault::Read(_) | RunFault::Write => 4,
-        RunFault::Memory => 5,
+        RunFault::Form(FormFault::Memory) | RunFault::Memory => 5,
     }
 }
 

@@ -4,7 +4,7 @@
 pub const VERSION: &str = "gamefile 1.0.0";
 
 pub const ABOUT: &str =
-    "Read game files of Gambit: write each game in one spelling, and compare games";
+    "Read game files of Gambit: write each game in one spelling or as a table, and compare games";
 
 pub const AFTER: &str = "\
 A game file is extensive (.efg) and holds a tree, or strategic (.nfg) and holds
@@ -14,7 +14,8 @@ standard input is written. 'gamefile help canon' tells more of canon.
 Exit status:
   0  done; of same: the files are the same
   1  of same: the files are different
-  2  a file is refused; standard error has a code and a place, as E4 at 40..43
+  2  a file is refused; standard error has a code and a place, as E4 at 40..43;
+     or a tree has no table, and standard error says why
   3  wrong usage
   4  a file cannot be opened or read (E20), or the output not written (E21)
   5  want of memory (E19)
@@ -46,6 +47,20 @@ place. The status is 0, or 2 for a refused file.
 
 Example:
   gamefile check game.nfg";
+
+pub const TABLE: &str = "Write the strategic form of a game";
+
+pub const AFTER_TABLE: &str = "\
+Prints the tree as a strategic file in canonical text: a strategy is an action
+at each information set of its player, as 1-2, in order of first use, and each
+profile of strategies has its expected payoffs, exactly. A strategic file is
+printed as by canon. A refused file is answered as by canon. A tree with more
+than 1048576 profiles has the line 'too many profiles', and one whose payoffs
+are past the bounds of numbers 'overflow at profile 2', as an example; then
+nothing is printed, and the status is 2.
+
+Example:
+  gamefile table game.efg > game.nfg";
 
 pub const SAME: &str = "Say whether two game files mean the same game";
 

@@ -1,5 +1,5 @@
 //! `gamefile` reads game files of Gambit: it writes the canonical text of a game, tells what a file
-//! holds, and tells whether two files mean the same.
+//! holds, writes a tree as a table, and tells whether two files mean the same.
 #![tactic(auto)]
 
 use arguments::job_asked;
@@ -25,6 +25,7 @@ mod same;
 mod same_text;
 mod sink;
 mod source;
+mod table;
 mod turns;
 mod words;
 
@@ -46,6 +47,10 @@ fn perform(rt: &HostRuntime, job: &Job) -> Result<u8, RunFault> {
         }
         Job::Check(input) => {
             check::run_check(alloc, &mut open_input(rt, input)?, &mut output)?;
+            Ok(0)
+        }
+        Job::Table(input) => {
+            table::run_table(alloc, &mut open_input(rt, input)?, &mut output)?;
             Ok(0)
         }
         Job::Same { a, b, map, names } => {

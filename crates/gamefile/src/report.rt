@@ -7,6 +7,7 @@ ghost use Rattle.gamefile.specs.Output.{IsWriteFault, IsWritten};
 use crate::fault::{RunFault, Which, WriteFault};
 use crate::line::Line;
 use crate::sink::{Sink, push_all};
+use gf_form::FormFault;
 
 /// What a line about an input begins with.
 fn label(which: Which) -> &'static [u8]
@@ -40,13 +41,19 @@ fn line_of(fault: &RunFault) -> Line
             line.push(b"E20\n");
         }
         RunFault::Write => line.push(b"E21\n"),
-        RunFault::Memory => line.push(b"E19\n"),
+        RunFault::Form(FormFault::TooManyProfiles) => line.push(b"too many profiles\n"),
+        RunFault::Form(FormFault::Overflow { profile }) => {
+            line.push(b"overflow at profile ");
+            line.push_number(*profile as usize);
+            line.push(b"\n");
+        }
+        RunFault::Form(FormFault::Memory) | RunFault::Memory => line.push(b"E19\n"),
     }
     line
 }
 
 /// Writes the line of a fault: its code, the place of a refusal in bytes, and in front the input,
-/// `A: ` or `B: `, where it is one of two. It takes no memory.
+/// `A: ` or `B: `, where it is one of two; or why a game has no table. It takes no memory.
 ///
 /// Where the writer fails, a front of the line has gone out.
 pub fn write_fault<W: Sink>(fault: &RunFault, output: &mut W) -> Result<(), WriteFault>

@@ -7,6 +7,7 @@ use crate::report::write_fault;
 use crate::run::run_canon;
 use crate::sink::Sink;
 use crate::source::{LIMIT, Source};
+use crate::table::run_table;
 use gf_token::{Fault, Span, What, Why};
 use script::{
     ALL, INTERRUPTED, ScriptReader, ScriptWriter, Spaces, Step, interrupted_steps, steps,
@@ -19,6 +20,7 @@ mod canon;
 mod check;
 mod same;
 mod script;
+mod table;
 mod trees;
 mod words;
 
@@ -29,13 +31,14 @@ const INPUT: &[u8] = b"NFG 1 R \"\" { } { }";
 enum Run {
     Canon,
     Check,
+    Table,
 }
 
 impl Run {
     /// What it writes of `INPUT`.
     fn output(self) -> &'static [u8] {
         match self {
-            Run::Canon => b"NFG 1 R \"\" { }\n{ }\n\"\"\n\n\n",
+            Run::Canon | Run::Table => b"NFG 1 R \"\" { }\n{ }\n\"\"\n\n\n",
             Run::Check => b"table\n",
         }
     }
@@ -49,11 +52,12 @@ impl Run {
         match self {
             Run::Canon => run_canon(alloc, input, output),
             Run::Check => run_check(alloc, input, output).map(|_| ()),
+            Run::Table => run_table(alloc, input, output),
         }
     }
 }
 
-const RUNS: [Run; 2] = [Run::Canon, Run::Check];
+const RUNS: [Run; 3] = [Run::Canon, Run::Check, Run::Table];
 
 /// What a run answered, what it wrote, and how many failures its reader and its writer counted.
 #[derive(Drop)]
@@ -89,7 +93,11 @@ fn outcome_of(alloc: Global, run: Run, reads: &[Step], writes: &[Step]) -> Outco
 #[test]
 fn goes_on_after_short_and_interrupted_answers(rt: HostRuntime) -> Result<(), Fail> {
     let alloc = rt.alloc();
-    for (run, write_failures) in [(Run::Canon, 15 * 24), (Run::Check, 15 * 6)] {
+    for (run, write_failures) in [
+        (Run::Canon, 15 * 24),
+        (Run::Check, 15 * 6),
+        (Run::Table, 15 * 24),
+    ] {
         let text = run.output();
         // One more read finds the end.
         let reads = interrupted_steps(alloc, INPUT.len() + 1)?;

@@ -25,6 +25,8 @@ pub enum Job {
     Canon(Input),
     /// What a file holds.
     Check(Input),
+    /// The strategic form of a tree, or a table as it is.
+    Table(Input),
     /// Whether the files of these names mean the same; with the renumbering where `map` is true.
     Same {
         a: String,
@@ -92,6 +94,13 @@ fn check<'a>(alloc: Global) -> Result<Command<'a>, AllocError> {
     )
 }
 
+fn table<'a>(alloc: Global) -> Result<Command<'a>, AllocError> {
+    on_one_file(
+        command(alloc, "table", help::TABLE, help::AFTER_TABLE),
+        alloc,
+    )
+}
+
 fn with_same_options<'a>(command: Command<'a>, alloc: Global) -> Result<Command<'a>, AllocError> {
     let no_names = flag(alloc, "no-names", help::NO_NAMES).conflicts_with("map")?;
     command.arg(flag(alloc, "map", help::MAP))?.arg(no_names)
@@ -110,6 +119,7 @@ fn gamefile<'a>(alloc: Global) -> Result<Command<'a>, AllocError> {
         .bin_name("gamefile")?
         .subcommand(canon(alloc)?)?
         .subcommand(check(alloc)?)?
+        .subcommand(table(alloc)?)?
         .subcommand(same(alloc)?)
 }
 
@@ -142,6 +152,7 @@ fn same_of(alloc: Global, matches: &ArgMatches<'_>) -> Result<Job, AllocError> {
 fn job_of(alloc: Global, matches: &ArgMatches<'_>) -> Result<Job, AllocError> {
     match matches.subcommand() {
         Some(("check", inner)) => Ok(Job::Check(input_of(alloc, inner)?)),
+        Some(("table", inner)) => Ok(Job::Table(input_of(alloc, inner)?)),
         Some(("same", inner)) => same_of(alloc, inner),
         Some((_, inner)) => Ok(Job::Canon(input_of(alloc, inner)?)),
         None => Ok(Job::Canon(Input::Standard)),
@@ -158,7 +169,8 @@ fn fault_of(alloc: Global, error: &Error) -> Result<WordsFault, AllocError> {
 }
 
 /// What the words behind the program's name ask for: `canon [FILE]`, `check [FILE]`,
-/// `same [--map | --no-names] A B`, or none of these, which is `canon` of standard input.
+/// `table [FILE]`, `same [--map | --no-names] A B`, or none of these, which is `canon` of standard
+/// input.
 ///
 /// - `Help`: the words ask for help, as `--help` does, or `help`, behind a command too.
 /// - `Usage`: they are no such words.

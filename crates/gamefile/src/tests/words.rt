@@ -15,7 +15,7 @@ fn asked(alloc: Global, words: &[&str]) -> Result<String, AllocError> {
 
 #[test]
 fn ask_for_jobs(rt: HostRuntime) -> Result<(), AllocError> {
-    let rows: [(&[&str], &str); 16] = [
+    let rows: [(&[&str], &str); 18] = [
         (&[], "Canon(Standard)"),
         (&["canon"], "Canon(Standard)"),
         (&["canon", "a.efg"], "Canon(File(\"a.efg\"))"),
@@ -25,6 +25,8 @@ fn ask_for_jobs(rt: HostRuntime) -> Result<(), AllocError> {
         (&["canon", "--", "--map"], "Canon(File(\"--map\"))"),
         (&["check"], "Check(Standard)"),
         (&["check", "a.efg"], "Check(File(\"a.efg\"))"),
+        (&["table"], "Table(Standard)"),
+        (&["table", "a.efg"], "Table(File(\"a.efg\"))"),
         (
             &["same", "a", "b"],
             "Same { a: \"a\", b: \"b\", map: false, names: Kept }",
@@ -62,7 +64,7 @@ fn ask_for_jobs(rt: HostRuntime) -> Result<(), AllocError> {
 
 #[test]
 fn are_wrong(rt: HostRuntime) -> Result<(), AllocError> {
-    let rows: [&[&str]; 19] = [
+    let rows: [&[&str]; 20] = [
         &["same"],
         &["same", "a"],
         &["same", "a", "b", "c"],
@@ -73,6 +75,7 @@ fn are_wrong(rt: HostRuntime) -> Result<(), AllocError> {
         &["canon", "--map", "a"],
         &["check", "--no-names"],
         &["check", "-x"],
+        &["table", "a", "b"],
         &["tree"],
         &["a.efg"],
         &["Canon"],
@@ -91,12 +94,13 @@ fn are_wrong(rt: HostRuntime) -> Result<(), AllocError> {
 
 #[test]
 fn ask_for_help(rt: HostRuntime) -> Result<(), AllocError> {
-    let rows: [&[&str]; 9] = [
+    let rows: [&[&str]; 10] = [
         &["--help"],
         &["-h"],
         &["help"],
         &["canon", "--help"],
         &["check", "-h"],
+        &["table", "--help"],
         &["same", "--help"],
         &["help", "canon"],
         &["help", "same"],

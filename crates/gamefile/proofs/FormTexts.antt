@@ -1,0 +1,40 @@
+-- What is written of a file as a table, and why nothing is.
+use Rattle.std.proofs.Common.{◌≡◌, ℕ, zero, suc, List, Some, subst, sym, ◌∙◌, IsErrAnd, Result, Ok, Err}
+use Rattle.std.specs.List.{Contains}
+use Rattle.std.proofs.lemmas.List.Elements.{Contains-get_or}
+use Rattle.std.proofs.lemmas.Option.{get_or_from_slice_get, slice_get_within}
+use Rattle.gf_token.specs.Positions.{at_position}
+use Rattle.gf_tree.specs.Game.{Game}
+use Rattle.gf_canon.specs.GameFile.GameFile.{extensive}
+use Rattle.gf_form.specs.Refusal.{HasTooManyProfiles, HasValues, OverflowsAt}
+use Rattle.gf_form.specs.Strategies.{full_profiles}
+use Rattle.gf_form.specs.declared.fault.FormFault.{FormFault}
+use Rattle.gf_form.specs.declared.fault.FormFault.TheVariants as form
+use Rattle.gamefile.specs.FormText.{IsWithoutForm}
+use Rattle.gamefile.specs.declared.fault.RunFault.{RunFault}
+use Rattle.gamefile.specs.declared.fault.RunFault.TheVariants.{Write}
+
+-- what stands at a position is in the list
+found_there : {A : Type 0} (xs : List A) (position : ℕ) (x : A)
+    → at_position xs position ≡ Some x → Contains xs x
+found_there xs zero x there = absurd cc
+found_there xs (suc k) x there = subst (Contains xs) (get_or_from_slice_get xs k x x there)
+    (Contains-get_or xs k x (slice_get_within xs k x there))
+
+-- nothing stands against the form of a game with few profiles and a value at each
+pub nothing_against : (g : Game) → ¬ (HasTooManyProfiles g)
+    → ((profile : List ℕ) → Contains (full_profiles g) profile → HasValues g profile)
+    → (fault : FormFault) → ¬ (IsWithoutForm (extensive g) fault)
+nothing_against g few values form.TooManyProfiles many = few many
+nothing_against g few values (form.Overflow position) against =
+    let o : OverflowsAt g position = against.1 in
+    o.overflows (values o.profile (found_there (full_profiles g) position o.profile o.there))
+nothing_against g few values form.Memory never = never
+
+-- a fault before writing is no fault of the writer
+pub not_of_writer : {A : Type 0} (r : Result A RunFault) (fault : RunFault) (X : Type 0)
+    → IsErrAnd r (λ e. e ≡ fault) → (fault ≡ Write → ⊥) → r ≡ Err Write → X
+not_of_writer (Ok x) fault X is before e = absurd is
+not_of_writer (Err same) fault X is before e =
+    let write : same ≡ Write = cc in
+    absurd (before (sym is ∙ write))

@@ -1,0 +1,24 @@
+use Rattle.gf_canon.specs.MeaningOf.{file_of}
+use Rattle.gamefile.specs.FormText.{IsFaultOfBytes}
+use Rattle.gamefile.specs.declared.fault.RunFault.TheVariants.{Memory}
+use Rattle.gamefile.proofs.Errors.{IfErr-only}
+use Rattle.gamefile.proofs.FewPlayers.{few_players}
+use Rattle.gamefile.proofs.table.form_text.Goals as goal
+
+pub table_of-requires : goal.table_of-requires
+table_of-requires c =
+    few_players c.args.bytes.now (file_of c.in-Ok.meaning) c.requires c.in-Ok.ensures.spelled
+
+pub returns-in_err-write_nfg-clause-fault : goal.returns-in_err-write_nfg-clause-fault
+returns-in_err-write_nfg-clause-fault c = IfErr-only _ Memory
+    (IsFaultOfBytes c.args.bytes.now) c.from_residual-in_err-write_nfg.ensures.1
+    (file_of c.in-Ok.meaning, c.in-Ok.ensures.spelled, tt)
+
+pub returns-clause-text : goal.returns-clause-text
+returns-clause-text c = record {
+  file = file_of c.in-Ok.meaning;
+  spelled = c.in-Ok.ensures.spelled;
+  table = c.in_ok-table.table;
+  is_form = c.in_ok-table.ensures.form;
+  is_text = rw c.new-text.ensures.items at c.in_ok-write_nfg.ensures.ok;
+}

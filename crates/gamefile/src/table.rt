@@ -1,0 +1,79 @@
+//! The run that writes a game as a table: its strategic form.
+
+ghost use Rattle.std.specs.Prelude.{◌≡◌, ◌≢◌, ◌≤◌, IfErr, IfOk, OnOk, length};
+ghost use Rattle.gf_canon.specs.MeaningOf.{file_of};
+ghost use Rattle.gamefile.specs.FormText.{IsFaultOfBytes, IsFormFault, IsFormOf, IsFormText};
+ghost use Rattle.gamefile.specs.FormText.{HasFewPlayers, ReadsFormUntil};
+ghost use Rattle.gamefile.specs.Input.{IsReadWhole, limit};
+ghost use Rattle.gamefile.specs.Output.{IsWriteFault, IsWritten};
+ghost use Rattle.gamefile.specs.Run.{Answers};
+
+use crate::fault::{RunFault, Which};
+use crate::sink::{Sink, push_all};
+use crate::source::{Source, load};
+use gf_canon::{Meaning, read_file};
+use gf_form::table;
+use gf_nfg::{Table, write_nfg};
+use std::alloc::Global;
+
+/// The strategic form of a tree, or the table of a strategic file.
+fn table_of(alloc: Global, meaning: Meaning<'_>) -> Result<Table, RunFault>
+    requires { HasFewPlayers (file_of meaning) }
+    ensures form { IfOk result (λ t. IsFormOf (file_of meaning.entry) t) }
+    ensures fault { IfErr result (IsFormFault (file_of meaning.entry)) }
+    ensures before_writing { IfErr result (λ fault. fault ≢ RunFault.Write) }
+{
+    match meaning {
+        Meaning::Tree(game) => Ok(table(alloc, &game)?),
+        Meaning::Table(table) => Ok(table),
+    }
+}
+
+/// The canonical text of the strategic form of a tree, or of a table.
+fn form_text(alloc: Global, bytes: &[u8]) -> Result<Vec<u8>, RunFault>
+    requires { length bytes.now ≤ limit }
+    ensures text { IfOk result (λ text. IsFormText bytes.now text.items) }
+    ensures fault { IfErr result (IsFaultOfBytes bytes.now) }
+    ensures before_writing { IfErr result (λ fault. fault ≢ RunFault.Write) }
+{
+    let meaning = match read_file(alloc, bytes) {
+        Ok(meaning) => meaning,
+        Err(fault) => {
+            let which = Which::Only;
+            return Err(RunFault::Refused { which, fault });
+        }
+    };
+    let table = table_of(alloc, meaning)?;
+    let mut text = Vec::new(alloc);
+    write_nfg(&table, &mut text)?;
+    Ok(text)
+}
+
+/// Writes the strategic form of the tree that it reads, as a strategic file in canonical text; of a
+/// strategic file its canonical text.
+///
+/// Reads, writes and refuses as `run_canon` does. Beside its faults come:
+/// - `Form` with `TooManyProfiles`: the tree has more than 1,048,576 profiles.
+/// - `Form` with `Overflow`: there are no more, and at this profile, counted from 1, and at none
+///   before it the bottom-up value of some player is not defined.
+/// - `Memory`: also where memory ran out for the strategic form or the text.
+pub fn run_table<R: Source, W: Sink>(
+    alloc: Global,
+    input: &mut R,
+    output: &mut W,
+) -> Result<(), RunFault>
+    ensures done { OnOk result (Answers IsFormText
+        (IsReadWhole R.remaining R.pull_gives input.old input.new)
+        (IsWritten W.contents W.push_gives output.old output.new)) }
+    ensures refused { IfErr result (λ fault. ReadsFormUntil
+        R.remaining R.count R.pull_gives fault input.old input.new) }
+    ensures untouched { IfErr result (λ fault. fault ≢ RunFault.Write → output.new ≡ output.old) }
+    ensures cut_off { result ≡ Err RunFault.Write → Answers IsFormText
+        (IsReadWhole R.remaining R.pull_gives input.old input.new)
+        (IsWriteFault W.contents W.count W.push_gives output.old output.new) }
+{
+    let bytes = load(alloc, input, Which::Only)?;
+    let text = form_text(alloc, &bytes)?;
+    push_all(output, text.as_slice())?;
+    Ok(())
+}
