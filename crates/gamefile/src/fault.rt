@@ -93,8 +93,8 @@ impl From<WriteFault> for RunFault {
     }
 }
 
-/// The exit status of a fault: 2 for a refusal, of a game without a table too, 4 where a reader or the writer failed, and 5 for
-/// want of memory.
+/// The exit status of a fault: 2 for a refusal, and for a game that has no table; 4 where a reader or
+/// the writer failed; and 5 for want of memory.
 pub fn status(fault: &RunFault) -> u8
     ensures { result ≡ status_of fault.now }
 {
