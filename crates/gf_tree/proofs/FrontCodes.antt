@@ -69,7 +69,7 @@ refused why = Err why
 abbrev pub BeginsBare : List Token → Type 0
 BeginsBare front = (letter : List ℕ) × (rest : List Token) × (front ≡ Bare letter ∷ rest)
 
-begins_on : (front first others : List Token) → BeginsBare first → front ≡ first ++ others
+pub begins_on : (front first others : List Token) → BeginsBare first → front ≡ first ++ others
     → BeginsBare front
 begins_on front first others h e =
     (h.0, h.1 ++ others, e ∙ ap (λ (ts : List Token). ts ++ others) h.2)

@@ -126,6 +126,15 @@ abbrev pub IsKnownStep : Content → Option (Use SetKey InformationSet) → Type
 IsKnownStep c set = MatchOption set (Unit {0}) (λ u. MatchOption u.description
     ((d : InformationSet) × (description_at same_set c.sets u.key ≡ Some d)) (λ d. Unit {0}))
 
+-- where the set of a node is described, or there is none
+pub record AtTold (c : Content) (front : List Token) : Type 0 where
+  pub b : Begun
+  pub content : Content
+  pub players : content.players ≡ c.players
+  pub outcomes : content.outcomes ≡ c.outcomes
+  pub answers : (us : List Token) → run_tokens NodeDue c (front ++ us)
+      ≡ run_tokens (OutcomeNumber b) content us
+
 -- where a bare token stands next
 pub record AtOutcome (c : Content) (front : List Token) : Type 0 where
   pub b : Begun
@@ -175,7 +184,7 @@ described_step : (front : List Token) (u : Use SetKey InformationSet) (d : Infor
     (c : Content) (behind inner : List Token)
     → front ≡ (behind ++ Text d.name ∷ Opening ∷ inner) ++ Closing ∷ []
     → InActions (behind ++ Text d.name ∷ Opening ∷ inner) u.key d → GoesOn c front
-    → AtOutcome c front
+    → AtTold c front
 described_step front u d c behind inner e h g =
     let listed = behind ++ Text d.name ∷ Opening ∷ inner in
     let first = λ (us : List Token). regroup front listed (Closing ∷ []) us e in
@@ -189,8 +198,8 @@ described_step front u d c behind inner e h g =
             content = with_set c u.key d;
             players = refl;
             outcomes = refl;
-            answers = λ t us. ap (run_tokens NodeDue c) (first (Bare t ∷ us))
-                ∙ n.answers (Closing ∷ Bare t ∷ us) ∙ f.answers (Bare t ∷ us);
+            answers = λ us. ap (run_tokens NodeDue c) (first us) ∙ n.answers (Closing ∷ us)
+                ∙ f.answers us;
           }
       | inr k ↦
           let b = begun k.name u.key k.known in
@@ -202,8 +211,8 @@ described_step front u d c behind inner e h g =
             content = c;
             players = refl;
             outcomes = refl;
-            answers = λ t us. ap (run_tokens NodeDue c) (first (Bare t ∷ us))
-                ∙ k.answers (Closing ∷ Bare t ∷ us) ∙ f (Bare t ∷ us);
+            answers = λ us.
+                ap (run_tokens NodeDue c) (first us) ∙ k.answers (Closing ∷ us) ∙ f us;
           }
     ]
 
@@ -217,6 +226,61 @@ undescribed_step front key d c known h = record {
   outcomes = refl;
   answers = λ t us. h.answers (Bare t ∷ us)
       ∙ ap (λ o. run_tokens (behind_set h.name key o) c (Bare t ∷ us)) known;
+}
+
+described_by : (front : List Token) (u : Use SetKey InformationSet) (d : InformationSet)
+    (c : Content) (letter name : List ℕ) (mover description : List Token) (number : List ℕ)
+    → front ≡ Bare letter ∷ Text name ∷ (mover ++ Bare number ∷ description)
+    → IsMover letter mover u.key.player → IsPositive number u.key.number
+    → IsInformationSet u.key.player description d → GoesOn c front → AtTold c front
+described_by front u d c letter name mover description number e moves positive h g =
+    let to_set = Bare letter ∷ Text name ∷ mover in
+    let behind = to_set ++ Bare number ∷ [] in
+    let listed = behind ++ Text d.name ∷ Opening ∷ h.0 in
+    let whole : front ≡ listed ++ Closing ∷ [] = e
+    ∙ ap (λ (ts : List Token). to_set ++ Bare number ∷ ts) h.1
+    ∙ sym (append_assoc to_set (Bare number ∷ []) (Text d.name ∷ Opening ∷ (h.0 ++ Closing ∷ [])))
+    ∙ sym (append_assoc behind (Text d.name ∷ Opening ∷ h.0) (Closing ∷ [])) in
+    described_step front u d c behind h.0 whole (
+      behind,
+      h.0,
+      refl,
+      (to_set, number, refl, (letter, name, mover, refl, moves), positive),
+      h.2,
+    ) g
+
+terminal_step : (front : List Token) (c : Content) → ToOutcomeNumber front None → GoesOn c front
+    → AtTold c front
+terminal_step front c h g =
+    let whole : front ≡ Bare h.0 ∷ Text h.1 ∷ [] =
+    h.3 ∙ ap (λ (ts : List Token). Bare h.0 ∷ Text h.1 ∷ ts) h.4.1 in
+    let due = due_is c front (Text h.1 ∷ []) h.0 g whole in
+    record {
+      b = record { name = h.1; set = None; children = 0 };
+      content = c;
+      players = refl;
+      outcomes = refl;
+      answers = λ us. ap (λ (ts : List Token). run_tokens NodeDue c (ts ++ us)) whole
+          ∙ terminal_again h.0 us h.1 due.0 c h.4.0 due.1;
+    }
+
+pub to_told : (front : List Token) (set : Option (Use SetKey InformationSet)) (c : Content)
+    → ToOutcomeNumber front set
+    → MatchOption set (Unit {0}) (λ u. (d : InformationSet) × (u.description ≡ Some d))
+    → GoesOn c front → AtTold c front
+to_told front None c h told g = terminal_step front c h g
+to_told front (Some u) c h told g =
+    described_by front u told.0 c h.0 h.1 h.4.0 h.4.2 h.4.1
+    (h.3 ∙ ap (λ (ts : List Token). Bare h.0 ∷ Text h.1 ∷ ts) h.4.3) h.4.4 h.4.5
+    (subst (IsDescription (IsInformationSet u.key.player) h.4.2) told.1 h.4.6) g
+
+told_outcome : (c : Content) (front : List Token) → AtTold c front → AtOutcome c front
+told_outcome c front h = record {
+  b = h.b;
+  content = h.content;
+  players = h.players;
+  outcomes = h.outcomes;
+  answers = λ t us. h.answers (Bare t ∷ us);
 }
 
 step_by : (front : List Token) (u : Use SetKey InformationSet) (o : Option InformationSet)
@@ -237,36 +301,12 @@ step_by front u None c letter name mover description number is e moves positive 
       positive,
     ) g)
 step_by front u (Some d) c letter name mover description number is e moves positive h known g =
-    let to_set = Bare letter ∷ Text name ∷ mover in
-    let behind = to_set ++ Bare number ∷ [] in
-    let listed = behind ++ Text d.name ∷ Opening ∷ h.0 in
-    let whole : front ≡ listed ++ Closing ∷ [] = e
-    ∙ ap (λ (ts : List Token). to_set ++ Bare number ∷ ts) h.1
-    ∙ sym (append_assoc to_set (Bare number ∷ []) (Text d.name ∷ Opening ∷ (h.0 ++ Closing ∷ [])))
-    ∙ sym (append_assoc behind (Text d.name ∷ Opening ∷ h.0) (Closing ∷ [])) in
-    described_step front u d c behind h.0 whole (
-      behind,
-      h.0,
-      refl,
-      (to_set, number, refl, (letter, name, mover, refl, moves), positive),
-      h.2,
-    ) g
+    told_outcome c front
+    (described_by front u d c letter name mover description number e moves positive h g)
 
 pub to_outcome : (front : List Token) (set : Option (Use SetKey InformationSet)) (c : Content)
     → ToOutcomeNumber front set → IsKnownStep c set → GoesOn c front → AtOutcome c front
-to_outcome front None c h known g =
-    let whole : front ≡ Bare h.0 ∷ Text h.1 ∷ [] =
-    h.3 ∙ ap (λ (ts : List Token). Bare h.0 ∷ Text h.1 ∷ ts) h.4.1 in
-    let due = due_is c front (Text h.1 ∷ []) h.0 g whole in
-    record {
-      b = record { name = h.1; set = None; children = 0 };
-      content = c;
-      players = refl;
-      outcomes = refl;
-      answers = λ t us.
-          ap (λ (ts : List Token). run_tokens NodeDue c (ts ++ Bare t ∷ us)) whole
-          ∙ terminal_again h.0 (Bare t ∷ us) h.1 due.0 c h.4.0 due.1;
-    }
+to_outcome front None c h known g = told_outcome c front (terminal_step front c h g)
 to_outcome front (Some u) c h known g =
     step_by front u u.description c h.0 h.1 h.4.0 h.4.2 h.4.1 refl
     (h.3 ∙ ap (λ (ts : List Token). Bare h.0 ∷ Text h.1 ∷ ts) h.4.3) h.4.4 h.4.5 h.4.6 known g
@@ -303,7 +343,7 @@ known_use front u None c letter name mover description number t whole is e moves
     (sym (ap (run_tokens NodeDue c) (regroup whole front (Bare t ∷ []) g.more f)
     ∙ k.answers (Bare t ∷ g.more)) ∙ g.reads)
 
-known_step_of : (front : List Token) (set : Option (Use SetKey InformationSet)) (c : Content)
+pub known_step_of : (front : List Token) (set : Option (Use SetKey InformationSet)) (c : Content)
     (t : List ℕ) (whole : List Token) → ToOutcomeNumber front set → whole ≡ front ++ Bare t ∷ []
     → GoesOn c whole → IsKnownStep c set
 known_step_of front None c t whole h f g = tt

@@ -36,7 +36,7 @@ record NewPaid (may : Bool) (b : Begun) (n : ℕ) (outcome : Outcome) (payoffs :
       ≡ run_tokens (new_at behind b n (with_payoffs outcome payoffs) rest) c us
 
 -- a number stands only where one is left
-some_left : (may : Bool) (b : Begun) (n : ℕ) (outcome : Outcome) (left : ℕ) (t : List ℕ)
+pub some_left : (may : Bool) (b : Begun) (n : ℕ) (outcome : Outcome) (left : ℕ) (t : List ℕ)
     (us : List Token) (c r : Content) → Reads (new_at may b n outcome left) c (Bare t ∷ us) r
     → (k : ℕ) × (left ≡ suc k)
 some_left true b n outcome zero t us c r e = absurd cc
@@ -121,7 +121,7 @@ behind_known_comma comma ps c (inr e) = (
 )
 
 -- the next payoff of a known outcome
-known_next : (may : Bool) (known : List Ratio) (t : List ℕ) (p : Ratio) (us : List Token)
+pub known_next : (may : Bool) (known : List Ratio) (t : List ℕ) (p : Ratio) (us : List Token)
     (c r : Content) → IsNumber t p → Reads (known_at may known) c (Bare t ∷ us) r
     → (rest : List Ratio) × (known ≡ p ∷ rest)
 known_next true [] t p us c r is e = absurd cc
@@ -169,6 +169,7 @@ known_paid (p ∷ payoffs) known may inner more c r each e =
 pub record AtNewPayoff (c : Content) (front : List Token) (n : ℕ) (outcome : Outcome) : Type 0 where
   pub b : Begun
   pub content : Content
+  pub players : content.players ≡ c.players
   pub may : Bool
   pub left : ℕ
   pub unknown : description_at nat_eq c.outcomes n ≡ None
@@ -179,6 +180,7 @@ pub record AtNewPayoff (c : Content) (front : List Token) (n : ℕ) (outcome : O
 pub record AtKnownPayoff (c : Content) (front : List Token) (n : ℕ) (outcome : Outcome)
     : Type 0 where
   pub content : Content
+  pub players : content.players ≡ c.players
   pub may : Bool
   pub known : Outcome
   pub is_known : description_at nat_eq c.outcomes n ≡ Some known
@@ -203,6 +205,7 @@ paid_by front n outcome c h None unknown k g =
     inl (record {
       b = k.b;
       content = k.content;
+      players = k.players;
       may = f.behind;
       left = f.rest;
       unknown = unknown;
@@ -221,6 +224,7 @@ paid_by front n outcome c h (Some known) is_known k g =
     let f = known_paid outcome.payoffs known.payoffs false h.1 g.more content g.read h.4 name.1 in
     inr (record {
       content = content;
+      players = k.players;
       may = f.behind;
       known = known;
       is_known = is_known;

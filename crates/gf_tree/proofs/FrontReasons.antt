@@ -77,7 +77,7 @@ no_test b h k = cc
 
 -- ---- numbers
 
-spells_fault : (b : List ℕ) (fault : NumberFault) → number_of b ≡ Err fault → HasNumberFault b fault
+pub spells_fault : (b : List ℕ) (fault : NumberFault) → number_of b ≡ Err fault → HasNumberFault b fault
 spells_fault b fault e = subst (Spelled b) e (number_is_computed b)
 
 pub fault_own : (before after : List Token) (b : List ℕ) (fault : NumberFault)
@@ -103,7 +103,7 @@ same_own wanted s b (Ok found) before after e h other =
 pub no_positive : (b : List ℕ) → count_of b ≡ None → (n : ℕ) → ¬ (IsPositive b n)
 no_positive b e n h = let k = count_again b n h.1 h.0 in absurd cc
 
-no_index : (b : List ℕ) → index_of b ≡ None → (n : ℕ) → ¬ (IsIndex b n)
+pub no_index : (b : List ℕ) → index_of b ≡ None → (n : ℕ) → ¬ (IsIndex b n)
 no_index b e n h = let k = index_again b n h in absurd cc
 
 pub player_own : (c : Content) (name b : List ℕ) (o : Option ℕ) (before after : List Token)

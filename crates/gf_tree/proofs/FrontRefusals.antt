@@ -215,15 +215,15 @@ other_name_of_set players nodes before front label key known ends reads knows h 
     (at (KnownSetOpening (begun b.name key known) known.actions) c) other)
 
 -- in the braces of a known set the machine asks for what is left of it
-record KnownLeft (before front : List Token) (known seen : InformationSet) : Type 0 where
-  content : Content
-  b : Begun
-  others : List Action
-  parts : known.actions ≡ seen.actions ++ others
-  answers : (us : List Token) → run_tokens Format nothing (before ++ us)
+pub record KnownLeft (before front : List Token) (known seen : InformationSet) : Type 0 where
+  pub content : Content
+  pub b : Begun
+  pub others : List Action
+  pub parts : known.actions ≡ seen.actions ++ others
+  pub answers : (us : List Token) → run_tokens Format nothing (before ++ us)
       ≡ run_tokens (KnownAction b others) content us
 
-known_left : (players : List (List ℕ)) (nodes : List FileNode) (before front : List Token)
+pub known_left : (players : List (List ℕ)) (nodes : List FileNode) (before front : List Token)
     (key : SetKey) (known seen : InformationSet) → EndsInNode before players nodes front
     → ReadsOn before → KnowsSet nodes key known → InActions front key seen
     → KnownLeft before front known seen

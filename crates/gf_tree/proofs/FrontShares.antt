@@ -47,7 +47,7 @@ sums_once sum (p ∷ ps) (q ∷ qs) total machine some e h k =
     sums_once h.1.0 ps qs total machine h.1.1.den_above_zero (ap (drop 1) e) h.1.3
     (subst (λ (x : Ratio). AddsShares x qs machine) next k.2.2)
 
-same_sum : (set : InformationSet) (total machine : Ratio) → HasSum set total
+pub same_sum : (set : InformationSet) (total machine : Ratio) → HasSum set total
     → HaveSumFrom 0 (whole (pos 0)) set.actions machine → machine ≡ total
 same_sum set total machine h k = sums_once (whole (pos 0)) h.0 k.0 total machine (omega arith)
     (sym h.1 ∙ k.1) h.2 k.2

@@ -80,6 +80,13 @@ pub mod FrontDue
 pub mod FrontReasons
 pub mod FrontOwned
 pub mod FrontJudged
+pub mod DueRows
+pub mod DueLaws
+pub mod DueHeading
+pub mod DueNodes
+pub mod DueActions
+pub mod DueOutcomes
+pub mod DuePayoffs
 pub mod RefusedOnce
 pub mod Telling
 pub mod ToldGames

@@ -18,7 +18,7 @@ use Rattle.gf_token.specs.declared.fault.Why.{Why}
 use Rattle.gf_token.specs.declared.fault.Why.TheVariants.{SumAboveOne, NegativeProbability}
 use Rattle.gf_tree.specs.Probability.{Share, share_of, share_by, up_to_one}
 
-abbrev ok_share : Share → Result Share Why
+abbrev pub ok_share : Share → Result Share Why
 ok_share s = Ok s
 
 not_negative : (z : ℤ) → int_lt z (pos 0) ≡ false → pos 0 ≤ℤ z

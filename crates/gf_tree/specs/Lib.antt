@@ -38,6 +38,8 @@ pub mod PrefixOrder
 pub mod Probability
 pub mod ReadGame
 pub mod Reason
+pub mod RowPlaces
+pub mod Rows
 pub mod Renumbering
 pub mod Seeded
 pub mod Sentence

@@ -1,5 +1,7 @@
 //! Laws of the definitions, each as the contract of a function that does nothing.
 
+pub mod rows;
+
 ghost use Rattle.std.specs.Prelude.{◌≡◌, ◌↔◌, ◌⊎◌, Bool, Decides, List, [], ◌∷◌, ℕ, map, nat_eq};
 ghost use Rattle.std.specs.List.{AllByRecursion};
 ghost use Rattle.gf_token.specs.Token.{Token};

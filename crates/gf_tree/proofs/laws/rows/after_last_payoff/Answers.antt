@@ -1,0 +1,5 @@
+use Rattle.gf_tree.proofs.DuePayoffs.{after_last_payoff}
+use Rattle.gf_tree.proofs.laws.rows.after_last_payoff.Goals as goal
+
+pub returns : goal.returns
+returns c = after_last_payoff

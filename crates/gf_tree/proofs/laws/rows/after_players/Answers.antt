@@ -1,0 +1,5 @@
+use Rattle.gf_tree.proofs.DueHeading.{after_players}
+use Rattle.gf_tree.proofs.laws.rows.after_players.Goals as goal
+
+pub returns : goal.returns
+returns c = after_players

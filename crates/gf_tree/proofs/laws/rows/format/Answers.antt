@@ -1,0 +1,5 @@
+use Rattle.gf_tree.proofs.DueHeading.{format}
+use Rattle.gf_tree.proofs.laws.rows.format.Goals as goal
+
+pub returns : goal.returns
+returns c = format

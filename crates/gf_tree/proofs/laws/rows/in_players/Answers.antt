@@ -1,0 +1,5 @@
+use Rattle.gf_tree.proofs.DueHeading.{player_names}
+use Rattle.gf_tree.proofs.laws.rows.in_players.Goals as goal
+
+pub returns : goal.returns
+returns c = player_names

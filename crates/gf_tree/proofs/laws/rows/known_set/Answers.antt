@@ -1,0 +1,5 @@
+use Rattle.gf_tree.proofs.DueNodes.{known_set}
+use Rattle.gf_tree.proofs.laws.rows.known_set.Goals as goal
+
+pub returns : goal.returns
+returns c = known_set

@@ -1,0 +1,5 @@
+use Rattle.gf_tree.proofs.DueHeading.{letter}
+use Rattle.gf_tree.proofs.laws.rows.letter.Goals as goal
+
+pub returns : goal.returns
+returns c = letter

@@ -1,0 +1,5 @@
+use Rattle.gf_tree.proofs.DueOutcomes.{new_outcome}
+use Rattle.gf_tree.proofs.laws.rows.new_outcome.Goals as goal
+
+pub returns : goal.returns
+returns c = new_outcome

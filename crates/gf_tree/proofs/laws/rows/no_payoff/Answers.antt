@@ -1,0 +1,5 @@
+use Rattle.gf_tree.proofs.DuePayoffs.{no_payoff}
+use Rattle.gf_tree.proofs.laws.rows.no_payoff.Goals as goal
+
+pub returns : goal.returns
+returns c = no_payoff

@@ -1,0 +1,5 @@
+use Rattle.gf_tree.proofs.DueNodes.{node_name}
+use Rattle.gf_tree.proofs.laws.rows.node_name.Goals as goal
+
+pub returns : goal.returns
+returns c = node_name

@@ -1,0 +1,5 @@
+use Rattle.gf_tree.proofs.DueOutcomes.{outcome_opening}
+use Rattle.gf_tree.proofs.laws.rows.outcome_opening.Goals as goal
+
+pub returns : goal.returns
+returns c = outcome_opening

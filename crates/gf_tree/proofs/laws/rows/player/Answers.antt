@@ -1,0 +1,5 @@
+use Rattle.gf_tree.proofs.DueNodes.{player}
+use Rattle.gf_tree.proofs.laws.rows.player.Goals as goal
+
+pub returns : goal.returns
+returns c = player

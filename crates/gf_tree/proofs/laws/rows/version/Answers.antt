@@ -1,0 +1,5 @@
+use Rattle.gf_tree.proofs.DueHeading.{version}
+use Rattle.gf_tree.proofs.laws.rows.version.Goals as goal
+
+pub returns : goal.returns
+returns c = version

@@ -1,0 +1,108 @@
+-- The table of positions of extensive files: the tokens that stand before each of its rows.
+use Rattle.std.specs.Prelude.{◌≡◌, ℕ, ◌⊎◌, List, [], ◌∷◌, ◌++◌, codes, map}
+use Rattle.std.specs.Prelude.{Option, Some, MatchOption}
+use Rattle.gf_fraction.specs.Ratio.{Ratio}
+use Rattle.gf_fraction.specs.NumberSpelling.{IsNumber}
+use Rattle.gf_token.specs.Token.{Token}
+use Rattle.gf_token.specs.Token.Token.{Opening, Closing, Comma, Text, Bare}
+use Rattle.gf_token.specs.Index.{IsIndex}
+use Rattle.gf_token.specs.Place.{Begins}
+use Rattle.gf_tree.specs.Description.{InformationSet, Outcome, SetKey}
+use Rattle.gf_tree.specs.FileTree.{Use, FileNode}
+use Rattle.gf_tree.specs.Front.{BehindOutcomeNumber, BehindSetNumber, EndsInNode, InPayoffs}
+use Rattle.gf_tree.specs.Front.{IsExtensiveFile, ToOutcomeNumber}
+
+-- ---- the heading
+
+-- `EFG` `2` letter
+abbrev pub ToTitle : List Token → Type 0
+ToTitle before = (letter : List ℕ) × ((letter ≡ codes "R") ⊎ (letter ≡ codes "D"))
+    × (before ≡ Bare (codes "EFG") ∷ Bare (codes "2") ∷ Bare letter ∷ [])
+
+-- the title too
+abbrev pub ToPlayers : List Token → Type 0
+ToPlayers before = (first : List Token) × (title : List ℕ) × ToTitle first
+    × (before ≡ first ++ Text title ∷ [])
+
+-- the opening brace too, and these players
+abbrev pub InPlayers : List Token → List (List ℕ) → Type 0
+InPlayers before players = (first : List Token) × ToPlayers first
+    × (before ≡ first ++ Opening ∷ map Text players)
+
+-- the closing brace too
+abbrev pub BehindPlayers : List Token → List (List ℕ) → Type 0
+BehindPlayers before players = (first : List Token) × InPlayers first players
+    × (before ≡ first ++ Closing ∷ [])
+
+-- the comment too
+abbrev pub BehindComment : List Token → List (List ℕ) → Type 0
+BehindComment before players = (first : List Token) × (comment : List ℕ)
+    × BehindPlayers first players × (before ≡ first ++ Text comment ∷ [])
+
+-- ---- in a node
+
+-- some file begins with these tokens: a heading, whole nodes, and the front of the next node
+pub record FileFront : Type 0 where
+  pub before : List Token
+  pub players : List (List ℕ)
+  pub nodes : List FileNode
+  pub front : List Token
+  pub begins : Begins IsExtensiveFile before
+  pub ends : EndsInNode before players nodes front
+
+-- the letter; the node's name is next
+abbrev pub BehindLetter : List Token → Type 0
+BehindLetter front = (letter : List ℕ) × (front ≡ Bare letter ∷ [])
+
+-- the name of a set
+abbrev pub BehindSetName : List Token → SetKey → Type 0
+BehindSetName front key = (first : List Token) × (name : List ℕ) × BehindSetNumber first key
+    × (front ≡ first ++ Text name ∷ [])
+
+-- a node without a set, or behind the description of its set
+abbrev pub BehindSet : List Token → Type 0
+BehindSet front = (set : Option (Use SetKey InformationSet)) × ToOutcomeNumber front set
+    × MatchOption set (Unit {0}) (λ u. (d : InformationSet) × (u.description ≡ Some d))
+
+-- the outcome number 0
+abbrev pub BehindZero : List Token → Type 0
+BehindZero front = (first : List Token) × (set : Option (Use SetKey InformationSet))
+    × (bytes : List ℕ) × ToOutcomeNumber first set × IsIndex bytes 0
+    × (front ≡ first ++ Bare bytes ∷ [])
+
+-- the name of an outcome
+abbrev pub BehindOutcomeName : List Token → ℕ → Type 0
+BehindOutcomeName front number = (first : List Token) × (name : List ℕ)
+    × BehindOutcomeNumber first number × (front ≡ first ++ Text name ∷ [])
+
+-- ---- payoffs
+
+-- the opening brace of an outcome's payoffs
+abbrev pub BehindOpening : List Token → ℕ → Type 0
+BehindOpening front number = (first : List Token) × BehindOutcomeName first number
+    × (front ≡ first ++ Opening ∷ [])
+
+-- these payoffs, and no comma behind the last
+abbrev pub BehindPayoff : List Token → ℕ → List Ratio → Type 0
+BehindPayoff front number payoffs = (first : List Token) × (seen : Outcome) × (bytes : List ℕ)
+    × (p : Ratio) × InPayoffs first number seen × IsNumber bytes p
+    × (front ≡ first ++ Bare bytes ∷ []) × (payoffs ≡ seen.payoffs ++ p ∷ [])
+
+-- these payoffs, and a comma
+abbrev pub BehindComma : List Token → ℕ → List Ratio → Type 0
+BehindComma front number payoffs = (first : List Token) × BehindPayoff first number payoffs
+    × (front ≡ first ++ Comma ∷ [])
+
+-- no payoff yet, or these and a comma
+abbrev pub ToPayoff : List Token → ℕ → List Ratio → Type 0
+ToPayoff front number payoffs =
+    (BehindOpening front number × (payoffs ≡ [])) ⊎ BehindComma front number payoffs
+
+-- the description of an outcome, whole
+abbrev pub BehindPayoffs : List Token → Type 0
+BehindPayoffs front = (first : List Token) × (number : ℕ) × (outcome : Outcome)
+    × InPayoffs first number outcome × (front ≡ first ++ Closing ∷ [])
+
+-- the number 0 or the description of an outcome: the node is whole
+abbrev pub BehindNode : List Token → Type 0
+BehindNode front = BehindZero front ⊎ BehindPayoffs front
