@@ -87,6 +87,8 @@ pub mod DueNodes
 pub mod DueActions
 pub mod DueOutcomes
 pub mod DuePayoffs
+pub mod DueLast
+pub mod DueCovered
 pub mod RefusedOnce
 pub mod Telling
 pub mod ToldGames

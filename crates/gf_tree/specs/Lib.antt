@@ -43,6 +43,7 @@ pub mod Rows
 pub mod Renumbering
 pub mod Seeded
 pub mod Sentence
+pub mod SomeRow
 pub mod Skipped
 pub mod SmallNumbers
 pub mod Spellable

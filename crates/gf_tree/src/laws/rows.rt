@@ -5,6 +5,7 @@ ghost use Rattle.std.specs.Prelude.{◌≡◌, ◌<◌, ◌⊎◌, List, [], ◌
 ghost use Rattle.gf_fraction.specs.Ratio.{Ratio};
 ghost use Rattle.gf_token.specs.Token.{Token};
 ghost use Rattle.gf_token.specs.Token.Token.{Bare};
+ghost use Rattle.gf_token.specs.Place.{Begins};
 ghost use Rattle.gf_token.specs.declared.fault.What.TheVariants as what;
 ghost use Rattle.gf_tree.specs.Description.{Action, InformationSet, Outcome, SetKey, set_of};
 ghost use Rattle.gf_tree.specs.Front.{BehindOutcomeNumber, BehindSetNumber, InActions};
@@ -20,6 +21,12 @@ ghost use Rattle.gf_tree.specs.Rows.{a_new_branch, a_node, a_payoff, a_player, a
 ghost use Rattle.gf_tree.specs.Rows.{a_probability, a_set, a_text, a_word, an_end, an_opening};
 ghost use Rattle.gf_tree.specs.Rows.{an_outcome, no_label, or_comma, or_name, or_text};
 ghost use Rattle.gf_tree.specs.Rows.{this_label, this_number};
+ghost use Rattle.gf_tree.specs.SomeRow.{IsBeforeRow};
+
+/// Tokens that some file begins with stand before one of the rows.
+pub fn some_row()
+    ensures { (before : List Token) → Begins IsExtensiveFile before → IsBeforeRow before }
+{}
 
 /// The first token.
 pub fn format()
