@@ -78,6 +78,13 @@ const NOBODY_TEXT: &[u8] = b"EFG 2 R \"\" { }
 t \"\" 0
 ";
 
+/// A text and its continuation.
+fn joined(alloc: Global, before: &[u8], behind: &[u8]) -> Result<Vec<u8>, AllocError> {
+    let mut text = Vec::from_slice(alloc, before)?;
+    text.extend_from_slice(behind)?;
+    Ok(text)
+}
+
 /// The text of a game by its own numbers.
 fn text_of(alloc: Global, game: &Game<'_>) -> Result<Vec<u8>, AllocError> {
     let mut text = Vec::new(alloc);

@@ -1,10 +1,10 @@
 //! Extensive files as they are read, the games of them, and where they are refused.
 
-use super::{BONUS, FIVE};
+use super::{BONUS, FIVE, joined};
 use gf_fraction::Fraction;
 use gf_token::{Fault, Label};
-use gf_tree::read_efg;
-use std::alloc::{AllocError, Global};
+use gf_tree::{Game, read_efg};
+use std::alloc::Global;
 use std::process::Abort;
 
 mod files;
@@ -26,11 +26,9 @@ fn fraction(rt: &impl Abort, num: i128, den: u128) -> Fraction {
     Fraction::new(num, den).expect(rt, "a fraction")
 }
 
-/// A text and its continuation.
-fn joined(alloc: Global, before: &[u8], behind: &[u8]) -> Result<Vec<u8>, AllocError> {
-    let mut text = Vec::from_slice(alloc, before)?;
-    text.extend_from_slice(behind)?;
-    Ok(text)
+/// The game of a file.
+fn read<'a>(rt: &impl Abort, alloc: Global, file: &'a [u8]) -> Game<'a> {
+    read_efg(alloc, file).expect(rt, "an extensive file")
 }
 
 /// The refusal of a file, `None` where it is read.

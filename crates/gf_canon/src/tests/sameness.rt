@@ -1,9 +1,11 @@
 //! Which files are the same, and how two files are refused.
 
 use super::{COPY_TEXT, FIVE, FIVE_TEXT, NOBODY};
-use crate::{Meaning, Names, SameFault, read_file, renumbering, same, same_by};
+use crate::{Meaning, Names, Renumbering, SameFault, read_file, renumbering, same, same_by};
 use gf_token::{Fault, Span, What, Why};
 use gf_tree::read_efg;
+use std::alloc::{AllocError, Global};
+use std::process::Abort;
 use std::test::Fail;
 
 /// `FIVE` by other numbers.
@@ -85,27 +87,42 @@ const TABLES: [(&[u8], &[u8], bool, bool); 3] = [
     (SELTEN, NOBODY, false, false),
 ];
 
+/// Asserts whether two files are the same, and whether they are so aside from names.
+fn assert_same(rt: &impl Abort, alloc: Global, first: &[u8], second: &[u8], answers: (bool, bool)) {
+    let (kept, aside) = answers;
+    let answer = same(alloc, first, second);
+    assert_eq!(rt; answer, Ok(kept), "{first:?} and {second:?}");
+    let answer = same_by(alloc, first, second, Names::Kept);
+    assert_eq!(rt; answer, Ok(kept), "{first:?} and {second:?}");
+    let answer = same_by(alloc, first, second, Names::Aside);
+    assert_eq!(rt; answer, Ok(aside), "{first:?} and {second:?}");
+}
+
 #[test]
 fn tells_which_files_are_the_same(rt: HostRuntime) {
     for (a, b, kept, aside) in TREES.iter().chain(TABLES.iter()).copied() {
-        for (first, second) in [(a, b), (b, a)] {
-            let answer = same(rt.alloc(), first, second);
-            assert_eq!(rt; answer, Ok(kept), "{first:?} and {second:?}");
-            let answer = same_by(rt.alloc(), first, second, Names::Kept);
-            assert_eq!(rt; answer, Ok(kept), "{first:?} and {second:?}");
-            let answer = same_by(rt.alloc(), first, second, Names::Aside);
-            assert_eq!(rt; answer, Ok(aside), "{first:?} and {second:?}");
-        }
+        assert_same(&rt, rt.alloc(), a, b, (kept, aside));
+        assert_same(&rt, rt.alloc(), b, a, (kept, aside));
     }
+}
+
+/// The renumbering between the games of two files.
+fn found(
+    rt: &impl Abort,
+    alloc: Global,
+    first: &[u8],
+    second: &[u8],
+) -> Result<Option<Renumbering>, AllocError> {
+    let g = read_efg(alloc, first).expect(rt, "an extensive file");
+    let h = read_efg(alloc, second).expect(rt, "an extensive file");
+    renumbering(alloc, &g, &h)
 }
 
 #[test]
 fn renumbers_games_that_are_the_same(rt: HostRuntime) -> Result<(), Fail> {
     for (a, b, kept, _) in TREES {
         for (first, second) in [(a, b), (b, a)] {
-            let g = read_efg(rt.alloc(), first).expect(&rt, "an extensive file");
-            let h = read_efg(rt.alloc(), second).expect(&rt, "an extensive file");
-            let found = renumbering(rt.alloc(), &g, &h)?;
+            let found = found(&rt, rt.alloc(), first, second)?;
             assert_eq!(rt; found.is_some(), kept, "{first:?} and {second:?}");
         }
     }
@@ -114,9 +131,7 @@ fn renumbers_games_that_are_the_same(rt: HostRuntime) -> Result<(), Fail> {
 
 #[test]
 fn gives_the_new_numbers(rt: HostRuntime) -> Result<(), Fail> {
-    let g = read_efg(rt.alloc(), FIVE).expect(&rt, "an extensive file");
-    let h = read_efg(rt.alloc(), COPY).expect(&rt, "an extensive file");
-    let found = renumbering(rt.alloc(), &g, &h)?.expect(&rt, "a renumbering");
+    let found = found(&rt, rt.alloc(), FIVE, COPY)?.expect(&rt, "a renumbering");
     let sets = [
         (0, 9, Some(2)),
         (1, 7, Some(3)),
@@ -150,6 +165,13 @@ fn fault(start: usize, end: usize, why: Why) -> Fault {
     }
 }
 
+/// Asserts that two files are not compared, for this cause.
+fn assert_not_compared(rt: &impl Abort, alloc: Global, a: &[u8], b: &[u8], refusal: SameFault) {
+    assert_eq!(rt; same(alloc, a, b), Err(refusal));
+    assert_eq!(rt; same_by(alloc, a, b, Names::Kept), Err(refusal));
+    assert_eq!(rt; same_by(alloc, a, b, Names::Aside), Err(refusal));
+}
+
 #[test]
 fn refuses_the_first_file_and_then_the_second(rt: HostRuntime) {
     let empty = fault(0, 0, Why::Expected(What::Format));
@@ -167,9 +189,6 @@ fn refuses_the_first_file_and_then_the_second(rt: HostRuntime) {
         (renamed, NOBODY, SameFault::First(other_name)),
     ];
     for (a, b, refusal) in files {
-        for names in [Names::Kept, Names::Aside] {
-            assert_eq!(rt; same_by(rt.alloc(), a, b, names), Err(refusal));
-        }
-        assert_eq!(rt; same(rt.alloc(), a, b), Err(refusal));
+        assert_not_compared(&rt, rt.alloc(), a, b, refusal);
     }
 }

@@ -1,7 +1,8 @@
 //! Files that are read.
 
-use super::{BONUS, FIVE, label, refusal};
-use gf_tree::read_efg;
+use super::{BONUS, FIVE, read, refusal};
+use std::alloc::Global;
+use std::process::Abort;
 
 /// Files as they stand in examples.
 const ROWS: [&[u8]; 12] = [
@@ -58,14 +59,16 @@ c \"\" 5 \"k\" { \"n\" 1 } 0 t \"\" 0",
     b"EFG 2 R \"\" { } c \"\" 7 \"\" { \"\" 1 } 0 c \"\" 7 7 \"\" { } t \"\" 7",
 ];
 
+fn assert_read(rt: &impl Abort, alloc: Global, files: &[&[u8]]) {
+    for file in files.iter().copied() {
+        assert_eq!(rt; refusal(alloc, file), None, "of {file:?}");
+    }
+}
+
 #[test]
 fn reads_files(rt: HostRuntime) {
-    for file in ROWS {
-        assert_eq!(rt; refusal(rt.alloc(), file), None, "of {file:?}");
-    }
-    for file in OTHERS {
-        assert_eq!(rt; refusal(rt.alloc(), file), None, "of {file:?}");
-    }
+    assert_read(&rt, rt.alloc(), &ROWS);
+    assert_read(&rt, rt.alloc(), &OTHERS);
 }
 
 #[test]
@@ -78,7 +81,7 @@ fn keeps_titles_as_they_are_spelled(rt: HostRuntime) {
         (b"EFG 2 R \"a\n\xffb\" { } t \"\" 0", b"a\n\xffb"),
     ];
     for (file, title) in rows {
-        let game = read_efg(rt.alloc(), file).expect(&rt, "a file");
-        assert_eq!(rt; game.title(), label(&rt, title));
+        let game = read(&rt, rt.alloc(), file);
+        assert_eq!(rt; game.title().raw(), title);
     }
 }

@@ -1,10 +1,11 @@
 //! Deep trees.
 
-use super::{joined, refusal};
+use super::{joined, read, refusal};
 use crate::canonical;
 use gf_token::{Fault, Why};
-use gf_tree::read_efg;
+use gf_tree::Game;
 use std::alloc::{AllocError, Global};
+use std::process::Abort;
 use std::test::Fail;
 
 /// A file in which the player moves so many times, one move below the other.
@@ -20,19 +21,24 @@ fn chain(alloc: Global, moves: usize) -> Result<Vec<u8>, AllocError> {
     Ok(file)
 }
 
+/// Asserts that each of so many nodes has one child, and that there is one more node, without any.
+fn assert_chain(rt: &impl Abort, game: &Game<'_>, moves: usize) {
+    let mut branch = game.root();
+    for left in 0..moves {
+        assert_eq!(rt; branch.children(), 1, "above {left}");
+        branch = branch.child(1).expect(rt, "a child");
+    }
+    assert_eq!(rt; branch.children(), 0);
+}
+
 #[test]
 fn reads_a_tree_of_any_depth(rt: HostRuntime) -> Result<(), Fail> {
     for moves in [1, 511, 512, 100_000, 1_500_000] {
         let file = chain(rt.alloc(), moves)?;
-        let game = read_efg(rt.alloc(), &file).expect(&rt, "a file");
+        let game = read(&rt, rt.alloc(), &file);
         assert_eq!(rt; game.set_count(1), 1);
-        let mut branch = game.root();
-        for left in 0..moves {
-            assert_eq!(rt; branch.children(), 1, "above {left}");
-            branch = branch.child(1).expect(&rt, "a child");
-        }
-        assert_eq!(rt; branch.children(), 0);
         assert_eq!(rt; game.nodes().len().checked_sub(1), Some(moves));
+        assert_chain(&rt, &game, moves);
     }
     Ok(())
 }

@@ -1,7 +1,8 @@
 //! The nodes of games that were read, in prefix order and as a tree.
 
-use super::{BONUS, FIVE, label};
-use gf_tree::{Branch, Game, Node, Step, read_efg};
+use super::{BONUS, FIVE, label, read};
+use gf_tree::{Branch, Game, Node, Step};
+use std::alloc::Global;
 use std::process::Abort;
 
 /// The nodes of `FIVE` in prefix order: how many are left, what happens there, and the number of
@@ -41,27 +42,28 @@ const BONUS_BRANCHES: [(&[usize], usize); 7] = [
 
 /// Asserts that a game has these nodes, and no names at them.
 pub(super) fn assert_nodes(rt: &impl Abort, game: &Game<'_>, wanted: &[(usize, Step, u32)]) {
+    let name = label(rt, b"");
     let mut nodes = game.nodes();
     for (left, step, outcome) in wanted.iter().copied() {
+        assert_eq!(rt;
+            (nodes.len(), nodes.size_hint()),
+            (left, (left, Some(left)))
+        );
         let node = Node {
-            name: label(rt, b""),
+            name,
             step,
             outcome,
         };
-        assert_eq!(rt; nodes.len(), left);
-        assert_eq!(rt; nodes.size_hint(), (left, Some(left)));
         assert_eq!(rt; nodes.next(), Some(node), "where {left} are left");
     }
-    assert_eq!(rt; nodes.len(), 0);
-    assert_eq!(rt; nodes.next(), None);
-    assert_eq!(rt; nodes.next(), None);
+    assert_eq!(rt; (nodes.len(), nodes.next(), nodes.next()), (0, None, None));
 }
 
 #[test]
 fn gives_nodes_in_prefix_order(rt: HostRuntime) {
-    let five = read_efg(rt.alloc(), FIVE).expect(&rt, "a file");
+    let five = read(&rt, rt.alloc(), FIVE);
     assert_nodes(&rt, &five, &FIVE_NODES);
-    let bonus = read_efg(rt.alloc(), BONUS).expect(&rt, "a file");
+    let bonus = read(&rt, rt.alloc(), BONUS);
     assert_nodes(&rt, &bonus, &BONUS_NODES);
 }
 
@@ -74,19 +76,39 @@ fn reached<'g, 'a>(game: &'g Game<'a>, way: &[usize]) -> Option<Branch<'g, 'a>> 
     Some(branch)
 }
 
+/// Whether a branch has children at the positions 0 to 3 and at the last one.
+fn child_positions(branch: &Branch<'_, '_>) -> [bool; 5] {
+    [
+        branch.child(0).is_some(),
+        branch.child(1).is_some(),
+        branch.child(2).is_some(),
+        branch.child(3).is_some(),
+        branch.child(usize::MAX).is_some(),
+    ]
+}
+
+/// Asserts that the branch on a way from the root has this node, and so many children, none or two.
+fn assert_branch(
+    rt: &impl Abort,
+    game: &Game<'_>,
+    way: &[usize],
+    node: Option<Node<'_>>,
+    children: usize,
+) {
+    let branch = reached(game, way).expect(rt, "a branch");
+    assert_eq!(rt; Some(branch.node()), node, "at {way:?}");
+    assert_eq!(rt; branch.children(), children, "at {way:?}");
+    let two = children == 2;
+    let positions = [false, two, two, false, false];
+    assert_eq!(rt; child_positions(&branch), positions, "at {way:?}");
+}
+
 #[test]
 fn gives_each_node_its_branches(rt: HostRuntime) {
-    let game = read_efg(rt.alloc(), BONUS).expect(&rt, "a file");
+    let game = read(&rt, rt.alloc(), BONUS);
     let mut nodes = game.nodes();
     for (way, children) in BONUS_BRANCHES {
-        let branch = reached(&game, way).expect(&rt, "a branch");
-        assert_eq!(rt; Some(branch.node()), nodes.next(), "at {way:?}");
-        assert_eq!(rt; branch.children(), children, "at {way:?}");
-        for i in [0, 3, usize::MAX] {
-            assert!(rt; branch.child(i).is_none());
-        }
-        assert_eq!(rt; branch.child(1).is_some(), children == 2, "at {way:?}");
-        assert_eq!(rt; branch.child(2).is_some(), children == 2, "at {way:?}");
+        assert_branch(&rt, &game, way, nodes.next(), children);
     }
     assert_eq!(rt; nodes.next(), None);
 }
@@ -113,35 +135,47 @@ const FIVE_MOVERS: [(&[usize], Option<(u32, u32)>, u32); 7] = [
     (&[2, 1], None, 1),
 ];
 
-#[test]
-fn gives_movers_and_outcomes_by_position(rt: HostRuntime) {
-    for (file, movers) in [(BONUS, BONUS_MOVERS), (FIVE, FIVE_MOVERS)] {
-        let game = read_efg(rt.alloc(), file).expect(&rt, "a file");
-        for (way, mover, outcome) in movers {
-            let branch = reached(&game, way).expect(&rt, "a branch");
-            assert_eq!(rt; branch.mover(), mover, "at {way:?}");
-            assert_eq!(rt; branch.outcome_position(), outcome, "at {way:?}");
-            assert_eq!(rt; branch.actions().len(), branch.children(), "at {way:?}");
-        }
+/// Asserts who moves at the nodes on some ways from the root of a file, and the positions of their
+/// outcomes.
+fn assert_movers(
+    rt: &impl Abort,
+    alloc: Global,
+    file: &[u8],
+    movers: &[(&[usize], Option<(u32, u32)>, u32)],
+) {
+    let game = read(rt, alloc, file);
+    for (way, mover, outcome) in movers.iter().copied() {
+        let branch = reached(&game, way).expect(rt, "a branch");
+        let found = (branch.mover(), branch.outcome_position());
+        assert_eq!(rt; found, (mover, outcome), "at {way:?}");
+        assert_eq!(rt; branch.actions().len(), branch.children(), "at {way:?}");
     }
 }
 
 #[test]
+fn gives_movers_and_outcomes_by_position(rt: HostRuntime) {
+    assert_movers(&rt, rt.alloc(), BONUS, &BONUS_MOVERS);
+    assert_movers(&rt, rt.alloc(), FIVE, &FIVE_MOVERS);
+}
+
+/// Asserts that the branches below that on a way from the root are its children in turn, so many.
+fn assert_branches_below(rt: &impl Abort, game: &Game<'_>, way: &[usize], children: usize) {
+    let branch = reached(game, way).expect(rt, "a branch");
+    let mut below = branch.child_branches();
+    for before in 0..children {
+        assert_eq!(rt; below.given(), before);
+        let next = below.next().map(|branch| branch.node());
+        let child = branch.child(before.saturating_add(1));
+        assert_eq!(rt; next, child.map(|branch| branch.node()), "below {way:?}");
+    }
+    assert!(rt; below.next().is_none());
+}
+
+#[test]
 fn gives_the_branches_below_a_node(rt: HostRuntime) {
-    let game = read_efg(rt.alloc(), BONUS).expect(&rt, "a file");
+    let game = read(&rt, rt.alloc(), BONUS);
     for (way, children) in BONUS_BRANCHES {
-        let branch = reached(&game, way).expect(&rt, "a branch");
-        let mut below = branch.child_branches();
-        for before in 0..children {
-            assert_eq!(rt; below.given(), before);
-            let child = branch.child(before.saturating_add(1));
-            assert_eq!(rt;
-                below.next().map(|branch| branch.node()),
-                child.map(|branch| branch.node()),
-                "below {way:?}"
-            );
-        }
-        assert!(rt; below.next().is_none());
+        assert_branches_below(&rt, &game, way, children);
     }
 }
 
@@ -151,7 +185,7 @@ fn keeps_the_names_of_nodes(rt: HostRuntime) {
 p \"w\" 1 1 \"k\" { \"L\" \"R\" } 0
 t \"x\" 1 \"v\" { 5 }
 t \"say \\\"hi\\\"\" 1";
-    let game = read_efg(rt.alloc(), file).expect(&rt, "a file");
+    let game = read(&rt, rt.alloc(), file);
     let mut nodes = game.nodes();
     let names: [&[u8]; 3] = [b"w", b"x", b"say \\\"hi\\\""];
     for name in names {

@@ -1,8 +1,9 @@
 //! Sets and outcomes with small numbers and large ones, and sets that have the same actions.
 
-use super::{fraction, label};
-use gf_tree::{read_efg, same_actions};
+use super::{fraction, label, read};
+use gf_tree::{Game, same_actions};
 use std::alloc::{AllocError, Global};
+use std::process::Abort;
 use std::test::Fail;
 
 /// The numbers of sets and of outcomes by their positions, with the label of each set's action.
@@ -34,28 +35,59 @@ fn chain(alloc: Global) -> Result<Vec<u8>, AllocError> {
     Ok(file)
 }
 
+/// Asserts that the set with a number has it in its name, and one action with this label.
+fn assert_set(
+    rt: &impl Abort,
+    alloc: Global,
+    game: &Game<'_>,
+    number: u32,
+    action: &str,
+) -> Result<(), AllocError> {
+    let (name, actions) = game.infoset(1, number).expect(rt, "a set");
+    let wanted = format!(in alloc; "set {number}")?;
+    assert_eq!(rt; name.raw(), wanted.as_bytes());
+    assert_eq!(rt; actions.len(), 1);
+    let only = actions.first().expect(rt, "an action");
+    assert_eq!(rt; only.label.raw(), action.as_bytes());
+    Ok(())
+}
+
+/// Asserts that the outcome with a number pays it.
+fn assert_paid(rt: &impl Abort, game: &Game<'_>, number: u32) {
+    let (_, payoffs) = game.outcome(number).expect(rt, "an outcome");
+    let payoff = fraction(rt, i128::from(number), 1);
+    assert_eq!(rt; payoffs, [payoff].as_slice());
+}
+
+/// Asserts that the game has sets of the player and outcomes by these numbers, and how many.
+fn assert_numbers(rt: &impl Abort, game: &Game<'_>) {
+    assert_eq!(rt;
+        (game.set_count(1), game.outcome_count()),
+        (NUMBERS.len(), NUMBERS.len())
+    );
+    for (position, number, _) in NUMBERS {
+        let numbers = (game.set_number(1, position), game.outcome_number(position));
+        assert_eq!(rt; numbers, (Some(number), Some(number)));
+    }
+}
+
+/// Asserts that neither a set of the player nor an outcome has this number.
+fn assert_unknown(rt: &impl Abort, game: &Game<'_>, number: u32) {
+    assert!(rt; game.infoset(1, number).is_none(), "at {number}");
+    assert!(rt; game.outcome(number).is_none(), "at {number}");
+}
+
 #[test]
 fn finds_sets_and_outcomes_by_any_numbers(rt: HostRuntime) -> Result<(), Fail> {
     let file = chain(rt.alloc())?;
-    let game = read_efg(rt.alloc(), &file).expect(&rt, "a file");
-    assert_eq!(rt; game.set_count(1), NUMBERS.len());
-    assert_eq!(rt; game.outcome_count(), NUMBERS.len());
-    for (position, number, action) in NUMBERS {
-        assert_eq!(rt; game.set_number(1, position), Some(number));
-        assert_eq!(rt; game.outcome_number(position), Some(number));
-        let (name, actions) = game.infoset(1, number).expect(&rt, "a set");
-        let wanted = format!(in rt.alloc(); "set {number}")?;
-        assert_eq!(rt; name, label(&rt, wanted.as_bytes()));
-        assert_eq!(rt; actions.len(), 1);
-        let only = actions.first().expect(&rt, "an action");
-        assert_eq!(rt; only.label, label(&rt, action.as_bytes()));
-        let (_, payoffs) = game.outcome(number).expect(&rt, "an outcome");
-        let payoff = fraction(&rt, i128::from(number), 1);
-        assert_eq!(rt; payoffs, [payoff].as_slice());
+    let game = read(&rt, rt.alloc(), &file);
+    assert_numbers(&rt, &game);
+    for (_, number, action) in NUMBERS {
+        assert_set(&rt, rt.alloc(), &game, number, action)?;
+        assert_paid(&rt, &game, number);
     }
     for number in [0, 3, 8, 22, 99_999, 4_294_967_293] {
-        assert!(rt; game.infoset(1, number).is_none(), "at {number}");
-        assert!(rt; game.outcome(number).is_none(), "at {number}");
+        assert_unknown(&rt, &game, number);
     }
     Ok(())
 }
@@ -71,7 +103,7 @@ const LOTTERIES: &[u8] = b"EFG 2 R \"l\" { }
 
 #[test]
 fn compares_actions_by_labels_and_values(rt: HostRuntime) {
-    let game = read_efg(rt.alloc(), LOTTERIES).expect(&rt, "a file");
+    let game = read(&rt, rt.alloc(), LOTTERIES);
     let (_, first) = game.infoset(0, 1).expect(&rt, "a set");
     for (number, same) in [(1, true), (2, true), (3, false), (4, false), (5, false)] {
         let (_, actions) = game.infoset(0, number).expect(&rt, "a set");

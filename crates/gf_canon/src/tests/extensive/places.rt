@@ -65,7 +65,28 @@ fn assert_judged(rt: &impl Abort, alloc: Global, file: &[u8], start: usize, caus
     }
 }
 
-/// Asserts that tokens of each kind, and those that a place names, are taken or refused there.
+/// Asserts that tokens of each kind, and those that a place names, are taken or refused behind a
+/// text that stands there.
+fn assert_place(
+    rt: &impl Abort,
+    alloc: Global,
+    text: &[u8],
+    place: Place,
+) -> Result<(), AllocError> {
+    let own = place.2.iter().map(|row| row.0);
+    let tokens = EACH_KIND
+        .iter()
+        .copied()
+        .chain(place.1.iter().copied())
+        .chain(own);
+    for token in tokens {
+        let file = joined(alloc, text, token)?;
+        assert_judged(rt, alloc, &file, text.len(), cause(place, token));
+    }
+    Ok(())
+}
+
+/// Asserts that each place behind a text takes and refuses what it should.
 fn assert_places(
     rt: &impl Abort,
     alloc: Global,
@@ -74,16 +95,7 @@ fn assert_places(
 ) -> Result<(), AllocError> {
     for place in places.iter().copied() {
         let text = joined(alloc, before, place.0)?;
-        let own = place.2.iter().map(|row| row.0);
-        let tokens = EACH_KIND
-            .iter()
-            .copied()
-            .chain(place.1.iter().copied())
-            .chain(own);
-        for token in tokens {
-            let file = joined(alloc, &text, token)?;
-            assert_judged(rt, alloc, &file, text.len(), cause(place, token));
-        }
+        assert_place(rt, alloc, &text, place)?;
     }
     Ok(())
 }

@@ -1,9 +1,9 @@
 //! Games by other numbers of their sets and outcomes.
 
-use super::FIVE;
 use super::games::assert_described;
 use super::nodes::assert_nodes;
-use gf_tree::{Game, Step, read_efg};
+use super::{FIVE, read};
+use gf_tree::{Game, Step};
 use std::alloc::{AllocError, Global};
 use std::process::Abort;
 use std::test::Fail;
@@ -30,17 +30,27 @@ fn renumbered<'a>(rt: &impl Abort, alloc: Global, game: &Game<'a>) -> Result<Gam
     game.with_numbers(alloc, &sets, &[2])
 }
 
-#[test]
-fn takes_other_numbers(rt: HostRuntime) -> Result<(), Fail> {
-    let game = read_efg(rt.alloc(), FIVE).expect(&rt, "a file");
-    let other = renumbered(&rt, rt.alloc(), &game)?;
+/// Asserts that two games have the same title, comment and players.
+fn assert_same_heading(rt: &impl Abort, game: &Game<'_>, other: &Game<'_>) {
     assert_eq!(rt; other.title(), game.title());
     assert_eq!(rt; other.comment(), game.comment());
     assert_eq!(rt; other.players(), game.players());
-    assert_nodes(&rt, &other, &RENUMBERED_NODES);
-    assert_described(&rt, &other, 2, [3, 8], 2);
+}
+
+/// Asserts that nothing has a number that only `FIVE` has.
+fn assert_numbers_forgotten(rt: &impl Abort, other: &Game<'_>) {
     assert!(rt; other.infoset(0, 9).is_none());
     assert!(rt; other.infoset(1, 7).is_none());
     assert!(rt; other.outcome(4).is_none());
+}
+
+#[test]
+fn takes_other_numbers(rt: HostRuntime) -> Result<(), Fail> {
+    let game = read(&rt, rt.alloc(), FIVE);
+    let other = renumbered(&rt, rt.alloc(), &game)?;
+    assert_same_heading(&rt, &game, &other);
+    assert_nodes(&rt, &other, &RENUMBERED_NODES);
+    assert_described(&rt, &other, 2, [3, 8], 2);
+    assert_numbers_forgotten(&rt, &other);
     Ok(())
 }

@@ -3,6 +3,8 @@
 use super::SELTEN;
 use gf_nfg::{read_nfg, write_nfg};
 use gf_token::{Fault, Span, What, Why};
+use std::alloc::{AllocError, Global};
+use std::process::Abort;
 use std::test::Fail;
 
 /// Files that are refused: the span of the refusal, and why.
@@ -297,25 +299,37 @@ const FILES: [(&[u8], &[u8]); 9] = [
     ),
 ];
 
-#[test]
-fn refuses_at_the_first_offending_token(rt: HostRuntime) -> Result<(), Fail> {
-    for (input, start, end, why) in REFUSED {
-        let span = Span { start, end };
-        let answer = read_nfg(rt.alloc(), input);
-        assert_eq!(rt; answer.err(), Some(Fault { span, why }));
+/// The refusal of a file, `None` where it is read.
+fn refusal(alloc: Global, input: &[u8]) -> Option<Fault> {
+    read_nfg(alloc, input).err()
+}
+
+/// Asserts that each file is refused at its place, for its cause.
+fn assert_refused(rt: &impl Abort, alloc: Global, rows: &[(&[u8], usize, usize, Why)]) {
+    for (input, start, end, why) in rows.iter().copied() {
+        let fault = Fault::at(Span { start, end }, why);
+        assert_eq!(rt; refusal(alloc, input), Some(fault));
     }
-    Ok(())
+}
+
+#[test]
+fn refuses_at_the_first_offending_token(rt: HostRuntime) {
+    assert_refused(&rt, rt.alloc(), &REFUSED);
+}
+
+/// The canonical text of the table of a file.
+fn written(rt: &impl Abort, alloc: Global, input: &[u8]) -> Result<Vec<u8>, AllocError> {
+    let table = read_nfg(alloc, input).expect(rt, "a strategic file");
+    let mut text = Vec::new(alloc);
+    write_nfg(&table, &mut text)?;
+    Ok(text)
 }
 
 #[test]
 fn reads_what_the_canonical_text_says(rt: HostRuntime) -> Result<(), Fail> {
     for (file, text) in FILES {
-        for input in [file, text] {
-            let table = read_nfg(rt.alloc(), input).expect(&rt, "a strategic file");
-            let mut written = Vec::new(rt.alloc());
-            write_nfg(&table, &mut written)?;
-            assert_eq!(rt; written.as_slice(), text);
-        }
+        assert_eq!(rt; written(&rt, rt.alloc(), file)?.as_slice(), text);
+        assert_eq!(rt; written(&rt, rt.alloc(), text)?.as_slice(), text);
     }
     Ok(())
 }

@@ -1,7 +1,6 @@
 //! Files that are cut at each of their bytes.
 
-use super::FILES;
-use gf_nfg::read_nfg;
+use super::{FILES, refusal};
 use gf_token::{Cursor, Fault, Kind, Span, Token, Why};
 use std::test::Fail;
 
@@ -24,7 +23,7 @@ fn a_cut_file_is_refused_where_it_ends(rt: HostRuntime) -> Result<(), Fail> {
     for (file, text) in FILES {
         for input in [file, text] {
             for at in 0..input.len() {
-                let fault = read_nfg(rt.alloc(), &input[..at]).err();
+                let fault = refusal(rt.alloc(), &input[..at]);
                 let place = fault.map(|fault| fault.span);
                 let end = Span { start: at, end: at };
                 let at_end = place.is_none_or(|place| place == end);

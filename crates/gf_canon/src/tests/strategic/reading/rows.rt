@@ -1,8 +1,10 @@
 //! What each row of the table of positions answers to a token of each kind, and to the end.
 
-use gf_nfg::read_nfg;
+use super::refusal;
+use crate::tests::joined;
 use gf_token::{Fault, Span, What, Why};
 use std::alloc::{AllocError, Global};
+use std::process::Abort;
 use std::test::Fail;
 
 /// `None` where the token is accepted, or the end is.
@@ -162,41 +164,44 @@ const ROWS: [(&[u8], [Answer; 6]); 30] = [
     ),
 ];
 
-/// The refusal of a file that goes on with a token, and the token's span.
-fn refusal(
+/// Asserts that a token is refused behind a text for this cause, or accepted; what is refused then,
+/// if anything, is the end behind it.
+fn assert_answer(
+    rt: &impl Abort,
     alloc: Global,
     before: &[u8],
     token: &[u8],
-) -> Result<(Option<Fault>, Span), AllocError> {
-    let mut input = Vec::new(alloc);
-    input.extend_from_slice(before)?;
-    input.extend_from_slice(token)?;
+    answer: Answer,
+) -> Result<(), AllocError> {
+    let input = joined(alloc, before, token)?;
     let span = Span {
         start: before.len(),
         end: input.len(),
     };
-    Ok((read_nfg(alloc, &input).err(), span))
+    assert_answered(rt, refusal(alloc, &input), span, answer);
+    Ok(())
+}
+
+/// Asserts that a token with this span is refused for this cause, or accepted.
+fn assert_answered(rt: &impl Abort, fault: Option<Fault>, span: Span, answer: Answer) {
+    match answer {
+        Some(why) => {
+            assert_eq!(rt; fault, Some(Fault { span, why }));
+        }
+        None => {
+            let is_later = |fault: Fault| span.start < span.end && fault.span.start == span.end;
+            assert!(rt; fault.is_none_or(is_later));
+        }
+    }
 }
 
 #[test]
 fn each_row_answers_each_token(rt: HostRuntime) -> Result<(), Fail> {
     for (before, answers) in ROWS {
         for (token, answer) in TOKENS.into_iter().zip(answers) {
-            let (fault, span) = refusal(rt.alloc(), before, token)?;
-            match answer {
-                Some(why) => {
-                    assert_eq!(rt; fault, Some(Fault { span, why }));
-                }
-                // What is refused, if anything, is the end behind the token.
-                None => {
-                    let is_later = |fault: Fault| !token.is_empty() && fault.span.start == span.end;
-                    assert!(rt; fault.is_none_or(is_later));
-                }
-            }
+            assert_answer(&rt, rt.alloc(), before, token, answer)?;
         }
-        let (fault, span) = refusal(rt.alloc(), before, b"\"")?;
-        let why = Why::Unterminated;
-        assert_eq!(rt; fault, Some(Fault { span, why }));
+        assert_answer(&rt, rt.alloc(), before, b"\"", Some(Why::Unterminated))?;
     }
     Ok(())
 }
