@@ -9,6 +9,7 @@ mod branch;
 mod branches;
 mod file_node;
 mod game;
+mod indexing;
 mod kept;
 pub mod laws;
 mod node;

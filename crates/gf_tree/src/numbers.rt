@@ -7,6 +7,7 @@ ghost use Rattle.indexmap.specs.IndexMap.{get};
 ghost use Rattle.gf_token.specs.Positions.{at_position};
 ghost use Rattle.gf_tree.specs.Numbers.{pairs_in};
 
+use crate::indexing::Indexing;
 use crate::seeded::Seeded;
 use crate::small_numbers::SmallNumbers;
 use indexmap::IndexMap;
@@ -96,11 +97,13 @@ impl Index {
         }
     }
 
-    /// Adds a number that is not there, and its place. On an `Err` nothing has changed.
+    /// Adds a number that is not there, and its place. Numbers through `small` are small, however
+    /// few there are. On an `Err` nothing has changed.
     fn insert(
         &mut self,
         alloc: Global,
-        hasher: Seeded,
+        indexing: &mut Indexing<'_>,
+        small: usize,
         number: u32,
         place: u32,
     ) -> Result<(), AllocError>
@@ -112,10 +115,10 @@ impl Index {
         if let Some(others) = &mut self.others {
             return add(others, number, place);
         }
-        if self.small.have_room_for(number) {
+        if number as usize <= small || self.small.have_room_for(number) {
             return self.small.push(number, place);
         }
-        let mut others = IndexMap::with_hasher(alloc, hasher);
+        let mut others = IndexMap::with_hasher(alloc, indexing.hashers());
         add(&mut others, number, place)?;
         self.others = Some(others);
         Ok(())
@@ -192,12 +195,14 @@ impl Numbers {
         }
     }
 
-    /// Adds a number that is not there, and its place. On an `Err` nothing has changed.
+    /// Adds a number that is not there, and its place. Numbers through `small` are small, however
+    /// few there are. On an `Err` nothing has changed.
     #[inline(never)]
     pub(crate) fn insert(
         &mut self,
         alloc: Global,
-        hasher: Seeded,
+        indexing: &mut Indexing<'_>,
+        small: usize,
         number: u32,
         place: u32,
     ) -> Result<(), AllocError>
@@ -207,10 +212,10 @@ impl Numbers {
         ensures err { OnErr result (self.new ≡ self.old) }
     {
         match &mut self.index {
-            Some(index) => index.insert(alloc, hasher, number, place),
+            Some(index) => index.insert(alloc, indexing, small, number, place),
             None => {
                 let mut index = Index::new(alloc);
-                index.insert(alloc, hasher, number, place)?;
+                index.insert(alloc, indexing, small, number, place)?;
                 self.index = Some(Box::new(alloc, index)?);
                 Ok(())
             }

@@ -8,8 +8,8 @@ ghost use Rattle.gf_token.specs.Positions.{at_position};
 ghost use Rattle.gf_tree.specs.KnownOutcomes.{with_outcome, with_payoff};
 ghost use Rattle.gf_tree.specs.StoredOutcomes.{end_of};
 
+use crate::indexing::Indexing;
 use crate::numbers::{Numbers, next_place};
-use crate::seeded::Seeded;
 use gf_fraction::Fraction;
 use gf_token::Label;
 use std::alloc::{AllocError, Global};
@@ -43,7 +43,7 @@ impl<'a> Entry<'a> {
 #[derive(Drop)]
 pub(crate) struct Outcomes<'a> {
     alloc: Global,
-    hasher: Seeded,
+    indexing: Indexing<'a>,
     numbers: Numbers,
     entries: Vec<Entry<'a>>,
     payoffs: Vec<Fraction>,
@@ -63,12 +63,12 @@ impl<'a> Model for Outcomes<'a> {
 
 impl<'a> Outcomes<'a> {
     /// No outcomes.
-    pub(crate) fn new(alloc: Global, hasher: Seeded) -> Outcomes<'a>
+    pub(crate) fn new(alloc: Global, indexing: Indexing<'a>) -> Outcomes<'a>
         ensures { result ≡ record { known = []; pending = [] } }
     {
         Outcomes {
             alloc,
-            hasher,
+            indexing,
             numbers: Numbers::new(),
             entries: Vec::new(alloc),
             payoffs: Vec::new(alloc),
@@ -76,11 +76,23 @@ impl<'a> Outcomes<'a> {
         }
     }
 
-    /// No outcomes, to be found by the same hasher.
+    /// No outcomes, to be found in the same way.
     pub(crate) fn emptied(&self, alloc: Global) -> Outcomes<'a>
         ensures { result ≡ record { known = []; pending = [] } }
     {
-        Outcomes::new(alloc, self.hasher)
+        Outcomes::new(alloc, self.indexing)
+    }
+
+    /// How they are found.
+    pub(crate) fn indexing(&self) -> Indexing<'a> {
+        self.indexing
+    }
+
+    /// Takes over what was hashed of the same input.
+    pub(crate) fn adopt(&mut self, indexing: Indexing<'a>)
+        ensures { self.new ≡ self.old }
+    {
+        self.indexing.adopt(indexing);
     }
 
     /// The place of an outcome.
@@ -175,7 +187,9 @@ impl<'a> Outcomes<'a> {
             return Err(AllocError);
         };
         self.entries.reserve(1)?;
-        self.numbers.insert(self.alloc, self.hasher, number, place)?;
+        let small = self.indexing.small_outcomes();
+        self.numbers
+            .insert(self.alloc, &mut self.indexing, small, number, place)?;
         let entry = Entry {
             number,
             count,

@@ -21,9 +21,9 @@ mod set;
 mod telling;
 
 use crate::game::Game;
+use crate::indexing::Indexing;
 use crate::kept::NodeList;
 use crate::outcomes::Outcomes;
-use crate::seeded::Seeded;
 use crate::sets::Sets;
 use gf_token::{Fault, Label, Span, Tokens};
 use std::alloc::Global;
@@ -56,14 +56,14 @@ impl<'a> Reader<'a> {
         ensures untold { (result.told_sets ≡ 0) × (result.told_outcomes ≡ 0) }
     {
         let empty = Label::new(&[]).unwrap();
-        let hasher = Seeded::of(input);
+        let indexing = Indexing::of(input);
         Reader {
             tokens: Tokens::new(input),
             title: empty,
             comment: empty,
             players: Vec::new(alloc),
-            sets: Sets::new(alloc, hasher),
-            outcomes: Outcomes::new(alloc, hasher),
+            sets: Sets::new(alloc, indexing),
+            outcomes: Outcomes::new(alloc, indexing),
             due: 1,
             told_sets: 0,
             told_outcomes: 0,

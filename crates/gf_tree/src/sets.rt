@@ -13,8 +13,8 @@ ghost use Rattle.gf_tree.specs.StoredSets.{HoldActions, end_of};
 ghost use Rattle.gf_tree.specs.KnownSets.{known_of, number_among, with_action, with_set};
 
 use crate::action::{Action, same_actions};
+use crate::indexing::Indexing;
 use crate::numbers::{Numbers, next_place};
-use crate::seeded::Seeded;
 use gf_fraction::Fraction;
 use gf_token::Label;
 use std::alloc::{AllocError, Global};
@@ -69,7 +69,7 @@ fn reach(players: &mut Vec<Numbers>, player: u32) -> Result<(), AllocError>
 fn note(
     players: &mut Vec<Numbers>,
     alloc: Global,
-    hasher: Seeded,
+    indexing: &mut Indexing<'_>,
     player: u32,
     number: u32,
     place: u32,
@@ -88,7 +88,8 @@ fn note(
     reach(players, player)?;
     let numbers = &mut players[player as usize];
     let before = numbers.len() as u32;
-    numbers.insert(alloc, hasher, number, place)?;
+    let small = indexing.small_sets(player);
+    numbers.insert(alloc, indexing, small, number, place)?;
     Ok(before + 1)
 }
 
@@ -133,7 +134,7 @@ fn stretch_like(
 #[derive(Drop)]
 pub(crate) struct Sets<'a> {
     alloc: Global,
-    hasher: Seeded,
+    indexing: Indexing<'a>,
     players: Vec<Numbers>,
     entries: Vec<Entry<'a>>,
     actions: Vec<Action<'a>>,
@@ -153,12 +154,12 @@ impl<'a> Model for Sets<'a> {
 
 impl<'a> Sets<'a> {
     /// No sets.
-    pub(crate) fn new(alloc: Global, hasher: Seeded) -> Sets<'a>
+    pub(crate) fn new(alloc: Global, indexing: Indexing<'a>) -> Sets<'a>
         ensures { result ≡ record { known = []; pending = [] } }
     {
         Sets {
             alloc,
-            hasher,
+            indexing,
             players: Vec::new(alloc),
             entries: Vec::new(alloc),
             actions: Vec::new(alloc),
@@ -166,11 +167,23 @@ impl<'a> Sets<'a> {
         }
     }
 
-    /// No sets, to be found by the same hasher.
+    /// No sets, to be found in the same way.
     pub(crate) fn emptied(&self, alloc: Global) -> Sets<'a>
         ensures { result ≡ record { known = []; pending = [] } }
     {
-        Sets::new(alloc, self.hasher)
+        Sets::new(alloc, self.indexing)
+    }
+
+    /// How they are found.
+    pub(crate) fn indexing(&self) -> Indexing<'a> {
+        self.indexing
+    }
+
+    /// Takes over what was hashed of the same input.
+    pub(crate) fn adopt(&mut self, indexing: Indexing<'a>)
+        ensures { self.new ≡ self.old }
+    {
+        self.indexing.adopt(indexing);
     }
 
     /// The place of a set.
@@ -308,7 +321,7 @@ impl<'a> Sets<'a> {
         let among = note(
             &mut self.players,
             self.alloc,
-            self.hasher,
+            &mut self.indexing,
             player,
             number,
             place,

@@ -53,6 +53,7 @@ impl<'a> Reader<'a> {
         ensures sound { OnOk result (IsSound self.new) }
         ensures place { IfOk result (λ place. place < length self.new.outcomes.known) }
     {
+        self.outcomes.adopt(self.sets.indexing());
         self.outcomes.end(number, name)
     }
 

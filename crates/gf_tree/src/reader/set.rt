@@ -139,6 +139,7 @@ impl<'a> Reader<'a> {
         ensures sound { OnOk result (IsSound self.new) }
         ensures place { IfOk result (λ place. place < length self.new.sets.known) }
     {
+        self.sets.adopt(self.outcomes.indexing());
         self.sets.end(player, number, name)
     }
 

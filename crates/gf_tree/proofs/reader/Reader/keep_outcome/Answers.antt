@@ -4,17 +4,24 @@ use Rattle.gf_tree.proofs.ReaderSteps.{kept_outcome_sound}
 use Rattle.gf_tree.proofs.reader.Reader.keep_outcome.Goals as goal
 
 pub returns-clause-content : goal.returns-clause-content
-returns-clause-content c = kept_outcome_content c.args.self.now _ c.args.number
-    (label_of c.args.name) c.end.result c.end.ensures.ok
+returns-clause-content c =
+    let ok = rw c.adopt.ensures at c.end.ensures.ok in
+    kept_outcome_content c.args.self.now _ c.args.number (label_of c.args.name) c.end.result ok
 
 pub returns-clause-key : goal.returns-clause-key
-returns-clause-key c = kept_outcome_key c.args.self.now _ c.args.number (label_of c.args.name)
-    c.end.result c.end.ensures.ok c.end.ensures.place
+returns-clause-key c =
+    let ok = rw c.adopt.ensures at c.end.ensures.ok in
+    let place = rw c.adopt.ensures at c.end.ensures.place in
+    kept_outcome_key c.args.self.now _ c.args.number (label_of c.args.name) c.end.result ok place
 
 pub returns-clause-sound : goal.returns-clause-sound
-returns-clause-sound c = kept_outcome_sound c.args.self.now _ c.args.number (label_of c.args.name)
-    c.end.result c.requires.sound c.end.ensures.ok c.end.ensures.place c.end.ensures.few
+returns-clause-sound c =
+    let ok = rw c.adopt.ensures at c.end.ensures.ok in
+    let place = rw c.adopt.ensures at c.end.ensures.place in
+    kept_outcome_sound c.args.self.now _ c.args.number (label_of c.args.name) c.end.result
+    c.requires.sound ok place c.end.ensures.few
 
 pub returns-clause-grows : goal.returns-clause-grows
-returns-clause-grows c = kept_outcome_grows c.args.self.now _ c.args.number (label_of c.args.name) c.end.result
-    c.end.ensures.ok
+returns-clause-grows c =
+    let ok = rw c.adopt.ensures at c.end.ensures.ok in
+    kept_outcome_grows c.args.self.now _ c.args.number (label_of c.args.name) c.end.result ok

@@ -4,18 +4,27 @@ use Rattle.gf_tree.proofs.ReaderSteps.{kept_begun, kept_content, kept_grows, kep
 use Rattle.gf_tree.proofs.reader.Reader.keep_set.Goals as goal
 
 pub returns-clause-content : goal.returns-clause-content
-returns-clause-content c = kept_content c.args.self.now _ (set_of c.args.player c.args.number)
-    (label_of c.args.name) c.end.result c.end.ensures.ok
+returns-clause-content c =
+    let ok = rw c.adopt.ensures at c.end.ensures.ok in
+    kept_content c.args.self.now _ (set_of c.args.player c.args.number)
+    (label_of c.args.name) c.end.result ok
 
 pub returns-clause-begins : goal.returns-clause-begins
-returns-clause-begins c = λ node. kept_begun c.args.self.now _ (set_of c.args.player c.args.number)
-    (label_of c.args.name) node c.end.result c.end.ensures.ok c.end.ensures.place
+returns-clause-begins c = λ node.
+    let ok = rw c.adopt.ensures at c.end.ensures.ok in
+    let place = rw c.adopt.ensures at c.end.ensures.place in
+    kept_begun c.args.self.now _ (set_of c.args.player c.args.number)
+    (label_of c.args.name) node c.end.result ok place
 
 pub returns-clause-sound : goal.returns-clause-sound
 returns-clause-sound c =
+    let ok = rw c.adopt.ensures at c.end.ensures.ok in
+    let place = rw c.adopt.ensures at c.end.ensures.place in
     kept_sound c.args.self.now _ (set_of c.args.player c.args.number) (label_of c.args.name)
-    c.end.result c.requires.sound c.end.ensures.ok c.end.ensures.place c.end.ensures.few
+    c.end.result c.requires.sound ok place c.end.ensures.few
 
 pub returns-clause-grows : goal.returns-clause-grows
-returns-clause-grows c = kept_grows c.args.self.now _ (set_of c.args.player c.args.number) (label_of c.args.name) c.end.result
-    c.end.ensures.ok
+returns-clause-grows c =
+    let ok = rw c.adopt.ensures at c.end.ensures.ok in
+    kept_grows c.args.self.now _ (set_of c.args.player c.args.number) (label_of c.args.name)
+    c.end.result ok
