@@ -2,37 +2,37 @@
 
 use crate::seeded::Seeded;
 
-/// For how many bytes of the input the tables of outcomes, or of a player's sets, have room for one
-/// number.
-const BYTES_FOR_NUMBER: usize = 64;
+/// For how many bytes of the input there is room for one number in the tables, beside that for
+/// small numbers.
+const BYTES_FOR_NUMBER: usize = 8;
 
-/// Which numbers of an input are small, and what makes the hashers of the others' maps.
+/// What room the tables of an input's numbers have, and what makes the hashers of its maps.
 ///
 /// The input is hashed where the first map is made: most files need none.
 #[derive(Clone, Copy)]
 pub(crate) struct Indexing<'a> {
     input: &'a [u8],
+    room: usize,
     seeded: Option<Seeded>,
 }
 
 impl<'a> Indexing<'a> {
-    /// Nothing has been hashed yet.
+    /// All room is left, and nothing has been hashed.
     pub(crate) fn of(input: &'a [u8]) -> Indexing<'a> {
         Indexing {
             input,
+            room: input.len() / BYTES_FOR_NUMBER,
             seeded: None,
         }
     }
 
-    /// The greatest number of outcomes that is small, however few there are.
-    pub(crate) fn small_outcomes(&self) -> usize {
-        self.input.len() / BYTES_FOR_NUMBER
-    }
-
-    /// The greatest number of a player's sets that is small, however few there are. The further
-    /// players have less room, so that many tables take no more than the input does.
-    pub(crate) fn small_sets(&self, player: u32) -> usize {
-        self.small_outcomes() / (player as usize + 1)
+    /// Gives a table room for so many numbers, if as much is left.
+    pub(crate) fn grant(&mut self, count: usize) -> bool {
+        if count > self.room {
+            return false;
+        }
+        self.room -= count;
+        true
     }
 
     /// What makes the hashers of the input.

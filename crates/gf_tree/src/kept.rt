@@ -190,6 +190,7 @@ impl<'a> Receive<'a> for NodeList<'a> {
     }
 
     #[tactic(auto, using(std::proofs::lemmas::List::map_push))]
+    #[inline(always)]
     fn node(&mut self, node: ToldNode<'_, 'a>) -> Result<(), AllocError> {
         self.nodes.push(Stored {
             name: node.node.name,

@@ -97,13 +97,11 @@ impl Index {
         }
     }
 
-    /// Adds a number that is not there, and its place. Numbers through `small` are small, however
-    /// few there are. On an `Err` nothing has changed.
+    /// Adds a number that is not there, and its place. On an `Err` nothing has changed.
     fn insert(
         &mut self,
         alloc: Global,
         indexing: &mut Indexing<'_>,
-        small: usize,
         number: u32,
         place: u32,
     ) -> Result<(), AllocError>
@@ -115,7 +113,7 @@ impl Index {
         if let Some(others) = &mut self.others {
             return add(others, number, place);
         }
-        if number as usize <= small || self.small.have_room_for(number) {
+        if self.small.have_room_for(number) || indexing.grant(self.small.growth_for(number)) {
             return self.small.push(number, place);
         }
         let mut others = IndexMap::with_hasher(alloc, indexing.hashers());
@@ -195,14 +193,12 @@ impl Numbers {
         }
     }
 
-    /// Adds a number that is not there, and its place. Numbers through `small` are small, however
-    /// few there are. On an `Err` nothing has changed.
+    /// Adds a number that is not there, and its place. On an `Err` nothing has changed.
     #[inline(never)]
     pub(crate) fn insert(
         &mut self,
         alloc: Global,
         indexing: &mut Indexing<'_>,
-        small: usize,
         number: u32,
         place: u32,
     ) -> Result<(), AllocError>
@@ -212,10 +208,10 @@ impl Numbers {
         ensures err { OnErr result (self.new ≡ self.old) }
     {
         match &mut self.index {
-            Some(index) => index.insert(alloc, indexing, small, number, place),
+            Some(index) => index.insert(alloc, indexing, number, place),
             None => {
                 let mut index = Index::new(alloc);
-                index.insert(alloc, indexing, small, number, place)?;
+                index.insert(alloc, indexing, number, place)?;
                 self.index = Some(Box::new(alloc, index)?);
                 Ok(())
             }

@@ -187,9 +187,8 @@ impl<'a> Outcomes<'a> {
             return Err(AllocError);
         };
         self.entries.reserve(1)?;
-        let small = self.indexing.small_outcomes();
         self.numbers
-            .insert(self.alloc, &mut self.indexing, small, number, place)?;
+            .insert(self.alloc, &mut self.indexing, number, place)?;
         let entry = Entry {
             number,
             count,

@@ -88,8 +88,7 @@ fn note(
     reach(players, player)?;
     let numbers = &mut players[player as usize];
     let before = numbers.len() as u32;
-    let small = indexing.small_sets(player);
-    numbers.insert(alloc, indexing, small, number, place)?;
+    numbers.insert(alloc, indexing, number, place)?;
     Ok(before + 1)
 }
 

@@ -107,6 +107,11 @@ impl SmallNumbers {
         number as usize / SPREAD <= self.pairs.len().saturating_add(AHEAD)
     }
 
+    /// By how many entries the table has to grow for a number.
+    pub(crate) fn growth_for(&self, number: u32) -> usize {
+        (number as usize + 1).saturating_sub(self.positions.len())
+    }
+
     /// Adds a number that is not there, and its place. On an `Err` nothing has changed.
     pub(crate) fn push(&mut self, number: u32, place: u32) -> Result<(), AllocError>
         requires absent { lookup (nat_eq number) self.old ≡ None }
