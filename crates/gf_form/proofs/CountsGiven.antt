@@ -1,16 +1,15 @@
 -- What is counted of each player, by his place from 0.
 use Rattle.std.proofs.Common.{◌≡◌, ◌+◌, ◌<◌, ℕ, List, [], Vec, Global, length, map, get_or}
-use Rattle.std.proofs.Common.{sym, ap, subst, ◌∙◌, arith}
+use Rattle.std.proofs.Common.{sym, ap, ◌∙◌, arith}
 use Rattle.std.proofs.lemmas.Grind.{get_or_default_zero}
 use Rattle.std.proofs.lemmas.List.{get_or-map, length-map}
 use Rattle.gf_nfg.specs.Profiles.{product}
-use Rattle.gf_tree.specs.Game.{Game, IsGame}
+use Rattle.gf_tree.specs.Game.{Game}
 use Rattle.gf_form.specs.Counted.{AreCounts}
 use Rattle.gf_form.specs.Strategies.{action_counts, strategies}
 use Rattle.gf_form.specs.declared.counts.Counts.{Counts}
 use Rattle.gf_form.proofs.Choices.{length-all_choices}
 use Rattle.gf_form.proofs.CountedActions.{as_many_players, of_player}
-use Rattle.gf_form.proofs.FormTables.{some_strategy}
 
 -- the numbers of actions of each player
 abbrev pub actions_in : Counts → List (List ℕ)
@@ -66,7 +65,3 @@ module _ (g : Game) (c : Counts) (counts : AreCounts g c) (i whole : ℕ) (own :
   read_whole =
       read_count ∙ length-all_choices (action_counts g (i + 1))
       ∙ ap product (sym (actions_of g c counts i read.within) ∙ sym read_actions)
-
-  pub some_whole : IsGame g → 0 < whole
-  some_whole game =
-      subst (λ (n : ℕ). 0 < n) (sym read_count) (some_strategy g game (i + 1))

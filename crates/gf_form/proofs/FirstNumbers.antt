@@ -65,3 +65,11 @@ module _ {A : Type 0} (test : A → Bool) (all : List A) (d : A) (i : ℕ) (less
     are = h.are ∙ sym (next_item ∙ rw fails (append-nil (filter test (take i all))));
     within = wider numbers h.within;
   }
+
+-- the image of one more is kept too
+pub one_image_more : {A : Type 0} (f : ℕ → A) (numbers next : List ℕ) (images more : List A) (n : ℕ)
+    (image : A) → images ≡ map f numbers → image ≡ f n → next ≡ numbers ++ n ∷ []
+    → more ≡ images ++ image ∷ [] → more ≡ map f next
+one_image_more f numbers next images more n image are is next_is more_is =
+    more_is ∙ (λ i. are i ++ is i ∷ []) ∙ sym (map-append f numbers (n ∷ []))
+    ∙ ap (map f) (sym next_is)

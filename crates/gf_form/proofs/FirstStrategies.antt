@@ -2,7 +2,7 @@
 -- matters.
 use Rattle.std.proofs.Common.{◌≡◌, ℕ, zero, suc, ◌+◌, ◌-◌, ◌*◌, ◌<◌, ◌≤◌, Bool, true, false}
 use Rattle.std.proofs.Common.{List, [], ◌∷◌, ◌++◌, Some, None, length, map, get_or, drop}
-use Rattle.std.proofs.Common.{refl, sym, ap, subst, ◌∙◌, append-nil, append_assoc, arith, inl, inr}
+use Rattle.std.proofs.Common.{refl, sym, ap, subst, ◌∙◌, append-nil, append_assoc, arith, cond, inl, inr}
 use Rattle.std.specs.Prelude.{◌==◌, ◌||◌, filter, if◌then◌else◌, unwrap_or}
 use Rattle.std.specs.List.{list_any}
 use Rattle.std.specs.Cmp.Lexicographic.{pointwise}
@@ -229,6 +229,16 @@ choice_length [] (a ∷ s) h = absurd h
 choice_length (n ∷ counts) [] h = absurd h
 choice_length (n ∷ counts) (a ∷ s) h = ap suc (choice_length counts s h.1)
 
+filter_fewer : {A : Type 0} (test : A → Bool) (xs : List A)
+    → length (filter test xs) ≤ length xs
+filter_fewer test [] = omega arith
+filter_fewer test (x ∷ xs) = by_test (test x) (filter_fewer test xs)
+  where
+    by_test : (b : Bool) → length (filter test xs) ≤ length xs
+        → length (cond b (x ∷ filter test xs) (filter test xs)) ≤ suc (length xs)
+    by_test true h = omega (arith, h)
+    by_test false h = omega (arith, h)
+
 -- the strategy chooses the first action wherever no choice matters
 abbrev pub is_first : Game → ℕ → List ℕ → Bool
 is_first g player s = chooses_first (relevant_sets g player s) s
@@ -289,6 +299,22 @@ module _ (g : Game) (game : IsGame g) (player : ℕ) where
   reduced_strategies_are =
       first_of_each (pointwise same_choice) choices_equality (reduced g player)
       (is_first g player) (place counts) (strategies g player) one_first only_first (product counts) (places_are counts)
+
+  -- no more than all strategies
+  pub fewer_reduced : length (reduced_strategies g player) ≤ length (strategies g player)
+  fewer_reduced =
+      let firsts = filter (is_first g player) (strategies g player) in
+      let counted = ap length reduced_strategies_are ∙ length-map firsts (reduced g player) in
+      omega (arith, counted, filter_fewer (is_first g player) (strategies g player))
+
+  -- what the strategy with a number, from 0, reduces to
+  pub reduced_shown_at : (number : ℕ) → number < length (strategies g player)
+      → reduced g player (get_or (strategies g player) number [])
+      ≡ shown (relevant_sets g player (get_or (strategies g player) number []))
+      (get_or (strategies g player) number [])
+  reduced_shown_at number less =
+      reduced_shown (get_or (strategies g player) number [])
+      (all_at (IsChoice counts) (strategies g player) number [] (are_choices counts) less)
 
   -- the strategy with a number, from 0, has an action for each flag
   pub flags_fit : (number : ℕ) → number < length (strategies g player)

@@ -1,26 +1,62 @@
--- The table of a game's strategies and of the payoffs at its profiles is its strategic form.
-use Rattle.std.proofs.Common.{◌≡◌, ℕ, ◌*◌, ◌<◌, List, [], ◌∷◌, length, map, refl, sym, ap, subst, ◌∙◌}
+-- A table of labels and of rows that are right at its profiles is a form of a game.
+use Rattle.std.proofs.Common.{◌≡◌, ℕ, ◌*◌, ◌<◌, ◌≤◌, List, [], ◌∷◌, length, map, refl, sym, ap}
+use Rattle.std.proofs.Common.{subst, ◌∙◌, arith}
 use Rattle.std.specs.Prelude.{Vec, vec_len}
 use Rattle.std.specs.List.{AllByRecursion, AllZip}
 use Rattle.std.specs.Global.{Global}
 use Rattle.std.proofs.lemmas.List.{length-map}
 use Rattle.gf_fraction.specs.Ratio.{Ratio, IsFraction}
-use Rattle.gf_fraction.proofs.AllElements.{all_mapped}
+use Rattle.gf_fraction.proofs.AllElements.{all_images, all_mapped}
 use Rattle.gf_token.specs.Label.{label_of}
 use Rattle.gf_token.specs.declared.label.Label.{Label}
+use Rattle.gf_nfg.specs.Limit.{profile_limit}
 use Rattle.gf_nfg.specs.Profiles.{product}
 use Rattle.gf_nfg.specs.Table.{Table}
 use Rattle.gf_nfg.specs.TableAccess.{IsTableOf}
 use Rattle.gf_nfg.proofs.BackProfiles.{length-profiles}
 use Rattle.gf_nfg.proofs.NumbersInTurn.{length-numbers_from}
-use Rattle.gf_tree.specs.Game.{Game, IsGame}
+use Rattle.gf_tree.specs.Game.{Game}
+use Rattle.gf_form.specs.FitsTable.{FitsTable}
 use Rattle.gf_form.specs.ProfileRows.{AreRowsAt}
-use Rattle.gf_form.specs.StrategicForm.{ArePayoffsAt, IsStrategicForm, strategy_labels}
-use Rattle.gf_form.specs.Strategies.{full_profiles, players_of}
-use Rattle.gf_form.proofs.CountedActions.{as_many_players, strategies_positive, strategy_counts}
-use Rattle.gf_form.proofs.FormTables.{as_many}
-use Rattle.gf_form.proofs.Forms.{all_profiles, labels_counted}
+use Rattle.gf_form.specs.StrategicForm.{ArePayoffsAt, IsFormBy}
+use Rattle.gf_form.specs.Strategies.{players_of}
+use Rattle.gf_form.proofs.CountedActions.{as_many_players}
+use Rattle.gf_form.proofs.FormTables.{as_many, some_labels}
+use Rattle.gf_form.proofs.Forms.{form_profiles}
 use Rattle.gf_form.proofs.RowsMade.{form_by_rows, rows_counted, rows_fractions}
+
+-- ---- labels, each by itself
+
+list_counts : (lists : List (Vec Label Global))
+    → map length (map (λ own. map label_of own.items) lists) ≡ map vec_len lists
+list_counts [] = refl
+list_counts (own ∷ lists) =
+    λ i. (length-map own.items label_of ∙ sym own.ok.0) i ∷ list_counts lists i
+
+module _ (players : ℕ) (lists : List (Vec Label Global)) (labels : List (List (List ℕ)))
+    (payoffs : List Ratio) (are : map (λ own. map label_of own.items) lists ≡ labels)
+    (fits : FitsTable players labels payoffs) where
+  counted : map vec_len lists ≡ map length labels
+  counted = sym (list_counts lists) ∙ ap (map length) are
+
+  pub one_list_each : length lists ≡ players
+  one_list_each = sym (length-map lists (λ own. map label_of own.items)) ∙ ap length are
+      ∙ fits.one_list_each
+
+  pub some_label : AllByRecursion (λ own. 0 < vec_len own) lists
+  some_label =
+      all_mapped (λ (n : ℕ). 0 < n) vec_len lists
+      (subst (AllByRecursion (λ (n : ℕ). 0 < n)) (sym counted)
+      (all_images (λ (n : ℕ). 0 < n) length labels fits.some_strategy))
+
+  pub few_profiles : product (map vec_len lists) ≤ profile_limit
+  few_profiles = subst (λ (counts : List ℕ). product counts ≤ profile_limit) (sym counted)
+      fits.profiles
+
+  pub full_rows : length payoffs ≡ product (map vec_len lists) * players
+  full_rows = fits.rows ∙ ap (λ (counts : List ℕ). product counts * players) (sym counted)
+
+-- ---- rows of payoffs
 
 all_first : {A B : Type 0} (P : A → Type 0) (Q : A → B → Type 0) (xs : List A) (ys : List B)
     → AllZip (λ x y. P x × Q x y) xs ys → AllByRecursion P xs
@@ -29,65 +65,43 @@ all_first P Q [] (y ∷ ys) h = absurd h
 all_first P Q (x ∷ xs) [] h = absurd h
 all_first P Q (x ∷ xs) (y ∷ ys) h = (h.0.0, all_first P Q xs ys h.1)
 
--- ---- payoffs at each profile
+pub full_row : (g : Game) (profile : List ℕ) (row : List Ratio) → ArePayoffsAt g profile row
+    → length row ≡ length g.players
+full_row g profile row h =
+    as_many _ row (players_of g) h ∙ length-numbers_from 1 (length g.players)
 
-module _ (g : Game) where
-  full_row : (p : List ℕ) (row : List Ratio) → ArePayoffsAt g p row → length row ≡ length g.players
-  full_row p row h = as_many _ row (players_of g) h ∙ length-numbers_from 1 (length g.players)
+pub row_fractions : (g : Game) (profile : List ℕ) (row : List Ratio) → ArePayoffsAt g profile row
+    → AllByRecursion IsFraction row
+row_fractions g profile row h = all_first IsFraction _ row (players_of g) h
 
-  pub payoffs_counted : (rows : List Ratio) → AreRowsAt (ArePayoffsAt g) (full_profiles g) rows
-      → length rows ≡ length (full_profiles g) * length g.players
-  payoffs_counted =
-      rows_counted (ArePayoffsAt g) (length g.players) full_row (full_profiles g)
+-- ---- labels and rows of a form
 
-  pub payoffs_fractions : (rows : List Ratio) → AreRowsAt (ArePayoffsAt g) (full_profiles g) rows
-      → AllByRecursion IsFraction rows
-  payoffs_fractions =
-      rows_fractions (ArePayoffsAt g) (λ p row h. all_first IsFraction _ row (players_of g) h)
-      (full_profiles g)
+module _ (labels : ℕ → List (List ℕ)) (R : List ℕ → List Ratio → Type 0) (g : Game)
+    (all : List (List (List ℕ))) (payoffs : List Ratio) (named : all ≡ map labels (players_of g))
+    (each : (p : List ℕ) (row : List Ratio) → R p row → length row ≡ length g.players)
+    (right : AreRowsAt R (form_profiles labels g) payoffs) where
+  profiles_counted : product (map length all) ≡ length (form_profiles labels g)
+  profiles_counted = ap (λ (own : List (List (List ℕ))). product (map length own)) named
+      ∙ sym (length-profiles (map length (map labels (players_of g))))
 
-  pub form_made : (t : Table) (title comment : List ℕ) (players : List (List ℕ))
-      (own : List (List (List ℕ))) (rows : List Ratio)
-      → title ≡ g.title → comment ≡ g.comment → players ≡ g.players
-      → own ≡ map (strategy_labels g) (players_of g)
-      → AreRowsAt (ArePayoffsAt g) (full_profiles g) rows
-      → IsTableOf t title comment players own rows → IsStrategicForm g t
-  form_made t title comment players own rows title_is comment_is players_are own_are right made =
-      form_by_rows (ArePayoffsAt g) (strategy_labels g) g t rows full_row
-      (record {
-        title_is = made.title_is ∙ title_is;
-        comment_is = made.comment_is ∙ comment_is;
-        players_are = made.players_are ∙ players_are;
-        strategies_are = made.strategies_are ∙ own_are;
-        payoffs_are = made.payoffs_are;
-        is_table = made.is_table;
-      })
-      (subst (λ (ps : List (List ℕ)). AreRowsAt (ArePayoffsAt g) ps rows) (sym (all_profiles g))
-      right)
+  pub fits_table : ((player : ℕ) → 0 < length (labels player))
+      → length (form_profiles labels g) ≤ profile_limit
+      → ((p : List ℕ) (row : List Ratio) → R p row → AllByRecursion IsFraction row)
+      → FitsTable (length g.players) all payoffs
+  fits_table some few fractions = record {
+    one_list_each = ap length named ∙ as_many_players g labels;
+    some_strategy = subst (AllByRecursion (λ own. 0 < length own)) (sym named)
+        (some_labels labels some (players_of g));
+    profiles = omega (arith, profiles_counted, few);
+    fractions = rows_fractions R fractions (form_profiles labels g) payoffs right;
+    rows = rows_counted R (length g.players) each (form_profiles labels g) payoffs right
+        ∙ ap (λ (n : ℕ). n * length g.players) (sym profiles_counted);
+  }
 
--- ---- labels of each player's strategies
-
-list_counts : (lists : List (Vec Label Global))
-    → map length (map (λ own. map label_of own.items) lists) ≡ map vec_len lists
-list_counts [] = refl
-list_counts (own ∷ lists) =
-    λ i. (length-map own.items label_of ∙ sym own.ok.0) i ∷ list_counts lists i
-
-module _ (g : Game) (lists : List (Vec Label Global))
-    (named : map (λ own. map label_of own.items) lists ≡ map (strategy_labels g) (players_of g))
-  where
-    counted : map vec_len lists ≡ strategy_counts g
-    counted = sym (list_counts lists) ∙ ap (map length) named ∙ labels_counted g
-
-    pub one_list_each : length lists ≡ length g.players
-    one_list_each =
-        sym (length-map lists (λ own. map label_of own.items)) ∙ ap length named
-        ∙ as_many_players g (strategy_labels g)
-
-    pub some_label : IsGame g → AllByRecursion (λ own. 0 < vec_len own) lists
-    some_label game =
-        all_mapped (λ (n : ℕ). 0 < n) vec_len lists
-        (subst (AllByRecursion (λ (n : ℕ). 0 < n)) (sym counted) (strategies_positive g game))
-
-    pub profiles_counted : product (map vec_len lists) ≡ length (full_profiles g)
-    profiles_counted = ap product counted ∙ sym (length-profiles (strategy_counts g))
+  pub form_made : (t : Table) → IsTableOf t g.title g.comment g.players all payoffs
+      → IsFormBy labels R g t
+  form_made t made =
+      form_by_rows R labels g t payoffs each
+      (subst (λ (own : List (List (List ℕ))). IsTableOf t g.title g.comment g.players own payoffs)
+      named made)
+      right

@@ -47,15 +47,15 @@ some_strategy g game player =
     subst (λ n. 0 < n) (sym (length-all_choices (action_counts g player)))
     (product_above (length g.players) player g.sets game.each_set)
 
+pub some_labels : (labels : ℕ → List (List ℕ)) → ((player : ℕ) → 0 < length (labels player))
+    → (players : List ℕ) → AllByRecursion (λ own. 0 < length own) (map labels players)
+some_labels labels some [] = tt
+some_labels labels some (player ∷ players) = (some player, some_labels labels some players)
+
 module _ (labels : ℕ → List (List ℕ)) (R : List ℕ → List Ratio → Type 0) (g : Game) (t : Table)
     (form : IsFormBy labels R g t) where
   as_players : length (players_of g) ≡ length t.players
   as_players = length-numbers_from 1 (length g.players) ∙ sym (ap length form.players)
-
-  some_labels : ((player : ℕ) → 0 < length (labels player)) → (players : List ℕ)
-      → AllByRecursion (λ own. 0 < length own) (map labels players)
-  some_labels some [] = tt
-  some_labels some (player ∷ players) = (some player, some_labels some players)
 
   -- a form is a table where each player has a strategy, and each entry a payoff for each player
   pub table_by : ((player : ℕ) → 0 < length (labels player))
@@ -63,7 +63,7 @@ module _ (labels : ℕ → List (List ℕ)) (R : List ℕ → List Ratio → Typ
   table_by some each_row = record {
     one_list_each = ap length form.strategies ∙ length-map (players_of g) labels ∙ as_players;
     some_strategy = subst (AllByRecursion (λ own. 0 < length own)) (sym form.strategies)
-        (some_labels some (players_of g));
+        (some_labels labels some (players_of g));
     one_entry_each = form.profiles;
     one_payoff_each = all_images (λ row. length row ≡ length t.players) (λ e. e.payoffs) t.entries
         (all_of_each (λ e. length e.payoffs ≡ length t.players) t.entries

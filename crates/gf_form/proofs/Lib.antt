@@ -10,6 +10,7 @@ pub mod CountsGiven
 pub mod Denominators
 pub mod FirstNumbers
 pub mod FirstStrategies
+pub mod FirstsPicked
 pub mod Followed
 pub mod Following
 pub mod FormMade
@@ -21,12 +22,13 @@ pub mod Lotteries
 pub mod NoPlayer
 pub mod PaidRowsKept
 pub mod PayoffsGiven
+pub mod PickedProfiles
 pub mod PlaySums
-pub mod ProfilesByNumber
 pub mod ProgramRuns
 pub mod ReducedForms
 pub mod ReducedPays
 pub mod ReducedTables
+pub mod ReducedText
 pub mod ReducedValues
 pub mod Reducing
 pub mod RelevantSets

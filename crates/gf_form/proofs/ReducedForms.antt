@@ -130,7 +130,7 @@ module _ (g : Game) where
       let others = reduced_of_all players full h.1 in
       (s.0 ∷ others.0, ((s.1, s.2), others.1), λ i. s.3 i ∷ others.2 i)
 
-  counts_are : (players : List ℕ)
+  pub counts_are : (players : List ℕ)
       → map length (map (reduced_labels g) players) ≡ reduced_counts players
   counts_are players =
       map_twice length (reduced_labels g) players
@@ -172,7 +172,7 @@ module _ (g : Game) where
       (k one.0 one.1 one.2))
 
   -- payoffs at one full profile are those at another that reduces alike
-  same_row : (p q : List ℕ) → Contains (full_profiles g) p → Contains (full_profiles g) q
+  pub same_row : (p q : List ℕ) → Contains (full_profiles g) p → Contains (full_profiles g) q
       → reduced_by g p ≡ reduced_by g q → (row : List Ratio) → ArePayoffsAt g p row
       → ArePayoffsAt g q row
   same_row p q hp hq e row = go row (players_of g)

@@ -20,7 +20,7 @@ some_first : {K : Type 0} (same : K → K → Bool) (ks : List K) → 0 < length
 some_first same [] h = absurd (omega arith)
 some_first same (k ∷ ks) h = omega arith
 
-some_reduced_strategy : (g : Game) → IsGame g → (player : ℕ)
+pub some_reduced_strategy : (g : Game) → IsGame g → (player : ℕ)
     → 0 < length (reduced_strategies g player)
 some_reduced_strategy g game player =
     let all = map (reduced g player) (strategies g player) in

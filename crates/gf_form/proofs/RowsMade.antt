@@ -18,7 +18,7 @@ use Rattle.gf_form.specs.Strategies.{players_of}
 use Rattle.gf_form.proofs.FormTables.{as_many}
 use Rattle.gf_form.proofs.Forms.{form_profiles}
 
-zip_more : {A B : Type 0} (R : A → B → Type 0) (xs : List A) (ys : List B) (x : A) (y : B)
+pub zip_more : {A B : Type 0} (R : A → B → Type 0) (xs : List A) (ys : List B) (x : A) (y : B)
     → AllZip R xs ys → R x y → AllZip R (xs ++ x ∷ []) (ys ++ y ∷ [])
 zip_more R [] [] x y h k = (k, tt)
 zip_more R [] (b ∷ ys) x y h k = absurd h

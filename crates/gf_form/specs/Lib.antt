@@ -2,8 +2,12 @@ pub mod BottomUp
 pub mod CodeLeft
 pub mod Comes
 pub mod Counted
+pub mod Firsts
+pub mod FitsTable
+pub mod LabelTexts
 pub mod PaidRows
 pub mod Payoff
+pub mod Picked
 pub mod Plays
 pub mod ProfileRows
 pub mod Program

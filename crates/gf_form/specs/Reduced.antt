@@ -1,10 +1,11 @@
 -- Reduced strategies, which leave out choices that cannot matter, and the reduced form.
 use Rattle.std.specs.Prelude.{◌≡◌, ℕ, ◌==◌, ◌&&◌, ◌||◌, not, Bool, true, false, List, [], ◌∷◌}
-use Rattle.std.specs.Prelude.{map, zip, codes, decimal, Option, Some, None, if◌then◌else◌}
+use Rattle.std.specs.Prelude.{length, map, zip, codes, decimal, Option, Some, None, if◌then◌else◌}
 use Rattle.std.specs.List.{Contains, join_with_byte, list_all, list_any}
 use Rattle.std.specs.Option.{option_map_or}
 use Rattle.std.specs.Cmp.Lexicographic.{pointwise}
 use Rattle.gf_fraction.specs.Ratio.{Ratio}
+use Rattle.gf_nfg.specs.Profiles.{profiles}
 use Rattle.gf_nfg.specs.Table.{Table}
 use Rattle.gf_tree.specs.Description.{SetKey, same_set}
 use Rattle.gf_tree.specs.FiniteMap.{first_uses}
@@ -59,6 +60,11 @@ reduced_label strategy =
 -- what the strategies of a full profile reduce to
 abbrev pub reduced_by : Game → List ℕ → List (List (Option ℕ))
 reduced_by g profile = map (λ p. reduced g p.0 p.1) (zip (players_of g) (strategies_at g profile))
+
+-- the profiles of the reduced form
+abbrev pub reduced_profiles : Game → List (List ℕ)
+reduced_profiles g =
+    profiles (map (λ player. length (reduced_strategies g player)) (players_of g))
 
 -- the strategies of a profile of the reduced form
 abbrev pub reduced_at : Game → List ℕ → List (List (Option ℕ))

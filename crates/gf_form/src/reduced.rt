@@ -1,15 +1,20 @@
 //! The reduced strategies of a player. Of the strategies that reduce to one, the first has the first
 //! action at each set that is not relevant under it, and no other has.
 
-ghost use Rattle.std.specs.Prelude.{◌≡◌, ◌<◌, ℕ, [], IfOk, get_or, length, map};
-ghost use Rattle.std.specs.List.{AllByRecursion};
+ghost use Rattle.std.specs.Prelude.{◌≡◌, ◌≤◌, IfOk, length, map};
 ghost use Rattle.gf_nfg.specs.Profiles.{product};
-ghost use Rattle.gf_form.specs.Reduced.{reduced, reduced_strategies};
+ghost use Rattle.gf_form.specs.Counted.{AreCounts};
+ghost use Rattle.gf_form.specs.Firsts.{AreFirsts, AreFirstsOf};
+ghost use Rattle.gf_form.specs.Reduced.{reduced_labels};
 ghost use Rattle.gf_form.specs.Shown.{chooses_first};
-ghost use Rattle.gf_form.specs.Strategies.{action_counts, strategies};
+ghost use Rattle.gf_form.specs.Strategies.{action_counts, players_of};
 
+use crate::counts::Counts;
+use crate::reduced_labels::write_reduced_label;
 use crate::relevance::Relevance;
 use crate::strategies::write_strategy;
+use gf_nfg::Labels;
+use gf_token::Label;
 use gf_tree::Game;
 use std::alloc::{AllocError, Global};
 
@@ -26,34 +31,62 @@ fn is_first(relevant: &[bool], strategy: &[u32]) -> bool
     true
 }
 
-/// The number of the first strategy that reduces to each reduced strategy of a player, from 0. At
-/// his sets there are so many actions each, and `whole` strategies.
-pub(crate) fn first_strategies(
+/// The numbers of the first strategies that reduce to each reduced strategy of a player, from 0, and
+/// the labels of these. At his sets there are so many actions each, and `whole` strategies.
+fn first_strategies(
     alloc: Global,
     game: &Game<'_>,
     player: u32,
     counts: &[u32],
     whole: u32,
-) -> Result<Vec<u32>, AllocError>
+) -> Result<(Vec<u32>, Labels), AllocError>
     requires counts { counts.now ≡ action_counts game.now player }
     requires whole { whole ≡ product counts.now }
-    ensures reduced { IfOk result (λ numbers. map
-        (λ number. reduced game.now player (get_or (strategies game.now player) number []))
-        numbers.items ≡ reduced_strategies game.now player) }
-    ensures within { IfOk result (λ numbers. AllByRecursion (λ number. number < whole) numbers.items) }
+    ensures firsts { IfOk result (λ own. AreFirstsOf game.now own.0.items player) }
+    ensures labels { IfOk result (λ own. own.1 ≡ reduced_labels game.now player) }
 {
     let _players = game.players();
     let relevance = Relevance::of_player(alloc, game, player)?;
     let mut strategy = Vec::with_capacity(alloc, counts.len())?;
     let mut reached = Vec::new(alloc);
     let mut relevant = Vec::with_capacity(alloc, counts.len())?;
+    let mut text = Vec::new(alloc);
     let mut firsts = Vec::new(alloc);
+    let mut labels = Labels::new(alloc);
     for number in 0..whole {
         write_strategy(counts, whole, number, &mut strategy)?;
         relevance.write_relevant(&strategy, &mut reached, &mut relevant)?;
         if is_first(&relevant, &strategy) {
+            write_reduced_label(&relevant, &strategy, &mut text)?;
+            labels.push(Label::of_spelling(&text))?;
             firsts.push(number)?;
         }
     }
-    Ok(firsts)
+    Ok((firsts, labels))
+}
+
+/// The numbers of the first strategies of each player, and the labels of his reduced ones.
+pub(crate) fn all_reduced(
+    alloc: Global,
+    game: &Game<'_>,
+    counts: &Counts,
+) -> Result<(Vec<Vec<u32>>, Vec<Labels>), AllocError>
+    requires players { length game.now.players ≤ 4294967295 }
+    requires counts { AreCounts game.now counts.now }
+    ensures firsts { IfOk result
+        (λ all. AreFirsts game.now (map (λ own. own.items) all.0.items)) }
+    ensures labels { IfOk result
+        (λ all. all.1.items ≡ map (reduced_labels game.now) (players_of game.now)) }
+{
+    let _players = game.players();
+    let mut firsts = Vec::with_capacity(alloc, counts.actions.len())?;
+    let mut labels = Vec::with_capacity(alloc, counts.actions.len())?;
+    for place in 0..counts.actions.len() {
+        let player = place as u32 + 1;
+        let whole = counts.strategies[place];
+        let (own, names) = first_strategies(alloc, game, player, &counts.actions[place], whole)?;
+        firsts.push(own)?;
+        labels.push(names)?;
+    }
+    Ok((firsts, labels))
 }

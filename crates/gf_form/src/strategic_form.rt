@@ -2,7 +2,9 @@
 
 ghost use Rattle.std.specs.Prelude.{◌≡◌, ◌≤◌, ℕ, List, IfOk, IsErrOf, OnOk, length};
 ghost use Rattle.std.specs.List.{Contains};
+ghost use Rattle.gf_nfg.specs.TableAccess.{IsTableOf};
 ghost use Rattle.gf_form.specs.Counted.{AreCounts};
+ghost use Rattle.gf_form.specs.FitsTable.{FitsTable};
 ghost use Rattle.gf_form.specs.ProfileRows.{AreRowsAt};
 ghost use Rattle.gf_form.specs.Refusal.{HasTooManyProfiles, HasValues, OverflowsAt};
 ghost use Rattle.gf_form.specs.StrategicForm.{ArePayoffsAt, IsStrategicForm};
@@ -11,14 +13,37 @@ ghost use Rattle.gf_form.specs.Strategies.{full_profiles};
 use crate::counts::Counts;
 use crate::fault::FormFault;
 use crate::form_labels::{all_labels, label_lists};
-use crate::profile_rows::profile_rows;
+use crate::full_rows::full_rows;
 use gf_fraction::Fraction;
-use gf_nfg::Table;
+use gf_nfg::{Labels, Table};
 use gf_tree::Game;
 use std::alloc::{AllocError, Global};
 
-/// The table of a game with these payoffs at its profiles.
-fn table_with(
+/// The table of a game with these labels of each player's strategies, and these payoffs.
+pub(crate) fn table_with(
+    alloc: Global,
+    game: &Game<'_>,
+    labels: &[Labels],
+    rows: Vec<Fraction>,
+) -> Result<Table, AllocError>
+    requires players { length game.now.players ≤ 4294967295 }
+    requires fits { FitsTable (length game.now.players) labels.now rows.items }
+    ensures { IfOk result (λ t. IsTableOf t game.now.title game.now.comment game.now.players
+        labels.now rows.items) }
+{
+    let strategies = label_lists(alloc, labels)?;
+    Table::with_rows(
+        alloc,
+        game.title(),
+        game.comment(),
+        game.players(),
+        &strategies,
+        rows,
+    )
+}
+
+/// The strategic form of a game, with these payoffs at its profiles.
+fn form_with(
     alloc: Global,
     game: &Game<'_>,
     counts: &Counts,
@@ -29,16 +54,9 @@ fn table_with(
     requires rows { AreRowsAt (ArePayoffsAt game.now) (full_profiles game.now) rows.items }
     ensures { IfOk result (λ t. IsStrategicForm game.now t) }
 {
+    let _players = game.players();
     let labels = all_labels(alloc, counts)?;
-    let strategies = label_lists(alloc, &labels)?;
-    Table::with_rows(
-        alloc,
-        game.title(),
-        game.comment(),
-        game.players(),
-        &strategies,
-        rows,
-    )
+    table_with(alloc, game, &labels, rows)
 }
 
 /// The strategic form of a game: the table of its players and of their pure strategies, with the
@@ -67,9 +85,9 @@ pub fn table(alloc: Global, game: &Game<'_>) -> Result<Table, FormFault>
     let Some(counts) = Counts::new(alloc, game)? else {
         return Err(FormFault::TooManyProfiles);
     };
-    let rows = match profile_rows(alloc, game, &counts) {
+    let rows = match full_rows(alloc, game, &counts) {
         Ok(rows) => rows,
         Err(fault) => return Err(fault),
     };
-    Ok(table_with(alloc, game, &counts, rows)?)
+    Ok(form_with(alloc, game, &counts, rows)?)
 }

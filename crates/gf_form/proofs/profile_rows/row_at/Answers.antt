@@ -1,9 +1,10 @@
 use Rattle.std.proofs.Common.{◌∙◌, List, Vec, Global, ℕ, ap, arith, map, subst, sym}
 use Rattle.std.specs.Prelude.{IfOk, OnOk}
+use Rattle.gf_form.specs.Picked.{numbers_in}
 use Rattle.gf_form.specs.Refusal.{HasValuesBy}
 use Rattle.gf_form.specs.StrategicForm.{ArePayoffs}
 use Rattle.gf_form.specs.Strategies.{AreStrategies, choices_by}
-use Rattle.gf_form.proofs.ProfilesByNumber.{are_strategies}
+use Rattle.gf_form.proofs.PickedProfiles.{are_strategies, counted_profiles}
 use Rattle.gf_form.proofs.profile_rows.row_at.Goals as goal
 
 pub expected-requires : goal.expected-requires
@@ -12,7 +13,13 @@ expected-requires c =
     subst (AreStrategies g)
     (sym (ap (map (λ (own : Vec ℕ Global). own.items)) c.deref.ensures.value
     ∙ c.in_ok-strategies.ensures g c.requires.counts))
-    (are_strategies g c.args.profile (omega (arith, c.requires.within, c.requires.counts.profiles)))
+    (are_strategies g (numbers_in c.args.picked.now) c.requires.picked.numbers c.args.profile
+    (omega (
+      arith,
+      c.requires.within,
+      c.requires.picked.profiles,
+      counted_profiles (numbers_in c.args.picked.now),
+    )))
 
 pub returns-clause-payoffs : goal.returns-clause-payoffs
 returns-clause-payoffs c =

@@ -1,9 +1,12 @@
-use Rattle.std.proofs.Common.{[]}
+use Rattle.std.proofs.Common.{◌≡◌, [], get_or, map}
+use Rattle.gf_form.specs.Reduced.{reduced, reduced_label}
 use Rattle.gf_form.specs.Strategies.{strategies}
 use Rattle.gf_form.proofs.FirstNumbers.{AreFirst}
 use Rattle.gf_form.proofs.FirstStrategies.{is_first}
 use Rattle.gf_form.proofs.reduced.first_strategies.Given as goal
 
 abbrev pub invariant-loop-number : goal.invariant-loop-number
-invariant-loop-number l = AreFirst (is_first l.game l.player) (strategies l.game l.player) []
-    l.firsts.items l.number
+invariant-loop-number l =
+    AreFirst (is_first l.game l.player) (strategies l.game l.player) [] l.firsts.items l.number
+    × (l.labels ≡ map (λ number. reduced_label
+    (reduced l.game l.player (get_or (strategies l.game l.player) number []))) l.firsts.items)

@@ -1,6 +1,7 @@
 use Rattle.std.proofs.Common.{◌≡◌, take}
 use Rattle.std.specs.List.{AllByRecursion}
-use Rattle.gf_form.proofs.StrategiesByNumber.{IsPlain, dashed}
+use Rattle.gf_form.specs.LabelTexts.{IsPlain}
+use Rattle.gf_form.proofs.StrategiesByNumber.{dashed}
 use Rattle.gf_form.proofs.strategies.write_label.Given as goal
 
 abbrev pub invariant-loop-action : goal.invariant-loop-action

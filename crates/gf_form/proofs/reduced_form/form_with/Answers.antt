@@ -1,0 +1,34 @@
+use Rattle.std.proofs.Common.{◌≤◌, ℕ, List, arith, length, subst, sym}
+use Rattle.std.proofs.lemmas.Result.{IfOk-weaker}
+use Rattle.gf_nfg.specs.Limit.{profile_limit}
+use Rattle.gf_form.specs.Firsts.{IsPaidAt}
+use Rattle.gf_form.specs.ProfileRows.{AreRowsAt}
+use Rattle.gf_form.specs.Reduced.{reduced_labels}
+use Rattle.gf_form.proofs.FirstsPicked.{fewer_profiles, paid_fractions, paid_full, reduced_made}
+use Rattle.gf_form.proofs.FirstsPicked.{reduced_form_profiles, some_reduced_label}
+use Rattle.gf_form.proofs.FormMade.{fits_table, form_made}
+use Rattle.gf_form.proofs.reduced_form.form_with.Goals as goal
+
+pub table_with-requires-clause-fits : goal.table_with-requires-clause-fits
+table_with-requires-clause-fits c =
+    let g = c.args.game.now in
+    let game = c.players-players.ensures.is_game in
+    fits_table (reduced_labels g) (IsPaidAt g) g c.args.labels.now c.args.rows.items
+    c.requires.labels (paid_full g)
+    (subst (λ (ps : List (List ℕ)). AreRowsAt (IsPaidAt g) ps c.args.rows.items)
+    (sym (reduced_form_profiles g)) c.requires.rows)
+    (some_reduced_label g game)
+    (subst (λ (ps : List (List ℕ)). length ps ≤ profile_limit) (sym (reduced_form_profiles g))
+    (omega (arith, fewer_profiles g game, c.requires.few)))
+    (paid_fractions g)
+
+pub returns : goal.returns
+returns c =
+    let g = c.args.game.now in
+    IfOk-weaker c.table_with.result _ _
+    (λ t made. reduced_made g t (form_made (reduced_labels g) (IsPaidAt g) g c.args.labels.now
+    c.args.rows.items c.requires.labels (paid_full g)
+    (subst (λ (ps : List (List ℕ)). AreRowsAt (IsPaidAt g) ps c.args.rows.items)
+    (sym (reduced_form_profiles g)) c.requires.rows)
+    t made))
+    c.table_with.ensures

@@ -1,0 +1,71 @@
+//! The strategies of each player that are picked for a table.
+
+ghost use Rattle.std.specs.Prelude.{◌≡◌, ◌<◌, ℕ, length, map, IfOk, MatchOption};
+ghost use Rattle.std.specs.List.{AllByRecursion};
+ghost use Rattle.gf_nfg.specs.Limit.{profile_limit};
+ghost use Rattle.gf_nfg.specs.Profiles.{numbers_from, product};
+ghost use Rattle.gf_tree.specs.Game.{Game};
+ghost use Rattle.gf_form.specs.Counted.{AreCounts};
+ghost use Rattle.gf_form.specs.Picked.{IsPicked, numbers_in, picked_profiles};
+ghost use Rattle.gf_form.specs.Strategies.{full_profiles};
+
+use crate::counts::Counts;
+use gf_nfg::ProfileCount;
+use std::alloc::{AllocError, Global};
+
+/// Some strategies of each player, and how many profiles they have.
+#[derive(Drop)]
+pub(crate) struct Picked {
+    /// Of each player, by their numbers, from 0.
+    pub numbers: Vec<Vec<u32>>,
+    pub profiles: ProfileCount,
+}
+
+/// So many numbers, from 0.
+fn numbers_below(alloc: Global, count: u32) -> Result<Vec<u32>, AllocError>
+    ensures { IfOk result (λ numbers. numbers.items ≡ numbers_from 0 count) }
+{
+    let mut numbers = Vec::with_capacity(alloc, count as usize)?;
+    for number in 0..count {
+        numbers.push(number)?;
+    }
+    Ok(numbers)
+}
+
+impl Picked {
+    /// All strategies of each player.
+    pub(crate) fn all(alloc: Global, counts: &Counts) -> Result<Picked, AllocError>
+        ensures picked { IfOk result
+            (λ picked. (g : Game) → AreCounts g counts.now → IsPicked g picked) }
+        ensures full { IfOk result (λ picked. (g : Game) → AreCounts g counts.now
+            → picked_profiles (numbers_in picked) ≡ full_profiles g) }
+    {
+        let mut numbers = Vec::with_capacity(alloc, counts.strategies.len())?;
+        for count in &counts.strategies {
+            numbers.push(numbers_below(alloc, *count)?)?;
+        }
+        Ok(Picked {
+            numbers,
+            profiles: counts.profiles,
+        })
+    }
+
+    /// The strategies with these numbers; `None` where they have more profiles than a table may have.
+    pub(crate) fn of_numbers(numbers: Vec<Vec<u32>>) -> Option<Picked>
+        requires { AllByRecursion (λ count. 0 < count)
+            (map length (map (λ own. own.items) numbers.items)) }
+        ensures { MatchOption result
+            (profile_limit < product (map length (map (λ own. own.items) numbers.items)))
+            (λ picked. (numbers_in picked ≡ map (λ own. own.items) numbers.items)
+            × (picked.profiles.count ≡ product (map length (numbers_in picked)))) }
+    {
+        let mut profiles = ProfileCount::one();
+        for own in &numbers {
+            let Some(more) = profiles.times(own.len()) else {
+                return None;
+            };
+            profiles = more;
+        }
+        Some(Picked { numbers, profiles })
+    }
+}

@@ -1,0 +1,103 @@
+//! The reduced form of a game.
+
+ghost use Rattle.std.specs.Prelude.{◌≡◌, ◌≤◌, ℕ, List, IfOk, IsErrOf, OnOk, length, map};
+ghost use Rattle.std.specs.List.{AllByRecursion, Contains};
+ghost use Rattle.gf_nfg.specs.Limit.{profile_limit};
+ghost use Rattle.gf_form.specs.Counted.{AreCounts};
+ghost use Rattle.gf_form.specs.Firsts.{AreFirsts, IsPaidAt};
+ghost use Rattle.gf_form.specs.ProfileRows.{AreRowsAt};
+ghost use Rattle.gf_form.specs.Reduced.{IsReducedForm, reduced_labels, reduced_profiles};
+ghost use Rattle.gf_form.specs.Refusal.{HasReducedValues, HasTooManyProfiles, ReducedOverflowsAt};
+ghost use Rattle.gf_form.specs.Strategies.{full_profiles, players_of};
+
+use crate::counts::Counts;
+use crate::fault::FormFault;
+use crate::picked::Picked;
+use crate::profile_rows::profile_rows;
+use crate::reduced::all_reduced;
+use crate::strategic_form::table_with;
+use gf_fraction::Fraction;
+use gf_nfg::{Labels, Table};
+use gf_tree::Game;
+use std::alloc::{AllocError, Global};
+
+/// What each player is paid at each profile of the reduced form, where these are the numbers of the
+/// first strategies of each player.
+fn reduced_rows(
+    alloc: Global,
+    game: &Game<'_>,
+    counts: &Counts,
+    firsts: Vec<Vec<u32>>,
+) -> Result<Vec<Fraction>, FormFault>
+    requires players { length game.now.players ≤ 4294967295 }
+    requires counts { AreCounts game.now counts.now }
+    requires firsts { AreFirsts game.now (map (λ own. own.items) firsts.items) }
+    ensures rows { IfOk result (λ rows.
+        AreRowsAt (IsPaidAt game.now) (reduced_profiles game.now) rows.items) }
+    ensures values { OnOk result
+        (AllByRecursion (HasReducedValues game.now) (reduced_profiles game.now)) }
+    ensures few { IsErrOf result FormFault.TooManyProfiles → ⊥ }
+    ensures overflow { (position : ℕ) → IsErrOf result (FormFault.Overflow position)
+        → ReducedOverflowsAt game.now position }
+{
+    let _players = game.players();
+    let Some(picked) = Picked::of_numbers(firsts) else {
+        return Err(FormFault::TooManyProfiles);
+    };
+    profile_rows(alloc, game, counts, &picked)
+}
+
+/// The reduced form of a game, with these labels of its reduced strategies, and these payoffs at
+/// their profiles.
+fn form_with(
+    alloc: Global,
+    game: &Game<'_>,
+    labels: &[Labels],
+    rows: Vec<Fraction>,
+) -> Result<Table, AllocError>
+    requires players { length game.now.players ≤ 4294967295 }
+    requires few { length (full_profiles game.now) ≤ profile_limit }
+    requires labels { labels.now ≡ map (reduced_labels game.now) (players_of game.now) }
+    requires rows { AreRowsAt (IsPaidAt game.now) (reduced_profiles game.now) rows.items }
+    ensures { IfOk result (λ t. IsReducedForm game.now t) }
+{
+    let _players = game.players();
+    table_with(alloc, game, labels, rows)
+}
+
+/// The reduced form of a game: the table of its players and of their reduced strategies, with the
+/// payoffs at each profile.
+///
+/// A reduced strategy is what is left of a pure one without the choices that cannot matter: it has
+/// an action at each set to which some play comes on which the set's owner makes all his earlier
+/// moves as he chooses, and `*` at the others. Its label is these, joined by `-`: `1-*` (this
+/// project's profile). The reduced strategies stand in the order of the first strategies that reduce
+/// to them, and the payoffs at a profile are those at every profile of the strategic form that
+/// reduces to it.
+///
+/// The caller sees to it that there are at most 4,294,967,295 players.
+///
+/// `TooManyProfiles` where the strategic form has more than 1,048,576 profiles (this project's
+/// profile), whatever the number of those of the reduced form. `Overflow` with the number of a
+/// profile, from 1 in the order of the table, where some player has no bottom-up value at it and
+/// each has at all profiles before it. `Memory` where memory is refused.
+pub fn table_reduced(alloc: Global, game: &Game<'_>) -> Result<Table, FormFault>
+    requires { length game.now.players ≤ 4294967295 }
+    ensures form { IfOk result (λ t. IsReducedForm game.now t) }
+    ensures few { OnOk result (¬ (HasTooManyProfiles game.now)) }
+    ensures values { OnOk result ((profile : List ℕ) → Contains (reduced_profiles game.now) profile
+        → HasReducedValues game.now profile) }
+    ensures too_many { IsErrOf result FormFault.TooManyProfiles → HasTooManyProfiles game.now }
+    ensures overflow { (position : ℕ) → IsErrOf result (FormFault.Overflow position)
+        → ¬ (HasTooManyProfiles game.now) × ReducedOverflowsAt game.now position }
+{
+    let Some(counts) = Counts::new(alloc, game)? else {
+        return Err(FormFault::TooManyProfiles);
+    };
+    let (firsts, labels) = all_reduced(alloc, game, &counts)?;
+    let rows = match reduced_rows(alloc, game, &counts, firsts) {
+        Ok(rows) => rows,
+        Err(fault) => return Err(fault),
+    };
+    Ok(form_with(alloc, game, &labels, rows)?)
+}
