@@ -50,6 +50,8 @@ Example:
 
 pub const TABLE: &str = "Write the strategic form of a game";
 
+pub const REDUCED: &str = "Leave out the choices that cannot matter";
+
 pub const AFTER_TABLE: &str = "\
 Prints the tree as a strategic file in canonical text: a strategy is an action
 at each information set of its player, as 1-2, in order of first use, and each
@@ -58,6 +60,10 @@ printed as by canon. A refused file is answered as by canon. A tree with more
 than 1048576 profiles has the line 'too many profiles', and one whose payoffs
 are past the bounds of numbers 'overflow at profile 2', as an example; then
 nothing is printed, and the status is 2.
+
+With --reduced a strategy has * in place of an action at each information set
+that the player's own earlier choices keep out of reach, as 1-*, and strategies
+that are then equal are one. 'too many profiles' counts all strategies.
 
 Example:
   gamefile table game.efg > game.nfg";

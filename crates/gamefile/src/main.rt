@@ -49,8 +49,13 @@ fn perform(rt: &HostRuntime, job: &Job) -> Result<u8, RunFault> {
             check::run_check(alloc, &mut open_input(rt, input)?, &mut output)?;
             Ok(0)
         }
-        Job::Table(input) => {
-            table::run_table(alloc, &mut open_input(rt, input)?, &mut output)?;
+        Job::Table { input, reduced } => {
+            let mut input = open_input(rt, input)?;
+            if *reduced {
+                table::run_table_reduced(alloc, &mut input, &mut output)?;
+            } else {
+                table::run_table(alloc, &mut input, &mut output)?;
+            }
             Ok(0)
         }
         Job::Same { a, b, map, names } => {

@@ -7,7 +7,7 @@ use crate::report::write_fault;
 use crate::run::run_canon;
 use crate::sink::Sink;
 use crate::source::{LIMIT, Source};
-use crate::table::run_table;
+use crate::table::{run_table, run_table_reduced};
 use gf_token::{Fault, Span, What, Why};
 use script::{
     ALL, INTERRUPTED, ScriptReader, ScriptWriter, Spaces, Step, interrupted_steps, steps,
@@ -32,13 +32,14 @@ enum Run {
     Canon,
     Check,
     Table,
+    Reduced,
 }
 
 impl Run {
     /// What it writes of `INPUT`.
     fn output(self) -> &'static [u8] {
         match self {
-            Run::Canon | Run::Table => b"NFG 1 R \"\" { }\n{ }\n\"\"\n\n\n",
+            Run::Canon | Run::Table | Run::Reduced => b"NFG 1 R \"\" { }\n{ }\n\"\"\n\n\n",
             Run::Check => b"table\n",
         }
     }
@@ -53,11 +54,12 @@ impl Run {
             Run::Canon => run_canon(alloc, input, output),
             Run::Check => run_check(alloc, input, output).map(|_| ()),
             Run::Table => run_table(alloc, input, output),
+            Run::Reduced => run_table_reduced(alloc, input, output),
         }
     }
 }
 
-const RUNS: [Run; 3] = [Run::Canon, Run::Check, Run::Table];
+const RUNS: [Run; 4] = [Run::Canon, Run::Check, Run::Table, Run::Reduced];
 
 /// What a run answered, what it wrote, and how many failures its reader and its writer counted.
 #[derive(Drop)]
@@ -97,6 +99,7 @@ fn goes_on_after_short_and_interrupted_answers(rt: HostRuntime) -> Result<(), Fa
         (Run::Canon, 15 * 24),
         (Run::Check, 15 * 6),
         (Run::Table, 15 * 24),
+        (Run::Reduced, 15 * 24),
     ] {
         let text = run.output();
         // One more read finds the end.

@@ -25,8 +25,11 @@ pub enum Job {
     Canon(Input),
     /// What a file holds.
     Check(Input),
-    /// The strategic form of a tree, or a table as it is.
-    Table(Input),
+    /// The strategic form of a tree, the reduced one where `reduced` is true; a table as it is.
+    Table {
+        input: Input,
+        reduced: bool,
+    },
     /// Whether the files of these names mean the same; with the renumbering where `map` is true.
     Same {
         a: String,
@@ -95,10 +98,8 @@ fn check<'a>(alloc: Global) -> Result<Command<'a>, AllocError> {
 }
 
 fn table<'a>(alloc: Global) -> Result<Command<'a>, AllocError> {
-    on_one_file(
-        command(alloc, "table", help::TABLE, help::AFTER_TABLE),
-        alloc,
-    )
+    let table = command(alloc, "table", help::TABLE, help::AFTER_TABLE);
+    on_one_file(table.arg(flag(alloc, "reduced", help::REDUCED))?, alloc)
 }
 
 fn with_same_options<'a>(command: Command<'a>, alloc: Global) -> Result<Command<'a>, AllocError> {
@@ -135,6 +136,13 @@ fn name_of(alloc: Global, matches: &ArgMatches<'_>, id: &str) -> Result<String, 
     String::from_str(alloc, matches.get_str(id).unwrap_or(""))
 }
 
+fn table_of(alloc: Global, matches: &ArgMatches<'_>) -> Result<Job, AllocError> {
+    Ok(Job::Table {
+        input: input_of(alloc, matches)?,
+        reduced: matches.get_flag("reduced"),
+    })
+}
+
 fn same_of(alloc: Global, matches: &ArgMatches<'_>) -> Result<Job, AllocError> {
     let names = if matches.get_flag("no-names") {
         Names::Aside
@@ -152,7 +160,7 @@ fn same_of(alloc: Global, matches: &ArgMatches<'_>) -> Result<Job, AllocError> {
 fn job_of(alloc: Global, matches: &ArgMatches<'_>) -> Result<Job, AllocError> {
     match matches.subcommand() {
         Some(("check", inner)) => Ok(Job::Check(input_of(alloc, inner)?)),
-        Some(("table", inner)) => Ok(Job::Table(input_of(alloc, inner)?)),
+        Some(("table", inner)) => table_of(alloc, inner),
         Some(("same", inner)) => same_of(alloc, inner),
         Some((_, inner)) => Ok(Job::Canon(input_of(alloc, inner)?)),
         None => Ok(Job::Canon(Input::Standard)),
@@ -169,8 +177,8 @@ fn fault_of(alloc: Global, error: &Error) -> Result<WordsFault, AllocError> {
 }
 
 /// What the words behind the program's name ask for: `canon [FILE]`, `check [FILE]`,
-/// `table [FILE]`, `same [--map | --no-names] A B`, or none of these, which is `canon` of standard
-/// input.
+/// `table [--reduced] [FILE]`, `same [--map | --no-names] A B`, or none of these, which is `canon` of
+/// standard input.
 ///
 /// - `Help`: the words ask for help, as `--help` does, or `help`, behind a command too.
 /// - `Usage`: they are no such words.

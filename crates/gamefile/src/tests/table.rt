@@ -5,7 +5,7 @@ use super::trees::FIVE;
 use crate::counted::Counted;
 use crate::fault::{RunFault, status};
 use crate::report::write_fault;
-use crate::table::run_table;
+use crate::table::{run_table, run_table_reduced};
 use gf_form::FormFault;
 use std::alloc::Global;
 use std::test::Fail;
@@ -14,6 +14,17 @@ use std::test::Fail;
 fn table(alloc: Global, mut input: &[u8]) -> (Result<(), RunFault>, Vec<u8>) {
     let mut output = Vec::new(alloc);
     let answer = run_table(
+        alloc,
+        &mut Counted::new(&mut input),
+        &mut Counted::new(&mut output),
+    );
+    (answer, output)
+}
+
+/// The same with reduced strategies.
+fn reduced(alloc: Global, mut input: &[u8]) -> (Result<(), RunFault>, Vec<u8>) {
+    let mut output = Vec::new(alloc);
+    let answer = run_table_reduced(
         alloc,
         &mut Counted::new(&mut input),
         &mut Counted::new(&mut output),
@@ -31,6 +42,19 @@ p \"\" 1 1 0
 t \"\" 0
 t \"\" 3 \"y\" { 3 1 }
 ";
+
+/// The second choice matters where the first one is the second action.
+const ENDING: &[u8] = b"EFG 2 R \"r\" { \"A\" }
+p \"\" 1 1 \"i\" { \"a\" \"b\" } 0
+t \"\" 1 \"x\" { 1 }
+p \"\" 1 2 \"j\" { \"c\" \"d\" } 0
+t \"\" 2 \"y\" { 2 }
+t \"\" 3 \"z\" { 3 }
+";
+
+/// Both actions lead to the second set, by a node of it each.
+const BOTH_WAYS: &[u8] = b"EFG 2 R \"w\" { \"A\" } p \"\" 1 1 \"i\" { \"a\" \"b\" } 0
+p \"\" 1 2 \"j\" { \"c\" \"d\" } 0 t \"\" 0 t \"\" 0 p \"\" 1 2 0 t \"\" 0 t \"\" 0";
 
 /// At the second profile a sum does not fit on the way, though the payoff of the play does.
 const OVERFLOWING: &[u8] = b"EFG 2 R \"o\" { \"A\" }
@@ -72,6 +96,29 @@ fn writes_tables_of_trees(rt: HostRuntime) {
 }
 
 #[test]
+fn writes_reduced_tables_of_trees(rt: HostRuntime) {
+    let rows: [(&[u8], &[u8]); 3] = [
+        (
+            ENDING,
+            b"NFG 1 R \"r\" { \"A\" }\n{ { \"1-*\" \"2-1\" \"2-2\" } }\n\"\"\n\n1\n2\n3\n",
+        ),
+        (
+            BONUS,
+            b"NFG 1 R \"g\" { \"A\" \"B\" }\n{ { \"1\" \"2\" } { \"\" } }\n\"\"\n\n3/2 0\n2 1/2\n",
+        ),
+        (
+            BOTH_WAYS,
+            b"NFG 1 R \"w\" { \"A\" }\n{ { \"1-1\" \"1-2\" \"2-1\" \"2-2\" } }\n\"\"\n\n0\n0\n0\n0\n",
+        ),
+    ];
+    for (input, text) in rows {
+        let (answer, output) = reduced(rt.alloc(), input);
+        assert_eq!(rt; answer, Ok(()), "{input:?}");
+        assert_eq!(rt; output.as_slice(), text, "{input:?}");
+    }
+}
+
+#[test]
 fn tables_and_refusals_are_those_of_canon(rt: HostRuntime) {
     let rows: [&[u8]; 6] = [
         b"NFG 1 R \"Selten\" { \"Player 1\" \"Player 2\" } { 3 2 } 1 1 0 2 0 2 1 1 0 3 2 0",
@@ -82,11 +129,9 @@ fn tables_and_refusals_are_those_of_canon(rt: HostRuntime) {
         FIVE.split_at(100).0,
     ];
     for input in rows {
-        assert_eq!(rt;
-            table(rt.alloc(), input),
-            canon(rt.alloc(), input),
-            "{input:?}"
-        );
+        let wanted = canon(rt.alloc(), input);
+        assert_eq!(rt; table(rt.alloc(), input), wanted, "{input:?}");
+        assert_eq!(rt; reduced(rt.alloc(), input), wanted, "{input:?}");
     }
 }
 
@@ -119,10 +164,11 @@ fn tells_why_there_is_no_table(rt: HostRuntime) -> Result<(), Fail> {
         ),
     ];
     for (input, form, line) in rows {
-        let (answer, output) = table(alloc, input);
         let fault = RunFault::Form(form);
-        assert_eq!(rt; answer, Err(fault));
-        assert!(rt; output.is_empty());
+        for (answer, output) in [table(alloc, input), reduced(alloc, input)] {
+            assert_eq!(rt; answer, Err(fault));
+            assert!(rt; output.is_empty());
+        }
         assert_eq!(rt; status(&fault), 2);
         let mut told = Vec::new(alloc);
         assert_eq!(rt; write_fault(&fault, &mut Counted::new(&mut told)), Ok(()));

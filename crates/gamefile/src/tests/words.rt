@@ -15,7 +15,7 @@ fn asked(alloc: Global, words: &[&str]) -> Result<String, AllocError> {
 
 #[test]
 fn ask_for_jobs(rt: HostRuntime) -> Result<(), AllocError> {
-    let rows: [(&[&str], &str); 18] = [
+    let rows: [(&[&str], &str); 21] = [
         (&[], "Canon(Standard)"),
         (&["canon"], "Canon(Standard)"),
         (&["canon", "a.efg"], "Canon(File(\"a.efg\"))"),
@@ -25,8 +25,23 @@ fn ask_for_jobs(rt: HostRuntime) -> Result<(), AllocError> {
         (&["canon", "--", "--map"], "Canon(File(\"--map\"))"),
         (&["check"], "Check(Standard)"),
         (&["check", "a.efg"], "Check(File(\"a.efg\"))"),
-        (&["table"], "Table(Standard)"),
-        (&["table", "a.efg"], "Table(File(\"a.efg\"))"),
+        (&["table"], "Table { input: Standard, reduced: false }"),
+        (
+            &["table", "a.efg"],
+            "Table { input: File(\"a.efg\"), reduced: false }",
+        ),
+        (
+            &["table", "--reduced"],
+            "Table { input: Standard, reduced: true }",
+        ),
+        (
+            &["table", "--reduced", "a.efg"],
+            "Table { input: File(\"a.efg\"), reduced: true }",
+        ),
+        (
+            &["table", "a.efg", "--reduced"],
+            "Table { input: File(\"a.efg\"), reduced: true }",
+        ),
         (
             &["same", "a", "b"],
             "Same { a: \"a\", b: \"b\", map: false, names: Kept }",
@@ -64,7 +79,7 @@ fn ask_for_jobs(rt: HostRuntime) -> Result<(), AllocError> {
 
 #[test]
 fn are_wrong(rt: HostRuntime) -> Result<(), AllocError> {
-    let rows: [&[&str]; 20] = [
+    let rows: [&[&str]; 22] = [
         &["same"],
         &["same", "a"],
         &["same", "a", "b", "c"],
@@ -76,6 +91,8 @@ fn are_wrong(rt: HostRuntime) -> Result<(), AllocError> {
         &["check", "--no-names"],
         &["check", "-x"],
         &["table", "a", "b"],
+        &["table", "--reduced", "--reduced"],
+        &["canon", "--reduced", "a"],
         &["tree"],
         &["a.efg"],
         &["Canon"],

@@ -11,7 +11,7 @@ table_of-requires c =
 
 pub returns-in_err-write_nfg-clause-fault : goal.returns-in_err-write_nfg-clause-fault
 returns-in_err-write_nfg-clause-fault c = IfErr-only _ Memory
-    (IsFaultOfBytes c.args.bytes.now) c.from_residual-in_err-write_nfg.ensures.1
+    (IsFaultOfBytes c.args.strategies c.args.bytes.now) c.from_residual-in_err-write_nfg.ensures.1
     (file_of c.in-Ok.meaning, c.in-Ok.ensures.spelled, tt)
 
 pub returns-clause-text : goal.returns-clause-text

@@ -2,13 +2,13 @@ use Rattle.std.proofs.Common.{subst, ℕ, List}
 use Rattle.gamefile.specs.FormText.{IsFaultOfBytes, read}
 use Rattle.gamefile.proofs.Errors.{IfErr-only}
 use Rattle.gamefile.proofs.FormTexts.{not_of_writer}
-use Rattle.gamefile.proofs.table.run_table.Goals as goal
+use Rattle.gamefile.proofs.table.run_form.Goals as goal
 
 pub returns-in_err-text-clause-refused : goal.returns-in_err-text-clause-refused
 returns-in_err-text-clause-refused g c =
     IfErr-only _ _ _ c.from_residual-in_err-text.ensures.1
     (read _ c.in_ok-bytes.ensures.whole
-    (subst (λ (bytes : List ℕ). IsFaultOfBytes bytes c.in_err-text.field-0.0) c.deref.ensures.value
+    (subst (λ (bytes : List ℕ). IsFaultOfBytes c.args.strategies bytes c.in_err-text.field-0.0) c.deref.ensures.value
     c.in_err-text.ensures.fault))
 
 pub returns-in_err-text-clause-cut_off : goal.returns-in_err-text-clause-cut_off
