@@ -1,5 +1,6 @@
 //! Files, and the texts of their games.
 
+mod cuts;
 mod sameness;
 
 use crate::{renumber, write_efg};

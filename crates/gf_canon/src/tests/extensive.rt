@@ -7,6 +7,7 @@ use gf_tree::{Game, read_efg};
 use std::alloc::Global;
 use std::process::Abort;
 
+mod cuts;
 mod files;
 mod games;
 mod large;

@@ -9,7 +9,7 @@ use std::process::Abort;
 use std::test::Fail;
 
 /// `FIVE` by other numbers.
-const COPY: &[u8] = b"EFG 2 R \"five\" { \"A\" }
+pub(super) const COPY: &[u8] = b"EFG 2 R \"five\" { \"A\" }
 c \"\" 2 \"n\" { \"h\" 0.5 \"t\" 1/2 } 0
 p \"\" 1 3 \"i\" { \"L\" } 0
 c \"\" 2 \"n\" { \"h\" 1/2 \"t\" 0.50 } 0
@@ -34,7 +34,7 @@ t \"\" 2
 const UNSEEN: &[u8] = b"EFG 2 R \"s\" { \"A\" } c \"\" 1 \"n\" { \"h\" 1/2 \"t\" 1/2 } 0 \
 p \"\" 1 1 \"i\" { \"L\" } 0 t \"\" 0 p \"\" 1 1 0 t \"\" 0";
 
-const SEEN: &[u8] = b"EFG 2 R \"s\" { \"A\" } c \"\" 1 \"n\" { \"h\" 1/2 \"t\" 1/2 } 0 \
+pub(super) const SEEN: &[u8] = b"EFG 2 R \"s\" { \"A\" } c \"\" 1 \"n\" { \"h\" 1/2 \"t\" 1/2 } 0 \
 p \"\" 1 1 \"i\" { \"L\" } 0 t \"\" 0 p \"\" 1 2 \"i\" { \"L\" } 0 t \"\" 0";
 
 /// Both actions lead to one outcome, or to two with equal descriptions.

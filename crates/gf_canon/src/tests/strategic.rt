@@ -7,6 +7,7 @@ use std::alloc::{AllocError, Global};
 use std::process::Abort;
 use std::test::Fail;
 
+mod alike;
 mod reading;
 
 /// The canonical text of the table of Selten.

@@ -5,7 +5,7 @@ use std::alloc::Global;
 use std::process::Abort;
 
 /// Files as they stand in examples.
-const ROWS: [&[u8]; 12] = [
+pub(super) const ROWS: [&[u8]; 12] = [
     FIVE,
     BONUS,
     b"EFG 2 R \"\" { } t \"\" 0",
