@@ -67,6 +67,13 @@ find_kept {X} own test owned (x ∷ xs) =
     by_tests false true h e others = absurd (true≢false (sym (h refl)))
     by_tests false false h e others = others
 
+pub among_his : (g : Game) (key : SetKey)
+    → description_at same_set (player_sets g key.player) key ≡ set_at g key
+among_his g key = ap (option_map (λ e. e.description))
+    (find_kept (λ (s : Described SetKey InformationSet). s.key.player == key.player)
+    (λ s. same_set s.key key)
+    (λ s e. (and_parts (s.key.player == key.player) (s.key.number == key.number) e).0) g.sets)
+
 -- ---- a strategy for each player
 
 abbrev AreStrategies : Game → List (List ℕ) → List ℕ → Type 0
@@ -90,15 +97,8 @@ module _ (g : Game) (game : IsGame g) where
       → (1 ≤ choice_at (player_keys g key.player) strategy key)
       × (choice_at (player_keys g key.player) strategy key ≤ length set.actions)
   his_actions strategy key set his is =
-      let among : description_at same_set (player_sets g key.player) key ≡ Some set =
-      ap
-      (option_map (λ e. e.description))
-      (find_kept (λ (s : Described SetKey InformationSet). s.key.player == key.player)
-      (λ s. same_set s.key key)
-      (λ s e. (and_parts (s.key.player == key.player) (s.key.number == key.number) e).0) g.sets)
-      ∙ is in
       choice_within key (player_sets g key.player) strategy set
-      ((every_choice (action_counts g key.player) strategy).0 his) among
+      ((every_choice (action_counts g key.player) strategy).0 his) (among_his g key ∙ is)
 
   pub have_actions : (all : List (List ℕ)) → AreStrategies g all (players_of g)
       → HasActions g (choices_by g all)

@@ -59,14 +59,15 @@ module _ (g : Game) (game : IsGame g) (spellable : IsSpellable g) (choices : Set
   HasValue player = (value : Ratio) × IsValue g choices player g.tree value
 
   abbrev AreValues : List Ratio → Type 0
-  AreValues row = (k : ℕ) → value g choices (suc k) g.tree ≡ Some (at_place row k)
+  AreValues row = (k : ℕ) → k < length g.players
+      → value g choices (suc k) g.tree ≡ Some (at_place row k)
 
-  has_value : (row : List Ratio) → AreValues row → (k : ℕ)
+  has_value : (row : List Ratio) → AreValues row → (k : ℕ) → k < length g.players
       → IsValue g choices (1 + k) g.tree (at_place row k)
-  has_value row h k =
+  has_value row h k less =
       let next : suc k ≡ 1 + k = omega arith in
       subst (λ (player : ℕ). IsValue g choices player g.tree (at_place row k)) next
-      (computed_value g spellable choices (suc k) g.tree (at_place row k) (h k)).0
+      (computed_value g spellable choices (suc k) g.tree (at_place row k) (h k less)).0
 
   pub are_payoffs : (row : List Ratio) → length row ≡ length g.players
       → AllByRecursion IsFraction row → AreValues row → ArePayoffs g choices row
@@ -77,12 +78,13 @@ module _ (g : Game) (game : IsGame g) (spellable : IsSpellable g) (choices : Set
       zero_ratio row 1
       (λ k less. (
         fraction_at row k fractions,
-        value_is_payoff g game spellable (1 + k) choices (at_place row k) (has_value row h k),
+        value_is_payoff g game spellable (1 + k) choices (at_place row k)
+            (has_value row h k (subst (λ (n : ℕ). k < n) count less)),
       )))
 
   pub have_values : (row : List Ratio) → AreValues row → HasValuesBy g choices
   have_values row h =
-      all_in_turn HasValue (length g.players) 1 (λ k less. (at_place row k, has_value row h k))
+      all_in_turn HasValue (length g.players) 1 (λ k less. (at_place row k, has_value row h k less))
 
   pub lacks_value : (k : ℕ) → k < length g.players → value g choices (suc k) g.tree ≡ None
       → HasValuesBy g choices → ⊥

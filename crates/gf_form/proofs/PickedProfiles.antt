@@ -31,7 +31,7 @@ use Rattle.gf_form.proofs.StrategiesByNumber.{all_at, positive_parts}
 
 -- ---- the profile with a number
 
-profiles_next : (count : ℕ) (counts : List ℕ) (rest : ℕ) → 0 < count
+pub profiles_next : (count : ℕ) (counts : List ℕ) (rest : ℕ) → 0 < count
     → rest < count * product counts
     → get_or (profiles (count ∷ counts)) rest []
     ≡ (rest % count + 1) ∷ get_or (profiles counts) (rest / count) []
@@ -127,7 +127,7 @@ one_strategy_more actions picked number i rest count all next own numbers less w
     ∙ so_far
 
 -- the profile with a number
-number_at : (picked : List (List ℕ)) (number : ℕ) → number < product (map length picked)
+pub number_at : (picked : List (List ℕ)) (number : ℕ) → number < product (map length picked)
     → get_or (picked_profiles picked) number []
     ≡ full_at picked (get_or (profiles (map length picked)) number [])
 number_at picked number less =

@@ -2,7 +2,10 @@
 //! and what the players are paid where they choose given actions.
 #![tactic(auto)]
 
+mod column;
+mod columns;
 mod counts;
+mod digits;
 mod evaluate;
 mod expectation;
 mod fault;
@@ -10,6 +13,8 @@ mod form_labels;
 mod full_rows;
 pub mod laws;
 mod op;
+mod own_terms;
+mod paths;
 mod payoffs;
 mod picked;
 mod profile_rows;
@@ -18,8 +23,10 @@ mod reduced_form;
 mod reduced_labels;
 mod relevance;
 mod rows;
+mod shares;
 mod strategic_form;
 mod strategies;
+mod terms;
 #[cfg(test)]
 mod tests;
 mod values;

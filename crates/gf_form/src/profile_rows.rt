@@ -1,15 +1,17 @@
 //! The payoffs at each profile of the strategies that are picked.
 
-ghost use Rattle.std.specs.Prelude.{◌≡◌, ◌<◌, ◌≤◌, [], ℕ, IfOk, IsErrOf, OnOk, get_or, length, map};
+ghost use Rattle.std.specs.Prelude.{◌≡◌, ◌<◌, ◌≤◌, [], ℕ, IfOk, IfSome, IsErrOf, OnOk, get_or, length, map};
 ghost use Rattle.std.specs.List.{AllByRecursion};
 ghost use Rattle.gf_tree.specs.Game.{Game, IsGame};
+ghost use Rattle.gf_form.specs.PlayerColumns.{AreColumns};
 ghost use Rattle.gf_form.specs.Counted.{AreCounts};
 ghost use Rattle.gf_form.specs.Picked.{IsPicked, numbers_in, picked_profiles};
 ghost use Rattle.gf_form.specs.ProfileRows.{AreRowsAt};
 ghost use Rattle.gf_form.specs.Refusal.{HasValues, IsFirstWithout};
 ghost use Rattle.gf_form.specs.StrategicForm.{ArePayoffsAt};
-ghost use Rattle.gf_form.specs.Strategies.{strategies_at};
+ghost use Rattle.gf_form.specs.Strategies.{full_profiles, strategies_at};
 
+use crate::columns::Columns;
 use crate::counts::Counts;
 use crate::expectation::expected;
 use crate::fault::{EvalFault, FormFault};
@@ -47,16 +49,39 @@ fn strategies_of(
     Ok(all)
 }
 
+/// The number of a profile among all, from 0, by its number among those that are picked.
+fn full_number_of(counts: &Counts, picked: &Picked, profile: u32) -> u32
+    requires within { profile < picked.now.profiles.count }
+    requires picked { (g : Game) × AreCounts g counts.now × IsPicked g picked.now }
+    ensures { (g : Game) → AreCounts g counts.now → IsPicked g picked.now
+        → (result < length (full_profiles g)) × (get_or (full_profiles g) result []
+        ≡ get_or (picked_profiles (numbers_in picked.now)) profile []) }
+{
+    let mut number = 0;
+    let mut whole = 1;
+    let mut left = profile as usize;
+    for place in 0..counts.actions.len() {
+        let numbers = &picked.numbers[place];
+        let count = numbers.len();
+        number += whole * numbers[left % count];
+        whole *= counts.strategies[place];
+        left /= count;
+    }
+    number
+}
+
 /// What each player is paid at the profile with this number, from 0.
 fn row_at(
     alloc: Global,
     game: &Game<'_>,
     counts: &Counts,
+    columns: Option<&Columns>,
     picked: &Picked,
     profile: u32,
 ) -> Result<Vec<Fraction>, EvalFault>
     requires within { profile < picked.now.profiles.count }
     requires counts { AreCounts game.now counts.now }
+    requires columns { IfSome columns (λ c. AreColumns game.now c.now) }
     requires picked { IsPicked game.now picked.now }
     ensures payoffs { IfOk result (λ row. ArePayoffsAt game.now
         (get_or (picked_profiles (numbers_in picked.now)) profile []) row.items) }
@@ -66,8 +91,49 @@ fn row_at(
         → ¬ (HasValues game.now (get_or (picked_profiles (numbers_in picked.now)) profile [])) }
 {
     let _players = game.players();
+    if let Some(columns) = columns {
+        let number = full_number_of(counts, picked, profile);
+        return Ok(columns.row(alloc, number)?);
+    }
     let strategies = strategies_of(alloc, counts, picked, profile)?;
     expected(alloc, game, &strategies)
+}
+
+/// What each player is paid at each profile of the strategies that are picked, in their order. Room
+/// for these rows is there.
+fn fill_rows(
+    alloc: Global,
+    game: &Game<'_>,
+    counts: &Counts,
+    columns: Option<&Columns>,
+    picked: &Picked,
+    mut rows: Vec<Fraction>,
+) -> Result<Vec<Fraction>, FormFault>
+    requires players { length game.now.players ≤ 4294967295 }
+    requires counts { AreCounts game.now counts.now }
+    requires columns { IfSome columns (λ c. AreColumns game.now c.now) }
+    requires picked { IsPicked game.now picked.now }
+    requires empty { rows.items ≡ [] }
+    ensures rows { IfOk result (λ rows. AreRowsAt (ArePayoffsAt game.now)
+        (picked_profiles (numbers_in picked.now)) rows.items) }
+    ensures values { OnOk result (AllByRecursion (HasValues game.now)
+        (picked_profiles (numbers_in picked.now))) }
+    ensures few { IsErrOf result FormFault.TooManyProfiles → ⊥ }
+    ensures overflow { (position : ℕ) → IsErrOf result (FormFault.Overflow position)
+        → IsFirstWithout (HasValues game.now) (picked_profiles (numbers_in picked.now)) position }
+{
+    for before in 0..picked.profiles.count {
+        match row_at(alloc, game, counts, columns, picked, before) {
+            Ok(row) => rows.extend_from_slice(&row)?,
+            Err(EvalFault::Overflow) => {
+                return Err(FormFault::Overflow {
+                    profile: before + 1,
+                });
+            }
+            Err(EvalFault::Memory) => return Err(FormFault::Memory),
+        }
+    }
+    Ok(rows)
 }
 
 /// What each player is paid at each profile of the strategies that are picked, in their order.
@@ -89,17 +155,10 @@ pub(crate) fn profile_rows(
         → IsFirstWithout (HasValues game.now) (picked_profiles (numbers_in picked.now)) position }
 {
     let profiles = picked.profiles.count;
-    let mut rows = Vec::with_capacity(alloc, profiles as usize * game.players().len())?;
-    for before in 0..profiles {
-        match row_at(alloc, game, counts, picked, before) {
-            Ok(row) => rows.extend_from_slice(&row)?,
-            Err(EvalFault::Overflow) => {
-                return Err(FormFault::Overflow {
-                    profile: before + 1,
-                });
-            }
-            Err(EvalFault::Memory) => return Err(FormFault::Memory),
-        }
+    let rows = Vec::with_capacity(alloc, profiles as usize * game.players().len())?;
+    let columns = Columns::new(alloc, game, counts)?;
+    match fill_rows(alloc, game, counts, columns.as_ref(), picked, rows) {
+        Ok(rows) => Ok(rows),
+        Err(fault) => Err(fault),
     }
-    Ok(rows)
 }

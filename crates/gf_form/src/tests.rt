@@ -8,6 +8,8 @@ use std::process::Abort;
 use std::test::Fail;
 use strategies::are_strategies;
 
+mod column;
+mod digits;
 mod random;
 mod strategies;
 mod tables;

@@ -59,7 +59,7 @@ fn choice_of(choices: &[Vec<u32>], player: u32, position: u32) -> u32
 }
 
 /// The probability of the action at this position, or one where a player moves.
-fn chance_of(node: &Branch<'_, '_>, position: usize) -> Fraction
+pub(crate) fn chance_of(node: &Branch<'_, '_>, position: usize) -> Fraction
     ensures { result ≡ branch_chances node.now position }
 {
     if position == 0 {

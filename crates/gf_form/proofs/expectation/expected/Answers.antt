@@ -25,11 +25,11 @@ returns-clause-payoffs c =
     (c.in_ok-write_out.ensures.length ∙ sym (length-map labels label_of)
     ∙ ap length c.players-players.ensures.names)
     c.in_ok-write_out.ensures.row.fractions
-    (λ k. c.in-Ok.ensures.values k ∙ ap Some (sym (c.in_ok-write_out.ensures.same k)))
+    (λ k less. c.in-Ok.ensures.values k ∙ ap Some (sym (c.in_ok-write_out.ensures.same k)))
 
 pub returns-clause-values : goal.returns-clause-values
 returns-clause-values c =
     let g = c.args.game.now in
     have_values g c.players-players.ensures.is_game c.players-players.ensures.spellable
     (choices_by g (map (λ own. own.items) c.args.choices.now)) c.in-Ok.row.items
-    c.in-Ok.ensures.values
+    (λ k less. c.in-Ok.ensures.values k)

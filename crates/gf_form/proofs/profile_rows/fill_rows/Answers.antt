@@ -4,7 +4,7 @@ use Rattle.gf_form.specs.Picked.{numbers_in, picked_profiles}
 use Rattle.gf_form.specs.Refusal.{HasValues}
 use Rattle.gf_form.specs.StrategicForm.{ArePayoffsAt}
 use Rattle.gf_form.proofs.RowsMade.{all_more, one_row_more}
-use Rattle.gf_form.proofs.profile_rows.profile_rows.Goals as goal
+use Rattle.gf_form.proofs.profile_rows.fill_rows.Goals as goal
 
 pub loop-before-preserved : goal.loop-before-preserved
 loop-before-preserved c =

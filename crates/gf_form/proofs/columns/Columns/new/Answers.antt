@@ -1,0 +1,102 @@
+use Rattle.std.proofs.Common.{◌≡◌, ◌<◌, ◌∙◌, ◌^◌, ℕ, List, Option, ap, arith, length, refl, subst, suc, sym}
+use Rattle.std.specs.Prelude.{IfSome}
+use Rattle.std.proofs.lemmas.List.{length-map}
+use Rattle.gf_token.specs.Label.{label_of}
+use Rattle.gf_tree.specs.Game.{Game, IsGame}
+use Rattle.gf_nfg.specs.Profiles.{product}
+use Rattle.gf_form.specs.SumsAtAll.{HaveSteps, actions_at, sums_at_all}
+use Rattle.gf_form.specs.Counted.{AreCounts}
+use Rattle.gf_form.specs.Demands.{spans}
+use Rattle.gf_form.specs.declared.digits.Digit.{Digit}
+use Rattle.gf_form.specs.declared.paths.Reached.{Reached}
+use Rattle.gf_form.specs.declared.terms.Term.{Term}
+use Rattle.gf_form.specs.GameDigits.{HasDigits}
+use Rattle.gf_form.specs.KeptNodes.{AreKept}
+use Rattle.gf_form.specs.OwnTerms.{AreOver, AreOwn}
+use Rattle.gf_form.specs.PaidRows.{rows_of}
+use Rattle.gf_form.specs.Rows.{ArePaid}
+use Rattle.gf_form.specs.Sums.{size_of_terms}
+use Rattle.gf_form.proofs.ColumnsMade.{all_reached, column_right, one_column_more, sorted_over}
+use Rattle.gf_form.proofs.columns.Columns.new.Goals as goal
+
+pub loop-place-init : goal.loop-place-init
+loop-place-init c = (ap length c.in_ok-columns.ensures.items, λ k less. absurd (omega (arith, less)))
+
+pub own_terms-requires-clause-paths : goal.own_terms-requires-clause-paths
+own_terms-requires-clause-paths c =
+    let g = c.args.game.now in
+    let den = c.in-Some-2.den in
+    let are = subst (λ o. IfSome o (λ kept. (h : Game) → ArePaid h (rows_of c.in_ok-payoffs.payoffs)
+    → h ≡ g → AreKept h den (all_reached h c.in-Some.digits) kept.items)) c.in-Some-3.is
+    c.in_ok-reached.ensures g c.in_ok-payoffs.ensures refl in
+    subst (AreOver den) (sym c.deref.ensures.value)
+    (sorted_over den c.in-Some-3.reached.items c.sort_unstable_by_key.new.self.items
+    c.sort_unstable_by_key.ensures.permutation are.kept_over)
+
+pub column-requires-clause-steps : goal.column-requires-clause-steps
+column-requires-clause-steps c =
+    let g = c.args.game.now in
+    let digits = subst (λ o. IfSome o (λ d. (h : Game) → IsGame h → AreCounts h c.args.counts.now → HasDigits h d))
+    c.in-Some.is c.in_ok-digits.ensures g c.players-players.ensures.is_game c.requires in
+    subst HaveSteps (sym c.deref-in-loop-place-2.ensures.value) digits.steps
+
+pub column-requires-clause-within : goal.column-requires-clause-within
+column-requires-clause-within c =
+    let g = c.args.game.now in
+    let digits = subst (λ o. IfSome o (λ d. (h : Game) → IsGame h → AreCounts h c.args.counts.now → HasDigits h d))
+    c.in-Some.is c.in_ok-digits.ensures g c.players-players.ensures.is_game c.requires in
+    subst (λ (ds : List Digit). product (spans (actions_at ds)) < 2 ^ 64)
+    (sym c.deref-in-loop-place-2.ensures.value) digits.within
+
+pub column-requires-clause-size : goal.column-requires-clause-size
+column-requires-clause-size c =
+    subst (λ (ts : List Term). size_of_terms ts < 2 ^ 127) (sym c.deref-in-loop-place.ensures.value)
+    (subst (λ o. IfSome o (λ terms. size_of_terms terms.items < 2 ^ 127)) c.in-Some-4.is
+    c.in_ok-terms.ensures.size)
+
+pub loop-place-preserved : goal.loop-place-preserved
+loop-place-preserved c =
+    let g = c.args.game.now in
+    let den = c.in-Some-2.den in
+    let place = c.loop-place.place in
+    let sorted = c.sort_unstable_by_key.new.self.items in
+    let digits = subst (λ o. IfSome o (λ d. (h : Game) → IsGame h → AreCounts h c.args.counts.now → HasDigits h d))
+    c.in-Some.is c.in_ok-digits.ensures g c.players-players.ensures.is_game c.requires in
+    let are = subst (λ o. IfSome o (λ kept. (h : Game) → ArePaid h (rows_of c.in_ok-payoffs.payoffs)
+    → h ≡ g → AreKept h den (all_reached h c.in-Some.digits) kept.items)) c.in-Some-3.is
+    c.in_ok-reached.ensures g c.in_ok-payoffs.ensures refl in
+    let own = subst (λ o. IfSome o (λ terms. (h : Game) → ArePaid h (rows_of c.in_ok-payoffs.payoffs)
+    → AreOwn h (suc place) den c.deref.result.now terms.items)) c.in-Some-4.is
+    c.in_ok-terms.ensures.sums g c.in_ok-payoffs.ensures in
+    let small = subst (λ o. IfSome o (λ terms. size_of_terms terms.items < 2 ^ 127)) c.in-Some-4.is
+    c.in_ok-terms.ensures.size in
+    one_column_more g den place c.loop-place.columns.items c.push.new.self.items
+    c.in_ok-column.field-0 c.in_ok-push.ensures.items c.loop-place.invariant
+    (column_right g c.players-players.ensures.is_game c.players-players.ensures.spellable
+    c.in-Some.digits digits place den c.in-Some-3.reached.items sorted are
+    c.sort_unstable_by_key.ensures.permutation c.in-Some-4.terms.items
+    (subst (λ (rs : List Reached). AreOwn g (suc place) den rs c.in-Some-4.terms.items)
+    c.deref.ensures.value own)
+    small c.in_ok-column.field-0.items
+    (c.in_ok-column.ensures
+    ∙ (λ i. sums_at_all (actions_at (c.deref-in-loop-place-2.ensures.value i))
+    (c.deref-in-loop-place.ensures.value i))))
+
+pub returns : goal.returns
+returns c =
+    let den = subst (λ (o : Option ℕ). IfSome o (λ den. (0 < den) × (den < 2 ^ 127))) c.in-Some-2.is
+    c.in_ok-den.ensures in
+    let all : c.loop-place.place ≡ length c.args.game.now.players =
+    omega (
+      arith,
+      c.loop-place-test.false,
+      c.loop-place.auto.place-end,
+      length-map c.players-players.result.now label_of,
+      ap length c.players-players.ensures.names,
+    ) in
+    record {
+      den_above_zero = den.0;
+      den_within = den.1;
+      one_each = c.loop-place.invariant.0 ∙ all;
+      columns = λ place less. c.loop-place.invariant.1 place (omega (arith, less, all));
+    }

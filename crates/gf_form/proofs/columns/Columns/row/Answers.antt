@@ -1,0 +1,66 @@
+use Rattle.std.proofs.Common.{◌<◌, ◌∙◌, ℕ, ℤ, List, Vec, Global, ap, arith, get_or, length, subst}
+use Rattle.std.proofs.Common.{sym}
+use Rattle.std.specs.List.{AllByRecursion}
+use Rattle.gf_fraction.specs.Ratio.{HasValue, IsFraction, IsWithin}
+use Rattle.gf_form.specs.PlayerColumns.{AreValuesSoFar}
+use Rattle.gf_form.proofs.ColumnsMade.{column_at, entry, is_column, one_value_more}
+use Rattle.gf_form.proofs.columns.Columns.row.Goals as goal
+
+pub loop-column-init : goal.loop-column-init
+loop-column-init c g are less = record {
+  one_each = ap length c.in_ok-row.ensures.items;
+  fractions = subst (AllByRecursion IsFraction) (sym c.in_ok-row.ensures.items) tt;
+  values = λ place before. absurd (omega (arith, before));
+}
+
+pub index-requires : goal.index-requires
+index-requires c =
+    let i = c.loop-column.column-index in
+    let column = c.column-item.result in
+    let all = c.deref-column-items.ensures.value in
+    let within : i < length c.args.self.now.columns.items =
+    omega (arith, c.loop-column-test.true, ap length all) in
+    let is = c.column-item.is ∙ ap (λ (cs : List (Vec ℤ Global)). get_or cs i column) all in
+    let at = is_column c.requires.0 c.args.self.now i column.items c.requires.1 within
+    (column_at c.args.self.now i column within is) in
+    omega (arith, c.requires.2, at.one_each)
+
+pub over-payoff-requires-clause-within : goal.over-payoff-requires-clause-within
+over-payoff-requires-clause-within c =
+    let i = c.loop-column.column-index in
+    let column = c.column-item.result in
+    let all = c.deref-column-items.ensures.value in
+    let e = entry c.requires.0 c.args.self.now c.args.profile i column c.index.result.now
+    c.requires.1 c.requires.2 (omega (arith, c.loop-column-test.true, ap length all))
+    (c.column-item.is ∙ ap (λ (cs : List (Vec ℤ Global)). get_or cs i column) all)
+    c.index.ensures in
+    subst IsWithin (sym e.back) e.within
+
+pub loop-column-preserved : goal.loop-column-preserved
+loop-column-preserved c g are less =
+    let i = c.loop-column.column-index in
+    let column = c.column-item.result in
+    let all = c.deref-column-items.ensures.value in
+    let within : i < length c.args.self.now.columns.items =
+    omega (arith, c.loop-column-test.true, ap length all) in
+    let is = c.column-item.is ∙ ap (λ (cs : List (Vec ℤ Global)). get_or cs i column) all in
+    let e = entry g c.args.self.now c.args.profile i column c.index.result.now are less within is
+    c.index.ensures in
+    one_value_more g c.args.self.now c.args.profile i c.loop-column.row.items
+    c.push.new.self.items column.items c.over-payoff.result are less within
+    (column_at c.args.self.now i column within is) c.over-payoff.ensures.fraction
+    (subst (λ (z : ℤ). HasValue c.over-payoff.result z c.args.self.now.den) (e.back ∙ e.whole)
+    c.over-payoff.ensures.value)
+    c.in_ok-push.ensures.items (c.loop-column.invariant g are less)
+
+pub returns : goal.returns
+returns c g are less =
+    subst (λ (n : ℕ). AreValuesSoFar g c.args.profile n c.loop-column.row.items)
+    (omega (
+      arith,
+      c.loop-column-test.false,
+      c.loop-column.auto.column-index-end,
+      ap length c.deref-column-items.ensures.value,
+      are.one_each,
+    ))
+    (c.loop-column.invariant g are less)

@@ -1,0 +1,85 @@
+//! What each player is paid at all profiles, by the shares of the nodes that choices reach.
+
+ghost use Rattle.std.specs.Prelude.{◌<◌, ◌^◌, IfOk, IfSome, length};
+ghost use Rattle.gf_fraction.specs.Ratio.{HasValue, IsFraction, IsWithin};
+ghost use Rattle.gf_tree.specs.Game.{Game};
+ghost use Rattle.gf_form.specs.Counted.{AreCounts};
+ghost use Rattle.gf_form.specs.PlayerColumns.{AreColumns, IsRowOfValues};
+ghost use Rattle.gf_form.specs.Strategies.{full_profiles};
+
+use crate::column::column;
+use crate::counts::Counts;
+use crate::digits::Digits;
+use crate::own_terms::own_terms;
+use crate::payoffs::Payoffs;
+use crate::shares::{common_denominator, reached_nodes};
+use gf_fraction::Fraction;
+use gf_tree::Game;
+use std::alloc::{AllocError, Global};
+
+/// The payoffs of each player at all profiles, as whole numbers over one denominator.
+#[derive(Drop)]
+pub(crate) struct Columns {
+    pub den: u128,
+    /// Of each player, in the order of the profiles.
+    pub columns: Vec<Vec<i128>>,
+}
+
+/// A whole number over the denominator.
+fn over(den: u128, whole: i128) -> Fraction
+    requires above_zero { 0 < den }
+    requires den_within { den < 2 ^ 127 }
+    requires within { IsWithin whole }
+    ensures fraction { IsFraction result }
+    ensures value { HasValue result whole den }
+{
+    Fraction::new(whole, den).unwrap()
+}
+
+impl Columns {
+    /// Those of a game; `None` where they have no common denominator within bound, or might pass the
+    /// bound over it.
+    pub(crate) fn new(
+        alloc: Global,
+        game: &Game<'_>,
+        counts: &Counts,
+    ) -> Result<Option<Columns>, AllocError>
+        requires { AreCounts game.now counts.now }
+        ensures { IfOk result (λ columns. IfSome columns (AreColumns game.now)) }
+    {
+        let players = game.players().len();
+        let payoffs = Payoffs::new(alloc, game)?;
+        let Some(digits) = Digits::new(alloc, counts)? else {
+            return Ok(None);
+        };
+        let Some(den) = common_denominator(alloc, game, &digits, &payoffs)? else {
+            return Ok(None);
+        };
+        let Some(mut reached) = reached_nodes(alloc, game, &digits, &payoffs, den)? else {
+            return Ok(None);
+        };
+        reached.sort_unstable_by_key(|r| r.path.demands);
+        let mut columns = Vec::with_capacity(alloc, players)?;
+        for place in 0..players {
+            let Some(terms) = own_terms(alloc, &reached, &payoffs, place, den)? else {
+                return Ok(None);
+            };
+            columns.push(column(alloc, &terms, &digits.digits)?)?;
+        }
+        Ok(Some(Columns { den, columns }))
+    }
+
+    /// What each player is paid at the profile with this number, from 0.
+    pub(crate) fn row(&self, alloc: Global, profile: u32) -> Result<Vec<Fraction>, AllocError>
+        requires { (g : Game) × AreColumns g self.now × (profile < length (full_profiles g)) }
+        ensures { IfOk result (λ row. (g : Game) → AreColumns g self.now
+            → profile < length (full_profiles g) → IsRowOfValues g profile row.items) }
+    {
+        let mut row = Vec::with_capacity(alloc, self.columns.len())?;
+        for column in &self.columns {
+            let payoff = over(self.den, column[profile as usize]);
+            row.push(payoff)?;
+        }
+        Ok(row)
+    }
+}
