@@ -136,6 +136,14 @@ fn fill_rows(
     Ok(rows)
 }
 
+/// Whether to find what is paid at all profiles, picked or not. Where few are picked it is less work
+/// to walk through the tree for each of them.
+fn are_many(game: &Game<'_>, counts: &Counts, picked: &Picked) -> bool {
+    let nodes = game.len() as u128;
+    let walked = nodes.saturating_mul(u128::from(picked.profiles.count));
+    walked > 8 * u128::from(counts.profiles.count)
+}
+
 /// What each player is paid at each profile of the strategies that are picked, in their order.
 pub(crate) fn profile_rows(
     alloc: Global,
@@ -156,7 +164,11 @@ pub(crate) fn profile_rows(
 {
     let profiles = picked.profiles.count;
     let rows = Vec::with_capacity(alloc, profiles as usize * game.players().len())?;
-    let columns = Columns::new(alloc, game, counts)?;
+    let columns = if are_many(game, counts, picked) {
+        Columns::new(alloc, game, counts)?
+    } else {
+        None
+    };
     match fill_rows(alloc, game, counts, columns.as_ref(), picked, rows) {
         Ok(rows) => Ok(rows),
         Err(fault) => Err(fault),

@@ -203,7 +203,7 @@ impl<'a> Game<'a> {
     }
 
     /// How many nodes there are.
-    pub(crate) fn len(&self) -> usize
+    pub fn len(&self) -> usize
         ensures { result ≡ length (subtrees self.now.tree) }
     {
         self.nodes.len()
