@@ -4,7 +4,9 @@ ghost use Rattle.std.specs.Prelude.{◌<◌, ◌^◌, IfOk, IfSome, length};
 ghost use Rattle.gf_fraction.specs.Ratio.{HasValue, IsFraction, IsWithin};
 ghost use Rattle.gf_tree.specs.Game.{Game};
 ghost use Rattle.gf_form.specs.Counted.{AreCounts};
+ghost use Rattle.gf_form.specs.PaidRows.{rows_of};
 ghost use Rattle.gf_form.specs.PlayerColumns.{AreColumns, IsRowOfValues};
+ghost use Rattle.gf_form.specs.Rows.{ArePaid};
 ghost use Rattle.gf_form.specs.Strategies.{full_profiles};
 
 use crate::column::column;
@@ -43,25 +45,26 @@ impl Columns {
         alloc: Global,
         game: &Game<'_>,
         counts: &Counts,
+        payoffs: &Payoffs<'_>,
     ) -> Result<Option<Columns>, AllocError>
-        requires { AreCounts game.now counts.now }
+        requires counts { AreCounts game.now counts.now }
+        requires payoffs { ArePaid game.now (rows_of payoffs.now) }
         ensures { IfOk result (λ columns. IfSome columns (AreColumns game.now)) }
     {
         let players = game.players().len();
-        let payoffs = Payoffs::new(alloc, game)?;
         let Some(digits) = Digits::new(alloc, counts)? else {
             return Ok(None);
         };
-        let Some(den) = common_denominator(alloc, game, &digits, &payoffs)? else {
+        let Some(den) = common_denominator(alloc, game, &digits, payoffs)? else {
             return Ok(None);
         };
-        let Some(mut reached) = reached_nodes(alloc, game, &digits, &payoffs, den)? else {
+        let Some(mut reached) = reached_nodes(alloc, game, &digits, payoffs, den)? else {
             return Ok(None);
         };
         reached.sort_unstable_by_key(|r| r.path.demands);
         let mut columns = Vec::with_capacity(alloc, players)?;
         for place in 0..players {
-            let Some(terms) = own_terms(alloc, &reached, &payoffs, place, den)? else {
+            let Some(terms) = own_terms(alloc, &reached, payoffs, place, den)? else {
                 return Ok(None);
             };
             columns.push(column(alloc, &terms, &digits.digits)?)?;

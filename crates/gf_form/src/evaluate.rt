@@ -3,8 +3,7 @@
 ghost use Rattle.std.specs.Prelude.{◌≡◌, ◌<◌, ◌≤◌, ℕ, suc, List, [], ◌∷◌, None, Option, Some, IfOk};
 ghost use Rattle.std.specs.Prelude.{IsErrOf, OnOk, length, map};
 ghost use Rattle.gf_fraction.specs.Ratio.{Ratio};
-ghost use Rattle.gf_tree.specs.Game.{Game, IsGame};
-ghost use Rattle.gf_tree.specs.Spellable.{IsSpellable};
+ghost use Rattle.gf_tree.specs.Game.{Game};
 ghost use Rattle.gf_form.specs.PaidRows.{rows_of};
 ghost use Rattle.gf_form.specs.Program.{operands, run};
 ghost use Rattle.gf_form.specs.Rows.{ArePaid, AreRows, IsRow, at_place, column};
@@ -47,16 +46,16 @@ fn step(payoffs: &Payoffs<'_>, op: Op, values: &mut Values) -> Result<(), EvalFa
     }
 }
 
-/// The value of the whole tree for each player, where these are the choices of all players. The row
-/// is empty where each is zero.
+/// The value of the whole tree for each player, where these are the payoffs of the outcomes and the
+/// choices of all players. The row is empty where each is zero.
 pub(crate) fn evaluate(
     alloc: Global,
     game: &Game<'_>,
+    payoffs: &Payoffs<'_>,
     choices: &[Vec<u32>],
 ) -> Result<Vec<Fraction>, EvalFault>
     requires some_player { 0 < length game.now.players }
-    requires is_game { IsGame game.now }
-    requires spellable { IsSpellable game.now }
+    requires payoffs { ArePaid game.now (rows_of payoffs.now) }
     ensures row { IfOk result (λ row. IsRow (length game.now.players) row.items) }
     ensures values { IfOk result (λ row. (k : ℕ)
         → value game.now (choices_by game.now (map (λ own. own.items) choices.now)) (suc k)
@@ -65,11 +64,10 @@ pub(crate) fn evaluate(
         × (value game.now (choices_by game.now (map (λ own. own.items) choices.now)) (suc k)
         game.now.tree ≡ None) }
 {
-    let payoffs = Payoffs::new(alloc, game)?;
     let mut walk = Walk::new(alloc, game, choices);
     let mut values = Values::new(alloc);
     while let Some(op) = walk.next()? {
-        if let Err(fault) = step(&payoffs, op, &mut values) {
+        if let Err(fault) = step(payoffs, op, &mut values) {
             return Err(fault);
         }
     }

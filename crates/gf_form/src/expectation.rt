@@ -2,16 +2,47 @@
 
 ghost use Rattle.std.specs.Prelude.{◌≤◌, IfOk, IsErrOf, OnOk, map};
 ghost use Rattle.std.specs.List.{AllZip};
+ghost use Rattle.gf_form.specs.PaidRows.{rows_of};
 ghost use Rattle.gf_form.specs.Refusal.{HasValuesBy};
+ghost use Rattle.gf_form.specs.Rows.{ArePaid};
 ghost use Rattle.gf_form.specs.StrategicForm.{ArePayoffs};
 ghost use Rattle.gf_form.specs.Strategies.{AreStrategies, choices_by};
 
 use crate::evaluate::evaluate;
 use crate::fault::EvalFault;
+use crate::payoffs::Payoffs;
 use crate::rows::write_out;
 use gf_fraction::Fraction;
 use gf_tree::Game;
 use std::alloc::Global;
+
+/// What `expected` gives, where these are the payoffs of the outcomes.
+pub(crate) fn expected_with(
+    alloc: Global,
+    game: &Game<'_>,
+    payoffs: &Payoffs<'_>,
+    choices: &[Vec<u32>],
+) -> Result<Vec<Fraction>, EvalFault>
+    requires strategies { AreStrategies game.now (map (λ own. own.items) choices.now) }
+    requires payoffs { ArePaid game.now (rows_of payoffs.now) }
+    ensures payoffs { IfOk result (λ payoffs. ArePayoffs game.now
+        (choices_by game.now (map (λ own. own.items) choices.now)) payoffs.items) }
+    ensures values { OnOk result (HasValuesBy game.now
+        (choices_by game.now (map (λ own. own.items) choices.now))) }
+    ensures overflow { IsErrOf result EvalFault.Overflow → ¬ (HasValuesBy game.now
+        (choices_by game.now (map (λ own. own.items) choices.now))) }
+{
+    let players = game.players().len();
+    if players == 0 {
+        return Ok(Vec::new(alloc));
+    }
+    let mut row = match evaluate(alloc, game, payoffs, choices) {
+        Ok(row) => row,
+        Err(fault) => return Err(fault),
+    };
+    write_out(&mut row, players)?;
+    Ok(row)
+}
 
 /// What each player is paid, in their order, where the players choose these actions: the sum, over
 /// the plays that follow the choices, of the probability of the play times the payoffs of its
@@ -38,14 +69,7 @@ pub fn expected(
     ensures overflow { IsErrOf result EvalFault.Overflow → ¬ (HasValuesBy game.now
         (choices_by game.now (map (λ own. own.items) choices.now))) }
 {
-    let players = game.players().len();
-    if players == 0 {
-        return Ok(Vec::new(alloc));
-    }
-    let mut row = match evaluate(alloc, game, choices) {
-        Ok(row) => row,
-        Err(fault) => return Err(fault),
-    };
-    write_out(&mut row, players)?;
-    Ok(row)
+    let _players = game.players();
+    let payoffs = Payoffs::new(alloc, game)?;
+    expected_with(alloc, game, &payoffs, choices)
 }

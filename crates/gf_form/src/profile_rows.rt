@@ -6,15 +6,18 @@ ghost use Rattle.gf_tree.specs.Game.{Game, IsGame};
 ghost use Rattle.gf_form.specs.PlayerColumns.{AreColumns};
 ghost use Rattle.gf_form.specs.Counted.{AreCounts};
 ghost use Rattle.gf_form.specs.Picked.{IsPicked, numbers_in, picked_profiles};
+ghost use Rattle.gf_form.specs.PaidRows.{rows_of};
 ghost use Rattle.gf_form.specs.ProfileRows.{AreRowsAt};
 ghost use Rattle.gf_form.specs.Refusal.{HasValues, IsFirstWithout};
+ghost use Rattle.gf_form.specs.Rows.{ArePaid};
 ghost use Rattle.gf_form.specs.StrategicForm.{ArePayoffsAt};
 ghost use Rattle.gf_form.specs.Strategies.{full_profiles, strategies_at};
 
 use crate::columns::Columns;
 use crate::counts::Counts;
-use crate::expectation::expected;
+use crate::expectation::expected_with;
 use crate::fault::{EvalFault, FormFault};
+use crate::payoffs::Payoffs;
 use crate::picked::Picked;
 use crate::strategies::write_strategy;
 use gf_fraction::Fraction;
@@ -75,12 +78,14 @@ fn row_at(
     alloc: Global,
     game: &Game<'_>,
     counts: &Counts,
+    payoffs: &Payoffs<'_>,
     columns: Option<&Columns>,
     picked: &Picked,
     profile: u32,
 ) -> Result<Vec<Fraction>, EvalFault>
     requires within { profile < picked.now.profiles.count }
     requires counts { AreCounts game.now counts.now }
+    requires payoffs { ArePaid game.now (rows_of payoffs.now) }
     requires columns { IfSome columns (λ c. AreColumns game.now c.now) }
     requires picked { IsPicked game.now picked.now }
     ensures payoffs { IfOk result (λ row. ArePayoffsAt game.now
@@ -96,7 +101,7 @@ fn row_at(
         return Ok(columns.row(alloc, number)?);
     }
     let strategies = strategies_of(alloc, counts, picked, profile)?;
-    expected(alloc, game, &strategies)
+    expected_with(alloc, game, payoffs, &strategies)
 }
 
 /// What each player is paid at each profile of the strategies that are picked, in their order. Room
@@ -105,12 +110,14 @@ fn fill_rows(
     alloc: Global,
     game: &Game<'_>,
     counts: &Counts,
+    payoffs: &Payoffs<'_>,
     columns: Option<&Columns>,
     picked: &Picked,
     mut rows: Vec<Fraction>,
 ) -> Result<Vec<Fraction>, FormFault>
     requires players { length game.now.players ≤ 4294967295 }
     requires counts { AreCounts game.now counts.now }
+    requires payoffs { ArePaid game.now (rows_of payoffs.now) }
     requires columns { IfSome columns (λ c. AreColumns game.now c.now) }
     requires picked { IsPicked game.now picked.now }
     requires empty { rows.items ≡ [] }
@@ -123,7 +130,7 @@ fn fill_rows(
         → IsFirstWithout (HasValues game.now) (picked_profiles (numbers_in picked.now)) position }
 {
     for before in 0..picked.profiles.count {
-        match row_at(alloc, game, counts, columns, picked, before) {
+        match row_at(alloc, game, counts, payoffs, columns, picked, before) {
             Ok(row) => rows.extend_from_slice(&row)?,
             Err(EvalFault::Overflow) => {
                 return Err(FormFault::Overflow {
@@ -164,12 +171,13 @@ pub(crate) fn profile_rows(
 {
     let profiles = picked.profiles.count;
     let rows = Vec::with_capacity(alloc, profiles as usize * game.players().len())?;
+    let payoffs = Payoffs::new(alloc, game)?;
     let columns = if are_many(game, counts, picked) {
-        Columns::new(alloc, game, counts)?
+        Columns::new(alloc, game, counts, &payoffs)?
     } else {
         None
     };
-    match fill_rows(alloc, game, counts, columns.as_ref(), picked, rows) {
+    match fill_rows(alloc, game, counts, &payoffs, columns.as_ref(), picked, rows) {
         Ok(rows) => Ok(rows),
         Err(fault) => Err(fault),
     }

@@ -27,7 +27,7 @@ loop-values-init c =
           ∙ ap (λ (ops : List Op). run g (suc k) ops [])
           (sym (append-nil (code g choices g.tree)))
           ∙ code_runs g choices (suc k) g.tree [] [],
-      c.in_ok-payoffs.ensures,
+      c.requires.payoffs,
     )
 
 pub step-requires-clause-shape : goal.step-requires-clause-shape

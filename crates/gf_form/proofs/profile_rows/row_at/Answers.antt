@@ -10,8 +10,8 @@ use Rattle.gf_form.proofs.ColumnsMade.{row_pays}
 use Rattle.gf_form.proofs.PickedProfiles.{are_strategies, counted_profiles}
 use Rattle.gf_form.proofs.profile_rows.row_at.Goals as goal
 
-pub expected-requires : goal.expected-requires
-expected-requires c =
+pub expected_with-requires-clause-strategies : goal.expected_with-requires-clause-strategies
+expected_with-requires-clause-strategies c =
     let g = c.args.game.now in
     subst (AreStrategies g)
     (sym (ap (map (λ (own : Vec ℕ Global). own.items)) c.deref.ensures.value
@@ -27,19 +27,19 @@ expected-requires c =
 pub returns-clause-payoffs : goal.returns-clause-payoffs
 returns-clause-payoffs c =
     let g = c.args.game.now in
-    subst (λ (all : List (List ℕ)). IfOk c.expected.result
+    subst (λ (all : List (List ℕ)). IfOk c.expected_with.result
     (λ row. ArePayoffs g (choices_by g all) row.items))
     (ap (map (λ (own : Vec ℕ Global). own.items)) c.deref.ensures.value
     ∙ c.in_ok-strategies.ensures g c.requires.counts)
-    c.expected.ensures.payoffs
+    c.expected_with.ensures.payoffs
 
 pub returns-clause-values : goal.returns-clause-values
 returns-clause-values c =
     let g = c.args.game.now in
-    subst (λ (all : List (List ℕ)). OnOk c.expected.result (HasValuesBy g (choices_by g all)))
+    subst (λ (all : List (List ℕ)). OnOk c.expected_with.result (HasValuesBy g (choices_by g all)))
     (ap (map (λ (own : Vec ℕ Global). own.items)) c.deref.ensures.value
     ∙ c.in_ok-strategies.ensures g c.requires.counts)
-    c.expected.ensures.values
+    c.expected_with.ensures.values
 
 pub returns-clause-overflow : goal.returns-clause-overflow
 returns-clause-overflow c h =
@@ -47,7 +47,7 @@ returns-clause-overflow c h =
     subst (λ (all : List (List ℕ)). HasValuesBy g (choices_by g all) → ⊥)
     (ap (map (λ (own : Vec ℕ Global). own.items)) c.deref.ensures.value
     ∙ c.in_ok-strategies.ensures g c.requires.counts)
-    (c.expected.ensures.overflow h)
+    (c.expected_with.ensures.overflow h)
 
 pub returns-in-Some-clause-payoffs : goal.returns-in-Some-clause-payoffs
 returns-in-Some-clause-payoffs c =

@@ -26,9 +26,9 @@ pub own_terms-requires-clause-paths : goal.own_terms-requires-clause-paths
 own_terms-requires-clause-paths c =
     let g = c.args.game.now in
     let den = c.in-Some-2.den in
-    let are = subst (λ o. IfSome o (λ kept. (h : Game) → ArePaid h (rows_of c.in_ok-payoffs.payoffs)
+    let are = subst (λ o. IfSome o (λ kept. (h : Game) → ArePaid h (rows_of c.args.payoffs.now)
     → h ≡ g → AreKept h den (all_reached h c.in-Some.digits) kept.items)) c.in-Some-3.is
-    c.in_ok-reached.ensures g c.in_ok-payoffs.ensures refl in
+    c.in_ok-reached.ensures g c.requires.payoffs refl in
     subst (AreOver den) (sym c.deref.ensures.value)
     (sorted_over den c.in-Some-3.reached.items c.sort_unstable_by_key.new.self.items
     c.sort_unstable_by_key.ensures.permutation are.kept_over)
@@ -37,14 +37,14 @@ pub column-requires-clause-steps : goal.column-requires-clause-steps
 column-requires-clause-steps c =
     let g = c.args.game.now in
     let digits = subst (λ o. IfSome o (λ d. (h : Game) → IsGame h → AreCounts h c.args.counts.now → HasDigits h d))
-    c.in-Some.is c.in_ok-digits.ensures g c.players-players.ensures.is_game c.requires in
+    c.in-Some.is c.in_ok-digits.ensures g c.players-players.ensures.is_game c.requires.counts in
     subst HaveSteps (sym c.deref-in-loop-place-2.ensures.value) digits.steps
 
 pub column-requires-clause-within : goal.column-requires-clause-within
 column-requires-clause-within c =
     let g = c.args.game.now in
     let digits = subst (λ o. IfSome o (λ d. (h : Game) → IsGame h → AreCounts h c.args.counts.now → HasDigits h d))
-    c.in-Some.is c.in_ok-digits.ensures g c.players-players.ensures.is_game c.requires in
+    c.in-Some.is c.in_ok-digits.ensures g c.players-players.ensures.is_game c.requires.counts in
     subst (λ (ds : List Digit). product (spans (actions_at ds)) < 2 ^ 64)
     (sym c.deref-in-loop-place-2.ensures.value) digits.within
 
@@ -61,13 +61,13 @@ loop-place-preserved c =
     let place = c.loop-place.place in
     let sorted = c.sort_unstable_by_key.new.self.items in
     let digits = subst (λ o. IfSome o (λ d. (h : Game) → IsGame h → AreCounts h c.args.counts.now → HasDigits h d))
-    c.in-Some.is c.in_ok-digits.ensures g c.players-players.ensures.is_game c.requires in
-    let are = subst (λ o. IfSome o (λ kept. (h : Game) → ArePaid h (rows_of c.in_ok-payoffs.payoffs)
+    c.in-Some.is c.in_ok-digits.ensures g c.players-players.ensures.is_game c.requires.counts in
+    let are = subst (λ o. IfSome o (λ kept. (h : Game) → ArePaid h (rows_of c.args.payoffs.now)
     → h ≡ g → AreKept h den (all_reached h c.in-Some.digits) kept.items)) c.in-Some-3.is
-    c.in_ok-reached.ensures g c.in_ok-payoffs.ensures refl in
-    let own = subst (λ o. IfSome o (λ terms. (h : Game) → ArePaid h (rows_of c.in_ok-payoffs.payoffs)
+    c.in_ok-reached.ensures g c.requires.payoffs refl in
+    let own = subst (λ o. IfSome o (λ terms. (h : Game) → ArePaid h (rows_of c.args.payoffs.now)
     → AreOwn h (suc place) den c.deref.result.now terms.items)) c.in-Some-4.is
-    c.in_ok-terms.ensures.sums g c.in_ok-payoffs.ensures in
+    c.in_ok-terms.ensures.sums g c.requires.payoffs in
     let small = subst (λ o. IfSome o (λ terms. size_of_terms terms.items < 2 ^ 127)) c.in-Some-4.is
     c.in_ok-terms.ensures.size in
     one_column_more g den place c.loop-place.columns.items c.push.new.self.items

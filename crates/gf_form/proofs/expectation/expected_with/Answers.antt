@@ -3,7 +3,7 @@ use Rattle.std.proofs.lemmas.List.{length-map}
 use Rattle.gf_token.specs.Label.{label_of}
 use Rattle.gf_form.specs.Strategies.{choices_by}
 use Rattle.gf_form.proofs.PayoffsGiven.{are_payoffs, have_values, lacks_value}
-use Rattle.gf_form.proofs.expectation.expected.Goals as goal
+use Rattle.gf_form.proofs.expectation.expected_with.Goals as goal
 
 pub returns-in-Err-clause-overflow : goal.returns-in-Err-clause-overflow
 returns-in-Err-clause-overflow c = λ h.
