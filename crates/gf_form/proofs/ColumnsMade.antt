@@ -46,6 +46,7 @@ use Rattle.gf_form.specs.declared.paths.Reached.{Reached}
 use Rattle.gf_form.specs.declared.terms.Term.{Term}
 use Rattle.gf_form.proofs.Choices.{length-all_choices}
 use Rattle.gf_form.proofs.ReachedValues.{reached_value}
+use Rattle.gf_form.proofs.ShareSums.{fits_at}
 
 size_of_sum : (a s t : ℤ) → up t + down a + down s ≡ up a + up s + down t
     → unsigned_abs t ≤ unsigned_abs a + unsigned_abs s
@@ -103,7 +104,8 @@ column_made g game spellable d digits place den fits terms small sums column is 
           let v = reached_value g game spellable
           (choices_by g (map (λ own. own.items) d.steps.items))
           (choices_by g (strategies_at g (get_or (full_profiles g) q []))) (digit_actions d) choices
-          (digits.choices q less) (suc place) den fits in
+          (digits.choices q less) (suc place) den
+          (fits_at g (suc place) den steps choices (all_reached g d) fits) in
           record {
             within = omega (arith, ap unsigned_abs whole, sum_within steps choices terms, small);
             payoff = v.0;

@@ -19,12 +19,13 @@ use Rattle.gf_tree.specs.PrefixOrder.{flatten, flatten_all}
 use Rattle.gf_tree.specs.Description.{SetKey}
 use Rattle.gf_tree.specs.Game.{Game, HasChildren, IsGame, Node, set_at}
 use Rattle.gf_tree.specs.Spellable.{IsSpellable}
-use Rattle.gf_form.specs.Demands.{steps_of}
+use Rattle.gf_form.specs.Demands.{meets, steps_of}
 use Rattle.gf_form.specs.Payoff.{payoff_at}
 use Rattle.gf_form.specs.Program.{paid_at_node}
 use Rattle.gf_form.specs.ReachedNodes.{at_least_one, by_action, by_any, by_chance, by_choice}
 use Rattle.gf_form.specs.ReachedNodes.{by_lot, demanded, over_set, reached, root_path}
-use Rattle.gf_form.specs.Shares.{AreDigits, Fits, IsExact, sum_of_bounds, sum_of_shares}
+use Rattle.gf_form.specs.Shares.{AreDigits, FitsAt, IsExactIfMet, met_bounds}
+use Rattle.gf_form.specs.Shares.{sum_of_shares}
 use Rattle.gf_form.specs.Values.{chance_value, chances_at, child_value, value, value_over}
 use Rattle.gf_form.specs.declared.paths.Path.{Path}
 use Rattle.gf_form.specs.declared.paths.Reached.{Reached}
@@ -52,10 +53,10 @@ module _ (g : Game) (game : IsGame g) (spellable : IsSpellable g) (steps choose 
     (actions choices : List ℕ) (digits : AreDigits g steps choose actions choices)
     (player den : ℕ) (den_above : 0 < den) (den_within : den < 2 ^ 127) where
   abbrev AreExact : List Reached → Type 0
-  AreExact rs = AllByRecursion (IsExact g player den) rs
+  AreExact rs = AllByRecursion (IsExactIfMet g player den (steps_of actions) choices) rs
 
   abbrev bounds : List Reached → ℕ
-  bounds rs = sum_of_bounds g player den rs
+  bounds rs = met_bounds g player den (steps_of actions) choices rs
 
   abbrev Valued : Option Ratio → Path → List Reached → Type 0
   Valued o path rs = IsValued g player den (steps_of actions) choices o path.weight path.bound
@@ -75,11 +76,19 @@ module _ (g : Game) (game : IsGame g) (spellable : IsSpellable g) (steps choose 
     pub met : met choices ds ≡ true
     pub bound_above : 1 ≤ path.bound
 
-  root_exact : (t : Tree Node) (path : Path) → AreExact (reached g steps path t) → path.den ∣ den
-  root_exact (branch n ts) path exact = exact.0.path
+  demands_met : (path : Path) (ds : List ℕ) → IsMet path ds
+      → meets (steps_of actions) choices path.demands ≡ true
+  demands_met path ds is =
+      meets_digits g steps choose actions choices digits path ds is.has ∙ is.met
+
+  root_exact : (t : Tree Node) (path : Path)
+      → meets (steps_of actions) choices path.demands ≡ true
+      → AreExact (reached g steps path t) → path.den ∣ den
+  root_exact (branch n ts) path met exact = (exact.0 met).path
 
   parts : (xs ys : List Reached) → AreExact (xs ++ ys) → AreExact xs × AreExact ys
-  parts xs ys h = all_parts (IsExact g player den) xs ys h
+  parts xs ys h =
+      all_parts (IsExactIfMet g player den (steps_of actions) choices) xs ys h
 
   -- ---- a node
 
@@ -182,15 +191,13 @@ module _ (g : Game) (game : IsGame g) (spellable : IsSpellable g) (steps choose 
   node_valued n ts path ds is lot action any None at h exact limit =
       leaf_valued g player den (steps_of actions) choices
       (record { path = path; outcome = paid_at_node g n }) (payoff_at g player n)
-      (paid_is g player n) (own_fraction n) exact.0
-      (meets_digits g steps choose actions choices digits path ds is.has ∙ is.met)
+      (paid_is g player n) (own_fraction n) (exact.0 (demands_met path ds is)) (demands_met path ds is)
   node_valued n ts path ds is lot action any (Some key) at h exact limit =
       move_valued g player den (steps_of actions) choices
       (record { path = path; outcome = paid_at_node g n }) (payoff_at g player n)
-      (paid_is g player n) (own_fraction n) exact.0
-      (meets_digits g steps choose actions choices digits path ds is.has ∙ is.met)
-      _ _ is.bound_above (quotient_above path.den den den_above exact.0.path)
-      (omega (arith, den_within, quotient_le path.den den den_above exact.0.path)) limit
+      (paid_is g player n) (own_fraction n) (exact.0 (demands_met path ds is)) (demands_met path ds is)
+      _ _ is.bound_above (quotient_above path.den den den_above (exact.0 (demands_met path ds is)).path)
+      (omega (arith, den_within, quotient_le path.den den den_above (exact.0 (demands_met path ds is)).path)) limit
       (by (key.player == 0) refl exact.1 (omega (arith, limit)))
     where
       by : (b : Bool) → (key.player == 0) ≡ b
@@ -202,7 +209,8 @@ module _ (g : Game) (game : IsGame g) (spellable : IsSpellable g) (steps choose 
           else if demanded path.demands (steps key) (count ts) == 0
           then by_any g steps path (steps key) 1 ts
           else by_action g steps path (demanded path.demands (steps key) (count ts)) ts)
-      by true chance = lot key at (eqb-true key.player 0 chance) exact.0.path
+      by true chance = lot key at (eqb-true key.player 0 chance)
+          (exact.0 (demands_met path ds is)).path
       by false other =
           let personal = eqb-false key.player 0 other in
           let set = set_there g key (count ts) h in
@@ -258,7 +266,7 @@ module _ (g : Game) (game : IsGame g) (spellable : IsSpellable g) (steps choose 
         let ys = by_lot g steps path (chances_at g n) (k + 1) ts in
         let both = all_parts (HasChildren g) (flatten t) (flatten_all ts) children in
         let exacts = parts xs ys exact in
-        let lists = bounds_append g player den xs ys in
+        let lists = bounds_append g player den (steps_of actions) choices xs ys in
         let child = valued t on ds both.0 (record {
           has = is.has;
           met = is.met;
@@ -269,7 +277,7 @@ module _ (g : Game) (game : IsGame g) (spellable : IsSpellable g) (steps choose 
         let within : den / path.den < 2 ^ 127 =
         omega (arith, den_within, quotient_le path.den den den_above divides) in
         let scale = quotient_of_product path.den c.den den den_above
-        (root_exact t on exacts.0) in
+        (root_exact t on (demands_met path ds is) exacts.0) in
         let fc = chance_fraction n k in
         let sign = chance_size g game n key k at chance in
         let next = next_sum g player den (steps_of actions) choices c fc sign sum start f path.weight
@@ -316,7 +324,7 @@ module _ (g : Game) (game : IsGame g) (spellable : IsSpellable g) (steps choose 
         let ys = by_any g steps path step (k + 1) ts in
         let both = all_parts (HasChildren g) (flatten t) (flatten_all ts) children in
         let exacts = parts xs ys exact in
-        let lists = bounds_append g player den xs ys in
+        let lists = bounds_append g player den (steps_of actions) choices xs ys in
         let same : k ≡ get_or choices place 0 = omega (arith, at, chosen) in
         let with = met_with g steps choose actions choices digits ds step m place k is.has.1 free
         above in
@@ -339,7 +347,7 @@ module _ (g : Game) (game : IsGame g) (spellable : IsSpellable g) (steps choose 
         let ys = by_any g steps path step (k + 1) ts in
         let both = all_parts (HasChildren g) (flatten t) (flatten_all ts) children in
         let exacts = parts xs ys exact in
-        let lists = bounds_append g player den xs ys in
+        let lists = bounds_append g player den (steps_of actions) choices xs ys in
         valued_behind g player den (steps_of actions) choices _ path.weight path.bound
         (den / path.den) xs ys
         (unmet g steps choose actions choices digits player den t on (set ds place k) both.0
@@ -352,7 +360,7 @@ module _ (g : Game) (game : IsGame g) (spellable : IsSpellable g) (steps choose 
 -- the player counts from 1
 pub reached_value : (g : Game) → IsGame g → IsSpellable g → (steps choose : SetKey → ℕ)
     (actions choices : List ℕ) → AreDigits g steps choose actions choices → (player den : ℕ)
-    → Fits g player den (reached g steps root_path g.tree)
+    → FitsAt g player den (steps_of actions) choices (reached g steps root_path g.tree)
     → (v : Ratio) × (value g choose player g.tree ≡ Some v) × IsFraction v
     × HasValue v (sum_of_shares g player den (steps_of actions) choices
     (reached g steps root_path g.tree)) den

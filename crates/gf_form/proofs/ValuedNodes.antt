@@ -13,12 +13,12 @@ use Rattle.gf_fraction.proofs.Integers.{*ℤ_assoc, add-*ℤ}
 use Rattle.gf_tree.specs.Game.{Game}
 use Rattle.gf_form.specs.Demands.{meets}
 use Rattle.gf_form.specs.ReachedNodes.{at_least_one}
-use Rattle.gf_form.specs.Shares.{IsExact, over, pay_at, share, share_bound, sum_of_bounds}
+use Rattle.gf_form.specs.Shares.{IsExact, met_bounds, over, pay_at, share, share_bound}
 use Rattle.gf_form.specs.Shares.{sum_of_shares}
 use Rattle.gf_form.specs.Values.{plus_of, times_of}
 use Rattle.gf_form.specs.declared.paths.Reached.{Reached}
 use Rattle.gf_form.proofs.OverOneDenominator.{over_value, product_over, sum_over, sum_size}
-use Rattle.gf_form.proofs.ShareSums.{bounds_append, met_first, shares_append}
+use Rattle.gf_form.proofs.ShareSums.{bound_first, bounds_append, met_first, shares_append}
 
 -- ---- integers
 
@@ -56,7 +56,7 @@ module _ (g : Game) (player den : ℕ) (steps choices : List ℕ) where
   shares rs = sum_of_shares g player den steps choices rs
 
   abbrev bounds : List Reached → ℕ
-  bounds rs = sum_of_bounds g player den rs
+  bounds rs = met_bounds g player den steps choices rs
 
   -- The value is that of an amount over what is left of the denominator; the shares of these nodes,
   -- which stand behind a path, are the path's weight times the amount.
@@ -107,7 +107,7 @@ module _ (g : Game) (player den : ℕ) (steps choices : List ℕ) where
         ∙ (λ i. h.shares_are i +ℤ none i)
         ∙ +ℤ_comm (pos weight *ℤ h.amount) (pos 0)
         ∙ +ℤ_idl (pos weight *ℤ h.amount);
-    size = omega (arith, h.size, bounds_append g player den xs ys);
+    size = omega (arith, h.size, bounds_append g player den steps choices xs ys);
   }
 
   pub valued_behind : (value : Option Ratio) (weight bound left : ℕ) (xs ys : List Reached)
@@ -122,7 +122,7 @@ module _ (g : Game) (player den : ℕ) (steps choices : List ℕ) where
     shares_are = shares_append g player den steps choices xs ys
         ∙ (λ i. none i +ℤ h.shares_are i)
         ∙ +ℤ_idl (pos weight *ℤ h.amount);
-    size = omega (arith, h.size, bounds_append g player den xs ys);
+    size = omega (arith, h.size, bounds_append g player den steps choices xs ys);
   }
 
   -- ---- a node's own payoff
@@ -156,7 +156,7 @@ module _ (g : Game) (player den : ℕ) (steps choices : List ℕ) where
       shares_are = met_first g player den steps choices own [] met
           ∙ +ℤ_comm (share g player den own) (pos 0)
           ∙ +ℤ_idl (share g player den own);
-      size = omega (arith, bound_is);
+      size = omega (arith, bound_is, bound_first g player den steps choices own [] met);
     }
 
     pub move_valued : (below : Option Ratio) (rs : List Reached) → 1 ≤ own.path.bound
@@ -166,15 +166,16 @@ module _ (g : Game) (player den : ℕ) (steps choices : List ℕ) where
         (own ∷ rs)
     move_valued below rs some above within limit h =
         let both = sum_below amount h.amount own.path.bound in
+        let all = bound_first g player den steps choices own rs met in
         let first : IsWithin amount =
         size_below (unsigned_abs amount) own.path.bound (2 ^ 127) some
-        (omega (arith, bound_is, limit)) in
+        (omega (arith, bound_is, all, limit)) in
         let second : IsWithin h.amount =
         size_below (unsigned_abs h.amount) own.path.bound (2 ^ 127) some
-        (omega (arith, h.size, limit)) in
+        (omega (arith, h.size, all, limit)) in
         let whole : IsWithin (amount +ℤ h.amount) =
         size_below (unsigned_abs (amount +ℤ h.amount)) own.path.bound (2 ^ 127) some
-        (omega (arith, both, bound_is, h.size, limit)) in
+        (omega (arith, both, bound_is, h.size, all, limit)) in
         let sum = sum_over pay h.ratio amount h.amount left f h.fraction above within amount_is
         h.amount_is first second whole in
         record {
@@ -186,7 +187,7 @@ module _ (g : Game) (player den : ℕ) (steps choices : List ℕ) where
           shares_are = met_first g player den steps choices own rs met
               ∙ ap (λ z. share g player den own +ℤ z) h.shares_are
               ∙ sym (mul-plus (pos own.path.weight) amount h.amount);
-          size = omega (arith, both, bound_is, h.size);
+          size = omega (arith, both, bound_is, h.size, all);
         }
 
   -- ---- the children of a chance move
@@ -226,7 +227,7 @@ module _ (g : Game) (player den : ℕ) (steps choices : List ℕ) where
     both_below = omega (arith, sum_below start part bound, part_below)
 
     lists : bounds (xs ++ ys) ≡ bounds xs + bounds ys
-    lists = bounds_append g player den xs ys
+    lists = bounds_append g player den steps choices xs ys
 
     part_within : IsWithin part
     part_within = size_below (unsigned_abs part) bound (2 ^ 127) some

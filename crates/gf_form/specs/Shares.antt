@@ -1,5 +1,5 @@
 -- What the nodes that choices reach add to a player's payoff, over one denominator for all.
-use Rattle.std.specs.Prelude.{◌≡◌, ℕ, ℤ, pos, ◌+◌, ◌*◌, ◌/◌, ◌<◌, ◌^◌, ◌+ℤ◌, ◌*ℤ◌, List, [], ◌∷◌}
+use Rattle.std.specs.Prelude.{◌≡◌, ℕ, ℤ, true, pos, ◌+◌, ◌*◌, ◌/◌, ◌<◌, ◌^◌, ◌+ℤ◌, ◌*ℤ◌, List, [], ◌∷◌}
 use Rattle.std.specs.Prelude.{unsigned_abs, if◌then◌else◌, length, get_or}
 use Rattle.std.specs.Int.{◌∣◌}
 use Rattle.std.specs.List.{AllByRecursion}
@@ -46,6 +46,27 @@ sum_of_shares g player den steps choices (r ∷ rs) =
 abbrev pub sum_of_bounds : Game → ℕ → ℕ → List Reached → ℕ
 sum_of_bounds g player den [] = 0
 sum_of_bounds g player den (r ∷ rs) = share_bound g player den r + sum_of_bounds g player den rs
+
+-- the sum of the bounds of those that these choices reach
+abbrev pub met_bounds : Game → ℕ → ℕ → List ℕ → List ℕ → List Reached → ℕ
+met_bounds g player den steps choices [] = 0
+met_bounds g player den steps choices (r ∷ rs) =
+    (if meets steps choices r.path.demands then share_bound g player den r else 0)
+    + met_bounds g player den steps choices rs
+
+-- nothing is left over of its share, if these choices reach the node
+abbrev pub IsExactIfMet : Game → ℕ → ℕ → List ℕ → List ℕ → Reached → Type 0
+IsExactIfMet g player den steps choices r =
+    meets steps choices r.path.demands ≡ true → IsExact g player den r
+
+-- over this denominator no share of the player that these choices reach has a remainder, and all of
+-- those together are in bound
+pub record FitsAt (g : Game) (player den : ℕ) (steps choices : List ℕ) (rs : List Reached) : Type 0
+  where
+    pub den_above_zero : 0 < den
+    pub den_within : den < 2 ^ 127
+    pub exact : AllByRecursion (IsExactIfMet g player den steps choices) rs
+    pub within : met_bounds g player den steps choices rs < 2 ^ 127
 
 -- over this denominator no share of the player has a remainder, and all together are in bound
 pub record Fits (g : Game) (player den : ℕ) (rs : List Reached) : Type 0 where
