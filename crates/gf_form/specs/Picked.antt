@@ -1,9 +1,9 @@
 -- Strategies that are picked for a table, of each player those with these numbers, from 0.
-use Rattle.std.specs.Prelude.{◌≡◌, ℕ, ◌+◌, ◌-◌, ◌<◌, List, get_or, length, map, zip}
+use Rattle.std.specs.Prelude.{◌≡◌, ℕ, ◌+◌, ◌-◌, ◌<◌, List, get_or, length, map, true, zip}
 use Rattle.std.specs.List.{AllByRecursion, AllZip}
 use Rattle.gf_nfg.specs.Profiles.{profiles}
 use Rattle.gf_tree.specs.Game.{Game}
-use Rattle.gf_form.specs.Strategies.{players_of, strategies}
+use Rattle.gf_form.specs.Strategies.{full_profiles, players_of, strategies}
 use Rattle.gf_form.specs.declared.picked.Picked.{Picked}
 
 -- the numbers of each player
@@ -27,3 +27,4 @@ picked_profiles numbers = map (full_at numbers) (profiles (map length numbers))
 pub record IsPicked (g : Game) (picked : Picked) : Type 0 where
   pub numbers : AreNumbers g (numbers_in picked)
   pub profiles : picked.profiles.count ≡ length (picked_profiles (numbers_in picked))
+  pub all : picked.are_all ≡ true → picked_profiles (numbers_in picked) ≡ full_profiles g

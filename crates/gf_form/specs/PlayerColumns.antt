@@ -1,5 +1,5 @@
 -- Payoffs at all profiles as whole numbers over one denominator.
-use Rattle.std.specs.Prelude.{◌≡◌, ℕ, ℤ, suc, pos, ◌<◌, ◌^◌, List, [], get_or, length, map, Some}
+use Rattle.std.specs.Prelude.{◌≡◌, ℕ, ℤ, suc, pos, ◌<◌, ◌^◌, List, [], ◌++◌, get_or, length, map, Some}
 use Rattle.std.specs.List.{AllByRecursion}
 use Rattle.gf_fraction.specs.Ratio.{HasValue, IsFraction, IsWithin, Ratio}
 use Rattle.gf_tree.specs.Game.{Game}
@@ -43,3 +43,14 @@ pub record AreValuesSoFar (g : Game) (profile players : ℕ) (row : List Ratio) 
 -- those of all players
 abbrev pub IsRowOfValues : Game → ℕ → List Ratio → Type 0
 IsRowOfValues g profile row = AreValuesSoFar g profile (length g.players) row
+
+-- behind these rows the row of the profile with this number, from 0, so far as the first players,
+-- so many, go
+pub record HasMore (g : Game) (profile players : ℕ) (old new : List Ratio) : Type 0 where
+  pub row : List Ratio
+  pub behind : new ≡ old ++ row
+  pub values : AreValuesSoFar g profile players row
+
+-- the whole row
+abbrev pub HasRowMore : Game → ℕ → List Ratio → List Ratio → Type 0
+HasRowMore g profile old new = HasMore g profile (length g.players) old new

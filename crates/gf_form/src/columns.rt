@@ -1,11 +1,11 @@
 //! What each player is paid at all profiles, by the shares of the nodes that choices reach.
 
-ghost use Rattle.std.specs.Prelude.{◌<◌, ◌^◌, IfOk, IfSome, length};
+ghost use Rattle.std.specs.Prelude.{◌<◌, ◌^◌, IfOk, IfSome, OnOk, length};
 ghost use Rattle.gf_fraction.specs.Ratio.{HasValue, IsFraction, IsWithin};
 ghost use Rattle.gf_tree.specs.Game.{Game};
 ghost use Rattle.gf_form.specs.Counted.{AreCounts};
 ghost use Rattle.gf_form.specs.PaidRows.{rows_of};
-ghost use Rattle.gf_form.specs.PlayerColumns.{AreColumns, IsRowOfValues};
+ghost use Rattle.gf_form.specs.PlayerColumns.{AreColumns, HasRowMore};
 ghost use Rattle.gf_form.specs.Rows.{ArePaid};
 ghost use Rattle.gf_form.specs.Strategies.{full_profiles};
 
@@ -72,17 +72,16 @@ impl Columns {
         Ok(Some(Columns { den, columns }))
     }
 
-    /// What each player is paid at the profile with this number, from 0.
-    pub(crate) fn row(&self, alloc: Global, profile: u32) -> Result<Vec<Fraction>, AllocError>
+    /// Appends what each player is paid at the profile with this number, from 0.
+    pub(crate) fn push_row(&self, profile: u32, rows: &mut Vec<Fraction>) -> Result<(), AllocError>
         requires { (g : Game) × AreColumns g self.now × (profile < length (full_profiles g)) }
-        ensures { IfOk result (λ row. (g : Game) → AreColumns g self.now
-            → profile < length (full_profiles g) → IsRowOfValues g profile row.items) }
+        ensures { OnOk result ((g : Game) → AreColumns g self.now
+            → profile < length (full_profiles g)
+            → HasRowMore g profile rows.old.items rows.new.items) }
     {
-        let mut row = Vec::with_capacity(alloc, self.columns.len())?;
         for column in &self.columns {
-            let payoff = over(self.den, column[profile as usize]);
-            row.push(payoff)?;
+            rows.push(over(self.den, column[profile as usize]))?;
         }
-        Ok(row)
+        Ok(())
     }
 }

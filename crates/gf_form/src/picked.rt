@@ -1,6 +1,6 @@
 //! The strategies of each player that are picked for a table.
 
-ghost use Rattle.std.specs.Prelude.{◌≡◌, ◌<◌, ℕ, length, map, IfOk, MatchOption};
+ghost use Rattle.std.specs.Prelude.{◌≡◌, ◌<◌, ℕ, false, length, map, IfOk, MatchOption};
 ghost use Rattle.std.specs.List.{AllByRecursion};
 ghost use Rattle.gf_nfg.specs.Limit.{profile_limit};
 ghost use Rattle.gf_nfg.specs.Profiles.{numbers_from, product};
@@ -19,6 +19,8 @@ pub(crate) struct Picked {
     /// Of each player, by their numbers, from 0.
     pub numbers: Vec<Vec<u32>>,
     pub profiles: ProfileCount,
+    /// Whether they are known to be all, in order.
+    pub are_all: bool,
 }
 
 /// So many numbers, from 0.
@@ -47,6 +49,7 @@ impl Picked {
         Ok(Picked {
             numbers,
             profiles: counts.profiles,
+            are_all: true,
         })
     }
 
@@ -57,7 +60,8 @@ impl Picked {
         ensures { MatchOption result
             (profile_limit < product (map length (map (λ own. own.items) numbers.items)))
             (λ picked. (numbers_in picked ≡ map (λ own. own.items) numbers.items)
-            × (picked.profiles.count ≡ product (map length (numbers_in picked)))) }
+            × (picked.profiles.count ≡ product (map length (numbers_in picked)))
+            × (picked.are_all ≡ false)) }
     {
         let mut profiles = ProfileCount::one();
         for own in &numbers {
@@ -66,6 +70,10 @@ impl Picked {
             };
             profiles = more;
         }
-        Some(Picked { numbers, profiles })
+        Some(Picked {
+            numbers,
+            profiles,
+            are_all: false,
+        })
     }
 }

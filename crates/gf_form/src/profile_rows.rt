@@ -60,6 +60,9 @@ fn full_number_of(counts: &Counts, picked: &Picked, profile: u32) -> u32
         → (result < length (full_profiles g)) × (get_or (full_profiles g) result []
         ≡ get_or (picked_profiles (numbers_in picked.now)) profile []) }
 {
+    if picked.are_all {
+        return profile;
+    }
     let mut number = 0;
     let mut whole = 1;
     let mut left = profile as usize;
@@ -73,20 +76,18 @@ fn full_number_of(counts: &Counts, picked: &Picked, profile: u32) -> u32
     number
 }
 
-/// What each player is paid at the profile with this number, from 0.
-fn row_at(
+/// What each player is paid at the profile with this number, from 0, by a walk through the tree.
+fn row_by_walk(
     alloc: Global,
     game: &Game<'_>,
     counts: &Counts,
     payoffs: &Payoffs<'_>,
-    columns: Option<&Columns>,
     picked: &Picked,
     profile: u32,
 ) -> Result<Vec<Fraction>, EvalFault>
     requires within { profile < picked.now.profiles.count }
     requires counts { AreCounts game.now counts.now }
     requires payoffs { ArePaid game.now (rows_of payoffs.now) }
-    requires columns { IfSome columns (λ c. AreColumns game.now c.now) }
     requires picked { IsPicked game.now picked.now }
     ensures payoffs { IfOk result (λ row. ArePayoffsAt game.now
         (get_or (picked_profiles (numbers_in picked.now)) profile []) row.items) }
@@ -96,10 +97,6 @@ fn row_at(
         → ¬ (HasValues game.now (get_or (picked_profiles (numbers_in picked.now)) profile [])) }
 {
     let _players = game.players();
-    if let Some(columns) = columns {
-        let number = full_number_of(counts, picked, profile);
-        return Ok(columns.row(alloc, number)?);
-    }
     let strategies = strategies_of(alloc, counts, picked, profile)?;
     expected_with(alloc, game, payoffs, &strategies)
 }
@@ -129,8 +126,13 @@ fn fill_rows(
     ensures overflow { (position : ℕ) → IsErrOf result (FormFault.Overflow position)
         → IsFirstWithout (HasValues game.now) (picked_profiles (numbers_in picked.now)) position }
 {
+    let _players = game.players();
     for before in 0..picked.profiles.count {
-        match row_at(alloc, game, counts, payoffs, columns, picked, before) {
+        if let Some(columns) = columns {
+            columns.push_row(full_number_of(counts, picked, before), &mut rows)?;
+            continue;
+        }
+        match row_by_walk(alloc, game, counts, payoffs, picked, before) {
             Ok(row) => rows.extend_from_slice(&row)?,
             Err(EvalFault::Overflow) => {
                 return Err(FormFault::Overflow {
@@ -177,7 +179,15 @@ pub(crate) fn profile_rows(
     } else {
         None
     };
-    match fill_rows(alloc, game, counts, &payoffs, columns.as_ref(), picked, rows) {
+    match fill_rows(
+        alloc,
+        game,
+        counts,
+        &payoffs,
+        columns.as_ref(),
+        picked,
+        rows,
+    ) {
         Ok(rows) => Ok(rows),
         Err(fault) => Err(fault),
     }

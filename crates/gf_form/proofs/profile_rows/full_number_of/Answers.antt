@@ -1,4 +1,5 @@
-use Rattle.std.proofs.Common.{◌+◌, ◌*◌, ◌/◌, ◌<◌, ℕ, Vec, Global, ap, arith, length, subst, sym}
+use Rattle.std.proofs.Common.{◌+◌, ◌*◌, ◌/◌, ◌<◌, ℕ, List, Vec, Global, ap, arith, get_or, length}
+use Rattle.std.proofs.Common.{[], subst, sym}
 use Rattle.std.proofs.lemmas.List.{length-map}
 use Rattle.gf_form.specs.Picked.{numbers_in}
 use Rattle.gf_form.proofs.FullNumbers.{CountsOn, IsFullNumber, as_long, count_at, counts_all}
@@ -122,3 +123,10 @@ returns c g counts picked =
       as_long g c.args.counts.now c.args.picked.now counts picked c.args.profile c.requires.within,
     )))) of in
     (full.within, full.same)
+
+pub returns-then-picked : goal.returns-then-picked
+returns-then-picked c g counts picked =
+    let all = picked.all c.if-picked.true in (
+      omega (arith, c.requires.within, picked.profiles, ap length all),
+      ap (λ (ps : List (List ℕ)). get_or ps c.args.profile []) (sym all),
+    )

@@ -1,4 +1,5 @@
 use Rattle.std.proofs.Common.{◌∙◌, ℕ, Vec, Global, arith, map, subst, sym}
+use Rattle.std.proofs.lemmas.Bool.{false≢true}
 use Rattle.std.proofs.lemmas.Result.{IfOk-weaker, on_ok_weaker}
 use Rattle.gf_form.specs.Firsts.{AreFirsts}
 use Rattle.gf_form.specs.Picked.{numbers_in}
@@ -25,6 +26,7 @@ profile_rows-requires-clause-picked c =
       numbers = are_numbers c.args.game.now (numbers_in c.in-Some.picked)
           (subst (AreFirsts c.args.game.now) (sym c.in-Some.ensures.0) c.requires.firsts);
       profiles = c.in-Some.ensures.1 ∙ sym (counted_profiles (numbers_in c.in-Some.picked));
+      all = λ yes. absurd (false≢true (sym c.in-Some.ensures.2 ∙ yes));
     }
 
 pub returns-clause-rows : goal.returns-clause-rows

@@ -34,7 +34,7 @@ returns-clause-picked c g counts =
     (map (λ (own : Vec ℕ Global). own.items) c.loop-count.numbers.items)
     (c.loop-count.invariant
     ∙ take_past c.loop-count.count-index (all_numbers all.strategies.items) past) in
-    record { numbers = parts.0; profiles = parts.1 }
+    record { numbers = parts.0; profiles = parts.1; all = λ yes. parts.2 }
 
 pub returns-clause-full : goal.returns-clause-full
 returns-clause-full c g counts =

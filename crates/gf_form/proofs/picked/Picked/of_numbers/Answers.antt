@@ -47,4 +47,4 @@ returns c =
       length-map c.args.numbers.items (λ (own : Vec ℕ Global). own.items),
       length-map (map (λ (own : Vec ℕ Global). own.items) c.args.numbers.items) length,
     )) in
-    (refl, c.loop-own.invariant ∙ ap product whole)
+    (refl, c.loop-own.invariant ∙ ap product whole, refl)

@@ -1,16 +1,16 @@
-use Rattle.std.proofs.Common.{◌<◌, ◌∙◌, ℕ, ℤ, List, Vec, Global, ap, arith, get_or, length, subst}
+use Rattle.std.proofs.Common.{◌<◌, ◌∙◌, ◌++◌, ◌∷◌, [], refl, ℕ, ℤ, List, Vec, Global, ap, arith, get_or, length, subst}
 use Rattle.std.proofs.Common.{sym}
-use Rattle.std.specs.List.{AllByRecursion}
-use Rattle.gf_fraction.specs.Ratio.{HasValue, IsFraction, IsWithin}
-use Rattle.gf_form.specs.PlayerColumns.{AreValuesSoFar}
+use Rattle.std.proofs.lemmas.List.{append-nil, append_assoc}
+use Rattle.gf_fraction.specs.Ratio.{HasValue, IsWithin, Ratio}
+use Rattle.gf_form.specs.PlayerColumns.{HasMore}
 use Rattle.gf_form.proofs.ColumnsMade.{column_at, entry, is_column, one_value_more}
-use Rattle.gf_form.proofs.columns.Columns.row.Goals as goal
+use Rattle.gf_form.proofs.columns.Columns.push_row.Goals as goal
 
 pub loop-column-init : goal.loop-column-init
 loop-column-init c g are less = record {
-  one_each = ap length c.in_ok-row.ensures.items;
-  fractions = subst (AllByRecursion IsFraction) (sym c.in_ok-row.ensures.items) tt;
-  values = λ place before. absurd (omega (arith, before));
+  row = [];
+  behind = sym (append-nil c.args.rows.now.items);
+  values = record { one_each = refl; fractions = tt; values = λ place before. absurd (omega (arith, before)) };
 }
 
 pub index-requires : goal.index-requires
@@ -25,8 +25,8 @@ index-requires c =
     (column_at c.args.self.now i column within is) in
     omega (arith, c.requires.2, at.one_each)
 
-pub over-payoff-requires-clause-within : goal.over-payoff-requires-clause-within
-over-payoff-requires-clause-within c =
+pub over-requires-clause-within : goal.over-requires-clause-within
+over-requires-clause-within c =
     let i = c.loop-column.column-index in
     let column = c.column-item.result in
     let all = c.deref-column-items.ensures.value in
@@ -46,16 +46,24 @@ loop-column-preserved c g are less =
     let is = c.column-item.is ∙ ap (λ (cs : List (Vec ℤ Global)). get_or cs i column) all in
     let e = entry g c.args.self.now c.args.profile i column c.index.result.now are less within is
     c.index.ensures in
-    one_value_more g c.args.self.now c.args.profile i c.loop-column.row.items
-    c.push.new.self.items column.items c.over-payoff.result are less within
-    (column_at c.args.self.now i column within is) c.over-payoff.ensures.fraction
-    (subst (λ (z : ℤ). HasValue c.over-payoff.result z c.args.self.now.den) (e.back ∙ e.whole)
-    c.over-payoff.ensures.value)
-    c.in_ok-push.ensures.items (c.loop-column.invariant g are less)
+    let so_far = c.loop-column.invariant g are less in
+    let payoff = c.over.result in
+    record {
+      row = so_far.row ++ payoff ∷ [];
+      behind = c.in_ok-push.ensures.items
+          ∙ ap (λ (rows : List Ratio). rows ++ payoff ∷ []) so_far.behind
+          ∙ append_assoc c.args.rows.now.items so_far.row (payoff ∷ []);
+      values = one_value_more g c.args.self.now c.args.profile i so_far.row
+          (so_far.row ++ payoff ∷ []) column.items payoff are less within
+          (column_at c.args.self.now i column within is) c.over.ensures.fraction
+          (subst (λ (z : ℤ). HasValue payoff z c.args.self.now.den) (e.back ∙ e.whole)
+          c.over.ensures.value)
+          refl so_far.values;
+    }
 
 pub returns : goal.returns
 returns c g are less =
-    subst (λ (n : ℕ). AreValuesSoFar g c.args.profile n c.loop-column.row.items)
+    subst (λ (n : ℕ). HasMore g c.args.profile n c.args.rows.now.items c.loop-column.rows.items)
     (omega (
       arith,
       c.loop-column-test.false,
