@@ -223,7 +223,7 @@ shown_by relevant (k ∷ keys) (a ∷ s) d e =
 
 -- ---- the strategies of a player
 
-choice_length : (counts s : List ℕ) → IsChoice counts s → length s ≡ length counts
+pub choice_length : (counts s : List ℕ) → IsChoice counts s → length s ≡ length counts
 choice_length [] [] h = refl
 choice_length [] (a ∷ s) h = absurd h
 choice_length (n ∷ counts) [] h = absurd h
@@ -250,17 +250,17 @@ module _ (g : Game) (game : IsGame g) (player : ℕ) where
   abbrev counts : List ℕ
   counts = action_counts g player
 
-  counted : length keys ≡ length counts
-  counted = length-map (player_sets g player) (λ s. s.key)
+  pub keys_counted : length keys ≡ length counts
+  keys_counted = length-map (player_sets g player) (λ s. s.key)
       ∙ sym (length-map (player_sets g player) (λ s. length s.description.actions))
 
-  flags_counted : (s : List ℕ) → length (relevant_sets g player s) ≡ length counts
-  flags_counted s = length-map keys (is_relevant g (choice_at keys s)) ∙ counted
+  pub flags_counted : (s : List ℕ) → length (relevant_sets g player s) ≡ length counts
+  flags_counted s = length-map keys (is_relevant g (choice_at keys s)) ∙ keys_counted
 
   pub reduced_shown : (s : List ℕ) → IsChoice counts s
       → reduced g player s ≡ shown (relevant_sets g player s) s
   reduced_shown s h = shown_by (is_relevant g (choice_at keys s)) keys s (keys_distinct g game player)
-      (counted ∙ sym (choice_length counts s h))
+      (keys_counted ∙ sym (choice_length counts s h))
 
   is_choice : (s : List ℕ) → Has (strategies g player) s → IsChoice counts s
   is_choice s i = each (IsChoice counts) (all_choices counts) s (are_choices counts) i

@@ -1,5 +1,6 @@
 pub mod ActionCounts
 pub mod Alike
+pub mod AlikeStrategies
 pub mod Apart
 pub mod BottomUp
 pub mod ChanceSigns

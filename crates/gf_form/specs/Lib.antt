@@ -1,3 +1,4 @@
+pub mod AlikeStrategies
 pub mod BottomUp
 pub mod ChosenTerms
 pub mod CodeLeft

@@ -1,8 +1,9 @@
 //! The reduced strategies of a player. Of the strategies that reduce to one, the first has the first
 //! action at each set that is not relevant under it, and no other has.
 
-ghost use Rattle.std.specs.Prelude.{◌≡◌, ◌≤◌, IfOk, length, map};
+ghost use Rattle.std.specs.Prelude.{◌≡◌, ◌<◌, ◌≤◌, ◌^◌, IfOk, length, map};
 ghost use Rattle.gf_nfg.specs.Profiles.{product};
+ghost use Rattle.gf_form.specs.AlikeStrategies.{AreAlike};
 ghost use Rattle.gf_form.specs.Counted.{AreCounts};
 ghost use Rattle.gf_form.specs.Firsts.{AreFirsts, AreFirstsOf};
 ghost use Rattle.gf_form.specs.Reduced.{reduced_labels};
@@ -31,6 +32,25 @@ fn is_first(relevant: &[bool], strategy: &[u32]) -> bool
     true
 }
 
+/// How many strategies, from this one on, have its actions but at sets at the end, where it has the
+/// first action and none of which is relevant under it. What is relevant under it is so under all of
+/// them, so that no other is the first of those that reduce to one.
+fn strategies_alike(counts: &[u32], relevant: &[bool], strategy: &[u32]) -> u32
+    requires flags { length relevant.now ≡ length counts.now }
+    requires actions { length strategy.now ≡ length counts.now }
+    requires some { 0 < product counts.now }
+    requires within { product counts.now < 2 ^ 32 }
+    ensures { AreAlike counts.now relevant.now strategy.now result }
+{
+    let mut alike = 1;
+    let mut from = counts.len();
+    while from > 0 && !relevant[from - 1] && strategy[from - 1] == 1 {
+        from -= 1;
+        alike *= counts[from];
+    }
+    alike
+}
+
 /// The numbers of the first strategies that reduce to each reduced strategy of a player, from 0, and
 /// the labels of these. At his sets there are so many actions each, and `whole` strategies.
 fn first_strategies(
@@ -53,7 +73,8 @@ fn first_strategies(
     let mut text = Vec::new(alloc);
     let mut firsts = Vec::new(alloc);
     let mut labels = Labels::new(alloc);
-    for number in 0..whole {
+    let mut number = 0;
+    while number < whole {
         write_strategy(counts, whole, number, &mut strategy)?;
         relevance.write_relevant(&strategy, &mut reached, &mut relevant)?;
         if is_first(&relevant, &strategy) {
@@ -61,6 +82,7 @@ fn first_strategies(
             labels.push(Label::of_spelling(&text))?;
             firsts.push(number)?;
         }
+        number += strategies_alike(counts, &relevant, &strategy);
     }
     Ok((firsts, labels))
 }

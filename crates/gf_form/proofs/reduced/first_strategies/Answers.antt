@@ -11,7 +11,8 @@ use Rattle.gf_form.specs.Strategies.{action_counts, all_choices, strategies}
 use Rattle.gf_form.proofs.Choices.{length-all_choices}
 use Rattle.gf_form.proofs.CountedActions.{take_past}
 use Rattle.gf_form.proofs.FirstNumbers.{AreFirst, first_kept, first_left, one_image_more}
-use Rattle.gf_form.proofs.FirstStrategies.{flags_fit, is_first, reduced_shown_at}
+use Rattle.gf_form.proofs.AlikeStrategies.{alike_moved, all_within, one_first_more, some_alike}
+use Rattle.gf_form.proofs.FirstStrategies.{flags_counted, flags_fit, is_first, reduced_shown_at}
 use Rattle.gf_form.proofs.FirstStrategies.{reduced_strategies_are}
 use Rattle.gf_form.proofs.reduced.first_strategies.Goals as goal
 use Rattle.gf_form.proofs.reduced.first_strategies.Goals.{then-is_first+in_ok-write_reduced_label+in_ok-push+in_ok-push-2, else-is_first}
@@ -80,6 +81,19 @@ loop-number-preserved c =
     ((c.deref-in-loop-number-2.ensures.value ∙ written) i))) in
     let numbers = c.loop-number.firsts.items in
     let label = λ (number : ℕ). reduced_label (reduced g player (get_or all number [])) in
+    let below : n < product (action_counts g player) =
+    omega (arith, c.loop-number-test.true, c.requires.whole ∙ ap product c.requires.counts) in
+    let are = alike_moved c.args.counts.now (action_counts g player)
+    c.deref-in-loop-number-3.result.now (relevant_sets g player s)
+    c.deref-in-loop-number-4.result.now s c.strategies_alike-number.result c.requires.counts
+    (c.deref-in-loop-number-3.ensures.value
+    ∙ c.in_ok-write_relevant.ensures g player c.in_ok-relevance.ensures
+    ∙ ap (relevant_sets g player) (c.deref.ensures.value ∙ written))
+    (c.deref-in-loop-number-4.ensures.value ∙ written) c.strategies_alike-number.ensures in
+    let within = all_within g c.players-players.ensures.is_game player n
+    c.strategies_alike-number.result below are in
+    let so_far : AreFirst (is_first g player) all [] c.if-is_first.firsts.items (n + 1)
+    × (c.if-is_first.labels ≡ map label c.if-is_first.firsts.items) =
     elim c.if-is_first.branch [
       | then-is_first+in_ok-write_reduced_label+in_ok-push+in_ok-push-2 w ↦
           let kept = ap (λ (v : Vec ℕ Global). v.items) w.firsts-is ∙ w.in_ok-push-2.ensures.items in (
@@ -103,7 +117,17 @@ loop-number-preserved c =
         w.labels-is ∙ c.loop-number.invariant.1
             ∙ ap (λ (v : Vec ℕ Global). map label v.items) (sym w.firsts-is),
       )
-    ]
+    ] in (
+      one_first_more g c.players-players.ensures.is_game player n c.strategies_alike-number.result
+          below are c.if-is_first.firsts.items so_far.0
+          (omega (
+            arith,
+            are.as_many,
+            some_alike (action_counts g player) are.from (omega (arith, below)),
+          )),
+      so_far.1,
+      omega (arith, within, c.requires.whole ∙ ap product c.requires.counts),
+    )
 
 pub returns-clause-firsts : goal.returns-clause-firsts
 returns-clause-firsts c =
@@ -116,7 +140,7 @@ returns-clause-firsts c =
     let past : length all ≤ c.loop-number.number =
     omega (arith, c.loop-number-test.false, counted, whole) in
     let end : c.loop-number.number ≡ length all =
-    omega (arith, c.loop-number-test.false, c.loop-number.auto.number-end, counted, whole) in (
+    omega (arith, c.loop-number-test.false, c.loop-number.invariant.2, counted, whole) in (
       sym (map_twice (reduced g player) (λ number. get_or all number []) numbers)
           ∙ ap (map (reduced g player)) (c.loop-number.invariant.0.are
           ∙ ap (filter (is_first g player)) (take_past c.loop-number.number all past))
@@ -141,3 +165,79 @@ returns-clause-labels c =
     ∙ ap (filter (is_first g player)) (take_past c.loop-number.number all past))
     ∙ sym (map_twice reduced_label (reduced g player) (filter (is_first g player) all))
     ∙ ap (map reduced_label) (sym (reduced_strategies_are g c.players-players.ensures.is_game player))
+
+pub strategies_alike-number-requires-clause-actions : goal.strategies_alike-number-requires-clause-actions
+strategies_alike-number-requires-clause-actions c =
+    let g = c.args.game.now in
+    let player = c.args.player in
+    let n = c.loop-number.number in
+    let s = get_or (strategies g player) n [] in
+    let less : n < product (action_counts g player) =
+    omega (arith, c.loop-number-test.true, c.requires.whole ∙ ap product c.requires.counts) in
+    let written : c.write_strategy.new.strategy.items ≡ s =
+    c.in_ok-write_strategy.ensures
+    ∙ ap (λ (counts : List ℕ). get_or (all_choices counts) n []) c.requires.counts in
+    let game = c.players-players.ensures.is_game in
+    let inside : n < length (strategies g player) =
+    omega (arith, less, length-all_choices (action_counts g player)) in
+    ap length (c.deref-in-loop-number-4.ensures.value ∙ written)
+    ∙ sym (flags_fit g game player n inside) ∙ flags_counted g game player s
+    ∙ sym (ap length c.requires.counts)
+
+pub overflow_add-number : goal.overflow_add-number
+overflow_add-number c =
+    let g = c.args.game.now in
+    let player = c.args.player in
+    let n = c.loop-number.number in
+    let s = get_or (strategies g player) n [] in
+    let less : n < product (action_counts g player) =
+    omega (arith, c.loop-number-test.true, c.requires.whole ∙ ap product c.requires.counts) in
+    let written : c.write_strategy.new.strategy.items ≡ s =
+    c.in_ok-write_strategy.ensures
+    ∙ ap (λ (counts : List ℕ). get_or (all_choices counts) n []) c.requires.counts in
+    let are = alike_moved c.args.counts.now (action_counts g player)
+    c.deref-in-loop-number-3.result.now (relevant_sets g player s)
+    c.deref-in-loop-number-4.result.now s c.strategies_alike-number.result c.requires.counts
+    (c.deref-in-loop-number-3.ensures.value
+    ∙ c.in_ok-write_relevant.ensures g player c.in_ok-relevance.ensures
+    ∙ ap (relevant_sets g player) (c.deref.ensures.value ∙ written))
+    (c.deref-in-loop-number-4.ensures.value ∙ written) c.strategies_alike-number.ensures in
+    let within = all_within g c.players-players.ensures.is_game player n
+    c.strategies_alike-number.result less are in
+    record {
+      fits = omega (
+        arith,
+        within,
+        c.requires.whole ∙ ap product c.requires.counts,
+        c.ranges.whole.fits,
+      );
+    }
+
+pub loop-number-smaller : goal.loop-number-smaller
+loop-number-smaller c =
+    let g = c.args.game.now in
+    let player = c.args.player in
+    let n = c.loop-number.number in
+    let s = get_or (strategies g player) n [] in
+    let less : n < product (action_counts g player) =
+    omega (arith, c.loop-number-test.true, c.requires.whole ∙ ap product c.requires.counts) in
+    let written : c.write_strategy.new.strategy.items ≡ s =
+    c.in_ok-write_strategy.ensures
+    ∙ ap (λ (counts : List ℕ). get_or (all_choices counts) n []) c.requires.counts in
+    let are = alike_moved c.args.counts.now (action_counts g player)
+    c.deref-in-loop-number-3.result.now (relevant_sets g player s)
+    c.deref-in-loop-number-4.result.now s c.strategies_alike-number.result c.requires.counts
+    (c.deref-in-loop-number-3.ensures.value
+    ∙ c.in_ok-write_relevant.ensures g player c.in_ok-relevance.ensures
+    ∙ ap (relevant_sets g player) (c.deref.ensures.value ∙ written))
+    (c.deref-in-loop-number-4.ensures.value ∙ written) c.strategies_alike-number.ensures in
+    let within = all_within g c.players-players.ensures.is_game player n
+    c.strategies_alike-number.result less are in
+    omega (
+      arith,
+      within,
+      c.loop-number-test.true,
+      c.requires.whole ∙ ap product c.requires.counts,
+      are.as_many,
+      some_alike (action_counts g player) are.from (omega (arith, less)),
+    )
