@@ -28,6 +28,7 @@ pub mod FullNumbers
 pub mod GameDigits
 pub mod KeptShares
 pub mod KnownSets
+pub mod LabelsJoined
 pub mod Lookups
 pub mod Lotteries
 pub mod NoPlayer

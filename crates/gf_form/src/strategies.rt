@@ -1,6 +1,8 @@
 //! The strategies of a player by their numbers, and their labels.
 
-ghost use Rattle.std.specs.Prelude.{◌≡◌, ◌<◌, [], OnOk, IfOk, get_or, map};
+ghost use Rattle.std.specs.Prelude.{◌≡◌, ◌<◌, ◌++◌, [], ◌∷◌, ℕ, List, OnOk, IfOk, IfSome};
+ghost use Rattle.std.specs.Prelude.{get_or, length, map};
+ghost use Rattle.gf_token.specs.Label.{label_of};
 ghost use Rattle.gf_token.specs.LabelSpelling.{IsLabel};
 ghost use Rattle.gf_nfg.specs.Profiles.{product};
 ghost use Rattle.gf_form.specs.Strategies.{all_choices, strategy_label};
@@ -49,12 +51,8 @@ fn write_label(strategy: &[u32], text: &mut Vec<u8>) -> Result<(), AllocError>
     Ok(())
 }
 
-/// The labels of all strategies at sets with so many actions each; there are `whole`.
-pub(crate) fn strategy_labels(
-    alloc: Global,
-    counts: &[u32],
-    whole: u32,
-) -> Result<Labels, AllocError>
+/// The labels of all strategies at sets with so many actions each, one by one; there are `whole`.
+fn labels_in_turn(alloc: Global, counts: &[u32], whole: u32) -> Result<Labels, AllocError>
     requires { whole ≡ product counts.now }
     ensures { IfOk result (λ labels. labels ≡ map strategy_label (all_choices counts.now)) }
 {
@@ -67,4 +65,70 @@ pub(crate) fn strategy_labels(
         labels.push(Label::of_spelling(&text))?;
     }
     Ok(labels)
+}
+
+/// How many strategies there are at sets with so many actions each; `None` past the greatest number.
+fn strategy_count(counts: &[u32]) -> Option<u32>
+    ensures { IfSome result (λ whole. whole ≡ product counts.now) }
+{
+    let mut whole: u32 = 1;
+    for count in counts {
+        whole = whole.checked_mul(*count)?;
+    }
+    Some(whole)
+}
+
+/// Two labels, joined by `-`, take the place of a text.
+fn write_joined(first: Label<'_>, second: Label<'_>, text: &mut Vec<u8>) -> Result<(), AllocError>
+    ensures text { OnOk result
+        (text.new.items ≡ label_of first.entry ++ 45 ∷ label_of second.entry) }
+    ensures label { OnOk result (IsLabel text.new.items) }
+{
+    text.clear();
+    text.extend_from_slice(first.raw())?;
+    text.push(b'-')?;
+    text.extend_from_slice(second.raw())?;
+    Ok(())
+}
+
+/// The labels of all strategies, from those at the first sets and those at the others.
+fn joined_labels(alloc: Global, firsts: &Labels, others: &Labels) -> Result<Labels, AllocError>
+    ensures { IfOk result (λ labels. (counts behind : List ℕ) → 0 < length counts
+        → 0 < length behind → firsts.now ≡ map strategy_label (all_choices counts)
+        → others.now ≡ map strategy_label (all_choices behind)
+        → labels ≡ map strategy_label (all_choices (counts ++ behind))) }
+{
+    let mut labels = Labels::new(alloc);
+    let mut text = Vec::new(alloc);
+    for first in 0..firsts.len() {
+        for other in 0..others.len() {
+            write_joined(firsts.label(first), others.label(other), &mut text)?;
+            labels.push(Label::of_spelling(&text))?;
+        }
+    }
+    Ok(labels)
+}
+
+/// The labels of all strategies at sets with so many actions each; there are `whole`. The labels at
+/// half of the sets are few, and to join them is less work than to write each action anew.
+pub(crate) fn strategy_labels(
+    alloc: Global,
+    counts: &[u32],
+    whole: u32,
+) -> Result<Labels, AllocError>
+    requires { whole ≡ product counts.now }
+    ensures { IfOk result (λ labels. labels ≡ map strategy_label (all_choices counts.now)) }
+{
+    let (first, others) = counts.split_at(counts.len() / 2);
+    if first.is_empty() {
+        return labels_in_turn(alloc, counts, whole);
+    }
+    match (strategy_count(first), strategy_count(others)) {
+        (Some(before), Some(behind)) => {
+            let firsts = labels_in_turn(alloc, first, before)?;
+            let others = labels_in_turn(alloc, others, behind)?;
+            joined_labels(alloc, &firsts, &others)
+        }
+        _ => labels_in_turn(alloc, counts, whole),
+    }
 }

@@ -5,7 +5,7 @@ use Rattle.gf_form.specs.Strategies.{all_choices, strategy_label}
 use Rattle.gf_form.proofs.Choices.{length-all_choices}
 use Rattle.gf_form.proofs.CountedActions.{take_past}
 use Rattle.gf_form.proofs.StrategiesByNumber.{one_label_more}
-use Rattle.gf_form.proofs.strategies.strategy_labels.Goals as goal
+use Rattle.gf_form.proofs.strategies.labels_in_turn.Goals as goal
 
 pub of_spelling-requires : goal.of_spelling-requires
 of_spelling-requires c =
