@@ -63,7 +63,7 @@ pub(crate) fn chosen(
     ensures size { IfOk result (λ left. size_of_terms left.items ≤ size_of_terms terms.now) }
 {
     let lowest = u64::from(action) * step;
-    let mut left = Vec::new(alloc);
+    let mut left = Vec::with_capacity(alloc, terms.len())?;
     let mut free = next_free(terms, 0, step);
     let mut own = next_own(terms, 0, lowest, step);
     while free < terms.len() && own < terms.len() {

@@ -5,8 +5,8 @@ use Rattle.gf_form.proofs.terms.chosen.Goals as goal
 pub loop-free-init : goal.loop-free-init
 loop-free-init c = record {
   chooses = first_chosen c.args.terms.now c.args.step c.args.action c.from.result
-      c.next_free-free.result c.next_own-own.result c.new-left.result.items c.requires.some
-      c.from.ensures c.new-left.ensures.items c.next_free-free.ensures.same
+      c.next_free-free.result c.next_own-own.result c.in_ok-left.left.items c.requires.some
+      c.from.ensures c.in_ok-left.ensures.items c.next_free-free.ensures.same
       c.next_own-own.ensures.same;
   starts_free = c.next_free-free.ensures.starts;
   starts_own = c.next_own-own.ensures.starts;
