@@ -5,6 +5,7 @@ pub mod Labels
 pub mod Grammar
 pub mod Places
 pub mod ReadingIndices
+pub mod ScannedIndices
 pub mod SpelledNumbers
 pub mod SpelledTokens
 pub mod Starts

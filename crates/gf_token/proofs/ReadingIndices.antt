@@ -30,7 +30,7 @@ IsDigits-numeral bs h =
     let some = k.0 in
     (grind (arith, nat_tests), all_digits bs k.1)
 
-numeral_of : (bs : List ℕ) → IsDigits bs → is_numeral bs ≡ true
+pub numeral_of : (bs : List ℕ) → IsDigits bs → is_numeral bs ≡ true
 numeral_of bs h =
     let e : nat_lt 0 (length bs) ≡ true = grind (arith, nat_tests) in rw (e, digits_all bs h.1) refl
 

@@ -4,8 +4,7 @@ use Rattle.std.proofs.Common.{refl, sym, ap, subst, ◌∙◌, append_assoc, ari
 use Rattle.std.specs.Prelude.{Result, Ok, Err, IfSome, MatchOption}
 use Rattle.std.proofs.lemmas.List.{length-append}
 use Rattle.gf_token.specs.Cursor.{Nexts, lexeme_of}
-use Rattle.gf_token.specs.Place.{IsSpanOf}
-use Rattle.gf_token.specs.Remaining.{AreAhead, AreInOrder, IsPlaceIn, Remaining, StandsBefore}
+use Rattle.gf_token.specs.Remaining.{AreAhead, AreInOrder, Remaining, StandsBefore}
 use Rattle.gf_token.specs.Remaining.{Takes}
 use Rattle.gf_token.specs.Token.{Token, Lexeme, lexeme, spelling}
 use Rattle.gf_token.specs.Token.Token.{Opening, Closing, Comma, Text, Bare, Broken}

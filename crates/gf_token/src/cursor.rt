@@ -4,10 +4,13 @@
 //! memory.
 
 ghost use Rattle.std.specs.Prelude.{◌≡◌, ◌<◌, ◌≤◌, ◌+◌, [], ◌∷◌, length, slice_range};
-ghost use Rattle.std.specs.Prelude.{slice_index, MatchOption, true, false};
+ghost use Rattle.std.specs.Prelude.{◌^◌, nat_lt, slice_index, IfSome, MatchOption, None, Some};
+ghost use Rattle.std.specs.Prelude.{true, false, if◌then◌else◌};
+ghost use Rattle.std.specs.Char.{digit_value, is_ascii_digit};
 ghost use Rattle.gf_token.specs.Byte.{is_space, is_bare};
 ghost use Rattle.gf_token.specs.Finding.{lexed, ClosesText, EndsGap, Finds};
 ghost use Rattle.gf_token.specs.Token.{lexeme};
+ghost use Rattle.gf_token.specs.Indices.{index_of};
 ghost use Rattle.gf_token.specs.Label.{label_of};
 ghost use Rattle.gf_token.specs.Next.{starts, is_bare_token, is_closing};
 ghost use Rattle.gf_token.specs.Next.{is_comma, is_opening, is_text_token};
@@ -17,6 +20,7 @@ ghost use Rattle.gf_token.specs.Cursor.{Nexts};
 
 use crate::byte::{is_bare, is_space};
 use crate::fault::{Fault, Span, Why};
+use crate::index::{WORD_DIGITS, index_in};
 use crate::label::Label;
 use crate::token::{BareToken, Kind, TextToken, Token};
 use std::marker::Model;
@@ -76,6 +80,54 @@ fn bare_end(input: &[u8], start: usize) -> usize
         at += 1;
     }
     at
+}
+
+/// The value of a digit.
+#[inline(always)]
+fn digit_value(byte: u8) -> u64
+    requires { is_ascii_digit byte ≡ true }
+    ensures { result ≡ digit_value byte }
+{
+    u64::from(byte - b'0')
+}
+
+/// Where the bare token ends that begins at `start`, and the index that it spells, if it spells one.
+/// Digits are read in the scan that finds their end.
+#[tactic(auto, using(crate::proofs::Steps::bare_steps))]
+#[inline(always)]
+fn index_end(input: &[u8], start: usize) -> (usize, Option<u32>)
+    requires within { start < length input.now }
+    requires bare { is_bare (slice_index input.now start) ≡ true }
+    ensures within { (start < result.0) × (result.0 ≤ length input.now) }
+    ensures found { lexed input.now start
+        ≡ lexeme start result.0 (Bare (slice_range input.now start result.0))
+        ∷ lexed input.now result.0 }
+    ensures index { result.1 ≡ index_of (slice_range input.now start result.0) }
+{
+    if input[start].is_ascii_digit() {
+        let mut at = start + 1;
+        let mut value = digit_value(input[start]);
+        while at < input.len() && at - start < WORD_DIGITS && input[at].is_ascii_digit() {
+            value = value * 10 + digit_value(input[at]);
+            at += 1;
+        }
+        if at >= input.len() || !is_bare(input[at]) {
+            return (at, index_of_value(value));
+        }
+    }
+    let end = bare_end(input, start);
+    (end, index_in(&input[start..end]))
+}
+
+/// The index of a value.
+#[inline(always)]
+fn index_of_value(value: u64) -> Option<u32>
+    ensures { result ≡ (if nat_lt value (2 ^ 32) then Some value else None) }
+{
+    match u32::try_from(value) {
+        Ok(index) => Some(index),
+        Err(_) => None,
+    }
 }
 
 /// The quote that closes the text which the quote at `start` opens.
@@ -173,6 +225,27 @@ impl<'a> Cursor<'a> {
         self.at = end;
         let span = Span { start, end };
         Some(BareToken { span, bytes })
+    }
+
+    /// The next token where it is a bare one, with the index that it spells, if it spells one; or
+    /// `None`, and then the cursor stays.
+    #[tactic(auto, using(crate::proofs::Starts::starts_steps))]
+    #[inline(always)]
+    pub fn index(&mut self) -> Option<(BareToken<'a>, Option<u32>)>
+        ensures next { MatchOption result
+            ((self.new ≡ self.old) × (starts is_bare_token self.old ≡ false))
+            (λ t. self.old ≡ lexeme t.0.span.start t.0.span.end (Bare t.0.bytes.now) ∷ self.new) }
+        ensures index { IfSome result (λ t. t.1 ≡ index_of t.0.bytes.now) }
+    {
+        let start = gap_end(self.input, self.at)?;
+        if !is_bare(self.input[start]) {
+            return None;
+        }
+        let (end, index) = index_end(self.input, start);
+        let bytes = &self.input[start..end];
+        self.at = end;
+        let span = Span { start, end };
+        Some((BareToken { span, bytes }, index))
     }
 
     /// The next token where it is a text, or `None`, and then the cursor stays.

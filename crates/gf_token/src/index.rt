@@ -1,7 +1,8 @@
 //! Indices: counts, and the numbers of players, information sets and outcomes.
 
-ghost use Rattle.std.specs.Prelude.{MatchResult};
+ghost use Rattle.std.specs.Prelude.{◌≡◌, MatchResult};
 ghost use Rattle.gf_token.specs.Index.{IsIndex, IsNoIndex};
+ghost use Rattle.gf_token.specs.Indices.{index_of};
 
 /// Why a text is no index.
 #[derive(Clone, Copy, Debug, PartialEq, Eq, Hash)]
@@ -16,7 +17,7 @@ pub enum IndexFault {
 const TOO_LARGE: u64 = u32::MAX as u64 + 1;
 
 /// The greatest number of digits whose value always fits 64 bits.
-const WORD_DIGITS: usize = 19;
+pub(crate) const WORD_DIGITS: usize = 19;
 
 /// The index that `text` spells by digits alone, in base ten; any number of zeros may lead (this
 /// project's profile).
@@ -43,5 +44,15 @@ pub fn read_index(text: &[u8]) -> Result<u32, IndexFault>
     match u32::try_from(value) {
         Ok(index) => Ok(index),
         Err(_) => Err(IndexFault::TooLarge),
+    }
+}
+
+/// The index that `text` spells, if it spells one.
+pub(crate) fn index_in(text: &[u8]) -> Option<u32>
+    ensures { result ≡ index_of text.now }
+{
+    match read_index(text) {
+        Ok(index) => Some(index),
+        Err(_) => None,
     }
 }

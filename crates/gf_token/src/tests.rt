@@ -59,6 +59,27 @@ fn gives_the_token_that_is_asked_for(rt: HostRuntime) {
 }
 
 #[test]
+fn reads_the_index_that_is_asked_for(rt: HostRuntime) {
+    let rows: [(&[u8], usize, Option<u32>); 7] = [
+        (b"0 1", 1, Some(0)),
+        (b"007}", 3, Some(7)),
+        (b"4294967295", 10, Some(4294967295)),
+        (b"4294967296", 10, None),
+        (b"00000000000000000012,3", 20, Some(12)),
+        (b"12x", 3, None),
+        (b"-1", 2, None),
+    ];
+    for (input, end, index) in rows {
+        let token = BareToken {
+            span: Span { start: 0, end },
+            bytes: &input[..end],
+        };
+        assert_eq!(rt; Cursor::new(input).index(), Some((token, index)));
+    }
+    assert_eq!(rt; Cursor::new(b"{1").index(), None);
+}
+
+#[test]
 fn finds_tokens(rt: HostRuntime) {
     let rows: [(&[u8], &[(char, usize, usize)]); 7] = [
         (b"", &[('.', 0, 0), ('.', 0, 0)]),

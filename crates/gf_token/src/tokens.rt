@@ -2,6 +2,7 @@
 
 ghost use Rattle.std.specs.Prelude.{◌≡◌, ◌≤◌, ◌∷◌, [], false, length, IfSome, MatchOption};
 ghost use Rattle.gf_token.specs.Cursor.{Nexts};
+ghost use Rattle.gf_token.specs.Indices.{index_of};
 ghost use Rattle.gf_token.specs.Label.{label_of};
 ghost use Rattle.gf_token.specs.Next.{starts, is_bare_token, is_closing};
 ghost use Rattle.gf_token.specs.Next.{is_comma, is_opening, is_text_token};
@@ -60,6 +61,20 @@ impl<'a> Tokens<'a> {
         ensures place { IfSome result (λ t. StandsBefore self.new t.span) }
     {
         self.cursor.bare()
+    }
+
+    /// The next token where it is a bare one, with the index that it spells, if it spells one.
+    #[inline(always)]
+    pub fn index(&mut self) -> Option<(BareToken<'a>, Option<u32>)>
+        ensures next { MatchOption result
+            ((self.new ≡ self.old) × (starts is_bare_token self.old.ahead ≡ false))
+            (λ t. self.old.ahead
+            ≡ lexeme t.0.span.start t.0.span.end (Bare t.0.bytes.now) ∷ self.new.ahead) }
+        ensures index { IfSome result (λ t. t.1 ≡ index_of t.0.bytes.now) }
+        ensures input { self.new.input ≡ self.old.input }
+        ensures place { IfSome result (λ t. StandsBefore self.new t.0.span) }
+    {
+        self.cursor.index()
     }
 
     /// The next token where it is a text.

@@ -3,30 +3,19 @@
 ghost use Rattle.std.specs.Prelude.{◌≡◌, IfOk, IfSome};
 ghost use Rattle.gf_fraction.specs.Ratio.{IsFraction};
 ghost use Rattle.gf_fraction.specs.Computed.{number_of, sum_of};
-ghost use Rattle.gf_token.specs.Indices.{count_of, index_of};
+ghost use Rattle.gf_token.specs.Indices.{positive};
 ghost use Rattle.gf_tree.specs.Probability.{share_of};
 ghost use Rattle.gf_tree.specs.Shares.{shared};
 
 use gf_fraction::{Fraction, NumberFault};
-use gf_token::{Why, read_index};
+use gf_token::Why;
 
-/// The index that a bare token is.
+/// The count that an index is: it is above zero.
 #[inline(always)]
-pub(crate) fn index(text: &[u8]) -> Option<u32>
-    ensures { result ≡ index_of text.now }
+pub(crate) fn count(index: Option<u32>) -> Option<u32>
+    ensures { result ≡ positive index }
 {
-    match read_index(text) {
-        Ok(index) => Some(index),
-        Err(_) => None,
-    }
-}
-
-/// The count that a bare token is: an index above zero.
-#[inline(always)]
-pub(crate) fn count(text: &[u8]) -> Option<u32>
-    ensures { result ≡ count_of text.now }
-{
-    match index(text) {
+    match index {
         Some(count) if count > 0 => Some(count),
         _ => None,
     }

@@ -211,10 +211,10 @@ impl<'a> Reader<'a> {
         ensures room { OnOk result (HasRoom 0 self.new) }
         ensures shorter { OnOk result (length self.new.tokens.ahead ≤ length self.old.tokens.ahead) }
     {
-        let Some(word) = self.tokens.bare() else {
+        let Some((word, index)) = self.tokens.index() else {
             return Err(self.tokens.refusal(Why::Expected(What::Index)));
         };
-        let Some(number) = readings::index(word.bytes) else {
+        let Some(number) = index else {
             return Err(Fault::at(word.span, Why::BadIndex));
         };
         if number == 0 {

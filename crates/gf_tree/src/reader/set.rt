@@ -232,10 +232,10 @@ impl<'a> Reader<'a> {
         ensures place { IfOk result (λ place. place < length self.new.sets.known) }
         ensures shorter { OnOk result (length self.new.tokens.ahead ≤ length self.old.tokens.ahead) }
     {
-        let Some(word) = self.tokens.bare() else {
+        let Some((word, index)) = self.tokens.index() else {
             return Err(self.tokens.refusal(Why::Expected(What::Index)));
         };
-        let Some(number) = readings::count(word.bytes) else {
+        let Some(number) = readings::count(index) else {
             return Err(Fault::at(word.span, Why::BadIndex));
         };
         let Some(set) = described(&self.sets, player, number) else {

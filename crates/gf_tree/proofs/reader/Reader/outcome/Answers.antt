@@ -17,7 +17,7 @@ returns-in_default-tell-clause-machine g c =
 
 pub returns-then-number-eq0-clause-machine : goal.returns-then-number-eq0-clause-machine
 returns-then-number-eq0-clause-machine g c =
-    tells NodeDue {old = c.args.self.now} {r = record c.args.self.now { tokens = c.bare.new.self }}
+    tells NodeDue {old = c.args.self.now} {r = record c.args.self.now { tokens = c.index.new.self }}
     refl refl (grows_none c.args.self.now.sets.known) (grows_none c.args.self.now.outcomes.known)
     (placed_at (length c.args.self.now.sets.known) (length c.args.self.now.outcomes.known)
     (label_of c.args.node) c.args.set None c.requires.set tt)
@@ -36,7 +36,7 @@ pub returns-clause-machine : goal.returns-clause-machine
 returns-clause-machine g c =
     let known = c.in-Some-found.ensures.known in
     tells_again (KnownOutcomeName known.outcome) c.args.self.now
-    (record c.args.self.now { tokens = c.bare.new.self }) c.tell-2.new.self
+    (record c.args.self.now { tokens = c.index.new.self }) c.tell-2.new.self
     c.outcome_again.new.self _ c.outcome_again.result
     refl refl (grows_none c.args.self.now.sets.known) (grows_none c.args.self.now.outcomes.known)
     (placed_at (length c.args.self.now.sets.known) (length c.args.self.now.outcomes.known)

@@ -1,6 +1,6 @@
 use Rattle.std.proofs.Common.{sym}
 use Rattle.gf_token.proofs.ReadingIndices.{index_again, index_none}
-use Rattle.gf_tree.proofs.readings.index.Goals as goal
+use Rattle.gf_token.proofs.index.index_in.Goals as goal
 
 pub returns-in-Ok : goal.returns-in-Ok
 returns-in-Ok c = sym (index_again c.args.text.now c.in-Ok.index c.in-Ok.ensures)

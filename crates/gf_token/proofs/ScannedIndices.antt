@@ -1,0 +1,92 @@
+-- The digits of an index, one by one, where they are read while their end is sought.
+use Rattle.std.proofs.Common.{[], ◌≡◌, ℕ, ◌+◌, ◌-◌, ◌*◌, ◌<◌, ◌≤◌, ◌^◌, true, List, length, take, drop}
+use Rattle.std.proofs.Common.{get_or, Some, None, sym, ap, subst, ◌∙◌, arith, refl, lit<}
+use Rattle.std.specs.Prelude.{nat_lt, slice_range, if◌then◌else◌}
+use Rattle.std.specs.Char.{digit_value, is_ascii_digit}
+use Rattle.std.specs.Str.Parse.{AllDigits, digits_value}
+use Rattle.std.proofs.Math.Nat.{pow-le-pow_right}
+use Rattle.std.proofs.lemmas.Bool.Decides.{nat_tests}
+use Rattle.std.proofs.lemmas.Int.Digits.{digits_more, digits_value_more, digits_value-lt}
+use Rattle.std.proofs.lemmas.List.{get_or-drop, length-drop, length-take-le}
+use Rattle.gf_fraction.proofs.SpelledIsFound.{digit_from_ascii}
+use Rattle.gf_token.specs.Byte.{is_bare}
+use Rattle.gf_token.specs.Indices.{index_of}
+use Rattle.gf_token.proofs.ReadingIndices.{numeral_of}
+
+pub digit_is_bare : (b : ℕ) → is_ascii_digit b ≡ true → is_bare b ≡ true
+digit_is_bare b h = grind (arith, nat_tests)
+
+-- a digit more
+module _ (bytes : List ℕ) (start at : ℕ) (from : start ≤ at) (within : at < length bytes)
+    (digit : is_ascii_digit (get_or bytes at 0) ≡ true) where
+  room : at - start < length (drop start bytes)
+  room = omega (arith, length-drop start bytes)
+
+  next : at + 1 - start ≡ at - start + 1
+  next = omega arith
+
+  byte : get_or (drop start bytes) (at - start) 0 ≡ get_or bytes at 0
+  byte =
+      let there : start + (at - start) ≡ at = omega arith in
+      get_or-drop start bytes (at - start) 0 ∙ ap (λ (i : ℕ). get_or bytes i 0) there
+
+  small : digit_value (get_or (drop start bytes) (at - start) 0) < 10
+  small = rw byte (digit_from_ascii (get_or bytes at 0) digit)
+
+  pub more_digits : AllDigits 10 (slice_range bytes start at)
+      → AllDigits 10 (slice_range bytes start (at + 1))
+  more_digits all =
+      let more : AllDigits 10 (take (at - start + 1) (drop start bytes)) =
+      digits_more 10 (drop start bytes) (at - start) room all small in
+      subst (λ (n : ℕ). AllDigits 10 (take n (drop start bytes))) (sym next) more
+
+  pub more_value : digits_value 10 (slice_range bytes start (at + 1))
+      ≡ digits_value 10 (slice_range bytes start at) * 10 + digit_value (get_or bytes at 0)
+  more_value =
+      ap (λ (n : ℕ). digits_value 10 (take n (drop start bytes))) next
+      ∙ digits_value_more 10 (drop start bytes) (at - start) room
+      ∙ ap (λ (b : ℕ). digits_value 10 (slice_range bytes start at) * 10 + digit_value b) byte
+
+-- the first digit
+module _ (bytes : List ℕ) (start : ℕ) (within : start < length bytes)
+    (digit : is_ascii_digit (get_or bytes start 0) ≡ true) where
+  none : slice_range bytes start start ≡ []
+  none = let n : start - start ≡ 0 = omega arith in ap (λ (i : ℕ). take i (drop start bytes)) n
+
+  no_digits : AllDigits 10 (slice_range bytes start start)
+  no_digits = subst (AllDigits 10) (sym none) tt
+
+  pub first_digits : AllDigits 10 (slice_range bytes start (start + 1))
+  first_digits = more_digits bytes start start (omega arith) within digit no_digits
+
+  pub first_value : digits_value 10 (slice_range bytes start (start + 1))
+      ≡ digit_value (get_or bytes start 0)
+  first_value =
+      let nothing : digits_value 10 (slice_range bytes start start) ≡ 0 = ap (digits_value 10) none in
+      let more = more_value bytes start start (omega arith) within digit in
+      omega (arith, nothing, more)
+
+-- a further digit has room in 64 bits
+pub has_room : (bytes : List ℕ) (start at value : ℕ) → start ≤ at → at ≤ length bytes
+    → at - start < 19 → AllDigits 10 (slice_range bytes start at)
+    → value ≡ digits_value 10 (slice_range bytes start at) → value * 10 + 9 < 2 ^ 64
+has_room bytes start at value from within few all is =
+    let long : length (slice_range bytes start at) ≡ at - start =
+    length-take-le (at - start) (drop start bytes) (omega (arith, length-drop start bytes)) in
+    let below : digits_value 10 (slice_range bytes start at)
+    < 10 ^ length (slice_range bytes start at) = digits_value-lt 10 (slice_range bytes start at) all in
+    let less : length (slice_range bytes start at) ≤ 18 = omega (arith, long) in
+    let most : 10 ^ length (slice_range bytes start at) ≤ 10 ^ 18 = pow-le-pow_right (lit< tt) less in
+    omega (arith, most, below, is)
+
+-- what digits alone are read as
+pub scanned : (bytes : List ℕ) (start at value : ℕ) → start < at → at ≤ length bytes
+    → AllDigits 10 (slice_range bytes start at)
+    → value ≡ digits_value 10 (slice_range bytes start at)
+    → (if nat_lt value (2 ^ 32) then Some value else None)
+    ≡ index_of (slice_range bytes start at)
+unfolding index_of
+scanned bytes start at value some within all is =
+    let long : length (slice_range bytes start at) ≡ at - start =
+    length-take-le (at - start) (drop start bytes) (omega (arith, length-drop start bytes)) in
+    rw (is, numeral_of (slice_range bytes start at) (omega (arith, long), all)) refl
