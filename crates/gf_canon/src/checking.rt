@@ -24,7 +24,7 @@ impl<'a> Receive<'a> for Unkept {
 
     ghost untold = { λ _. ⊤ };
 
-    ghost holds = { λ _ _ _. ⊤ };
+    ghost holds = { λ _ _ _ _. ⊤ };
 
     fn heading(&mut self, _heading: ToldHeading<'_, 'a>) -> Result<(), AllocError> {
         Ok(())

@@ -33,7 +33,7 @@ impl<'a> Receive<'a> for Lines {
 
     ghost untold = { λ lines. lines.text.items ≡ [] };
 
-    ghost holds = { λ lines heading told. lines.text.items ≡ told_text heading told };
+    ghost holds = { λ untold lines heading told. lines.text.items ≡ told_text heading told };
 
     fn heading(&mut self, heading: ToldHeading<'_, 'a>) -> Result<(), AllocError> {
         self.text.reserve(self.room)?;

@@ -183,7 +183,7 @@ told_goes old new node content tokens sets outcomes q =
     (entry_with (sym sets i).known (sym outcomes i).known node ∷ [])
     (heard q (sym content i) (sym tokens i)))
 
-module _ {T : Type 0} {holds : T → Heading → List Told → Type 0} {before : Answer} {from to : T} where
+module _ {T : Type 0} {holds : T → T → Heading → List Told → Type 0} {before : Answer} {from to : T} where
   -- a node that is told is told to what was known before
   pub tells : (q : Position) {old r m new : Reader} {node : Kept} → r.told_sets ≡ old.told_sets
       → r.told_outcomes ≡ old.told_outcomes → Grows old.sets.known r.sets.known
@@ -209,9 +209,9 @@ module _ {T : Type 0} {holds : T → Heading → List Told → Type 0} {before :
             (sym s)
             (subst (λ (k : KnownOutcomes). IsPlaced (length r.sets.known) (length k.known) node)
             (sym o) placed);
-        told = λ heading told holding. subst (λ (x : Told). holds to heading (told ++ x ∷ []))
+        told = λ untold heading told holding. subst (λ (x : Told). holds untold to heading (told ++ x ∷ []))
             (λ i. told_node (sym s i).known (sym o i).known (told_sets i) (told_outcomes i) node)
-            (h.told heading told holding);
+            (h.told untold heading told holding);
         told_sets = ap (λ (x : Reader). x.told_sets) kept ∙ h.told_sets
             ∙ ap (λ (n : ℕ). max n node.set) told_sets;
         told_outcomes = ap (λ (x : Reader). x.told_outcomes) kept ∙ h.told_outcomes
@@ -229,9 +229,9 @@ module _ {T : Type 0} {holds : T → Heading → List Told → Type 0} {before :
     node = h.node;
     goes = e ∙ h.goes;
     placed = h.placed;
-    told = λ heading told holding. subst (λ (x : Told). holds to heading (told ++ x ∷ []))
+    told = λ untold heading told holding. subst (λ (x : Told). holds untold to heading (told ++ x ∷ []))
         (λ i. told_node new.sets.known new.outcomes.known (told_sets i) (told_outcomes i) h.node)
-        (h.told heading told holding);
+        (h.told untold heading told holding);
     told_sets = h.told_sets ∙ ap (λ (n : ℕ). max n h.node.set) told_sets;
     told_outcomes = h.told_outcomes ∙ ap (λ (n : ℕ). max n h.node.outcome) told_outcomes;
     sets = grows_both sets h.sets;
@@ -270,9 +270,9 @@ placed_at sets outcomes name set outcome s o = record { set = by set s; outcome 
 
 -- ---- the nodes of a file
 
-module _ {T : Type 0} (holds : T → Heading → List Told → Type 0) (heading : Heading) where
-  pub read_begun : (r : Reader) (to : T) → r.told_sets ≡ 0 → r.told_outcomes ≡ 0 → holds to heading []
-      → HasRead (λ t told. holds t heading told) (answer NodeDue r) NodeDue r to
+module _ {T : Type 0} (holds : T → T → Heading → List Told → Type 0) (untold : T) (heading : Heading) where
+  pub read_begun : (r : Reader) (to : T) → r.told_sets ≡ 0 → r.told_outcomes ≡ 0 → holds untold to heading []
+      → HasRead (λ t told. holds untold t heading told) (answer NodeDue r) NodeDue r to
   read_begun r to sets outcomes holding = record {
     nodes = [];
     goes = sym (behind_none (answer NodeDue r));
@@ -280,16 +280,16 @@ module _ {T : Type 0} (holds : T → Heading → List Told → Type 0) (heading 
   }
 
   pub told_one_more : {old new : Reader} {from to : T} {nodes : List Kept} {before : Answer}
-      → HasTold (λ t told. holds t heading told) old from nodes → (h : Tells holds before old new from to)
-      → HasTold (λ t told. holds t heading told) new to (nodes ++ h.node ∷ [])
+      → HasTold (λ t told. holds untold t heading told) old from nodes → (h : Tells holds before old new from to)
+      → HasTold (λ t told. holds untold t heading told) new to (nodes ++ h.node ∷ [])
   told_one_more {old} {new} {from} {to} {nodes} {before} k h = record {
     placed = placed_one_more (length new.sets.known) (length new.outcomes.known) nodes h.node
         (placed_among_more (length old.sets.known) (length old.outcomes.known)
         (length new.sets.known) (length new.outcomes.known) nodes (grows_length h.sets)
         (grows_length h.outcomes) k.placed) h.placed.set h.placed.outcome;
-    told = subst (holds to heading) (sym whole)
-        (h.told heading (told_from new.sets.known new.outcomes.known 0 0 nodes)
-        (subst (holds from heading) (sym same) k.told));
+    told = subst (holds untold to heading) (sym whole)
+        (h.told untold heading (told_from new.sets.known new.outcomes.known 0 0 nodes)
+        (subst (holds untold from heading) (sym same) k.told));
     told_sets = h.told_sets ∙ ap (λ (n : ℕ). max n h.node.set) k.told_sets
         ∙ sym (sets_more h.node 0 nodes);
     told_outcomes = h.told_outcomes ∙ ap (λ (n : ℕ). max n h.node.outcome) k.told_outcomes
@@ -311,8 +311,8 @@ module _ {T : Type 0} (holds : T → Heading → List Told → Type 0) (heading 
           (sym k.told_outcomes i) h.node ∷ [])
 
   pub read_one_more : {start : Answer} {old new : Reader} {from to : T}
-      → HasRead (λ t told. holds t heading told) start NodeDue old from
-      → Tells holds (answer NodeDue old) old new from to → HasRead (λ t told. holds t heading told) start NodeDue new to
+      → HasRead (λ t told. holds untold t heading told) start NodeDue old from
+      → Tells holds (answer NodeDue old) old new from to → HasRead (λ t told. holds untold t heading told) start NodeDue new to
   read_one_more {start} {old} {new} {from} {to} k h = record {
     nodes = k.nodes ++ h.node ∷ [];
     goes = k.goes
@@ -334,11 +334,11 @@ module _ {T : Type 0} (holds : T → Heading → List Told → Type 0) (heading 
           k.has_told.placed)
           ∙ sets_grow old.sets.known h.sets.more old.outcomes.known k.nodes k.has_told.placed)
 
-  pub read_ended : {start : Answer} {r new : Reader} {to : T} → HasRead (λ t told. holds t heading told) start NodeDue r to
+  pub read_ended : {start : Answer} {r new : Reader} {to : T} → HasRead (λ t told. holds untold t heading told) start NodeDue r to
       → (answer NodeDue r).machine ≡ Ok (content_of r) → new ≡ record r { tokens = new.tokens }
-      → HasReadAll (λ t told. holds t heading told) start new to
+      → HasReadAll (λ t told. holds untold t heading told) start new to
   read_ended {start} {r} {new} {to} k ends kept =
-      subst (λ (x : Reader). HasReadAll (λ t told. holds t heading told) start x to) (sym kept) (record {
+      subst (λ (x : Reader). HasReadAll (λ t told. holds untold t heading told) start x to) (sym kept) (record {
         nodes = k.nodes;
         whole = ap (λ (a : Answer). a.machine) k.goes
             ∙ ap (with_nodes (entries_with r.sets.known r.outcomes.known k.nodes)) ends

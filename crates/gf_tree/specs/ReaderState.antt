@@ -94,7 +94,7 @@ pub record Grows {A : Type 0} (old new : List A) : Type 0 where
   pub parts : new ≡ old ++ more
 
 -- This node was told, and the machine goes on as behind it; nothing else has changed.
-pub record TellsNode {T : Type 0} (holds : T → Heading → List Told → Type 0) (old new : Reader)
+pub record TellsNode {T : Type 0} (holds : T → T → Heading → List Told → Type 0) (old new : Reader)
     (from to : T) (node : Kept) : Type 0 where
   pub goes : (q : Position) → heard q (with_node (content_of old)
       (begun_with old.sets.known node.name node.set)
@@ -105,21 +105,21 @@ pub record TellsNode {T : Type 0} (holds : T → Heading → List Told → Type 
     told_sets = new.told_sets;
     told_outcomes = new.told_outcomes;
   }
-  pub told : (heading : Heading) (told : List Told) → holds from heading told
-      → holds to heading (told ++ told_node old.sets.known
+  pub told : (untold : T) (heading : Heading) (told : List Told) → holds untold from heading told
+      → holds untold to heading (told ++ told_node old.sets.known
       old.outcomes.known old.told_sets old.told_outcomes node ∷ [])
   pub told_sets : new.told_sets ≡ max old.told_sets node.set
   pub told_outcomes : new.told_outcomes ≡ max old.told_outcomes node.outcome
 
 -- One node more was told, behind which the machine goes on.
-pub record Tells {T : Type 0} (holds : T → Heading → List Told → Type 0) (before : Answer)
+pub record Tells {T : Type 0} (holds : T → T → Heading → List Told → Type 0) (before : Answer)
     (old new : Reader) (from to : T) : Type 0 where
   pub node : Kept
   pub goes : before
       ≡ behind (entry_with new.sets.known new.outcomes.known node ∷ []) (answer NodeDue new)
   pub placed : IsPlaced (length new.sets.known) (length new.outcomes.known) node
-  pub told : (heading : Heading) (told : List Told) → holds from heading told
-      → holds to heading (told ++ told_node new.sets.known
+  pub told : (untold : T) (heading : Heading) (told : List Told) → holds untold from heading told
+      → holds untold to heading (told ++ told_node new.sets.known
       new.outcomes.known old.told_sets old.told_outcomes node ∷ [])
   pub told_sets : new.told_sets ≡ max old.told_sets node.set
   pub told_outcomes : new.told_outcomes ≡ max old.told_outcomes node.outcome
@@ -166,7 +166,7 @@ Goes before (Ok _) after = before ≡ after
 Goes before (Err f) after = Fails f before
 
 -- the same of a call that tells a node
-abbrev pub GoesTelling : {A T : Type 0} → (T → Heading → List Told → Type 0) → Result A Fault → Answer
+abbrev pub GoesTelling : {A T : Type 0} → (T → T → Heading → List Told → Type 0) → Result A Fault → Answer
     → Reader → Reader → T → T → Type 0
 GoesTelling holds result before old new from to =
     MatchResult result (λ _. Tells holds before old new from to) (λ f. Fails f before)

@@ -183,7 +183,7 @@ impl<'a> Receive<'a> for NodeList<'a> {
 
     ghost untold = { λ nodes. nodes ≡ [] };
 
-    ghost holds = { λ nodes heading told. nodes ≡ map kept_as told };
+    ghost holds = { λ untold nodes heading told. nodes ≡ map kept_as told };
 
     fn heading(&mut self, _heading: ToldHeading<'_, 'a>) -> Result<(), AllocError> {
         Ok(())

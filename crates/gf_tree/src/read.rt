@@ -38,7 +38,7 @@ pub fn read_efg<'a>(alloc: Global, input: &'a [u8]) -> Result<Game<'a>, Fault>
 pub fn tell_efg<'a, R: Receive<'a>>(alloc: Global, input: &'a [u8], to: &mut R) -> Result<(), Fault>
     requires untold { R.untold to.old }
     ensures told { OnOk result ((g : game) × SpellsGame input.entry.now g
-        × HasToldGame R.holds to.new g) }
+        × HasToldGame (R.holds to.old) to.new g) }
     ensures only { IfErr result (λ fault. (g : game) → SpellsGame input.entry.now g
         → fault.why ≡ Memory) }
     ensures judged { IfErr result (λ fault. IsJudged fault.why input.entry.now fault.span) }

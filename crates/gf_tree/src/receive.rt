@@ -34,16 +34,18 @@ pub trait Receive<'a> {
     /// It was told nothing.
     ghost untold: { Self → Type 0 };
 
-    /// What it has of the heading and the nodes that it was told.
-    ghost holds: { Self → Heading → List Told → Type 0 };
+    /// What it has of the heading and the nodes that it was told. The first is what it was before it
+    /// was told anything.
+    ghost holds: { Self → Self → Heading → List Told → Type 0 };
 
     /// Takes the heading.
     fn heading(&mut self, heading: ToldHeading<'_, 'a>) -> Result<(), AllocError>
         requires { untold self.old }
-        ensures { OnOk result (holds self.new (heading_of heading.entry) []) };
+        ensures { OnOk result (holds self.old self.new (heading_of heading.entry) []) };
 
     /// Takes the next node.
     fn node(&mut self, node: ToldNode<'_, 'a>) -> Result<(), AllocError>
-        ensures { OnOk result ((heading : Heading) (told : List Told) → holds self.old heading told
-            → holds self.new heading (told ++ told_of node.entry ∷ [])) };
+        ensures { OnOk result ((untold : Self) (heading : Heading) (told : List Told)
+            → holds untold self.old heading told
+            → holds untold self.new heading (told ++ told_of node.entry ∷ [])) };
 }

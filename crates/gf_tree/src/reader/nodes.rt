@@ -141,9 +141,9 @@ impl<'a> Reader<'a> {
         requires sound { IsSound self.old }
         requires room { HasRoom 0 self.old }
         requires untold { (self.old.told_sets ≡ 0) × (self.old.told_outcomes ≡ 0) }
-        requires begun { R.holds to.old (heading_read self.old) [] }
-        ensures machine { MatchResult result
-            (λ _. HasReadAll (λ r told. R.holds r (heading_read self.old) told)
+        ensures machine { (untold : R) → R.holds untold to.old (heading_read self.old) []
+            → MatchResult result
+            (λ _. HasReadAll (λ r told. R.holds untold r (heading_read self.old) told)
             (answer NodeDue self.old) self.new to.new)
             (λ f. Fails f (answer NodeDue self.old)) }
     {

@@ -22,7 +22,7 @@ impl<'a> Reader<'a> {
     pub(crate) fn tell_heading<R: Receive<'a>>(&self, last: Span, to: &mut R) -> Result<(), Fault>
         requires untold { R.untold to.old }
         requires place { StandsBefore self.now.tokens last }
-        ensures { MatchResult result (λ _. R.holds to.new (heading_read self.now) [])
+        ensures { MatchResult result (λ _. R.holds to.old to.new (heading_read self.now) [])
             (λ f. Fails f (answer NodeDue self.now)) }
     {
         let Ok(()) = to.heading(ToldHeading {

@@ -53,7 +53,7 @@ impl<'a> Receive<'a> for Uses {
 
     ghost untold = { λ _. ⊤ };
 
-    ghost holds = { λ _ _ _. ⊤ };
+    ghost holds = { λ _ _ _ _. ⊤ };
 
     fn heading(&mut self, heading: ToldHeading<'_, 'a>) -> Result<(), AllocError> {
         self.players = heading.players.len();

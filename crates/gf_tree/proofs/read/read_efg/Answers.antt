@@ -1,4 +1,4 @@
-use Rattle.std.proofs.Common.{◌∙◌, ap, rules, subst, sym}
+use Rattle.std.proofs.Common.{[], ◌∙◌, ap, rules, subst, sym}
 use Rattle.gf_tree.specs.GameOf.{SpellsGame}
 use Rattle.gf_tree.specs.ReaderState.{Answer, answer, content_with}
 use Rattle.gf_tree.specs.Machine.Position.{NodeDue}
@@ -32,7 +32,7 @@ returns-in_err-nodes-clause-only c = λ g spells.
     refused_only c.in_err-nodes.field-0.0 g c.from_residual-in_err-nodes.result (search rules)
     (answer_only c.args.input.now c.new-reader.result.tokens.ahead c.in_err-nodes.field-0.0 g
     n.spelled
-    (carried c.in_err-nodes.ensures.machine
+    (carried (c.in_err-nodes.ensures.machine [] c.new-nodes.ensures)
     (heard_begun c.new-reader.result c.args.input.now n.input n.content
     ∙ c.in_ok-begin.ensures.machine))
     spells)
@@ -43,13 +43,13 @@ returns-in_err-nodes-clause-judged c =
     refused_why c.in_err-nodes.field-0.0 _ c.from_residual-in_err-nodes.result (search rules)
     (answer_judged c.args.input.now c.new-reader.result.tokens.ahead c.in_err-nodes.field-0.0
     n.spelled
-    (carried c.in_err-nodes.ensures.machine
+    (carried (c.in_err-nodes.ensures.machine [] c.new-nodes.ensures)
     (heard_begun c.new-reader.result c.args.input.now n.input n.content
     ∙ c.in_ok-begin.ensures.machine)))
 
 pub into_game-requires-clause-placed : goal.into_game-requires-clause-placed
 into_game-requires-clause-placed c = all_placed (answer NodeDue c.begin.new.self) c.nodes.new.self
-    c.nodes.new.to c.in_ok-nodes.ensures.machine
+    c.nodes.new.to (c.in_ok-nodes.ensures.machine [] c.new-nodes.ensures)
 
 pub into_game-requires-clause-read : goal.into_game-requires-clause-read
 into_game-requires-clause-read c =
@@ -61,7 +61,7 @@ into_game-requires-clause-read c =
           (heard_begun c.new-reader.result c.args.input.now n.input n.content
           ∙ c.in_ok-begin.ensures.machine)
           ∙ all_read (answer NodeDue c.begin.new.self) c.nodes.new.self c.nodes.new.to
-          c.in_ok-nodes.ensures.machine,
+          (c.in_ok-nodes.ensures.machine [] c.new-nodes.ensures),
     )
 
 pub returns-clause-spelled : goal.returns-clause-spelled
@@ -71,7 +71,7 @@ returns-clause-spelled c =
     (heard_begun c.new-reader.result c.args.input.now n.input n.content
     ∙ c.in_ok-begin.ensures.machine)
     ∙ all_read (answer NodeDue c.begin.new.self) c.nodes.new.self c.nodes.new.to
-    c.in_ok-nodes.ensures.machine in
+    (c.in_ok-nodes.ensures.machine [] c.new-nodes.ensures) in
     subst (SpellsGame c.args.input.now) (sym c.into_game.ensures) (read_spells c.args.input.now
     c.new-reader.result.tokens.ahead (content_with c.nodes.new.self c.nodes.new.to) n.spelled e)
 
@@ -82,6 +82,6 @@ returns-clause-only c = λ g spells.
     (heard_begun c.new-reader.result c.args.input.now n.input n.content
     ∙ c.in_ok-begin.ensures.machine)
     ∙ all_read (answer NodeDue c.begin.new.self) c.nodes.new.self c.nodes.new.to
-    c.in_ok-nodes.ensures.machine in
+    (c.in_ok-nodes.ensures.machine [] c.new-nodes.ensures) in
     c.into_game.ensures ∙ read_only c.args.input.now c.new-reader.result.tokens.ahead
     (content_with c.nodes.new.self c.nodes.new.to) g n.spelled e spells

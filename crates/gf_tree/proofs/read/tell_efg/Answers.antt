@@ -50,7 +50,8 @@ pub returns-clause-told : goal.returns-clause-told
 returns-clause-told r c =
     let n = c.new-reader.ensures in
     let u = c.in_ok-last.ensures.unknown in
-    on_ok _ _ c.nodes.result c.nodes.ensures.machine (told_game c.args.input.now c.new-reader.result.tokens.ahead
+    on_ok _ _ c.nodes.result
+    (c.nodes.ensures.machine c.args.to.now c.in_ok-tell_heading.ensures) (told_game c.args.input.now c.new-reader.result.tokens.ahead
     c.begin.new.self (record {
       spelled = n.spelled;
       goes = heard_begun c.new-reader.result c.args.input.now n.input n.content
@@ -58,12 +59,13 @@ returns-clause-told r c =
       sets = ap (λ (k : KnownSets). k.known) u.0 ∙ ap (λ (d : Content). d.sets) n.content;
       outcomes = ap (λ (k : KnownOutcomes). k.known) u.1
           ∙ ap (λ (d : Content). d.outcomes) n.content;
-    }) r.R.Receive.holds c.nodes.new.self c.nodes.new.to)
+    }) (r.R.Receive.holds c.args.to.now) c.nodes.new.self c.nodes.new.to)
 
 pub returns-clause-only : goal.returns-clause-only
 returns-clause-only r c =
     let n = c.new-reader.ensures in
-    if_err _ _ _ c.nodes.result c.nodes.ensures.machine (λ fault fails g spells.
+    if_err _ _ _ c.nodes.result
+    (c.nodes.ensures.machine c.args.to.now c.in_ok-tell_heading.ensures) (λ fault fails g spells.
     answer_only c.args.input.now c.new-reader.result.tokens.ahead fault g n.spelled
     (carried fails (heard_begun c.new-reader.result c.args.input.now n.input n.content
     ∙ c.in_ok-last.ensures.machine)) spells)
@@ -71,7 +73,8 @@ returns-clause-only r c =
 pub returns-clause-judged : goal.returns-clause-judged
 returns-clause-judged r c =
     let n = c.new-reader.ensures in
-    if_err _ _ _ c.nodes.result c.nodes.ensures.machine (λ fault fails.
+    if_err _ _ _ c.nodes.result
+    (c.nodes.ensures.machine c.args.to.now c.in_ok-tell_heading.ensures) (λ fault fails.
     answer_judged c.args.input.now c.new-reader.result.tokens.ahead fault n.spelled
     (carried fails (heard_begun c.new-reader.result c.args.input.now n.input n.content
     ∙ c.in_ok-last.ensures.machine)))

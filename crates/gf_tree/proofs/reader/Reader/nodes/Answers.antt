@@ -4,7 +4,8 @@ use Rattle.gf_tree.proofs.reader.Reader.nodes.Goals as goal
 
 pub loop-self-preserved : goal.loop-self-preserved
 loop-self-preserved g c = record {
-  read = read_one_more g.R.Receive.holds (heading_read c.args.self.now) c.loop-self.invariant.read c.in_ok-node.ensures.machine;
+  read = λ untold begun. read_one_more g.R.Receive.holds untold (heading_read c.args.self.now)
+      (c.loop-self.invariant.read untold begun) c.in_ok-node.ensures.machine;
   sound = c.in_ok-node.ensures.sound;
   room = c.in_ok-node.ensures.room;
 }

@@ -1,11 +1,13 @@
-use Rattle.std.proofs.Common.{length}
+use Rattle.std.proofs.Common.{[], length}
 use Rattle.gf_tree.specs.Machine.Position.{NodeDue}
 use Rattle.gf_tree.specs.ReaderState.{answer, HasRead, HasRoom, IsSound, heading_read}
 use Rattle.gf_tree.proofs.reader.Reader.nodes.Given as goal
 
 abbrev pub invariant-loop-self : goal.invariant-loop-self
 invariant-loop-self g l = record {
-  read : HasRead (λ r told. g.R.Receive.holds r (heading_read l.fn.self) told) (answer NodeDue l.fn.self) NodeDue l.self l.to;
+  read : (untold : g.row.R.Denot) → g.R.Receive.holds untold l.fn.to (heading_read l.fn.self) []
+      → HasRead (λ r told. g.R.Receive.holds untold r (heading_read l.fn.self) told)
+      (answer NodeDue l.fn.self) NodeDue l.self l.to;
   sound : IsSound l.self;
   room : HasRoom 0 l.self;
 }

@@ -24,8 +24,8 @@ returns-clause-told g c =
         outcome = position_of c.args.outcome;
       }) (ap (λ (n : ℕ). record (content_of c.args.self.now) { due = n }) due) refl refl refl;
       kept = refl;
-      told = λ heading told holding. subst
-          (λ (t : Told). g.R.Receive.holds c.node.new.self heading (told ++ t ∷ []))
+      told = λ untold heading told holding. subst
+          (λ (t : Told). g.R.Receive.holds untold c.node.new.self heading (told ++ t ∷ []))
           (λ i. record {
             node = record {
               name = label_of c.args.name;
@@ -34,7 +34,7 @@ returns-clause-told g c =
             };
             set = c.position.ensures i;
             outcome = c.position-2.ensures i;
-          }) (c.in_ok-node.ensures heading told holding);
+          }) (c.in_ok-node.ensures untold heading told holding);
       told_sets = search rules;
       told_outcomes = search rules;
     }
