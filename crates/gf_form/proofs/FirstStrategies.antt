@@ -229,7 +229,7 @@ choice_length [] (a ∷ s) h = absurd h
 choice_length (n ∷ counts) [] h = absurd h
 choice_length (n ∷ counts) (a ∷ s) h = ap suc (choice_length counts s h.1)
 
-filter_fewer : {A : Type 0} (test : A → Bool) (xs : List A)
+pub filter_fewer : {A : Type 0} (test : A → Bool) (xs : List A)
     → length (filter test xs) ≤ length xs
 filter_fewer test [] = omega arith
 filter_fewer test (x ∷ xs) = by_test (test x) (filter_fewer test xs)

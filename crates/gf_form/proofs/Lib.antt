@@ -1,6 +1,7 @@
 pub mod ActionCounts
 pub mod Alike
 pub mod AlikeStrategies
+pub mod AllReduced
 pub mod Apart
 pub mod BottomUp
 pub mod ChanceSigns

@@ -220,16 +220,17 @@ below first (suc n) =
           (below (first + 1) n),
     )
 
+pub numbers_below : (n : ℕ) → AllByRecursion (λ number. number < n) (numbers_from 0 n)
+numbers_below n =
+    let here : 0 + n ≡ n = omega arith in
+    subst (λ (m : ℕ). AllByRecursion (λ number. number < m) (numbers_from 0 n)) here (below 0 n)
+
 pub all_are_numbers : (g : Game) (players : List ℕ)
     → AllZip (λ own player. AllByRecursion (λ number. number < length (strategies g player)) own)
     (all_numbers (map (λ player. length (strategies g player)) players)) players
 all_are_numbers g [] = tt
 all_are_numbers g (player ∷ players) =
-    let n = length (strategies g player) in
-    let here : 0 + n ≡ n = omega arith in (
-      subst (λ (m : ℕ). AllByRecursion (λ number. number < m) (numbers_from 0 n)) here (below 0 n),
-      all_are_numbers g players,
-    )
+    (numbers_below (length (strategies g player)), all_are_numbers g players)
 
 pub lengths_of_all : (counts : List ℕ) → map length (all_numbers counts) ≡ counts
 lengths_of_all [] = refl
