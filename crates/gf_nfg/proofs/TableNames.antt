@@ -4,11 +4,11 @@ use Rattle.std.proofs.Common.{◌++◌, length, map, take, drop, get_or, Option,
 use Rattle.std.proofs.Common.{None, slice_get, option_map, refl, sym, ap, ◌∙◌, arith}
 use Rattle.std.specs.Prelude.{IsSomeAnd, option_and_then, sum, unwrap_or}
 use Rattle.std.proofs.lemmas.List.{length-take, length-drop, length-append, take_all}
-use Rattle.std.proofs.lemmas.List.{take_at, take-append-le, drop-drop, drop-map}
-use Rattle.std.proofs.lemmas.List.{take-map, take_more, take-append-drop, map-append}
+use Rattle.std.proofs.lemmas.List.{take-append-le, drop-drop, drop-map}
+use Rattle.std.proofs.lemmas.List.{take-map, take_more, map-append}
 use Rattle.std.proofs.lemmas.List.Sums.{sum_by_push}
 use Rattle.std.proofs.lemmas.Option.{slice_get_within}
-use Rattle.gf_nfg.specs.TableParts.{Names, groups, names_of, pieces}
+use Rattle.gf_nfg.specs.TableParts.{AreNames, Names, groups, names_of, pieces}
 use Rattle.gf_nfg.specs.TableParts.{start_of, RisesTo, AreStrategies}
 use Rattle.gf_nfg.proofs.MeaningLists.{sum-cons}
 use Rattle.gf_nfg.proofs.TablePieces.{length-pieces, piece_at, pieces-push, rises-push}
@@ -16,27 +16,25 @@ use Rattle.gf_nfg.proofs.TablePieces.{rises_within, start_before_end, end_within
 
 -- ---- reading
 
-pub length-players : (labels : List (List ℕ)) (ends : List ℕ) (names : Names)
-    → RisesTo (length labels) (2 + length ends) ends → names_of labels ends ≡ names
+pub length-players : (heading labels : List (List ℕ)) (ends : List ℕ) (names : Names)
+    → AreNames heading labels ends → names_of heading labels ends ≡ names
     → length names.players ≡ length ends
-length-players labels ends names rises view =
-    let within = rises_within (length labels) (2 + length ends) ends rises in
+length-players heading labels ends names are view =
     ap (λ (n : Names). length n.players) (sym view)
-    ∙ length-take (length ends) (drop 2 labels)
-    ∙ omega (arith, length-drop 2 labels, within)
+    ∙ omega (arith, length-drop 2 heading, are.one_end_each)
 
-pub length-strategies : (labels : List (List ℕ)) (ends : List ℕ) (names : Names)
-    → names_of labels ends ≡ names → length names.strategies ≡ length ends
-length-strategies labels ends names view =
-    ap (λ (n : Names). length n.strategies) (sym view) ∙ length-pieces (2 + length ends) ends labels
+pub length-strategies : (heading labels : List (List ℕ)) (ends : List ℕ) (names : Names)
+    → names_of heading labels ends ≡ names → length names.strategies ≡ length ends
+length-strategies heading labels ends names view =
+    ap (λ (n : Names). length n.strategies) (sym view) ∙ length-pieces 0 ends labels
 
 -- the strategies of the player at a place
 pub record IsOwn (labels : List (List ℕ)) (ends : List ℕ) (names : Names) (at start end : ℕ) : Type
     0 where
-  pub rises : RisesTo (length labels) (2 + length ends) ends
-  pub view_is : names_of labels ends ≡ names
+  pub rises : RisesTo (length labels) 0 ends
+  pub strategies_are : pieces 0 ends labels ≡ names.strategies
   pub within : at < length ends
-  pub start_is : start ≡ start_of (2 + length ends) ends at
+  pub start_is : start ≡ start_of 0 ends at
   pub end_is : end ≡ get_or ends at 0
 
 pub own_ordered : (labels : List (List ℕ)) (ends : List ℕ) (names : Names) (at start end : ℕ)
@@ -45,22 +43,21 @@ own_ordered labels ends names at start end h = omega (
   arith,
   h.start_is,
   h.end_is,
-  start_before_end (length labels) (2 + length ends) ends at 0 h.rises h.within,
+  start_before_end (length labels) 0 ends at 0 h.rises h.within,
 )
 
 pub own_within : (labels : List (List ℕ)) (ends : List ℕ) (names : Names) (at start end : ℕ)
     → IsOwn labels ends names at start end → end ≤ length labels
 own_within labels ends names at start end h =
-    omega (arith, h.end_is, end_within (length labels) (2 + length ends) ends at 0 h.rises h.within)
+    omega (arith, h.end_is, end_within (length labels) 0 ends at 0 h.rises h.within)
 
 pub own_is : (labels : List (List ℕ)) (ends : List ℕ) (names : Names) (at start end : ℕ)
     → IsOwn labels ends names at start end
     → slice_get names.strategies at ≡ Some (take (end - start) (drop start labels))
 own_is labels ends names at start end h =
-    let from = 2 + length ends in
-    ap (λ (n : Names). slice_get n.strategies at) (sym h.view_is)
-    ∙ piece_at from ends labels at 0 h.within
-    ∙ ap (λ (n : ℕ). Some (take (n - start_of from ends at) (drop (start_of from ends at) labels)))
+    ap (λ (ss : List (List (List ℕ))). slice_get ss at) (sym h.strategies_are)
+    ∙ piece_at 0 ends labels at 0 h.within
+    ∙ ap (λ (n : ℕ). Some (take (n - start_of 0 ends at) (drop (start_of 0 ends at) labels)))
     (sym h.end_is)
     ∙ ap (λ (n : ℕ). Some (take (end - n) (drop n labels))) (sym h.start_is)
 
@@ -189,27 +186,20 @@ pub strategies_of_all : {A : Type 0} (f : A → List (List ℕ))
 strategies_of_all f before labels ends all i h a = rw take_all at a
 
 -- what was made
-pub record IsMade (title comment : List ℕ) (players before labels : List (List ℕ)) (ends : List ℕ)
+pub record IsMade (title comment : List ℕ) (players heading labels : List (List ℕ)) (ends : List ℕ)
     (strategies : List (List (List ℕ))) : Type 0 where
-  pub before_is : before ≡ title ∷ comment ∷ players
+  pub heading_is : heading ≡ title ∷ comment ∷ players
   pub one_list_each : length strategies ≡ length players
-  pub are : AreStrategies before labels ends strategies
+  pub are : AreStrategies [] labels ends strategies
 
-made_size : (title comment : List ℕ) (players before labels : List (List ℕ))
+pub made_names : (title comment : List ℕ) (players heading labels : List (List ℕ))
     (ends : List ℕ) (strategies : List (List (List ℕ)))
-    → IsMade title comment players before labels ends strategies
-    → (length ends ≡ length players) × (length before ≡ 2 + length ends)
-made_size title comment players before labels ends strategies m =
+    → IsMade title comment players heading labels ends strategies
+    → AreNames heading labels ends
+made_names title comment players heading labels ends strategies m =
     let one : length ends ≡ length players =
-    sym (length-pieces (length before) ends labels) ∙ ap length m.are.are ∙ m.one_list_each in
-    (one, omega (arith, ap length m.before_is, one))
-
-pub made_rises : (title comment : List ℕ) (players before labels : List (List ℕ))
-    (ends : List ℕ) (strategies : List (List (List ℕ)))
-    → IsMade title comment players before labels ends strategies
-    → RisesTo (length labels) (2 + length ends) ends
-made_rises title comment players before labels ends strategies m =
-    rw (sym (made_size title comment players before labels ends strategies m).1) m.are.rises
+    sym (length-pieces 0 ends labels) ∙ ap length m.are.are ∙ m.one_list_each in
+    record { one_end_each = omega (arith, ap length m.heading_is, one); rises = m.are.rises }
 
 abbrev record_of : List ℕ → List ℕ → List (List ℕ) → List (List (List ℕ)) → Names
 record_of title comment players strategies =
@@ -222,55 +212,44 @@ names_same : (title title' comment comment' : List ℕ) (players players' : List
 names_same title title' comment comment' players players' strategies strategies' a b c d =
     rw (a, b, c, d) refl
 
-pub made_is : (title comment : List ℕ) (players before labels : List (List ℕ))
+pub made_is : (title comment : List ℕ) (players heading labels : List (List ℕ))
     (ends : List ℕ) (strategies : List (List (List ℕ)))
-    → IsMade title comment players before labels ends strategies
-    → names_of labels ends
+    → IsMade title comment players heading labels ends strategies
+    → names_of heading labels ends
     ≡ record { title = title; comment = comment; players = players; strategies = strategies }
-made_is title comment players before labels ends strategies m =
-    let size = made_size title comment players before labels ends strategies m in
-    let whole : labels ≡ title ∷ comment ∷ (players ++ drop (length before) labels) =
-    sym (take-append-drop (length before) labels)
-    ∙ ap (λ (ls : List (List ℕ)). ls ++ drop (length before) labels) (m.are.begin ∙ m.before_is) in
-    let rest = drop (length before) labels in
-    let first : unwrap_or (slice_get labels 0) [] ≡ title =
-    ap (λ (ls : List (List ℕ)). unwrap_or (slice_get ls 0) []) whole in
-    let second : unwrap_or (slice_get labels 1) [] ≡ comment =
-    ap (λ (ls : List (List ℕ)). unwrap_or (slice_get ls 1) []) whole in
-    let named : take (length ends) (drop 2 labels) ≡ players =
-    ap (λ (ls : List (List ℕ)). take (length ends) (drop 2 ls)) whole
-    ∙ take_at players rest (length ends) (sym size.0) in
-    let own : pieces (2 + length ends) ends labels ≡ strategies =
-    ap (λ (n : ℕ). pieces n ends labels) (sym size.1) ∙ m.are.are in
-    names_same _ _ _ _ _ _ _ _ first second named own
+made_is title comment players heading labels ends strategies m =
+    let first : unwrap_or (slice_get heading 0) [] ≡ title =
+    ap (λ (ls : List (List ℕ)). unwrap_or (slice_get ls 0) []) m.heading_is in
+    let second : unwrap_or (slice_get heading 1) [] ≡ comment =
+    ap (λ (ls : List (List ℕ)). unwrap_or (slice_get ls 1) []) m.heading_is in
+    let named : drop 2 heading ≡ players = ap (drop 2) m.heading_is in
+    names_same _ _ _ _ _ _ _ _ first second named m.are.are
 
-pub own_from : (labels : List (List ℕ)) (ends : List ℕ)
-    (names : Names) (at start end first : ℕ) (items : List ℕ)
-    → RisesTo (length labels) (2 + length ends) ends → names_of labels ends ≡ names
-    → at < length names.players → items ≡ ends → first ≡ 2 + length ends
-    → start ≡ start_of first items at → end ≡ get_or items at 0
+pub own_from : (heading labels : List (List ℕ)) (ends : List ℕ)
+    (names : Names) (at start end : ℕ) (items : List ℕ)
+    → AreNames heading labels ends → names_of heading labels ends ≡ names
+    → at < length names.players → items ≡ ends
+    → start ≡ start_of 0 items at → end ≡ get_or items at 0
     → IsOwn labels ends names at start end
-own_from labels ends names at start end first items rises view within same is starts
-    stops = record {
-      rises = rises;
-      view_is = view;
-      within = omega (arith, within, length-players labels ends names rises view);
-      start_is = starts
-          ∙ ap (λ (n : ℕ). start_of n items at) is
-          ∙ ap (λ (es : List ℕ). start_of (2 + length ends) es at) same;
-      end_is = stops ∙ ap (λ (es : List ℕ). get_or es at 0) same;
-    }
+own_from heading labels ends names at start end items are view within same starts stops = record {
+  rises = are.rises;
+  strategies_are = ap (λ (n : Names). n.strategies) view;
+  within = omega (arith, within, length-players heading labels ends names are view);
+  start_is = starts ∙ ap (λ (es : List ℕ). start_of 0 es at) same;
+  end_is = stops ∙ ap (λ (es : List ℕ). get_or es at 0) same;
+}
 
-pub strategy_has_player : (labels : List (List ℕ)) (ends : List ℕ) (names : Names) (at strategy : ℕ)
-    → RisesTo (length labels) (2 + length ends) ends → names_of labels ends ≡ names
+pub strategy_has_player : (heading labels : List (List ℕ)) (ends : List ℕ) (names : Names)
+    (at strategy : ℕ)
+    → AreNames heading labels ends → names_of heading labels ends ≡ names
     → IsSomeAnd (slice_get names.strategies at) (λ own. strategy < length own)
     → at < length names.players
-strategy_has_player labels ends names at strategy rises view h =
+strategy_has_player heading labels ends names at strategy are view h =
     omega (
       arith,
       strategy_within names at strategy h,
-      length-strategies labels ends names view,
-      length-players labels ends names rises view,
+      length-strategies heading labels ends names view,
+      length-players heading labels ends names are view,
     )
 
 -- ---- groups of so many

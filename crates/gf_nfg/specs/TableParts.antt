@@ -50,15 +50,20 @@ pub record Names : Type 0 where
 abbrev pub own_of : Names → ℕ → List (List ℕ)
 own_of names at = unwrap_or (slice_get names.strategies at) []
 
--- The labels are the title, the comment, the players' names, then the strategies' of each player,
--- which end at these places.
-abbrev pub names_of : List (List ℕ) → List ℕ → Names
-names_of labels ends = record {
-  title = unwrap_or (slice_get labels 0) [];
-  comment = unwrap_or (slice_get labels 1) [];
-  players = take (length ends) (drop 2 labels);
-  strategies = pieces (2 + length ends) ends labels;
+-- The heading is the title, the comment and the players' names, and the strategies of each player end
+-- at one of these places among those of all.
+abbrev pub names_of : List (List ℕ) → List (List ℕ) → List ℕ → Names
+names_of heading strategies ends = record {
+  title = unwrap_or (slice_get heading 0) [];
+  comment = unwrap_or (slice_get heading 1) [];
+  players = drop 2 heading;
+  strategies = pieces 0 ends strategies;
 }
+
+-- a heading with an end for each player, and strategies that are cut at these ends
+pub record AreNames (heading strategies : List (List ℕ)) (ends : List ℕ) : Type 0 where
+  pub one_end_each : length heading ≡ 2 + length ends
+  pub rises : RisesTo (length strategies) 0 ends
 
 -- Behind the labels `before` stand the strategies of some players, and each player's end at one of
 -- these ends.

@@ -15,21 +15,22 @@ use std::marker::Model;
 /// The title, the comment, the players' names and the labels of their strategies.
 #[derive(Debug, Drop)]
 pub(crate) struct Names {
-    /// The title, the comment, the players' names, then each player's strategies.
-    labels: Labels,
-    /// Where each player's strategies end among the labels.
+    /// The title, the comment and the players' names.
+    heading: Labels,
+    /// Each player's strategies, one player behind the other.
+    strategies: Labels,
+    /// Where each player's strategies end among those of all.
     ends: Vec<usize>,
 }
 
 impl Model for Names {
-    ghost use Rattle.std.specs.Prelude.{◌+◌, length};
-    ghost use Rattle.gf_nfg.specs.TableParts.{Names, RisesTo, names_of};
+    ghost use Rattle.gf_nfg.specs.TableParts.{AreNames, Names, names_of};
 
     ghost Value = { Names };
 
-    ghost view = { λ n. names_of n.labels n.ends.items };
+    ghost view = { λ n. names_of n.heading n.strategies n.ends.items };
 
-    ghost invariant = { λ n. RisesTo (length n.labels) (2 + length n.ends.items) n.ends.items };
+    ghost invariant = { λ n. AreNames n.heading n.strategies n.ends.items };
 }
 
 /// The title, the comment and the players' names.
@@ -119,12 +120,18 @@ impl Names {
           strategies = map (λ own. map label_of own.items) strategies.now;
         }) }
     {
-        let mut labels = heading(alloc, title, comment, players)?;
+        let heading = heading(alloc, title, comment, players)?;
+        let mut labels = Labels::new(alloc);
         let ends = add_lists(alloc, strategies, &mut labels)?;
-        Ok(Names { labels, ends })
+        Ok(Names {
+            heading,
+            strategies: labels,
+            ends,
+        })
     }
 
     /// A count of n strategies stands for the labels "1" to n.
+    #[inline(never)]
     pub(crate) fn counted(
         alloc: Global,
         title: Label<'_>,
@@ -140,12 +147,18 @@ impl Names {
           strategies = map counted_labels counts.now;
         }) }
     {
-        let mut labels = heading(alloc, title, comment, players)?;
+        let heading = heading(alloc, title, comment, players)?;
+        let mut labels = Labels::new(alloc);
         let ends = add_counted(alloc, counts, &mut labels)?;
-        Ok(Names { labels, ends })
+        Ok(Names {
+            heading,
+            strategies: labels,
+            ends,
+        })
     }
 
     /// The strategies' labels stand one behind the other, so many for each player.
+    #[inline(never)]
     pub(crate) fn grouped(
         alloc: Global,
         title: Label<'_>,
@@ -163,21 +176,26 @@ impl Names {
           strategies = groups counts.now (map label_of strategies.now);
         }) }
     {
-        let mut labels = heading(alloc, title, comment, players)?;
+        let heading = heading(alloc, title, comment, players)?;
+        let mut labels = Labels::new(alloc);
         let ends = add_grouped(alloc, counts, strategies, &mut labels)?;
-        Ok(Names { labels, ends })
+        Ok(Names {
+            heading,
+            strategies: labels,
+            ends,
+        })
     }
 
     pub(crate) fn title(&self) -> Label<'_>
         ensures { label_of result ≡ self.now.title }
     {
-        self.labels.label(0)
+        self.heading.label(0)
     }
 
     pub(crate) fn comment(&self) -> Label<'_>
         ensures { label_of result ≡ self.now.comment }
     {
-        self.labels.label(1)
+        self.heading.label(1)
     }
 
     /// How many players there are.
@@ -193,7 +211,7 @@ impl Names {
         requires { at < length self.now.players }
         ensures { slice_get self.now.players at ≡ Some (label_of result) }
     {
-        self.labels.label(2 + at)
+        self.heading.label(2 + at)
     }
 
     /// How many strategies the player at this place has.
@@ -201,7 +219,7 @@ impl Names {
         requires { at < length self.now.players }
         ensures { option_map length (slice_get self.now.strategies at) ≡ Some result }
     {
-        let own = piece_at(2 + self.ends.len(), &self.ends, at);
+        let own = piece_at(0, &self.ends, at);
         own.end - own.start
     }
 
@@ -211,7 +229,7 @@ impl Names {
         ensures { option_and_then (λ own. slice_get own strategy) (slice_get self.now.strategies at)
             ≡ Some (label_of result) }
     {
-        let own = piece_at(2 + self.ends.len(), &self.ends, at);
-        self.labels.label(own.start + strategy)
+        let own = piece_at(0, &self.ends, at);
+        self.strategies.label(own.start + strategy)
     }
 }
