@@ -40,3 +40,4 @@ pub mod RunsSentence
 pub mod RunsStrategies
 pub mod SpelledTables
 pub mod SpelledTexts
+pub mod Walked

@@ -1,12 +1,11 @@
 -- A strategic file is refused at one place, with one code.
-use Rattle.std.proofs.Common.{◌≡◌, ℕ, ◌≤◌, List, [], ◌∷◌, ◌++◌, length}
+use Rattle.std.proofs.Common.{◌≡◌, ℕ, List, [], ◌∷◌, ◌++◌, length}
 use Rattle.std.proofs.Common.{refl, sym, ap, subst, ◌∙◌, arith, inl, inr}
 use Rattle.std.specs.Prelude.{◌⊎◌}
-use Rattle.gf_token.specs.Token.{Token, Lexeme}
+use Rattle.gf_token.specs.Token.{Lexeme}
 use Rattle.gf_token.specs.Code.{code_of}
 use Rattle.gf_token.specs.Place.{tokens_of, Begins, IsAccepted, IsSpanOf}
 use Rattle.gf_token.specs.declared.fault.Span.{Span}
-use Rattle.gf_token.specs.declared.fault.What.{What}
 use Rattle.gf_token.specs.declared.fault.Why.{Why}
 use Rattle.gf_token.specs.declared.fault.Why.TheVariants.{Memory, TooManyProfiles, TooLong}
 use Rattle.gf_token.proofs.Places.{PartsBefore, parts, first_and_rest, tokens_on, begins_front}

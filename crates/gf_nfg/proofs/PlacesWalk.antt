@@ -4,7 +4,6 @@ use Rattle.std.proofs.Common.{Err, refl, sym, ap, ◌∙◌, append_assoc}
 use Rattle.std.proofs.lemmas.List.{append-nil}
 use Rattle.gf_token.specs.Token.{Token}
 use Rattle.gf_token.specs.declared.fault.Why.{Why}
-use Rattle.gf_nfg.specs.Table.{Table}
 use Rattle.gf_nfg.specs.Sentence.{Sentence, IsStrategicFile}
 use Rattle.gf_token.specs.Place.{Begins, MayFollow}
 use Rattle.gf_nfg.specs.Machine.{State, Content, run, step, finish, start, ◌>>=◌}

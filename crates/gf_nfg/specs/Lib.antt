@@ -17,6 +17,7 @@ pub mod TableAccess
 pub mod TableParts
 pub mod TableText
 pub mod TextParts
+pub mod Walk
 pub mod WorkedTables
 pub use Rattle.gf_fraction.specs.Ratio
 pub use Rattle.gf_token.specs.Code

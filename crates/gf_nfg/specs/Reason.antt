@@ -1,11 +1,10 @@
 -- Why a strategic file is refused at its offending place.
-use Rattle.std.specs.Prelude.{ℕ, ◌<◌, ◌≤◌, ◌⊎◌, List, [], ◌∷◌, ◌++◌, map}
+use Rattle.std.specs.Prelude.{ℕ, ◌<◌, ◌⊎◌, List, [], ◌∷◌, ◌++◌, map}
 use Rattle.gf_token.specs.Token.{Token}
 use Rattle.gf_token.specs.Token.Token.{Closing, Text, Bare, Broken}
 use Rattle.gf_token.specs.Index.{IsIndex}
-use Rattle.gf_token.specs.Code.{code_of}
 use Rattle.gf_token.specs.declared.fault.Why.{Why}
-use Rattle.gf_token.specs.declared.fault.Why.TheVariants.{Unterminated, Expected, NotANumber}
+use Rattle.gf_token.specs.declared.fault.Why.TheVariants.{Unterminated, NotANumber}
 use Rattle.gf_token.specs.declared.fault.Why.TheVariants.{ZeroDenominator, NumberTooLarge}
 use Rattle.gf_token.specs.declared.fault.Why.TheVariants.{BadIndex, NoEntry, UnknownOutcome}
 use Rattle.gf_fraction.specs.NumberSpelling.{HasNumberFault}

@@ -16,7 +16,8 @@ use gf_token::{Kind, What, Why};
 
 impl<'a> Reader<'a> {
     /// Takes a payoff.
-    fn at_payoff(&mut self, kind: Kind<'a>, next: Position) -> Result<(), Why>
+    #[inline(always)]
+    pub(super) fn at_payoff(&mut self, kind: Kind<'a>, next: Position) -> Result<(), Why>
         requires { 0 < self.old.due }
         ensures { Steps (at_payoff next (state_of self.old) (token_of kind.entry)) result
             (state_of self.new) }
