@@ -47,12 +47,14 @@ fn step(payoffs: &Payoffs<'_>, op: Op, values: &mut Values) -> Result<(), EvalFa
 }
 
 /// The value of the whole tree for each player, where these are the payoffs of the outcomes and the
-/// choices of all players. The row is empty where each is zero.
+/// choices of all players. The row is empty where each is zero. The values on the way are found in the
+/// room of earlier ones.
 pub(crate) fn evaluate(
     alloc: Global,
     game: &Game<'_>,
     payoffs: &Payoffs<'_>,
     choices: &[Vec<u32>],
+    values: &mut Values,
 ) -> Result<Vec<Fraction>, EvalFault>
     requires some_player { 0 < length game.now.players }
     requires payoffs { ArePaid game.now (rows_of payoffs.now) }
@@ -65,11 +67,11 @@ pub(crate) fn evaluate(
         game.now.tree ≡ None) }
 {
     let mut walk = Walk::new(alloc, game, choices);
-    let mut values = Values::new(alloc);
+    values.clear()?;
     while let Some(op) = walk.next()? {
-        if let Err(fault) = step(payoffs, op, &mut values) {
+        if let Err(fault) = step(payoffs, op, values) {
             return Err(fault);
         }
     }
-    Ok(values.top())
+    Ok(values.pop())
 }

@@ -12,16 +12,19 @@ use crate::evaluate::evaluate;
 use crate::fault::EvalFault;
 use crate::payoffs::Payoffs;
 use crate::rows::write_out;
+use crate::values::Values;
 use gf_fraction::Fraction;
 use gf_tree::Game;
 use std::alloc::Global;
 
-/// What `expected` gives, where these are the payoffs of the outcomes.
+/// What `expected` gives, where these are the payoffs of the outcomes. The row has the room of one of
+/// these values.
 pub(crate) fn expected_with(
     alloc: Global,
     game: &Game<'_>,
     payoffs: &Payoffs<'_>,
     choices: &[Vec<u32>],
+    values: &mut Values,
 ) -> Result<Vec<Fraction>, EvalFault>
     requires strategies { AreStrategies game.now (map (λ own. own.items) choices.now) }
     requires payoffs { ArePaid game.now (rows_of payoffs.now) }
@@ -36,7 +39,7 @@ pub(crate) fn expected_with(
     if players == 0 {
         return Ok(Vec::new(alloc));
     }
-    let mut row = match evaluate(alloc, game, payoffs, choices) {
+    let mut row = match evaluate(alloc, game, payoffs, choices, values) {
         Ok(row) => row,
         Err(fault) => return Err(fault),
     };
@@ -71,5 +74,6 @@ pub fn expected(
 {
     let _players = game.players();
     let payoffs = Payoffs::new(alloc, game)?;
-    expected_with(alloc, game, &payoffs, choices)
+    let mut values = Values::new(alloc);
+    expected_with(alloc, game, &payoffs, choices, &mut values)
 }

@@ -20,6 +20,7 @@ use crate::fault::{EvalFault, FormFault};
 use crate::payoffs::Payoffs;
 use crate::picked::Picked;
 use crate::strategies::write_strategy;
+use crate::values::Values;
 use gf_fraction::Fraction;
 use gf_tree::Game;
 use std::alloc::{AllocError, Global};
@@ -84,6 +85,7 @@ fn row_by_walk(
     payoffs: &Payoffs<'_>,
     picked: &Picked,
     profile: u32,
+    values: &mut Values,
 ) -> Result<Vec<Fraction>, EvalFault>
     requires within { profile < picked.now.profiles.count }
     requires counts { AreCounts game.now counts.now }
@@ -98,7 +100,7 @@ fn row_by_walk(
 {
     let _players = game.players();
     let strategies = strategies_of(alloc, counts, picked, profile)?;
-    expected_with(alloc, game, payoffs, &strategies)
+    expected_with(alloc, game, payoffs, &strategies, values)
 }
 
 /// What each player is paid at each profile of the strategies that are picked, in their order. Room
@@ -127,13 +129,17 @@ fn fill_rows(
         → IsFirstWithout (HasValues game.now) (picked_profiles (numbers_in picked.now)) position }
 {
     let _players = game.players();
+    let mut values = Values::new(alloc);
     for before in 0..picked.profiles.count {
         if let Some(columns) = columns {
             columns.push_row(full_number_of(counts, picked, before), &mut rows)?;
             continue;
         }
-        match row_by_walk(alloc, game, counts, payoffs, picked, before) {
-            Ok(row) => rows.extend_from_slice(&row)?,
+        match row_by_walk(alloc, game, counts, payoffs, picked, before, &mut values) {
+            Ok(row) => {
+                rows.extend_from_slice(&row)?;
+                values.give_back(row)?;
+            }
             Err(EvalFault::Overflow) => {
                 return Err(FormFault::Overflow {
                     profile: before + 1,

@@ -1,4 +1,6 @@
 //! The stack of values that the operations of a tree work on, with a row of numbers for each value.
+//! The room of a row that is taken off serves a later one, so that a walk allocates no rows once there
+//! were as many as it wants at a time.
 
 ghost use Rattle.std.specs.Prelude.{◌≡◌, ◌<◌, ◌≤◌, ℕ, List, [], ◌∷◌, ◌++◌, None, Option, Some, OnOk};
 ghost use Rattle.std.specs.Prelude.{IsErrOf, length};
@@ -8,13 +10,15 @@ ghost use Rattle.gf_form.specs.Rows.{AreRows, IsRow, PaysTo, WeighsTo, at_place,
 use crate::fault::EvalFault;
 use crate::rows::{pay, weigh};
 use gf_fraction::Fraction;
-use std::alloc::Global;
+use std::alloc::{AllocError, Global};
 
 /// Rows of numbers, one for each player, the last one on top. An empty row is one of zeros.
 #[derive(Drop)]
 pub(crate) struct Values {
     alloc: Global,
     rows: Vec<Vec<Fraction>>,
+    /// Rows that were taken off, whatever they have.
+    spare: Vec<Vec<Fraction>>,
 }
 
 impl Values {
@@ -27,7 +31,18 @@ impl Values {
         Values {
             alloc,
             rows: Vec::new(alloc),
+            spare: Vec::new(alloc),
         }
+    }
+
+    /// No values are left.
+    pub(crate) fn clear(&mut self) -> Result<(), AllocError>
+        ensures { OnOk result (rows_on self.new ≡ []) }
+    {
+        while let Some(row) = self.rows.pop() {
+            self.spare.push(row)?;
+        }
+        Ok(())
     }
 
     /// A row goes onto the stack.
@@ -35,8 +50,13 @@ impl Values {
         ensures pushed { OnOk result (rows_on self.new ≡ rows_on self.old ++ row.now ∷ []) }
         ensures memory { IsErrOf result EvalFault.Overflow → ⊥ }
     {
-        let row = Vec::from_slice(self.alloc, row)?;
-        self.rows.push(row)?;
+        let mut own = match self.spare.pop() {
+            Some(own) => own,
+            None => Vec::new(self.alloc),
+        };
+        own.clear();
+        own.extend_from_slice(row)?;
+        self.rows.push(own)?;
         Ok(())
     }
 
@@ -58,6 +78,7 @@ impl Values {
             return Err(fault);
         }
         self.rows.push(sum)?;
+        self.spare.push(row)?;
         Ok(())
     }
 
@@ -82,11 +103,19 @@ impl Values {
         Ok(())
     }
 
-    /// The row on top.
-    pub(crate) fn top(mut self) -> Vec<Fraction>
-        requires { 1 ≤ length (rows_on self) }
-        ensures { (rest : List (List Ratio)) × (rows_on self ≡ rest ++ result.items ∷ []) }
+    /// The row on top is taken off.
+    pub(crate) fn pop(&mut self) -> Vec<Fraction>
+        requires { 1 ≤ length (rows_on self.old) }
+        ensures { (rest : List (List Ratio)) × (rows_on self.old ≡ rest ++ result.items ∷ []) }
     {
         self.rows.pop().unwrap()
+    }
+
+    /// Gives the room of a row back.
+    pub(crate) fn give_back(&mut self, row: Vec<Fraction>) -> Result<(), AllocError>
+        ensures { rows_on self.new ≡ rows_on self.old }
+    {
+        self.spare.push(row)?;
+        Ok(())
     }
 }

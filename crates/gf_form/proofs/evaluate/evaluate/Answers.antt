@@ -14,12 +14,12 @@ use Rattle.gf_form.proofs.ProgramRuns.{code_runs}
 use Rattle.gf_form.proofs.Stacks.{column_last, counted, enough, last_row, same_fault}
 use Rattle.gf_form.proofs.evaluate.evaluate.Goals as goal
 
-pub loop-values-init : goal.loop-values-init
-loop-values-init c =
+pub loop-walk-init : goal.loop-walk-init
+loop-walk-init c =
     let g = c.args.game.now in
     let choices = choices_by g (map (λ own. own.items) c.args.choices.now) in
-    let rows = rows_on c.new-values.result in
-    let none : rows ≡ [] = c.new-values.ensures in (
+    let rows = rows_on c.clear.new.self in
+    let none : rows ≡ [] = c.in_ok-clear.ensures in (
       subst (AreRows (length g.players)) (sym none) tt,
       λ k. ap (λ (ops : List Op). run g (suc k) ops (column k rows)) c.new-walk.ensures
           ∙ ap (λ (rows : List (List Ratio)). run g (suc k) (code g choices g.tree) (column k rows))
@@ -33,68 +33,68 @@ loop-values-init c =
 pub step-requires-clause-shape : goal.step-requires-clause-shape
 step-requires-clause-shape c =
     let g = c.args.game.now in
-    let rows = rows_on c.loop-values.values in
+    let rows = rows_on c.loop-walk.values in
     let op = c.in-Some.op in
-    let left : code_left c.loop-values.walk ≡ op ∷ code_left c.next.new.self =
-    subst (λ (o : Option Op). MatchOption o (code_left c.loop-values.walk ≡ [])
-    (λ op. code_left c.loop-values.walk ≡ op ∷ code_left c.next.new.self)) c.in-Some.is
+    let left : code_left c.loop-walk.walk ≡ op ∷ code_left c.next.new.self =
+    subst (λ (o : Option Op). MatchOption o (code_left c.loop-walk.walk ≡ [])
+    (λ op. code_left c.loop-walk.walk ≡ op ∷ code_left c.next.new.self)) c.in-Some.is
     c.in_ok-op.ensures.left in
     omega (
       arith,
       enough g 1 op (code_left c.next.new.self) (column 0 rows) _
           (ap (λ (ops : List Op). run g 1 ops (column 0 rows)) (sym left)
-          ∙ c.loop-values.invariant.1 0),
+          ∙ c.loop-walk.invariant.1 0),
       counted 0 rows,
     )
 
 pub returns-in-Err-clause-overflow : goal.returns-in-Err-clause-overflow
 returns-in-Err-clause-overflow c = λ h.
     let g = c.args.game.now in
-    let rows = rows_on c.loop-values.values in
+    let rows = rows_on c.loop-walk.values in
     let op = c.in-Some.op in
-    let left : code_left c.loop-values.walk ≡ op ∷ code_left c.next.new.self =
-    subst (λ (o : Option Op). MatchOption o (code_left c.loop-values.walk ≡ [])
-    (λ op. code_left c.loop-values.walk ≡ op ∷ code_left c.next.new.self)) c.in-Some.is
+    let left : code_left c.loop-walk.walk ≡ op ∷ code_left c.next.new.self =
+    subst (λ (o : Option Op). MatchOption o (code_left c.loop-walk.walk ≡ [])
+    (λ op. code_left c.loop-walk.walk ≡ op ∷ code_left c.next.new.self)) c.in-Some.is
     c.in_ok-op.ensures.left in
     let o = c.in-Err.ensures.overflow (same_fault c.in-Err.fault Overflow h) in
-    let r = o.1 g c.loop-values.invariant.2 c.loop-values.invariant.0 c.requires.some_player in (
+    let r = o.1 g c.loop-walk.invariant.2 c.loop-walk.invariant.0 c.requires.some_player in (
       o.0,
       r.0,
       r.1 (code_left c.next.new.self) _
           (ap (λ (ops : List Op). run g (suc o.0) ops (column o.0 rows)) (sym left)
-          ∙ c.loop-values.invariant.1 o.0),
+          ∙ c.loop-walk.invariant.1 o.0),
     )
 
-pub top-requires : goal.top-requires
-top-requires c =
+pub pop-requires : goal.pop-requires
+pop-requires c =
     let g = c.args.game.now in
-    let rows = rows_on c.loop-values.values in
-    let left : code_left c.loop-values.walk ≡ [] =
-    subst (λ (o : Option Op). MatchOption o (code_left c.loop-values.walk ≡ [])
-    (λ op. code_left c.loop-values.walk ≡ op ∷ code_left c.next.new.self)) c.in_default.is
+    let rows = rows_on c.loop-walk.values in
+    let left : code_left c.loop-walk.walk ≡ [] =
+    subst (λ (o : Option Op). MatchOption o (code_left c.loop-walk.walk ≡ [])
+    (λ op. code_left c.loop-walk.walk ≡ op ∷ code_left c.next.new.self)) c.in_default.is
     c.in_ok-op.ensures.left in
     let one = ap length (ap (λ (ops : List Op). run g 1 ops (column 0 rows)) (sym left)
-    ∙ c.loop-values.invariant.1 0) in
+    ∙ c.loop-walk.invariant.1 0) in
     omega (arith, one, counted 0 rows)
 
 pub returns-clause-row : goal.returns-clause-row
 returns-clause-row c =
-    (last_row (length c.args.game.now.players) (rows_on c.loop-values.values) c.top.ensures.0
-    c.top.result.items c.top.ensures.1 c.loop-values.invariant.0).1
+    (last_row (length c.args.game.now.players) (rows_on c.loop-walk.values) c.pop.ensures.0
+    c.pop.result.items c.pop.ensures.1 c.loop-walk.invariant.0).1
 
 pub returns-clause-values : goal.returns-clause-values
 returns-clause-values c = λ k.
     let g = c.args.game.now in
     let choices = choices_by g (map (λ own. own.items) c.args.choices.now) in
-    let rows = rows_on c.loop-values.values in
-    let left : code_left c.loop-values.walk ≡ [] =
-    subst (λ (o : Option Op). MatchOption o (code_left c.loop-values.walk ≡ [])
-    (λ op. code_left c.loop-values.walk ≡ op ∷ code_left c.next.new.self)) c.in_default.is
+    let rows = rows_on c.loop-walk.values in
+    let left : code_left c.loop-walk.walk ≡ [] =
+    subst (λ (o : Option Op). MatchOption o (code_left c.loop-walk.walk ≡ [])
+    (λ op. code_left c.loop-walk.walk ≡ op ∷ code_left c.next.new.self)) c.in_default.is
     c.in_ok-op.ensures.left in
-    let all : Some (at_place c.top.result.items k) ∷ column k c.top.ensures.0
+    let all : Some (at_place c.pop.result.items k) ∷ column k c.pop.ensures.0
     ≡ value g choices (suc k) g.tree ∷ [] =
-    sym (ap (column k) c.top.ensures.1
-    ∙ column_last k c.top.ensures.0 c.top.result.items [])
+    sym (ap (column k) c.pop.ensures.1
+    ∙ column_last k c.pop.ensures.0 c.pop.result.items [])
     ∙ ap (λ (ops : List Op). run g (suc k) ops (column k rows)) (sym left)
-    ∙ c.loop-values.invariant.1 k in
+    ∙ c.loop-walk.invariant.1 k in
     cc

@@ -8,11 +8,11 @@ use Rattle.gf_form.specs.Strategies.{choices_by}
 use Rattle.gf_form.specs.Values.{value}
 use Rattle.gf_form.proofs.evaluate.evaluate.Given as goal
 
-abbrev pub invariant-loop-values : goal.invariant-loop-values
-invariant-loop-values l = AreRows (length l.game.players) (rows_on l.values)
+abbrev pub invariant-loop-walk : goal.invariant-loop-walk
+invariant-loop-walk l = AreRows (length l.game.players) (rows_on l.values)
     × ((k : ℕ) → run l.game (suc k) (code_left l.walk) (column k (rows_on l.values))
     ≡ value l.game (choices_by l.game (map (λ own. own.items) l.choices)) (suc k) l.game.tree ∷ [])
     × ArePaid l.game (rows_of l.payoffs)
 
-abbrev pub decreases-loop-values : goal.decreases-loop-values
-decreases-loop-values l = length (code_left l.walk)
+abbrev pub decreases-loop-walk : goal.decreases-loop-walk
+decreases-loop-walk l = length (code_left l.walk)
