@@ -2,8 +2,10 @@
 use Rattle.std.proofs.Common.{◌≡◌, ℕ, ◌<◌, List, [], ◌∷◌, ◌++◌, length, map, Option, Some}
 use Rattle.std.proofs.Common.{Vec, Global, refl, sym, ap, subst, ◌∙◌, arith}
 use Rattle.std.specs.Prelude.{Err, IsErrOf, option_to_list}
+use Rattle.std.specs.List.{AllByRecursion}
 use Rattle.std.proofs.lemmas.List.{map-append}
-use Rattle.gf_fraction.specs.Ratio.{Ratio}
+use Rattle.gf_fraction.specs.Ratio.{IsFraction, Ratio}
+use Rattle.gf_fraction.specs.Rational.{zero_ratio}
 use Rattle.gf_fraction.proofs.AllElements.{all_parts}
 use Rattle.gf_tree.proofs.RenumberedStores.{all_and_one}
 use Rattle.std.proofs.Common.{◌+◌, ◌≤◌, suc}
@@ -14,6 +16,8 @@ use Rattle.gf_form.specs.declared.op.Op.{Op}
 use Rattle.gf_form.specs.declared.op.Op.TheVariants.{Push, Begin, Nothing, Weigh, Pay}
 use Rattle.gf_form.specs.Rows.{AreRows, IsRow, PaysTo, WeighsTo, at_place, column, column_on}
 use Rattle.gf_form.specs.Values.{plus_of, times_of}
+use Rattle.gf_form.proofs.RowSums.{fraction_at}
+use Rattle.gf_form.proofs.Zeros.{zero_plus}
 
 abbrev pub rows_in : List (Vec Ratio Global) → List (List Ratio)
 rows_in held = map (λ row. row.items) held
@@ -105,6 +109,38 @@ counted_on k (row ∷ rows) below =
 
 pub counted : (k : ℕ) (rows : List (List Ratio)) → length (column k rows) ≡ length rows
 counted k rows = let all = counted_on k rows [] in omega (arith, all)
+
+-- ---- where there are no payoffs
+
+abbrev IsSomeFraction : Option Ratio → Type 0
+IsSomeFraction value = (x : Ratio) × (value ≡ Some x) × IsFraction x
+
+some_fractions : (players k : ℕ) (rows : List (List Ratio)) (below : List (Option Ratio))
+    → AreRows players rows → AllByRecursion IsSomeFraction below
+    → AllByRecursion IsSomeFraction (column_on k rows below)
+some_fractions players k [] below h are = are
+some_fractions players k (row ∷ rows) below h are =
+    some_fractions players k rows (Some (at_place row k) ∷ below) h.1
+    ((at_place row k, refl, fraction_at row k h.0.fractions), are)
+
+zero_pays : (st : List (Option Ratio)) → 0 < length st → AllByRecursion IsSomeFraction st
+    → PaysTo zero_ratio st st
+zero_pays [] some h = absurd (omega (arith, some))
+zero_pays (value ∷ st) some h =
+    let same : value ≡ plus_of (Some zero_ratio) value =
+    h.0.1 ∙ sym (zero_plus h.0.0 h.0.2) ∙ ap (plus_of (Some zero_ratio)) (sym h.0.1) in
+    ap (λ (v : Option Ratio). v ∷ st) same
+
+pub nothing_pays : (players k : ℕ) (rows : List (List Ratio)) (payoffs : List Ratio)
+    → 1 ≤ length rows → AreRows players rows → length payoffs ≡ 0
+    → PaysTo (at_place payoffs k) (column k rows) (column k rows)
+nothing_pays players k rows [] some h none =
+    subst (λ (payoff : Ratio). PaysTo payoff (column k rows) (column k rows)) (sym (empty_at k))
+    (zero_pays (column k rows) (omega (arith, some, counted k rows))
+    (some_fractions players k rows [] h tt))
+nothing_pays players k rows (x ∷ payoffs) some h none = absurd (omega (arith, none))
+
+-- ---- the operands of an operation
 
 -- a program that leaves a value has the operands of its first operation
 pub enough : (g : Game) (player : ℕ) (op : Op) (ops : List Op) (st : List (Option Ratio))

@@ -82,7 +82,7 @@ impl Values {
         Ok(())
     }
 
-    /// Payoffs are added to the row on top.
+    /// Payoffs are added to the row on top. Where there are none, nothing is.
     pub(crate) fn pay(&mut self, payoffs: &[Fraction]) -> Result<(), EvalFault>
         requires one { 1 ≤ length (rows_on self.old) }
         requires rows { (players : ℕ) × AreRows players (rows_on self.old)
@@ -95,6 +95,9 @@ impl Values {
             × ((players : ℕ) → IsRow players payoffs.now → k < players)
             × PaysTo (at_place payoffs.now k) (column k (rows_on self.old)) (None ∷ below) }
     {
+        if payoffs.is_empty() {
+            return Ok(());
+        }
         let mut row = self.rows.pop().unwrap();
         if let Err(fault) = pay(payoffs, &mut row) {
             return Err(fault);

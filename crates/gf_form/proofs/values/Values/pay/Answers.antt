@@ -1,8 +1,9 @@
-use Rattle.std.proofs.Common.{None}
+use Rattle.std.proofs.Common.{◌∙◌, None, length, sym}
+use Rattle.std.proofs.lemmas.Bool.{eqb-true}
 use Rattle.gf_form.specs.Rows.{at_place, column}
 use Rattle.gf_form.specs.RowsOn.{rows_on}
-use Rattle.gf_form.proofs.Stacks.{below_players, last_row, one_more_row, pays, pays_to, popped}
-use Rattle.gf_form.proofs.Stacks.{pushed, rows_in}
+use Rattle.gf_form.proofs.Stacks.{below_players, last_row, nothing_pays, one_more_row, pays, pays_to}
+use Rattle.gf_form.proofs.Stacks.{popped, pushed, rows_in}
 use Rattle.gf_form.proofs.values.Values.pay.Goals as goal
 
 pub pay-requires : goal.pay-requires
@@ -42,3 +43,9 @@ returns-clause-added c = λ k.
     c.unwrap-row.result c.pop.ensures.items c.unwrap-row.ensures)
     (pushed c.pop.new.self.items c.push.new.self.items c.pay.new.row c.in_ok-push.ensures.items)
     (c.in_default.ensures.added k)
+
+pub returns-then-is_empty-clause-added : goal.returns-then-is_empty-clause-added
+returns-then-is_empty-clause-added c = λ k.
+    nothing_pays c.requires.rows.0 k (rows_on c.args.self.now) c.args.payoffs.now c.requires.one
+    c.requires.rows.1
+    (eqb-true (length c.args.payoffs.now) 0 (sym c.is_empty.ensures ∙ c.if-is_empty.true))
