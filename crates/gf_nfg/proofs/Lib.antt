@@ -1,4 +1,5 @@
 mod LabelsCounted
+mod LabelsJoined
 mod TableAgrees
 mod TableMade
 mod TableNames

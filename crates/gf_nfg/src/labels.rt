@@ -1,10 +1,13 @@
 //! Lists of labels that own their bytes.
 
 ghost use Rattle.std.specs.Prelude.{◌≡◌, ◌<◌, ◌++◌, ◌∷◌, [], Some};
-ghost use Rattle.std.specs.Prelude.{length, map, slice_get, OnErr, OnOk};
+ghost use Rattle.std.specs.Prelude.{length, map, slice_get, sum, IfOk, OnErr, OnOk};
+ghost use Rattle.std.specs.List.{join_with_byte};
 ghost use Rattle.gf_token.specs.Label.{label_of};
+ghost use Rattle.gf_token.specs.LabelSpelling.{IsLabel};
 ghost use Rattle.gf_nfg.specs.Sentence.{counted_labels};
 ghost use Rattle.gf_nfg.specs.TableParts.{AreSpellings};
+ghost use Rattle.gf_nfg.specs.TextParts.{Keeps};
 
 use crate::pieces::piece;
 use gf_token::Label;
@@ -30,6 +33,22 @@ impl Model for Labels {
     ghost invariant = { λ l. IsCut l.ends.items l.bytes.items };
 }
 
+/// Appends these labels, joined by `-`.
+fn write_joined(parts: &[Label<'_>], bytes: &mut Vec<u8>) -> Result<(), AllocError>
+    ensures text { OnOk result
+        (bytes.new.items ≡ bytes.old.items ++ join_with_byte 45 (map label_of parts.now)) }
+    ensures label { OnOk result (IsLabel (join_with_byte 45 (map label_of parts.now))) }
+    ensures kept { OnErr result (Keeps bytes.old.items bytes.new.items) }
+{
+    for at in 0..parts.len() {
+        if at > 0 {
+            bytes.push(b'-')?;
+        }
+        bytes.extend_from_slice(parts[at].raw())?;
+    }
+    Ok(())
+}
+
 impl Labels {
     /// No labels.
     pub fn new(alloc: Global) -> Labels
@@ -49,6 +68,23 @@ impl Labels {
         self.ends.len()
     }
 
+    /// How many bytes the labels have, all together.
+    pub fn size(&self) -> usize
+        ensures { result ≡ sum (map length self.now) }
+    {
+        self.bytes.len()
+    }
+
+    /// Makes room for so many labels more, which have so many bytes all together. `AllocError` where
+    /// memory is refused.
+    pub fn reserve(&mut self, labels: usize, bytes: usize) -> Result<(), AllocError>
+        ensures { self.new ≡ self.old }
+    {
+        self.ends.reserve(labels)?;
+        self.bytes.reserve(bytes)?;
+        Ok(())
+    }
+
     /// Adds a label at the end. `AllocError` where memory is refused, and then nothing is added.
     pub fn push(&mut self, label: Label<'_>) -> Result<(), AllocError>
         ensures ok { OnOk result (self.new ≡ self.old ++ label_of label.entry ∷ []) }
@@ -60,12 +96,57 @@ impl Labels {
         Ok(())
     }
 
+    /// Adds one label at the end: these, joined by `-`. `AllocError` where memory is refused, and then
+    /// nothing is added.
+    pub fn push_joined(&mut self, parts: &[Label<'_>]) -> Result<(), AllocError>
+        ensures ok { OnOk result
+            (self.new ≡ self.old ++ join_with_byte 45 (map label_of parts.now) ∷ []) }
+        ensures err { OnErr result (self.new ≡ self.old) }
+    {
+        self.ends.reserve(1)?;
+        let start = self.bytes.len();
+        let written = write_joined(parts, &mut self.bytes);
+        if written.is_err() {
+            self.bytes.truncate(start);
+            return written;
+        }
+        self.ends.push(self.bytes.len())?;
+        Ok(())
+    }
+
+    /// These labels, and the others behind them. Where there are none of these, the others are not
+    /// copied. `AllocError` where memory is refused.
+    pub fn followed_by(self, others: Labels) -> Result<Labels, AllocError>
+        ensures labels { IfOk result (λ all. all ≡ self ++ others) }
+        ensures spelled { IfOk result (λ all. AreSpellings all) }
+    {
+        // Its clause says that they are spelled.
+        let _others = others.len();
+        if self.len() == 0 {
+            return Ok(others);
+        }
+        let mut all = self;
+        all.extend_by(&others)?;
+        Ok(all)
+    }
+
     /// Adds labels at the end. Where memory is refused some of them may have been added.
     pub(crate) fn extend(&mut self, labels: &[Label<'_>]) -> Result<(), AllocError>
         ensures { OnOk result (self.new ≡ self.old ++ map label_of labels.now) }
     {
         for label in labels {
             self.push(*label)?;
+        }
+        Ok(())
+    }
+
+    /// Adds the others' labels at the end. Where memory is refused some of them may have been added.
+    fn extend_by(&mut self, others: &Labels) -> Result<(), AllocError>
+        ensures { OnOk result (self.new ≡ self.old ++ others.now) }
+    {
+        self.reserve(others.len(), others.size())?;
+        for at in 0..others.len() {
+            self.push(others.label(at))?;
         }
         Ok(())
     }
