@@ -1,7 +1,10 @@
 -- Walks are made longer, and lead on from where others have led.
-use Rattle.std.proofs.Common.{◌≡◌, ◌<◌, ◌-◌, ℕ, false, arith, List, [], ◌∷◌, ◌++◌, refl, sym, ap, subst, ◌∙◌, append_assoc}
+use Rattle.std.proofs.Common.{◌≡◌, ◌<◌, ◌-◌, ℕ, Bool, true, false, arith, List, [], ◌∷◌, ◌++◌, refl, sym, ap, subst, ◌∙◌, append_assoc}
 use Rattle.std.proofs.lemmas.Bool.Decides.{nat_tests}
-use Rattle.std.specs.Prelude.{Result, Ok, Err, IfErr, IsErrAnd, ◌==◌}
+use Rattle.std.specs.Prelude.{Result, Ok, Err, IfErr, IsErrAnd, Option, None, Some, nat_le, ◌==◌}
+use Rattle.std.specs.Prelude.{if◌then◌else◌}
+use Rattle.gf_token.specs.Indices.{index_of}
+use Rattle.gf_token.specs.declared.fault.Why.TheVariants.{UnknownOutcome}
 use Rattle.gf_fraction.specs.Ratio.{Ratio}
 use Rattle.gf_fraction.specs.declared.fraction.NumberFault.{NumberFault}
 use Rattle.gf_token.specs.Token.{Lexeme, lexeme}
@@ -10,7 +13,8 @@ use Rattle.gf_token.specs.TokenSpelling.{Spells}
 use Rattle.gf_token.specs.declared.fault.Fault.{Fault}
 use Rattle.gf_nfg.specs.Judgement.{IsJudged}
 use Rattle.gf_nfg.specs.declared.position.Position.TheVariants as p
-use Rattle.gf_nfg.specs.Machine.{State, at, at_payoff, paid, step, with_payoffs}
+use Rattle.gf_nfg.specs.Machine.{State, at, at_payoff, chosen, paid, step, with_choices}
+use Rattle.gf_nfg.specs.Machine.{with_payoffs}
 use Rattle.gf_nfg.specs.LimitPlace.{IsWithinLimit}
 use Rattle.gf_nfg.specs.ReaderState.{ArePartsOf}
 use Rattle.gf_nfg.specs.Table.{Table}
@@ -77,7 +81,31 @@ flat_stays s after (Ok n) e =
     sym (ap (λ (t : State). t.position) same)
 flat_stays s after (Err fault) e = absurd cc
 
--- ---- the answer at a payoff that is refused
+-- ---- numbers of outcomes
+
+-- where numbers of outcomes are due, a bare token is taken as one
+pub choice_step : (s : State) (b : List ℕ) → s.position ≡ p.OutcomeNumbers → 0 < s.due
+    → step s (Bare b) ≡ chosen s (index_of b)
+choice_step s b h some =
+    let e : (s.due == 0) ≡ false = grind (arith, nat_tests) in rw (h, e) refl
+
+chosen_by : (s after : State) (k : ℕ) (is_known : Bool) → (if is_known
+    then Ok
+    (at p.OutcomeNumbers (s.due - 1) s.list_start s.outcomes (with_choices s.content (k ∷ [])))
+    else Err UnknownOutcome) ≡ Ok after → after.position ≡ p.OutcomeNumbers
+chosen_by s after k true e =
+    let same : at p.OutcomeNumbers (s.due - 1) s.list_start s.outcomes
+    (with_choices s.content (k ∷ [])) ≡ after = cc in
+    sym (ap (λ (t : State). t.position) same)
+chosen_by s after k false e = absurd cc
+
+-- and another may follow
+pub chosen_stays : (s after : State) (o : Option ℕ) → chosen s o ≡ Ok after
+    → after.position ≡ p.OutcomeNumbers
+chosen_stays s after (Some k) e = chosen_by s after k (nat_le k s.outcomes) e
+chosen_stays s after None e = absurd cc
+
+-- ---- the answer at a number that is refused
 
 pub answer_refused : {A : Type 0} (r : Result A Fault) (fault : Fault) (bytes : List ℕ)
     → IsErrAnd r (λ e. e ≡ fault) → IsJudged fault.why bytes fault.span

@@ -30,7 +30,7 @@ fn read_parts<'a>(alloc: Global, input: &'a [u8]) -> Result<Parts<'a>, Fault>
         if let Err(why) = reader.take(token.kind) {
             return Err(Fault::at(token.span, why));
         }
-        reader.take_payoffs(&mut cursor)?;
+        reader.take_numbers(&mut cursor)?;
     }
     match reader.finish() {
         Ok(parts) => Ok(parts),

@@ -8,7 +8,7 @@ ghost use Rattle.gf_nfg.specs.ReaderState.{answer_of, content_in, content_of, st
 
 mod body;
 mod heading;
-mod payoffs;
+mod numbers;
 mod strategies;
 
 use crate::limit::ProfileCount;

@@ -6,7 +6,7 @@ ghost use Rattle.gf_token.specs.Cursor.{token_of};
 ghost use Rattle.gf_nfg.specs.Machine.{Steps, at_payoff, at_flat_payoffs, at_after_comment};
 ghost use Rattle.gf_nfg.specs.Machine.{at_after_strategies, at_outcomes, at_outcome_name};
 ghost use Rattle.gf_nfg.specs.Machine.{at_outcome_end, at_braced_payoff, at_after_braced_payoff};
-ghost use Rattle.gf_nfg.specs.Machine.{at_outcome_number, at_outcome_numbers};
+ghost use Rattle.gf_nfg.specs.Machine.{at_outcome_number, at_outcome_numbers, chosen};
 ghost use Rattle.gf_nfg.specs.ReaderState.{state_of};
 
 use super::Reader;
@@ -159,6 +159,24 @@ impl<'a> Reader<'a> {
         }
     }
 
+    /// Takes the number of an outcome; `None` where bytes spelled no index.
+    #[inline(always)]
+    pub(super) fn choose(&mut self, number: Option<u32>) -> Result<(), Why>
+        requires { 0 < self.old.due }
+        ensures { Steps (chosen (state_of self.old) number) result (state_of self.new) }
+    {
+        match number {
+            Some(number) if number <= self.outcomes => {
+                self.choices.push(number)?;
+                self.due -= 1;
+                self.position = Position::OutcomeNumbers;
+                Ok(())
+            }
+            Some(_) => Err(Why::UnknownOutcome),
+            None => Err(Why::BadIndex),
+        }
+    }
+
     /// Takes the number of an outcome.
     fn at_outcome_number(&mut self, kind: Kind<'a>) -> Result<(), Why>
         requires { 0 < self.old.due }
@@ -166,16 +184,7 @@ impl<'a> Reader<'a> {
             (state_of self.new) }
     {
         match kind {
-            Kind::Bare(text) => match readings::outcome_number(text) {
-                Some(number) if number <= self.outcomes => {
-                    self.choices.push(number)?;
-                    self.due -= 1;
-                    self.position = Position::OutcomeNumbers;
-                    Ok(())
-                }
-                Some(_) => Err(Why::UnknownOutcome),
-                None => Err(Why::BadIndex),
-            },
+            Kind::Bare(text) => self.choose(readings::outcome_number(text)),
             _ => Err(Why::Expected(What::Index)),
         }
     }

@@ -39,10 +39,10 @@ loop-reader-preserved c =
     let led : Led all (lexeme_of c.in-Some.token ∷ c.next.new.self) s =
     subst (λ (ls : List Lexeme). Led all ls s) (rw c.in-Some.is at c.in_ok-token.ensures)
     c.loop-reader.invariant in
-    led_on all c.next.new.self c.take_payoffs.new.cursor (state_of c.take.new.self)
-    (state_of c.take_payoffs.new.self)
+    led_on all c.next.new.self c.take_numbers.new.cursor (state_of c.take.new.self)
+    (state_of c.take_numbers.new.self)
     (led_more all c.next.new.self (lexeme_of c.in-Some.token) s (state_of c.take.new.self) led
-    c.in_default-take.ensures) c.in_ok-take_payoffs.ensures.walks
+    c.in_default-take.ensures) c.in_ok-take_numbers.ensures.walks
 
 pub returns-in-Err-clause-judged : goal.returns-in-Err-clause-judged
 returns-in-Err-clause-judged c =
@@ -114,32 +114,32 @@ returns-in-Err-finish-clause-only c = λ t.
     (judged_end c.args.input.now all s c.in-Err-finish.why c.new-cursor.ensures led
     c.loop-reader.reader.profiles.within (sym c.in-Err-finish.ensures)))
 
-pub returns-in_err-take_payoffs-clause-judged : goal.returns-in_err-take_payoffs-clause-judged
-returns-in_err-take_payoffs-clause-judged c =
+pub returns-in_err-take_numbers-clause-judged : goal.returns-in_err-take_numbers-clause-judged
+returns-in_err-take_numbers-clause-judged c =
     let all = c.new-cursor.result in
     let s = state_of c.loop-reader.reader in
     let after = state_of c.take.new.self in
-    let fault = c.in_err-take_payoffs.field-0.0 in
+    let fault = c.in_err-take_numbers.field-0.0 in
     let led : Led all (lexeme_of c.in-Some.token ∷ c.next.new.self) s =
     subst (λ (ls : List Lexeme). Led all ls s) (rw c.in-Some.is at c.in_ok-token.ensures)
     c.loop-reader.invariant in
-    answer_refused c.from_residual-in_err-take_payoffs.result fault c.args.input.now
-    c.from_residual-in_err-take_payoffs.ensures.1
+    answer_refused c.from_residual-in_err-take_numbers.result fault c.args.input.now
+    c.from_residual-in_err-take_numbers.ensures.1
     (refused_judged c.args.input.now all c.next.new.self after fault c.new-cursor.ensures
     (led_more all c.next.new.self (lexeme_of c.in-Some.token) s after led c.in_default-take.ensures)
-    c.in_err-take_payoffs.ensures.refused)
+    c.in_err-take_numbers.ensures.refused)
 
-pub returns-in_err-take_payoffs-clause-only : goal.returns-in_err-take_payoffs-clause-only
-returns-in_err-take_payoffs-clause-only c = λ t.
+pub returns-in_err-take_numbers-clause-only : goal.returns-in_err-take_numbers-clause-only
+returns-in_err-take_numbers-clause-only c = λ t.
     let all = c.new-cursor.result in
     let s = state_of c.loop-reader.reader in
     let after = state_of c.take.new.self in
-    let fault = c.in_err-take_payoffs.field-0.0 in
+    let fault = c.in_err-take_numbers.field-0.0 in
     let led : Led all (lexeme_of c.in-Some.token ∷ c.next.new.self) s =
     subst (λ (ls : List Lexeme). Led all ls s) (rw c.in-Some.is at c.in_ok-token.ensures)
     c.loop-reader.invariant in
-    refused_only c.from_residual-in_err-take_payoffs.result fault c.args.input.now t
-    c.from_residual-in_err-take_payoffs.ensures.1
+    refused_only c.from_residual-in_err-take_numbers.result fault c.args.input.now t
+    c.from_residual-in_err-take_numbers.ensures.1
     (refused_judged c.args.input.now all c.next.new.self after fault c.new-cursor.ensures
     (led_more all c.next.new.self (lexeme_of c.in-Some.token) s after led c.in_default-take.ensures)
-    c.in_err-take_payoffs.ensures.refused)
+    c.in_err-take_numbers.ensures.refused)
