@@ -1,6 +1,7 @@
 pub mod CanonicalGames
 pub mod CanonicalNumbers
 pub mod Compared
+pub mod ComparedTrees
 pub mod EitherFormat
 pub mod FileOf
 pub mod Files
@@ -19,6 +20,7 @@ pub mod SameGames
 pub mod Spellables
 pub mod TextPieces
 pub mod TextsCompared
+pub mod ToldFiles
 pub mod ToldTexts
 pub mod Unnamed
 pub mod WalkedNodes

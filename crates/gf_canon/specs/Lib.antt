@@ -1,4 +1,5 @@
 pub mod CanonicalGame
+pub mod ComparedTrees
 pub mod FileFormat
 pub mod FirstDescribed
 pub mod FormatWord
@@ -15,4 +16,5 @@ pub mod SameBy
 pub mod SameGame
 pub mod Sameness
 pub mod TextParts
+pub mod ToldFile
 pub mod WorkedGames

@@ -8,6 +8,7 @@ ghost use Rattle.gf_nfg.specs.Table.{Table as table};
 ghost use Rattle.gf_nfg.specs.TableText.{SpellsTable};
 ghost use Rattle.gf_canon.specs.FileFormat.{MeansFileOf};
 ghost use Rattle.gf_canon.specs.Judgement.{IsRefusedWith};
+ghost use Rattle.gf_canon.specs.ToldFile.{IsToldFile};
 
 use crate::format::{Format, format_of};
 use gf_nfg::read_nfg;
@@ -47,6 +48,32 @@ fn check_nfg(alloc: Global, input: &[u8]) -> Result<(), Fault>
     Ok(())
 }
 
+/// The format of a game file, which is read whole: that of a tree, which is told to a receiver, or that
+/// of a table, of which nothing is kept.
+///
+/// Refused as `canonical` refuses it; E19 where memory for the descriptions of sets and outcomes, for
+/// the receiver, or for the table, is refused.
+pub(crate) fn tell_file<'a, R: Receive<'a>>(
+    alloc: Global,
+    input: &'a [u8],
+    to: &mut R,
+) -> Result<Format, Fault>
+    requires untold { R.untold to.old }
+    ensures told { IfOk result (IsToldFile (R.holds to.old) to.new input.entry.now) }
+    ensures refused { IfErr result (IsRefusedWith input.entry.now) }
+{
+    match format_of(input)? {
+        Format::Extensive => match tell_efg(alloc, input, to) {
+            Ok(()) => Ok(Format::Extensive),
+            Err(fault) => Err(fault),
+        },
+        Format::Strategic => match check_nfg(alloc, input) {
+            Ok(()) => Ok(Format::Strategic),
+            Err(fault) => Err(fault),
+        },
+    }
+}
+
 /// The format of a game file, which is read whole: that of a tree, whose nodes are not kept and whose
 /// text is not made, or that of a table.
 ///
@@ -56,14 +83,5 @@ pub fn check(alloc: Global, input: &[u8]) -> Result<Format, Fault>
     ensures format { IfOk result (MeansFileOf input.now) }
     ensures refused { IfErr result (IsRefusedWith input.now) }
 {
-    match format_of(input)? {
-        Format::Extensive => match tell_efg(alloc, input, &mut Unkept) {
-            Ok(()) => Ok(Format::Extensive),
-            Err(fault) => Err(fault),
-        },
-        Format::Strategic => match check_nfg(alloc, input) {
-            Ok(()) => Ok(Format::Strategic),
-            Err(fault) => Err(fault),
-        },
-    }
+    tell_file(alloc, input, &mut Unkept)
 }

@@ -6,14 +6,15 @@ ghost use Rattle.gf_tree.specs.FileNodeOf.{described_outcome, described_set, fil
 ghost use Rattle.gf_tree.specs.FileNodeOf.{outcome_use_of, set_use_of};
 ghost use Rattle.gf_tree.specs.Game.{IsGame};
 ghost use Rattle.gf_tree.specs.Spellable.{IsSpellable};
-ghost use Rattle.gf_tree.specs.Told.{heading_in};
+ghost use Rattle.gf_tree.specs.Told.{heading_in, heading_of};
 ghost use Rattle.gf_canon.specs.NamedBy.{heading_by, name_by, node_by, outcome_by, use_by, set_by};
 
 use crate::sameness::Names;
 use gf_fraction::Fraction;
 use gf_token::Label;
 use gf_tree::{
-    FileNode, Game, OutcomeDescription, OutcomeUse, SetDescription, SetUse, same_actions,
+    FileNode, Game, OutcomeDescription, OutcomeUse, SetDescription, SetUse, ToldHeading,
+    same_actions,
 };
 
 /// Whether two names are the same, as far as names count.
@@ -123,14 +124,15 @@ pub(crate) fn same_node(a: &FileNode<'_, '_>, b: &FileNode<'_, '_>, names: Names
         && same_outcome_use(a.outcome, b.outcome, names)
 }
 
-/// Whether all that stands before the nodes is the same. The other clauses hold of each game.
-pub(crate) fn same_heading(g: &Game<'_>, h: &Game<'_>, names: Names) -> bool
+/// Whether all that stands before the nodes of a game is the same as what was told. The other clauses
+/// hold of each game.
+pub(crate) fn same_heading(g: &Game<'_>, told: &ToldHeading<'_, '_>, names: Names) -> bool
     ensures same { IsTrue result
-        ↔ (heading_by names (heading_in g.now) ≡ heading_by names (heading_in h.now)) }
-    ensures games { IsGame g.now × IsGame h.now }
-    ensures spellable { IsSpellable g.now × IsSpellable h.now }
+        ↔ (heading_by names (heading_in g.now) ≡ heading_by names (heading_of told.now)) }
+    ensures game { IsGame g.now }
+    ensures spellable { IsSpellable g.now }
 {
-    same_labels(g.players(), h.players())
-        && same_name(g.title(), h.title(), names)
-        && same_name(g.comment(), h.comment(), names)
+    same_labels(g.players(), told.players)
+        && same_name(g.title(), told.title, names)
+        && same_name(g.comment(), told.comment, names)
 }

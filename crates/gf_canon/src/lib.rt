@@ -7,6 +7,7 @@ mod canonise;
 mod carry;
 mod checking;
 mod compare;
+mod comparison;
 mod format;
 pub mod laws;
 mod lines;

@@ -1,18 +1,24 @@
 //! Whether two files mean the same.
 
 ghost use Rattle.std.specs.Prelude.{◌≡◌, ◌↔◌, ℕ, List, IsTrue, IfErr, IfOk, MatchResult, OnOk};
+ghost use Rattle.gf_tree.specs.Game.{IsGame};
+ghost use Rattle.gf_tree.specs.Spellable.{IsSpellable};
 ghost use Rattle.gf_canon.specs.GameFile.{GameFile, SameFile};
-ghost use Rattle.gf_canon.specs.GameFile.GameFile.{strategic};
-ghost use Rattle.gf_canon.specs.Judgement.{IsCanonicalText, MeansFile, SpellsWithin};
+ghost use Rattle.gf_canon.specs.GameFile.GameFile.{extensive, strategic};
+ghost use Rattle.gf_canon.specs.Judgement.{IsCanonicalText, IsRefusedWith, MeansFile, SpellsWithin};
 ghost use Rattle.gf_canon.specs.MeaningOf.{file_of};
 ghost use Rattle.gf_canon.specs.SameBy.{SameBy};
 ghost use Rattle.gf_canon.specs.Sameness.{AreRefusedWith, WantsMemory};
 
+use crate::checking::tell_file;
 use crate::compare::same_name;
+use crate::comparison::Comparison;
+use crate::format::Format;
 use crate::meaning::{Meaning, read_file};
 use crate::walk::same_games;
 use gf_nfg::Table;
 use gf_token::Fault;
+use gf_tree::Game;
 use std::alloc::{AllocError, Global};
 
 /// Why two files are not compared.
@@ -67,6 +73,22 @@ pub fn same_meaning(
     }
 }
 
+/// Whether a file means the same as a game, with which a tree is compared while it is read.
+fn same_as_tree(alloc: Global, g: &Game<'_>, b: &[u8], names: Names) -> Result<bool, Fault>
+    requires game { IsGame g.now }
+    requires spellable { IsSpellable g.now }
+    ensures same { IfOk result (λ answer. (y : GameFile) × SpellsWithin b.now y
+        × (IsTrue answer ↔ SameBy names (extensive g.now) y)) }
+    ensures refused { IfErr result (IsRefusedWith b.now) }
+{
+    let mut comparison = Comparison::new(g, names);
+    match tell_file(alloc, b, &mut comparison) {
+        Ok(Format::Extensive) => Ok(comparison.is_same()),
+        Ok(Format::Strategic) => Ok(false),
+        Err(fault) => Err(fault),
+    }
+}
+
 /// Whether two files mean the same, with their names or without (this project's profile): two trees
 /// where some renumbering of information sets, player by player, and of outcomes carries the one to
 /// the other; two tables where the labels that count and the payoffs at each profile agree; and
@@ -87,6 +109,12 @@ pub fn same_by(alloc: Global, a: &[u8], b: &[u8], names: Names) -> Result<bool, 
         Ok(first) => first,
         Err(fault) => return Err(SameFault::First(fault)),
     };
+    if let Meaning::Tree(g) = &first {
+        return match same_as_tree(alloc, g, b, names) {
+            Ok(answer) => Ok(answer),
+            Err(fault) => Err(SameFault::Second(fault)),
+        };
+    }
     let second = match read_file(alloc, b) {
         Ok(second) => second,
         Err(fault) => return Err(SameFault::Second(fault)),

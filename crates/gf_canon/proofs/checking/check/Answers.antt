@@ -1,37 +1,7 @@
-use Rattle.std.proofs.Common.{refl, subst}
-use Rattle.gf_canon.specs.FormatWord.{word_of}
-use Rattle.gf_canon.specs.GameFile.GameFile.{extensive, strategic}
-use Rattle.gf_canon.specs.Judgement.{BeginsWithWord, IsRefusedWith}
-use Rattle.gf_canon.specs.declared.format.Format.{Format}
-use Rattle.gf_canon.proofs.FilesJudged.{refused_with}
-use Rattle.gf_canon.proofs.RefusedFiles.{refused_at_first, refused_game, refused_table}
+use Rattle.std.specs.Prelude.{⊤}
+use Rattle.gf_canon.proofs.ToldFiles.{told_format}
 use Rattle.gf_canon.proofs.checking.check.Goals as goal
 
-pub returns-in_err-format_of-clause-refused : goal.returns-in_err-format_of-clause-refused
-returns-in_err-format_of-clause-refused c =
-    refused_with (IsRefusedWith c.args.input.now) c.from_residual.result
-    c.in_err-format_of.field-0.0 c.from_residual.ensures.1
-    (refused_at_first c.args.input.now c.in_err-format_of.field-0.0
-    c.in_err-format_of.ensures.refused)
-
-pub returns-in-Ok-clause-format : goal.returns-in-Ok-clause-format
-returns-in-Ok-clause-format c = let g = c.in-Ok.ensures.told in
-    (extensive g.0, record { spelled = g.1; within = tt }, refl)
-
-pub returns-in-Err-clause-refused : goal.returns-in-Err-clause-refused
-returns-in-Err-clause-refused c =
-    refused_game c.args.input.now c.in-Err.fault
-    (subst (λ (f : Format). BeginsWithWord (word_of f) c.args.input.now) c.in-Extensive.is
-    c.in_ok-format_of.ensures.named)
-    c.in-Err.ensures.judged c.in-Err.ensures.only
-
-pub returns-in-Ok-check_nfg-clause-format : goal.returns-in-Ok-check_nfg-clause-format
-returns-in-Ok-check_nfg-clause-format c = let t = c.in-Ok-check_nfg.ensures.spelled in
-    (strategic t.0, record { spelled = t.1; within = t.2 }, refl)
-
-pub returns-in-Err-check_nfg-clause-refused : goal.returns-in-Err-check_nfg-clause-refused
-returns-in-Err-check_nfg-clause-refused c =
-    refused_table c.args.input.now c.in-Err-check_nfg.fault
-    (subst (λ (f : Format). BeginsWithWord (word_of f) c.args.input.now) c.in-Strategic.is
-    c.in_ok-format_of.ensures.named)
-    c.in-Err-check_nfg.ensures.judged c.in-Err-check_nfg.ensures.only
+pub returns-clause-format : goal.returns-clause-format
+returns-clause-format c = told_format (λ _ _ _. ⊤) c.tell_file.new.to c.args.input.now
+    c.tell_file.result c.tell_file.ensures.told

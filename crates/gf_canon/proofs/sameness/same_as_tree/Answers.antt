@@ -1,0 +1,23 @@
+use Rattle.gf_canon.specs.GameFile.GameFile.{extensive, strategic}
+use Rattle.gf_canon.proofs.ComparedTrees.{no_table, same_as_told}
+use Rattle.gf_canon.proofs.sameness.same_as_tree.Goals as goal
+
+pub returns-in-Ok-Extensive-clause-same : goal.returns-in-Ok-Extensive-clause-same
+returns-in-Ok-Extensive-clause-same c =
+    let t = rw c.in-Ok-Extensive.field-0-is at c.in-Ok-Extensive.ensures.told in
+    let new = c.new-comparison in (
+      extensive t.0,
+      record { spelled = t.1; within = tt },
+      same_as_told c.args.names c.args.g.now t.0 c.args.b.now c.requires.game c.requires.spellable
+          t.1 c.tell_file.new.to.same c.is_same.result c.tell_file.new.to.left t.2.told
+          new.result.names new.result.game.now new.ensures.names new.ensures.game t.2.holding.1
+          t.2.nodes c.is_same.ensures,
+    )
+
+pub returns-in-Ok-Strategic-clause-same : goal.returns-in-Ok-Strategic-clause-same
+returns-in-Ok-Strategic-clause-same c =
+    let t = rw c.in-Ok-Strategic.field-0-is at c.in-Ok-Strategic.ensures.told in (
+      strategic t.0,
+      record { spelled = t.1; within = t.2 },
+      no_table c.args.names c.args.g.now t.0,
+    )

@@ -1,0 +1,17 @@
+-- What is told of a file of either format.
+use Rattle.std.specs.Prelude.{ℕ, List}
+use Rattle.gf_nfg.specs.LimitPlace.{IsWithinLimit}
+use Rattle.gf_nfg.specs.Table.{Table}
+use Rattle.gf_nfg.specs.TableText.{SpellsTable}
+use Rattle.gf_tree.specs.Game.{Game}
+use Rattle.gf_tree.specs.GameOf.{SpellsGame}
+use Rattle.gf_tree.specs.Told.{Heading, Told}
+use Rattle.gf_tree.specs.ToldGame.{HasToldGame}
+use Rattle.gf_canon.specs.declared.format.Format.{Format}
+use Rattle.gf_canon.specs.declared.format.Format.TheVariants.{Extensive, Strategic}
+
+-- of a tree a receiver was told, and of a table nothing
+abbrev pub IsToldFile : {T : Type 0} → (T → Heading → List Told → Type 0) → T → List ℕ → Format
+    → Type 0
+IsToldFile holds to bytes Extensive = (g : Game) × SpellsGame bytes g × HasToldGame holds to g
+IsToldFile holds to bytes Strategic = (t : Table) × SpellsTable bytes t × IsWithinLimit t
