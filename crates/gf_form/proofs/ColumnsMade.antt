@@ -1,20 +1,20 @@
 -- The sums of a player's terms at all profiles are his values there.
-use Rattle.std.proofs.Common.{◌≡◌, ℕ, suc, ◌+◌, ◌<◌, ◌≤◌, ◌^◌, ℤ, pos, ◌+ℤ◌, List, [], ◌∷◌, Bool, true, false, negsuc}
+use Rattle.std.proofs.Common.{◌≡◌, ℕ, suc, ◌+◌, ◌<◌, ◌≤◌, ◌^◌, ℤ, pos, List, [], ◌∷◌}
 use Rattle.std.proofs.Common.{sym, ap, ◌∙◌, ◌++◌, arith, get_or, length, map, subst, Vec, Global, Some, inl, inr, to_z, of_z}
-use borrow.Author.Differences.{up, down, sum_is_lem}
-use Rattle.std.specs.Prelude.{unsigned_abs, if◌then◌else◌, ◌⊎◌}
+use borrow.Author.Differences.{up}
+use Rattle.std.specs.Prelude.{unsigned_abs, ◌⊎◌}
 use Rattle.std.specs.Int.{◌∣◌}
 use Rattle.std.specs.List.{AllByRecursion, Contains}
 use Rattle.std.specs.List.Sorted.{IsPermutation}
 use Rattle.std.proofs.Math.Nat.{eq-or-lt_of_le, one-dvd}
 use Rattle.std.proofs.Math.Seq.{get_or-append_seam}
-use Rattle.std.proofs.Math.IntN.{+ℤ_idl}
 use Rattle.std.proofs.lemmas.List.Elements.{All-from_recursion, recursion_from_All}
 use Rattle.std.proofs.lemmas.List.Sorted.{All-permutation, Contains-permutation}
 use Rattle.gf_form.specs.SumsAtAll.{sums_at_all}
 use Rattle.gf_form.specs.KeptNodes.{AreKept, PaysNobody}
 use Rattle.gf_form.specs.OwnTerms.{AreOver, AreOwn, IsOver}
-use Rattle.gf_form.specs.Shares.{IsExact, scale}
+use Rattle.gf_form.specs.LargeNodes.{AreCountsMet, count_met}
+use Rattle.gf_form.specs.Shares.{FitsAt, IsExactIfMet, scale, sum_of_shares}
 use Rattle.gf_form.proofs.OrderedShares.{bounds_permuted, shares_permuted}
 use Rattle.gf_form.proofs.StrategiesByNumber.{all_at}
 use Rattle.std.proofs.lemmas.List.{get_or-map, get_or_append_left, length-append, length-map}
@@ -24,96 +24,34 @@ use Rattle.std.specs.Int.{w128}
 use Rattle.gf_fraction.specs.Ratio.{HasValue, IsFraction, IsWithin, Ratio}
 use Rattle.gf_tree.specs.Game.{Game, IsGame}
 use Rattle.gf_tree.specs.Spellable.{IsSpellable}
-use Rattle.gf_form.specs.PlayerColumns.{AreColumns, AreValuesSoFar, IsColumn, IsRowOfValues}
-use Rattle.gf_form.specs.PlayerColumns.{IsValueOver}
+use Rattle.gf_form.specs.PlayerColumns.{AreColumns, AreValuesSoFar, HasNone, IsColumn}
+use Rattle.gf_form.specs.PlayerColumns.{IsRowOfValues, IsValueOver}
 use Rattle.gf_form.specs.Refusal.{HasValues}
 use Rattle.gf_form.specs.StrategicForm.{ArePayoffsAt}
 use Rattle.gf_form.proofs.PayoffsGiven.{are_payoffs, have_values}
 use Rattle.gf_fraction.specs.Rational.{zero_ratio}
-use Rattle.gf_fraction.proofs.AllElements.{all_both}
+use Rattle.gf_fraction.proofs.AllElements.{all_both, all_parts}
 use Rattle.gf_fraction.proofs.LowestTerms.{one_fraction}
 use Rattle.gf_form.specs.Rows.{at_place}
 use Rattle.gf_form.specs.Values.{value}
 use Rattle.gf_form.specs.declared.columns.Columns.{Columns}
-use Rattle.gf_form.specs.Demands.{meets, steps_of}
+use Rattle.gf_form.specs.Demands.{steps_of}
 use Rattle.gf_form.specs.GameDigits.{HasDigits, digit_actions}
 use Rattle.gf_form.specs.ReachedNodes.{reached, root_path}
-use Rattle.gf_form.specs.Shares.{Fits, sum_of_shares}
 use Rattle.gf_form.specs.Strategies.{all_choices, choices_by, full_profiles, strategies_at}
 use Rattle.gf_form.specs.Sums.{size_of_terms, sum_met}
+use Rattle.gf_form.specs.declared.digits.Digit.{Digit}
 use Rattle.gf_form.specs.declared.digits.Digits.{Digits}
 use Rattle.gf_form.specs.declared.paths.Reached.{Reached}
 use Rattle.gf_form.specs.declared.terms.Term.{Term}
 use Rattle.gf_form.proofs.Choices.{length-all_choices}
 use Rattle.gf_form.proofs.ReachedValues.{reached_value}
-use Rattle.gf_form.proofs.ShareSums.{fits_at}
-
-size_of_sum : (a s t : ℤ) → up t + down a + down s ≡ up a + up s + down t
-    → unsigned_abs t ≤ unsigned_abs a + unsigned_abs s
-size_of_sum (pos a) (pos s) (pos t) h = omega (arith, h)
-size_of_sum (pos a) (pos s) (negsuc t) h = omega (arith, h)
-size_of_sum (pos a) (negsuc s) (pos t) h = omega (arith, h)
-size_of_sum (pos a) (negsuc s) (negsuc t) h = omega (arith, h)
-size_of_sum (negsuc a) (pos s) (pos t) h = omega (arith, h)
-size_of_sum (negsuc a) (pos s) (negsuc t) h = omega (arith, h)
-size_of_sum (negsuc a) (negsuc s) (pos t) h = omega (arith, h)
-size_of_sum (negsuc a) (negsuc s) (negsuc t) h = omega (arith, h)
-
-added : (b : Bool) (a s : ℤ) (n : ℕ) → unsigned_abs s ≤ n
-    → unsigned_abs ((if b then a else pos 0) +ℤ s) ≤ unsigned_abs a + n
-added true a s n h =
-    let sum : up (a +ℤ s) + down a + down s ≡ up a + up s + down (a +ℤ s) =
-    omega (arith, sum_is_lem a s) in
-    omega (arith, h, size_of_sum a s (a +ℤ s) sum)
-added false a s n h =
-    omega (arith, h, ap unsigned_abs (+ℤ_idl s))
-
-sum_within : (steps choices : List ℕ) (terms : List Term)
-    → unsigned_abs (sum_met steps choices terms) ≤ size_of_terms terms
-sum_within steps choices [] = omega arith
-sum_within steps choices (t ∷ ts) =
-    added (meets steps choices t.demands) t.amount (sum_met steps choices ts) (size_of_terms ts)
-    (sum_within steps choices ts)
+use Rattle.gf_form.proofs.LargeNodes.{small_fit, small_sum}
+use Rattle.gf_form.proofs.SumsWithin.{sum_within}
 
 -- the nodes that choices can reach in the game
 abbrev pub all_reached : Game → Digits → List Reached
 all_reached g d = reached g (choices_by g (map (λ own. own.items) d.steps.items)) root_path g.tree
-
-pub column_made : (g : Game) → IsGame g → IsSpellable g → (d : Digits) → HasDigits g d
-    → (place den : ℕ) → Fits g (suc place) den (all_reached g d) → (terms : List Term)
-    → size_of_terms terms < 2 ^ 127
-    → ((choices : List ℕ) → sum_met (steps_of (digit_actions d)) choices terms
-    ≡ sum_of_shares g (suc place) den (steps_of (digit_actions d)) choices (all_reached g d))
-    → (column : List ℤ)
-    → column ≡ map (λ choices. sum_met (steps_of (digit_actions d)) choices terms)
-    (all_choices (digit_actions d))
-    → IsColumn g (suc place) den column
-column_made g game spellable d digits place den fits terms small sums column is =
-    let steps = steps_of (digit_actions d) in
-    let all = all_choices (digit_actions d) in
-    let many : length all ≡ length (full_profiles g) =
-    length-all_choices (digit_actions d) ∙ digits.as_many in
-    record {
-      one_each = ap length is ∙ length-map all (λ choices. sum_met steps choices terms) ∙ many;
-      values = λ q less.
-          let choices = get_or all q [] in
-          let whole : get_or column q (pos 0) ≡ sum_met steps choices terms =
-          ap (λ (c : List ℤ). get_or c q (pos 0)) is
-          ∙ get_or-map (λ choices. sum_met steps choices terms) all q [] (pos 0)
-          (omega (arith, less, many)) in
-          let v = reached_value g game spellable
-          (choices_by g (map (λ own. own.items) d.steps.items))
-          (choices_by g (strategies_at g (get_or (full_profiles g) q []))) (digit_actions d) choices
-          (digits.choices q less) (suc place) den
-          (fits_at g (suc place) den steps choices (all_reached g d) fits) in
-          record {
-            within = omega (arith, ap unsigned_abs whole, sum_within steps choices terms, small);
-            payoff = v.0;
-            fraction = v.2;
-            is_value = v.1;
-            over = subst (λ (z : ℤ). HasValue v.0 z den) (sym (whole ∙ sums choices)) v.3;
-          };
-    }
 
 -- ---- the nodes that pay nobody may be left out, and the others stand in any order
 
@@ -122,68 +60,125 @@ at_once : {A : Type 0} (P : A → Type 0) (xs : List A) (x : A) → AllByRecursi
 at_once P xs x h in_xs =
     subst P in_xs.2 (all_at P xs in_xs.0 x h in_xs.1)
 
-module _ (g : Game) (k den : ℕ) (kept sorted : List Reached) (order : IsPermutation kept sorted)
-    (exact : AllByRecursion (IsExact g (suc k) den) sorted) where
+module _ (g : Game) (k den : ℕ) (steps choices : List ℕ) (kept sorted : List Reached)
+    (order : IsPermutation kept sorted)
+    (exact : AllByRecursion (IsExactIfMet g (suc k) den steps choices) sorted) where
   pub all_exact : (all : List Reached) → AllByRecursion (λ (r : Reached). r.path.den ∣ den) all
       → AllByRecursion (λ (r : Reached). Contains kept r ⊎ PaysNobody g r) all
-      → AllByRecursion (IsExact g (suc k) den) all
+      → AllByRecursion (IsExactIfMet g (suc k) den steps choices) all
   all_exact [] divides others = tt
   all_exact (r ∷ rs) divides others =
       (one others.0, all_exact rs divides.1 others.1)
     where
-      one : Contains kept r ⊎ PaysNobody g r → IsExact g (suc k) den r
+      one : Contains kept r ⊎ PaysNobody g r → IsExactIfMet g (suc k) den steps choices r
       one (inl h) =
-          at_once (IsExact g (suc k) den) sorted r exact (Contains-permutation kept sorted r order h)
-      one (inr h) = record {
+          at_once (IsExactIfMet g (suc k) den steps choices) sorted r exact
+          (Contains-permutation kept sorted r order h)
+      one (inr h) = λ met. record {
         path = divides.0;
         pay = subst (λ (p : Ratio). p.den ∣ scale den r) (sym (h k)) (one-dvd (scale den r));
       }
 
-pub kept_fits : (g : Game) (k den : ℕ) (all kept sorted : List Reached) → AreKept g den all kept
-    → IsPermutation kept sorted → Fits g (suc k) den sorted → Fits g (suc k) den all
-kept_fits g k den all kept sorted are order fits = record {
+kept_fits : (g : Game) (k den : ℕ) (steps choices : List ℕ) (all kept sorted : List Reached)
+    → AreKept g den all kept → IsPermutation kept sorted
+    → FitsAt g (suc k) den steps choices sorted → FitsAt g (suc k) den steps choices all
+kept_fits g k den steps choices all kept sorted are order fits = record {
   den_above_zero = fits.den_above_zero;
   den_within = fits.den_within;
-  exact = all_exact g k den kept sorted order fits.exact all are.divides are.others;
+  exact = all_exact g k den steps choices kept sorted order fits.exact all are.divides are.others;
   within = subst (λ (n : ℕ). n < 2 ^ 127)
-      (bounds_permuted g (suc k) den kept sorted order ∙ are.bounds k) fits.within;
+      (bounds_permuted g (suc k) den steps choices kept sorted order
+      ∙ are.bounds k steps choices) fits.within;
 }
 
-pub kept_sum : (g : Game) (k den : ℕ) (steps choices : List ℕ) (all kept sorted : List Reached)
+kept_sum : (g : Game) (k den : ℕ) (steps choices : List ℕ) (all kept sorted : List Reached)
     → AreKept g den all kept → IsPermutation kept sorted
     → sum_of_shares g (suc k) den steps choices sorted
     ≡ sum_of_shares g (suc k) den steps choices all
 kept_sum g k den steps choices all kept sorted are order =
     shares_permuted g (suc k) den steps choices kept sorted order ∙ are.sums k steps choices
 
-pub sorted_over : (den : ℕ) (kept sorted : List Reached) → IsPermutation kept sorted
+pub permuted_over : (den : ℕ) (kept sorted : List Reached) → IsPermutation kept sorted
     → AreOver den kept → AreOver den sorted
-sorted_over den kept sorted order h =
+permuted_over den kept sorted order h =
     recursion_from_All (λ (r : Reached). IsOver den r.path) sorted
     (All-permutation (λ (r : Reached). IsOver den r.path) kept sorted order
     (All-from_recursion (λ (r : Reached). IsOver den r.path) kept h))
 
+pub first_over : (den : ℕ) (small large : List Reached) → AreOver den (small ++ large)
+    → AreOver den small
+first_over den small large h = (all_parts (λ (r : Reached). IsOver den r.path) small large h).0
+
+-- as the code counts them
+pub counts_met : (d : Digits) (digits : List Digit) (nodes large : List Reached) (counts : List ℤ)
+    → digits ≡ d.digits.items → nodes ≡ large
+    → AreCountsMet (map (λ digit. digit.actions) digits) nodes counts
+    → AreCountsMet (digit_actions d) large counts
+counts_met d digits nodes large counts same all h =
+    subst (λ (rs : List Reached). AreCountsMet (digit_actions d) rs counts) all
+    (subst (λ (ds : List Digit). AreCountsMet (map (λ digit. digit.actions) ds) nodes counts) same h)
+
+pub large_within : (g : Game) (d : Digits) → HasDigits g d → (large : List Reached)
+    (counts : List ℤ) → AreCountsMet (digit_actions d) large counts
+    → (profile : ℕ) → profile < length (full_profiles g) → IsWithin (get_or counts profile (pos 0))
+large_within g d digits large counts met profile less =
+    met.within profile
+    (omega (arith, less, length-all_choices (digit_actions d), digits.as_many))
+
+no_count : {z : ℤ} {n : ℕ} → z ≡ pos n → z ≡ pos 0 → n ≡ 0
+no_count is none = omega (arith, ap up (sym is ∙ none))
+
 pub column_right : (g : Game) → IsGame g → IsSpellable g → (d : Digits) → HasDigits g d
-    → (place den : ℕ) (kept sorted : List Reached) → AreKept g den (all_reached g d) kept
-    → IsPermutation kept sorted → (terms : List Term) → AreOwn g (suc place) den sorted terms
-    → size_of_terms terms < 2 ^ 127 → (column : List ℤ)
-    → column ≡ sums_at_all (digit_actions d) terms → IsColumn g (suc place) den column
-column_right g game spellable d digits place den kept sorted are order terms own small column is =
-    column_made g game spellable d digits place den
-    (kept_fits g place den (all_reached g d) kept sorted are order own.fits) terms small
-    (λ choices. own.sums (steps_of (digit_actions d)) choices
-    ∙ kept_sum g place den (steps_of (digit_actions d)) choices (all_reached g d) kept sorted are
-    order) column is
+    → (place den : ℕ) (kept small large : List Reached) → AreKept g den (all_reached g d) kept
+    → IsPermutation kept (small ++ large) → (counts : List ℤ)
+    → AreCountsMet (digit_actions d) large counts → (terms : List Term)
+    → AreOwn g (suc place) den small terms → size_of_terms terms < 2 ^ 127 → (column : List ℤ)
+    → column ≡ sums_at_all (digit_actions d) terms → IsColumn g counts (suc place) den column
+column_right g game spellable d digits place den kept small large are order counts met terms own
+    size column is =
+    let steps = steps_of (digit_actions d) in
+    let all = all_choices (digit_actions d) in
+    let many : length all ≡ length (full_profiles g) =
+    length-all_choices (digit_actions d) ∙ digits.as_many in
+    record {
+      one_each = ap length is ∙ length-map all (λ choices. sum_met steps choices terms) ∙ many;
+      values = λ q less none.
+          let choices = get_or all q [] in
+          let there : q < length all = omega (arith, less, many) in
+          let unmet : count_met steps choices large ≡ 0 = no_count (met.counted q there) none in
+          let whole : get_or column q (pos 0) ≡ sum_met steps choices terms =
+          ap (λ (c : List ℤ). get_or c q (pos 0)) is
+          ∙ get_or-map (λ choices. sum_met steps choices terms) all q [] (pos 0) there in
+          let sums : sum_met steps choices terms
+          ≡ sum_of_shares g (suc place) den steps choices (all_reached g d) =
+          own.sums steps choices
+          ∙ sym (small_sum g (suc place) den steps choices small large unmet)
+          ∙ kept_sum g place den steps choices (all_reached g d) kept (small ++ large) are order in
+          let v = reached_value g game spellable
+          (choices_by g (map (λ own. own.items) d.steps.items))
+          (choices_by g (strategies_at g (get_or (full_profiles g) q []))) (digit_actions d) choices
+          (digits.choices q less) (suc place) den
+          (kept_fits g place den steps choices (all_reached g d) kept (small ++ large) are order
+          (small_fit g (suc place) den steps choices small large unmet own.fits)) in
+          record {
+            within = omega (arith, ap unsigned_abs whole, sum_within steps choices terms, size);
+            payoff = v.0;
+            fraction = v.2;
+            is_value = v.1;
+            over = subst (λ (z : ℤ). HasValue v.0 z den) (sym (whole ∙ sums)) v.3;
+          };
+    }
 
 -- one player's column more
-pub one_column_more : (g : Game) (den place : ℕ) (columns next : List (Vec ℤ Global))
+pub one_column_more : (g : Game) (large : List ℤ) (den place : ℕ)
+    (columns next : List (Vec ℤ Global))
     (column : Vec ℤ Global) → next ≡ columns ++ column ∷ []
     → (length columns ≡ place) × ((k : ℕ) → k < place
-    → IsColumn g (suc k) den (get_or (map (λ c. c.items) columns) k []))
-    → IsColumn g (suc place) den column.items
+    → IsColumn g large (suc k) den (get_or (map (λ c. c.items) columns) k []))
+    → IsColumn g large (suc place) den column.items
     → (length next ≡ place + 1) × ((k : ℕ) → k < place + 1
-    → IsColumn g (suc k) den (get_or (map (λ c. c.items) next) k []))
-one_column_more g den place columns next column is so_far new = (
+    → IsColumn g large (suc k) den (get_or (map (λ c. c.items) next) k []))
+one_column_more g large den place columns next column is so_far new = (
   ap length is ∙ length-append columns (column ∷ []) ∙ omega (arith, so_far.0),
   λ k less. by k (eq-or-lt_of_le (le-of-less k less)),
 )
@@ -201,15 +196,15 @@ one_column_more g den place columns next column is so_far new = (
     count = length-map columns (λ (c : Vec ℤ Global). c.items) ∙ so_far.0
 
     by : (k : ℕ) → (k ≡ place) ⊎ (k < place)
-        → IsColumn g (suc k) den (get_or (lists next) k [])
+        → IsColumn g large (suc k) den (get_or (lists next) k [])
     by k (inr h) =
-        subst (IsColumn g (suc k) den)
+        subst (IsColumn g large (suc k) den)
         (sym (ap (λ (ls : List (List ℤ)). get_or ls k []) joined
         ∙ get_or_append_left (lists columns) (column.items ∷ []) [] k (omega (arith, h, count))))
         (so_far.1 k h)
     by k (inl h) =
-        subst (λ (n : ℕ). IsColumn g (suc n) den (get_or (lists next) n [])) (sym h)
-        (subst (IsColumn g (suc place) den)
+        subst (λ (n : ℕ). IsColumn g large (suc n) den (get_or (lists next) n [])) (sym h)
+        (subst (IsColumn g large (suc place) den)
         (sym (ap (λ (ls : List (List ℤ)). get_or ls place []) joined
         ∙ ap (λ (n : ℕ). get_or (lists columns ++ column.items ∷ []) n []) (sym count)
         ∙ get_or-append_seam (lists columns) column.items [] []))
@@ -228,9 +223,9 @@ column_at c i column within is =
 pub is_column : (g : Game) (c : Columns) (i : ℕ) (column : List ℤ) → AreColumns g c
     → i < length c.columns.items
     → column ≡ get_or (map (λ (d : Vec ℤ Global). d.items) c.columns.items) i []
-    → IsColumn g (suc i) c.den column
+    → IsColumn g c.large.items (suc i) c.den column
 is_column g c i column are within is =
-    subst (IsColumn g (suc i) c.den) (sym is) (are.columns i (omega (arith, within, are.one_each)))
+    subst (IsColumn g c.large.items (suc i) c.den) (sym is) (are.columns i (omega (arith, within, are.one_each)))
 
 -- what is read of a column
 pub record Entry (column : List ℤ) (profile : ℕ) (z : ℤ) : Type 0 where
@@ -239,14 +234,14 @@ pub record Entry (column : List ℤ) (profile : ℕ) (z : ℤ) : Type 0 where
   pub back : to_z w128 (of_z w128 z) ≡ z
 
 pub entry : (g : Game) (c : Columns) (profile i : ℕ) (column : Vec ℤ Global) (z : ℤ)
-    → AreColumns g c → profile < length (full_profiles g) → i < length c.columns.items
+    → AreColumns g c → profile < length (full_profiles g) → HasNone c.large.items profile → i < length c.columns.items
     → column ≡ get_or c.columns.items i column → z ≡ get_or column.items profile z
     → Entry column.items profile z
-entry g c profile i column z are less within is there =
+entry g c profile i column z are less none within is there =
     let col = is_column g c i column.items are within (column_at c i column within is) in
     let whole = there ∙ get_or_default column.items profile z (pos 0)
     (omega (arith, less, col.one_each)) in
-    let small : IsWithin z = subst IsWithin (sym whole) (col.values profile less).within in
+    let small : IsWithin z = subst IsWithin (sym whole) (col.values profile less none).within in
     record {
       whole = whole;
       within = small;
@@ -262,12 +257,13 @@ IsValueAt g profile k v =
 -- one player's value more
 pub one_value_more : (g : Game) (c : Columns) (profile i : ℕ) (row next : List Ratio)
     (column : List ℤ) (payoff : Ratio) → AreColumns g c → profile < length (full_profiles g)
+    → HasNone c.large.items profile
     → i < length c.columns.items
     → column ≡ get_or (map (λ (d : Vec ℤ Global). d.items) c.columns.items) i []
     → IsFraction payoff → HasValue payoff (get_or column profile (pos 0)) c.den
     → next ≡ row ++ payoff ∷ [] → AreValuesSoFar g profile i row
     → AreValuesSoFar g profile (i + 1) next
-one_value_more g c profile i row next column payoff are less within is fraction over next_is
+one_value_more g c profile i row next column payoff are less none within is fraction over next_is
     so_far = record {
       one_each = ap length next_is ∙ length-append row (payoff ∷ []) ∙ omega (arith, so_far.one_each);
       fractions = subst (AllByRecursion IsFraction) (sym next_is)
@@ -279,7 +275,7 @@ one_value_more g c profile i row next column payoff are less within is fraction 
     up_to k before = omega (arith, before)
 
     of : IsValueOver g (suc i) c.den profile (get_or column profile (pos 0))
-    of = (is_column g c i column are within is).values profile less
+    of = (is_column g c i column are within is).values profile less none
 
     here : of.payoff ≡ payoff
     here = one_fraction of.payoff payoff (get_or column profile (pos 0)) c.den of.fraction fraction

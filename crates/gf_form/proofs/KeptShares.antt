@@ -17,7 +17,7 @@ use Rattle.gf_form.proofs.WeightedPaths.{AreWeighed, weighed}
 use Rattle.gf_form.specs.KeptNodes.{AreKept, AreThosePaid, PaysNobody, is_paid}
 use Rattle.gf_form.specs.ReachedNodes.{reached, root_path}
 use Rattle.gf_form.specs.Rows.{ArePaid, at_place, row_at}
-use Rattle.gf_form.specs.Shares.{over, pay_at, scale, share, share_bound, sum_of_bounds}
+use Rattle.gf_form.specs.Shares.{met_bounds, over, pay_at, scale, share, share_bound}
 use Rattle.gf_form.specs.Shares.{sum_of_shares}
 use Rattle.gf_form.specs.Strategies.{choices_by}
 use Rattle.gf_form.specs.declared.paths.Reached.{Reached}
@@ -28,6 +28,10 @@ times_zero n = omega arith
 unpaid : (b : Bool) (z : ℤ) → z ≡ pos 0 → (if b then z else pos 0) ≡ pos 0
 unpaid true z nothing = nothing
 unpaid false z nothing = refl
+
+unbound : (b : Bool) (n : ℕ) → n ≡ 0 → (if b then n else 0) ≡ 0
+unbound true n nothing = nothing
+unbound false n nothing = refl
 
 empty_row : (row : List Ratio) (k : ℕ) → nat_lt 0 (length row) ≡ false
     → at_place row k ≡ zero_ratio
@@ -65,8 +69,8 @@ module _ (g : Game) (den : ℕ) (rows : List (List Ratio)) (are : ArePaid g rows
   abbrev shares : ℕ → List ℕ → List ℕ → List Reached → ℤ
   shares k steps choices rs = sum_of_shares g (suc k) den steps choices rs
 
-  abbrev bounds : ℕ → List Reached → ℕ
-  bounds k rs = sum_of_bounds g (suc k) den rs
+  abbrev bounds : ℕ → List ℕ → List ℕ → List Reached → ℕ
+  bounds k steps choices rs = met_bounds g (suc k) den steps choices rs
 
   kept_shares : (k : ℕ) (steps choices : List ℕ) (rs : List Reached)
       → sum_of_shares g (suc k) den steps choices (filter (is_paid rows) rs)
@@ -87,19 +91,28 @@ module _ (g : Game) (den : ℕ) (rows : List (List Ratio)) (are : ArePaid g rows
           (sym (unpaid (meets steps choices r.path.demands) (share g (suc k) den r)
           (no_share r k (nothing_paid r e k))))
 
-  kept_bounds : (k : ℕ) (rs : List Reached)
-      → sum_of_bounds g (suc k) den (filter (is_paid rows) rs) ≡ sum_of_bounds g (suc k) den rs
-  kept_bounds k [] = refl
-  kept_bounds k (r ∷ rs) = at (is_paid rows r) refl (kept_bounds k rs)
+  kept_bounds : (k : ℕ) (steps choices : List ℕ) (rs : List Reached)
+      → met_bounds g (suc k) den steps choices (filter (is_paid rows) rs)
+      ≡ met_bounds g (suc k) den steps choices rs
+  kept_bounds k steps choices [] = refl
+  kept_bounds k steps choices (r ∷ rs) =
+      at (is_paid rows r) refl (kept_bounds k steps choices rs)
     where
-      at : (b : Bool) → is_paid rows r ≡ b → bounds k (filter (is_paid rows) rs) ≡ bounds k rs
-          → bounds k (if b then r ∷ filter (is_paid rows) rs else filter (is_paid rows) rs)
-          ≡ bounds k (r ∷ rs)
-      at true e same = ap (λ (n : ℕ). share_bound g (suc k) den r + n) same
+      at : (b : Bool) → is_paid rows r ≡ b
+          → bounds k steps choices (filter (is_paid rows) rs) ≡ bounds k steps choices rs
+          → bounds k steps choices
+          (if b then r ∷ filter (is_paid rows) rs else filter (is_paid rows) rs)
+          ≡ bounds k steps choices (r ∷ rs)
+      at true e same =
+          ap (λ (n : ℕ). (if meets steps choices r.path.demands then share_bound g (suc k) den r
+          else 0) + n) same
       at false e same =
-          let same_sum : bounds k rs ≡ 0 + bounds k rs = omega arith in
-          same ∙ same_sum
-          ∙ ap (λ (n : ℕ). n + bounds k rs) (sym (no_bound r k (nothing_paid r e k)))
+          omega (
+            arith,
+            same,
+            unbound (meets steps choices r.path.demands) (share_bound g (suc k) den r)
+                (no_bound r k (nothing_paid r e k)),
+          )
 
   kept_all : (P : Reached → Type 0) (rs : List Reached) → AllByRecursion P rs
       → AllByRecursion P (filter (is_paid rows) rs)
@@ -144,7 +157,7 @@ module _ (g : Game) (den : ℕ) (rows : List (List Ratio)) (are : ArePaid g rows
         ⊎ PaysNobody g r) all
         (λ r among. at r among (is_paid rows r) refl);
     sums = λ k steps choices. kept_shares k steps choices all;
-    bounds = λ k. kept_bounds k all;
+    bounds = λ k steps choices. kept_bounds k steps choices all;
   }
     where
       at : (r : Reached) → Has all r → (b : Bool) → is_paid rows r ≡ b

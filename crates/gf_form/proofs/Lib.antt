@@ -30,6 +30,8 @@ pub mod GameDigits
 pub mod KeptShares
 pub mod KnownSets
 pub mod LabelsJoined
+pub mod LargeCounts
+pub mod LargeNodes
 pub mod Lookups
 pub mod Lotteries
 pub mod NoPlayer
@@ -59,6 +61,7 @@ pub mod ShareSums
 pub mod Stacks
 pub mod StrategiesByNumber
 pub mod StrategyLabels
+pub mod SumsWithin
 pub mod Surveys
 pub mod TermsChosen
 pub mod UnmetShares

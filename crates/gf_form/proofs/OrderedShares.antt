@@ -9,7 +9,7 @@ use Rattle.std.proofs.lemmas.List.Sorted.{sum_by-IsPermutation}
 use Rattle.std.proofs.lemmas.List.Sums.{sum_by-cons}
 use Rattle.gf_tree.specs.Game.{Game}
 use Rattle.gf_form.specs.Demands.{meets}
-use Rattle.gf_form.specs.Shares.{share, share_bound, sum_of_bounds, sum_of_shares}
+use Rattle.gf_form.specs.Shares.{met_bounds, share, share_bound, sum_of_shares}
 use Rattle.gf_form.specs.declared.paths.Reached.{Reached}
 
 more : (z s : ℤ) (m n : ℕ) → up s + n ≡ m + down s
@@ -56,15 +56,16 @@ module _ (g : Game) (player den : ℕ) where
         ))
         (as_sizes rs)
 
-  bounds_sum : (rs : List Reached) → sum_of_bounds g player den rs
-      ≡ sum_by (share_bound g player den) rs
-  bounds_sum [] = refl
-  bounds_sum (r ∷ rs) =
-      ap (λ (n : ℕ). share_bound g player den r + n) (bounds_sum rs)
-      ∙ sym (sum_by-cons (share_bound g player den) r rs)
+    abbrev bound : Reached → ℕ
+    bound r = if meets steps choices r.path.demands then share_bound g player den r else 0
 
-  pub bounds_permuted : (rs ss : List Reached) → IsPermutation rs ss
-      → sum_of_bounds g player den ss ≡ sum_of_bounds g player den rs
-  bounds_permuted rs ss h =
-      bounds_sum ss ∙ sum_by-IsPermutation (share_bound g player den) rs ss h
-      ∙ sym (bounds_sum rs)
+    bounds_sum : (rs : List Reached) → met_bounds g player den steps choices rs
+        ≡ sum_by bound rs
+    bounds_sum [] = refl
+    bounds_sum (r ∷ rs) =
+        ap (λ (n : ℕ). bound r + n) (bounds_sum rs) ∙ sym (sum_by-cons bound r rs)
+
+    pub bounds_permuted : (rs ss : List Reached) → IsPermutation rs ss
+        → met_bounds g player den steps choices ss ≡ met_bounds g player den steps choices rs
+    bounds_permuted rs ss h =
+        bounds_sum ss ∙ sum_by-IsPermutation bound rs ss h ∙ sym (bounds_sum rs)

@@ -27,12 +27,13 @@ use Rattle.gf_form.specs.declared.terms.Term.{Term}
 use Rattle.gf_form.proofs.TermsChosen.{added, same_amount, size-append, size_at}
 use Rattle.gf_form.proofs.TermsChosen.{sum_met-append, term_at, unsigned_abs-add}
 
+-- what stands where there is no node
+abbrev pub no_node : Reached
+no_node = record { path = record { weight = 0; bound = 0; den = 0; demands = 0 }; outcome = 0 }
+
 -- what the code reads at a place
 abbrev pub node_at : List Reached → ℕ → Reached
-node_at nodes place = get_or nodes place (record {
-  path = record { weight = 0; bound = 0; den = 0; demands = 0 };
-  outcome = 0;
-})
+node_at nodes place = get_or nodes place no_node
 
 -- what has been added of the nodes, where those that are left are known to fit
 pub record Owns (g : Game) (player den : ℕ) (nodes : List Reached) (place : ℕ)
@@ -98,10 +99,7 @@ den_above den path above of_path = above_zero path.den den above of_path.divides
 
 next_node : (nodes : List Reached) (at : ℕ) → at < length nodes
     → drop at nodes ≡ node_at nodes at ∷ drop (at + 1) nodes
-next_node nodes at less = rw (add-one) (drop-cons nodes at (record {
-  path = record { weight = 0; bound = 0; den = 0; demands = 0 };
-  outcome = 0;
-}) less)
+next_node nodes at less = rw (add-one) (drop-cons nodes at no_node less)
 
 -- what a node adds, in the sums of all
 counted : (met : Bool) (a b : ℤ) → a ≡ b

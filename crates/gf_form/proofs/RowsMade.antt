@@ -1,6 +1,8 @@
 -- Rows of payoffs at profiles in turn, and the table that they make.
 use Rattle.std.proofs.Common.{◌≡◌, ℕ, ◌+◌, ◌*◌, ◌<◌, List, [], ◌∷◌, ◌++◌, length, map}
-use Rattle.std.proofs.Common.{get_or, take, refl, sym, ap, subst, ◌∙◌, add-one, arith}
+use Rattle.std.proofs.Common.{get_or, take, refl, sym, ap, subst, ◌∙◌, add-one, arith, zero, suc}
+use Rattle.std.proofs.Common.{Some, slice_get}
+use Rattle.std.proofs.lemmas.Option.{slice_get-get_or}
 use Rattle.std.specs.List.{AllByRecursion, AllZip, flat_map}
 use Rattle.std.proofs.Math.Nat.{suc-mul}
 use Rattle.std.proofs.Math.Seq.{take-append_seam, take-suc}
@@ -12,7 +14,9 @@ use Rattle.gf_nfg.specs.Profiles.{profiles}
 use Rattle.gf_nfg.specs.Table.{Table, rows}
 use Rattle.gf_nfg.specs.TableAccess.{IsTableOf}
 use Rattle.gf_tree.specs.Game.{Game}
+use Rattle.gf_token.specs.Positions.{at_position}
 use Rattle.gf_form.specs.ProfileRows.{AreRowsAt}
+use Rattle.gf_form.specs.Refusal.{IsFirstWithout}
 use Rattle.gf_form.specs.StrategicForm.{IsFormBy}
 use Rattle.gf_form.specs.Strategies.{players_of}
 use Rattle.gf_form.proofs.FormTables.{as_many}
@@ -59,6 +63,30 @@ pub all_more : {A : Type 0} (P : A → Type 0) (xs : List A) (i : ℕ) (d : A) �
 all_more P xs i d less h k =
     subst (AllByRecursion P) (sym (take-suc xs i d less) ∙ ap (λ (n : ℕ). take n xs) (sym (add-one i)))
     (all_both P (take i xs) (get_or xs i d ∷ []) h (k, tt))
+
+before_it : {A : Type 0} (P : A → Type 0) (xs : List A) (i k : ℕ) (x : A)
+    → AllByRecursion P (take i xs) → k < i → slice_get xs k ≡ Some x → P x
+before_it P [] i k x h less is = absurd cc
+before_it P (y ∷ ys) zero k x h less is = absurd (omega (arith, less))
+before_it P (y ∷ ys) (suc i) zero x h less is = let same : y ≡ x = cc in subst P same h.0
+before_it P (y ∷ ys) (suc i) (suc k) x h less is =
+    before_it P ys i k x h.1 (omega (arith, less)) is
+
+-- all before it hold, and it does not
+pub first_without : (Holds : List ℕ → Type 0) (ps : List (List ℕ)) (i : ℕ) → i < length ps
+    → AllByRecursion Holds (take i ps) → ¬ (Holds (get_or ps i []))
+    → IsFirstWithout Holds ps (i + 1)
+first_without Holds ps i less before fails = record {
+  profile = get_or ps i [];
+  there = ap (at_position ps) (add-one i) ∙ slice_get-get_or ps i [] less;
+  overflows = fails;
+  first = first;
+}
+  where
+    first : (earlier : ℕ) (other : List ℕ) → earlier < i + 1
+        → at_position ps earlier ≡ Some other → Holds other
+    first zero other h is = absurd cc
+    first (suc k) other h is = before_it Holds ps i k other before (omega (arith, h)) is
 
 module _ (R : List ℕ → List Ratio → Type 0) where
   pub no_rows : AreRowsAt R [] []

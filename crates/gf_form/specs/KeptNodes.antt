@@ -7,7 +7,7 @@ use Rattle.gf_fraction.specs.Rational.{zero_ratio}
 use Rattle.gf_tree.specs.Game.{Game}
 use Rattle.gf_form.specs.OwnTerms.{AreOver}
 use Rattle.gf_form.specs.Rows.{row_at}
-use Rattle.gf_form.specs.Shares.{pay_at, sum_of_bounds, sum_of_shares}
+use Rattle.gf_form.specs.Shares.{met_bounds, pay_at, sum_of_shares}
 use Rattle.gf_form.specs.declared.paths.Reached.{Reached}
 
 -- whether the row of its outcome pays somebody something
@@ -32,4 +32,6 @@ pub record AreKept (g : Game) (den : ℕ) (all kept : List Reached) : Type 0 whe
   pub sums : (k : ℕ) (steps choices : List ℕ)
       → sum_of_shares g (suc k) den steps choices kept
       ≡ sum_of_shares g (suc k) den steps choices all
-  pub bounds : (k : ℕ) → sum_of_bounds g (suc k) den kept ≡ sum_of_bounds g (suc k) den all
+  pub bounds : (k : ℕ) (steps choices : List ℕ)
+      → met_bounds g (suc k) den steps choices kept
+      ≡ met_bounds g (suc k) den steps choices all

@@ -18,10 +18,14 @@ pub record IsValueOver (g : Game) (player den profile : ℕ) (whole : ℤ) : Typ
       player g.tree ≡ Some payoff
   pub over : HasValue payoff whole den
 
--- the player's values at all profiles in turn
-pub record IsColumn (g : Game) (player den : ℕ) (column : List ℤ) : Type 0 where
+-- no large node is counted at the profile with this number, from 0
+abbrev pub HasNone : List ℤ → ℕ → Type 0
+HasNone large profile = get_or large profile (pos 0) ≡ pos 0
+
+-- the player's values in turn at all profiles, but for those at which large nodes are counted
+pub record IsColumn (g : Game) (large : List ℤ) (player den : ℕ) (column : List ℤ) : Type 0 where
   pub one_each : length column ≡ length (full_profiles g)
-  pub values : (profile : ℕ) → profile < length (full_profiles g)
+  pub values : (profile : ℕ) → profile < length (full_profiles g) → HasNone large profile
       → IsValueOver g player den profile (get_or column profile (pos 0))
 
 -- a column for each player
@@ -29,8 +33,11 @@ pub record AreColumns (g : Game) (c : Columns) : Type 0 where
   pub den_above_zero : 0 < c.den
   pub den_within : c.den < 2 ^ 127
   pub one_each : length c.columns.items ≡ length g.players
+  pub large_within : (profile : ℕ) → profile < length (full_profiles g)
+      → IsWithin (get_or c.large.items profile (pos 0))
   pub columns : (place : ℕ) → place < length g.players
-      → IsColumn g (suc place) c.den (get_or (map (λ column. column.items) c.columns.items) place [])
+      → IsColumn g c.large.items (suc place) c.den
+      (get_or (map (λ column. column.items) c.columns.items) place [])
 
 -- the values of the first players, so many, at the profile with this number, from 0
 pub record AreValuesSoFar (g : Game) (profile players : ℕ) (row : List Ratio) : Type 0 where

@@ -11,6 +11,7 @@ mod expectation;
 mod fault;
 mod form_labels;
 mod full_rows;
+mod large;
 pub mod laws;
 mod op;
 mod own_terms;

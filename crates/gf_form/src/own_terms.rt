@@ -21,10 +21,10 @@ const LARGEST: u128 = i128::MAX as u128;
 
 /// What a node adds to a player's payoff, over a common denominator.
 #[derive(Clone, Copy)]
-struct Share {
-    amount: i128,
+pub(crate) struct Share {
+    pub amount: i128,
     /// A bound of its size, which does not tell of probabilities that are zero.
-    bound: u128,
+    pub bound: u128,
 }
 
 /// What an outcome pays the player at this place, from 0.
@@ -39,7 +39,7 @@ fn payoff_at(payoffs: &Payoffs<'_>, outcome: u32, place: usize) -> Fraction
 
 /// What a path adds to a payoff over a common denominator; `None` where it is not a whole number, or
 /// one that is too large.
-fn share_of(path: Path, payoff: Fraction, den: u128) -> Option<Share>
+pub(crate) fn share_of(path: Path, payoff: Fraction, den: u128) -> Option<Share>
     requires { 0 < path.den }
     ensures { IfSome result (IsShare path payoff den) }
 {
@@ -67,7 +67,7 @@ fn share_of(path: Path, payoff: Fraction, den: u128) -> Option<Share>
 }
 
 /// Appends a term, or adds it to the last one where that has the same demands.
-fn add_term(terms: &mut Vec<Term>, term: Term) -> Result<(), AllocError>
+pub(crate) fn add_term(terms: &mut Vec<Term>, term: Term) -> Result<(), AllocError>
     requires { size_of_terms terms.old.items + unsigned_abs term.amount < 2 ^ 127 }
     ensures size { OnOk result (size_of_terms terms.new.items
         ≤ size_of_terms terms.old.items + unsigned_abs term.amount) }

@@ -132,8 +132,11 @@ fn fill_rows(
     let mut values = Values::new(alloc);
     for before in 0..picked.profiles.count {
         if let Some(columns) = columns {
-            columns.push_row(full_number_of(counts, picked, before), &mut rows)?;
-            continue;
+            let number = full_number_of(counts, picked, before);
+            if columns.has(number) {
+                columns.push_row(number, &mut rows)?;
+                continue;
+            }
         }
         match row_by_walk(alloc, game, counts, payoffs, picked, before, &mut values) {
             Ok(row) => {

@@ -51,6 +51,32 @@ t \"\" 3 \"z\" { 1 }
 t \"\" 0
 ";
 
+/// The greatest number at the last profile alone, over no denominator that thirds have.
+const GREAT_ALONE: &[u8] = b"EFG 2 R \"l\" { \"A\" }
+p \"\" 1 1 \"i\" { \"a\" \"b\" } 0
+t \"\" 1 \"x\" { 1/2 }
+p \"\" 1 2 \"j\" { \"c\" \"d\" } 0
+t \"\" 2 \"y\" { 1/3 }
+c \"\" 1 \"n\" { \"e\" 1 } 0
+c \"\" 1 0
+c \"\" 1 0
+c \"\" 1 0
+t \"\" 3 \"z\" { 170141183460469231731687303715884105727 }
+";
+
+/// The same, with one more above it.
+const GREAT_AT_LAST: &[u8] = b"EFG 2 R \"l\" { \"A\" }
+p \"\" 1 1 \"i\" { \"a\" \"b\" } 0
+t \"\" 1 \"x\" { 1/2 }
+p \"\" 1 2 \"j\" { \"c\" \"d\" } 4 \"w\" { 1 }
+t \"\" 2 \"y\" { 1/3 }
+c \"\" 1 \"n\" { \"e\" 1 } 0
+c \"\" 1 0
+c \"\" 1 0
+c \"\" 1 0
+t \"\" 3 \"z\" { 170141183460469231731687303715884105727 }
+";
+
 /// The canonical text of the table of a file, or of the reduced one.
 fn table_text(
     rt: &impl Abort,
@@ -88,7 +114,7 @@ fn chain(alloc: Global, sets: u32) -> Result<Vec<u8>, AllocError> {
 #[test]
 fn makes_the_table_of_a_tree(rt: HostRuntime) -> Result<(), Fail> {
     let alloc = rt.alloc();
-    let rows: [(&[u8], &[u8]); 5] = [
+    let rows: [(&[u8], &[u8]); 6] = [
         (
             BONUS,
             b"NFG 1 R \"g\" { \"A\" \"B\" }\n{ { \"1\" \"2\" } { \"\" } }\n\"\"\n\n3/2 0\n2 1/2\n",
@@ -104,6 +130,10 @@ fn makes_the_table_of_a_tree(rt: HostRuntime) -> Result<(), Fail> {
         (
             UNLIKELY,
             b"NFG 1 R \"q\" { \"A\" }\n{ { \"\" } }\n\"\"\n\n1\n",
+        ),
+        (
+            GREAT_ALONE,
+            b"NFG 1 R \"l\" { \"A\" }\n{ { \"1-1\" \"1-2\" \"2-1\" \"2-2\" } }\n\"\"\n\n1/2\n1/2\n1/3\n170141183460469231731687303715884105727\n",
         ),
         (NOBODY, b"NFG 1 R \"\" { }\n{ }\n\"\"\n\n\n"),
     ];
@@ -152,13 +182,14 @@ fn reduces_a_chain_to_its_ends(rt: HostRuntime) -> Result<(), Fail> {
 
 #[test]
 fn names_the_first_profile_that_overflows(rt: HostRuntime) -> Result<(), Fail> {
-    let rows: [(&[u8], bool, u32); 6] = [
+    let rows: [(&[u8], bool, u32); 7] = [
         (OVERFLOWING, false, 2),
         (OVERFLOWING, true, 2),
         (UNLIKELY_AND_GREAT, false, 1),
         (BALANCING, false, 1),
         (GREAT_BEHIND, false, 3),
         (GREAT_BEHIND, true, 2),
+        (GREAT_AT_LAST, false, 4),
     ];
     for (file, is_reduced, profile) in rows {
         let answer = table_text(&rt, rt.alloc(), file, is_reduced)?;

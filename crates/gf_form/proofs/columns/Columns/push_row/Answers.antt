@@ -7,7 +7,7 @@ use Rattle.gf_form.proofs.ColumnsMade.{column_at, entry, is_column, one_value_mo
 use Rattle.gf_form.proofs.columns.Columns.push_row.Goals as goal
 
 pub loop-column-init : goal.loop-column-init
-loop-column-init c g are less = record {
+loop-column-init c g are less none = record {
   row = [];
   behind = sym (append-nil c.args.rows.now.items);
   values = record { one_each = refl; fractions = tt; values = λ place before. absurd (omega (arith, before)) };
@@ -31,22 +31,22 @@ over-requires-clause-within c =
     let column = c.column-item.result in
     let all = c.deref-column-items.ensures.value in
     let e = entry c.requires.0 c.args.self.now c.args.profile i column c.index.result.now
-    c.requires.1 c.requires.2 (omega (arith, c.loop-column-test.true, ap length all))
+    c.requires.1 c.requires.2 c.requires.3 (omega (arith, c.loop-column-test.true, ap length all))
     (c.column-item.is ∙ ap (λ (cs : List (Vec ℤ Global)). get_or cs i column) all)
     c.index.ensures in
     subst IsWithin (sym e.back) e.within
 
 pub loop-column-preserved : goal.loop-column-preserved
-loop-column-preserved c g are less =
+loop-column-preserved c g are less none =
     let i = c.loop-column.column-index in
     let column = c.column-item.result in
     let all = c.deref-column-items.ensures.value in
     let within : i < length c.args.self.now.columns.items =
     omega (arith, c.loop-column-test.true, ap length all) in
     let is = c.column-item.is ∙ ap (λ (cs : List (Vec ℤ Global)). get_or cs i column) all in
-    let e = entry g c.args.self.now c.args.profile i column c.index.result.now are less within is
+    let e = entry g c.args.self.now c.args.profile i column c.index.result.now are less none within is
     c.index.ensures in
-    let so_far = c.loop-column.invariant g are less in
+    let so_far = c.loop-column.invariant g are less none in
     let payoff = c.over.result in
     record {
       row = so_far.row ++ payoff ∷ [];
@@ -54,7 +54,7 @@ loop-column-preserved c g are less =
           ∙ ap (λ (rows : List Ratio). rows ++ payoff ∷ []) so_far.behind
           ∙ append_assoc c.args.rows.now.items so_far.row (payoff ∷ []);
       values = one_value_more g c.args.self.now c.args.profile i so_far.row
-          (so_far.row ++ payoff ∷ []) column.items payoff are less within
+          (so_far.row ++ payoff ∷ []) column.items payoff are less none within
           (column_at c.args.self.now i column within is) c.over.ensures.fraction
           (subst (λ (z : ℤ). HasValue payoff z c.args.self.now.den) (e.back ∙ e.whole)
           c.over.ensures.value)
@@ -62,7 +62,7 @@ loop-column-preserved c g are less =
     }
 
 pub returns : goal.returns
-returns c g are less =
+returns c g are less none =
     subst (λ (n : ℕ). HasMore g c.args.profile n c.args.rows.now.items c.loop-column.rows.items)
     (omega (
       arith,
@@ -71,4 +71,4 @@ returns c g are less =
       ap length c.deref-column-items.ensures.value,
       are.one_each,
     ))
-    (c.loop-column.invariant g are less)
+    (c.loop-column.invariant g are less none)
