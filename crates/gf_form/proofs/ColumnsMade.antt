@@ -305,3 +305,7 @@ row_pays g game spellable number profile row is values =
       are_payoffs g game spellable choices row values.one_each values.fractions values.values,
       have_values g game spellable choices row values.values,
     ))
+
+-- where no node is large, the columns have all profiles
+pub all_had : (large : List ℤ) (profile : ℕ) → large ≡ [] → HasNone large profile
+all_had large profile none = ap (λ (counts : List ℤ). get_or counts profile (pos 0)) none

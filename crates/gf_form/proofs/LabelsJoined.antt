@@ -1,12 +1,12 @@
 -- Labels of strategies, made of labels at the first sets and at the others.
-use Rattle.std.proofs.Common.{◌≡◌, ◌∙◌, ℕ, zero, suc, ◌+◌, ◌-◌, ◌*◌, ◌<◌, ◌≤◌, Bool, true, false}
-use Rattle.std.proofs.Common.{List, [], ◌∷◌, ◌++◌, Some, None, map, length, get_or, take, refl, ap}
+use Rattle.std.proofs.Common.{◌≡◌, ◌∙◌, ℕ, zero, suc, ◌+◌, ◌-◌, ◌*◌, ◌<◌, true}
+use Rattle.std.proofs.Common.{List, [], ◌∷◌, ◌++◌, Some, map, length, get_or, take, refl, ap}
 use Rattle.std.proofs.Common.{sym, subst, add-one, arith, append_assoc}
 use Rattle.std.specs.Prelude.{decimal, slice_get, unwrap_or}
 use Rattle.std.proofs.lemmas.List.{get_or_default, length-map}
 use Rattle.std.proofs.Math.Seq.{take-suc}
 use Rattle.std.proofs.lemmas.Bool.{and_from, and_parts}
-use Rattle.std.proofs.Math.Nat.{mul_assoc, mul-le-mul_right}
+use Rattle.std.proofs.Math.Nat.{mul_assoc}
 use Rattle.gf_token.specs.LabelSpelling.{IsLabel, is_spelling_after}
 use Rattle.gf_nfg.specs.Profiles.{product}
 use Rattle.gf_form.specs.Strategies.{all_choices, strategy_label}

@@ -34,6 +34,8 @@ pub mod LargeCounts
 pub mod LargeNodes
 pub mod Lookups
 pub mod Lotteries
+pub mod NextProfiles
+pub mod NextStrategies
 pub mod NoPlayer
 pub mod NumberedProfiles
 pub mod OrderedShares

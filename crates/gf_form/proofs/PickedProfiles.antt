@@ -6,10 +6,9 @@ use Rattle.std.proofs.Common.{append_assoc, add-one, arith, Vec, Global}
 use Rattle.std.specs.List.{AllByRecursion, AllZip, Contains}
 use Rattle.std.specs.Prelude.{vec_len, zip}
 use Rattle.std.proofs.Math.Nat.{div-lt_iff_lt-mul, mod-add-div, mod-lt, mul_comm}
-use Rattle.std.proofs.Math.ListN.{drop_of_length-le}
 use Rattle.std.proofs.Math.Seq.{drop-cons}
 use Rattle.std.proofs.lemmas.Grind.{get_or_default_zero}
-use Rattle.std.proofs.lemmas.List.{append-nil, get_or_default, get_or-map, length-map}
+use Rattle.std.proofs.lemmas.List.{get_or_default, get_or-map, length-map}
 use Rattle.std.proofs.lemmas.Option.{unwrap_or-slice_get}
 use Rattle.gf_nfg.specs.Profiles.{numbers_from, product, profiles}
 use Rattle.gf_nfg.specs.ProfilePlaces.{IsProfile, place}
@@ -134,20 +133,13 @@ number_at picked number less =
     get_or-map (full_at picked) (profiles (map length picked)) number [] []
     (omega (arith, less, length-profiles (map length picked)))
 
--- behind the last player they are the strategies of the profile
-pub all_strategies : (g : Game) (c : Counts) (picked : List (List ℕ)) → AreCounts g c
-    → length picked ≡ length (players_of g) → (number place rest : ℕ) (all : List (List ℕ))
-    → number < product (map length picked) → length c.actions.items ≤ place
-    → all ++ numbered (drop place (actions_in c)) (drop place picked) rest
-    ≡ numbered (actions_in c) picked number
-    → all ≡ strategies_at g (get_or (picked_profiles picked) number [])
-all_strategies g c picked counts one_each number place rest all within past so_far =
-    let end : drop place (actions_in c) ≡ [] =
-    drop_of_length-le (actions_in c)
-    (omega (arith, past, length-map c.actions.items (λ own. own.items))) in
-    sym (append-nil all)
-    ∙ ap (λ (lists : List (List ℕ)). all ++ numbered lists (drop place picked) rest) (sym end)
-    ∙ so_far ∙ ap (λ (lists : List (List ℕ)). numbered lists picked number) counts.actions
+-- the strategies of the profile
+pub numbered_are : (g : Game) (c : Counts) (picked : List (List ℕ)) → AreCounts g c
+    → length picked ≡ length (players_of g) → (number : ℕ) → number < product (map length picked)
+    → numbered (actions_in c) picked number
+    ≡ strategies_at g (get_or (picked_profiles picked) number [])
+numbered_are g c picked counts one_each number within =
+    ap (λ (lists : List (List ℕ)). numbered lists picked number) counts.actions
     ∙ numbered_strategies g (players_of g) picked number one_each within
     ∙ ap (strategies_at g) (sym (number_at picked number within))
 

@@ -19,6 +19,7 @@ mod paths;
 mod payoffs;
 mod picked;
 mod profile_rows;
+mod profile_strategies;
 mod reduced;
 mod reduced_form;
 mod reduced_labels;
@@ -33,6 +34,7 @@ mod tests;
 mod values;
 mod visits;
 mod walk;
+mod walked_rows;
 
 pub use crate::expectation::expected;
 pub use crate::fault::{EvalFault, FormFault};

@@ -1,6 +1,6 @@
 //! The strategies of each player that are picked for a table.
 
-ghost use Rattle.std.specs.Prelude.{◌≡◌, ◌<◌, ℕ, false, length, map, IfOk, MatchOption};
+ghost use Rattle.std.specs.Prelude.{◌≡◌, ◌<◌, ℕ, [], false, get_or, length, map, IfOk, MatchOption};
 ghost use Rattle.std.specs.List.{AllByRecursion};
 ghost use Rattle.gf_nfg.specs.Limit.{profile_limit};
 ghost use Rattle.gf_nfg.specs.Profiles.{numbers_from, product};
@@ -76,4 +76,28 @@ impl Picked {
             are_all: false,
         })
     }
+}
+
+/// The number of a profile among all, from 0, by its number among those that are picked.
+pub(crate) fn full_number_of(counts: &Counts, picked: &Picked, profile: u32) -> u32
+    requires within { profile < picked.now.profiles.count }
+    requires picked { (g : Game) × AreCounts g counts.now × IsPicked g picked.now }
+    ensures { (g : Game) → AreCounts g counts.now → IsPicked g picked.now
+        → (result < length (full_profiles g)) × (get_or (full_profiles g) result []
+        ≡ get_or (picked_profiles (numbers_in picked.now)) profile []) }
+{
+    if picked.are_all {
+        return profile;
+    }
+    let mut number = 0;
+    let mut whole = 1;
+    let mut left = profile as usize;
+    for place in 0..counts.actions.len() {
+        let numbers = &picked.numbers[place];
+        let count = numbers.len();
+        number += whole * numbers[left % count];
+        whole *= counts.strategies[place];
+        left /= count;
+    }
+    number
 }

@@ -1,4 +1,3 @@
-use Rattle.std.proofs.Common.{◌≡◌}
 use Rattle.gf_form.proofs.LabelsJoined.{one_count_more}
 use Rattle.gf_form.proofs.strategies.strategy_count.Goals as goal
 

@@ -4,7 +4,7 @@ use Rattle.gf_form.specs.Picked.{numbers_in, picked_profiles}
 use Rattle.gf_form.specs.ProfileRows.{AreRowsAt}
 use Rattle.gf_form.specs.Refusal.{HasValues}
 use Rattle.gf_form.specs.StrategicForm.{ArePayoffsAt}
-use Rattle.gf_form.proofs.profile_rows.fill_rows.Given as goal
+use Rattle.gf_form.proofs.profile_rows.rows_by_columns.Given as goal
 
 abbrev pub invariant-loop-before : goal.invariant-loop-before
 invariant-loop-before l =

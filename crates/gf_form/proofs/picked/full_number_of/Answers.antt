@@ -5,7 +5,7 @@ use Rattle.gf_form.specs.Picked.{numbers_in}
 use Rattle.gf_form.proofs.FullNumbers.{CountsOn, IsFullNumber, as_long, count_at, counts_all}
 use Rattle.gf_form.proofs.FullNumbers.{counts_first, of_profile, player_more, small, whole_small}
 use Rattle.gf_form.proofs.PickedProfiles.{numbers_within, rest_within, some_number}
-use Rattle.gf_form.proofs.profile_rows.full_number_of.Goals as goal
+use Rattle.gf_form.proofs.picked.full_number_of.Goals as goal
 
 pub loop-place-init : goal.loop-place-init
 loop-place-init c =

@@ -1,0 +1,58 @@
+//! The strategies of a profile of those that are picked: one of each player.
+
+ghost use Rattle.std.specs.Prelude.{◌≡◌, ◌<◌, ◌-◌, [], IfOk, OnOk, get_or, length, map};
+ghost use Rattle.gf_tree.specs.Game.{Game};
+ghost use Rattle.gf_form.specs.Counted.{AreCounts};
+ghost use Rattle.gf_form.specs.Picked.{IsPicked, numbers_in, picked_profiles};
+ghost use Rattle.gf_form.specs.Strategies.{strategies_at};
+
+use crate::counts::Counts;
+use crate::picked::Picked;
+use crate::strategies::write_next;
+use std::alloc::{AllocError, Global};
+
+/// So many strategies, none of which has an action yet.
+pub(crate) fn no_actions(alloc: Global, players: usize) -> Result<Vec<Vec<u32>>, AllocError>
+    ensures { IfOk result (λ all. length all.items ≡ players) }
+{
+    let mut all = Vec::with_capacity(alloc, players)?;
+    while all.len() < players {
+        all.push(Vec::new(alloc))?;
+    }
+    Ok(all)
+}
+
+/// The strategies of the profile with this number, from 0, take the place of those of the one before
+/// it, and at the first profile of any. Where a player has not come to his first strategy again,
+/// those of the players behind him stay.
+pub(crate) fn write_strategies(
+    counts: &Counts,
+    picked: &Picked,
+    profile: u32,
+    all: &mut Vec<Vec<u32>>,
+) -> Result<(), AllocError>
+    requires within { profile < picked.now.profiles.count }
+    requires as_long { length all.old.items ≡ length counts.now.actions.items }
+    requires picked { (g : Game) × AreCounts g counts.now × IsPicked g picked.now
+        × (0 < profile → map (λ own. own.items) all.old.items
+        ≡ strategies_at g (get_or (picked_profiles (numbers_in picked.now)) (profile - 1) [])) }
+    ensures as_long { OnOk result (length all.new.items ≡ length counts.now.actions.items) }
+    ensures strategies { OnOk result ((g : Game) → AreCounts g counts.now
+        → map (λ own. own.items) all.new.items
+        ≡ strategies_at g (get_or (picked_profiles (numbers_in picked.now)) profile [])) }
+{
+    let mut rest = profile as usize;
+    for place in 0..counts.actions.len() {
+        let numbers = &picked.numbers[place];
+        let count = numbers.len();
+        let number = rest % count;
+        let whole = counts.strategies[place];
+        let own = &mut all[place];
+        write_next(&counts.actions[place], whole, numbers, number, own)?;
+        if number > 0 {
+            return Ok(());
+        }
+        rest /= count;
+    }
+    Ok(())
+}
