@@ -65,7 +65,7 @@ impl Columns {
             return Ok(None);
         };
         reached.sort_unstable_by_key(|r| r.path.demands);
-        let (small, large) = small_and_large(alloc, &reached, payoffs, den)?;
+        let (small, large) = small_and_large(alloc, &reached, payoffs, players, den)?;
         let large = large_counts(alloc, &large, &digits.digits)?;
         let mut columns = Vec::with_capacity(alloc, players)?;
         for place in 0..players {

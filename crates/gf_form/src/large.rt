@@ -12,7 +12,7 @@ ghost use Rattle.gf_form.specs.SumsAtAll.{HaveSteps, actions_at};
 
 use crate::column::column;
 use crate::digits::Digit;
-use crate::own_terms::{add_term, share_of};
+use crate::own_terms::{add_term, payoff_at, share_of};
 use crate::paths::Reached;
 use crate::payoffs::Payoffs;
 use crate::terms::Term;
@@ -20,6 +20,40 @@ use std::alloc::{AllocError, Global};
 
 /// The greatest sum of sizes.
 const LARGEST: u128 = i128::MAX as u128;
+
+/// Whether all shares of the player at this place, from 0, are whole numbers, and their bounds come to
+/// less than 2^127.
+fn player_fits(nodes: &[Reached], payoffs: &Payoffs<'_>, place: usize, den: u128) -> bool
+    requires above_zero { 0 < den }
+    requires paths { AreOver den nodes.now }
+{
+    let mut bound: u128 = 0;
+    for node in nodes {
+        let payoff = payoff_at(payoffs, node.outcome, place);
+        let Some(share) = share_of(node.path, payoff, den) else {
+            return false;
+        };
+        match share.bound.checked_add(bound) {
+            Some(sum) if sum <= LARGEST => bound = sum,
+            _ => return false,
+        }
+    }
+    true
+}
+
+/// The greatest bound of a share at a node that is not large, so that those of all such nodes come to
+/// less than 2^127: where it can be, no node is large.
+fn greatest_bound(nodes: &[Reached], payoffs: &Payoffs<'_>, players: usize, den: u128) -> u128
+    requires above_zero { 0 < den }
+    requires paths { AreOver den nodes.now }
+{
+    for place in 0..players {
+        if !player_fits(nodes, payoffs, place, den) {
+            return LARGEST / (nodes.len().max(1) as u128);
+        }
+    }
+    LARGEST
+}
 
 /// Whether some share of a node is not a whole number, or has a bound above this.
 fn is_large(node: Reached, payoffs: &Payoffs<'_>, den: u128, most: u128) -> bool
@@ -34,19 +68,19 @@ fn is_large(node: Reached, payoffs: &Payoffs<'_>, den: u128, most: u128) -> bool
     false
 }
 
-/// The nodes that are not large, and those that are, in their order. Bounds of all that are not come
-/// to less than 2^127.
+/// The nodes that are not large, and those that are, in their order.
 pub(crate) fn small_and_large(
     alloc: Global,
     nodes: &[Reached],
     payoffs: &Payoffs<'_>,
+    players: usize,
     den: u128,
 ) -> Result<(Vec<Reached>, Vec<Reached>), AllocError>
     requires above_zero { 0 < den }
     requires paths { AreOver den nodes.now }
     ensures { IfOk result (λ both. IsPermutation nodes.now (both.0.items ++ both.1.items)) }
 {
-    let most = LARGEST / (nodes.len().max(1) as u128);
+    let most = greatest_bound(nodes, payoffs, players, den);
     let mut small = Vec::with_capacity(alloc, nodes.len())?;
     let mut large = Vec::new(alloc);
     for node in nodes {

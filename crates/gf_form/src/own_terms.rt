@@ -28,7 +28,7 @@ pub(crate) struct Share {
 }
 
 /// What an outcome pays the player at this place, from 0.
-fn payoff_at(payoffs: &Payoffs<'_>, outcome: u32, place: usize) -> Fraction
+pub(crate) fn payoff_at(payoffs: &Payoffs<'_>, outcome: u32, place: usize) -> Fraction
     ensures { result ≡ at_place (row_at (rows_of payoffs.now) outcome) place }
 {
     match payoffs.at(outcome).get(place) {
