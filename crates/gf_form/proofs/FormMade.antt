@@ -1,14 +1,8 @@
 -- A table of labels and of rows that are right at its profiles is a form of a game.
-use Rattle.std.proofs.Common.{◌≡◌, ℕ, ◌*◌, ◌<◌, ◌≤◌, List, [], ◌∷◌, length, map, refl, sym, ap}
+use Rattle.std.proofs.Common.{◌≡◌, ℕ, ◌*◌, ◌<◌, ◌≤◌, List, [], ◌∷◌, length, map, sym, ap}
 use Rattle.std.proofs.Common.{subst, ◌∙◌, arith}
-use Rattle.std.specs.Prelude.{Vec, vec_len}
 use Rattle.std.specs.List.{AllByRecursion, AllZip}
-use Rattle.std.specs.Global.{Global}
-use Rattle.std.proofs.lemmas.List.{length-map}
 use Rattle.gf_fraction.specs.Ratio.{Ratio, IsFraction}
-use Rattle.gf_fraction.proofs.AllElements.{all_images, all_mapped}
-use Rattle.gf_token.specs.Label.{label_of}
-use Rattle.gf_token.specs.declared.label.Label.{Label}
 use Rattle.gf_nfg.specs.Limit.{profile_limit}
 use Rattle.gf_nfg.specs.Profiles.{product}
 use Rattle.gf_nfg.specs.Table.{Table}
@@ -24,37 +18,6 @@ use Rattle.gf_form.proofs.CountedActions.{as_many_players}
 use Rattle.gf_form.proofs.FormTables.{as_many, some_labels}
 use Rattle.gf_form.proofs.Forms.{form_profiles}
 use Rattle.gf_form.proofs.RowsMade.{form_by_rows, rows_counted, rows_fractions}
-
--- ---- labels, each by itself
-
-list_counts : (lists : List (Vec Label Global))
-    → map length (map (λ own. map label_of own.items) lists) ≡ map vec_len lists
-list_counts [] = refl
-list_counts (own ∷ lists) =
-    λ i. (length-map own.items label_of ∙ sym own.ok.0) i ∷ list_counts lists i
-
-module _ (players : ℕ) (lists : List (Vec Label Global)) (labels : List (List (List ℕ)))
-    (payoffs : List Ratio) (are : map (λ own. map label_of own.items) lists ≡ labels)
-    (fits : FitsTable players labels payoffs) where
-  counted : map vec_len lists ≡ map length labels
-  counted = sym (list_counts lists) ∙ ap (map length) are
-
-  pub one_list_each : length lists ≡ players
-  one_list_each = sym (length-map lists (λ own. map label_of own.items)) ∙ ap length are
-      ∙ fits.one_list_each
-
-  pub some_label : AllByRecursion (λ own. 0 < vec_len own) lists
-  some_label =
-      all_mapped (λ (n : ℕ). 0 < n) vec_len lists
-      (subst (AllByRecursion (λ (n : ℕ). 0 < n)) (sym counted)
-      (all_images (λ (n : ℕ). 0 < n) length labels fits.some_strategy))
-
-  pub few_profiles : product (map vec_len lists) ≤ profile_limit
-  few_profiles = subst (λ (counts : List ℕ). product counts ≤ profile_limit) (sym counted)
-      fits.profiles
-
-  pub full_rows : length payoffs ≡ product (map vec_len lists) * players
-  full_rows = fits.rows ∙ ap (λ (counts : List ℕ). product counts * players) (sym counted)
 
 -- ---- rows of payoffs
 

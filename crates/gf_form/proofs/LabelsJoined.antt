@@ -1,13 +1,11 @@
 -- Labels of strategies, made of labels at the first sets and at the others.
-use Rattle.std.proofs.Common.{◌≡◌, ◌∙◌, ℕ, zero, suc, ◌+◌, ◌-◌, ◌*◌, ◌<◌, true}
+use Rattle.std.proofs.Common.{◌≡◌, ◌∙◌, ℕ, zero, suc, ◌+◌, ◌-◌, ◌*◌, ◌<◌}
 use Rattle.std.proofs.Common.{List, [], ◌∷◌, ◌++◌, Some, map, length, get_or, take, refl, ap}
 use Rattle.std.proofs.Common.{sym, subst, add-one, arith, append_assoc}
 use Rattle.std.specs.Prelude.{decimal, slice_get, unwrap_or}
 use Rattle.std.proofs.lemmas.List.{get_or_default, length-map}
 use Rattle.std.proofs.Math.Seq.{take-suc}
-use Rattle.std.proofs.lemmas.Bool.{and_from, and_parts}
 use Rattle.std.proofs.Math.Nat.{mul_assoc}
-use Rattle.gf_token.specs.LabelSpelling.{IsLabel, is_spelling_after}
 use Rattle.gf_nfg.specs.Profiles.{product}
 use Rattle.gf_form.specs.Strategies.{all_choices, strategy_label}
 use Rattle.gf_form.proofs.Choices.{IsChoice, are_choices, every_choice, length-all_choices, place}
@@ -18,20 +16,6 @@ use Rattle.gf_form.proofs.FirstStrategies.{choice_length}
 use Rattle.gf_form.proofs.StrategiesByNumber.{all_at, one_label_more}
 
 -- ---- texts
-
-behind_dash : (ys : List ℕ) → is_spelling_after 34 ys ≡ true → is_spelling_after 45 ys ≡ true
-behind_dash [] h = refl
-behind_dash (y ∷ ys) h = h
-
-joined_behind : (before : ℕ) (xs ys : List ℕ) → is_spelling_after before xs ≡ true → IsLabel ys
-    → is_spelling_after before (xs ++ 45 ∷ ys) ≡ true
-joined_behind before [] ys h l = behind_dash ys l
-joined_behind before (x ∷ xs) ys h l =
-    let parts = and_parts _ (is_spelling_after x xs) h in
-    and_from _ _ parts.0 (joined_behind x xs ys parts.1 l)
-
-pub joined_label : (xs ys : List ℕ) → IsLabel xs → IsLabel ys → IsLabel (xs ++ 45 ∷ ys)
-joined_label xs ys h l = joined_behind 34 xs ys h l
 
 label_of_both : (f b : List ℕ) → 0 < length f → 0 < length b
     → strategy_label (f ++ b) ≡ strategy_label f ++ 45 ∷ strategy_label b

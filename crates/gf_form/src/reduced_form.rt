@@ -73,12 +73,12 @@ fn reduced_rows(
 fn form_with(
     alloc: Global,
     game: &Game<'_>,
-    labels: &[Labels],
+    labels: Vec<Labels>,
     rows: Vec<Fraction>,
 ) -> Result<Table, AllocError>
     requires players { length game.now.players ≤ 4294967295 }
     requires few { length (full_profiles game.now) ≤ profile_limit }
-    requires labels { labels.now ≡ map (reduced_labels game.now) (players_of game.now) }
+    requires labels { labels.items ≡ map (reduced_labels game.now) (players_of game.now) }
     requires rows { AreRowsAt (IsPaidAt game.now) (reduced_profiles game.now) rows.items }
     ensures { IfOk result (λ t. IsReducedForm game.now t) }
 {
@@ -120,5 +120,5 @@ pub fn table_reduced(alloc: Global, game: &Game<'_>) -> Result<Table, FormFault>
         Ok(rows) => rows,
         Err(fault) => return Err(fault),
     };
-    Ok(form_with(alloc, game, &labels, rows)?)
+    Ok(form_with(alloc, game, labels, rows)?)
 }

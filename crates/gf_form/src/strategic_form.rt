@@ -12,7 +12,7 @@ ghost use Rattle.gf_form.specs.Strategies.{full_profiles};
 
 use crate::counts::Counts;
 use crate::fault::FormFault;
-use crate::form_labels::{all_labels, label_lists};
+use crate::form_labels::all_labels;
 use crate::full_rows::full_rows;
 use gf_fraction::Fraction;
 use gf_nfg::{Labels, Table};
@@ -23,21 +23,20 @@ use std::alloc::{AllocError, Global};
 pub(crate) fn table_with(
     alloc: Global,
     game: &Game<'_>,
-    labels: &[Labels],
+    labels: Vec<Labels>,
     rows: Vec<Fraction>,
 ) -> Result<Table, AllocError>
     requires players { length game.now.players ≤ 4294967295 }
-    requires fits { FitsTable (length game.now.players) labels.now rows.items }
+    requires fits { FitsTable (length game.now.players) labels.items rows.items }
     ensures { IfOk result (λ t. IsTableOf t game.now.title game.now.comment game.now.players
-        labels.now rows.items) }
+        labels.items rows.items) }
 {
-    let strategies = label_lists(alloc, labels)?;
-    Table::with_rows(
+    Table::with_labels(
         alloc,
         game.title(),
         game.comment(),
         game.players(),
-        &strategies,
+        labels,
         rows,
     )
 }
@@ -56,7 +55,7 @@ fn form_with(
 {
     let _players = game.players();
     let labels = all_labels(alloc, counts)?;
-    table_with(alloc, game, &labels, rows)
+    table_with(alloc, game, labels, rows)
 }
 
 /// The strategic form of a game: the table of its players and of their pure strategies, with the

@@ -2,7 +2,6 @@
 
 ghost use Rattle.std.specs.Prelude.{◌≡◌, ◌<◌, ◌+◌, ◌-◌, ◌++◌, [], ◌∷◌, ℕ, List, OnOk, IfOk, IfSome};
 ghost use Rattle.std.specs.Prelude.{get_or, length, map};
-ghost use Rattle.gf_token.specs.Label.{label_of};
 ghost use Rattle.gf_token.specs.LabelSpelling.{IsLabel};
 ghost use Rattle.gf_nfg.specs.Profiles.{product};
 ghost use Rattle.gf_form.specs.Strategies.{all_choices, strategy_label};
@@ -122,17 +121,16 @@ fn strategy_count(counts: &[u32]) -> Option<u32>
     Some(whole)
 }
 
-/// Two labels, joined by `-`, take the place of a text.
-fn write_joined(first: Label<'_>, second: Label<'_>, text: &mut Vec<u8>) -> Result<(), AllocError>
-    ensures text { OnOk result
-        (text.new.items ≡ label_of first.entry ++ 45 ∷ label_of second.entry) }
-    ensures label { OnOk result (IsLabel text.new.items) }
+/// No labels, and room for each of the first joined to each of the others.
+fn room_for(alloc: Global, firsts: &Labels, others: &Labels) -> Result<Labels, AllocError>
+    ensures { IfOk result (λ labels. labels ≡ []) }
 {
-    text.clear();
-    text.extend_from_slice(first.raw())?;
-    text.push(b'-')?;
-    text.extend_from_slice(second.raw())?;
-    Ok(())
+    let count = firsts.len().saturating_mul(others.len());
+    let before = firsts.size().saturating_mul(others.len());
+    let behind = others.size().saturating_mul(firsts.len());
+    let mut labels = Labels::new(alloc);
+    labels.reserve(count, before.saturating_add(behind).saturating_add(count))?;
+    Ok(labels)
 }
 
 /// The labels of all strategies, from those at the first sets and those at the others.
@@ -142,12 +140,11 @@ fn joined_labels(alloc: Global, firsts: &Labels, others: &Labels) -> Result<Labe
         → others.now ≡ map strategy_label (all_choices behind)
         → labels ≡ map strategy_label (all_choices (counts ++ behind))) }
 {
-    let mut labels = Labels::new(alloc);
-    let mut text = Vec::new(alloc);
+    let mut labels = room_for(alloc, firsts, others)?;
     for first in 0..firsts.len() {
+        let before = firsts.label(first);
         for other in 0..others.len() {
-            write_joined(firsts.label(first), others.label(other), &mut text)?;
-            labels.push(Label::of_spelling(&text))?;
+            labels.push_joined(&[before, others.label(other)])?;
         }
     }
     Ok(labels)

@@ -1,11 +1,12 @@
 -- Labels that are put together: one behind the other, or joined to one.
 use Rattle.std.proofs.Common.{◌≡◌, ◌∙◌, ℕ, ◌+◌, ◌-◌, ◌<◌, true, List, [], ◌∷◌, ◌++◌, map, length}
-use Rattle.std.proofs.Common.{Some, slice_get, take, drop, get_or, refl, sym, ap, arith, append_assoc}
+use Rattle.std.proofs.Common.{subst, Some, slice_get, take, drop, get_or, refl, sym, ap, arith, append_assoc}
 use Rattle.std.specs.Prelude.{Result, Ok, Err, OnOk, is_ok, sum}
-use Rattle.std.specs.List.{join_with_byte}
+use Rattle.std.specs.List.{AllByRecursion, join_with_byte}
 use Rattle.std.proofs.lemmas.Bool.{and_from, and_parts}
-use Rattle.std.proofs.lemmas.List.{append-nil, length-drop, length-map, length-take, map_push, take_more}
+use Rattle.std.proofs.lemmas.List.{append-nil, take-append-drop, length-drop, length-map, length-take, map_push, take_more}
 use Rattle.std.proofs.lemmas.Option.{get_or_from_slice_get}
+use Rattle.gf_fraction.proofs.AllElements.{all_parts}
 use Rattle.gf_token.specs.Label.{label_of}
 use Rattle.gf_token.specs.LabelSpelling.{IsLabel, is_spelling_after}
 use Rattle.gf_token.specs.declared.label.Label.{Label}
@@ -45,6 +46,18 @@ labels_size ends bytes h = omega (arith, pieces_size 0 ends bytes h)
 pub labels_spelled : (ls : List Label) → AreSpellings (map label_of ls)
 labels_spelled [] = tt
 labels_spelled (l ∷ ls) = (l.spelled, labels_spelled ls)
+
+-- what holds of each holds of each of each piece
+pub all_pieces : {A : Type 0} (P : A → Type 0) (from : ℕ) (ends : List ℕ) (items : List A)
+    → AllByRecursion P items → AllByRecursion (λ xs. AllByRecursion P xs) (pieces from ends items)
+all_pieces P from [] items h = tt
+all_pieces P from (end ∷ ends) items h =
+    let behind = all_parts P (take from items) (drop from items)
+    (subst (AllByRecursion P) (sym (take-append-drop from items)) h) in
+    let own = all_parts P (take (end - from) (drop from items))
+    (drop (end - from) (drop from items))
+    (subst (AllByRecursion P) (sym (take-append-drop (end - from) (drop from items))) behind.1) in
+    (own.0, all_pieces P end ends items h)
 
 behind_dash : (ys : List ℕ) → is_spelling_after 34 ys ≡ true → is_spelling_after 45 ys ≡ true
 behind_dash [] h = refl

@@ -279,23 +279,6 @@ profiles_counted rows (suc n) counts None is one h = absurd (is (omega arith))
 profiles_counted rows (suc n) counts (Some q) is one h =
     is.1 ∙ ap (λ (m : ℕ). m / suc n) h ∙ mul-div_cancel (product counts) (omega arith)
 
--- the names of a table of lists
-pub named_by_lists : {B Z : Type 0} (f : B → List ℕ) (names : Names) (title comment : List ℕ)
-    (players : List (List ℕ)) (lists : List (Vec B Z)) (count : ℕ)
-    → names ≡ record {
-      title = title;
-      comment = comment;
-      players = players;
-      strategies = map (λ own. map f own.items) lists;
-    }
-    → length lists ≡ length players → AllByRecursion (λ own. 0 < vec_len own) lists
-    → count ≡ product (map vec_len lists) → IsNamed names count
-named_by_lists f names title comment players lists count is one some counted = rw is (record {
-  one_list_each = length-map lists (λ own. map f own.items) ∙ one;
-  some_strategy = some_in_lists f lists some;
-  counted = counted ∙ ap product (sym (counts_of_lists f lists));
-})
-
 pub counted_own : (o : Option (List (List ℕ))) (n : ℕ) → option_map length o ≡ Some n
     → (own : List (List ℕ)) × (o ≡ Some own) × (length own ≡ n)
 counted_own None n e = absurd (cc)

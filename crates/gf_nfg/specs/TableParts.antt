@@ -1,9 +1,9 @@
 -- How the parts of a table are kept.
-use Rattle.std.specs.Prelude.{◌≡◌, ℕ, zero, suc, pos, ◌+◌, ◌-◌, ◌*◌, ◌<◌, ◌≤◌, List, []}
+use Rattle.std.specs.Prelude.{◌≡◌, ℕ, zero, suc, pos, ◌+◌, ◌-◌, ◌*◌, ◌<◌, ◌≤◌, List, [], ◌++◌}
 use Rattle.std.specs.Prelude.{◌∷◌, take, drop, length, slice_get, replicate, Option, Some}
 use Rattle.std.specs.Prelude.{None, option_map, unwrap_or, map, nat_lt, if◌then◌else◌}
-use Rattle.std.specs.List.{AllByRecursion}
-use Rattle.gf_fraction.specs.Ratio.{Ratio, whole}
+use Rattle.std.specs.List.{AllByRecursion, flat_map}
+use Rattle.gf_fraction.specs.Ratio.{IsFraction, Ratio, whole}
 use Rattle.gf_token.specs.LabelSpelling.{IsLabel}
 use Rattle.gf_nfg.specs.Profiles.{positions, product, profiles}
 use Rattle.gf_nfg.specs.Limit.{profile_limit}
@@ -133,6 +133,17 @@ pub record IsHeld (names : Names) (rows : List (List Ratio)) : Type 0 where
   pub one_payoff_each : AllByRecursion (λ row. length row ≡ length names.players) rows
   pub within : length rows ≤ profile_limit
   pub spellable : IsSpellable (table_with names rows)
+
+-- names, and the payoffs of a table with these names in the order of a file
+pub record AreParts (names : Names) (payoffs : List Ratio) : Type 0 where
+  pub one_list_each : length names.strategies ≡ length names.players
+  pub some_strategy : AllByRecursion (λ own. 0 < length own) names.strategies
+  pub within : product (map length names.strategies) ≤ profile_limit
+  pub one_row_each : length payoffs
+      ≡ product (map length names.strategies) * length names.players
+  pub fractions : AllByRecursion IsFraction payoffs
+  pub spelled : AreSpellings (names.title ∷ names.comment
+      ∷ (names.players ++ flat_map (λ own. own) names.strategies))
 
 -- there is a row with the number of each profile, and one of zeros if a number is 0
 pub record HasRows (players count : ℕ) (payoffs zeros : List Ratio)

@@ -1,10 +1,11 @@
 //! Everything of a table but its payoffs: its title, its comment, its players and their strategies.
 
-ghost use Rattle.std.specs.Prelude.{◌≡◌, ◌<◌, ◌∷◌, Some, IfOk, length, map, IsSomeAnd};
+ghost use Rattle.std.specs.Prelude.{◌≡◌, ◌<◌, [], ◌∷◌, Some, IfOk, OnOk, length, map, IsSomeAnd};
 ghost use Rattle.std.specs.Prelude.{option_and_then, option_map, slice_get, sum};
+ghost use Rattle.std.specs.List.{AllByRecursion};
 ghost use Rattle.gf_token.specs.Label.{label_of};
 ghost use Rattle.gf_nfg.specs.Sentence.{counted_labels};
-ghost use Rattle.gf_nfg.specs.TableParts.{AreStrategies, groups};
+ghost use Rattle.gf_nfg.specs.TableParts.{AreSpellings, AreStrategies, groups};
 
 use crate::labels::Labels;
 use crate::pieces::piece_at;
@@ -103,6 +104,21 @@ fn add_grouped(
     Ok(ends)
 }
 
+/// All these labels, one list behind the other, and where each list ends. Those of the first list
+/// that has some are not copied.
+fn joined(alloc: Global, lists: Vec<Labels>) -> Result<(Labels, Vec<usize>), AllocError>
+    ensures strategies { IfOk result (λ all. AreStrategies [] all.0 all.1.items lists.items) }
+    ensures spelled { IfOk result (λ all. AreSpellings all.0) }
+{
+    let mut labels = Labels::new(alloc);
+    let mut ends = Vec::with_capacity(alloc, lists.len())?;
+    for own in lists {
+        labels = labels.followed_by(own)?;
+        ends.push(labels.len())?;
+    }
+    Ok((labels, ends))
+}
+
 impl Names {
     /// The strategies are these lists of labels, one for each player.
     pub(crate) fn new(
@@ -126,6 +142,33 @@ impl Names {
         Ok(Names {
             heading,
             strategies: labels,
+            ends,
+        })
+    }
+
+    /// The strategies are these labels, a list for each player. Where there is one player, they are
+    /// not copied.
+    pub(crate) fn of_labels(
+        alloc: Global,
+        title: Label<'_>,
+        comment: Label<'_>,
+        players: &[Label<'_>],
+        strategies: Vec<Labels>,
+    ) -> Result<Names, AllocError>
+        requires { length strategies.items ≡ length players.now }
+        ensures names { IfOk result (λ names. names ≡ record {
+          title = label_of title.entry;
+          comment = label_of comment.entry;
+          players = map label_of players.now;
+          strategies = strategies.items;
+        }) }
+        ensures spelled { OnOk result (AllByRecursion (λ own. AreSpellings own) strategies.items) }
+    {
+        let heading = heading(alloc, title, comment, players)?;
+        let (strategies, ends) = joined(alloc, strategies)?;
+        Ok(Names {
+            heading,
+            strategies,
             ends,
         })
     }

@@ -10,8 +10,9 @@ ghost use Rattle.gf_nfg.specs.LimitPlace.{IsWithinLimit};
 ghost use Rattle.gf_nfg.specs.Profiles.{product};
 ghost use Rattle.gf_nfg.specs.Table.{IsSpellable, IsTable, rows};
 ghost use Rattle.gf_nfg.specs.TableAccess.{IsTableOf, at_position, payoffs_at};
-ghost use Rattle.gf_nfg.specs.TableParts.{IsHeld, table_with};
+ghost use Rattle.gf_nfg.specs.TableParts.{AreParts, IsHeld, table_with};
 
+use crate::labels::Labels;
 use crate::names::Names;
 use crate::profile::place_of;
 use crate::rows::Rows;
@@ -76,34 +77,45 @@ impl Table {
             (map label_of players.now) (map (λ own. map label_of own.items) strategies.now)
             rows.now) }
     {
+        let names = Names::new(alloc, title, comment, players, strategies)?;
         let rows = Vec::from_clones(alloc, rows)?;
-        Table::with_rows(alloc, title, comment, players, strategies, rows)
+        Ok(Table::in_turn(alloc, names, rows))
     }
 
-    /// The table of these parts, as `new` makes it. The payoffs are not copied.
-    pub fn with_rows(
+    /// The table of these parts, as `new` makes it. The payoffs are not copied, nor are the labels of
+    /// the strategies where there is one player.
+    pub fn with_labels(
         alloc: Global,
         title: Label<'_>,
         comment: Label<'_>,
         players: &[Label<'_>],
-        strategies: &[Vec<Label<'_>>],
+        strategies: Vec<Labels>,
         rows: Vec<Fraction>,
     ) -> Result<Table, AllocError>
         requires players { length players.now ≤ 4294967295 }
-        requires one_list_each { length strategies.now ≡ length players.now }
-        requires some_strategy { AllByRecursion (λ own. 0 < vec_len own) strategies.now }
-        requires profiles { product (map vec_len strategies.now) ≤ profile_limit }
+        requires one_list_each { length strategies.items ≡ length players.now }
+        requires some_strategy { AllByRecursion (λ own. 0 < length own) strategies.items }
+        requires profiles { product (map length strategies.items) ≤ profile_limit }
         requires fractions { AllByRecursion IsFraction rows.items }
         requires rows { length rows.items
-            ≡ product (map vec_len strategies.now) * length players.now }
+            ≡ product (map length strategies.items) * length players.now }
         ensures { IfOk result (λ t. IsTableOf t (label_of title.entry) (label_of comment.entry)
-            (map label_of players.now) (map (λ own. map label_of own.items) strategies.now)
-            rows.items) }
+            (map label_of players.now) strategies.items rows.items) }
     {
-        let names = Names::new(alloc, title, comment, players, strategies)?;
-        let profiles = rows.len().checked_div(players.len()).unwrap_or(1);
-        let payoffs = Rows::in_turn(alloc, players.len(), profiles as u32, rows);
-        Ok(Table::of_parts(names, payoffs))
+        let names = Names::of_labels(alloc, title, comment, players, strategies)?;
+        Ok(Table::in_turn(alloc, names, rows))
+    }
+
+    /// The table of these names and of payoffs in the order of a file.
+    fn in_turn(alloc: Global, names: Names, rows: Vec<Fraction>) -> Table
+        requires { AreParts names rows.items }
+        ensures { IsTableOf result names.title names.comment names.players names.strategies
+            rows.items }
+    {
+        let players = names.players();
+        let profiles = rows.len().checked_div(players).unwrap_or(1);
+        let payoffs = Rows::in_turn(alloc, players, profiles as u32, rows);
+        Table::of_parts(names, payoffs)
     }
 
     /// Everything but the payoffs.

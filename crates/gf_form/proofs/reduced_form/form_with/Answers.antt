@@ -13,7 +13,7 @@ pub table_with-requires-clause-fits : goal.table_with-requires-clause-fits
 table_with-requires-clause-fits c =
     let g = c.args.game.now in
     let game = c.players-players.ensures.is_game in
-    fits_table (reduced_labels g) (IsPaidAt g) g c.args.labels.now c.args.rows.items
+    fits_table (reduced_labels g) (IsPaidAt g) g c.args.labels.items c.args.rows.items
     c.requires.labels (paid_full g)
     (subst (λ (ps : List (List ℕ)). AreRowsAt (IsPaidAt g) ps c.args.rows.items)
     (sym (reduced_form_profiles g)) c.requires.rows)
@@ -26,7 +26,7 @@ pub returns : goal.returns
 returns c =
     let g = c.args.game.now in
     IfOk-weaker c.table_with.result _ _
-    (λ t made. reduced_made g t (form_made (reduced_labels g) (IsPaidAt g) g c.args.labels.now
+    (λ t made. reduced_made g t (form_made (reduced_labels g) (IsPaidAt g) g c.args.labels.items
     c.args.rows.items c.requires.labels (paid_full g)
     (subst (λ (ps : List (List ℕ)). AreRowsAt (IsPaidAt g) ps c.args.rows.items)
     (sym (reduced_form_profiles g)) c.requires.rows)

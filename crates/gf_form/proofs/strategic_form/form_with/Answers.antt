@@ -1,4 +1,4 @@
-use Rattle.std.proofs.Common.{◌<◌, ◌≤◌, ◌∙◌, ℕ, List, length, subst, sym}
+use Rattle.std.proofs.Common.{◌<◌, ◌≤◌, ℕ, List, length, subst, sym}
 use Rattle.std.proofs.lemmas.List.{length-map}
 use Rattle.std.proofs.lemmas.Result.{IfOk-weaker}
 use Rattle.gf_nfg.specs.Limit.{profile_limit}
@@ -13,8 +13,8 @@ use Rattle.gf_form.proofs.strategic_form.form_with.Goals as goal
 pub table_with-requires-clause-fits : goal.table_with-requires-clause-fits
 table_with-requires-clause-fits c =
     let g = c.args.game.now in
-    fits_table (strategy_labels g) (ArePayoffsAt g) g c.deref.result.now c.args.rows.items
-    (c.deref.ensures.value ∙ c.in_ok-labels.ensures g c.requires.counts) (full_row g)
+    fits_table (strategy_labels g) (ArePayoffsAt g) g c.in_ok-labels.labels.items c.args.rows.items
+    (c.in_ok-labels.ensures g c.requires.counts) (full_row g)
     (subst (λ (ps : List (List ℕ)). AreRowsAt (ArePayoffsAt g) ps c.args.rows.items)
     (sym (all_profiles g)) c.requires.rows)
     (λ player. subst (λ (n : ℕ). 0 < n) (sym (length-map (strategies g player) strategy_label))
@@ -27,8 +27,8 @@ pub returns : goal.returns
 returns c =
     let g = c.args.game.now in
     IfOk-weaker c.table_with.result _ _
-    (λ t made. form_made (strategy_labels g) (ArePayoffsAt g) g c.deref.result.now
-    c.args.rows.items (c.deref.ensures.value ∙ c.in_ok-labels.ensures g c.requires.counts)
+    (λ t made. form_made (strategy_labels g) (ArePayoffsAt g) g c.in_ok-labels.labels.items
+    c.args.rows.items (c.in_ok-labels.ensures g c.requires.counts)
     (full_row g)
     (subst (λ (ps : List (List ℕ)). AreRowsAt (ArePayoffsAt g) ps c.args.rows.items)
     (sym (all_profiles g)) c.requires.rows)

@@ -1,18 +1,17 @@
-use Rattle.std.proofs.Common.{◌∙◌, arith}
+use Rattle.std.proofs.Common.{◌++◌, ◌∷◌, arith, refl}
 use Rattle.gf_token.specs.Label.{label_of}
 use Rattle.gf_form.proofs.LabelsJoined.{all_joined, one_joined_more, row_joined}
 use Rattle.gf_form.proofs.strategies.joined_labels.Goals as goal
 
 pub loop-other-preserved : goal.loop-other-preserved
 loop-other-preserved c =
-    one_joined_more c.args.firsts.now c.args.others.now c.loop-other.labels c.push.new.self
-    c.loop-first.first c.loop-other.other (label_of c.label.result)
-    (label_of c.label-in-loop-other.result) (label_of c.of_spelling.result)
+    one_joined_more c.args.firsts.now c.args.others.now c.loop-other.labels c.push_joined.new.self
+    c.loop-first.first c.loop-other.other (label_of c.label-before.result)
+    (label_of c.label.result) (label_of c.label-before.result ++ 45 ∷ label_of c.label.result)
     (omega (arith, c.loop-first-test.true, c.len-first-end.ensures.len))
     (omega (arith, c.loop-other-test.true, c.len-other-end.ensures.len))
-    c.label.ensures c.label-in-loop-other.ensures
-    (c.of_spelling.ensures ∙ c.deref.ensures.value ∙ c.in_ok-write_joined.ensures.text)
-    c.in_ok-push.ensures.ok c.loop-other.invariant
+    c.label-before.ensures c.label.ensures refl
+    c.in_ok-push_joined.ensures.ok c.loop-other.invariant
 
 pub loop-first-preserved : goal.loop-first-preserved
 loop-first-preserved c =
