@@ -18,6 +18,7 @@ use gf_tree::{
 };
 
 /// Whether two names are the same, as far as names count.
+#[inline(always)]
 pub(crate) fn same_name(a: Label<'_>, b: Label<'_>, names: Names) -> bool
     ensures { IsTrue result
         ↔ (name_by names (label_of a.entry) ≡ name_by names (label_of b.entry)) }
@@ -42,7 +43,17 @@ fn same_payoffs(a: &[Fraction], b: &[Fraction]) -> bool
     a == b
 }
 
+/// Whether two sets are described the same. Most uses of a set describe none.
+#[inline(never)]
+fn same_described_set(a: SetDescription<'_, '_>, b: SetDescription<'_, '_>, names: Names) -> bool
+    ensures { IsTrue result
+        ↔ (set_by names (described_set a.entry) ≡ set_by names (described_set b.entry)) }
+{
+    same_name(a.name, b.name, names) && same_actions(a.actions, b.actions)
+}
+
 /// Whether two descriptions of sets are the same, or both are not there.
+#[inline(always)]
 fn same_set_description(
     a: Option<SetDescription<'_, '_>>,
     b: Option<SetDescription<'_, '_>>,
@@ -53,14 +64,27 @@ fn same_set_description(
         ≡ option_map (set_by names) (option_map described_set b.entry)) }
 {
     match (a, b) {
-        (Some(a), Some(b)) => same_name(a.name, b.name, names)
-            && same_actions(a.actions, b.actions),
+        (Some(a), Some(b)) => same_described_set(a, b, names),
         (None, None) => true,
         _ => false,
     }
 }
 
+/// Whether two outcomes are described the same. Most uses of an outcome describe none.
+#[inline(never)]
+fn same_described_outcome(
+    a: OutcomeDescription<'_, '_>,
+    b: OutcomeDescription<'_, '_>,
+    names: Names,
+) -> bool
+    ensures { IsTrue result ↔ (outcome_by names (described_outcome a.entry)
+        ≡ outcome_by names (described_outcome b.entry)) }
+{
+    same_name(a.name, b.name, names) && same_payoffs(a.payoffs, b.payoffs)
+}
+
 /// Whether two descriptions of outcomes are the same, or both are not there.
+#[inline(always)]
 fn same_outcome_description(
     a: Option<OutcomeDescription<'_, '_>>,
     b: Option<OutcomeDescription<'_, '_>>,
@@ -71,14 +95,14 @@ fn same_outcome_description(
         ≡ option_map (outcome_by names) (option_map described_outcome b.entry)) }
 {
     match (a, b) {
-        (Some(a), Some(b)) => same_name(a.name, b.name, names)
-            && same_payoffs(a.payoffs, b.payoffs),
+        (Some(a), Some(b)) => same_described_outcome(a, b, names),
         (None, None) => true,
         _ => false,
     }
 }
 
 /// Whether two uses of sets are the same, or both are not there.
+#[inline(always)]
 fn same_set_use(a: Option<SetUse<'_, '_>>, b: Option<SetUse<'_, '_>>, names: Names) -> bool
     ensures { IsTrue result
         ↔ (option_map (use_by (set_by names)) (option_map set_use_of a.entry)
@@ -96,6 +120,7 @@ fn same_set_use(a: Option<SetUse<'_, '_>>, b: Option<SetUse<'_, '_>>, names: Nam
 }
 
 /// Whether two uses of outcomes are the same, or both are not there.
+#[inline(always)]
 fn same_outcome_use(
     a: Option<OutcomeUse<'_, '_>>,
     b: Option<OutcomeUse<'_, '_>>,
@@ -115,6 +140,7 @@ fn same_outcome_use(
 }
 
 /// Whether two nodes are the same.
+#[inline(always)]
 pub(crate) fn same_node(a: &FileNode<'_, '_>, b: &FileNode<'_, '_>, names: Names) -> bool
     ensures { IsTrue result
         ↔ (node_by names (file_node_of a.now) ≡ node_by names (file_node_of b.now)) }

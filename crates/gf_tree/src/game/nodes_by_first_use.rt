@@ -71,6 +71,7 @@ impl<'g, 'a> Iterator for NodesByFirstUse<'g, 'a> {
 
     ghost remaining = { item_count (λ left. left) };
 
+    #[inline(always)]
     fn next(&mut self) -> Option<FileNode<'g, 'a>> {
         let stored = self.nodes.next()?;
         let node = FileNode {
