@@ -24,7 +24,7 @@ pub(crate) fn same_name(a: Label<'_>, b: Label<'_>, names: Names) -> bool
         ↔ (name_by names (label_of a.entry) ≡ name_by names (label_of b.entry)) }
 {
     match names {
-        Names::Kept => a == b,
+        Names::Kept => a.raw() == b.raw(),
         Names::Aside => true,
     }
 }
