@@ -229,6 +229,13 @@ impl Names {
         })
     }
 
+    /// How many bytes the labels have in a text, with their quotes and a byte behind each.
+    pub(crate) fn room(&self) -> usize {
+        let labels = self.heading.len().saturating_add(self.strategies.len());
+        let bytes = self.heading.size().saturating_add(self.strategies.size());
+        bytes.saturating_add(labels.saturating_mul(3))
+    }
+
     pub(crate) fn title(&self) -> Label<'_>
         ensures { label_of result ≡ self.now.title }
     {

@@ -85,13 +85,14 @@ fn write_heading(names: &Names, out: &mut Vec<u8>) -> Result<(), AllocError>
     Ok(())
 }
 
-/// Appends the heading of a table and its lines.
+/// Appends the heading of a table and its lines. Room for all labels is made once, before them.
 fn write_text(t: &Table, out: &mut Vec<u8>) -> Result<(), AllocError>
     ensures text { OnOk result (out.new.items ≡ out.old.items ++ table_text t.now) }
     ensures is_table { IsTable t.now }
     ensures spellable { IsSpellable t.now }
     ensures kept { OnErr result (Keeps out.old.items out.new.items) }
 {
+    out.reserve(t.names().room())?;
     write_heading(t.names(), out)?;
     write_rows(t.rows(), out)
 }
