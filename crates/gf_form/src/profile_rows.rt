@@ -84,6 +84,14 @@ pub(crate) fn profile_rows(
         Some(columns) if columns.large.is_empty() => {
             Ok(rows_by_columns(game, counts, &columns, picked, rows)?)
         }
-        columns => walked_rows(alloc, game, counts, &payoffs, columns.as_ref(), picked, rows),
+        columns => walked_rows(
+            alloc,
+            game,
+            counts,
+            &payoffs,
+            columns.as_ref(),
+            picked,
+            rows,
+        ),
     }
 }

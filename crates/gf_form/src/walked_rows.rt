@@ -88,7 +88,15 @@ pub(crate) fn walked_rows(
                 continue;
             }
         }
-        match row_by_walk(alloc, game, payoffs, picked, before, &strategies, &mut values) {
+        match row_by_walk(
+            alloc,
+            game,
+            payoffs,
+            picked,
+            before,
+            &strategies,
+            &mut values,
+        ) {
             Ok(row) => {
                 rows.extend_from_slice(&row)?;
                 values.give_back(row)?;

@@ -20,6 +20,6 @@ loop-self-preserved c =
     c.in-Some.ensures.next c.loop-self.invariant.1 in (
       chosen_stays s after c.in-Some.number c.in_default-choose.ensures,
       walks_further c.args.cursor.now c.index.new.self l before s after walks
-      (choice_step s bytes c.loop-self.invariant.0 c.loop-self-test.true
-      ∙ ap (chosen s) (sym c.in-Some.ensures.index) ∙ c.in_default-choose.ensures),
+          (choice_step s bytes c.loop-self.invariant.0 c.loop-self-test.true
+          ∙ ap (chosen s) (sym c.in-Some.ensures.index) ∙ c.in_default-choose.ensures),
     )

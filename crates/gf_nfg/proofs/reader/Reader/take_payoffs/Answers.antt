@@ -20,6 +20,6 @@ loop-self-preserved c =
     c.in-Some.ensures c.loop-self.invariant.1 in (
       flat_stays s after (number_of bytes) c.in_default-at_payoff.ensures,
       walks_further c.args.cursor.now c.bare.new.self l before s after walks
-      (flat_step s bytes c.loop-self.invariant.0 c.loop-self-test.true
-      ∙ c.in_default-at_payoff.ensures),
+          (flat_step s bytes c.loop-self.invariant.0 c.loop-self-test.true
+          ∙ c.in_default-at_payoff.ensures),
     )
