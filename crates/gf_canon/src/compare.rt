@@ -44,6 +44,7 @@ fn same_payoffs(a: &[Fraction], b: &[Fraction]) -> bool
 }
 
 /// Whether two sets are described the same. Most uses of a set describe none.
+#[cold]
 #[inline(never)]
 fn same_described_set(a: SetDescription<'_, '_>, b: SetDescription<'_, '_>, names: Names) -> bool
     ensures { IsTrue result
@@ -71,6 +72,7 @@ fn same_set_description(
 }
 
 /// Whether two outcomes are described the same. Most uses of an outcome describe none.
+#[cold]
 #[inline(never)]
 fn same_described_outcome(
     a: OutcomeDescription<'_, '_>,
