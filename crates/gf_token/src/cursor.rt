@@ -48,10 +48,10 @@ impl<'a> Model for Cursor<'a> {
     ghost invariant = { λ cursor. cursor.at ≤ length cursor.input.now };
 }
 
-/// Where the gap ends that begins at `from`, or `None` where no token follows it.
+/// Where a gap of any length ends that begins at `from`, or `None` where no token follows it.
 #[tactic(auto, using(crate::proofs::Steps::gap_steps))]
-#[inline(always)]
-fn gap_end(input: &[u8], from: usize) -> Option<usize>
+#[inline(never)]
+fn long_gap_end(input: &[u8], from: usize) -> Option<usize>
     ensures { MatchOption result (lexed input.now from ≡ []) (EndsGap input.now from) }
 {
     let mut at = from;
@@ -62,6 +62,26 @@ fn gap_end(input: &[u8], from: usize) -> Option<usize>
         at += 1;
     }
     None
+}
+
+/// Where the gap ends that begins at `from`, or `None` where no token follows it. Most gaps are of at
+/// most one byte, and take no loop.
+#[tactic(auto, using(crate::proofs::Steps::gap_steps))]
+#[inline(always)]
+fn gap_end(input: &[u8], from: usize) -> Option<usize>
+    ensures { MatchOption result (lexed input.now from ≡ []) (EndsGap input.now from) }
+{
+    if from >= input.len() {
+        return None;
+    }
+    if !is_space(input[from]) {
+        return Some(from);
+    }
+    let next = from + 1;
+    if next < input.len() && !is_space(input[next]) {
+        return Some(next);
+    }
+    long_gap_end(input, next)
 }
 
 /// Where the bare token ends that begins at `start`.
@@ -130,10 +150,10 @@ fn index_of_value(value: u64) -> Option<u32>
     }
 }
 
-/// The quote that closes the text which the quote at `start` opens.
+/// The quote that closes a text of any length, which the quote at `start` opens.
 #[tactic(auto, using(crate::proofs::Steps::text_steps))]
-#[inline(always)]
-fn closing_quote(input: &[u8], start: usize) -> Option<usize>
+#[inline(never)]
+fn long_text_end(input: &[u8], start: usize) -> Option<usize>
     requires within { start < length input.now }
     requires quote { slice_index input.now start ≡ 34 }
     ensures { MatchOption result
@@ -148,6 +168,24 @@ fn closing_quote(input: &[u8], start: usize) -> Option<usize>
         at += 1;
     }
     None
+}
+
+/// The quote that closes the text which the quote at `start` opens. Many texts are empty, and take no
+/// loop.
+#[tactic(auto, using(crate::proofs::Steps::text_steps))]
+#[inline(always)]
+fn closing_quote(input: &[u8], start: usize) -> Option<usize>
+    requires within { start < length input.now }
+    requires quote { slice_index input.now start ≡ 34 }
+    ensures { MatchOption result
+        (lexed input.now start ≡ lexeme start (start + 1) Broken ∷ [])
+        (ClosesText input.now start) }
+{
+    let first = start + 1;
+    if first < input.len() && input[first] == b'"' {
+        return Some(first);
+    }
+    long_text_end(input, start)
 }
 
 /// The token that begins at `start`.
