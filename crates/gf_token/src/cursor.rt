@@ -125,9 +125,10 @@ fn index_end(input: &[u8], start: usize) -> (usize, Option<u32>)
     ensures index { result.1 ≡ index_of (slice_range input.now start result.0) }
 {
     if input[start].is_ascii_digit() {
+        let stop = start + (input.len() - start).min(WORD_DIGITS);
         let mut at = start + 1;
         let mut value = digit_value(input[start]);
-        while at < input.len() && at - start < WORD_DIGITS && input[at].is_ascii_digit() {
+        while at < stop && input[at].is_ascii_digit() {
             value = value * 10 + digit_value(input[at]);
             at += 1;
         }

@@ -1,4 +1,4 @@
-use Rattle.std.proofs.Common.{◌≡◌, true, sym, ◌∙◌, arith, get_or}
+use Rattle.std.proofs.Common.{◌≡◌, ◌<◌, length, true, sym, ◌∙◌, arith, get_or}
 use Rattle.std.specs.Char.{is_ascii_digit}
 use Rattle.gf_fraction.proofs.SpelledIsFound.{digit_from_ascii}
 use Rattle.gf_token.proofs.ScannedIndices.{digit_is_bare, first_digits, first_value, has_room}
@@ -13,9 +13,10 @@ loop-at-init c =
     let digit : is_ascii_digit (get_or bytes start 0) ≡ true =
     sym c.is_ascii_digit.ensures.value ∙ c.if-is_ascii_digit.true in
     record {
-      within = omega (arith, c.requires.within);
+      within = omega (arith, c.requires.within, c.min.ensures);
+      stops = omega (arith, c.requires.within, c.min.ensures);
       begins = omega arith;
-      few = omega arith;
+      few = omega (arith, c.min.ensures);
       same = bare_open bytes start c.requires.within c.requires.bare;
       digits = first_digits bytes start c.requires.within digit;
       value = c.digit_value-value.ensures ∙ sym (first_value bytes start c.requires.within digit);
@@ -25,16 +26,18 @@ pub overflow_mul-value : goal.overflow_mul-value
 overflow_mul-value c =
     let i = c.loop-at.invariant in
     let room = has_room c.args.input.now c.args.start c.loop-at.at c.loop-at.value
-    (omega (arith, i.begins)) i.within c.if-at-start-lt-WORD_DIGITS.true i.digits i.value in
+    (omega (arith, i.begins)) (omega (arith, i.within, i.stops))
+    (omega (arith, i.begins, i.few, c.loop-at-test.true)) i.digits i.value in
     omega (arith, room)
 
 pub overflow_add-value : goal.overflow_add-value
 overflow_add-value c =
     let i = c.loop-at.invariant in
     let room = has_room c.args.input.now c.args.start c.loop-at.at c.loop-at.value
-    (omega (arith, i.begins)) i.within c.if-at-start-lt-WORD_DIGITS.true i.digits i.value in
+    (omega (arith, i.begins)) (omega (arith, i.within, i.stops))
+    (omega (arith, i.begins, i.few, c.loop-at-test.true)) i.digits i.value in
     let digit : is_ascii_digit (get_or c.args.input.now c.loop-at.at 0) ≡ true =
-    sym c.is_ascii_digit-then-at-start-lt-WORD_DIGITS.ensures.value ∙ c.if-is_ascii_digit-2.true in
+    sym c.is_ascii_digit-in-loop-at.ensures.value ∙ c.if-is_ascii_digit-2.true in
     let small = digit_from_ascii (get_or c.args.input.now c.loop-at.at 0) digit in
     omega (arith, room, small, c.digit_value.ensures)
 
@@ -45,16 +48,18 @@ loop-at-preserved c =
     let start = c.args.start in
     let at = c.loop-at.at in
     let digit : is_ascii_digit (get_or bytes at 0) ≡ true =
-    sym c.is_ascii_digit-then-at-start-lt-WORD_DIGITS.ensures.value ∙ c.if-is_ascii_digit-2.true in
-    let more = more_value bytes start at (omega (arith, i.begins)) c.loop-at-test.true digit in
+    sym c.is_ascii_digit-in-loop-at.ensures.value ∙ c.if-is_ascii_digit-2.true in
+    let within : at < length bytes = omega (arith, c.loop-at-test.true, i.stops) in
+    let more = more_value bytes start at (omega (arith, i.begins)) within digit in
     record {
       within = omega (arith, c.loop-at-test.true);
       begins = omega (arith, i.begins);
-      few = omega (arith, c.if-at-start-lt-WORD_DIGITS.true);
+      stops = i.stops;
+      few = i.few;
       same =
-          i.same ∙ bare_more bytes start at i.begins c.loop-at-test.true
+          i.same ∙ bare_more bytes start at i.begins within
           (digit_is_bare (get_or bytes at 0) digit);
-      digits = more_digits bytes start at (omega (arith, i.begins)) c.loop-at-test.true digit i.digits;
+      digits = more_digits bytes start at (omega (arith, i.begins)) within digit i.digits;
       value = omega (arith, more, i.value, c.digit_value.ensures);
     }
 
@@ -62,5 +67,6 @@ pub returns-then-at-input-clause-index : goal.returns-then-at-input-clause-index
 returns-then-at-input-clause-index c =
     let i = c.loop-at.invariant in
     c.index_of_value.ensures
-    ∙ scanned c.args.input.now c.args.start c.loop-at.at c.loop-at.value i.begins i.within i.digits
+    ∙ scanned c.args.input.now c.args.start c.loop-at.at c.loop-at.value i.begins
+    (omega (arith, i.within, i.stops)) i.digits
     i.value

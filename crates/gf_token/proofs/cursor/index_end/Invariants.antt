@@ -7,9 +7,10 @@ use Rattle.gf_token.proofs.cursor.index_end.Given as goal
 
 abbrev pub invariant-loop-at : goal.invariant-loop-at
 invariant-loop-at l = record {
-  within : l.at ≤ length l.input;
+  within : l.at ≤ l.stop;
+  stops : l.stop ≤ length l.input;
   begins : l.start < l.at;
-  few : l.at - l.start ≤ 19;
+  few : l.stop - l.start ≤ 19;
   same : lex Gap l.start (drop l.start l.input)
       ≡ lex (InBare l.start (slice_range l.input l.start l.at)) l.at (drop l.at l.input);
   digits : AllDigits 10 (slice_range l.input l.start l.at);
@@ -17,4 +18,4 @@ invariant-loop-at l = record {
 }
 
 abbrev pub decreases-loop-at : goal.decreases-loop-at
-decreases-loop-at l = length l.input - l.at
+decreases-loop-at l = l.stop - l.at
