@@ -13,7 +13,7 @@ ghost use Rattle.gf_canon.specs.ToldFile.{IsToldFile};
 use crate::format::{Format, format_of};
 use gf_nfg::read_nfg;
 use gf_token::Fault;
-use gf_tree::{Receive, ToldHeading, ToldNode, tell_efg};
+use gf_tree::{NodeByFirstUse, Receive, ToldHeading, tell_efg};
 use std::alloc::{AllocError, Global};
 
 /// A receiver that keeps nothing.
@@ -32,7 +32,7 @@ impl<'a> Receive<'a> for Unkept {
     }
 
     #[inline(always)]
-    fn node(&mut self, _node: ToldNode<'_, 'a>) -> Result<(), AllocError> {
+    fn node(&mut self, _node: NodeByFirstUse<'_, 'a>) -> Result<(), AllocError> {
         Ok(())
     }
 }

@@ -6,15 +6,15 @@ ghost use Rattle.gf_tree.specs.FileNodeOf.{described_outcome, described_set, fil
 ghost use Rattle.gf_tree.specs.FileNodeOf.{outcome_use_of, set_use_of};
 ghost use Rattle.gf_tree.specs.Game.{IsGame};
 ghost use Rattle.gf_tree.specs.Spellable.{IsSpellable};
-ghost use Rattle.gf_tree.specs.Told.{heading_in, heading_of};
+ghost use Rattle.gf_tree.specs.Told.{heading_in, heading_of, told_of};
 ghost use Rattle.gf_canon.specs.NamedBy.{heading_by, name_by, node_by, outcome_by, use_by, set_by};
 
 use crate::sameness::Names;
 use gf_fraction::Fraction;
 use gf_token::Label;
 use gf_tree::{
-    FileNode, Game, OutcomeDescription, OutcomeUse, SetDescription, SetUse, ToldHeading,
-    same_actions,
+    FileNode, Game, NodeByFirstUse, OutcomeDescription, OutcomeUse, SetDescription, SetUse,
+    ToldHeading, same_actions,
 };
 
 /// Whether two names are the same, as far as names count.
@@ -141,15 +141,38 @@ fn same_outcome_use(
     }
 }
 
-/// Whether two nodes are the same.
+/// Whether two nodes are the same, as files give them.
 #[inline(always)]
-pub(crate) fn same_node(a: &FileNode<'_, '_>, b: &FileNode<'_, '_>, names: Names) -> bool
+fn same_file_node(a: &FileNode<'_, '_>, b: &FileNode<'_, '_>, names: Names) -> bool
     ensures { IsTrue result
         ↔ (node_by names (file_node_of a.now) ≡ node_by names (file_node_of b.now)) }
 {
     same_name(a.name, b.name, names)
         && same_set_use(a.set, b.set, names)
         && same_outcome_use(a.outcome, b.outcome, names)
+}
+
+/// Whether two nodes are the same, also where they describe a set or an outcome. Most do not.
+#[cold]
+#[inline(never)]
+fn same_described(a: NodeByFirstUse<'_, '_>, b: NodeByFirstUse<'_, '_>, names: Names) -> bool
+    ensures { IsTrue result
+        ↔ (node_by names (told_of a.entry).node ≡ node_by names (told_of b.entry).node) }
+{
+    same_file_node(&a.file_node(), &b.file_node(), names)
+}
+
+/// Whether two nodes are the same.
+#[inline(always)]
+pub(crate) fn same_node(a: NodeByFirstUse<'_, '_>, b: NodeByFirstUse<'_, '_>, names: Names) -> bool
+    ensures { IsTrue result
+        ↔ (node_by names (told_of a.entry).node ≡ node_by names (told_of b.entry).node) }
+{
+    if a.describes_nothing() && b.describes_nothing() {
+        same_file_node(&a.undescribed(), &b.undescribed(), names)
+    } else {
+        same_described(a, b, names)
+    }
 }
 
 /// Whether all that stands before the nodes of a game is the same as what was told. The other clauses

@@ -6,7 +6,7 @@ ghost use Rattle.gf_canon.specs.CanonicalGame.{canonical_game};
 
 use crate::compare::{same_heading, same_node};
 use crate::sameness::Names;
-use gf_tree::{Game, NodesByFirstUse, Receive, ToldHeading, ToldNode};
+use gf_tree::{Game, NodeByFirstUse, NodesByFirstUse, Receive, ToldHeading};
 use std::alloc::AllocError;
 
 /// A comparison of a game with a tree that is told. What a renumbering carries to each other has the
@@ -63,10 +63,10 @@ impl<'g, 'a, 'b> Receive<'b> for Comparison<'g, 'a> {
     }
 
     #[inline(always)]
-    fn node(&mut self, node: ToldNode<'_, 'b>) -> Result<(), AllocError> {
+    fn node(&mut self, node: NodeByFirstUse<'_, 'b>) -> Result<(), AllocError> {
         if self.same {
             self.same = match self.left.next() {
-                Some(other) => same_node(&other, &node.node, self.names),
+                Some(other) => same_node(other, node, self.names),
                 None => false,
             };
         }

@@ -4,7 +4,7 @@ ghost use Rattle.std.specs.Prelude.{◌≡◌, []};
 
 use crate::node_line::write_node;
 use crate::write::write_heading;
-use gf_tree::{Receive, ToldHeading, ToldNode};
+use gf_tree::{NodeByFirstUse, Receive, ToldHeading};
 use std::alloc::{AllocError, Global};
 
 /// The text of a file that is being told.
@@ -47,7 +47,7 @@ impl<'a> Receive<'a> for Lines {
 
     #[tactic(auto, using(crate::proofs::ToldTexts::one_line_more))]
     #[inline(always)]
-    fn node(&mut self, node: ToldNode<'_, 'a>) -> Result<(), AllocError> {
-        write_node(&node.node, &mut self.text)
+    fn node(&mut self, node: NodeByFirstUse<'_, 'a>) -> Result<(), AllocError> {
+        write_node(&node.file_node(), &mut self.text)
     }
 }

@@ -22,7 +22,7 @@ fn same_nodes(g: &Game<'_>, h: &Game<'_>, names: Names) -> bool
         let Some(other) = others.next() else {
             return false;
         };
-        if !same_node(&node, &other, names) {
+        if !same_node(node, other, names) {
             return false;
         }
     }

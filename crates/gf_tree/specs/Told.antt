@@ -4,14 +4,13 @@ use Rattle.std.specs.Prelude.{option_map, if◌then◌else◌, map}
 use Rattle.gf_token.specs.Label.{label_of}
 use Rattle.gf_token.specs.Positions.{at_position}
 use Rattle.gf_tree.specs.Description.{InformationSet, Outcome, SetKey, set_of}
-use Rattle.gf_tree.specs.FileNodeOf.{file_node_of}
 use Rattle.gf_tree.specs.FileTree.{FileNode, Use}
 use Rattle.gf_tree.specs.FiniteMap.{Described}
 use Rattle.gf_tree.specs.Game.{Game}
 use Rattle.gf_tree.specs.KeptNodes.{Kept}
 use Rattle.gf_tree.specs.KnownSets.{known_of}
 use Rattle.gf_tree.specs.declared.receive.ToldHeading.{ToldHeading}
-use Rattle.gf_tree.specs.declared.receive.ToldNode.{ToldNode}
+use Rattle.gf_tree.specs.declared.node_by_first_use.NodeByFirstUse.{NodeByFirstUse}
 
 -- All that stands before the nodes. Labels are lists of bytes.
 pub record Heading : Type 0 where
@@ -35,9 +34,6 @@ pub record Told : Type 0 where
   pub node : FileNode
   pub set : ℕ
   pub outcome : ℕ
-
-abbrev pub told_of : ToldNode → Told
-told_of n = record { node = file_node_of n.node; set = n.set; outcome = n.outcome }
 
 abbrev pub kept_as : Told → Kept
 kept_as t = record { name = t.node.name; set = t.set; outcome = t.outcome }
@@ -73,6 +69,13 @@ told_node sets outcomes known_sets known_outcomes n = record {
   set = n.set;
   outcome = n.outcome;
 }
+
+abbrev pub told_of : NodeByFirstUse → Told
+told_of n = told_node n.sets.now.known n.outcomes.now.known n.used_sets n.used_outcomes (record {
+  name = label_of n.name;
+  set = n.set;
+  outcome = n.outcome;
+})
 
 abbrev pub told_from : List (Described SetKey InformationSet) → List (Described ℕ Outcome)
     → ℕ → ℕ → List Kept → List Told

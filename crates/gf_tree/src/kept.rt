@@ -16,8 +16,9 @@ ghost use Rattle.gf_tree.specs.Skipped.{Begin, skipped};
 ghost use Rattle.gf_tree.specs.Subtrees.{subtree_sizes};
 
 use crate::node::Step;
+use crate::node_by_first_use::NodeByFirstUse;
 use crate::outcomes::Outcomes;
-use crate::receive::{Receive, ToldHeading, ToldNode};
+use crate::receive::{Receive, ToldHeading};
 use crate::sets::Sets;
 use gf_token::Label;
 use std::alloc::{AllocError, Global};
@@ -191,9 +192,9 @@ impl<'a> Receive<'a> for NodeList<'a> {
 
     #[tactic(auto, using(std::proofs::lemmas::List::map_push))]
     #[inline(always)]
-    fn node(&mut self, node: ToldNode<'_, 'a>) -> Result<(), AllocError> {
+    fn node(&mut self, node: NodeByFirstUse<'_, 'a>) -> Result<(), AllocError> {
         self.nodes.push(Stored {
-            name: node.node.name,
+            name: node.name,
             size: 0,
             set: node.set,
             outcome: node.outcome,

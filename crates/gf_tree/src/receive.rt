@@ -1,6 +1,6 @@
 //! What becomes of what stands in a file: a reader tells it to a receiver, node by node.
 
-use crate::file_node::FileNode;
+use crate::node_by_first_use::NodeByFirstUse;
 use gf_token::Label;
 use std::alloc::AllocError;
 
@@ -11,19 +11,6 @@ pub struct ToldHeading<'n, 'a> {
     pub title: Label<'a>,
     pub comment: Label<'a>,
     pub players: &'n [Label<'a>],
-}
-
-/// A node, as a reader tells it. It has first-use numbers, and describes a set and an outcome where
-/// it is their first use.
-#[derive(Clone, Copy, Debug)]
-pub struct ToldNode<'n, 'a> {
-    pub node: FileNode<'n, 'a>,
-    /// The position of its set, from 1, among all sets in order of first use; 0 where the game
-    /// ends.
-    pub set: u32,
-    /// The position of its outcome, from 1, among all outcomes in order of first use; 0 where it
-    /// has none.
-    pub outcome: u32,
 }
 
 /// Who is told the heading of a file, and then its nodes one behind the other in prefix order.
@@ -44,7 +31,7 @@ pub trait Receive<'a> {
         ensures { OnOk result (holds self.old self.new (heading_of heading.entry) []) };
 
     /// Takes the next node.
-    fn node(&mut self, node: ToldNode<'_, 'a>) -> Result<(), AllocError>
+    fn node(&mut self, node: NodeByFirstUse<'_, 'a>) -> Result<(), AllocError>
         ensures { OnOk result ((untold : Self) (heading : Heading) (told : List Told)
             → holds untold self.old heading told
             → holds untold self.new heading (told ++ told_of node.entry ∷ [])) };

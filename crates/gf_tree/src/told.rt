@@ -1,13 +1,31 @@
 //! Uses of sets and outcomes by first-use numbers, described where they are first.
 
-ghost use Rattle.std.specs.Prelude.{◌≡◌, ◌<◌, length, option_map, MatchOption, ⊤};
+ghost use Rattle.std.specs.Prelude.{◌≡◌, ◌<◌, ◌≤◌, ℕ, List, length, option_map, suc, MatchOption, Some, ⊤};
+ghost use Rattle.gf_tree.specs.Description.{Outcome};
 ghost use Rattle.gf_tree.specs.FileNodeOf.{outcome_use_of, set_use_of};
+ghost use Rattle.gf_tree.specs.FileTree.{undescribed_use};
+ghost use Rattle.gf_tree.specs.FiniteMap.{Described};
 ghost use Rattle.gf_tree.specs.KeptNodes.{position_of};
 ghost use Rattle.gf_tree.specs.Told.{told_outcome, told_set};
 
 use crate::file_node::{OutcomeDescription, OutcomeUse, SetDescription, SetUse};
 use crate::outcomes::Outcomes;
 use crate::sets::Sets;
+
+/// The use of the set with this place, where it is not described.
+#[inline(always)]
+pub(crate) fn undescribed_set_use<'s, 'a>(sets: &'s Sets<'a>, place: u32) -> SetUse<'s, 'a>
+    requires { place < length sets.now.known }
+    ensures { (known : ℕ) → Some (set_use_of result)
+        ≡ option_map undescribed_use (told_set sets.now.known known (suc place)) }
+{
+    let (player, _) = sets.key(place);
+    SetUse {
+        player,
+        number: sets.first_use_number(place),
+        description: None,
+    }
+}
 
 /// The use of the set with this place, where so many were used before.
 #[inline(always)]
@@ -20,20 +38,14 @@ pub(crate) fn set_use<'s, 'a>(
     ensures { option_map set_use_of result ≡ told_set sets.now.known used (position_of place) }
 {
     let place = place?;
-    let (player, _) = sets.key(place);
-    let description = if place == used {
-        Some(SetDescription {
+    let mut set_use = undescribed_set_use(sets, place);
+    if place == used {
+        set_use.description = Some(SetDescription {
             name: sets.name(place),
             actions: sets.actions(place),
-        })
-    } else {
-        None
-    };
-    Some(SetUse {
-        player,
-        number: sets.first_use_number(place),
-        description,
-    })
+        });
+    }
+    Some(set_use)
 }
 
 /// The use of the outcome with this place, where so many were used before.
@@ -60,5 +72,21 @@ pub(crate) fn outcome_use<'o, 'a>(
     Some(OutcomeUse {
         number: place + 1,
         description,
+    })
+}
+
+/// The use of the outcome with this position, where it is not described.
+#[inline(always)]
+pub(crate) fn undescribed_outcome_use<'o, 'a>(position: u32) -> Option<OutcomeUse<'o, 'a>>
+    ensures { (outcomes : List (Described ℕ Outcome)) (known : ℕ) → position ≤ length outcomes
+        → option_map outcome_use_of result
+        ≡ option_map undescribed_use (told_outcome outcomes known position) }
+{
+    if position == 0 {
+        return None;
+    }
+    Some(OutcomeUse {
+        number: position,
+        description: None,
     })
 }

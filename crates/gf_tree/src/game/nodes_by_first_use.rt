@@ -1,17 +1,15 @@
 //! The nodes of a game by its first-use numbers.
 
 ghost use Rattle.std.specs.Prelude.{◌≡◌};
-ghost use Rattle.gf_tree.specs.FileNodeOf.{file_node_of};
 ghost use Rattle.gf_tree.specs.FileNodes.{file_nodes};
 ghost use Rattle.gf_tree.specs.FirstUse.{first_use_numbers};
 ghost use Rattle.gf_tree.specs.Renumbering.{renumbered};
 
-use crate::file_node::FileNode;
 use crate::game::Game;
-use crate::kept::{Stored, place};
+use crate::kept::Stored;
+use crate::node_by_first_use::NodeByFirstUse;
 use crate::outcomes::Outcomes;
 use crate::sets::Sets;
-use crate::told::{outcome_use, set_use};
 use std::marker::Model;
 use std::slice;
 
@@ -64,20 +62,25 @@ impl<'g, 'a> Model for NodesByFirstUse<'g, 'a> {
 
 impl<'g, 'a> Iterator for NodesByFirstUse<'g, 'a> {
     ghost use Rattle.std.specs.Iterator.{YieldsFirstBy, item_count};
+    ghost use Rattle.gf_tree.specs.Told.{told_of};
 
-    type Item = FileNode<'g, 'a>;
+    type Item = NodeByFirstUse<'g, 'a>;
 
-    ghost next_gives = { YieldsFirstBy file_node_of (λ left. left) };
+    ghost next_gives = { YieldsFirstBy (λ n. (told_of n).node) (λ left. left) };
 
     ghost remaining = { item_count (λ left. left) };
 
     #[inline(always)]
-    fn next(&mut self) -> Option<FileNode<'g, 'a>> {
+    fn next(&mut self) -> Option<NodeByFirstUse<'g, 'a>> {
         let stored = self.nodes.next()?;
-        let node = FileNode {
+        let node = NodeByFirstUse {
+            sets: self.sets,
+            outcomes: self.outcomes,
+            used_sets: self.used_sets,
+            used_outcomes: self.used_outcomes,
             name: stored.name,
-            set: set_use(self.sets, self.used_sets, place(stored.set)),
-            outcome: outcome_use(self.outcomes, self.used_outcomes, place(stored.outcome)),
+            set: stored.set,
+            outcome: stored.outcome,
         };
         self.used_sets = self.used_sets.max(stored.set);
         self.used_outcomes = self.used_outcomes.max(stored.outcome);

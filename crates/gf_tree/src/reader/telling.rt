@@ -10,10 +10,9 @@ ghost use Rattle.gf_tree.specs.ReaderState.{Fails, HasRoom, IsSound, TellsNode, 
 ghost use Rattle.gf_tree.specs.ReaderState.{heading_read};
 
 use super::Reader;
-use crate::file_node::FileNode;
 use crate::kept::position;
-use crate::receive::{Receive, ToldHeading, ToldNode};
-use crate::told::{outcome_use, set_use};
+use crate::node_by_first_use::NodeByFirstUse;
+use crate::receive::{Receive, ToldHeading};
 use gf_token::{Fault, Label, Span, Why};
 use std::alloc::AllocError;
 
@@ -70,18 +69,18 @@ impl<'a> Reader<'a> {
         ensures room { OnOk result (HasRoom 0 self.new) }
     {
         let children = self.children(set);
-        let node = ToldNode {
-            node: FileNode {
-                name,
-                set: set_use(&self.sets, self.told_sets, set),
-                outcome: outcome_use(&self.outcomes, self.told_outcomes, outcome),
-            },
-            set: position(set),
-            outcome: position(outcome),
-        };
-        to.node(node)?;
-        self.told_sets = self.told_sets.max(node.set);
-        self.told_outcomes = self.told_outcomes.max(node.outcome);
+        let (set, outcome) = (position(set), position(outcome));
+        to.node(NodeByFirstUse {
+            sets: &self.sets,
+            outcomes: &self.outcomes,
+            used_sets: self.told_sets,
+            used_outcomes: self.told_outcomes,
+            name,
+            set,
+            outcome,
+        })?;
+        self.told_sets = self.told_sets.max(set);
+        self.told_outcomes = self.told_outcomes.max(outcome);
         self.due = self.due - 1 + children as u128;
         Ok(())
     }

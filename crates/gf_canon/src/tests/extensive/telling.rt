@@ -1,7 +1,7 @@
 //! Nodes by first-use numbers: of files that are told to a receiver, and of games.
 
 use super::FIVE;
-use gf_tree::{FileNode, Receive, ToldHeading, ToldNode, read_efg, tell_efg};
+use gf_tree::{NodeByFirstUse, Receive, ToldHeading, read_efg, tell_efg};
 use std::alloc::{AllocError, Global};
 use std::process::Abort;
 use std::test::Fail;
@@ -23,7 +23,12 @@ impl Uses {
         }
     }
 
-    fn note(&mut self, node: &FileNode<'_, '_>) -> Result<(), AllocError> {
+    fn note(&mut self, node: NodeByFirstUse<'_, '_>) -> Result<(), AllocError> {
+        let node = if node.describes_nothing() {
+            node.undescribed()
+        } else {
+            node.file_node()
+        };
         if let Some(set) = node.set {
             self.sets
                 .push((set.player, set.number, set.description.is_some()))?;
@@ -60,8 +65,8 @@ impl<'a> Receive<'a> for Uses {
         Ok(())
     }
 
-    fn node(&mut self, node: ToldNode<'_, 'a>) -> Result<(), AllocError> {
-        self.note(&node.node)
+    fn node(&mut self, node: NodeByFirstUse<'_, 'a>) -> Result<(), AllocError> {
+        self.note(node)
     }
 }
 
@@ -78,7 +83,7 @@ fn gives_nodes_by_first_use_numbers(rt: HostRuntime) -> Result<(), Fail> {
     let game = read_efg(rt.alloc(), FIVE).expect(&rt, "a file");
     let mut uses = Uses::new(rt.alloc());
     for node in game.nodes_by_first_use() {
-        uses.note(&node)?;
+        uses.note(node)?;
     }
     assert_uses_of_five(&rt, &uses);
     Ok(())

@@ -1,8 +1,8 @@
 use Rattle.std.proofs.Common.{◌≡◌, ◌+◌, ◌-◌, ◌++◌, ◌∷◌, [], ℕ, ap, arith, refl, rules, subst}
 use Rattle.gf_token.specs.Label.{label_of}
-use Rattle.gf_tree.specs.KeptNodes.{child_count, position_of}
+use Rattle.gf_tree.specs.KeptNodes.{Kept, child_count, position_of}
 use Rattle.gf_tree.specs.ReaderState.{content_of}
-use Rattle.gf_tree.specs.Told.{Told}
+use Rattle.gf_tree.specs.Told.{told_node}
 use Rattle.gf_tree.proofs.Telling.{told_goes}
 use Rattle.gf_tree.proofs.reader.Reader.tell.Goals as goal
 
@@ -25,15 +25,13 @@ returns-clause-told g c =
       }) (ap (λ (n : ℕ). record (content_of c.args.self.now) { due = n }) due) refl refl refl;
       kept = refl;
       told = λ untold heading told holding. subst
-          (λ (t : Told). g.R.Receive.holds untold c.node.new.self heading (told ++ t ∷ []))
+          (λ (k : Kept). g.R.Receive.holds untold c.node.new.self heading
+          (told ++ told_node c.args.self.now.sets.known c.args.self.now.outcomes.known
+          c.args.self.now.told_sets c.args.self.now.told_outcomes k ∷ []))
           (λ i. record {
-            node = record {
-              name = label_of c.args.name;
-              set = c.set_use.ensures i;
-              outcome = c.outcome_use.ensures i;
-            };
-            set = c.position.ensures i;
-            outcome = c.position-2.ensures i;
+            name = label_of c.args.name;
+            set = c.position-set.ensures i;
+            outcome = c.position-outcome.ensures i;
           }) (c.in_ok-node.ensures untold heading told holding);
       told_sets = search rules;
       told_outcomes = search rules;
