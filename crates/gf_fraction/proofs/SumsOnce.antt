@@ -1,5 +1,5 @@
 -- Where a sum or a product is a fraction, it is one fraction.
-use Rattle.std.proofs.Common.{◌≡◌, ◌*◌, ◌<◌, arith, subst}
+use Rattle.std.proofs.Common.{◌≡◌, ◌*◌, ◌<◌, arith}
 use Rattle.std.specs.Prelude.{pos, ◌*ℤ◌}
 use Rattle.gf_fraction.specs.Ratio.{IsFraction, Ratio, whole}
 use Rattle.gf_fraction.specs.Fits.{AddsTo, IsProduct, IsSum, MultipliesTo}

@@ -1,13 +1,23 @@
 -- Whole numbers and parts of one within the bound are fractions, and the texts of whole numbers
 -- spell them.
-use Rattle.std.proofs.Common.{ℕ, pos, ◌^◌, ◌<◌, arith}
-use Rattle.gf_fraction.specs.Ratio.{IsFraction, whole}
-use Rattle.gf_fraction.specs.NumberSpelling.{IsNumber}
+use Rattle.std.proofs.Common.{ℕ, zero, suc, pos, ◌^◌, ◌<◌, ◌++◌, Bool, true, false, List, [], arith, lit<}
+use Rattle.std.proofs.Common.{refl}
+use Rattle.std.specs.Prelude.{codes, unsigned_abs}
+use Rattle.std.specs.Int.{IsGcd}
+use Rattle.std.specs.Str.Parse.{IsNumeral, digits_value}
+use Rattle.std.proofs.lemmas.Int.{ints}
+use Rattle.gf_fraction.specs.Ratio.{IsFraction, IsWithin, signed}
+use Rattle.gf_fraction.specs.Ratio as ratio
+use Rattle.gf_fraction.specs.NumberSpelling.{IsNumber, IsSign}
+use Rattle.gf_fraction.specs.NumberSpelling.IsSign.{absent, minus}
+use Rattle.gf_fraction.specs.NumberSpelling.IsPlain.{whole}
+use Rattle.gf_fraction.specs.NumberSpelling.HasShape.{plain}
+use Rattle.gf_fraction.specs.NumberSpelling.Reading.{decimal}
 use Rattle.gf_fraction.specs.NumberText.{number_text}
 use Rattle.gf_fraction.proofs.Divisors.{IsGcd-one_left, IsGcd-one_right}
 use Rattle.gf_fraction.proofs.ReadingBack.{written_is_read}
 
-pub whole_fraction : (n : ℕ) → n < 2 ^ 127 → IsFraction (whole (pos n))
+pub whole_fraction : (n : ℕ) → n < 2 ^ 127 → IsFraction (ratio.whole (pos n))
 whole_fraction n h = record {
   den_above_zero = omega arith;
   den_within = omega arith;
@@ -23,5 +33,56 @@ part_fraction n above h = record {
   lowest = IsGcd-one_left n;
 }
 
-pub whole_spelled : (n : ℕ) → n < 2 ^ 127 → IsNumber (number_text (whole (pos n))) (whole (pos n))
-whole_spelled n h = written_is_read (whole (pos n)) (whole_fraction n h)
+pub whole_spelled : (n : ℕ) → n < 2 ^ 127 → IsNumber (number_text (ratio.whole (pos n))) (ratio.whole (pos n))
+whole_spelled n h = written_is_read (ratio.whole (pos n)) (whole_fraction n h)
+
+-- a sign, as short as can be
+abbrev pub sign_of : Bool → List ℕ
+sign_of false = []
+sign_of true = codes "-"
+
+is_sign_of : (negative : Bool) → IsSign (sign_of negative) negative
+is_sign_of false = absent
+is_sign_of true = minus
+
+within_signed : (negative : Bool) (n : ℕ) → n < 2 ^ 127 → IsWithin (signed negative n)
+within_signed false n h = h
+within_signed true zero h = h
+within_signed true (suc n) h = h
+
+pub lowest_whole : (n : ℕ) → IsGcd n 1 1
+lowest_whole n = IsGcd-one_right n
+
+lowest_signed : (negative : Bool) (n : ℕ) → IsGcd (unsigned_abs (signed negative n)) 1 1
+lowest_signed negative n = lowest_whole (unsigned_abs (signed negative n))
+
+-- a sign and digits spell a whole number
+pub digits_spelled : (negative : Bool) (digits : List ℕ) → IsNumeral 10 digits
+    → digits_value 10 digits < 2 ^ 64
+    → IsNumber (sign_of negative ++ digits) (ratio.whole (signed negative (digits_value 10 digits)))
+digits_spelled negative digits numeral short = record {
+  negative = negative;
+  reading = decimal (digits_value 10 digits) 0 (pos 0);
+  spelled = record {
+    sign = sign_of negative;
+    rest = digits;
+    spelled = refl;
+    is_sign = is_sign_of negative;
+    has_shape = plain digits digits 0 (whole digits numeral);
+  };
+  den_above_zero = lit< tt;
+  bounded = record {
+    digits_within = omega arith;
+    places_within = omega arith;
+    exponent_within = omega arith;
+    power_within = omega (arith, ints);
+    scaled_within = omega arith;
+  };
+  fraction = record {
+    den_above_zero = lit< tt;
+    den_within = omega arith;
+    num_within = within_signed negative (digits_value 10 digits) (omega arith);
+    lowest = lowest_signed negative (digits_value 10 digits);
+  };
+  value = refl;
+}

@@ -111,6 +111,15 @@ impl Fraction {
         }
     }
 
+    /// The whole number of this size with a sign.
+    #[tactic(auto, using(crate::proofs::WholeNumbers::lowest_whole))]
+    pub fn whole(negative: bool, size: u64) -> Fraction
+        ensures value { result ≡ whole (signed negative size) }
+        ensures fraction { IsFraction result }
+    {
+        Fraction::of_words(negative, size, 1)
+    }
+
     /// Zero, which is `0 / 1`.
     pub fn zero() -> Fraction
         ensures value { result ≡ whole (pos 0) }

@@ -6,6 +6,7 @@ pub mod Grammar
 pub mod Places
 pub mod ReadingIndices
 pub mod ScannedIndices
+pub mod ScannedNumbers
 pub mod SpelledNumbers
 pub mod SpelledTokens
 pub mod Starts

@@ -7,6 +7,7 @@ ghost use Rattle.std.specs.Prelude.{◌≡◌, ◌<◌, ◌≤◌, ◌+◌, [], 
 ghost use Rattle.std.specs.Prelude.{◌^◌, nat_lt, slice_index, IfSome, MatchOption, None, Some};
 ghost use Rattle.std.specs.Prelude.{true, false, if◌then◌else◌};
 ghost use Rattle.std.specs.Char.{digit_value, is_ascii_digit};
+ghost use Rattle.gf_fraction.specs.NumberSpelling.{Reads};
 ghost use Rattle.gf_token.specs.Byte.{is_space, is_bare};
 ghost use Rattle.gf_token.specs.Finding.{lexed, ClosesText, EndsGap, Finds};
 ghost use Rattle.gf_token.specs.Token.{lexeme};
@@ -23,6 +24,7 @@ use crate::fault::{Fault, Span, Why};
 use crate::index::{WORD_DIGITS, index_in};
 use crate::label::Label;
 use crate::token::{BareToken, Kind, TextToken, Token};
+use gf_fraction::{Fraction, NumberFault};
 use std::marker::Model;
 
 /// A place in an input, seen as the tokens that are still to come.
@@ -149,6 +151,37 @@ fn index_of_value(value: u64) -> Option<u32>
         Ok(index) => Some(index),
         Err(_) => None,
     }
+}
+
+/// Where the bare token ends that begins at `start`, and the number that it spells, or why it spells
+/// none. The digits of a short whole number are read in the scan that finds their end.
+#[tactic(auto, using(crate::proofs::Steps::bare_steps))]
+#[inline(always)]
+fn number_end(input: &[u8], start: usize) -> (usize, Result<Fraction, NumberFault>)
+    requires within { start < length input.now }
+    requires bare { is_bare (slice_index input.now start) ≡ true }
+    ensures within { (start < result.0) × (result.0 ≤ length input.now) }
+    ensures found { lexed input.now start
+        ≡ lexeme start result.0 (Bare (slice_range input.now start result.0))
+        ∷ lexed input.now result.0 }
+    ensures number { Reads (slice_range input.now start result.0) result.1 }
+{
+    let negative = input[start] == b'-';
+    let first = start + usize::from(negative);
+    if first < input.len() && input[first].is_ascii_digit() {
+        let stop = first + (input.len() - first).min(WORD_DIGITS);
+        let mut at = first + 1;
+        let mut value = digit_value(input[first]);
+        while at < stop && input[at].is_ascii_digit() {
+            value = value * 10 + digit_value(input[at]);
+            at += 1;
+        }
+        if at == input.len() || !is_bare(input[at]) {
+            return (at, Ok(Fraction::whole(negative, value)));
+        }
+    }
+    let end = bare_end(input, start);
+    (end, Fraction::read(&input[start..end]))
 }
 
 /// The quote that closes a text of any length, which the quote at `start` opens.
@@ -285,6 +318,27 @@ impl<'a> Cursor<'a> {
         self.at = end;
         let span = Span { start, end };
         Some((BareToken { span, bytes }, index))
+    }
+
+    /// The next token where it is a bare one, with the number that it spells, or why it spells none;
+    /// or `None`, and then the cursor stays.
+    #[tactic(auto, using(crate::proofs::Starts::starts_steps))]
+    #[inline(always)]
+    pub fn number(&mut self) -> Option<(BareToken<'a>, Result<Fraction, NumberFault>)>
+        ensures next { MatchOption result
+            ((self.new ≡ self.old) × (starts is_bare_token self.old ≡ false))
+            (λ t. self.old ≡ lexeme t.0.span.start t.0.span.end (Bare t.0.bytes.now) ∷ self.new) }
+        ensures number { IfSome result (λ t. Reads t.0.bytes.now t.1) }
+    {
+        let start = gap_end(self.input, self.at)?;
+        if !is_bare(self.input[start]) {
+            return None;
+        }
+        let (end, number) = number_end(self.input, start);
+        let bytes = &self.input[start..end];
+        self.at = end;
+        let span = Span { start, end };
+        Some((BareToken { span, bytes }, number))
     }
 
     /// The next token where it is a text, or `None`, and then the cursor stays.

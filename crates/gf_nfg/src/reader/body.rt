@@ -6,15 +6,33 @@ ghost use Rattle.gf_token.specs.Cursor.{token_of};
 ghost use Rattle.gf_nfg.specs.Machine.{Steps, at_payoff, at_flat_payoffs, at_after_comment};
 ghost use Rattle.gf_nfg.specs.Machine.{at_after_strategies, at_outcomes, at_outcome_name};
 ghost use Rattle.gf_nfg.specs.Machine.{at_outcome_end, at_braced_payoff, at_after_braced_payoff};
-ghost use Rattle.gf_nfg.specs.Machine.{at_outcome_number, at_outcome_numbers, chosen};
+ghost use Rattle.gf_nfg.specs.Machine.{at_outcome_number, at_outcome_numbers, chosen, paid};
 ghost use Rattle.gf_nfg.specs.ReaderState.{state_of};
 
 use super::Reader;
 use crate::position::Position;
 use crate::readings;
+use gf_fraction::{Fraction, NumberFault};
 use gf_token::{Kind, What, Why};
 
 impl<'a> Reader<'a> {
+    /// Keeps a payoff that was read.
+    #[inline(always)]
+    pub(super) fn pay(
+        &mut self,
+        payoff: Result<Fraction, NumberFault>,
+        next: Position,
+    ) -> Result<(), Why>
+        requires { 0 < self.old.due }
+        ensures { Steps (paid next (state_of self.old) payoff) result (state_of self.new) }
+    {
+        let payoff = payoff?;
+        self.payoffs.push(payoff)?;
+        self.due -= 1;
+        self.position = next;
+        Ok(())
+    }
+
     /// Takes a payoff.
     #[inline(always)]
     pub(super) fn at_payoff(&mut self, kind: Kind<'a>, next: Position) -> Result<(), Why>
@@ -23,13 +41,7 @@ impl<'a> Reader<'a> {
             (state_of self.new) }
     {
         match kind {
-            Kind::Bare(text) => {
-                let payoff = readings::payoff(text)?;
-                self.payoffs.push(payoff)?;
-                self.due -= 1;
-                self.position = next;
-                Ok(())
-            }
+            Kind::Bare(text) => self.pay(readings::payoff(text), next),
             _ => Err(Why::Expected(What::Number)),
         }
     }

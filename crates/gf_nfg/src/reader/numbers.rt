@@ -7,7 +7,7 @@ ghost use Rattle.gf_nfg.specs.Walk.{IsRefused, Walks};
 
 use super::Reader;
 use crate::position::Position;
-use gf_token::{Cursor, Fault, Kind};
+use gf_token::{Cursor, Fault};
 
 impl<'a> Reader<'a> {
     /// Takes payoffs as long as some are due and bare tokens come.
@@ -18,10 +18,10 @@ impl<'a> Reader<'a> {
         ensures refused { IfErr result (λ fault. IsRefused cursor.old (state_of self.old) fault) }
     {
         while self.due > 0 {
-            let Some(word) = cursor.bare() else {
+            let Some((word, payoff)) = cursor.number() else {
                 return Ok(());
             };
-            if let Err(why) = self.at_payoff(Kind::Bare(word.bytes), Position::FlatPayoffs) {
+            if let Err(why) = self.pay(payoff, Position::FlatPayoffs) {
                 return Err(Fault::at(word.span, why));
             }
         }
