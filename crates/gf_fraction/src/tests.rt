@@ -165,6 +165,7 @@ fn makes(rt: HostRuntime) -> Result<(), Fail> {
     assert_eq!(rt; reduced.den(), 3);
     assert!(rt; reduced.is_negative() && !reduced.exceeds_one());
     assert!(rt; Fraction::new(4, 3)?.exceeds_one());
+    assert!(rt; Fraction::whole(true, 12) == Fraction::new(-12, 1)?);
     assert!(rt; Fraction::new(0, 5)? == Fraction::zero());
     assert!(rt; Fraction::new(5, 5)? == Fraction::one() && !Fraction::one().exceeds_one());
     assert!(rt; Fraction::new(1, 0) == Err(NumberFault::ZeroDenominator));

@@ -7,6 +7,7 @@ use crate::{
     BareToken, Cursor, Fault, IndexFault, Kind, Label, Span, TextToken, What, Why, read_index,
     write_label,
 };
+use gf_fraction::{Fraction, NumberFault};
 use std::alloc::AllocError;
 use std::test::Fail;
 
@@ -77,6 +78,32 @@ fn reads_the_index_that_is_asked_for(rt: HostRuntime) {
         assert_eq!(rt; Cursor::new(input).index(), Some((token, index)));
     }
     assert_eq!(rt; Cursor::new(b"{1").index(), None);
+}
+
+#[test]
+fn reads_the_number_that_is_asked_for(rt: HostRuntime) -> Result<(), Fail> {
+    let rows: [(&[u8], usize, Result<Fraction, NumberFault>); 7] = [
+        (b"-12 3", 3, Ok(Fraction::new(-12, 1)?)),
+        (b"007}", 3, Ok(Fraction::new(7, 1)?)),
+        (b"-0", 2, Ok(Fraction::zero())),
+        (b"+1,", 2, Ok(Fraction::one())),
+        (
+            b"12345678901234567890",
+            20,
+            Ok(Fraction::new(12345678901234567890, 1)?),
+        ),
+        (b"3/-4", 4, Err(NumberFault::NotANumber)),
+        (b"1/0 2", 3, Err(NumberFault::ZeroDenominator)),
+    ];
+    for (input, end, number) in rows {
+        let token = BareToken {
+            span: Span { start: 0, end },
+            bytes: &input[..end],
+        };
+        assert!(rt; Cursor::new(input).number() == Some((token, number)));
+    }
+    assert!(rt; Cursor::new(b"{1").number().is_none());
+    Ok(())
 }
 
 #[test]
