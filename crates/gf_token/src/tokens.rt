@@ -1,6 +1,7 @@
 //! The tokens of an input, of which a reader asks for the one that is due.
 
 ghost use Rattle.std.specs.Prelude.{◌≡◌, ◌≤◌, ◌∷◌, [], false, length, IfSome, MatchOption};
+ghost use Rattle.gf_fraction.specs.Computed.{number_of};
 ghost use Rattle.gf_token.specs.Cursor.{Nexts};
 ghost use Rattle.gf_token.specs.Indices.{index_of};
 ghost use Rattle.gf_token.specs.Label.{label_of};
@@ -14,6 +15,7 @@ ghost use Rattle.gf_token.specs.TokenSpelling.{Spells};
 use crate::cursor::Cursor;
 use crate::fault::{Fault, Span, Why};
 use crate::token::{BareToken, TextToken, Token};
+use gf_fraction::{Fraction, NumberFault};
 use std::marker::Model;
 
 /// An input, seen with the tokens that are still to come.
@@ -75,6 +77,20 @@ impl<'a> Tokens<'a> {
         ensures place { IfSome result (λ t. StandsBefore self.new t.0.span) }
     {
         self.cursor.index()
+    }
+
+    /// The next token where it is a bare one, with the number that it spells, or why it spells none.
+    #[inline(always)]
+    pub fn number(&mut self) -> Option<(BareToken<'a>, Result<Fraction, NumberFault>)>
+        ensures next { MatchOption result
+            ((self.new ≡ self.old) × (starts is_bare_token self.old.ahead ≡ false))
+            (λ t. self.old.ahead
+            ≡ lexeme t.0.span.start t.0.span.end (Bare t.0.bytes.now) ∷ self.new.ahead) }
+        ensures number { IfSome result (λ t. t.1 ≡ number_of t.0.bytes.now) }
+        ensures input { self.new.input ≡ self.old.input }
+        ensures place { IfSome result (λ t. StandsBefore self.new t.0.span) }
+    {
+        self.cursor.number()
     }
 
     /// The next token where it is a text.

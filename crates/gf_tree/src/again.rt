@@ -13,7 +13,6 @@ ghost use Rattle.gf_tree.specs.Machine.Position.{KnownSetName, NodeDue, OutcomeN
 ghost use Rattle.gf_tree.specs.ReaderState.{behind_label, Goes, heard};
 
 use crate::action::Action;
-use crate::readings;
 use gf_fraction::Fraction;
 use gf_token::{Fault, Label, TextToken, Tokens, What, Why};
 
@@ -24,10 +23,10 @@ fn same_probability(tokens: &mut Tokens<'_>, probability: Fraction) -> Result<()
         (heard (KnownAction b others) c tokens.new) }
     ensures shorter { OnOk result (length tokens.new.ahead ≤ length tokens.old.ahead) }
 {
-    let Some(word) = tokens.bare() else {
+    let Some((word, number)) = tokens.number() else {
         return Err(tokens.refusal(Why::Expected(What::Number)));
     };
-    match readings::number(word.bytes) {
+    match number {
         Ok(found) => {
             if found == probability {
                 Ok(())
@@ -132,10 +131,10 @@ fn same_payoff(tokens: &mut Tokens<'_>, payoff: Fraction) -> Result<(), Fault>
         (heard (KnownPayoff others) c tokens.new) }
     ensures shorter { OnOk result (length tokens.new.ahead ≤ length tokens.old.ahead) }
 {
-    let Some(word) = tokens.bare() else {
+    let Some((word, number)) = tokens.number() else {
         return Err(tokens.refusal(Why::Expected(What::Number)));
     };
-    match readings::number(word.bytes) {
+    match number {
         Ok(found) => {
             if found == payoff {
                 tokens.comma();

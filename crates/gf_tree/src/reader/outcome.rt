@@ -19,7 +19,6 @@ ghost use Rattle.gf_tree.specs.ReaderState.{Goes, GoesTelling, Grows, HasRoom, I
 use super::Reader;
 use crate::again::same_outcome;
 use crate::outcomes::Outcomes;
-use crate::readings;
 use crate::receive::Receive;
 use gf_token::{Fault, Label, TextToken, What, Why};
 use std::alloc::AllocError;
@@ -70,10 +69,10 @@ impl<'a> Reader<'a> {
         }) }
         ensures shorter { OnOk result (length self.new.tokens.ahead ≤ length self.old.tokens.ahead) }
     {
-        let Some(word) = self.tokens.bare() else {
+        let Some((word, number)) = self.tokens.number() else {
             return Err(self.tokens.refusal(Why::Expected(What::Number)));
         };
-        match readings::number(word.bytes) {
+        match number {
             Ok(payoff) => {
                 let Ok(()) = self.outcomes.push(payoff) else {
                     return Err(Fault::at(word.span, Why::Memory));
