@@ -1,13 +1,15 @@
 -- The answer of a comparison speaks of whatever the two files mean, and of their canonical texts.
-use Rattle.std.proofs.Common.{◌≡◌, ℕ, Bool, List, Result, Ok, Err, IfOk, MatchResult, sym, subst, ◌∙◌}
+use Rattle.std.proofs.Common.{◌≡◌, ap, ℕ, Bool, List, Result, Ok, Err, IfOk, MatchResult, sym, subst, ◌∙◌}
 use Rattle.std.specs.Prelude.{◌↔◌, IsTrue}
-use Rattle.gf_canon.specs.GameFile.{GameFile, SameFile}
+use Rattle.gf_canon.specs.GameFile.{GameFile, SameFile, SpellsFile, canonical_text}
 use Rattle.gf_canon.specs.Judgement.{IsCanonicalText, SpellsWithin}
 use Rattle.gf_canon.specs.SameBy.{SameBy}
 use Rattle.gf_canon.specs.Sameness.{WantsMemory}
 use Rattle.gf_canon.specs.declared.sameness.Names.{Names}
+use Rattle.gf_canon.specs.declared.sameness.Names.TheVariants.{Kept, Aside}
 use Rattle.gf_canon.specs.declared.sameness.SameFault.{SameFault}
 use Rattle.gf_canon.proofs.Files.{equal_canonical_texts, spells_one_file}
+use Rattle.gf_canon.proofs.Unnamed.{same_is_so_aside}
 
 pub same_as_read : (names : Names) (answer : Bool) (a b : List ℕ) (first second : GameFile)
     → SpellsWithin a first → SpellsWithin b second → IsTrue answer ↔ SameBy names first second
@@ -17,6 +19,21 @@ same_as_read names answer a b first second of_a of_b same x y of_x of_y =
     (spells_one_file a first x of_a.spelled of_x.spelled)
     (subst (λ (z : GameFile). IsTrue answer ↔ SameBy names first z)
     (spells_one_file b second y of_b.spelled of_y.spelled) same)
+
+-- files of equal bytes mean the same
+one_meaning : (a b : List ℕ) → a ≡ b → (x y : GameFile) → SpellsWithin a x → SpellsWithin b y
+    → SameFile x y
+one_meaning a b equal x y of_x of_y =
+    let one : x ≡ y =
+    spells_one_file b x y (subst (λ (bytes : List ℕ). SpellsFile bytes x) equal of_x.spelled)
+    of_y.spelled in
+    (equal_canonical_texts a b x y of_x.spelled of_y.spelled).0 (ap canonical_text one)
+
+pub same_as_itself : (names : Names) (a b : List ℕ) → a ≡ b → (x y : GameFile) → SpellsWithin a x
+    → SpellsWithin b y → SameBy names x y
+same_as_itself Kept a b equal x y of_x of_y = one_meaning a b equal x y of_x of_y
+same_as_itself Aside a b equal x y of_x of_y =
+    same_is_so_aside x y (one_meaning a b equal x y of_x of_y)
 
 pub same_as_texts : (result : Result Bool SameFault) (a b s t : List ℕ)
     → (p : IsCanonicalText a s) → (q : IsCanonicalText b t)

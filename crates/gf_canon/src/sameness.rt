@@ -10,7 +10,7 @@ ghost use Rattle.gf_canon.specs.MeaningOf.{file_of};
 ghost use Rattle.gf_canon.specs.SameBy.{SameBy};
 ghost use Rattle.gf_canon.specs.Sameness.{AreRefusedWith, WantsMemory};
 
-use crate::checking::tell_file;
+use crate::checking::{check, tell_file};
 use crate::compare::same_name;
 use crate::comparison::Comparison;
 use crate::format::Format;
@@ -95,7 +95,8 @@ fn same_as_tree(alloc: Global, g: &Game<'_>, b: &[u8], names: Names) -> Result<b
 /// never a tree and a table.
 ///
 /// The first file is judged whole, and then the second, as `canonical` judges a file; what is put
-/// aside is matched while it is read, as ever. Spans are in bytes of the file that is refused.
+/// aside is matched while it is read, as ever. Files of equal bytes are judged once. Spans are in bytes
+/// of the file that is refused.
 /// - `First`: the first file is refused.
 /// - `Second`: the first file is accepted, and the second is refused.
 /// - `Memory`: both are accepted, and memory to compare them is refused.
@@ -105,6 +106,12 @@ pub fn same_by(alloc: Global, a: &[u8], b: &[u8], names: Names) -> Result<bool, 
     ensures accepted { OnOk result (MeansFile a.now × MeansFile b.now) }
     ensures refused { IfErr result (AreRefusedWith a.now b.now) }
 {
+    if a == b {
+        return match check(alloc, a) {
+            Ok(_) => Ok(true),
+            Err(fault) => Err(SameFault::First(fault)),
+        };
+    }
     let first = match read_file(alloc, a) {
         Ok(first) => first,
         Err(fault) => return Err(SameFault::First(fault)),
