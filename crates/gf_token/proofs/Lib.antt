@@ -11,3 +11,4 @@ pub mod SpelledNumbers
 pub mod SpelledTokens
 pub mod Starts
 pub mod TokensAhead
+pub mod TextsOfLabels

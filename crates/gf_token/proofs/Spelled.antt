@@ -67,7 +67,7 @@ goes_on_back true true h = refl
 goes_on_back true false h = absurd cc
 goes_on_back false escaped h = refl
 
-text_again : (l acc rest : List ℕ) (start at before : ℕ) → is_spelling_after before l ≡ true
+pub text_again : (l acc rest : List ℕ) (start at before : ℕ) → is_spelling_after before l ≡ true
     → lex (InText start before acc) at (l ++ 34 ∷ rest)
     ≡ lexeme start (at + length l + 1) (Text (acc ++ l)) ∷ lex Gap (at + length l + 1) rest
 unfolding lex

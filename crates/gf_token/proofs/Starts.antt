@@ -8,7 +8,7 @@ use Rattle.gf_token.specs.Token.{Token, Lexeme, lexeme}
 use Rattle.gf_token.specs.Token.Token.{Opening, Closing, Comma, Text, Bare, Broken}
 use Rattle.gf_token.specs.Lexing.{lex, ended, after, single, begins}
 use Rattle.gf_token.specs.Lexing.Mode.{Gap, InText, InBare}
-use Rattle.gf_token.specs.Next.{starts, is_text_token, is_bare_token}
+use Rattle.gf_token.specs.Next.{starts, is_quoted, is_text_token, is_bare_token}
 use Rattle.gf_token.specs.Next.{is_opening, is_closing, is_comma}
 use Rattle.gf_token.proofs.Steps.{lex_more, bare_out, bare_if, opening, closing, comma}
 
@@ -26,19 +26,25 @@ in_bare test none start text at (b ∷ bytes) =
     [ true ↦ in_bare test none start (text ++ b ∷ []) (at + 1) bytes | false ↦ none text ]
 
 -- what begins with a quote is a text, or broken
-pub in_text : (test : Token → Bool) → ((text : List ℕ) → test (Text text) ≡ false)
-    → test Broken ≡ false → (start before : ℕ) (text : List ℕ) (at : ℕ) (bytes : List ℕ)
-    → starts test (lex (InText start before text) at bytes) ≡ false
+pub in_text : (test : Token → Bool) (answer : Bool) → ((text : List ℕ) → test (Text text) ≡ answer)
+    → test Broken ≡ answer → (start before : ℕ) (text : List ℕ) (at : ℕ) (bytes : List ℕ)
+    → starts test (lex (InText start before text) at bytes) ≡ answer
 unfolding lex
-in_text test none broken start before text at [] = broken
-in_text test none broken start before text at (b ∷ bytes) =
+in_text test answer whole broken start before text at [] = broken
+in_text test answer whole broken start before text at (b ∷ bytes) =
     elim (b == 34 && not (before == 92)) as
     (λ v. starts test ((if v then lexeme start (at + 1) (Text text) ∷ [] else [])
     ++ lex (if v then Gap else InText start b (text ++ b ∷ [])) (at + 1) bytes)
-    ≡ false) [
-      | true ↦ none text
-      | false ↦ in_text test none broken start b (text ++ b ∷ []) (at + 1) bytes
+    ≡ answer) [
+      | true ↦ whole text
+      | false ↦ in_text test answer whole broken start b (text ++ b ∷ []) (at + 1) bytes
     ]
+
+pub quoted : (bytes : List ℕ) (at : ℕ) → at < length bytes → get_or bytes at 0 ≡ 34
+    → starts is_quoted (lex Gap at (drop at bytes)) ≡ true
+quoted bytes at lt is =
+    ap (starts is_quoted) (lex_more Gap bytes at lt) ∙ rw is
+    (in_text is_quoted true (λ t. refl) refl at 34 [] (at + 1) (drop (at + 1) bytes))
 
 -- the token that begins with the byte b at a place
 front : (test : Token → Bool) (bytes : List ℕ) (at b : ℕ) (rest : List ℕ)
@@ -58,7 +64,7 @@ bare_front test none at b rest h =
 module _ (test : Token → Bool) (bytes : List ℕ) (at : ℕ) (lt : at < length bytes)
     (space : is_space (get_or bytes at 0) ≡ false)
     (bare : is_bare (get_or bytes at 0) ≡ true → (text : List ℕ) → test (Bare text) ≡ false)
-    (quoted : get_or bytes at 0 ≡ 34 → (text : List ℕ) → test (Text text) ≡ false)
+    (texts : get_or bytes at 0 ≡ 34 → (text : List ℕ) → test (Text text) ≡ false)
     (broken : get_or bytes at 0 ≡ 34 → test Broken ≡ false)
     (opens : get_or bytes at 0 ≡ 123 → test Opening ≡ false)
     (closes : get_or bytes at 0 ≡ 125 → test Closing ≡ false)
@@ -67,7 +73,7 @@ module _ (test : Token → Bool) (bytes : List ℕ) (at : ℕ) (lt : at < length
   not_in_front =
       elim (cases_eq (get_or bytes at 0) 34) [
         | inl e ↦ front test bytes at 34 (drop (at + 1) bytes)
-            (in_text test (quoted e) (broken e) at 34 [] (at + 1) (drop (at + 1) bytes)) lt e refl
+            (in_text test false (texts e) (broken e) at 34 [] (at + 1) (drop (at + 1) bytes)) lt e refl
         | inr q ↦ elim (cases_eq (get_or bytes at 0) 123) [
           | inl e ↦ front test bytes at 123 (drop (at + 1) bytes) (opens e) lt e refl
           | inr o ↦ elim (cases_eq (get_or bytes at 0) 125) [
@@ -89,6 +95,12 @@ pub no_text : (bytes : List ℕ) (at : ℕ) → at < length bytes → is_space (
     → (get_or bytes at 0 ≡ 34 → ⊥) → starts is_text_token (lex Gap at (drop at bytes)) ≡ false
 no_text bytes at lt s q = not_in_front is_text_token bytes at lt s (λ b t. refl) (λ e. absurd (q e))
     (λ e. absurd (q e)) (λ e. refl) (λ e. refl) (λ e. refl)
+
+pub not_quoted : (bytes : List ℕ) (at : ℕ)
+    → at < length bytes → is_space (get_or bytes at 0) ≡ false → (get_or bytes at 0 ≡ 34 → ⊥)
+    → starts is_quoted (lex Gap at (drop at bytes)) ≡ false
+not_quoted bytes at lt s q = not_in_front is_quoted bytes at lt s (λ b t. refl)
+    (λ e. absurd (q e)) (λ e. absurd (q e)) (λ e. refl) (λ e. refl) (λ e. refl)
 
 pub no_bare : (bytes : List ℕ) (at : ℕ)
     → at < length bytes → is_space (get_or bytes at 0) ≡ false → is_bare (get_or bytes at 0) ≡ false
@@ -119,4 +131,4 @@ pub broken_front : (test : Token → Bool) (ls : List Lexeme) (start end : ℕ)
 broken_front test ls start end e h = ap (starts test) e ∙ h
 
 pub ruleset starts_steps =
-    (no_text, no_bare, no_opening, no_closing, no_comma, opening, closing, comma)
+    (quoted, not_quoted, no_text, no_bare, no_opening, no_closing, no_comma, opening, closing, comma)

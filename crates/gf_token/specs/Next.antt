@@ -25,6 +25,12 @@ abbrev pub is_text_token : Token → Bool
 is_text_token (Text _) = true
 is_text_token _ = false
 
+-- a text, or a quote at which none begins
+abbrev pub is_quoted : Token → Bool
+is_quoted (Text _) = true
+is_quoted Broken = true
+is_quoted _ = false
+
 abbrev pub is_bare_token : Token → Bool
 is_bare_token (Bare _) = true
 is_bare_token _ = false
@@ -43,3 +49,8 @@ is_word word _ = false
 abbrev pub is_letter : Token → Bool
 is_letter (Bare bytes) = pointwise nat_eq bytes (codes "R") || pointwise nat_eq bytes (codes "D")
 is_letter _ = false
+
+-- the text of this label
+abbrev pub is_text_of : List ℕ → Token → Bool
+is_text_of label (Text text) = pointwise nat_eq text label
+is_text_of label _ = false

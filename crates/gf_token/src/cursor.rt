@@ -13,8 +13,8 @@ ghost use Rattle.gf_token.specs.Finding.{lexed, ClosesText, EndsGap, Finds};
 ghost use Rattle.gf_token.specs.Token.{lexeme};
 ghost use Rattle.gf_token.specs.Indices.{index_of};
 ghost use Rattle.gf_token.specs.Label.{label_of};
-ghost use Rattle.gf_token.specs.Next.{starts, is_bare_token, is_closing};
-ghost use Rattle.gf_token.specs.Next.{is_comma, is_opening, is_text_token};
+ghost use Rattle.gf_token.specs.Next.{starts, is_bare_token, is_closing, is_quoted};
+ghost use Rattle.gf_token.specs.Next.{is_comma, is_opening, is_text_of, is_text_token};
 ghost use Rattle.gf_token.specs.Token.Token.{Bare, Broken, Closing, Comma, Opening, Text};
 ghost use Rattle.gf_token.specs.TokenSpelling.{Spells};
 ghost use Rattle.gf_token.specs.Cursor.{Nexts};
@@ -222,6 +222,31 @@ fn closing_quote(input: &[u8], start: usize) -> Option<usize>
     long_text_end(input, start)
 }
 
+/// Where the text of this label ends, if it begins at `start`. Its end is not searched for: the label
+/// has no quote that would close it.
+#[tactic(auto, using(crate::proofs::TextsOfLabels::label_steps))]
+#[inline(always)]
+fn end_of_label(input: &[u8], start: usize, label: Label<'_>) -> Option<usize>
+    requires within { start < length input.now }
+    requires no_gap { is_space (slice_index input.now start) ≡ false }
+    ensures { MatchOption result
+        (starts (is_text_of (label_of label.entry)) (lexed input.now start) ≡ false)
+        (λ end. (end ≤ length input.now) × (lexed input.now start
+        ≡ lexeme start end (Text (label_of label.entry)) ∷ lexed input.now end)) }
+{
+    let raw = label.raw();
+    let text = start + 1;
+    if input[start] != b'"' || input.len() - text <= raw.len() {
+        return None;
+    }
+    let quote = text + raw.len();
+    if input[quote] == b'"' && &input[text..quote] == raw {
+        Some(quote + 1)
+    } else {
+        None
+    }
+}
+
 /// The token that begins at `start`.
 #[tactic(auto, using(crate::proofs::Steps::token_steps))]
 fn token_at(input: &[u8], start: usize) -> Result<Token<'_>, Fault>
@@ -341,6 +366,19 @@ impl<'a> Cursor<'a> {
         Some((BareToken { span, bytes }, number))
     }
 
+    /// Whether the next token begins with a quote: it is a text, or a text that has no end. The
+    /// cursor stays.
+    #[tactic(auto, using(crate::proofs::Starts::starts_steps))]
+    #[inline(always)]
+    pub fn is_quoted(&self) -> bool
+        ensures { result ≡ starts is_quoted self.now }
+    {
+        match gap_end(self.input, self.at) {
+            Some(start) => self.input[start] == b'"',
+            None => false,
+        }
+    }
+
     /// The next token where it is a text, or `None`, and then the cursor stays.
     #[tactic(auto, using(crate::proofs::Starts::starts_steps))]
     #[inline(always)]
@@ -359,6 +397,21 @@ impl<'a> Cursor<'a> {
         self.at = end;
         let span = Span { start, end };
         Some(TextToken { span, label })
+    }
+
+    /// The place of the next token where it is the text of this label, or `None`, and then the cursor
+    /// stays.
+    #[tactic(auto, using(crate::proofs::Starts::starts_steps))]
+    #[inline(always)]
+    pub fn text_of(&mut self, label: Label<'_>) -> Option<Span>
+        ensures { MatchOption result
+            ((self.new ≡ self.old) × (starts (is_text_of (label_of label.entry)) self.old ≡ false))
+            (λ s. self.old ≡ lexeme s.start s.end (Text (label_of label.entry)) ∷ self.new) }
+    {
+        let start = gap_end(self.input, self.at)?;
+        let end = end_of_label(self.input, start, label)?;
+        self.at = end;
+        Some(Span { start, end })
     }
 
     /// The place of the next token where it is an opening brace, or `None`, and then the cursor

@@ -5,8 +5,8 @@ ghost use Rattle.gf_fraction.specs.Computed.{number_of};
 ghost use Rattle.gf_token.specs.Cursor.{Nexts};
 ghost use Rattle.gf_token.specs.Indices.{index_of};
 ghost use Rattle.gf_token.specs.Label.{label_of};
-ghost use Rattle.gf_token.specs.Next.{starts, is_bare_token, is_closing};
-ghost use Rattle.gf_token.specs.Next.{is_comma, is_opening, is_text_token};
+ghost use Rattle.gf_token.specs.Next.{starts, is_bare_token, is_closing, is_quoted};
+ghost use Rattle.gf_token.specs.Next.{is_comma, is_opening, is_text_of, is_text_token};
 ghost use Rattle.gf_token.specs.Remaining.{refusal, StandsBefore};
 ghost use Rattle.gf_token.specs.Token.{lexeme};
 ghost use Rattle.gf_token.specs.Token.Token.{Bare, Closing, Comma, Opening, Text};
@@ -14,6 +14,7 @@ ghost use Rattle.gf_token.specs.TokenSpelling.{Spells};
 
 use crate::cursor::Cursor;
 use crate::fault::{Fault, Span, Why};
+use crate::label::Label;
 use crate::token::{BareToken, TextToken, Token};
 use gf_fraction::{Fraction, NumberFault};
 use std::marker::Model;
@@ -93,6 +94,15 @@ impl<'a> Tokens<'a> {
         self.cursor.number()
     }
 
+    /// Whether the next token begins with a quote: it is a text, or a text that has no end. Nothing
+    /// is taken.
+    #[inline(always)]
+    pub fn is_quoted(&self) -> bool
+        ensures { result ≡ starts is_quoted self.now.ahead }
+    {
+        self.cursor.is_quoted()
+    }
+
     /// The next token where it is a text.
     #[inline(always)]
     pub fn text(&mut self) -> Option<TextToken<'a>>
@@ -104,6 +114,20 @@ impl<'a> Tokens<'a> {
         ensures place { IfSome result (λ t. StandsBefore self.new t.span) }
     {
         self.cursor.text()
+    }
+
+    /// The place of the next token where it is the text of this label.
+    #[inline(always)]
+    pub fn text_of(&mut self, label: Label<'_>) -> Option<Span>
+        ensures next { MatchOption result
+            ((self.new ≡ self.old)
+            × (starts (is_text_of (label_of label.entry)) self.old.ahead ≡ false))
+            (λ s. self.old.ahead
+            ≡ lexeme s.start s.end (Text (label_of label.entry)) ∷ self.new.ahead) }
+        ensures input { self.new.input ≡ self.old.input }
+        ensures place { IfSome result (λ s. StandsBefore self.new s) }
+    {
+        self.cursor.text_of(label)
     }
 
     /// The place of the next token where it is an opening brace.

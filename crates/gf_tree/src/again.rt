@@ -7,14 +7,14 @@ ghost use Rattle.gf_tree.specs.Actions.{action_of, actions_of};
 ghost use Rattle.gf_tree.specs.Description.{Action as spec_action, SetKey};
 ghost use Rattle.gf_tree.specs.GameParts.{outcome_with, set_with};
 ghost use Rattle.gf_tree.specs.Machine.{Begun, Content, begun};
-ghost use Rattle.gf_tree.specs.Machine.Position.{KnownAction, KnownOutcomeName};
+ghost use Rattle.gf_tree.specs.Machine.Position.{KnownAction, KnownOutcomeName, KnownOutcomeOpening};
 ghost use Rattle.gf_tree.specs.Machine.Position.{KnownPayoff, KnownProbability};
-ghost use Rattle.gf_tree.specs.Machine.Position.{KnownSetName, NodeDue, OutcomeNumber};
-ghost use Rattle.gf_tree.specs.ReaderState.{behind_label, Goes, heard};
+ghost use Rattle.gf_tree.specs.Machine.Position.{KnownSetName, KnownSetOpening, NodeDue, OutcomeNumber};
+ghost use Rattle.gf_tree.specs.ReaderState.{Goes, heard};
 
 use crate::action::Action;
 use gf_fraction::Fraction;
-use gf_token::{Fault, Label, TextToken, Tokens, What, Why};
+use gf_token::{Fault, Label, Tokens, What, Why};
 
 /// Reads a number that is to have this value.
 fn same_probability(tokens: &mut Tokens<'_>, probability: Fraction) -> Result<(), Fault>
@@ -45,14 +45,13 @@ fn same_action<'a>(tokens: &mut Tokens<'a>, action: &Action<'a>) -> Result<(), F
         (heard (KnownAction b others) c tokens.new) }
     ensures shorter { OnOk result (length tokens.new.ahead ≤ length tokens.old.ahead) }
 {
-    if let Some(found) = tokens.text() {
-        if found.label != action.label {
-            return Err(Fault::at(found.span, Why::Mismatch));
-        }
+    if let Some(_) = tokens.text_of(action.label) {
         match action.probability {
             Some(probability) => same_probability(tokens, probability),
             None => Ok(()),
         }
+    } else if let Some(other) = tokens.text() {
+        Err(Fault::at(other.span, Why::Mismatch))
     } else if let Some(brace) = tokens.closing() {
         Err(Fault::at(brace, Why::Mismatch))
     } else {
@@ -76,25 +75,14 @@ fn same_actions_end(tokens: &mut Tokens<'_>) -> Result<(), Fault>
     }
 }
 
-/// Reads the description of a set that is known, behind the text that stands where its name is due.
+/// Reads the actions of a set that is known, behind its name.
 #[inline(never)]
-fn same_set_named<'a>(
-    tokens: &mut Tokens<'a>,
-    text: TextToken<'a>,
-    name: Label<'a>,
-    actions: &[Action<'a>],
-) -> Result<(), Fault>
-    ensures machine { (c : Content) (node : List ℕ) (key : SetKey)
-        → Goes (heard (KnownSetName node key
-        (set_with (label_of name.entry) (actions_of actions.now))) c
-        (behind_label tokens.old text.entry)) result
-        (heard (OutcomeNumber (begun node key
-        (set_with (label_of name.entry) (actions_of actions.now)))) c tokens.new) }
+fn same_actions<'a>(tokens: &mut Tokens<'a>, actions: &[Action<'a>]) -> Result<(), Fault>
+    ensures machine { (c : Content) (b : Begun)
+        → Goes (heard (KnownSetOpening b (actions_of actions.now)) c tokens.old) result
+        (heard (OutcomeNumber b) c tokens.new) }
     ensures shorter { OnOk result (length tokens.new.ahead ≤ length tokens.old.ahead) }
 {
-    if text.label != name {
-        return Err(Fault::at(text.span, Why::Mismatch));
-    }
     let Some(_) = tokens.opening() else {
         return Err(tokens.refusal(Why::Expected(What::Opening)));
     };
@@ -118,9 +106,12 @@ pub(crate) fn same_set<'a>(
         (set_with (label_of name.entry) (actions_of actions.now)))) c tokens.new) }
     ensures shorter { OnOk result (length tokens.new.ahead ≤ length tokens.old.ahead) }
 {
-    match tokens.text() {
-        Some(text) => same_set_named(tokens, text, name, actions),
-        None => Ok(()),
+    if let Some(_) = tokens.text_of(name) {
+        same_actions(tokens, actions)
+    } else if let Some(other) = tokens.text() {
+        Err(Fault::at(other.span, Why::Mismatch))
+    } else {
+        Ok(())
     }
 }
 
@@ -147,23 +138,13 @@ fn same_payoff(tokens: &mut Tokens<'_>, payoff: Fraction) -> Result<(), Fault>
     }
 }
 
-/// Reads the description of an outcome that is known, behind the text that stands where its name is
-/// due.
-pub(crate) fn same_outcome<'a>(
-    tokens: &mut Tokens<'a>,
-    text: TextToken<'a>,
-    name: Label<'a>,
-    payoffs: &[Fraction],
-) -> Result<(), Fault>
+/// Reads the payoffs of an outcome that is known, behind its name.
+fn same_payoffs(tokens: &mut Tokens<'_>, payoffs: &[Fraction]) -> Result<(), Fault>
     ensures machine { (c : Content)
-        → Goes (heard (KnownOutcomeName (outcome_with (label_of name.entry) payoffs.now)) c
-        (behind_label tokens.old text.entry)) result
+        → Goes (heard (KnownOutcomeOpening payoffs.now) c tokens.old) result
         (heard NodeDue c tokens.new) }
     ensures shorter { OnOk result (length tokens.new.ahead ≤ length tokens.old.ahead) }
 {
-    if text.label != name {
-        return Err(Fault::at(text.span, Why::Mismatch));
-    }
     let Some(_) = tokens.opening() else {
         return Err(tokens.refusal(Why::Expected(What::Opening)));
     };
@@ -174,4 +155,24 @@ pub(crate) fn same_outcome<'a>(
         return Err(tokens.refusal(Why::Expected(What::Closing)));
     };
     Ok(())
+}
+
+/// Reads the description of an outcome that is known, if there is one.
+pub(crate) fn same_outcome<'a>(
+    tokens: &mut Tokens<'a>,
+    name: Label<'a>,
+    payoffs: &[Fraction],
+) -> Result<(), Fault>
+    ensures machine { (c : Content)
+        → Goes (heard (KnownOutcomeName (outcome_with (label_of name.entry) payoffs.now)) c
+        tokens.old) result (heard NodeDue c tokens.new) }
+    ensures shorter { OnOk result (length tokens.new.ahead ≤ length tokens.old.ahead) }
+{
+    if let Some(_) = tokens.text_of(name) {
+        same_payoffs(tokens, payoffs)
+    } else if let Some(other) = tokens.text() {
+        Err(Fault::at(other.span, Why::Mismatch))
+    } else {
+        Ok(())
+    }
 }

@@ -156,20 +156,19 @@ impl<'a> Reader<'a> {
         self.end_outcome(node, set, number, name.label, to)
     }
 
-    /// Reads the description of a known outcome, behind the text that stands where its name is due.
+    /// Reads the description of a known outcome, if there is one, behind its node.
     #[inline(never)]
-    fn outcome_repeated(&mut self, place: u32, text: TextToken<'a>) -> Result<(), Fault>
+    fn outcome_described(&mut self, place: u32) -> Result<(), Fault>
         requires place { place < length self.old.outcomes.known }
         ensures machine { (outcome : Outcome)
             → option_map (λ o. o.description) (slice_get self.old.outcomes.known place)
             ≡ Some outcome
-            → Goes (heard (KnownOutcomeName outcome) (content_of self.old)
-            (behind_label self.old.tokens text.entry)) result (answer NodeDue self.new) }
+            → Goes (answer (KnownOutcomeName outcome) self.old) result (answer NodeDue self.new) }
         ensures kept { self.new ≡ record self.old { tokens = self.new.tokens } }
         ensures shorter { OnOk result (length self.new.tokens.ahead ≤ length self.old.tokens.ahead) }
     {
         let (name, payoffs) = (self.outcomes.name(place), self.outcomes.payoffs(place));
-        same_outcome(&mut self.tokens, text, name, payoffs)
+        same_outcome(&mut self.tokens, name, payoffs)
     }
 
     /// Reads the description of a known outcome, if there is one, behind its node. Most uses have
@@ -184,10 +183,11 @@ impl<'a> Reader<'a> {
         ensures kept { self.new ≡ record self.old { tokens = self.new.tokens } }
         ensures shorter { OnOk result (length self.new.tokens.ahead ≤ length self.old.tokens.ahead) }
     {
-        let Some(text) = self.tokens.text() else {
-            return Ok(());
-        };
-        self.outcome_repeated(place, text)
+        if self.tokens.is_quoted() {
+            self.outcome_described(place)
+        } else {
+            Ok(())
+        }
     }
 
     /// Reads the number of a node's outcome, or 0 for none, and the outcome's description, if there

@@ -5,7 +5,7 @@ use Rattle.gf_tree.specs.Machine.Position.{KnownPayoff}
 use Rattle.gf_tree.specs.ReaderState.{heard}
 use Rattle.gf_tree.specs.ReaderState.Fails.{of_file}
 use Rattle.gf_tree.proofs.ReaderSteps.{carried, goes_back}
-use Rattle.gf_tree.proofs.again.same_outcome.Goals as goal
+use Rattle.gf_tree.proofs.again.same_payoffs.Goals as goal
 
 pub returns-in_err-same_payoff-clause-machine : goal.returns-in_err-same_payoff-clause-machine
 returns-in_err-same_payoff-clause-machine c = λ content.
