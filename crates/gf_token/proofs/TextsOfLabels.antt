@@ -78,11 +78,13 @@ begun label at bytes [] h s is = absurd cc
 begun label at bytes (l ∷ ls) h s is =
     let first = h.0 in
     let none = no_gap first.gap (spelling l.token ++ first.rest) first.is_gap
-    (subst (λ (x : List ℕ). is_space (get_or x 0 0) ≡ false) first.parts s) in
-    (first.rest, first.parts
-    ∙ ap (λ (x : List ℕ). x ++ (spelling l.token ++ first.rest)) none
-    ∙ ap (λ (t : Token). spelling t ++ first.rest) (is_that_text label l.token is)
-    ∙ ap (λ (x : List ℕ). 34 ∷ x) (append_assoc label (34 ∷ []) first.rest))
+    (subst (λ (x : List ℕ). is_space (get_or x 0 0) ≡ false) first.parts s) in (
+      first.rest,
+      first.parts
+          ∙ ap (λ (x : List ℕ). x ++ (spelling l.token ++ first.rest)) none
+          ∙ ap (λ (t : Token). spelling t ++ first.rest) (is_that_text label l.token is)
+          ∙ ap (λ (x : List ℕ). 34 ∷ x) (append_assoc label (34 ∷ []) first.rest),
+    )
 
 quoted : (bytes label rest : List ℕ) (start : ℕ) → drop start bytes ≡ 34 ∷ (label ++ 34 ∷ rest)
     → Quotes bytes start label

@@ -107,6 +107,46 @@ fn reads_the_number_that_is_asked_for(rt: HostRuntime) -> Result<(), Fail> {
 }
 
 #[test]
+fn takes_the_label_that_is_asked_for(rt: HostRuntime) {
+    let label = Label::new(b"a\\\"b").unwrap();
+    let rows: [(&[u8], Option<usize>); 7] = [
+        (b"\"a\\\"b\"", Some(6)),
+        (b"\"a\\\"b\"{", Some(6)),
+        (b"\"a\\\"bc\"", None),
+        (b"\"a\\\"\"", None),
+        (b"\"a\\\"b", None),
+        (b"a\\\"b", None),
+        (b"", None),
+    ];
+    for (input, end) in rows {
+        let span = end.map(|end| Span { start: 0, end });
+        assert_eq!(rt; Cursor::new(input).text_of(label), span);
+    }
+    let mut cursor = Cursor::new(b" \"\"\"x\"");
+    assert_eq!(rt; cursor.text_of(label), None);
+    assert_eq!(rt;
+        cursor.text_of(Label::new(b"").unwrap()),
+        Some(Span { start: 1, end: 3 })
+    );
+    assert_eq!(rt; found(&mut cursor), ('t', 3, 6));
+}
+
+#[test]
+fn tells_whether_a_quote_comes_next(rt: HostRuntime) {
+    let rows: [(&[u8], bool); 6] = [
+        (b" \"a\"", true),
+        (b"\"a", true),
+        (b"{\"a\"", false),
+        (b"a\"", false),
+        (b" ", false),
+        (b"", false),
+    ];
+    for (input, quoted) in rows {
+        assert_eq!(rt; Cursor::new(input).is_quoted(), quoted);
+    }
+}
+
+#[test]
 fn finds_tokens(rt: HostRuntime) {
     let rows: [(&[u8], &[(char, usize, usize)]); 7] = [
         (b"", &[('.', 0, 0), ('.', 0, 0)]),

@@ -18,6 +18,7 @@ pub mod Lookups
 pub mod MappedTrees
 pub mod Members
 pub mod OutcomePlaces
+pub mod PassedBy
 pub mod Places
 pub mod PlayerSets
 pub mod Prefix

@@ -18,7 +18,7 @@ use Rattle.gf_fraction.specs.Ratio.{Ratio}
 use Rattle.gf_token.specs.Label.{label_of}
 use Rattle.gf_token.specs.Positions.{at_position}
 use Rattle.gf_tree.specs.Description.{Action, InformationSet, Outcome, SetKey, same_set, set_of}
-use Rattle.gf_tree.specs.FiniteMap.{Described}
+use Rattle.gf_tree.specs.FiniteMap.{Described, description_at}
 use Rattle.gf_tree.specs.Game.{Game}
 use Rattle.gf_tree.specs.Judgement.{IsReadAs}
 use Rattle.gf_tree.proofs.RunPassed.{passed_before}
@@ -312,24 +312,33 @@ taken {t} {u} {l} ahead input = λ i. record { input = sym input i; ahead = ahea
 
 -- ---- a set that is known
 
-pub set_again : (c : Content) (node : List ℕ) (player n place a b : ℕ) (t : List ℕ)
-    (all rest behind : Remaining) (set : InformationSet)
-    → all ≡ record { input = rest.input; ahead = lexeme a b (Bare t) ∷ rest.ahead }
-    → Some n ≡ count_of t → FoundSet c.sets (set_of player n) place set
-    → heard (KnownSetName node (set_of player n) set) c rest
-    ≡ heard (OutcomeNumber (begun node (set_of player n) set)) c behind
-    → heard (SetNumber node player) c all
+-- behind its number its description, if there is one, was read
+pub set_known_again : (c : Content) (node : List ℕ) (key : SetKey) (place : ℕ)
+    (rest behind : Remaining) (set : InformationSet) → FoundSet c.sets key place set
+    → heard (KnownSetName node key set) c rest ≡ heard (OutcomeNumber (begun node key set)) c behind
+    → heard (behind_set node key (description_at same_set c.sets key)) c rest
     ≡ heard (OutcomeNumber (begun_with c.sets node (suc place))) c behind
-set_again c node player n place a b t all rest behind set is number found goes =
+set_known_again c node key place rest behind set found goes =
+    ap (λ o. heard (behind_set node key o) c rest) found.described
+    ∙ goes
+    ∙ ap (λ (x : Begun). heard (OutcomeNumber x) c behind) (sym (found.begins node))
+
+-- its number is read
+pub set_again : (c : Content) (node : List ℕ) (player n a b : ℕ) (t : List ℕ)
+    (all rest : Remaining) (after : Answer)
+    → all ≡ record { input = rest.input; ahead = lexeme a b (Bare t) ∷ rest.ahead }
+    → Some n ≡ count_of t
+    → heard (behind_set node (set_of player n)
+    (description_at same_set c.sets (set_of player n))) c rest ≡ after
+    → heard (SetNumber node player) c all ≡ after
+set_again c node player n a b t all rest after is number goes =
     ap (heard (SetNumber node player) c) is
     ∙ ap (λ o. record {
       input = rest.input;
       machine = then_on (lexeme a b (Bare t)) (set_number c node player o)
           (λ s. run (length rest.input) s.position s.content rest.ahead);
     }) (sym number)
-    ∙ ap (λ o. heard (behind_set node (set_of player n) o) c rest) found.described
     ∙ goes
-    ∙ ap (λ (x : Begun). heard (OutcomeNumber x) c behind) (sym (found.begins node))
 
 -- ---- a new set is whole
 

@@ -16,7 +16,7 @@ use Rattle.gf_tree.specs.FiniteMap.{Described}
 use Rattle.gf_tree.specs.Game.{Node}
 use Rattle.gf_tree.specs.KeptNodes.{ArePlaced, IsPlaced, Kept, child_count}
 use Rattle.gf_tree.specs.KeptNodes.{entries_with, entry_with}
-use Rattle.gf_tree.specs.Machine.{Begun, Content, Position, run, with_node}
+use Rattle.gf_tree.specs.Machine.{Begun, Content, Position, State, run, with_node}
 use Rattle.gf_tree.specs.Machine.Position.{NodeDue}
 use Rattle.gf_tree.specs.Passed.{HasPassed}
 use Rattle.gf_tree.specs.PrefixOrder.{Entry}
@@ -53,6 +53,9 @@ pub record Answer : Type 0 where
 
 abbrev pub heard : Position → Content → Remaining → Answer
 heard q c t = record { input = t.input; machine = run (length t.input) q c t.ahead }
+
+abbrev pub heard_from : State → Remaining → Answer
+heard_from s t = heard s.position s.content t
 
 abbrev pub answer : Position → Reader → Answer
 answer q r = heard q (content_of r) r.tokens

@@ -10,17 +10,19 @@ ghost use Rattle.gf_tree.specs.FiniteMap.{description_at};
 ghost use Rattle.gf_tree.specs.FoundSet.{FoundOutcome};
 ghost use Rattle.gf_tree.specs.GameParts.{outcome_with};
 ghost use Rattle.gf_tree.specs.KeptNodes.{position_of};
-ghost use Rattle.gf_tree.specs.Machine.{Begun, with_outcome};
+ghost use Rattle.gf_tree.specs.Machine.{Begun, behind_outcome, with_outcome};
 ghost use Rattle.gf_tree.specs.Machine.Position.{KnownOutcomeName, NewOutcomeName};
 ghost use Rattle.gf_tree.specs.Machine.Position.{NewPayoff, NodeDue, OutcomeNumber};
-ghost use Rattle.gf_tree.specs.ReaderState.{answer, begun_with, behind_label, content_of};
-ghost use Rattle.gf_tree.specs.ReaderState.{Goes, GoesTelling, Grows, HasRoom, IsSound, heard};
+ghost use Rattle.gf_tree.specs.ReaderState.{answer, begun_with, content_of};
+ghost use Rattle.gf_tree.specs.ReaderState.{Goes, GoesTelling, Grows, HasRoom, heard_from};
+ghost use Rattle.gf_tree.specs.ReaderState.{IsSound};
+ghost use Rattle.gf_token.specs.Remaining.{StandsBefore};
 
 use super::Reader;
 use crate::again::same_outcome;
 use crate::outcomes::Outcomes;
 use crate::receive::Receive;
-use gf_token::{Fault, Label, TextToken, What, Why};
+use gf_token::{Fault, Label, Span, What, Why};
 use std::alloc::AllocError;
 
 /// The place of an outcome, where it is known.
@@ -157,8 +159,7 @@ impl<'a> Reader<'a> {
     }
 
     /// Reads the description of a known outcome, if there is one, behind its node.
-    #[inline(never)]
-    fn outcome_described(&mut self, place: u32) -> Result<(), Fault>
+    fn outcome_again(&mut self, place: u32) -> Result<(), Fault>
         requires place { place < length self.old.outcomes.known }
         ensures machine { (outcome : Outcome)
             → option_map (λ o. o.description) (slice_get self.old.outcomes.known place)
@@ -171,27 +172,43 @@ impl<'a> Reader<'a> {
         same_outcome(&mut self.tokens, name, payoffs)
     }
 
-    /// Reads the description of a known outcome, if there is one, behind its node. Most uses have
-    /// none, and then nothing is looked up.
-    #[inline(always)]
-    fn outcome_again(&mut self, place: u32) -> Result<(), Fault>
-        requires place { place < length self.old.outcomes.known }
-        ensures machine { (outcome : Outcome)
-            → option_map (λ o. o.description) (slice_get self.old.outcomes.known place)
-            ≡ Some outcome
-            → Goes (answer (KnownOutcomeName outcome) self.old) result (answer NodeDue self.new) }
-        ensures kept { self.new ≡ record self.old { tokens = self.new.tokens } }
+    /// Reads the description of an outcome, behind the outcome's number, which stands there: the first
+    /// one, or one that is repeated. With it the node is whole.
+    #[inline(never)]
+    fn described_outcome<R: Receive<'a>>(
+        &mut self,
+        node: Label<'a>,
+        set: Option<u32>,
+        number: u32,
+        stands: Span,
+        to: &mut R,
+    ) -> Result<(), Fault>
+        requires positive { 0 < number }
+        requires sound { IsSound self.old }
+        requires due { 0 < self.old.due }
+        requires room { HasRoom 1 self.old }
+        requires set { MatchOption set ⊤ (λ place. place < length self.old.sets.known) }
+        requires stands { StandsBefore self.old.tokens stands }
+        ensures machine { GoesTelling R.holds result
+            (heard_from (behind_outcome (content_of self.old)
+            (begun_with self.old.sets.known (label_of node.entry) (position_of set)) number
+            (description_at nat_eq self.old.outcomes.known number)) self.old.tokens)
+            self.old self.new to.old to.new }
+        ensures sound { OnOk result (IsSound self.new) }
+        ensures room { OnOk result (HasRoom 0 self.new) }
         ensures shorter { OnOk result (length self.new.tokens.ahead ≤ length self.old.tokens.ahead) }
     {
-        if self.tokens.is_quoted() {
-            self.outcome_described(place)
-        } else {
-            Ok(())
-        }
+        let Some(place) = found(&self.outcomes, number) else {
+            return self.new_outcome(node, set, number, to);
+        };
+        let Ok(()) = self.tell(node, set, Some(place), to) else {
+            return Err(Fault::at(stands, Why::Memory));
+        };
+        self.outcome_again(place)
     }
 
     /// Reads the number of a node's outcome, or 0 for none, and the outcome's description, if there
-    /// is one. With it the node is whole.
+    /// is one, which is asked first as for sets. With it the node is whole.
     #[inline(always)]
     pub(super) fn outcome<R: Receive<'a>>(
         &mut self,
@@ -222,12 +239,15 @@ impl<'a> Reader<'a> {
             };
             return Ok(());
         }
+        if self.tokens.is_quoted() {
+            return self.described_outcome(node, set, number, word.span, to);
+        }
         let Some(place) = found(&self.outcomes, number) else {
-            return self.new_outcome(node, set, number, to);
+            return Err(self.tokens.refusal(Why::NotDescribed));
         };
         let Ok(()) = self.tell(node, set, Some(place), to) else {
             return Err(Fault::at(word.span, Why::Memory));
         };
-        self.outcome_again(place)
+        Ok(())
     }
 }

@@ -12,7 +12,7 @@ ghost use Rattle.gf_tree.specs.Description.{same_set, set_of};
 ghost use Rattle.gf_tree.specs.FiniteMap.{description_at};
 ghost use Rattle.gf_tree.specs.FoundSet.{FoundSet};
 ghost use Rattle.gf_tree.specs.GameParts.{set_with};
-ghost use Rattle.gf_tree.specs.Machine.{begun, with_set};
+ghost use Rattle.gf_tree.specs.Machine.{begun, behind_set, with_set};
 ghost use Rattle.gf_tree.specs.Machine.Position.{NewAction, NewProbability};
 ghost use Rattle.gf_tree.specs.Machine.Position.{NewSetName, OutcomeNumber, SetNumber};
 ghost use Rattle.gf_tree.specs.ReaderState.{answer, begun_with, behind_label, content_of};
@@ -216,8 +216,36 @@ impl<'a> Reader<'a> {
         self.end_set(player, number, name.label, sum)
     }
 
+    /// Reads the description of a set, behind the set's number: the first one, or one that is repeated.
+    /// Answers the set's place.
+    #[inline(never)]
+    fn described_set(&mut self, player: u32, number: u32) -> Result<u32, Fault>
+        requires sound { IsSound self.old }
+        ensures machine { (node : List ℕ) → MatchResult result
+            (λ place. answer (behind_set node (set_of player number)
+            (description_at same_set self.old.sets.known (set_of player number))) self.old
+            ≡ answer (OutcomeNumber (begun_with self.new.sets.known node (suc place))) self.new)
+            (λ f. Fails f (answer (behind_set node (set_of player number)
+            (description_at same_set self.old.sets.known (set_of player number))) self.old)) }
+        ensures sound { OnOk result (IsSound self.new) }
+        ensures kept { OnOk result (self.new
+            ≡ record self.old { tokens = self.new.tokens; sets = self.new.sets }) }
+        ensures grows { OnOk result (Grows self.old.sets.known self.new.sets.known) }
+        ensures place { IfOk result (λ place. place < length self.new.sets.known) }
+        ensures shorter { OnOk result (length self.new.tokens.ahead ≤ length self.old.tokens.ahead) }
+    {
+        let Some(set) = described(&self.sets, player, number) else {
+            return self.new_set(player, number);
+        };
+        same_set(&mut self.tokens, set.name, set.actions)?;
+        Ok(set.place)
+    }
+
     /// Reads the number of a player's set, chance being player 0, and its description, if there is
     /// one. Answers the set's place.
+    ///
+    /// Whether a description follows is asked first: it mostly does where the set is new, and mostly
+    /// does not where it is known, so that the way on does not wait for the set's place.
     #[inline(always)]
     pub(super) fn set(&mut self, player: u32) -> Result<u32, Fault>
         requires sound { IsSound self.old }
@@ -238,10 +266,12 @@ impl<'a> Reader<'a> {
         let Some(number) = readings::count(index) else {
             return Err(Fault::at(word.span, Why::BadIndex));
         };
-        let Some(set) = described(&self.sets, player, number) else {
-            return self.new_set(player, number);
-        };
-        same_set(&mut self.tokens, set.name, set.actions)?;
-        Ok(set.place)
+        if self.tokens.is_quoted() {
+            return self.described_set(player, number);
+        }
+        match described(&self.sets, player, number) {
+            Some(set) => Ok(set.place),
+            None => Err(self.tokens.refusal(Why::NotDescribed)),
+        }
     }
 }

@@ -1,11 +1,15 @@
-use Rattle.std.proofs.Common.{Some, None, length, refl, rules}
+use Rattle.std.proofs.Common.{◌≡◌, ◌∙◌, ap, sym, false, Some, None, length, refl, rules}
 use Rattle.gf_token.specs.Label.{label_of}
 use Rattle.gf_tree.specs.KeptNodes.{position_of}
 use Rattle.gf_tree.specs.Machine.{with_node}
 use Rattle.gf_tree.specs.Machine.Position.{KnownOutcomeName, NodeDue}
 use Rattle.gf_tree.specs.ReaderState.{begun_with, content_of}
 use Rattle.gf_tree.proofs.ReaderSteps.{wants_memory}
-use Rattle.gf_tree.proofs.Telling.{grows_none, placed_at, tells, tells_again}
+use Rattle.gf_tree.proofs.PassedBy.{outcome_passed_by}
+use Rattle.gf_tree.proofs.Telling.{grows_none, placed_at, tells}
+use Rattle.gf_tree.specs.declared.reader.Reader.{Reader}
+use Rattle.gf_token.specs.Next.{is_quoted, starts}
+use Rattle.gf_token.specs.Remaining.{Remaining}
 use Rattle.gf_tree.proofs.reader.Reader.outcome.Goals as goal
 
 pub returns-in_default-tell-clause-machine : goal.returns-in_default-tell-clause-machine
@@ -35,11 +39,16 @@ returns-in_default-tell-2-clause-machine g c =
 pub returns-clause-machine : goal.returns-clause-machine
 returns-clause-machine g c =
     let known = c.in-Some-found.ensures.known in
-    tells_again (KnownOutcomeName known.outcome) c.args.self.now
-    (record c.args.self.now { tokens = c.index.new.self }) c.tell-2.new.self
-    c.outcome_again.new.self _ c.outcome_again.result
+    let told = c.in-Ok-tell.ensures.told in
+    let now = c.tell-2.new.self in
+    let same : now.tokens ≡ c.index.new.self = ap (λ (r : Reader). r.tokens) told.kept in
+    let none : starts is_quoted now.tokens.ahead ≡ false =
+    ap (λ (t : Remaining). starts is_quoted t.ahead) same
+    ∙ sym c.is_quoted.ensures ∙ c.if-is_quoted.false in
+    tells (KnownOutcomeName known.outcome) {old = c.args.self.now}
+    {r = record c.args.self.now { tokens = c.index.new.self }}
     refl refl (grows_none c.args.self.now.sets.known) (grows_none c.args.self.now.outcomes.known)
     (placed_at (length c.args.self.now.sets.known) (length c.args.self.now.outcomes.known)
     (label_of c.args.node) c.args.set (Some c.in-Some-found.place) c.requires.set known.within)
-    c.in-Ok-tell.ensures.told (search rules) c.outcome_again.ensures.kept
-    (c.outcome_again.ensures.machine known.outcome (search rules))
+    told (search rules) refl
+    (outcome_passed_by (content_of now) known.outcome now.tokens.input now.tokens.ahead none)

@@ -1,20 +1,19 @@
+use Rattle.std.proofs.Common.{◌∙◌, ap, rules}
+use Rattle.gf_token.specs.Indices.{positive}
 use Rattle.gf_tree.specs.Description.{set_of}
 use Rattle.gf_tree.specs.ReaderState.{content_of}
-use Rattle.gf_tree.proofs.ReaderSteps.{set_again, taken}
-use Rattle.std.proofs.Common.{ap, ◌∙◌, rules}
-use Rattle.gf_token.specs.Indices.{positive}
-use Rattle.gf_tree.proofs.ReaderSteps.{carried, fails_back}
+use Rattle.gf_tree.proofs.PassedBy.{set_passed_by}
+use Rattle.gf_tree.proofs.ReaderSteps.{set_again, set_known_again, taken}
 use Rattle.gf_tree.proofs.reader.Reader.set.Goals as goal
 
-pub returns-clause-machine : goal.returns-clause-machine
-returns-clause-machine c = λ node.
-    set_again (content_of c.args.self.now) node c.args.player c.in-Some-count.number
-    c.in-Some-described.set.place _ _ _ c.args.self.now.tokens c.index.new.self c.same_set.new.tokens _
+pub returns-in-Some-described-clause-machine : goal.returns-in-Some-described-clause-machine
+returns-in-Some-described-clause-machine c = λ node.
+    let content = content_of c.args.self.now in
+    let key = set_of c.args.player c.in-Some-count.number in
+    let tokens = c.index.new.self in
+    set_again content node c.args.player c.in-Some-count.number _ _ _ c.args.self.now.tokens tokens _
     (taken c.in-Some.ensures.next c.in-Some.ensures.input)
-    (c.in-Some-count.ensures ∙ ap positive c.in-Some.ensures.index) c.in-Some-described.ensures.known
-    (c.in_ok-same_set.ensures.machine (content_of c.args.self.now) node _)
-
-pub returns-in_err-same_set-clause-machine : goal.returns-in_err-same_set-clause-machine
-returns-in_err-same_set-clause-machine c = λ node.
-    fails_back {r = c.from_residual.result} _ (search rules) (carried (c.in_err-same_set.ensures.machine
-    (content_of c.args.self.now) node (set_of c.args.player c.in-Some-count.number)) (search rules))
+    (c.in-Some-count.ensures ∙ ap positive c.in-Some.ensures.index)
+    (set_known_again content node key c.in-Some-described.set.place tokens tokens _
+    c.in-Some-described.ensures.known (set_passed_by content node key _ tokens.input tokens.ahead
+    (search rules)))
