@@ -5,6 +5,7 @@ ghost use Rattle.std.specs.Prelude.{map, nat_eq, option_map, position, slice_get
 ghost use Rattle.std.specs.Prelude.{IfNone, IfOk, IfSome, OnOk, MatchOption, ⊤};
 ghost use Rattle.gf_token.specs.Label.{label_of};
 ghost use Rattle.gf_token.specs.Positions.{at_position};
+ghost use Rattle.gf_token.specs.Remaining.{StandsBefore};
 ghost use Rattle.gf_tree.specs.Description.{Outcome};
 ghost use Rattle.gf_tree.specs.FiniteMap.{description_at};
 ghost use Rattle.gf_tree.specs.FoundSet.{FoundOutcome};
@@ -16,7 +17,6 @@ ghost use Rattle.gf_tree.specs.Machine.Position.{NewPayoff, NodeDue, OutcomeNumb
 ghost use Rattle.gf_tree.specs.ReaderState.{answer, begun_with, content_of};
 ghost use Rattle.gf_tree.specs.ReaderState.{Goes, GoesTelling, Grows, HasRoom, heard_from};
 ghost use Rattle.gf_tree.specs.ReaderState.{IsSound};
-ghost use Rattle.gf_token.specs.Remaining.{StandsBefore};
 
 use super::Reader;
 use crate::again::same_outcome;
@@ -208,7 +208,7 @@ impl<'a> Reader<'a> {
     }
 
     /// Reads the number of a node's outcome, or 0 for none, and the outcome's description, if there
-    /// is one, which is asked first as for sets. With it the node is whole.
+    /// is one. Whether there is one is asked first, as for sets. With it the node is whole.
     #[inline(always)]
     pub(super) fn outcome<R: Receive<'a>>(
         &mut self,

@@ -234,11 +234,14 @@ impl<'a> Reader<'a> {
         ensures place { IfOk result (λ place. place < length self.new.sets.known) }
         ensures shorter { OnOk result (length self.new.tokens.ahead ≤ length self.old.tokens.ahead) }
     {
-        let Some(set) = described(&self.sets, player, number) else {
-            return self.new_set(player, number);
+        let place = match described(&self.sets, player, number) {
+            Some(set) => {
+                same_set(&mut self.tokens, set.name, set.actions)?;
+                set.place
+            }
+            None => self.new_set(player, number)?,
         };
-        same_set(&mut self.tokens, set.name, set.actions)?;
-        Ok(set.place)
+        Ok(place)
     }
 
     /// Reads the number of a player's set, chance being player 0, and its description, if there is
