@@ -1,3 +1,4 @@
+pub mod CarriedLines
 pub mod Errors
 pub mod FewPlayers
 pub mod FormTexts

@@ -14,7 +14,7 @@ use Rattle.gf_tree.specs.Game.{Game}
 use Rattle.gf_tree.specs.Renumbering.{Renumbering}
 use Rattle.gf_tree.specs.Spellable.{IsSpellable}
 use Rattle.gf_canon.proofs.CanonicalNumbers.{no_numbers}
-use Rattle.gamefile.specs.SameText.{set_line, set_lines}
+use Rattle.gamefile.specs.SameText.{outcome_lines, renumbering_lines, set_line, set_lines}
 
 -- ---- one for each item
 
@@ -69,6 +69,17 @@ module _ (f : ℕ → List ℕ) where
       ∙ ap (λ (bs : List ℕ). start ++ (flat_map f so_far ++ bs)) (sym (append-nil (f (before + 1))))
       ∙ ap (λ (bs : List ℕ). start ++ bs) (sym (flat_map-append f so_far ((before + 1) ∷ [])))
       ∙ ap (λ (ks : List ℕ). start ++ flat_map f ks) joined
+
+-- all players' lines, and then those of outcomes
+pub all_lines : (r : Renumbering) (g : Game) (before : ℕ) (start text : List ℕ)
+    → text ≡ start ++ flat_map (set_lines r g) (numbers_from 0 (before + 1))
+    → before ≡ length g.players → text ++ outcome_lines r g ≡ start ++ renumbering_lines r g
+all_lines r g before start text now all =
+    let sets : ℕ → List ℕ = λ k. flat_map (set_lines r g) (numbers_from 0 k) in
+    let count : before + 1 ≡ suc (length g.players) = omega (arith, all) in
+    ap (λ (bs : List ℕ). bs ++ outcome_lines r g) now
+    ∙ append_assoc start (sets (before + 1)) (outcome_lines r g)
+    ∙ ap (λ (k : ℕ). start ++ (sets k ++ outcome_lines r g)) count
 
 -- ---- a player past the last number has no sets
 

@@ -26,44 +26,6 @@ pub IfOk-all : {A E : Type 0} (r : Result A E) (P Q : A → Type 0) → ((a : A)
 IfOk-all (Ok a) P Q f h = f a h
 IfOk-all (Err e) P Q f h = tt
 
-pub IfOk-both : {A E : Type 0} (r : Result A E) (P Q R : A → Type 0)
-    → ((a : A) → P a → Q a → R a) → IfOk r P → IfOk r Q → IfOk r R
-IfOk-both (Ok a) P Q R f h i = f a h i
-IfOk-both (Err e) P Q R f h i = tt
-
--- found : what `renumbering` answered
-module _ (g h : Game) (found : Option Renumbering) (is_found : MatchOption found (¬ (SameGame g h))
-    (λ r. IsOnlyRenumbering r g h)) where
-  pub the_only : (r : Renumbering) → found ≡ Some r → IsOnlyRenumbering r g h
-  the_only r is = subst (λ (o : Option Renumbering). MatchOption o (¬ (SameGame g h))
-      (λ r. IsOnlyRenumbering r g h)) is is_found
-
-  pub none_found : found ≡ None → ¬ (SameGame g h)
-  none_found is = subst (λ (o : Option Renumbering). MatchOption o (¬ (SameGame g h))
-      (λ r. IsOnlyRenumbering r g h)) is is_found
-
-pub same_with_map : (g h : Game) (r : Renumbering) (same : Bool) → same ≡ true
-    → IsOnlyRenumbering r g h → IsTrue same ↔ SameGame g h
-same_with_map g h r same is only = (λ yes. (new_numbers r, only.carries), λ found. is)
-
-pub text_with_map : (g h : Game) (r : Renumbering) (same : Bool) (line text : List ℕ) → same ≡ true
-    → IsOnlyRenumbering r g h → line ≡ answer_line true
-    → text ≡ line ++ renumbering_lines (new_numbers r) g
-    → IsLineAndMap (extensive g) (extensive h) same text
-text_with_map g h r same line text is only of_line more =
-    let lines = renumbering_lines (new_numbers r) g in
-    subst (λ (b : Bool). IsLineAndMap (extensive g) (extensive h) b text) (sym is)
-    (r, only, more ∙ ap (λ (bs : List ℕ). bs ++ lines) of_line)
-
-pub not_same : (g h : Game) (same : Bool) → same ≡ false → (SameGame g h → ⊥)
-    → IsTrue same ↔ SameGame g h
-not_same g h same is none = (λ yes. absurd (cc (sym is ∙ yes)), λ found. absurd (none found))
-
-pub text_without_map : (g h : Game) (same : Bool) (text : List ℕ) → same ≡ false
-    → text ≡ answer_line false → IsLineAndMap (extensive g) (extensive h) same text
-text_without_map g h same text is of_line =
-    subst (λ (b : Bool). IsLineAndMap (extensive g) (extensive h) b text) (sym is) of_line
-
 -- a, b : the bytes that were compared; first, second : those that were read
 module _ (a b first second : List ℕ) (of_first : a ≡ first) (of_second : b ≡ second) where
   pub meant : MeansFile a × MeansFile b → MeansFile first × MeansFile second

@@ -5,12 +5,11 @@ use Rattle.std.specs.List.{flat_map}
 use Rattle.gf_nfg.specs.Profiles.{numbers_from}
 use Rattle.gf_tree.specs.FirstUse.{outcome_numbers, player_keys}
 use Rattle.gf_tree.specs.Game.{Game}
-use Rattle.gf_tree.specs.Renumbering as numbers
+use Rattle.gf_tree.specs.Renumbering.{Renumbering}
 use Rattle.gf_canon.specs.GameFile.{GameFile}
 use Rattle.gf_canon.specs.GameFile.GameFile.{extensive}
 use Rattle.gf_canon.specs.Judgement.{SpellsWithin}
-use Rattle.gf_canon.specs.NewNumbers.{IsOnlyRenumbering, new_numbers}
-use Rattle.gf_canon.specs.declared.new_numbers.Renumbering.{Renumbering}
+use Rattle.gf_canon.specs.SameGame.{Carries, SameGame}
 
 -- ---- the line of an answer
 
@@ -35,17 +34,17 @@ abbrev pub set_numbers : Game → ℕ → List ℕ
 set_numbers g player = map (λ key. key.number) (player_keys g player)
 
 -- a line for each of them
-abbrev pub set_lines : numbers.Renumbering → Game → ℕ → List ℕ
+abbrev pub set_lines : Renumbering → Game → ℕ → List ℕ
 set_lines r g player =
     flat_map (λ number. set_line player number (r.set player number)) (set_numbers g player)
 
 -- a line for each outcome, in order of first use
-abbrev pub outcome_lines : numbers.Renumbering → Game → List ℕ
+abbrev pub outcome_lines : Renumbering → Game → List ℕ
 outcome_lines r g =
     flat_map (λ number. outcome_line number (r.outcome number)) (outcome_numbers g)
 
 -- the sets of chance, who is player 0, then those of player after player, and then the outcomes
-abbrev pub renumbering_lines : numbers.Renumbering → Game → List ℕ
+abbrev pub renumbering_lines : Renumbering → Game → List ℕ
 renumbering_lines r g =
     flat_map (set_lines r g) (numbers_from 0 (suc (length g.players))) ++ outcome_lines r g
 
@@ -55,10 +54,11 @@ renumbering_lines r g =
 abbrev pub IsLine : GameFile → GameFile → Bool → List ℕ → Type 0
 IsLine x y same text = text ≡ answer_line same
 
--- the line, and behind it, where two games are the same, those of the only renumbering
+-- the line, and behind it, where two games are the same, those of each renumbering that carries the
+-- first to the second: so all of them have the same lines
 abbrev pub IsLineAndMap : GameFile → GameFile → Bool → List ℕ → Type 0
-IsLineAndMap (extensive g) (extensive h) true text = (r : Renumbering) × IsOnlyRenumbering r g h
-    × (text ≡ answer_line true ++ renumbering_lines (new_numbers r) g)
+IsLineAndMap (extensive g) (extensive h) true text = SameGame g h
+    × ((r : Renumbering) → Carries r g h → text ≡ answer_line true ++ renumbering_lines r g)
 IsLineAndMap x y same text = IsLine x y same text
 
 -- the bytes mean two files, and this says whether they are the same, and this is its text

@@ -1,15 +1,13 @@
 //! What is written of two files that are compared.
 
 ghost use Rattle.std.specs.Prelude.{◌≡◌, ◌↔◌, IfErr, IfOk, IsTrue};
-ghost use Rattle.gf_canon.specs.GameFile.GameFile.{extensive};
 ghost use Rattle.gf_canon.specs.GameFile.{SameFile};
 ghost use Rattle.gf_canon.specs.MeaningOf.{file_of};
 ghost use Rattle.gf_canon.specs.Sameness.{AreRefusedWith};
 ghost use Rattle.gamefile.specs.SameText.{IsAnswer, IsLineAndMap, answer_line};
 
 use crate::renumbering_text::push_renumbering;
-use gf_canon::{Meaning, Names, SameFault, read_file, renumbering, same_meaning};
-use gf_tree::Game;
+use gf_canon::{Meaning, Names, SameFault, read_file, same_meaning};
 use std::alloc::{AllocError, Global};
 
 /// Whether two files are the same, and what is written of it.
@@ -36,23 +34,6 @@ fn line(alloc: Global, same: bool) -> Result<Answer, AllocError>
     Ok(Answer { same, text })
 }
 
-/// The answer about two games, with the lines of the renumbering.
-fn answer_of_games(alloc: Global, g: &Game<'_>, h: &Game<'_>) -> Result<Answer, AllocError>
-    ensures same { IfOk result (λ answer.
-        IsTrue answer.same ↔ SameFile (extensive g.now) (extensive h.now)) }
-    ensures text { IfOk result (λ answer.
-        IsLineAndMap (extensive g.now) (extensive h.now) answer.same answer.text.items) }
-{
-    match renumbering(alloc, g, h)? {
-        Some(numbers) => {
-            let mut answer = line(alloc, true)?;
-            push_renumbering(g, &numbers, &mut answer.text)?;
-            Ok(answer)
-        }
-        None => line(alloc, false),
-    }
-}
-
 /// The answer about two files that were read.
 fn answer_of(alloc: Global, a: &Meaning<'_>, b: &Meaning<'_>) -> Result<Answer, AllocError>
     ensures same { IfOk result (λ answer.
@@ -60,10 +41,14 @@ fn answer_of(alloc: Global, a: &Meaning<'_>, b: &Meaning<'_>) -> Result<Answer, 
     ensures text { IfOk result (λ answer.
         IsLineAndMap (file_of a.now) (file_of b.now) answer.same answer.text.items) }
 {
-    match (a, b) {
-        (Meaning::Tree(g), Meaning::Tree(h)) => answer_of_games(alloc, g, h),
-        _ => line(alloc, same_meaning(alloc, a, b, Names::Kept)?),
+    let same = same_meaning(alloc, a, b, Names::Kept)?;
+    let mut answer = line(alloc, same)?;
+    if same {
+        if let (Meaning::Tree(g), Meaning::Tree(h)) = (a, b) {
+            push_renumbering(g, h, &mut answer.text)?;
+        }
     }
+    Ok(answer)
 }
 
 /// Whether two files are the same; and where they are trees, the lines of the only renumbering that

@@ -1,17 +1,17 @@
 -- The canonical game: a game, the same as the first, and one for all that are the same.
-use Rattle.std.proofs.Common.{◌≡◌, ℕ, List, map, length, refl, sym, ap, subst, ◌∙◌}
+use Rattle.std.proofs.Common.{◌≡◌, ℕ, Bool, List, map, filter, length, refl, sym, ap, subst, ◌∙◌}
 use Rattle.std.specs.Prelude.{nat_eq, ◌↔◌}
 use Rattle.std.proofs.lemmas.Bool.{eqb-true}
 use Rattle.std.proofs.lemmas.Bool.Decides.{Decides-eqb}
 use Rattle.gf_nfg.specs.Profiles.{positions}
-use Rattle.gf_tree.specs.Description.{SetKey, same_set, set_of}
-use Rattle.gf_tree.specs.FiniteMap.{first_uses}
+use Rattle.gf_tree.specs.Description.{InformationSet, Outcome, SetKey, same_set, set_of}
+use Rattle.gf_tree.specs.FiniteMap.{Described, first_uses}
 use Rattle.gf_tree.specs.Game.{Game, IsGame, used_sets, used_outcomes}
 use Rattle.gf_tree.specs.Renumbering.{Renumbering, IsRenumbering, HasSet}
 use Rattle.gf_tree.specs.Renumbering.{HasOutcome, renumbered_set, renumbered}
 use Rattle.gf_tree.specs.FirstUse.{first_use_number, sets_of, first_use_numbers}
 use Rattle.gf_tree.specs.FirstUse.{player_keys, outcome_numbers}
-use Rattle.gf_tree.proofs.Members.{filter_of_map, map_same}
+use Rattle.gf_tree.proofs.Members.{filter_of_map, map_same, map_twice}
 use Rattle.gf_tree.proofs.FirstUseNumbers.{number_kept}
 use Rattle.gf_tree.proofs.Carried.{carried_map}
 use Rattle.gf_tree.proofs.Renumberings.{Agree, agreed_games, composed}
@@ -85,6 +85,42 @@ carried_by_new_numbers r g h game game' = (
   λ c. (c.renumbering, carried_is_renumbered r g h game game' c),
   λ k. subst (Carries r g) k.1 (carries_to_renumbered g r game k.0),
 )
+
+-- ---- the same place in order of first use
+
+pub set_numbers_carried : (r : Renumbering) (g h : Game) → IsGame g → IsGame h → Carries r g h
+    → (player : ℕ) → map (λ key. key.number) (player_keys h player)
+    ≡ map (λ key. r.set player key.number) (player_keys g player)
+set_numbers_carried r g h game game' c player =
+    ap (λ x. map (λ key. key.number) (player_keys x player))
+    (sym (carried_is_renumbered r g h game game' c))
+    ∙ ap (λ ss. map (λ key. key.number) (map (λ s. s.key) ss))
+    (filter_of_map mine mine moved g.sets (λ s i. refl))
+    ∙ map_twice (λ (key : SetKey). key.number) (λ s. s.key) (map moved own)
+    ∙ map_twice (λ s. s.key.number) moved own
+    ∙ map_same (λ s. r.set s.key.player s.key.number) (λ s. r.set player s.key.number) own
+    (λ s i. ap (λ p. r.set p s.key.number)
+    (eqb-true s.key.player player (of_filter mine g.sets s i).1))
+    ∙ sym (map_twice (λ (key : SetKey). r.set player key.number) (λ s. s.key) own)
+  where
+    mine : Described SetKey InformationSet → Bool
+    mine s = nat_eq s.key.player player
+
+    moved : Described SetKey InformationSet → Described SetKey InformationSet
+    moved s = record { key = renumbered_set r s.key; description = s.description }
+
+    own : List (Described SetKey InformationSet)
+    own = filter mine g.sets
+
+pub outcome_numbers_carried : (r : Renumbering) (g h : Game) → IsGame g → IsGame h → Carries r g h
+    → outcome_numbers h ≡ map r.outcome (outcome_numbers g)
+outcome_numbers_carried r g h game game' c =
+    ap outcome_numbers (sym (carried_is_renumbered r g h game game' c))
+    ∙ map_twice (λ o. o.key) moved g.outcomes
+    ∙ sym (map_twice r.outcome (λ o. o.key) g.outcomes)
+  where
+    moved : Described ℕ Outcome → Described ℕ Outcome
+    moved o = record { key = r.outcome o.key; description = o.description }
 
 -- ---- first-use numbers
 

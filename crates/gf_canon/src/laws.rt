@@ -54,6 +54,15 @@ pub fn one_renumbering()
         → (number : ℕ) → HasOutcome g number → r.outcome number ≡ s.outcome number }
 {}
 
+/// What a renumbering carries to each other stands at the same place in order of first use.
+pub fn carried_in_order()
+    ensures sets { (r : Renumbering) (g h : Game) → IsGame g → IsGame h → Carries r g h
+        → (player : ℕ) → map (λ key. key.number) (player_keys h player)
+        ≡ map (λ key. r.set player key.number) (player_keys g player) }
+    ensures outcomes { (r : Renumbering) (g h : Game) → IsGame g → IsGame h → Carries r g h
+        → outcome_numbers h ≡ map r.outcome (outcome_numbers g) }
+{}
+
 /// What a renumbering carries to each other has the same first-use number.
 pub fn first_use_numbers_stay()
     ensures sets { (r : Renumbering) (g h : Game) → Carries r g h → (player number : ℕ)

@@ -1,22 +1,19 @@
 use Rattle.std.proofs.Common.{◌++◌, arith}
-use Rattle.gf_canon.specs.NewNumbers.{new_numbers}
 use Rattle.gf_tree.specs.FirstUse.{outcome_numbers}
 use Rattle.gamefile.specs.SameText.{outcome_line, outcome_lines}
 use Rattle.gamefile.proofs.LinesInTurn.{line_more, lines_done}
 use Rattle.gamefile.proofs.renumbering_text.push_outcomes.Goals as goal
 
 pub loop-before-preserved : goal.loop-before-preserved
-loop-before-preserved c =
-    let r = new_numbers c.args.numbers.now in
+loop-before-preserved c = λ r carries.
     line_more (λ number. outcome_line number (r.outcome number)) (outcome_numbers c.args.g.now)
     c.loop-before.before c.loop-before.text.items c.push_outcome.new.text.items
-    (c.args.text.now.items ++ outcome_lines r c.args.g.now) c.loop-before.invariant
-    c.in_ok-push_outcome.ensures
+    (c.args.text.now.items ++ outcome_lines r c.args.g.now) (c.loop-before.invariant r carries)
+    (c.in_ok-push_outcome.ensures r carries)
 
 pub returns : goal.returns
-returns c =
-    let r = new_numbers c.args.numbers.now in
+returns c = λ r carries.
     lines_done (λ number. outcome_line number (r.outcome number)) (outcome_numbers c.args.g.now)
     c.loop-before.before c.loop-before.text.items
-    (c.args.text.now.items ++ outcome_lines r c.args.g.now) c.loop-before.invariant
+    (c.args.text.now.items ++ outcome_lines r c.args.g.now) (c.loop-before.invariant r carries)
     (omega (arith, c.loop-before-test.false, c.outcome_count-before-end.ensures.count))
