@@ -199,7 +199,8 @@ impl<'a> Reader<'a> {
         ensures shorter { OnOk result (length self.new.tokens.ahead ≤ length self.old.tokens.ahead) }
     {
         let Some(place) = found(&self.outcomes, number) else {
-            return self.new_outcome(node, set, number, to);
+            self.new_outcome(node, set, number, to)?;
+            return Ok(());
         };
         let Ok(()) = self.tell(node, set, Some(place), to) else {
             return Err(Fault::at(stands, Why::Memory));
@@ -240,7 +241,8 @@ impl<'a> Reader<'a> {
             return Ok(());
         }
         if self.tokens.is_quoted() {
-            return self.described_outcome(node, set, number, word.span, to);
+            self.described_outcome(node, set, number, word.span, to)?;
+            return Ok(());
         }
         let Some(place) = found(&self.outcomes, number) else {
             return Err(self.tokens.refusal(Why::NotDescribed));

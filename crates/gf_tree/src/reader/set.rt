@@ -270,7 +270,9 @@ impl<'a> Reader<'a> {
             return Err(Fault::at(word.span, Why::BadIndex));
         };
         if self.tokens.is_quoted() {
-            return self.described_set(player, number);
+            // Handed on whole, a refusal would be copied, also where there is none.
+            let place = self.described_set(player, number)?;
+            return Ok(place);
         }
         match described(&self.sets, player, number) {
             Some(set) => Ok(set.place),
