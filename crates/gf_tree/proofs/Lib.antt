@@ -47,6 +47,7 @@ pub mod RunStops
 pub mod RunTokens
 mod SentencesOnce
 pub mod SameLists
+pub mod SetCounts
 pub mod SetNumbers
 pub mod SetPlaces
 pub mod SmallPlaces

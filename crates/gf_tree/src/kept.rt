@@ -44,7 +44,7 @@ pub(crate) fn child_count(sets: &Sets<'_>, set: u32) -> usize
     if set == 0 {
         0
     } else {
-        sets.actions(set - 1).len()
+        sets.action_count(set - 1) as usize
     }
 }
 

@@ -136,19 +136,24 @@ pub(crate) struct Sets<'a> {
     indexing: Indexing<'a>,
     players: Vec<Numbers>,
     entries: Vec<Entry<'a>>,
+    /// How many actions each has, once more: this is asked for at each node, and all of it stays in
+    /// the cache.
+    counts: Vec<u32>,
     actions: Vec<Action<'a>>,
     from: usize,
 }
 
 impl<'a> Model for Sets<'a> {
     ghost use Rattle.gf_tree.specs.KnownSets.{KnownSets};
+    ghost use Rattle.std.specs.Prelude.{◌≡◌, map};
     ghost use Rattle.gf_tree.specs.StoredSets.{stored_sets, AreSets};
 
     ghost Value = { KnownSets };
 
     ghost view = { λ s. stored_sets s.entries.items s.actions.items s.from };
 
-    ghost invariant = { λ s. AreSets s.players.items s.entries.items s.actions.items s.from };
+    ghost invariant = { λ s. AreSets s.players.items s.entries.items s.actions.items s.from
+        × (s.counts.items ≡ map (λ e. e.count) s.entries.items) };
 }
 
 impl<'a> Sets<'a> {
@@ -161,6 +166,7 @@ impl<'a> Sets<'a> {
             indexing,
             players: Vec::new(alloc),
             entries: Vec::new(alloc),
+            counts: Vec::new(alloc),
             actions: Vec::new(alloc),
             from: 0,
         }
@@ -235,6 +241,16 @@ impl<'a> Sets<'a> {
     {
         let entry = self.entries[place as usize];
         &self.actions[entry.start..entry.end()]
+    }
+
+    /// How many actions the set at a place has.
+    #[inline(always)]
+    pub(crate) fn action_count(&self, place: u32) -> u32
+        requires { place < length self.now.known }
+        ensures { option_map (λ s. length s.description.actions) (slice_get self.now.known place)
+            ≡ Some result }
+    {
+        self.counts[place as usize]
     }
 
     /// The number of the set at a place, from 1, among the sets of its player.
@@ -315,6 +331,7 @@ impl<'a> Sets<'a> {
     {
         let place = next_place(self.entries.len())?;
         self.entries.reserve(1)?;
+        self.counts.reserve(1)?;
         let like = last_place(&self.players, player);
         let (start, count) = stretch_like(&self.entries, &self.actions, self.from, like)?;
         let among = note(
@@ -333,7 +350,7 @@ impl<'a> Sets<'a> {
             name,
             start,
         };
-        if self.entries.push(entry).is_err() {
+        if self.entries.push(entry).is_err() || self.counts.push(count).is_err() {
             return Err(AllocError);
         }
         self.from = self.from.max(entry.end());

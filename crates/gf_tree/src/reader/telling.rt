@@ -41,7 +41,7 @@ impl<'a> Reader<'a> {
         ensures { result ≡ child_count self.now.sets.known (position_of set) }
     {
         match set {
-            Some(place) => self.sets.actions(place).len(),
+            Some(place) => self.sets.action_count(place) as usize,
             None => 0,
         }
     }

@@ -5,4 +5,4 @@ pub returns : goal.returns
 returns c =
     let s = c.self.inside in
     is_among s.entries.items s.actions.items s.from c.args.place c.index.result.now c.args.self.now
-    c.self.invariant.numbered c.self.view_is c.requires c.index.ensures
+    c.self.invariant.0.numbered c.self.view_is c.requires c.index.ensures

@@ -9,7 +9,7 @@ returns-in-Some c =
     let s = c.self.inside in
     c.number.ensures ∙ ap (λ (ns : List ℕ). at_position ns c.args.i)
     (numbers s.players.items s.entries.items s.actions.items s.from c.args.player
-    c.args.self.now c.self.invariant c.self.view_is c.in-Some.numbers.now c.deref.result.now
+    c.args.self.now c.self.invariant.0 c.self.view_is c.in-Some.numbers.now c.deref.result.now
     c.deref.ensures.value c.in-Some.ensures)
 
 pub returns-in-None : goal.returns-in-None
@@ -17,5 +17,5 @@ returns-in-None c =
     let s = c.self.inside in
     none_at c.args.i ∙ ap (λ (ns : List ℕ). at_position ns c.args.i)
     (numbers s.players.items s.entries.items s.actions.items s.from c.args.player
-    c.args.self.now c.self.invariant c.self.view_is [] c.deref.result.now
+    c.args.self.now c.self.invariant.0 c.self.view_is [] c.deref.result.now
     c.deref.ensures.value (sym c.in-None.ensures))

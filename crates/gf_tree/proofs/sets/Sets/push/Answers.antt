@@ -7,4 +7,4 @@ returns-clause-ok c =
     let s = c.self.inside in
     action_pushed s.players.items s.entries.items s.actions.items c.push.new.self.items s.from
     (record { label = c.args.label; probability = c.args.probability }) c.args.self.now
-    c.self.invariant c.self.view_is (search rules)
+    c.self.invariant.0 c.self.view_is (search rules)
