@@ -121,11 +121,11 @@ fn push_outcomes(g: &Game<'_>, h: &Game<'_>, text: &mut Vec<u8>) -> Result<(), A
     Ok(())
 }
 
-/// Appends the lines of the renumbering that carries a game to another, where there is one: `set P X
-/// Y` for each information set of the first, P being its player, X its number and Y its number in
-/// the other, and then `outcome X Y` for each outcome. The sets of chance come first, who is player
-/// 0, and then those of player after player, each player's in order of first use, and so do the
-/// outcomes (this project's profile).
+/// Appends the lines of the renumbering that carries a game to another, where there is one:
+/// `set P X Y` for each information set of the first, P being its player, X its number and Y its
+/// number in the other, and then `outcome X Y` for each outcome. The sets of chance come first, who
+/// is player 0, and then those of player after player, each player's in order of first use, and so
+/// do the outcomes (this project's profile).
 pub fn push_renumbering(g: &Game<'_>, h: &Game<'_>, text: &mut Vec<u8>) -> Result<(), AllocError>
     ensures { OnOk result ((r : Renumbering) → Carries r g.now h.now
         → text.new.items ≡ text.old.items ++ renumbering_lines r g.now) }
