@@ -14,8 +14,9 @@ pub struct Action<'a> {
 }
 
 /// Whether two probabilities are the same, or both are not there.
-fn same_probability(a: Option<Fraction>, b: Option<Fraction>) -> bool
-    ensures { IsTrue result ↔ (a ≡ b) }
+#[inline(always)]
+fn same_probability(a: &Option<Fraction>, b: &Option<Fraction>) -> bool
+    ensures { IsTrue result ↔ (a.now ≡ b.now) }
 {
     match (a, b) {
         (Some(a), Some(b)) => a == b,
@@ -28,7 +29,7 @@ fn same_probability(a: Option<Fraction>, b: Option<Fraction>) -> bool
 fn same_action(a: &Action<'_>, b: &Action<'_>) -> bool
     ensures { IsTrue result ↔ (action_of a.now ≡ action_of b.now) }
 {
-    a.label == b.label && same_probability(a.probability, b.probability)
+    a.label == b.label && same_probability(&a.probability, &b.probability)
 }
 
 /// Whether two lists of actions are the same: labels by their bytes, probabilities by their values.
