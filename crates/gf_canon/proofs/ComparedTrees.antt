@@ -15,11 +15,11 @@ use Rattle.gf_canon.specs.CanonicalGame.{canonical_game}
 use Rattle.gf_canon.specs.ComparedTrees.{IsCompared}
 use Rattle.gf_canon.specs.GameFile.GameFile.{extensive, strategic}
 use Rattle.gf_canon.specs.Judgement.{SpellsWithin}
-use Rattle.gf_canon.specs.MeaningOf.{file_of}
+use Rattle.gf_canon.specs.MeaningOf.{file_of_listed}
 use Rattle.gf_canon.specs.NamedBy.{node_by}
 use Rattle.gf_canon.specs.SameBy.{SameBy}
-use Rattle.gf_canon.specs.declared.meaning.Meaning.{Meaning}
-use Rattle.gf_canon.specs.declared.meaning.Meaning.TheVariants.{Tree}
+use Rattle.gf_canon.specs.declared.meaning.Listed.{Listed}
+use Rattle.gf_canon.specs.declared.meaning.Listed.TheVariants.{Tree}
 use Rattle.gf_canon.specs.declared.sameness.Names.{Names}
 use Rattle.gf_canon.specs.declared.sameness.Names.TheVariants.{Aside, Kept}
 use Rattle.gf_canon.proofs.WalkedNodes.{same_by_walk}
@@ -29,11 +29,11 @@ none_left f [] e = refl
 none_left f (x ∷ xs) e = absurd cc
 
 -- the game of a tree that was read
-pub tree_is_held : (bytes : List ℕ) (m : Meaning) (g : Game) → m ≡ Tree g
-    → SpellsWithin bytes (file_of m) → IsGame g × IsSpellable g
+pub tree_is_held : (bytes : List ℕ) (m : Listed) (g : Game) → m ≡ Tree g
+    → SpellsWithin bytes (file_of_listed m) → IsGame g × IsSpellable g
 tree_is_held bytes m g is h = spelled_is_spellable bytes g (by m is h)
   where
-    by : (n : Meaning) → n ≡ Tree g → SpellsWithin bytes (file_of n) → SpellsGame bytes g
+    by : (n : Listed) → n ≡ Tree g → SpellsWithin bytes (file_of_listed n) → SpellsGame bytes g
     by n e k = (rw e at k).spelled
 
 module _ (names : Names) (g h : Game) (bytes : List ℕ) (game : IsGame g) (spellable : IsSpellable g)

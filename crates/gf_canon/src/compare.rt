@@ -4,17 +4,15 @@ ghost use Rattle.std.specs.Prelude.{◌≡◌, ◌↔◌, IsTrue, map, option_ma
 ghost use Rattle.gf_token.specs.Label.{label_of};
 ghost use Rattle.gf_tree.specs.FileNodeOf.{described_outcome, described_set, file_node_of};
 ghost use Rattle.gf_tree.specs.FileNodeOf.{outcome_use_of, set_use_of};
-ghost use Rattle.gf_tree.specs.Game.{IsGame};
-ghost use Rattle.gf_tree.specs.Spellable.{IsSpellable};
-ghost use Rattle.gf_tree.specs.Told.{heading_in, heading_of, told_of};
+ghost use Rattle.gf_tree.specs.Told.{heading_of, told_of};
 ghost use Rattle.gf_canon.specs.NamedBy.{heading_by, name_by, node_by, outcome_by, use_by, set_by};
 
 use crate::sameness::Names;
 use gf_fraction::Fraction;
 use gf_token::Label;
 use gf_tree::{
-    FileNode, Game, NodeByFirstUse, OutcomeDescription, OutcomeUse, SetDescription, SetUse,
-    ToldHeading, same_actions,
+    FileNode, NodeByFirstUse, OutcomeDescription, OutcomeUse, SetDescription, SetUse, ToldHeading,
+    same_actions,
 };
 
 /// Whether two names are the same, as far as names count.
@@ -175,15 +173,12 @@ pub(crate) fn same_node(a: NodeByFirstUse<'_, '_>, b: NodeByFirstUse<'_, '_>, na
     }
 }
 
-/// Whether all that stands before the nodes of a game is the same as what was told. The other clauses
-/// hold of each game.
-pub(crate) fn same_heading(g: &Game<'_>, told: &ToldHeading<'_, '_>, names: Names) -> bool
-    ensures same { IsTrue result
-        ↔ (heading_by names (heading_in g.now) ≡ heading_by names (heading_of told.now)) }
-    ensures game { IsGame g.now }
-    ensures spellable { IsSpellable g.now }
+/// Whether all that stands before the nodes of two games is the same.
+pub(crate) fn same_heading(a: ToldHeading<'_, '_>, b: ToldHeading<'_, '_>, names: Names) -> bool
+    ensures { IsTrue result
+        ↔ (heading_by names (heading_of a.entry) ≡ heading_by names (heading_of b.entry)) }
 {
-    same_labels(g.players(), told.players)
-        && same_name(g.title(), told.title, names)
-        && same_name(g.comment(), told.comment, names)
+    same_labels(a.players, b.players)
+        && same_name(a.title, b.title, names)
+        && same_name(a.comment, b.comment, names)
 }

@@ -6,7 +6,7 @@ ghost use Rattle.gf_canon.specs.CanonicalGame.{canonical_game};
 
 use crate::compare::{same_heading, same_node};
 use crate::sameness::Names;
-use gf_tree::{Game, NodeByFirstUse, NodesByFirstUse, Receive, ToldHeading};
+use gf_tree::{ListedGame, NodeByFirstUse, NodesByFirstUse, Receive, ToldHeading};
 use std::alloc::AllocError;
 
 /// A comparison of a game with a tree that is told. What a renumbering carries to each other has the
@@ -14,7 +14,7 @@ use std::alloc::AllocError;
 /// no memory.
 #[derive(Drop)]
 pub(crate) struct Comparison<'g, 'a> {
-    game: &'g Game<'a>,
+    game: &'g ListedGame<'a>,
     /// The nodes of the game behind as many as were told. After a difference it stands still.
     left: NodesByFirstUse<'g, 'a>,
     names: Names,
@@ -24,7 +24,7 @@ pub(crate) struct Comparison<'g, 'a> {
 
 impl<'g, 'a> Comparison<'g, 'a> {
     /// Nothing was told.
-    pub(crate) fn new(game: &'g Game<'a>, names: Names) -> Comparison<'g, 'a>
+    pub(crate) fn new(game: &'g ListedGame<'a>, names: Names) -> Comparison<'g, 'a>
         ensures game { result.game.now ≡ game.entry.now }
         ensures names { result.names ≡ names }
         ensures left { result.left ≡ file_nodes (canonical_game game.entry.now) }
@@ -58,7 +58,7 @@ impl<'g, 'a, 'b> Receive<'b> for Comparison<'g, 'a> {
         × IsCompared untold.names untold.game.now c.same c.left heading told };
 
     fn heading(&mut self, heading: ToldHeading<'_, 'b>) -> Result<(), AllocError> {
-        self.same = same_heading(self.game, &heading, self.names);
+        self.same = same_heading(self.game.heading(), heading, self.names);
         Ok(())
     }
 

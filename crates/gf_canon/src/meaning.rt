@@ -2,12 +2,12 @@
 
 ghost use Rattle.std.specs.Prelude.{IfErr, IfOk};
 ghost use Rattle.gf_canon.specs.Judgement.{IsRefusedWith, SpellsWithin};
-ghost use Rattle.gf_canon.specs.MeaningOf.{file_of};
+ghost use Rattle.gf_canon.specs.MeaningOf.{file_of, file_of_listed};
 
 use crate::format::{Format, format_of};
 use gf_nfg::{Table, read_nfg};
 use gf_token::Fault;
-use gf_tree::{Game, read_efg};
+use gf_tree::{Game, ListedGame, list_efg};
 use std::alloc::Global;
 
 /// What a game file means.
@@ -19,6 +19,31 @@ pub enum Meaning<'a> {
     Table(Table),
 }
 
+/// What a game file means, a game as the list of its nodes.
+#[derive(Drop)]
+pub(crate) enum Listed<'a> {
+    Tree(ListedGame<'a>),
+    Table(Table),
+}
+
+/// Reads a game file as `read_file` does.
+pub(crate) fn list_file<'a>(alloc: Global, input: &'a [u8]) -> Result<Listed<'a>, Fault>
+    ensures spelled { IfOk result
+        (λ listed. SpellsWithin input.entry.now (file_of_listed listed)) }
+    ensures refused { IfErr result (IsRefusedWith input.entry.now) }
+{
+    match format_of(input)? {
+        Format::Extensive => match list_efg(alloc, input) {
+            Ok(game) => Ok(Listed::Tree(game)),
+            Err(fault) => Err(fault),
+        },
+        Format::Strategic => match read_nfg(alloc, input) {
+            Ok(table) => Ok(Listed::Table(table)),
+            Err(fault) => Err(fault),
+        },
+    }
+}
+
 /// Reads a game file of either format, which its first token tells: `EFG` or `NFG` (Gambit
 /// documentation, "Game representation formats").
 ///
@@ -27,14 +52,9 @@ pub fn read_file<'a>(alloc: Global, input: &'a [u8]) -> Result<Meaning<'a>, Faul
     ensures spelled { IfOk result (λ meaning. SpellsWithin input.entry.now (file_of meaning)) }
     ensures refused { IfErr result (IsRefusedWith input.entry.now) }
 {
-    match format_of(input)? {
-        Format::Extensive => match read_efg(alloc, input) {
-            Ok(game) => Ok(Meaning::Tree(game)),
-            Err(fault) => Err(fault),
-        },
-        Format::Strategic => match read_nfg(alloc, input) {
-            Ok(table) => Ok(Meaning::Table(table)),
-            Err(fault) => Err(fault),
-        },
+    match list_file(alloc, input) {
+        Ok(Listed::Tree(game)) => Ok(Meaning::Tree(game.into_game())),
+        Ok(Listed::Table(table)) => Ok(Meaning::Table(table)),
+        Err(fault) => Err(fault),
     }
 }

@@ -6,7 +6,7 @@ ghost use Rattle.gf_tree.specs.Spellable.{IsSpellable};
 ghost use Rattle.gf_canon.specs.GameFile.{GameFile, SameFile};
 ghost use Rattle.gf_canon.specs.GameFile.GameFile.{extensive, strategic};
 ghost use Rattle.gf_canon.specs.Judgement.{IsCanonicalText, IsRefusedWith, MeansFile, SpellsWithin};
-ghost use Rattle.gf_canon.specs.MeaningOf.{file_of};
+ghost use Rattle.gf_canon.specs.MeaningOf.{file_of, file_of_listed};
 ghost use Rattle.gf_canon.specs.SameBy.{SameBy};
 ghost use Rattle.gf_canon.specs.Sameness.{AreRefusedWith, WantsMemory};
 
@@ -14,11 +14,11 @@ use crate::checking::{check, tell_file};
 use crate::compare::same_name;
 use crate::comparison::Comparison;
 use crate::format::Format;
-use crate::meaning::{Meaning, read_file};
+use crate::meaning::{Listed, Meaning, list_file};
 use crate::walk::same_games;
 use gf_nfg::Table;
 use gf_token::Fault;
-use gf_tree::Game;
+use gf_tree::ListedGame;
 use std::alloc::{AllocError, Global};
 
 /// Why two files are not compared.
@@ -74,7 +74,7 @@ pub fn same_meaning(
 }
 
 /// Whether a file means the same as a game, with which a tree is compared while it is read.
-fn same_as_tree(alloc: Global, g: &Game<'_>, b: &[u8], names: Names) -> Result<bool, Fault>
+fn same_as_tree(alloc: Global, g: &ListedGame<'_>, b: &[u8], names: Names) -> Result<bool, Fault>
     requires game { IsGame g.now }
     requires spellable { IsSpellable g.now }
     ensures same { IfOk result (λ answer. (y : GameFile) × SpellsWithin b.now y
@@ -86,6 +86,17 @@ fn same_as_tree(alloc: Global, g: &Game<'_>, b: &[u8], names: Names) -> Result<b
         Ok(Format::Extensive) => Ok(comparison.is_same()),
         Ok(Format::Strategic) => Ok(false),
         Err(fault) => Err(fault),
+    }
+}
+
+/// Whether a file that was read means the same as a table.
+fn same_as_table(alloc: Global, t: &Table, b: &Listed<'_>, names: Names) -> Result<bool, AllocError>
+    ensures { IfOk result (λ answer.
+        IsTrue answer ↔ SameBy names (strategic t.now) (file_of_listed b.now)) }
+{
+    match b {
+        Listed::Tree(_) => Ok(false),
+        Listed::Table(u) => same_tables(alloc, t, u, names),
     }
 }
 
@@ -112,21 +123,24 @@ pub fn same_by(alloc: Global, a: &[u8], b: &[u8], names: Names) -> Result<bool, 
             Err(fault) => Err(SameFault::First(fault)),
         };
     }
-    let first = match read_file(alloc, a) {
+    let first = match list_file(alloc, a) {
         Ok(first) => first,
         Err(fault) => return Err(SameFault::First(fault)),
     };
-    if let Meaning::Tree(g) = &first {
-        return match same_as_tree(alloc, g, b, names) {
-            Ok(answer) => Ok(answer),
-            Err(fault) => Err(SameFault::Second(fault)),
-        };
-    }
-    let second = match read_file(alloc, b) {
+    let table = match first {
+        Listed::Table(table) => table,
+        Listed::Tree(game) => {
+            return match same_as_tree(alloc, &game, b, names) {
+                Ok(answer) => Ok(answer),
+                Err(fault) => Err(SameFault::Second(fault)),
+            };
+        }
+    };
+    let second = match list_file(alloc, b) {
         Ok(second) => second,
         Err(fault) => return Err(SameFault::Second(fault)),
     };
-    match same_meaning(alloc, &first, &second, names) {
+    match same_as_table(alloc, &table, &second, names) {
         Ok(same) => Ok(same),
         Err(_) => Err(SameFault::Memory),
     }

@@ -10,7 +10,7 @@ ghost use Rattle.gf_canon.specs.SameBy.{SameBy};
 
 use crate::compare::{same_heading, same_node};
 use crate::sameness::Names;
-use gf_tree::{Game, ToldHeading};
+use gf_tree::Game;
 
 /// Whether the nodes of both games are the same by first-use numbers.
 fn same_nodes(g: &Game<'_>, h: &Game<'_>, names: Names) -> bool
@@ -35,10 +35,5 @@ pub(crate) fn same_games(g: &Game<'_>, h: &Game<'_>, names: Names) -> bool
     ensures same { IsTrue result ↔ SameBy names (extensive g.now) (extensive h.now) }
     ensures games { IsGame g.now × IsGame h.now }
 {
-    let heading = ToldHeading {
-        title: h.title(),
-        comment: h.comment(),
-        players: h.players(),
-    };
-    same_heading(g, &heading, names) && same_nodes(g, h, names)
+    same_heading(g.heading(), h.heading(), names) && same_nodes(g, h, names)
 }

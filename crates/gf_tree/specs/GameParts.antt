@@ -32,6 +32,16 @@ pub record AreNodes
   pub fills : Fills 1 (entries_with sets outcomes (map kept_of nodes))
   pub sizes : sizes_of nodes ≡ subtree_sizes (tree_with sets outcomes (map kept_of nodes))
 
+-- The nodes fill one tree, and each has its set and its outcome.
+pub record IsListed
+    (title comment : List ℕ) (players : List (List ℕ))
+    (sets : List (Described SetKey InformationSet)) (outcomes : List (Described ℕ Outcome))
+    (nodes : List Kept) : Type 0 where
+  pub placed : ArePlaced (length sets) (length outcomes) nodes
+  pub fills : Fills 1 (entries_with sets outcomes nodes)
+  pub is_game : IsGame (game_with title comment players sets outcomes nodes)
+  pub spellable : IsSpellable (game_with title comment players sets outcomes nodes)
+
 pub record IsHeld
     (title comment : List ℕ) (players : List (List ℕ))
     (sets : List (Described SetKey InformationSet)) (outcomes : List (Described ℕ Outcome))

@@ -20,6 +20,7 @@ ghost use Rattle.gf_tree.specs.Skipped.{skipped};
 ghost use Rattle.gf_tree.specs.Spellable.{IsSpellable};
 ghost use Rattle.gf_tree.specs.Subtrees.{child_trees, root_node, subtree_at, subtree_sizes};
 ghost use Rattle.gf_tree.specs.Subtrees.{subtrees};
+ghost use Rattle.gf_tree.specs.Told.{heading_in, heading_of};
 
 use crate::action::Action;
 use crate::branch::Branch;
@@ -27,6 +28,7 @@ use crate::kept::{NodeList, Stored, child_count, outcome_number, skip, step};
 use crate::node::Node;
 use crate::nodes::Nodes;
 use crate::outcomes::Outcomes;
+use crate::receive::ToldHeading;
 use crate::sets::Sets;
 use gf_fraction::Fraction;
 use gf_token::Label;
@@ -125,6 +127,21 @@ impl<'a> Game<'a> {
         ensures spellable { IsSpellable self.now }
     {
         &self.players
+    }
+
+    /// The title, the comment and the players.
+    ///
+    /// The other clauses hold of each game, as those of `players` do.
+    pub fn heading(&self) -> ToldHeading<'_, 'a>
+        ensures heading { heading_of result ≡ heading_in self.now }
+        ensures is_game { IsGame self.now }
+        ensures spellable { IsSpellable self.now }
+    {
+        ToldHeading {
+            title: self.title,
+            comment: self.comment,
+            players: &self.players,
+        }
     }
 
     /// The name and the actions of a player's set, chance being player 0. `None` where there is no

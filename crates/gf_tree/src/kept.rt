@@ -4,6 +4,7 @@
 ghost use Rattle.std.specs.Prelude.{◌≡◌, ◌^◌, ◌+◌, ◌<◌, ◌≤◌, ◌++◌, ◌∷◌, [], ℕ, ⊤, MatchOption};
 ghost use Rattle.std.specs.Prelude.{OnErr, OnOk, drop, length, map, option_map};
 ghost use Rattle.std.specs.List.{AllByRecursion};
+ghost use Rattle.std.specs.Slice.Iter.{iter_rest};
 ghost use Rattle.gf_token.specs.Label.{label_of};
 ghost use Rattle.gf_token.specs.Positions.{at_position};
 ghost use Rattle.gf_tree.specs.Tree.{Tree};
@@ -23,6 +24,7 @@ use crate::sets::Sets;
 use gf_token::Label;
 use std::alloc::{AllocError, Global};
 use std::marker::Model;
+use std::slice;
 
 /// A node of 32 bytes.
 #[derive(Clone, Copy, Debug)]
@@ -159,6 +161,13 @@ impl<'a> NodeList<'a> {
         NodeList {
             nodes: Vec::new(alloc),
         }
+    }
+
+    /// The nodes one behind the other.
+    pub(crate) fn iter(&self) -> slice::Iter<'_, Stored<'a>>
+        ensures { map kept_of (iter_rest result) ≡ self.now }
+    {
+        self.nodes.iter()
     }
 
     /// The nodes with the sizes of their subtrees. The caller sees to it that they are those of a

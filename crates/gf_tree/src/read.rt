@@ -1,4 +1,4 @@
-//! Extensive files as they are read from bytes: to a game, or told to a receiver.
+//! Extensive files as they are read from bytes: to a game, to a list of its nodes, or told to a receiver.
 
 ghost use Rattle.std.specs.Prelude.{◌≡◌, IfErr, IfOk, OnOk};
 ghost use Rattle.gf_token.specs.declared.fault.Why.TheVariants.{Memory};
@@ -9,10 +9,24 @@ ghost use Rattle.gf_tree.specs.ToldGame.{HasToldGame};
 
 use crate::game::Game;
 use crate::kept::NodeList;
+use crate::listed_game::ListedGame;
 use crate::reader::Reader;
 use crate::receive::Receive;
 use gf_token::Fault;
 use std::alloc::Global;
+
+/// Reads the game of an extensive file from its bytes, as `read_efg` does, to a list of its nodes.
+pub fn list_efg<'a>(alloc: Global, input: &'a [u8]) -> Result<ListedGame<'a>, Fault>
+    ensures spelled { IfOk result (λ g. SpellsGame input.entry.now g) }
+    ensures only { (g : game) → SpellsGame input.entry.now g → IsReadAs result g }
+    ensures judged { IfErr result (λ fault. IsJudged fault.why input.entry.now fault.span) }
+{
+    let mut reader = Reader::new(alloc, input);
+    reader.begin()?;
+    let mut nodes = NodeList::new(alloc);
+    reader.nodes(&mut nodes)?;
+    Ok(reader.into_listed_game(nodes))
+}
 
 /// Reads the game of an extensive file from its bytes (Gambit documentation, "Game representation
 /// formats").
@@ -24,11 +38,10 @@ pub fn read_efg<'a>(alloc: Global, input: &'a [u8]) -> Result<Game<'a>, Fault>
     ensures only { (g : game) → SpellsGame input.entry.now g → IsReadAs result g }
     ensures judged { IfErr result (λ fault. IsJudged fault.why input.entry.now fault.span) }
 {
-    let mut reader = Reader::new(alloc, input);
-    reader.begin()?;
-    let mut nodes = NodeList::new(alloc);
-    reader.nodes(&mut nodes)?;
-    Ok(reader.into_game(nodes))
+    match list_efg(alloc, input) {
+        Ok(listed) => Ok(listed.into_game()),
+        Err(fault) => Err(fault),
+    }
 }
 
 /// Reads an extensive file from its bytes, and tells its heading and its nodes to a receiver: by

@@ -20,9 +20,9 @@ mod outcome;
 mod set;
 mod telling;
 
-use crate::game::Game;
 use crate::indexing::Indexing;
 use crate::kept::NodeList;
+use crate::listed_game::ListedGame;
 use crate::outcomes::Outcomes;
 use crate::sets::Sets;
 use gf_token::{Fault, Label, Span, Tokens};
@@ -91,13 +91,13 @@ impl<'a> Reader<'a> {
     }
 
     /// The game of the file, which was read to its end, and whose nodes these are.
-    pub(crate) fn into_game(self, nodes: NodeList<'a>) -> Game<'a>
+    pub(crate) fn into_listed_game(self, nodes: NodeList<'a>) -> ListedGame<'a>
         requires placed { ArePlaced (length self.sets.known) (length self.outcomes.known) nodes }
         requires read { (bytes : List ℕ) × (tokens : List Lexeme) × Spells 0 bytes tokens
             × (run (length bytes) Format nothing tokens ≡ Ok (content_with self nodes)) }
         ensures { result ≡ game_of (content_with self.entry nodes.entry) }
     {
-        Game::new(
+        ListedGame::new(
             self.title,
             self.comment,
             self.players,

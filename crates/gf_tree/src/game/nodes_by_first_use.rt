@@ -1,9 +1,12 @@
 //! The nodes of a game by its first-use numbers.
 
-ghost use Rattle.std.specs.Prelude.{◌≡◌};
+ghost use Rattle.std.specs.Prelude.{◌≡◌, length, map};
+ghost use Rattle.std.specs.Slice.Iter.{iter_rest};
 ghost use Rattle.gf_tree.specs.FileNodes.{file_nodes};
 ghost use Rattle.gf_tree.specs.FirstUse.{first_use_numbers};
+ghost use Rattle.gf_tree.specs.KeptNodes.{ArePlaced, kept_of};
 ghost use Rattle.gf_tree.specs.Renumbering.{renumbered};
+ghost use Rattle.gf_tree.specs.Told.{told_from};
 
 use crate::game::Game;
 use crate::kept::Stored;
@@ -21,13 +24,7 @@ impl<'a> Game<'a> {
     pub fn nodes_by_first_use(&self) -> NodesByFirstUse<'_, 'a>
         ensures { result ≡ file_nodes (renumbered (first_use_numbers self.now) self.now) }
     {
-        NodesByFirstUse {
-            sets: &self.sets,
-            outcomes: &self.outcomes,
-            nodes: self.nodes.iter(),
-            used_sets: 0,
-            used_outcomes: 0,
-        }
+        NodesByFirstUse::new(&self.sets, &self.outcomes, self.nodes.iter())
     }
 }
 
@@ -58,6 +55,28 @@ impl<'g, 'a> Model for NodesByFirstUse<'g, 'a> {
 
     ghost invariant = { λ n. ArePlaced (length n.sets.now.known) (length n.outcomes.now.known)
         (map kept_of (iter_rest n.nodes)) };
+}
+
+impl<'g, 'a> NodesByFirstUse<'g, 'a> {
+    /// All of these nodes, whose sets and outcomes these are.
+    pub(crate) fn new(
+        sets: &'g Sets<'a>,
+        outcomes: &'g Outcomes<'a>,
+        nodes: slice::Iter<'g, Stored<'a>>,
+    ) -> NodesByFirstUse<'g, 'a>
+        requires { ArePlaced (length sets.now.known) (length outcomes.now.known)
+            (map kept_of (iter_rest nodes)) }
+        ensures { result ≡ map (λ t. t.node) (told_from sets.now.known outcomes.now.known 0 0
+            (map kept_of (iter_rest nodes.entry))) }
+    {
+        NodesByFirstUse {
+            sets,
+            outcomes,
+            nodes,
+            used_sets: 0,
+            used_outcomes: 0,
+        }
+    }
 }
 
 impl<'g, 'a> Iterator for NodesByFirstUse<'g, 'a> {

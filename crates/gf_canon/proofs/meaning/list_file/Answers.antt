@@ -4,7 +4,7 @@ use Rattle.gf_canon.specs.Judgement.{BeginsWithWord, IsRefusedWith}
 use Rattle.gf_canon.specs.declared.format.Format.{Format}
 use Rattle.gf_canon.proofs.FilesJudged.{refused_with}
 use Rattle.gf_canon.proofs.RefusedFiles.{refused_at_first, refused_game, refused_table}
-use Rattle.gf_canon.proofs.meaning.read_file.Goals as goal
+use Rattle.gf_canon.proofs.meaning.list_file.Goals as goal
 
 pub returns-in_err-format_of-clause-refused : goal.returns-in_err-format_of-clause-refused
 returns-in_err-format_of-clause-refused c =

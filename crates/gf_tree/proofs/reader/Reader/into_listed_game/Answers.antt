@@ -1,7 +1,7 @@
 use Rattle.std.proofs.Common.{refl}
 use Rattle.gf_tree.specs.ReaderState.{content_with}
 use Rattle.gf_tree.proofs.ReadGames.{whole}
-use Rattle.gf_tree.proofs.reader.Reader.into_game.Goals as goal
+use Rattle.gf_tree.proofs.reader.Reader.into_listed_game.Goals as goal
 
 pub new-requires-clause-fills : goal.new-requires-clause-fills
 new-requires-clause-fills c =
