@@ -12,8 +12,8 @@ use Rattle.gf_tree.specs.FirstUse.{outcome_numbers, player_keys}
 use Rattle.gf_tree.specs.Game.{Game, IsGame}
 use Rattle.gf_tree.specs.Renumbering.{Renumbering}
 use Rattle.gf_tree.proofs.Members.{map_twice}
-use Rattle.gf_canon.specs.SameGame.{Carries}
-use Rattle.gf_canon.proofs.CanonicalGames.{outcome_numbers_carried, set_numbers_carried}
+use Rattle.gf_tree.specs.SameGame.{Carries}
+use Rattle.gf_tree.proofs.CanonicalGames.{outcome_numbers_carried, set_numbers_carried}
 use Rattle.gamefile.specs.SameText.{set_numbers}
 
 image_at : {A B : Type 0} (f : A → B) (xs : List A) (i : ℕ)

@@ -7,7 +7,7 @@ use Rattle.gf_canon.specs.GameFile.{GameFile}
 use Rattle.gf_canon.specs.GameFile.GameFile.{extensive}
 use Rattle.gf_canon.specs.Judgement.{MeansFile, SpellsWithin}
 use Rattle.gf_canon.specs.NewNumbers.{IsOnlyRenumbering, new_numbers}
-use Rattle.gf_canon.specs.SameGame.{SameGame}
+use Rattle.gf_tree.specs.SameGame.{SameGame}
 use Rattle.gf_canon.specs.Sameness.{AreRefusedWith}
 use Rattle.gf_canon.specs.declared.new_numbers.Renumbering.{Renumbering}
 use Rattle.gf_canon.specs.declared.sameness.SameFault.{SameFault}

@@ -9,7 +9,7 @@ use Rattle.gf_tree.specs.Renumbering.{Renumbering}
 use Rattle.gf_canon.specs.GameFile.{GameFile}
 use Rattle.gf_canon.specs.GameFile.GameFile.{extensive}
 use Rattle.gf_canon.specs.Judgement.{SpellsWithin}
-use Rattle.gf_canon.specs.SameGame.{Carries, SameGame}
+use Rattle.gf_tree.specs.SameGame.{Carries, SameGame}
 
 -- ---- the line of an answer
 

@@ -8,7 +8,7 @@ ghost use Rattle.gf_tree.specs.FirstUse.{outcome_numbers};
 ghost use Rattle.gf_tree.specs.Game.{IsGame};
 ghost use Rattle.gf_tree.specs.Renumbering.{Renumbering};
 ghost use Rattle.gf_tree.specs.Spellable.{IsSpellable};
-ghost use Rattle.gf_canon.specs.SameGame.{Carries};
+ghost use Rattle.gf_tree.specs.SameGame.{Carries};
 ghost use Rattle.gamefile.specs.SameText.{outcome_line, outcome_lines, renumbering_lines};
 ghost use Rattle.gamefile.specs.SameText.{set_line, set_lines, set_numbers};
 

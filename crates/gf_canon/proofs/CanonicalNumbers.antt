@@ -21,9 +21,9 @@ use Rattle.gf_tree.proofs.ListedNumbers.{own_key, some_player}
 use Rattle.gf_tree.proofs.Renumberings.{Agree, agreed_games}
 use Rattle.gf_tree.proofs.TreesOnce.{same_set_equality}
 use Rattle.gf_tree.proofs.Uses.{Has, IsEquality, has}
-use Rattle.gf_canon.specs.CanonicalGame.{canonical_game}
+use Rattle.gf_tree.specs.CanonicalGame.{canonical_game}
 use Rattle.gf_canon.specs.ListedInOrder.{lists_in_order}
-use Rattle.gf_canon.proofs.CanonicalGames.{outcomes_in_order, sets_in_order}
+use Rattle.gf_canon.proofs.NumbersInOrder.{outcomes_in_order, sets_in_order}
 
 -- ---- numbers in order
 

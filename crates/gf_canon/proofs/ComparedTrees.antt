@@ -11,7 +11,7 @@ use Rattle.gf_tree.specs.GameOf.{SpellsGame}
 use Rattle.gf_tree.specs.Spellable.{IsSpellable}
 use Rattle.gf_tree.specs.Told.{Told, heading_in}
 use Rattle.gf_tree.proofs.SpelledGames.{spelled_is_spellable}
-use Rattle.gf_canon.specs.CanonicalGame.{canonical_game}
+use Rattle.gf_tree.specs.CanonicalGame.{canonical_game}
 use Rattle.gf_canon.specs.ComparedTrees.{IsCompared}
 use Rattle.gf_canon.specs.GameFile.GameFile.{extensive, strategic}
 use Rattle.gf_canon.specs.Judgement.{SpellsWithin}

@@ -15,12 +15,12 @@ use Rattle.gf_tree.specs.GameOf.{SpellsGame}
 use Rattle.gf_tree.specs.Spellable.{IsSpellable}
 use Rattle.gf_tree.proofs.TreesOnce.{spells_one_game}
 use Rattle.gf_tree.proofs.SpelledGames.{spelled_is_spellable as spelled_game}
-use Rattle.gf_canon.specs.CanonicalGame.{canonical_game}
+use Rattle.gf_tree.specs.CanonicalGame.{canonical_game}
 use Rattle.gf_canon.specs.GameText.{game_text}
 use Rattle.gf_canon.specs.GameFile.{GameFile, IsGameFile, SpellsFile, SameFile}
 use Rattle.gf_canon.specs.GameFile.{canonical_file, canonical_text, file_text}
 use Rattle.gf_canon.specs.GameFile.GameFile.{extensive, strategic}
-use Rattle.gf_canon.proofs.CanonicalGames.{same_by_canonical, canonical_is_game, canonical_twice}
+use Rattle.gf_tree.proofs.CanonicalGames.{same_by_canonical, canonical_is_game, canonical_twice}
 use Rattle.gf_canon.proofs.ReadsBack.{text_reads_back}
 use Rattle.gf_canon.proofs.Spellables.{canonical_is_spellable}
 

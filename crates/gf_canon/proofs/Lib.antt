@@ -1,4 +1,3 @@
-pub mod CanonicalGames
 pub mod CanonicalNumbers
 pub mod Compared
 pub mod ComparedTrees
@@ -16,7 +15,6 @@ pub mod PlainLines
 pub mod ReadsBack
 pub mod RefusedFiles
 pub mod RefusedOnce
-pub mod SameGames
 pub mod Spellables
 pub mod TextPieces
 pub mod TextsCompared

@@ -25,7 +25,7 @@ use Rattle.gf_tree.proofs.Lookups.{at_images}
 use Rattle.gf_tree.proofs.Carried.{in_keys, entry_used}
 use Rattle.gf_tree.proofs.Renumberings.{set_number_positive, outcome_number_positive}
 use Rattle.gf_tree.proofs.RenumberedGames.{own_set}
-use Rattle.gf_canon.specs.CanonicalGame.{canonical_game}
+use Rattle.gf_tree.specs.CanonicalGame.{canonical_game}
 
 -- ---- different numbers from 1 below a bound are fewer than it
 

@@ -7,7 +7,7 @@ use Rattle.gf_tree.specs.FileTree.{FileNode}
 use Rattle.gf_tree.specs.Game.{Game}
 use Rattle.gf_tree.specs.Told.{Heading, Told}
 use Rattle.gf_tree.specs.ToldGame.{HasToldGame}
-use Rattle.gf_canon.specs.CanonicalGame.{canonical_game}
+use Rattle.gf_tree.specs.CanonicalGame.{canonical_game}
 use Rattle.gf_canon.specs.GameText.{game_text}
 use Rattle.gf_canon.specs.TextParts.{heading_text, node_line, told_text}
 use Rattle.gf_canon.proofs.TextPieces.{game_text_is, node_lines}

@@ -22,7 +22,7 @@ use Rattle.gf_tree.proofs.Games.{map_entry, flatten_map}
 use Rattle.gf_tree.proofs.SpelledGames.{spelled_is_spellable as spelled_game}
 use Rattle.gf_tree.proofs.Members.{map_twice}
 use Rattle.gf_tree.proofs.MappedTrees.{map_tree_twice}
-use Rattle.gf_canon.specs.SameGame.{Carries}
+use Rattle.gf_tree.specs.SameGame.{Carries}
 use Rattle.gf_canon.specs.GameFile.{GameFile, SpellsFile, SameFile, canonical_text, file_text}
 use Rattle.gf_canon.specs.GameFile.GameFile.{extensive, strategic}
 use Rattle.gf_canon.specs.NamesAside.{unnamed_node, unnamed_set, unnamed_outcome}

@@ -9,12 +9,12 @@ use Rattle.gf_tree.specs.Renumbering.{Renumbering}
 use Rattle.gf_tree.specs.FirstUse.{first_use_numbers}
 use Rattle.gf_tree.proofs.SpelledGames.{spelled_is_spellable}
 use Rattle.gf_tree.proofs.WorkedGames.{five_is_meant}
-use Rattle.gf_canon.specs.SameGame.{Carries, SameGame}
-use Rattle.gf_canon.specs.CanonicalGame.{canonical_game}
+use Rattle.gf_tree.specs.SameGame.{Carries, SameGame}
+use Rattle.gf_tree.specs.CanonicalGame.{canonical_game}
 use Rattle.gf_canon.specs.GameText.{game_text}
 use Rattle.gf_canon.specs.WorkedGames.{numbered_five, five_text, bonus_text, nobody, nobody_text}
-use Rattle.gf_canon.proofs.SameGames.{carried_sets, carried_outcomes}
-use Rattle.gf_canon.proofs.CanonicalGames.{same_by_canonical}
+use Rattle.gf_tree.proofs.SameGames.{carried_sets, carried_outcomes}
+use Rattle.gf_tree.proofs.CanonicalGames.{same_by_canonical}
 
 pub five_numbered : five ≡ numbered_five 9 7 3 4
 five_numbered = refl

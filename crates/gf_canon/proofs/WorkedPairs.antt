@@ -6,12 +6,12 @@ use Rattle.gf_tree.specs.Description.{SetKey, InformationSet, set_of}
 use Rattle.gf_tree.specs.Game.{Game, IsGame, used_sets, set_at}
 use Rattle.gf_tree.specs.Renumbering.{renumbered_set}
 use Rattle.gf_tree.proofs.Uses.{Has, contains}
-use Rattle.gf_canon.specs.SameGame.{SameGame}
+use Rattle.gf_tree.specs.SameGame.{SameGame}
 use Rattle.gf_canon.specs.GameFile.GameFile.{extensive}
 use Rattle.gf_canon.specs.NamesAside.{SameAsideNames, unnamed_game}
 use Rattle.gf_canon.specs.WorkedGames.{seen, unseen, plain_prize, renamed_prize}
 use Rattle.gf_canon.specs.WorkedGames.{lower_case_prize, two_prizes, no_outcome, zero_outcome}
-use Rattle.gf_canon.proofs.SameGames.{same_itself, carried_sets, carried_outcomes}
+use Rattle.gf_tree.proofs.SameGames.{same_itself, carried_sets, carried_outcomes}
 
 -- ---- what a player sees
 

@@ -4,7 +4,7 @@ use Rattle.gf_tree.specs.FileNodes.{file_nodes}
 use Rattle.gf_tree.specs.FileTree.{FileNode}
 use Rattle.gf_tree.specs.Game.{Game}
 use Rattle.gf_tree.specs.Told.{Heading, Told, heading_in}
-use Rattle.gf_canon.specs.CanonicalGame.{canonical_game}
+use Rattle.gf_tree.specs.CanonicalGame.{canonical_game}
 use Rattle.gf_canon.specs.NamedBy.{heading_by, node_by}
 use Rattle.gf_canon.specs.declared.sameness.Names.{Names}
 

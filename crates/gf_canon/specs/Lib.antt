@@ -1,4 +1,3 @@
-pub mod CanonicalGame
 pub mod ComparedTrees
 pub mod FileFormat
 pub mod FirstDescribed
@@ -13,7 +12,6 @@ pub mod NamesAside
 pub mod NewNumbers
 pub mod Noted
 pub mod SameBy
-pub mod SameGame
 pub mod Sameness
 pub mod TextParts
 pub mod ToldFile

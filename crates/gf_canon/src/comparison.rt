@@ -2,7 +2,7 @@
 
 ghost use Rattle.std.specs.Prelude.{◌≡◌, ◌↔◌, [], IsTrue};
 ghost use Rattle.gf_tree.specs.FileNodes.{file_nodes};
-ghost use Rattle.gf_canon.specs.CanonicalGame.{canonical_game};
+ghost use Rattle.gf_tree.specs.CanonicalGame.{canonical_game};
 
 use crate::compare::{same_heading, same_node};
 use crate::sameness::Names;
@@ -49,7 +49,7 @@ impl<'g, 'a> Comparison<'g, 'a> {
 impl<'g, 'a, 'b> Receive<'b> for Comparison<'g, 'a> {
     ghost use Rattle.std.specs.Prelude.{◌≡◌, IsTrue};
     ghost use Rattle.gf_tree.specs.FileNodes.{file_nodes};
-    ghost use Rattle.gf_canon.specs.CanonicalGame.{canonical_game};
+    ghost use Rattle.gf_tree.specs.CanonicalGame.{canonical_game};
     ghost use Rattle.gf_canon.specs.ComparedTrees.{IsCompared};
 
     ghost untold = { λ c. IsTrue c.same × (c.left ≡ file_nodes (canonical_game c.game.now)) };

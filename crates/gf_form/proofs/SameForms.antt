@@ -26,9 +26,9 @@ use Rattle.gf_tree.proofs.Carried.{entry_used}
 use Rattle.gf_tree.proofs.MappedTrees.{held}
 use Rattle.gf_tree.proofs.Renumberings.{sets_apart}
 use Rattle.gf_tree.proofs.RenumberedGames.{set_at_image, outcome_at_image}
-use Rattle.gf_canon.specs.SameGame.{SameGame}
-use Rattle.gf_canon.proofs.SameGames.{same_back}
-use Rattle.gf_canon.proofs.CanonicalGames.{carried_is_renumbered}
+use Rattle.gf_tree.specs.SameGame.{SameGame}
+use Rattle.gf_tree.proofs.SameGames.{same_back}
+use Rattle.gf_tree.proofs.CanonicalGames.{carried_is_renumbered}
 use Rattle.gf_form.specs.Strategies.{action_counts, strategies, all_choices, strategy_label}
 use Rattle.gf_form.specs.Strategies.{players_of, choice_at, choices_by, strategies_at, strategy_at}
 use Rattle.gf_form.specs.Payoff.{payoff}

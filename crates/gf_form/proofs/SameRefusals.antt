@@ -8,8 +8,8 @@ use Rattle.gf_nfg.specs.Limit.{profile_limit}
 use Rattle.gf_nfg.specs.Profiles.{positions, profiles}
 use Rattle.gf_tree.specs.Game.{Game, IsGame}
 use Rattle.gf_tree.proofs.Members.{map_same}
-use Rattle.gf_canon.specs.SameGame.{SameGame}
-use Rattle.gf_canon.proofs.SameGames.{same_back}
+use Rattle.gf_tree.specs.SameGame.{SameGame}
+use Rattle.gf_tree.proofs.SameGames.{same_back}
 use Rattle.gf_form.specs.BottomUp.{IsValue}
 use Rattle.gf_form.specs.Refusal.{HasBottomUpValue, HasTooManyProfiles, HasValues, OverflowsAt}
 use Rattle.gf_form.specs.Strategies.{choices_by, full_profiles, players_of}

@@ -12,7 +12,7 @@ ghost use Rattle.gf_tree.specs.Game.{Game, IsGame, Node};
 ghost use Rattle.gf_tree.specs.FirstUse.{player_keys};
 ghost use Rattle.gf_tree.specs.Spellable.{IsSpellable};
 ghost use Rattle.gf_tree.specs.WorkedTrees.{bonus, forgetful};
-ghost use Rattle.gf_canon.specs.SameGame.{SameGame};
+ghost use Rattle.gf_tree.specs.SameGame.{SameGame};
 ghost use Rattle.gf_form.specs.Strategies.{action_counts, choice_at, choices_by, full_profiles};
 ghost use Rattle.gf_form.specs.Strategies.{players_of, strategies, strategies_at, strategy_label};
 ghost use Rattle.gf_form.specs.Plays.{follows, plays, HasActions, PartAtChance, Play};

@@ -5,6 +5,7 @@ pub mod Divisors
 pub mod OddParts
 pub mod LowestDecimals
 pub mod LowestTerms
+pub mod EqualRatios
 pub mod FractionFields
 pub mod WrittenText
 pub mod ShortNumbers

@@ -1,4 +1,5 @@
 pub mod ReaderSteps
+pub mod CanonicalGames
 pub mod Carried
 pub mod FilesOfGames
 pub mod FirstUseNumbers
@@ -46,6 +47,7 @@ pub mod RunShares
 pub mod RunStops
 pub mod RunTokens
 mod SentencesOnce
+pub mod SameGames
 pub mod SameLists
 pub mod SetCounts
 pub mod SetNumbers

@@ -5,6 +5,7 @@ pub mod ReaderState
 pub mod Actions
 pub mod Branches
 pub mod BranchesLeft
+pub mod CanonicalGame
 pub mod Consistent
 pub mod Description
 pub mod Due
@@ -41,6 +42,7 @@ pub mod Reason
 pub mod RowPlaces
 pub mod Rows
 pub mod Renumbering
+pub mod SameGame
 pub mod Seeded
 pub mod Sentence
 pub mod SomeRow

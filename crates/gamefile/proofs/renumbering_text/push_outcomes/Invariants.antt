@@ -1,6 +1,6 @@
 use Rattle.std.proofs.Common.{◌≡◌, ◌++◌, drop}
 use Rattle.std.specs.List.{flat_map}
-use Rattle.gf_canon.specs.SameGame.{Carries}
+use Rattle.gf_tree.specs.SameGame.{Carries}
 use Rattle.gf_tree.specs.FirstUse.{outcome_numbers}
 use Rattle.gf_tree.specs.Renumbering.{Renumbering}
 use Rattle.gamefile.specs.SameText.{outcome_line, outcome_lines}

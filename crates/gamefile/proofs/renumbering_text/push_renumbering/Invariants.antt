@@ -1,6 +1,6 @@
 use Rattle.std.proofs.Common.{◌≡◌, ◌+◌, ◌++◌}
 use Rattle.std.specs.List.{flat_map}
-use Rattle.gf_canon.specs.SameGame.{Carries}
+use Rattle.gf_tree.specs.SameGame.{Carries}
 use Rattle.gf_nfg.specs.Profiles.{numbers_from}
 use Rattle.gf_tree.specs.Renumbering.{Renumbering}
 use Rattle.gamefile.specs.SameText.{set_lines}

@@ -1,6 +1,6 @@
 use Rattle.std.proofs.Common.{◌≡◌, ◌++◌, drop}
 use Rattle.std.specs.List.{flat_map}
-use Rattle.gf_canon.specs.SameGame.{Carries}
+use Rattle.gf_tree.specs.SameGame.{Carries}
 use Rattle.gf_tree.specs.Renumbering.{Renumbering}
 use Rattle.gamefile.specs.SameText.{set_line, set_lines, set_numbers}
 use Rattle.gamefile.proofs.renumbering_text.push_sets.Given as goal

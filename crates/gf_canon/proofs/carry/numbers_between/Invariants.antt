@@ -3,7 +3,7 @@ use Rattle.std.specs.Ordering.{nat_cmp}
 use Rattle.gf_tree.specs.NodesLeft.{nodes_left}
 use Rattle.gf_tree.specs.Renumbering.{Renumbering}
 use Rattle.gf_canon.specs.NewNumbers.{number_of_set}
-use Rattle.gf_canon.specs.SameGame.{Carries}
+use Rattle.gf_tree.specs.SameGame.{Carries}
 use Rattle.gf_canon.proofs.NumbersNoted.{AreWalked}
 use Rattle.gf_canon.proofs.carry.numbers_between.Given as goal
 

@@ -1,5 +1,5 @@
 use Rattle.std.proofs.lemmas.Slice.Eq.{slice_eq-Decides}
-use Rattle.gf_canon.proofs.Compared.{Decides-ratio}
+use Rattle.gf_fraction.proofs.EqualRatios.{Decides-ratio}
 use Rattle.gf_canon.proofs.compare.same_payoffs.Goals as goal
 
 pub returns : goal.returns

@@ -1,4 +1,4 @@
-use Rattle.gf_canon.proofs.CanonicalGames.{same_by_canonical}
+use Rattle.gf_tree.proofs.CanonicalGames.{same_by_canonical}
 use Rattle.gf_canon.proofs.Files.{same_by_canonical_file}
 use Rattle.gf_canon.proofs.laws.same_by_canonical_game.Goals as goal
 

@@ -1,4 +1,4 @@
-use Rattle.gf_canon.proofs.SameGames.{same_itself, same_back, same_on}
+use Rattle.gf_tree.proofs.SameGames.{same_itself, same_back, same_on}
 use Rattle.gf_canon.proofs.laws.same_is_equivalence.Goals as goal
 
 pub returns-clause-reflexive : goal.returns-clause-reflexive

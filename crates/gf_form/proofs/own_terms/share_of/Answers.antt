@@ -1,5 +1,5 @@
 use Rattle.std.proofs.Common.{◌≡◌, ◌∙◌, pos, refl, sym}
-use Rattle.gf_canon.proofs.Compared.{Decides-ratio}
+use Rattle.gf_fraction.proofs.EqualRatios.{Decides-ratio}
 use Rattle.gf_form.proofs.OwnTerms.{zero_share}
 use Rattle.gf_form.proofs.own_terms.share_of.Goals as goal
 

@@ -15,7 +15,7 @@ use Rattle.gf_tree.proofs.Renumberings.{sets_apart, outcomes_apart, is_renumberi
 use Rattle.gf_tree.proofs.Renumberings.{set_number_positive, outcome_number_positive}
 use Rattle.gf_tree.proofs.TreesOnce.{same_set_equality}
 use Rattle.gf_tree.proofs.Uses.{Has, has, contains, has_map, mapped_from}
-use Rattle.gf_canon.specs.SameGame.{Carries, SameGame}
+use Rattle.gf_tree.specs.SameGame.{Carries, SameGame}
 
 -- ---- what a carried game uses
 

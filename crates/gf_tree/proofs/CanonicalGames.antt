@@ -3,7 +3,6 @@ use Rattle.std.proofs.Common.{◌≡◌, ℕ, Bool, List, map, filter, length, r
 use Rattle.std.specs.Prelude.{nat_eq, ◌↔◌}
 use Rattle.std.proofs.lemmas.Bool.{eqb-true}
 use Rattle.std.proofs.lemmas.Bool.Decides.{Decides-eqb}
-use Rattle.gf_nfg.specs.Profiles.{positions}
 use Rattle.gf_tree.specs.Description.{InformationSet, Outcome, SetKey, same_set, set_of}
 use Rattle.gf_tree.specs.FiniteMap.{Described, first_uses}
 use Rattle.gf_tree.specs.Game.{Game, IsGame, used_sets, used_outcomes}
@@ -22,10 +21,9 @@ use Rattle.gf_tree.proofs.PlayerSets.{sets_by_first_use}
 use Rattle.gf_tree.proofs.FirstUses.{was_used, of_filter}
 use Rattle.gf_tree.proofs.TreesOnce.{same_set_equality}
 use Rattle.gf_tree.proofs.Uses.{Has, has, contains}
-use Rattle.gf_canon.specs.SameGame.{Carries, SameGame}
-use Rattle.gf_canon.specs.CanonicalGame.{canonical_game}
-use Rattle.gf_canon.proofs.SameGames.{carried_sets, carried_outcomes, same_back, same_on}
-use Rattle.gf_canon.proofs.NumbersInOrder.{numbered_in_order}
+use Rattle.gf_tree.specs.SameGame.{Carries, SameGame}
+use Rattle.gf_tree.specs.CanonicalGame.{canonical_game}
+use Rattle.gf_tree.proofs.SameGames.{carried_sets, carried_outcomes, same_back, same_on}
 
 -- ---- carried
 
@@ -155,35 +153,6 @@ outcome_number_kept r g h c number i =
     ap (λ ks. first_use_number nat_eq ks (r.outcome number)) (carried_outcomes r g h c)
     ∙ number_kept nat_eq nat_eq Decides-eqb Decides-eqb r.outcome (used_outcomes g.tree) number
     (outcomes_apart g r c.renumbering) (has (used_outcomes g.tree) number i)
-
-pub sets_in_order : (g : Game) (player : ℕ) → IsGame g
-    → map (λ key. (first_use_numbers g).set player key.number) (player_keys g player)
-    ≡ positions (length (player_keys g player))
-sets_in_order g player game =
-    subst (λ keys.
-    map (λ key. (first_use_numbers g).set player key.number) keys ≡ positions (length keys))
-    (sym (sets_by_first_use g player game))
-    (map_same (λ key. (first_use_numbers g).set player key.number) (first_use_number same_set own)
-    (first_uses same_set own) number
-    ∙ numbered_in_order same_set same_set_equality own)
-  where
-    own : List SetKey
-    own = sets_of player (used_sets g.tree)
-
-    number : (key : SetKey) → Has (first_uses same_set own) key
-        → (first_use_numbers g).set player key.number ≡ first_use_number same_set own key
-    number key i =
-        let mine = of_filter (λ (k : SetKey). nat_eq k.player player) (used_sets g.tree) key
-        (was_used same_set own key i) in
-        let is : player ≡ key.player = sym (eqb-true key.player player mine.1) in
-        ap (λ p. first_use_number same_set own (record { player = p; number = key.number })) is
-
-pub outcomes_in_order : (g : Game) → IsGame g
-    → map (first_use_numbers g).outcome (outcome_numbers g) ≡ positions (length (outcome_numbers g))
-outcomes_in_order g game =
-    subst (λ numbers. map (first_use_numbers g).outcome numbers ≡ positions (length numbers))
-    (sym game.one_entry_each_outcome)
-    (numbered_in_order nat_eq Decides-eqb (used_outcomes g.tree))
 
 -- ---- the canonical game
 
