@@ -1,6 +1,8 @@
 //! Laws of the definitions, each as the contract of a function that does nothing.
 
-ghost use Rattle.std.specs.Prelude.{◌≡◌, ◌↔◌, ◌∷◌, ◌++◌, ℕ, List, IsTrue};
+ghost use Rattle.std.specs.Prelude.{◌≡◌, ◌↔◌, ◌<◌, ◌∷◌, ◌++◌, ℕ, List, IsTrue, Some};
+ghost use Rattle.gf_token.specs.Index.{IsIndex};
+ghost use Rattle.gf_token.specs.Indices.{count_of, index_of};
 ghost use Rattle.gf_token.specs.LabelSpelling.{is_spelling, EscapesQuotes, EndsInBackslash};
 ghost use Rattle.gf_token.specs.Token.{Lexeme};
 ghost use Rattle.gf_token.specs.TokenSpelling.{Spells, StandsIn};
@@ -22,4 +24,12 @@ pub fn spans_are_slices()
 pub fn labels_escape_quotes()
     ensures { (bytes : List ℕ)
         → IsTrue (is_spelling bytes) ↔ (EscapesQuotes bytes × ¬ (EndsInBackslash bytes)) }
+{}
+
+/// Where an index is due, bytes are read as `n` exactly if they are digits alone, at least one, of
+/// value `n`, which is at most 4,294,967,295; where a count is due, exactly if `n` is also above 0.
+pub fn indices_by_digits()
+    ensures index { (bytes : List ℕ) (n : ℕ) → (index_of bytes ≡ Some n) ↔ IsIndex bytes n }
+    ensures count { (bytes : List ℕ) (n : ℕ)
+        → (count_of bytes ≡ Some n) ↔ (IsIndex bytes n × (0 < n)) }
 {}

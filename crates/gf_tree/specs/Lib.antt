@@ -51,6 +51,7 @@ pub mod SmallNumbers
 pub mod Spellable
 pub mod StoredOutcomes
 pub mod StoredSets
+pub mod Steps
 pub mod Stretches
 pub mod Subtrees
 pub mod Tree

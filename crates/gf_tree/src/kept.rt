@@ -2,7 +2,7 @@
 //! subtree.
 
 ghost use Rattle.std.specs.Prelude.{◌≡◌, ◌^◌, ◌+◌, ◌<◌, ◌≤◌, ◌++◌, ◌∷◌, [], ℕ, ⊤, MatchOption};
-ghost use Rattle.std.specs.Prelude.{OnErr, OnOk, drop, length, map, option_map};
+ghost use Rattle.std.specs.Prelude.{IsTrue, OnErr, OnOk, drop, length, map, option_map};
 ghost use Rattle.std.specs.List.{AllByRecursion};
 ghost use Rattle.std.specs.Slice.Iter.{iter_rest};
 ghost use Rattle.gf_token.specs.Label.{label_of};
@@ -14,6 +14,7 @@ ghost use Rattle.gf_tree.specs.KeptNodes.{ArePlaced, child_count, child_counts};
 ghost use Rattle.gf_tree.specs.KeptNodes.{kept_of, position_of, sizes_of};
 ghost use Rattle.gf_tree.specs.NodeOf.{outcome_of, set_of_step};
 ghost use Rattle.gf_tree.specs.Skipped.{Begin, skipped};
+ghost use Rattle.gf_tree.specs.Steps.{is_step};
 ghost use Rattle.gf_tree.specs.Subtrees.{subtree_sizes};
 
 use crate::node::Step;
@@ -53,7 +54,8 @@ pub(crate) fn child_count(sets: &Sets<'_>, set: u32) -> usize
 /// What happens at a node whose set has this position.
 pub(crate) fn step(sets: &Sets<'_>, set: u32) -> Step
     requires { set ≤ length sets.now.known }
-    ensures { set_of_step result ≡ option_map (λ s. s.key) (at_position sets.now.known set) }
+    ensures set { set_of_step result ≡ option_map (λ s. s.key) (at_position sets.now.known set) }
+    ensures counted { IsTrue (is_step result) }
 {
     if set == 0 {
         return Step::Terminal;

@@ -1,5 +1,8 @@
 //! Nodes as callers see them.
 
+ghost use Rattle.std.specs.Prelude.{IsTrue};
+ghost use Rattle.gf_tree.specs.Steps.{is_step};
+
 use gf_token::Label;
 
 /// What happens at a node. Numbers of sets are those of the file.
@@ -13,10 +16,12 @@ pub enum Step {
     Terminal,
 }
 
-/// A node: its name, what happens there, and the number of its outcome, or 0 where it has none.
+/// A node: its name, what happens there, and the number of its outcome, or 0 where it has none. No
+/// step tells of a player 0: chance has a step of its own.
 #[derive(Clone, Copy, Debug, PartialEq, Eq)]
 pub struct Node<'a> {
     pub name: Label<'a>,
     pub step: Step,
     pub outcome: u32,
+    ghost counted: { IsTrue (is_step step) },
 }

@@ -1,8 +1,9 @@
 //! The body of a strategic file: the payoffs at each profile, or outcomes and the number of one at
 //! each profile.
 
-ghost use Rattle.std.specs.Prelude.{◌≡◌, ◌<◌, min};
+ghost use Rattle.std.specs.Prelude.{◌≡◌, ◌<◌, ◌≤◌, Err, min, vec_capacity, vec_len};
 ghost use Rattle.gf_token.specs.Cursor.{token_of};
+ghost use Rattle.gf_token.specs.declared.fault.Why.TheVariants.{Memory};
 ghost use Rattle.gf_nfg.specs.Machine.{Steps, at_payoff, at_flat_payoffs, at_after_comment};
 ghost use Rattle.gf_nfg.specs.Machine.{at_after_strategies, at_outcomes, at_outcome_name};
 ghost use Rattle.gf_nfg.specs.Machine.{at_outcome_end, at_braced_payoff, at_after_braced_payoff};
@@ -24,7 +25,11 @@ impl<'a> Reader<'a> {
         next: Position,
     ) -> Result<(), Why>
         requires { 0 < self.old.due }
-        ensures { Steps (paid next (state_of self.old) payoff) result (state_of self.new) }
+        ensures steps { Steps (paid next (state_of self.old) payoff) result (state_of self.new) }
+
+        // Memory is refused only where there was no room.
+        ensures full { result ≡ Err Memory
+            → vec_capacity self.old.payoffs ≤ vec_len self.old.payoffs }
     {
         let payoff = payoff?;
         self.payoffs.push(payoff)?;
@@ -175,7 +180,11 @@ impl<'a> Reader<'a> {
     #[inline(always)]
     pub(super) fn choose(&mut self, number: Option<u32>) -> Result<(), Why>
         requires { 0 < self.old.due }
-        ensures { Steps (chosen (state_of self.old) number) result (state_of self.new) }
+        ensures steps { Steps (chosen (state_of self.old) number) result (state_of self.new) }
+
+        // Memory is refused only where there was no room.
+        ensures full { result ≡ Err Memory
+            → vec_capacity self.old.choices ≤ vec_len self.old.choices }
     {
         match number {
             Some(number) if number <= self.outcomes => {

@@ -1,6 +1,8 @@
 //! The heading of a strategic file: its format, title and players.
 
+ghost use Rattle.std.specs.Prelude.{◌≡◌, ◌≤◌, Err, vec_capacity, vec_len};
 ghost use Rattle.gf_token.specs.Cursor.{token_of};
+ghost use Rattle.gf_token.specs.declared.fault.Why.TheVariants.{Memory};
 ghost use Rattle.gf_nfg.specs.Machine.{Steps, at_format, at_version, at_letter};
 ghost use Rattle.gf_nfg.specs.Machine.{at_title, at_before_players, at_players};
 ghost use Rattle.gf_nfg.specs.ReaderState.{state_of};
@@ -87,8 +89,12 @@ impl<'a> Reader<'a> {
 
     #[tactic(auto, using(std::proofs::lemmas::List::map_push))]
     pub(super) fn at_players(&mut self, kind: Kind<'a>) -> Result<(), Why>
-        ensures { Steps (at_players (state_of self.old) (token_of kind.entry)) result
+        ensures steps { Steps (at_players (state_of self.old) (token_of kind.entry)) result
             (state_of self.new) }
+
+        // Memory is refused only where there was no room.
+        ensures full { result ≡ Err Memory
+            → vec_capacity self.old.players ≤ vec_len self.old.players }
     {
         match kind {
             Kind::Text(label) => {

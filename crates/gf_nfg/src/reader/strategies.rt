@@ -1,8 +1,9 @@
 //! The strategies of a strategic file: a count or a list of labels for each player.
 
-ghost use Rattle.std.specs.Prelude.{◌≡◌, ◌<◌, ◌-◌, length};
+ghost use Rattle.std.specs.Prelude.{◌≡◌, ◌<◌, ◌≤◌, ◌-◌, ◌⊎◌, Err, length, vec_capacity, vec_len};
 ghost use Rattle.gf_token.specs.Cursor.{token_of};
 ghost use Rattle.gf_token.specs.Indices.{count_of};
+ghost use Rattle.gf_token.specs.declared.fault.Why.TheVariants.{Memory};
 ghost use Rattle.gf_nfg.specs.Machine.{Steps, at_before_strategies, settled, counted};
 ghost use Rattle.gf_nfg.specs.Machine.{at_strategies_end, at_first_strategies, at_counts};
 ghost use Rattle.gf_nfg.specs.Machine.{opened, listed, at_before_list, at_list};
@@ -30,7 +31,11 @@ impl<'a> Reader<'a> {
     /// The next player has so many strategies.
     fn settle(&mut self, strategies: usize) -> Result<(), Why>
         requires { 0 < strategies }
-        ensures { Steps (settled (state_of self.old) strategies) result (state_of self.new) }
+        ensures steps { Steps (settled (state_of self.old) strategies) result (state_of self.new) }
+
+        // Memory is refused only where there was no room.
+        ensures full { result ≡ Err Memory
+            → vec_capacity self.old.counts ≤ vec_len self.old.counts }
     {
         match self.profiles.times(strategies) {
             Some(profiles) => {
@@ -45,8 +50,12 @@ impl<'a> Reader<'a> {
     /// Takes a count, whose bytes these are.
     fn take_count(&mut self, text: &'a [u8]) -> Result<(), Why>
         requires { 0 < self.old.due }
-        ensures { Steps (counted (state_of self.old) (count_of text.entry.now)) result
+        ensures steps { Steps (counted (state_of self.old) (count_of text.entry.now)) result
             (state_of self.new) }
+
+        // Memory is refused only where there was no room.
+        ensures full { result ≡ Err Memory
+            → vec_capacity self.old.counts ≤ vec_len self.old.counts }
     {
         match readings::count(text) {
             Some(count) => {
@@ -132,9 +141,13 @@ impl<'a> Reader<'a> {
 
     /// Takes the closing brace of a list.
     fn close_list(&mut self) -> Result<(), Why>
-        ensures { Steps
+        ensures steps { Steps
             (listed (state_of self.old) (length self.old.labels.items - self.old.list_start)) result
             (state_of self.new) }
+
+        // Memory is refused only where there was no room.
+        ensures full { result ≡ Err Memory
+            → vec_capacity self.old.counts ≤ vec_len self.old.counts }
     {
         // No list starts behind the labels.
         let strategies = self.labels.len().saturating_sub(self.list_start);
@@ -147,8 +160,13 @@ impl<'a> Reader<'a> {
 
     #[tactic(auto, using(std::proofs::lemmas::List::map_push))]
     pub(super) fn at_list(&mut self, kind: Kind<'a>) -> Result<(), Why>
-        ensures { Steps (at_list (state_of self.old) (token_of kind.entry)) result
+        ensures steps { Steps (at_list (state_of self.old) (token_of kind.entry)) result
             (state_of self.new) }
+
+        // Memory is refused only where there was no room for a label or for a count.
+        ensures full { result ≡ Err Memory
+            → (vec_capacity self.old.labels ≤ vec_len self.old.labels)
+            ⊎ (vec_capacity self.old.counts ≤ vec_len self.old.counts) }
     {
         match kind {
             Kind::Text(label) => {

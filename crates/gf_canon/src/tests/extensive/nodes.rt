@@ -49,12 +49,10 @@ pub(super) fn assert_nodes(rt: &impl Abort, game: &Game<'_>, wanted: &[(usize, S
             (nodes.len(), nodes.size_hint()),
             (left, (left, Some(left)))
         );
-        let node = Node {
-            name,
-            step,
-            outcome,
-        };
-        assert_eq!(rt; nodes.next(), Some(node), "where {left} are left");
+        let seen = nodes
+            .next()
+            .map(|node| (node.name, node.step, node.outcome));
+        assert_eq!(rt; seen, Some((name, step, outcome)), "where {left} are left");
     }
     assert_eq!(rt; (nodes.len(), nodes.next(), nodes.next()), (0, None, None));
 }

@@ -18,8 +18,8 @@ loop-self-preserved c =
     let walks : Walks c.args.cursor.now before (l ∷ c.index.new.self) s =
     subst (λ (ls : List Lexeme). Walks c.args.cursor.now before ls s)
     c.in-Some.ensures.next c.loop-self.invariant.1 in (
-      chosen_stays s after c.in-Some.number c.in_default-choose.ensures,
+      chosen_stays s after c.in-Some.number c.in_default-choose.ensures.steps,
       walks_further c.args.cursor.now c.index.new.self l before s after walks
           (choice_step s bytes c.loop-self.invariant.0 c.loop-self-test.true
-          ∙ ap (chosen s) (sym c.in-Some.ensures.index) ∙ c.in_default-choose.ensures),
+          ∙ ap (chosen s) (sym c.in-Some.ensures.index) ∙ c.in_default-choose.ensures.steps),
     )

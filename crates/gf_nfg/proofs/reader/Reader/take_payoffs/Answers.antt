@@ -25,10 +25,10 @@ loop-self-preserved c =
     c.in-Some.ensures.next c.loop-self.invariant.1 in
     let read : c.in-Some.payoff ≡ number_of bytes =
     answer_is bytes c.in-Some.payoff c.in-Some.ensures.number in (
-      flat_stays s after c.in-Some.payoff c.in_default-pay.ensures,
+      flat_stays s after c.in-Some.payoff c.in_default-pay.ensures.steps,
       walks_further c.args.cursor.now c.number.new.self l before s after walks
           (flat_step s bytes c.loop-self.invariant.0 c.loop-self-test.true
-          ∙ ap (paid FlatPayoffs s) (sym read) ∙ c.in_default-pay.ensures),
+          ∙ ap (paid FlatPayoffs s) (sym read) ∙ c.in_default-pay.ensures.steps),
     )
 
 pub returns-in-Err-clause-refused : goal.returns-in-Err-clause-refused
@@ -52,5 +52,5 @@ returns-in-Err-clause-refused c =
       within = search rules;
       fails =
           subst (λ (r : Result State Why). Fails c.in-Err.why r) (sym stepped)
-          c.in-Err.ensures;
+          c.in-Err.ensures.steps;
     })

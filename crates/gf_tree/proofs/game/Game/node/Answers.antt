@@ -41,7 +41,7 @@ returns c =
     c.self.inside.nodes.items c.args.self.now.tree =
     record { are = c.self.invariant.nodes_are; is = ap (λ (g : Game). g.tree) c.self.view_is } in
     let name = ap (λ (n : Stored). label_of n.name) c.index-node.ensures in
-    let set = c.step.ensures
+    let set = c.step.ensures.set
     ∙ ap (λ (n : Stored). option_map (λ s. s.key) (at_position c.self.inside.sets.known n.set))
     c.index-node.ensures in
     let outcome = c.outcome_number.ensures ∙ ap
