@@ -1,7 +1,6 @@
 -- What a test of two lists says of what their items stand for.
-use Rattle.std.proofs.Common.{◌≡◌, Bool, true, false, List, [], ◌∷◌}
-use Rattle.std.proofs.Common.{map, nat_eq, refl, ap}
-use Rattle.std.specs.Prelude.{◌&&◌}
+use Rattle.std.proofs.Common.{◌≡◌, Bool, List, [], ◌∷◌}
+use Rattle.std.proofs.Common.{map, nat_eq, refl}
 use Rattle.std.specs.Bool.{Decides}
 use Rattle.std.specs.Cmp.Lexicographic.{pointwise}
 use Rattle.std.proofs.lemmas.Bool.Decides.{Decides-eqb}

@@ -6,6 +6,7 @@ pub mod FileOf
 pub mod Files
 pub mod FilesJudged
 pub mod Formats
+pub mod Headline
 pub mod NodesNamed
 pub mod NumbersInOrder
 pub mod NumbersNoted
@@ -15,6 +16,7 @@ pub mod PlainLines
 pub mod ReadsBack
 pub mod RefusedFiles
 pub mod RefusedOnce
+pub mod SameFiles
 pub mod Spellables
 pub mod TextPieces
 pub mod TextsCompared

@@ -6,6 +6,7 @@ pub mod GameFile
 pub mod GameText
 pub mod Judgement
 pub mod ListedInOrder
+pub mod MeanSame
 pub mod MeaningOf
 pub mod NamedBy
 pub mod NamesAside

@@ -26,17 +26,52 @@ ghost use Rattle.gf_canon.specs.GameFile.{GameFile, IsGameFile, SameFile, Spells
 ghost use Rattle.gf_canon.specs.GameFile.{canonical_file, canonical_text};
 ghost use Rattle.gf_canon.specs.GameFile.GameFile.{extensive, strategic};
 ghost use Rattle.gf_canon.specs.GameText.{game_text};
-ghost use Rattle.gf_canon.specs.Judgement.{IsPlaced, IsRefused, MeansFile, SpellsWithin};
+ghost use Rattle.gf_canon.specs.Judgement.{IsCanonicalText, IsRefused, IsRefusedWith, SpellsWithin};
+ghost use Rattle.gf_canon.specs.MeanSame.{MeanSame};
 ghost use Rattle.gf_canon.specs.NamesAside.{SameAsideNames, unnamed};
+ghost use Rattle.gf_canon.specs.SameBy.{SameBy};
+ghost use Rattle.gf_canon.specs.declared.sameness.Names.{Names};
 ghost use Rattle.gf_canon.specs.WorkedGames.{bonus_text, five_text, lower_case_prize, no_outcome};
 ghost use Rattle.gf_canon.specs.WorkedGames.{nobody, nobody_text, numbered_five, plain_prize};
 ghost use Rattle.gf_canon.specs.WorkedGames.{renamed_prize, seen, two_prizes, unseen, zero_outcome};
 
-/// Sameness of games is reflexive, symmetric and transitive.
+/// Each list of bytes has a canonical text, or it is refused, and never both; and it has no two
+/// texts, and is not refused at two places or with two codes.
+///
+/// Two lists of bytes with canonical texts have equal ones exactly if they mean the same: two trees
+/// where some renumbering of information sets, player by player, and of outcomes carries the one to
+/// the other; two tables where title, comment, players, strategies and the payoffs at each profile
+/// agree; and never a tree and a table. A canonical text is its own canonical text.
+///
+/// A refusal stands at its offending place, which is one in the language of both formats, or where
+/// the profiles of a table pass their limit, with the reason that the format gives there.
+pub fn headline()
+    ensures text_or_refusal { (bytes : List ℕ) → ((text : List ℕ) × IsCanonicalText bytes text)
+        ⊎ ((why : Why) × (span : Span) × IsRefused why bytes span) }
+    ensures never_both { (bytes text : List ℕ) (why : Why) (span : Span)
+        → IsCanonicalText bytes text → ¬ (IsRefused why bytes span) }
+    ensures one_text { (bytes text other : List ℕ) → IsCanonicalText bytes text
+        → IsCanonicalText bytes other → text ≡ other }
+    ensures one_refusal { (bytes : List ℕ) (why other : Why) (span place : Span)
+        → IsRefused why bytes span → IsRefused other bytes place
+        → (span ≡ place) × (code_of why ≡ code_of other) }
+    ensures equal_exactly { (a b s t : List ℕ) → IsCanonicalText a s → IsCanonicalText b t
+        → (s ≡ t) ↔ MeanSame a b }
+    ensures same_exactly { (a b : List ℕ) (x y : GameFile) → SpellsWithin a x → SpellsWithin b y
+        → MeanSame a b ↔ SameFile x y }
+    ensures own_text { (bytes text : List ℕ) → IsCanonicalText bytes text
+        → IsCanonicalText text text }
+    ensures placed { (bytes : List ℕ) (why : Why) (span : Span) → IsRefused why bytes span
+        → IsRefusedWith bytes (record { span = span; why = why }) }
+{}
+
+/// Sameness of files is reflexive, symmetric and transitive, with their names or without.
 pub fn same_is_equivalence()
-    ensures reflexive { (g : Game) → IsGame g → SameGame g g }
-    ensures symmetric { (g h : Game) → IsGame g → SameGame g h → SameGame h g }
-    ensures transitive { (g h k : Game) → SameGame g h → SameGame h k → SameGame g k }
+    ensures reflexive { (names : Names) (x : GameFile) → IsGameFile x → SameBy names x x }
+    ensures symmetric { (names : Names) (x y : GameFile) → IsGameFile x → SameBy names x y
+        → SameBy names y x }
+    ensures transitive { (names : Names) (x y z : GameFile) → SameBy names x y → SameBy names y z
+        → SameBy names x z }
 {}
 
 /// A renumbering carries a game to the same game by its new numbers, and to no other.
@@ -125,20 +160,6 @@ pub fn text_reads_back()
 /// Bytes mean one game or one table at most, and never both.
 pub fn means_one_file()
     ensures { (bytes : List ℕ) (x y : GameFile) → SpellsFile bytes x → SpellsFile bytes y → x ≡ y }
-{}
-
-/// Each list of bytes means a game, or a table within the limit of profiles, or it is refused. None
-/// does both, and none is refused at two places or with two codes. A refusal stands at the offending
-/// place in the language of both formats, or where the profiles of a table pass their limit.
-pub fn read_or_refused()
-    ensures one_of_both { (bytes : List ℕ) → MeansFile bytes
-        ⊎ ((why : Why) × (span : Span) × IsRefused why bytes span) }
-    ensures not_both { (bytes : List ℕ) (x : GameFile) (why : Why) (span : Span)
-        → SpellsWithin bytes x → ¬ (IsRefused why bytes span) }
-    ensures once { (bytes : List ℕ) (why other : Why) (span place : Span) → IsRefused why bytes span
-        → IsRefused other bytes place → (span ≡ place) × (code_of why ≡ code_of other) }
-    ensures placed { (bytes : List ℕ) (why : Why) (span : Span) → IsRefused why bytes span
-        → IsPlaced why bytes span }
 {}
 
 /// Two files mean the same exactly if their canonical texts are equal. The canonical text of a file

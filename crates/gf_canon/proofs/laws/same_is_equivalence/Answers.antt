@@ -1,11 +1,11 @@
-use Rattle.gf_tree.proofs.SameGames.{same_itself, same_back, same_on}
+use Rattle.gf_canon.proofs.SameFiles.{reflexive, symmetric, transitive}
 use Rattle.gf_canon.proofs.laws.same_is_equivalence.Goals as goal
 
 pub returns-clause-reflexive : goal.returns-clause-reflexive
-returns-clause-reflexive c = same_itself
+returns-clause-reflexive c = reflexive
 
 pub returns-clause-symmetric : goal.returns-clause-symmetric
-returns-clause-symmetric c = same_back
+returns-clause-symmetric c = symmetric
 
 pub returns-clause-transitive : goal.returns-clause-transitive
-returns-clause-transitive c = same_on
+returns-clause-transitive c = transitive

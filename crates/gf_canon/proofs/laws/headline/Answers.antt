@@ -1,0 +1,28 @@
+use Rattle.gf_canon.proofs.Headline.{equal_exactly, never_both, one_text, own_text}
+use Rattle.gf_canon.proofs.Headline.{refused_with, same_exactly, text_or_refusal}
+use Rattle.gf_canon.proofs.RefusedOnce.{refused_once}
+use Rattle.gf_canon.proofs.laws.headline.Goals as goal
+
+pub returns-clause-text_or_refusal : goal.returns-clause-text_or_refusal
+returns-clause-text_or_refusal c = text_or_refusal
+
+pub returns-clause-never_both : goal.returns-clause-never_both
+returns-clause-never_both c = never_both
+
+pub returns-clause-one_text : goal.returns-clause-one_text
+returns-clause-one_text c = one_text
+
+pub returns-clause-one_refusal : goal.returns-clause-one_refusal
+returns-clause-one_refusal c = refused_once
+
+pub returns-clause-equal_exactly : goal.returns-clause-equal_exactly
+returns-clause-equal_exactly c = equal_exactly
+
+pub returns-clause-same_exactly : goal.returns-clause-same_exactly
+returns-clause-same_exactly c = same_exactly
+
+pub returns-clause-own_text : goal.returns-clause-own_text
+returns-clause-own_text c = own_text
+
+pub returns-clause-placed : goal.returns-clause-placed
+returns-clause-placed c = refused_with
