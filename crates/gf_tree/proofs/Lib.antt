@@ -96,3 +96,6 @@ pub mod Telling
 pub mod ToldGames
 pub mod ToldNodes
 pub mod NodeParts
+pub mod DueSuited
+pub mod DueByRows
+pub mod DueByShapes

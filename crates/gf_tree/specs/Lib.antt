@@ -8,6 +8,7 @@ pub mod BranchesLeft
 pub mod Consistent
 pub mod Description
 pub mod Due
+pub mod DueRoles
 pub mod FileNodeOf
 pub mod FileNodes
 pub mod FileTree
