@@ -98,3 +98,6 @@ pub mod Telling
 pub mod ToldGames
 pub mod ToldNodes
 pub mod NodeParts
+pub mod DueSuited
+pub mod DueByRows
+pub mod DueByShapes

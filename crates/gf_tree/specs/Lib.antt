@@ -9,6 +9,7 @@ pub mod CanonicalGame
 pub mod Consistent
 pub mod Description
 pub mod Due
+pub mod DueRoles
 pub mod FileNodeOf
 pub mod FileNodes
 pub mod FileTree

@@ -1,0 +1,71 @@
+-- What may follow where a bare token is due behind the front of an extensive file.
+use Rattle.std.specs.Prelude.{◌≡◌, ℕ, ◌≤◌, pos, ◌≤ℤ◌, ◌⊎◌, ◌↔◌, List, codes}
+use Rattle.gf_fraction.specs.Ratio.{Ratio}
+use Rattle.gf_fraction.specs.Fits.{AddsTo}
+use Rattle.gf_fraction.specs.NumberSpelling.{IsNumber}
+use Rattle.gf_token.specs.Token.{Token}
+use Rattle.gf_token.specs.Token.Token.{Bare}
+use Rattle.gf_token.specs.Index.{IsIndex}
+use Rattle.gf_token.specs.Place.{MayFollow}
+use Rattle.gf_token.specs.declared.fault.What.{What}
+use Rattle.gf_token.specs.declared.fault.What.TheVariants as what
+use Rattle.gf_tree.specs.Front.{IsExtensiveFile}
+use Rattle.gf_tree.specs.Rows.{IsNodeLetter}
+use Rattle.gf_tree.specs.Sentence.{IsPositive}
+
+-- what a bare token is in a file: one of its first three tokens, the letter of a node among so many
+-- players, the number of one of so many players, of a set or of an outcome, a probability behind
+-- others of this sum, a payoff, or a number that is given again
+pub data Role : Type 0 where
+  Format : Role
+  Version : Role
+  Letter : Role
+  NodeLetter : ℕ → Role
+  PlayerNumber : ℕ → Role
+  SetNumber : Role
+  OutcomeNumber : Role
+  Probability : Ratio → Role
+  Payoff : Role
+  KnownNumber : Ratio → Role
+
+-- the bytes can be a token in this role
+abbrev pub Suits : Role → List ℕ → Type 0
+Suits Format bytes = bytes ≡ codes "EFG"
+Suits Version bytes = bytes ≡ codes "2"
+Suits Letter bytes = (bytes ≡ codes "R") ⊎ (bytes ≡ codes "D")
+Suits (NodeLetter players) bytes = IsNodeLetter players bytes
+Suits (PlayerNumber players) bytes = (n : ℕ) × IsPositive bytes n × (n ≤ players)
+Suits SetNumber bytes = (n : ℕ) × IsPositive bytes n
+Suits OutcomeNumber bytes = (n : ℕ) × IsIndex bytes n
+Suits (Probability sum) bytes = (p : Ratio) × (total : Ratio) × IsNumber bytes p
+    × (pos 0 ≤ℤ p.num) × AddsTo sum p total × (total.num ≤ℤ pos total.den)
+Suits Payoff bytes = (p : Ratio) × IsNumber bytes p
+Suits (KnownNumber p) bytes = IsNumber bytes p
+
+-- what a refusal names where the role is due
+abbrev pub what_of : Role → What
+what_of Format = what.Format
+what_of Version = what.Version
+what_of Letter = what.Letter
+what_of (NodeLetter players) = what.Node
+what_of (PlayerNumber players) = what.Index
+what_of SetNumber = what.Index
+what_of OutcomeNumber = what.Index
+what_of (Probability sum) = what.Number
+what_of Payoff = what.Number
+what_of (KnownNumber p) = what.Number
+
+-- just those bare tokens may follow that suit the role
+abbrev pub OnlySuitedFollow : List Token → Role → Type 0
+OnlySuitedFollow before role =
+    (bytes : List ℕ) → MayFollow IsExtensiveFile before (Bare bytes) ↔ Suits role bytes
+
+-- bare tokens alone are what is due; texts and braces tell for themselves, and there are no
+-- strategies
+abbrev pub IsToldByRole : What → Type 0
+IsToldByRole what.Text = ⊥
+IsToldByRole what.Opening = ⊥
+IsToldByRole what.Closing = ⊥
+IsToldByRole what.Strategies = ⊥
+IsToldByRole what.End = ⊥
+IsToldByRole _ = Unit {0}
