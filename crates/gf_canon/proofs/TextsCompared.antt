@@ -1,13 +1,15 @@
 -- The answer of a comparison speaks of whatever the two files mean, and of their canonical texts.
-use Rattle.std.proofs.Common.{◌≡◌, ap, ℕ, Bool, List, Result, Ok, Err, IfOk, MatchResult, sym, subst, ◌∙◌}
+use Rattle.std.proofs.Common.{◌≡◌, ap, ℕ, Bool, List, Result, Ok, Err, IfErr, IfOk, MatchResult}
+use Rattle.std.proofs.Common.{sym, subst, ◌∙◌}
 use Rattle.std.specs.Prelude.{◌↔◌, IsTrue}
 use Rattle.gf_canon.specs.GameFile.{GameFile, SameFile, SpellsFile, canonical_text}
-use Rattle.gf_canon.specs.Judgement.{IsCanonicalText, SpellsWithin}
+use Rattle.gf_canon.specs.Judgement.{IsCanonicalText, MeansFile, SpellsWithin}
 use Rattle.gf_canon.specs.SameBy.{SameBy}
-use Rattle.gf_canon.specs.Sameness.{WantsMemory}
+use Rattle.gf_canon.specs.Sameness.{AreRefusedWith, WantsMemory}
 use Rattle.gf_canon.specs.declared.sameness.Names.{Names}
 use Rattle.gf_canon.specs.declared.sameness.Names.TheVariants.{Kept, Aside}
 use Rattle.gf_canon.specs.declared.sameness.SameFault.{SameFault}
+use Rattle.gf_canon.specs.declared.sameness.SameFault.TheVariants.{First, Second, Memory}
 use Rattle.gf_canon.proofs.Files.{equal_canonical_texts, spells_one_file}
 use Rattle.gf_canon.proofs.Unnamed.{same_is_so_aside}
 
@@ -19,6 +21,26 @@ same_as_read names answer a b first second of_a of_b same x y of_x of_y =
     (spells_one_file a first x of_a.spelled of_x.spelled)
     (subst (λ (z : GameFile). IsTrue answer ↔ SameBy names first z)
     (spells_one_file b second y of_b.spelled of_y.spelled) same)
+
+-- files that both mean something are refused for want of memory alone
+memory_alone : (a b : List ℕ) (fault : SameFault) (x y : GameFile) → SpellsWithin a x
+    → SpellsWithin b y → AreRefusedWith a b fault → WantsMemory fault
+memory_alone a b (First fault) x y of_x of_y refused = refused.unless_memory x of_x
+memory_alone a b (Second fault) x y of_x of_y refused = refused.1.unless_memory y of_y
+memory_alone a b Memory x y of_x of_y refused = tt
+
+-- the first was read
+pub same_as_first : (names : Names) (result : Result Bool SameFault) (a b : List ℕ)
+    (first : GameFile) → SpellsWithin a first
+    → IfOk result (λ answer. (y : GameFile) × SpellsWithin b y
+    × (IsTrue answer ↔ SameBy names first y))
+    → IfErr result (λ fault. (bytes : List ℕ) → MeansFile bytes → AreRefusedWith bytes b fault)
+    → (x y : GameFile) → SpellsWithin a x → SpellsWithin b y
+    → MatchResult result (λ answer. IsTrue answer ↔ SameBy names x y) WantsMemory
+same_as_first names (Ok answer) a b first of_first same refused x y of_x of_y =
+    same_as_read names answer a b first same.0 of_first same.1 same.2 x y of_x of_y
+same_as_first names (Err fault) a b first of_first same refused x y of_x of_y =
+    memory_alone a b fault x y of_x of_y (refused a (first, of_first))
 
 -- files of equal bytes mean the same
 one_meaning : (a b : List ℕ) → a ≡ b → (x y : GameFile) → SpellsWithin a x → SpellsWithin b y

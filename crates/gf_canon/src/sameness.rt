@@ -90,13 +90,53 @@ fn same_as_tree(alloc: Global, g: &ListedGame<'_>, b: &[u8], names: Names) -> Re
 }
 
 /// Whether a file that was read means the same as a table.
-fn same_as_table(alloc: Global, t: &Table, b: &Listed<'_>, names: Names) -> Result<bool, AllocError>
+fn is_same_table(alloc: Global, t: &Table, b: &Listed<'_>, names: Names) -> Result<bool, AllocError>
     ensures { IfOk result (λ answer.
         IsTrue answer ↔ SameBy names (strategic t.now) (file_of_listed b.now)) }
 {
     match b {
         Listed::Tree(_) => Ok(false),
         Listed::Table(u) => same_tables(alloc, t, u, names),
+    }
+}
+
+/// Whether a file means the same as a table.
+///
+/// - `Second`: the file is refused.
+/// - `Memory`: it is accepted, and memory to compare two tables is refused.
+fn same_as_table(alloc: Global, t: &Table, b: &[u8], names: Names) -> Result<bool, SameFault>
+    ensures same { IfOk result (λ answer. (y : GameFile) × SpellsWithin b.now y
+        × (IsTrue answer ↔ SameBy names (strategic t.now) y)) }
+    ensures refused { IfErr result (λ fault.
+        (a : List ℕ) → MeansFile a → AreRefusedWith a b.now fault) }
+{
+    let second = match list_file(alloc, b) {
+        Ok(second) => second,
+        Err(fault) => return Err(SameFault::Second(fault)),
+    };
+    match is_same_table(alloc, t, &second, names) {
+        Ok(same) => Ok(same),
+        Err(_) => Err(SameFault::Memory),
+    }
+}
+
+/// Whether a file means the same as one that was read.
+///
+/// - `Second`: the file is refused.
+/// - `Memory`: it is accepted, and memory to compare two tables is refused.
+fn same_as(alloc: Global, first: &Listed<'_>, b: &[u8], names: Names) -> Result<bool, SameFault>
+    requires spelled { (a : List ℕ) × SpellsWithin a (file_of_listed first.now) }
+    ensures same { IfOk result (λ answer. (y : GameFile) × SpellsWithin b.now y
+        × (IsTrue answer ↔ SameBy names (file_of_listed first.now) y)) }
+    ensures refused { IfErr result (λ fault.
+        (a : List ℕ) → MeansFile a → AreRefusedWith a b.now fault) }
+{
+    match first {
+        Listed::Tree(game) => match same_as_tree(alloc, game, b, names) {
+            Ok(answer) => Ok(answer),
+            Err(fault) => Err(SameFault::Second(fault)),
+        },
+        Listed::Table(table) => same_as_table(alloc, table, b, names),
     }
 }
 
@@ -127,23 +167,7 @@ pub fn same_by(alloc: Global, a: &[u8], b: &[u8], names: Names) -> Result<bool, 
         Ok(first) => first,
         Err(fault) => return Err(SameFault::First(fault)),
     };
-    let table = match first {
-        Listed::Table(table) => table,
-        Listed::Tree(game) => {
-            return match same_as_tree(alloc, &game, b, names) {
-                Ok(answer) => Ok(answer),
-                Err(fault) => Err(SameFault::Second(fault)),
-            };
-        }
-    };
-    let second = match list_file(alloc, b) {
-        Ok(second) => second,
-        Err(fault) => return Err(SameFault::Second(fault)),
-    };
-    match same_as_table(alloc, &table, &second, names) {
-        Ok(same) => Ok(same),
-        Err(_) => Err(SameFault::Memory),
-    }
+    same_as(alloc, &first, b, names)
 }
 
 /// Whether two files mean the same (this project's profile), which they do exactly if their
