@@ -27,6 +27,7 @@ pub mod FormTables
 pub mod Forms
 pub mod FullNumbers
 pub mod GameDigits
+pub mod JoinedTexts
 pub mod KeptShares
 pub mod KnownSets
 pub mod LabelsJoined
@@ -50,6 +51,7 @@ pub mod ProgramRuns
 pub mod ReachedValues
 pub mod ReducedForms
 pub mod ReducedPays
+pub mod ReducedStrategies
 pub mod ReducedTables
 pub mod ReducedText
 pub mod ReducedValues
@@ -58,6 +60,7 @@ pub mod RelevantSets
 pub mod RowSums
 pub mod RowsMade
 pub mod SameForms
+pub mod SameReduced
 pub mod SameRefusals
 pub mod ShareSums
 pub mod Stacks

@@ -57,14 +57,14 @@ module _ (g : Game) (r : Renumbering) (game : IsGame g) (is : IsRenumbering g r)
   sets_carried player = filter_of_map (λ s. s.key.player == player) (λ s. s.key.player == player)
       image g.sets (λ s i. refl)
 
-  keys_carried : (player : ℕ) → player_keys h player ≡ map (renumbered_set r) (player_keys g player)
+  pub keys_carried : (player : ℕ) → player_keys h player ≡ map (renumbered_set r) (player_keys g player)
   keys_carried player =
       ap (map (λ s. s.key)) (sets_carried player)
       ∙ map_twice (λ (s : Described SetKey InformationSet). s.key) image (player_sets g player)
       ∙ sym (map_twice (renumbered_set r) (λ (s : Described SetKey InformationSet). s.key)
       (player_sets g player))
 
-  key_used : (player : ℕ) (key : SetKey) → Has (player_keys g player) key
+  pub key_used : (player : ℕ) (key : SetKey) → Has (player_keys g player) key
       → Has (used_sets g.tree) key
   key_used player key i =
       let own = own_set g player key i in
@@ -76,14 +76,21 @@ module _ (g : Game) (r : Renumbering) (game : IsGame g) (is : IsRenumbering g r)
       ∙ map_twice (λ (s : Described SetKey InformationSet). length s.description.actions) image
       (player_sets g player)
 
+  -- what a player's strategy chooses at a set
+  pub strategy_carried : (player : ℕ) (strategy : List ℕ) (key : SetKey)
+      → Has (used_sets g.tree) key
+      → choice_at (player_keys h player) strategy (renumbered_set r key)
+      ≡ choice_at (player_keys g player) strategy key
+  strategy_carried player strategy key used =
+      ap (λ keys. choice_at keys strategy (renumbered_set r key)) (keys_carried player)
+      ∙ choice_carried (renumbered_set r) (player_keys g player) strategy key
+      (λ k i. same_tests same_set same_set same_set_equality same_set_equality (renumbered_set r) k
+      key (sets_apart g r is k key (key_used player k i) used))
+
   choices_carried : (all : List (List ℕ)) (key : SetKey) → Has (used_sets g.tree) key
       → choices_by h all (renumbered_set r key) ≡ choices_by g all key
   choices_carried all key used =
-      let strategy = strategy_at all key.player in
-      ap (λ keys. choice_at keys strategy (renumbered_set r key)) (keys_carried key.player)
-      ∙ choice_carried (renumbered_set r) (player_keys g key.player) strategy key
-      (λ k i. same_tests same_set same_set same_set_equality same_set_equality (renumbered_set r) k
-      key (sets_apart g r is k key (key_used key.player k i) used))
+      strategy_carried key.player (strategy_at all key.player) key used
 
   -- ---- nodes
 
@@ -164,7 +171,7 @@ module _ (g : Game) (r : Renumbering) (game : IsGame g) (is : IsRenumbering g r)
 
   -- ---- the form
 
-  strategies_carried : (player : ℕ) → strategies h player ≡ strategies g player
+  pub strategies_carried : (player : ℕ) → strategies h player ≡ strategies g player
   strategies_carried player = ap all_choices (counts_carried player)
 
   strategies_at_carried : (profile : List ℕ) → strategies_at h profile ≡ strategies_at g profile

@@ -11,13 +11,14 @@ use Rattle.gf_tree.proofs.Members.{map_same}
 use Rattle.gf_tree.specs.SameGame.{SameGame}
 use Rattle.gf_tree.proofs.SameGames.{same_back}
 use Rattle.gf_form.specs.BottomUp.{IsValue}
-use Rattle.gf_form.specs.Refusal.{HasBottomUpValue, HasTooManyProfiles, HasValues, OverflowsAt}
+use Rattle.gf_form.specs.Refusal.{HasBottomUpValue, HasTooManyProfiles, HasValues}
+use Rattle.gf_form.specs.Refusal.{IsFirstWithout, OverflowsAt}
 use Rattle.gf_form.specs.Strategies.{choices_by, full_profiles, players_of}
 use Rattle.gf_form.specs.Strategies.{strategies, strategies_at}
 use Rattle.gf_form.proofs.SameForms.{same_strategies, same_strategies_at, same_values}
 
 module _ (g h : Game) (game : IsGame g) (game' : IsGame h) (same : SameGame g h) where
-  players_too : players_of g ≡ players_of h
+  pub players_too : players_of g ≡ players_of h
   players_too = ap (λ players. positions (length players)) same.1.players
 
   pub same_profiles : full_profiles g ≡ full_profiles h
@@ -43,19 +44,24 @@ module _ (g h : Game) (game : IsGame g) (game' : IsGame h) (same : SameGame g h)
       (players_of h)
       (subst (AllByRecursion (HasBottomUpValue g profile)) players_too all)
 
+-- the same position is the first, where the same holds of the same profiles
+pub first_too : (P Q : List ℕ → Type 0) (ps qs : List (List ℕ)) (position : ℕ) → ps ≡ qs
+    → ((profile : List ℕ) → P profile → Q profile) → ((profile : List ℕ) → Q profile → P profile)
+    → IsFirstWithout P ps position → IsFirstWithout Q qs position
+first_too P Q ps qs position same to from o = record {
+  profile = o.profile;
+  there = ap (λ all. at_position all position) (sym same) ∙ o.there;
+  overflows = λ holds. o.overflows (from o.profile holds);
+  first = λ earlier other before is.
+      to other (o.first earlier other before (ap (λ all. at_position all earlier) same ∙ is));
+}
+
 overflow_on : (g h : Game) → IsGame g → IsGame h → SameGame g h → (position : ℕ)
     → OverflowsAt g position → OverflowsAt h position
-overflow_on g h game game' same position o =
-    let profiles_too = same_profiles g h game game' same in
-    record {
-      profile = o.profile;
-      there = ap (λ ps. at_position ps position) (sym profiles_too) ∙ o.there;
-      overflows =
-          λ all. o.overflows (values_too h g game' game (same_back g h game same) o.profile all);
-      first = λ earlier other before is.
-          values_too g h game game' same other
-          (o.first earlier other before (ap (λ ps. at_position ps earlier) profiles_too ∙ is));
-    }
+overflow_on g h game game' same position =
+    first_too (HasValues g) (HasValues h) (full_profiles g) (full_profiles h) position
+    (same_profiles g h game game' same) (values_too g h game game' same)
+    (values_too h g game' game (same_back g h game same))
 
 pub same_overflow : (g h : Game) → IsGame g → IsGame h → SameGame g h → (position : ℕ)
     → OverflowsAt g position ↔ OverflowsAt h position

@@ -1,7 +1,7 @@
 //! Laws of the definitions, each as the contract of a function that does nothing.
 
 ghost use Rattle.std.specs.Prelude.{◌≡◌, ◌↔◌, ◌⊎◌, ◌≤◌, ◌<◌, ◌^◌, ◌-◌, ℕ, List, [], ◌∷◌};
-ghost use Rattle.std.specs.Prelude.{codes, filter, get_or, length, map, pos, Some, true};
+ghost use Rattle.std.specs.Prelude.{codes, filter, get_or, length, map, pos, Option, Some, true};
 ghost use Rattle.std.specs.List.{AllByRecursion, AllZip, Contains};
 ghost use Rattle.gf_fraction.specs.Ratio.{Ratio, whole};
 ghost use Rattle.gf_fraction.specs.Rational.{IsEqual, one_ratio, total, zero_ratio};
@@ -18,10 +18,10 @@ ghost use Rattle.gf_form.specs.Strategies.{players_of, strategies, strategies_at
 ghost use Rattle.gf_form.specs.Plays.{follows, plays, HasActions, PartAtChance, Play};
 ghost use Rattle.gf_form.specs.Payoff.{payoff, payoff_at, play_probability};
 ghost use Rattle.gf_form.specs.BottomUp.{IsValue};
-ghost use Rattle.gf_form.specs.Refusal.{HasTooManyProfiles, OverflowsAt};
+ghost use Rattle.gf_form.specs.Refusal.{HasTooManyProfiles, OverflowsAt, ReducedOverflowsAt};
 ghost use Rattle.gf_form.specs.StrategicForm.{IsStrategicForm, PaysFractions};
-ghost use Rattle.gf_form.specs.Reduced.{agrees, reduced, reduced_by, reduced_label};
-ghost use Rattle.gf_form.specs.Reduced.{reduced_strategies, IsReducedForm};
+ghost use Rattle.gf_form.specs.Reduced.{agrees, reduced, reduced_at, reduced_by, reduced_label};
+ghost use Rattle.gf_form.specs.Reduced.{reduced_profiles, reduced_strategies, IsReducedForm};
 ghost use Rattle.gf_form.specs.WorkedForms.{balancing, bonus_form, contradicted, ending};
 ghost use Rattle.gf_form.specs.WorkedForms.{ending_form, ending_reduced, greatest, only};
 ghost use Rattle.gf_form.specs.WorkedForms.{overflowing, second, unlikely};
@@ -108,6 +108,24 @@ pub fn same_games_same_form()
         → (position : ℕ) → OverflowsAt g position ↔ OverflowsAt h position }
 {}
 
+/// Games that are the same have the same reduced strategies: a strategy reduces to the same in both,
+/// and so does a profile. They have the same reduced form, or a bottom-up value is not defined first
+/// at the same profile of it. Both have too many profiles or neither, by the law
+/// [`same_games_same_form`](crate::laws::same_games_same_form).
+pub fn same_games_same_reduced_form()
+    ensures reduced { (g h : Game) → IsGame g → IsGame h → SameGame g h
+        → (player : ℕ) (strategy : List ℕ)
+        → reduced g player strategy ≡ reduced h player strategy }
+    ensures strategies { (g h : Game) → IsGame g → IsGame h → SameGame g h
+        → (player : ℕ) → reduced_strategies g player ≡ reduced_strategies h player }
+    ensures profiles { (g h : Game) → IsGame g → IsGame h → SameGame g h
+        → (profile : List ℕ) → reduced_by g profile ≡ reduced_by h profile }
+    ensures forms { (g h : Game) → IsGame g → IsGame h → SameGame g h → (t : Table)
+        → IsReducedForm g t ↔ IsReducedForm h t }
+    ensures overflow { (g h : Game) → IsGame g → IsGame h → SameGame g h
+        → (position : ℕ) → ReducedOverflowsAt g position ↔ ReducedOverflowsAt h position }
+{}
+
 /// A play follows the choices exactly if its players' moves are those. Some play follows them, if
 /// they are actions, and all that do have probability one together: at a player's move they take
 /// one child, and they part only where chance moves.
@@ -154,6 +172,38 @@ pub fn reduced_strategies_agree()
         ↔ ((play : Play) → Contains (plays g.tree) play
         → agrees (choice_at (player_keys g player) s) player play
         ≡ agrees (choice_at (player_keys g player) t) player play) }
+{}
+
+/// The reduced strategies of a player are what his strategies reduce to, each once. Their labels
+/// differ, as long as no set has 2^64 actions.
+pub fn every_reduced_strategy()
+    ensures each_comes { (g : Game) (player : ℕ) (strategy : List (Option ℕ))
+        → Contains (reduced_strategies g player) strategy
+        ↔ ((full : List ℕ) × Contains (strategies g player) full
+        × (reduced g player full ≡ strategy)) }
+    ensures each_once { (g : Game) (player i j : ℕ) → i < length (reduced_strategies g player)
+        → j < length (reduced_strategies g player)
+        → get_or (reduced_strategies g player) i [] ≡ get_or (reduced_strategies g player) j []
+        → i ≡ j }
+    ensures labels_differ { (g : Game) (player i j : ℕ)
+        → AllByRecursion (λ count. count < 2 ^ 64) (action_counts g player)
+        → i < length (reduced_strategies g player) → j < length (reduced_strategies g player)
+        → reduced_label (get_or (reduced_strategies g player) i [])
+        ≡ reduced_label (get_or (reduced_strategies g player) j [])
+        → i ≡ j }
+{}
+
+/// Each profile of the reduced form is reduced to by some full profile, and each full profile
+/// reduces to a profile of the reduced form, and to that one alone.
+pub fn every_reduced_profile()
+    ensures each_comes { (g : Game) (profile : List ℕ) → Contains (reduced_profiles g) profile
+        → (full : List ℕ) × Contains (full_profiles g) full
+        × (reduced_by g full ≡ reduced_at g profile) }
+    ensures all_come { (g : Game) (full : List ℕ) → Contains (full_profiles g) full
+        → (profile : List ℕ) × Contains (reduced_profiles g) profile
+        × (reduced_by g full ≡ reduced_at g profile) }
+    ensures one_profile { (g : Game) (p q : List ℕ) → Contains (reduced_profiles g) p
+        → Contains (reduced_profiles g) q → reduced_at g p ≡ reduced_at g q → p ≡ q }
 {}
 
 /// Full profiles that reduce to one have the same payoffs, and bottom-up values that are the same,

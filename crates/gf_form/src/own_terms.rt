@@ -2,7 +2,8 @@
 //! common denominator.
 
 ghost use Rattle.std.specs.Prelude.{◌≡◌, ◌+◌, ◌<◌, ◌≤◌, ◌^◌, ◌+ℤ◌, pos, suc, ℕ, List};
-ghost use Rattle.std.specs.Prelude.{IfOk, IfSome, OnOk, if◌then◌else◌, unsigned_abs};
+ghost use Rattle.std.specs.Prelude.{IfOk, IfSome, OnErr, OnOk, if◌then◌else◌, unsigned_abs};
+ghost use Rattle.std.specs.Prelude.{vec_capacity, vec_len};
 ghost use Rattle.gf_tree.specs.Game.{Game};
 ghost use Rattle.gf_form.specs.Demands.{meets};
 ghost use Rattle.gf_form.specs.OwnTerms.{AreOver, AreOwn, IsOver, IsShare};
@@ -74,6 +75,9 @@ pub(crate) fn add_term(terms: &mut Vec<Term>, term: Term) -> Result<(), AllocErr
     ensures sums { OnOk result ((steps choices : List ℕ) → sum_met steps choices terms.new.items
         ≡ sum_met steps choices terms.old.items
         +ℤ (if meets steps choices term.demands then term.amount else pos 0)) }
+
+    // It fails only where there was no room.
+    ensures full { OnErr result (vec_capacity terms.old ≤ vec_len terms.old) }
 {
     let count = terms.len();
     if count > 0 && terms[count - 1].demands == term.demands {

@@ -1,7 +1,7 @@
 //! The nodes that choices can reach, told one after another, each with what the path to it asks for.
 
 ghost use Rattle.std.specs.Prelude.{◌≡◌, ◌≤◌, ◌++◌, [], ◌∷◌, None, length, map, unwrap_or};
-ghost use Rattle.std.specs.Prelude.{IfOk, IfSome, MatchOption, OnOk};
+ghost use Rattle.std.specs.Prelude.{IfOk, IfSome, IsErrOf, MatchOption, OnOk, vec_capacity, vec_len};
 ghost use Rattle.gf_token.specs.Positions.{at_position};
 ghost use Rattle.gf_tree.specs.Branches.{game_of, tree_of};
 ghost use Rattle.gf_tree.specs.Subtrees.{child_trees, root_node};
@@ -190,6 +190,10 @@ impl<'d, 'g, 'a> Paths<'d, 'g, 'a> {
             (Open.Chance node.entry rest.entry path) ++ nodes_behind self.old
             ≡ nodes_left self.new) }
         ensures turns { OnOk result (turns_left self.new ≤ turns_left self.old) }
+
+        // Memory is refused only where there was no room.
+        ensures full { IsErrOf result Stop.Memory
+            → vec_capacity self.old.«open» ≤ vec_len self.old.«open» }
     {
         let Some(child) = rest.next() else {
             return Ok(());
@@ -210,6 +214,10 @@ impl<'d, 'g, 'a> Paths<'d, 'g, 'a> {
             (Open.Choice rest.entry path step) ++ nodes_behind self.old
             ≡ nodes_left self.new) }
         ensures turns { OnOk result (turns_left self.new ≤ turns_left self.old) }
+
+        // Memory is refused only where there was no room.
+        ensures full { IsErrOf result Stop.Memory
+            → vec_capacity self.old.«open» ≤ vec_len self.old.«open» }
     {
         let Some(child) = rest.next() else {
             return Ok(());
@@ -229,6 +237,10 @@ impl<'d, 'g, 'a> Paths<'d, 'g, 'a> {
         ensures left { OnOk result (nodes_by (steps_of_paths self.old) branch.entry path step
             (taken path step (length (child_trees (tree_of branch.entry))))
             ++ nodes_behind self.old ≡ nodes_left self.new) }
+
+        // Memory is refused only where there was no room.
+        ensures full { IsErrOf result Stop.Memory
+            → vec_capacity self.old.«open» ≤ vec_len self.old.«open» }
     {
         let Some(action) = path.taken(step, branch.children()) else {
             return Err(Stop::TooLarge);
@@ -252,6 +264,10 @@ impl<'d, 'g, 'a> Paths<'d, 'g, 'a> {
               path = path;
               outcome = paid_at_node (game_of branch.entry) (root_node (tree_of branch.entry));
             } ∷ nodes_left self.new) }
+
+        // Memory is refused only where there was no room.
+        ensures full { IsErrOf result Stop.Memory
+            → vec_capacity self.old.«open» ≤ vec_len self.old.«open» }
     {
         let Some((player, position)) = branch.mover() else {
             return Ok(());

@@ -3,7 +3,7 @@
 //! were as many as it wants at a time.
 
 ghost use Rattle.std.specs.Prelude.{◌≡◌, ◌<◌, ◌≤◌, ℕ, List, [], ◌∷◌, ◌++◌, None, Option, Some, OnOk};
-ghost use Rattle.std.specs.Prelude.{IsErrOf, length};
+ghost use Rattle.std.specs.Prelude.{IsErrOf, OnErr, length, vec_capacity, vec_len};
 ghost use Rattle.gf_fraction.specs.Ratio.{Ratio};
 ghost use Rattle.gf_form.specs.Rows.{AreRows, IsRow, PaysTo, WeighsTo, at_place, column};
 
@@ -116,7 +116,10 @@ impl Values {
 
     /// Gives the room of a row back.
     pub(crate) fn give_back(&mut self, row: Vec<Fraction>) -> Result<(), AllocError>
-        ensures { rows_on self.new ≡ rows_on self.old }
+        ensures rows { rows_on self.new ≡ rows_on self.old }
+
+        // It fails only where there was no room.
+        ensures full { OnErr result (vec_capacity self.old.spare ≤ vec_len self.old.spare) }
     {
         self.spare.push(row)?;
         Ok(())

@@ -1,8 +1,9 @@
 //! The operations of a tree, told one after another where they are asked for: the tree is walked
 //! once, and no more is kept than the nodes on the path.
 
-ghost use Rattle.std.specs.Prelude.{◌≡◌, ◌<◌, ◌++◌, [], ◌∷◌, None, Some, IfNone, IfOk, MatchOption};
-ghost use Rattle.std.specs.Prelude.{OnOk, length, map, option_to_list, unwrap_or};
+ghost use Rattle.std.specs.Prelude.{◌≡◌, ◌<◌, ◌≤◌, ◌++◌, [], ◌∷◌, None, Some, IfNone, IfOk};
+ghost use Rattle.std.specs.Prelude.{MatchOption, OnErr, OnOk, length, map, option_to_list, unwrap_or};
+ghost use Rattle.std.specs.Prelude.{vec_capacity, vec_len};
 ghost use Rattle.gf_token.specs.Positions.{at_position};
 ghost use Rattle.gf_tree.specs.Branches.{tree_of};
 ghost use Rattle.gf_tree.specs.PrefixOrder.{flatten};
@@ -95,6 +96,9 @@ impl<'c, 'g, 'a> Walk<'c, 'g, 'a> {
         ensures same { strategies_of_walk self.new ≡ strategies_of_walk self.old }
         ensures left { OnOk result (rest_code (strategies_of_walk self.old) node.entry rest.entry
             ++ code_behind self.old ≡ code_left self.new) }
+
+        // It fails only where there was no room.
+        ensures full { OnErr result (vec_capacity self.old.«open» ≤ vec_len self.old.«open») }
     {
         match rest.next() {
             Some(child) => {
@@ -121,6 +125,9 @@ impl<'c, 'g, 'a> Walk<'c, 'g, 'a> {
             ++ code_behind self.old ≡ option_to_list op ++ code_left self.new) }
         ensures smaller { IfOk result (λ op. IfNone op
             (next_size self.new.next < length (flatten (tree_of node.entry)))) }
+
+        // It fails only where there was no room.
+        ensures full { OnErr result (vec_capacity self.old.«open» ≤ vec_len self.old.«open») }
     {
         let choice = choice_of(self.choices, player, position);
         self.open.push(Open::Payoffs(node.outcome_position()))?;
@@ -142,6 +149,9 @@ impl<'c, 'g, 'a> Walk<'c, 'g, 'a> {
             ++ code_behind self.old ≡ option_to_list op ++ code_left self.new) }
         ensures smaller { IfOk result (λ op. IfNone op
             (next_size self.new.next < length (flatten (tree_of branch.entry)))) }
+
+        // It fails only where there was no room.
+        ensures full { OnErr result (vec_capacity self.old.«open» ≤ vec_len self.old.«open») }
     {
         match branch.mover() {
             None => Ok(Some(Op::Push(branch.outcome_position()))),

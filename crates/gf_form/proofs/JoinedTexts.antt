@@ -1,0 +1,79 @@
+-- Texts without a dash are told from the text that joins them by dashes.
+use Rattle.std.proofs.Common.{◌≡◌, ℕ, ◌+◌, ◌%◌, ◌^◌, ◌<◌, ◌≤◌, List, [], ◌∷◌}
+use Rattle.std.proofs.Common.{◌++◌, length, map, get_or, drop, refl, sym, ap, ◌∙◌, arith}
+use Rattle.std.specs.Prelude.{decimal}
+use Rattle.std.specs.List.{AllByRecursion, join_with_byte}
+use Rattle.std.proofs.lemmas.Fmt.{decimal_by_steps}
+use Rattle.std.proofs.lemmas.List.{length-map}
+use Rattle.gf_fraction.proofs.AllElements.{all_both, all_images, all_weaker}
+
+-- none of these bytes is a dash
+abbrev pub AreUndashed : List ℕ → Type 0
+AreUndashed bytes = AllByRecursion (λ b. ¬ (b ≡ 45)) bytes
+
+abbrev pub AreDigits : List ℕ → Type 0
+AreDigits bytes = AllByRecursion (λ b. 48 ≤ b) bytes
+
+pub digits_of : (n : ℕ) → n < 2 ^ 64 → AreDigits (decimal n)
+digits_of n h =
+    decimal_by_steps (λ _ ds. AreDigits ds) (λ k _. (omega arith, tt))
+    (λ k ds _ p. all_both (λ b. 48 ≤ b) ds ((48 + k % 10) ∷ []) p (omega arith, tt)) n h
+
+pub undashed_number : (n : ℕ) → n < 2 ^ 64 → AreUndashed (decimal n)
+undashed_number n h =
+    all_weaker (λ b. 48 ≤ b) (λ b. ¬ (b ≡ 45)) (λ b above e. omega (arith, above, e)) (decimal n)
+    (digits_of n h)
+
+head_same : (x y : ℕ) (xs ys : List ℕ) → x ∷ xs ≡ y ∷ ys → x ≡ y
+head_same x y xs ys e = ap (λ (zs : List ℕ). get_or zs 0 0) e
+
+-- what stands before the first dash, and behind it
+cut : (xs ys us vs : List ℕ) → AreUndashed xs → AreUndashed ys → xs ++ 45 ∷ us ≡ ys ++ 45 ∷ vs
+    → (xs ≡ ys) × (us ≡ vs)
+cut [] [] us vs hx hy e = (refl, ap (drop 1) e)
+cut [] (y ∷ ys) us vs hx hy e = absurd (hy.0 (sym (head_same 45 y us (ys ++ 45 ∷ vs) e)))
+cut (x ∷ xs) [] us vs hx hy e = absurd (hx.0 (head_same x 45 (xs ++ 45 ∷ us) vs e))
+cut (x ∷ xs) (y ∷ ys) us vs hx hy e =
+    let h = head_same x y (xs ++ 45 ∷ us) (ys ++ 45 ∷ vs) e in
+    let r = cut xs ys us vs hx.1 hy.1 (ap (drop 1) e) in
+    (λ i. h i ∷ r.0 i, r.1)
+
+same_texts : (xs ys : List (List ℕ)) → length xs ≡ length ys → AllByRecursion AreUndashed xs
+    → AllByRecursion AreUndashed ys → join_with_byte 45 xs ≡ join_with_byte 45 ys → xs ≡ ys
+same_texts [] [] n hx hy e = refl
+same_texts [] (y ∷ ys) n hx hy e = absurd (omega (arith, n))
+same_texts (x ∷ xs) [] n hx hy e = absurd (omega (arith, n))
+same_texts (x ∷ []) (y ∷ []) n hx hy e = ap (λ (z : List ℕ). z ∷ []) e
+same_texts (x ∷ []) (y ∷ v ∷ ys) n hx hy e = absurd (omega (arith, n))
+same_texts (x ∷ u ∷ xs) (y ∷ []) n hx hy e = absurd (omega (arith, n))
+same_texts (x ∷ u ∷ xs) (y ∷ v ∷ ys) n hx hy e =
+    let parts = cut x y (join_with_byte 45 (u ∷ xs)) (join_with_byte 45 (v ∷ ys)) hx.0 hy.0 e in
+    let others = same_texts (u ∷ xs) (v ∷ ys) (omega (arith, n)) hx.1 hy.1 parts.1 in
+    λ i. parts.0 i ∷ others i
+
+-- and so are items that are told from their texts
+module _ {X : Type 0} (text : X → List ℕ) (IsFine : X → Type 0)
+    (undashed : (x : X) → IsFine x → AreUndashed (text x))
+    (one : (x y : X) → IsFine x → IsFine y → text x ≡ text y → x ≡ y) where
+  same_items : (xs ys : List X) → AllByRecursion IsFine xs → AllByRecursion IsFine ys
+      → map text xs ≡ map text ys → xs ≡ ys
+  same_items [] [] hx hy e = refl
+  same_items [] (y ∷ ys) hx hy e = absurd cc
+  same_items (x ∷ xs) [] hx hy e = absurd cc
+  same_items (x ∷ xs) (y ∷ ys) hx hy e =
+      let first = one x y hx.0 hy.0 (ap (λ (ts : List (List ℕ)). get_or ts 0 []) e) in
+      let others = same_items xs ys hx.1 hy.1 (ap (drop 1) e) in
+      λ i. first i ∷ others i
+
+  all_undashed : (xs : List X) → AllByRecursion IsFine xs
+      → AllByRecursion AreUndashed (map text xs)
+  all_undashed xs h = all_images AreUndashed text xs
+      (all_weaker IsFine (λ x. AreUndashed (text x)) undashed xs h)
+
+  pub same_joined : (xs ys : List X) → length xs ≡ length ys → AllByRecursion IsFine xs
+      → AllByRecursion IsFine ys
+      → join_with_byte 45 (map text xs) ≡ join_with_byte 45 (map text ys) → xs ≡ ys
+  same_joined xs ys n hx hy e =
+      same_items xs ys hx hy (same_texts (map text xs) (map text ys)
+      (length-map xs text ∙ n ∙ sym (length-map ys text)) (all_undashed xs hx) (all_undashed ys hy)
+      e)
