@@ -1,15 +1,20 @@
-//! Files, and the texts of their games.
+//! Calls of this crate and of those below it, on their happy paths, and what no file shows. Texts that
+//! are accepted or refused are files and tables that the program is run on.
 
-mod cuts;
+mod due;
+mod extensive;
+mod fractions;
+mod random;
 mod sameness;
+mod strategic;
+mod tokens;
 
-use crate::{renumber, write_efg};
+use crate::{Format, canonical, check, renumber, write_efg};
+use gf_token::{Fault, Span, Why};
 use gf_tree::{Game, read_efg};
 use std::alloc::{AllocError, Global};
-
-mod checking;
-mod extensive;
-mod strategic;
+use std::process::Abort;
+use std::test::Fail;
 
 /// Chance has a set twice, and the player's sets, 7 and 3, are used in another order than that of
 /// their numbers.
@@ -48,76 +53,36 @@ p \"\" 1 8 \"j\" { \"R\" } 2 \"w\" { 1/10 }
 t \"\" 2
 ";
 
-/// An outcome pays at a node that has children.
-const BONUS: &[u8] = b"EFG 2 R \"g\" { \"A\" \"B\" }
-c \"\" 1 \"n\" { \"h\" 1/2 \"t\" 1/2 } 0
-p \"\" 1 1 \"i\" { \"L\" \"R\" } 1 \"bonus\" { 1 0 }
-t \"\" 2 \"x\" { 2 0 }
-t \"\" 0
-p \"\" 1 1 0
-t \"\" 0
-t \"\" 3 \"y\" { 3 1 }
-";
-
-const BONUS_TEXT: &[u8] = b"EFG 2 R \"g\" { \"A\" \"B\" }
-\"\"
-
-c \"\" 1 \"n\" { \"h\" 1/2 \"t\" 1/2 } 0
-p \"\" 1 1 \"i\" { \"L\" \"R\" } 1 \"bonus\" { 1 0 }
-t \"\" 2 \"x\" { 2 0 }
-t \"\" 0
-p \"\" 1 1 0
-t \"\" 0
-t \"\" 3 \"y\" { 3 1 }
-";
-
 const NOBODY: &[u8] = b"EFG 2 R \"\" { } t \"\" 0";
 
-const NOBODY_TEXT: &[u8] = b"EFG 2 R \"\" { }
-\"\"
-
-t \"\" 0
-";
-
-/// A text and its continuation.
-fn joined(alloc: Global, before: &[u8], behind: &[u8]) -> Result<Vec<u8>, AllocError> {
-    let mut text = Vec::from_slice(alloc, before)?;
-    text.extend_from_slice(behind)?;
-    Ok(text)
-}
-
-/// The text of a game by its own numbers.
+/// The text of a game by its own numbers, behind another.
 fn text_of(alloc: Global, game: &Game<'_>) -> Result<Vec<u8>, AllocError> {
-    let mut text = Vec::new(alloc);
+    let mut text = Vec::from_slice(alloc, b"; ")?;
     write_efg(game, &mut text)?;
     Ok(text)
 }
 
-#[test]
-fn writes_canonical_texts(rt: HostRuntime) -> Result<(), AllocError> {
-    let files = [
-        (FIVE, FIVE_TEXT),
-        (COPY_TEXT, FIVE_TEXT),
-        (BONUS, BONUS_TEXT),
-        (NOBODY, NOBODY_TEXT),
-    ];
-    for (file, text) in files {
-        let game = read_efg(rt.alloc(), file).expect(&rt, "an extensive file");
-        let canonical = renumber(rt.alloc(), &game)?;
-        assert_eq!(rt; text_of(rt.alloc(), &canonical)?.as_slice(), text);
-    }
+/// Asserts that a game has this text by its own numbers.
+fn assert_text(
+    rt: &impl Abort,
+    alloc: Global,
+    game: &Game<'_>,
+    wanted: &[u8],
+) -> Result<(), AllocError> {
+    let text = text_of(alloc, game)?;
+    assert!(rt; text.strip_prefix(b"; ".as_slice()) == Some(wanted));
     Ok(())
 }
 
 #[test]
-fn writes_behind_what_stood_there(rt: HostRuntime) -> Result<(), AllocError> {
-    let game = read_efg(rt.alloc(), NOBODY).expect(&rt, "an extensive file");
-    let mut text = Vec::from_slice(rt.alloc(), b"; ")?;
-    write_efg(&game, &mut text)?;
-    assert_eq!(rt;
-        text.as_slice(),
-        b"; EFG 2 R \"\" { }\n\"\"\n\nt \"\" 0\n".as_slice()
-    );
+fn writes_canonical_texts(rt: HostRuntime) -> Result<(), Fail> {
+    for file in [FIVE, COPY_TEXT, FIVE_TEXT] {
+        let game = read_efg(rt.alloc(), file).expect(&rt, "an extensive file");
+        let numbered = renumber(rt.alloc(), &game)?;
+        assert_text(&rt, rt.alloc(), &numbered, FIVE_TEXT)?;
+        let text = canonical(rt.alloc(), file).expect(&rt, "a game file");
+        assert!(rt; text.as_slice() == FIVE_TEXT);
+    }
     Ok(())
 }
 
@@ -137,9 +102,20 @@ fn renumbered<'a>(alloc: Global, game: &Game<'a>) -> Result<Option<Game<'a>>, Al
 }
 
 #[test]
-fn writes_the_numbers_that_a_game_has(rt: HostRuntime) -> Result<(), AllocError> {
+fn writes_the_numbers_that_a_game_has(rt: HostRuntime) -> Result<(), Fail> {
     let game = read_efg(rt.alloc(), FIVE).expect(&rt, "an extensive file");
     let copy = renumbered(rt.alloc(), &game)?.expect(&rt, "a game by these numbers");
-    assert_eq!(rt; text_of(rt.alloc(), &copy)?.as_slice(), COPY_TEXT);
+    assert_text(&rt, rt.alloc(), &copy, COPY_TEXT)?;
+    assert!(rt; copy.infoset(0, 9).is_none() && copy.infoset(1, 8).is_some());
+    assert!(rt; copy.outcome(4).is_none() && copy.outcome(2).is_some());
     Ok(())
+}
+
+#[test]
+fn tells_the_format_of_right_files_alone(rt: HostRuntime) {
+    assert!(rt; check(rt.alloc(), FIVE) == Ok(Format::Extensive));
+    assert!(rt; check(rt.alloc(), b"NFG 1 R \"\" { } { }") == Ok(Format::Strategic));
+    let fault = Fault::at(Span { start: 31, end: 35 }, Why::TooManyProfiles);
+    let large = b"NFG 1 R \"b\" { \"A\" \"B\" } { 1024 1025 }";
+    assert!(rt; check(rt.alloc(), large) == Err(fault));
 }

@@ -8,8 +8,6 @@ use std::process::Abort;
 use std::test::Fail;
 use strategies::are_strategies;
 
-mod column;
-mod digits;
 mod random;
 mod strategies;
 mod tables;
@@ -49,13 +47,6 @@ c \"\" 2 \"k\" { \"e\" 1 } 2 \"y\" { 170141183460469231731687303715884105727 }
 t \"\" 1
 ";
 
-/// Two halves of great numbers, to whose sum a negative one is added where chance moves.
-const BALANCING: &[u8] = b"EFG 2 R \"b\" { \"A\" }
-c \"\" 1 \"n\" { \"h\" 1/2 \"t\" 1/2 } 1 \"x\" { -85070591730234615865843651857942052863 }
-t \"\" 2 \"y\" { 170141183460469231731687303715884105727 }
-t \"\" 3 \"z\" { 170141183460469231731687303715884105725 }
-";
-
 const NOBODY: &[u8] = b"EFG 2 R \"\" { } t \"\" 0";
 
 /// What the players of a file are paid at these choices.
@@ -87,34 +78,39 @@ fn fractions(
     Ok(all)
 }
 
+/// Asserts what the players of a file are paid at these choices.
+fn assert_paid(
+    rt: &impl Abort,
+    alloc: Global,
+    file: &[u8],
+    choices: &[&[u32]],
+    parts: &[(i128, u128)],
+) -> Result<(), AllocError> {
+    let payoffs = fractions(rt, alloc, parts)?;
+    assert!(rt;
+        paid(rt, alloc, file, choices)? == Ok(payoffs),
+        "at {choices:?}"
+    );
+    Ok(())
+}
+
 #[test]
 fn pays_what_the_plays_pay(rt: HostRuntime) -> Result<(), Fail> {
     let alloc = rt.alloc();
-    let rows: [(&[u8], &[&[u32]], &[(i128, u128)]); 5] = [
-        (BONUS, &[&[1], &[]], &[(3, 2), (0, 1)]),
-        (BONUS, &[&[2], &[]], &[(2, 1), (1, 2)]),
-        (OVERFLOWING, &[&[1, 1]], &[(-1, 1)]),
-        (UNLIKELY, &[&[]], &[(1, 1)]),
-        (NOBODY, &[], &[]),
-    ];
-    for (file, choices, payoffs) in rows {
-        let payoffs = fractions(&rt, alloc, payoffs)?;
-        assert_eq!(rt; paid(&rt, alloc, file, choices)?, Ok(payoffs));
-    }
+    assert_paid(&rt, alloc, BONUS, &[&[1], &[]], &[(3, 2), (0, 1)])?;
+    assert_paid(&rt, alloc, BONUS, &[&[2], &[]], &[(2, 1), (1, 2)])?;
+    assert_paid(&rt, alloc, OVERFLOWING, &[&[1, 1]], &[(-1, 1)])?;
+    assert_paid(&rt, alloc, UNLIKELY, &[&[]], &[(1, 1)])?;
+    assert_paid(&rt, alloc, NOBODY, &[], &[])?;
     Ok(())
 }
 
 #[test]
 fn overflows_where_a_value_on_the_way_does(rt: HostRuntime) -> Result<(), Fail> {
-    let rows: [(&[u8], &[&[u32]]); 3] = [
-        (OVERFLOWING, &[&[2, 1]]),
-        (UNLIKELY_AND_GREAT, &[&[]]),
-        (BALANCING, &[&[]]),
-    ];
-    for (file, choices) in rows {
-        let answer = paid(&rt, rt.alloc(), file, choices)?;
-        assert_eq!(rt; answer, Err(EvalFault::Overflow));
-    }
+    let at_profile = paid(&rt, rt.alloc(), OVERFLOWING, &[&[2, 1]])?;
+    assert!(rt; at_profile == Err(EvalFault::Overflow));
+    let where_unlikely = paid(&rt, rt.alloc(), UNLIKELY_AND_GREAT, &[&[]])?;
+    assert!(rt; where_unlikely == Err(EvalFault::Overflow));
     Ok(())
 }
 
@@ -128,7 +124,6 @@ fn evaluates_a_tree_of_any_depth(rt: HostRuntime) -> Result<(), Fail> {
         file.extend_from_slice(b"p \"\" 1 1 1\n")?;
     }
     file.extend_from_slice(b"t \"\" 0\n")?;
-    let payoffs = fractions(&rt, rt.alloc(), &[(50_000, 1)])?;
-    assert_eq!(rt; paid(&rt, rt.alloc(), &file, &[&[1]])?, Ok(payoffs));
+    assert_paid(&rt, rt.alloc(), &file, &[&[1]], &[(50_000, 1)])?;
     Ok(())
 }

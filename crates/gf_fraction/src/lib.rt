@@ -3,6 +3,8 @@
 //! A fraction is kept in lowest terms, with a denominator of 1 to `M` and a numerator of at most
 //! `M` in size, where `M` is `2^127 - 1`. Arithmetic is exact or answers `Overflow`. No call but
 //! `Fraction::write` takes memory.
+//!
+//! Tests of these calls stand in gf_canon: a crate with tests is proved a second time for them.
 #![tactic(auto)]
 
 mod arithmetic;
@@ -13,6 +15,3 @@ mod write;
 
 pub use crate::arithmetic::Overflow;
 pub use crate::fraction::{Fraction, NumberFault};
-
-#[cfg(test)]
-mod tests;

@@ -3,6 +3,8 @@
 //!
 //! The rules are those of the Gambit documentation, "Game representation formats", and where that
 //! text leaves a choice, of this project's profile.
+//!
+//! Tests of these calls stand in gf_canon: a crate with tests is proved a second time for them.
 #![tactic(auto)]
 
 mod byte;
@@ -12,8 +14,6 @@ mod heading;
 mod index;
 mod label;
 pub mod laws;
-#[cfg(test)]
-mod tests;
 mod token;
 mod tokens;
 mod write;

@@ -1,7 +1,7 @@
 //! Nodes by first-use numbers: of files that are told to a receiver, and of games.
 
 use super::FIVE;
-use gf_tree::{NodeByFirstUse, Receive, ToldHeading, read_efg, tell_efg};
+use gf_tree::{NodeByFirstUse, Receive, ToldHeading, list_efg, read_efg, tell_efg};
 use std::alloc::{AllocError, Global};
 use std::process::Abort;
 use std::test::Fail;
@@ -43,14 +43,10 @@ impl Uses {
 
 /// Asserts that these are the uses of `FIVE`, by first-use numbers.
 fn assert_uses_of_five(rt: &impl Abort, uses: &Uses) {
-    assert_eq!(rt;
-        uses.sets.as_slice(),
-        [(0, 1, true), (1, 1, true), (0, 1, false), (1, 2, true)].as_slice()
-    );
-    assert_eq!(rt;
-        uses.outcomes.as_slice(),
-        [(1, true), (1, false)].as_slice()
-    );
+    let sets = [(0, 1, true), (1, 1, true), (0, 1, false), (1, 2, true)];
+    assert!(rt; uses.sets.as_slice() == sets.as_slice());
+    let outcomes = [(1, true), (1, false)];
+    assert!(rt; uses.outcomes.as_slice() == outcomes.as_slice());
 }
 
 impl<'a> Receive<'a> for Uses {
@@ -74,7 +70,7 @@ impl<'a> Receive<'a> for Uses {
 fn tells_first_use_numbers(rt: HostRuntime) {
     let mut uses = Uses::new(rt.alloc());
     tell_efg(rt.alloc(), FIVE, &mut uses).expect(&rt, "a file");
-    assert_eq!(rt; uses.players, 1);
+    assert!(rt; uses.players == 1);
     assert_uses_of_five(&rt, &uses);
 }
 
@@ -87,4 +83,30 @@ fn gives_nodes_by_first_use_numbers(rt: HostRuntime) -> Result<(), Fail> {
     }
     assert_uses_of_five(&rt, &uses);
     Ok(())
+}
+
+#[test]
+fn gives_the_nodes_of_a_listed_game(rt: HostRuntime) -> Result<(), Fail> {
+    let game = list_efg(rt.alloc(), FIVE).expect(&rt, "a file");
+    assert!(rt; game.heading().players.len() == 1);
+    let mut uses = Uses::new(rt.alloc());
+    for node in game.nodes_by_first_use() {
+        uses.note(node)?;
+    }
+    assert_uses_of_five(&rt, &uses);
+    assert!(rt; game.into_game().root().children() == 2);
+    Ok(())
+}
+
+/// The numbers of the sets of `FIVE` at its nodes, as the file has them.
+#[test]
+fn gives_nodes_as_in_a_file(rt: HostRuntime) {
+    let game = read_efg(rt.alloc(), FIVE).expect(&rt, "a file");
+    let mut numbers = [9, 7, 9, 3].into_iter();
+    for node in game.file_nodes() {
+        if let Some(set) = node.set {
+            assert!(rt; numbers.next() == Some(set.number));
+        }
+    }
+    assert!(rt; numbers.next().is_none());
 }

@@ -3,6 +3,7 @@
 use crate::{canonical, renumber, write_efg};
 use gf_tree::read_efg;
 use std::alloc::{AllocError, Global};
+use std::process::Abort;
 use std::test::Fail;
 
 const TREES: u64 = 300;
@@ -130,17 +131,23 @@ fn random_tree(alloc: Global, seed: u64) -> Result<Vec<u8>, AllocError> {
     Ok(file)
 }
 
+/// Asserts that the canonical text of a file is had in three steps too, and is its own.
+fn assert_canonical(rt: &impl Abort, alloc: Global, file: &[u8]) -> Result<(), AllocError> {
+    let text = canonical(alloc, file).expect(rt, "a file");
+    let game = read_efg(alloc, file).expect(rt, "a file");
+    let mut steps = Vec::new(alloc);
+    write_efg(&renumber(alloc, &game)?, &mut steps)?;
+    assert!(rt; text == steps, "of {file:?}");
+    let again = canonical(alloc, &text).expect(rt, "a canonical text");
+    assert!(rt; again == text, "again of {file:?}");
+    Ok(())
+}
+
 #[test]
 fn writes_what_is_written_in_three_steps(rt: HostRuntime) -> Result<(), Fail> {
     for seed in 0..TREES {
         let file = random_tree(rt.alloc(), seed)?;
-        let text = canonical(rt.alloc(), &file).expect(&rt, "a file");
-        let game = read_efg(rt.alloc(), &file).expect(&rt, "a file");
-        let mut steps = Vec::new(rt.alloc());
-        write_efg(&renumber(rt.alloc(), &game)?, &mut steps)?;
-        assert_eq!(rt; text, steps, "of {file:?}");
-        let again = canonical(rt.alloc(), &text).expect(&rt, "a canonical text");
-        assert_eq!(rt; again, text, "again of {file:?}");
+        assert_canonical(&rt, rt.alloc(), &file)?;
     }
     Ok(())
 }
