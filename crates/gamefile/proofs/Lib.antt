@@ -3,6 +3,7 @@ pub mod Errors
 pub mod FewPlayers
 pub mod FormTexts
 pub mod Interruptions
+pub mod JobFaults
 pub mod LinesInTurn
 pub mod MoreRead
 pub mod MoreWritten

@@ -1,4 +1,5 @@
 pub mod Counted
+pub mod Ending
 pub mod Failures
 pub mod FaultLine
 pub mod FaultStatus
@@ -6,6 +7,9 @@ pub mod FileKinds
 pub mod FormFaults
 pub mod FormText
 pub mod Input
+pub mod JobRun
+pub mod Opened
+pub mod Opening
 pub mod Output
 pub mod Run
 pub mod RunOfTwo

@@ -3,10 +3,34 @@
 use crate::words::{Job, WordsFault, parse_words};
 use std::alloc::Global;
 use std::env;
+use std::env::FillError;
 use std::io::ErrorKind;
 use std::rt::Env;
 
 const NOT_UTF8: &str = "error: a word is not UTF-8\n\nFor more information, try '--help'.\n";
+
+/// The words behind the program's name. The name itself is left out, and may be any bytes.
+#[derive(Drop)]
+struct BehindName<'a, R> {
+    rt: &'a R,
+}
+
+impl<R: Env> Env for BehindName<'_, R> {
+    fn arg(&self, i: usize, buf: &mut [u8]) -> Result<usize, FillError> {
+        match i.checked_add(1) {
+            Some(behind) => self.rt.arg(behind, buf),
+            None => Err(FillError::NotPresent),
+        }
+    }
+
+    fn var(&self, name: &str, buf: &mut [u8]) -> Result<usize, FillError> {
+        self.rt.var(name, buf)
+    }
+
+    fn var_at(&self, i: usize, buf: &mut [u8]) -> Result<usize, FillError> {
+        self.rt.var_at(i, buf)
+    }
+}
 
 fn not_words(alloc: Global, kind: ErrorKind) -> WordsFault {
     match (kind, String::from_str(alloc, NOT_UTF8)) {
@@ -18,8 +42,11 @@ fn not_words(alloc: Global, kind: ErrorKind) -> WordsFault {
 /// The job that the program was started for. Words that are not UTF-8 are wrong usage.
 pub fn job_asked<R: Env + AllocGlobal>(rt: &R) -> Result<Job, WordsFault> {
     let alloc = rt.alloc();
-    let given = env::args(rt).map_err(|error| not_words(alloc, error.kind()))?;
-    let words: Vec<String> = given.skip(1).collect(alloc)?;
+    let given = env::args(&(BehindName { rt }, alloc)).map_err(|error| not_words(
+        alloc,
+        error.kind(),
+    ))?;
+    let words: Vec<String> = given.collect(alloc)?;
     let texts: Vec<&str> = words.iter().map(|word| word.as_str()).collect(alloc)?;
     parse_words(alloc, texts.as_slice())
 }

@@ -1,22 +1,25 @@
-//! Inputs as they are opened.
+//! The inputs of the program: standard input, and files.
 
-ghost use Rattle.std.specs.Prelude.{◌≡◌, IfErr};
+ghost use Rattle.std.specs.Prelude.{◌≡◌, IfOk};
+ghost use Rattle.gamefile.specs.Counted.{inner_of};
+ghost use Rattle.gamefile.specs.Opened.{IsFile, IsStandard, remaining_of};
 
 use crate::counted::Counted;
-use crate::fault::{RunFault, Which};
+use crate::inputs::Inputs;
 use std::fs::File;
 use std::io::{Read, Stdin};
-use std::rt::Files;
 use std::{fs, io};
 
 /// An input that is open.
 #[derive(Drop)]
-pub enum Opened {
-    Standard(Stdin),
-    File(File),
+pub enum Opened<S, F> {
+    Standard(S),
+    File(F),
 }
 
-impl Read for Opened {
+impl<S: Read, F: Read> Read for Opened<S, F> {
+    ghost remaining = { remaining_of S.remaining F.remaining };
+
     fn read(&mut self, buf: &mut [u8]) -> io::Result<usize> {
         match self {
             Opened::Standard(input) => input.read(buf),
@@ -25,17 +28,18 @@ impl Read for Opened {
     }
 }
 
-/// Opens the file of this name. A file that cannot be opened is a read fault. A folder can be, and
-/// its first read fails.
-pub fn open<R: Files<File = File>>(
-    rt: &R,
-    name: &str,
-    which: Which,
-) -> Result<Counted<Opened>, RunFault>
-    ensures { IfErr result (λ fault. fault ≡ RunFault.Read which) }
-{
-    match fs::open(rt, name) {
-        Ok(file) => Ok(Counted::new(Opened::File(file))),
-        Err(_) => Err(RunFault::Read(which)),
+impl Inputs for HostRuntime {
+    type Opened = Counted<Opened<Stdin, File>>;
+
+    ghost standard_gives = { λ _ input. IsStandard (inner_of input) };
+
+    ghost open_gives = { λ _ _ answer. IfOk answer (λ input. IsFile (inner_of input)) };
+
+    fn standard(&self) -> Counted<Opened<Stdin, File>> {
+        Counted::new(Opened::Standard(self.stdin()))
+    }
+
+    fn open(&self, name: &str) -> Result<Counted<Opened<Stdin, File>>, io::Error> {
+        Ok(Counted::new(Opened::File(fs::open(self, name)?)))
     }
 }

@@ -42,7 +42,7 @@ pub enum Job {
 /// Why the words ask for no job.
 #[derive(Debug, Drop)]
 pub enum WordsFault {
-    /// Help is asked for, and this is its text.
+    /// Help or the version is asked for, and this is its text.
     Help(String),
     /// The words are wrong, and this text says how.
     Usage(String),
@@ -61,7 +61,7 @@ impl From<AllocError> for WordsFault {
 /// A command with its texts.
 fn command<'a>(alloc: Global, name: &'a str, about: &'a str, after: &'a str) -> Command<'a> {
     Command::new(alloc, name)
-        .before_help(help::VERSION)
+        .before_help(help::HEAD)
         .about(about)
         .after_help(after)
 }
@@ -116,6 +116,7 @@ fn same<'a>(alloc: Global) -> Result<Command<'a>, AllocError> {
 
 fn gamefile<'a>(alloc: Global) -> Result<Command<'a>, AllocError> {
     command(alloc, "gamefile", help::ABOUT, help::AFTER)
+        .version(help::VERSION)
         .no_binary_name(true)
         .bin_name("gamefile")?
         .subcommand(canon(alloc)?)?
@@ -167,11 +168,35 @@ fn job_of(alloc: Global, matches: &ArgMatches<'_>) -> Result<Job, AllocError> {
     }
 }
 
-fn fault_of(alloc: Global, error: &Error) -> Result<WordsFault, AllocError> {
-    let text = error.to_string(alloc)?;
+/// Whether a word that is no command looks like the name of a game file. What a terminal may not show
+/// as it stands does not.
+fn looks_like_file(word: &str) -> bool {
+    let name = word.as_bytes();
+    (name.ends_with(b".efg") || name.ends_with(b".nfg"))
+        && name.iter().all(|byte| byte.is_ascii_graphic())
+}
+
+/// Appends the command that was perhaps meant, if the first word names a file in its place.
+fn push_hint(alloc: Global, words: &[&str], text: &mut String) -> Result<(), AllocError> {
+    match words.first() {
+        Some(word) if looks_like_file(word) => {
+            text.push_str(format!(in alloc;
+                "\nFor its canonical text: gamefile canon {word}\n"
+            )?.as_str())
+        }
+        _ => Ok(()),
+    }
+}
+
+fn fault_of(alloc: Global, error: &Error, words: &[&str]) -> Result<WordsFault, AllocError> {
+    let mut text = error.to_string(alloc)?;
     Ok(match error.kind() {
         ErrorKind::OutOfMemory => WordsFault::Memory,
-        ErrorKind::DisplayHelp => WordsFault::Help(text),
+        ErrorKind::DisplayHelp | ErrorKind::DisplayVersion => WordsFault::Help(text),
+        ErrorKind::InvalidSubcommand => {
+            push_hint(alloc, words, &mut text)?;
+            WordsFault::Usage(text)
+        }
         _ => WordsFault::Usage(text),
     })
 }
@@ -180,13 +205,14 @@ fn fault_of(alloc: Global, error: &Error) -> Result<WordsFault, AllocError> {
 /// `table [--reduced] [FILE]`, `same [--map | --no-names] A B`, or none of these, which is `canon` of
 /// standard input.
 ///
-/// - `Help`: the words ask for help, as `--help` does, or `help`, behind a command too.
+/// - `Help`: the words ask for help, as `--help` does, or `help`, behind a command too; or for the
+///   version, as `--version` or `-V` does, but not behind a command.
 /// - `Usage`: they are no such words.
-/// - `Memory`: memory ran out. Where it ran out while the words were judged, `Usage` may come in its
+/// - `Memory`: memory ran out. If it ran out while the words were judged, `Usage` may come in its
 ///   place.
 pub fn parse_words<'a>(alloc: Global, words: &'a [&'a str]) -> Result<Job, WordsFault> {
     match gamefile(alloc)?.try_get_matches_from(words) {
         Ok(matches) => Ok(job_of(alloc, &matches)?),
-        Err(error) => Err(fault_of(alloc, &error)?),
+        Err(error) => Err(fault_of(alloc, &error, words)?),
     }
 }

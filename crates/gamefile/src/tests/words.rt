@@ -15,29 +15,11 @@ fn asked(alloc: Global, words: &[&str]) -> Result<String, AllocError> {
 
 #[test]
 fn ask_for_jobs(rt: HostRuntime) -> Result<(), AllocError> {
-    let rows: [(&[&str], &str); 21] = [
+    let rows: [(&[&str], &str); 8] = [
         (&[], "Canon(Standard)"),
-        (&["canon"], "Canon(Standard)"),
         (&["canon", "a.efg"], "Canon(File(\"a.efg\"))"),
-        (&["canon", "-"], "Canon(File(\"-\"))"),
-        (&["canon", ""], "Canon(File(\"\"))"),
-        (&["canon", "help"], "Canon(File(\"help\"))"),
-        (&["canon", "--", "--map"], "Canon(File(\"--map\"))"),
-        (&["check"], "Check(Standard)"),
-        (&["check", "a.efg"], "Check(File(\"a.efg\"))"),
+        (&["check", "-"], "Check(File(\"-\"))"),
         (&["table"], "Table { input: Standard, reduced: false }"),
-        (
-            &["table", "a.efg"],
-            "Table { input: File(\"a.efg\"), reduced: false }",
-        ),
-        (
-            &["table", "--reduced"],
-            "Table { input: Standard, reduced: true }",
-        ),
-        (
-            &["table", "--reduced", "a.efg"],
-            "Table { input: File(\"a.efg\"), reduced: true }",
-        ),
         (
             &["table", "a.efg", "--reduced"],
             "Table { input: File(\"a.efg\"), reduced: true }",
@@ -47,28 +29,12 @@ fn ask_for_jobs(rt: HostRuntime) -> Result<(), AllocError> {
             "Same { a: \"a\", b: \"b\", map: false, names: Kept }",
         ),
         (
-            &["same", "b", "a"],
-            "Same { a: \"b\", b: \"a\", map: false, names: Kept }",
-        ),
-        (
-            &["same", "--map", "a", "b"],
-            "Same { a: \"a\", b: \"b\", map: true, names: Kept }",
-        ),
-        (
-            &["same", "a", "b", "--map"],
-            "Same { a: \"a\", b: \"b\", map: true, names: Kept }",
-        ),
-        (
-            &["same", "--no-names", "a", "b"],
-            "Same { a: \"a\", b: \"b\", map: false, names: Aside }",
+            &["same", "--map", "b", "a"],
+            "Same { a: \"b\", b: \"a\", map: true, names: Kept }",
         ),
         (
             &["same", "a", "--no-names", "b"],
             "Same { a: \"a\", b: \"b\", map: false, names: Aside }",
-        ),
-        (
-            &["same", "-", "-"],
-            "Same { a: \"-\", b: \"-\", map: false, names: Kept }",
         ),
     ];
     for (words, job) in rows {
@@ -78,58 +44,15 @@ fn ask_for_jobs(rt: HostRuntime) -> Result<(), AllocError> {
 }
 
 #[test]
-fn are_wrong(rt: HostRuntime) -> Result<(), AllocError> {
-    let rows: [&[&str]; 22] = [
-        &["same"],
-        &["same", "a"],
-        &["same", "a", "b", "c"],
-        &["same", "--map", "--no-names", "a", "b"],
-        &["same", "--map", "--map", "a", "b"],
-        &["same", "--map", "a"],
-        &["canon", "a", "b"],
-        &["canon", "--map", "a"],
-        &["check", "--no-names"],
-        &["check", "-x"],
-        &["table", "a", "b"],
-        &["table", "--reduced", "--reduced"],
-        &["canon", "--reduced", "a"],
-        &["tree"],
-        &["a.efg"],
-        &["Canon"],
-        &["can"],
-        &[""],
-        &["-"],
-        &["--", "canon"],
-        &["--version"],
-        &["--canon"],
+fn ask_for_no_job(rt: HostRuntime) -> Result<(), AllocError> {
+    let rows: [(&[&str], &str); 4] = [
+        (&["same", "a"], "usage"),
+        (&["a.efg"], "usage"),
+        (&["--help"], "help"),
+        (&["--version"], "help"),
     ];
-    for words in rows {
-        assert_eq!(rt; asked(rt.alloc(), words)?.as_str(), "usage", "{words:?}");
-    }
-    Ok(())
-}
-
-#[test]
-fn ask_for_help(rt: HostRuntime) -> Result<(), AllocError> {
-    let rows: [&[&str]; 10] = [
-        &["--help"],
-        &["-h"],
-        &["help"],
-        &["canon", "--help"],
-        &["check", "-h"],
-        &["table", "--help"],
-        &["same", "--help"],
-        &["help", "canon"],
-        &["help", "same"],
-        &["same", "a", "--help"],
-    ];
-    for words in rows {
-        let Err(WordsFault::Help(text)) = parse_words(rt.alloc(), words) else {
-            assert!(rt; false, "no help for {words:?}");
-            continue;
-        };
-        let first = text.as_str().lines().next();
-        assert_eq!(rt; first, Some("gamefile 1.0.0"), "{words:?}");
+    for (words, answer) in rows {
+        assert_eq!(rt; asked(rt.alloc(), words)?.as_str(), answer, "{words:?}");
     }
     Ok(())
 }
