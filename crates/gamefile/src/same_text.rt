@@ -1,7 +1,8 @@
 //! What is written of two files that are compared.
 
-ghost use Rattle.std.specs.Prelude.{◌≡◌, ◌↔◌, IfErr, IfOk, IsTrue};
+ghost use Rattle.std.specs.Prelude.{◌≡◌, ◌↔◌, ℕ, IfErr, IfOk, IsTrue, List};
 ghost use Rattle.gf_canon.specs.GameFile.{SameFile};
+ghost use Rattle.gf_canon.specs.Judgement.{SpellsWithin};
 ghost use Rattle.gf_canon.specs.MeaningOf.{file_of};
 ghost use Rattle.gf_canon.specs.Sameness.{AreRefusedWith};
 ghost use Rattle.gamefile.specs.SameText.{IsAnswer, IsLineAndMap, answer_line};
@@ -51,6 +52,23 @@ fn answer_of(alloc: Global, a: &Meaning<'_>, b: &Meaning<'_>) -> Result<Answer, 
     Ok(answer)
 }
 
+/// The answer about bytes whose meaning was read, and those of the second file.
+fn answer_beside(alloc: Global, first: &Meaning<'_>, b: &[u8]) -> Result<Answer, SameFault>
+    ensures answer { IfOk result (λ answer. (a : List ℕ) → SpellsWithin a (file_of first.now)
+        → IsAnswer SameFile IsLineAndMap answer.same a b.now answer.text.items) }
+    ensures refused { IfErr result (λ fault. (a : List ℕ) → SpellsWithin a (file_of first.now)
+        → AreRefusedWith a b.now fault) }
+{
+    let second = match read_file(alloc, b) {
+        Ok(second) => second,
+        Err(fault) => return Err(SameFault::Second(fault)),
+    };
+    match answer_of(alloc, first, &second) {
+        Ok(answer) => Ok(answer),
+        Err(_) => Err(SameFault::Memory),
+    }
+}
+
 /// Whether two files are the same; and where they are trees, the lines of the only renumbering that
 /// carries the first to the second.
 ///
@@ -60,16 +78,8 @@ pub fn answer_with_map(alloc: Global, a: &[u8], b: &[u8]) -> Result<Answer, Same
         IsAnswer SameFile IsLineAndMap answer.same a.now b.now answer.text.items) }
     ensures refused { IfErr result (AreRefusedWith a.now b.now) }
 {
-    let first = match read_file(alloc, a) {
-        Ok(first) => first,
-        Err(fault) => return Err(SameFault::First(fault)),
-    };
-    let second = match read_file(alloc, b) {
-        Ok(second) => second,
-        Err(fault) => return Err(SameFault::Second(fault)),
-    };
-    match answer_of(alloc, &first, &second) {
-        Ok(answer) => Ok(answer),
-        Err(_) => Err(SameFault::Memory),
+    match read_file(alloc, a) {
+        Ok(first) => answer_beside(alloc, &first, b),
+        Err(fault) => Err(SameFault::First(fault)),
     }
 }
