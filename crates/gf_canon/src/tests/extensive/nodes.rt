@@ -1,7 +1,7 @@
 //! The nodes of games, in prefix order and as a tree.
 
 use super::{BONUS, FIVE, label, read};
-use gf_tree::{Branch, Game, Node, Step};
+use gf_tree::{Branch, Game, Step};
 use std::alloc::Global;
 use std::process::Abort;
 
