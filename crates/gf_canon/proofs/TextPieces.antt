@@ -1,20 +1,20 @@
 -- Lists in braces and fields of lines, piece by piece.
 use Rattle.std.proofs.Common.{◌≡◌, ℕ, zero, suc, ◌+◌, ◌<◌, List, [], ◌∷◌, ◌++◌, length, map, drop}
-use Rattle.std.proofs.Common.{get_or, Option, None, Some, refl, sym, ap, ◌∙◌, append_assoc}
+use Rattle.std.proofs.Common.{Option, None, Some, refl, sym, ap, ◌∙◌, append_assoc}
 use Rattle.std.proofs.Common.{◌-◌, ◌≤◌, OnOk, Result, Ok, Err, arith, is_ok, set, take, if◌then◌else◌}
 use Rattle.std.proofs.Common.{length-append, length-drop}
 use Rattle.std.proofs.lemmas.List.{drop-set, take_all}
 use Rattle.std.specs.Prelude.{codes, decimal}
 use Rattle.std.specs.List.{flat_map}
 use Rattle.std.proofs.lemmas.Grind.{flat_map-append}
-use Rattle.std.proofs.lemmas.List.{at_drop_more, append-nil}
+use Rattle.std.proofs.lemmas.List.{append-nil}
 use Rattle.gf_fraction.specs.Ratio.{Ratio}
 use Rattle.gf_fraction.specs.NumberText.{number_text}
 use Rattle.gf_nfg.specs.TableText.{lines_text, list_text, quoted, spaced}
 use Rattle.gf_nfg.specs.TextParts.{others_text}
 use Rattle.gf_token.specs.Label.{label_of}
 use Rattle.gf_token.specs.declared.label.Label.{Label}
-use Rattle.gf_tree.specs.Actions.{action_of, actions_of}
+use Rattle.gf_tree.specs.Actions.{actions_of}
 use Rattle.gf_tree.specs.declared.action.Action.{Action}
 use Rattle.gf_tree.specs.Description.{InformationSet, SetKey}
 use Rattle.gf_tree.specs.FileNodes.{file_nodes}
@@ -23,7 +23,7 @@ use Rattle.gf_tree.specs.Game.{Game}
 use Rattle.gf_canon.specs.GameText.{action_fields, described_fields, mover_fields, set_fields}
 use Rattle.gf_canon.specs.GameText.{step_fields}
 use Rattle.gf_canon.specs.GameText.{game_text, node_text}
-use Rattle.gf_canon.specs.TextParts.{first_line, heading_text, node_line, spaced_out}
+use Rattle.gf_canon.specs.TextParts.{first_line, heading_text, node_line}
 
 -- ---- lists in braces
 
@@ -40,13 +40,6 @@ spaced_items first (item ∷ items) = ap (λ (bs : List ℕ). first ++ 32 ∷ bs
 pub list_text_is : (items : List (List ℕ)) → list_text items ≡ codes "{ " ++ items_text items
 list_text_is items = spaced_items (codes "{") items
 
-items_joined : (xs ys : List (List ℕ)) → items_text (xs ++ ys) ≡ spaced_out xs ++ items_text ys
-items_joined [] ys = refl
-items_joined (x ∷ xs) ys =
-    ap (λ (bs : List ℕ). x ++ 32 ∷ bs) (items_joined xs ys)
-    ∙ sym (append_assoc x (32 ∷ spaced_out xs) (items_text ys))
-    ∙ ap (λ (bs : List ℕ). bs ++ items_text ys) (sym (append_assoc x (32 ∷ []) (spaced_out xs)))
-
 -- what is still to come of a list
 abbrev pub labels_left : List Label → List ℕ
 labels_left labels = items_text (map quoted (map label_of labels))
@@ -56,25 +49,6 @@ actions_left actions = items_text (flat_map action_fields (actions_of actions))
 
 abbrev pub payoffs_left : List Ratio → List ℕ
 payoffs_left payoffs = items_text (map number_text payoffs)
-
-pub next_label : (labels : List Label) (i : ℕ) (d : Label) → i < length labels
-    → labels_left (drop i labels)
-    ≡ quoted (label_of (get_or labels i d)) ++ 32 ∷ labels_left (drop (i + 1) labels)
-next_label labels i d h = at_drop_more labels_left labels i d h
-
-pub next_action : (actions : List Action) (i : ℕ) (d : Action) → i < length actions
-    → actions_left (drop i actions)
-    ≡ spaced_out (action_fields (action_of (get_or actions i d)))
-    ++ actions_left (drop (i + 1) actions)
-next_action actions i d h =
-    at_drop_more actions_left actions i d h
-    ∙ items_joined (action_fields (action_of (get_or actions i d)))
-    (flat_map action_fields (actions_of (drop (i + 1) actions)))
-
-pub next_payoff : (payoffs : List Ratio) (i : ℕ) (d : Ratio) → i < length payoffs
-    → payoffs_left (drop i payoffs)
-    ≡ number_text (get_or payoffs i d) ++ 32 ∷ payoffs_left (drop (i + 1) payoffs)
-next_payoff payoffs i d h = at_drop_more payoffs_left payoffs i d h
 
 -- the whole list, of which nothing is left
 pub list_closed : (all : List (List ℕ)) (old opened out : List ℕ) → opened ≡ old ++ codes "{ "
