@@ -7,24 +7,16 @@ RT ?= rt
 export RT
 PREFIX ?= /usr/local
 
-libraries := gf_token gf_nfg gf_tree gf_canon gf_form
 sources := crates.txt $(shell find crates -name out -prune -o -type f -print)
 
-.PHONY: all run install test bench clean $(libraries)
+.PHONY: all run install test bench clean
 
 all: gamefile
 
-# Libraries that do not stand on one another are proved side by side.
+# Crate after crate, each by every processor: `rt` lets no two runs share the crates below them.
 gamefile: $(sources)
-	$(MAKE) --no-print-directory --jobs=2 gf_canon gf_form
-	cd crates/gamefile && $(RT) run gamefile < stdin > /dev/null
+	cd crates/gamefile && $(RT) run gamefile --jobs $$(nproc) < stdin > /dev/null
 	cp crates/gamefile/out/gamefile gamefile
-
-$(libraries):
-	cd crates/$@ && $(RT) lib
-
-gf_nfg gf_tree: gf_token
-gf_canon gf_form: gf_nfg gf_tree
 
 run: gamefile
 	./gamefile canon examples/battle-of-the-sexes.nfg
