@@ -18,6 +18,7 @@ use std::test::Fail;
 
 mod canon;
 mod check;
+mod forms;
 mod same;
 mod script;
 mod table;

@@ -1,8 +1,11 @@
 -- How many actions there are at a player's set, by its position among his.
-use Rattle.std.proofs.Common.{◌≡◌, ℕ, zero, suc, ◌<◌, List, [], ◌∷◌, length, map, get_or}
+use Rattle.std.proofs.Common.{◌≡◌, ℕ, zero, suc, ◌+◌, ◌<◌, List, [], ◌∷◌, length, map, get_or}
 use Rattle.std.proofs.Common.{Option, Some, None, refl, sym, ap, subst, ◌∙◌, arith}
 use Rattle.std.specs.Prelude.{◌==◌, option_map, slice_get}
 use Rattle.std.specs.List.{AllZip}
+use Rattle.std.proofs.lemmas.Slice.Zip.{AllZip-long}
+use Rattle.gf_nfg.proofs.NumbersInTurn.{get_or-numbers_from, length-numbers_from}
+use Rattle.gf_nfg.specs.Profiles.{positions}
 use Rattle.std.proofs.lemmas.Bool.{eqb-true}
 use Rattle.std.proofs.lemmas.Option.{slice_get-map}
 use Rattle.gf_token.specs.Positions.{at_position}
@@ -90,3 +93,19 @@ zip_places R d [] (y ∷ ys) e h = absurd (omega (arith, e))
 zip_places R d (x ∷ xs) [] e h = absurd (omega (arith, e))
 zip_places R d (x ∷ xs) (y ∷ ys) e h =
     (h 0 (omega arith), zip_places R d xs ys (omega (arith, e)) (λ k less. h (suc k) (omega (arith, less))))
+
+pub zip_at : {A B : Type 0} (R : A → B → Type 0) (d : A) (e : B) (xs : List A) (ys : List B)
+    → AllZip R xs ys → (k : ℕ) → k < length xs → R (get_or xs k d) (get_or ys k e)
+zip_at R d e [] ys h k less = absurd (omega (arith, less))
+zip_at R d e (x ∷ xs) [] h k less = elim h [ ]
+zip_at R d e (x ∷ xs) (y ∷ ys) h zero less = h.0
+zip_at R d e (x ∷ xs) (y ∷ ys) h (suc k) less = zip_at R d e xs ys h.1 k (omega (arith, less))
+
+-- numbered in turn from 1
+pub zip_counted : {A : Type 0} (R : A → ℕ → Type 0) (d : A) (xs : List A) (n : ℕ)
+    → AllZip R xs (positions n) → (k : ℕ) → k < length xs → R (get_or xs k d) (k + 1)
+zip_counted R d xs n h k less =
+    let long = AllZip-long R xs (positions n) h in
+    let there = get_or-numbers_from 1 n k 0 (omega (arith, less, long, length-numbers_from 1 n)) in
+    let number : get_or (positions n) k 0 ≡ k + 1 = omega (arith, there) in
+    subst (R (get_or xs k d)) number (zip_at R d 0 xs (positions n) h k less)

@@ -29,8 +29,7 @@ mod shares;
 mod strategic_form;
 mod strategies;
 mod terms;
-#[cfg(test)]
-mod tests;
+mod valid_choices;
 mod values;
 mod visits;
 mod walk;
@@ -40,3 +39,4 @@ pub use crate::expectation::expected;
 pub use crate::fault::{EvalFault, FormFault};
 pub use crate::reduced_form::table_reduced;
 pub use crate::strategic_form::table;
+pub use crate::valid_choices::are_strategies;

@@ -1,15 +1,13 @@
 //! What the players are paid at worked games, and which choices have no payoffs.
 
-use crate::{EvalFault, expected};
+use gf_form::{EvalFault, are_strategies, expected};
 use gf_fraction::Fraction;
 use gf_tree::read_efg;
 use std::alloc::{AllocError, Global};
 use std::process::Abort;
 use std::test::Fail;
-use strategies::are_strategies;
 
 mod random;
-mod strategies;
 mod tables;
 
 /// Outcomes at an inner node and at leaves, and a player who never moves.

@@ -1,6 +1,6 @@
-//! Strategies that a game has.
+//! Whether choices are strategies that the players of a game have.
 
-ghost use Rattle.std.specs.Prelude.{◌≤◌, IsTrue, map};
+ghost use Rattle.std.specs.Prelude.{◌↔◌, ◌≤◌, IsTrue, length, map};
 ghost use Rattle.std.specs.List.{AllZip};
 ghost use Rattle.gf_form.specs.Strategies.{AreStrategies, action_counts};
 
@@ -9,7 +9,7 @@ use gf_tree::Game;
 
 /// Whether these are an action for each set of a player.
 fn is_strategy(game: &Game<'_>, player: u32, strategy: &[u32]) -> bool
-    ensures { IsTrue result → AllZip (λ action count. (1 ≤ action) × (action ≤ count)) strategy.now
+    ensures { IsTrue result ↔ AllZip (λ action count. (1 ≤ action) × (action ≤ count)) strategy.now
         (action_counts game.now player) }
 {
     if strategy.len() != game.set_count(player) {
@@ -24,9 +24,12 @@ fn is_strategy(game: &Game<'_>, player: u32, strategy: &[u32]) -> bool
     true
 }
 
-/// Whether there is a strategy for each player.
-pub(super) fn are_strategies(game: &Game<'_>, choices: &[Vec<u32>]) -> bool
-    ensures { IsTrue result → AreStrategies game.now (map (λ own. own.items) choices.now) }
+/// Whether there is one list for each player, with the position of an action, from 1, for each of his
+/// sets in order of first use: what [`expected`](crate::expected) asks its caller to see to.
+pub fn are_strategies(game: &Game<'_>, choices: &[Vec<u32>]) -> bool
+    ensures sound { IsTrue result → AreStrategies game.now (map (λ own. own.items) choices.now) }
+    ensures complete { length game.now.players ≤ 4294967295
+        → AreStrategies game.now (map (λ own. own.items) choices.now) → IsTrue result }
 {
     if choices.len() != game.players().len() {
         return false;

@@ -1,5 +1,5 @@
 use Rattle.std.proofs.Common.{length}
-use Rattle.gf_form.proofs.tests.random.by_definition.by_plays.Given as goal
+use Rattle.gamefile.proofs.tests.forms.random.by_definition.by_plays.Given as goal
 
 abbrev pub decreases-loop-path : goal.decreases-loop-path
 decreases-loop-path l = length l.path.items

@@ -1,6 +1,6 @@
 use Rattle.std.proofs.Common.{ℕ, ◌<◌, ◌≤◌, get_or}
 use Rattle.gf_form.specs.Strategies.{action_counts}
-use Rattle.gf_form.proofs.tests.strategies.is_strategy.Given as goal
+use Rattle.gf_form.proofs.valid_choices.is_strategy.Given as goal
 
 abbrev pub invariant-loop-before : goal.invariant-loop-before
 invariant-loop-before l = (k : ℕ) → k < l.before

@@ -1,7 +1,7 @@
 //! Strategic forms of games, and games that have none. Tables of other games are files.
 
 use super::{BONUS, OVERFLOWING};
-use crate::{FormFault, table, table_reduced};
+use gf_form::{FormFault, table, table_reduced};
 use gf_nfg::{Table, write_nfg};
 use gf_tree::read_efg;
 use std::alloc::{AllocError, Global};

@@ -4,10 +4,9 @@
 mod by_definition;
 mod files;
 
-use super::strategies::are_strategies;
-use crate::{EvalFault, expected};
 use by_definition::{Spot, bottom_up, by_plays, spots};
 use files::{Random, random_choices, random_tree};
+use gf_form::{EvalFault, are_strategies, expected};
 use gf_fraction::Fraction;
 use gf_tree::{Game, read_efg};
 use std::alloc::{AllocError, Global};
