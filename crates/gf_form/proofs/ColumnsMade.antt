@@ -4,24 +4,24 @@ use Rattle.std.proofs.Common.{sym, ap, ◌∙◌, ◌++◌, arith, get_or, lengt
 use borrow.Author.Differences.{up}
 use Rattle.std.specs.Prelude.{unsigned_abs, ◌⊎◌}
 use Rattle.std.specs.Int.{◌∣◌}
-use Rattle.std.specs.List.{AllByRecursion, Contains}
+use Rattle.std.specs.List.{AllByRecursion}
 use Rattle.std.specs.List.Sorted.{IsPermutation}
 use Rattle.std.proofs.Math.Nat.{eq-or-lt_of_le, one-dvd}
 use Rattle.std.proofs.Math.Seq.{get_or-append_seam}
 use Rattle.std.proofs.lemmas.List.Elements.{All-from_recursion, recursion_from_All}
-use Rattle.std.proofs.lemmas.List.Sorted.{All-permutation, Contains-permutation}
+use Rattle.std.proofs.lemmas.List.Sorted.{All-permutation, IsPermutation-sym}
 use Rattle.gf_form.specs.SumsAtAll.{sums_at_all}
-use Rattle.gf_form.specs.KeptNodes.{AreKept, PaysNobody}
+use Rattle.gf_form.specs.KeptNodes.{paid_reached}
 use Rattle.gf_form.specs.OwnTerms.{AreOver, AreOwn, IsOver}
 use Rattle.gf_form.specs.LargeNodes.{AreCountsMet, count_met}
-use Rattle.gf_form.specs.Shares.{FitsAt, IsExactIfMet, scale, sum_of_shares}
+use Rattle.gf_form.specs.Shares.{FitsAt, IsExactIfMet, sum_of_shares}
 use Rattle.gf_form.proofs.OrderedShares.{bounds_permuted, shares_permuted}
-use Rattle.gf_form.proofs.StrategiesByNumber.{all_at}
 use Rattle.std.proofs.lemmas.List.{get_or-map, get_or_append_left, length-append, length-map}
 use Rattle.std.proofs.lemmas.List.{get_or_default, map-append}
 use Rattle.std.proofs.lemmas.Int.{fits_signed_from_abs, to_z-of_z}
 use Rattle.std.specs.Int.{w128}
 use Rattle.gf_fraction.specs.Ratio.{HasValue, IsFraction, IsWithin, Ratio}
+use Rattle.gf_tree.specs.Description.{SetKey}
 use Rattle.gf_tree.specs.Game.{Game, IsGame}
 use Rattle.gf_tree.specs.Spellable.{IsSpellable}
 use Rattle.gf_form.specs.PlayerColumns.{AreColumns, AreValuesSoFar, HasNone, IsColumn}
@@ -32,12 +32,11 @@ use Rattle.gf_form.proofs.PayoffsGiven.{are_payoffs, have_values}
 use Rattle.gf_fraction.specs.Rational.{zero_ratio}
 use Rattle.gf_fraction.proofs.AllElements.{all_both, all_parts}
 use Rattle.gf_fraction.proofs.LowestTerms.{one_fraction}
-use Rattle.gf_form.specs.Rows.{at_place}
+use Rattle.gf_form.specs.Rows.{ArePaid, at_place}
 use Rattle.gf_form.specs.Values.{value}
 use Rattle.gf_form.specs.declared.columns.Columns.{Columns}
 use Rattle.gf_form.specs.Demands.{steps_of}
 use Rattle.gf_form.specs.GameDigits.{HasDigits, digit_actions}
-use Rattle.gf_form.specs.ReachedNodes.{reached, root_path}
 use Rattle.gf_form.specs.Strategies.{all_choices, choices_by, full_profiles, strategies_at}
 use Rattle.gf_form.specs.Sums.{size_of_terms, sum_met}
 use Rattle.gf_form.specs.declared.digits.Digit.{Digit}
@@ -45,58 +44,40 @@ use Rattle.gf_form.specs.declared.digits.Digits.{Digits}
 use Rattle.gf_form.specs.declared.paths.Reached.{Reached}
 use Rattle.gf_form.specs.declared.terms.Term.{Term}
 use Rattle.gf_form.proofs.Choices.{length-all_choices}
-use Rattle.gf_form.proofs.ReachedValues.{reached_value}
+use Rattle.gf_form.proofs.KeptShares.{paid_value, paid_weighed}
+use Rattle.gf_form.proofs.WeightedPaths.{AreWeighed}
 use Rattle.gf_form.proofs.LargeNodes.{small_fit, small_sum}
 use Rattle.gf_form.proofs.SumsWithin.{sum_within}
 
--- the nodes that choices can reach in the game
-abbrev pub all_reached : Game → Digits → List Reached
-all_reached g d = reached g (choices_by g (map (λ own. own.items) d.steps.items)) root_path g.tree
+-- the nodes that pay somebody something in the game
+abbrev pub all_paid : List (List Ratio) → Game → Digits → List Reached
+all_paid rows g d = paid_reached rows g (choices_by g (map (λ own. own.items) d.steps.items))
 
--- ---- the nodes that pay nobody may be left out, and the others stand in any order
+-- the nodes stand in any order
+permuted_fits : (g : Game) (k den : ℕ) (steps choices : List ℕ) (kept sorted : List Reached)
+    → IsPermutation kept sorted → FitsAt g (suc k) den steps choices sorted
+    → FitsAt g (suc k) den steps choices kept
+permuted_fits g k den steps choices kept sorted order fits =
+    let exact = IsExactIfMet g (suc k) den steps choices in record {
+      den_above_zero = fits.den_above_zero;
+      den_within = fits.den_within;
+      exact = recursion_from_All exact kept
+          (All-permutation exact sorted kept (IsPermutation-sym kept sorted order)
+          (All-from_recursion exact sorted fits.exact));
+      within = subst (λ (n : ℕ). n < 2 ^ 127)
+          (bounds_permuted g (suc k) den steps choices kept sorted order) fits.within;
+    }
 
-at_once : {A : Type 0} (P : A → Type 0) (xs : List A) (x : A) → AllByRecursion P xs → Contains xs x
-    → P x
-at_once P xs x h in_xs =
-    subst P in_xs.2 (all_at P xs in_xs.0 x h in_xs.1)
-
-module _ (g : Game) (k den : ℕ) (steps choices : List ℕ) (kept sorted : List Reached)
-    (order : IsPermutation kept sorted)
-    (exact : AllByRecursion (IsExactIfMet g (suc k) den steps choices) sorted) where
-  pub all_exact : (all : List Reached) → AllByRecursion (λ (r : Reached). r.path.den ∣ den) all
-      → AllByRecursion (λ (r : Reached). Contains kept r ⊎ PaysNobody g r) all
-      → AllByRecursion (IsExactIfMet g (suc k) den steps choices) all
-  all_exact [] divides others = tt
-  all_exact (r ∷ rs) divides others =
-      (one others.0, all_exact rs divides.1 others.1)
-    where
-      one : Contains kept r ⊎ PaysNobody g r → IsExactIfMet g (suc k) den steps choices r
-      one (inl h) =
-          at_once (IsExactIfMet g (suc k) den steps choices) sorted r exact
-          (Contains-permutation kept sorted r order h)
-      one (inr h) = λ met. record {
-        path = divides.0;
-        pay = subst (λ (p : Ratio). p.den ∣ scale den r) (sym (h k)) (one-dvd (scale den r));
-      }
-
-kept_fits : (g : Game) (k den : ℕ) (steps choices : List ℕ) (all kept sorted : List Reached)
-    → AreKept g den all kept → IsPermutation kept sorted
-    → FitsAt g (suc k) den steps choices sorted → FitsAt g (suc k) den steps choices all
-kept_fits g k den steps choices all kept sorted are order fits = record {
-  den_above_zero = fits.den_above_zero;
-  den_within = fits.den_within;
-  exact = all_exact g k den steps choices kept sorted order fits.exact all are.divides are.others;
-  within = subst (λ (n : ℕ). n < 2 ^ 127)
-      (bounds_permuted g (suc k) den steps choices kept sorted order
-      ∙ are.bounds k steps choices) fits.within;
-}
-
-kept_sum : (g : Game) (k den : ℕ) (steps choices : List ℕ) (all kept sorted : List Reached)
-    → AreKept g den all kept → IsPermutation kept sorted
-    → sum_of_shares g (suc k) den steps choices sorted
-    ≡ sum_of_shares g (suc k) den steps choices all
-kept_sum g k den steps choices all kept sorted are order =
-    shares_permuted g (suc k) den steps choices kept sorted order ∙ are.sums k steps choices
+pub paid_over : (rows : List (List Ratio)) (g : Game) (steps : SetKey → ℕ) (den : ℕ)
+    (kept : List Reached) → kept ≡ paid_reached rows g steps
+    → AllByRecursion (λ (r : Reached). r.path.den ∣ den) kept → AreOver den kept
+paid_over rows g steps den kept is divide =
+    both kept divide (subst AreWeighed (sym is) (paid_weighed rows g steps))
+  where
+    both : (rs : List Reached) → AllByRecursion (λ (r : Reached). r.path.den ∣ den) rs
+        → AreWeighed rs → AreOver den rs
+    both [] h w = tt
+    both (r ∷ rs) h w = (record { divides = h.0; within = w.0 }, both rs h.1 w.1)
 
 pub permuted_over : (den : ℕ) (kept sorted : List Reached) → IsPermutation kept sorted
     → AreOver den kept → AreOver den sorted
@@ -129,12 +110,13 @@ no_count : {z : ℤ} {n : ℕ} → z ≡ pos n → z ≡ pos 0 → n ≡ 0
 no_count is none = omega (arith, ap up (sym is ∙ none))
 
 pub column_right : (g : Game) → IsGame g → IsSpellable g → (d : Digits) → HasDigits g d
-    → (place den : ℕ) (kept small large : List Reached) → AreKept g den (all_reached g d) kept
+    → (rows : List (List Ratio)) → ArePaid g rows → (place den : ℕ)
+    (kept small large : List Reached) → kept ≡ all_paid rows g d
     → IsPermutation kept (small ++ large) → (counts : List ℤ)
     → AreCountsMet (digit_actions d) large counts → (terms : List Term)
     → AreOwn g (suc place) den small terms → size_of_terms terms < 2 ^ 127 → (column : List ℤ)
     → column ≡ sums_at_all (digit_actions d) terms → IsColumn g counts (suc place) den column
-column_right g game spellable d digits place den kept small large are order counts met terms own
+column_right g game spellable d digits rows paid place den kept small large are order counts met terms own
     size column is =
     let steps = steps_of (digit_actions d) in
     let all = all_choices (digit_actions d) in
@@ -150,16 +132,17 @@ column_right g game spellable d digits place den kept small large are order coun
           ap (λ (c : List ℤ). get_or c q (pos 0)) is
           ∙ get_or-map (λ choices. sum_met steps choices terms) all q [] (pos 0) there in
           let sums : sum_met steps choices terms
-          ≡ sum_of_shares g (suc place) den steps choices (all_reached g d) =
+          ≡ sum_of_shares g (suc place) den steps choices (all_paid rows g d) =
           own.sums steps choices
           ∙ sym (small_sum g (suc place) den steps choices small large unmet)
-          ∙ kept_sum g place den steps choices (all_reached g d) kept (small ++ large) are order in
-          let v = reached_value g game spellable
+          ∙ shares_permuted g (suc place) den steps choices kept (small ++ large) order
+          ∙ ap (sum_of_shares g (suc place) den steps choices) are in
+          let v = paid_value g game spellable rows paid
           (choices_by g (map (λ own. own.items) d.steps.items))
           (choices_by g (strategies_at g (get_or (full_profiles g) q []))) (digit_actions d) choices
-          (digits.choices q less) (suc place) den
-          (kept_fits g place den steps choices (all_reached g d) kept (small ++ large) are order
-          (small_fit g (suc place) den steps choices small large unmet own.fits)) in
+          (digits.choices q less) place den
+          (subst (FitsAt g (suc place) den steps choices) are
+          (permuted_fits g place den steps choices kept (small ++ large) order (small_fit g (suc place) den steps choices small large unmet own.fits))) in
           record {
             within = omega (arith, ap unsigned_abs whole, sum_within steps choices terms, size);
             payoff = v.0;

@@ -37,7 +37,7 @@ spans_above (n ∷ faster) =
 below_next : (d n p r : ℕ) → d ≤ n → r < p → d * p + r < (n + 1) * p
 below_next d n p r h k = omega (arith, mul-le-mul_right p h, k)
 
-pack_below : (actions ds : List ℕ) → AreWithin actions ds → pack actions ds < product (spans actions)
+pub pack_below : (actions ds : List ℕ) → AreWithin actions ds → pack actions ds < product (spans actions)
 pack_below [] [] h = omega arith
 pack_below (n ∷ faster) (d ∷ ds) h =
     below_next d n (product (spans faster)) (pack faster ds) h.0 (pack_below faster ds h.1)

@@ -164,6 +164,14 @@ module _ (g : Game) (game : IsGame g) where
         some_action = known.some_action;
       }
 
+  within : (d : Digits) → AreMade counted d → product (spans (digit_actions d)) < 2 ^ 64
+  within d made = omega (
+    arith,
+    made.values,
+    values_at_digits counted,
+    ap (λ (counts : List ℕ). product (spans counts)) made.digit_actions_are,
+  )
+
   module _ (d : Digits) (made : AreMade counted d) (number : ℕ)
       (less : number < length (full_profiles g)) where
     abbrev profile : List (List ℕ)
@@ -197,6 +205,7 @@ module _ (g : Game) (game : IsGame g) where
         (choices_by g profile) (digit_actions d)
         (get_or (all_choices (digit_actions d)) number [])
     digits_are = record {
+      within = within d made;
       one_each = sym (AllZip-long (λ action count. (1 ≤ action) × (action ≤ count))
           (get_or (all_choices (digit_actions d)) number []) (digit_actions d) choice);
       some = λ place within. (choice_bounds (digit_actions d)
@@ -239,12 +248,7 @@ module _ (g : Game) (game : IsGame g) where
         ∙ sym (append-nil (at_digits counted (all_steps 1 counted)))
         ∙ all_steps_are counted [] 1 refl
         ∙ ap steps_of (append-nil (at_digits counted counted) ∙ sym made.digit_actions_are);
-    within = omega (
-      arith,
-      made.values,
-      values_at_digits counted,
-      ap (λ (counts : List ℕ). product (spans counts)) made.digit_actions_are,
-    );
+    within = within d made;
     as_many = ap product made.digit_actions_are
         ∙ product_at_digits counted (positive_for (players_of g)) ∙ as_many_choices;
     choices = λ number less. digits_are d made number less;

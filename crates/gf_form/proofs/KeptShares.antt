@@ -1,26 +1,25 @@
 -- The nodes that pay somebody something have all shares.
-use Rattle.std.proofs.Common.{◌≡◌, ◌⊎◌, inl, inr, ℕ, suc, ◌+◌, ◌*◌, Bool, true, false}
-use Rattle.std.proofs.Common.{List, [], ◌∷◌, length, refl, sym, ap, ◌∙◌, subst, arith, Option}
-use Rattle.std.proofs.Common.{Some, None}
-use Rattle.std.specs.Prelude.{ℤ, pos, ◌+ℤ◌, ◌*ℤ◌, ◌/◌, unsigned_abs, nat_lt, if◌then◌else◌, IfSome}
-use Rattle.std.specs.Int.{◌∣◌}
-use Rattle.std.specs.List.{AllByRecursion, Contains, filter}
+use Rattle.std.proofs.Common.{◌≡◌, ℕ, suc, ◌+◌, ◌*◌, ◌<◌, ◌≤◌, ◌^◌, Bool, true, false, List, [], ◌∷◌}
+use Rattle.std.proofs.Common.{length, refl, sym, ap, ◌∙◌, subst, arith, Some}
+use Rattle.std.specs.Prelude.{ℤ, pos, ◌+ℤ◌, ◌*ℤ◌, ◌/◌, unsigned_abs, nat_lt, if◌then◌else◌}
+use Rattle.std.specs.List.{AllByRecursion, filter}
 use Rattle.std.proofs.Math.IntN.{*ℤ-zero, zero-*ℤ, +ℤ_idl}
 use Rattle.std.proofs.lemmas.Bool.{ltb-false}
-use Rattle.gf_fraction.specs.Ratio.{Ratio}
+use Rattle.gf_fraction.specs.Ratio.{HasValue, IsFraction, Ratio}
 use Rattle.gf_fraction.specs.Rational.{zero_ratio}
-use Rattle.gf_tree.specs.Game.{Game}
-use Rattle.gf_tree.proofs.Uses.{Has, all_of_each, contains}
-use Rattle.gf_form.specs.Demands.{meets}
-use Rattle.gf_form.specs.OwnTerms.{AreOver, IsOver}
-use Rattle.gf_form.proofs.WeightedPaths.{AreWeighed, weighed}
-use Rattle.gf_form.specs.KeptNodes.{AreKept, AreThosePaid, PaysNobody, is_paid}
+use Rattle.gf_tree.specs.Description.{SetKey}
+use Rattle.gf_tree.specs.Game.{Game, IsGame}
+use Rattle.gf_tree.specs.Spellable.{IsSpellable}
+use Rattle.gf_form.specs.Demands.{meets, steps_of}
+use Rattle.gf_form.specs.KeptNodes.{is_paid, paid_reached}
 use Rattle.gf_form.specs.ReachedNodes.{reached, root_path}
 use Rattle.gf_form.specs.Rows.{ArePaid, at_place, row_at}
-use Rattle.gf_form.specs.Shares.{met_bounds, over, pay_at, scale, share, share_bound}
-use Rattle.gf_form.specs.Shares.{sum_of_shares}
-use Rattle.gf_form.specs.Strategies.{choices_by}
+use Rattle.gf_form.specs.Shares.{AreDigits, FitsAt, IsExactIfMet, met_bounds, over, pay_at, scale}
+use Rattle.gf_form.specs.Shares.{share, share_bound, sum_of_shares}
+use Rattle.gf_form.specs.Values.{value}
 use Rattle.gf_form.specs.declared.paths.Reached.{Reached}
+use Rattle.gf_form.proofs.ReachedValues.{reached_value}
+use Rattle.gf_form.proofs.WeightedPaths.{AreWeighed, IsWeighed, weighed}
 
 times_zero : (n : ℕ) → n * 0 ≡ 0
 times_zero n = omega arith
@@ -39,15 +38,7 @@ empty_row [] k h = refl
 empty_row (x ∷ row) k h =
     let none = ltb-false 0 (length (x ∷ row)) h in absurd (omega (arith, none))
 
-pub each_some : {A : Type 0} (o : Option A) (P Q : A → Type 0) → ((x : A) → P x → Q x)
-    → IfSome o P → IfSome o Q
-each_some None P Q f h = h
-each_some (Some x) P Q f h = f x h
-
 module _ (g : Game) (den : ℕ) (rows : List (List Ratio)) (are : ArePaid g rows) where
-  abbrev Divide : List Reached → Type 0
-  Divide rs = AllByRecursion (λ r. r.path.den ∣ den) rs
-
   nothing_paid : (r : Reached) → is_paid rows r ≡ false → (k : ℕ) → pay_at g (suc k) r ≡ zero_ratio
   nothing_paid r none k =
       sym (are.paid_is r.outcome k) ∙ empty_row (row_at rows r.outcome) k none
@@ -114,68 +105,67 @@ module _ (g : Game) (den : ℕ) (rows : List (List Ratio)) (are : ArePaid g rows
                 (no_bound r k (nothing_paid r e k)),
           )
 
-  kept_all : (P : Reached → Type 0) (rs : List Reached) → AllByRecursion P rs
-      → AllByRecursion P (filter (is_paid rows) rs)
-  kept_all P [] h = h
-  kept_all P (r ∷ rs) h = at (is_paid rows r) (kept_all P rs h.1)
+  kept_exact : (k : ℕ) (steps choices : List ℕ) (rs : List Reached)
+      → AllByRecursion (IsExactIfMet g (suc k) den steps choices) (filter (is_paid rows) rs)
+      → AllByRecursion (IsExactIfMet g (suc k) den steps choices) rs
+  kept_exact k steps choices [] h = h
+  kept_exact k steps choices (r ∷ rs) h =
+      at (is_paid rows r) refl h (kept_exact k steps choices rs)
     where
-      at : (b : Bool) → AllByRecursion P (filter (is_paid rows) rs)
-          → AllByRecursion P (if b then r ∷ filter (is_paid rows) rs else filter (is_paid rows) rs)
-      at true rest = (h.0, rest)
-      at false rest = rest
+      at : (b : Bool) → is_paid rows r ≡ b
+          → AllByRecursion (IsExactIfMet g (suc k) den steps choices)
+          (if b then r ∷ filter (is_paid rows) rs else filter (is_paid rows) rs)
+          → (AllByRecursion (IsExactIfMet g (suc k) den steps choices) (filter (is_paid rows) rs)
+          → AllByRecursion (IsExactIfMet g (suc k) den steps choices) rs)
+          → AllByRecursion (IsExactIfMet g (suc k) den steps choices) (r ∷ rs)
+      at true e exact rest = (exact.0, rest exact.1)
+      at false e exact rest =
+          (λ met pays. absurd (pays (nothing_paid r e k)), rest exact)
 
-  both_hold : (rs : List Reached) → Divide rs → AreWeighed rs → AreOver den rs
-  both_hold [] h k = tt
-  both_hold (r ∷ rs) h k =
-      (record { divides = h.0; within = k.0 }, both_hold rs h.1 k.1)
-
-  kept_among : (rs : List Reached) (r : Reached) → Has rs r → is_paid rows r ≡ true
-      → Has (filter (is_paid rows) rs) r
-  kept_among [] r h paid = h
-  kept_among (x ∷ rs) r h paid =
-      at (is_paid rows x) refl h (λ later. kept_among rs r later paid)
-    where
-      at : (b : Bool) → is_paid rows x ≡ b → Has (x ∷ rs) r
-          → (Has rs r → Has (filter (is_paid rows) rs) r)
-          → Has (if b then x ∷ filter (is_paid rows) rs else filter (is_paid rows) rs) r
-      at true e (inl same) rest = inl same
-      at true e (inr later) rest = inr (rest later)
-      at false e (inl same) rest =
-          let no : is_paid rows r ≡ false =
-          subst (λ (x : Reached). is_paid rows x ≡ false) same e in
-          let both : true ≡ false = sym paid ∙ no in
-          absurd cc
-      at false e (inr later) rest = rest later
-
-  pub are_kept : (all : List Reached) → Divide all → AreWeighed all
-      → AreKept g den all (filter (is_paid rows) all)
-  are_kept all h w = record {
-    divides = h;
-    kept_over = kept_all (λ r. IsOver den r.path) all (both_hold all h w);
-    others =
-        all_of_each (λ r. Contains (filter (is_paid rows) all) r
-        ⊎ PaysNobody g r) all
-        (λ r among. at r among (is_paid rows r) refl);
-    sums = λ k steps choices. kept_shares k steps choices all;
-    bounds = λ k steps choices. kept_bounds k steps choices all;
+  pub kept_fits : (k : ℕ) (steps choices : List ℕ) (rs : List Reached)
+      → FitsAt g (suc k) den steps choices (filter (is_paid rows) rs)
+      → FitsAt g (suc k) den steps choices rs
+  kept_fits k steps choices rs fits = record {
+    den_above_zero = fits.den_above_zero;
+    den_within = fits.den_within;
+    exact = kept_exact k steps choices rs fits.exact;
+    within = omega (arith, fits.within, kept_bounds k steps choices rs);
   }
-    where
-      at : (r : Reached) → Has all r → (b : Bool) → is_paid rows r ≡ b
-          → Contains (filter (is_paid rows) all) r
-          ⊎ ((k : ℕ) → pay_at g (suc k) r ≡ zero_ratio)
-      at r among true e =
-          inl (contains (filter (is_paid rows) all) r (kept_among all r among e))
-      at r among false e = inr (nothing_paid r e)
 
-pub shares_kept : (g h : Game) (den : ℕ) (rows : List (List Ratio)) (steps : List (List ℕ))
-    (kept : List Reached)
-    → AreThosePaid den rows (reached h (choices_by h steps) root_path h.tree) kept
-    → ArePaid g rows → g ≡ h
-    → AreKept g den (reached g (choices_by g steps) root_path g.tree) kept
-shares_kept g h den rows steps kept those are same =
-    let all = reached g (choices_by g steps) root_path g.tree in
-    let own = subst (λ (h : Game). AreThosePaid den rows
-    (reached h (choices_by h steps) root_path h.tree) kept) (sym same) those in
-    subst (λ (kept : List Reached). AreKept g den all kept) (sym own.kept_is)
-    (are_kept g den rows are all own.divides
-    (weighed g (choices_by g steps) g.tree root_path (omega arith)))
+-- The value of the game for a player, if over the denominator no share has a remainder of the nodes
+-- which pay somebody something and which the choices reach.
+pub paid_value : (g : Game) → IsGame g → IsSpellable g → (rows : List (List Ratio))
+    → ArePaid g rows → (steps choose : SetKey → ℕ) (actions choices : List ℕ)
+    → AreDigits g steps choose actions choices → (k den : ℕ)
+    → FitsAt g (suc k) den (steps_of actions) choices (paid_reached rows g steps)
+    → (v : Ratio) × (value g choose (suc k) g.tree ≡ Some v) × IsFraction v
+    × HasValue v (sum_of_shares g (suc k) den (steps_of actions) choices
+    (paid_reached rows g steps)) den
+paid_value g game spellable rows are steps choose actions choices digits k den fits =
+    let all = reached g steps root_path g.tree in
+    let v = reached_value g game spellable steps choose actions choices digits (suc k) den
+    (kept_fits g den rows are k (steps_of actions) choices all fits) in (
+      v.0,
+      v.1,
+      v.2,
+      subst (λ (z : ℤ). HasValue v.0 z den)
+          (sym (kept_shares g den rows are k (steps_of actions) choices all)) v.3,
+    )
+
+-- ---- the bounds of the nodes that are paid
+
+kept_all : (P : Reached → Type 0) (rows : List (List Ratio)) (rs : List Reached)
+    → AllByRecursion P rs → AllByRecursion P (filter (is_paid rows) rs)
+kept_all P rows [] h = h
+kept_all P rows (r ∷ rs) h = at (is_paid rows r) (kept_all P rows rs h.1)
+  where
+    at : (b : Bool) → AllByRecursion P (filter (is_paid rows) rs)
+        → AllByRecursion P (if b then r ∷ filter (is_paid rows) rs else filter (is_paid rows) rs)
+    at true rest = (h.0, rest)
+    at false rest = rest
+
+pub paid_weighed : (rows : List (List Ratio)) (g : Game) (steps : SetKey → ℕ)
+    → AreWeighed (paid_reached rows g steps)
+paid_weighed rows g steps =
+    kept_all (λ r. IsWeighed r.path) rows (reached g steps root_path g.tree)
+    (weighed g steps g.tree root_path (omega arith))

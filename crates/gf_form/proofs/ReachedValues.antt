@@ -1,9 +1,8 @@
 -- The value of a tree is the sum of the shares of the nodes that choices reach.
 use Rattle.std.proofs.Common.{◌≡◌, ℕ, ℤ, zero, suc, pos, ◌+◌, ◌*◌, ◌/◌, ◌^◌, ◌<◌, ◌≤◌, Bool, true}
 use Rattle.std.proofs.Common.{false, List, ◌∷◌, ◌++◌, Option, Some, None, MatchOption, length}
-use Rattle.std.proofs.Common.{get_or, set, refl, ap, sym, subst, ◌∙◌, arith}
+use Rattle.std.proofs.Common.{get_or, set, refl, ap, sym, subst, ◌∙◌, arith, inr}
 use Rattle.std.specs.Prelude.{◌*ℤ◌, ◌+ℤ◌, ◌==◌, ◌&&◌, unsigned_abs, option_map, if◌then◌else◌}
-use Rattle.std.specs.Int.{◌∣◌}
 use Rattle.std.specs.List.{AllByRecursion}
 use Rattle.std.proofs.lemmas.Bool.{and_from, eq-eqb, eqb-false, eqb-true, ne_eqb}
 use Rattle.std.proofs.Math.IntN.{*ℤ_comm}
@@ -23,7 +22,7 @@ use Rattle.gf_form.specs.Demands.{meets, steps_of}
 use Rattle.gf_form.specs.Payoff.{payoff_at}
 use Rattle.gf_form.specs.Program.{paid_at_node}
 use Rattle.gf_form.specs.ReachedNodes.{at_least_one, by_action, by_any, by_chance, by_choice}
-use Rattle.gf_form.specs.ReachedNodes.{by_lot, demanded, over_set, reached, root_path}
+use Rattle.gf_form.specs.ReachedNodes.{by_lot, demanded, has_room, over_set, reached, root_path}
 use Rattle.gf_form.specs.Shares.{AreDigits, FitsAt, IsExactIfMet, met_bounds}
 use Rattle.gf_form.specs.Shares.{sum_of_shares}
 use Rattle.gf_form.specs.Values.{chance_value, chances_at, child_value, value, value_over}
@@ -33,21 +32,27 @@ use Rattle.gf_form.proofs.ChanceSigns.{chance_size}
 use Rattle.gf_form.proofs.DemandDigits.{met, met_digit, no_demands, none_met, none_pack, none_within}
 use Rattle.gf_form.proofs.DemandDigits.{within_length}
 use Rattle.gf_form.proofs.Denominators.{payoff_fraction, probability_fraction}
-use Rattle.gf_form.proofs.OverOneDenominator.{quotient_above, quotient_le, quotient_of_product}
 use Rattle.gf_form.proofs.ProgramRuns.{paid_is}
 use Rattle.gf_form.proofs.ShareSums.{bounds_append}
 use Rattle.gf_form.proofs.UnmetShares.{HasDigits, IsFree, any_unmet, chosen_digits, digit_of}
 use Rattle.gf_form.proofs.UnmetShares.{digit_there, meets_digits, met_with, set_there, unmet}
-use Rattle.gf_form.proofs.ValuedNodes.{IsAdded, IsValued, at_least, child_added, from_nothing}
-use Rattle.gf_form.proofs.ValuedNodes.{leaf_valued, move_valued, next_limit, next_sum, no_child}
-use Rattle.gf_form.proofs.ValuedNodes.{valued_before, valued_behind}
+use Rattle.gf_form.proofs.ValuedNodes.{IsAdded, IsPart, IsValued, at_least, child_added}
+use Rattle.gf_form.proofs.ValuedNodes.{from_nothing, leaf_valued, move_valued, next_limit}
+use Rattle.gf_form.proofs.ValuedNodes.{next_sum, no_child, part_value, valued_before, valued_behind}
+use Rattle.gf_form.proofs.ValuedNodes.{valued_known}
 use Rattle.gf_form.proofs.ValuesComputed.{zero_fraction}
 
 product_above : (m n : ℕ) → 1 ≤ m → 1 ≤ n → 1 ≤ m * n
 product_above m n h k = omega (arith, h, le-mul_of_pos_right m k)
 
-zero_value : (s : ℕ) → HasValue zero_ratio (pos 0) s
-zero_value s = let none : 0 * s ≡ 0 = omega arith in ap pos none
+bound_above : (path : Path) (c : Ratio) → 1 ≤ path.bound → 1 ≤ (by_chance path c).bound
+bound_above path c some = by (has_room path c)
+  where
+    by : (room : Bool)
+        → 1 ≤ (if room then path.bound * at_least_one (unsigned_abs c.num) else 1)
+    by true = product_above path.bound (at_least_one (unsigned_abs c.num)) some
+        (at_least (unsigned_abs c.num)).1
+    by false = omega arith
 
 module _ (g : Game) (game : IsGame g) (spellable : IsSpellable g) (steps choose : SetKey → ℕ)
     (actions choices : List ℕ) (digits : AreDigits g steps choose actions choices)
@@ -59,12 +64,12 @@ module _ (g : Game) (game : IsGame g) (spellable : IsSpellable g) (steps choose 
   bounds rs = met_bounds g player den (steps_of actions) choices rs
 
   abbrev Valued : Option Ratio → Path → List Reached → Type 0
-  Valued o path rs = IsValued g player den (steps_of actions) choices o path.weight path.bound
-      (den / path.den) rs
+  Valued o path rs = IsValued g player den den_above den_within (steps_of actions) choices o
+      path.weight path.bound path.den rs
 
   abbrev Added : Option Ratio → ℤ → Path → List Reached → Type 0
-  Added o start path rs = IsAdded g player den (steps_of actions) choices o start path.weight
-      path.bound (den / path.den) rs
+  Added o start path rs = IsAdded g player den den_above den_within (steps_of actions) choices o
+      start path.weight path.bound path.den rs
 
   -- where these nodes fit
   abbrev IfFits : Option Ratio → Path → List Reached → Type 0
@@ -80,11 +85,6 @@ module _ (g : Game) (game : IsGame g) (spellable : IsSpellable g) (steps choose 
       → meets (steps_of actions) choices path.demands ≡ true
   demands_met path ds is =
       meets_digits g steps choose actions choices digits path ds is.has ∙ is.met
-
-  root_exact : (t : Tree Node) (path : Path)
-      → meets (steps_of actions) choices path.demands ≡ true
-      → AreExact (reached g steps path t) → path.den ∣ den
-  root_exact (branch n ts) path met exact = (exact.0 met).path
 
   parts : (xs ys : List Reached) → AreExact (xs ++ ys) → AreExact xs × AreExact ys
   parts xs ys h =
@@ -168,7 +168,7 @@ module _ (g : Game) (game : IsGame g) (spellable : IsSpellable g) (steps choose 
 
   -- a node of this set, with what is below it
   node_valued : (n : Node) (ts : Trees Node) (path : Path) (ds : List ℕ) → IsMet path ds
-      → ((key : SetKey) → n.set ≡ Some key → key.player ≡ 0 → path.den ∣ den
+      → ((key : SetKey) → n.set ≡ Some key → key.player ≡ 0
       → IfFits (chance_value g choose player (chances_at g n) 1 (Some zero_ratio) ts) path
       (by_lot g steps path (chances_at g n) 1 ts))
       → ((position : ℕ) → 1 ≤ position → position ≤ count ts
@@ -189,15 +189,14 @@ module _ (g : Game) (game : IsGame g) (spellable : IsSpellable g) (steps choose 
       then by_any g steps path (steps key) 1 ts
       else by_action g steps path (demanded path.demands (steps key) (count ts)) ts))
   node_valued n ts path ds is lot action any None at h exact limit =
-      leaf_valued g player den (steps_of actions) choices
+      leaf_valued g player den den_above den_within (steps_of actions) choices
       (record { path = path; outcome = paid_at_node g n }) (payoff_at g player n)
       (paid_is g player n) (own_fraction n) (exact.0 (demands_met path ds is)) (demands_met path ds is)
   node_valued n ts path ds is lot action any (Some key) at h exact limit =
-      move_valued g player den (steps_of actions) choices
+      move_valued g player den den_above den_within (steps_of actions) choices
       (record { path = path; outcome = paid_at_node g n }) (payoff_at g player n)
       (paid_is g player n) (own_fraction n) (exact.0 (demands_met path ds is)) (demands_met path ds is)
-      _ _ is.bound_above (quotient_above path.den den den_above (exact.0 (demands_met path ds is)).path)
-      (omega (arith, den_within, quotient_le path.den den den_above (exact.0 (demands_met path ds is)).path)) limit
+      _ _ is.bound_above limit
       (by (key.player == 0) refl exact.1 (omega (arith, limit)))
     where
       by : (b : Bool) → (key.player == 0) ≡ b
@@ -210,7 +209,6 @@ module _ (g : Game) (game : IsGame g) (spellable : IsSpellable g) (steps choose 
           then by_any g steps path (steps key) 1 ts
           else by_action g steps path (demanded path.demands (steps key) (count ts)) ts)
       by true chance = lot key at (eqb-true key.player 0 chance)
-          (exact.0 (demands_met path ds is)).path
       by false other =
           let personal = eqb-false key.player 0 other in
           let set = set_there g key (count ts) h in
@@ -235,11 +233,11 @@ module _ (g : Game) (game : IsGame g) (spellable : IsSpellable g) (steps choose 
         → IfFits (value g choose player t) path (reached g steps path t)
     valued (branch n ts) path ds children is =
         node_valued n ts path ds is
-        (λ key at chance divides exact limit.
-        from_nothing g player den (steps_of actions) choices _ path.weight path.bound
-        (den / path.den) _
-        (lot_valued ts n key 1 zero_ratio (pos 0) path ds at chance children.1 is divides
-        zero_fraction (zero_value (den / path.den)) exact (omega (arith, limit))))
+        (λ key at chance exact limit.
+        from_nothing g player den den_above den_within (steps_of actions) choices _ path.weight
+        path.bound path.den _
+        (lot_valued ts n key 1 zero_ratio (pos 0) path ds at chance children.1 is zero_fraction
+        (inr (refl, refl)) exact (omega (arith, limit))))
         (λ position some fits. action_valued ts position path ds some fits children.1 is)
         (λ step place choice free chosen some fits.
         any_valued ts 1 choice path ds step (count ts) place choice some fits chosen
@@ -249,17 +247,16 @@ module _ (g : Game) (game : IsGame g) (spellable : IsSpellable g) (steps choose 
     lot_valued : (ts : Trees Node) (n : Node) (key : SetKey) (k : ℕ) (sum : Ratio) (start : ℤ)
         (path : Path) (ds : List ℕ)
         → n.set ≡ Some key → key.player ≡ 0 → AllByRecursion (HasChildren g) (flatten_all ts)
-        → IsMet path ds → path.den ∣ den → IsFraction sum → HasValue sum start (den / path.den)
+        → IsMet path ds → IsFraction sum → IsPart den den_above den_within path.den sum start
         → AreExact (by_lot g steps path (chances_at g n) k ts)
         → unsigned_abs start * path.bound + bounds (by_lot g steps path (chances_at g n) k ts)
         < 2 ^ 127
         → Added (chance_value g choose player (chances_at g n) k (Some sum) ts) start path
         (by_lot g steps path (chances_at g n) k ts)
-    lot_valued none n key k sum start path ds at chance children is divides f starts exact limit =
-        no_child g player den (steps_of actions) choices sum start path.weight path.bound
-        (den / path.den) f starts
-    lot_valued (more t ts) n key k sum start path ds at chance children is divides f starts exact
-        limit =
+    lot_valued none n key k sum start path ds at chance children is f starts exact limit =
+        no_child g player den den_above den_within (steps_of actions) choices sum start path.weight
+        path.bound path.den f starts
+    lot_valued (more t ts) n key k sum start path ds at chance children is f starts exact limit =
         let c = chances_at g n k in
         let on = by_chance path c in
         let xs = reached g steps on t in
@@ -267,30 +264,27 @@ module _ (g : Game) (game : IsGame g) (spellable : IsSpellable g) (steps choose 
         let both = all_parts (HasChildren g) (flatten t) (flatten_all ts) children in
         let exacts = parts xs ys exact in
         let lists = bounds_append g player den (steps_of actions) choices xs ys in
-        let child = valued t on ds both.0 (record {
+        let child = valued_known g player den den_above den_within (steps_of actions) choices
+        (has_room path c) (value g choose player t) (path.weight * unsigned_abs c.num)
+        (path.bound * at_least_one (unsigned_abs c.num)) (path.den * c.den) xs
+        (valued t on ds both.0 (record {
           has = is.has;
           met = is.met;
-          bound_above = product_above path.bound (at_least_one (unsigned_abs c.num)) is.bound_above
-              (at_least (unsigned_abs c.num)).1;
-        }) exacts.0 (omega (arith, limit, lists)) in
-        let some = quotient_above path.den den den_above divides in
-        let within : den / path.den < 2 ^ 127 =
-        omega (arith, den_within, quotient_le path.den den den_above divides) in
-        let scale = quotient_of_product path.den c.den den den_above
-        (root_exact t on (demands_met path ds is) exacts.0) in
+          bound_above = bound_above path c is.bound_above;
+        }) exacts.0 (omega (arith, limit, lists))) in
         let fc = chance_fraction n k in
         let sign = chance_size g game n key k at chance in
-        let next = next_sum g player den (steps_of actions) choices c fc sign sum start f path.weight
-        path.bound (den / path.den) (den / (path.den * c.den)) starts is.bound_above some within
-        scale (value g choose player t) xs ys child limit in
-        let rest = next_limit g player den (steps_of actions) choices c fc sign sum start f
-        path.weight path.bound (den / path.den) (den / (path.den * c.den)) starts is.bound_above some
-        within scale (value g choose player t) xs ys child limit in
+        let next = next_sum g player den den_above den_within (steps_of actions) choices c fc sign
+        sum start f path.weight path.bound path.den starts is.bound_above (value g choose player t)
+        xs ys child limit in
+        let rest = next_limit g player den den_above den_within (steps_of actions) choices c fc sign
+        sum start f path.weight path.bound path.den starts is.bound_above (value g choose player t)
+        xs ys child limit in
         let later = lot_valued ts n key (k + 1) next.0 (start +ℤ c.num *ℤ child.amount) path ds at
-        chance both.1 is divides next.2 next.3 exacts.1 rest in
-        child_added g player den (steps_of actions) choices c fc sign sum start f path.weight
-        path.bound (den / path.den) (den / (path.den * c.den)) starts is.bound_above some within
-        scale (value g choose player t) xs ys child limit _ (rw next.1 later)
+        chance both.1 is next.2 next.3 exacts.1 rest in
+        child_added g player den den_above den_within (steps_of actions) choices c fc sign sum start
+        f path.weight path.bound path.den starts is.bound_above (value g choose player t) xs ys child
+        limit _ (rw next.1 later)
 
     action_valued : (ts : Trees Node) (position : ℕ) (path : Path) (ds : List ℕ) → 1 ≤ position
         → position ≤ count ts → AllByRecursion (HasChildren g) (flatten_all ts) → IsMet path ds
@@ -329,13 +323,13 @@ module _ (g : Game) (game : IsGame g) (spellable : IsSpellable g) (steps choose 
         let with = met_with g steps choose actions choices digits ds step m place k is.has.1 free
         above in
         let child = valued t on (set ds place k) both.0 (record {
-          has = chosen_digits actions ds path step m place k is.has free (omega (arith, all));
+          has = chosen_digits actions ds path step m place k digits.within is.has free (omega (arith, all));
           met = with ∙ and_from (met choices ds) (k == get_or choices place 0) is.met
               (eq-eqb k (get_or choices place 0) same);
           bound_above = is.bound_above;
         }) exacts.0 (omega (arith, limit, lists)) in
-        valued_before g player den (steps_of actions) choices _ path.weight path.bound
-        (den / path.den) xs ys child
+        valued_before g player den den_above den_within (steps_of actions) choices _ path.weight
+        path.bound path.den xs ys child
         (any_unmet g steps choose actions choices digits player den ts (k + 1) path ds step m place
         both.1 is.has free (omega arith) (omega (arith, all))
         (λ j from. not_chosen path ds step m place j is free (omega (arith, from))
@@ -348,10 +342,10 @@ module _ (g : Game) (game : IsGame g) (spellable : IsSpellable g) (steps choose 
         let both = all_parts (HasChildren g) (flatten t) (flatten_all ts) children in
         let exacts = parts xs ys exact in
         let lists = bounds_append g player den (steps_of actions) choices xs ys in
-        valued_behind g player den (steps_of actions) choices _ path.weight path.bound
-        (den / path.den) xs ys
+        valued_behind g player den den_above den_within (steps_of actions) choices _ path.weight
+        path.bound path.den xs ys
         (unmet g steps choose actions choices digits player den t on (set ds place k) both.0
-        (chosen_digits actions ds path step m place k is.has free (omega (arith, all)))
+        (chosen_digits actions ds path step m place k digits.within is.has free (omega (arith, all)))
         (not_chosen path ds step m place k is free above (λ e. omega (arith, e, at, chosen))))
         (any_valued ts (k + 1) (suc position) path ds step m place choice (omega arith)
         (omega (arith, fits)) chosen (omega (arith, at)) (omega arith) (omega (arith, all)) free
@@ -379,5 +373,6 @@ reached_value g game spellable steps choose actions choices digits player den fi
       whole.value_is,
       whole.fraction,
       subst (λ n. HasValue whole.ratio n den) sum
-          (subst (HasValue whole.ratio whole.amount) over whole.amount_is),
+          (subst (HasValue whole.ratio whole.amount) over (part_value den fits.den_above_zero
+          fits.den_within 1 whole.ratio whole.amount whole.amount_is)),
     )

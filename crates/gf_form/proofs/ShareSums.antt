@@ -58,7 +58,7 @@ module _ (g : Game) (player den : ℕ) (steps choices : List ℕ) where
   exact_if_met : (rs : List Reached) → AllByRecursion (IsExact g player den) rs
       → AllByRecursion (IsExactIfMet g player den steps choices) rs
   exact_if_met [] h = tt
-  exact_if_met (r ∷ rs) h = (λ reached. h.0, exact_if_met rs h.1)
+  exact_if_met (r ∷ rs) h = (λ reached pays. h.0, exact_if_met rs h.1)
 
   pub fits_at : (rs : List Reached) → Fits g player den rs
       → FitsAt g player den steps choices rs

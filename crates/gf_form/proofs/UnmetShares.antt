@@ -1,10 +1,12 @@
 -- The digits of the sets along a path, and that nothing is added where choices do not meet them.
-use Rattle.std.proofs.Common.{◌≡◌, ℕ, zero, suc, pos, ◌+◌, ◌*◌, ◌<◌, ◌≤◌, Bool, true, false, List}
+use Rattle.std.proofs.Common.{◌≡◌, ℕ, zero, suc, pos, ◌+◌, ◌*◌, ◌%◌, ◌^◌, ◌<◌, ◌≤◌, Bool, true}
+use Rattle.std.proofs.Common.{false, List}
 use Rattle.std.proofs.Common.{◌++◌, Option, Some, None, MatchOption, length, get_or, set, refl}
 use Rattle.std.proofs.Common.{ap, sym, subst, ◌∙◌, arith}
 use Rattle.std.specs.Prelude.{ℤ, ◌+ℤ◌, ◌==◌, ◌&&◌, option_map, if◌then◌else◌}
 use Rattle.std.specs.List.{AllByRecursion}
 use Rattle.std.proofs.lemmas.Bool.{eqb-false, eqb-true}
+use Rattle.std.proofs.Math.Nat.{mod-eq_of_lt}
 use Rattle.gf_fraction.proofs.AllElements.{all_parts}
 use Rattle.gf_fraction.specs.Ratio.{Ratio}
 use Rattle.gf_tree.specs.Tree.{Tree, Trees, count}
@@ -13,7 +15,8 @@ use Rattle.gf_tree.specs.Tree.Trees.{none, more}
 use Rattle.gf_tree.specs.PrefixOrder.{flatten, flatten_all}
 use Rattle.gf_tree.specs.Description.{InformationSet, SetKey}
 use Rattle.gf_tree.specs.Game.{Game, HasChildren, Node, set_at}
-use Rattle.gf_form.specs.Demands.{meets, steps_of}
+use Rattle.gf_nfg.specs.Profiles.{product}
+use Rattle.gf_form.specs.Demands.{meets, spans, steps_of}
 use Rattle.gf_form.specs.Program.{paid_at_node}
 use Rattle.gf_form.specs.ReachedNodes.{by_action, by_any, by_chance, by_choice, by_lot, demanded}
 use Rattle.gf_form.specs.ReachedNodes.{over_set, reached}
@@ -22,6 +25,7 @@ use Rattle.gf_form.specs.Values.{chances_at}
 use Rattle.gf_form.specs.declared.paths.Path.{Path}
 use Rattle.gf_form.specs.declared.paths.Reached.{Reached}
 use Rattle.gf_form.proofs.DemandDigits.{AreWithin, digit_is, meets_is, met, met_set, pack}
+use Rattle.gf_form.proofs.DemandDigits.{pack_below}
 use Rattle.gf_form.proofs.DemandDigits.{set_pack, set_within, within_length}
 use Rattle.gf_form.proofs.ShareSums.{shares_append, unmet_first}
 
@@ -56,12 +60,18 @@ digit_there actions choices ds path step count choice has d =
     ∙ digit_is actions ds d.place has.1 d.within
 
 pub chosen_digits : (actions ds : List ℕ) (path : Path) (step count place k : ℕ)
-    → HasDigits actions path ds → IsFree actions ds step count place → k ≤ count
+    → product (spans actions) < 2 ^ 64 → HasDigits actions path ds
+    → IsFree actions ds step count place → k ≤ count
     → HasDigits actions (by_choice path step k) (set ds place k)
-chosen_digits actions ds path step count place k has free le = (
-  (λ i. has.0 i + k * sym free.step_is i) ∙ set_pack actions ds place k has.1 free.within free.free,
-  set_within actions ds place k has.1 (omega (arith, le, free.actions_are)),
-)
+chosen_digits actions ds path step count place k small has free le =
+    let within = set_within actions ds place k has.1 (omega (arith, le, free.actions_are)) in
+    let more : path.demands + k * step ≡ pack actions (set ds place k) =
+    (λ i. has.0 i + k * sym free.step_is i)
+    ∙ set_pack actions ds place k has.1 free.within free.free in (
+      ap (λ (n : ℕ). n % 2 ^ 64) more
+          ∙ mod-eq_of_lt (omega (arith, pack_below actions (set ds place k) within, small)),
+      within,
+    )
 
 module _ (g : Game) (steps choose : SetKey → ℕ) (actions choices : List ℕ)
     (digits : AreDigits g steps choose actions choices) where
@@ -206,7 +216,7 @@ module _ (g : Game) (steps choose : SetKey → ℕ) (actions choices : List ℕ)
           both_nothing (reached g steps (by_choice path step k) t)
           (by_any g steps path step (k + 1) ts)
           (unmet t (by_choice path step k) (set ds place k) both.0
-          (chosen_digits actions ds path step m place k has free (omega (arith, fits)))
+          (chosen_digits actions ds path step m place k digits.within has free (omega (arith, fits)))
           (missed k (omega arith)))
           (any_unmet ts (k + 1) path ds step m place both.1 has free (omega arith)
           (omega (arith, fits)) (λ j from. missed j (omega (arith, from))))

@@ -1,6 +1,6 @@
 -- The weight of a path is within its bound, which counts 1 for each probability of zero.
-use Rattle.std.proofs.Common.{ℕ, zero, suc, ◌+◌, ◌≤◌, Bool, true, false, List}
-use Rattle.std.proofs.Common.{Option, Some, None}
+use Rattle.std.proofs.Common.{ℕ, zero, suc, ◌+◌, ◌*◌, ◌≤◌, Bool, true, false, List, Option, Some}
+use Rattle.std.proofs.Common.{None, arith}
 use Rattle.std.specs.Prelude.{◌==◌, if◌then◌else◌, unsigned_abs}
 use Rattle.std.specs.List.{AllByRecursion}
 use Rattle.std.proofs.Math.Nat.{mul-le-mul}
@@ -12,7 +12,7 @@ use Rattle.gf_tree.specs.Tree.Trees.{none, more}
 use Rattle.gf_tree.specs.Description.{SetKey}
 use Rattle.gf_tree.specs.Game.{Game, Node}
 use Rattle.gf_form.specs.ReachedNodes.{by_action, by_any, by_chance, by_choice, by_lot, demanded}
-use Rattle.gf_form.specs.ReachedNodes.{over_set, reached}
+use Rattle.gf_form.specs.ReachedNodes.{at_least_one, has_room, over_set, reached}
 use Rattle.gf_form.specs.Values.{chances_at}
 use Rattle.gf_form.specs.declared.paths.Path.{Path}
 use Rattle.gf_form.specs.declared.paths.Reached.{Reached}
@@ -25,8 +25,15 @@ abbrev pub AreWeighed : List Reached → Type 0
 AreWeighed rs = AllByRecursion (λ r. IsWeighed r.path) rs
 
 chance_weighed : (path : Path) (chance : Ratio) → IsWeighed path → IsWeighed (by_chance path chance)
-chance_weighed path chance h =
-    mul-le-mul h (at_least (unsigned_abs chance.num)).0
+chance_weighed path chance h = by (has_room path chance)
+  where
+    size : ℕ
+    size = unsigned_abs chance.num
+
+    by : (room : Bool) → (if room then path.weight * size else 0)
+        ≤ (if room then path.bound * at_least_one size else 1)
+    by true = mul-le-mul h (at_least size).0
+    by false = omega arith
 
 either : (b : Bool) (xs ys : List Reached) → AreWeighed xs → AreWeighed ys
     → AreWeighed (if b then xs else ys)

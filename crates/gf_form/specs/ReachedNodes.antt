@@ -1,7 +1,7 @@
 -- The nodes of a tree that choices can reach, in prefix order, each with what the path to it asks for.
 -- A set that is met again below itself goes on with the action that is demanded there.
-use Rattle.std.specs.Prelude.{ℕ, suc, zero, ◌+◌, ◌*◌, ◌/◌, ◌%◌, ◌==◌, List, [], ◌∷◌, ◌++◌, Option}
-use Rattle.std.specs.Prelude.{Some, None, unsigned_abs, if◌then◌else◌}
+use Rattle.std.specs.Prelude.{ℕ, suc, zero, ◌+◌, ◌*◌, ◌/◌, ◌%◌, ◌^◌, ◌==◌, ◌&&◌, Bool, List, [], ◌∷◌}
+use Rattle.std.specs.Prelude.{◌++◌, Option, Some, None, nat_lt, unsigned_abs, if◌then◌else◌}
 use Rattle.gf_fraction.specs.Ratio.{Ratio}
 use Rattle.gf_tree.specs.Tree.{Tree, Trees, count}
 use Rattle.gf_tree.specs.Tree.Tree.{branch}
@@ -16,22 +16,30 @@ use Rattle.gf_form.specs.declared.paths.Reached.{Reached}
 abbrev pub at_least_one : ℕ → ℕ
 at_least_one n = if n == 0 then 1 else n
 
--- on by an action of this probability
+-- whether the numbers of a path have room behind an action of this probability
+abbrev pub has_room : Path → Ratio → Bool
+has_room path chance =
+    nat_lt (path.weight * unsigned_abs chance.num) (2 ^ 128)
+    && nat_lt (path.bound * at_least_one (unsigned_abs chance.num)) (2 ^ 128)
+    && nat_lt (path.den * chance.den) (2 ^ 128)
+
+-- on by an action of this probability; without room the numbers are not known, and no denominator
+-- is a multiple of that of the path
 abbrev pub by_chance : Path → Ratio → Path
 by_chance path chance = record {
-  weight = path.weight * unsigned_abs chance.num;
-  bound = path.bound * at_least_one (unsigned_abs chance.num);
-  den = path.den * chance.den;
+  weight = if has_room path chance then path.weight * unsigned_abs chance.num else 0;
+  bound = if has_room path chance then path.bound * at_least_one (unsigned_abs chance.num) else 1;
+  den = if has_room path chance then path.den * chance.den else 0;
   demands = path.demands;
 }
 
--- on by the action at this position, at a set whose digit has this step
+-- on by the action at this position, at a set whose digit has this step, in 64 bits
 abbrev pub by_choice : Path → ℕ → ℕ → Path
 by_choice path step position = record {
   weight = path.weight;
   bound = path.bound;
   den = path.den;
-  demands = path.demands + position * step;
+  demands = (path.demands + position * step) % 2 ^ 64;
 }
 
 -- the action that is demanded at the digit with this step, where there are so many actions; 0 where

@@ -4,10 +4,12 @@ use Rattle.std.specs.Prelude.{unsigned_abs, if◌then◌else◌, length, get_or}
 use Rattle.std.specs.Int.{◌∣◌}
 use Rattle.std.specs.List.{AllByRecursion}
 use Rattle.gf_fraction.specs.Ratio.{Ratio}
+use Rattle.gf_fraction.specs.Rational.{zero_ratio}
+use Rattle.gf_nfg.specs.Profiles.{product}
 use Rattle.gf_tree.specs.Description.{SetKey, InformationSet}
 use Rattle.gf_tree.specs.Game.{Game, set_at}
 use Rattle.std.specs.Prelude.{Some, ◌≤◌}
-use Rattle.gf_form.specs.Demands.{meets, steps_of}
+use Rattle.gf_form.specs.Demands.{meets, spans, steps_of}
 use Rattle.gf_form.specs.Program.{paid}
 use Rattle.gf_form.specs.declared.paths.Reached.{Reached}
 
@@ -54,10 +56,11 @@ met_bounds g player den steps choices (r ∷ rs) =
     (if meets steps choices r.path.demands then share_bound g player den r else 0)
     + met_bounds g player den steps choices rs
 
--- nothing is left over of its share, if these choices reach the node
+-- nothing is left over of its share, if these choices reach the node and it pays the player
 abbrev pub IsExactIfMet : Game → ℕ → ℕ → List ℕ → List ℕ → Reached → Type 0
 IsExactIfMet g player den steps choices r =
-    meets steps choices r.path.demands ≡ true → IsExact g player den r
+    meets steps choices r.path.demands ≡ true → ¬ (pay_at g player r ≡ zero_ratio)
+    → IsExact g player den r
 
 -- over this denominator no share of the player that these choices reach has a remainder, and all of
 -- those together are in bound
@@ -85,9 +88,11 @@ pub record IsDigitOf (actions choices : List ℕ) (step count choice : ℕ) : Ty
   pub choice_is : get_or choices place 0 ≡ choice
 
 -- These are the numbers of actions at the digits, from the slowest on, and the choices at them,
--- where each set of a player has the step of its digit, or 0 if it has one action alone.
+-- where each set of a player has the step of its digit, or 0 if it has one action alone. All values
+-- of all digits are within 64 bits.
 pub record AreDigits (g : Game) (steps choose : SetKey → ℕ) (actions choices : List ℕ) : Type 0
   where
+    pub within : product (spans actions) < 2 ^ 64
     pub one_each : length choices ≡ length actions
     pub some : (place : ℕ) → place < length actions → 1 ≤ get_or choices place 0
     pub valid : (place : ℕ) → place < length actions

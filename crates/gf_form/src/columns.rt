@@ -15,7 +15,7 @@ use crate::digits::Digits;
 use crate::large::{large_counts, small_and_large};
 use crate::own_terms::own_terms;
 use crate::payoffs::Payoffs;
-use crate::shares::{common_denominator, reached_nodes};
+use crate::shares::{common_denominator, paid_nodes};
 use gf_fraction::Fraction;
 use gf_tree::Game;
 use std::alloc::{AllocError, Global};
@@ -58,10 +58,8 @@ impl Columns {
         let Some(digits) = Digits::new(alloc, counts)? else {
             return Ok(None);
         };
-        let Some(den) = common_denominator(alloc, game, &digits, payoffs)? else {
-            return Ok(None);
-        };
-        let Some(mut reached) = reached_nodes(alloc, game, &digits, payoffs, den)? else {
+        let mut reached = paid_nodes(alloc, game, &digits, payoffs)?;
+        let Some(den) = common_denominator(alloc, game, &reached, payoffs)? else {
             return Ok(None);
         };
         reached.sort_unstable_by_key(|r| r.path.demands);

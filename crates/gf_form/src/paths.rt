@@ -1,7 +1,7 @@
 //! The nodes that choices can reach, told one after another, each with what the path to it asks for.
 
 ghost use Rattle.std.specs.Prelude.{◌≡◌, ◌≤◌, ◌++◌, [], ◌∷◌, None, length, map, unwrap_or};
-ghost use Rattle.std.specs.Prelude.{IfOk, IfSome, IsErrOf, MatchOption, OnOk, vec_capacity, vec_len};
+ghost use Rattle.std.specs.Prelude.{IfOk, MatchOption, OnErr, OnOk, vec_capacity, vec_len};
 ghost use Rattle.gf_token.specs.Positions.{at_position};
 ghost use Rattle.gf_tree.specs.Branches.{game_of, tree_of};
 ghost use Rattle.gf_tree.specs.Subtrees.{child_trees, root_node};
@@ -15,7 +15,7 @@ use crate::digits::Digits;
 use crate::walk::chance_of;
 use gf_fraction::Fraction;
 use gf_tree::{Branch, Branches, Game};
-use std::alloc::{AllocError, AllocFailed, Global};
+use std::alloc::{AllocError, Global};
 
 /// What a path from the root asks for.
 #[derive(Clone, Copy)]
@@ -24,7 +24,7 @@ pub(crate) struct Path {
     pub weight: u128,
     /// The same with 1 for each numerator that is zero.
     pub bound: u128,
-    /// The product of the denominators of its probabilities.
+    /// The product of the denominators of its probabilities; 0 if a product does not fit.
     pub den: u128,
     /// The choices that it demands, by their digits.
     pub demands: u64,
@@ -36,35 +36,6 @@ pub(crate) struct Reached {
     pub path: Path,
     /// The position of its outcome among those of the game, from 1; 0 is none.
     pub outcome: u32,
-}
-
-/// Why a walk ends before it has told all nodes.
-#[derive(Clone, Copy, Debug, PartialEq, Eq)]
-pub(crate) enum Stop {
-    /// A number of a path passes its type.
-    TooLarge,
-    /// Memory was refused.
-    Memory,
-}
-
-impl From<AllocError> for Stop {
-    ghost use Rattle.gf_form.specs.declared.paths.Stop.TheVariants.{Memory};
-
-    ghost from_gives = { λ _ stop. stop ≡ Memory };
-
-    fn from(_: AllocError) -> Stop {
-        Stop::Memory
-    }
-}
-
-impl<T: Drop> From<AllocFailed<T>> for Stop {
-    ghost use Rattle.gf_form.specs.declared.paths.Stop.TheVariants.{Memory};
-
-    ghost from_gives = { λ _ stop. stop ≡ Memory };
-
-    fn from(_: AllocFailed<T>) -> Stop {
-        Stop::Memory
-    }
 }
 
 impl Path {
@@ -81,42 +52,57 @@ impl Path {
     }
 
     /// On by an action of this probability.
-    fn by_chance(self, chance: Fraction) -> Option<Path>
-        ensures { IfSome result (λ path. path ≡ by_chance self chance) }
+    fn by_chance(self, chance: Fraction) -> Path
+        ensures { result ≡ by_chance self chance }
     {
         let size = chance.num().unsigned_abs();
         let least = if size == 0 { 1 } else { size };
-        Some(Path {
-            weight: self.weight.checked_mul(size)?,
-            bound: self.bound.checked_mul(least)?,
-            den: self.den.checked_mul(chance.den())?,
-            demands: self.demands,
-        })
+        let weight = self.weight.checked_mul(size);
+        let bound = self.bound.checked_mul(least);
+        let den = self.den.checked_mul(chance.den());
+        match (weight, bound, den) {
+            (Some(weight), Some(bound), Some(den)) => Path {
+                weight,
+                bound,
+                den,
+                demands: self.demands,
+            },
+            _ => Path {
+                weight: 0,
+                bound: 1,
+                den: 0,
+                demands: self.demands,
+            },
+        }
     }
 
-    /// On by the action at this position, at a set whose digit has this step.
-    fn by_choice(self, step: u64, position: usize) -> Option<Path>
-        ensures { IfSome result (λ path. path ≡ by_choice self step position) }
+    /// On by the action at this position, at a set whose digit has this step. What is demanded fits:
+    /// the digits have fewer than 2^64 values together.
+    fn by_choice(self, step: u64, position: usize) -> Path
+        ensures { result ≡ by_choice self step position }
     {
-        let demand = (position as u64).checked_mul(step)?;
-        Some(Path {
+        let demand = (position as u64).wrapping_mul(step);
+        Path {
             weight: self.weight,
             bound: self.bound,
             den: self.den,
-            demands: self.demands.checked_add(demand)?,
-        })
+            demands: self.demands.wrapping_add(demand),
+        }
     }
 
     /// The action that is taken at a set whose digit has this step, by its position among so many;
     /// 0 where any will do.
-    fn taken(self, step: u64, actions: usize) -> Option<u64>
-        ensures { IfSome result (λ action. action ≡ taken self step actions) }
+    fn taken(self, step: u64, actions: usize) -> u64
+        ensures { result ≡ taken self step actions }
     {
         if step == 0 {
-            return Some(1);
+            return 1;
         }
-        let span = (actions as u64).checked_add(1)?;
-        Some(self.demands / step % span)
+        let demand = self.demands / step;
+        match (actions as u64).checked_add(1) {
+            Some(span) => demand % span,
+            None => demand,
+        }
     }
 }
 
@@ -183,7 +169,7 @@ impl<'d, 'g, 'a> Paths<'d, 'g, 'a> {
         node: Branch<'g, 'a>,
         mut rest: Branches<'g, 'a>,
         path: Path,
-    ) -> Result<(), Stop>
+    ) -> Result<(), AllocError>
         requires { self.old.next ≡ None }
         ensures same { steps_of_paths self.new ≡ steps_of_paths self.old }
         ensures left { OnOk result (open_nodes (steps_of_paths self.old)
@@ -191,23 +177,25 @@ impl<'d, 'g, 'a> Paths<'d, 'g, 'a> {
             ≡ nodes_left self.new) }
         ensures turns { OnOk result (turns_left self.new ≤ turns_left self.old) }
 
-        // Memory is refused only where there was no room.
-        ensures full { IsErrOf result Stop.Memory
-            → vec_capacity self.old.«open» ≤ vec_len self.old.«open» }
+        // It fails only where there was no room.
+        ensures full { OnErr result (vec_capacity self.old.«open» ≤ vec_len self.old.«open») }
     {
         let Some(child) = rest.next() else {
             return Ok(());
         };
-        let Some(below) = path.by_chance(chance_of(&node, rest.given())) else {
-            return Err(Stop::TooLarge);
-        };
+        let below = path.by_chance(chance_of(&node, rest.given()));
         self.open.push(Open::Chance { node, rest, path })?;
         self.next = Some((child, below));
         Ok(())
     }
 
     /// The next child of an open node of a player comes next, if one is left.
-    fn choose(&mut self, mut rest: Branches<'g, 'a>, path: Path, step: u64) -> Result<(), Stop>
+    fn choose(
+        &mut self,
+        mut rest: Branches<'g, 'a>,
+        path: Path,
+        step: u64,
+    ) -> Result<(), AllocError>
         requires { self.old.next ≡ None }
         ensures same { steps_of_paths self.new ≡ steps_of_paths self.old }
         ensures left { OnOk result (open_nodes (steps_of_paths self.old)
@@ -215,36 +203,30 @@ impl<'d, 'g, 'a> Paths<'d, 'g, 'a> {
             ≡ nodes_left self.new) }
         ensures turns { OnOk result (turns_left self.new ≤ turns_left self.old) }
 
-        // Memory is refused only where there was no room.
-        ensures full { IsErrOf result Stop.Memory
-            → vec_capacity self.old.«open» ≤ vec_len self.old.«open» }
+        // It fails only where there was no room.
+        ensures full { OnErr result (vec_capacity self.old.«open» ≤ vec_len self.old.«open») }
     {
         let Some(child) = rest.next() else {
             return Ok(());
         };
-        let Some(below) = path.by_choice(step, rest.given()) else {
-            return Err(Stop::TooLarge);
-        };
+        let below = path.by_choice(step, rest.given());
         self.open.push(Open::Choice { rest, path, step })?;
         self.next = Some((child, below));
         Ok(())
     }
 
     /// Sees to what comes below a player's node, at a set whose digit has this step.
-    fn follow(&mut self, branch: Branch<'g, 'a>, path: Path, step: u64) -> Result<(), Stop>
+    fn follow(&mut self, branch: Branch<'g, 'a>, path: Path, step: u64) -> Result<(), AllocError>
         requires { self.old.next ≡ None }
         ensures same { steps_of_paths self.new ≡ steps_of_paths self.old }
         ensures left { OnOk result (nodes_by (steps_of_paths self.old) branch.entry path step
             (taken path step (length (child_trees (tree_of branch.entry))))
             ++ nodes_behind self.old ≡ nodes_left self.new) }
 
-        // Memory is refused only where there was no room.
-        ensures full { IsErrOf result Stop.Memory
-            → vec_capacity self.old.«open» ≤ vec_len self.old.«open» }
+        // It fails only where there was no room.
+        ensures full { OnErr result (vec_capacity self.old.«open» ≤ vec_len self.old.«open») }
     {
-        let Some(action) = path.taken(step, branch.children()) else {
-            return Err(Stop::TooLarge);
-        };
+        let action = path.taken(step, branch.children());
         if action == 0 {
             let rest = branch.child_branches();
             self.open.push(Open::Choice { rest, path, step })?;
@@ -255,7 +237,7 @@ impl<'d, 'g, 'a> Paths<'d, 'g, 'a> {
     }
 
     /// Sees to what comes below a node.
-    fn enter(&mut self, branch: Branch<'g, 'a>, path: Path) -> Result<(), Stop>
+    fn enter(&mut self, branch: Branch<'g, 'a>, path: Path) -> Result<(), AllocError>
         requires { self.old.next ≡ None }
         ensures same { steps_of_paths self.new ≡ steps_of_paths self.old }
         ensures left { OnOk result (branch_nodes (steps_of_paths self.old) path branch.entry
@@ -265,9 +247,8 @@ impl<'d, 'g, 'a> Paths<'d, 'g, 'a> {
               outcome = paid_at_node (game_of branch.entry) (root_node (tree_of branch.entry));
             } ∷ nodes_left self.new) }
 
-        // Memory is refused only where there was no room.
-        ensures full { IsErrOf result Stop.Memory
-            → vec_capacity self.old.«open» ≤ vec_len self.old.«open» }
+        // It fails only where there was no room.
+        ensures full { OnErr result (vec_capacity self.old.«open» ≤ vec_len self.old.«open») }
     {
         let Some((player, position)) = branch.mover() else {
             return Ok(());
@@ -286,7 +267,7 @@ impl<'d, 'g, 'a> Paths<'d, 'g, 'a> {
     }
 
     /// The next node, or `None` behind the last one.
-    pub(crate) fn next(&mut self) -> Result<Option<Reached>, Stop>
+    pub(crate) fn next(&mut self) -> Result<Option<Reached>, AllocError>
         ensures same { steps_of_paths self.new ≡ steps_of_paths self.old }
         ensures left { IfOk result (λ node. MatchOption node (nodes_left self.old ≡ [])
             (λ node. nodes_left self.old ≡ node ∷ nodes_left self.new)) }

@@ -1,16 +1,15 @@
-//! A denominator that serves all nodes which choices can reach, and those of them that pay somebody
-//! something.
+//! The nodes that pay somebody something, of those that choices can reach, and a denominator that
+//! serves them all.
 
-ghost use Rattle.std.specs.Prelude.{◌≡◌, ◌<◌, ◌^◌, IfOk, IfSome, map};
-ghost use Rattle.gf_tree.specs.Game.{Game};
-ghost use Rattle.gf_form.specs.KeptNodes.{AreKept, AreThosePaid};
+ghost use Rattle.std.specs.Prelude.{◌≡◌, ◌<◌, ◌^◌, IfOk, IfSome, IsTrue, map};
+ghost use Rattle.std.specs.Int.{◌∣◌};
+ghost use Rattle.std.specs.List.{AllByRecursion};
+ghost use Rattle.gf_form.specs.KeptNodes.{paid_reached};
 ghost use Rattle.gf_form.specs.PaidRows.{rows_of};
-ghost use Rattle.gf_form.specs.ReachedNodes.{reached, root_path};
-ghost use Rattle.gf_form.specs.Rows.{ArePaid};
 ghost use Rattle.gf_form.specs.Strategies.{choices_by};
 
 use crate::digits::Digits;
-use crate::paths::{Paths, Reached, Stop};
+use crate::paths::{Paths, Reached};
 use crate::payoffs::Payoffs;
 use gf_fraction::Fraction;
 use gf_tree::Game;
@@ -43,116 +42,95 @@ fn row_denominator(row: &[Fraction]) -> Option<u128>
     Some(den)
 }
 
-/// A denominator that serves the row of each outcome, by its position; 1 at position 0.
+/// A denominator that serves the row of each outcome, by its position; 1 at position 0. `None` where
+/// there is none in bound.
 fn payoff_denominators(
     alloc: Global,
     game: &Game<'_>,
     payoffs: &Payoffs<'_>,
-) -> Result<Vec<u128>, Stop> {
+) -> Result<Option<Vec<u128>>, AllocError> {
     let Ok(outcomes) = u32::try_from(game.outcome_count()) else {
-        return Err(Stop::TooLarge);
+        return Ok(None);
     };
     let mut dens = Vec::new(alloc);
     dens.push(1)?;
     for before in 0..outcomes {
         let Some(den) = row_denominator(payoffs.at(before + 1)) else {
-            return Err(Stop::TooLarge);
+            return Ok(None);
         };
         dens.push(den)?;
     }
-    Ok(dens)
+    Ok(Some(dens))
 }
 
-/// A denominator that serves probability times payoff at all nodes.
-fn denominator_of_nodes(
-    alloc: Global,
-    game: &Game<'_>,
-    digits: &Digits,
-    payoffs: &Payoffs<'_>,
-) -> Result<u128, Stop>
-    ensures { IfOk result (λ den. (0 < den) × (den < 2 ^ 127)) }
+/// A denominator that serves probability times payoff at these nodes, where those of the payoffs are
+/// known by the positions of their outcomes.
+fn denominator_of_nodes(nodes: &[Reached], dens: &[u128]) -> Option<u128>
+    ensures { IfSome result (λ den. (0 < den) × (den < 2 ^ 127)) }
 {
-    let dens = payoff_denominators(alloc, game, payoffs)?;
-    let mut paths = Paths::new(alloc, game, digits);
     let mut common = 1;
-    while let Some(node) = paths.next()? {
-        let Some(payoff) = dens.get(node.outcome as usize) else {
-            return Err(Stop::TooLarge);
-        };
-        let Some(den) = node.path.den.checked_mul(*payoff) else {
-            return Err(Stop::TooLarge);
-        };
+    for node in nodes {
+        let payoff = dens.get(node.outcome as usize)?;
+        let den = node.path.den.checked_mul(*payoff)?;
         if den == 0 || common % den != 0 {
-            let Some(more) = multiple(common, den) else {
-                return Err(Stop::TooLarge);
-            };
-            common = more;
+            common = multiple(common, den)?;
         }
     }
-    Ok(common)
+    Some(common)
 }
 
-/// A denominator that serves probability times payoff at all nodes which choices can reach; `None`
-/// where there is none in bound.
+/// Whether the denominators of the paths to all nodes divide this one.
+fn serves_paths(nodes: &[Reached], den: u128) -> bool
+    ensures { IsTrue result → AllByRecursion (λ r. r.path.den ∣ den) nodes.now }
+{
+    for node in nodes {
+        let by = node.path.den;
+        if by == 0 || den % by != 0 {
+            return false;
+        }
+    }
+    true
+}
+
+/// A denominator that serves probability times payoff at these nodes; `None` where there is none in
+/// bound.
 pub(crate) fn common_denominator(
     alloc: Global,
     game: &Game<'_>,
-    digits: &Digits,
+    nodes: &[Reached],
     payoffs: &Payoffs<'_>,
 ) -> Result<Option<u128>, AllocError>
-    ensures { IfOk result (λ den. IfSome den (λ den. (0 < den) × (den < 2 ^ 127))) }
+    ensures { IfOk result (λ den. IfSome den (λ den. (0 < den) × (den < 2 ^ 127)
+        × AllByRecursion (λ r. r.path.den ∣ den) nodes.now)) }
 {
-    match denominator_of_nodes(alloc, game, digits, payoffs) {
-        Ok(den) => Ok(Some(den)),
-        Err(Stop::TooLarge) => Ok(None),
-        Err(Stop::Memory) => Err(AllocError),
+    let Some(dens) = payoff_denominators(alloc, game, payoffs)? else {
+        return Ok(None);
+    };
+    let Some(den) = denominator_of_nodes(nodes, &dens) else {
+        return Ok(None);
+    };
+    if !serves_paths(nodes, den) {
+        return Ok(None);
     }
+    Ok(Some(den))
 }
 
-/// The nodes that pay somebody something; `None` where the denominator of some path does not divide
-/// this one.
-fn paid_nodes(
+/// The nodes that pay somebody something, of those that choices can reach, in prefix order.
+pub(crate) fn paid_nodes(
     alloc: Global,
     game: &Game<'_>,
     digits: &Digits,
     payoffs: &Payoffs<'_>,
-    den: u128,
-) -> Result<Option<Vec<Reached>>, Stop>
-    ensures { IfOk result (λ kept. IfSome kept (λ kept. AreThosePaid den (rows_of payoffs.now)
-        (reached game.now (choices_by game.now (map (λ own. own.items) digits.now.steps.items))
-        root_path game.now.tree) kept.items)) }
+) -> Result<Vec<Reached>, AllocError>
+    ensures { IfOk result (λ nodes. nodes.items ≡ paid_reached (rows_of payoffs.now) game.now
+        (choices_by game.now (map (λ own. own.items) digits.now.steps.items))) }
 {
-    let mut kept = Vec::new(alloc);
+    let mut nodes = Vec::new(alloc);
     let mut paths = Paths::new(alloc, game, digits);
     while let Some(node) = paths.next()? {
-        let by = node.path.den;
-        if by == 0 || den % by != 0 {
-            return Ok(None);
-        }
         if !payoffs.at(node.outcome).is_empty() {
-            kept.push(node)?;
+            nodes.push(node)?;
         }
     }
-    Ok(Some(kept))
-}
-
-/// The nodes that pay somebody something, of those that choices can reach; `None` where the
-/// denominator of some path does not divide this one, or is too large.
-pub(crate) fn reached_nodes(
-    alloc: Global,
-    game: &Game<'_>,
-    digits: &Digits,
-    payoffs: &Payoffs<'_>,
-    den: u128,
-) -> Result<Option<Vec<Reached>>, AllocError>
-    ensures { IfOk result (λ kept. IfSome kept (λ kept. (g : Game)
-        → ArePaid g (rows_of payoffs.now) → g ≡ game.now → AreKept g den (reached g
-        (choices_by g (map (λ own. own.items) digits.now.steps.items)) root_path g.tree)
-        kept.items)) }
-{
-    match paid_nodes(alloc, game, digits, payoffs, den) {
-        Ok(kept) => Ok(kept),
-        Err(Stop::TooLarge) => Ok(None),
-        Err(Stop::Memory) => Err(AllocError),
-    }
+    Ok(nodes)
 }

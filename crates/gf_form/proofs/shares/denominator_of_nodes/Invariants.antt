@@ -1,9 +1,5 @@
-use Rattle.std.proofs.Common.{◌<◌, ◌^◌, length}
-use Rattle.gf_form.specs.PathsLeft.{nodes_left}
+use Rattle.std.proofs.Common.{◌<◌, ◌^◌}
 use Rattle.gf_form.proofs.shares.denominator_of_nodes.Given as goal
 
-abbrev pub invariant-loop-paths : goal.invariant-loop-paths
-invariant-loop-paths l = (0 < l.common) × (l.common < 2 ^ 127)
-
-abbrev pub decreases-loop-paths : goal.decreases-loop-paths
-decreases-loop-paths l = length (nodes_left l.paths)
+abbrev pub invariant-loop-node : goal.invariant-loop-node
+invariant-loop-node l = (0 < l.common) × (l.common < 2 ^ 127)

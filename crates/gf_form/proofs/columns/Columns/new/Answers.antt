@@ -1,5 +1,7 @@
 use Rattle.std.proofs.Common.{◌≡◌, ◌<◌, ◌++◌, ◌∙◌, ◌^◌, ℕ, List, Option, ap, arith, length}
-use Rattle.std.proofs.Common.{refl, subst, suc, sym}
+use Rattle.std.proofs.Common.{map, subst, suc, sym}
+use Rattle.std.specs.Int.{◌∣◌}
+use Rattle.std.specs.List.{AllByRecursion}
 use Rattle.std.specs.Prelude.{IfSome}
 use Rattle.std.specs.List.Sorted.{IsPermutation}
 use Rattle.std.proofs.lemmas.List.{length-map}
@@ -14,13 +16,13 @@ use Rattle.gf_form.specs.declared.digits.Digit.{Digit}
 use Rattle.gf_form.specs.declared.paths.Reached.{Reached}
 use Rattle.gf_form.specs.declared.terms.Term.{Term}
 use Rattle.gf_form.specs.GameDigits.{HasDigits}
-use Rattle.gf_form.specs.KeptNodes.{AreKept}
+use Rattle.gf_form.specs.Strategies.{choices_by}
 use Rattle.gf_form.specs.OwnTerms.{AreOver, AreOwn}
 use Rattle.gf_form.specs.PaidRows.{rows_of}
 use Rattle.gf_form.specs.Rows.{ArePaid}
 use Rattle.gf_form.specs.Sums.{size_of_terms}
-use Rattle.gf_form.proofs.ColumnsMade.{all_reached, column_right, large_within, one_column_more}
-use Rattle.gf_form.proofs.ColumnsMade.{counts_met, first_over, permuted_over}
+use Rattle.gf_form.proofs.ColumnsMade.{column_right, counts_met, first_over, large_within}
+use Rattle.gf_form.proofs.ColumnsMade.{one_column_more, paid_over, permuted_over}
 use Rattle.gf_form.proofs.columns.Columns.new.Goals as goal
 
 pub loop-place-init : goal.loop-place-init
@@ -30,12 +32,16 @@ pub small_and_large-requires-clause-paths : goal.small_and_large-requires-clause
 small_and_large-requires-clause-paths c =
     let g = c.args.game.now in
     let den = c.in-Some-2.den in
-    let are = subst (λ o. IfSome o (λ kept. (h : Game) → ArePaid h (rows_of c.args.payoffs.now)
-    → h ≡ g → AreKept h den (all_reached h c.in-Some.digits) kept.items)) c.in-Some-3.is
-    c.in_ok-reached.ensures g c.requires.payoffs refl in
-    subst (AreOver den) (sym c.deref.ensures.value)
-    (permuted_over den c.in-Some-3.reached.items c.sort_unstable_by_key.new.self.items
-    c.sort_unstable_by_key.ensures.permutation are.kept_over)
+    let served = subst (λ (o : Option ℕ). IfSome o (λ den. (0 < den) × (den < 2 ^ 127)
+    × AllByRecursion (λ (r : Reached). r.path.den ∣ den) c.deref.result.now)) c.in-Some-2.is
+    c.in_ok-den.ensures in
+    let over = paid_over (rows_of c.args.payoffs.now) g
+    (choices_by g (map (λ own. own.items) c.in-Some.digits.steps.items)) den
+    c.in_ok-reached.reached.items c.in_ok-reached.ensures
+    (subst (AllByRecursion (λ (r : Reached). r.path.den ∣ den)) c.deref.ensures.value served.2) in
+    subst (AreOver den) (sym c.deref-2.ensures.value)
+    (permuted_over den c.in_ok-reached.reached.items c.sort_unstable_by_key.new.self.items
+    c.sort_unstable_by_key.ensures.permutation over)
 
 pub own_terms-requires-clause-paths : goal.own_terms-requires-clause-paths
 own_terms-requires-clause-paths c =
@@ -43,16 +49,20 @@ own_terms-requires-clause-paths c =
     let den = c.in-Some-2.den in
     let small = c.in_ok-small.small.items in
     let large = c.in_ok-small.large.items in
-    let are = subst (λ o. IfSome o (λ kept. (h : Game) → ArePaid h (rows_of c.args.payoffs.now)
-    → h ≡ g → AreKept h den (all_reached h c.in-Some.digits) kept.items)) c.in-Some-3.is
-    c.in_ok-reached.ensures g c.requires.payoffs refl in
-    let parts = IsPermutation-trans c.in-Some-3.reached.items c.sort_unstable_by_key.new.self.items
+    let served = subst (λ (o : Option ℕ). IfSome o (λ den. (0 < den) × (den < 2 ^ 127)
+    × AllByRecursion (λ (r : Reached). r.path.den ∣ den) c.deref.result.now)) c.in-Some-2.is
+    c.in_ok-den.ensures in
+    let over = paid_over (rows_of c.args.payoffs.now) g
+    (choices_by g (map (λ own. own.items) c.in-Some.digits.steps.items)) den
+    c.in_ok-reached.reached.items c.in_ok-reached.ensures
+    (subst (AllByRecursion (λ (r : Reached). r.path.den ∣ den)) c.deref.ensures.value served.2) in
+    let parts = IsPermutation-trans c.in_ok-reached.reached.items c.sort_unstable_by_key.new.self.items
     (small ++ large) c.sort_unstable_by_key.ensures.permutation
-    (subst (λ (rs : List Reached). IsPermutation rs (small ++ large)) c.deref.ensures.value
+    (subst (λ (rs : List Reached). IsPermutation rs (small ++ large)) c.deref-2.ensures.value
     c.in_ok-small.ensures) in
     subst (AreOver den) (sym c.deref-in-loop-place.ensures.value)
     (first_over den small large
-    (permuted_over den c.in-Some-3.reached.items (small ++ large) parts are.kept_over))
+    (permuted_over den c.in_ok-reached.reached.items (small ++ large) parts over))
 
 pub column-requires-clause-steps : goal.column-requires-clause-steps
 column-requires-clause-steps c =
@@ -72,7 +82,7 @@ column-requires-clause-within c =
 pub column-requires-clause-size : goal.column-requires-clause-size
 column-requires-clause-size c =
     subst (λ (ts : List Term). size_of_terms ts < 2 ^ 127) (sym c.deref-in-loop-place-2.ensures.value)
-    (subst (λ o. IfSome o (λ terms. size_of_terms terms.items < 2 ^ 127)) c.in-Some-4.is
+    (subst (λ o. IfSome o (λ terms. size_of_terms terms.items < 2 ^ 127)) c.in-Some-3.is
     c.in_ok-terms.ensures.size)
 
 pub loop-place-preserved : goal.loop-place-preserved
@@ -85,26 +95,24 @@ loop-place-preserved c =
     let counts = c.in_ok-large.large.items in
     let digits = subst (λ o. IfSome o (λ d. (h : Game) → IsGame h → AreCounts h c.args.counts.now → HasDigits h d))
     c.in-Some.is c.in_ok-digits.ensures g c.players-players.ensures.is_game c.requires.counts in
-    let are = subst (λ o. IfSome o (λ kept. (h : Game) → ArePaid h (rows_of c.args.payoffs.now)
-    → h ≡ g → AreKept h den (all_reached h c.in-Some.digits) kept.items)) c.in-Some-3.is
-    c.in_ok-reached.ensures g c.requires.payoffs refl in
-    let parts = IsPermutation-trans c.in-Some-3.reached.items c.sort_unstable_by_key.new.self.items
+    let parts = IsPermutation-trans c.in_ok-reached.reached.items c.sort_unstable_by_key.new.self.items
     (small ++ large) c.sort_unstable_by_key.ensures.permutation
-    (subst (λ (rs : List Reached). IsPermutation rs (small ++ large)) c.deref.ensures.value
+    (subst (λ (rs : List Reached). IsPermutation rs (small ++ large)) c.deref-2.ensures.value
     c.in_ok-small.ensures) in
-    let met = counts_met c.in-Some.digits c.deref-3.result.now c.deref-2.result.now large counts
-    c.deref-3.ensures.value c.deref-2.ensures.value c.in_ok-large.ensures in
+    let met = counts_met c.in-Some.digits c.deref-4.result.now c.deref-3.result.now large counts
+    c.deref-4.ensures.value c.deref-3.ensures.value c.in_ok-large.ensures in
     let own = subst (λ o. IfSome o (λ terms. (h : Game) → ArePaid h (rows_of c.args.payoffs.now)
-    → AreOwn h (suc place) den c.deref-in-loop-place.result.now terms.items)) c.in-Some-4.is
+    → AreOwn h (suc place) den c.deref-in-loop-place.result.now terms.items)) c.in-Some-3.is
     c.in_ok-terms.ensures.sums g c.requires.payoffs in
-    let size = subst (λ o. IfSome o (λ terms. size_of_terms terms.items < 2 ^ 127)) c.in-Some-4.is
+    let size = subst (λ o. IfSome o (λ terms. size_of_terms terms.items < 2 ^ 127)) c.in-Some-3.is
     c.in_ok-terms.ensures.size in
     one_column_more g counts den place c.loop-place.columns.items c.push.new.self.items
     c.in_ok-column.field-0 c.in_ok-push.ensures.items c.loop-place.invariant
     (column_right g c.players-players.ensures.is_game c.players-players.ensures.spellable
-    c.in-Some.digits digits place den c.in-Some-3.reached.items small large are parts counts met
-    c.in-Some-4.terms.items
-    (subst (λ (rs : List Reached). AreOwn g (suc place) den rs c.in-Some-4.terms.items)
+    c.in-Some.digits digits (rows_of c.args.payoffs.now) c.requires.payoffs place den
+    c.in_ok-reached.reached.items small large c.in_ok-reached.ensures parts counts met
+    c.in-Some-3.terms.items
+    (subst (λ (rs : List Reached). AreOwn g (suc place) den rs c.in-Some-3.terms.items)
     c.deref-in-loop-place.ensures.value own)
     size c.in_ok-column.field-0.items
     (c.in_ok-column.ensures
@@ -115,12 +123,13 @@ pub returns : goal.returns
 returns c =
     let g = c.args.game.now in
     let counts = c.in_ok-large.large.items in
-    let den = subst (λ (o : Option ℕ). IfSome o (λ den. (0 < den) × (den < 2 ^ 127))) c.in-Some-2.is
+    let den = subst (λ (o : Option ℕ). IfSome o (λ den. (0 < den) × (den < 2 ^ 127)
+    × AllByRecursion (λ (r : Reached). r.path.den ∣ den) c.deref.result.now)) c.in-Some-2.is
     c.in_ok-den.ensures in
     let digits = subst (λ o. IfSome o (λ d. (h : Game) → IsGame h → AreCounts h c.args.counts.now → HasDigits h d))
     c.in-Some.is c.in_ok-digits.ensures g c.players-players.ensures.is_game c.requires.counts in
-    let met = counts_met c.in-Some.digits c.deref-3.result.now c.deref-2.result.now
-    c.in_ok-small.large.items counts c.deref-3.ensures.value c.deref-2.ensures.value
+    let met = counts_met c.in-Some.digits c.deref-4.result.now c.deref-3.result.now
+    c.in_ok-small.large.items counts c.deref-4.ensures.value c.deref-3.ensures.value
     c.in_ok-large.ensures in
     let all : c.loop-place.place ≡ length g.players =
     omega (

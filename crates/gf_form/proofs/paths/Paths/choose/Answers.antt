@@ -25,7 +25,7 @@ returns-clause-left c =
     (tree_of child) (nodes_behind w) steps.0 steps.1 steps.2.0 steps.2.1
     ∙ ap (λ (p : Path). branch_nodes all p child
     ++ (open_nodes all (Choice later path step) ++ nodes_behind w))
-    (ap (by_choice path step) (sym c.given.ensures) ∙ sym c.in-Some-by_choice.ensures)
-    ∙ ap (λ (rs : List Reached). branch_nodes all c.in-Some-by_choice.below child ++ rs)
+    (ap (by_choice path step) (sym c.given.ensures) ∙ sym c.by_choice-below.ensures)
+    ∙ ap (λ (rs : List Reached). branch_nodes all c.by_choice-below.result child ++ rs)
     (sym (ap (λ (os : List Open). below all os []) c.in_ok-push.ensures.items
     ∙ below_last all w.open.items (Choice later path step) []))

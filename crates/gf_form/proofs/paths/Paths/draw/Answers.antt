@@ -27,7 +27,7 @@ returns-clause-left c =
     ∙ ap (λ (p : Path). branch_nodes all p child
     ++ (open_nodes all (Chance node later path) ++ nodes_behind w))
     (ap (by_chance path) (ap (branch_chances node) (sym c.given.ensures) ∙ sym c.chance_of.ensures)
-    ∙ sym c.in-Some-by_chance.ensures)
-    ∙ ap (λ (rs : List Reached). branch_nodes all c.in-Some-by_chance.below child ++ rs)
+    ∙ sym c.by_chance-below.ensures)
+    ∙ ap (λ (rs : List Reached). branch_nodes all c.by_chance-below.result child ++ rs)
     (sym (ap (λ (os : List Open). below all os []) c.in_ok-push.ensures.items
     ∙ below_last all w.open.items (Chance node later path) []))

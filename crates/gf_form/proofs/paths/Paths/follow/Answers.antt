@@ -18,7 +18,7 @@ returns-in_ok-push-clause-left c =
     let rest = c.child_branches-rest.result in
     let kids = child_trees (tree_of b) in
     let any : taken path step (length kids) ≡ 0 =
-    sym (c.in-Some.ensures ∙ ap (taken path step) c.children.ensures) ∙ c.if-action-eq0.true in
+    sym (c.taken-action.ensures ∙ ap (taken path step) c.children.ensures) ∙ c.if-action-eq0.true in
     ap (λ (action : ℕ). nodes_by all b path step action ++ nodes_behind w) any
     ∙ ap (λ (rs : List Reached). rs ++ nodes_behind w)
     (first_chosen all (game_of b) (game_of_branches rest) path step (branches_given rest) kids
