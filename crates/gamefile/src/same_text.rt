@@ -52,6 +52,16 @@ fn answer_of(alloc: Global, a: &Meaning<'_>, b: &Meaning<'_>) -> Result<Answer, 
     Ok(answer)
 }
 
+/// The answer about two files that were read, of which the second is not needed any more.
+fn answer_at_end(alloc: Global, a: &Meaning<'_>, b: Meaning<'_>) -> Result<Answer, AllocError>
+    ensures same { IfOk result (λ answer.
+        IsTrue answer.same ↔ SameFile (file_of a.now) (file_of b.entry)) }
+    ensures text { IfOk result (λ answer.
+        IsLineAndMap (file_of a.now) (file_of b.entry) answer.same answer.text.items) }
+{
+    answer_of(alloc, a, &b)
+}
+
 /// The answer about bytes whose meaning was read, and those of the second file.
 fn answer_beside(alloc: Global, first: &Meaning<'_>, b: &[u8]) -> Result<Answer, SameFault>
     ensures answer { IfOk result (λ answer. (a : List ℕ) → SpellsWithin a (file_of first.now)
@@ -63,7 +73,7 @@ fn answer_beside(alloc: Global, first: &Meaning<'_>, b: &[u8]) -> Result<Answer,
         Ok(second) => second,
         Err(fault) => return Err(SameFault::Second(fault)),
     };
-    match answer_of(alloc, first, &second) {
+    match answer_at_end(alloc, first, second) {
         Ok(answer) => Ok(answer),
         Err(_) => Err(SameFault::Memory),
     }

@@ -1,6 +1,8 @@
 //! The runs that write a game as a table: its strategic form, or the reduced one.
 
 ghost use Rattle.std.specs.Prelude.{◌≡◌, ◌≢◌, ◌≤◌, IfErr, IfOk, OnOk, length};
+ghost use Rattle.gf_nfg.specs.TableText.{table_text};
+ghost use Rattle.gf_canon.specs.GameFile.GameFile.{extensive};
 ghost use Rattle.gf_canon.specs.MeaningOf.{file_of};
 ghost use Rattle.gamefile.specs.FormText.{IsFaultOfBytes, IsFormFault, IsFormOf, IsFormText};
 ghost use Rattle.gamefile.specs.FormText.{HasFewPlayers, ReadsFormUntil};
@@ -14,7 +16,8 @@ use crate::source::{Source, load};
 use gf_canon::{Meaning, read_file};
 use gf_form::{table, table_reduced};
 use gf_nfg::{Table, write_nfg};
-use std::alloc::Global;
+use gf_tree::Game;
+use std::alloc::{AllocError, Global};
 
 /// The strategies of a form.
 #[derive(Clone, Copy)]
@@ -25,6 +28,19 @@ enum Strategies {
     Reduced,
 }
 
+/// The form of a tree by these strategies.
+fn form_of(alloc: Global, game: &Game<'_>, strategies: Strategies) -> Result<Table, RunFault>
+    requires { HasFewPlayers (extensive game.now) }
+    ensures form { IfOk result (λ t. IsFormOf strategies (extensive game.now) t) }
+    ensures fault { IfErr result (IsFormFault strategies (extensive game.now)) }
+    ensures before_writing { IfErr result (λ fault. fault ≢ RunFault.Write) }
+{
+    match strategies {
+        Strategies::Pure => Ok(table(alloc, game)?),
+        Strategies::Reduced => Ok(table_reduced(alloc, game)?),
+    }
+}
+
 /// The form of a tree by these strategies, or the table of a strategic file.
 fn table_of(alloc: Global, meaning: Meaning<'_>, strategies: Strategies) -> Result<Table, RunFault>
     requires { HasFewPlayers (file_of meaning) }
@@ -33,12 +49,18 @@ fn table_of(alloc: Global, meaning: Meaning<'_>, strategies: Strategies) -> Resu
     ensures before_writing { IfErr result (λ fault. fault ≢ RunFault.Write) }
 {
     match meaning {
-        Meaning::Tree(game) => match strategies {
-            Strategies::Pure => Ok(table(alloc, &game)?),
-            Strategies::Reduced => Ok(table_reduced(alloc, &game)?),
-        },
+        Meaning::Tree(game) => form_of(alloc, &game, strategies),
         Meaning::Table(table) => Ok(table),
     }
+}
+
+/// The canonical text of a table.
+fn text_of(alloc: Global, table: &Table) -> Result<Vec<u8>, AllocError>
+    ensures { IfOk result (λ text. text.items ≡ table_text table.now) }
+{
+    let mut text = Vec::new(alloc);
+    write_nfg(table, &mut text)?;
+    Ok(text)
 }
 
 /// The canonical text of the form of a tree by these strategies, or of a table.
@@ -56,9 +78,7 @@ fn form_text(alloc: Global, bytes: &[u8], strategies: Strategies) -> Result<Vec<
         }
     };
     let table = table_of(alloc, meaning, strategies)?;
-    let mut text = Vec::new(alloc);
-    write_nfg(&table, &mut text)?;
-    Ok(text)
+    Ok(text_of(alloc, &table)?)
 }
 
 /// Writes the form by these strategies of the tree that it reads, or the table of a strategic file.

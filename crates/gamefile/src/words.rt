@@ -102,27 +102,59 @@ fn table<'a>(alloc: Global) -> Result<Command<'a>, AllocError> {
     on_one_file(table.arg(flag(alloc, "reduced", help::REDUCED))?, alloc)
 }
 
-fn with_same_options<'a>(command: Command<'a>, alloc: Global) -> Result<Command<'a>, AllocError> {
-    let no_names = flag(alloc, "no-names", help::NO_NAMES).conflicts_with("map")?;
-    command.arg(flag(alloc, "map", help::MAP))?.arg(no_names)
+/// A command that takes one argument more.
+fn taking<'a>(
+    command: Command<'a>,
+    arg: Result<Arg<'a>, AllocError>,
+) -> Result<Command<'a>, AllocError> {
+    command.arg(arg?)
 }
 
-fn same<'a>(alloc: Global) -> Result<Command<'a>, AllocError> {
-    let same = command(alloc, "same", help::SAME, help::AFTER_SAME);
-    with_same_options(same, alloc)?
+fn with_same_options<'a>(command: Command<'a>, alloc: Global) -> Result<Command<'a>, AllocError> {
+    let command = command.arg(flag(alloc, "map", help::MAP))?;
+    let no_names = flag(alloc, "no-names", help::NO_NAMES).conflicts_with("map");
+    taking(command, no_names)
+}
+
+fn with_two_files<'a>(command: Command<'a>, alloc: Global) -> Result<Command<'a>, AllocError> {
+    command
         .arg(named(alloc, "A", help::FIRST))?
         .arg(named(alloc, "B", help::SECOND))
 }
 
-fn gamefile<'a>(alloc: Global) -> Result<Command<'a>, AllocError> {
+fn same<'a>(alloc: Global) -> Result<Command<'a>, AllocError> {
+    let same = command(alloc, "same", help::SAME, help::AFTER_SAME);
+    with_two_files(with_same_options(same, alloc)?, alloc)
+}
+
+/// A command that has one command more.
+fn having<'a>(
+    command: Command<'a>,
+    inner: Result<Command<'a>, AllocError>,
+) -> Result<Command<'a>, AllocError> {
+    command.subcommand(inner?)
+}
+
+/// The program, without its commands.
+fn program<'a>(alloc: Global) -> Result<Command<'a>, AllocError> {
     command(alloc, "gamefile", help::ABOUT, help::AFTER)
         .version(help::VERSION)
         .no_binary_name(true)
-        .bin_name("gamefile")?
-        .subcommand(canon(alloc)?)?
-        .subcommand(check(alloc)?)?
-        .subcommand(table(alloc)?)?
-        .subcommand(same(alloc)?)
+        .bin_name("gamefile")
+}
+
+/// The program, with its commands on one file.
+fn with_commands_on_one<'a>(
+    program: Command<'a>,
+    alloc: Global,
+) -> Result<Command<'a>, AllocError> {
+    let program = having(program, canon(alloc))?;
+    let program = having(program, check(alloc))?;
+    having(program, table(alloc))
+}
+
+fn gamefile<'a>(alloc: Global) -> Result<Command<'a>, AllocError> {
+    having(with_commands_on_one(program(alloc)?, alloc)?, same(alloc))
 }
 
 fn input_of(alloc: Global, matches: &ArgMatches<'_>) -> Result<Input, AllocError> {

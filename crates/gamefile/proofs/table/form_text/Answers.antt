@@ -9,9 +9,9 @@ pub table_of-requires : goal.table_of-requires
 table_of-requires c =
     few_players c.args.bytes.now (file_of c.in-Ok.meaning) c.requires c.in-Ok.ensures.spelled
 
-pub returns-in_err-write_nfg-clause-fault : goal.returns-in_err-write_nfg-clause-fault
-returns-in_err-write_nfg-clause-fault c = IfErr-only _ Memory
-    (IsFaultOfBytes c.args.strategies c.args.bytes.now) c.from_residual-in_err-write_nfg.ensures.1
+pub returns-in_err-text_of-clause-fault : goal.returns-in_err-text_of-clause-fault
+returns-in_err-text_of-clause-fault c = IfErr-only _ Memory
+    (IsFaultOfBytes c.args.strategies c.args.bytes.now) c.from_residual-in_err-text_of.ensures.1
     (file_of c.in-Ok.meaning, c.in-Ok.ensures.spelled, tt)
 
 pub returns-clause-text : goal.returns-clause-text
@@ -20,5 +20,5 @@ returns-clause-text c = record {
   spelled = c.in-Ok.ensures.spelled;
   table = c.in_ok-table.table;
   is_form = c.in_ok-table.ensures.form;
-  is_text = rw c.new-text.ensures.items at c.in_ok-write_nfg.ensures.ok;
+  is_text = c.in_ok-text_of.ensures;
 }
