@@ -17,10 +17,9 @@ use std::io::ErrorKind;
 use std::test::Fail;
 
 mod canon;
-mod check;
+mod library;
 mod same;
 mod script;
-mod table;
 mod trees;
 mod words;
 
