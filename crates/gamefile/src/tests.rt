@@ -17,11 +17,10 @@ use std::io::ErrorKind;
 use std::test::Fail;
 
 mod canon;
-mod check;
 mod forms;
+mod library;
 mod same;
 mod script;
-mod table;
 mod trees;
 mod words;
 

@@ -29,6 +29,3 @@ pub use new_numbers::Renumbering;
 pub use numbering::renumber;
 pub use sameness::{Names, SameFault, same, same_by, same_meaning};
 pub use write::write_efg;
-
-#[cfg(test)]
-mod tests;

@@ -1,6 +1,6 @@
 //! Runs that compare two files: what is answered and written, and which input a fault is about.
 
-use super::trees::{FIVE, FIVE_BY_OTHER_NUMBERS, PRIZE, RENAMED_PRIZE};
+use super::trees::FIVE;
 use crate::counted::Counted;
 use crate::fault::{RunFault, Which};
 use crate::same::{run_same, run_same_by, run_same_map};
@@ -56,36 +56,6 @@ fn compare_texts(
         &mut Counted::new(&mut text),
     );
     (answer, text)
-}
-
-#[test]
-fn tells_which_files_are_the_same(rt: HostRuntime) {
-    let lines = "same\nset 0 9 2\nset 1 7 3\nset 1 3 8\noutcome 4 2\n";
-    let rows = [
-        (Run::Same, FIVE, FIVE_BY_OTHER_NUMBERS, true, "same\n"),
-        (Run::SameMap, FIVE, FIVE_BY_OTHER_NUMBERS, true, lines),
-        (Run::Same, PRIZE, RENAMED_PRIZE, false, "different\n"),
-        (Run::SameMap, PRIZE, RENAMED_PRIZE, false, "different\n"),
-        (
-            Run::SameBy(Names::Kept),
-            PRIZE,
-            RENAMED_PRIZE,
-            false,
-            "different\n",
-        ),
-        (
-            Run::SameBy(Names::Aside),
-            PRIZE,
-            RENAMED_PRIZE,
-            true,
-            "same\n",
-        ),
-    ];
-    for (run, a, b, same, lines) in rows {
-        let (answer, text) = compare_texts(rt.alloc(), run, a, b);
-        assert_eq!(rt; answer, Ok(same), "{run:?}");
-        assert_eq!(rt; text.as_slice(), lines.as_bytes(), "{run:?}");
-    }
 }
 
 fn refused(which: Which, start: usize, end: usize, why: Why) -> RunFault {

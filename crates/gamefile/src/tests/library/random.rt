@@ -1,6 +1,6 @@
 //! Random trees, whose canonical text is to be the one that is had in three steps.
 
-use crate::{canonical, renumber, write_efg};
+use gf_canon::{canonical, renumber, write_efg};
 use gf_tree::read_efg;
 use std::alloc::{AllocError, Global};
 use std::process::Abort;

@@ -13,7 +13,8 @@ use std::test::Fail;
 /// What a file goes on with, which is refused at its last byte, and what is due there.
 type Row = (&'static [u8], What);
 
-const HEADINGS: [Row; 11] = [
+const HEADINGS: [Row; 12] = [
+    (b",", Format),
     (b"EFG ,", Version),
     (b"EFG 2 ,", Letter),
     (b"EFG 2 R ,", Text),
@@ -157,10 +158,8 @@ const FILES: [(&[u8], &[Row]); 7] = [
 
 #[test]
 fn names_what_is_due(rt: HostRuntime) -> Result<(), Fail> {
-    for (before, rows) in FILES {
+    for (before, rows) in &FILES {
         assert_rows(&rt, rt.alloc(), before, rows)?;
     }
-    assert_due(&rt, b",", Format, read_efg(rt.alloc(), b",").err());
-    assert_due(&rt, b"E", Format, read_nfg(rt.alloc(), b"E").err());
     Ok(())
 }

@@ -1,0 +1,9 @@
+//! Calls of the crates below that the program does not make, on their happy paths, and what no file
+//! shows.
+
+mod due;
+mod games;
+mod parts;
+mod random;
+mod renumbered;
+mod strategic;
