@@ -2,6 +2,7 @@ pub mod CarriedLines
 pub mod Errors
 pub mod FewPlayers
 pub mod FormTexts
+pub mod Hashed
 pub mod Interruptions
 pub mod JobFaults
 pub mod LinesInTurn

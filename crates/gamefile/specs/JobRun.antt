@@ -2,7 +2,7 @@
 use Rattle.std.specs.Prelude.{◌≡◌, ◌⊎◌, ℕ, Bool, true, false, List, Option, Result}
 use Rattle.std.specs.declared.io.Error.{Error}
 use Rattle.gf_canon.specs.GameFile.{SameFile}
-use Rattle.gf_canon.specs.Judgement.{IsCanonicalText, IsRefusedWith}
+use Rattle.gf_canon.specs.Judgement.{IsRefusedWith, IsTextBy}
 use Rattle.gf_canon.specs.SameBy.{SameBy}
 use Rattle.gf_canon.specs.declared.sameness.Names.{Names}
 use Rattle.gamefile.specs.FaultStatus.{answer_status}
@@ -42,8 +42,8 @@ module _ {S : Type 0} (standard : S → Type 0) (opens : List ℕ → Result S E
   -- the inputs of a job were opened and read whole, the text that answers them was `written`, and
   -- this is the exit status
   abbrev pub Does : (written : List ℕ → Type 0) → Job → ℕ → Type 0
-  Does written (Canon input) status = (status ≡ 0) × RunsOver standard opens
-      (λ old new. Answers IsCanonicalText (IsReadWhole remaining gives old new) written) input
+  Does written (Canon input names) status = (status ≡ 0) × RunsOver standard opens
+      (λ old new. Answers (IsTextBy names) (IsReadWhole remaining gives old new) written) input
   Does written (Check input) status = (status ≡ 0) × RunsOver standard opens
       (λ old new. (kind : FileKind)
       × Answers (IsKindLine kind) (IsReadWhole remaining gives old new) written) input
@@ -75,7 +75,7 @@ module _ {S : Type 0} (standard : S → Type 0) (opens : List ℕ → Result S E
 
   -- how a job came to this fault
   abbrev pub EndsWith : Job → RunFault → Type 0
-  EndsWith (Canon input) fault =
+  EndsWith (Canon input names) fault =
       EndsOver (ReadsUntil remaining count gives IsRefusedWith Only) fault input
   EndsWith (Check input) fault =
       EndsOver (ReadsUntil remaining count gives IsRefusedWith Only) fault input

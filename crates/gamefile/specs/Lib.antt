@@ -6,6 +6,8 @@ pub mod FaultStatus
 pub mod FileKinds
 pub mod FormFaults
 pub mod FormText
+pub mod HashText
+pub mod Hashes
 pub mod Input
 pub mod JobRun
 pub mod Opened

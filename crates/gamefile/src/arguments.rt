@@ -1,6 +1,6 @@
 //! The words that the program was started with.
 
-use crate::words::{Job, WordsFault, parse_words};
+use crate::words::{Asked, WordsFault, parse_words};
 use std::alloc::Global;
 use std::env;
 use std::env::FillError;
@@ -39,8 +39,8 @@ fn not_words(alloc: Global, kind: ErrorKind) -> WordsFault {
     }
 }
 
-/// The job that the program was started for. Words that are not UTF-8 are wrong usage.
-pub fn job_asked<R: Env + AllocGlobal>(rt: &R) -> Result<Job, WordsFault> {
+/// What the program was started for. Words that are not UTF-8 are wrong usage.
+pub fn job_asked<R: Env + AllocGlobal>(rt: &R) -> Result<Asked, WordsFault> {
     let alloc = rt.alloc();
     let given = env::args(&(BehindName { rt }, alloc)).map_err(|error| not_words(
         alloc,

@@ -39,6 +39,10 @@ become the same bytes. The layout is fixed, numbers are exact and in lowest
 terms, and the information sets and outcomes of a tree are numbered 1, 2 and so
 on in order of first use.
 
+With --no-names, the title, the comment, and the names of nodes, information
+sets and outcomes are written empty. So two files that 'same --no-names' finds
+the same become the same bytes.
+
 A file that breaks the format is refused: nothing is written, and standard error
 has one line, as in E4 at 40..43, with a code and the place in bytes from 0. The
 status is 0, or 2 if the file is refused.
@@ -84,6 +88,26 @@ pub const SAME: &str = "Say whether two game files mean the same game";
 pub const FIRST: &str = "The first game file";
 
 pub const SECOND: &str = "The second game file";
+
+pub const FILES: &str = "Game files and folders; standard input if none is named";
+
+pub const HASH: &str = "Write a hash of each game file";
+
+pub const AFTER_HASH: &str = "\
+Writes one line for each file, as sha256sum does: SHA-256 of its canonical text,
+two spaces, and its name. So files of one game have one hash. Standard input has
+the name '-'. Of a folder, all files below it are taken whose names end in .efg
+or .nfg, in letters of either case, in order of their names by bytes. No folder
+is gone through twice.
+
+A file that is refused or cannot be read has no line. Standard error has one for
+it, as in game.efg: E4 at 40..43, and the other files go on. The status is the
+worst one of all files: 0, 2, 4 or 5.
+
+With --no-names, the hash is that of the text that 'canon --no-names' writes.
+
+Example:
+  gamefile hash games > hashes.txt";
 
 pub const MAP: &str = "If two trees are the same, also write what corresponds";
 

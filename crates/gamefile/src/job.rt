@@ -37,7 +37,7 @@ fn open_file<I: Inputs>(inputs: &I, name: &str, which: Which) -> Result<I::Opene
 }
 
 /// Opens the one input of a job.
-fn open_input<I: Inputs>(inputs: &I, input: &Input) -> Result<I::Opened, RunFault>
+pub(crate) fn open_input<I: Inputs>(inputs: &I, input: &Input) -> Result<I::Opened, RunFault>
     ensures { MatchResult result
         (IsOpened (I.standard_gives inputs.now) (I.open_gives inputs.now) input.now)
         (λ fault. (fault ≡ RunFault.Read Which.Only)
@@ -106,18 +106,19 @@ fn canon<I: Inputs, W: Sink>(
     alloc: Global,
     inputs: &I,
     input: &Input,
+    names: Names,
     output: &mut W,
 ) -> Result<u8, RunFault>
     ensures { MatchResult result
         (Does (I.standard_gives inputs.now) (I.open_gives inputs.now)
         I.Opened.remaining I.Opened.pull_gives
-        (IsWritten W.contents W.push_gives output.old output.new) (Job.Canon input.now))
+        (IsWritten W.contents W.push_gives output.old output.new) (Job.Canon input.now names))
         (Fails (I.standard_gives inputs.now) (I.open_gives inputs.now)
         I.Opened.remaining I.Opened.count I.Opened.pull_gives (output.new ≡ output.old)
-        (IsWriteFault W.contents W.count W.push_gives output.old output.new) (Job.Canon input.now)) }
+        (IsWriteFault W.contents W.count W.push_gives output.old output.new) (Job.Canon input.now names)) }
 {
     let mut input = open_input(inputs, input)?;
-    run_canon(alloc, &mut input, output)?;
+    run_canon(alloc, &mut input, names, output)?;
     Ok(0)
 }
 
@@ -199,7 +200,7 @@ fn run_job<I: Inputs, W: Sink>(
         (IsWriteFault W.contents W.count W.push_gives output.old output.new) (job.now)) }
 {
     match job {
-        Job::Canon(input) => canon(alloc, inputs, input, output),
+        Job::Canon { input, names } => canon(alloc, inputs, input, *names, output),
         Job::Check(input) => check(alloc, inputs, input, output),
         Job::Table { input, reduced } => table(alloc, inputs, input, *reduced, output),
         Job::Same { a, b, map, names } => same(alloc, inputs, a, b, *map, *names, output),

@@ -5,14 +5,19 @@
 use arguments::job_asked;
 use counted::Counted;
 use ending::answer;
+use hashes::hash_words;
 use job::perform;
 use std::process::ExitCode;
+use words::Asked;
 
 mod arguments;
 mod check;
 mod counted;
 mod ending;
 mod fault;
+mod folders;
+mod hash;
+mod hashes;
 mod help;
 mod inputs;
 mod job;
@@ -33,7 +38,8 @@ fn main(rt: HostRuntime) -> ExitCode {
     let mut output = Counted::new(rt.stdout());
     let mut errors = Counted::new(rt.stderr());
     ExitCode::from(match job_asked(&rt) {
-        Ok(job) => perform(rt.alloc(), &rt, &job, &mut output, &mut errors),
+        Ok(Asked::Job(job)) => perform(rt.alloc(), &rt, &job, &mut output, &mut errors),
+        Ok(Asked::Hash { words, names }) => hash_words(&rt, words, names, &mut output, &mut errors),
         Err(fault) => answer(&fault, &mut output, &mut errors),
     })
 }

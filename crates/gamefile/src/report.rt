@@ -21,7 +21,8 @@ fn label(which: Which) -> &'static [u8]
     }
 }
 
-fn line_of(fault: &RunFault) -> Line
+/// The line of a fault.
+pub(crate) fn line_of(fault: &RunFault) -> Line
     ensures { result ≡ fault_line fault.now }
 {
     let mut line = Line::new();

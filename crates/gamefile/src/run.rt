@@ -1,7 +1,7 @@
 //! What the program does: each run reads its inputs whole, makes its output, and writes it.
 
 ghost use Rattle.std.specs.Prelude.{◌≡◌, ◌≢◌, IfErr, OnOk};
-ghost use Rattle.gf_canon.specs.Judgement.{IsCanonicalText, IsRefusedWith};
+ghost use Rattle.gf_canon.specs.Judgement.{IsRefusedWith, IsTextBy};
 ghost use Rattle.gamefile.specs.Input.{IsReadWhole};
 ghost use Rattle.gamefile.specs.Output.{IsWriteFault, IsWritten};
 ghost use Rattle.gamefile.specs.Run.{Answers, ReadsUntil};
@@ -9,16 +9,16 @@ ghost use Rattle.gamefile.specs.Run.{Answers, ReadsUntil};
 use crate::fault::{RunFault, Which};
 use crate::sink::{Sink, push_all};
 use crate::source::{Source, load};
-use gf_canon::canonical;
+use gf_canon::{Names, canonical_by};
 use std::alloc::Global;
 
-/// Writes the canonical text of the file that it reads.
+/// Writes the canonical text of the file that it reads, with its names or without.
 ///
 /// The input is read whole before it is judged, and the text is made whole before its first byte
 /// is written. So only after `Write` has a front of the text gone out, and before any other fault
 /// nothing is asked of the output.
 ///
-/// - `Refused`: the file is refused as `canonical` refuses it, or it has a byte past the first
+/// - `Refused`: the file is refused as `canonical_by` refuses it, or it has a byte past the first
 ///   16,777,216, which is the last one that is read. With E19, memory ran out for the game, the
 ///   table or the text, and there was nothing else to refuse: at a token, a file begins with the
 ///   tokens through it; at the end, the bytes are a file. No profiles pass their limit there.
@@ -28,21 +28,22 @@ use std::alloc::Global;
 pub fn run_canon<R: Source, W: Sink>(
     alloc: Global,
     input: &mut R,
+    names: Names,
     output: &mut W,
 ) -> Result<(), RunFault>
-    ensures done { OnOk result (Answers IsCanonicalText
+    ensures done { OnOk result (Answers (IsTextBy names)
         (IsReadWhole R.remaining R.pull_gives input.old input.new)
         (IsWritten W.contents W.push_gives output.old output.new)) }
 
     ensures refused { IfErr result (λ fault. ReadsUntil
         R.remaining R.count R.pull_gives IsRefusedWith Which.Only fault input.old input.new) }
     ensures untouched { IfErr result (λ fault. fault ≢ RunFault.Write → output.new ≡ output.old) }
-    ensures cut_off { result ≡ Err RunFault.Write → Answers IsCanonicalText
+    ensures cut_off { result ≡ Err RunFault.Write → Answers (IsTextBy names)
         (IsReadWhole R.remaining R.pull_gives input.old input.new)
         (IsWriteFault W.contents W.count W.push_gives output.old output.new) }
 {
     let bytes = load(alloc, input, Which::Only)?;
-    let text = canonical(alloc, &bytes).map_err(|fault| RunFault::Refused {
+    let text = canonical_by(alloc, &bytes, names).map_err(|fault| RunFault::Refused {
         which: Which::Only,
         fault,
     })?;

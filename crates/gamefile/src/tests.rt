@@ -8,6 +8,7 @@ use crate::run::run_canon;
 use crate::sink::Sink;
 use crate::source::{LIMIT, Source};
 use crate::table::{run_table, run_table_reduced};
+use gf_canon::Names;
 use gf_token::{Fault, Span, What, Why};
 use script::{
     ALL, INTERRUPTED, ScriptReader, ScriptWriter, Spaces, Step, interrupted_steps, steps,
@@ -18,6 +19,7 @@ use std::test::Fail;
 
 mod canon;
 mod forms;
+mod hash;
 mod library;
 mod same;
 mod script;
@@ -51,7 +53,7 @@ impl Run {
         output: &mut W,
     ) -> Result<(), RunFault> {
         match self {
-            Run::Canon => run_canon(alloc, input, output),
+            Run::Canon => run_canon(alloc, input, Names::Kept, output),
             Run::Check => run_check(alloc, input, output).map(|_| ()),
             Run::Table => run_table(alloc, input, output),
             Run::Reduced => run_table_reduced(alloc, input, output),

@@ -21,8 +21,11 @@ pub enum Input {
 /// What the words ask for.
 #[derive(Debug, Drop)]
 pub enum Job {
-    /// The canonical text of a file.
-    Canon(Input),
+    /// The canonical text of a file, with its names or without.
+    Canon {
+        input: Input,
+        names: Names,
+    },
     /// What a file holds.
     Check(Input),
     /// The strategic form of a tree, the reduced one where `reduced` is true; a table as it is.
@@ -37,6 +40,14 @@ pub enum Job {
         map: bool,
         names: Names,
     },
+}
+
+/// What the words ask for: one answer, or one for each of many files.
+#[derive(Debug, Drop)]
+pub enum Asked {
+    Job(Job),
+    /// The hashes of the files that these words name, with their names or without.
+    Hash { words: Vec<String>, names: Names },
 }
 
 /// Why the words ask for no job.
@@ -84,10 +95,8 @@ fn on_one_file<'a>(command: Command<'a>, alloc: Global) -> Result<Command<'a>, A
 }
 
 fn canon<'a>(alloc: Global) -> Result<Command<'a>, AllocError> {
-    on_one_file(
-        command(alloc, "canon", help::CANON, help::AFTER_CANON),
-        alloc,
-    )
+    let canon = command(alloc, "canon", help::CANON, help::AFTER_CANON);
+    on_one_file(canon.arg(flag(alloc, "no-names", help::NO_NAMES))?, alloc)
 }
 
 fn check<'a>(alloc: Global) -> Result<Command<'a>, AllocError> {
@@ -122,6 +131,16 @@ fn with_two_files<'a>(command: Command<'a>, alloc: Global) -> Result<Command<'a>
         .arg(named(alloc, "B", help::SECOND))
 }
 
+fn hash<'a>(alloc: Global) -> Result<Command<'a>, AllocError> {
+    let files = Arg::new(alloc, "FILES")
+        .num_args(..)
+        .value_name("FILE|FOLDER")
+        .help(help::FILES);
+    command(alloc, "hash", help::HASH, help::AFTER_HASH)
+        .arg(flag(alloc, "no-names", help::NO_NAMES))?
+        .arg(files)
+}
+
 fn same<'a>(alloc: Global) -> Result<Command<'a>, AllocError> {
     let same = command(alloc, "same", help::SAME, help::AFTER_SAME);
     with_two_files(with_same_options(same, alloc)?, alloc)
@@ -154,7 +173,8 @@ fn with_commands_on_one<'a>(
 }
 
 fn gamefile<'a>(alloc: Global) -> Result<Command<'a>, AllocError> {
-    having(with_commands_on_one(program(alloc)?, alloc)?, same(alloc))
+    let program = with_commands_on_one(program(alloc)?, alloc)?;
+    having(having(program, same(alloc))?, hash(alloc))
 }
 
 fn input_of(alloc: Global, matches: &ArgMatches<'_>) -> Result<Input, AllocError> {
@@ -176,18 +196,48 @@ fn table_of(alloc: Global, matches: &ArgMatches<'_>) -> Result<Job, AllocError> 
     })
 }
 
-fn same_of(alloc: Global, matches: &ArgMatches<'_>) -> Result<Job, AllocError> {
-    let names = if matches.get_flag("no-names") {
+fn names_of(matches: &ArgMatches<'_>) -> Names {
+    if matches.get_flag("no-names") {
         Names::Aside
     } else {
         Names::Kept
-    };
+    }
+}
+
+fn canon_of(alloc: Global, matches: &ArgMatches<'_>) -> Result<Job, AllocError> {
+    Ok(Job::Canon {
+        input: input_of(alloc, matches)?,
+        names: names_of(matches),
+    })
+}
+
+fn same_of(alloc: Global, matches: &ArgMatches<'_>) -> Result<Job, AllocError> {
     Ok(Job::Same {
         a: name_of(alloc, matches, "A")?,
         b: name_of(alloc, matches, "B")?,
         map: matches.get_flag("map"),
-        names,
+        names: names_of(matches),
     })
+}
+
+fn hash_of(alloc: Global, matches: &ArgMatches<'_>) -> Result<Asked, AllocError> {
+    let mut words = Vec::new(alloc);
+    if let Some(given) = matches.get_strs("FILES") {
+        for word in given {
+            words.push(String::from_str(alloc, word)?)?;
+        }
+    }
+    Ok(Asked::Hash {
+        words,
+        names: names_of(matches),
+    })
+}
+
+fn asked_of(alloc: Global, matches: &ArgMatches<'_>) -> Result<Asked, AllocError> {
+    match matches.subcommand() {
+        Some(("hash", inner)) => hash_of(alloc, inner),
+        _ => Ok(Asked::Job(job_of(alloc, matches)?)),
+    }
 }
 
 fn job_of(alloc: Global, matches: &ArgMatches<'_>) -> Result<Job, AllocError> {
@@ -195,8 +245,11 @@ fn job_of(alloc: Global, matches: &ArgMatches<'_>) -> Result<Job, AllocError> {
         Some(("check", inner)) => Ok(Job::Check(input_of(alloc, inner)?)),
         Some(("table", inner)) => table_of(alloc, inner),
         Some(("same", inner)) => same_of(alloc, inner),
-        Some((_, inner)) => Ok(Job::Canon(input_of(alloc, inner)?)),
-        None => Ok(Job::Canon(Input::Standard)),
+        Some((_, inner)) => canon_of(alloc, inner),
+        None => Ok(Job::Canon {
+            input: Input::Standard,
+            names: Names::Kept,
+        }),
     }
 }
 
@@ -233,18 +286,18 @@ fn fault_of(alloc: Global, error: &Error, words: &[&str]) -> Result<WordsFault, 
     })
 }
 
-/// What the words behind the program's name ask for: `canon [FILE]`, `check [FILE]`,
-/// `table [--reduced] [FILE]`, `same [--map | --no-names] A B`, or none of these, which is `canon` of
-/// standard input.
+/// What the words behind the program's name ask for: `canon [--no-names] [FILE]`, `check [FILE]`,
+/// `table [--reduced] [FILE]`, `same [--map | --no-names] A B`, `hash [--no-names] [FILE|FOLDER]..`, or
+/// none of these, which is `canon` of standard input.
 ///
 /// - `Help`: the words ask for help, as `--help` does, or `help`, behind a command too; or for the
 ///   version, as `--version` or `-V` does, but not behind a command.
 /// - `Usage`: they are no such words.
 /// - `Memory`: memory ran out. If it ran out while the words were judged, `Usage` may come in its
 ///   place.
-pub fn parse_words<'a>(alloc: Global, words: &'a [&'a str]) -> Result<Job, WordsFault> {
+pub fn parse_words<'a>(alloc: Global, words: &'a [&'a str]) -> Result<Asked, WordsFault> {
     match gamefile(alloc)?.try_get_matches_from(words) {
-        Ok(matches) => Ok(job_of(alloc, &matches)?),
+        Ok(matches) => Ok(asked_of(alloc, &matches)?),
         Err(error) => Err(fault_of(alloc, &error, words)?),
     }
 }

@@ -4,6 +4,7 @@ use super::trees::{FIVE, FIVE_TEXT};
 use crate::counted::Counted;
 use crate::fault::{RunFault, Which};
 use crate::run::run_canon;
+use gf_canon::Names;
 use gf_token::{Fault, Span, Why};
 use std::alloc::Global;
 
@@ -29,6 +30,7 @@ pub(super) fn canon(alloc: Global, mut input: &[u8]) -> (Result<(), RunFault>, V
     let answer = run_canon(
         alloc,
         &mut Counted::new(&mut input),
+        Names::Kept,
         &mut Counted::new(&mut output),
     );
     (answer, output)

@@ -1,12 +1,13 @@
 //! Words of the command line: which job they ask for, and which are wrong.
 
-use crate::words::{WordsFault, parse_words};
+use crate::words::{Asked, WordsFault, parse_words};
 use std::alloc::{AllocError, Global};
 
 /// What the words ask for, or the kind of answer that they have.
 fn asked(alloc: Global, words: &[&str]) -> Result<String, AllocError> {
     match parse_words(alloc, words) {
-        Ok(job) => format!(in alloc; "{job:?}"),
+        Ok(Asked::Job(job)) => format!(in alloc; "{job:?}"),
+        Ok(hash) => format!(in alloc; "{hash:?}"),
         Err(WordsFault::Help(_)) => String::from_str(alloc, "help"),
         Err(WordsFault::Usage(_)) => String::from_str(alloc, "usage"),
         Err(WordsFault::Memory) => String::from_str(alloc, "memory"),
@@ -15,9 +16,12 @@ fn asked(alloc: Global, words: &[&str]) -> Result<String, AllocError> {
 
 #[test]
 fn ask_for_jobs(rt: HostRuntime) -> Result<(), AllocError> {
-    let rows: [(&[&str], &str); 8] = [
-        (&[], "Canon(Standard)"),
-        (&["canon", "a.efg"], "Canon(File(\"a.efg\"))"),
+    let rows: [(&[&str], &str); 10] = [
+        (&[], "Canon { input: Standard, names: Kept }"),
+        (
+            &["canon", "a.efg"],
+            "Canon { input: File(\"a.efg\"), names: Kept }",
+        ),
         (&["check", "-"], "Check(File(\"-\"))"),
         (&["table"], "Table { input: Standard, reduced: false }"),
         (
@@ -35,6 +39,14 @@ fn ask_for_jobs(rt: HostRuntime) -> Result<(), AllocError> {
         (
             &["same", "a", "--no-names", "b"],
             "Same { a: \"a\", b: \"b\", map: false, names: Aside }",
+        ),
+        (
+            &["canon", "--no-names", "a.efg"],
+            "Canon { input: File(\"a.efg\"), names: Aside }",
+        ),
+        (
+            &["hash", "a", "--no-names", "b"],
+            "Hash { words: [\"a\", \"b\"], names: Aside }",
         ),
     ];
     for (words, job) in rows {
