@@ -1,6 +1,7 @@
 //! The words that the program was started with.
 
-use crate::words::{Asked, WordsFault, parse_words};
+use crate::words::parse_words;
+use gf_run::{Asked, WordsFault};
 use std::alloc::Global;
 use std::env;
 use std::env::FillError;

@@ -3,35 +3,11 @@
 #![tactic(auto)]
 
 use arguments::job_asked;
-use counted::Counted;
-use ending::answer;
-use hashes::hash_words;
-use job::perform;
+use gf_run::{Asked, Counted, answer, hash_words, perform};
 use std::process::ExitCode;
-use words::Asked;
 
 mod arguments;
-mod check;
-mod counted;
-mod ending;
-mod fault;
-mod folders;
-mod hash;
-mod hashes;
 mod help;
-mod inputs;
-mod job;
-mod line;
-mod opened;
-mod renumbering_text;
-mod report;
-mod run;
-mod same;
-mod same_text;
-mod sink;
-mod source;
-mod table;
-mod turns;
 mod words;
 
 fn main(rt: HostRuntime) -> ExitCode {

@@ -1,14 +1,10 @@
 //! Runs with readers and writers that answer in pieces, are interrupted or fail.
 
-use crate::check::run_check;
-use crate::counted::Counted;
-use crate::fault::{RunFault, Which, WriteFault, answer_status, status};
-use crate::report::write_fault;
-use crate::run::run_canon;
-use crate::sink::Sink;
-use crate::source::{LIMIT, Source};
-use crate::table::{run_table, run_table_reduced};
 use gf_canon::Names;
+use gf_run::{
+    Counted, LIMIT, RunFault, Sink, Source, Which, WriteFault, answer_status, run_canon, run_check,
+    run_table, run_table_reduced, status, write_fault,
+};
 use gf_token::{Fault, Span, What, Why};
 use script::{
     ALL, INTERRUPTED, ScriptReader, ScriptWriter, Spaces, Step, interrupted_steps, steps,

@@ -1,10 +1,8 @@
 //! Runs that write canonical text.
 
 use super::trees::{FIVE, FIVE_TEXT};
-use crate::counted::Counted;
-use crate::fault::{RunFault, Which};
-use crate::run::run_canon;
 use gf_canon::Names;
+use gf_run::{Counted, RunFault, Which, run_canon};
 use gf_token::{Fault, Span, Why};
 use std::alloc::Global;
 

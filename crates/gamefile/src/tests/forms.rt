@@ -7,7 +7,6 @@ use std::alloc::{AllocError, Global};
 use std::process::Abort;
 use std::test::Fail;
 
-mod random;
 mod tables;
 
 /// Outcomes at an inner node and at leaves, and a player who never moves.

@@ -1,9 +1,8 @@
 //! Runs that write hashes.
 
 use super::trees::FIVE;
-use crate::counted::Counted;
-use crate::hash::run_hash;
 use gf_canon::Names;
+use gf_run::{Counted, run_hash};
 
 /// By `sha256sum` of the canonical text.
 const FIVE_LINE: &[u8] =

@@ -4,6 +4,5 @@
 mod due;
 mod games;
 mod parts;
-mod random;
 mod renumbered;
 mod strategic;

@@ -1,12 +1,8 @@
 //! Runs that compare two files: what is answered and written, and which input a fault is about.
 
 use super::trees::FIVE;
-use crate::counted::Counted;
-use crate::fault::{RunFault, Which};
-use crate::same::{run_same, run_same_by, run_same_map};
-use crate::sink::Sink;
-use crate::source::Source;
 use gf_canon::Names;
+use gf_run::{Counted, RunFault, Sink, Source, Which, run_same, run_same_by, run_same_map};
 use gf_token::{Fault, Span, What, Why};
 use std::alloc::Global;
 

@@ -1,6 +1,7 @@
 //! Words of the command line: which job they ask for, and which are wrong.
 
-use crate::words::{Asked, WordsFault, parse_words};
+use crate::words::parse_words;
+use gf_run::{Asked, WordsFault};
 use std::alloc::{AllocError, Global};
 
 /// What the words ask for, or the kind of answer that they have.

@@ -1,7 +1,7 @@
 //! Games by other numbers, and the renumbering between two games.
 
-use crate::tests::trees::FIVE;
-use gf_canon::{Renumbering, renumbering, write_efg};
+use crate::tests::trees::{FIVE, FIVE_TEXT};
+use gf_canon::{Renumbering, renumber, renumbering, write_efg};
 use gf_tree::{Game, read_efg};
 use std::alloc::{AllocError, Global};
 use std::process::Abort;
@@ -48,6 +48,14 @@ fn writes_the_numbers_that_a_game_has(rt: HostRuntime) -> Result<(), Fail> {
     let copy = renumbered(rt.alloc(), &game)?.expect(&rt, "a game by these numbers");
     let text = text_of(rt.alloc(), &copy)?;
     assert!(rt; text.strip_prefix(b"; ".as_slice()) == Some(COPY_TEXT));
+    Ok(())
+}
+
+#[test]
+fn numbers_a_game_by_first_use(rt: HostRuntime) -> Result<(), Fail> {
+    let copy = read_efg(rt.alloc(), COPY_TEXT).expect(&rt, "an extensive file");
+    let text = text_of(rt.alloc(), &renumber(rt.alloc(), &copy)?)?;
+    assert!(rt; text.strip_prefix(b"; ".as_slice()) == Some(FIVE_TEXT));
     Ok(())
 }
 

@@ -1,14 +1,11 @@
 //! Two readers and a writer that answer in pieces, are interrupted or fail.
 
 use super::{RUNS, Run, compare, refused};
-use crate::counted::Counted;
-use crate::fault::{RunFault, Which};
-use crate::sink::Sink;
-use crate::source::{LIMIT, Source};
 use crate::tests::script::{
     ALL, INTERRUPTED, ScriptReader, ScriptWriter, Spaces, Step, interrupted_steps, steps,
 };
 use crate::tests::trees::{FIVE, FIVE_BY_OTHER_NUMBERS};
+use gf_run::{Counted, LIMIT, RunFault, Sink, Source, Which};
 use gf_token::Why;
 use std::alloc::Global;
 use std::io::ErrorKind;

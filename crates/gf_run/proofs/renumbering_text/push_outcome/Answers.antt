@@ -1,0 +1,27 @@
+use Rattle.std.proofs.Common.{ℕ, List, ◌++◌, ap, sym, ◌∙◌}
+use Rattle.gf_token.specs.Positions.{at_position}
+use Rattle.gf_tree.specs.FirstUse.{outcome_numbers}
+use Rattle.gf_run.specs.SameText.{outcome_line}
+use Rattle.gf_run.proofs.CarriedLines.{line_of, no_line_of, outcome_carried}
+use Rattle.gf_run.proofs.renumbering_text.push_outcome.Goals as goal
+
+pub returns-in_default : goal.returns-in_default
+returns-in_default c = λ r carries.
+    no_line_of r.outcome outcome_line
+    (at_position (outcome_numbers c.args.g.now) c.args.i)
+    (at_position (outcome_numbers c.args.h.now) c.args.i)
+    (outcome_carried r c.args.g.now c.args.h.now c.requires carries c.args.i)
+    (λ n m here there. absurd (cc (c.in_default.ensures', there)))
+    c.args.text.now.items
+
+pub returns : goal.returns
+returns c = λ r carries.
+    c.in_ok-extend_from_slice.ensures.items
+    ∙ ap (λ (bs : List ℕ). c.args.text.now.items ++ bs)
+    (c.as_slice.ensures ∙ c.outcome_line.ensures)
+    ∙ line_of r.outcome outcome_line
+    (at_position (outcome_numbers c.args.g.now) c.args.i)
+    (at_position (outcome_numbers c.args.h.now) c.args.i)
+    (outcome_carried r c.args.g.now c.args.h.now c.requires carries c.args.i)
+    c.in-Some-Some.number c.in-Some-Some.new_number (sym c.in-Some-Some.ensures)
+    (sym c.in-Some-Some.ensures') c.args.text.now.items

@@ -1,0 +1,35 @@
+-- The line on standard error of each fault of a run.
+use Rattle.std.specs.Prelude.{ℕ, List, [], ◌++◌, codes, decimal}
+use Rattle.gf_token.specs.Code.{code_of}
+use Rattle.gf_token.specs.declared.fault.Fault.{Fault}
+use Rattle.gf_form.specs.declared.fault.FormFault.{FormFault}
+use Rattle.gf_form.specs.declared.fault.FormFault.TheVariants as form
+use Rattle.gf_run.specs.declared.fault.RunFault.{RunFault}
+use Rattle.gf_run.specs.declared.fault.RunFault.TheVariants.{Refused, Read, Write, Form, Memory}
+use Rattle.gf_run.specs.declared.fault.Which.{Which}
+use Rattle.gf_run.specs.declared.fault.Which.TheVariants.{Only, First, Second}
+
+-- what a line about an input begins with
+abbrev pub label_of : Which → List ℕ
+label_of Only = []
+label_of First = codes "A: "
+label_of Second = codes "B: "
+
+-- a refusal's code and place
+abbrev pub place_text : Fault → List ℕ
+place_text fault = codes "E" ++ decimal (code_of fault.why)
+    ++ codes " at " ++ decimal fault.span.start ++ codes ".." ++ decimal fault.span.end
+
+-- why a game has no table
+abbrev pub form_text : FormFault → List ℕ
+form_text form.TooManyProfiles = codes "too many profiles"
+form_text (form.Overflow profile) = codes "overflow at profile " ++ decimal profile
+form_text form.Memory = codes "E19"
+
+-- the line of a fault, with its line feed
+abbrev pub fault_line : RunFault → List ℕ
+fault_line (Refused which fault) = label_of which ++ place_text fault ++ codes "\n"
+fault_line (Read which) = label_of which ++ codes "E20\n"
+fault_line Write = codes "E21\n"
+fault_line (Form fault) = form_text fault ++ codes "\n"
+fault_line Memory = codes "E19\n"

@@ -1,0 +1,84 @@
+-- What is written of a file as a table: the strategic form of a tree, or the reduced one, and a
+-- table itself.
+use Rattle.std.specs.Prelude.{◌≡◌, ◌≤◌, ℕ, List, length, Option, Result}
+use Rattle.std.specs.declared.io.Error.{Error}
+use Rattle.gf_nfg.specs.Table.{Table}
+use Rattle.gf_nfg.specs.TableText.{table_text}
+use Rattle.gf_tree.specs.Game.{Game}
+use Rattle.gf_canon.specs.GameFile.{GameFile}
+use Rattle.gf_canon.specs.GameFile.GameFile.{extensive, strategic}
+use Rattle.gf_canon.specs.Judgement.{IsRefusedWith, SpellsWithin}
+use Rattle.gf_form.specs.Reduced.{IsReducedForm}
+use Rattle.gf_form.specs.Refusal.{HasTooManyProfiles, OverflowsAt, ReducedOverflowsAt}
+use Rattle.gf_form.specs.StrategicForm.{IsStrategicForm}
+use Rattle.gf_form.specs.declared.fault.FormFault.{FormFault}
+use Rattle.gf_form.specs.declared.fault.FormFault.TheVariants as form
+use Rattle.gf_run.specs.declared.fault.RunFault.{RunFault}
+use Rattle.gf_run.specs.declared.fault.RunFault.TheVariants.{Refused, Write, Form, Memory}
+use Rattle.gf_run.specs.declared.fault.Which.TheVariants.{Only}
+use Rattle.gf_run.specs.declared.table.Strategies.{Strategies}
+use Rattle.gf_run.specs.declared.table.Strategies.TheVariants.{Pure, Reduced}
+use Rattle.gf_run.specs.Input.{IsNotRead, IsReadWhole}
+
+-- the form of a game by its pure or by its reduced strategies
+abbrev pub IsFormBy : Strategies → Game → Table → Type 0
+IsFormBy Pure g t = IsStrategicForm g t
+IsFormBy Reduced g t = IsReducedForm g t
+
+-- the first profile of these at which not each player has a bottom-up value
+abbrev pub OverflowsBy : Strategies → Game → ℕ → Type 0
+OverflowsBy Pure g profile = OverflowsAt g profile
+OverflowsBy Reduced g profile = ReducedOverflowsAt g profile
+
+-- why no table is made of a file: of one that is a table there is always one
+abbrev pub IsWithoutForm : Strategies → GameFile → FormFault → Type 0
+IsWithoutForm strategies (extensive g) form.TooManyProfiles = HasTooManyProfiles g
+IsWithoutForm strategies (extensive g) (form.Overflow profile) =
+    ¬ (HasTooManyProfiles g) × OverflowsBy strategies g profile
+IsWithoutForm strategies _ _ = ⊥
+
+-- the form of a game, where nothing stands against it; a table is its own
+abbrev pub IsFormOf : Strategies → GameFile → Table → Type 0
+IsFormOf strategies (extensive g) t = IsFormBy strategies g t
+    × ((fault : FormFault) → ¬ (IsWithoutForm strategies (extensive g) fault))
+IsFormOf strategies (strategic s) t = t ≡ s
+
+-- as many players at most as can be counted in a table
+abbrev pub HasFewPlayers : GameFile → Type 0
+HasFewPlayers (extensive g) = length g.players ≤ 4294967295
+HasFewPlayers (strategic t) = Unit {0}
+
+-- the bytes mean a file within the limit, and this is the canonical text of its table
+pub record IsFormText (strategies : Strategies) (bytes text : List ℕ) : Type 0 where
+  pub file : GameFile
+  pub spelled : SpellsWithin bytes file
+  pub table : Table
+  pub is_form : IsFormOf strategies file table
+  pub is_text : text ≡ table_text table
+
+-- why a file that is right has no answer: no table is made of its game, or memory or the writer
+-- failed
+abbrev pub IsFormFault : Strategies → GameFile → RunFault → Type 0
+IsFormFault strategies x (Form fault) = IsWithoutForm strategies x fault
+IsFormFault strategies x Write = Unit {0}
+IsFormFault strategies x Memory = Unit {0}
+IsFormFault strategies _ _ = ⊥
+
+-- why bytes that were read whole have no answer: they are refused, or mean a file without one
+abbrev pub IsFaultOfBytes : Strategies → List ℕ → RunFault → Type 0
+IsFaultOfBytes strategies bytes (Refused which fault) =
+    (which ≡ Only) × IsRefusedWith bytes fault
+IsFaultOfBytes strategies bytes fault =
+    (x : GameFile) × SpellsWithin bytes x × IsFormFault strategies x fault
+
+-- of a reader: the bytes that it has left, where it tells them, its count of failures, and what
+-- a pull gives
+module _ {S : Type 0} (remaining : S → Option (List ℕ)) (count : S → ℕ)
+    (gives : S → List ℕ → Result ℕ Error → S → Type 0) where
+  -- how far a run that has no answer read its input: not to its end, or whole
+  pub data ReadsFormUntil (strategies : Strategies) (fault : RunFault) (old new : S)
+      : Type 0 where
+    not_read : IsNotRead remaining count gives Only fault old new
+        → ReadsFormUntil strategies fault old new
+    read : (bytes : List ℕ) → IsReadWhole remaining gives old new bytes
+        → IsFaultOfBytes strategies bytes fault → ReadsFormUntil strategies fault old new

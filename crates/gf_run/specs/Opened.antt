@@ -1,0 +1,18 @@
+-- What an open input shows.
+use Rattle.std.specs.Prelude.{ℕ, List, Option}
+use Rattle.gf_run.specs.declared.opened.Opened.{Opened}
+use Rattle.gf_run.specs.declared.opened.Opened.TheVariants.{Standard, File}
+
+-- the bytes that it has left, where that which it reads tells them
+abbrev pub remaining_of : {S F : Type 0} → (S → Option (List ℕ)) → (F → Option (List ℕ))
+    → Opened S F → Option (List ℕ)
+remaining_of standard file (Standard input) = standard input
+remaining_of standard file (File input) = file input
+
+abbrev pub IsStandard : {S F : Type 0} → Opened S F → Type 0
+IsStandard (Standard input) = Unit {0}
+IsStandard (File input) = ⊥
+
+abbrev pub IsFile : {S F : Type 0} → Opened S F → Type 0
+IsFile (Standard input) = ⊥
+IsFile (File input) = Unit {0}

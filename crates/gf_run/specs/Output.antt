@@ -1,0 +1,43 @@
+-- How an output is written.
+use Rattle.std.specs.Prelude.{◌≡◌, ℕ, ◌<◌, ◌⊎◌, List, ◌++◌, length, Option, Result}
+use Rattle.std.specs.Io.KnownBytes.{Appends}
+use Rattle.std.specs.declared.io.Error.{Error}
+use Rattle.gf_run.specs.Failures.{HasRisen}
+use Rattle.gf_run.specs.Turns.{GivesUp, Moves, Transfers}
+
+-- these bytes are offered
+abbrev pub IsOffer : List ℕ → List ℕ → Type 0
+IsOffer offered bytes = bytes ≡ offered
+
+-- what is left of a text behind the bytes that were taken
+abbrev pub IsRest : List ℕ → List ℕ → List ℕ → Type 0
+IsRest text taken rest = taken ++ rest ≡ text
+
+-- of a writer: what a push gives
+module _ {S : Type 0} (gives : S → List ℕ → Result ℕ Error → S → Type 0) where
+  -- the writer gave up, or took nothing
+  abbrev pub Stops : (List ℕ → Type 0) → S → S → Type 0
+  Stops P old new = GivesUp gives P old new ⊎ ((bytes : List ℕ) × Moves gives P bytes 0 old new)
+
+-- of a writer: the bytes that it holds, where it tells them, and what a push gives
+module _ {S : Type 0} (contents : S → Option (List ℕ))
+    (gives : S → List ℕ → Result ℕ Error → S → Type 0) where
+  -- a text was taken whole: each turn offered what was left of it
+  pub record IsWritten (old new : S) (text : List ℕ) : Type 0 where
+    pub appended : Appends (contents old) (contents new) text
+    pub turns : Transfers gives (IsRest text) text old new
+
+-- of a writer: its count of failures too
+module _ {S : Type 0} (contents : S → Option (List ℕ)) (count : S → ℕ)
+    (gives : S → List ℕ → Result ℕ Error → S → Type 0) where
+  -- a front of a text was taken, less than the whole, and then the writer failed, which was counted
+  pub record IsWriteFault (old new : S) (text : List ℕ) : Type 0 where
+    pub taken : List ℕ
+    pub rest : List ℕ
+    pub front : IsRest text taken rest
+    pub less : 0 < length rest
+    pub appended : Appends (contents old) (contents new) taken
+    pub counted : HasRisen (count old) (count new)
+    pub mid : S
+    pub turns : Transfers gives (IsRest text) taken old mid
+    pub last : Stops gives (IsRest text taken) mid new

@@ -1,0 +1,118 @@
+//! How a run may fail, and its exit status.
+
+ghost use Rattle.std.specs.Prelude.{◌≡◌};
+ghost use Rattle.gf_run.specs.FaultStatus.{answer_status, status_of};
+ghost use Rattle.gf_run.specs.FormFaults.{form_fault};
+ghost use Rattle.gf_run.specs.SameFaults.{fault_of};
+ghost use Rattle.gf_run.specs.declared.fault.RunFault.TheVariants.{Memory, Write};
+
+use gf_canon::SameFault;
+use gf_form::FormFault;
+use gf_token::{Fault, Why};
+use std::alloc::AllocError;
+use thiserror::Error;
+
+/// The input that a fault is about.
+#[derive(Clone, Copy, Debug, PartialEq, Eq, Hash)]
+pub enum Which {
+    /// The one input of a run.
+    Only,
+    /// The first of two.
+    First,
+    /// The second of two.
+    Second,
+}
+
+/// Why a run ended without its answer.
+#[derive(Clone, Copy, Debug, PartialEq, Eq, Hash, Error)]
+pub enum RunFault {
+    /// An input is refused.
+    #[error("refused: E{} at {}..{}", .fault.why.code(), .fault.span.start, .fault.span.end)]
+    Refused { which: Which, fault: Fault },
+    /// The reader of an input failed.
+    #[error("the input could not be read")]
+    Read(Which),
+    /// The writer failed.
+    #[error("the output could not be written")]
+    Write,
+    /// A game has no table. For want of memory it is `Memory` below that a run answers.
+    #[error("the game has no table")]
+    Form(FormFault),
+    /// Memory ran out.
+    #[error("memory ran out")]
+    Memory,
+}
+
+impl From<AllocError> for RunFault {
+    ghost from_gives = { λ _ fault. fault ≡ Memory };
+
+    fn from(_: AllocError) -> RunFault {
+        RunFault::Memory
+    }
+}
+
+impl From<SameFault> for RunFault {
+    ghost from_gives = { λ same fault. fault ≡ fault_of same };
+
+    fn from(same: SameFault) -> RunFault {
+        match same {
+            SameFault::First(fault) => RunFault::Refused {
+                which: Which::First,
+                fault,
+            },
+            SameFault::Second(fault) => RunFault::Refused {
+                which: Which::Second,
+                fault,
+            },
+            SameFault::Memory => RunFault::Memory,
+        }
+    }
+}
+
+impl From<FormFault> for RunFault {
+    ghost from_gives = { λ form fault. fault ≡ form_fault form };
+
+    fn from(form: FormFault) -> RunFault {
+        match form {
+            FormFault::Memory => RunFault::Memory,
+            form => RunFault::Form(form),
+        }
+    }
+}
+
+/// The writer failed.
+#[derive(Clone, Copy, Debug, PartialEq, Eq, Hash, Error)]
+#[error("the text could not be written")]
+pub struct WriteFault;
+
+impl From<WriteFault> for RunFault {
+    ghost from_gives = { λ _ fault. fault ≡ Write };
+
+    fn from(_: WriteFault) -> RunFault {
+        RunFault::Write
+    }
+}
+
+/// The exit status of a fault: 2 for a refusal, and for a game that has no table; 4 where a reader or
+/// the writer failed; and 5 for want of memory.
+pub fn status(fault: &RunFault) -> u8
+    ensures { result ≡ status_of fault.now }
+{
+    match fault {
+        RunFault::Refused { fault, .. } => match fault.why {
+            Why::Memory => 5,
+            _ => 2,
+        },
+        RunFault::Form(FormFault::TooManyProfiles | FormFault::Overflow { .. }) => 2,
+        RunFault::Read(_) | RunFault::Write => 4,
+        RunFault::Form(FormFault::Memory) | RunFault::Memory => 5,
+    }
+}
+
+/// The exit status of an answer whether two files mean the same: 0 where they do, and 1 where they
+/// differ.
+pub fn answer_status(same: bool) -> u8
+    ensures { result ≡ answer_status same }
+{
+    if same { 0 } else { 1 }
+}

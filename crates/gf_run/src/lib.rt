@@ -1,0 +1,43 @@
+//! What the program does for a job: it opens and reads game files, writes the answer, and tells a
+//! fault in one line with an exit status. Over any readers and writers.
+#![tactic(auto)]
+
+mod asked;
+mod check;
+mod counted;
+mod ending;
+mod fault;
+mod folders;
+mod hash;
+mod hashes;
+mod inputs;
+mod job;
+mod line;
+mod opened;
+mod renumbering_text;
+mod report;
+mod run;
+mod same;
+mod same_text;
+mod sink;
+mod source;
+mod table;
+mod turns;
+
+pub use asked::{Asked, Input, Job, WordsFault};
+pub use check::run_check;
+pub use counted::Counted;
+pub use ending::{answer, tell};
+pub use fault::{RunFault, Which, WriteFault, answer_status, status};
+pub use folders::files_named;
+pub use hash::run_hash;
+pub use hashes::{hash_words, run_hashes};
+pub use inputs::Inputs;
+pub use job::perform;
+pub use opened::Opened;
+pub use report::write_fault;
+pub use run::run_canon;
+pub use same::{run_same, run_same_by, run_same_map};
+pub use sink::Sink;
+pub use source::{LIMIT, Source};
+pub use table::{run_table, run_table_reduced};
