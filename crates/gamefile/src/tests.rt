@@ -1,4 +1,4 @@
-//! Runs with readers and writers that answer in pieces, are interrupted or fail.
+//! Runs with readers and writers that answer in pieces or are interrupted, and the lines of faults.
 
 use gf_canon::Names;
 use gf_run::{
@@ -6,11 +6,8 @@ use gf_run::{
     run_table, run_table_reduced, status, write_fault,
 };
 use gf_token::{Fault, Span, What, Why};
-use script::{
-    ALL, INTERRUPTED, ScriptReader, ScriptWriter, Spaces, Step, interrupted_steps, steps,
-};
+use script::{ALL, ScriptReader, ScriptWriter, Step, interrupted_steps};
 use std::alloc::Global;
-use std::io::ErrorKind;
 use std::test::Fail;
 
 mod canon;
@@ -119,88 +116,11 @@ fn goes_on_after_short_and_interrupted_answers(rt: HostRuntime) -> Result<(), Fa
     Ok(())
 }
 
-#[test]
-fn stops_where_the_reader_fails(rt: HostRuntime) -> Result<(), Fail> {
-    let alloc = rt.alloc();
-    let broken = Step::Fail(ErrorKind::ConnectionReset);
-    for before in 0..=INPUT.len() {
-        let rows = [
-            (steps(alloc, before, Step::Move(1), broken)?, 1),
-            (steps(alloc, before, Step::Move(1), INTERRUPTED)?, 16),
-        ];
-        for (reads, failures) in &rows {
-            for run in RUNS {
-                let outcome = outcome_of(alloc, run, reads.as_slice(), &[ALL]);
-                let fault = RunFault::Read(Which::Only);
-                assert_eq!(rt; outcome.answer, Err(fault), "{run:?} after {before}");
-                assert_eq!(rt; outcome.read_failures, *failures, "{run:?} after {before}");
-                assert!(rt; outcome.output.is_empty(), "{run:?} after {before}");
-            }
-        }
-    }
-    Ok(())
-}
-
-#[test]
-fn stops_where_the_writer_fails(rt: HostRuntime) -> Result<(), Fail> {
-    let alloc = rt.alloc();
-    let broken = Step::Fail(ErrorKind::StorageFull);
-    for run in RUNS {
-        let text = run.output();
-        for before in 0..text.len() {
-            let rows = [
-                (steps(alloc, before, Step::Move(1), broken)?, 1),
-                (steps(alloc, before, Step::Move(1), Step::Move(0))?, 1),
-                (steps(alloc, before, Step::Move(1), INTERRUPTED)?, 16),
-            ];
-            for (writes, failures) in &rows {
-                let outcome = outcome_of(alloc, run, &[ALL], writes.as_slice());
-                assert_eq!(rt;
-                    outcome.answer,
-                    Err(RunFault::Write),
-                    "{run:?} after {before}"
-                );
-                assert_eq!(rt; outcome.write_failures, *failures, "{run:?} after {before}");
-                assert_eq!(rt; outcome.output.as_slice(), &text[..before]);
-            }
-        }
-    }
-    Ok(())
-}
-
 fn refused(which: Which, start: usize, end: usize, why: Why) -> RunFault {
     RunFault::Refused {
         which,
         fault: Fault::at(Span { start, end }, why),
     }
-}
-
-#[test]
-fn refuses_what_is_too_long(rt: HostRuntime) -> Result<(), Fail> {
-    let alloc = rt.alloc();
-    let no_format = Why::Expected(What::Format);
-    let too_long = refused(Which::Only, LIMIT, LIMIT, Why::TooLong);
-    let rows = [
-        (0, refused(Which::Only, 0, 0, no_format), 0),
-        (LIMIT, refused(Which::Only, LIMIT, LIMIT, no_format), 0),
-        (LIMIT + 1, too_long, 0),
-        (usize::MAX, too_long, usize::MAX - LIMIT - 1),
-    ];
-    for (count, fault, left) in rows {
-        for run in RUNS {
-            let mut spaces = Spaces { left: count };
-            let mut output = Vec::new(alloc);
-            let answer = run.over(
-                alloc,
-                &mut Counted::new(&mut spaces),
-                &mut Counted::new(&mut output),
-            );
-            assert_eq!(rt; answer, Err(fault), "{run:?} of {count} spaces");
-            assert_eq!(rt; spaces.left, left, "{run:?} of {count} spaces");
-            assert!(rt; output.is_empty(), "{run:?} of {count} spaces");
-        }
-    }
-    Ok(())
 }
 
 /// The line that is written of a fault.

@@ -1,12 +1,12 @@
 //! Runs that compare two files: what is answered and written, and which input a fault is about.
 
-use super::trees::FIVE;
+use super::trees::{FIVE, FIVE_BY_OTHER_NUMBERS};
 use gf_canon::Names;
 use gf_run::{Counted, RunFault, Sink, Source, Which, run_same, run_same_by, run_same_map};
 use gf_token::{Fault, Span, What, Why};
 use std::alloc::Global;
 
-mod streams;
+const MAP: &[u8] = b"same\nset 0 9 2\nset 1 7 3\nset 1 3 8\noutcome 4 2\n";
 
 #[derive(Clone, Copy, Debug)]
 enum Run {
@@ -58,6 +58,19 @@ fn refused(which: Which, start: usize, end: usize, why: Why) -> RunFault {
     RunFault::Refused {
         which,
         fault: Fault::at(Span { start, end }, why),
+    }
+}
+
+#[test]
+fn finds_two_spellings_the_same(rt: HostRuntime) {
+    for run in RUNS {
+        let line: &[u8] = match run {
+            Run::SameMap => MAP,
+            _ => b"same\n",
+        };
+        let (answer, text) = compare_texts(rt.alloc(), run, FIVE, FIVE_BY_OTHER_NUMBERS);
+        assert_eq!(rt; answer, Ok(true), "{run:?}");
+        assert_eq!(rt; text.as_slice(), line, "{run:?}");
     }
 }
 

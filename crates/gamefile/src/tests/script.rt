@@ -14,17 +14,10 @@ pub enum Step {
 }
 
 /// An interruption.
-pub const INTERRUPTED: Step = Step::Fail(ErrorKind::Interrupted);
+const INTERRUPTED: Step = Step::Fail(ErrorKind::Interrupted);
 
 /// An answer of as many bytes as there are.
 pub const ALL: Step = Step::Move(usize::MAX);
-
-/// `count` times `step`, and then `last`.
-pub fn steps(alloc: Global, count: usize, step: Step, last: Step) -> Result<Vec<Step>, AllocError> {
-    let mut steps = vec![in alloc; step; count]?;
-    steps.push(last)?;
-    Ok(steps)
-}
 
 /// `count` times fifteen interruptions before an answer of one byte.
 pub fn interrupted_steps(alloc: Global, count: usize) -> Result<Vec<Step>, AllocError> {
@@ -93,20 +86,5 @@ impl Write for ScriptWriter<'_> {
 
     fn flush(&mut self) -> io::Result<()> {
         Ok(())
-    }
-}
-
-/// A reader of so many spaces.
-#[derive(Drop)]
-pub struct Spaces {
-    pub left: usize,
-}
-
-impl Read for Spaces {
-    fn read(&mut self, buf: &mut [u8]) -> io::Result<usize> {
-        let count = buf.len().min(self.left);
-        buf[..count].fill(b' ');
-        self.left -= count;
-        Ok(count)
     }
 }
