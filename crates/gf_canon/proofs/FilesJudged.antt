@@ -16,7 +16,9 @@ use Rattle.gf_tree.specs.GameOf.{SpellsGame}
 use Rattle.gf_tree.specs.Judgement as extensive_file
 use Rattle.gf_canon.specs.GameFile.{GameFile, SpellsFile, canonical_text}
 use Rattle.gf_canon.specs.GameFile.GameFile.{extensive, strategic}
-use Rattle.gf_canon.specs.Judgement.{BeginsWithWord, IsCanonicalText, IsWithoutFormat, SpellsWithin}
+use Rattle.gf_canon.specs.Judgement.{BeginsWithWord, IsTextBy, IsWithoutFormat, SpellsWithin}
+use Rattle.gf_canon.specs.NamesAside.{file_by}
+use Rattle.gf_canon.specs.declared.sameness.Names.{Names}
 use Rattle.gf_canon.proofs.Files.{spells_one_file}
 use Rattle.gf_canon.proofs.Formats.{named_by_word, none_without_format, two_words}
 
@@ -51,18 +53,20 @@ refused_with P (Ok a) fault is h = absurd is
 refused_with P (Err e) fault is h = subst P (sym is) h
 
 -- items : what the text of an answer has
-module _ {A : Type 0} (items : A → List ℕ) where
+module _ {A : Type 0} (items : A → List ℕ) (names : Names) where
   abbrev pub IsTextOf : Result A Fault → GameFile → Type 0
   IsTextOf r x =
-      MatchResult r (λ a. items a ≡ canonical_text x) (λ fault. fault.why ≡ Memory)
+      MatchResult r (λ a. items a ≡ canonical_text (file_by names x)) (λ fault. fault.why ≡ Memory)
 
-  one_text : (bytes text : List ℕ) (x : GameFile) → IsCanonicalText bytes text
-      → SpellsFile bytes x → text ≡ canonical_text x
+  one_text : (bytes text : List ℕ) (x : GameFile) → IsTextBy names bytes text
+      → SpellsFile bytes x → text ≡ canonical_text (file_by names x)
   one_text bytes text x h spells =
-      h.is_text ∙ ap canonical_text (spells_one_file bytes h.file x h.spelled.spelled spells)
+      h.is_text
+      ∙ ap (λ y. canonical_text (file_by names y))
+      (spells_one_file bytes h.file x h.spelled.spelled spells)
 
   pub only_game : (bytes : List ℕ) (r : Result A Fault) (x : GameFile)
-      → BeginsWithWord (codes "EFG") bytes → IfOk r (λ a. IsCanonicalText bytes (items a))
+      → BeginsWithWord (codes "EFG") bytes → IfOk r (λ a. IsTextBy names bytes (items a))
       → IfErr r (λ fault. (g : Game) → SpellsGame bytes g → fault.why ≡ Memory)
       → SpellsWithin bytes x → IsTextOf r x
   only_game bytes (Ok a) x named text memory h = one_text bytes (items a) x text h.spelled
@@ -71,7 +75,7 @@ module _ {A : Type 0} (items : A → List ℕ) where
       absurd (two_words (named_by_word (codes "EFG") bytes (strategic t) named h.spelled))
 
   pub only_table : (bytes : List ℕ) (r : Result A Fault) (x : GameFile)
-      → BeginsWithWord (codes "NFG") bytes → IfOk r (λ a. IsCanonicalText bytes (items a))
+      → BeginsWithWord (codes "NFG") bytes → IfOk r (λ a. IsTextBy names bytes (items a))
       → IfErr r (λ fault. (t : Table) → SpellsTable bytes t → IsWithinLimit t
       → fault.why ≡ Memory)
       → SpellsWithin bytes x → IsTextOf r x

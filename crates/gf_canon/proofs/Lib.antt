@@ -7,6 +7,7 @@ pub mod Files
 pub mod FilesJudged
 pub mod Formats
 pub mod Headline
+pub mod NamesLeftOut
 pub mod NodesNamed
 pub mod NumbersInOrder
 pub mod NumbersNoted
@@ -19,6 +20,7 @@ pub mod RefusedOnce
 pub mod SameFiles
 pub mod Spellables
 pub mod TextPieces
+pub mod TextsByNames
 pub mod TextsCompared
 pub mod ToldFiles
 pub mod ToldTexts

@@ -32,7 +32,7 @@ use_kept f same (Some u) = ap (λ d. Some (record { key = u.key; description = d
     described f same None = refl
     described f same (Some d) = ap Some (same d)
 
-node_kept : (n : FileNode) → node_by Kept n ≡ n
+pub node_kept : (n : FileNode) → node_by Kept n ≡ n
 node_kept n =
     let set = use_kept (set_by Kept) (λ d. refl) n.set in
     let outcome = use_kept (outcome_by Kept) (λ d. refl) n.outcome in

@@ -19,6 +19,7 @@ use Rattle.gf_tree.specs.Judgement as extensive_file
 use Rattle.gf_canon.specs.Judgement.{BeginsWithWord, IsFormatReason, IsPlaced, IsRefusedWith}
 use Rattle.gf_canon.specs.Judgement.{IsWithoutFormat}
 use Rattle.gf_canon.specs.Judgement.IsJudged.{of_extensive, of_neither, of_strategic}
+use Rattle.gf_canon.specs.declared.sameness.Names.TheVariants.{Kept}
 use Rattle.gf_canon.proofs.EitherFormat.{extensive_placed, strategic_placed}
 use Rattle.gf_canon.proofs.FilesJudged.{only_game, only_table}
 use Rattle.gf_canon.proofs.Formats.{none_without_format}
@@ -56,7 +57,7 @@ refused_game bytes fault named judged memory = record {
   judged = of_extensive named judged;
   placed = extensive_placed fault.why bytes fault.span named judged;
   unless_memory = λ x spells.
-      only_game {A = List ℕ} (λ text. text) bytes (Err fault) x named tt memory spells;
+      only_game {A = List ℕ} (λ text. text) Kept bytes (Err fault) x named tt memory spells;
 }
 
 pub refused_table : (bytes : List ℕ) (fault : Fault) → BeginsWithWord (codes "NFG") bytes
@@ -67,5 +68,5 @@ refused_table bytes fault named judged memory = record {
   judged = of_strategic named judged;
   placed = strategic_placed fault.why bytes fault.span named judged;
   unless_memory = λ x spells.
-      only_table {A = List ℕ} (λ text. text) bytes (Err fault) x named tt memory spells;
+      only_table {A = List ℕ} (λ text. text) Kept bytes (Err fault) x named tt memory spells;
 }

@@ -17,6 +17,9 @@ use Rattle.gf_tree.specs.Front.{IsExtensiveFile}
 use Rattle.gf_tree.specs.Judgement as extensive_file
 use Rattle.gf_canon.specs.GameFile.{GameFile, SpellsFile, canonical_text}
 use Rattle.gf_canon.specs.GameFile.GameFile.{extensive, strategic}
+use Rattle.gf_canon.specs.NamesAside.{file_by}
+use Rattle.gf_canon.specs.declared.sameness.Names.{Names}
+use Rattle.gf_canon.specs.declared.sameness.Names.TheVariants.{Kept}
 
 -- ---- texts
 
@@ -34,11 +37,15 @@ pub record SpellsWithin (bytes : List ℕ) (x : GameFile) : Type 0 where
 abbrev pub MeansFile : List ℕ → Type 0
 MeansFile bytes = (x : GameFile) × SpellsWithin bytes x
 
--- the bytes mean a file, and this is its canonical text
-pub record IsCanonicalText (bytes text : List ℕ) : Type 0 where
+-- the bytes mean a file, and this is the canonical text of what counts of it
+pub record IsTextBy (names : Names) (bytes text : List ℕ) : Type 0 where
   pub file : GameFile
   pub spelled : SpellsWithin bytes file
-  pub is_text : text ≡ canonical_text file
+  pub is_text : text ≡ canonical_text (file_by names file)
+
+-- the bytes mean a file, and this is its canonical text
+abbrev pub IsCanonicalText : List ℕ → List ℕ → Type 0
+IsCanonicalText bytes text = IsTextBy Kept bytes text
 
 -- ---- refusals
 

@@ -6,6 +6,8 @@ use Rattle.gf_tree.specs.Description.{InformationSet, Outcome}
 use Rattle.gf_tree.specs.Game.{Node, Game}
 use Rattle.gf_canon.specs.GameFile.{GameFile, SameFile}
 use Rattle.gf_canon.specs.GameFile.GameFile.{extensive, strategic}
+use Rattle.gf_canon.specs.declared.sameness.Names.{Names}
+use Rattle.gf_canon.specs.declared.sameness.Names.TheVariants.{Kept, Aside}
 
 abbrev pub unnamed_node : Node → Node
 unnamed_node n = record { name = []; set = n.set; outcome = n.outcome }
@@ -42,6 +44,11 @@ unnamed_table t = record {
 abbrev pub unnamed : GameFile → GameFile
 unnamed (extensive g) = extensive (unnamed_game g)
 unnamed (strategic t) = strategic (unnamed_table t)
+
+-- what counts of a file, with its names or without
+abbrev pub file_by : Names → GameFile → GameFile
+file_by Kept x = x
+file_by Aside x = unnamed x
 
 -- the same aside from names
 abbrev pub SameAsideNames : GameFile → GameFile → Type 0

@@ -7,6 +7,8 @@ use Rattle.gf_tree.specs.Description.{InformationSet, SetKey}
 use Rattle.gf_tree.specs.FileTree.{FileNode, Use}
 use Rattle.gf_tree.specs.Told.{Heading, Told}
 use Rattle.gf_canon.specs.GameText.{node_text}
+use Rattle.gf_canon.specs.NamedBy.{name_by, node_by}
+use Rattle.gf_canon.specs.declared.sameness.Names.{Names}
 
 -- each with a space behind it
 abbrev pub spaced_out : List (List ℕ) → List ℕ
@@ -54,7 +56,8 @@ tail_text (Some set) outcome = player_then set.key.player
 abbrev pub plain_line : List ℕ → Option (Use SetKey InformationSet) → ℕ → List ℕ
 plain_line name set outcome = mover_letter set ∷ 32 ∷ (quoted name ++ tail_text set outcome)
 
--- the lines of what was told
-abbrev pub told_text : Heading → List Told → List ℕ
-told_text heading told = heading_text heading.title heading.comment heading.players
-    ++ flat_map (λ t. node_line t.node) told
+-- the lines of what was told, as far as names count
+abbrev pub told_text : Names → Heading → List Told → List ℕ
+told_text names heading told =
+    heading_text (name_by names heading.title) (name_by names heading.comment) heading.players
+    ++ flat_map (λ t. node_line (node_by names t.node)) told

@@ -10,14 +10,19 @@ ghost use Rattle.gf_tree.specs.Game.{Game as game};
 ghost use Rattle.gf_tree.specs.GameOf.{SpellsGame};
 ghost use Rattle.gf_tree.specs.Judgement.{IsJudged as IsExtensiveJudged};
 ghost use Rattle.gf_canon.specs.GameFile.{GameFile, canonical_text};
-ghost use Rattle.gf_canon.specs.Judgement.{IsCanonicalText, IsJudged, IsPlaced, SpellsWithin};
+ghost use Rattle.gf_canon.specs.GameFile.GameFile.{strategic};
+ghost use Rattle.gf_canon.specs.Judgement.{IsCanonicalText, IsJudged, IsPlaced, IsTextBy};
+ghost use Rattle.gf_canon.specs.Judgement.{SpellsWithin};
+ghost use Rattle.gf_canon.specs.NamesAside.{file_by};
 
 use crate::format::{Format, format_of};
 use crate::lines::Lines;
-use gf_nfg::{read_nfg, write_nfg};
+use crate::sameness::Names;
+use crate::without_names::without_names;
+use gf_nfg::{Table, read_nfg, write_nfg};
 use gf_token::{Fault, Why};
 use gf_tree::tell_efg;
-use std::alloc::Global;
+use std::alloc::{AllocError, Global};
 
 /// Memory is refused behind the last token.
 fn memory_at_end(input: &[u8]) -> Fault
@@ -30,36 +35,49 @@ fn memory_at_end(input: &[u8]) -> Fault
 }
 
 /// The canonical text of an extensive file, written while it is read.
-fn canonical_efg(alloc: Global, input: &[u8]) -> Result<Vec<u8>, Fault>
-    ensures text { IfOk result (λ text. IsCanonicalText input.now text.items) }
+fn canonical_efg(alloc: Global, input: &[u8], names: Names) -> Result<Vec<u8>, Fault>
+    ensures text { IfOk result (λ text. IsTextBy names input.now text.items) }
     ensures judged { IfErr result (λ fault. IsExtensiveJudged fault.why input.now fault.span) }
     ensures memory { IfErr result (λ fault. (g : game) → SpellsGame input.now g
         → fault.why ≡ Memory) }
 {
     // A canonical text is seldom longer than the file.
-    let mut lines = Lines::new(alloc, input.len());
+    let mut lines = Lines::new(alloc, input.len(), names);
     tell_efg(alloc, input, &mut lines)?;
     Ok(lines.text)
 }
 
+/// The canonical text of a table.
+fn text_of_table(alloc: Global, t: &Table, names: Names) -> Result<Vec<u8>, AllocError>
+    ensures { IfOk result (λ text. text.items ≡ canonical_text (file_by names (strategic t.now))) }
+{
+    let mut text = Vec::new(alloc);
+    write_nfg(t, &mut text)?;
+    match names {
+        Names::Kept => Ok(text),
+        Names::Aside => without_names(alloc, t, text.as_slice()),
+    }
+}
+
 /// The canonical text of a strategic file.
-fn canonical_nfg(alloc: Global, input: &[u8]) -> Result<Vec<u8>, Fault>
-    ensures text { IfOk result (λ text. IsCanonicalText input.now text.items) }
+fn canonical_nfg(alloc: Global, input: &[u8], names: Names) -> Result<Vec<u8>, Fault>
+    ensures text { IfOk result (λ text. IsTextBy names input.now text.items) }
     ensures judged { IfErr result (λ fault. IsStrategicJudged fault.why input.now fault.span) }
     ensures memory { IfErr result (λ fault. (t : table) → SpellsTable input.now t
         → IsWithinLimit t → fault.why ≡ Memory) }
 {
     let table = read_nfg(alloc, input)?;
-    let mut text = Vec::new(alloc);
-    let Ok(()) = write_nfg(&table, &mut text) else {
-        return Err(memory_at_end(input));
-    };
-    Ok(text)
+    match text_of_table(alloc, &table, names) {
+        Ok(text) => Ok(text),
+        Err(_) => Err(memory_at_end(input)),
+    }
 }
 
 /// The canonical text of a game file, laid out by this project's profile: that of a tree by its
 /// canonical numbers, or that of a table. The first token tells the format, `EFG` or `NFG` (Gambit
-/// documentation, "Game representation formats").
+/// documentation, "Game representation formats"). With `Names::Aside` title, comment and the names of
+/// nodes, information sets and outcomes are written empty: two such texts are equal exactly if
+/// `same_by` answers that the files mean the same.
 ///
 /// A file is refused as `read_efg` or `read_nfg` refuses one of its format: at the first token with
 /// which no file goes on, at the end where more is due, or where the profiles of a table pass their
@@ -68,6 +86,22 @@ fn canonical_nfg(alloc: Global, input: &[u8]) -> Result<Vec<u8>, Fault>
 /// - E3: the first token is anything else but a word above, or there is none; there.
 /// - E19: memory for the text is refused; of a tree at the token where it was wanted, of a table at
 ///   the end. There was nothing else to refuse.
+pub fn canonical_by(alloc: Global, input: &[u8], names: Names) -> Result<Vec<u8>, Fault>
+    ensures text { IfOk result (λ text. IsTextBy names input.now text.items) }
+    ensures only { (x : GameFile) → SpellsWithin input.now x → MatchResult result
+        (λ text. text.items ≡ canonical_text (file_by names x)) (λ fault. fault.why ≡ Memory) }
+    ensures judged { IfErr result (λ fault. IsJudged fault.why input.now fault.span) }
+    ensures placed { IfErr result (λ fault. IsPlaced fault.why input.now fault.span) }
+{
+    match format_of(input)? {
+        Format::Extensive => canonical_efg(alloc, input, names),
+        Format::Strategic => canonical_nfg(alloc, input, names),
+    }
+}
+
+/// The canonical text of a game file with all its names.
+///
+/// Refused as `canonical_by` refuses it.
 pub fn canonical(alloc: Global, input: &[u8]) -> Result<Vec<u8>, Fault>
     ensures text { IfOk result (λ text. IsCanonicalText input.now text.items) }
     ensures only { (x : GameFile) → SpellsWithin input.now x → MatchResult result
@@ -75,8 +109,5 @@ pub fn canonical(alloc: Global, input: &[u8]) -> Result<Vec<u8>, Fault>
     ensures judged { IfErr result (λ fault. IsJudged fault.why input.now fault.span) }
     ensures placed { IfErr result (λ fault. IsPlaced fault.why input.now fault.span) }
 {
-    match format_of(input)? {
-        Format::Extensive => canonical_efg(alloc, input),
-        Format::Strategic => canonical_nfg(alloc, input),
-    }
+    canonical_by(alloc, input, Names::Kept)
 }

@@ -26,7 +26,8 @@ ghost use Rattle.gf_canon.specs.GameFile.{GameFile, IsGameFile, SameFile, Spells
 ghost use Rattle.gf_canon.specs.GameFile.{canonical_file, canonical_text};
 ghost use Rattle.gf_canon.specs.GameFile.GameFile.{extensive, strategic};
 ghost use Rattle.gf_canon.specs.GameText.{game_text};
-ghost use Rattle.gf_canon.specs.Judgement.{IsCanonicalText, IsRefused, IsRefusedWith, SpellsWithin};
+ghost use Rattle.gf_canon.specs.Judgement.{IsCanonicalText, IsRefused, IsRefusedWith, IsTextBy};
+ghost use Rattle.gf_canon.specs.Judgement.{SpellsWithin};
 ghost use Rattle.gf_canon.specs.MeanSame.{MeanSame};
 ghost use Rattle.gf_canon.specs.NamesAside.{SameAsideNames, unnamed};
 ghost use Rattle.gf_canon.specs.SameBy.{SameBy};
@@ -181,6 +182,13 @@ pub fn same_aside_names()
     ensures equal { (a b : List ℕ) (x y : GameFile) → SpellsFile a x → SpellsFile b y
         → (canonical_text (unnamed x) ≡ canonical_text (unnamed y)) ↔ SameAsideNames x y }
     ensures tables { (t u : Table) → SameAsideNames (strategic t) (strategic u) ↔ SamePlay t u }
+{}
+
+/// The texts of two files, with their names or without, are equal exactly if the files are the same
+/// so.
+pub fn equal_texts_by_names()
+    ensures { (names : Names) (a b s t : List ℕ) → IsTextBy names a s → IsTextBy names b t
+        → (x y : GameFile) → SpellsWithin a x → SpellsWithin b y → (s ≡ t) ↔ SameBy names x y }
 {}
 
 /// Worked games and their canonical texts: a set of chance met twice on a path, an outcome at an

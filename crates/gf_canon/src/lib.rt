@@ -12,15 +12,17 @@ mod format;
 pub mod laws;
 mod lines;
 mod meaning;
+mod named;
 mod new_numbers;
 mod node_line;
 mod numbering;
 mod plain_line;
 mod sameness;
 mod walk;
+mod without_names;
 mod write;
 
-pub use canonise::canonical;
+pub use canonise::{canonical, canonical_by};
 pub use carry::renumbering;
 pub use checking::check;
 pub use format::Format;

@@ -4,16 +4,16 @@ use Rattle.gf_canon.specs.Judgement.{BeginsWithWord}
 use Rattle.gf_canon.specs.declared.format.Format.{Format}
 use Rattle.gf_canon.proofs.EitherFormat.{game_placed, table_placed}
 use Rattle.gf_canon.proofs.FilesJudged.{only_game, only_table, only_without_format}
-use Rattle.gf_canon.proofs.canonise.canonical.Goals as goal
+use Rattle.gf_canon.proofs.canonise.canonical_by.Goals as goal
 
 pub returns-in_err-format_of-clause-only : goal.returns-in_err-format_of-clause-only
 returns-in_err-format_of-clause-only c = λ x spelled.
-    only_without_format (λ text. text.items) c.args.input.now c.from_residual.result
+    only_without_format (λ text. text.items) c.args.names c.args.input.now c.from_residual.result
     c.in_err-format_of.field-0.0 x c.in_err-format_of.ensures.refused spelled
 
 pub returns-in-Extensive-clause-only : goal.returns-in-Extensive-clause-only
 returns-in-Extensive-clause-only c = λ x spelled.
-    only_game (λ text. text.items) c.args.input.now c.canonical_efg.result x
+    only_game (λ text. text.items) c.args.names c.args.input.now c.canonical_efg.result x
     (subst (λ (f : Format). BeginsWithWord (word_of f) c.args.input.now) c.in-Extensive.is
     c.in_ok-format_of.ensures.named)
     c.canonical_efg.ensures.text c.canonical_efg.ensures.memory spelled
@@ -26,7 +26,7 @@ returns-in-Extensive-clause-placed c = game_placed c.args.input.now c.canonical_
 
 pub returns-in-Strategic-clause-only : goal.returns-in-Strategic-clause-only
 returns-in-Strategic-clause-only c = λ x spelled.
-    only_table (λ text. text.items) c.args.input.now c.canonical_nfg.result x
+    only_table (λ text. text.items) c.args.names c.args.input.now c.canonical_nfg.result x
     (subst (λ (f : Format). BeginsWithWord (word_of f) c.args.input.now) c.in-Strategic.is
     c.in_ok-format_of.ensures.named)
     c.canonical_nfg.ensures.text c.canonical_nfg.ensures.memory spelled
