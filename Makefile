@@ -1,7 +1,7 @@
 # `make` proves the crates and builds the proved program, ./gamefile, and `make run` shows what it
-# writes of an example; `make install PREFIX=..` puts the program and its page in place; `make test`
-# proves and tests everything from nothing; `make bench` times the program; `make clean` removes
-# what was built.
+# writes of an example; `make library` proves and builds the library for C and Python; `make install
+# PREFIX=..` puts the program, its page and, if it was built, the library in place; `make test` proves
+# and tests everything from nothing; `make bench` times the program; `make clean` removes what was built.
 
 RT ?= rt
 export RT
@@ -9,7 +9,7 @@ PREFIX ?= /usr/local
 
 sources := crates.txt $(shell find crates -name out -prune -o -type f -print)
 
-.PHONY: all run install test bench clean
+.PHONY: all run library library-tested install install-library test bench clean
 
 all: gamefile
 
@@ -21,9 +21,27 @@ gamefile: $(sources)
 run: gamefile
 	./gamefile canon examples/battle-of-the-sexes.nfg
 
-install: gamefile
+# library/out, and the Python package, which takes the shared object along.
+library: library/out/libgamefile.so.1
+
+library/out/libgamefile.so.1: $(sources) $(wildcard library/gamefile.*) library/build
+	cd crates/gamefile_c && $(RT) lib --jobs $$(nproc)
+	library/build
+
+library-tested: library
+	tests/library
+
+install: gamefile $(if $(wildcard library/out/libgamefile.so.1),install-library)
 	install -D -m 755 gamefile $(DESTDIR)$(PREFIX)/bin/gamefile
 	install -D -m 644 docs/gamefile.1 $(DESTDIR)$(PREFIX)/share/man/man1/gamefile.1
+
+install-library:
+	install -D -m 644 library/gamefile.h $(DESTDIR)$(PREFIX)/include/gamefile.h
+	install -D -m 644 library/out/libgamefile.a $(DESTDIR)$(PREFIX)/lib/libgamefile.a
+	install -D -m 755 library/out/libgamefile.so.1 $(DESTDIR)$(PREFIX)/lib/libgamefile.so.1
+	ln -sf libgamefile.so.1 $(DESTDIR)$(PREFIX)/lib/libgamefile.so
+	install -d $(DESTDIR)$(PREFIX)/lib/pkgconfig
+	sed 's|@PREFIX@|$(PREFIX)|' library/gamefile.pc.in > $(DESTDIR)$(PREFIX)/lib/pkgconfig/gamefile.pc
 
 test:
 	tests/gate
@@ -33,4 +51,4 @@ bench:
 	bench/run
 
 clean:
-	rm -rf gamefile bench/inputs crates/*/out
+	rm -rf gamefile bench/inputs crates/*/out library/out python/gamefile/libgamefile.so.1

@@ -1,0 +1,17 @@
+//! How an answer comes into the caller's buffer.
+
+ghost use Rattle.gamefile_c.specs.Handed.{IsHandedOut};
+
+use crate::status::Status;
+
+/// Writes a text to the start of a buffer if it fits, and its length beside it in any case.
+pub fn hand_out(text: &[u8], out: &mut [u8], needed: &mut usize) -> Status
+    ensures { IsHandedOut text.now out.old out.new needed.new result }
+{
+    *needed = text.len();
+    if text.len() > out.len() {
+        return Status::TooSmall;
+    }
+    out[..text.len()].copy_from_slice(text);
+    Status::Done
+}

@@ -1,0 +1,300 @@
+/* Runs every call of gamefile.h: test THREADS FOLDER..
+ *
+ * A folder has game files NAME.efg and NAME.nfg, each with its canonical text, NAME.out, or with its
+ * refusal as the program writes it, NAME.err. Each thread goes through all of them. The last line is
+ * 'N passed, M failed'. */
+#define _POSIX_C_SOURCE 200809L
+#include "gamefile.h"
+
+#include <dirent.h>
+#include <pthread.h>
+#include <stdio.h>
+#include <stdlib.h>
+#include <string.h>
+
+#define MOST_FILES 4096
+#define MOST_THREADS 64
+
+typedef struct {
+    uint8_t *at;
+    size_t n;
+} bytes;
+
+typedef struct {
+    char path[512];
+    bytes game;
+    bytes wanted;
+    int is_right;
+} file;
+
+typedef struct {
+    unsigned long passed;
+    unsigned long failed;
+} score;
+
+static file files[MOST_FILES];
+static size_t file_count = 0;
+
+static void expect(score *s, int holds, const char *path, const char *what)
+{
+    if (holds) {
+        s->passed++;
+    } else {
+        s->failed++;
+        printf("FAILED %s: %s\n", path, what);
+    }
+}
+
+static bytes read_file(const char *path)
+{
+    bytes b = {NULL, 0};
+    FILE *f = fopen(path, "rb");
+    if (f == NULL)
+        return b;
+    if (fseek(f, 0, SEEK_END) == 0) {
+        b.n = (size_t)ftell(f);
+        rewind(f);
+        /* Of its exact length, so that a sanitizer sees a byte read past the end. */
+        b.at = (uint8_t *)malloc(b.n > 0 ? b.n : 1);
+        if (b.at == NULL || fread(b.at, 1, b.n, f) != b.n)
+            abort();
+    }
+    fclose(f);
+    return b;
+}
+
+static bytes beside(const char *path, const char *suffix)
+{
+    char other[512];
+    snprintf(other, sizeof other, "%.*s%s", (int)strlen(path) - 4, path, suffix);
+    return read_file(other);
+}
+
+static void list_folder(const char *folder)
+{
+    DIR *d = opendir(folder);
+    struct dirent *e;
+    if (d == NULL)
+        return;
+    while ((e = readdir(d)) != NULL && file_count < MOST_FILES) {
+        file *f = &files[file_count];
+        size_t n = strlen(e->d_name);
+        if (n < 5 || (strcmp(e->d_name + n - 4, ".efg") != 0 && strcmp(e->d_name + n - 4, ".nfg") != 0))
+            continue;
+        if ((size_t)snprintf(f->path, sizeof f->path, "%s/%s", folder, e->d_name) >= sizeof f->path)
+            continue;
+        f->game = read_file(f->path);
+        f->wanted = beside(f->path, ".out");
+        f->is_right = f->wanted.at != NULL;
+        if (!f->is_right)
+            f->wanted = beside(f->path, ".err");
+        if (f->game.at != NULL && f->wanted.at != NULL)
+            file_count++;
+    }
+    closedir(d);
+}
+
+/* Whether a fault is the one of a line as `E4 at 40..43`. */
+static int is_fault(const gamefile_fault *fault, bytes line)
+{
+    char text[128];
+    int n = snprintf(text, sizeof text, "E%u at %zu..%zu\n", (unsigned)fault->code, fault->start,
+                     fault->end);
+    return n > 0 && (size_t)n == line.n && memcmp(text, line.at, line.n) == 0;
+}
+
+/* The canonical text of a file, or its table with the flags of a table; in a buffer of its exact
+ * length. */
+static bytes text_of(score *s, const file *f, int is_table, unsigned flags, gamefile_status *status)
+{
+    bytes b = {NULL, 0};
+    size_t needed = 0, again = 0;
+    gamefile_fault fault;
+    uint64_t profile = 0;
+    *status = is_table
+                  ? gamefile_table(f->game.at, f->game.n, flags, NULL, 0, &needed, &fault, &profile)
+                  : gamefile_canonical(f->game.at, f->game.n, flags, NULL, 0, &needed, &fault);
+    if (*status != GAMEFILE_TOO_SMALL) {
+        expect(s, *status == GAMEFILE_TOO_MANY_PROFILES || *status == GAMEFILE_OVERFLOW, f->path,
+               "a right file has a text, or a tree no table");
+        expect(s, (*status == GAMEFILE_OVERFLOW) == (profile > 0), f->path, "profile");
+        return b;
+    }
+    b.n = needed;
+    b.at = (uint8_t *)malloc(needed);
+    if (b.at == NULL)
+        abort();
+    *status = is_table ? gamefile_table(f->game.at, f->game.n, flags, b.at, b.n, &again, NULL, NULL)
+                       : gamefile_canonical(f->game.at, f->game.n, flags, b.at, b.n, &again, NULL);
+    expect(s, *status == GAMEFILE_OK && again == needed, f->path, "the length that was told is needed");
+    return b;
+}
+
+static int is_same_text(bytes a, bytes b)
+{
+    return a.n == b.n && memcmp(a.at, b.at, a.n) == 0;
+}
+
+static void try_right(score *s, const file *f)
+{
+    static const unsigned table_flags[] = {0, GAMEFILE_REDUCED};
+    gamefile_kind kind = (gamefile_kind)0;
+    gamefile_fault fault;
+    gamefile_status status;
+    char hash[65], other[65];
+    bytes text;
+    size_t i;
+    int is_tree = f->wanted.at[0] == 'E';
+
+    expect(s, gamefile_check(f->game.at, f->game.n, &kind, &fault) == GAMEFILE_OK, f->path, "check");
+    expect(s, kind == (is_tree ? GAMEFILE_TREE : GAMEFILE_TABLE), f->path, "kind");
+    text = text_of(s, f, 0, 0, &status);
+    expect(s, text.at != NULL && is_same_text(text, f->wanted), f->path, "canonical text");
+    expect(s, gamefile_hash(f->game.at, f->game.n, 0, hash, NULL) == GAMEFILE_OK, f->path, "hash");
+    expect(s, gamefile_hash(f->wanted.at, f->wanted.n, 0, other, NULL) == GAMEFILE_OK
+                  && strcmp(hash, other) == 0 && strlen(hash) == 64, f->path, "hash of the text");
+    expect(s, gamefile_same(f->game.at, f->game.n, f->wanted.at, f->wanted.n, 0, NULL, NULL)
+                  == GAMEFILE_OK, f->path, "same as its canonical text");
+    free(text.at);
+    text = text_of(s, f, 0, GAMEFILE_NO_NAMES, &status);
+    expect(s, text.at != NULL && gamefile_same(f->game.at, f->game.n, text.at, text.n,
+                  GAMEFILE_NO_NAMES, NULL, NULL) == GAMEFILE_OK, f->path, "same without its names");
+    free(text.at);
+    for (i = 0; i < 2; i++) {
+        text = text_of(s, f, 1, table_flags[i], &status);
+        if (status == GAMEFILE_OK) {
+            expect(s, gamefile_check(text.at, text.n, &kind, NULL) == GAMEFILE_OK
+                          && kind == GAMEFILE_TABLE, f->path, "a table");
+            expect(s, is_tree || is_same_text(text, f->wanted), f->path, "a table's own text");
+        }
+        free(text.at);
+    }
+}
+
+static void try_refused(score *s, const file *f)
+{
+    static const uint8_t game[] = "NFG 1 R \"\" { \"A\" } { 1 } 0";
+    gamefile_fault fault = {0, 0, 0, 0};
+    uint8_t out[16] = "as it was";
+    char hash[65];
+    size_t needed = 7;
+    int which = 7;
+
+    expect(s, gamefile_check(f->game.at, f->game.n, NULL, &fault) == GAMEFILE_REFUSED
+                  && is_fault(&fault, f->wanted), f->path, "refused by check");
+    expect(s, (fault.code == 3) == (fault.expected >= 1 && fault.expected <= 11), f->path, "expected");
+    expect(s, strcmp(gamefile_message(fault.code, fault.expected), "no such code") != 0, f->path,
+           "message");
+    memset(&fault, 0, sizeof fault);
+    expect(s, gamefile_canonical(f->game.at, f->game.n, 0, out, sizeof out, &needed, &fault)
+                  == GAMEFILE_REFUSED && is_fault(&fault, f->wanted), f->path, "refused by canonical");
+    expect(s, needed == 7 && strcmp((char *)out, "as it was") == 0, f->path, "the buffer stays");
+    memset(&fault, 0, sizeof fault);
+    expect(s, gamefile_hash(f->game.at, f->game.n, 0, hash, &fault) == GAMEFILE_REFUSED
+                  && is_fault(&fault, f->wanted), f->path, "refused by hash");
+    memset(&fault, 0, sizeof fault);
+    expect(s, gamefile_table(f->game.at, f->game.n, 0, out, sizeof out, &needed, &fault, NULL)
+                  == GAMEFILE_REFUSED && is_fault(&fault, f->wanted), f->path, "refused by table");
+    memset(&fault, 0, sizeof fault);
+    expect(s, gamefile_same(f->game.at, f->game.n, game, sizeof game - 1, 0, &fault, &which)
+                  == GAMEFILE_REFUSED && which == 0 && is_fault(&fault, f->wanted), f->path,
+           "refused as the first of two");
+    memset(&fault, 0, sizeof fault);
+    expect(s, gamefile_same(game, sizeof game - 1, f->game.at, f->game.n, 0, &fault, &which)
+                  == GAMEFILE_REFUSED && which == 1 && is_fault(&fault, f->wanted), f->path,
+           "refused as the second of two");
+}
+
+/* What no file shows: null pointers, flags, and numbers that are never changed. */
+static void try_border(score *s)
+{
+    static const uint8_t game[] = "NFG 1 R \"a\" { \"A\" } { 1 } 2";
+    static const uint8_t other[] = "NFG 1 R \"b\" { \"A\" } { 1 } 2";
+    size_t n = sizeof game - 1;
+    gamefile_fault fault = {0, 0, 0, 0};
+    gamefile_kind kind;
+    uint8_t out[4];
+    size_t needed = 0;
+    char hash[65];
+    int which = 7;
+
+    expect(s, GAMEFILE_OK == 0 && GAMEFILE_DIFFERENT == 1 && GAMEFILE_REFUSED == 2
+                  && GAMEFILE_MISUSE == 3 && GAMEFILE_NOMEM == 5 && GAMEFILE_TOO_MANY_PROFILES == 6
+                  && GAMEFILE_OVERFLOW == 7 && GAMEFILE_TOO_SMALL == 8, "header", "statuses");
+    expect(s, sizeof(gamefile_fault) == 8 + 2 * sizeof(size_t) && offsetof(gamefile_fault, expected) == 4
+                  && offsetof(gamefile_fault, start) == 8 && sizeof(gamefile_kind) == 4
+                  && sizeof(gamefile_status) == 4, "header", "layout");
+    expect(s, strcmp(gamefile_version(), GAMEFILE_VERSION) == 0, "header", "version");
+    expect(s, gamefile_check(NULL, 0, NULL, &fault) == GAMEFILE_REFUSED && fault.code == 3
+                  && fault.expected == GAMEFILE_WHAT_FORMAT && fault.end == 0, "NULL", "empty");
+    expect(s, gamefile_check(NULL, 1, &kind, &fault) == GAMEFILE_MISUSE, "NULL", "not empty");
+    expect(s, gamefile_check(game, n, NULL, NULL) == GAMEFILE_OK, "NULL", "no answer wanted");
+    expect(s, gamefile_canonical(NULL, 0, 0, NULL, 0, NULL, NULL) == GAMEFILE_REFUSED, "NULL",
+           "canonical");
+    expect(s, gamefile_canonical(game, n, 0, NULL, 1, NULL, NULL) == GAMEFILE_MISUSE, "NULL", "buffer");
+    expect(s, gamefile_canonical(game, n, 0, out, sizeof out, &needed, NULL) == GAMEFILE_TOO_SMALL
+                  && needed > sizeof out, "buffer", "too small");
+    expect(s, gamefile_canonical(game, n, GAMEFILE_REDUCED, out, sizeof out, NULL, NULL)
+                  == GAMEFILE_MISUSE, "flags", "canonical");
+    expect(s, gamefile_hash(NULL, 0, 0, hash, NULL) == GAMEFILE_REFUSED, "NULL", "hash");
+    expect(s, gamefile_hash(game, n, 0, NULL, NULL) == GAMEFILE_MISUSE, "NULL", "hash's buffer");
+    expect(s, gamefile_hash(game, n, 4, hash, NULL) == GAMEFILE_MISUSE, "flags", "hash");
+    expect(s, gamefile_table(NULL, 0, 0, NULL, 0, NULL, NULL, NULL) == GAMEFILE_REFUSED, "NULL", "table");
+    expect(s, gamefile_table(game, n, GAMEFILE_NO_NAMES, NULL, 0, NULL, NULL, NULL) == GAMEFILE_MISUSE,
+           "flags", "table");
+    expect(s, gamefile_same(NULL, 0, NULL, 0, 0, NULL, NULL) == GAMEFILE_REFUSED, "NULL", "same");
+    expect(s, gamefile_same(game, n, NULL, 0, 0, &fault, &which) == GAMEFILE_REFUSED && which == 1,
+           "NULL", "second");
+    expect(s, gamefile_same(game, n, other, n, 0, NULL, NULL) == GAMEFILE_DIFFERENT, "same", "title");
+    expect(s, gamefile_same(game, n, other, n, GAMEFILE_NO_NAMES, NULL, NULL) == GAMEFILE_OK, "same",
+           "title aside");
+    expect(s, gamefile_same(game, n, other, n, 2, NULL, NULL) == GAMEFILE_MISUSE, "flags", "same");
+    expect(s, strcmp(gamefile_message(17, 0), "no such code") == 0
+                  && strcmp(gamefile_message(1000, 0), "no such code") == 0, "message", "no code");
+    expect(s, gamefile_hint(5, 0) == NULL && gamefile_hint(13, 0) != NULL, "hint", "hints");
+}
+
+static void *try_all(void *to)
+{
+    score *s = (score *)to;
+    size_t i;
+    try_border(s);
+    for (i = 0; i < file_count; i++) {
+        if (files[i].is_right)
+            try_right(s, &files[i]);
+        else
+            try_refused(s, &files[i]);
+    }
+    return NULL;
+}
+
+int main(int argc, char **argv)
+{
+    static score scores[MOST_THREADS];
+    pthread_t threads[MOST_THREADS];
+    score sum = {0, 0};
+    int count = argc > 1 ? atoi(argv[1]) : 0;
+    int i;
+    size_t k;
+    for (i = 2; i < argc; i++)
+        list_folder(argv[i]);
+    if (count < 1 || count > MOST_THREADS || file_count == 0) {
+        fprintf(stderr, "usage: test THREADS FOLDER..\n");
+        return 2;
+    }
+    for (i = 0; i < count; i++)
+        if (pthread_create(&threads[i], NULL, try_all, &scores[i]) != 0)
+            abort();
+    for (i = 0; i < count; i++) {
+        if (pthread_join(threads[i], NULL) != 0)
+            abort();
+        sum.passed += scores[i].passed;
+        sum.failed += scores[i].failed;
+    }
+    for (k = 0; k < file_count; k++) {
+        free(files[k].game.at);
+        free(files[k].wanted.at);
+    }
+    printf("%lu passed, %lu failed\n", sum.passed, sum.failed);
+    return sum.failed != 0;
+}

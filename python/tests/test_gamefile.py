@@ -1,0 +1,164 @@
+"""Tests the package gamefile beside the program: test_gamefile.py PROGRAM TESTS-FOLDER
+
+Each file of corpus/ and forms/, each row of refusals.txt, and each pair of same.txt goes through the
+package and has to give what the program writes: the same bytes, codes and places. The last line is
+'python: N passed, M failed'.
+"""
+import doctest
+import hashlib
+import os
+import pickle
+import re
+import subprocess
+import sys
+import time
+from concurrent.futures import ThreadPoolExecutor
+from pathlib import Path
+
+import gamefile
+
+PROGRAM, TESTS = Path(sys.argv[1]).resolve(), Path(sys.argv[2])
+THREADS = 8
+# What eight threads have to gain on this many processors.
+PROCESSORS, GAIN, TRIES = 4, 2, 20
+GAMES_OF_SAME = 24
+
+
+def refusals():
+    """Gives the files of refusals.txt."""
+    for line in (TESTS / "refusals.txt").read_text().splitlines():
+        if line and not line.startswith("#"):
+            text = line.split("| ", 1)[1]
+            yield re.sub(rb"%([0-9a-f]{2})", lambda hit: bytes.fromhex(hit[1].decode()), text.encode())
+
+
+def same_games():
+    """Gives the first games of same.txt."""
+    lines = (TESTS / "same.txt").read_bytes().splitlines()
+    games = [line.split(b"|", 1)[1].strip() for line in lines if line and not line.startswith(b"#")]
+    return games[:GAMES_OF_SAME]
+
+
+def by_program(words, data):
+    """Gives what the program writes of a file, in bytes, or as the line of its failure."""
+    ran = subprocess.run([PROGRAM, *words], input=data, capture_output=True, timeout=60)
+    return ran.stdout if ran.returncode == 0 else ran.stderr.decode()
+
+
+def by_package(call, data, **options):
+    """Gives what a function answers of a file, or its exception as the program writes it."""
+    try:
+        return call(data, **options)
+    except gamefile.GameFileError as error:
+        place = data[: error.start]
+        if error.line != place.count(b"\n") + 1 or error.column != len(place.split(b"\n")[-1]) + 1:
+            return f"line {error.line}, column {error.column}"
+        if pickle.loads(pickle.dumps(error)).args != error.args:
+            return "not pickled"
+        return f"{error.code} at {error.start}..{error.end}\n"
+    except gamefile.TableError as error:
+        return f"{error}\n"
+
+
+def judge_file(data):
+    """Gives the names of the calls that do not answer as the program."""
+    text = by_program(["canon"], data)
+    kind = by_package(gamefile.check, data)
+    wanted = {
+        "check": (f"{kind}\n".encode() if kind in ("tree", "table") else kind, by_program(["check"], data)),
+        "canonical": (by_package(gamefile.canonical, data), text),
+        "table": (by_package(gamefile.table, data), by_program(["table"], data)),
+        "reduced": (
+            by_package(gamefile.table, data, reduced=True),
+            by_program(["table", "--reduced"], data),
+        ),
+        "key": (
+            by_package(gamefile.key, data),
+            hashlib.sha256(text).hexdigest() if isinstance(text, bytes) else text,
+        ),
+    }
+    if isinstance(text, bytes):
+        aside = gamefile.canonical(data, names=False)
+        wanted["names aside"] = (gamefile.same(data, aside, names=False), True)
+        wanted["key without names"] = (
+            gamefile.key(data, names=False),
+            hashlib.sha256(aside).hexdigest(),
+        )
+    return [f"{name}: {got} and not {want}" for name, (got, want) in wanted.items() if got != want]
+
+
+def judge_pair(pair):
+    """Gives what is wrong where two files are compared: each way has to agree with canonical texts."""
+    a, b = pair
+    failed = []
+    for names in (True, False):
+        try:
+            answer = gamefile.same(a, b, names=names)
+        except gamefile.GameFileError as error:
+            of = {"a": a, "b": b}[error.which]
+            answer = f"{error.code} at {error.start}..{error.end}\n"
+            wanted = by_package(gamefile.check, of)
+        else:
+            texts = [gamefile.canonical(game, names=names) for game in (a, b)]
+            wanted = texts[0] == texts[1]
+        if answer != wanted:
+            failed.append(f"same, names={names}: {answer} and not {wanted}")
+    return failed
+
+
+def judge_types():
+    """Gives what is wrong with arguments that are not bytes."""
+    try:
+        gamefile.check("NFG")
+    except TypeError as error:
+        return [] if "Path.read_bytes()" in str(error) else [str(error)]
+    return ["a str is taken"]
+
+
+def large_tree():
+    """Gives a tree of about 4 MB."""
+    line = b'p "" 1 1 0\n'
+    return b'EFG 2 R "d" { "A" }\np "" 1 1 "i" { "L" } 0\n' + line * 400_000 + b't "" 0\n'
+
+
+def seconds(threads, games):
+    """Gives the time that some threads take for all games."""
+    with ThreadPoolExecutor(threads) as pool:
+        start = time.perf_counter()
+        list(pool.map(gamefile.check, games))
+        return time.perf_counter() - start
+
+
+def judge_threads():
+    """Gives what is wrong if many threads are hardly faster than one. Other work on the machine can hide
+    the gain, so it is tried again."""
+    if len(os.sched_getaffinity(0)) < PROCESSORS:
+        print(f"python: fewer than {PROCESSORS} processors, so the gain of threads is not tested")
+        return []
+    games = [large_tree()] * 16
+    gains = []
+    while len(gains) < TRIES and max(gains, default=0) < GAIN:
+        gains.append(seconds(1, games) / seconds(THREADS, games))
+    print(f"python: {THREADS} threads are {gains[-1]:.1f} times as fast as one")
+    return [] if gains[-1] >= GAIN else [f"{THREADS} threads gain less than {GAIN}: {gains}"]
+
+
+def main():
+    files = [p.read_bytes() for p in sorted([*TESTS.glob("corpus/*.[en]fg"), *TESTS.glob("forms/*.efg")])]
+    files += refusals()
+    games = same_games()
+    pairs = [(a, b) for a in games for b in games]
+    with ThreadPoolExecutor() as pool:
+        results = [*pool.map(judge_file, files), *pool.map(judge_pair, pairs)]
+    results += [judge_types(), judge_threads()]
+    examples = doctest.testmod(gamefile)
+    results.append([f"{examples.failed} examples"] if examples.failed else [])
+    failed = [line for lines in results for line in lines]
+    for line in failed:
+        print(f"FAILED {line[:400]}")
+    bad = sum(1 for lines in results if lines)
+    print(f"python: {len(results) - bad} passed, {bad} failed")
+    return 1 if bad or not files else 0
+
+
+sys.exit(main())
