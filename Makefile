@@ -7,6 +7,7 @@ RT ?= rt
 export RT
 PREFIX ?= /usr/local
 
+version = $(shell sed -n 's/^.define GAMEFILE_VERSION "\(.*\)"/\1/p' library/gamefile.h)
 sources := crates.txt $(shell find crates -name out -prune -o -type f -print)
 
 .PHONY: all run library library-tested install install-library test bench clean
@@ -41,7 +42,8 @@ install-library:
 	install -D -m 755 library/out/libgamefile.so.1 $(DESTDIR)$(PREFIX)/lib/libgamefile.so.1
 	ln -sf libgamefile.so.1 $(DESTDIR)$(PREFIX)/lib/libgamefile.so
 	install -d $(DESTDIR)$(PREFIX)/lib/pkgconfig
-	sed 's|@PREFIX@|$(PREFIX)|' library/gamefile.pc.in > $(DESTDIR)$(PREFIX)/lib/pkgconfig/gamefile.pc
+	sed -e 's|@PREFIX@|$(PREFIX)|' -e 's|@VERSION@|$(version)|' library/gamefile.pc.in \
+	    > $(DESTDIR)$(PREFIX)/lib/pkgconfig/gamefile.pc
 
 test:
 	tests/gate
