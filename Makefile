@@ -10,7 +10,7 @@ PREFIX ?= /usr/local
 version = $(shell sed -n 's/^.define GAMEFILE_VERSION "\(.*\)"/\1/p' library/gamefile.h)
 sources := crates.txt $(shell find crates -name out -prune -o -type f -print)
 
-.PHONY: all run library library-tested install install-library test bench clean
+.PHONY: all run library install install-library test bench clean
 
 all: gamefile
 
@@ -28,9 +28,6 @@ library: library/out/libgamefile.so.1
 library/out/libgamefile.so.1: $(sources) $(wildcard library/gamefile.*) library/build
 	cd crates/gamefile_c && $(RT) lib --jobs $$(nproc)
 	library/build
-
-library-tested: library
-	tests/library
 
 install: gamefile $(if $(wildcard library/out/libgamefile.so.1),install-library)
 	install -D -m 755 gamefile $(DESTDIR)$(PREFIX)/bin/gamefile
