@@ -7,9 +7,10 @@ RT ?= rt
 export RT
 PREFIX ?= /usr/local
 
+version = $(shell sed -n 's/^.define GAMEFILE_VERSION "\(.*\)"/\1/p' library/gamefile.h)
 sources := crates.txt $(shell find crates -name out -prune -o -type f -print)
 
-.PHONY: all run library library-tested install install-library test bench clean
+.PHONY: all run library install install-library test bench clean
 
 all: gamefile
 
@@ -28,9 +29,6 @@ library/out/libgamefile.so.1: $(sources) $(wildcard library/gamefile.*) library/
 	cd crates/gamefile_c && $(RT) lib --jobs $$(nproc)
 	library/build
 
-library-tested: library
-	tests/library
-
 install: gamefile $(if $(wildcard library/out/libgamefile.so.1),install-library)
 	install -D -m 755 gamefile $(DESTDIR)$(PREFIX)/bin/gamefile
 	install -D -m 644 docs/gamefile.1 $(DESTDIR)$(PREFIX)/share/man/man1/gamefile.1
@@ -41,7 +39,8 @@ install-library:
 	install -D -m 755 library/out/libgamefile.so.1 $(DESTDIR)$(PREFIX)/lib/libgamefile.so.1
 	ln -sf libgamefile.so.1 $(DESTDIR)$(PREFIX)/lib/libgamefile.so
 	install -d $(DESTDIR)$(PREFIX)/lib/pkgconfig
-	sed 's|@PREFIX@|$(PREFIX)|' library/gamefile.pc.in > $(DESTDIR)$(PREFIX)/lib/pkgconfig/gamefile.pc
+	sed -e 's|@PREFIX@|$(PREFIX)|' -e 's|@VERSION@|$(version)|' library/gamefile.pc.in \
+	    > $(DESTDIR)$(PREFIX)/lib/pkgconfig/gamefile.pc
 
 test:
 	tests/gate

@@ -21,7 +21,6 @@ from pathlib import Path
 from typing import Literal, Optional
 
 __all__ = ["GameFileError", "TableError", "canonical", "check", "key", "same", "table"]
-__version__ = "1.0.0"
 
 
 class _Fault(ctypes.Structure):
@@ -74,6 +73,7 @@ _same = _call(
     _fault,
     ctypes.POINTER(ctypes.c_int),
 )
+__version__: str = _call(_library, "gamefile_version", result=ctypes.c_char_p)().decode()
 _numbers = [ctypes.c_uint32, ctypes.c_uint32]
 _message = _call(_library, "gamefile_message", *_numbers, result=ctypes.c_char_p)
 _hint = _call(_library, "gamefile_hint", *_numbers, result=ctypes.c_char_p)

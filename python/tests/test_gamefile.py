@@ -6,6 +6,7 @@ package and has to give what the program writes: the same bytes, codes and place
 """
 import doctest
 import hashlib
+import importlib.metadata
 import os
 import pickle
 import re
@@ -106,6 +107,12 @@ def judge_pair(pair):
     return failed
 
 
+def judge_version():
+    """Gives what is wrong with the version of the package."""
+    version = importlib.metadata.version("gamefile")
+    return [] if version == gamefile.__version__ else [f"version {version}, not {gamefile.__version__}"]
+
+
 def judge_types():
     """Gives what is wrong with arguments that are not bytes."""
     try:
@@ -150,7 +157,7 @@ def main():
     pairs = [(a, b) for a in games for b in games]
     with ThreadPoolExecutor() as pool:
         results = [*pool.map(judge_file, files), *pool.map(judge_pair, pairs)]
-    results += [judge_types(), judge_threads()]
+    results += [judge_types(), judge_version(), judge_threads()]
     examples = doctest.testmod(gamefile)
     results.append([f"{examples.failed} examples"] if examples.failed else [])
     failed = [line for lines in results for line in lines]
