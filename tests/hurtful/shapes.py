@@ -95,21 +95,21 @@ class Tree:
 
     def payoffs(self, chosen):
         """What each player is paid if these actions, from 1, are chosen at the sets."""
-        total = [Fraction(0)] * len(self.players)
-        due = [(0, Fraction(1))]
+        weights, due = {}, [(0, Fraction(1))]
         while due:
             at, weight = due.pop()
             owned, outcome = self.nodes[at]
             if outcome:
-                total = [sum_so_far + weight * payoff for sum_so_far, payoff in zip(total, self.outcomes[outcome])]
+                weights[outcome] = weights.get(outcome, 0) + weight
             if owned in chosen:
                 due.append((self.children[at][chosen[owned] - 1], weight))
             elif owned:
                 due += [(child, weight * side) for child, side in zip(self.children[at], self.sets[owned]) if side]
-        return total
+        paid = [[weight * payoff for payoff in self.outcomes[outcome]] for outcome, weight in weights.items()]
+        return [sum(payoffs) for payoffs in zip([0] * len(self.players), *paid)]
 
-    def relevant(self, player, chosen):
-        """The sets to which play can come if a player chooses these actions."""
+    def relevant(self, chosen):
+        """The sets to which play can come if a player chooses these actions at his."""
         found, due = set(), [0]
         while due:
             at = due.pop()
@@ -118,22 +118,26 @@ class Tree:
             due += [self.children[at][chosen[owned] - 1]] if owned in chosen else self.children[at]
         return found
 
+    def actions(self, player):
+        """The actions of each strategy of a player, at his sets in order of first use."""
+        return itertools.product(*(range(1, len(self.sets[key]) + 1) for key in self.owned[player][1]))
+
     def strategies(self, player, reduced):
         """The strategies of a player by their labels, each with the actions that it chooses."""
-        owned = self.owned[player][1]
-        found = {}
-        for actions in itertools.product(*(range(1, len(self.sets[key]) + 1) for key in owned)):
-            chosen = dict(zip(owned, actions))
-            seen = self.relevant(player, chosen) if reduced else owned
-            label = "-".join(str(action) if key in seen else "*" for key, action in chosen.items())
-            found.setdefault(label, chosen)
+        if not reduced:
+            return {"-".join(map(str, actions)): actions for actions in self.actions(player)}
+        owned, found = self.owned[player][1], {}
+        for actions in self.actions(player):
+            seen = self.relevant(dict(zip(owned, actions)))
+            label = "-".join(str(action) if key in seen else "*" for key, action in zip(owned, actions))
+            found.setdefault(label, actions)
         return found
 
     def form(self, reduced=False):
         """The form, or the reduced one, with all of its rows or with some."""
         strategies = [self.strategies(player, reduced) for player in range(1, len(self.players) + 1)]
         head = table_text("s", self.players, strategies, "")
-        choices = [list(chosen.values()) for chosen in strategies]
+        choices = [list(actions.values()) for actions in strategies]
         count = prod(map(len, choices))
         if count <= MANY:
             places = range(count)
@@ -144,9 +148,9 @@ class Tree:
     def row(self, choices, place):
         """The line of a profile: the first player's strategy advances fastest."""
         chosen = {}
-        for strategies in choices:
+        for player, strategies in enumerate(choices, 1):
             place, at = divmod(place, len(strategies))
-            chosen |= strategies[at]
+            chosen |= zip(self.owned[player][1], strategies[at])
         return " ".join(map(str, self.payoffs(chosen))).encode()
 
     def game(self, form=None, without=(), relevant=False):
@@ -192,10 +196,8 @@ def payoff_that_never_comes(sets, *payoffs):
     """Behind a side that never comes a payoff, or a move with two."""
     tree = Tree(1)
     tree.toss(1, [1, 0])
-    if len(payoffs) == 1:
-        paid_sets(tree, sets)
-    else:
-        paid_sets(tree, sets)
+    paid_sets(tree, sets)
+    if len(payoffs) == 2:
         tree.move(1, 1)
     for outcome, payoff in enumerate(payoffs, 900):
         tree.end(outcome, payoff)
@@ -418,7 +420,7 @@ SHAPES = {
     "overflow at the last profile": (partial(overflow_at_the_last, 20), MOST_ROWS),
     "overflow at half of them": (partial(overflow_at_half, 20), MOST_ROWS),
     "a deep payoff": (partial(deep_payoff, 14), partial(side_by_side, 14)),
-    "moves of one action": (partial(moves_of_one_action, 8, 200), SOME_ROWS),
+    "moves of one action": (partial(moves_of_one_action, 7, 50), SOME_ROWS),
     "sets in conflict": (partial(sets_in_conflict, 12), SOME_ROWS),
 }
 
