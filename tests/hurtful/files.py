@@ -456,5 +456,5 @@ FILES = {
 
 # The same where a command is too slow at full size, as docs/DECISIONS.md says: at a size that passes.
 KNOWN = {
-    "fewer players with a set": (partial(players_with_sets, 50_000), plain_tree),
+    "fewer players with a set": (partial(players_with_sets, 5_000), plain_tree),
 }
