@@ -122,7 +122,7 @@ def shared_rows(players, rows, numbers):
 def too_large_a_text(file, other):
     """A table whose canonical text no memory holds, and which is the same as another."""
     text = ended(f"E19 at {len(file)}..{len(file)}", 5)
-    return accepted("table", file, text, other=other)
+    return accepted("table", file, text, form=ended("E19", 5), other=other)
 
 
 def million_players():

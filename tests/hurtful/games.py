@@ -1,7 +1,7 @@
 """What the files made to hurt have in common: a game as the program is given it, with the answer of
 each command, and how texts of games are spelled.
 """
-from typing import NamedTuple
+from typing import NamedTuple, Union
 
 # The most bytes that an input has.
 LIMIT = 16_777_216
@@ -16,8 +16,9 @@ class Rows(NamedTuple):
     count: int
     known: dict
 
-    def __eq__(self, text):
-        if not isinstance(text, bytes) or not text.startswith(self.head):
+    def fit(self, text):
+        """Whether a text is that of such a table."""
+        if not text.startswith(self.head):
             return False
         lines = text[len(self.head) :].split(b"\n")
         whole = len(lines) == self.count + 1 and lines[-1] == b""
@@ -27,9 +28,14 @@ class Rows(NamedTuple):
 class Answer(NamedTuple):
     """What a command has to write on standard output and on standard error, and its status."""
 
-    output: bytes | Rows
+    output: Union[bytes, Rows]
     errors: bytes = b""
     status: int = 0
+
+    def is_given_by(self, found):
+        """Whether a run that wrote so and ended so gave this answer."""
+        fits = self.output.fit if isinstance(self.output, Rows) else self.output.__eq__
+        return fits(found.output) and self[1:] == found[1:]
 
 
 class Game(NamedTuple):
