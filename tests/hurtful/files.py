@@ -189,31 +189,29 @@ def plain_tree(width=750, count=8):
 
     The player is paid the number of the set for his first action at it, and half of it for the other.
     """
-    sides = " ".join([f'"" 1/{width}'] * width)
-    described = {number: f' "" {{ "a" "b" }}' for number in range(1, count + 1)}
-    nodes, met = [f'c "" 1 "" {{ {sides} }} 0\n'], set()
-    for row in range(width):
-        nodes.append(f'c "" 2 "" {{ {sides} }} 0\n' if row == 0 else 'c "" 2 0\n')
-        for column in range(width):
-            number = column % count + 1
-            first, second = 2 * number - 1, 2 * number
-            if number in met:
-                nodes.append(f'p "" 1 {number} 0\nt "" {first}\nt "" {second}\n')
-            else:
-                met.add(number)
-                leaves = f't "" {first} "" {{ {number} }}\nt "" {second} "" {{ {Fraction(number, 2)} }}\n'
-                nodes.append(f'p "" 1 {number}{described[number]} 0\n{leaves}')
+    sides = braced([f'"" 1/{width}'] * width)
+    nodes = [f'c "" 1 "" {sides} 0\n']
+    for row, column in itertools.product(range(width), repeat=2):
+        if column == 0:
+            nodes.append('c "" 2 0\n' if row else f'c "" 2 "" {sides} 0\n')
+        number = column % count + 1
+        first, second = 2 * number - 1, 2 * number
+        if row == 0 and column < count:
+            nodes.append(f'p "" 1 {number} "" {{ "a" "b" }} 0\n')
+            nodes.append(f't "" {first} "" {{ {number} }}\nt "" {second} "" {{ {Fraction(number, 2)} }}\n')
+        else:
+            nodes.append(f'p "" 1 {number} 0\nt "" {first}\nt "" {second}\n')
     text = tree_text("", [""], "".join(nodes))
-    # How often each set stands behind a toss.
-    times = [len(range(number - 1, width, count)) for number in range(1, count + 1)]
+    # How likely each set is.
+    shares = [Fraction(len(range(number - 1, width, count)), width) for number in range(1, count + 1)]
     strategies = list(itertools.product((1, 2), repeat=count))
-    rows = "".join(
-        f"{sum(Fraction(number * often, action * width) for number, (action, often) in enumerate(zip(actions, times), 1))}\n"
-        for actions in strategies
-    )
-    form = table_text("", [""], [["-".join(map(str, actions)) for actions in strategies]], rows)
+    labels = ["-".join(map(str, actions)) for actions in strategies]
+    rows = ""
+    for actions in strategies:
+        paid = (share * number / action for number, (share, action) in enumerate(zip(shares, actions), 1))
+        rows += f"{sum(paid)}\n"
     lines = own_lines(0, [1, 2]) + own_lines(1, range(1, count + 1)) + own_outcomes(2 * count)
-    return accepted("tree", text, text, form=form, lines=lines)
+    return accepted("tree", text, text, form=table_text("", [""], [labels], rows), lines=lines)
 
 
 def own_outcomes(count):
