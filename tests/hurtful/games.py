@@ -1,0 +1,116 @@
+"""What the files made to hurt have in common: a game as the program is given it, with the answer of
+each command, and how texts of games are spelled.
+"""
+from typing import NamedTuple, Union
+
+# The most bytes that an input has.
+LIMIT = 16_777_216
+
+
+class Rows(NamedTuple):
+    """The text of a table of which only some rows are known: what stands before the rows, how many there
+    are, and some of them by their place, from 0.
+    """
+
+    head: bytes
+    count: int
+    known: dict
+
+    def fit(self, text):
+        """Whether a text is that of such a table."""
+        if not text.startswith(self.head):
+            return False
+        lines = text[len(self.head) :].split(b"\n")
+        whole = len(lines) == self.count + 1 and lines[-1] == b""
+        return whole and all(lines[place] == row for place, row in self.known.items())
+
+
+class Answer(NamedTuple):
+    """What a command has to write on standard output and on standard error, and its status."""
+
+    output: Union[bytes, Rows]
+    errors: bytes = b""
+    status: int = 0
+
+    def is_given_by(self, found):
+        """Whether a run that wrote so and ended so gave this answer."""
+        fits = self.output.fit if isinstance(self.output, Rows) else self.output.__eq__
+        return fits(found.output) and self[1:] == found[1:]
+
+
+class Game(NamedTuple):
+    """A game in two files that mean the same, and what each command answers: `same` is given both."""
+
+    file: bytes
+    other: bytes
+    answers: dict
+
+
+def fitting(used, *units):
+    """How many times the units fit into a file together, behind the bytes that are used."""
+    return (LIMIT - 1 - used) // sum(map(len, units))
+
+
+def ended(line, status=2):
+    """The answer of a run that writes one line on standard error."""
+    return Answer(b"", f"{line}\n".encode(), status)
+
+
+def answer_of(text):
+    """The answer that writes a text, if it is not an answer already."""
+    return text if isinstance(text, Answer) else Answer(text.encode())
+
+
+def accepted(kind, file, text, *, form=None, other=None, lines=""):
+    """A game whose file is accepted: with its canonical text, its strategic form, which is the text if it
+    is not given, and the lines of the renumbering that carries it to the other file. The reduced form is
+    as the form.
+    """
+    data = file.encode()
+    written = answer_of(text)
+    form = written if form is None else answer_of(form)
+    answers = {
+        "check": Answer(f"{kind}\n".encode()),
+        "canon": written,
+        "table": form,
+        "reduced": form,
+        "same": Answer(b"same\n"),
+        "aside": Answer(b"same\n"),
+        "map": Answer(f"same\n{lines}".encode()),
+    }
+    # Files that are equal byte by byte would say little about `same`.
+    return Game(data, data + b"\n" if other is None else other.encode(), answers)
+
+
+def refused(file, line):
+    """A game whose file is refused, which is the first of the two that are compared too."""
+    data = file.encode()
+    alone = dict.fromkeys(("check", "canon", "table", "reduced"), ended(line))
+    compared = dict.fromkeys(("same", "aside", "map"), ended(f"A: {line}"))
+    return Game(data, data + b"\n", alone | compared)
+
+
+def braced(items):
+    """Items in braces, on one line."""
+    return " ".join(["{", *items, "}"])
+
+
+def quoted(labels):
+    """Labels without quotation marks as texts."""
+    return [f'"{label}"' for label in labels]
+
+
+def table_text(title, players, strategies, rows):
+    """The canonical text of a table: strategies are lists of labels, rows are lines."""
+    lists = braced(braced(quoted(labels)) for labels in strategies)
+    return f'NFG 1 R "{title}" {braced(quoted(players))}\n{lists}\n""\n\n{rows}'
+
+
+def tree_text(title, players, nodes):
+    """The canonical text of a tree, whose nodes are lines."""
+    return f'EFG 2 R "{title}" {braced(quoted(players))}\n""\n\n{nodes}'
+
+
+def own_lines(player, numbers):
+    """The lines by which each set of a player keeps its number."""
+    return "".join(f"set {player} {number} {number}\n" for number in numbers)
