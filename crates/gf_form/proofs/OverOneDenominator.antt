@@ -46,7 +46,7 @@ quotient_of_product d b s above h =
     (omega (arith, whole, div-mul_cancel d part))
 
 -- by way of a multiple
-quotient_through : (d m s : ℕ) → 0 < d → d ∣ m → m ∣ s → d ∣ s → s / d ≡ m / d * (s / m)
+pub quotient_through : (d m s : ℕ) → 0 < d → d ∣ m → m ∣ s → d ∣ s → s / d ≡ m / d * (s / m)
 quotient_through d m s above dm ms ds =
     let inner : m / d * d ≡ m = div-mul_cancel d dm in
     let outer : s / m * m ≡ s = div-mul_cancel m ms in

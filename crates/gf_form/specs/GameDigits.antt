@@ -5,7 +5,16 @@ use Rattle.gf_tree.specs.Game.{Game}
 use Rattle.gf_form.specs.Demands.{spans, steps_of}
 use Rattle.gf_form.specs.Shares.{AreDigits}
 use Rattle.gf_form.specs.Strategies.{all_choices, choices_by, full_profiles, strategies_at}
+use Rattle.gf_form.specs.declared.digits.Digit.{Digit}
 use Rattle.gf_form.specs.declared.digits.Digits.{Digits}
+
+-- how many actions there are at each digit
+abbrev pub actions_at : List Digit → List ℕ
+actions_at digits = map (λ d. d.actions) digits
+
+-- each digit has the step that comes of the faster ones
+abbrev pub HaveSteps : List Digit → Type 0
+HaveSteps digits = map (λ d. d.step) digits ≡ steps_of (actions_at digits)
 
 -- how many actions there are at each digit, from the slowest on
 abbrev pub digit_actions : Digits → List ℕ

@@ -11,7 +11,9 @@ use Rattle.gf_tree.specs.Game.{Game, set_at}
 use Rattle.std.specs.Prelude.{Some, ◌≤◌}
 use Rattle.gf_form.specs.Demands.{meets, spans, steps_of}
 use Rattle.gf_form.specs.Program.{paid}
+use Rattle.gf_form.specs.declared.paths.Path.{Path}
 use Rattle.gf_form.specs.declared.paths.Reached.{Reached}
+use Rattle.gf_form.specs.declared.share.Share.{Share}
 
 -- what is left of the common denominator behind a path
 abbrev pub scale : ℕ → Reached → ℕ
@@ -20,6 +22,12 @@ scale den r = den / r.path.den
 -- a payoff over such a denominator
 abbrev pub over : ℕ → Ratio → ℤ
 over den pay = pay.num *ℤ pos (den / pay.den)
+
+-- what a path adds to a payoff over a common denominator, where nothing is left over
+pub record IsShare (path : Path) (pay : Ratio) (den : ℕ) (s : Share) : Type 0 where
+  pub exact : pay.den ∣ den / path.den
+  pub amount_is : s.amount ≡ pos path.weight *ℤ over (den / path.den) pay
+  pub bound_is : s.bound ≡ path.bound * unsigned_abs (over (den / path.den) pay)
 
 -- what the node's outcome pays the player
 abbrev pub pay_at : Game → ℕ → Reached → Ratio

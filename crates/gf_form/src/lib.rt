@@ -2,8 +2,6 @@
 //! and what the players are paid where they choose given actions.
 #![tactic(auto)]
 
-mod column;
-mod columns;
 mod counts;
 mod digits;
 mod evaluate;
@@ -11,10 +9,8 @@ mod expectation;
 mod fault;
 mod form_labels;
 mod full_rows;
-mod large;
 pub mod laws;
 mod op;
-mod own_terms;
 mod paths;
 mod payoffs;
 mod picked;
@@ -25,15 +21,14 @@ mod reduced_form;
 mod reduced_labels;
 mod relevance;
 mod rows;
+mod share;
 mod shares;
 mod strategic_form;
 mod strategies;
-mod terms;
 mod valid_choices;
 mod values;
 mod visits;
 mod walk;
-mod walked_rows;
 
 pub use crate::expectation::expected;
 pub use crate::fault::{EvalFault, FormFault};

@@ -1,57 +1,40 @@
 //! The payoffs at each profile of the strategies that are picked.
 
-ghost use Rattle.std.specs.Prelude.{◌≡◌, ◌≤◌, [], ℕ, IfOk, IsErrOf, OnOk, length};
+ghost use Rattle.std.specs.Prelude.{◌≤◌, ℕ, IfOk, IsErrOf, OnOk, length};
 ghost use Rattle.std.specs.List.{AllByRecursion};
 ghost use Rattle.gf_tree.specs.Game.{Game};
-ghost use Rattle.gf_form.specs.PlayerColumns.{AreColumns};
 ghost use Rattle.gf_form.specs.Counted.{AreCounts};
 ghost use Rattle.gf_form.specs.Picked.{IsPicked, numbers_in, picked_profiles};
 ghost use Rattle.gf_form.specs.ProfileRows.{AreRowsAt};
 ghost use Rattle.gf_form.specs.Refusal.{HasValues, IsFirstWithout};
+ghost use Rattle.gf_form.specs.SettledRows.{AreFullNumbers};
 ghost use Rattle.gf_form.specs.StrategicForm.{ArePayoffsAt};
 
-use crate::columns::Columns;
 use crate::counts::Counts;
+use crate::digits::Digits;
 use crate::fault::FormFault;
 use crate::payoffs::Payoffs;
 use crate::picked::{Picked, full_number_of};
-use crate::walked_rows::walked_rows;
+use crate::profile_strategies::no_actions;
+use crate::rows::listed::game_terms;
+use crate::rows::terms::Terms;
+use crate::rows::written::{Asked, Run, Written};
+use crate::values::Values;
 use gf_fraction::Fraction;
 use gf_tree::Game;
 use std::alloc::{AllocError, Global};
 
-/// What each player is paid at each profile of the strategies that are picked, in their order, taken
-/// from the columns, which have it at all. Room for these rows is there.
-fn rows_by_columns(
-    game: &Game<'_>,
-    counts: &Counts,
-    columns: &Columns,
-    picked: &Picked,
-    mut rows: Vec<Fraction>,
-) -> Result<Vec<Fraction>, AllocError>
-    requires counts { AreCounts game.now counts.now }
-    requires columns { AreColumns game.now columns.now }
-    requires no_large { columns.now.large.items ≡ [] }
-    requires picked { IsPicked game.now picked.now }
-    requires empty { rows.items ≡ [] }
-    ensures rows { IfOk result (λ rows. AreRowsAt (ArePayoffsAt game.now)
-        (picked_profiles (numbers_in picked.now)) rows.items) }
-    ensures values { OnOk result (AllByRecursion (HasValues game.now)
-        (picked_profiles (numbers_in picked.now))) }
+/// The number of each profile among all, from 0.
+fn full_numbers(alloc: Global, counts: &Counts, picked: &Picked) -> Result<Vec<u32>, AllocError>
+    requires { (g : Game) × AreCounts g counts.now × IsPicked g picked.now }
+    ensures { IfOk result (λ numbers. (g : Game) → AreCounts g counts.now → IsPicked g picked.now
+        → AreFullNumbers g picked.now numbers.items) }
 {
-    let _players = game.players();
+    let mut numbers = Vec::with_capacity(alloc, picked.profiles.count as usize)?;
     for before in 0..picked.profiles.count {
-        columns.push_row(full_number_of(counts, picked, before), &mut rows)?;
+        numbers.push(full_number_of(counts, picked, before))?;
     }
-    Ok(rows)
-}
-
-/// Whether to find what is paid at all profiles, picked or not. Where few are picked it is less work
-/// to walk through the tree for each of them.
-fn are_many(game: &Game<'_>, counts: &Counts, picked: &Picked) -> bool {
-    let nodes = game.len() as u128;
-    let walked = nodes.saturating_mul(u128::from(picked.profiles.count));
-    walked > 8 * u128::from(counts.profiles.count)
+    Ok(numbers)
 }
 
 /// What each player is paid at each profile of the strategies that are picked, in their order.
@@ -73,25 +56,35 @@ pub(crate) fn profile_rows(
         → IsFirstWithout (HasValues game.now) (picked_profiles (numbers_in picked.now)) position }
 {
     let profiles = picked.profiles.count;
-    let rows = Vec::with_capacity(alloc, profiles as usize * game.players().len())?;
+    let players = game.players().len();
     let payoffs = Payoffs::new(alloc, game)?;
-    let columns = if are_many(game, counts, picked) {
-        Columns::new(alloc, game, counts, &payoffs)?
-    } else {
-        None
+    let numbers = full_numbers(alloc, counts, picked)?;
+    let asked = Asked {
+        game,
+        counts,
+        payoffs: &payoffs,
+        picked,
+        numbers: &numbers,
     };
-    match columns {
-        Some(columns) if columns.large.is_empty() => {
-            Ok(rows_by_columns(game, counts, &columns, picked, rows)?)
-        }
-        columns => walked_rows(
-            alloc,
-            game,
-            counts,
-            &payoffs,
-            columns.as_ref(),
-            picked,
-            rows,
-        ),
-    }
+    let mut written = Written {
+        alloc,
+        rows: Vec::with_capacity(alloc, profiles as usize * players)?,
+        strategies: no_actions(alloc, counts.actions.len())?,
+        values: Values::new(alloc),
+        spare: Vec::new(alloc),
+    };
+    let Some(digits) = Digits::new(alloc, counts)? else {
+        let unknown = Terms::unknown(alloc, players)?;
+        written.push_alike(&asked, &unknown, 0, profiles)?;
+        return Ok(written.rows);
+    };
+    let terms = game_terms(alloc, game, &digits, &payoffs)?;
+    let run = Run {
+        first: 0,
+        count: counts.profiles.count,
+        from: 0,
+        to: profiles,
+    };
+    written.push_rows(&asked, &terms, &digits.digits, run)?;
+    Ok(written.rows)
 }

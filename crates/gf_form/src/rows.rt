@@ -9,6 +9,12 @@ use crate::fault::EvalFault;
 use gf_fraction::Fraction;
 use std::alloc::AllocError;
 
+pub(crate) mod listed;
+pub(crate) mod merge;
+pub(crate) mod sums;
+pub(crate) mod terms;
+pub(crate) mod written;
+
 /// Writes the zeros of an empty row out.
 pub(crate) fn write_out(row: &mut Vec<Fraction>, players: usize) -> Result<(), AllocError>
     requires { IsRow players row.old.items }

@@ -1,0 +1,43 @@
+use Rattle.std.proofs.Common.{List, ℕ, arith, subst, sym}
+use Rattle.std.specs.Prelude.{IfOk, OnOk}
+use Rattle.gf_form.specs.Picked.{numbers_in}
+use Rattle.gf_form.specs.Refusal.{HasValuesBy}
+use Rattle.gf_form.specs.StrategicForm.{ArePayoffs}
+use Rattle.gf_form.specs.Strategies.{AreStrategies, choices_by}
+use Rattle.gf_form.proofs.PickedProfiles.{are_strategies, counted_profiles}
+use Rattle.gf_form.proofs.rows.written.row_by_walk.Goals as goal
+
+pub expected_with-requires-clause-strategies : goal.expected_with-requires-clause-strategies
+expected_with-requires-clause-strategies c =
+    let g = c.args.game.now in
+    subst (AreStrategies g)
+    (sym c.requires.strategies)
+    (are_strategies g (numbers_in c.args.picked.now) c.requires.picked.numbers c.args.profile
+    (omega (
+      arith,
+      c.requires.within,
+      c.requires.picked.profiles,
+      counted_profiles (numbers_in c.args.picked.now),
+    )))
+
+pub returns-clause-payoffs : goal.returns-clause-payoffs
+returns-clause-payoffs c =
+    let g = c.args.game.now in
+    subst (λ (all : List (List ℕ)). IfOk c.expected_with.result
+    (λ row. ArePayoffs g (choices_by g all) row.items))
+    c.requires.strategies
+    c.expected_with.ensures.payoffs
+
+pub returns-clause-values : goal.returns-clause-values
+returns-clause-values c =
+    let g = c.args.game.now in
+    subst (λ (all : List (List ℕ)). OnOk c.expected_with.result (HasValuesBy g (choices_by g all)))
+    c.requires.strategies
+    c.expected_with.ensures.values
+
+pub returns-clause-overflow : goal.returns-clause-overflow
+returns-clause-overflow c h =
+    let g = c.args.game.now in
+    subst (λ (all : List (List ℕ)). HasValuesBy g (choices_by g all) → ⊥)
+    c.requires.strategies
+    (c.expected_with.ensures.overflow h)

@@ -1,0 +1,162 @@
+//! The terms of the nodes that choices can reach.
+
+ghost use Rattle.std.specs.Prelude.{◌≡◌, ◌<◌, ◌≤◌, ℕ, IfOk, IfSome, List, OnOk, length, map};
+ghost use Rattle.std.specs.Int.{◌∣◌};
+ghost use Rattle.std.specs.List.Sorted.{IsNonDecreasingBy};
+ghost use Rattle.gf_fraction.specs.Ratio.{IsWithin};
+ghost use Rattle.gf_tree.specs.Game.{Game};
+ghost use Rattle.gf_form.specs.Entries.{AreOrdered, EndsBelow, IsShaped, entries};
+ghost use Rattle.gf_form.specs.KeptNodes.{paid_reached};
+ghost use Rattle.gf_form.specs.ListedNodes.{AreTermsOf, IsShareIn, IsTermMore};
+ghost use Rattle.gf_form.specs.PaidRows.{rows_of};
+ghost use Rattle.gf_form.specs.Rows.{ArePaid};
+ghost use Rattle.gf_form.specs.Strategies.{choices_by};
+ghost use Rattle.gf_form.specs.declared.paths.Reached.{Reached};
+
+use crate::digits::Digits;
+use crate::paths::{Path, Reached};
+use crate::payoffs::Payoffs;
+use crate::rows::sums::multiple;
+use crate::rows::terms::{Head, Terms};
+use crate::share::{Share, payoff_at, share_of};
+use crate::shares::paid_nodes;
+use gf_fraction::Fraction;
+use gf_tree::Game;
+use std::alloc::{AllocError, Global};
+
+/// A denominator that serves what a path adds to each of these payoffs; 0 if there is none in bound.
+fn denominator(path: Path, row: &[Fraction]) -> u128
+    ensures { path.den ∣ result }
+{
+    let mut common = 1;
+    for payoff in row {
+        if payoff.den() != common {
+            let Some(more) = multiple(common, payoff.den()) else {
+                return 0;
+            };
+            common = more;
+        }
+    }
+    match path.den.checked_mul(common) {
+        Some(den) => den,
+        None => 0,
+    }
+}
+
+/// What a path adds to a payoff over a denominator that serves the path; `None` if that is 0, or
+/// something is left over or too large.
+fn share_in(path: Path, payoff: Fraction, den: u128) -> Option<Share>
+    requires { path.den ∣ den }
+    ensures share { IfSome result (IsShareIn path payoff den) }
+    ensures within { IfSome result (λ share. IsWithin share.amount) }
+{
+    if den == 0 {
+        return None;
+    }
+    let share = share_of(path, payoff, den)?;
+    if share.amount == i128::MIN {
+        return None;
+    }
+    Some(share)
+}
+
+/// Appends the term of a node.
+fn push_node(terms: &mut Terms, node: Reached, payoffs: &Payoffs<'_>) -> Result<(), AllocError>
+    requires { IsShaped terms.old }
+    ensures term { OnOk result (IsTermMore (rows_of payoffs.now) node terms.old terms.new) }
+    ensures shaped { OnOk result (IsShaped terms.new) }
+    ensures players { terms.new.players ≡ terms.old.players }
+{
+    let den = denominator(node.path, payoffs.at(node.outcome));
+    let mut fits = true;
+    let mut size = 0;
+    for place in 0..terms.players {
+        let payoff = payoff_at(payoffs, node.outcome, place);
+        if let Some(share) = share_in(node.path, payoff, den) {
+            if share.bound > size {
+                size = share.bound;
+            }
+            terms.numbers.push(share.amount)?;
+        } else {
+            fits = false;
+            terms.numbers.push(0)?;
+        }
+    }
+    let demands = node.path.demands;
+    let den = if fits { den } else { 0 };
+    terms.heads.push(Head { demands, den, size })?;
+    Ok(())
+}
+
+impl Terms {
+    /// If the last two terms have the same demands, their sum takes the place of both. It is made in
+    /// another list.
+    fn join_last(&mut self, spare: &mut Terms) -> Result<(), AllocError>
+        requires shaped { IsShaped self.old }
+        requires players { spare.old.players ≡ self.old.players }
+        ensures terms { OnOk result ((g : Game) (players : ℕ) (nodes : List Reached)
+            → AreTermsOf g players nodes (entries self.old)
+            → AreTermsOf g players nodes (entries self.new)) }
+        ensures ordered { OnOk result (AreOrdered self.old → AreOrdered self.new) }
+        ensures last { OnOk result ((demands : ℕ) → EndsBelow self.old.heads.items demands
+            → EndsBelow self.new.heads.items demands) }
+        ensures shaped { OnOk result (IsShaped self.new) }
+        ensures players { OnOk result ((self.new.players ≡ self.old.players)
+            × (spare.new.players ≡ spare.old.players)) }
+    {
+        let count = self.heads.len();
+        if count < 2 || self.heads[count - 1].demands != self.heads[count - 2].demands {
+            return Ok(());
+        }
+        spare.clear();
+        spare.push_sum(self, count - 2, count - 1)?;
+        self.heads.truncate(count - 2);
+        self.numbers.truncate((count - 2) * self.players);
+        self.push(spare, 0, 0)?;
+        Ok(())
+    }
+}
+
+/// The terms of nodes that stand in order of demands.
+pub(crate) fn listed(
+    alloc: Global,
+    nodes: &[Reached],
+    payoffs: &Payoffs<'_>,
+    players: usize,
+) -> Result<Terms, AllocError>
+    requires { IsNonDecreasingBy (λ (r : Reached). r.path.demands) nodes.now }
+    ensures terms { IfOk result (λ terms. (g : Game) → ArePaid g (rows_of payoffs.now)
+        → AreTermsOf g players nodes.now (entries terms)) }
+    ensures ordered { IfOk result (λ terms. AreOrdered terms) }
+    ensures shaped { IfOk result (λ terms. IsShaped terms) }
+    ensures players { IfOk result (λ terms. terms.players ≡ players) }
+{
+    let mut terms = Terms::new(alloc, players);
+    let mut spare = Terms::new(alloc, players);
+    for node in nodes {
+        push_node(&mut terms, *node, payoffs)?;
+        terms.join_last(&mut spare)?;
+    }
+    Ok(terms)
+}
+
+/// The terms of a game.
+pub(crate) fn game_terms(
+    alloc: Global,
+    game: &Game<'_>,
+    digits: &Digits,
+    payoffs: &Payoffs<'_>,
+) -> Result<Terms, AllocError>
+    requires payoffs { ArePaid game.now (rows_of payoffs.now) }
+    ensures terms { IfOk result (λ terms. AreTermsOf game.now (length game.now.players)
+        (paid_reached (rows_of payoffs.now) game.now
+        (choices_by game.now (map (λ own. own.items) digits.now.steps.items))) (entries terms)) }
+    ensures ordered { IfOk result (λ terms. AreOrdered terms) }
+    ensures shaped { IfOk result (λ terms. IsShaped terms) }
+    ensures players { IfOk result (λ terms. terms.players ≡ length game.now.players) }
+{
+    let players = game.players().len();
+    let mut nodes = paid_nodes(alloc, game, digits, payoffs)?;
+    nodes.sort_unstable_by_key(|node| node.path.demands);
+    listed(alloc, &nodes, payoffs, players)
+}

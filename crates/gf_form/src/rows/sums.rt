@@ -1,0 +1,98 @@
+//! Sums of terms over different denominators.
+
+ghost use Rattle.std.specs.Prelude.{◌≡◌, ◌*ℤ◌, ◌+ℤ◌, IfSome, pos};
+ghost use Rattle.gf_fraction.specs.Ratio.{IsWithin};
+ghost use Rattle.gf_form.specs.Entries.{IsFactor, IsScale};
+
+use crate::rows::terms::Head;
+use gf_fraction::Fraction;
+
+/// How two terms come over one denominator.
+#[derive(Clone, Copy)]
+pub(crate) struct Scale {
+    pub den: u128,
+    /// At least the sum of the sizes of both.
+    pub size: u128,
+    /// What the numbers of the first are multiplied by, and those of the second.
+    pub first: u128,
+    pub second: u128,
+}
+
+/// The least denominator that serves both; `None` if it is too large. In lowest terms `a / b` has the
+/// denominator that `a` lacks of it.
+pub(crate) fn multiple(a: u128, b: u128) -> Option<u128> {
+    let ratio = Fraction::new(i128::try_from(a).ok()?, b).ok()?;
+    a.checked_mul(ratio.den())
+}
+
+/// What a denominator has to be multiplied by to become another; `None` if that is no whole number.
+fn factor(den: u128, from: u128) -> Option<u128>
+    ensures { IfSome result (IsFactor from den) }
+{
+    if from == 0 || den % from != 0 {
+        return None;
+    }
+    Some(den / from)
+}
+
+/// How two terms come over one denominator; `None` if that does not fit.
+pub(crate) fn scale_of(a: Head, b: Head) -> Option<Scale>
+    ensures { IfSome result (IsScale a b) }
+{
+    if a.den == b.den && a.den > 0 {
+        let size = a.size.checked_add(b.size)?;
+        return Some(Scale {
+            den: a.den,
+            size,
+            first: 1,
+            second: 1,
+        });
+    }
+    let den = multiple(a.den, b.den)?;
+    let first = factor(den, a.den)?;
+    let second = factor(den, b.den)?;
+    let own = a.size.checked_mul(first)?;
+    let other = b.size.checked_mul(second)?;
+    let size = own.checked_add(other)?;
+    Some(Scale {
+        den,
+        size,
+        first,
+        second,
+    })
+}
+
+/// A number times a factor; `None` if it does not fit.
+fn multiplied(number: i128, by: u128) -> Option<i128>
+    ensures { IfSome result (λ product. product ≡ number *ℤ pos by) }
+{
+    let Ok(factor) = i128::try_from(by) else {
+        return None;
+    };
+    number.checked_mul(factor)
+}
+
+/// The sum of two numbers, each times its factor; `None` if it does not fit its type.
+fn weighted(a: i128, by_a: u128, b: i128, by_b: u128) -> Option<i128>
+    ensures { IfSome result (λ sum. sum ≡ a *ℤ pos by_a +ℤ b *ℤ pos by_b) }
+{
+    if by_a == 1 && by_b == 1 {
+        return a.checked_add(b);
+    }
+    let own = multiplied(a, by_a)?;
+    let other = multiplied(b, by_b)?;
+    let sum = own.checked_add(other)?;
+    Some(sum)
+}
+
+/// The sum of two numbers, each times its factor; `None` if it is not in bound.
+pub(crate) fn combined(a: i128, by_a: u128, b: i128, by_b: u128) -> Option<i128>
+    ensures sum { IfSome result (λ sum. sum ≡ a *ℤ pos by_a +ℤ b *ℤ pos by_b) }
+    ensures within { IfSome result (λ sum. IsWithin sum) }
+{
+    let sum = weighted(a, by_a, b, by_b)?;
+    if sum == i128::MIN {
+        return None;
+    }
+    Some(sum)
+}

@@ -1,0 +1,349 @@
+//! The payoffs at the profiles of a table, from the terms of which they are sums.
+
+ghost use Rattle.std.specs.Prelude.{◌≡◌, ◌+◌, ◌*◌, ◌<◌, ◌≤◌, ◌^◌, [], ◌∷◌, ℕ, IfOk, IfSome, IsErrOf, OnOk};
+ghost use Rattle.std.specs.Prelude.{get_or, length, map, pos};
+ghost use Rattle.gf_fraction.specs.Ratio.{HasValue, IsFraction, IsWithin};
+ghost use Rattle.gf_nfg.specs.Profiles.{product};
+ghost use Rattle.gf_form.specs.Demands.{spans};
+ghost use Rattle.gf_form.specs.Entries.{AreOrdered, IsShaped, entries};
+ghost use Rattle.gf_form.specs.PaidRows.{rows_of};
+ghost use Rattle.gf_form.specs.Picked.{IsPicked, numbers_in, picked_profiles};
+ghost use Rattle.gf_form.specs.Refusal.{HasValues, IsFirstWithout};
+ghost use Rattle.gf_form.specs.Rows.{ArePaid};
+ghost use Rattle.gf_form.specs.SettledRows.{AreWritten, HasRowOver, IsAsked, IsRowOver};
+ghost use Rattle.gf_form.specs.SettledRows.{SettleRows, Settles};
+ghost use Rattle.gf_form.specs.StrategicForm.{ArePayoffsAt};
+ghost use Rattle.gf_form.specs.Strategies.{strategies_at};
+ghost use Rattle.gf_form.specs.GameDigits.{HaveSteps, actions_at};
+
+use crate::counts::Counts;
+use crate::digits::Digit;
+use crate::expectation::expected_with;
+use crate::fault::{EvalFault, FormFault};
+use crate::payoffs::Payoffs;
+use crate::picked::Picked;
+use crate::profile_strategies::write_strategies;
+use crate::rows::terms::Terms;
+use crate::values::Values;
+use gf_fraction::Fraction;
+use gf_tree::Game;
+use std::alloc::{AllocError, Global};
+
+/// The greatest denominator, and the greatest size.
+const LARGEST: u128 = i128::MAX as u128;
+
+/// The profiles of the strategies that are picked, of a game.
+#[derive(Drop)]
+pub(crate) struct Asked<'q, 'g, 'a> {
+    pub game: &'q Game<'a>,
+    pub counts: &'q Counts,
+    pub payoffs: &'q Payoffs<'g>,
+    pub picked: &'q Picked,
+    /// The number of each profile among all, from 0.
+    pub numbers: &'q [u32],
+}
+
+/// Profiles in turn, whose numbers among all are in a range.
+#[derive(Clone, Copy)]
+pub(crate) struct Run {
+    /// The first number of the range, and how many there are.
+    pub first: u32,
+    pub count: u32,
+    /// The place of the first profile, from 0, and that after the last one.
+    pub from: u32,
+    pub to: u32,
+}
+
+/// The rows so far, and what serves those that are worked out by a walk.
+#[derive(Drop)]
+pub(crate) struct Written {
+    pub alloc: Global,
+    pub rows: Vec<Fraction>,
+    /// Those of the last profile.
+    pub strategies: Vec<Vec<u32>>,
+    pub values: Values,
+    /// Lists whose room serves others.
+    pub spare: Vec<Terms>,
+}
+
+/// The denominator of the row that terms come to which demand nothing; `None` if it is not known to
+/// fit.
+fn row_denominator(terms: &Terms) -> Option<u128>
+    requires { IsShaped terms.now }
+    ensures { IfSome result (λ den. IsRowOver den terms.now) }
+{
+    let count = terms.heads.len();
+    if count == 0 {
+        return Some(1);
+    }
+    let head = terms.heads[0];
+    if count > 1 || head.den == 0 || head.den > LARGEST || head.size > LARGEST {
+        return None;
+    }
+    Some(head.den)
+}
+
+/// The number at a place, from 0; zero if there is none.
+fn number_at(numbers: &[i128], place: usize) -> i128
+    ensures { result ≡ get_or numbers.now place (pos 0) }
+{
+    match numbers.get(place) {
+        Some(number) => *number,
+        None => 0,
+    }
+}
+
+/// A whole number over a denominator.
+fn over(den: u128, whole: i128) -> Fraction
+    requires above_zero { 0 < den }
+    requires den_within { den < 2 ^ 127 }
+    requires within { IsWithin whole }
+    ensures fraction { IsFraction result }
+    ensures value { HasValue result whole den }
+{
+    Fraction::new(whole, den).unwrap()
+}
+
+/// Appends a row of these numbers over a denominator; zeros if there are none.
+fn push_row_over(
+    den: u128,
+    numbers: &[i128],
+    players: usize,
+    rows: &mut Vec<Fraction>,
+) -> Result<(), AllocError>
+    requires above { 0 < den }
+    requires within { den < 2 ^ 127 }
+    requires numbers { (k : ℕ) → IsWithin (get_or numbers.now k (pos 0)) }
+    ensures { OnOk result (HasRowOver den players numbers.now rows.old.items rows.new.items) }
+{
+    for place in 0..players {
+        rows.push(over(den, number_at(numbers, place)))?;
+    }
+    Ok(())
+}
+
+/// What each player is paid at the profile with this number, from 0, by a walk through the tree. The
+/// strategies are those of the profile.
+fn row_by_walk(
+    alloc: Global,
+    game: &Game<'_>,
+    payoffs: &Payoffs<'_>,
+    picked: &Picked,
+    profile: u32,
+    strategies: &[Vec<u32>],
+    values: &mut Values,
+) -> Result<Vec<Fraction>, EvalFault>
+    requires within { profile < picked.now.profiles.count }
+    requires payoffs { ArePaid game.now (rows_of payoffs.now) }
+    requires picked { IsPicked game.now picked.now }
+    requires strategies { map (λ own. own.items) strategies.now
+        ≡ strategies_at game.now (get_or (picked_profiles (numbers_in picked.now)) profile []) }
+    ensures payoffs { IfOk result (λ row. ArePayoffsAt game.now
+        (get_or (picked_profiles (numbers_in picked.now)) profile []) row.items) }
+    ensures values { OnOk result
+        (HasValues game.now (get_or (picked_profiles (numbers_in picked.now)) profile [])) }
+    ensures overflow { IsErrOf result EvalFault.Overflow
+        → ¬ (HasValues game.now (get_or (picked_profiles (numbers_in picked.now)) profile [])) }
+{
+    let _players = game.players();
+    expected_with(alloc, game, payoffs, strategies, values)
+}
+
+impl Written {
+    /// Appends the row of the profile at this place, from 0, to which these terms come.
+    fn push_row(
+        &mut self,
+        asked: &Asked<'_, '_, '_>,
+        terms: &Terms,
+        before: u32,
+    ) -> Result<(), FormFault>
+        requires asked { IsAsked asked.now }
+        requires within { before < length (picked_profiles (numbers_in asked.now.picked.now)) }
+        requires written { AreWritten asked.now before self.old }
+        requires shaped { IsShaped terms.now }
+        requires players { terms.now.players ≡ length asked.now.game.now.players }
+        requires settles { Settles asked.now.game.now (get_or asked.now.numbers.now before 0) [] []
+            (entries terms.now) }
+        ensures written { OnOk result (AreWritten asked.now (before + 1) self.new) }
+        ensures few { IsErrOf result FormFault.TooManyProfiles → ⊥ }
+        ensures overflow { (position : ℕ) → IsErrOf result (FormFault.Overflow position)
+            → IsFirstWithout (HasValues asked.now.game.now)
+            (picked_profiles (numbers_in asked.now.picked.now)) position }
+    {
+        let _players = asked.game.players();
+        write_strategies(asked.counts, asked.picked, before, &mut self.strategies)?;
+        if let Some(den) = row_denominator(terms) {
+            push_row_over(den, &terms.numbers, terms.players, &mut self.rows)?;
+            return Ok(());
+        }
+        match row_by_walk(
+            self.alloc,
+            asked.game,
+            asked.payoffs,
+            asked.picked,
+            before,
+            &self.strategies,
+            &mut self.values,
+        ) {
+            Ok(row) => {
+                self.rows.extend_from_slice(&row)?;
+                self.values.give_back(row)?;
+                Ok(())
+            }
+            Err(EvalFault::Overflow) => Err(FormFault::Overflow {
+                profile: before + 1,
+            }),
+            Err(EvalFault::Memory) => Err(FormFault::Memory),
+        }
+    }
+
+    /// Appends the rows of the profiles from one place up to another, to each of which these terms come.
+    pub(crate) fn push_alike(
+        &mut self,
+        asked: &Asked<'_, '_, '_>,
+        terms: &Terms,
+        from: u32,
+        to: u32,
+    ) -> Result<(), FormFault>
+        requires asked { IsAsked asked.now }
+        requires places { from ≤ to }
+        requires within { to ≤ length (picked_profiles (numbers_in asked.now.picked.now)) }
+        requires written { AreWritten asked.now from self.old }
+        requires shaped { IsShaped terms.now }
+        requires players { terms.now.players ≡ length asked.now.game.now.players }
+        requires settles { (i : ℕ) → from ≤ i → i < to → Settles asked.now.game.now
+            (get_or asked.now.numbers.now i 0) [] [] (entries terms.now) }
+        ensures written { OnOk result (AreWritten asked.now to self.new) }
+        ensures few { IsErrOf result FormFault.TooManyProfiles → ⊥ }
+        ensures overflow { (position : ℕ) → IsErrOf result (FormFault.Overflow position)
+            → IsFirstWithout (HasValues asked.now.game.now)
+            (picked_profiles (numbers_in asked.now.picked.now)) position }
+    {
+        for before in from..to {
+            self.push_row(asked, terms, before)?;
+        }
+        Ok(())
+    }
+
+    /// A list with the room of one that is not used any more.
+    fn list(&mut self, players: usize) -> Terms
+        ensures players { result.players ≡ players }
+        ensures rows { self.new.rows ≡ self.old.rows }
+        ensures strategies { self.new.strategies ≡ self.old.strategies }
+    {
+        match self.spare.pop() {
+            Some(mut list) => {
+                list.clear();
+                list.players = players;
+                list
+            }
+            None => Terms::new(self.alloc, players),
+        }
+    }
+
+    /// Appends the rows of these profiles, by what the terms come to at the choices for these digits.
+    pub(crate) fn push_rows(
+        &mut self,
+        asked: &Asked<'_, '_, '_>,
+        terms: &Terms,
+        digits: &[Digit],
+        run: Run,
+    ) -> Result<(), FormFault>
+        requires asked { IsAsked asked.now }
+        requires places { run.from ≤ run.to }
+        requires within { run.to ≤ length (picked_profiles (numbers_in asked.now.picked.now)) }
+        requires written { AreWritten asked.now run.from self.old }
+        requires shaped { IsShaped terms.now }
+        requires ordered { AreOrdered terms.now }
+        requires players { terms.now.players ≡ length asked.now.game.now.players }
+        requires steps { HaveSteps digits.now }
+        requires spans { product (spans (actions_at digits.now)) < 2 ^ 64 }
+        requires count { run.count ≡ product (actions_at digits.now) }
+        requires settles { SettleRows asked.now (actions_at digits.now) terms.now run }
+        ensures written { OnOk result (AreWritten asked.now run.to self.new) }
+        ensures few { IsErrOf result FormFault.TooManyProfiles → ⊥ }
+        ensures overflow { (position : ℕ) → IsErrOf result (FormFault.Overflow position)
+            → IsFirstWithout (HasValues asked.now.game.now)
+            (picked_profiles (numbers_in asked.now.picked.now)) position }
+    {
+        let [slowest, faster @ ..] = digits else {
+            return self.push_alike(asked, terms, run.from, run.to);
+        };
+        let mut level = self.list(terms.players);
+        let mut rest = run;
+        while rest.from < rest.to {
+            let next = level.choose(asked, terms, *slowest, faster, rest)?;
+            self.push_rows(asked, &level, faster, next)?;
+            rest.from = next.to;
+        }
+        self.spare.push(level)?;
+        Ok(())
+    }
+}
+
+impl Terms {
+    /// What terms come to at the choice of the first of these profiles at the slowest digit takes the
+    /// place of these. Answers those profiles, from the first on, at which the choice is the same.
+    fn choose(
+        &mut self,
+        asked: &Asked<'_, '_, '_>,
+        terms: &Terms,
+        slowest: Digit,
+        faster: &[Digit],
+        run: Run,
+    ) -> Result<Run, AllocError>
+        requires some { run.from < run.to }
+        requires within { run.to ≤ length asked.now.numbers.now }
+        requires shaped { IsShaped terms.now }
+        requires ordered { AreOrdered terms.now }
+        requires players { self.old.players ≡ terms.now.players }
+        requires step { slowest.step ≡ product (spans (actions_at faster.now)) }
+        requires spans { (slowest.actions + 1) * slowest.step < 2 ^ 64 }
+        requires count { run.count ≡ slowest.actions * product (actions_at faster.now) }
+        requires settles { SettleRows asked.now (slowest.actions ∷ actions_at faster.now) terms.now
+            run }
+        ensures shaped { OnOk result (IsShaped self.new) }
+        ensures ordered { OnOk result (AreOrdered self.new) }
+        ensures players { self.new.players ≡ self.old.players }
+        ensures from { IfOk result (λ next. next.from ≡ run.from) }
+        ensures onward { IfOk result (λ next. run.from < next.to) }
+        ensures to { IfOk result (λ next. next.to ≤ run.to) }
+        ensures count { IfOk result (λ next. next.count ≡ product (actions_at faster.now)) }
+        ensures settles { IfOk result
+            (SettleRows asked.now (actions_at faster.now) self.new) }
+    {
+        let count = run.count / slowest.actions;
+        let before = (asked.numbers[run.from as usize] - run.first) / count;
+        let first = run.first + before * count;
+        self.merge(terms, slowest.step, before + 1)?;
+        let to = run_end(asked.numbers, run.from + 1, run.to, first, count);
+        let from = run.from;
+        Ok(Run {
+            first,
+            count,
+            from,
+            to,
+        })
+    }
+}
+
+/// The place after the last number, from a place up to another, of those in turn that are at least
+/// `first`, by less than `count`.
+fn run_end(numbers: &[u32], from: u32, to: u32, first: u32, count: u32) -> u32
+    requires from { from ≤ to }
+    requires to { to ≤ length numbers.now }
+    ensures onward { from ≤ result }
+    ensures within { result ≤ to }
+    ensures run { (i : ℕ) → from ≤ i → i < result → (first ≤ get_or numbers.now i 0)
+        × (get_or numbers.now i 0 < first + count) }
+{
+    let mut end = from;
+    while end < to {
+        let number = numbers[end as usize];
+        if number < first || number - first >= count {
+            return end;
+        }
+        end += 1;
+    }
+    end
+}
