@@ -20,8 +20,8 @@ use Rattle.gf_fraction.specs.NumberSpelling.{HasNumberFault, Reads}
 use Rattle.gf_fraction.specs.Computed.{number_of}
 use Rattle.gf_fraction.specs.declared.fraction.NumberFault.{NumberFault}
 use Rattle.gf_fraction.proofs.ComputedAnswers.{number_is_computed, number_is, number_again}
-use Rattle.gf_nfg.specs.declared.position.Position.{Position}
-use Rattle.gf_nfg.specs.declared.position.Position.TheVariants as p
+use Rattle.gf_nfg.specs.Position.{Position}
+use Rattle.gf_nfg.specs.Position.{Position as p}
 use Rattle.gf_nfg.specs.Due.{Role, Suits}
 use Rattle.gf_nfg.specs.Due.Role.{Format, Version, Letter, Count, Payoff, OutcomeNumber}
 use Rattle.gf_token.specs.Indices.{index_of, count_of}

@@ -8,8 +8,8 @@ use Rattle.gf_token.specs.declared.fault.What.{What}
 use Rattle.gf_token.specs.declared.fault.What.TheVariants as what
 use Rattle.gf_token.specs.declared.fault.Why.{Why}
 use Rattle.gf_token.specs.declared.fault.Why.TheVariants.{Expected}
-use Rattle.gf_nfg.specs.declared.position.Position.{Position}
-use Rattle.gf_nfg.specs.declared.position.Position.TheVariants as p
+use Rattle.gf_nfg.specs.Position.{Position}
+use Rattle.gf_nfg.specs.Position.{Position as p}
 use Rattle.gf_token.specs.Place.{MayFollow}
 use Rattle.gf_nfg.specs.Sentence.{IsStrategicFile}
 use Rattle.gf_nfg.specs.Due.{Role, RoleIsDue, IsDue}

@@ -15,6 +15,7 @@ pub mod BackWorked
 pub mod ClassesJoined
 pub mod DueRows
 pub mod DueTable
+pub mod HeardJudged
 pub mod LimitCounts
 pub mod LimitProducts
 pub mod LimitTokens
@@ -29,6 +30,7 @@ pub mod PlacesLed
 pub mod PlacesLimit
 pub mod PlacesOnce
 pub mod PlacesWalk
+pub mod ReaderSteps
 pub mod ReasonFound
 pub mod RunsBody
 pub mod RunsCommon
@@ -41,4 +43,3 @@ pub mod RunsSentence
 pub mod RunsStrategies
 pub mod SpelledTables
 pub mod SpelledTexts
-pub mod Walked

@@ -8,8 +8,8 @@ use Rattle.std.proofs.lemmas.List.{append-nil, length-append}
 use Rattle.gf_token.specs.Token.{Token}
 use Rattle.gf_token.specs.Token.Token.{Opening, Closing, Text, Bare}
 use Rattle.gf_token.specs.Grammar.{Each, braced}
-use Rattle.gf_nfg.specs.declared.position.Position.{Position}
-use Rattle.gf_nfg.specs.declared.position.Position.TheVariants as p
+use Rattle.gf_nfg.specs.Position.{Position}
+use Rattle.gf_nfg.specs.Position.{Position as p}
 use Rattle.gf_nfg.specs.Profiles.{product}
 use Rattle.gf_token.specs.Indices.{count_of}
 use Rattle.gf_nfg.specs.Sentence.{IsCount, IsLabelList}
@@ -166,10 +166,10 @@ labels_walk (label ∷ labels) due from outcomes c =
 
 close_step : (s : State) (n k : ℕ) → n ≡ k → 0 < k
     → listed s n
-    ≡ Ok (at p.BeforeList s.due s.list_start s.outcomes (with_count s.content k))
+    ≡ Ok (at p.BeforeList s.due 0 s.outcomes (with_count s.content k))
 close_step s zero k e some = absurd (omega (arith, e, some))
 close_step s (suc n) k e some =
-    ap (λ (m : ℕ). Ok (at p.BeforeList s.due s.list_start s.outcomes (with_count s.content m))) e
+    ap (λ (m : ℕ). Ok (at p.BeforeList s.due 0 s.outcomes (with_count s.content m))) e
 
 pub lists_taken : AreTaken IsLabelList TakesLists
 lists_taken s due group labels takes e h some =
@@ -183,7 +183,7 @@ lists_taken s due group labels takes e h some =
       last = Closing;
       parts = h;
       mid = mid;
-      after = at p.BeforeList due from s.outcomes (with_count mid.content n);
+      after = at p.BeforeList due 0 s.outcomes (with_count mid.content n);
       walks =
           rw (open_step s.position takes due s.list_start s.outcomes c)
           (labels_walk labels due from s.outcomes c);

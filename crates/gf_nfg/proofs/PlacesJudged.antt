@@ -1,14 +1,11 @@
 -- Where the reader refuses, no file goes on, or each that does is past the limit.
 use Rattle.std.proofs.Common.{◌≡◌, ℕ, ◌<◌, ◌≤◌, List, [], ◌∷◌, ◌++◌, length}
-use Rattle.std.proofs.Common.{Option, None, Some, Result, Ok, Err, IfErr, IsErrAnd}
+use Rattle.std.proofs.Common.{Option, None, Some, Result, Ok, Err}
 use Rattle.std.proofs.Common.{refl, sym, ap, subst, ◌∙◌, append_assoc, arith}
 use Rattle.std.proofs.lemmas.List.{append-nil, map-append}
 use Rattle.gf_token.specs.Token.{Token, Lexeme, lexeme}
 use Rattle.gf_token.specs.Token.Token.{Broken}
 use Rattle.gf_token.specs.TokenSpelling.{Spells}
-use Rattle.gf_token.specs.Cursor.{token_of}
-use Rattle.gf_token.specs.declared.token.Kind.{Kind}
-use Rattle.gf_token.specs.declared.token.Kind.TheVariants as kinds
 use Rattle.gf_token.specs.declared.fault.Fault.{Fault}
 use Rattle.gf_token.specs.declared.fault.Span.{Span}
 use Rattle.gf_token.specs.declared.fault.What.{What}
@@ -21,10 +18,8 @@ use Rattle.gf_nfg.specs.Sentence.{Sentence, IsStrategicFile}
 use Rattle.gf_nfg.specs.TableText.{SpellsTable}
 use Rattle.gf_token.specs.Place.{tokens_of, IsOffendingPlace}
 use Rattle.gf_nfg.specs.LimitPlace.{IsLimitPlace, IsWithinLimit, StaysWithinLimit}
-use Rattle.gf_nfg.specs.Machine.{State, Content, step, finish, due_at, ended, Fails}
+use Rattle.gf_nfg.specs.Machine.{State, Content, step, finish, due_at, ended}
 use Rattle.gf_nfg.specs.Judgement.{IsRefusal, IsAcceptedWithinLimit, IsJudged}
-use Rattle.gf_nfg.specs.ReaderState.{ArePartsOf}
-use Rattle.gf_nfg.specs.declared.parts.Parts.{Parts}
 use Rattle.gf_token.proofs.Places.{no_file as refused_no_file}
 use Rattle.gf_nfg.proofs.RunsEnds.{broken_refused}
 use Rattle.gf_nfg.proofs.PlacesLed.{Led, spelled_as}
@@ -84,7 +79,7 @@ limit bytes all rest l s after spelled h within e over =
     }
 
 -- a token that is not refused
-accepted : (bytes : List ℕ) (all rest : List Lexeme) (l : Lexeme) (s after : State)
+pub accepted : (bytes : List ℕ) (all rest : List Lexeme) (l : Lexeme) (s after : State)
     → Spells 0 bytes all → Led all (l ∷ rest) s → step s l.token ≡ Ok after
     → after.content.profiles ≤ profile_limit → IsAcceptedWithinLimit bytes (span_of l)
 accepted bytes all rest l s after spelled h e within =
@@ -100,25 +95,6 @@ accepted bytes all rest l s after spelled h e within =
       };
       within = stays_within through after leads within;
     }
-
-pub judged : (bytes : List ℕ) (all rest : List Lexeme) (l : Lexeme) (s : State) (why : Why)
-    → Spells 0 bytes all → Led all (l ∷ rest) s → s.content.profiles ≤ profile_limit
-    → IsWhole l.token → Fails why (step s l.token) → IsJudged why bytes (span_of l)
-judged bytes all rest l s Memory spelled h within whole e =
-    accepted bytes all rest l s e.0 spelled h e.1 e.2
-judged bytes all rest l s TooManyProfiles spelled h within whole e =
-    limit bytes all rest l s e.0 spelled h within e.1 e.2
-judged bytes all rest l s TooLong spelled h within whole e = absurd e
-judged bytes all rest l s why spelled h within whole e =
-    refusal bytes all rest l s why spelled h within whole e
-
--- the tokens that a cursor gives have an end
-pub whole : (kind : Kind) → IsWhole (token_of kind)
-whole kinds.Opening = tt
-whole kinds.Closing = tt
-whole kinds.Comma = tt
-whole (kinds.Text label) = tt
-whole (kinds.Bare bytes) = tt
 
 -- ---- a text without an end
 
@@ -225,21 +201,3 @@ only_memory Memory bytes span t h k within = refl
 only_memory TooManyProfiles bytes span t h k within = absurd (all_past bytes span t h k within)
 only_memory TooLong bytes span t h k within = absurd h
 only_memory _ bytes span t h k within = absurd (none_spelled bytes span t h.place k)
-
--- ---- the answer at a text without an end
-
-pub answer_judged : {A : Type 0} (r : Result A Fault) (fault : Fault) (bytes : List ℕ)
-    → IsErrAnd r (λ e. e ≡ fault) → fault.why ≡ Unterminated
-    → IsRefusal Unterminated bytes fault.span
-    → IfErr r (λ e. IsJudged e.why bytes e.span)
-answer_judged (Ok x) fault bytes is why refusal = absurd is
-answer_judged (Err e) fault bytes is why refusal =
-    let P : Why → Type 0 = λ w. IsJudged w bytes fault.span in
-    subst (λ (f : Fault). IsJudged f.why bytes f.span) (sym is) (subst P (sym why) refusal)
-
-pub answer_only : (r : Result Parts Fault) (fault : Fault) (bytes : List ℕ) (t : Table)
-    → IsErrAnd r (λ e. e ≡ fault) → IsRefusal Unterminated bytes fault.span → SpellsTable bytes t
-    → ArePartsOf r t
-answer_only (Ok x) fault bytes t is refusal k = absurd is
-answer_only (Err e) fault bytes t is refusal k =
-    absurd (none_spelled bytes fault.span t refusal.place k)

@@ -2,15 +2,17 @@
 use Rattle.std.proofs.Common.{◌≡◌, ℕ, zero, suc, ◌-◌, ◌*◌, ◌<◌, ◌≤◌, Bool, true, false}
 use Rattle.std.proofs.Common.{cond, List, [], ◌∷◌, ◌++◌, length, Option, Some, None}
 use Rattle.std.proofs.Common.{Result, Ok, Err, refl, sym, ap, subst, ◌∙◌, arith, nat_eq}
-use Rattle.std.specs.Prelude.{nat_le}
+use Rattle.std.specs.Prelude.{nat_le, nat_lt}
+use Rattle.std.proofs.lemmas.Bool.Decides.{nat_tests}
+use Rattle.gf_nfg.specs.Heard.{is_past}
 use Rattle.gf_token.specs.Token.{Token}
 use Rattle.gf_token.specs.Token.Token.{Opening, Closing, Comma, Text, Bare, Broken}
 use Rattle.gf_token.specs.declared.fault.What.{What}
 use Rattle.gf_token.specs.declared.fault.Why.{Why}
 use Rattle.gf_fraction.specs.Ratio.{Ratio}
 use Rattle.gf_fraction.specs.declared.fraction.NumberFault.{NumberFault}
-use Rattle.gf_nfg.specs.declared.position.Position.{Position}
-use Rattle.gf_nfg.specs.declared.position.Position.TheVariants as p
+use Rattle.gf_nfg.specs.Position.{Position}
+use Rattle.gf_nfg.specs.Position.{Position as p}
 use Rattle.gf_fraction.specs.Computed.{number_of}
 use Rattle.gf_token.specs.Indices.{index_of, count_of}
 use Rattle.gf_nfg.specs.Table.{Table}
@@ -30,11 +32,29 @@ use Rattle.gf_nfg.proofs.RunsSentence.{sentence_found, sentence_again}
 use Rattle.gf_nfg.proofs.RunsEnds.{IsSettled, settled_ends}
 use Rattle.gf_nfg.proofs.PlacesWalk.{Leads, walk, walk_split, walk_step, leads_more, leads_run}
 
+-- the profiles are no fewer where a count or a list was read, and as many elsewhere
+abbrev GrownAt : Position → ℕ → ℕ → Type 0
+GrownAt p.Counts m n = m ≤ n
+GrownAt p.BeforeList m n = m ≤ n
+GrownAt _ m n = m ≡ n
+
+same_at : (q : Position) (n : ℕ) → GrownAt q n n
+same_at p.Counts n = omega arith
+same_at p.BeforeList n = omega arith
+same_at _ n = refl
+
+no_fewer_at : (q : Position) (m n : ℕ) → GrownAt q m n → m ≤ n
+no_fewer_at p.Counts m n h = h
+no_fewer_at p.BeforeList m n h = h
+no_fewer_at _ m n h = omega (arith, h)
+
 -- what a token does to the profiles: a bare one or a closing brace makes them no fewer and leaves
 -- no list open, and another keeps them
 abbrev Grown : Token → State → State → Type 0
-Grown (Bare b) s after = (s.content.profiles ≤ after.content.profiles) × IsSettled after.position
-Grown Closing s after = (s.content.profiles ≤ after.content.profiles) × IsSettled after.position
+Grown (Bare b) s after =
+    GrownAt after.position s.content.profiles after.content.profiles × IsSettled after.position
+Grown Closing s after =
+    GrownAt after.position s.content.profiles after.content.profiles × IsSettled after.position
 Grown _ s after = s.content.profiles ≡ after.content.profiles
 
 abbrev Grows : Token → State → Result State Why → Type 0
@@ -43,6 +63,9 @@ Grows t s (Err why) = Unit {0}
 
 same : (n : ℕ) → n ≤ n
 same n = omega arith
+
+not_past : (n : ℕ) → nat_lt profile_limit n ≡ false → n ≤ profile_limit
+not_past n e = grind (arith, nat_tests)
 
 by_test : (t : Token) (s : State) (b : Bool) (x y : Result State Why) → Grows t s x → Grows t s y
     → Grows t s (cond b x y)
@@ -69,15 +92,15 @@ lists s (suc n) = (times s.content.profiles (suc n) (omega arith), tt)
 
 pays : (q : Position) → IsSettled q → (s : State) (b : List ℕ) (o : Result Ratio NumberFault)
     → Grows (Bare b) s (paid q s o)
-pays q settled s b (Ok n) = (same s.content.profiles, settled)
+pays q settled s b (Ok n) = (same_at q s.content.profiles, settled)
 pays q settled s b (Err fault) = tt
 
 chooses : (s : State) (b : List ℕ) (o : Option ℕ) → Grows (Bare b) s (chosen s o)
 chooses s b None = tt
-chooses s b (Some k) = by_test (Bare b) s (nat_le k s.outcomes) _ _ (same s.content.profiles, tt) tt
+chooses s b (Some k) = by_test (Bare b) s (nat_le k s.outcomes) _ _ (refl, tt) tt
 
 ends_strategies : (s : State) (t : Token) → Grows t s (at_strategies_end s t)
-ends_strategies s Closing = (same s.content.profiles, tt)
+ends_strategies s Closing = (refl, tt)
 ends_strategies s _ = tt
 
 firsts : (s : State) (t : Token) → Grows t s (at_first s t)
@@ -109,7 +132,7 @@ bodies s (Bare b) = flats s (Bare b)
 bodies s Broken = flats s Broken
 
 ends_outcome : (s : State) (t : Token) → Grows t s (at_outcome_end s t)
-ends_outcome s Closing = (same s.content.profiles, tt)
+ends_outcome s Closing = (refl, tt)
 ends_outcome s _ = tt
 
 braced_payoffs : (s : State) (t : Token) → Grows t s (at_braced_payoff s t)
@@ -123,20 +146,20 @@ numbers s _ = tt
 grows_at : (q : Position) (due from outcomes : ℕ) (c : Content) (t : Token)
     → Grows t (at q due from outcomes c) (step (at q due from outcomes c) t)
 grows_at p.Format due from outcomes c (Bare b) = tested (at p.Format due from outcomes c)
-    (at p.Version due from outcomes c) b _ _ (same c.profiles, tt)
+    (at p.Version due from outcomes c) b _ _ (refl, tt)
 grows_at p.Format due from outcomes c _ = tt
 grows_at p.Version due from outcomes c (Bare b) = tested (at p.Version due from outcomes c)
-    (at p.Letter due from outcomes c) b _ _ (same c.profiles, tt)
+    (at p.Letter due from outcomes c) b _ _ (refl, tt)
 grows_at p.Version due from outcomes c _ = tt
 grows_at p.Letter due from outcomes c (Bare b) = tested (at p.Letter due from outcomes c)
-    (at p.Title due from outcomes c) b _ _ (same c.profiles, tt)
+    (at p.Title due from outcomes c) b _ _ (refl, tt)
 grows_at p.Letter due from outcomes c _ = tt
 grows_at p.Title due from outcomes c (Text label) = refl
 grows_at p.Title due from outcomes c _ = tt
 grows_at p.BeforePlayers due from outcomes c Opening = refl
 grows_at p.BeforePlayers due from outcomes c _ = tt
 grows_at p.InPlayers due from outcomes c (Text label) = refl
-grows_at p.InPlayers due from outcomes c Closing = (same c.profiles, tt)
+grows_at p.InPlayers due from outcomes c Closing = (refl, tt)
 grows_at p.InPlayers due from outcomes c _ = tt
 grows_at p.BeforeStrategies due from outcomes c Opening = refl
 grows_at p.BeforeStrategies due from outcomes c _ = tt
@@ -168,7 +191,7 @@ grows_at p.AfterStrategies due from outcomes c Broken =
 grows_at p.AfterComment due from outcomes c t = bodies (at p.AfterComment due from outcomes c) t
 grows_at p.FlatPayoffs due from outcomes c t = flats (at p.FlatPayoffs due from outcomes c) t
 grows_at p.InOutcomes due from outcomes c Opening = refl
-grows_at p.InOutcomes due from outcomes c Closing = (same c.profiles, tt)
+grows_at p.InOutcomes due from outcomes c Closing = (refl, tt)
 grows_at p.InOutcomes due from outcomes c _ = tt
 grows_at p.OutcomeName due from outcomes c (Text label) = refl
 grows_at p.OutcomeName due from outcomes c _ = tt
@@ -195,8 +218,10 @@ grows s after t e =
 
 no_fewer : (s after : State) (t : Token) → Grown t s after
     → s.content.profiles ≤ after.content.profiles
-no_fewer s after (Bare b) h = h.0
-no_fewer s after Closing h = h.0
+no_fewer s after (Bare b) h =
+    no_fewer_at after.position s.content.profiles after.content.profiles h.0
+no_fewer s after Closing h =
+    no_fewer_at after.position s.content.profiles after.content.profiles h.0
 no_fewer s after _ h = omega (arith, h)
 
 more_by : (s after : State) (t : Token)
@@ -210,6 +235,32 @@ settled_by : (s after : State) (t : Token) → Grown t s after → IsBareOrClosi
 settled_by s after (Bare b) h k = h.1
 settled_by s after Closing h k = h.1
 settled_by s after _ h k = absurd k
+
+-- the profiles pass their limit where a count or a list was read, or nowhere
+bounded_at : (q : Position) (m n : ℕ) → GrownAt q m n → m ≤ profile_limit → is_past q n ≡ false
+    → n ≤ profile_limit
+bounded_at p.Counts m n h within e = not_past n e
+bounded_at p.BeforeList m n h within e = not_past n e
+bounded_at _ m n h within e = omega (arith, h, within)
+
+bounded_by : (s after : State) (t : Token) → Grown t s after
+    → s.content.profiles ≤ profile_limit
+    → is_past after.position after.content.profiles ≡ false → after.content.profiles ≤ profile_limit
+bounded_by s after (Bare b) h within e =
+    bounded_at after.position s.content.profiles after.content.profiles h.0 within e
+bounded_by s after Closing h within e =
+    bounded_at after.position s.content.profiles after.content.profiles h.0 within e
+bounded_by s after _ h within e = omega (arith, h, within)
+
+pub bounded : (s after : State) (t : Token) → step s t ≡ Ok after
+    → s.content.profiles ≤ profile_limit
+    → is_past after.position after.content.profiles ≡ false → after.content.profiles ≤ profile_limit
+bounded s after t e within not = bounded_by s after t (grows s after t e) within not
+
+pub past : (q : Position) (n : ℕ) → is_past q n ≡ true → profile_limit < n
+past p.Counts n e = grind (arith, nat_tests)
+past p.BeforeList n e = grind (arith, nat_tests)
+past _ n e = absurd cc
 
 -- where it makes them more, it is one of these
 pub makes_more : (s after : State) (t : Token)

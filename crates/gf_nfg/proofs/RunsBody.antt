@@ -7,7 +7,7 @@ use Rattle.gf_token.specs.Token.{Token}
 use Rattle.gf_token.specs.Token.Token.{Opening, Closing, Text, Bare}
 use Rattle.gf_token.specs.Grammar.{Each, braced, IsComment}
 use Rattle.gf_fraction.specs.Ratio.{Ratio}
-use Rattle.gf_nfg.specs.declared.position.Position.TheVariants as p
+use Rattle.gf_nfg.specs.Position.{Position as p}
 use Rattle.gf_nfg.specs.Sentence.{IsPayoff, IsOutcomeInBraces}
 use Rattle.gf_nfg.specs.Machine.{Content, at, run, with_comment, with_payoffs, with_choices}
 use Rattle.gf_nfg.proofs.MeaningLists.{joined}
@@ -45,7 +45,7 @@ flat_body ts due from c r e =
 body_found : (ts : List Token) (due from : ℕ) (c r : Content)
     → run (at p.AfterComment due from 0 c) ts ≡ Ok r → Body ts due c r
 body_found (Opening ∷ ts) due from c r e =
-    let h = outcomes_found ts due from c r e in
+    let h = outcomes_found ts 0 from c r e in
     let all : greatest (0 + length h.outcomes) ≡ greatest (length h.outcomes) = omega arith in
     inr (record {
       list = h.list;
@@ -164,7 +164,7 @@ pub outcome_body_again : (comment list numbers : List Token) (outcomes : List (L
 outcome_body_again comment list numbers outcomes choices said from c none (inl h) listed each known
     count =
     ap (λ (x : List Token). run (ended from 0 c) (x ++ (braced list ++ numbers))) h.0
-    ∙ numbered_again list numbers outcomes choices (length c.players * c.profiles) from c listed
+    ∙ numbered_again list numbers outcomes choices 0 from c listed
     each known count
     ∙ ap
     (λ (x : List ℕ). Ok (with_choices (with_payoffs (with_comment c x) (joined outcomes)) choices))
@@ -172,5 +172,5 @@ outcome_body_again comment list numbers outcomes choices said from c none (inl h
 outcome_body_again comment list numbers outcomes choices said from c none (inr h) listed each known
     count =
     ap (λ (x : List Token). run (ended from 0 c) (x ++ (braced list ++ numbers))) h
-    ∙ numbered_again list numbers outcomes choices (length c.players * c.profiles) from
+    ∙ numbered_again list numbers outcomes choices 0 from
     (with_comment c said) listed each known count

@@ -12,8 +12,8 @@ use Rattle.gf_token.specs.declared.fault.What.TheVariants as what
 use Rattle.gf_token.specs.declared.fault.Why.{Why}
 use Rattle.gf_token.specs.declared.fault.Why.TheVariants.{Expected}
 use Rattle.gf_fraction.specs.Ratio.{Ratio, whole}
-use Rattle.gf_nfg.specs.declared.position.Position.{Position}
-use Rattle.gf_nfg.specs.declared.position.Position.TheVariants as p
+use Rattle.gf_nfg.specs.Position.{Position}
+use Rattle.gf_nfg.specs.Position.{Position as p}
 use Rattle.gf_fraction.specs.Computed.{number_of, lowest_of, gcd_within}
 use Rattle.gf_token.specs.Indices.{index_of, count_of}
 use Rattle.gf_nfg.specs.Machine.{State, Content, at, step, run, listed, with_title, with_labels}
@@ -163,7 +163,7 @@ first_ends (suc due) from outcomes c = then _ _ (Bare (codes "1")) (first_step d
     (counts_ends due from outcomes (with_count c 1)))
 
 listed_step : (s : State) (n : ℕ) → 0 < n
-    → listed s n ≡ Ok (at p.BeforeList s.due s.list_start s.outcomes (with_count s.content n))
+    → listed s n ≡ Ok (at p.BeforeList s.due 0 s.outcomes (with_count s.content n))
 listed_step s zero some = absurd (omega arith)
 listed_step s (suc n) some = refl
 
@@ -192,8 +192,8 @@ lists_ends (suc due) from outcomes c =
     then _ _ Opening (open_step due from outcomes c)
     (then _ _ (Text []) (text_step due (length c.labels) outcomes c)
     (then _ _ Closing (listed_step (at p.InList due (length c.labels) outcomes d) n some)
-    (by_one (at p.BeforeList due (length c.labels) outcomes (with_count d n)) c.profiles n one
-    (lists_ends due (length c.labels) outcomes (with_count d n)))))
+    (by_one (at p.BeforeList due 0 outcomes (with_count d n)) c.profiles n one
+    (lists_ends due 0 outcomes (with_count d n)))))
 
 list_ends : (n due from outcomes : ℕ) (c : Content) → from < length c.labels + n
     → (profiles : ℕ) × EndsWith (at p.InList due from outcomes c) profiles
@@ -201,7 +201,7 @@ list_ends zero due from outcomes c h =
     let n = length c.labels - from in (
       c.profiles * n,
       then _ _ Closing (listed_step (at p.InList due from outcomes c) n (omega arith))
-          (lists_ends due from outcomes (with_count c n)),
+          (lists_ends due 0 outcomes (with_count c n)),
     )
 list_ends (suc n) due from outcomes c h =
     let h = list_ends n due from outcomes (with_labels c ([] ∷ []))

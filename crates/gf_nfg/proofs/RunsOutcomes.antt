@@ -12,7 +12,7 @@ use Rattle.gf_token.specs.Index.{IsIndex}
 use Rattle.gf_token.specs.declared.fault.Why.{Why}
 use Rattle.gf_token.specs.Grammar.{Each, braced, IsPayoffInBraces}
 use Rattle.gf_fraction.specs.Ratio.{Ratio}
-use Rattle.gf_nfg.specs.declared.position.Position.TheVariants as p
+use Rattle.gf_nfg.specs.Position.{Position as p}
 use Rattle.gf_token.specs.Indices.{index_of}
 use Rattle.gf_nfg.specs.Sentence.{IsOutcomeInBraces}
 use Rattle.gf_nfg.specs.Machine.{State, Content, at, run, chosen, with_payoffs}

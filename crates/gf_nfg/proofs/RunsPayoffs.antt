@@ -8,8 +8,8 @@ use Rattle.gf_token.specs.Token.Token.{Closing, Comma, Bare}
 use Rattle.gf_token.specs.Grammar.{Each, IsPayoffInBraces}
 use Rattle.gf_fraction.specs.Ratio.{Ratio}
 use Rattle.gf_fraction.specs.declared.fraction.NumberFault.{NumberFault}
-use Rattle.gf_nfg.specs.declared.position.Position.{Position}
-use Rattle.gf_nfg.specs.declared.position.Position.TheVariants as p
+use Rattle.gf_nfg.specs.Position.{Position}
+use Rattle.gf_nfg.specs.Position.{Position as p}
 use Rattle.gf_fraction.specs.Computed.{number_of}
 use Rattle.gf_fraction.proofs.ComputedAnswers.{number_is, number_again}
 use Rattle.gf_nfg.specs.Sentence.{IsPayoff}

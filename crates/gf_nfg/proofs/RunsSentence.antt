@@ -9,7 +9,7 @@ use Rattle.gf_token.specs.Token.Token.{Opening, Closing, Text, Bare}
 use Rattle.gf_token.specs.Grammar.{Each, braced, IsComment}
 use Rattle.gf_fraction.specs.Ratio.{Ratio}
 use Rattle.gf_fraction.proofs.AllElements.{all_images}
-use Rattle.gf_nfg.specs.declared.position.Position.TheVariants as p
+use Rattle.gf_nfg.specs.Position.{Position as p}
 use Rattle.gf_nfg.specs.Profiles.{positions, profiles, product}
 use Rattle.gf_nfg.specs.Table.{Table, IsTable, rows}
 use Rattle.gf_nfg.specs.Sentence.{Sentence, IsStrategies, IsPayoff, IsOutcomeInBraces}

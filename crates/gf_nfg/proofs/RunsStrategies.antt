@@ -10,7 +10,7 @@ use Rattle.gf_token.specs.Token.{Token}
 use Rattle.gf_token.specs.Token.Token.{Opening, Closing, Text, Bare}
 use Rattle.gf_token.specs.declared.fault.Why.{Why}
 use Rattle.gf_token.specs.Grammar.{Each, braced}
-use Rattle.gf_nfg.specs.declared.position.Position.TheVariants as p
+use Rattle.gf_nfg.specs.Position.{Position as p}
 use Rattle.gf_nfg.specs.Profiles.{product}
 use Rattle.gf_token.specs.Indices.{count_of}
 use Rattle.gf_nfg.specs.Sentence.{IsCount, IsLabelList, counted_labels}
@@ -130,7 +130,7 @@ record List1 (ts : List Token) (due outcomes : ℕ) (c r : Content) (before : Li
   rest : List Token
   parts : ts ≡ map Text labels ++ Closing ∷ rest
   some : 0 < length (before ++ labels)
-  goes_on : run (at p.BeforeList due (length c.labels) outcomes
+  goes_on : run (at p.BeforeList due 0 outcomes
       (with_count (with_labels c (before ++ labels)) (length (before ++ labels)))) rest
       ≡ Ok r
 
@@ -140,7 +140,7 @@ behind_front xs ys = omega (arith, length-append xs ys)
 listed_found : (s : State) (n : ℕ) (ts : List Token) (r : Content)
     → (listed s n >>= λ after. run after ts) ≡ Ok r
     → (0 < n)
-    × (run (at p.BeforeList s.due s.list_start s.outcomes (with_count s.content n)) ts ≡ Ok r)
+    × (run (at p.BeforeList s.due 0 s.outcomes (with_count s.content n)) ts ≡ Ok r)
 listed_found s zero ts r e = absurd cc
 listed_found s (suc n) ts r e = (omega arith, e)
 
@@ -160,7 +160,7 @@ list_found (Text label ∷ ts) due outcomes c r before e =
       rest = h.rest;
       parts = ap (λ (x : List Token). Text label ∷ x) h.parts;
       some = subst (λ (ls : List (List ℕ)). 0 < length ls) whole h.some;
-      goes_on = subst (λ (ls : List (List ℕ)). run (at p.BeforeList due (length c.labels)
+      goes_on = subst (λ (ls : List (List ℕ)). run (at p.BeforeList due 0
           outcomes (with_count (with_labels c ls) (length ls))) h.rest ≡ Ok r)
           whole h.goes_on;
     }
@@ -176,7 +176,7 @@ list_found (Closing ∷ ts) due outcomes c r before e =
       rest = ts;
       parts = refl;
       some = subst (λ (ls : List (List ℕ)). 0 < length ls) whole h.0;
-      goes_on = subst (λ (ls : List (List ℕ)). run (at p.BeforeList due (length c.labels)
+      goes_on = subst (λ (ls : List (List ℕ)). run (at p.BeforeList due 0
           outcomes (with_count (with_labels c ls) (length ls))) ts ≡ Ok r)
           whole h.1;
     }
@@ -257,7 +257,7 @@ lists_found (suc steps) (Opening ∷ ts) (suc due) from outcomes c r less e =
     (sym (with_no_labels c)) (rw pred_suc at f) in
     let h = list_found ts due outcomes c r [] g in
     list_more h.labels ts h.rest due outcomes c r h.parts h.some
-    (lists_found steps h.rest due (length c.labels) outcomes
+    (lists_found steps h.rest due 0 outcomes
     (with_count (with_labels c h.labels) (length h.labels)) r
     (shorter h.labels ts h.rest steps h.parts (omega arith)) h.goes_on)
 lists_found (suc steps) (_ ∷ ts) zero from outcomes c r less e = absurd cc
@@ -354,7 +354,7 @@ first_counts_again (labels ∷ strategies) inner rest from outcomes c h some =
     (with_one_count c (length labels) (map length strategies)))
 
 listed_step : (s : State) (n : ℕ) (ts : List Token) → 0 < n → (listed s n >>= λ after. run after ts)
-    ≡ run (at p.BeforeList s.due s.list_start s.outcomes (with_count s.content n)) ts
+    ≡ run (at p.BeforeList s.due 0 s.outcomes (with_count s.content n)) ts
 listed_step s zero ts some = absurd (omega arith)
 listed_step s (suc n) ts some = refl
 
@@ -362,7 +362,7 @@ list_again : (labels before : List (List ℕ)) (rest : List Token) (due outcomes
     → 0 < length (before ++ labels)
     → run (at p.InList due (length c.labels) outcomes (with_labels c before))
     (map Text labels ++ Closing ∷ rest)
-    ≡ run (at p.BeforeList due (length c.labels) outcomes
+    ≡ run (at p.BeforeList due 0 outcomes
     (with_count (with_labels c (before ++ labels)) (length (before ++ labels))))
     rest
 list_again [] before rest due outcomes c some =
@@ -371,7 +371,7 @@ list_again [] before rest due outcomes c some =
     ap (λ (n : ℕ). listed s n >>= λ after. run after rest) (behind_front c.labels before)
     ∙ listed_step s (length before) rest (subst (λ (ls : List (List ℕ)). 0 < length ls) whole some)
     ∙ ap (λ (ls : List (List ℕ)).
-    run (at p.BeforeList due (length c.labels) outcomes (with_count (with_labels c ls) (length ls)))
+    run (at p.BeforeList due 0 outcomes (with_count (with_labels c ls) (length ls)))
     rest) (sym whole)
 list_again (label ∷ labels) before rest due outcomes c some =
     let whole = append_assoc before (label ∷ []) labels in
@@ -381,7 +381,7 @@ list_again (label ∷ labels) before rest due outcomes c some =
     ∙ list_again labels (before ++ label ∷ []) rest due outcomes c
     (subst (λ (ls : List (List ℕ)). 0 < length ls) (sym whole) some)
     ∙ ap (λ (ls : List (List ℕ)).
-    run (at p.BeforeList due (length c.labels) outcomes (with_count (with_labels c ls) (length ls)))
+    run (at p.BeforeList due 0 outcomes (with_count (with_labels c ls) (length ls)))
     rest) whole
 
 open_step : (due from outcomes : ℕ) (c : Content) (ts : List Token)
@@ -422,7 +422,7 @@ lists_again [] inner rest from outcomes c h some = record {
 }
 lists_again (labels ∷ lists) inner rest from outcomes c h some =
     let e = braced_parts labels inner h.0 h.1 rest h.2 h.3 in
-    let k = lists_again lists h.1 rest (length c.labels) outcomes
+    let k = lists_again lists h.1 rest 0 outcomes
     (with_count (with_labels c labels) (length labels)) h.4 some.1 in
     record {
       from = k.from;

@@ -1,11 +1,13 @@
 pub mod Classes
 pub mod Due
 pub mod Judgement
+pub mod Heard
 pub mod Limit
 pub mod LimitByCounts
 pub mod LimitPlace
 pub mod Machine
 pub mod Meaning
+pub mod Position
 pub mod ProfilePlaces
 pub mod Profiles
 pub mod ReaderState
@@ -17,7 +19,6 @@ pub mod TableAccess
 pub mod TableParts
 pub mod TableText
 pub mod TextParts
-pub mod Walk
 pub mod WorkedTables
 pub use Rattle.gf_fraction.specs.Ratio
 pub use Rattle.gf_token.specs.Code

@@ -1,6 +1,6 @@
 -- The reader of strategic files as a machine: one token at a time. What it means is said in
 -- Sentence; no public contract cites this.
-use Rattle.std.specs.Prelude.{◌≡◌, ℕ, zero, suc, ◌<◌, ◌≤◌, ◌+◌, ◌-◌, ◌*◌, ◌^◌, ◌||◌, min}
+use Rattle.std.specs.Prelude.{ℕ, zero, suc, ◌+◌, ◌-◌, ◌*◌, ◌^◌, ◌||◌, min}
 use Rattle.std.specs.Prelude.{List, [], ◌∷◌, ◌++◌, length, codes, Option, Some, None}
 use Rattle.std.specs.Prelude.{Result, Ok, Err, nat_eq, nat_le, ◌==◌, if◌then◌else◌}
 use Rattle.std.specs.Cmp.Lexicographic.{pointwise}
@@ -10,16 +10,14 @@ use Rattle.gf_token.specs.declared.fault.What.{What}
 use Rattle.gf_token.specs.declared.fault.What.TheVariants as what
 use Rattle.gf_token.specs.declared.fault.Why.{Why}
 use Rattle.gf_token.specs.declared.fault.Why.TheVariants.{Expected, BadIndex, NoEntry}
-use Rattle.gf_token.specs.declared.fault.Why.TheVariants.{UnknownOutcome, Memory}
-use Rattle.gf_token.specs.declared.fault.Why.TheVariants.{TooManyProfiles, TooLong}
+use Rattle.gf_token.specs.declared.fault.Why.TheVariants.{UnknownOutcome}
 use Rattle.gf_fraction.specs.Ratio.{Ratio}
 use Rattle.gf_fraction.specs.declared.fraction.NumberFault.{NumberFault}
-use Rattle.gf_nfg.specs.Limit.{profile_limit}
 use Rattle.gf_fraction.specs.Computed.{number_of}
 use Rattle.gf_token.specs.NumberWhy.{why_of}
 use Rattle.gf_token.specs.Indices.{count_of, index_of}
-use Rattle.gf_nfg.specs.declared.position.Position.{Position}
-use Rattle.gf_nfg.specs.declared.position.Position.TheVariants as p
+use Rattle.gf_nfg.specs.Position.{Position}
+use Rattle.gf_nfg.specs.Position.{Position as p}
 
 -- What was read so far. `counts` says how many strategies each player has, `profiles` is their
 -- product, and `labels` has their labels, or none where the file gives counts alone. `payoffs` are
@@ -141,7 +139,7 @@ opened s = at p.InList (s.due - 1) (length s.content.labels) s.outcomes s.conten
 -- a list with so many labels was closed
 abbrev pub listed : State → ℕ → Result State Why
 listed s zero = Err NoEntry
-listed s (suc n) = settled (to p.BeforeList s) (suc n)
+listed s (suc n) = settled (at p.BeforeList s.due 0 s.outcomes s.content) (suc n)
 
 -- behind the strategies, a payoff is due for each player at each profile
 abbrev pub at_strategies_end : State → Token → Result State Why
@@ -192,7 +190,7 @@ abbrev pub at_flat_payoffs : State → Token → Result State Why
 at_flat_payoffs s t = if s.due == 0 then Err (Expected what.End) else at_payoff p.FlatPayoffs s t
 
 abbrev pub at_after_comment : State → Token → Result State Why
-at_after_comment s Opening = Ok (to p.InOutcomes s)
+at_after_comment s Opening = Ok (at p.InOutcomes 0 s.list_start s.outcomes s.content)
 at_after_comment s Closing = at_flat_payoffs s Closing
 at_after_comment s Comma = at_flat_payoffs s Comma
 at_after_comment s (Text label) = at_flat_payoffs s (Text label)
@@ -325,19 +323,3 @@ run s (t ∷ ts) = step s t >>= λ after. run after ts
 
 abbrev pub start : State
 start = at p.Format 0 0 0 nothing
-
--- The code refuses a token as the machine does, but where the profiles would pass their limit, of
--- which the machine knows nothing. It wants memory only where the machine goes on, within the
--- limit, and it never refuses a token as too long.
-abbrev pub Fails : Why → Result State Why → Type 0
-Fails Memory machine =
-    (after : State) × (machine ≡ Ok after) × (after.content.profiles ≤ profile_limit)
-Fails TooManyProfiles machine =
-    (after : State) × (machine ≡ Ok after) × (profile_limit < after.content.profiles)
-Fails TooLong machine = ⊥
-Fails why machine = machine ≡ Err why
-
--- what a call answered, and the state after it, are what the machine gives
-abbrev pub Steps : {A : Type 0} → Result State Why → Result A Why → State → Type 0
-Steps machine (Ok _) after = machine ≡ Ok after
-Steps machine (Err why) after = Fails why machine

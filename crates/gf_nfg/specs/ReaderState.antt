@@ -1,13 +1,16 @@
 -- What a reader and what it has read stand for, without where they lie in memory.
-use Rattle.std.specs.Prelude.{◌≡◌, ℕ, List, map, Result, Ok, Err}
+use Rattle.std.specs.Prelude.{◌≡◌, ℕ, List, length, map, Result, Ok, Err}
 use Rattle.gf_token.specs.Label.{label_of}
 use Rattle.gf_token.specs.declared.label.Label.{Label}
 use Rattle.gf_token.specs.declared.fault.Fault.{Fault}
-use Rattle.gf_token.specs.declared.fault.Why.{Why}
+use Rattle.gf_token.specs.declared.fault.Span.{Span}
 use Rattle.gf_token.specs.declared.fault.Why.TheVariants.{Memory}
 use Rattle.gf_nfg.specs.Table.{Table}
 use Rattle.gf_nfg.specs.Meaning.{table_of}
-use Rattle.gf_nfg.specs.Machine.{Content, State, at}
+use Rattle.gf_nfg.specs.Heard.{Answer, heard, read_on, then_on, within}
+use Rattle.gf_nfg.specs.Machine.{Content, at, settled}
+use Rattle.gf_nfg.specs.Position.{Position}
+use Rattle.gf_nfg.specs.Position.{Position as p}
 use Rattle.gf_nfg.specs.declared.reader.Reader.{Reader}
 use Rattle.gf_nfg.specs.declared.parts.Parts.{Parts}
 
@@ -21,30 +24,28 @@ content_of f = record {
   players = labels_of f.players.items;
   counts = f.counts.items;
   labels = labels_of f.labels.items;
-  profiles = f.profiles;
+  profiles = f.profiles.count;
   payoffs = f.payoffs.items;
   choices = f.choices.items;
 }
 
-abbrev pub content_in : Reader → Content
-content_in r = record {
-  title = label_of r.title;
-  comment = label_of r.comment;
-  players = labels_of r.players.items;
-  counts = r.counts.items;
-  labels = labels_of r.labels.items;
-  profiles = r.profiles.count;
-  payoffs = r.payoffs.items;
-  choices = r.choices.items;
+-- what the machine answers to the tokens that a reader has still to come, from a position where so
+-- many of something are due, after so many outcomes
+abbrev pub answer : Position → ℕ → ℕ → Reader → Answer
+answer q due outcomes r = heard (at q due 0 outcomes (content_of r.parts)) r.tokens
+
+-- the same within a list of labels, before which there were so many
+abbrev pub list_answer : ℕ → ℕ → Reader → Answer
+list_answer due before r = heard (at p.InList due before 0 (content_of r.parts)) r.tokens
+
+-- the same where a token tells that the next player has so many strategies
+abbrev pub settling : Position → ℕ → ℕ → Span → Reader → Answer
+settling q due strategies stands r = record {
+  input = r.tokens.input;
+  machine = then_on stands.start stands.end
+      (within (settled (at q due 0 0 (content_of r.parts)) strategies))
+      (λ after. read_on (length r.tokens.input) after r.tokens.ahead);
 }
-
-abbrev pub state_of : Reader → State
-state_of r = at r.position r.due r.list_start r.outcomes (content_in r)
-
--- what a reader's end is answered with, seen so
-abbrev pub answer_of : Result Parts Why → Result Content Why
-answer_of (Ok f) = Ok (content_of f)
-answer_of (Err why) = Err why
 
 -- parts that mean this table, or want of memory
 abbrev pub ArePartsOf : Result Parts Fault → Table → Type 0

@@ -12,7 +12,6 @@ mod lines;
 mod names;
 mod parts;
 mod pieces;
-mod position;
 mod profile;
 mod read;
 mod reader;

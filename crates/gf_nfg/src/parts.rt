@@ -1,11 +1,12 @@
 //! What a strategic file holds, as it was read, and the table that it means.
 
-ghost use Rattle.std.specs.Prelude.{◌≡◌, ◌≤◌, IfOk};
-ghost use Rattle.gf_nfg.specs.Limit.{profile_limit};
+ghost use Rattle.std.specs.Prelude.{◌≡◌, IfOk};
+ghost use Rattle.gf_nfg.specs.Machine.{nothing};
 ghost use Rattle.gf_nfg.specs.Meaning.{IsComplete, names_in, rows_by, table_of};
 ghost use Rattle.gf_nfg.specs.ReaderState.{content_of};
 ghost use Rattle.gf_nfg.specs.Table.{IsSpellable};
 
+use crate::limit::ProfileCount;
 use crate::names::Names;
 use crate::rows::Rows;
 use crate::table::Table;
@@ -24,8 +25,8 @@ pub struct Parts<'a> {
     pub counts: Vec<u32>,
     /// The strategies' labels in turn; none where the file gives counts alone.
     pub labels: Vec<Label<'a>>,
-    /// The number of profiles.
-    pub profiles: u32,
+    /// The product of the counts.
+    pub profiles: ProfileCount,
     /// Rows of one payoff for each player, one row behind the other: those of the profiles in turn,
     /// the first player's strategy fastest, or those of the outcomes.
     pub payoffs: Vec<Fraction>,
@@ -35,6 +36,23 @@ pub struct Parts<'a> {
 }
 
 impl<'a> Parts<'a> {
+    /// What was read before the first token.
+    pub(crate) fn new(alloc: Global) -> Parts<'a>
+        ensures { content_of result ≡ nothing }
+    {
+        let empty = Label::new(&[]).unwrap();
+        Parts {
+            title: empty,
+            comment: empty,
+            players: Vec::new(alloc),
+            counts: Vec::new(alloc),
+            labels: Vec::new(alloc),
+            profiles: ProfileCount::one(),
+            payoffs: Vec::new(alloc),
+            choices: Vec::new(alloc),
+        }
+    }
+
     /// Everything of the table but its payoffs.
     fn names(&self, alloc: Global) -> Result<Names, AllocError>
         requires { IsComplete (content_of self.now) }
@@ -62,7 +80,7 @@ impl<'a> Parts<'a> {
     {
         let players = self.players.len();
         if self.choices.is_empty() {
-            Ok(Rows::in_turn(alloc, players, self.profiles, self.payoffs))
+            Ok(Rows::in_turn(alloc, players, self.profiles.count, self.payoffs))
         } else {
             Rows::by_number(players, self.payoffs, self.choices)
         }
@@ -71,7 +89,6 @@ impl<'a> Parts<'a> {
     /// The table that the parts mean.
     pub(crate) fn into_table(self, alloc: Global) -> Result<Table, AllocError>
         requires complete { IsComplete (content_of self) }
-        requires within { self.profiles ≤ profile_limit }
         requires spellable { IsSpellable (table_of (content_of self)) }
         ensures { IfOk result (λ t. t ≡ table_of (content_of self.entry)) }
     {

@@ -1,7 +1,6 @@
 //! Strategic files as they are read from bytes.
 
-ghost use Rattle.std.specs.Prelude.{◌≡◌, ◌≤◌, IfOk, IfErr, length};
-ghost use Rattle.gf_nfg.specs.Limit.{profile_limit};
+ghost use Rattle.std.specs.Prelude.{◌≡◌, IfOk, IfErr, length};
 ghost use Rattle.gf_nfg.specs.TableText.{SpellsTable};
 ghost use Rattle.gf_nfg.specs.Meaning.{IsComplete, table_of};
 ghost use Rattle.gf_nfg.specs.LimitPlace.{IsWithinLimit};
@@ -11,7 +10,7 @@ ghost use Rattle.gf_nfg.specs.ReaderState.{ArePartsOf, content_of};
 use crate::parts::Parts;
 use crate::reader::Reader;
 use crate::table::Table;
-use gf_token::{Cursor, Fault};
+use gf_token::Fault;
 use std::alloc::Global;
 
 /// Reads the parts of the strategic file that bytes spell.
@@ -19,23 +18,13 @@ fn read_parts<'a>(alloc: Global, input: &'a [u8]) -> Result<Parts<'a>, Fault>
     ensures spelled { IfOk result
         (λ parts. SpellsTable input.entry.now (table_of (content_of parts))) }
     ensures complete { IfOk result (λ parts. IsComplete (content_of parts)) }
-    ensures within { IfOk result (λ parts. parts.profiles ≤ profile_limit) }
     ensures only { (t : Table) → SpellsTable input.entry.now t → IsWithinLimit t
         → ArePartsOf result t }
     ensures judged { IfErr result (λ fault. IsJudged fault.why input.entry.now fault.span) }
 {
-    let mut reader = Reader::new(alloc, input.len());
-    let mut cursor = Cursor::new(input);
-    while let Some(token) = cursor.next()? {
-        if let Err(why) = reader.take(token.kind) {
-            return Err(Fault::at(token.span, why));
-        }
-        reader.take_numbers(&mut cursor)?;
-    }
-    match reader.finish() {
-        Ok(parts) => Ok(parts),
-        Err(why) => Err(Fault::at_end(input.len(), why)),
-    }
+    let mut reader = Reader::new(alloc, input);
+    reader.read()?;
+    Ok(reader.into_parts())
 }
 
 /// Reads the table of a strategic file from its bytes, in payoff version or in outcome version

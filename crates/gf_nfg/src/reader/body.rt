@@ -1,222 +1,213 @@
 //! The body of a strategic file: the payoffs at each profile, or outcomes and the number of one at
 //! each profile.
+//!
+//! The numbers that end a file are most of what it holds, so that what reads one is `inline(always)`.
 
-ghost use Rattle.std.specs.Prelude.{◌≡◌, ◌<◌, ◌≤◌, Err, min, vec_capacity, vec_len};
-ghost use Rattle.gf_token.specs.Cursor.{token_of};
+ghost use Rattle.std.specs.Prelude.{◌≡◌, ◌<◌, ◌≤◌, ◌-◌, ◌*◌, ℕ, Ok, length, min};
+ghost use Rattle.std.specs.Prelude.{vec_capacity, vec_len, IfErr, IfOk, OnOk, MatchResult};
+ghost use Rattle.gf_token.specs.Remaining.{StandsBefore};
 ghost use Rattle.gf_token.specs.declared.fault.Why.TheVariants.{Memory};
-ghost use Rattle.gf_nfg.specs.Machine.{Steps, at_payoff, at_flat_payoffs, at_after_comment};
-ghost use Rattle.gf_nfg.specs.Machine.{at_after_strategies, at_outcomes, at_outcome_name};
-ghost use Rattle.gf_nfg.specs.Machine.{at_outcome_end, at_braced_payoff, at_after_braced_payoff};
-ghost use Rattle.gf_nfg.specs.Machine.{at_outcome_number, at_outcome_numbers, chosen, paid};
-ghost use Rattle.gf_nfg.specs.ReaderState.{state_of};
+ghost use Rattle.gf_nfg.specs.Heard.{Fails, Goes};
+ghost use Rattle.gf_nfg.specs.Machine.{next_outcome};
+ghost use Rattle.gf_nfg.specs.Position.Position.{AfterBracedPayoff, AfterStrategies, BracedPayoff};
+ghost use Rattle.gf_nfg.specs.Position.Position.{FlatPayoffs, InOutcomes, OutcomeName};
+ghost use Rattle.gf_nfg.specs.Position.Position.{OutcomeNumbers};
+ghost use Rattle.gf_nfg.specs.ReaderState.{answer, content_of};
 
 use super::Reader;
-use crate::position::Position;
-use crate::readings;
-use gf_fraction::{Fraction, NumberFault};
-use gf_token::{Kind, What, Why};
+use gf_token::{Fault, Span, What, Why};
 
 impl<'a> Reader<'a> {
-    /// Keeps a payoff that was read.
+    /// Reads a payoff. Answers where it stands.
     #[inline(always)]
-    pub(super) fn pay(
-        &mut self,
-        payoff: Result<Fraction, NumberFault>,
-        next: Position,
-    ) -> Result<(), Why>
-        requires { 0 < self.old.due }
-        ensures steps { Steps (paid next (state_of self.old) payoff) result (state_of self.new) }
+    fn payoff(&mut self) -> Result<Span, Fault>
+        ensures flat { (due : ℕ) → 0 < due
+            → Goes (answer FlatPayoffs due 0 self.old) result (answer FlatPayoffs (due - 1) 0 self.new) }
+        ensures braced { (due outcomes : ℕ) → 0 < due
+            → Goes (answer BracedPayoff due outcomes self.old) result
+            (answer AfterBracedPayoff (due - 1) outcomes self.new) }
+        ensures place { IfOk result (λ span. StandsBefore self.new.tokens span) }
+        ensures shorter { OnOk result (length self.new.tokens.ahead ≤ length self.old.tokens.ahead) }
 
         // Memory is refused only where there was no room.
-        ensures full { result ≡ Err Memory
-            → vec_capacity self.old.payoffs ≤ vec_len self.old.payoffs }
+        ensures full { IfErr result (λ f. f.why ≡ Memory
+            → vec_capacity self.old.parts.payoffs ≤ vec_len self.old.parts.payoffs) }
     {
-        let payoff = payoff?;
-        self.payoffs.push(payoff)?;
-        self.due -= 1;
-        self.position = next;
-        Ok(())
-    }
-
-    /// Takes a payoff.
-    #[inline(always)]
-    pub(super) fn at_payoff(&mut self, kind: Kind<'a>, next: Position) -> Result<(), Why>
-        requires { 0 < self.old.due }
-        ensures { Steps (at_payoff next (state_of self.old) (token_of kind.entry)) result
-            (state_of self.new) }
-    {
-        match kind {
-            Kind::Bare(text) => self.pay(readings::payoff(text), next),
-            _ => Err(Why::Expected(What::Number)),
+        let Some((word, number)) = self.tokens.number() else {
+            return Err(self.tokens.refusal(Why::Expected(What::Number)));
+        };
+        match number {
+            Ok(payoff) => {
+                let Ok(()) = self.parts.payoffs.push(payoff) else {
+                    return Err(Fault::at(word.span, Why::Memory));
+                };
+                Ok(word.span)
+            }
+            Err(cause) => Err(Fault::at(word.span, Why::from(cause))),
         }
     }
 
-    pub(super) fn at_flat_payoffs(&mut self, kind: Kind<'a>) -> Result<(), Why>
-        ensures { Steps (at_flat_payoffs (state_of self.old) (token_of kind.entry)) result
-            (state_of self.new) }
+    /// How many of so many numbers the input has room for.
+    fn expected(&self, due: u128) -> usize
+        ensures { result ≡ min due self.now.room }
     {
-        if self.due == 0 {
-            return Err(Why::Expected(What::End));
-        }
-        self.at_payoff(kind, Position::FlatPayoffs)
-    }
-
-    /// How many of the numbers that are due the input has room for.
-    fn expected(&self) -> usize
-        ensures { result ≡ min self.now.due self.now.room }
-    {
-        if self.due < self.room as u128 {
-            self.due as usize
+        if due < self.room as u128 {
+            due as usize
         } else {
             self.room
         }
     }
 
-    pub(super) fn at_after_comment(&mut self, kind: Kind<'a>) -> Result<(), Why>
-        ensures { Steps (at_after_comment (state_of self.old) (token_of kind.entry)) result
-            (state_of self.new) }
+    /// Reads the end.
+    fn end(&mut self) -> Result<(), Fault>
+        ensures flat { MatchResult result
+            (λ _. (answer FlatPayoffs 0 0 self.old).machine ≡ Ok (content_of self.new.parts))
+            (λ f. Fails f (answer FlatPayoffs 0 0 self.old)) }
+        ensures chosen { (outcomes : ℕ) → MatchResult result
+            (λ _. (answer OutcomeNumbers 0 outcomes self.old).machine
+            ≡ Ok (content_of self.new.parts))
+            (λ f. Fails f (answer OutcomeNumbers 0 outcomes self.old)) }
     {
-        match kind {
-            Kind::Opening => {
-                self.position = Position::InOutcomes;
-                Ok(())
-            }
-            _ => {
-                self.at_flat_payoffs(kind)?;
-                let expected = self.expected();
-                self.payoffs.reserve(expected)?;
-                Ok(())
-            }
+        match self.tokens.next() {
+            Ok(Some(token)) => Err(Fault::at(token.span, Why::Expected(What::End))),
+            Ok(None) => Ok(()),
+            Err(broken) => Err(broken),
         }
     }
 
-    pub(super) fn at_after_strategies(&mut self, kind: Kind<'a>) -> Result<(), Why>
-        ensures { Steps (at_after_strategies (state_of self.old) (token_of kind.entry)) result
-            (state_of self.new) }
+    /// Reads so many payoffs.
+    fn flat_payoffs(&mut self, mut due: u128) -> Result<(), Fault>
+        ensures { Goes (answer FlatPayoffs due 0 self.old) result (answer FlatPayoffs 0 0 self.new) }
     {
-        match kind {
-            Kind::Text(label) => {
-                self.comment = label;
-                self.position = Position::AfterComment;
-                Ok(())
-            }
-            _ => self.at_after_comment(kind),
+        if due == 0 {
+            return Ok(());
         }
+        let first = self.payoff()?;
+        due -= 1;
+        let expected = self.expected(due);
+        let Ok(()) = self.parts.payoffs.reserve(expected) else {
+            return Err(Fault::at(first, Why::Memory));
+        };
+        while due > 0 {
+            self.payoff()?;
+            due -= 1;
+        }
+        Ok(())
     }
 
-    pub(super) fn at_outcomes(&mut self, kind: Kind<'a>) -> Result<(), Why>
-        ensures { Steps (at_outcomes (state_of self.old) (token_of kind.entry)) result
-            (state_of self.new) }
+    /// Reads the payoffs of the players at each profile, and the end.
+    fn payoff_body(&mut self) -> Result<(), Fault>
+        ensures { MatchResult result
+            (λ _. (answer FlatPayoffs
+            (length self.old.parts.players.items * self.old.parts.profiles.count) 0 self.old).machine
+            ≡ Ok (content_of self.new.parts))
+            (λ f. Fails f (answer FlatPayoffs
+            (length self.old.parts.players.items * self.old.parts.profiles.count) 0 self.old)) }
     {
-        match kind {
-            Kind::Opening => {
-                self.position = Position::OutcomeName;
-                Ok(())
-            }
-            Kind::Closing => {
-                self.due = u128::from(self.profiles.count);
-                self.position = Position::OutcomeNumbers;
-                let expected = self.expected();
-                self.choices.reserve(expected)?;
-                Ok(())
-            }
-            _ => Err(Why::Expected(What::Opening)),
-        }
+        let players = self.parts.players.len() as u128;
+        self.flat_payoffs(players * u128::from(self.parts.profiles.count))?;
+        self.end()
     }
 
-    pub(super) fn at_outcome_name(&mut self, kind: Kind<'a>) -> Result<(), Why>
-        ensures { Steps (at_outcome_name (state_of self.old) (token_of kind.entry)) result
-            (state_of self.new) }
+    /// Reads an outcome, after its opening brace.
+    fn outcome(&mut self) -> Result<(), Fault>
+        ensures machine { (outcomes : ℕ) → Goes (answer OutcomeName 0 outcomes self.old) result
+            (answer InOutcomes 0 (next_outcome outcomes) self.new) }
+        ensures shorter { OnOk result (length self.new.tokens.ahead ≤ length self.old.tokens.ahead) }
     {
-        match kind {
-            Kind::Text(_) => {
-                self.due = self.players.len() as u128;
-                self.position = Position::BracedPayoff;
-                Ok(())
-            }
-            _ => Err(Why::Expected(What::Text)),
+        let Some(_) = self.tokens.text() else {
+            return Err(self.tokens.refusal(Why::Expected(What::Text)));
+        };
+        let mut due = self.parts.players.len();
+        while due > 0 {
+            self.payoff()?;
+            self.tokens.comma();
+            due -= 1;
         }
+        let Some(_) = self.tokens.closing() else {
+            return Err(self.tokens.refusal(Why::Expected(What::Closing)));
+        };
+        Ok(())
     }
 
-    /// Takes the closing brace of an outcome.
-    fn at_outcome_end(&mut self, kind: Kind<'a>) -> Result<(), Why>
-        ensures { Steps (at_outcome_end (state_of self.old) (token_of kind.entry)) result
-            (state_of self.new) }
-    {
-        match kind {
-            Kind::Closing => {
-                self.outcomes = self.outcomes.saturating_add(1);
-                self.position = Position::InOutcomes;
-                Ok(())
-            }
-            _ => Err(Why::Expected(What::Closing)),
-        }
-    }
-
-    pub(super) fn at_braced_payoff(&mut self, kind: Kind<'a>) -> Result<(), Why>
-        ensures { Steps (at_braced_payoff (state_of self.old) (token_of kind.entry)) result
-            (state_of self.new) }
-    {
-        if self.due == 0 {
-            return self.at_outcome_end(kind);
-        }
-        self.at_payoff(kind, Position::AfterBracedPayoff)
-    }
-
-    pub(super) fn at_after_braced_payoff(&mut self, kind: Kind<'a>) -> Result<(), Why>
-        ensures { Steps (at_after_braced_payoff (state_of self.old) (token_of kind.entry)) result
-            (state_of self.new) }
-    {
-        match kind {
-            Kind::Comma => {
-                self.position = Position::BracedPayoff;
-                Ok(())
-            }
-            _ => self.at_braced_payoff(kind),
-        }
-    }
-
-    /// Takes the number of an outcome; `None` where bytes spelled no index.
+    /// Reads the number of an outcome, of which there are so many.
     #[inline(always)]
-    pub(super) fn choose(&mut self, number: Option<u32>) -> Result<(), Why>
-        requires { 0 < self.old.due }
-        ensures steps { Steps (chosen (state_of self.old) number) result (state_of self.new) }
+    fn choice(&mut self, outcomes: u32) -> Result<(), Fault>
+        ensures machine { (due : ℕ) → 0 < due
+            → Goes (answer OutcomeNumbers due outcomes self.old) result
+            (answer OutcomeNumbers (due - 1) outcomes self.new) }
 
         // Memory is refused only where there was no room.
-        ensures full { result ≡ Err Memory
-            → vec_capacity self.old.choices ≤ vec_len self.old.choices }
+        ensures full { IfErr result (λ f. f.why ≡ Memory
+            → vec_capacity self.old.parts.choices ≤ vec_len self.old.parts.choices) }
     {
-        match number {
-            Some(number) if number <= self.outcomes => {
-                self.choices.push(number)?;
-                self.due -= 1;
-                self.position = Position::OutcomeNumbers;
-                Ok(())
-            }
-            Some(_) => Err(Why::UnknownOutcome),
-            None => Err(Why::BadIndex),
+        let Some((word, index)) = self.tokens.index() else {
+            return Err(self.tokens.refusal(Why::Expected(What::Index)));
+        };
+        let Some(number) = index else {
+            return Err(Fault::at(word.span, Why::BadIndex));
+        };
+        if number > outcomes {
+            return Err(Fault::at(word.span, Why::UnknownOutcome));
         }
+        let Ok(()) = self.parts.choices.push(number) else {
+            return Err(Fault::at(word.span, Why::Memory));
+        };
+        Ok(())
     }
 
-    /// Takes the number of an outcome.
-    fn at_outcome_number(&mut self, kind: Kind<'a>) -> Result<(), Why>
-        requires { 0 < self.old.due }
-        ensures { Steps (at_outcome_number (state_of self.old) (token_of kind.entry)) result
-            (state_of self.new) }
+    /// Reads the number of an outcome for each profile, and the end.
+    fn choices(&mut self, outcomes: u32) -> Result<(), Fault>
+        ensures { MatchResult result
+            (λ _. (answer OutcomeNumbers self.old.parts.profiles.count outcomes self.old).machine
+            ≡ Ok (content_of self.new.parts))
+            (λ f. Fails f (answer OutcomeNumbers self.old.parts.profiles.count outcomes self.old)) }
     {
-        match kind {
-            Kind::Bare(text) => self.choose(readings::outcome_number(text)),
-            _ => Err(Why::Expected(What::Index)),
+        let mut due = self.parts.profiles.count;
+        while due > 0 {
+            self.choice(outcomes)?;
+            due -= 1;
         }
+        self.end()
     }
 
-    pub(super) fn at_outcome_numbers(&mut self, kind: Kind<'a>) -> Result<(), Why>
-        ensures { Steps (at_outcome_numbers (state_of self.old) (token_of kind.entry)) result
-            (state_of self.new) }
+    /// Reads the outcomes, after their opening brace, and all that follows them.
+    fn outcome_body(&mut self) -> Result<(), Fault>
+        ensures { MatchResult result
+            (λ _. (answer InOutcomes 0 0 self.old).machine ≡ Ok (content_of self.new.parts))
+            (λ f. Fails f (answer InOutcomes 0 0 self.old)) }
     {
-        if self.due == 0 {
-            return Err(Why::Expected(What::End));
+        // No index is greater than `u32::MAX`.
+        let mut outcomes: u32 = 0;
+        while let Some(_) = self.tokens.opening() {
+            self.outcome()?;
+            outcomes = outcomes.saturating_add(1);
         }
-        self.at_outcome_number(kind)
+        let Some(brace) = self.tokens.closing() else {
+            return Err(self.tokens.refusal(Why::Expected(What::Opening)));
+        };
+        let expected = self.expected(u128::from(self.parts.profiles.count));
+        let Ok(()) = self.parts.choices.reserve(expected) else {
+            return Err(Fault::at(brace, Why::Memory));
+        };
+        self.choices(outcomes)
+    }
+
+    /// Reads the comment, if there is one, and all that follows it.
+    pub(super) fn body(&mut self) -> Result<(), Fault>
+        ensures { MatchResult result
+            (λ _. (answer AfterStrategies
+            (length self.old.parts.players.items * self.old.parts.profiles.count) 0 self.old).machine
+            ≡ Ok (content_of self.new.parts))
+            (λ f. Fails f (answer AfterStrategies
+            (length self.old.parts.players.items * self.old.parts.profiles.count) 0 self.old)) }
+    {
+        if let Some(comment) = self.tokens.text() {
+            self.parts.comment = comment.label;
+        }
+        if let Some(_) = self.tokens.opening() {
+            return self.outcome_body();
+        }
+        self.payoff_body()
     }
 }

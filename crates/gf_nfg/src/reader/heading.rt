@@ -1,112 +1,42 @@
 //! The heading of a strategic file: its format, title and players.
 
-ghost use Rattle.std.specs.Prelude.{◌≡◌, ◌≤◌, Err, vec_capacity, vec_len};
-ghost use Rattle.gf_token.specs.Cursor.{token_of};
-ghost use Rattle.gf_token.specs.declared.fault.Why.TheVariants.{Memory};
-ghost use Rattle.gf_nfg.specs.Machine.{Steps, at_format, at_version, at_letter};
-ghost use Rattle.gf_nfg.specs.Machine.{at_title, at_before_players, at_players};
-ghost use Rattle.gf_nfg.specs.ReaderState.{state_of};
+ghost use Rattle.std.specs.Prelude.{◌≡◌, ◌≤◌, length};
+ghost use Rattle.gf_nfg.specs.Heard.{Goes};
+ghost use Rattle.gf_nfg.specs.Position.Position.{BeforePlayers, BeforeStrategies, Format};
+ghost use Rattle.gf_nfg.specs.ReaderState.{answer};
 
-use super::Reader;
-use crate::position::Position;
-use gf_token::{Kind, What, Why};
+use super::{Reader, keep};
+use gf_token::{Fault, What, Why};
 
 impl<'a> Reader<'a> {
-    pub(super) fn at_format(&mut self, kind: Kind<'a>) -> Result<(), Why>
-        ensures { Steps (at_format (state_of self.old) (token_of kind.entry)) result
-            (state_of self.new) }
+    /// Reads all that stands before the players.
+    pub(super) fn heading(&mut self) -> Result<(), Fault>
+        ensures { Goes (answer Format 0 0 self.old) result (answer BeforePlayers 0 0 self.new) }
     {
-        match kind {
-            Kind::Bare(text) => {
-                if text == b"NFG".as_slice() {
-                    self.position = Position::Version;
-                    return Ok(());
-                }
-                Err(Why::Expected(What::Format))
-            }
-            _ => Err(Why::Expected(What::Format)),
-        }
+        self.tokens.word(b"NFG", What::Format)?;
+        self.tokens.word(b"1", What::Version)?;
+        self.tokens.letter()?;
+        let Some(title) = self.tokens.text() else {
+            return Err(self.tokens.refusal(Why::Expected(What::Text)));
+        };
+        self.parts.title = title.label;
+        Ok(())
     }
 
-    pub(super) fn at_version(&mut self, kind: Kind<'a>) -> Result<(), Why>
-        ensures { Steps (at_version (state_of self.old) (token_of kind.entry)) result
-            (state_of self.new) }
+    /// Reads the players.
+    pub(super) fn players(&mut self) -> Result<(), Fault>
+        ensures { Goes (answer BeforePlayers 0 0 self.old) result
+            (answer BeforeStrategies (length self.new.parts.players.items) 0 self.new) }
     {
-        match kind {
-            Kind::Bare(text) => {
-                if text == b"1".as_slice() {
-                    self.position = Position::Letter;
-                    return Ok(());
-                }
-                Err(Why::Expected(What::Version))
-            }
-            _ => Err(Why::Expected(What::Version)),
+        let Some(_) = self.tokens.opening() else {
+            return Err(self.tokens.refusal(Why::Expected(What::Opening)));
+        };
+        while let Some(player) = self.tokens.text() {
+            keep(&mut self.parts.players, player)?;
         }
-    }
-
-    pub(super) fn at_letter(&mut self, kind: Kind<'a>) -> Result<(), Why>
-        ensures { Steps (at_letter (state_of self.old) (token_of kind.entry)) result
-            (state_of self.new) }
-    {
-        match kind {
-            Kind::Bare(text) => {
-                if text == b"R".as_slice() || text == b"D".as_slice() {
-                    self.position = Position::Title;
-                    return Ok(());
-                }
-                Err(Why::Expected(What::Letter))
-            }
-            _ => Err(Why::Expected(What::Letter)),
-        }
-    }
-
-    pub(super) fn at_title(&mut self, kind: Kind<'a>) -> Result<(), Why>
-        ensures { Steps (at_title (state_of self.old) (token_of kind.entry)) result
-            (state_of self.new) }
-    {
-        match kind {
-            Kind::Text(label) => {
-                self.title = label;
-                self.position = Position::BeforePlayers;
-                Ok(())
-            }
-            _ => Err(Why::Expected(What::Text)),
-        }
-    }
-
-    pub(super) fn at_before_players(&mut self, kind: Kind<'a>) -> Result<(), Why>
-        ensures { Steps (at_before_players (state_of self.old) (token_of kind.entry)) result
-            (state_of self.new) }
-    {
-        match kind {
-            Kind::Opening => {
-                self.position = Position::InPlayers;
-                Ok(())
-            }
-            _ => Err(Why::Expected(What::Opening)),
-        }
-    }
-
-    #[tactic(auto, using(std::proofs::lemmas::List::map_push))]
-    pub(super) fn at_players(&mut self, kind: Kind<'a>) -> Result<(), Why>
-        ensures steps { Steps (at_players (state_of self.old) (token_of kind.entry)) result
-            (state_of self.new) }
-
-        // Memory is refused only where there was no room.
-        ensures full { result ≡ Err Memory
-            → vec_capacity self.old.players ≤ vec_len self.old.players }
-    {
-        match kind {
-            Kind::Text(label) => {
-                self.players.push(label)?;
-                Ok(())
-            }
-            Kind::Closing => {
-                self.due = self.players.len() as u128;
-                self.position = Position::BeforeStrategies;
-                Ok(())
-            }
-            _ => Err(Why::Expected(What::Text)),
-        }
+        let Some(_) = self.tokens.closing() else {
+            return Err(self.tokens.refusal(Why::Expected(What::Text)));
+        };
+        Ok(())
     }
 }

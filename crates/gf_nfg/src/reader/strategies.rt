@@ -1,180 +1,138 @@
 //! The strategies of a strategic file: a count or a list of labels for each player.
 
-ghost use Rattle.std.specs.Prelude.{◌≡◌, ◌<◌, ◌≤◌, ◌-◌, ◌⊎◌, Err, length, vec_capacity, vec_len};
-ghost use Rattle.gf_token.specs.Cursor.{token_of};
-ghost use Rattle.gf_token.specs.Indices.{count_of};
+ghost use Rattle.std.specs.Prelude.{◌≡◌, ◌<◌, ◌≤◌, ◌-◌, ◌*◌, ℕ, false, length, IfErr};
+ghost use Rattle.std.specs.Prelude.{vec_capacity, vec_len};
+ghost use Rattle.gf_token.specs.Next.{is_opening, starts};
+ghost use Rattle.gf_token.specs.Remaining.{StandsBefore};
+ghost use Rattle.gf_token.specs.declared.fault.What.TheVariants as what;
 ghost use Rattle.gf_token.specs.declared.fault.Why.TheVariants.{Memory};
-ghost use Rattle.gf_nfg.specs.Machine.{Steps, at_before_strategies, settled, counted};
-ghost use Rattle.gf_nfg.specs.Machine.{at_strategies_end, at_first_strategies, at_counts};
-ghost use Rattle.gf_nfg.specs.Machine.{opened, listed, at_before_list, at_list};
-ghost use Rattle.gf_nfg.specs.ReaderState.{state_of};
+ghost use Rattle.gf_nfg.specs.Heard.{Goes};
+ghost use Rattle.gf_nfg.specs.Position.Position.{AfterStrategies, BeforeList, BeforeStrategies};
+ghost use Rattle.gf_nfg.specs.Position.Position.{Counts, FirstStrategies};
+ghost use Rattle.gf_nfg.specs.ReaderState.{answer, labels_of, list_answer, settling};
 
-use super::Reader;
-use crate::position::Position;
+use super::{Reader, keep};
 use crate::readings;
-use gf_token::{Kind, What, Why};
+use gf_token::{Fault, Span, What, Why};
 
 impl<'a> Reader<'a> {
-    pub(super) fn at_before_strategies(&mut self, kind: Kind<'a>) -> Result<(), Why>
-        ensures { Steps (at_before_strategies (state_of self.old) (token_of kind.entry)) result
-            (state_of self.new) }
-    {
-        match kind {
-            Kind::Opening => {
-                self.position = Position::FirstStrategies;
-                Ok(())
-            }
-            _ => Err(Why::Expected(What::Opening)),
-        }
-    }
-
-    /// The next player has so many strategies.
-    fn settle(&mut self, strategies: usize) -> Result<(), Why>
-        requires { 0 < strategies }
-        ensures steps { Steps (settled (state_of self.old) strategies) result (state_of self.new) }
+    /// The next player has so many strategies, as the token tells that stands there.
+    fn settle(&mut self, strategies: usize, stands: Span) -> Result<(), Fault>
+        requires some { 0 < strategies }
+        requires place { StandsBefore self.old.tokens stands }
+        ensures counts { (due : ℕ) → Goes (settling Counts due strategies stands self.old) result
+            (answer Counts due 0 self.new) }
+        ensures lists { (due : ℕ) → Goes (settling BeforeList due strategies stands self.old) result
+            (answer BeforeList due 0 self.new) }
 
         // Memory is refused only where there was no room.
-        ensures full { result ≡ Err Memory
-            → vec_capacity self.old.counts ≤ vec_len self.old.counts }
+        ensures full { IfErr result (λ f. f.why ≡ Memory
+            → vec_capacity self.old.parts.counts ≤ vec_len self.old.parts.counts) }
     {
-        match self.profiles.times(strategies) {
-            Some(profiles) => {
-                self.counts.push(strategies as u32)?;
-                self.profiles = profiles;
-                Ok(())
-            }
-            None => Err(Why::TooManyProfiles),
-        }
+        let Some(profiles) = self.parts.profiles.times(strategies) else {
+            return Err(Fault::at(stands, Why::TooManyProfiles));
+        };
+        let Ok(()) = self.parts.counts.push(strategies as u32) else {
+            return Err(Fault::at(stands, Why::Memory));
+        };
+        self.parts.profiles = profiles;
+        Ok(())
     }
 
-    /// Takes a count, whose bytes these are.
-    fn take_count(&mut self, text: &'a [u8]) -> Result<(), Why>
-        requires { 0 < self.old.due }
-        ensures steps { Steps (counted (state_of self.old) (count_of text.entry.now)) result
-            (state_of self.new) }
-
-        // Memory is refused only where there was no room.
-        ensures full { result ≡ Err Memory
-            → vec_capacity self.old.counts ≤ vec_len self.old.counts }
+    /// Reads a count, where this is due.
+    fn count(&mut self, due: What) -> Result<(), Fault>
+        ensures first { (left : ℕ) → 0 < left → due ≡ what.Strategies
+            → starts is_opening self.old.tokens.ahead ≡ false
+            → Goes (answer FirstStrategies left 0 self.old) result
+            (answer Counts (left - 1) 0 self.new) }
+        ensures later { (left : ℕ) → 0 < left → due ≡ what.Index
+            → Goes (answer Counts left 0 self.old) result (answer Counts (left - 1) 0 self.new) }
     {
-        match readings::count(text) {
-            Some(count) => {
-                self.due -= 1;
-                self.position = Position::Counts;
-                self.settle(count as usize)
-            }
-            None => Err(Why::BadIndex),
-        }
+        let Some((word, index)) = self.tokens.index() else {
+            return Err(self.tokens.refusal(Why::Expected(due)));
+        };
+        let Some(count) = readings::count(index) else {
+            return Err(Fault::at(word.span, Why::BadIndex));
+        };
+        self.settle(count as usize, word.span)
     }
 
-    /// Takes the opening brace of a list.
-    fn open_list(&mut self)
-        requires { 0 < self.old.due }
-        ensures { state_of self.new ≡ opened (state_of self.old) }
+    /// Reads the rest of a list of labels, after its opening brace.
+    fn list(&mut self) -> Result<(), Fault>
+        ensures machine { (left : ℕ)
+            → Goes (list_answer left (length (labels_of self.old.parts.labels.items)) self.old) result
+            (answer BeforeList left 0 self.new) }
     {
-        self.due -= 1;
-        self.list_start = self.labels.len();
-        self.position = Position::InList;
-    }
-
-    /// Takes the closing brace behind the strategies.
-    fn at_strategies_end(&mut self, kind: Kind<'a>) -> Result<(), Why>
-        ensures { Steps (at_strategies_end (state_of self.old) (token_of kind.entry)) result
-            (state_of self.new) }
-    {
-        match kind {
-            Kind::Closing => {
-                let profiles = self.profiles.count;
-                self.due = self.players.len() as u128 * u128::from(profiles);
-                self.position = Position::AfterStrategies;
-                Ok(())
-            }
-            _ => Err(Why::Expected(What::Closing)),
+        let before = self.parts.labels.len();
+        while let Some(strategy) = self.tokens.text() {
+            keep(&mut self.parts.labels, strategy)?;
         }
-    }
-
-    pub(super) fn at_first_strategies(&mut self, kind: Kind<'a>) -> Result<(), Why>
-        ensures { Steps (at_first_strategies (state_of self.old) (token_of kind.entry)) result
-            (state_of self.new) }
-    {
-        if self.due == 0 {
-            return self.at_strategies_end(kind);
-        }
-        match kind {
-            Kind::Opening => {
-                self.open_list();
-                Ok(())
-            }
-            Kind::Bare(text) => self.take_count(text),
-            _ => Err(Why::Expected(What::Strategies)),
-        }
-    }
-
-    pub(super) fn at_counts(&mut self, kind: Kind<'a>) -> Result<(), Why>
-        ensures { Steps (at_counts (state_of self.old) (token_of kind.entry)) result
-            (state_of self.new) }
-    {
-        if self.due == 0 {
-            return self.at_strategies_end(kind);
-        }
-        match kind {
-            Kind::Bare(text) => self.take_count(text),
-            _ => Err(Why::Expected(What::Index)),
-        }
-    }
-
-    pub(super) fn at_before_list(&mut self, kind: Kind<'a>) -> Result<(), Why>
-        ensures { Steps (at_before_list (state_of self.old) (token_of kind.entry)) result
-            (state_of self.new) }
-    {
-        if self.due == 0 {
-            return self.at_strategies_end(kind);
-        }
-        match kind {
-            Kind::Opening => {
-                self.open_list();
-                Ok(())
-            }
-            _ => Err(Why::Expected(What::Opening)),
-        }
-    }
-
-    /// Takes the closing brace of a list.
-    fn close_list(&mut self) -> Result<(), Why>
-        ensures steps { Steps
-            (listed (state_of self.old) (length self.old.labels.items - self.old.list_start)) result
-            (state_of self.new) }
-
-        // Memory is refused only where there was no room.
-        ensures full { result ≡ Err Memory
-            → vec_capacity self.old.counts ≤ vec_len self.old.counts }
-    {
-        // No list starts behind the labels.
-        let strategies = self.labels.len().saturating_sub(self.list_start);
+        let Some(brace) = self.tokens.closing() else {
+            return Err(self.tokens.refusal(Why::Expected(What::Text)));
+        };
+        // The list starts where the labels ended.
+        let strategies = self.parts.labels.len().saturating_sub(before);
         if strategies == 0 {
-            return Err(Why::NoEntry);
+            return Err(Fault::at(brace, Why::NoEntry));
         }
-        self.position = Position::BeforeList;
-        self.settle(strategies)
+        self.settle(strategies, brace)
     }
 
-    #[tactic(auto, using(std::proofs::lemmas::List::map_push))]
-    pub(super) fn at_list(&mut self, kind: Kind<'a>) -> Result<(), Why>
-        ensures steps { Steps (at_list (state_of self.old) (token_of kind.entry)) result
-            (state_of self.new) }
-
-        // Memory is refused only where there was no room for a label or for a count.
-        ensures full { result ≡ Err Memory
-            → (vec_capacity self.old.labels ≤ vec_len self.old.labels)
-            ⊎ (vec_capacity self.old.counts ≤ vec_len self.old.counts) }
+    /// Reads so many counts, as many as are still due.
+    fn counts(&mut self, mut due: usize) -> Result<(), Fault>
+        ensures { Goes (answer Counts due 0 self.old) result (answer Counts 0 0 self.new) }
     {
-        match kind {
-            Kind::Text(label) => {
-                self.labels.push(label)?;
-                Ok(())
-            }
-            Kind::Closing => self.close_list(),
-            _ => Err(Why::Expected(What::Text)),
+        while due > 0 {
+            self.count(What::Index)?;
+            due -= 1;
         }
+        Ok(())
+    }
+
+    /// Reads so many lists of labels, as many as are still due.
+    fn lists(&mut self, mut due: usize) -> Result<(), Fault>
+        ensures { Goes (answer BeforeList due 0 self.old) result (answer BeforeList 0 0 self.new) }
+    {
+        while due > 0 {
+            let Some(_) = self.tokens.opening() else {
+                return Err(self.tokens.refusal(Why::Expected(What::Opening)));
+            };
+            self.list()?;
+            due -= 1;
+        }
+        Ok(())
+    }
+
+    /// Reads the strategies of the players, of which there are some.
+    fn counts_or_lists(&mut self) -> Result<(), Fault>
+        ensures { Goes (answer FirstStrategies (length self.old.parts.players.items) 0 self.old) result
+            (answer FirstStrategies 0 0 self.new) }
+    {
+        let players = self.parts.players.len();
+        if players == 0 {
+            return Ok(());
+        }
+        if let Some(_) = self.tokens.opening() {
+            self.list()?;
+            return self.lists(players - 1);
+        }
+        self.count(What::Strategies)?;
+        self.counts(players - 1)
+    }
+
+    /// Reads the strategies of the players, in braces.
+    pub(super) fn strategies(&mut self) -> Result<(), Fault>
+        ensures { Goes (answer BeforeStrategies (length self.old.parts.players.items) 0 self.old) result
+            (answer AfterStrategies
+            (length self.new.parts.players.items * self.new.parts.profiles.count) 0 self.new) }
+    {
+        let Some(_) = self.tokens.opening() else {
+            return Err(self.tokens.refusal(Why::Expected(What::Opening)));
+        };
+        self.counts_or_lists()?;
+        let Some(_) = self.tokens.closing() else {
+            return Err(self.tokens.refusal(Why::Expected(What::Closing)));
+        };
+        Ok(())
     }
 }

@@ -14,12 +14,12 @@ into_table-requires-clause-spellable c =
 pub returns-in-Ok-clause-within : goal.returns-in-Ok-clause-within
 returns-in-Ok-clause-within c =
     let count = length-entries (content_of c.in_ok-parts.parts) c.in_ok-parts.ensures.complete in
-    rw c.in-Ok.ensures (omega (arith, count, c.in_ok-parts.ensures.within))
+    rw c.in-Ok.ensures (omega (arith, count, c.in_ok-parts.parts.profiles.within))
 
 pub returns-in-Err-clause-judged : goal.returns-in-Err-clause-judged
 returns-in-Err-clause-judged c =
     let content = content_of c.in_ok-parts.parts in
     let count = length-entries content c.in_ok-parts.ensures.complete in
     memory_at_end c.args.input.now (table_of content) c.at_end.result c.into.result
-    c.in_ok-parts.ensures.spelled (omega (arith, count, c.in_ok-parts.ensures.within))
+    c.in_ok-parts.ensures.spelled (omega (arith, count, c.in_ok-parts.parts.profiles.within))
     c.at_end.ensures c.into.ensures

@@ -31,7 +31,7 @@ in_turn-requires c =
     length-map c.args.self.players.items label_of
     ∙ sym (c.len-players.ensures ∙ c.args.self.players.ok.0) in
     payoffs_in_turn content content.choices c.requires.has_rows empty
-    ∙ ap (λ (n : ℕ). c.args.self.profiles * n) players
+    ∙ ap (λ (n : ℕ). c.args.self.profiles.count * n) players
 
 pub by_number-requires-clause-profiles : goal.by_number-requires-clause-profiles
 by_number-requires-clause-profiles c =

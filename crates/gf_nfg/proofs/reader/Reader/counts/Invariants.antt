@@ -1,0 +1,10 @@
+use Rattle.std.proofs.Common.{◌≡◌}
+use Rattle.gf_nfg.specs.Position.Position.{Counts}
+use Rattle.gf_nfg.specs.ReaderState.{answer}
+use Rattle.gf_nfg.proofs.reader.Reader.counts.Given as goal
+
+abbrev pub invariant-loop-due : goal.invariant-loop-due
+invariant-loop-due l = answer Counts l.initial.due 0 l.initial.self ≡ answer Counts l.due 0 l.self
+
+abbrev pub decreases-loop-due : goal.decreases-loop-due
+decreases-loop-due l = l.due

@@ -1,0 +1,11 @@
+use Rattle.std.proofs.Common.{◌≡◌, ℕ, length}
+use Rattle.gf_nfg.specs.ReaderState.{labels_of, list_answer}
+use Rattle.gf_nfg.proofs.reader.Reader.list.Given as goal
+
+abbrev pub invariant-loop-strategy : goal.invariant-loop-strategy
+invariant-loop-strategy l = (left : ℕ)
+    → list_answer left (length (labels_of l.fn.self.parts.labels.items)) l.fn.self
+    ≡ list_answer left (length (labels_of l.fn.self.parts.labels.items)) l.self
+
+abbrev pub decreases-loop-strategy : goal.decreases-loop-strategy
+decreases-loop-strategy l = length l.self.tokens.ahead

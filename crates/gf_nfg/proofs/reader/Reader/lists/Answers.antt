@@ -1,0 +1,14 @@
+use Rattle.std.proofs.Common.{rules, ◌-◌, ◌∙◌}
+use Rattle.gf_nfg.specs.ReaderState.{content_of}
+use Rattle.gf_nfg.proofs.HeardJudged.{carried}
+use Rattle.gf_nfg.proofs.ReaderSteps.{goes_back, later_opens}
+use Rattle.gf_nfg.proofs.reader.Reader.lists.Goals as goal
+
+pub returns-in_err-list : goal.returns-in_err-list
+returns-in_err-list c =
+    goes_back _ (search rules)
+    (carried (c.in_err-list.ensures.machine (c.loop-due.due - 1))
+    (c.loop-due.invariant
+    ∙ later_opens c.loop-due.due (content_of c.loop-due.self.parts) c.loop-due.self.tokens
+    c.opening.new.self c.in-Some.field-0 c.loop-due-test.true c.in-Some.ensures.next
+    c.in-Some.ensures.input))

@@ -1,0 +1,10 @@
+use Rattle.std.proofs.Common.{◌≡◌}
+use Rattle.gf_nfg.specs.Position.Position.{BeforeList}
+use Rattle.gf_nfg.specs.ReaderState.{answer}
+use Rattle.gf_nfg.proofs.reader.Reader.lists.Given as goal
+
+abbrev pub invariant-loop-due : goal.invariant-loop-due
+invariant-loop-due l = answer BeforeList l.initial.due 0 l.initial.self ≡ answer BeforeList l.due 0 l.self
+
+abbrev pub decreases-loop-due : goal.decreases-loop-due
+decreases-loop-due l = l.due

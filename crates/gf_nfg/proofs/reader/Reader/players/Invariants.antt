@@ -1,0 +1,10 @@
+use Rattle.std.proofs.Common.{◌≡◌, length}
+use Rattle.gf_nfg.specs.Position.Position.{BeforePlayers, InPlayers}
+use Rattle.gf_nfg.specs.ReaderState.{answer}
+use Rattle.gf_nfg.proofs.reader.Reader.players.Given as goal
+
+abbrev pub invariant-loop-player : goal.invariant-loop-player
+invariant-loop-player l = answer BeforePlayers 0 0 l.fn.self ≡ answer InPlayers 0 0 l.self
+
+abbrev pub decreases-loop-player : goal.decreases-loop-player
+decreases-loop-player l = length l.self.tokens.ahead
