@@ -4,6 +4,7 @@
 
 use arguments::job_asked;
 use counted::Counted;
+use duplicates::duplicates_of_words;
 use ending::answer;
 use hashes::hash_words;
 use job::perform;
@@ -13,9 +14,11 @@ use words::Asked;
 mod arguments;
 mod check;
 mod counted;
+mod duplicates;
 mod ending;
 mod fault;
 mod folders;
+mod groups;
 mod hash;
 mod hashes;
 mod help;
@@ -40,6 +43,9 @@ fn main(rt: HostRuntime) -> ExitCode {
     ExitCode::from(match job_asked(&rt) {
         Ok(Asked::Job(job)) => perform(rt.alloc(), &rt, &job, &mut output, &mut errors),
         Ok(Asked::Hash { words, names }) => hash_words(&rt, words, names, &mut output, &mut errors),
+        Ok(Asked::Duplicates { words, names }) => {
+            duplicates_of_words(&rt, words, names, &mut output, &mut errors)
+        }
         Err(fault) => answer(&fault, &mut output, &mut errors),
     })
 }
