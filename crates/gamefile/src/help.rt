@@ -18,7 +18,7 @@ file of that name, and /dev/stdin names standard input.
 
 Exit status:
   0  done; for same: the files are the same
-  1  for same: the files are different
+  1  for same: the files are different; for duplicates: some are the same
   2  a file is refused, and standard error has a code and a place, as in
      E4 at 40..43; or a tree has no table, and standard error says why
   3  wrong usage
@@ -108,6 +108,25 @@ With --no-names, the hash is that of the text that 'canon --no-names' writes.
 
 Example:
   gamefile hash games > hashes.txt";
+
+pub const DUPLICATES: &str = "Say which game files are the same game";
+
+pub const AFTER_DUPLICATES: &str = "\
+Writes the groups of two or more files that are the same game: a name on each
+line, and an empty line between two groups. Two files are in one group if 'hash'
+writes one hash of both, which is so if 'same' finds them the same. Files and
+folders are gone through as by hash, and groups come in the order of their first
+files.
+
+A file that is refused or cannot be read is in no group. Standard error has a
+line for it, as in game.efg: E4 at 40..43, and the other files go on. The status
+is 0 if no two files are the same, 1 if some are, and above that the worst one
+of all files: 2, 4 or 5.
+
+With --no-names, files are the same if 'same --no-names' finds them so.
+
+Example:
+  gamefile duplicates games";
 
 pub const MAP: &str = "If two trees are the same, also write what corresponds";
 

@@ -3,7 +3,7 @@
 #![tactic(auto)]
 
 use arguments::job_asked;
-use gf_run::{Asked, Counted, answer, hash_words, perform};
+use gf_run::{Asked, Counted, answer, duplicates_of_words, hash_words, perform};
 use std::process::ExitCode;
 
 mod arguments;
@@ -16,6 +16,9 @@ fn main(rt: HostRuntime) -> ExitCode {
     ExitCode::from(match job_asked(&rt) {
         Ok(Asked::Job(job)) => perform(rt.alloc(), &rt, &job, &mut output, &mut errors),
         Ok(Asked::Hash { words, names }) => hash_words(&rt, words, names, &mut output, &mut errors),
+        Ok(Asked::Duplicates { words, names }) => {
+            duplicates_of_words(&rt, words, names, &mut output, &mut errors)
+        }
         Err(fault) => answer(&fault, &mut output, &mut errors),
     })
 }

@@ -69,14 +69,29 @@ fn with_two_files<'a>(command: Command<'a>, alloc: Global) -> Result<Command<'a>
         .arg(named(alloc, "B", help::SECOND))
 }
 
-fn hash<'a>(alloc: Global) -> Result<Command<'a>, AllocError> {
+/// A command that reads many files.
+fn on_many_files<'a>(command: Command<'a>, alloc: Global) -> Result<Command<'a>, AllocError> {
     let files = Arg::new(alloc, "FILES")
         .num_args(..)
         .value_name("FILE|FOLDER")
         .help(help::FILES);
-    command(alloc, "hash", help::HASH, help::AFTER_HASH)
+    command
         .arg(flag(alloc, "no-names", help::NO_NAMES))?
         .arg(files)
+}
+
+fn hash<'a>(alloc: Global) -> Result<Command<'a>, AllocError> {
+    on_many_files(command(alloc, "hash", help::HASH, help::AFTER_HASH), alloc)
+}
+
+fn duplicates<'a>(alloc: Global) -> Result<Command<'a>, AllocError> {
+    let duplicates = command(
+        alloc,
+        "duplicates",
+        help::DUPLICATES,
+        help::AFTER_DUPLICATES,
+    );
+    on_many_files(duplicates, alloc)
 }
 
 fn same<'a>(alloc: Global) -> Result<Command<'a>, AllocError> {
@@ -110,9 +125,17 @@ fn with_commands_on_one<'a>(
     having(program, table(alloc))
 }
 
+/// The program, with its commands on many files too.
+fn with_commands_on_many<'a>(
+    program: Command<'a>,
+    alloc: Global,
+) -> Result<Command<'a>, AllocError> {
+    having(having(program, hash(alloc))?, duplicates(alloc))
+}
+
 fn gamefile<'a>(alloc: Global) -> Result<Command<'a>, AllocError> {
     let program = with_commands_on_one(program(alloc)?, alloc)?;
-    having(having(program, same(alloc))?, hash(alloc))
+    with_commands_on_many(having(program, same(alloc))?, alloc)
 }
 
 fn input_of(alloc: Global, matches: &ArgMatches<'_>) -> Result<Input, AllocError> {
@@ -158,15 +181,27 @@ fn same_of(alloc: Global, matches: &ArgMatches<'_>) -> Result<Job, AllocError> {
     })
 }
 
-fn hash_of(alloc: Global, matches: &ArgMatches<'_>) -> Result<Asked, AllocError> {
+/// The words that name files and folders.
+fn files_of(alloc: Global, matches: &ArgMatches<'_>) -> Result<Vec<String>, AllocError> {
     let mut words = Vec::new(alloc);
     if let Some(given) = matches.get_strs("FILES") {
         for word in given {
             words.push(String::from_str(alloc, word)?)?;
         }
     }
+    Ok(words)
+}
+
+fn hash_of(alloc: Global, matches: &ArgMatches<'_>) -> Result<Asked, AllocError> {
     Ok(Asked::Hash {
-        words,
+        words: files_of(alloc, matches)?,
+        names: names_of(matches),
+    })
+}
+
+fn duplicates_of(alloc: Global, matches: &ArgMatches<'_>) -> Result<Asked, AllocError> {
+    Ok(Asked::Duplicates {
+        words: files_of(alloc, matches)?,
         names: names_of(matches),
     })
 }
@@ -174,6 +209,7 @@ fn hash_of(alloc: Global, matches: &ArgMatches<'_>) -> Result<Asked, AllocError>
 fn asked_of(alloc: Global, matches: &ArgMatches<'_>) -> Result<Asked, AllocError> {
     match matches.subcommand() {
         Some(("hash", inner)) => hash_of(alloc, inner),
+        Some(("duplicates", inner)) => duplicates_of(alloc, inner),
         _ => Ok(Asked::Job(job_of(alloc, matches)?)),
     }
 }
@@ -225,8 +261,8 @@ fn fault_of(alloc: Global, error: &Error, words: &[&str]) -> Result<WordsFault, 
 }
 
 /// What the words behind the program's name ask for: `canon [--no-names] [FILE]`, `check [FILE]`,
-/// `table [--reduced] [FILE]`, `same [--map | --no-names] A B`, `hash [--no-names] [FILE|FOLDER]..`, or
-/// none of these, which is `canon` of standard input.
+/// `table [--reduced] [FILE]`, `same [--map | --no-names] A B`, `hash [--no-names] [FILE|FOLDER]..`,
+/// `duplicates [--no-names] [FILE|FOLDER]..`, or none of these, which is `canon` of standard input.
 ///
 /// - `Help`: the words ask for help, as `--help` does, or `help`, behind a command too; or for the
 ///   version, as `--version` or `-V` does, but not behind a command.

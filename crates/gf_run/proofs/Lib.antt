@@ -2,6 +2,9 @@ pub mod CarriedLines
 pub mod Errors
 pub mod FewPlayers
 pub mod FormTexts
+pub mod FoundDuplicates
+pub mod Grouped
+pub mod GroupsText
 pub mod Hashed
 pub mod Interruptions
 pub mod JobFaults

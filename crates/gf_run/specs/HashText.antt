@@ -1,4 +1,4 @@
--- The line of a file's hash, and why a file has none.
+-- The hash of a file and its line, and why a file has none.
 use Rattle.std.specs.Prelude.{◌≡◌, ℕ, List, ◌++◌, codes, Option, Result}
 use Rattle.std.specs.declared.io.Error.{Error}
 use Rattle.hex.specs.Hex.{encode_lower}
@@ -10,18 +10,24 @@ use Rattle.gf_run.specs.declared.fault.RunFault.{RunFault}
 use Rattle.gf_run.specs.declared.fault.RunFault.TheVariants.{Refused, Read, Write, Form, Memory}
 use Rattle.gf_run.specs.declared.fault.Which.TheVariants.{Only}
 
--- the hash of a text in hexadecimal, two spaces, and the name of the file
+-- a hash in hexadecimal, two spaces, and the name of the file
 abbrev pub hash_line : List ℕ → List ℕ → List ℕ
-hash_line name text = encode_lower (sha256 text) ++ codes "  " ++ name ++ codes "\n"
+hash_line name hash = encode_lower hash ++ codes "  " ++ name ++ codes "\n"
 
--- the bytes mean a file, and this is the line of its canonical text's hash
-pub record IsHashLine (names : Names) (name bytes line : List ℕ) : Type 0 where
+-- the bytes mean a file, and this is the hash of its canonical text
+pub record IsHashOf (names : Names) (bytes hash : List ℕ) : Type 0 where
   pub text : List ℕ
   pub is_text : IsTextBy names bytes text
-  pub is_line : line ≡ hash_line name text
+  pub is_hash : hash ≡ sha256 text
 
--- Why there is no line of the bytes of a file: they are refused; or they mean a file, and memory or
--- the writer failed.
+-- the bytes mean a file, and this is the line of its hash
+pub record IsHashLine (names : Names) (name bytes line : List ℕ) : Type 0 where
+  pub hash : List ℕ
+  pub hashed : IsHashOf names bytes hash
+  pub is_line : line ≡ hash_line name hash
+
+-- Why the bytes of a file have no hash or no line of it: they are refused; or they mean a file, and
+-- memory or the writer failed.
 abbrev pub IsFaultOfFile : List ℕ → RunFault → Type 0
 IsFaultOfFile bytes (Refused which fault) = (which ≡ Only) × IsRefusedWith bytes fault
 IsFaultOfFile bytes (Read which) = ⊥

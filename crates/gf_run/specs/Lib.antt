@@ -1,4 +1,6 @@
 pub mod Counted
+pub mod Duplicates
+pub mod DuplicatesRun
 pub mod Ending
 pub mod Failures
 pub mod FaultLine

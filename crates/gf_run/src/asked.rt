@@ -45,6 +45,8 @@ pub enum Asked {
     Job(Job),
     /// The hashes of the files that these words name, with their names or without.
     Hash { words: Vec<String>, names: Names },
+    /// Which of the files that these words name are one game, by their names or without.
+    Duplicates { words: Vec<String>, names: Names },
 }
 
 /// Why the words ask for no job.

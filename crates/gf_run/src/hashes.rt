@@ -20,7 +20,7 @@ use std::alloc::{AllocError, Global};
 use std::rt::Files;
 
 /// What an input is called.
-fn name_of(input: &Input) -> &str
+pub(crate) fn name_of(input: &Input) -> &str
     ensures { result.now ≡ name_of input.now }
 {
     match input {
@@ -40,7 +40,7 @@ fn named_line(alloc: Global, name: &str, fault: &RunFault) -> Result<Vec<u8>, Al
 }
 
 /// Tells the fault of a file behind its name, and gives its status.
-fn tell_of<E: Sink>(alloc: Global, name: &str, fault: &RunFault, errors: &mut E) -> u8
+pub(crate) fn tell_of<E: Sink>(alloc: Global, name: &str, fault: &RunFault, errors: &mut E) -> u8
     ensures { IsToldOf E.contents E.count E.push_gives name.now fault.now result
         errors.old errors.new }
 {

@@ -17,6 +17,6 @@ returns-in_err-line-clause-cut_off g c = not_of_writer _ _ _ c.from_residual-in_
 
 pub returns-in_err-push_all-clause-refused : goal.returns-in_err-push_all-clause-refused
 returns-in_err-push_all-clause-refused g c =
-    let text = c.in_ok-line.ensures.line.is_text in
+    let text = c.in_ok-line.ensures.line.hashed.is_text in
     IfErr-only _ _ _ c.from_residual-in_err-push_all.ensures.1
     (read _ c.in_ok-bytes.ensures.whole (text.file, rw c.deref.ensures.value at text.spelled))

@@ -3,7 +3,7 @@ use Rattle.gf_canon.specs.GameFile.{canonical_text}
 use Rattle.gf_canon.specs.Judgement.{IsRefusedWith}
 use Rattle.gf_canon.specs.NamesAside.{file_by}
 use Rattle.gf_run.proofs.Refusals.{refused}
-use Rattle.gf_run.proofs.hash.line_of.Goals as goal
+use Rattle.gf_run.proofs.hash.hash_of.Goals as goal
 
 pub returns-in_err-text-clause-refused : goal.returns-in_err-text-clause-refused
 returns-in_err-text-clause-refused c =

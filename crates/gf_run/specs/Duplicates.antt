@@ -1,0 +1,66 @@
+-- Which of the files that were read are one game, and the text that names them.
+use Rattle.std.specs.Prelude.{◌≡◌, ℕ, Bool, nat_eq, nat_lt, List, [], ◌∷◌, ◌++◌, codes, length, map}
+use Rattle.std.specs.Cmp.Lexicographic.{pointwise}
+use Rattle.std.specs.List.{filter, flat_map, join_by}
+use Rattle.gf_tree.specs.FiniteMap.{first_uses}
+
+-- a file that was read: its name, and the hash of its canonical text
+pub record HashedFile : Type 0 where
+  pub name : List ℕ
+  pub hash : List ℕ
+
+-- whether two hashes are equal
+abbrev pub same_hash : List ℕ → List ℕ → Bool
+same_hash = pointwise nat_eq
+
+-- the different hashes of files, in the order of the first files that have them
+abbrev pub hashes_of : List HashedFile → List (List ℕ)
+hashes_of files = first_uses same_hash (map (λ file. file.hash) files)
+
+-- the files that have this hash, in their order
+abbrev pub having : List HashedFile → List ℕ → List HashedFile
+having files hash = filter (λ file. same_hash hash file.hash) files
+
+-- the files in groups of one hash, a group for each hash
+abbrev pub groups_of : List HashedFile → List (List HashedFile)
+groups_of files = map (having files) (hashes_of files)
+
+-- the names of files
+abbrev pub names_of : List HashedFile → List (List ℕ)
+names_of files = map (λ file. file.name) files
+
+-- whether a group has two files or more
+abbrev pub has_two : List (List ℕ) → Bool
+has_two names = nat_lt 1 (length names)
+
+-- the names of the groups of two files or more
+abbrev pub duplicates : List HashedFile → List (List (List ℕ))
+duplicates files = filter has_two (map names_of (groups_of files))
+
+-- a line for each name
+abbrev pub name_lines : List (List ℕ) → List ℕ
+name_lines names = flat_map (λ name. name ++ codes "\n") names
+
+-- the names of groups, with an empty line between two groups
+abbrev pub groups_text : List (List (List ℕ)) → List ℕ
+groups_text groups = join_by name_lines (codes "\n") groups
+
+-- the empty line that stands before a group, unless the text so far is empty
+abbrev pub empty_line : List ℕ → List ℕ
+empty_line [] = []
+empty_line (byte ∷ text) = codes "\n"
+
+-- the exit status where these are the groups of two files or more
+abbrev pub groups_status : List (List (List ℕ)) → ℕ
+groups_status [] = 0
+groups_status (group ∷ groups) = 1
+
+-- what is kept of files: their hashes, and for each of them the names of its files
+pub record KeptNames : Type 0 where
+  pub hashes : List (List ℕ)
+  pub names : List (List (List ℕ))
+
+-- this is kept of the files
+pub record IsKeptOf (files : List HashedFile) (kept : KeptNames) : Type 0 where
+  pub hashes : kept.hashes ≡ hashes_of files
+  pub names : kept.names ≡ map names_of (groups_of files)

@@ -1,0 +1,91 @@
+//! The names of files, in groups of one hash.
+
+ghost use Rattle.std.specs.Prelude.{◌≡◌, List, [], ◌∷◌, ◌++◌, map, IfOk, OnOk};
+ghost use Rattle.gf_run.specs.Duplicates.{HashedFile, IsKeptOf, KeptNames};
+ghost use Rattle.gf_run.specs.Duplicates.{duplicates, empty_line, groups_text, name_lines};
+
+use indexmap::IndexSet;
+use std::alloc::{AllocError, Global};
+use std::marker::Model;
+
+/// The names of files that were read, in groups of one hash. It takes memory for the hashes and for a
+/// reference to each name.
+#[derive(Drop)]
+pub struct Groups<'a> {
+    /// The different hashes, in the order of the first files that have them.
+    hashes: IndexSet<[u8; 32]>,
+    /// For each of them the names of its files.
+    names: Vec<Vec<&'a str>>,
+}
+
+impl<'a> Model for Groups<'a> {
+    ghost Value = { KeptNames };
+
+    ghost view = { λ groups. record {
+      hashes = groups.hashes.keys;
+      names = map (λ group. map (λ name. name.now) group.items) groups.names.items;
+    } };
+}
+
+/// Appends a line for each name.
+fn push_names(text: &mut Vec<u8>, names: &[&str]) -> Result<(), AllocError>
+    ensures { OnOk result (text.new.items ≡ text.old.items
+        ++ name_lines (map (λ name. name.now) names.now)) }
+{
+    for name in names {
+        text.extend_from_slice(name.as_bytes())?;
+        text.push(b'\n')?;
+    }
+    Ok(())
+}
+
+/// Appends a line for each name, after an empty line unless the text is empty.
+fn push_group(text: &mut Vec<u8>, names: &[&str]) -> Result<(), AllocError>
+    ensures { OnOk result (text.new.items ≡ text.old.items
+        ++ empty_line text.old.items ++ name_lines (map (λ name. name.now) names.now)) }
+{
+    if !text.is_empty() {
+        text.push(b'\n')?;
+    }
+    push_names(text, names)
+}
+
+impl<'a> Groups<'a> {
+    /// No files yet.
+    pub fn new(alloc: Global) -> Groups<'a>
+        ensures { IsKeptOf [] result }
+    {
+        Groups {
+            hashes: IndexSet::new(alloc),
+            names: Vec::new(alloc),
+        }
+    }
+
+    /// Puts the name of a file into the group of its hash, which is a new one if no file had it.
+    pub fn push(&mut self, alloc: Global, name: &'a str, hash: [u8; 32]) -> Result<(), AllocError>
+        ensures { OnOk result ((files : List HashedFile) → IsKeptOf files self.old
+            → IsKeptOf (files ++ record { name = name.now; hash = hash } ∷ []) self.new) }
+    {
+        let (at, _) = self.hashes.insert_full(hash)?;
+        match self.names.get_mut(at) {
+            Some(group) => group.push(name)?,
+            None => self.names.push(vec![in alloc; name]?)?,
+        }
+        Ok(())
+    }
+
+    /// The names of each group of two files or more, a line for each, with an empty line between two
+    /// groups.
+    pub fn text(&self, alloc: Global) -> Result<Vec<u8>, AllocError>
+        ensures { IfOk result (λ text. (files : List HashedFile) → IsKeptOf files self.now
+            → text.items ≡ groups_text (duplicates files)) }
+    {
+        let mut text = Vec::new(alloc);
+        for group in &self.names {
+            if group.len() > 1 {
+                push_group(&mut text, group.as_slice())?;
+            }
+        }
+        Ok(text)
+    }
+}
