@@ -149,6 +149,17 @@ def payoffs_of(numbers):
     return accepted("table", file, table_text("", [""], [range(1, count + 1)], rows))
 
 
+def short_fractions():
+    """A million fractions and decimals of a few digits."""
+    rng = random.Random(SEED)
+    numbers = []
+    for _ in range(2**19):
+        size, under, decimal = rng.randint(-99_999, 99_999), rng.randint(1, 9_999), rng.randint(10_000, 99_999)
+        numbers.append((Fraction(size, under), f"{size}/{under}"))
+        numbers.append((Fraction(decimal, 10**8), f"0.000{decimal}"))
+    return payoffs_of(numbers)
+
+
 def long_decimals():
     """Decimals of 38 digits."""
     rng = random.Random(SEED)
@@ -432,9 +443,9 @@ FILES = {
     "most strategies": (most_strategies, plain_table),
     "a million players": (million_players, plain_table),
     "crossing rows": (crossing_rows, plain_table),
-    "long decimals": (long_decimals, plain_table),
-    "large fractions": (large_fractions, plain_table),
-    "golden fractions": (golden_fractions, plain_table),
+    "long decimals": (long_decimals, short_fractions),
+    "large fractions": (large_fractions, short_fractions),
+    "golden fractions": (golden_fractions, short_fractions),
     "a tree without its end": (cut_tree, cut_table),
     "nested moves": (nested_moves, plain_tree),
     "players of a tree": (tree_players, plain_tree),
