@@ -67,6 +67,46 @@ refusal_judged : (why : Why) (bytes : List ℕ) (span : Span) → IsRefusal why 
 refusal_judged why bytes span h = judged_by why bytes span
     (lies_in_file why (tokens_of h.place.before) (tokens_of h.place.after) h.reason) h
 
+-- ---- a token
+
+-- what the machine does at a token: it goes on, and the token is accepted; or its refusal is judged
+data Took (bytes : List ℕ) (all ls : List Lexeme) (l : Lexeme) (o : Result State Why) : Type 0 where
+  goes_on : (after : State) → o ≡ Ok after → Led all ls after
+      → after.content.profiles ≤ profile_limit → IsAcceptedWithinLimit bytes (span_of l)
+      → Took bytes all ls l o
+  refuses : (why : Why) → o ≡ Err why → IsJudged why bytes (span_of l) → Took bytes all ls l o
+
+module _ (bytes : List ℕ) (all : List Lexeme) (spelled : Spells 0 bytes all) where
+  took_past : (s after : State) (l : Lexeme) (ls : List Lexeme) (b : Bool) → Led all (l ∷ ls) s
+      → s.content.profiles ≤ profile_limit → step s l.token ≡ Ok after
+      → is_past after.position after.content.profiles ≡ b
+      → Took bytes all ls l (if b then Err TooManyProfiles else Ok after)
+  took_past s after l ls true h few is over = refuses TooManyProfiles refl
+      (limit bytes all ls l s after spelled h few is (past after.position after.content.profiles over))
+  took_past s after l ls false h few is not =
+      let more = bounded s after l.token is few not in
+      goes_on after refl (led_more all ls l s after h is) more
+      (accepted bytes all ls l s after spelled h is more)
+
+  took_step : (s : State) (l : Lexeme) (ls : List Lexeme) (o : Result State Why)
+      → Led all (l ∷ ls) s → s.content.profiles ≤ profile_limit → IsWhole l.token
+      → step s l.token ≡ o → Took bytes all ls l (within o)
+  took_step s l ls (Ok after) h few whole is =
+      took_past s after l ls (is_past after.position after.content.profiles) h few is refl
+  took_step s l ls (Err why) h few whole is = refuses why refl
+      (refusal_judged why bytes (span_of l) (refusal bytes all ls l s why spelled h few whole is))
+
+  took : (s : State) (start end : ℕ) (t : Token) (ls : List Lexeme)
+      → Led all (lexeme start end t ∷ ls) s → s.content.profiles ≤ profile_limit
+      → Took bytes all ls (lexeme start end t) (taken s t)
+  took s start end Broken ls h few =
+      refuses Unterminated refl (broken bytes all ls start end s spelled h few)
+  took s start end Opening ls h few = took_step s _ ls (step s Opening) h few tt refl
+  took s start end Closing ls h few = took_step s _ ls (step s Closing) h few tt refl
+  took s start end Comma ls h few = took_step s _ ls (step s Comma) h few tt refl
+  took s start end (Text label) ls h few = took_step s _ ls (step s (Text label)) h few tt refl
+  took s start end (Bare b) ls h few = took_step s _ ls (step s (Bare b)) h few tt refl
+
 -- ---- what is refused
 
 abbrev ErrIs : Fault → Result Content Fault → Type 0
@@ -80,6 +120,10 @@ found start end why fault e P h =
     let same : record { span = record { start = start; end = end }; why = why } ≡ fault = cc in
     subst P same h
 
+-- the answer where a token is taken so
+abbrev answer_at : ℕ → List Lexeme → Lexeme → Result State Why → Result Content Fault
+answer_at end ls l o = then_on l.start l.end o (λ next. read_on end next ls)
+
 module _ (bytes : List ℕ) (all : List Lexeme) (spelled : Spells 0 bytes all) (fault : Fault) where
   abbrev Judged : Fault → Type 0
   Judged f = IsJudged f.why bytes f.span
@@ -91,58 +135,25 @@ module _ (bytes : List ℕ) (all : List Lexeme) (spelled : Spells 0 bytes all) (
   refused_at_end s (Err why) h few is e = found (length bytes) (length bytes) why fault e Judged
       (judged_end bytes all s why spelled h few is)
 
-  refused_past : (s after : State) (l : Lexeme) (ls : List Lexeme) (b : Bool) → Led all (l ∷ ls) s
-      → s.content.profiles ≤ profile_limit → step s l.token ≡ Ok after
-      → is_past after.position after.content.profiles ≡ b
-      → ErrIs fault (then_on l.start l.end (if b then Err TooManyProfiles else Ok after)
-      (λ next. read_on (length bytes) next ls))
-      → (Led all ls after → after.content.profiles ≤ profile_limit
-      → ErrIs fault (read_on (length bytes) after ls) → Judged fault)
-      → Judged fault
-  refused_past s after l ls true h few is over e later =
-      found l.start l.end TooManyProfiles fault e Judged
-      (limit bytes all ls l s after spelled h few is (past after.position after.content.profiles over))
-  refused_past s after l ls false h few is not e later =
-      later (led_more all ls l s after h is) (bounded s after l.token is few not) e
-
-  refused_step : (s : State) (l : Lexeme) (ls : List Lexeme) (o : Result State Why)
-      → Led all (l ∷ ls) s → s.content.profiles ≤ profile_limit → IsWhole l.token
-      → step s l.token ≡ o
-      → ErrIs fault (then_on l.start l.end (within o) (λ next. read_on (length bytes) next ls))
+  refused_token : (l : Lexeme) (ls : List Lexeme) (o : Result State Why) → Took bytes all ls l o
+      → ErrIs fault (answer_at (length bytes) ls l o)
       → ((after : State) → Led all ls after → after.content.profiles ≤ profile_limit
       → ErrIs fault (read_on (length bytes) after ls) → Judged fault)
       → Judged fault
-  refused_step s l ls (Ok after) h few whole is e later = refused_past s after l ls
-      (is_past after.position after.content.profiles) h few is refl e (later after)
-  refused_step s l ls (Err why) h few whole is e later = found l.start l.end why fault e Judged
-      (refusal_judged why bytes (span_of l) (refusal bytes all ls l s why spelled h few whole is))
-
-  refused_token : (s : State) (start end : ℕ) (t : Token) (ls : List Lexeme)
-      → Led all (lexeme start end t ∷ ls) s → s.content.profiles ≤ profile_limit
-      → ErrIs fault (then_on start end (taken s t) (λ next. read_on (length bytes) next ls))
-      → ((after : State) → Led all ls after → after.content.profiles ≤ profile_limit
-      → ErrIs fault (read_on (length bytes) after ls) → Judged fault)
-      → Judged fault
-  refused_token s start end Broken ls h few e later =
-      found start end Unterminated fault e Judged (broken bytes all ls start end s spelled h few)
-  refused_token s start end Opening ls h few e later =
-      refused_step s (lexeme start end Opening) ls (step s Opening) h few tt refl e later
-  refused_token s start end Closing ls h few e later =
-      refused_step s (lexeme start end Closing) ls (step s Closing) h few tt refl e later
-  refused_token s start end Comma ls h few e later =
-      refused_step s (lexeme start end Comma) ls (step s Comma) h few tt refl e later
-  refused_token s start end (Text label) ls h few e later =
-      refused_step s (lexeme start end (Text label)) ls (step s (Text label)) h few tt refl e later
-  refused_token s start end (Bare b) ls h few e later =
-      refused_step s (lexeme start end (Bare b)) ls (step s (Bare b)) h few tt refl e later
+  refused_token l ls o (goes_on after is led more accepted) e later =
+      later after led more (subst (λ x. ErrIs fault (answer_at (length bytes) ls l x)) is e)
+  refused_token l ls o (refuses why is judged) e later = found l.start l.end why fault
+      (subst (λ x. ErrIs fault (answer_at (length bytes) ls l x)) is e) Judged judged
 
   refused_on : (s : State) (ls : List Lexeme) → Led all ls s → s.content.profiles ≤ profile_limit
       → ErrIs fault (read_on (length bytes) s ls) → Judged fault
   refused_on s [] h few e = refused_at_end s (finish s) h few refl e
-  refused_on s (l ∷ ls) h few e = refused_token s l.start l.end l.token ls h few e
+  refused_on s (l ∷ ls) h few e = refused_token l ls (taken s l.token)
+      (took bytes all spelled s l.start l.end l.token ls h few) e
       (λ after led more f. refused_on after ls led more f)
 
-  pub refused_judged : ErrIs fault (read_on (length bytes) start all) → IsJudged fault.why bytes fault.span
+  pub refused_judged : ErrIs fault (read_on (length bytes) start all)
+      → IsJudged fault.why bytes fault.span
   refused_judged e = refused_on start all (led_none all) (omega arith) e
 
 -- ---- memory
@@ -203,77 +214,38 @@ module _ (bytes : List ℕ) (all : List Lexeme) (spelled : Spells 0 bytes all) w
   abbrev Accepted : Lexeme → Type 0
   Accepted l = IsAcceptedWithinLimit bytes (span_of l)
 
-  last_within : (s after : State) (l : Lexeme) (ls : List Lexeme) (b : Bool) → Led all (l ∷ ls) s
-      → s.content.profiles ≤ profile_limit → step s l.token ≡ Ok after
-      → is_past after.position after.content.profiles ≡ b
-      → HasPassed (then_on l.start l.end (if b then Err TooManyProfiles else Ok after)
-      (λ next. read_on (length bytes) next ls)) l.start
-      → Accepted l
-  last_within s after l ls true h few is over passed = absurd (omega (arith, passed))
-  last_within s after l ls false h few is not passed =
-      accepted bytes all ls l s after spelled h is (bounded s after l.token is few not)
+  last_token : (l : Lexeme) (ls : List Lexeme) (o : Result State Why) → Took bytes all ls l o
+      → HasPassed (answer_at (length bytes) ls l o) l.start → Accepted l
+  last_token l ls o (goes_on after is led more accepted) passed = accepted
+  last_token l ls o (refuses why is judged) passed =
+      let p : HasPassed (answer_at (length bytes) ls l (Err why)) l.start =
+      subst (λ x. HasPassed (answer_at (length bytes) ls l x) l.start) is passed in
+      absurd (omega (arith, p))
 
-  last_step : (s : State) (l : Lexeme) (ls : List Lexeme) (o : Result State Why)
-      → Led all (l ∷ ls) s → s.content.profiles ≤ profile_limit → step s l.token ≡ o
-      → HasPassed (then_on l.start l.end (within o) (λ next. read_on (length bytes) next ls)) l.start
-      → Accepted l
-  last_step s l ls (Ok after) h few is passed = last_within s after l ls
-      (is_past after.position after.content.profiles) h few is refl passed
-  last_step s l ls (Err why) h few is passed = absurd (omega (arith, passed))
-
-  last_token : (s : State) (l : Lexeme) (ls : List Lexeme) (b : Bool) → Led all (l ∷ ls) s
-      → s.content.profiles ≤ profile_limit
-      → HasPassed (then_on l.start l.end (if b then Err Unterminated else within (step s l.token))
-      (λ next. read_on (length bytes) next ls)) l.start
-      → Accepted l
-  last_token s l ls true h few passed = absurd (omega (arith, passed))
-  last_token s l ls false h few passed = last_step s l ls (step s l.token) h few refl passed
-
-  first_within : (s after : State) (z l : Lexeme) (ls : List Lexeme) (b : Bool) → z.start < l.start
-      → Led all (z ∷ ls) s → s.content.profiles ≤ profile_limit → step s z.token ≡ Ok after
-      → is_past after.position after.content.profiles ≡ b
-      → HasPassed (then_on z.start z.end (if b then Err TooManyProfiles else Ok after)
-      (λ next. read_on (length bytes) next ls)) l.start
-      → (Led all ls after → after.content.profiles ≤ profile_limit
-      → HasPassed (read_on (length bytes) after ls) l.start → Accepted l)
-      → Accepted l
-  first_within s after z l ls true less h few is over passed later =
-      absurd (omega (arith, less, passed))
-  first_within s after z l ls false less h few is not passed later =
-      later (led_more all ls z s after h is) (bounded s after z.token is few not) passed
-
-  first_step : (s : State) (z l : Lexeme) (ls : List Lexeme) (o : Result State Why)
-      → z.start < l.start → Led all (z ∷ ls) s → s.content.profiles ≤ profile_limit
-      → step s z.token ≡ o
-      → HasPassed (then_on z.start z.end (within o) (λ next. read_on (length bytes) next ls)) l.start
+  first_token : (z l : Lexeme) (ls : List Lexeme) (o : Result State Why) → z.start < l.start
+      → Took bytes all ls z o → HasPassed (answer_at (length bytes) ls z o) l.start
       → ((after : State) → Led all ls after → after.content.profiles ≤ profile_limit
       → HasPassed (read_on (length bytes) after ls) l.start → Accepted l)
       → Accepted l
-  first_step s z l ls (Ok after) less h few is passed later = first_within s after z l ls
-      (is_past after.position after.content.profiles) less h few is refl passed (later after)
-  first_step s z l ls (Err why) less h few is passed later = absurd (omega (arith, less, passed))
-
-  first_token : (s : State) (z l : Lexeme) (ls : List Lexeme) (b : Bool)
-      → z.start < l.start → Led all (z ∷ ls) s → s.content.profiles ≤ profile_limit
-      → HasPassed (then_on z.start z.end (if b then Err Unterminated else within (step s z.token))
-      (λ next. read_on (length bytes) next ls)) l.start
-      → ((after : State) → Led all ls after → after.content.profiles ≤ profile_limit
-      → HasPassed (read_on (length bytes) after ls) l.start → Accepted l)
-      → Accepted l
-  first_token s z l ls true less h few passed later = absurd (omega (arith, less, passed))
-  first_token s z l ls false less h few passed later =
-      first_step s z l ls (step s z.token) less h few refl passed later
+  first_token z l ls o less (goes_on after is led more accepted) passed later = later after led more
+      (subst (λ x. HasPassed (answer_at (length bytes) ls z x) l.start) is passed)
+  first_token z l ls o less (refuses why is judged) passed later =
+      let p : HasPassed (answer_at (length bytes) ls z (Err why)) l.start =
+      subst (λ x. HasPassed (answer_at (length bytes) ls z x) l.start) is passed in
+      absurd (omega (arith, less, p))
 
   passed_token : (from : ℕ) (s : State) (before after : List Lexeme) (l : Lexeme)
       → AreInOrder (length bytes) from (before ++ l ∷ after) → Led all (before ++ l ∷ after) s
       → s.content.profiles ≤ profile_limit
       → HasPassed (read_on (length bytes) s (before ++ l ∷ after)) l.start → Accepted l
   passed_token from s [] after l order h few passed =
-      last_token s l after (is_broken l.token) h few passed
+      last_token l after (taken s l.token)
+      (took bytes all spelled s l.start l.end l.token after h few) passed
   passed_token from s (z ∷ zs) after l order h few passed =
       let far = begins_later (length bytes) z.end zs after l order.2 in
       let some = order.1 in
-      first_token s z l (zs ++ l ∷ after) (is_broken z.token) (omega (arith, far, some)) h few passed
+      first_token z l (zs ++ l ∷ after) (taken s z.token) (omega (arith, far, some))
+      (took bytes all spelled s z.start z.end z.token (zs ++ l ∷ after) h few) passed
       (λ next led more p. passed_token z.end next zs after l order.2 led more p)
 
   -- a place of a token that the machine has passed
