@@ -1,10 +1,9 @@
 -- The terms of nodes say what the nodes add.
-use Rattle.std.proofs.Common.{◌≡◌, ℕ, ℤ, pos, suc, zero, ◌+◌, ◌-◌, ◌*◌, ◌/◌, ◌<◌, ◌≤◌, ◌+ℤ◌, ◌*ℤ◌}
+use Rattle.std.proofs.Common.{◌≡◌, ℕ, ℤ, pos, suc, ◌+◌, ◌*◌, ◌/◌, ◌<◌, ◌≤◌, ◌*ℤ◌}
 use Rattle.std.proofs.Common.{Bool, true, false, List, [], ◌∷◌, ◌++◌, refl, ap, sym, subst, ◌∙◌, arith}
 use Rattle.std.specs.Prelude.{if◌then◌else◌, unsigned_abs}
 use Rattle.std.specs.Int.{◌∣◌}
-use Rattle.std.specs.List.{AllByRecursion}
-use Rattle.std.proofs.Math.Nat.{div-mul_cancel, dvd-mul_right, mul-le-mul_right, mul-div_cancel}
+use Rattle.std.proofs.Math.Nat.{dvd-mul_right, mul-le-mul_right, mul-div_cancel}
 use Rattle.std.proofs.Math.Nat.{pos_of_dvd_of_pos}
 use Rattle.std.proofs.lemmas.Int.{ints, unsigned_abs-mul}
 use Rattle.std.proofs.lemmas.Nat.Gcd.{dvd_trans}
@@ -13,9 +12,8 @@ use Rattle.gf_fraction.proofs.Integers.{*ℤ_assoc}
 use Rattle.gf_fraction.specs.Ratio.{Ratio}
 use Rattle.gf_tree.specs.Game.{Game}
 use Rattle.gf_form.specs.Demands.{meets}
-use Rattle.gf_form.specs.Entries.{AreExactAt, Entry, IsExactAt, IsSumOf, number_at}
-use Rattle.gf_form.specs.Entries.{size_of_entries, sum_of_entries}
-use Rattle.gf_form.specs.ListedNodes.{AreTermsOf, HasShare, IsTermMore, IsTermOf, Tells}
+use Rattle.gf_form.specs.Entries.{Entry, IsExactAt, IsSumOf, number_at}
+use Rattle.gf_form.specs.ListedNodes.{AreTermsOf, HasShare, IsTermMore, IsTermOf}
 use Rattle.gf_form.specs.Entries.{AreOrdered, EndsBelow, IsShaped, entries}
 use Rattle.gf_form.specs.Rows.{ArePaid}
 use Rattle.gf_form.specs.declared.rows.terms.Terms.{Terms}
@@ -23,8 +21,8 @@ use Rattle.gf_form.proofs.Merges.{below_more, ordered_more}
 use Rattle.std.proofs.Common.{get_or, length, take}
 use Rattle.std.specs.List.Sorted.{IsNonDecreasingBy}
 use Rattle.std.proofs.lemmas.List.{get_or_default, take_more}
-use Rattle.gf_form.specs.Shares.{IsExact, IsExactIfMet, met_bounds, over, pay_at, scale, share}
-use Rattle.gf_form.specs.Shares.{share_bound, sum_of_shares}
+use Rattle.gf_form.specs.Shares.{IsExact, IsExactIfMet, over, pay_at, scale, share}
+use Rattle.gf_form.specs.Shares.{share_bound}
 use Rattle.gf_form.specs.declared.paths.Reached.{Reached}
 use Rattle.gf_form.proofs.MergedEntries.{both_size, both_sum, exact_first, exact_second}
 use Rattle.gf_form.proofs.MergedEntries.{size_append, sum_append}

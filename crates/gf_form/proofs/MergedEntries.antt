@@ -1,20 +1,19 @@
 -- What terms come to, part by part, and while they are merged.
-use Rattle.std.proofs.Common.{◌≡◌, ℕ, ℤ, pos, suc, zero, ◌+◌, ◌-◌, ◌*◌, ◌/◌, ◌<◌, ◌≤◌, ◌+ℤ◌, ◌*ℤ◌}
+use Rattle.std.proofs.Common.{◌≡◌, ℕ, ℤ, pos, ◌+◌, ◌-◌, ◌*◌, ◌/◌, ◌<◌, ◌≤◌, ◌+ℤ◌, ◌*ℤ◌}
 use Rattle.std.proofs.Common.{Bool, true, false, List, [], ◌∷◌, ◌++◌, refl, ap, sym, subst, ◌∙◌, arith}
 use Rattle.std.proofs.Common.{map, inl, inr, ◌⊎◌}
 use Rattle.std.specs.Prelude.{◌&&◌, if◌then◌else◌, nat_le, nat_lt}
 use Rattle.std.specs.Int.{◌∣◌}
 use Rattle.std.specs.List.{AllByRecursion}
-use Rattle.std.proofs.Math.IntN.{+ℤ_assoc, +ℤ_comm, +ℤ_idl}
+use Rattle.std.proofs.Math.IntN.{+ℤ_assoc, +ℤ_idl}
 use Rattle.std.proofs.Math.Nat.{mul-le-mul_right}
 use Rattle.std.proofs.lemmas.Bool.{le-leb, le-ltb, lt-leb, lt-ltb}
 use Rattle.std.proofs.lemmas.Int.{ints}
-use Rattle.std.proofs.lemmas.List.{append_assoc}
 use Rattle.std.proofs.lemmas.Nat.Gcd.{dvd_trans}
 use Rattle.gf_fraction.proofs.AllElements.{all_both, all_parts}
 use Rattle.gf_fraction.proofs.Integers.{*ℤ_assoc, add-*ℤ}
 use Rattle.gf_form.specs.Demands.{meets}
-use Rattle.gf_form.specs.Entries.{AreExactAt, AreMerged, ComeTo, Entry, HasSum, IsExactAt, IsSumOf}
+use Rattle.gf_form.specs.Entries.{AreExactAt, AreMerged, Entry, IsExactAt, IsSumOf}
 use Rattle.gf_form.specs.Entries.{lowered, number_at, size_of_entries, sum_of_entries}
 use Rattle.gf_form.proofs.OverOneDenominator.{quotient_through}
 

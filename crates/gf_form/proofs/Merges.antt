@@ -1,10 +1,9 @@
 -- Two ranges of terms while they are merged by the code.
-use Rattle.std.proofs.Common.{◌≡◌, ℕ, ℤ, zero, suc, ◌+◌, ◌-◌, ◌*◌, ◌<◌, ◌≤◌, List, [], ◌∷◌, ◌++◌}
+use Rattle.std.proofs.Common.{◌≡◌, ℕ, zero, suc, ◌+◌, ◌-◌, ◌*◌, ◌<◌, ◌≤◌, List, [], ◌∷◌, ◌++◌}
 use Rattle.std.proofs.Common.{length, get_or, take, drop, map, refl, ap, sym, subst, ◌∙◌, arith, add-one}
 use Rattle.std.proofs.Common.{inl, inr}
 use Rattle.std.specs.List.{AllByRecursion}
 use Rattle.std.specs.List.Sorted.{IsNonDecreasingBy}
-use Rattle.std.proofs.Math.ListN.{drop_of_length-le}
 use Rattle.std.proofs.Math.Nat.{mul-le-mul_right}
 use Rattle.std.proofs.Math.Seq.{drop-cons, get_or-append_seam}
 use Rattle.std.proofs.lemmas.List.{drop-drop, length-append, take-append-drop}
@@ -15,7 +14,7 @@ use Rattle.gf_form.specs.Entries.{AreMerged, AreOrdered, Entry, HasSum, IsShaped
 use Rattle.gf_form.specs.Entries.{CountsBelow, EndsBelow, entries_of, lowered, no_entry, no_head}
 use Rattle.gf_form.specs.declared.rows.terms.Head.{Head}
 use Rattle.gf_form.specs.declared.rows.terms.Terms.{Terms}
-use Rattle.gf_form.proofs.FlatRows.{entries_count, entry_head, entry_is, head_at}
+use Rattle.gf_form.proofs.FlatRows.{entries_count, entry_head, head_at}
 use Rattle.gf_form.proofs.MergedEntries.{IsFree, IsOther, IsOwn, Merging, Ranges, all_merged}
 use Rattle.gf_form.proofs.MergedEntries.{first_parts, take_both, take_free, take_own}
 

@@ -1,7 +1,7 @@
 -- The value of a tree is the sum of the shares of the nodes that choices reach.
 use Rattle.std.proofs.Common.{◌≡◌, ℕ, ℤ, zero, suc, pos, ◌+◌, ◌*◌, ◌/◌, ◌^◌, ◌<◌, ◌≤◌, Bool, true}
 use Rattle.std.proofs.Common.{false, List, ◌∷◌, ◌++◌, Option, Some, None, MatchOption, length}
-use Rattle.std.proofs.Common.{get_or, set, refl, ap, sym, subst, ◌∙◌, arith, inr}
+use Rattle.std.proofs.Common.{get_or, set, refl, sym, subst, ◌∙◌, arith, inr}
 use Rattle.std.specs.Prelude.{◌*ℤ◌, ◌+ℤ◌, ◌==◌, ◌&&◌, unsigned_abs, option_map, if◌then◌else◌}
 use Rattle.std.specs.List.{AllByRecursion}
 use Rattle.std.proofs.lemmas.Bool.{and_from, eq-eqb, eqb-false, eqb-true, ne_eqb}

@@ -1,6 +1,6 @@
 -- Rows of payoffs, by the terms of which they are sums.
 use Rattle.std.proofs.Common.{◌≡◌, ℕ, ℤ, zero, suc, pos, ◌+◌, ◌-◌, ◌*◌, ◌/◌, ◌<◌, ◌≤◌, ◌^◌, List, []}
-use Rattle.std.proofs.Common.{◌∷◌, ◌++◌, Some, get_or, length, map, refl, ap, sym, subst, ◌∙◌, arith}
+use Rattle.std.proofs.Common.{◌∷◌, ◌++◌, Some, get_or, length, refl, ap, sym, subst, ◌∙◌, arith}
 use Rattle.std.specs.List.{AllByRecursion}
 use Rattle.std.proofs.Common.{◌+ℤ◌, ◌*ℤ◌, ◌⊎◌, inl, inr, lit<, take}
 use Rattle.std.proofs.Math.Seq.{get_or-append_seam, take-length}
@@ -35,7 +35,7 @@ use Rattle.gf_form.specs.GameDigits.{actions_at}
 use Rattle.gf_form.specs.Values.{value}
 use Rattle.gf_form.specs.declared.digits.Digit.{Digit}
 use Rattle.gf_form.specs.declared.rows.terms.Terms.{Terms}
-use Rattle.gf_form.proofs.Choices.{IsChoice, length-all_choices, place, place_at}
+use Rattle.gf_form.proofs.Choices.{length-all_choices, place, place_at}
 use Rattle.gf_form.proofs.DigitChoices.{at_place as choice_there, choice_at_number}
 use Rattle.gf_form.proofs.PayoffsGiven.{are_payoffs, have_values}
 use Rattle.gf_form.proofs.RowSums.{fraction_at}

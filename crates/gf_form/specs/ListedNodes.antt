@@ -1,5 +1,5 @@
 -- The terms of nodes that choices can reach.
-use Rattle.std.specs.Prelude.{◌≡◌, ℕ, ℤ, suc, pos, ◌<◌, ◌≤◌, List, [], ◌∷◌, ◌++◌, get_or, length}
+use Rattle.std.specs.Prelude.{◌≡◌, ℕ, suc, ◌<◌, ◌≤◌, List, [], ◌∷◌, ◌++◌}
 use Rattle.std.specs.List.{AllByRecursion}
 use Rattle.gf_fraction.specs.Ratio.{Ratio}
 use Rattle.gf_tree.specs.Game.{Game}

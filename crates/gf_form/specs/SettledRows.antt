@@ -1,5 +1,5 @@
 -- Payoffs at profiles, by the terms of which they are sums.
-use Rattle.std.specs.Prelude.{◌≡◌, ℕ, ℤ, suc, pos, ◌+◌, ◌-◌, ◌*◌, ◌<◌, ◌≤◌, ◌^◌, List, [], ◌∷◌, ◌++◌}
+use Rattle.std.specs.Prelude.{◌≡◌, ℕ, ℤ, suc, pos, ◌-◌, ◌<◌, ◌≤◌, ◌^◌, List, [], ◌++◌}
 use Rattle.std.specs.Prelude.{Some, get_or, length, map, take}
 use Rattle.std.specs.List.{AllByRecursion}
 use Rattle.gf_fraction.specs.Ratio.{HasValue, IsFraction, IsWithin, Ratio}
@@ -15,7 +15,6 @@ use Rattle.gf_form.specs.Refusal.{HasValues}
 use Rattle.gf_form.specs.Rows.{ArePaid, at_place}
 use Rattle.gf_form.specs.StrategicForm.{ArePayoffsAt}
 use Rattle.gf_form.specs.Strategies.{all_choices, choices_by, full_profiles, strategies_at}
-use Rattle.gf_form.specs.GameDigits.{actions_at}
 use Rattle.gf_form.specs.Values.{value}
 use Rattle.gf_form.specs.declared.picked.Picked.{Picked}
 use Rattle.gf_form.specs.declared.rows.terms.Terms.{Terms}

@@ -1,4 +1,4 @@
-use Rattle.std.proofs.Common.{◌≡◌, ◌+◌, ◌∷◌, ◌∙◌, [], ap, arith, length}
+use Rattle.std.proofs.Common.{◌≡◌, ◌∷◌, ◌∙◌, [], ap, arith, length}
 use Rattle.std.proofs.lemmas.List.{length-append}
 use Rattle.gf_form.proofs.GameRows.{IsFullNumber, one_number_more}
 use Rattle.gf_form.proofs.profile_rows.full_numbers.Goals as goal

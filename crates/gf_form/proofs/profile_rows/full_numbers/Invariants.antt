@@ -1,4 +1,4 @@
-use Rattle.std.proofs.Common.{◌≡◌, ◌<◌, [], ℕ, get_or, length}
+use Rattle.std.proofs.Common.{◌≡◌, ◌<◌, ℕ, get_or, length}
 use Rattle.gf_tree.specs.Game.{Game}
 use Rattle.gf_form.specs.Counted.{AreCounts}
 use Rattle.gf_form.specs.Picked.{IsPicked}

@@ -1,9 +1,5 @@
-use Rattle.std.proofs.Common.{◌≡◌, ◌<◌, length, take}
-use Rattle.gf_tree.specs.Game.{Game}
-use Rattle.gf_form.specs.Entries.{AreOrdered, EndsBelow, IsShaped, entries}
-use Rattle.gf_form.specs.ListedNodes.{AreTermsOf}
+use Rattle.std.proofs.Common.{◌≡◌}
 use Rattle.gf_form.specs.PaidRows.{rows_of}
-use Rattle.gf_form.specs.Rows.{ArePaid}
 use Rattle.gf_form.proofs.ListedEntries.{Listing}
 use Rattle.gf_form.proofs.rows.listed.listed.Given as goal
 

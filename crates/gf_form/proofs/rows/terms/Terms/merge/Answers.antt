@@ -1,4 +1,4 @@
-use Rattle.std.proofs.Common.{◌≡◌, ◌+◌, ◌-◌, ◌*◌, ◌<◌, ◌≤◌, ◌∙◌, List, ap, arith, subst, sym}
+use Rattle.std.proofs.Common.{◌+◌, ◌*◌, ◌∙◌, List, ap, arith, subst}
 use Rattle.gf_form.specs.Entries.{CountsBelow}
 use Rattle.gf_form.specs.declared.rows.terms.Head.{Head}
 use Rattle.gf_form.proofs.FlatRows.{entry_head, head_read}

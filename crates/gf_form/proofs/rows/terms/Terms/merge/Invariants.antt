@@ -1,4 +1,4 @@
-use Rattle.std.proofs.Common.{◌≤◌, ◌<◌, ◌+◌, ◌-◌, ◌*◌}
+use Rattle.std.proofs.Common.{◌≤◌, ◌<◌, ◌+◌, ◌-◌}
 use Rattle.gf_form.proofs.Merges.{Merges}
 use Rattle.gf_form.proofs.rows.terms.Terms.merge.Given as goal
 

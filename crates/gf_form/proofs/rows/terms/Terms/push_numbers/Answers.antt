@@ -1,4 +1,4 @@
-use Rattle.std.proofs.Common.{◌≡◌, ◌∙◌, ◌+◌, ◌<◌, ◌+ℤ◌, ◌*ℤ◌, ◌++◌, ◌∷◌, [], ℤ, ℕ, List, get_or, length, lit<, pos, ap, arith, sym, subst, of_z, to_z}
+use Rattle.std.proofs.Common.{◌≡◌, ◌∙◌, ◌<◌, ◌+ℤ◌, ◌*ℤ◌, ◌++◌, ◌∷◌, [], ℤ, List, get_or, length, lit<, pos, ap, arith, of_z, to_z}
 use Rattle.gf_form.proofs.FlatRows.{all_added, none_added, one_added}
 use Rattle.std.specs.Int.{w128}
 use Rattle.std.specs.List.{AllByRecursion}

@@ -1,5 +1,5 @@
 use Rattle.std.proofs.Common.{◌≡◌, ◌+◌, ◌-◌, ◌<◌, ◌∙◌, ◌++◌, [], Err, List, ℕ, ℤ, ap, arith, get_or, length}
-use Rattle.std.proofs.Common.{subst, sym}
+use Rattle.std.proofs.Common.{subst}
 use Rattle.gf_fraction.specs.Ratio.{Ratio}
 use Rattle.gf_form.specs.Picked.{numbers_in, picked_profiles}
 use Rattle.gf_form.specs.Refusal.{HasValues, IsFirstWithout}
