@@ -76,8 +76,13 @@ module _ {K : Type 0} (same : K → K → Bool) (equality : IsEquality same) whe
           (ap (λ l. a ∷ l) (append-nil (filter (λ x. not (same a x)) us)))
       by us false e true f = rw (e, any_of_filter a k e us, f) refl
       by us false e false f =
-          rw (e, any_of_filter a k e us, f, filter-append (λ x. not (same a x)) us (k ∷ []),
-          same_sym a k false e) refl
+          rw (
+            e,
+            any_of_filter a k e us,
+            f,
+            filter-append (λ x. not (same a x)) us (k ∷ []),
+            same_sym a k false e,
+          ) refl
 
   -- ---- the place of a key
 

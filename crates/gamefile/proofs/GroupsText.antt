@@ -118,8 +118,13 @@ status_of_none groups text is empty = by (first_named groups)
         × (rest : List (List (List ℕ))) × (filter has_two groups ≡ (name ∷ names) ∷ rest)))
         → 0 ≡ groups_status (filter has_two groups)
     by (inl none) = sym (ap (λ (gs : List (List (List ℕ))). groups_status gs) none)
-    by (inr some) = absurd (omega (arith, empty, ap (λ (l : List ℕ). length l) is,
-        ap (λ (gs : List (List (List ℕ))). length (groups_text gs)) some.3, long some.0 some.1 some.2))
+    by (inr some) = absurd (omega (
+      arith,
+      empty,
+      ap (λ (l : List ℕ). length l) is,
+      ap (λ (gs : List (List (List ℕ))). length (groups_text gs)) some.3,
+      long some.0 some.1 some.2,
+    ))
 
 pub status_of_some : (groups : List (List (List ℕ))) (text : List ℕ)
     → text ≡ groups_text (filter has_two groups) → 0 < length text
@@ -129,6 +134,10 @@ status_of_some groups text is some = by (first_named groups)
     by : ((filter has_two groups ≡ []) ⊎ ((name : List ℕ) × (names : List (List ℕ))
         × (rest : List (List (List ℕ))) × (filter has_two groups ≡ (name ∷ names) ∷ rest)))
         → 1 ≡ groups_status (filter has_two groups)
-    by (inl none) = absurd (omega (arith, some, ap (λ (l : List ℕ). length l) is,
-        ap (λ (gs : List (List (List ℕ))). length (groups_text gs)) none))
+    by (inl none) = absurd (omega (
+      arith,
+      some,
+      ap (λ (l : List ℕ). length l) is,
+      ap (λ (gs : List (List (List ℕ))). length (groups_text gs)) none,
+    ))
     by (inr h) = sym (ap (λ (gs : List (List (List ℕ))). groups_status gs) h.3)

@@ -22,8 +22,8 @@ impl<'a> Model for Groups<'a> {
     ghost Value = { KeptNames };
 
     ghost view = { λ groups. record {
-        hashes = groups.hashes.keys;
-        names = map (λ group. map (λ name. name.now) group.items) groups.names.items;
+      hashes = groups.hashes.keys;
+      names = map (λ group. map (λ name. name.now) group.items) groups.names.items;
     } };
 }
 

@@ -32,6 +32,10 @@ returns c = λ files is.
     c.loop-group.invariant
     ∙ ap (λ (gs : List (List (List ℕ))). groups_text (filter has_two gs))
     (take_all c.loop-group.group-index c.args.self.now.names
-    (omega (arith, c.loop-group-test.false, ap (λ (l : List (List (List ℕ))). length l) are,
-    length-map c.deref-group-items.result.now (λ group. map (λ name. name.now) group.items)))
+    (omega (
+      arith,
+      c.loop-group-test.false,
+      ap (λ (l : List (List (List ℕ))). length l) are,
+      length-map c.deref-group-items.result.now (λ group. map (λ name. name.now) group.items),
+    ))
     ∙ is.names)
