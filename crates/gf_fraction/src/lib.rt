@@ -4,7 +4,7 @@
 //! `M` in size, where `M` is `2^127 - 1`. Arithmetic is exact or answers `Overflow`. No call but
 //! `Fraction::write` takes memory.
 //!
-//! Tests of these calls stand in gf_canon: a crate with tests is proved a second time for them.
+//! Tests of these calls stand in gamefile: a crate with tests is proved a second time for them.
 #![tactic(auto)]
 
 mod arithmetic;

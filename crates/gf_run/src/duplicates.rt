@@ -91,7 +91,7 @@ fn write_groups<W: Sink, E: Sink>(
 /// in one group exactly if their hashes are equal; groups of one file are left out.
 ///
 /// The files are read in their order, each one freed before the next one. One that is refused, or
-/// cannot be opened or read, is in no group: its fault is told on standard error behind its name, and
+/// cannot be opened or read, is in no group: its fault is told on standard error after its name, and
 /// the others go on. A group has a line for each name, and an empty line stands between two groups,
 /// which are in the order of their first files. The status is the worst of all: 1 if there is a group,
 /// and above it those of the faults. If memory runs out, E19 is told, and nothing is written.

@@ -29,7 +29,7 @@ pub(crate) fn name_of(input: &Input) -> &str
     }
 }
 
-/// The line of a fault behind the name of its file.
+/// The line of a fault after the name of its file.
 fn named_line(alloc: Global, name: &str, fault: &RunFault) -> Result<Vec<u8>, AllocError>
     ensures { IfOk result (λ line. line.items ≡ named_line name.now fault.now) }
 {
@@ -39,7 +39,7 @@ fn named_line(alloc: Global, name: &str, fault: &RunFault) -> Result<Vec<u8>, Al
     Ok(line)
 }
 
-/// Tells the fault of a file behind its name, and gives its status.
+/// Tells the fault of a file after its name, and gives its status.
 pub(crate) fn tell_of<E: Sink>(alloc: Global, name: &str, fault: &RunFault, errors: &mut E) -> u8
     ensures { IsToldOf E.contents E.count E.push_gives name.now fault.now result
         errors.old errors.new }
@@ -112,7 +112,7 @@ fn hash_next<I: Inputs, W: Sink, E: Sink>(
 /// those that the files have, 0 if all are hashed.
 ///
 /// Each file is opened, read and freed before the next one. A file that is refused, or cannot be opened
-/// or read, has no line; its fault is told on standard error behind its name, and the others go on. If
+/// or read, has no line; its fault is told on standard error after its name, and the others go on. If
 /// the output fails, E21 is told, and the run ends.
 pub fn run_hashes<I: Inputs, W: Sink, E: Sink>(
     alloc: Global,

@@ -4,7 +4,7 @@
 //! The rules are those of the Gambit documentation, "Game representation formats", and where that
 //! text leaves a choice, of this project's profile.
 //!
-//! Tests of these calls stand in gf_canon: a crate with tests is proved a second time for them.
+//! Tests of these calls stand in gamefile: a crate with tests is proved a second time for them.
 #![tactic(auto)]
 
 mod byte;
