@@ -28,7 +28,7 @@ use std::marker::Model;
 use std::slice;
 
 /// A node of 32 bytes.
-#[derive(Clone, Copy, Debug)]
+#[derive(Clone, Copy)]
 pub(crate) struct Stored<'a> {
     pub(crate) name: Label<'a>,
     /// How many nodes its subtree has, itself counted.
@@ -141,7 +141,7 @@ pub(crate) fn place(position: u32) -> Option<u32>
 }
 
 /// Nodes in prefix order, the sizes of whose subtrees are not known yet.
-#[derive(Debug, Drop)]
+#[derive(Drop)]
 pub(crate) struct NodeList<'a> {
     nodes: Vec<Stored<'a>>,
 }

@@ -6,7 +6,7 @@ ghost use Rattle.gf_tree.specs.Steps.{is_step};
 use gf_token::Label;
 
 /// What happens at a node. Numbers of sets are those of the file.
-#[derive(Clone, Copy, Debug, PartialEq, Eq)]
+#[derive(Clone, Copy, PartialEq, Eq)]
 pub enum Step {
     /// Chance moves, at this set of chance.
     Chance { set: u32 },
@@ -18,7 +18,7 @@ pub enum Step {
 
 /// A node: its name, what happens there, and the number of its outcome, or 0 where it has none. No
 /// step tells of a player 0: chance has a step of its own.
-#[derive(Clone, Copy, Debug, PartialEq, Eq)]
+#[derive(Clone, Copy, PartialEq, Eq)]
 pub struct Node<'a> {
     pub name: Label<'a>,
     pub step: Step,

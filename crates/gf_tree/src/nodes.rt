@@ -7,7 +7,7 @@ use crate::node::Node;
 
 /// An iterator over the nodes of a game in prefix order: a node, then the subtrees of its children
 /// from the first to the last.
-#[derive(Clone, Drop)]
+#[derive(Drop)]
 pub struct Nodes<'g, 'a> {
     game: &'g Game<'a>,
     /// The place of the node that comes next.

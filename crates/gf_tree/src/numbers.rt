@@ -6,10 +6,11 @@ ghost use Rattle.std.specs.Map.{lookup};
 ghost use Rattle.indexmap.specs.IndexMap.{get};
 ghost use Rattle.gf_token.specs.Positions.{at_position};
 ghost use Rattle.gf_tree.specs.Numbers.{pairs_in};
+ghost use Rattle.gf_tree.specs.SmallNumbers.{placed_pairs};
 
 use crate::indexing::Indexing;
 use crate::seeded::Seeded;
-use crate::small_numbers::SmallNumbers;
+use crate::small_numbers::{Placed, SmallNumbers};
 use indexmap::IndexMap;
 use std::alloc::{AllocError, Global};
 use std::marker::Model;
@@ -28,11 +29,11 @@ pub(crate) fn next_place(len: usize) -> Result<u32, AllocError>
 type Places = IndexMap<u32, u32, Seeded>;
 
 /// Numbers in order of first use. The first ones are small, and found by a table; those from the
-/// first other one on are found by a map.
+/// first other one on are found by a map, which few need.
 #[derive(Drop)]
 struct Index {
     small: SmallNumbers,
-    others: Option<Places>,
+    others: Option<Box<Places>>,
 }
 
 impl Index {
@@ -44,6 +45,24 @@ impl Index {
             small: SmallNumbers::new(alloc),
             others: None,
         }
+    }
+
+    /// These two numbers.
+    fn of(
+        alloc: Global,
+        indexing: &mut Indexing<'_>,
+        first: Placed,
+        second: Placed,
+    ) -> Result<Box<Index>, AllocError>
+        requires absent { lookup (nat_eq second.number) (placed_pairs (first ∷ [])) ≡ None }
+        requires few { (first.place + 1 < 2 ^ 32) × (second.place + 1 < 2 ^ 32) }
+        ensures { IfOk result (λ index. pairs_in index.value
+            ≡ placed_pairs (first ∷ second ∷ [])) }
+    {
+        let mut index = Index::new(alloc);
+        index.insert(alloc, indexing, first.number, first.place)?;
+        index.insert(alloc, indexing, second.number, second.place)?;
+        Ok(Box::new(alloc, index)?)
     }
 
     /// The place that a number has.
@@ -118,28 +137,37 @@ impl Index {
         }
         let mut others = IndexMap::with_hasher(alloc, indexing.hashers());
         add(&mut others, number, place)?;
-        self.others = Some(others);
+        self.others = Some(Box::new(alloc, others)?);
         Ok(())
     }
+}
+
+/// How numbers are kept: one alone needs no memory of its own.
+#[derive(Drop)]
+enum Held {
+    Nothing,
+    One(Placed),
+    Many(Box<Index>),
 }
 
 /// The numbers of a player's sets, or those of outcomes, in order of first use, each with the place
 /// of its set or outcome.
 ///
-/// There is an index only where there is a number: many players have no sets, and each of these
-/// costs a pointer.
+/// Many players have no sets, or one: each of these takes 16 bytes here.
 #[derive(Drop)]
 pub(crate) struct Numbers {
-    index: Option<Box<Index>>,
+    held: Held,
 }
 
 impl Model for Numbers {
     ghost use Rattle.std.specs.Prelude.{ℕ, List};
-    ghost use Rattle.gf_tree.specs.Numbers.{pairs_of};
+    ghost use Rattle.gf_tree.specs.Numbers.{pairs_of, IsHeld};
 
     ghost Value = { List (ℕ × ℕ) };
 
-    ghost view = { λ n. pairs_of n.index };
+    ghost view = { λ n. pairs_of n.held };
+
+    ghost invariant = { λ n. IsHeld n.held };
 }
 
 impl Numbers {
@@ -147,7 +175,9 @@ impl Numbers {
     pub(crate) fn new() -> Numbers
         ensures { result ≡ [] }
     {
-        Numbers { index: None }
+        Numbers {
+            held: Held::Nothing,
+        }
     }
 
     /// The place that a number has.
@@ -155,9 +185,16 @@ impl Numbers {
     pub(crate) fn place(&self, number: u32) -> Option<u32>
         ensures { result ≡ lookup (nat_eq number) self.now }
     {
-        match &self.index {
-            Some(index) => index.place(number),
-            None => None,
+        match &self.held {
+            Held::Nothing => None,
+            Held::One(one) => {
+                if number == one.number {
+                    Some(one.place)
+                } else {
+                    None
+                }
+            }
+            Held::Many(index) => index.place(number),
         }
     }
 
@@ -165,9 +202,10 @@ impl Numbers {
     pub(crate) fn len(&self) -> usize
         ensures { result ≡ length self.now }
     {
-        match &self.index {
-            Some(index) => index.len(),
-            None => 0,
+        match &self.held {
+            Held::Nothing => 0,
+            Held::One(_) => 1,
+            Held::Many(index) => index.len(),
         }
     }
 
@@ -176,20 +214,22 @@ impl Numbers {
     pub(crate) fn number(&self, i: usize) -> Option<u32>
         ensures { result ≡ at_position (map (λ p. p.0) self.now) i }
     {
-        let Some(index) = &self.index else {
-            return None;
-        };
         if i == 0 {
             return None;
         }
-        index.number(i - 1)
+        match &self.held {
+            Held::Nothing => None,
+            Held::One(one) => { if i == 1 { Some(one.number) } else { None } }
+            Held::Many(index) => index.number(i - 1),
+        }
     }
 
     /// The place of the last number.
     pub(crate) fn last_place(&self) -> Option<u32> {
-        match &self.index {
-            Some(index) => index.last_place(),
-            None => None,
+        match &self.held {
+            Held::Nothing => None,
+            Held::One(one) => Some(one.place),
+            Held::Many(index) => index.last_place(),
         }
     }
 
@@ -207,14 +247,17 @@ impl Numbers {
         ensures ok { OnOk result (self.new ≡ self.old ++ (number, place) ∷ []) }
         ensures err { OnErr result (self.new ≡ self.old) }
     {
-        match &mut self.index {
-            Some(index) => index.insert(alloc, indexing, number, place),
-            None => {
-                let mut index = Index::new(alloc);
-                index.insert(alloc, indexing, number, place)?;
-                self.index = Some(Box::new(alloc, index)?);
+        match &mut self.held {
+            Held::Nothing => {
+                self.held = Held::One(Placed { number, place });
                 Ok(())
             }
+            Held::One(one) => {
+                let index = Index::of(alloc, indexing, *one, Placed { number, place })?;
+                self.held = Held::Many(index);
+                Ok(())
+            }
+            Held::Many(index) => index.insert(alloc, indexing, number, place),
         }
     }
 }

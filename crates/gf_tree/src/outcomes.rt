@@ -181,23 +181,20 @@ impl<'a> Outcomes<'a> {
         ensures few { IfOk result (λ place. place + 1 < 2 ^ 32) }
         ensures err { OnErr result (self.new ≡ self.old) }
     {
-        let place = next_place(self.entries.len())?;
         let end = self.payoffs.len();
+        let place = next_place(self.entries.len())?;
         let Ok(count) = u32::try_from(end - self.from) else {
             return Err(AllocError);
         };
         self.entries.reserve(1)?;
         self.numbers
             .insert(self.alloc, &mut self.indexing, number, place)?;
-        let entry = Entry {
+        self.entries.push_reserved(Entry {
             number,
             count,
             name,
             start: self.from,
-        };
-        if self.entries.push(entry).is_err() {
-            return Err(AllocError);
-        }
+        });
         self.from = end;
         Ok(place)
     }

@@ -6,7 +6,7 @@ use std::alloc::AllocError;
 
 /// What stands before the nodes of a file: its title, its comment, which is empty where there is
 /// none, and the names of the players.
-#[derive(Clone, Copy, Debug)]
+#[derive(Clone, Copy)]
 pub struct ToldHeading<'n, 'a> {
     pub title: Label<'a>,
     pub comment: Label<'a>,

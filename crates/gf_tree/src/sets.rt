@@ -350,9 +350,8 @@ impl<'a> Sets<'a> {
             name,
             start,
         };
-        if self.entries.push(entry).is_err() || self.counts.push(count).is_err() {
-            return Err(AllocError);
-        }
+        self.entries.push_reserved(entry);
+        self.counts.push_reserved(count);
         self.from = self.from.max(entry.end());
         self.actions.truncate(self.from);
         Ok(place)

@@ -16,9 +16,9 @@ const AHEAD: usize = 2;
 
 /// A number, with the place of what it names.
 #[derive(Clone, Copy)]
-struct Placed {
-    number: u32,
-    place: u32,
+pub(crate) struct Placed {
+    pub(crate) number: u32,
+    pub(crate) place: u32,
 }
 
 /// Numbers in order of first use, each with its place.

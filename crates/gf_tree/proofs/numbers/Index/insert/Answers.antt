@@ -1,4 +1,6 @@
-use Rattle.std.proofs.Common.{nat_eq, ap, sym, ◌∙◌}
+use Rattle.std.proofs.Common.{ℕ, nat_eq, ap, sym, ◌∙◌}
+use Rattle.indexmap.specs.IndexMap.{IndexMap}
+use Rattle.gf_tree.specs.declared.seeded.Seeded.{Seeded}
 use Rattle.std.specs.Map.{lookup}
 use Rattle.gf_tree.proofs.SmallPlaces.{absent_behind}
 use Rattle.gf_tree.specs.Numbers.{entries_of}
@@ -7,6 +9,7 @@ use Rattle.gf_tree.proofs.numbers.Index.insert.Goals as goal
 pub add-requires : goal.add-requires
 add-requires c =
     let test = nat_eq c.args.number in
-    ap (λ others. lookup test (entries_of others)) (sym c.in-Some.is)
+    ap (λ (m : IndexMap ℕ ℕ Seeded). lookup test m.entries) c.deref_mut.ensures.value
+    ∙ ap (λ others. lookup test (entries_of others)) (sym c.in-Some.is)
     ∙ absent_behind test c.args.self.now.small (entries_of c.args.self.now.others)
     c.requires.absent

@@ -1,4 +1,6 @@
-use Rattle.std.proofs.Common.{nat_eq, sym, ap, ◌∙◌}
+use Rattle.std.proofs.Common.{ℕ, nat_eq, sym, ap, ◌∙◌}
+use Rattle.indexmap.specs.IndexMap.{IndexMap}
+use Rattle.gf_tree.specs.declared.seeded.Seeded.{Seeded}
 use Rattle.std.specs.Map.{lookup}
 use Rattle.gf_tree.proofs.SmallPlaces.{found_before, found_behind}
 use Rattle.gf_tree.specs.Numbers.{entries_of}
@@ -13,6 +15,7 @@ pub returns-in-Some-others : goal.returns-in-Some-others
 returns-in-Some-others c =
     let test = nat_eq c.args.number in
     c.copied.ensures ∙ c.get.ensures.value
+    ∙ ap (λ (m : IndexMap ℕ ℕ Seeded). lookup test m.entries) c.deref.ensures
     ∙ ap (λ others. lookup test (entries_of others)) (sym c.in-Some-others.is)
     ∙ sym (found_behind test c.args.self.now.small (entries_of c.args.self.now.others)
     (sym c.in_default.ensures))

@@ -38,11 +38,11 @@ invariant_of-self-2 c =
       are_stored s.players.items s.entries.items s.actions.items s.from c.self.invariant.0 new
           c.max-self-inside.result
           (subst Holds c.deref-3.ensures.value c.in_ok-start.ensures) (search rules)
-          c.note.new.players.items c.push.new.self.items c.truncate.new.self.items c.in_ok-place.place
+          c.note.new.players.items c.push_reserved.new.self.items c.truncate.new.self.items c.in_ok-place.place
           (search rules) (search rules) (omega (arith, c.in_ok-place.ensures.ok))
           c.note.ensures.others c.in_ok-among.ensures.own c.in_ok-among.ensures.count
           (omega (arith, c.in_ok-place.ensures.ok)),
-      counts_then s.entries.items c.push.new.self.items s.counts.items c.push-else-is_err.new.self.items
+      counts_then s.entries.items c.push_reserved.new.self.items s.counts.items c.push_reserved-2.new.self.items
           new c.self.invariant.1 (search rules) (search rules),
     )
 
@@ -61,5 +61,5 @@ returns-clause-ok c =
     view_then s.players.items s.entries.items s.actions.items s.from c.self.invariant.0 new
     c.max-self-inside.result
     (subst Holds c.deref-3.ensures.value c.in_ok-start.ensures) (search rules)
-    c.args.self.now c.self.view_is c.push.new.self.items (search rules)
+    c.args.self.now c.self.view_is c.push_reserved.new.self.items (search rules)
     c.truncate.new.self.items (search rules)
