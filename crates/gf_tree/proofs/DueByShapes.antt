@@ -19,29 +19,30 @@ use Rattle.gf_tree.specs.FiniteMap.{description_at}
 use Rattle.gf_tree.specs.Front.{BehindSetNumber, EndsInNode, IsExtensiveFile, IsNewOutcome}
 use Rattle.gf_tree.specs.Front.{IsSetKnown, ToOutcomeNumber}
 use Rattle.gf_tree.specs.RowPlaces.{BehindPayoff, BehindSet, FileFront, ToPayoff}
-use Rattle.gf_tree.specs.Rows.{Obeys, Row, a_letter, a_payoff, a_player, a_probability, a_set}
+use Rattle.gf_tree.specs.Rows.{Row, a_letter, a_payoff, a_player, a_probability, a_set}
 use Rattle.gf_tree.specs.Rows.{a_word, an_outcome, or_comma, or_name, this_number}
 use Rattle.gf_tree.specs.Sentence.{IsDescription, IsInformationSet}
+use Rattle.gf_tree.proofs.CutPlaces.{payoff_place}
 use Rattle.gf_tree.proofs.DueActions.{known_probability, new_probability}
-use Rattle.gf_tree.proofs.DueByRows.{of_row, told_somewhere}
 use Rattle.gf_tree.proofs.DueHeading.{format, letter, version}
-use Rattle.gf_tree.proofs.DueLast.{payoff_place}
 use Rattle.gf_tree.proofs.DueNodes.{Parts, known_set, parts, player, set_number_due}
 use Rattle.gf_tree.proofs.DueOutcomes.{outcome_number_due}
 use Rattle.gf_tree.proofs.DuePayoffs.{after_known_payoff, after_new_payoff, known_payoff}
 use Rattle.gf_tree.proofs.DuePayoffs.{new_payoff}
+use Rattle.gf_tree.proofs.DueRows.{Stands}
 use Rattle.gf_tree.proofs.DueSuited.{node_only, one_name}
-use Rattle.gf_tree.proofs.FrontCodes.{begins_payoffs, begins_probability, none_or_some}
-use Rattle.gf_tree.proofs.FrontDue.{has_sum}
+use Rattle.gf_tree.proofs.FrontCodes.{begins_payoffs, begins_probability, known_outcome, none_or_some}
 use Rattle.gf_tree.proofs.FrontLists.{to_probability}
-use Rattle.gf_tree.proofs.FrontOutcomeSteps.{known_outcome}
 use Rattle.gf_tree.proofs.FrontPayoffs.{AtKnownPayoff, in_payoffs}
+use Rattle.gf_tree.proofs.FrontShares.{has_sum}
+use Rattle.gf_tree.proofs.NodeReasons.{told_somewhere}
+use Rattle.gf_tree.proofs.RowReasons.{of_row}
 
 abbrev HasRole : List Token → What → Type 0
 HasRole before w = (r : Role) × (what_of r ≡ w) × OnlySuitedFollow before r
 
 -- the role of a row
-by_row : (before : List Token) (row : Row) (r : Role) → Obeys before row
+by_row : (before : List Token) (row : Row) (r : Role) → Stands before row
     → ((b : List ℕ) → (row.bare b → Suits r b) × (Suits r b → row.bare b))
     → HasRole before (what_of r)
 by_row before row r o same = (r, refl, of_row before row r o same)
@@ -185,14 +186,14 @@ pub follow : (before : List Token) (w : What) → Begins IsExtensiveFile before 
     → IsDue before w → (r : Role) × (what_of r ≡ w) × OnlySuitedFollow before r
 follow before what.Format begins by_role e =
     by_row before (a_word what.Format (codes "EFG")) Role.Format
-    (subst (λ (ts : List Token). Obeys ts (a_word what.Format (codes "EFG"))) (sym e) format)
+    (subst (λ (ts : List Token). Stands ts (a_word what.Format (codes "EFG"))) (sym e) format)
     (λ x. (λ s. s, λ s. s))
 follow before what.Version begins by_role e =
     by_row before (a_word what.Version (codes "2")) Role.Version
-    (subst (λ (ts : List Token). Obeys ts (a_word what.Version (codes "2"))) (sym e) version)
+    (subst (λ (ts : List Token). Stands ts (a_word what.Version (codes "2"))) (sym e) version)
     (λ x. (λ s. s, λ s. s))
 follow before what.Letter begins by_role e = by_row before a_letter Role.Letter
-    (subst (λ (ts : List Token). Obeys ts a_letter) (sym e) letter) (λ x. (λ s. s, λ s. s))
+    (subst (λ (ts : List Token). Stands ts a_letter) (sym e) letter) (λ x. (λ s. s, λ s. s))
 follow before what.Number begins by_role h = number_due before begins h
 follow before what.Index begins by_role h = index_due before begins h
 follow before what.Node begins by_role m =

@@ -22,20 +22,19 @@ use Rattle.gf_tree.specs.Machine.Position.{AfterKnownPayoff}
 use Rattle.gf_tree.specs.ReadGame.{run_tokens}
 use Rattle.gf_tree.specs.RowPlaces.{BehindComma, BehindNode, BehindOpening, BehindPayoff}
 use Rattle.gf_tree.specs.RowPlaces.{BehindPayoffs, FileFront, ToPayoff}
-use Rattle.gf_tree.specs.Rows.{Obeys, Row, a_closing, a_node, a_payoff, an_end, or_comma}
+use Rattle.gf_tree.specs.Rows.{Row, a_closing, a_node, a_payoff, an_end, or_comma}
 use Rattle.gf_tree.specs.Rows.{this_number}
+use Rattle.gf_tree.proofs.Cuts.{others_are}
 use Rattle.gf_tree.proofs.DueActions.{same_answers}
-use Rattle.gf_tree.proofs.DueNodes.{Parts, obeys_in, parts}
+use Rattle.gf_tree.proofs.DueLaws.{spells_fault}
+use Rattle.gf_tree.proofs.DueNodes.{Parts, stands_in, parts}
 use Rattle.gf_tree.proofs.DueOutcomes.{GoesOnBehind, after_zero, begins_name, behind_name}
 use Rattle.gf_tree.proofs.DueOutcomes.{behind_node}
-use Rattle.gf_tree.proofs.DueRows.{Answers, EndLaw, Law}
+use Rattle.gf_tree.proofs.DueRows.{Answers, EndLaw, Law, Stands, accepted}
 use Rattle.gf_tree.proofs.FrontCodes.{BeginsBare, begins_on, begins_payoffs, none_or_some}
-use Rattle.gf_tree.proofs.FrontCodes.{one_description}
-use Rattle.gf_tree.proofs.FrontOutcomeSteps.{known_outcome}
+use Rattle.gf_tree.proofs.FrontCodes.{known_outcome, one_description}
 use Rattle.gf_tree.proofs.FrontPayoffs.{AtKnownPayoff, AtNewPayoff, in_payoffs, known_next}
 use Rattle.gf_tree.proofs.FrontPayoffs.{some_left}
-use Rattle.gf_tree.proofs.FrontReasons.{spells_fault}
-use Rattle.gf_tree.proofs.FrontRefusals.{others_are}
 use Rattle.gf_tree.proofs.FrontRuns.{GoesOn, goes_before}
 use Rattle.gf_tree.proofs.Groups.{regroup}
 use Rattle.gf_tree.proofs.RunPayoffs.{known_at, known_comma, known_step, new_at, new_comma, new_step}
@@ -268,26 +267,26 @@ known_closing_end false c = (λ a. a, refl)
 module _ (f : FileFront) (s : Parts f) (n : ℕ) (payoffs : List Ratio) (may : Bool)
     (h : InEither s.content f.front n payoffs may) where
   new_next : IsNewOutcome f.nodes n → length payoffs < length f.players
-      → Obeys f.before (with_comma may a_payoff)
+      → Stands f.before (with_comma may a_payoff)
   new_next new fewer = elim h [
     | inl k ↦ by k k.left refl
     | inr k ↦ absurd (new k.known ((s.outcomes n k.known).1 k.is_known))
   ]
     where
       by : (k : InNew s.content f.front n payoffs may) (left : ℕ) → k.left ≡ left
-          → Obeys f.before (with_comma may a_payoff)
+          → Stands f.before (with_comma may a_payoff)
       by k zero e =
           let count = k.count in
           let players = ap length s.same_players in
           absurd (omega (arith, e, count, players, fewer))
-      by k (suc left) e = obeys_in f s (new_at may k.b n k.outcome (suc left)) k.content
+      by k (suc left) e = stands_in f s (new_at may k.b n k.outcome (suc left)) k.content
           (with_comma may a_payoff) (λ us. k.answers us
           ∙ ap (λ (m : ℕ). run_tokens (new_at may k.b n k.outcome m) k.content us) e)
           (new_law may k.content k.b n k.outcome left) (new_end may k.content k.b n k.outcome left)
 
   known_next_is : (outcome : Outcome) (p : Ratio) (others : List Ratio)
       → KnowsOutcome f.nodes n outcome → outcome.payoffs ≡ payoffs ++ p ∷ others
-      → Obeys f.before (with_comma may (this_number p))
+      → Stands f.before (with_comma may (this_number p))
   known_next_is outcome p others knows more =
       let at_key = (s.outcomes n outcome).0 knows in
       elim h [
@@ -299,13 +298,13 @@ module _ (f : FileFront) (s : Parts f) (n : ℕ) (payoffs : List Ratio) (may : B
             k.is_known at_key in
             let left = others_are payoffs k.others (p ∷ others)
             (sym k.parts ∙ ap (λ (o : Outcome). o.payoffs) same ∙ more) in
-            obeys_in f s (known_at may (p ∷ others)) k.content (with_comma may (this_number p))
+            stands_in f s (known_at may (p ∷ others)) k.content (with_comma may (this_number p))
             (λ us. k.answers us
             ∙ ap (λ (ps : List Ratio). run_tokens (known_at may ps) k.content us) left)
             (known_law may k.content p others) (known_end may k.content p others)
       ]
 
-  none_left : length payoffs ≡ length f.players → Obeys f.before (with_comma may a_closing)
+  none_left : length payoffs ≡ length f.players → Stands f.before (with_comma may a_closing)
   none_left all = elim h [
     | inl k ↦ new_by k k.left refl
     | inr k ↦ known_by k k.others refl
@@ -315,8 +314,8 @@ module _ (f : FileFront) (s : Parts f) (n : ℕ) (payoffs : List Ratio) (may : B
       players = ap length s.same_players
 
       new_by : (k : InNew s.content f.front n payoffs may) (left : ℕ) → k.left ≡ left
-          → Obeys f.before (with_comma may a_closing)
-      new_by k zero e = obeys_in f s (new_at may k.b n k.outcome 0) k.content
+          → Stands f.before (with_comma may a_closing)
+      new_by k zero e = stands_in f s (new_at may k.b n k.outcome 0) k.content
           (with_comma may a_closing) (λ us. k.answers us
           ∙ ap (λ (m : ℕ). run_tokens (new_at may k.b n k.outcome m) k.content us) e)
           (new_closing may k.content k.b n k.outcome)
@@ -325,8 +324,8 @@ module _ (f : FileFront) (s : Parts f) (n : ℕ) (payoffs : List Ratio) (may : B
           let count = k.count in absurd (omega (arith, e, count, players, all))
 
       known_by : (k : InKnown s.content f.front n payoffs may) (others : List Ratio)
-          → k.others ≡ others → Obeys f.before (with_comma may a_closing)
-      known_by k [] e = obeys_in f s (known_at may []) k.content (with_comma may a_closing)
+          → k.others ≡ others → Stands f.before (with_comma may a_closing)
+      known_by k [] e = stands_in f s (known_at may []) k.content (with_comma may a_closing)
           (λ us. k.answers us
           ∙ ap (λ (ps : List Ratio). run_tokens (known_at may ps) k.content us) e)
           (known_closing may k.content) (known_closing_end may k.content)
@@ -345,28 +344,28 @@ behind_parts : (f : FileFront) (n : ℕ) (payoffs : List Ratio) → BehindPayoff
 behind_parts f n payoffs h = parts f (begins_payoff f.front n payoffs h)
 
 pub new_payoff : (f : FileFront) (n : ℕ) (payoffs : List Ratio) → ToPayoff f.front n payoffs
-    → IsNewOutcome f.nodes n → length payoffs < length f.players → Obeys f.before a_payoff
+    → IsNewOutcome f.nodes n → length payoffs < length f.players → Stands f.before a_payoff
 new_payoff f n payoffs h =
     let s = to_parts f n payoffs h in
     new_next f s n payoffs false (to_payoff f.front n s.content payoffs h s.goes_on)
 
 pub known_payoff : (f : FileFront) (n : ℕ) (payoffs : List Ratio) (outcome : Outcome) (p : Ratio)
     (others : List Ratio) → ToPayoff f.front n payoffs → KnowsOutcome f.nodes n outcome
-    → outcome.payoffs ≡ payoffs ++ p ∷ others → Obeys f.before (this_number p)
+    → outcome.payoffs ≡ payoffs ++ p ∷ others → Stands f.before (this_number p)
 known_payoff f n payoffs outcome p others h =
     let s = to_parts f n payoffs h in
     known_next_is f s n payoffs false (to_payoff f.front n s.content payoffs h s.goes_on) outcome p
     others
 
 pub no_payoff : (f : FileFront) (n : ℕ) (payoffs : List Ratio) → ToPayoff f.front n payoffs
-    → length payoffs ≡ length f.players → Obeys f.before a_closing
+    → length payoffs ≡ length f.players → Stands f.before a_closing
 no_payoff f n payoffs h =
     let s = to_parts f n payoffs h in
     none_left f s n payoffs false (to_payoff f.front n s.content payoffs h s.goes_on)
 
 pub after_new_payoff : (f : FileFront) (n : ℕ) (payoffs : List Ratio)
     → BehindPayoff f.front n payoffs → IsNewOutcome f.nodes n → length payoffs < length f.players
-    → Obeys f.before (or_comma a_payoff)
+    → Stands f.before (or_comma a_payoff)
 after_new_payoff f n payoffs h =
     let s = behind_parts f n payoffs h in
     new_next f s n payoffs true (paid_on f.front n s.content payoffs h s.goes_on)
@@ -374,7 +373,7 @@ after_new_payoff f n payoffs h =
 pub after_known_payoff : (f : FileFront) (n : ℕ) (payoffs : List Ratio) (outcome : Outcome)
     (p : Ratio) (others : List Ratio) → BehindPayoff f.front n payoffs
     → KnowsOutcome f.nodes n outcome → outcome.payoffs ≡ payoffs ++ p ∷ others
-    → Obeys f.before (or_comma (this_number p))
+    → Stands f.before (or_comma (this_number p))
 after_known_payoff f n payoffs outcome p others h =
     let s = behind_parts f n payoffs h in
     known_next_is f s n payoffs true (paid_on f.front n s.content payoffs h s.goes_on) outcome p
@@ -382,7 +381,7 @@ after_known_payoff f n payoffs outcome p others h =
 
 pub after_last_payoff : (f : FileFront) (n : ℕ) (payoffs : List Ratio)
     → BehindPayoff f.front n payoffs → length payoffs ≡ length f.players
-    → Obeys f.before (or_comma a_closing)
+    → Stands f.before (or_comma a_closing)
 after_last_payoff f n payoffs h =
     let s = behind_parts f n payoffs h in
     none_left f s n payoffs true (paid_on f.front n s.content payoffs h s.goes_on)
@@ -427,20 +426,20 @@ after_payoffs f h =
 
 -- ---- behind a node
 
-either : (f : FileFront) → BehindNode f.front → GoesOnBehind f
+pub either : (f : FileFront) → BehindNode f.front → GoesOnBehind f
 either f (inl h) = after_zero f h
 either f (inr h) = after_payoffs f h
 
 pub nodes_due : (f : FileFront) → BehindNode f.front → ¬ (IsExtensiveFile f.before)
-    → Obeys f.before (a_node (length f.players))
+    → Stands f.before (a_node (length f.players))
 nodes_due f h more = elim (either f h) [
-  | inl k ↦ absurd (more ((k.accepts []).1 tt))
+  | inl k ↦ absurd (more ((accepted f.before an_end k []).1 tt))
   | inr k ↦ k
 ]
 
 pub after_last_node : (f : FileFront) → BehindNode f.front → IsExtensiveFile f.before
-    → Obeys f.before an_end
+    → Stands f.before an_end
 after_last_node f h file = elim (either f h) [
   | inl k ↦ k
-  | inr k ↦ absurd ((k.accepts []).0 file)
+  | inr k ↦ absurd ((accepted f.before (a_node (length f.players)) k []).0 file)
 ]

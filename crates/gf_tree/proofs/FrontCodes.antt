@@ -21,7 +21,7 @@ use Rattle.gf_token.specs.NumberWhy.{why_of}
 use Rattle.gf_token.specs.declared.fault.Why.{Why}
 use Rattle.gf_token.specs.declared.fault.Why.TheVariants.{Expected, BadIndex}
 use Rattle.gf_token.proofs.ReadingIndices.{count_is, index_is}
-use Rattle.gf_tree.specs.Description.{InformationSet, Outcome, SetKey, same_set, set_of}
+use Rattle.gf_tree.specs.Description.{InformationSet, IsOutcome, Outcome, SetKey, same_set, set_of}
 use Rattle.gf_tree.specs.Due.{PayoffIsDue, ProbabilityIsDue}
 use Rattle.gf_tree.specs.FiniteMap.{description_at}
 use Rattle.gf_tree.specs.FileTree.{Use, FileNode}
@@ -38,9 +38,10 @@ use Rattle.gf_tree.proofs.FrontPayoffs.{in_payoffs}
 use Rattle.gf_tree.proofs.FrontLists.{IsKnownStep, to_outcome, to_probability}
 use Rattle.gf_tree.proofs.FrontNodes.{learned_at, parted}
 use Rattle.gf_tree.proofs.FrontRuns.{GoesOn, to_number, to_player}
-use Rattle.gf_tree.proofs.FrontOutcomeSteps.{known_outcome}
 use Rattle.gf_tree.proofs.Groups.{NoText}
+use Rattle.gf_tree.proofs.RunLearned.{found_has}
 use Rattle.gf_tree.proofs.RunPayoffs.{known_at, new_at}
+use Rattle.gf_tree.proofs.RunResults.{AreOutcomes}
 use Rattle.gf_tree.proofs.RunTokens.{Reads, run_on}
 use Rattle.gf_tree.proofs.TreesOnce.{same_set_equality}
 
@@ -150,6 +151,12 @@ one_description o c d h k = cc
 
 pub none_or_some : {D : Type 0} (o : Option D) (d : D) → o ≡ None → o ≡ Some d → ⊥
 none_or_some o d h k = cc
+
+-- a known outcome is one
+pub known_outcome : (c : Content) (n : ℕ) (outcome : Outcome) → AreOutcomes (length c.players) c.outcomes
+    → description_at nat_eq c.outcomes n ≡ Some outcome → IsOutcome (length c.players) n outcome
+known_outcome c n outcome are known =
+    found_has nat_eq Decides-eqb (IsOutcome (length c.players)) c.outcomes n outcome are known
 
 -- ---- no number
 

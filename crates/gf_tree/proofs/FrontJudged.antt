@@ -20,13 +20,13 @@ use Rattle.gf_tree.specs.Machine.{Content, State, due, nothing, run, step}
 use Rattle.gf_tree.specs.Machine.Position.{Format}
 use Rattle.gf_tree.specs.ReadGame.{run_tokens, then_run}
 use Rattle.gf_tree.specs.Reason.{Holds, IsReason}
+use Rattle.gf_tree.specs.Rows.{Obeys, Row}
+use Rattle.gf_tree.proofs.DueRows.{Stands, accepted, answers_at, leads, refused_by}
 use Rattle.gf_tree.proofs.FrontCodes.{IsUpTo, ReadsOn, bad_index, no_number, refused}
-use Rattle.gf_tree.proofs.FrontDue.{wanted}
-use Rattle.gf_tree.proofs.FrontOwned.{owned}
-use Rattle.gf_tree.proofs.FrontReasons.{Own, Owns, wanted_own}
 use Rattle.gf_tree.proofs.FrontRefusals.{first_of, first_use, mismatch, unknown_player}
 use Rattle.gf_tree.proofs.FrontShares.{above, below_one, lists_nothing, negative, overflows}
-use Rattle.gf_tree.proofs.FrontSteps.{stands_at}
+use Rattle.gf_tree.proofs.NodeReasons.{reasoned}
+use Rattle.gf_tree.proofs.RowReasons.{Own}
 use Rattle.gf_tree.proofs.RunEnds.{ends}
 use Rattle.gf_tree.proofs.RunPlaces.{Leads, begins, leads_fine, walk_run}
 use Rattle.gf_tree.proofs.RunStops.{StopsAt, not_accepted, stopped}
@@ -174,11 +174,10 @@ lower before (Broken ∷ after) s why l h = lower_broken before after s why l (b
 
 own : (before after : List Token) (s : State) (why : Why) → Leads before s → StopsAt s after why
     → Own why before after
-own before [] s why l h = subst (λ (w : Why). Own w before []) h.1
-    (wanted_own (due s.position s.content.due) before []
-    (wanted s.position s.content before l (stands_at before s l)) tt)
-own before (t ∷ after) s why l h = subst (λ o. Owns o before (t ∷ after)) h
-    (owned before after s.position s.content t (leads_fine before s l) l (stands_at before s l))
+own before after s why l h =
+    let r = reasoned before (begins before s l) in
+    let k = refused_by before after s why r.row l h r.stands in
+    r.own after why k.0 k.1
 
 reason_by : (why : Why) (before after : List Token) → Own why before after
     → Lower before after why → IsReason why before after
@@ -189,6 +188,17 @@ pub reason : (before after : List Token) (s : State) (why : Why) → Leads befor
     → IsReason why before after
 reason before after s why l h =
     reason_by why before after (own before after s why l h) (lower before after s why l h)
+
+-- so a row that stands there says what may follow, and why all else is refused
+pub obeys : {before : List Token} {row : Row} → Stands before row → Obeys before row
+obeys {before} {row} stands =
+    let l = leads before stands.begins in
+    record {
+      accepts = accepted before row stands;
+      refuses = λ after n.
+          let k = (answers_at before after l.0 row l.1 stands).1 n in
+          (k.0, k.1, reason before after l.0 k.0 l.1 k.2);
+    }
 
 -- bytes are refused at the offending place, for the reason there
 pub refuses : (bytes : List ℕ) (ls : List Lexeme) (fault : Fault)

@@ -1,7 +1,7 @@
 -- Where a code from E8 on applies, by what stands before a place, the machine of the reader refuses
 -- for that code or a lower one.
 use Rattle.std.proofs.Common.{◌≡◌, ℕ, ◌<◌, Bool, true, false, cond, List, [], ◌∷◌, ◌++◌}
-use Rattle.std.proofs.Common.{length, drop, Some, Ok, Err, refl, sym, ap, ◌∙◌, arith, inl, inr}
+use Rattle.std.proofs.Common.{length, Some, Ok, Err, refl, sym, ap, ◌∙◌, arith, inl, inr}
 use Rattle.std.proofs.Common.{nat_eq, append_assoc}
 use Rattle.std.specs.Prelude.{codes, nat_le, ◌⊎◌, ◌≢◌}
 use Rattle.std.specs.Cmp.Lexicographic.{pointwise}
@@ -30,6 +30,7 @@ use Rattle.gf_tree.specs.Probability.{same_ratio}
 use Rattle.gf_tree.specs.ReadGame.{run_tokens, then_run}
 use Rattle.gf_tree.specs.Reason.{DiffersFromOutcome, DiffersFromSet, EndsInFirstUse, GoesOnWith}
 use Rattle.gf_tree.specs.Reason.{IsMismatch, IsNoText, IsUnknownPlayer}
+use Rattle.gf_tree.proofs.Cuts.{first_is, others_are}
 use Rattle.gf_tree.proofs.FrontCodes.{ReadsOn, Split, begins_actions, begins_number, begins_outcome}
 use Rattle.gf_tree.proofs.FrontCodes.{begins_payoffs, begins_probability, new_is, none_or_some}
 use Rattle.gf_tree.proofs.FrontCodes.{one_description, refused, split}
@@ -188,14 +189,6 @@ other_payoff false p ps c t q e h =
     ap (λ o. then_run (same_number p (at (AfterKnownPayoff ps) c) o) (run_on [])) e
     ∙ ap (λ o. then_run o (run_on []))
     (other_number p q (at (AfterKnownPayoff ps) c) (λ x. h (sym x)))
-
--- what stands behind the same front is the same
-pub others_are : {A : Type 0} (front xs ys : List A) → front ++ xs ≡ front ++ ys → xs ≡ ys
-others_are [] xs ys e = e
-others_are (x ∷ front) xs ys e = others_are front xs ys (ap (drop 1) e)
-
-pub first_is : {A : Type 0} (x y : A) (xs ys : List A) → x ∷ xs ≡ y ∷ ys → x ≡ y
-first_is x y xs ys e = cc
 
 abbrev pub RefusesMismatch : List Token → Token → Type 0
 RefusesMismatch before t = run_tokens Format nothing (before ++ t ∷ []) ≡ refused Mismatch
