@@ -296,10 +296,11 @@ known_probability_law c b p others _ = (λ a. a, refl)
 pub some_is : (p q : Ratio) → Some p ≡ Some q → p ≡ q
 some_is p q e = cc
 
-pub known_probability : (f : FileFront) (n : ℕ) (known seen : InformationSet) (next : Action)
-    (p : Ratio) → ToProbability f.front n seen → KnowsSet f.nodes (set_of 0 n) known
-    → GoesOnWith known seen next → next.probability ≡ Some p → Stands f.before (this_number p)
-known_probability f n known seen next p h knows more has =
+pub known_share : (f : FileFront) (n : ℕ) (known seen : InformationSet) (next : Action)
+    → ToProbability f.front n seen → KnowsSet f.nodes (set_of 0 n) known
+    → GoesOnWith known seen next
+    → (p : Ratio) × (next.probability ≡ Some p) × Stands f.before (this_number p)
+known_share f n known seen next h knows more =
     let key = set_of 0 n in
     let s = parts f (begins_probability f.front n seen h) in
     let c = s.content in
@@ -312,10 +313,17 @@ known_probability f n known seen next p h knows more has =
           at_key in
           let left = others_are seen.actions (k.next ∷ k.others) (next ∷ more.0)
           (sym k.parts ∙ ap (λ (x : InformationSet). x.actions) same ∙ more.1) in
-          let is = some_is k.p p (sym k.is
-          ∙ ap (λ (a : Action). a.probability) (first_is k.next next k.others more.0 left) ∙ has) in
-          stands_in f s (KnownProbability k.b p k.others) c (this_number p)
-          (λ us. k.answers us
-          ∙ ap (λ (x : Ratio). run_tokens (KnownProbability k.b x k.others) c us) is)
-          (known_probability_law c k.b p k.others) (λ a. a, refl)
+          let first = first_is k.next next k.others more.0 left in (
+            k.p,
+            ap (λ (a : Action). a.probability) (sym first) ∙ k.is,
+            stands_in f s (KnownProbability k.b k.p k.others) c (this_number k.p) k.answers
+                (known_probability_law c k.b k.p k.others) (λ a. a, refl),
+          )
     ]
+
+pub known_probability : (f : FileFront) (n : ℕ) (known seen : InformationSet) (next : Action)
+    (p : Ratio) → ToProbability f.front n seen → KnowsSet f.nodes (set_of 0 n) known
+    → GoesOnWith known seen next → next.probability ≡ Some p → Stands f.before (this_number p)
+known_probability f n known seen next p h knows more has =
+    let k = known_share f n known seen next h knows more in
+    subst (λ (x : Ratio). Stands f.before (this_number x)) (some_is k.0 p (sym k.1 ∙ has)) k.2

@@ -10,14 +10,11 @@ use Rattle.gf_token.specs.declared.fault.Why.TheVariants.{Unterminated}
 use Rattle.gf_tree.specs.Front.{IsExtensiveFile}
 use Rattle.gf_tree.specs.Machine.{Content, Position, State, at, due, may_end, node_or_end}
 use Rattle.gf_tree.specs.Machine.{nothing, step}
-use Rattle.gf_tree.specs.Machine.Position.{Format, Version, Letter, Title, BeforePlayers, InPlayers}
-use Rattle.gf_tree.specs.Machine.Position.{AfterPlayers, NodeDue, ChanceName, PersonalName}
-use Rattle.gf_tree.specs.Machine.Position.{TerminalName, PlayerNumber, SetNumber, NewSetName}
-use Rattle.gf_tree.specs.Machine.Position.{NewSetOpening, NewAction, NewProbability, KnownSetName}
-use Rattle.gf_tree.specs.Machine.Position.{KnownSetOpening, KnownAction, KnownProbability}
-use Rattle.gf_tree.specs.Machine.Position.{OutcomeNumber, NewOutcomeName, NewOutcomeOpening}
+use Rattle.gf_tree.specs.Machine.Position.{Format}
+use Rattle.gf_tree.specs.Machine.Position.{NodeDue}
+use Rattle.gf_tree.specs.Machine.Position.{KnownAction}
 use Rattle.gf_tree.specs.Machine.Position.{NewPayoff, AfterNewPayoff, KnownOutcomeName}
-use Rattle.gf_tree.specs.Machine.Position.{KnownOutcomeOpening, KnownPayoff, AfterKnownPayoff}
+use Rattle.gf_tree.specs.Machine.Position.{KnownPayoff, AfterKnownPayoff}
 use Rattle.gf_tree.specs.ReadGame.{run_tokens, then_run}
 use Rattle.gf_tree.specs.Rows.{Row, Accepts, Refuses, RefusesFor, Takes}
 use Rattle.gf_tree.proofs.RunPlaces.{Leads, follows, is_file, is_read, no_file, not_follows}
@@ -98,41 +95,19 @@ node_ends zero e = absurd cc
 node_ends (suc n) e = absurd cc
 
 ends_text : (q : Position) (n : ℕ) → due q n ≡ Unterminated → ⊥
-ends_text Format n e = absurd cc
-ends_text Version n e = absurd cc
-ends_text Letter n e = absurd cc
-ends_text Title n e = absurd cc
-ends_text BeforePlayers n e = absurd cc
-ends_text InPlayers n e = absurd cc
-ends_text AfterPlayers n e = absurd cc
 ends_text NodeDue n e = node_ends n e
-ends_text ChanceName n e = absurd cc
-ends_text PersonalName n e = absurd cc
-ends_text TerminalName n e = absurd cc
-ends_text (PlayerNumber name) n e = absurd cc
-ends_text (SetNumber name player) n e = absurd cc
-ends_text (NewSetName name key) n e = absurd cc
-ends_text (NewSetOpening name key label) n e = absurd cc
-ends_text (NewAction name key set sum) n e = absurd cc
-ends_text (NewProbability name key set sum label) n e = absurd cc
-ends_text (KnownSetName name key set) n e = absurd cc
-ends_text (KnownSetOpening b actions) n e = absurd cc
 ends_text (KnownAction b []) n e = absurd cc
 ends_text (KnownAction b (a ∷ actions)) n e = absurd cc
-ends_text (KnownProbability b p actions) n e = absurd cc
-ends_text (OutcomeNumber b) n e = absurd cc
-ends_text (NewOutcomeName b m) n e = absurd cc
-ends_text (NewOutcomeOpening b m label) n e = absurd cc
 ends_text (NewPayoff b m outcome zero) n e = absurd cc
 ends_text (NewPayoff b m outcome (suc left)) n e = absurd cc
 ends_text (AfterNewPayoff b m outcome zero) n e = absurd cc
 ends_text (AfterNewPayoff b m outcome (suc left)) n e = absurd cc
 ends_text (KnownOutcomeName outcome) n e = node_ends n e
-ends_text (KnownOutcomeOpening ps) n e = absurd cc
 ends_text (KnownPayoff []) n e = absurd cc
 ends_text (KnownPayoff (p ∷ ps)) n e = absurd cc
 ends_text (AfterKnownPayoff []) n e = absurd cc
 ends_text (AfterKnownPayoff (p ∷ ps)) n e = absurd cc
+ends_text q n e = absurd cc
 
 abbrev refused : Why → Result Content Why
 refused why = Err why

@@ -97,3 +97,4 @@ pub mod CutFiles
 pub mod RowReasons
 pub mod NodeReasons
 pub mod WholeNodes
+pub mod LowestCodes

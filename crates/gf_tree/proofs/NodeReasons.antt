@@ -1,14 +1,13 @@
 -- The rows of nodes refuse for reasons, and so does each row that stands behind the front of a file.
 use Rattle.std.proofs.Common.{◌≡◌, ◌≢◌, ℕ, ◌<◌, List, [], ◌∷◌, ◌++◌, length}
-use Rattle.std.proofs.Common.{Option, Some, None, MatchOption, refl, sym, ap, subst, ◌∙◌, append_assoc, arith}
+use Rattle.std.proofs.Common.{Bool, true, false, Option, Some, None, MatchOption, refl, sym, ap, subst, ◌∙◌, arith}
 use Rattle.std.proofs.Common.{inl, inr}
 use Rattle.std.specs.Prelude.{◌⊎◌}
 use Rattle.std.proofs.lemmas.List.{length-append}
 use Rattle.gf_fraction.specs.Ratio.{Ratio}
 use Rattle.gf_fraction.specs.NumberSpelling.{IsNumber}
 use Rattle.gf_token.specs.Token.{Token}
-use Rattle.gf_token.specs.Token.Token.{Opening, Closing, Comma, Text, Bare}
-use Rattle.gf_token.specs.Grammar.{Each, IsPayoffInBraces}
+use Rattle.gf_token.specs.Token.Token.{Closing, Text, Bare}
 use Rattle.gf_token.specs.Index.{IsIndex}
 use Rattle.gf_token.specs.NumberWhy.{why_of}
 use Rattle.gf_token.specs.Place.{Begins, MayFollow}
@@ -23,11 +22,11 @@ use Rattle.gf_tree.specs.Due.{ProbabilityIsDue, SetIsDue}
 use Rattle.gf_tree.specs.DueRoles.{Role}
 use Rattle.gf_tree.specs.FileTree.{Use}
 use Rattle.gf_tree.specs.Front.{BehindOutcomeNumber, BehindSetNumber, InActions}
-use Rattle.gf_tree.specs.Front.{InPayoffs, IsExtensiveFile, IsNewOutcome, IsNewSet, IsSetKnown}
+use Rattle.gf_tree.specs.Front.{IsExtensiveFile, IsNewOutcome, IsNewSet, IsSetKnown}
 use Rattle.gf_tree.specs.Front.{KnowsOutcome, ToOutcomeNumber}
 use Rattle.gf_tree.specs.Reason.{DiffersFromOutcome, DiffersFromSet, EndsInFirstUse}
 use Rattle.gf_tree.specs.Reason.{ListsActions, NewProbabilityIsDue}
-use Rattle.gf_tree.specs.RowPlaces.{BehindNode, BehindPayoff, FileFront, ToPayoff}
+use Rattle.gf_tree.specs.RowPlaces.{BehindNode, FileFront}
 use Rattle.gf_tree.specs.Rows.{IsNoNumber, Row, a_closing, a_first_name}
 use Rattle.gf_tree.specs.Rows.{a_new_action, a_new_branch, a_payoff, a_player}
 use Rattle.gf_tree.specs.Rows.{a_probability, a_set}
@@ -35,19 +34,20 @@ use Rattle.gf_tree.specs.Rows.{an_outcome, no_label, or_comma, or_name}
 use Rattle.gf_tree.specs.Rows.{this_label, this_number}
 use Rattle.gf_tree.specs.SomeRow.{IsBeforeRow, IsInNode}
 use Rattle.gf_tree.proofs.CutFiles.{some_row}
-use Rattle.gf_tree.proofs.Cuts.{each_more, first_is, others_are}
+use Rattle.gf_tree.proofs.Cuts.{first_is, others_are}
 use Rattle.gf_tree.proofs.DueActions as actions
 use Rattle.gf_tree.proofs.DueNodes as nodes
 use Rattle.gf_tree.proofs.DueNodes.{parts}
 use Rattle.gf_tree.proofs.DueOutcomes as outcomes
 use Rattle.gf_tree.proofs.DueOutcomes.{GoesOnBehind, GoesOnBehindOr}
 use Rattle.gf_tree.proofs.DuePayoffs as payoffs
+use Rattle.gf_tree.proofs.DuePayoffs.{Seen, seen_behind, seen_to}
 use Rattle.gf_tree.proofs.DueRows.{Stands, accepted}
 use Rattle.gf_tree.proofs.FrontCodes.{begins_payoffs, known_outcome}
 use Rattle.gf_tree.proofs.WholeNodes.{number_node, whole_node}
 use Rattle.gf_tree.proofs.RowReasons.{IsOfRole, IsTold, Own, Reasoned, as_own, closing, end, fault_own}
 use Rattle.gf_tree.proofs.RowReasons.{follows, in_heading, name_or_end, name_or_node, no_action, node}
-use Rattle.gf_tree.proofs.RowReasons.{number_named, opening, own_by, some_text, text, told_by, wrong_own}
+use Rattle.gf_tree.proofs.RowReasons.{number_named, opening, reasons, some_text, text, told_by, wrong_own}
 
 -- ---- nodes
 
@@ -61,62 +61,6 @@ known_step front key h = (
   h.2 ∙ (λ i. h.3.3 i ++ Bare h.1 ∷ []),
   (h.3.2, h.1, [], refl, h.3.4, h.4, refl),
 )
-
--- behind these payoffs stand so many in braces
-payoff_front : (front : List Token) (n : ℕ) (ps : List Ratio) → BehindPayoff front n ps
-    → (outcome : Outcome) × InPayoffs front n outcome × (outcome.payoffs ≡ ps)
-payoff_front front n ps h =
-    let seen = h.1 in
-    let k = h.4 in (
-      record { name = seen.name; payoffs = ps },
-      (
-        k.0,
-        k.1 ++ Bare h.2 ∷ [],
-        h.6 ∙ (λ i. k.2 i ++ Bare h.2 ∷ [])
-            ∙ append_assoc k.0 (Text seen.name ∷ Opening ∷ k.1) (Bare h.2 ∷ []),
-        k.3,
-        subst (λ (qs : List Ratio). Each IsPayoffInBraces (k.1 ++ Bare h.2 ∷ []) qs) (sym h.7)
-            (each_more IsPayoffInBraces k.1 (Bare h.2 ∷ []) seen.payoffs h.3 k.4
-            (h.2, [], refl, h.5, inl refl)),
-      ),
-      refl,
-    )
-
--- and behind the opening brace or a comma
-payoffs_to : (front : List Token) (n : ℕ) (ps : List Ratio) → ToPayoff front n ps
-    → (outcome : Outcome) × InPayoffs front n outcome × (outcome.payoffs ≡ ps)
-payoffs_to front n ps (inl h) =
-    let b = h.0.1 in (
-      record { name = b.1; payoffs = [] },
-      (
-        b.0,
-        [],
-        h.0.2 ∙ (λ i. b.3 i ++ Opening ∷ [])
-            ∙ append_assoc b.0 (Text b.1 ∷ []) (Opening ∷ []),
-        b.2,
-        refl,
-      ),
-      sym h.1,
-    )
-payoffs_to front n ps (inr h) =
-    let b = h.1 in
-    let seen = b.1 in
-    let k = b.4 in (
-      record { name = seen.name; payoffs = ps },
-      (
-        k.0,
-        k.1 ++ Bare b.2 ∷ Comma ∷ [],
-        h.2 ∙ (λ i. b.6 i ++ Comma ∷ [])
-            ∙ append_assoc b.0 (Bare b.2 ∷ []) (Comma ∷ [])
-            ∙ (λ i. k.2 i ++ Bare b.2 ∷ Comma ∷ [])
-            ∙ append_assoc k.0 (Text seen.name ∷ Opening ∷ k.1) (Bare b.2 ∷ Comma ∷ []),
-        k.3,
-        subst (λ (qs : List Ratio). Each IsPayoffInBraces (k.1 ++ Bare b.2 ∷ Comma ∷ []) qs) (sym b.7)
-            (each_more IsPayoffInBraces k.1 (Bare b.2 ∷ Comma ∷ []) seen.payoffs b.3 k.4
-            (b.2, Comma ∷ [], refl, b.5, inr refl)),
-      ),
-      refl,
-    )
 
 -- what is left behind some is the same
 one_next : {A : Type 0} (seen : List A) (x y : A) (xs ys others : List A) → others ≡ seen ++ x ∷ xs
@@ -133,11 +77,10 @@ none_next seen x xs e =
 -- a known outcome has a payoff for each player
 known_fewer : (f : FileFront) (n : ℕ) (ps : List Ratio) (outcome : Outcome) (p : Ratio)
     (others : List Ratio)
-    → ((seen : Outcome) × InPayoffs f.front n seen × (seen.payoffs ≡ ps))
-    → KnowsOutcome f.nodes n outcome → outcome.payoffs ≡ ps ++ p ∷ others
-    → length ps < length f.players
-known_fewer f n ps outcome p others h knows values =
-    let s = parts f (begins_payoffs f.front n h.0 h.1) in
+    → (may : Bool) → Seen f.front n ps may → KnowsOutcome f.nodes n outcome
+    → outcome.payoffs ≡ ps ++ p ∷ others → length ps < length f.players
+known_fewer f n ps outcome p others may h knows values =
+    let s = parts f (begins_payoffs f.front n h.outcome h.place) in
     let is = (known_outcome s.content n outcome s.goes_on.are_outcomes
     ((s.outcomes n outcome).0 knows)).one_payoff_each in
     let players = ap length s.same_players in
@@ -151,14 +94,8 @@ module _ (f : FileFront) where
       → Stands f.before a_first_name → Reasoned f.before
   first_use h s =
       let first : EndsInFirstUse f.before = (f.players, f.nodes, f.front, f.ends, h) in
-      record {
-        row = a_first_name;
-        stands = s;
-        own = own_by f.before a_first_name (λ after plain. (first, plain)) (λ l after n. absurd (n tt))
-            (λ b why after n e. as_own f.before why NotDescribed (Bare b ∷ after) (first, tt) e)
-            (λ why after n e. as_own f.before why NotDescribed (Closing ∷ after) (first, tt) e);
-        told = λ b h. absurd h;
-      }
+      reasons f.before a_first_name (λ after plain. (first, plain)) (λ l after n. absurd (n tt)) (λ b why after n e. as_own f.before why NotDescribed (Bare b ∷ after) (first, tt) e) (λ why after n e. as_own f.before why NotDescribed (Closing ∷ after) (first, tt) e) s
+      (λ b h. absurd h)
 
   outcome_index : OutcomeIsDue f.before → (b : List ℕ) (why : Why) (after : List Token)
       → ¬ ((n : ℕ) × IsIndex b n) → why ≡ BadIndex → Own why f.before (Bare b ∷ after)
@@ -196,18 +133,17 @@ module _ (f : FileFront) where
             (lists key set h new),
       ) e
 
-  due_payoff : (n : ℕ) (ps : List Ratio)
-      → ((outcome : Outcome) × InPayoffs f.front n outcome × (outcome.payoffs ≡ ps))
+  due_payoff : (n : ℕ) (ps : List Ratio) (may : Bool) → Seen f.front n ps may
       → length ps < length f.players → PayoffIsDue f.before
-  due_payoff n ps h fewer = (
+  due_payoff n ps may h fewer = (
     f.players,
     f.nodes,
     f.front,
     n,
-    h.0,
+    h.outcome,
     f.ends,
-    h.1,
-    subst (λ (qs : List Ratio). length qs < length f.players) (sym h.2) fewer,
+    h.place,
+    subst (λ (qs : List Ratio). length qs < length f.players) (sym h.are) fewer,
   )
 
   new_number : (row : Row) → Stands f.before row → PayoffIsDue f.before
@@ -243,25 +179,24 @@ module _ (f : FileFront) where
 
   -- a payoff of a known outcome
   known_payoff : (row : Row) (n : ℕ) (ps : List Ratio) (outcome : Outcome) (p : Ratio)
-      (others : List Ratio) → Stands f.before row
-      → ((seen : Outcome) × InPayoffs f.front n seen × (seen.payoffs ≡ ps))
+      (others : List Ratio) (may : Bool) → Stands f.before row → Seen f.front n ps may
       → KnowsOutcome f.nodes n outcome → outcome.payoffs ≡ ps ++ p ∷ others
       → row.otherwise ≡ Expected what.Number → row.other_text ≡ Expected what.Number
       → ((b : List ℕ) (why : Why) → row.other_bare b why → (this_number p).other_bare b why)
       → ((why : Why) → row.other_closing why → why ≡ Expected what.Number)
       → IsOfRole row (Role.KnownNumber p) → Reasoned f.before
-  known_payoff row n ps outcome p others s h knows parts =
-      known_number row p s (inr (due_payoff n ps h (known_fewer f n ps outcome p others h knows parts)))
+  known_payoff row n ps outcome p others may s h knows parts =
+      known_number row p s (inr (due_payoff n ps may h (known_fewer f n ps outcome p others may h knows parts)))
       (λ b q is other. inr (
         n,
         outcome,
-        h.0,
+        h.outcome,
         p,
         others,
         q,
         knows,
-        h.1,
-        subst (λ (qs : List Ratio). outcome.payoffs ≡ qs ++ p ∷ others) (sym h.2) parts,
+        h.place,
+        subst (λ (qs : List Ratio). outcome.payoffs ≡ qs ++ p ∷ others) (sym h.are) parts,
         is,
         other,
       ))
@@ -281,33 +216,14 @@ module _ (f : FileFront) where
       (f.players, f.nodes, f.front, f.ends, refl, h) in
       let is : IsDue f.before what.Index = inl (length f.players, due) in
       let s = nodes.player f h in
-      record {
-        row = row;
-        stands = s;
-        own = own_by f.before row (λ after plain. is) (λ l after n. is)
-            (λ b why after n e. elim e [
-              | inl k ↦ as_own f.before why BadIndex (Bare b ∷ after)
-                  (inl (inl (length f.players, due), k.1)) k.0
-              | inr k ↦ as_own f.before why UnknownPlayer (Bare b ∷ after)
-                  (inl (length f.players, k.1.0, due, k.1.1, k.1.2)) k.0
-            ])
-            (λ why after n e. as_own f.before why (Expected what.Index) (Closing ∷ after) is e);
-        told = told_by f.before row (Role.PlayerNumber (length f.players)) s is
-            (λ b. (λ k. k, λ k. k));
-      }
+      reasons f.before row (λ after plain. is) (λ l after n. is) (λ b why after n e. elim e [ inl k ↦ as_own f.before why BadIndex (Bare b ∷ after) (inl (inl (length f.players, due), k.1)) k.0 | inr k ↦ as_own f.before why UnknownPlayer (Bare b ∷ after) (inl (length f.players, k.1.0, due, k.1.1, k.1.2)) k.0 ]) (λ why after n e. as_own f.before why (Expected what.Index) (Closing ∷ after) is e) s
+      (told_by f.before row (Role.PlayerNumber (length f.players)) s is (λ b. (λ k. k, λ k. k)))
   in_node (IsInNode.SetNumber player h) =
       let due : SetIsDue f.before = (f.players, f.nodes, f.front, player, f.ends, h) in
       let is : IsDue f.before what.Index = inr (inl due) in
       let s = nodes.set_number_due f player h in
-      record {
-        row = a_set;
-        stands = s;
-        own = own_by f.before a_set (λ after plain. is) (λ l after n. is)
-            (λ b why after n e. as_own f.before why BadIndex (Bare b ∷ after)
-            (inl (inr due, λ m k. n (m, k))) e)
-            (λ why after n e. as_own f.before why (Expected what.Index) (Closing ∷ after) is e);
-        told = told_by f.before a_set Role.SetNumber s is (λ b. (λ k. k, λ k. k));
-      }
+      reasons f.before a_set (λ after plain. is) (λ l after n. is) (λ b why after n e. as_own f.before why BadIndex (Bare b ∷ after) (inl (inr due, λ m k. n (m, k))) e) (λ why after n e. as_own f.before why (Expected what.Index) (Closing ∷ after) is e) s
+      (told_by f.before a_set Role.SetNumber s is (λ b. (λ k. k, λ k. k)))
   in_node (IsInNode.NewSet key h new) =
       first_use (inl (key, h, new)) (nodes.new_set f key h new)
   in_node (IsInNode.KnownSet key set h knows) =
@@ -316,52 +232,22 @@ module _ (f : FileFront) where
       (known_step f.front key h) (inr (set, knows)) in
       let is : IsDue f.before what.Index = inr (inr due) in
       let s = nodes.known_set f key set h knows in
-      record {
-        row = row;
-        stands = s;
-        own = own_by f.before row (λ after plain. is)
-            (λ l after n. differs (Text l) (inl (key, set, knows, inl (h, n))) after)
-            (λ b why after n e. outcome_index due b why after n e)
-            (λ why after n e. as_own f.before why (Expected what.Index) (Closing ∷ after) is e);
-        told = told_by f.before row Role.OutcomeNumber s is (λ b. (λ k. k, λ k. k));
-      }
+      reasons f.before row (λ after plain. is) (λ l after n. differs (Text l) (inl (key, set, knows, inl (h, n))) after) (λ b why after n e. outcome_index due b why after n e) (λ why after n e. as_own f.before why (Expected what.Index) (Closing ∷ after) is e) s
+      (told_by f.before row Role.OutcomeNumber s is (λ b. (λ k. k, λ k. k)))
   in_node (IsInNode.SetOpening key h) = opening f.before (nodes.set_opening f key h)
   in_node (IsInNode.NewAction key set h new some) =
       let row = a_new_action set.actions in
       let s = actions.new_action f key set h new some in
       let due = some_text f.before row s tt in
-      record {
-        row = row;
-        stands = s;
-        own = own_by f.before row (λ after plain. due) (λ l after n. due)
-            (λ b why after n e. as_own f.before why (Expected what.Text) (Bare b ∷ after) due e)
-            (λ why after n e. no_entry key set h new (no_action set.actions n) why after e);
-        told = λ b k. absurd k;
-      }
+      reasons f.before row (λ after plain. due) (λ l after n. due) (λ b why after n e. as_own f.before why (Expected what.Text) (Bare b ∷ after) due e) (λ why after n e. no_entry key set h new (no_action set.actions n) why after e) s
+      (λ b k. absurd k)
   in_node (IsInNode.NewBranch number set sum h new has) =
       let row = a_new_branch set.actions sum in
       let key = set_of 0 number in
       let s = actions.new_branch f number set sum h new has in
       let due = some_text f.before row s tt in
-      record {
-        row = row;
-        stands = s;
-        own = own_by f.before row (λ after plain. due) (λ l after n. due)
-            (λ b why after n e. as_own f.before why (Expected what.Text) (Bare b ∷ after) due e)
-            (λ why after n e. elim e [
-              | inl k ↦ no_entry key set h new k.1 why after k.0
-              | inr k ↦ as_own f.before why SumBelowOne (Closing ∷ after) (
-                number,
-                set,
-                sum,
-                lists key set h new,
-                k.1,
-                has,
-                actions.sum_below f number set sum h new has (λ one. n (k.1, one)),
-              ) k.0
-            ]);
-        told = λ b k. absurd k;
-      }
+      reasons f.before row (λ after plain. due) (λ l after n. due) (λ b why after n e. as_own f.before why (Expected what.Text) (Bare b ∷ after) due e) (λ why after n e. elim e [ inl k ↦ no_entry key set h new k.1 why after k.0 | inr k ↦ as_own f.before why SumBelowOne (Closing ∷ after) (number, set, sum, lists key set h new, k.1, has, actions.sum_below f number set sum h new has (λ one. n (k.1, one))) k.0 ]) s
+      (λ b k. absurd k)
   in_node (IsInNode.NewProbability number set sum h new has) =
       let due : NewProbabilityIsDue f.before sum =
       (f.players, f.nodes, f.front, number, set, f.ends, h, new, has) in
@@ -378,27 +264,8 @@ module _ (f : FileFront) where
       let s = actions.known_action f key known seen next h knows more in
       let due : IsDue f.before what.Text =
       (next.label, follows f.before row what.Text s (Text next.label ∷ []) refl) in
-      record {
-        row = row;
-        stands = s;
-        own = own_by f.before row (λ after plain. due)
-            (λ l after n. differs (Text l) (inl (
-              key,
-              known,
-              knows,
-              inr (
-                seen,
-                h,
-                λ other k e.
-                    n (e ∙ ap (λ (a : Action). a.label)
-                    (one_next seen.actions other next k.0 more.0 known.actions k.1 more.1)),
-              ),
-            )) after)
-            (λ b why after n e. as_own f.before why (Expected what.Text) (Bare b ∷ after) due e)
-            (λ why after n e. as_own f.before why Mismatch (Closing ∷ after)
-            (differs Closing (inl (key, known, seen, next, knows, h, more)) after) e);
-        told = λ b k. absurd k;
-      }
+      reasons f.before row (λ after plain. due) (λ l after n. differs (Text l) (inl (key, known, knows, inr (seen, h, λ other k e. n (e ∙ ap (λ (a : Action). a.label) (one_next seen.actions other next k.0 more.0 known.actions k.1 more.1))))) after) (λ b why after n e. as_own f.before why (Expected what.Text) (Bare b ∷ after) due e) (λ why after n e. as_own f.before why Mismatch (Closing ∷ after) (differs Closing (inl (key, known, seen, next, knows, h, more)) after) e) s
+      (λ b k. absurd k)
   in_node (IsInNode.KnownProbability number known seen next p h knows more has) =
       known_number (this_number p) p
       (actions.known_probability f number known seen next p h knows more has)
@@ -420,37 +287,14 @@ module _ (f : FileFront) where
       let s = actions.no_action_left f key known seen h knows same in
       let due : IsDue f.before what.Closing =
       follows f.before no_label what.Closing s (Closing ∷ []) tt in
-      record {
-        row = no_label;
-        stands = s;
-        own = own_by f.before no_label (λ after plain. due)
-            (λ l after n. differs (Text l) (inl (
-              key,
-              known,
-              knows,
-              inr (
-                seen,
-                h,
-                λ other k e.
-                    none_next seen.actions other k.0 (sym same ∙ k.1),
-              ),
-            )) after)
-            (λ b why after n e. as_own f.before why (Expected what.Closing) (Bare b ∷ after) due e)
-            (λ why after n e. absurd (n tt));
-        told = λ b k. absurd k;
-      }
+      reasons f.before no_label (λ after plain. due) (λ l after n. differs (Text l) (inl (key, known, knows, inr (seen, h, λ other k e. none_next seen.actions other k.0 (sym same ∙ k.1)))) after) (λ b why after n e. as_own f.before why (Expected what.Closing) (Bare b ∷ after) due e) (λ why after n e. absurd (n tt)) s
+      (λ b k. absurd k)
   in_node (IsInNode.OutcomeNumber h) =
       let due = outcome_due h.0 h.1 (told_set h.0 h.2) in
       let is : IsDue f.before what.Index = inr (inr due) in
       let s = outcomes.outcome_number_due f h in
-      record {
-        row = an_outcome;
-        stands = s;
-        own = own_by f.before an_outcome (λ after plain. is) (λ l after n. is)
-            (λ b why after n e. outcome_index due b why after n e)
-            (λ why after n e. as_own f.before why (Expected what.Index) (Closing ∷ after) is e);
-        told = told_by f.before an_outcome Role.OutcomeNumber s is (λ b. (λ k. k, λ k. k));
-      }
+      reasons f.before an_outcome (λ after plain. is) (λ l after n. is) (λ b why after n e. outcome_index due b why after n e) (λ why after n e. as_own f.before why (Expected what.Index) (Closing ∷ after) is e) s
+      (told_by f.before an_outcome Role.OutcomeNumber s is (λ b. (λ k. k, λ k. k)))
   in_node (IsInNode.NewOutcome number h new) =
       first_use (inr (number, h, new)) (outcomes.new_outcome f number h new)
   in_node (IsInNode.KnownOutcome number outcome h knows) =
@@ -468,21 +312,21 @@ module _ (f : FileFront) where
       opening f.before (outcomes.outcome_opening f number h)
   in_node (IsInNode.NewPayoff number ps h new fewer) =
       new_number a_payoff (payoffs.new_payoff f number ps h new fewer)
-      (due_payoff number ps (payoffs_to f.front number ps h) fewer) refl refl (λ b why e. e)
+      (due_payoff number ps false (seen_to f.front number ps h) fewer) refl refl (λ b why e. e)
       (λ why e. e) (λ b. (λ k. k, λ k. k))
   in_node (IsInNode.KnownPayoff number ps outcome p others h knows parts) =
-      known_payoff (this_number p) number ps outcome p others
+      known_payoff (this_number p) number ps outcome p others false
       (payoffs.known_payoff f number ps outcome p others h knows parts)
-      (payoffs_to f.front number ps h) knows parts refl refl (λ b why e. e) (λ why e. e)
+      (seen_to f.front number ps h) knows parts refl refl (λ b why e. e) (λ why e. e)
       (λ b. (λ k. k, λ k. k))
   in_node (IsInNode.AfterNewPayoff number ps h new fewer) =
       new_number (or_comma a_payoff) (payoffs.after_new_payoff f number ps h new fewer)
-      (due_payoff number ps (payoff_front f.front number ps h) fewer) refl refl (λ b why e. e)
+      (due_payoff number ps true (seen_behind f.front number ps h) fewer) refl refl (λ b why e. e)
       (λ why e. e) (λ b. (λ k. k, λ k. k))
   in_node (IsInNode.AfterKnownPayoff number ps outcome p others h knows parts) =
-      known_payoff (or_comma (this_number p)) number ps outcome p others
+      known_payoff (or_comma (this_number p)) number ps outcome p others true
       (payoffs.after_known_payoff f number ps outcome p others h knows parts)
-      (payoff_front f.front number ps h) knows parts refl refl (λ b why e. e) (λ why e. e)
+      (seen_behind f.front number ps h) knows parts refl refl (λ b why e. e) (λ why e. e)
       (λ b. (λ k. k, λ k. k))
   in_node (IsInNode.AfterLastPayoff number ps h all) =
       closing f.before (or_comma a_closing) (payoffs.after_last_payoff f number ps h all) tt

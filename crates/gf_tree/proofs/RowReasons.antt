@@ -118,6 +118,9 @@ module _ (before : List Token) where
     own_by (Closing ∷ after) why n e = closing why after n e
     own_by (Broken ∷ after) why n e = as_own why _ (Broken ∷ after) tt e
 
+    pub reasons : Stands before row → ((b : List ℕ) → row.bare b → IsTold before) → Reasoned before
+    reasons s told = record { row = row; stands = s; own = own_by; told = told }
+
 -- a row with one refusal, for what is due
 module _ (before : List Token) (row : Row) (w : What)
     (s : Stands before row) where
@@ -128,16 +131,7 @@ module _ (before : List Token) (row : Row) (w : What)
       → ((b : List ℕ) (why : Why) → row.other_bare b why → why ≡ Expected w)
       → ((why : Why) → row.other_closing why → why ≡ Expected w)
       → ((b : List ℕ) → row.bare b → IsTold before) → Reasoned before
-  one_reason due otherwise text bare closing told = record {
-    row = row;
-    stands = s;
-    own = own_by before row
-        (λ after plain. as_own before row.otherwise (Expected w) after due otherwise)
-        (λ l after n. as_own before row.other_text (Expected w) (Text l ∷ after) due text)
-        (λ b why after n e. as_own before why (Expected w) (Bare b ∷ after) due (bare b why e))
-        (λ why after n e. as_own before why (Expected w) (Closing ∷ after) due (closing why e));
-    told = told;
-  }
+  one_reason due otherwise text bare closing told = reasons before row (λ after plain. as_own before row.otherwise (Expected w) after due otherwise) (λ l after n. as_own before row.other_text (Expected w) (Text l ∷ after) due text) (λ b why after n e. as_own before why (Expected w) (Bare b ∷ after) due (bare b why e)) (λ why after n e. as_own before why (Expected w) (Closing ∷ after) due (closing why e)) s told
 
 -- a row of a role
 module _ (before : List Token) (row : Row) (r : Role)
@@ -203,29 +197,15 @@ module _ (before : List Token) where
       pub node : Stands before (a_node (length players)) → Reasoned before
       node s =
           let due = node_due (a_node (length players)) s (λ b. (λ h. h, λ h. h)) in
-          record {
-            row = a_node (length players);
-            stands = s;
-            own = own_by before (a_node (length players)) (λ after plain. due) (λ l after n. due)
-                (λ b why after n e. letter_own before players ends due b why after e)
-                (λ why after n e. as_own before why (Expected what.Node) (Closing ∷ after) due e);
-            told = told_by before (a_node (length players)) (Role.NodeLetter (length players)) s
-                due (λ b. (λ h. h, λ h. h));
-          }
+          reasons before (a_node (length players)) (λ after plain. due) (λ l after n. due) (λ b why after n e. letter_own before players ends due b why after e) (λ why after n e. as_own before why (Expected what.Node) (Closing ∷ after) due e) s
+          (told_by before (a_node (length players)) (Role.NodeLetter (length players)) s due (λ b. (λ h. h, λ h. h)))
 
       text_or_node : Stands before (or_text (a_node (length players))) → Reasoned before
       text_or_node s =
           let row = or_text (a_node (length players)) in
           let due = node_due row s (λ b. (λ h. h, λ h. h)) in
-          record {
-            row = row;
-            stands = s;
-            own = own_by before row (λ after plain. due) (λ l after n. due)
-                (λ b why after n e. letter_own before players ends due b why after e)
-                (λ why after n e. as_own before why (Expected what.Node) (Closing ∷ after) due e);
-            told = told_by before row (Role.NodeLetter (length players)) s due
-                (λ b. (λ h. h, λ h. h));
-          }
+          reasons before row (λ after plain. due) (λ l after n. due) (λ b why after n e. letter_own before players ends due b why after e) (λ why after n e. as_own before why (Expected what.Node) (Closing ∷ after) due e) s
+          (told_by before row (Role.NodeLetter (length players)) s due (λ b. (λ h. h, λ h. h)))
 
       -- or this name, of which another one differs
       pub name_or_node : (name : List ℕ) → Stands before (or_name name (a_node (length players)))
@@ -234,15 +214,8 @@ module _ (before : List Token) where
       name_or_node name s other =
           let row = or_name name (a_node (length players)) in
           let due = node_due row s (λ b. (λ h. h, λ h. h)) in
-          record {
-            row = row;
-            stands = s;
-            own = own_by before row (λ after plain. due) other
-                (λ b why after n e. letter_own before players ends due b why after e)
-                (λ why after n e. as_own before why (Expected what.Node) (Closing ∷ after) due e);
-            told = told_by before row (Role.NodeLetter (length players)) s due
-                (λ b. (λ h. h, λ h. h));
-          }
+          reasons before row (λ after plain. due) other (λ b why after n e. letter_own before players ends due b why after e) (λ why after n e. as_own before why (Expected what.Node) (Closing ∷ after) due e) s
+          (told_by before row (Role.NodeLetter (length players)) s due (λ b. (λ h. h, λ h. h)))
 
   pub end : Stands before an_end → Reasoned before
   end s = one_reason before an_end what.End s (follows before an_end what.End s [] tt)
@@ -254,14 +227,8 @@ module _ (before : List Token) where
   name_or_end name s other =
       let row = or_name name an_end in
       let due : IsExtensiveFile before = follows before row what.End s [] tt in
-      record {
-        row = row;
-        stands = s;
-        own = own_by before row (λ after plain. due) other
-            (λ b why after n e. as_own before why (Expected what.End) (Bare b ∷ after) due e)
-            (λ why after n e. as_own before why (Expected what.End) (Closing ∷ after) due e);
-        told = λ b h. absurd h;
-      }
+      reasons before row (λ after plain. due) other (λ b why after n e. as_own before why (Expected what.End) (Bare b ∷ after) due e) (λ why after n e. as_own before why (Expected what.End) (Closing ∷ after) due e) s
+      (λ b h. absurd h)
 
   -- a number, of which some bytes are none and others another one
   module _ (r : Role) (is : IsDue before what.Number) (row : Row) (s : Stands before row) where
@@ -270,17 +237,8 @@ module _ (before : List Token) where
         → Own why before (Bare b ∷ after))
         → ((why : Why) → row.other_closing why → why ≡ Expected what.Number)
         → what_of r ≡ what.Number → IsOfRole row r → Reasoned before
-    number_named otherwise text bare closing named same = record {
-      row = row;
-      stands = s;
-      own = own_by before row
-          (λ after plain. as_own before row.otherwise (Expected what.Number) after is otherwise)
-          (λ l after n. as_own before row.other_text (Expected what.Number) (Text l ∷ after) is text)
-          bare
-          (λ why after n e. as_own before why (Expected what.Number) (Closing ∷ after) is
-          (closing why e));
-      told = told_by before row r s (subst (λ (w : What). IsDue before w) (sym named) is) same;
-    }
+    number_named otherwise text bare closing named same = reasons before row (λ after plain. as_own before row.otherwise (Expected what.Number) after is otherwise) (λ l after n. as_own before row.other_text (Expected what.Number) (Text l ∷ after) is text) bare (λ why after n e. as_own before why (Expected what.Number) (Closing ∷ after) is (closing why e)) s
+        (told_by before row r s (subst (λ (w : What). IsDue before w) (sym named) is) same)
 
   pub in_heading : IsInHeading before → Reasoned before
   in_heading (IsInHeading.Format e) =
