@@ -1,5 +1,5 @@
 -- The canonical game: a game, the same as the first, and one for all that are the same.
-use Rattle.std.proofs.Common.{◌≡◌, ℕ, Bool, List, map, filter, length, refl, sym, ap, subst, ◌∙◌}
+use Rattle.std.proofs.Common.{◌≡◌, ℕ, Bool, List, map, filter, refl, sym, ap, subst, ◌∙◌}
 use Rattle.std.specs.Prelude.{nat_eq, ◌↔◌}
 use Rattle.std.proofs.lemmas.Bool.{eqb-true}
 use Rattle.std.proofs.lemmas.Bool.Decides.{Decides-eqb}
@@ -17,10 +17,9 @@ use Rattle.gf_tree.proofs.Renumberings.{Agree, agreed_games, composed}
 use Rattle.gf_tree.proofs.Renumberings.{composed_games, sets_apart, outcomes_apart}
 use Rattle.gf_tree.proofs.RenumberedGames.{set_at_image, outcome_at_image, renumbered_is_game}
 use Rattle.gf_tree.proofs.RenumberedGames.{own_set, first_use_is_renumbering}
-use Rattle.gf_tree.proofs.PlayerSets.{sets_by_first_use}
-use Rattle.gf_tree.proofs.FirstUses.{was_used, of_filter}
+use Rattle.gf_tree.proofs.FirstUses.{of_filter}
 use Rattle.gf_tree.proofs.TreesOnce.{same_set_equality}
-use Rattle.gf_tree.proofs.Uses.{Has, has, contains}
+use Rattle.gf_tree.proofs.Uses.{has, contains}
 use Rattle.gf_tree.specs.SameGame.{Carries, SameGame}
 use Rattle.gf_tree.specs.CanonicalGame.{canonical_game}
 use Rattle.gf_tree.proofs.SameGames.{carried_sets, carried_outcomes, same_back, same_on}

@@ -2,7 +2,8 @@
 use Rattle.std.proofs.Common.{◌≡◌, ℕ, zero, suc, ◌<◌, Bool, true, false, cond, List, [], ◌∷◌}
 use Rattle.std.proofs.Common.{Option, Some, None, MatchOption, Result, Ok, Err, refl, sym, ap}
 use Rattle.std.proofs.Common.{subst, ◌∙◌, append-nil, arith, inl, inr}
-use Rattle.std.specs.Prelude.{pos, int_lt, ◌⊎◌, ◌≢◌}
+use Rattle.std.specs.Prelude.{ℤ, pos, int_lt, ◌<ℤ◌, ◌≤ℤ◌, ◌*ℤ◌, ◌⊎◌, ◌≢◌}
+use Rattle.std.proofs.Math.IntN.{*ℤ_comm}
 use Rattle.std.proofs.lemmas.Int.{ints}
 use Rattle.gf_fraction.specs.Ratio.{Ratio, IsFraction, whole}
 use Rattle.gf_fraction.specs.Computed.{number_of, sum_of}
@@ -11,6 +12,8 @@ use Rattle.gf_fraction.specs.NumberSpelling.{IsNumber}
 use Rattle.gf_fraction.specs.declared.fraction.NumberFault.{NumberFault}
 use Rattle.gf_fraction.proofs.ComputedAnswers.{number_again, number_is}
 use Rattle.gf_fraction.proofs.ComputedArithmetic.{sum_is_computed}
+use Rattle.gf_fraction.proofs.LowestTerms.{one_fraction}
+use Rattle.gf_fraction.proofs.WholeNumbers.{whole_fraction}
 use Rattle.gf_token.specs.Token.Token.{Closing, Text, Bare}
 use Rattle.gf_token.specs.declared.fault.Why.{Why}
 use Rattle.gf_token.specs.declared.fault.Why.TheVariants.{Mismatch, NegativeProbability}
@@ -26,15 +29,16 @@ use Rattle.gf_tree.specs.Probability.{Share, is_one, same_ratio, share_by, share
 use Rattle.gf_tree.specs.ReadGame.{run_tokens}
 use Rattle.gf_tree.specs.Reason.{GoesOnWith, HasSum, IsWrongBehind}
 use Rattle.gf_tree.specs.RowPlaces.{FileFront}
-use Rattle.gf_tree.specs.Rows.{IsNoNumber, Obeys, a_new_action, a_new_branch, a_probability}
+use Rattle.gf_tree.specs.Rows.{IsNoNumber, a_new_action, a_new_branch, a_probability}
 use Rattle.gf_tree.specs.Rows.{a_known_action, no_label, this_label, this_number}
-use Rattle.gf_tree.proofs.DueNodes.{name_by, obeys_in, parts, reads_on}
-use Rattle.gf_tree.proofs.DueRows.{Answers, Law, obeys}
+use Rattle.gf_tree.proofs.Cuts.{first_is, others_are}
+use Rattle.gf_tree.proofs.DueLaws.{spells_fault}
+use Rattle.gf_tree.proofs.DueNodes.{name_by, stands_in, parts, reads_on}
+use Rattle.gf_tree.proofs.DueRows.{Stands, Answers, Law, stands_by}
 use Rattle.gf_tree.proofs.FrontCodes.{begins_actions, begins_probability, none_or_some}
 use Rattle.gf_tree.proofs.FrontCodes.{one_description}
 use Rattle.gf_tree.proofs.FrontLists.{to_probability}
-use Rattle.gf_tree.proofs.FrontReasons.{spells_fault}
-use Rattle.gf_tree.proofs.FrontRefusals.{first_is, known_left, others_are}
+use Rattle.gf_tree.proofs.FrontRefusals.{known_left}
 use Rattle.gf_tree.proofs.FrontRuns.{in_actions}
 use Rattle.gf_tree.proofs.FrontShares.{same_sum}
 use Rattle.gf_tree.proofs.RunShares.{share_again, share_found}
@@ -61,12 +65,12 @@ action_law c name (suc player) n set sum some Closing =
 action_law c name (suc player) n set sum some _ = (λ a. a, refl)
 
 pub new_action : (f : FileFront) (key : SetKey) (set : InformationSet) → InActions f.front key set
-    → IsNewSet f.nodes key → 0 < key.player → Obeys f.before (a_new_action set.actions)
+    → IsNewSet f.nodes key → 0 < key.player → Stands f.before (a_new_action set.actions)
 new_action f key set h new some =
     let s = parts f (begins_actions f.front key set h) in
     let c = s.content in
     elim (in_actions f.front key set c h s.goes_on) [
-      | inl n ↦ obeys_in f s (NewAction n.name key set n.sum) c (a_new_action set.actions) n.answers
+      | inl n ↦ stands_in f s (NewAction n.name key set n.sum) c (a_new_action set.actions) n.answers
           (action_law c n.name key.player key.number set n.sum some) (λ a. a, refl)
       | inr k ↦ absurd (new k.known ((s.sets key k.known).1 k.is_known))
     ]
@@ -98,7 +102,7 @@ branch_law c name n set sum _ = (λ a. a, refl)
 
 pub new_branch : (f : FileFront) (n : ℕ) (set : InformationSet) (sum : Ratio)
     → InActions f.front (set_of 0 n) set → IsNewSet f.nodes (set_of 0 n) → HasSum set sum
-    → Obeys f.before (a_new_branch set.actions sum)
+    → Stands f.before (a_new_branch set.actions sum)
 new_branch f n set sum h new has =
     let key = set_of 0 n in
     let s = parts f (begins_actions f.front key set h) in
@@ -106,10 +110,41 @@ new_branch f n set sum h new has =
     elim (in_actions f.front key set c h s.goes_on) [
       | inl k ↦
           let same = same_sum set sum k.sum has k.have_sum in
-          obeys_in f s (NewAction k.name key set sum) c (a_new_branch set.actions sum)
+          stands_in f s (NewAction k.name key set sum) c (a_new_branch set.actions sum)
           (λ us. k.answers us
           ∙ ap (λ (x : Ratio). run_tokens (NewAction k.name key set x) c us) same)
           (branch_law c k.name n set sum) (λ a. a, refl)
+      | inr k ↦ absurd (new k.known ((s.sets key k.known).1 k.is_known))
+    ]
+
+-- a fraction whose numerator is its denominator is one
+one_is : (r : Ratio) → IsFraction r → r.num ≡ pos r.den → r ≡ whole (pos 1)
+one_is r is e = one_fraction r (whole (pos 1)) (pos 1) 1 is (whole_fraction 1 (omega arith))
+    (omega arith) (ap (λ z. z *ℤ pos 1) e ∙ *ℤ_comm (pos r.den) (pos 1)) refl
+
+equal : (z : ℤ) (d : ℕ) → z ≤ℤ pos d → int_lt z (pos d) ≡ false → z ≡ pos d
+equal z d h e = let low : pos d ≤ℤ z = grind (arith, ints, e) in omega (arith, ints, h, low)
+
+below : (sum : Ratio) → IsFraction sum → sum.num ≤ℤ pos sum.den → sum ≢ whole (pos 1)
+    → sum.num <ℤ pos sum.den
+below sum is high other = by (int_lt sum.num (pos sum.den)) refl
+  where
+    by : (b : Bool) → int_lt sum.num (pos sum.den) ≡ b → sum.num <ℤ pos sum.den
+    by true t = grind (arith, ints, t)
+    by false t = absurd (other (one_is sum is (equal sum.num sum.den high t)))
+
+-- the sum of a list that is open is one at most
+pub sum_below : (f : FileFront) (n : ℕ) (set : InformationSet) (sum : Ratio)
+    → InActions f.front (set_of 0 n) set → IsNewSet f.nodes (set_of 0 n) → HasSum set sum
+    → sum ≢ whole (pos 1) → sum.num <ℤ pos sum.den
+sum_below f n set sum h new has other =
+    let key = set_of 0 n in
+    let s = parts f (begins_actions f.front key set h) in
+    elim (in_actions f.front key set s.content h s.goes_on) [
+      | inl k ↦
+          let same = same_sum set sum k.sum has k.have_sum in
+          below sum (subst IsFraction same k.fraction)
+          (subst (λ (x : Ratio). x.num ≤ℤ pos x.den) same k.high) other
       | inr k ↦ absurd (new k.known ((s.sets key k.known).1 k.is_known))
     ]
 
@@ -177,7 +212,7 @@ probability_law c name key set sum label fraction _ = (λ a. a, refl)
 
 pub new_probability : (f : FileFront) (n : ℕ) (set : InformationSet) (sum : Ratio)
     → ToProbability f.front n set → IsNewSet f.nodes (set_of 0 n) → HasSum set sum
-    → Obeys f.before (a_probability sum)
+    → Stands f.before (a_probability sum)
 new_probability f n set sum h new has =
     let key = set_of 0 n in
     let s = parts f (begins_probability f.front n set h) in
@@ -185,7 +220,7 @@ new_probability f n set sum h new has =
     elim (to_probability f.front n set c h s.goes_on) [
       | inl k ↦
           let same = same_sum set sum k.sum has k.have_sum in
-          obeys_in f s (NewProbability k.name key set sum k.label) c (a_probability sum)
+          stands_in f s (NewProbability k.name key set sum k.label) c (a_probability sum)
           (λ us. k.answers us
           ∙ ap (λ (x : Ratio). run_tokens (NewProbability k.name key set x k.label) c us) same)
           (probability_law c k.name key set sum k.label (subst IsFraction same k.fraction))
@@ -202,12 +237,12 @@ known_law c b next others _ = (λ a. a, refl)
 
 pub known_action : (f : FileFront) (key : SetKey) (known seen : InformationSet) (next : Action)
     → InActions f.front key seen → KnowsSet f.nodes key known → GoesOnWith known seen next
-    → Obeys f.before (this_label next.label)
+    → Stands f.before (this_label next.label)
 known_action f key known seen next h knows more =
     let l = known_left f.players f.nodes f.before f.front key known seen f.ends (reads_on f) knows h
     in
     let left = others_are seen.actions l.others (next ∷ more.0) (sym l.parts ∙ more.1) in
-    obeys f.before (KnownAction l.b (next ∷ more.0)) l.content (this_label next.label) f.begins
+    stands_by f.before (KnownAction l.b (next ∷ more.0)) l.content (this_label next.label) f.begins
     (λ us. l.answers us
     ∙ ap (λ (xs : List Action). run_tokens (KnownAction l.b xs) l.content us) left)
     (known_law l.content l.b next more.0) (λ a. a, refl)
@@ -219,13 +254,13 @@ known_end_law c b _ = (λ a. a, refl)
 
 pub no_action_left : (f : FileFront) (key : SetKey) (known seen : InformationSet)
     → InActions f.front key seen → KnowsSet f.nodes key known → known.actions ≡ seen.actions
-    → Obeys f.before no_label
+    → Stands f.before no_label
 no_action_left f key known seen h knows same =
     let l = known_left f.players f.nodes f.before f.front key known seen f.ends (reads_on f) knows h
     in
     let left = others_are seen.actions l.others []
     (sym l.parts ∙ same ∙ sym (append-nil seen.actions)) in
-    obeys f.before (KnownAction l.b []) l.content no_label f.begins
+    stands_by f.before (KnownAction l.b []) l.content no_label f.begins
     (λ us. l.answers us
     ∙ ap (λ (xs : List Action). run_tokens (KnownAction l.b xs) l.content us) left)
     (known_end_law l.content l.b) (λ a. a, refl)
@@ -258,13 +293,14 @@ known_probability_law c b p others (Bare t) =
     same_answers p t (at (KnownAction b others) c) (number_of t) refl
 known_probability_law c b p others _ = (λ a. a, refl)
 
-some_is : (p q : Ratio) → Some p ≡ Some q → p ≡ q
+pub some_is : (p q : Ratio) → Some p ≡ Some q → p ≡ q
 some_is p q e = cc
 
-pub known_probability : (f : FileFront) (n : ℕ) (known seen : InformationSet) (next : Action)
-    (p : Ratio) → ToProbability f.front n seen → KnowsSet f.nodes (set_of 0 n) known
-    → GoesOnWith known seen next → next.probability ≡ Some p → Obeys f.before (this_number p)
-known_probability f n known seen next p h knows more has =
+pub known_share : (f : FileFront) (n : ℕ) (known seen : InformationSet) (next : Action)
+    → ToProbability f.front n seen → KnowsSet f.nodes (set_of 0 n) known
+    → GoesOnWith known seen next
+    → (p : Ratio) × (next.probability ≡ Some p) × Stands f.before (this_number p)
+known_share f n known seen next h knows more =
     let key = set_of 0 n in
     let s = parts f (begins_probability f.front n seen h) in
     let c = s.content in
@@ -277,10 +313,17 @@ known_probability f n known seen next p h knows more has =
           at_key in
           let left = others_are seen.actions (k.next ∷ k.others) (next ∷ more.0)
           (sym k.parts ∙ ap (λ (x : InformationSet). x.actions) same ∙ more.1) in
-          let is = some_is k.p p (sym k.is
-          ∙ ap (λ (a : Action). a.probability) (first_is k.next next k.others more.0 left) ∙ has) in
-          obeys_in f s (KnownProbability k.b p k.others) c (this_number p)
-          (λ us. k.answers us
-          ∙ ap (λ (x : Ratio). run_tokens (KnownProbability k.b x k.others) c us) is)
-          (known_probability_law c k.b p k.others) (λ a. a, refl)
+          let first = first_is k.next next k.others more.0 left in (
+            k.p,
+            ap (λ (a : Action). a.probability) (sym first) ∙ k.is,
+            stands_in f s (KnownProbability k.b k.p k.others) c (this_number k.p) k.answers
+                (known_probability_law c k.b k.p k.others) (λ a. a, refl),
+          )
     ]
+
+pub known_probability : (f : FileFront) (n : ℕ) (known seen : InformationSet) (next : Action)
+    (p : Ratio) → ToProbability f.front n seen → KnowsSet f.nodes (set_of 0 n) known
+    → GoesOnWith known seen next → next.probability ≡ Some p → Stands f.before (this_number p)
+known_probability f n known seen next p h knows more has =
+    let k = known_share f n known seen next h knows more in
+    subst (λ (x : Ratio). Stands f.before (this_number x)) (some_is k.0 p (sym k.1 ∙ has)) k.2

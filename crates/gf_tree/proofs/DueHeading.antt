@@ -10,17 +10,18 @@ use Rattle.gf_tree.specs.Machine.{Content, Position, State, at, nothing, step, w
 use Rattle.gf_tree.specs.Machine.Position.{Format, Version, Letter, Title, BeforePlayers}
 use Rattle.gf_tree.specs.Machine.Position.{InPlayers as Players, AfterPlayers, NodeDue}
 use Rattle.gf_tree.specs.RowPlaces.{BehindComment, BehindPlayers, InPlayers, ToPlayers, ToTitle}
-use Rattle.gf_tree.specs.Rows.{Obeys, Row, a_letter, a_node, a_player_name, a_text, a_word}
+use Rattle.gf_tree.specs.Rows.{Row, a_letter, a_node, a_player_name, a_text, a_word}
 use Rattle.gf_tree.specs.Rows.{an_opening, or_text}
 use Rattle.gf_tree.proofs.DueLaws as laws
-use Rattle.gf_tree.proofs.DueRows.{EndLaw, Law, obeys}
+use Rattle.gf_tree.proofs.DueRows.{Stands, EndLaw, Law, stands_by}
 use Rattle.gf_tree.proofs.RunHeading.{heading}
 use Rattle.gf_tree.proofs.RunPlaces.{Leads, begins, state_is, then_walk, walk, walk_more, walk_run}
 use Rattle.gf_tree.proofs.RunPlaces.{walked}
 
-obeys_led : (before : List Token) (q : Position) (c : Content) (row : Row) → Leads before (at q c)
-    → Law q c row → EndLaw q c row → Obeys before row
-obeys_led before q c row l law end = obeys before q c row (begins before (at q c) l)
+stands_led : (before : List Token) (q : Position) (c : Content) (row : Row) → Leads before (at q c)
+    → Law q c row → EndLaw q c row → Stands before row
+stands_led before q c row l law end =
+    stands_by before q c row (begins before (at q c) l)
     (λ us. walk_run before us Format nothing (at q c) l) law end
 
 -- ---- where the heading leads
@@ -88,44 +89,44 @@ behind_comment before players h =
 
 -- ---- the rows
 
-pub format : Obeys [] (a_word what.Format (codes "EFG"))
-format = obeys_led [] Format nothing _ refl (laws.format nothing) (λ a. a, refl)
+pub format : Stands [] (a_word what.Format (codes "EFG"))
+format = stands_led [] Format nothing _ refl (laws.format nothing) (λ a. a, refl)
 
-pub version : Obeys (Bare (codes "EFG") ∷ []) (a_word what.Version (codes "2"))
-version = obeys_led (Bare (codes "EFG") ∷ []) Version nothing _ refl (laws.version nothing)
+pub version : Stands (Bare (codes "EFG") ∷ []) (a_word what.Version (codes "2"))
+version = stands_led (Bare (codes "EFG") ∷ []) Version nothing _ refl (laws.version nothing)
     (λ a. a, refl)
 
-pub letter : Obeys (Bare (codes "EFG") ∷ Bare (codes "2") ∷ []) a_letter
-letter = obeys_led (Bare (codes "EFG") ∷ Bare (codes "2") ∷ []) Letter nothing _ refl
+pub letter : Stands (Bare (codes "EFG") ∷ Bare (codes "2") ∷ []) a_letter
+letter = stands_led (Bare (codes "EFG") ∷ Bare (codes "2") ∷ []) Letter nothing _ refl
     (laws.letter nothing) (λ a. a, refl)
 
-pub title : (before : List Token) → ToTitle before → Obeys before a_text
-title before h = obeys_led before Title nothing a_text (to_title before h) (laws.title nothing)
+pub title : (before : List Token) → ToTitle before → Stands before a_text
+title before h = stands_led before Title nothing a_text (to_title before h) (laws.title nothing)
     (λ a. a, refl)
 
-pub before_players : (before : List Token) → ToPlayers before → Obeys before an_opening
+pub before_players : (before : List Token) → ToPlayers before → Stands before an_opening
 before_players before h =
     let c = heading h.1 [] in
-    obeys_led before BeforePlayers c an_opening (to_players before h) (laws.before_players c)
+    stands_led before BeforePlayers c an_opening (to_players before h) (laws.before_players c)
     (λ a. a, refl)
 
 pub player_names : (before : List Token) (players : List (List ℕ)) → InPlayers before players
-    → Obeys before a_player_name
+    → Stands before a_player_name
 player_names before players h =
     let c = heading h.1.1 players in
-    obeys_led before Players c a_player_name (in_players before players h) (laws.in_players c)
+    stands_led before Players c a_player_name (in_players before players h) (laws.in_players c)
     (λ a. a, refl)
 
 pub after_players : (before : List Token) (players : List (List ℕ)) → BehindPlayers before players
-    → Obeys before (or_text (a_node (length players)))
+    → Stands before (or_text (a_node (length players)))
 after_players before players h =
     let c = heading h.1.1.1 players in
-    obeys_led before AfterPlayers c (or_text (a_node (length players)))
+    stands_led before AfterPlayers c (or_text (a_node (length players)))
     (behind_players before players h) (laws.after_players c) (λ a. a, refl)
 
 pub after_comment : (before : List Token) (players : List (List ℕ)) → BehindComment before players
-    → Obeys before (a_node (length players))
+    → Stands before (a_node (length players))
 after_comment before players h =
     let c : Content = record (heading h.2.1.1.1 players) { comment = h.1 } in
-    obeys_led before NodeDue c (a_node (length players)) (behind_comment before players h)
+    stands_led before NodeDue c (a_node (length players)) (behind_comment before players h)
     (laws.node_due c 0 refl) (λ a. a, refl)

@@ -2,22 +2,41 @@
 -- positions.
 use Rattle.std.proofs.Common.{◌≡◌, ℕ, suc, Bool, true, false, cond, List, []}
 use Rattle.std.proofs.Common.{◌∷◌, length, Result, Ok, Err, refl, sym, subst, ◌∙◌, arith}
-use Rattle.std.proofs.Common.{inl, inr, nat_eq}
+use Rattle.std.proofs.Common.{None, inl, inr, nat_eq}
 use Rattle.std.specs.Prelude.{codes, ◌||◌, ◌≢◌}
 use Rattle.std.specs.Cmp.Lexicographic.{pointwise}
+use Rattle.gf_fraction.specs.Computed.{number_of}
+use Rattle.gf_fraction.specs.NumberSpelling.{HasNumberFault, Reads as Spelled}
+use Rattle.gf_fraction.specs.declared.fraction.NumberFault.{NumberFault}
+use Rattle.gf_fraction.proofs.ComputedAnswers.{number_is_computed}
 use Rattle.gf_token.specs.Token.Token.{Opening, Closing, Text, Bare, Broken}
 use Rattle.gf_token.specs.declared.fault.What.{What}
 use Rattle.gf_token.specs.declared.fault.What.TheVariants as what
 use Rattle.gf_token.specs.declared.fault.Why.{Why}
 use Rattle.gf_token.specs.declared.fault.Why.TheVariants.{Expected}
+use Rattle.gf_token.specs.Index.{IsIndex}
+use Rattle.gf_token.specs.Indices.{count_of, index_of}
+use Rattle.gf_token.proofs.ReadingIndices.{count_again, index_again}
 use Rattle.gf_tree.specs.Machine.{Content, State, after_node, at, node_letter, personal_node}
 use Rattle.gf_tree.specs.Machine.Position.{Format, Version, Letter, Title, BeforePlayers, InPlayers}
 use Rattle.gf_tree.specs.Machine.Position.{AfterPlayers, NodeDue, ChanceName, PersonalName}
 use Rattle.gf_tree.specs.Machine.Position.{TerminalName}
 use Rattle.gf_tree.specs.Rows.{a_letter, a_node, a_player_name, a_text}
 use Rattle.gf_tree.specs.Rows.{a_word, an_end, an_opening, or_text}
+use Rattle.gf_tree.specs.Sentence.{IsPositive}
 use Rattle.gf_tree.proofs.DueRows.{Answers, Law}
 use Rattle.gf_tree.proofs.RunTokens.{bytes_same, same_bytes}
+
+-- ---- numbers
+
+pub spells_fault : (b : List ℕ) (fault : NumberFault) → number_of b ≡ Err fault → HasNumberFault b fault
+spells_fault b fault e = subst (Spelled b) e (number_is_computed b)
+
+pub no_positive : (b : List ℕ) → count_of b ≡ None → (n : ℕ) → ¬ (IsPositive b n)
+no_positive b e n h = let k = count_again b n h.1 h.0 in absurd cc
+
+pub no_index : (b : List ℕ) → index_of b ≡ None → (n : ℕ) → ¬ (IsIndex b n)
+no_index b e n h = let k = index_again b n h in absurd cc
 
 -- ---- words
 

@@ -23,13 +23,13 @@ use Rattle.gf_tree.specs.Machine.Position.{PlayerNumber, SetNumber, NewSetName, 
 use Rattle.gf_tree.specs.Machine.Position.{KnownSetName, KnownSetOpening}
 use Rattle.gf_tree.specs.ReadGame.{run_tokens, then_run}
 use Rattle.gf_tree.specs.RowPlaces.{BehindLetter, BehindSetName, FileFront}
-use Rattle.gf_tree.specs.Rows.{Obeys, Row, a_first_name, a_player, a_set, a_text, an_opening}
+use Rattle.gf_tree.specs.Rows.{Row, a_first_name, a_player, a_set, a_text, an_opening}
 use Rattle.gf_tree.specs.Rows.{an_outcome, or_name}
-use Rattle.gf_tree.proofs.DueLaws.{chance_name, other_word, personal_name, terminal_name}
-use Rattle.gf_tree.proofs.DueRows.{Answers, EndLaw, Law, obeys}
+use Rattle.gf_tree.proofs.DueLaws.{chance_name, no_index, no_positive, other_word, personal_name}
+use Rattle.gf_tree.proofs.DueLaws.{terminal_name}
+use Rattle.gf_tree.proofs.DueRows.{Stands, Answers, EndLaw, Law, stands_by}
 use Rattle.gf_tree.proofs.FrontCodes.{BeginsBare, ReadsOn, Split, begins_number, begins_on, new_is}
 use Rattle.gf_tree.proofs.FrontCodes.{split}
-use Rattle.gf_tree.proofs.FrontReasons.{no_index, no_positive}
 use Rattle.gf_tree.proofs.FrontRuns.{behind_number, due_is, goes_before, to_number, to_player}
 use Rattle.gf_tree.proofs.Groups.{regroup}
 use Rattle.gf_tree.proofs.RunPlaces.{is_read}
@@ -49,11 +49,11 @@ pub parts : (f : FileFront) → BeginsBare f.front → Parts f
 parts f bare = split f.players f.nodes f.before f.front f.ends bare (reads_on f)
 
 -- where the machine comes to behind the front
-pub obeys_in : (f : FileFront) (s : Parts f) (q : Position) (c : Content) (row : Row)
+pub stands_in : (f : FileFront) (s : Parts f) (q : Position) (c : Content) (row : Row)
     → ((us : List Token) → run_tokens NodeDue s.content (f.front ++ us) ≡ run_tokens q c us)
-    → Law q c row → EndLaw q c row → Obeys f.before row
-obeys_in f s q c row answers law end =
-    obeys f.before q c row f.begins (λ us. s.answers us ∙ answers us) law end
+    → Law q c row → EndLaw q c row → Stands f.before row
+stands_in f s q c row answers law end =
+    stands_by f.before q c row f.begins (λ us. s.answers us ∙ answers us) law end
 
 -- ---- the name of a node
 
@@ -90,7 +90,7 @@ node_named : (c r : Content) (b : List ℕ) (more : List Token)
 node_named c r b more e = letter_named c r (pointwise nat_eq b (codes "c"))
     (pointwise nat_eq b (codes "p")) (pointwise nat_eq b (codes "t")) more e
 
-pub node_name : (f : FileFront) → BehindLetter f.front → Obeys f.before a_text
+pub node_name : (f : FileFront) → BehindLetter f.front → Stands f.before a_text
 node_name f h =
     let s = parts f (h.0, [], h.1) in
     let c = s.content in
@@ -101,7 +101,7 @@ node_name f h =
     λ us. ap (λ (ts : List Token). run_tokens NodeDue c (ts ++ us)) h.1
     ∙ ap (λ (n : ℕ). then_run (after_node c n h.0) (run_on us)) due.1 in
     let k = node_named c g.read h.0 g.more (sym (letter g.more) ∙ g.reads) in
-    obeys_in f s k.q c a_text (λ us. letter us ∙ k.answers us) k.law k.end
+    stands_in f s k.q c a_text (λ us. letter us ∙ k.answers us) k.law k.end
 
 -- ---- the numbers of a player and of a set
 
@@ -134,13 +134,13 @@ player_law c name (Bare b) = player_by c name b (count_of b) refl
 player_law c name _ = (λ a. a, refl)
 
 pub player : (f : FileFront) → ToPlayerNumber f.front
-    → Obeys f.before (a_player (length f.players))
+    → Stands f.before (a_player (length f.players))
 player f h =
     let s = parts f (codes "p", Text h.0 ∷ [], h.1) in
     let c = s.content in
     let k = to_player f.front c h s.goes_on in
-    subst (λ (ps : List (List ℕ)). Obeys f.before (a_player (length ps))) s.same_players
-    (obeys_in f s (PlayerNumber k.name) c (a_player (length c.players)) k.answers
+    subst (λ (ps : List (List ℕ)). Stands f.before (a_player (length ps))) s.same_players
+    (stands_in f s (PlayerNumber k.name) c (a_player (length c.players)) k.answers
     (player_law c k.name) (λ a. a, refl))
 
 set_by : (c : Content) (name b : List ℕ) (player : ℕ) (o : Option ℕ) → count_of b ≡ o
@@ -153,11 +153,11 @@ set_law c name player (Bare b) = set_by c name b player (count_of b) refl
 set_law c name player _ = (λ a. a, refl)
 
 pub set_number_due : (f : FileFront) (player : ℕ) → ToSetNumber f.front player
-    → Obeys f.before a_set
+    → Stands f.before a_set
 set_number_due f player h =
     let s = parts f (h.0, Text h.1 ∷ h.2, h.3) in
     let k = to_number f.front player s.content h s.goes_on in
-    obeys_in f s (SetNumber k.name player) s.content a_set k.answers
+    stands_in f s (SetNumber k.name player) s.content a_set k.answers
     (set_law s.content k.name player) (λ a. a, refl)
 
 -- ---- the name of a set
@@ -168,14 +168,14 @@ new_name_law c name key (Text label) = tt
 new_name_law c name key _ = (λ a. a, refl)
 
 pub new_set : (f : FileFront) (key : SetKey) → BehindSetNumber f.front key → IsNewSet f.nodes key
-    → Obeys f.before a_first_name
+    → Stands f.before a_first_name
 new_set f key h new =
     let s = parts f (begins_number f.front key h) in
     let c = s.content in
     let k = behind_number f.front key c h s.goes_on in
     let unknown = new_is (description_at same_set c.sets key)
     (λ d e. new d ((s.sets key d).1 e)) in
-    obeys_in f s (NewSetName k.name key) c a_first_name
+    stands_in f s (NewSetName k.name key) c a_first_name
     (λ us. k.answers us ∙ ap (λ o. run_tokens (behind_set k.name key o) c us) unknown)
     (new_name_law c k.name key) (λ a. a, refl)
 
@@ -210,12 +210,12 @@ known_name_law c name key set (Bare b) =
 known_name_law c name key set _ = (λ a. a, refl)
 
 pub known_set : (f : FileFront) (key : SetKey) (set : InformationSet) → BehindSetNumber f.front key
-    → KnowsSet f.nodes key set → Obeys f.before (or_name set.name an_outcome)
+    → KnowsSet f.nodes key set → Stands f.before (or_name set.name an_outcome)
 known_set f key set h knows =
     let s = parts f (begins_number f.front key h) in
     let c = s.content in
     let k = behind_number f.front key c h s.goes_on in
-    obeys_in f s (KnownSetName k.name key set) c (or_name set.name an_outcome)
+    stands_in f s (KnownSetName k.name key set) c (or_name set.name an_outcome)
     (λ us. k.answers us
     ∙ ap (λ o. run_tokens (behind_set k.name key o) c us) ((s.sets key set).0 knows))
     (known_name_law c k.name key set) (λ a. a, refl)
@@ -260,7 +260,7 @@ opens_by c r name label key (Some set) more e =
     }
 
 pub set_opening : (f : FileFront) (key : SetKey) → BehindSetName f.front key
-    → Obeys f.before an_opening
+    → Stands f.before an_opening
 set_opening f key h =
     let s = parts f (begins_on f.front h.0 (Text h.1 ∷ []) (begins_number h.0 key h.2) h.3) in
     let c = s.content in
@@ -270,4 +270,4 @@ set_opening f key h =
     (regroup f.front h.0 (Text h.1 ∷ []) us h.3) ∙ k.answers (Text h.1 ∷ us) in
     let o = opens_by c g.read k.name h.1 key (description_at same_set c.sets key) g.more
     (sym (first g.more) ∙ g.reads) in
-    obeys_in f s o.next c an_opening (λ us. first us ∙ o.answers us) o.law o.end
+    stands_in f s o.next c an_opening (λ us. first us ∙ o.answers us) o.law o.end

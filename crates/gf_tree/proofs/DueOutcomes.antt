@@ -18,10 +18,10 @@ use Rattle.gf_tree.specs.Machine.Position.{NewOutcomeOpening, KnownOutcomeName}
 use Rattle.gf_tree.specs.Machine.Position.{KnownOutcomeOpening}
 use Rattle.gf_tree.specs.ReadGame.{run_tokens, then_run}
 use Rattle.gf_tree.specs.RowPlaces.{BehindOutcomeName, BehindSet, BehindZero, FileFront}
-use Rattle.gf_tree.specs.Rows.{Obeys, a_first_name, a_node, an_end, an_opening, an_outcome, or_name}
+use Rattle.gf_tree.specs.Rows.{a_first_name, a_node, an_end, an_opening, an_outcome, or_name}
 use Rattle.gf_tree.proofs.DueLaws.{after_last_node, node_by, node_due}
-use Rattle.gf_tree.proofs.DueNodes.{Parts, name_by, named_bare, obeys_in, outcome_by, parts}
-use Rattle.gf_tree.proofs.DueRows.{Answers, Law}
+use Rattle.gf_tree.proofs.DueNodes.{Parts, name_by, named_bare, stands_in, outcome_by, parts}
+use Rattle.gf_tree.proofs.DueRows.{Stands, Answers, Law}
 use Rattle.gf_tree.proofs.FrontCodes.{BeginsBare, begins_on, begins_outcome, new_is}
 use Rattle.gf_tree.proofs.FrontLists.{behind_outcome_number, known_step_of, to_outcome, to_told}
 use Rattle.gf_tree.proofs.FrontRuns.{GoesOn, goes_before}
@@ -37,11 +37,11 @@ outcome_law c b _ = (λ a. a, refl)
 begins_step : (front : List Token) (set : _) → ToOutcomeNumber front set → BeginsBare front
 begins_step front set h = (h.0, Text h.1 ∷ h.2, h.3)
 
-pub outcome_number_due : (f : FileFront) → BehindSet f.front → Obeys f.before an_outcome
+pub outcome_number_due : (f : FileFront) → BehindSet f.front → Stands f.before an_outcome
 outcome_number_due f h =
     let s = parts f (begins_step f.front h.0 h.1) in
     let k = to_told f.front h.0 s.content h.1 h.2 s.goes_on in
-    obeys_in f s (OutcomeNumber k.b) k.content an_outcome k.answers (outcome_law k.content k.b)
+    stands_in f s (OutcomeNumber k.b) k.content an_outcome k.answers (outcome_law k.content k.b)
     (λ a. a, refl)
 
 -- ---- behind a node
@@ -51,7 +51,7 @@ not_zero n = search (tests, rules)
 
 -- the end, or the letter of a node
 abbrev pub GoesOnBehind : FileFront → Type 0
-GoesOnBehind f = Obeys f.before an_end ⊎ Obeys f.before (a_node (length f.players))
+GoesOnBehind f = Stands f.before an_end ⊎ Stands f.before (a_node (length f.players))
 
 pub behind_node : (f : FileFront) (s : Parts f) (c : Content) → c.players ≡ f.players
     → ((us : List Token) → run_tokens NodeDue s.content (f.front ++ us) ≡ run_tokens NodeDue c us)
@@ -60,11 +60,11 @@ behind_node f s c players answers = by c.due refl
   where
     by : (n : ℕ) → c.due ≡ n → GoesOnBehind f
     by zero e =
-        inl (obeys_in f s NodeDue c an_end answers (after_last_node c e) (rw e tt))
+        inl (stands_in f s NodeDue c an_end answers (after_last_node c e) (rw e tt))
     by (suc n) e =
         let none = not_zero n in
-        inr (subst (λ (ps : List (List ℕ)). Obeys f.before (a_node (length ps))) players
-        (obeys_in f s NodeDue c (a_node (length c.players)) answers (node_due c n e)
+        inr (subst (λ (ps : List (List ℕ)). Stands f.before (a_node (length ps))) players
+        (stands_in f s NodeDue c (a_node (length c.players)) answers (node_due c n e)
         (rw (e, none) (λ a. a, refl))))
 
 pub zero_front : (f : FileFront) → BehindZero f.front → BeginsBare f.front
@@ -90,14 +90,14 @@ new_name_law c b n (Text label) = tt
 new_name_law c b n _ = (λ a. a, refl)
 
 pub new_outcome : (f : FileFront) (n : ℕ) → BehindOutcomeNumber f.front n → IsNewOutcome f.nodes n
-    → Obeys f.before a_first_name
+    → Stands f.before a_first_name
 new_outcome f n h new =
     let s = parts f (begins_outcome f.front n h) in
     let c = s.content in
     let k = behind_outcome_number f.front n c h s.goes_on in
     let unknown = new_is (description_at nat_eq c.outcomes n)
     (λ d e. new d ((s.outcomes n d).1 e)) in
-    obeys_in f s (NewOutcomeName k.b n) k.content a_first_name
+    stands_in f s (NewOutcomeName k.b n) k.content a_first_name
     (λ us. k.answers us ∙ ap (λ o. run_on us (behind_outcome k.content k.b n o)) unknown)
     (new_name_law k.content k.b n) (λ a. a, refl)
 
@@ -119,8 +119,8 @@ known_end_law c outcome e Broken = (λ a. a, refl)
 known_end_law c outcome e _ = rw e (λ a. a, refl)
 
 abbrev pub GoesOnBehindOr : List ℕ → FileFront → Type 0
-GoesOnBehindOr name f = Obeys f.before (or_name name an_end)
-    ⊎ Obeys f.before (or_name name (a_node (length f.players)))
+GoesOnBehindOr name f = Stands f.before (or_name name an_end)
+    ⊎ Stands f.before (or_name name (a_node (length f.players)))
 
 behind_known : (f : FileFront) (s : Parts f) (c : Content) (outcome : Outcome)
     → c.players ≡ f.players → ((us : List Token) → run_tokens NodeDue s.content (f.front ++ us)
@@ -129,13 +129,13 @@ behind_known f s c outcome players answers = by c.due refl
   where
     by : (n : ℕ) → c.due ≡ n → GoesOnBehindOr outcome.name f
     by zero e =
-        inl (obeys_in f s (KnownOutcomeName outcome) c (or_name outcome.name an_end) answers
+        inl (stands_in f s (KnownOutcomeName outcome) c (or_name outcome.name an_end) answers
         (known_end_law c outcome e) (rw e tt))
     by (suc n) e =
         let none = not_zero n in
         inr (subst (λ (ps : List (List ℕ)).
-        Obeys f.before (or_name outcome.name (a_node (length ps)))) players
-        (obeys_in f s (KnownOutcomeName outcome) c
+        Stands f.before (or_name outcome.name (a_node (length ps)))) players
+        (stands_in f s (KnownOutcomeName outcome) c
         (or_name outcome.name (a_node (length c.players))) answers (known_node_law c outcome n e)
         (rw (e, none) (λ a. a, refl))))
 
@@ -220,12 +220,12 @@ begins_name front n h =
     begins_on front h.0 (Text h.1 ∷ []) (begins_outcome h.0 n h.2) h.3
 
 pub outcome_opening : (f : FileFront) (n : ℕ) → BehindOutcomeName f.front n
-    → Obeys f.before an_opening
+    → Stands f.before an_opening
 outcome_opening f n h =
     let s = parts f (begins_name f.front n h) in
     elim (behind_name f.front n s.content h s.goes_on) [
-      | inl k ↦ obeys_in f s (NewOutcomeOpening k.b n k.label) k.content an_opening k.answers
+      | inl k ↦ stands_in f s (NewOutcomeOpening k.b n k.label) k.content an_opening k.answers
           (new_opening_law k.content k.b n k.label) (λ a. a, refl)
-      | inr k ↦ obeys_in f s (KnownOutcomeOpening k.known.payoffs) k.content an_opening k.answers
+      | inr k ↦ stands_in f s (KnownOutcomeOpening k.known.payoffs) k.content an_opening k.answers
           (known_opening_law k.content k.known.payoffs) (λ a. a, refl)
     ]

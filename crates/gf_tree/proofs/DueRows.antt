@@ -10,20 +10,16 @@ use Rattle.gf_token.specs.declared.fault.Why.TheVariants.{Unterminated}
 use Rattle.gf_tree.specs.Front.{IsExtensiveFile}
 use Rattle.gf_tree.specs.Machine.{Content, Position, State, at, due, may_end, node_or_end}
 use Rattle.gf_tree.specs.Machine.{nothing, step}
-use Rattle.gf_tree.specs.Machine.Position.{Format, Version, Letter, Title, BeforePlayers, InPlayers}
-use Rattle.gf_tree.specs.Machine.Position.{AfterPlayers, NodeDue, ChanceName, PersonalName}
-use Rattle.gf_tree.specs.Machine.Position.{TerminalName, PlayerNumber, SetNumber, NewSetName}
-use Rattle.gf_tree.specs.Machine.Position.{NewSetOpening, NewAction, NewProbability, KnownSetName}
-use Rattle.gf_tree.specs.Machine.Position.{KnownSetOpening, KnownAction, KnownProbability}
-use Rattle.gf_tree.specs.Machine.Position.{OutcomeNumber, NewOutcomeName, NewOutcomeOpening}
+use Rattle.gf_tree.specs.Machine.Position.{Format}
+use Rattle.gf_tree.specs.Machine.Position.{NodeDue}
+use Rattle.gf_tree.specs.Machine.Position.{KnownAction}
 use Rattle.gf_tree.specs.Machine.Position.{NewPayoff, AfterNewPayoff, KnownOutcomeName}
-use Rattle.gf_tree.specs.Machine.Position.{KnownOutcomeOpening, KnownPayoff, AfterKnownPayoff}
+use Rattle.gf_tree.specs.Machine.Position.{KnownPayoff, AfterKnownPayoff}
 use Rattle.gf_tree.specs.ReadGame.{run_tokens, then_run}
-use Rattle.gf_tree.specs.Reason.{IsReason}
-use Rattle.gf_tree.specs.Rows.{Row, Accepts, Obeys, Refuses, RefusesFor, Takes}
-use Rattle.gf_tree.proofs.FrontJudged.{reason}
+use Rattle.gf_tree.specs.Rows.{Row, Accepts, Refuses, RefusesFor, Takes}
 use Rattle.gf_tree.proofs.RunPlaces.{Leads, follows, is_file, is_read, no_file, not_follows}
 use Rattle.gf_tree.proofs.RunPlaces.{then_walk, walk, walk_run}
+use Rattle.gf_tree.proofs.RunStops.{StopsAt, not_accepted}
 use Rattle.gf_tree.proofs.RunTokens.{Reads, run_on}
 
 -- ---- what the machine answers, by a row
@@ -46,6 +42,28 @@ EndLaw q c row = AnswersEnd row (may_end q c.due) (due q c.due)
 abbrev pub StandsFor : List Token → Position → Content → Type 0
 StandsFor before q c =
     (us : List Token) → run_tokens Format nothing (before ++ us) ≡ run_tokens q c us
+
+-- some file begins with these tokens, and the machine stands for them where it answers as the row
+-- says
+pub record Stands (before : List Token) (row : Row) : Type 0 where
+  pub begins : Begins IsExtensiveFile before
+  pub position : Position
+  pub content : Content
+  pub answers : StandsFor before position content
+  pub law : Law position content row
+  pub end : EndLaw position content row
+
+pub stands_by : (before : List Token) (q : Position) (c : Content) (row : Row)
+    → Begins IsExtensiveFile before → StandsFor before q c → Law q c row → EndLaw q c row
+    → Stands before row
+stands_by before q c row begins answers law end = record {
+  begins = begins;
+  position = q;
+  content = c;
+  answers = answers;
+  law = law;
+  end = end;
+}
 
 -- ---- some tokens lead to a state
 
@@ -77,41 +95,19 @@ node_ends zero e = absurd cc
 node_ends (suc n) e = absurd cc
 
 ends_text : (q : Position) (n : ℕ) → due q n ≡ Unterminated → ⊥
-ends_text Format n e = absurd cc
-ends_text Version n e = absurd cc
-ends_text Letter n e = absurd cc
-ends_text Title n e = absurd cc
-ends_text BeforePlayers n e = absurd cc
-ends_text InPlayers n e = absurd cc
-ends_text AfterPlayers n e = absurd cc
 ends_text NodeDue n e = node_ends n e
-ends_text ChanceName n e = absurd cc
-ends_text PersonalName n e = absurd cc
-ends_text TerminalName n e = absurd cc
-ends_text (PlayerNumber name) n e = absurd cc
-ends_text (SetNumber name player) n e = absurd cc
-ends_text (NewSetName name key) n e = absurd cc
-ends_text (NewSetOpening name key label) n e = absurd cc
-ends_text (NewAction name key set sum) n e = absurd cc
-ends_text (NewProbability name key set sum label) n e = absurd cc
-ends_text (KnownSetName name key set) n e = absurd cc
-ends_text (KnownSetOpening b actions) n e = absurd cc
 ends_text (KnownAction b []) n e = absurd cc
 ends_text (KnownAction b (a ∷ actions)) n e = absurd cc
-ends_text (KnownProbability b p actions) n e = absurd cc
-ends_text (OutcomeNumber b) n e = absurd cc
-ends_text (NewOutcomeName b m) n e = absurd cc
-ends_text (NewOutcomeOpening b m label) n e = absurd cc
 ends_text (NewPayoff b m outcome zero) n e = absurd cc
 ends_text (NewPayoff b m outcome (suc left)) n e = absurd cc
 ends_text (AfterNewPayoff b m outcome zero) n e = absurd cc
 ends_text (AfterNewPayoff b m outcome (suc left)) n e = absurd cc
 ends_text (KnownOutcomeName outcome) n e = node_ends n e
-ends_text (KnownOutcomeOpening ps) n e = absurd cc
 ends_text (KnownPayoff []) n e = absurd cc
 ends_text (KnownPayoff (p ∷ ps)) n e = absurd cc
 ends_text (AfterKnownPayoff []) n e = absurd cc
 ends_text (AfterKnownPayoff (p ∷ ps)) n e = absurd cc
+ends_text q n e = absurd cc
 
 abbrev refused : Why → Result Content Why
 refused why = Err why
@@ -137,15 +133,16 @@ not_always s why h =
 
 -- ---- what may follow, and why the rest is refused
 
-abbrev ObeysAt : List Token → Row → List Token → Type 0
-ObeysAt before row after = (IsAccepted IsExtensiveFile before after ↔ Accepts row after)
-    × (¬ (Accepts row after) → (why : Why) × Refuses row after why × IsReason why before after)
+-- just what the row accepts is accepted, and all else stops the machine as the row says
+abbrev pub AnswersAt : List Token → State → Row → List Token → Type 0
+AnswersAt before s row after = (IsAccepted IsExtensiveFile before after ↔ Accepts row after)
+    × (¬ (Accepts row after) → (why : Why) × Refuses row after why × StopsAt s after why)
 
 module _ (before : List Token) (s : State) (l : Leads before s) (row : Row) where
   at_token : (t : Token) (after : List Token) (o p : Result State Why)
       → step s.position s.content t ≡ o
       → ((us : List Token) → then_run o (run_on us) ≡ then_run p (run_on us)) → Answers row t p
-      → ObeysAt before row (t ∷ after)
+      → AnswersAt before s row (t ∷ after)
   at_token t after (Ok x) (Ok y) e alike a =
       ((λ f. a, λ h. follows before t s x l e), λ n. absurd (n a))
   at_token t after (Ok x) (Err why) e alike a = absurd (not_always x why alike)
@@ -154,47 +151,51 @@ module _ (before : List Token) (s : State) (l : Leads before s) (row : Row) wher
   at_token t after (Err why) (Err other) e alike a =
       let same = one_refusal why other (alike []) in (
         (λ f. absurd (not_follows before t s why l e f), λ h. absurd (a.0 h)),
-        λ n. (
-          why,
-          subst (RefusesFor row t) (sym same) a.1,
-          reason before (t ∷ after) s why l e,
-        ),
+        λ n. (why, subst (RefusesFor row t) (sym same) a.1, e),
       )
 
   at_last : (b t : Bool) (c : Content) (why : Why)
       → may_end s.position s.content.due ≡ b
       → at_end b s.content (due s.position s.content.due) ≡ at_end t c why → AnswersEnd row t why
-      → ObeysAt before row []
+      → AnswersAt before s row []
   at_last true true c why e alike a = ((λ f. a, λ h. is_file before s l e), λ n. absurd (n a))
   at_last true false c why e alike a = absurd cc
   at_last false true c why e alike a = absurd cc
   at_last false false c why e alike a =
       let same = one_refusal (due s.position s.content.due) why alike in (
         (λ f. absurd (no_file before s l e f), λ h. absurd (a.0 h)),
-        λ n. (
-          due s.position s.content.due,
-          same ∙ a.1,
-          reason before [] s (due s.position s.content.due) l (e, refl),
-        ),
+        λ n. (due s.position s.content.due, same ∙ a.1, (e, refl)),
       )
 
-obeys_at : (before after : List Token) (q : Position) (c : Content) (row : Row) (s : State)
+by_state : (before after : List Token) (q : Position) (c : Content) (row : Row) (s : State)
     → Leads before s → ((us : List Token) → run_on us s ≡ run_tokens q c us) → Law q c row
-    → EndLaw q c row → ObeysAt before row after
-obeys_at before [] q c row s l alike law end =
+    → EndLaw q c row → AnswersAt before s row after
+by_state before [] q c row s l alike law end =
     at_last before s l row (may_end s.position s.content.due) (may_end q c.due) c (due q c.due) refl
     (alike []) end
-obeys_at before (t ∷ after) q c row s l alike law end =
+by_state before (t ∷ after) q c row s l alike law end =
     at_token before s l row t after (step s.position s.content t) (step q c t) refl
     (λ us. alike (t ∷ us)) (law t)
 
-pub obeys : (before : List Token) (q : Position) (c : Content) (row : Row)
-    → Begins IsExtensiveFile before → StandsFor before q c → Law q c row → EndLaw q c row
-    → Obeys before row
-obeys before q c row begins stands law end =
-    let l = leads before begins in
-    let alike = λ (us : List Token). sym (walk_run before us Format nothing l.0 l.1) ∙ stands us in
-    record {
-      accepts = λ after. (obeys_at before after q c row l.0 l.1 alike law end).0;
-      refuses = λ after. (obeys_at before after q c row l.0 l.1 alike law end).1;
-    }
+pub answers_at : (before after : List Token) (s : State) (row : Row) → Leads before s
+    → Stands before row → AnswersAt before s row after
+answers_at before after s row l h = by_state before after h.position h.content row s l
+    (λ us. sym (walk_run before us Format nothing s l) ∙ h.answers us) h.law h.end
+
+pub accepted : (before : List Token) (row : Row) → Stands before row → (after : List Token)
+    → IsAccepted IsExtensiveFile before after ↔ Accepts row after
+accepted before row h after =
+    let l = leads before h.begins in (answers_at before after l.0 row l.1 h).0
+
+one_stop : (after : List Token) (s : State) (why other : Why) → StopsAt s after why
+    → StopsAt s after other → why ≡ other
+one_stop [] s why other h k = sym h.1 ∙ k.1
+one_stop (t ∷ after) s why other h k = cc
+
+pub refused_by : (before after : List Token) (s : State) (why : Why) (row : Row) → Leads before s
+    → StopsAt s after why → Stands before row → ¬ (Accepts row after) × Refuses row after why
+refused_by before after s why row l h stands =
+    let a = answers_at before after s row l stands in
+    let never = λ (k : Accepts row after). not_accepted before after s why l h (a.0.1 k) in
+    let r = a.1 never in
+    (never, subst (λ (w : Why). Refuses row after w) (one_stop after s r.0 why r.2 h) r.1)

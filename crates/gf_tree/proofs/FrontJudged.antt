@@ -20,13 +20,14 @@ use Rattle.gf_tree.specs.Machine.{Content, State, due, nothing, run, step}
 use Rattle.gf_tree.specs.Machine.Position.{Format}
 use Rattle.gf_tree.specs.ReadGame.{run_tokens, then_run}
 use Rattle.gf_tree.specs.Reason.{Holds, IsReason}
-use Rattle.gf_tree.proofs.FrontCodes.{IsUpTo, ReadsOn, bad_index, no_number, refused}
-use Rattle.gf_tree.proofs.FrontDue.{wanted}
-use Rattle.gf_tree.proofs.FrontOwned.{owned}
-use Rattle.gf_tree.proofs.FrontReasons.{Own, Owns, wanted_own}
-use Rattle.gf_tree.proofs.FrontRefusals.{first_of, first_use, mismatch, unknown_player}
+use Rattle.gf_tree.specs.Rows.{Obeys, Row}
+use Rattle.gf_tree.proofs.DueRows.{Stands, accepted, answers_at, leads, refused_by}
+use Rattle.gf_tree.proofs.FrontCodes.{IsUpTo, ReadsOn, refused}
+use Rattle.gf_tree.proofs.FrontRefusals.{first_of, no_player}
 use Rattle.gf_tree.proofs.FrontShares.{above, below_one, lists_nothing, negative, overflows}
-use Rattle.gf_tree.proofs.FrontSteps.{stands_at}
+use Rattle.gf_tree.proofs.LowestCodes.{bad_index, mismatch, no_number, no_such_player, undescribed}
+use Rattle.gf_tree.proofs.NodeReasons.{reasoned}
+use Rattle.gf_tree.proofs.RowReasons.{Own}
 use Rattle.gf_tree.proofs.RunEnds.{ends}
 use Rattle.gf_tree.proofs.RunPlaces.{Leads, begins, leads_fine, walk_run}
 use Rattle.gf_tree.proofs.RunStops.{StopsAt, not_accepted, stopped}
@@ -73,30 +74,28 @@ module _ (before after : List Token) (s : State) (why : Why) (l : Leads before s
   low_as_either other lower named bound e (inr q) low high =
       low_as named bound (e ∙ ap refused q) high
 
-  -- in a first use without a description
-  undescribed : Holds NotDescribed before after → IsUpTo why 9
-  undescribed k =
-      let f = first_use before after reads k.0 k.1 in
-      low_as_either f.0 Unterminated NotDescribed 9 f.1 f.2 (omega arith) (omega arith)
-
 abbrev Lower : List Token → List Token → Why → Type 0
 Lower before after why = (other : Why) → Holds other before after → IsUpTo why (code_of other)
 
+same_code : (why other : Why) (bound : ℕ) → why ≡ other → IsUpTo other bound → IsUpTo why bound
+same_code why other bound e low = subst (λ (w : Why). IsUpTo w bound) (sym e) low
+
 module _ (before after : List Token) (s : State) (why : Why) (l : Leads before s) where
   lower_bare : (b : List ℕ) → StopsAt s (Bare b ∷ after) why → Lower before (Bare b ∷ after) why
-  lower_bare b h NotANumber k = low_as before (Bare b ∷ after) s why l h NotANumber 4
-      (no_number before b number.NotANumber (reads_on before s l) k.0 k.1) (omega arith)
-  lower_bare b h ZeroDenominator k = low_as before (Bare b ∷ after) s why l h ZeroDenominator 5
-      (no_number before b number.ZeroDenominator (reads_on before s l) k.0 k.1) (omega arith)
-  lower_bare b h NumberTooLarge k = low_as before (Bare b ∷ after) s why l h NumberTooLarge 6
-      (no_number before b number.TooLarge (reads_on before s l) k.0 k.1) (omega arith)
-  lower_bare b h BadIndex k = low_as before (Bare b ∷ after) s why l h BadIndex 7
-      (bad_index before b (reads_on before s l) k) (omega arith)
-  lower_bare b h UnknownPlayer k = low_as before (Bare b ∷ after) s why l h UnknownPlayer 8
-      (unknown_player before b (reads_on before s l) k) (omega arith)
-  lower_bare b h NotDescribed k = undescribed before (Bare b ∷ after) s why l h k
-  lower_bare b h Mismatch k = low_as before (Bare b ∷ after) s why l h Mismatch 10
-      (mismatch before (Bare b) (reads_on before s l) k) (omega arith)
+  lower_bare b h NotANumber k = same_code why NotANumber 4
+      (no_number before b after s why l h number.NotANumber k.0 k.1) (omega arith)
+  lower_bare b h ZeroDenominator k = same_code why ZeroDenominator 5
+      (no_number before b after s why l h number.ZeroDenominator k.0 k.1) (omega arith)
+  lower_bare b h NumberTooLarge k = same_code why NumberTooLarge 6
+      (no_number before b after s why l h number.TooLarge k.0 k.1) (omega arith)
+  lower_bare b h BadIndex k =
+      same_code why BadIndex 7 (bad_index before b after s why l h k) (omega arith)
+  lower_bare b h UnknownPlayer (inl k) = no_such_player before b after s why l h k.0 k.2
+  lower_bare b h UnknownPlayer (inr k) = low_as before (Bare b ∷ after) s why l h UnknownPlayer 8
+      (no_player before b (reads_on before s l) k) (omega arith)
+  lower_bare b h NotDescribed k = undescribed before (Bare b ∷ after) s why l h k.0 k.1
+  lower_bare b h Mismatch k =
+      same_code why Mismatch 10 (mismatch before after (Bare b) s why l h k) (omega arith)
   lower_bare b h NegativeProbability k = low_as before (Bare b ∷ after) s why l h NegativeProbability 11
       (negative before b (reads_on before s l) k) (omega arith)
   lower_bare b h SumAboveOne k =
@@ -110,9 +109,9 @@ module _ (before after : List Token) (s : State) (why : Why) (l : Leads before s
   lower_bare b h _ k = absurd k
 
   lower_closing : StopsAt s (Closing ∷ after) why → Lower before (Closing ∷ after) why
-  lower_closing h NotDescribed k = undescribed before (Closing ∷ after) s why l h k
-  lower_closing h Mismatch k = low_as before (Closing ∷ after) s why l h Mismatch 10
-      (mismatch before Closing (reads_on before s l) k) (omega arith)
+  lower_closing h NotDescribed k = undescribed before (Closing ∷ after) s why l h k.0 k.1
+  lower_closing h Mismatch k = same_code why Mismatch 10
+      (mismatch before after Closing s why l h k) (omega arith)
   lower_closing h SumBelowOne k = low_as before (Closing ∷ after) s why l h SumBelowOne 13
       (below_one before (reads_on before s l) k) (omega arith)
   lower_closing h NoEntry k = low_as before (Closing ∷ after) s why l h NoEntry 15
@@ -121,21 +120,21 @@ module _ (before after : List Token) (s : State) (why : Why) (l : Leads before s
 
   lower_text : (label : List ℕ) → StopsAt s (Text label ∷ after) why
       → Lower before (Text label ∷ after) why
-  lower_text label h NotDescribed k = undescribed before (Text label ∷ after) s why l h k
-  lower_text label h Mismatch k = low_as before (Text label ∷ after) s why l h Mismatch 10
-      (mismatch before (Text label) (reads_on before s l) k) (omega arith)
+  lower_text label h NotDescribed k = undescribed before (Text label ∷ after) s why l h k.0 k.1
+  lower_text label h Mismatch k = same_code why Mismatch 10
+      (mismatch before after (Text label) s why l h k) (omega arith)
   lower_text label h _ k = absurd k
 
   lower_opening : StopsAt s (Opening ∷ after) why → Lower before (Opening ∷ after) why
-  lower_opening h NotDescribed k = undescribed before (Opening ∷ after) s why l h k
-  lower_opening h Mismatch k = low_as before (Opening ∷ after) s why l h Mismatch 10
-      (mismatch before Opening (reads_on before s l) k) (omega arith)
+  lower_opening h NotDescribed k = undescribed before (Opening ∷ after) s why l h k.0 k.1
+  lower_opening h Mismatch k = same_code why Mismatch 10
+      (mismatch before after Opening s why l h k) (omega arith)
   lower_opening h _ k = absurd k
 
   lower_comma : StopsAt s (Comma ∷ after) why → Lower before (Comma ∷ after) why
-  lower_comma h NotDescribed k = undescribed before (Comma ∷ after) s why l h k
-  lower_comma h Mismatch k = low_as before (Comma ∷ after) s why l h Mismatch 10
-      (mismatch before Comma (reads_on before s l) k) (omega arith)
+  lower_comma h NotDescribed k = undescribed before (Comma ∷ after) s why l h k.0 k.1
+  lower_comma h Mismatch k = same_code why Mismatch 10
+      (mismatch before after Comma s why l h k) (omega arith)
   lower_comma h _ k = absurd k
 
   -- a text without an end has the lowest code of all
@@ -149,7 +148,7 @@ module _ (before after : List Token) (s : State) (why : Why) (l : Leads before s
       by _ k = absurd k
 
   lower_end : StopsAt s [] why → Lower before [] why
-  lower_end h NotDescribed k = undescribed before [] s why l h k
+  lower_end h NotDescribed k = undescribed before [] s why l h k.0 k.1
   lower_end h _ k = absurd k
 
 abbrev refused_state : Why → Result State Why
@@ -174,11 +173,10 @@ lower before (Broken ∷ after) s why l h = lower_broken before after s why l (b
 
 own : (before after : List Token) (s : State) (why : Why) → Leads before s → StopsAt s after why
     → Own why before after
-own before [] s why l h = subst (λ (w : Why). Own w before []) h.1
-    (wanted_own (due s.position s.content.due) before []
-    (wanted s.position s.content before l (stands_at before s l)) tt)
-own before (t ∷ after) s why l h = subst (λ o. Owns o before (t ∷ after)) h
-    (owned before after s.position s.content t (leads_fine before s l) l (stands_at before s l))
+own before after s why l h =
+    let r = reasoned before (begins before s l) in
+    let k = refused_by before after s why r.row l h r.stands in
+    r.own after why k.0 k.1
 
 reason_by : (why : Why) (before after : List Token) → Own why before after
     → Lower before after why → IsReason why before after
@@ -189,6 +187,17 @@ pub reason : (before after : List Token) (s : State) (why : Why) → Leads befor
     → IsReason why before after
 reason before after s why l h =
     reason_by why before after (own before after s why l h) (lower before after s why l h)
+
+-- so a row that stands there says what may follow, and why all else is refused
+pub obeys : {before : List Token} {row : Row} → Stands before row → Obeys before row
+obeys {before} {row} stands =
+    let l = leads before stands.begins in
+    record {
+      accepts = accepted before row stands;
+      refuses = λ after n.
+          let k = (answers_at before after l.0 row l.1 stands).1 n in
+          (k.0, k.1, reason before after l.0 k.0 l.1 k.2);
+    }
 
 -- bytes are refused at the offending place, for the reason there
 pub refuses : (bytes : List ℕ) (ls : List Lexeme) (fault : Fault)

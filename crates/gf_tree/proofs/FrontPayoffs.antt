@@ -3,12 +3,13 @@
 use Rattle.std.proofs.Common.{◌≡◌, ℕ, zero, suc, ◌+◌, Bool, true, false, List, [], ◌∷◌, ◌++◌}
 use Rattle.std.proofs.Common.{length, Option, Some, None, refl, sym, ap, subst, ◌∙◌, arith, inl}
 use Rattle.std.proofs.Common.{inr, nat_eq}
-use Rattle.std.specs.Prelude.{◌⊎◌}
+use Rattle.std.specs.Prelude.{not, ◌⊎◌}
 use Rattle.gf_fraction.specs.Ratio.{Ratio}
 use Rattle.gf_fraction.specs.NumberSpelling.{IsNumber}
 use Rattle.gf_fraction.proofs.ComputedAnswers.{number_again}
 use Rattle.gf_token.specs.Token.{Token}
 use Rattle.gf_token.specs.Token.Token.{Opening, Comma, Text, Bare}
+use Rattle.gf_token.specs.Next.{is_comma}
 use Rattle.gf_token.specs.Grammar.{Each, IsPayoffInBraces}
 use Rattle.gf_tree.specs.Description.{Outcome}
 use Rattle.gf_tree.specs.FiniteMap.{description_at}
@@ -26,9 +27,15 @@ use Rattle.gf_tree.proofs.FrontLists.{BehindOutcome, behind_outcome_number}
 
 -- ---- payoffs
 
+-- whether a number stands last in braces, where one does or not before these tokens
+abbrev pub ends_number : Bool → List Token → Bool
+ends_number may [] = may
+ends_number may (t ∷ ts) = ends_number (not (is_comma t)) ts
+
 record NewPaid (may : Bool) (b : Begun) (n : ℕ) (outcome : Outcome) (payoffs : List Ratio)
     (left : ℕ) (inner : List Token) (c : Content) : Type 0 where
   behind : Bool
+  behind_is : behind ≡ ends_number may inner
   rest : ℕ
   count : length payoffs + rest ≡ left
   answers : (us : List Token)
@@ -48,14 +55,17 @@ behind_comma : (comma : List Token) (b : Begun) (n : ℕ) (outcome : Outcome) (l
     → ((comma ≡ []) ⊎ (comma ≡ Comma ∷ []))
     → (may : Bool) × ((us : List Token) → run_tokens (AfterNewPayoff b n outcome left) c (comma ++ us)
     ≡ run_tokens (new_at may b n outcome left) c us)
+    × ((ts : List Token) → ends_number true (comma ++ ts) ≡ ends_number may ts)
 behind_comma comma b n outcome left c (inl e) = (
   true,
   λ us. ap (λ (ts : List Token). run_tokens (AfterNewPayoff b n outcome left) c (ts ++ us)) e,
+  λ ts. ap (λ (us : List Token). ends_number true (us ++ ts)) e,
 )
 behind_comma comma b n outcome left c (inr e) = (
   false,
   λ us. ap (λ (ts : List Token). run_tokens (AfterNewPayoff b n outcome left) c (ts ++ us)) e
       ∙ new_comma b n outcome left c us,
+  λ ts. ap (λ (us : List Token). ends_number true (us ++ ts)) e,
 )
 
 new_paid : (payoffs : List Ratio) (may : Bool) (b : Begun) (n : ℕ) (outcome : Outcome) (left : ℕ)
@@ -64,6 +74,7 @@ new_paid : (payoffs : List Ratio) (may : Bool) (b : Begun) (n : ℕ) (outcome : 
     → NewPaid may b n outcome payoffs left inner c
 new_paid [] may b n outcome left inner more c r each e = record {
   behind = may;
+  behind_is = ap (ends_number may) (sym each);
   rest = left;
   count = omega arith;
   answers = λ us.
@@ -93,6 +104,8 @@ new_paid (p ∷ payoffs) may b n outcome left inner more c r each e =
     let left_is = s.1 in
     record {
       behind = f.behind;
+      behind_is = f.behind_is ∙ sym (k.2 each.1)
+          ∙ ap (ends_number may) (sym (each.2 ∙ ap (λ (ts : List Token). ts ++ each.1) each.3.2));
       rest = f.rest;
       count = omega (arith, count, left_is);
       answers = λ us. one us ∙ f.answers us
@@ -103,6 +116,7 @@ new_paid (p ∷ payoffs) may b n outcome left inner more c r each e =
 record KnownPaid (may : Bool) (known payoffs : List Ratio) (inner : List Token)
     (c : Content) : Type 0 where
   behind : Bool
+  behind_is : behind ≡ ends_number may inner
   others : List Ratio
   parts : known ≡ payoffs ++ others
   answers : (us : List Token) → run_tokens (known_at may known) c (inner ++ us)
@@ -112,12 +126,17 @@ behind_known_comma : (comma : List Token) (ps : List Ratio) (c : Content)
     → ((comma ≡ []) ⊎ (comma ≡ Comma ∷ []))
     → (may : Bool) × ((us : List Token) → run_tokens (known_at true ps) c (comma ++ us)
     ≡ run_tokens (known_at may ps) c us)
-behind_known_comma comma ps c (inl e) =
-    (true, λ us. ap (λ (ts : List Token). run_tokens (known_at true ps) c (ts ++ us)) e)
+    × ((ts : List Token) → ends_number true (comma ++ ts) ≡ ends_number may ts)
+behind_known_comma comma ps c (inl e) = (
+  true,
+  λ us. ap (λ (ts : List Token). run_tokens (known_at true ps) c (ts ++ us)) e,
+  λ ts. ap (λ (us : List Token). ends_number true (us ++ ts)) e,
+)
 behind_known_comma comma ps c (inr e) = (
   false,
   λ us. ap (λ (ts : List Token). run_tokens (known_at true ps) c (ts ++ us)) e
       ∙ known_comma ps c us,
+  λ ts. ap (λ (us : List Token). ends_number true (us ++ ts)) e,
 )
 
 -- the next payoff of a known outcome
@@ -138,6 +157,7 @@ known_paid : (payoffs known : List Ratio) (may : Bool) (inner more : List Token)
     → KnownPaid may known payoffs inner c
 known_paid [] known may inner more c r each e = record {
   behind = may;
+  behind_is = ap (ends_number may) (sym each);
   others = known;
   parts = refl;
   answers = λ us.
@@ -161,27 +181,32 @@ known_paid (p ∷ payoffs) known may inner more c r each e =
     let f = known_paid payoffs s.0 k.0 each.1 more c r each.4 (sym (one more) ∙ e) in
     record {
       behind = f.behind;
+      behind_is = f.behind_is ∙ sym (k.2 each.1)
+          ∙ ap (ends_number may) (sym (each.2 ∙ ap (λ (ts : List Token). ts ++ each.1) each.3.2));
       others = f.others;
       parts = s.1 ∙ ap (λ (ps : List Ratio). p ∷ ps) f.parts;
       answers = λ us. one us ∙ f.answers us;
     }
 
-pub record AtNewPayoff (c : Content) (front : List Token) (n : ℕ) (outcome : Outcome) : Type 0 where
+pub record AtNewPayoff (c : Content) (front inner : List Token) (n : ℕ) (outcome : Outcome)
+    : Type 0 where
   pub b : Begun
   pub content : Content
   pub players : content.players ≡ c.players
   pub may : Bool
+  pub may_is : may ≡ ends_number false inner
   pub left : ℕ
   pub unknown : description_at nat_eq c.outcomes n ≡ None
   pub count : length outcome.payoffs + left ≡ length c.players
   pub answers : (us : List Token) → run_tokens NodeDue c (front ++ us)
       ≡ run_tokens (new_at may b n outcome left) content us
 
-pub record AtKnownPayoff (c : Content) (front : List Token) (n : ℕ) (outcome : Outcome)
+pub record AtKnownPayoff (c : Content) (front inner : List Token) (n : ℕ) (outcome : Outcome)
     : Type 0 where
   pub content : Content
   pub players : content.players ≡ c.players
   pub may : Bool
+  pub may_is : may ≡ ends_number false inner
   pub known : Outcome
   pub is_known : description_at nat_eq c.outcomes n ≡ Some known
   pub others : List Ratio
@@ -192,7 +217,7 @@ pub record AtKnownPayoff (c : Content) (front : List Token) (n : ℕ) (outcome :
 paid_by : (front : List Token) (n : ℕ) (outcome : Outcome) (c : Content)
     (h : InPayoffs front n outcome) (o : Option Outcome) → description_at nat_eq c.outcomes n ≡ o
     → BehindOutcome c h.0 n → GoesOn c front
-    → AtNewPayoff c front n outcome ⊎ AtKnownPayoff c front n outcome
+    → AtNewPayoff c front h.1 n outcome ⊎ AtKnownPayoff c front h.1 n outcome
 paid_by front n outcome c h None unknown k g =
     let us_of = λ (us : List Token). Text outcome.name ∷ Opening ∷ (h.1 ++ us) in
     let behind = λ (us : List Token). ap (run_tokens NodeDue c)
@@ -207,6 +232,7 @@ paid_by front n outcome c h None unknown k g =
       content = k.content;
       players = k.players;
       may = f.behind;
+      may_is = f.behind_is;
       left = f.rest;
       unknown = unknown;
       count = f.count ∙ ap length k.players;
@@ -226,6 +252,7 @@ paid_by front n outcome c h (Some known) is_known k g =
       content = content;
       players = k.players;
       may = f.behind;
+      may_is = f.behind_is;
       known = known;
       is_known = is_known;
       others = f.others;
@@ -239,8 +266,8 @@ paid_by front n outcome c h (Some known) is_known k g =
     })
 
 pub in_payoffs : (front : List Token) (n : ℕ) (outcome : Outcome) (c : Content)
-    → InPayoffs front n outcome → GoesOn c front
-    → AtNewPayoff c front n outcome ⊎ AtKnownPayoff c front n outcome
+    → (h : InPayoffs front n outcome) → GoesOn c front
+    → AtNewPayoff c front h.1 n outcome ⊎ AtKnownPayoff c front h.1 n outcome
 in_payoffs front n outcome c h g =
     paid_by front n outcome c h (description_at nat_eq c.outcomes n) refl
     (behind_outcome_number h.0 n c h.3

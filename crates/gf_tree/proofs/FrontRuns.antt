@@ -1,9 +1,11 @@
 -- What the machine of the reader answers behind the front of a node: that is told by its shape.
 use Rattle.std.proofs.Common.{◌≡◌, ℕ, zero, suc, ◌<◌, ◌≤◌, List, [], ◌∷◌, ◌++◌, length, map}
 use Rattle.std.proofs.Common.{Option, Some, None, Ok, refl, sym, ap, subst, ◌∙◌, arith, inl, inr}
-use Rattle.std.specs.Prelude.{codes, pos, ◌⊎◌}
+use Rattle.std.specs.Prelude.{codes, pos, ◌⊎◌, ◌≤ℤ◌}
+use Rattle.std.proofs.lemmas.Int.{ints}
 use Rattle.std.specs.List.{AllByRecursion}
 use Rattle.gf_fraction.specs.Ratio.{Ratio, IsFraction, whole}
+use Rattle.gf_fraction.specs.Fits.{AddsTo}
 use Rattle.gf_fraction.specs.NumberSpelling.{IsNumber}
 use Rattle.gf_fraction.proofs.WholeNumbers.{whole_fraction}
 use Rattle.gf_token.specs.Token.{Token}
@@ -21,7 +23,6 @@ use Rattle.gf_tree.specs.Machine.Position.{KnownProbability, KnownSetName, Known
 use Rattle.gf_tree.specs.Probability.{share_of}
 use Rattle.gf_tree.specs.ReadGame.{run_tokens, then_run}
 use Rattle.gf_tree.specs.Sentence.{IsAction, IsMover}
-use Rattle.gf_tree.proofs.FrontPlaces.{AddsShares}
 use Rattle.gf_tree.proofs.Groups.{numbers_once, regroup}
 use Rattle.gf_tree.proofs.RunActions.{more_actions, no_actions, shared_found, with_actions}
 use Rattle.gf_tree.proofs.RunFiles.{due_by}
@@ -152,6 +153,12 @@ behind_number front key c h g =
 
 -- ---- the actions of a new set
 
+-- added to this sum, probabilities have sums that fit, and none is negative; this is the last one
+abbrev pub AddsShares : Ratio → List Ratio → Ratio → Type 0
+AddsShares sum [] total = sum ≡ total
+AddsShares sum (p ∷ ps) total = IsFraction p × (pos 0 ≤ℤ p.num)
+    × ((next : Ratio) × AddsTo sum p next × AddsShares next ps total)
+
 -- behind this sum
 abbrev pub HaveSumFrom : ℕ → Ratio → List Action → Ratio → Type 0
 HaveSumFrom zero sum actions total =
@@ -162,6 +169,7 @@ record NewFront (name : List ℕ) (player n : ℕ) (set : InformationSet) (sum :
     (actions : List Action) (inner : List Token) (c : Content) : Type 0 where
   total : Ratio
   fraction : IsFraction total
+  high : total.num ≤ℤ pos total.den
   have_sum : HaveSumFrom player sum actions total
   answers : (us : List Token)
       → run_tokens (NewAction name (set_of player n) set sum) c (inner ++ us)
@@ -172,13 +180,14 @@ none_listed zero sum = ([], refl, refl)
 none_listed (suc player) sum = tt
 
 new_front : (actions : List Action) (player : ℕ) (inner more : List Token) (name : List ℕ) (n : ℕ)
-    (set : InformationSet) (sum : Ratio) (c r : Content) → IsFraction sum
+    (set : InformationSet) (sum : Ratio) (c r : Content) → IsFraction sum → sum.num ≤ℤ pos sum.den
     → Each (IsAction player) inner actions
     → Reads (NewAction name (set_of player n) set sum) c (inner ++ more) r
     → NewFront name player n set sum actions inner c
-new_front [] player inner more name n set sum c r fraction each e = record {
+new_front [] player inner more name n set sum c r fraction high each e = record {
   total = sum;
   fraction = fraction;
+  high = high;
   have_sum = none_listed player sum;
   answers = λ us.
       ap (λ (ts : List Token). run_tokens (NewAction name (set_of player n) set sum) c (ts ++ us))
@@ -186,7 +195,7 @@ new_front [] player inner more name n set sum c r fraction each e = record {
       ∙ ap (λ (s : InformationSet). run_tokens (NewAction name (set_of player n) s sum) c us)
       (sym (no_actions set));
 }
-new_front (a ∷ actions) zero inner more name n set sum c r fraction each e =
+new_front (a ∷ actions) zero inner more name n set sum c r fraction high each e =
     let b = each.3.0 in
     let p = each.3.1 in
     let key = set_of 0 n in
@@ -202,7 +211,7 @@ new_front (a ∷ actions) zero inner more name n set sum c r fraction each e =
     let found = share_found sum b s fraction k.1 in
     let same = numbers_once b b s.probability p refl found.number each.3.3 in
     let f = new_front actions 0 each.1 more name n
-    (with_action set a.label (Some s.probability)) s.sum c r found.adds.1 each.4 k.2 in
+    (with_action set a.label (Some s.probability)) s.sum c r found.adds.1 found.not_above each.4 k.2 in
     let all : with_actions (with_action set a.label (Some s.probability)) actions
     ≡ with_actions set (a ∷ actions) =
     more_actions set a.label (Some s.probability) actions
@@ -212,6 +221,7 @@ new_front (a ∷ actions) zero inner more name n set sum c r fraction each e =
     record {
       total = f.total;
       fraction = f.fraction;
+      high = f.high;
       have_sum = (
         s.probability ∷ f.have_sum.0,
         (λ i. (each.3.4 ∙ ap (λ (x : Ratio). Some x) (sym same)) i ∷ f.have_sum.1 i),
@@ -222,7 +232,7 @@ new_front (a ∷ actions) zero inner more name n set sum c r fraction each e =
           ∙ f.answers us
           ∙ ap (λ (t : InformationSet). run_tokens (NewAction name key t f.total) c us) all;
     }
-new_front (a ∷ actions) (suc player) inner more name n set sum c r fraction each e =
+new_front (a ∷ actions) (suc player) inner more name n set sum c r fraction high each e =
     let key = set_of (suc player) n in
     let is : a ≡ record { label = a.label; probability = None } =
     λ i. record { label = a.label; probability = each.3.1 i } in
@@ -232,11 +242,12 @@ new_front (a ∷ actions) (suc player) inner more name n set sum c r fraction ea
     more_actions set a.label None actions
     ∙ ap (λ (x : Action). with_actions set (x ∷ actions)) (sym is) in
     let f = new_front actions (suc player) each.1 more name n (with_action set a.label None) sum c r
-    fraction each.4
+    fraction high each.4
     (subst (λ (ts : List Token). Reads (NewAction name key set sum) c ts r) (first more) e) in
     record {
       total = f.total;
       fraction = f.fraction;
+      high = f.high;
       have_sum = tt;
       answers = λ us. ap (run_tokens (NewAction name key set sum) c) (first us)
           ∙ f.answers us
@@ -350,6 +361,7 @@ pub record AtNew (c : Content) (front : List Token) (key : SetKey) (set : Inform
   pub unknown : description_at same_set c.sets key ≡ None
   pub sum : Ratio
   pub fraction : IsFraction sum
+  pub high : sum.num ≤ℤ pos sum.den
   pub have_sum : HaveSumFrom key.player (whole (pos 0)) set.actions sum
   pub answers : (us : List Token)
       → run_tokens NodeDue c (front ++ us) ≡ run_tokens (NewAction name key set sum) c us
@@ -378,12 +390,13 @@ in_braces front key set c h None unknown at_set g =
     (Text set.name ∷ Opening ∷ (h.1 ++ us))) unknown in
     let f = new_front set.actions key.player h.1 g.more at_set.name key.number
     (record { name = set.name; actions = [] }) (whole (pos 0)) c g.read
-    (whole_fraction 0 (omega arith)) h.4 (sym (behind g.more) ∙ g.reads) in
+    (whole_fraction 0 (omega arith)) (omega (arith, ints)) h.4 (sym (behind g.more) ∙ g.reads) in
     inl (record {
       name = at_set.name;
       unknown = unknown;
       sum = f.total;
       fraction = f.fraction;
+      high = f.high;
       have_sum = f.have_sum;
       answers = λ us. behind us ∙ f.answers us;
     })

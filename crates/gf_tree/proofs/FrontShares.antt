@@ -27,8 +27,7 @@ use Rattle.gf_tree.specs.Reason.{AddsUp, HasSum, IsWrongProbability, ListsNothin
 use Rattle.gf_tree.specs.Reason.{NewProbabilityIsDue, StaysBelowOne}
 use Rattle.gf_tree.proofs.FrontCodes.{ReadsOn, begins_actions, begins_probability, refused, split}
 use Rattle.gf_tree.proofs.FrontLists.{to_probability}
-use Rattle.gf_tree.proofs.FrontPlaces.{AddsShares}
-use Rattle.gf_tree.proofs.FrontRuns.{HaveSumFrom, in_actions}
+use Rattle.gf_tree.proofs.FrontRuns.{AddsShares, HaveSumFrom, in_actions}
 use Rattle.gf_tree.proofs.RunTokens.{ratio_is, run_on}
 
 -- ---- a wrong probability
@@ -51,6 +50,16 @@ pub same_sum : (set : InformationSet) (total machine : Ratio) → HasSum set tot
     → HaveSumFrom 0 (whole (pos 0)) set.actions machine → machine ≡ total
 same_sum set total machine h k = sums_once (whole (pos 0)) h.0 k.0 total machine (omega arith)
     (sym h.1 ∙ k.1) h.2 k.2
+
+adds_up : (sum : Ratio) (ps : List Ratio) (total : Ratio) → AddsShares sum ps total
+    → AddsUp sum ps total
+adds_up sum [] total h = h
+adds_up sum (p ∷ ps) total h =
+    (h.2.1.0, (h.2.0, h.2.1.1, h.2.1.2, adds_up h.2.0 ps total h.2.2))
+
+pub has_sum : (set : InformationSet) (sum : Ratio)
+    → HaveSumFrom 0 (whole (pos 0)) set.actions sum → HasSum set sum
+has_sum set sum h = (h.0, h.1, adds_up (whole (pos 0)) h.0 sum h.2)
 
 -- the machine asks for a probability behind this sum
 record AsksShare (before : List Token) (sum : Ratio) : Type 0 where

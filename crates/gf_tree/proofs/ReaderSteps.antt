@@ -3,7 +3,7 @@ use Rattle.std.proofs.Common.{◌≡◌, ◌<◌, ◌≤◌, ◌+◌, ℕ, zero,
 use Rattle.std.proofs.Common.{List, [], ◌∷◌, ◌++◌, length, map, Option, Some, None}
 use Rattle.std.proofs.Common.{option_map, slice_get, refl, sym, ap, ◌∙◌, arith}
 use Rattle.std.specs.Prelude.{position, nat_eq, Result, Ok, Err, OnOk, IfErr, IfOk, IfNone}
-use Rattle.std.specs.Prelude.{MatchOption, MatchResult, ⊤, ◌^◌, ◌==◌, if◌then◌else◌}
+use Rattle.std.specs.Prelude.{MatchResult, ◌^◌, ◌==◌, if◌then◌else◌}
 use Rattle.std.proofs.Common.{subst}
 use Rattle.std.proofs.lemmas.List.{length-append, length-map}
 use Rattle.std.proofs.lemmas.List.Quantifiers.{position-Some}
@@ -285,12 +285,6 @@ module _ {E : Type 0} (r : Reader) (outcomes : KnownOutcomes) (number : ℕ) (na
         sets = sound.sets;
         outcomes = omega (arith, size, is, few);
       })
-
--- a place that is below a bound is below a greater one
-pub place_below : (o : Option ℕ) (n m : ℕ) → MatchOption o ⊤ (λ p. p < n) → n ≤ m
-    → MatchOption o ⊤ (λ p. p < m)
-place_below None n m h more = tt
-place_below (Some p) n m h more = omega (arith, h, more)
 
 pub if_none : {A : Type 0} {P : Type 0} (o : Option A) → P → IfNone o P
 if_none None p = p

@@ -50,13 +50,6 @@ pub absent : {K : Type 0} (same : K → K → Bool) → IsEquality same → (key
     → (Has ks key → ⊥) → position (same key) ks ≡ None
 absent same tells key ks h = position_from-zero (same key) ks ∙ absent_from same tells key ks 0 h
 
-has_taken : {K : Type 0} (ks : List K) (n : ℕ) (key : K) → Has (take n ks) key → Has ks key
-has_taken [] zero key h = absurd h
-has_taken [] (suc n) key h = absurd h
-has_taken (k ∷ ks) zero key h = absurd h
-has_taken (k ∷ ks) (suc n) key (inl e) = inl e
-has_taken (k ∷ ks) (suc n) key (inr m) = inr (has_taken ks n key m)
-
 not_yet : {K : Type 0} (ks : List K) (place : ℕ) (key : K) → AreDistinct ks
     → slice_get ks place ≡ Some key
     → Has (take place ks) key → ⊥

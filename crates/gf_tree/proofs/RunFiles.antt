@@ -177,9 +177,6 @@ no_text players (n ∷ ns) tokens h = λ l others e.
     let both = sym whole ∙ e in
     absurd cc
 
-some_is : (s t : InformationSet) (o : Option InformationSet) → o ≡ Some s → o ≡ Some t → s ≡ t
-some_is s t o h k = cc
-
 -- behind a use its key is known
 known_behind : (known mid : MapOf) (u : Use SetKey InformationSet)
     → Learns same_set known (u ∷ []) mid

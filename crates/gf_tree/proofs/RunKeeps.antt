@@ -219,97 +219,63 @@ module _ (c : Content) (sets : FineSets c.sets) (outcomes : FineOutcomes c.outco
 pub keeps : (q : Position) (c : Content) (t : Token) → Fine q c → LeadsFine (step q c t)
 keeps Format c (Bare b) f =
     by_test (pointwise nat_eq b (codes "EFG")) (at Version c) _ (tt, f.1, f.2)
-keeps Format c _ f = tt
 keeps Version c (Bare b) f = by_test (pointwise nat_eq b (codes "2")) (at Letter c) _ (tt, f.1, f.2)
-keeps Version c _ f = tt
 keeps Letter c (Bare b) f =
     by_test (pointwise nat_eq b (codes "R") || pointwise nat_eq b (codes "D")) (at Title c) _
     (tt, f.1, f.2)
-keeps Letter c _ f = tt
 keeps Title c (Text l) f = (tt, f.1, f.2)
-keeps Title c _ f = tt
 keeps BeforePlayers c Opening f = (tt, f.1, f.2)
-keeps BeforePlayers c _ f = tt
 keeps InPlayers c (Text l) f = (tt, f.1, f.2)
 keeps InPlayers c Closing f = (tt, f.1, f.2)
-keeps InPlayers c _ f = tt
 keeps AfterPlayers c (Text l) f = (tt, f.1, f.2)
 keeps AfterPlayers c (Bare b) f = letter_keeps c f.1 f.2 b
-keeps AfterPlayers c _ f = tt
 keeps NodeDue c (Bare b) f = due_keeps c f.1 f.2 c.due b
-keeps NodeDue c _ f = tt
 keeps ChanceName c (Text l) f = (tt, f.1, f.2)
-keeps ChanceName c _ f = tt
 keeps PersonalName c (Text l) f = f
-keeps PersonalName c _ f = tt
 keeps TerminalName c (Text l) f = (tt, f.1, f.2)
-keeps TerminalName c _ f = tt
 keeps (PlayerNumber name) c (Bare b) f = player_keeps c f.1 f.2 name (count_of b)
-keeps (PlayerNumber name) c _ f = tt
 keeps (SetNumber name player) c (Bare b) f = set_keeps c f.1 f.2 name player (count_of b)
-keeps (SetNumber name player) c _ f = tt
 keeps (NewSetName name key) c (Text l) f = (tt, f.1, f.2)
-keeps (NewSetName name key) c _ f = tt
 keeps (NewSetOpening name key label) c Opening f = ((zero_share, tt), f.1, f.2)
-keeps (NewSetOpening name key label) c _ f = tt
 keeps (NewAction name key set sum) c (Text l) f =
     label_keeps c f.1 f.2 name key.player key.number set sum l f.0.0 f.0.1
 keeps (NewAction name key set sum) c Closing f =
     new_ends_keeps c f.1 f.2 name key set set.actions sum f.0.1
-keeps (NewAction name key set sum) c _ f = tt
 keeps (NewProbability name key set sum label) c (Bare b) f =
     shared_keeps c f.1 f.2 name key set sum label b (share_of sum b) f.0.0 f.0.1 refl
-keeps (NewProbability name key set sum label) c _ f = tt
 keeps (KnownSetName name key set) c (Text l) f = by_test (pointwise nat_eq l set.name)
     (at (KnownSetOpening (begun name key set) set.actions) c) _ f
 keeps (KnownSetName name key set) c (Bare b) f =
     outcome_keeps c f.1 f.2 (begun name key set) (index_of b)
-keeps (KnownSetName name key set) c _ f = tt
 keeps (KnownSetOpening b actions) c Opening f = f
-keeps (KnownSetOpening b actions) c _ f = tt
 keeps (KnownAction b []) c Closing f = (tt, f.1, f.2)
-keeps (KnownAction b []) c _ f = tt
 keeps (KnownAction b (a ∷ actions)) c (Text l) f =
     by_test (pointwise nat_eq l a.label) (at (behind_label b a.probability actions) c) _
     (behind_label_fine c f.1 f.2 b a.probability actions f.0.0 f.0.1)
-keeps (KnownAction b (a ∷ actions)) c _ f = tt
 keeps (KnownProbability b p actions) c (Bare t) f =
     same_keeps p (at (KnownAction b actions) c) (number_of t) (f.0.1, f.1, f.2)
-keeps (KnownProbability b p actions) c _ f = tt
 keeps (OutcomeNumber b) c (Bare t) f = outcome_keeps c f.1 f.2 b (index_of t)
-keeps (OutcomeNumber b) c _ f = tt
 keeps (NewOutcomeName b n) c (Text l) f = (tt, f.1, f.2)
-keeps (NewOutcomeName b n) c _ f = tt
 keeps (NewOutcomeOpening b n label) c Opening f = (tt, f.1, f.2)
-keeps (NewOutcomeOpening b n label) c _ f = tt
 keeps (NewPayoff b n outcome zero) c Closing f = (tt, f.1, outcome_known c f.1 f.2 n outcome f.0)
-keeps (NewPayoff b n outcome zero) c _ f = tt
 keeps (NewPayoff b n outcome (suc left)) c (Bare t) f =
     paid_keeps c f.1 f.2 b n outcome left t (number_of t) f.0 refl
-keeps (NewPayoff b n outcome (suc left)) c _ f = tt
 keeps (AfterNewPayoff b n outcome zero) c Comma f = f
 keeps (AfterNewPayoff b n outcome zero) c Closing f =
     (tt, f.1, outcome_known c f.1 f.2 n outcome f.0)
-keeps (AfterNewPayoff b n outcome zero) c _ f = tt
 keeps (AfterNewPayoff b n outcome (suc left)) c Comma f = f
 keeps (AfterNewPayoff b n outcome (suc left)) c (Bare t) f =
     paid_keeps c f.1 f.2 b n outcome left t (number_of t) f.0 refl
-keeps (AfterNewPayoff b n outcome (suc left)) c _ f = tt
 keeps (KnownOutcomeName outcome) c (Text l) f =
     by_test (pointwise nat_eq l outcome.name) (at (KnownOutcomeOpening outcome.payoffs) c) _ f
 keeps (KnownOutcomeName outcome) c (Bare b) f = due_keeps c f.1 f.2 c.due b
-keeps (KnownOutcomeName outcome) c _ f = tt
 keeps (KnownOutcomeOpening ps) c Opening f = f
-keeps (KnownOutcomeOpening ps) c _ f = tt
 keeps (KnownPayoff []) c Closing f = (tt, f.1, f.2)
-keeps (KnownPayoff []) c _ f = tt
 keeps (KnownPayoff (p ∷ ps)) c (Bare t) f =
     same_keeps p (at (AfterKnownPayoff ps) c) (number_of t) (f.0.1, f.1, f.2)
-keeps (KnownPayoff (p ∷ ps)) c _ f = tt
 keeps (AfterKnownPayoff []) c Comma f = f
 keeps (AfterKnownPayoff []) c Closing f = (tt, f.1, f.2)
-keeps (AfterKnownPayoff []) c _ f = tt
 keeps (AfterKnownPayoff (p ∷ ps)) c Comma f = f
 keeps (AfterKnownPayoff (p ∷ ps)) c (Bare t) f =
     same_keeps p (at (AfterKnownPayoff ps) c) (number_of t) (f.0.1, f.1, f.2)
-keeps (AfterKnownPayoff (p ∷ ps)) c _ f = tt
+keeps q c t f = tt

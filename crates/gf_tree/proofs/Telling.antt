@@ -113,14 +113,6 @@ entries_more sets outcomes (m ∷ ms) n =
 
 -- ---- answers behind nodes
 
-pub behind_none : (a : Answer) → behind [] a ≡ a
-behind_none a = ap (λ (m : Result Content Fault). record { input = a.input; machine = m })
-    (by a.machine)
-  where
-    by : (m : Result Content Fault) → with_nodes [] m ≡ m
-    by (Ok c) = refl
-    by (Err fault) = refl
-
 behind_both : (ns ms : List (Entry Node)) (a : Answer) → behind ns (behind ms a) ≡ behind (ns ++ ms) a
 behind_both ns ms a = ap (λ (m : Result Content Fault). record { input = a.input; machine = m })
     (by a.machine)
@@ -149,12 +141,6 @@ grows_none xs = record { more = []; parts = sym (append-nil xs) }
 
 pub grows_same : {A : Type 0} {xs ys : List A} → xs ≡ ys → Grows xs ys
 grows_same {A} {xs} {ys} e = record { more = []; parts = sym e ∙ sym (append-nil xs) }
-
-grows_both : {A : Type 0} {xs ys zs : List A} → Grows xs ys → Grows ys zs → Grows xs zs
-grows_both {A} {xs} {ys} {zs} h k = record {
-  more = h.more ++ k.more;
-  parts = k.parts ∙ ap (λ (x : List A). x ++ k.more) h.parts ∙ append_assoc xs h.more k.more;
-}
 
 grows_length : {A : Type 0} {xs ys : List A} → Grows xs ys → length xs ≤ length ys
 grows_length {A} {xs} {ys} h =
@@ -220,24 +206,6 @@ module _ {T : Type 0} {holds : T → T → Heading → List Told → Type 0} {be
         outcomes = subst (λ (k : KnownOutcomes). Grows old.outcomes.known k.known) (sym o) outcomes;
       }
 
-  -- and so to what was known earlier
-  pub tells_back : {mid : Answer} {old r new : Reader} → before ≡ mid
-      → r.told_sets ≡ old.told_sets → r.told_outcomes ≡ old.told_outcomes
-      → Grows old.sets.known r.sets.known → Grows old.outcomes.known r.outcomes.known
-      → Tells holds mid r new from to → Tells holds before old new from to
-  tells_back {mid} {old} {r} {new} e told_sets told_outcomes sets outcomes h = record {
-    node = h.node;
-    goes = e ∙ h.goes;
-    placed = h.placed;
-    told = λ untold heading told holding. subst (λ (x : Told). holds untold to heading (told ++ x ∷ []))
-        (λ i. told_node new.sets.known new.outcomes.known (told_sets i) (told_outcomes i) h.node)
-        (h.told untold heading told holding);
-    told_sets = h.told_sets ∙ ap (λ (n : ℕ). max n h.node.set) told_sets;
-    told_outcomes = h.told_outcomes ∙ ap (λ (n : ℕ). max n h.node.outcome) told_outcomes;
-    sets = grows_both sets h.sets;
-    outcomes = grows_both outcomes h.outcomes;
-  }
-
   -- the same where a description that is repeated comes behind it
   pub tells_again : {A : Type 0} (q : Position) (old r m new : Reader) (node : Kept)
       (result : Result A Fault) → r.told_sets ≡ old.told_sets
@@ -271,14 +239,6 @@ placed_at sets outcomes name set outcome s o = record { set = by set s; outcome 
 -- ---- the nodes of a file
 
 module _ {T : Type 0} (holds : T → T → Heading → List Told → Type 0) (untold : T) (heading : Heading) where
-  pub read_begun : (r : Reader) (to : T) → r.told_sets ≡ 0 → r.told_outcomes ≡ 0 → holds untold to heading []
-      → HasRead (λ t told. holds untold t heading told) (answer NodeDue r) NodeDue r to
-  read_begun r to sets outcomes holding = record {
-    nodes = [];
-    goes = sym (behind_none (answer NodeDue r));
-    has_told = record { placed = tt; told = holding; told_sets = sets; told_outcomes = outcomes };
-  }
-
   pub told_one_more : {old new : Reader} {from to : T} {nodes : List Kept} {before : Answer}
       → HasTold (λ t told. holds untold t heading told) old from nodes → (h : Tells holds before old new from to)
       → HasTold (λ t told. holds untold t heading told) new to (nodes ++ h.node ∷ [])
@@ -333,24 +293,6 @@ module _ {T : Type 0} (holds : T → T → Heading → List Told → Type 0) (un
           (grows_length (record { more = h.sets.more; parts = refl })) (omega arith)
           k.has_told.placed)
           ∙ sets_grow old.sets.known h.sets.more old.outcomes.known k.nodes k.has_told.placed)
-
-  pub read_ended : {start : Answer} {r new : Reader} {to : T} → HasRead (λ t told. holds untold t heading told) start NodeDue r to
-      → (answer NodeDue r).machine ≡ Ok (content_of r) → new ≡ record r { tokens = new.tokens }
-      → HasReadAll (λ t told. holds untold t heading told) start new to
-  read_ended {start} {r} {new} {to} k ends kept =
-      subst (λ (x : Reader). HasReadAll (λ t told. holds untold t heading told) start x to) (sym kept) (record {
-        nodes = k.nodes;
-        whole = ap (λ (a : Answer). a.machine) k.goes
-            ∙ ap (with_nodes (entries_with r.sets.known r.outcomes.known k.nodes)) ends
-            ∙ ap (λ (es : List (Entry Node)). Ok (record (content_of r) { nodes = es }))
-            (append-nil (entries_with r.sets.known r.outcomes.known k.nodes));
-        has_told = record {
-          placed = k.has_told.placed;
-          told = k.has_told.told;
-          told_sets = k.has_told.told_sets;
-          told_outcomes = k.has_told.told_outcomes;
-        };
-      })
 
 -- ---- nodes that are kept
 

@@ -1,5 +1,6 @@
 use Rattle.gf_tree.proofs.DuePayoffs.{after_last_payoff}
+use Rattle.gf_tree.proofs.FrontJudged.{obeys}
 use Rattle.gf_tree.proofs.laws.rows.after_last_payoff.Goals as goal
 
 pub returns : goal.returns
-returns c = after_last_payoff
+returns c = λ f n ps h all. obeys (after_last_payoff f n ps h all)
