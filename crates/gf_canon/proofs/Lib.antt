@@ -7,7 +7,6 @@ pub mod Files
 pub mod FilesJudged
 pub mod Formats
 pub mod Headline
-pub mod NamesLeftOut
 pub mod NodesNamed
 pub mod NumbersInOrder
 pub mod NumbersNoted

@@ -14,7 +14,6 @@ pub mod NewNumbers
 pub mod Noted
 pub mod SameBy
 pub mod Sameness
-pub mod TableNames
 pub mod TextParts
 pub mod ToldFile
 pub mod WorkedGames

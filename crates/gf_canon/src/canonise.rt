@@ -1,6 +1,6 @@
 //! The canonical text of a game file.
 
-ghost use Rattle.std.specs.Prelude.{◌≡◌, ℕ, IfErr, IfOk, MatchResult, length};
+ghost use Rattle.std.specs.Prelude.{◌≡◌, IfErr, IfOk, MatchResult};
 ghost use Rattle.gf_token.specs.declared.fault.Why.TheVariants.{Memory};
 ghost use Rattle.gf_nfg.specs.Judgement.{IsJudged as IsStrategicJudged};
 ghost use Rattle.gf_nfg.specs.LimitPlace.{IsWithinLimit};
@@ -10,7 +10,6 @@ ghost use Rattle.gf_tree.specs.Game.{Game as game};
 ghost use Rattle.gf_tree.specs.GameOf.{SpellsGame};
 ghost use Rattle.gf_tree.specs.Judgement.{IsJudged as IsExtensiveJudged};
 ghost use Rattle.gf_canon.specs.GameFile.{GameFile, canonical_text};
-ghost use Rattle.gf_canon.specs.GameFile.GameFile.{strategic};
 ghost use Rattle.gf_canon.specs.Judgement.{IsCanonicalText, IsJudged, IsPlaced, IsTextBy};
 ghost use Rattle.gf_canon.specs.Judgement.{SpellsWithin};
 ghost use Rattle.gf_canon.specs.NamesAside.{file_by};
@@ -18,21 +17,10 @@ ghost use Rattle.gf_canon.specs.NamesAside.{file_by};
 use crate::format::{Format, format_of};
 use crate::lines::Lines;
 use crate::sameness::Names;
-use crate::without_names::without_names;
-use gf_nfg::{Table, read_nfg, write_nfg};
-use gf_token::{Fault, Why};
+use gf_nfg::canonical_nfg;
+use gf_token::Fault;
 use gf_tree::tell_efg;
-use std::alloc::{AllocError, Global};
-
-/// Memory is refused behind the last token.
-fn memory_at_end(input: &[u8]) -> Fault
-    ensures { result ≡ record {
-      span = record { start = length input.now; end = length input.now };
-      why = Memory;
-    } }
-{
-    Fault::at_end(input.len(), Why::Memory)
-}
+use std::alloc::Global;
 
 /// The canonical text of an extensive file, written while it is read.
 fn canonical_efg(alloc: Global, input: &[u8], names: Names) -> Result<Vec<u8>, Fault>
@@ -47,29 +35,16 @@ fn canonical_efg(alloc: Global, input: &[u8], names: Names) -> Result<Vec<u8>, F
     Ok(lines.text)
 }
 
-/// The canonical text of a table.
-fn text_of_table(alloc: Global, t: &Table, names: Names) -> Result<Vec<u8>, AllocError>
-    ensures { IfOk result (λ text. text.items ≡ canonical_text (file_by names (strategic t.now))) }
-{
-    let mut text = Vec::new(alloc);
-    write_nfg(t, &mut text)?;
-    match names {
-        Names::Kept => Ok(text),
-        Names::Aside => without_names(alloc, t, text.as_slice()),
-    }
-}
-
 /// The canonical text of a strategic file.
-fn canonical_nfg(alloc: Global, input: &[u8], names: Names) -> Result<Vec<u8>, Fault>
+fn canonical_table(alloc: Global, input: &[u8], names: Names) -> Result<Vec<u8>, Fault>
     ensures text { IfOk result (λ text. IsTextBy names input.now text.items) }
     ensures judged { IfErr result (λ fault. IsStrategicJudged fault.why input.now fault.span) }
     ensures memory { IfErr result (λ fault. (t : table) → SpellsTable input.now t
         → IsWithinLimit t → fault.why ≡ Memory) }
 {
-    let table = read_nfg(alloc, input)?;
-    match text_of_table(alloc, &table, names) {
-        Ok(text) => Ok(text),
-        Err(_) => Err(memory_at_end(input)),
+    match names {
+        Names::Kept => canonical_nfg(alloc, input, true),
+        Names::Aside => canonical_nfg(alloc, input, false),
     }
 }
 
@@ -84,8 +59,8 @@ fn canonical_nfg(alloc: Global, input: &[u8], names: Names) -> Result<Vec<u8>, F
 /// limit. Spans are in bytes of the input, from 0. Beside those refusals come:
 /// - E2: the first token is a text that has no end; at its opening quote.
 /// - E3: the first token is anything else but a word above, or there is none; there.
-/// - E19: memory for the text is refused; of a tree at the token where it was wanted, of a table at
-///   the end. There was nothing else to refuse.
+/// - E19: memory for the text is refused; at the token where it was wanted, or for lines that are made
+///   when a table was read, at the end. There was nothing else to refuse.
 pub fn canonical_by(alloc: Global, input: &[u8], names: Names) -> Result<Vec<u8>, Fault>
     ensures text { IfOk result (λ text. IsTextBy names input.now text.items) }
     ensures only { (x : GameFile) → SpellsWithin input.now x → MatchResult result
@@ -95,7 +70,7 @@ pub fn canonical_by(alloc: Global, input: &[u8], names: Names) -> Result<Vec<u8>
 {
     match format_of(input)? {
         Format::Extensive => canonical_efg(alloc, input, names),
-        Format::Strategic => canonical_nfg(alloc, input, names),
+        Format::Strategic => canonical_table(alloc, input, names),
     }
 }
 

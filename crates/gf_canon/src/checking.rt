@@ -1,17 +1,12 @@
 //! Whether a file is right, with nothing of it kept.
 
-ghost use Rattle.std.specs.Prelude.{◌≡◌, IfErr, IfOk, OnOk};
-ghost use Rattle.gf_token.specs.declared.fault.Why.TheVariants.{Memory};
-ghost use Rattle.gf_nfg.specs.Judgement.{IsJudged as IsStrategicJudged};
-ghost use Rattle.gf_nfg.specs.LimitPlace.{IsWithinLimit};
-ghost use Rattle.gf_nfg.specs.Table.{Table as table};
-ghost use Rattle.gf_nfg.specs.TableText.{SpellsTable};
+ghost use Rattle.std.specs.Prelude.{IfErr, IfOk};
 ghost use Rattle.gf_canon.specs.FileFormat.{MeansFileOf};
 ghost use Rattle.gf_canon.specs.Judgement.{IsRefusedWith};
 ghost use Rattle.gf_canon.specs.ToldFile.{IsToldFile};
 
 use crate::format::{Format, format_of};
-use gf_nfg::read_nfg;
+use gf_nfg::check_nfg;
 use gf_token::Fault;
 use gf_tree::{NodeByFirstUse, Receive, ToldHeading, tell_efg};
 use std::alloc::{AllocError, Global};
@@ -37,22 +32,11 @@ impl<'a> Receive<'a> for Unkept {
     }
 }
 
-/// Reads a strategic file, and keeps nothing of it.
-fn check_nfg(alloc: Global, input: &[u8]) -> Result<(), Fault>
-    ensures spelled { OnOk result ((t : table) × SpellsTable input.now t × IsWithinLimit t) }
-    ensures only { IfErr result (λ fault. (t : table) → SpellsTable input.now t → IsWithinLimit t
-        → fault.why ≡ Memory) }
-    ensures judged { IfErr result (λ fault. IsStrategicJudged fault.why input.now fault.span) }
-{
-    read_nfg(alloc, input)?;
-    Ok(())
-}
-
 /// The format of a game file, which is read whole: that of a tree, which is told to a receiver, or that
 /// of a table, of which nothing is kept.
 ///
 /// Refused as `canonical` refuses it; E19 where memory for the descriptions of sets and outcomes, for
-/// the receiver, or for the table, is refused.
+/// the receiver, or for the labels of a table, is refused.
 pub(crate) fn tell_file<'a, R: Receive<'a>>(
     alloc: Global,
     input: &'a [u8],
@@ -78,7 +62,7 @@ pub(crate) fn tell_file<'a, R: Receive<'a>>(
 /// text is not made, or that of a table.
 ///
 /// Refused as `canonical` refuses it; E19 where memory for the descriptions of sets and outcomes, or
-/// for the table, is refused.
+/// for the labels of a table, is refused.
 pub fn check(alloc: Global, input: &[u8]) -> Result<Format, Fault>
     ensures format { IfOk result (MeansFileOf input.now) }
     ensures refused { IfErr result (IsRefusedWith input.now) }

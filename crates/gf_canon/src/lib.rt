@@ -19,7 +19,6 @@ mod numbering;
 mod plain_line;
 mod sameness;
 mod walk;
-mod without_names;
 mod write;
 
 pub use canonise::{canonical, canonical_by};

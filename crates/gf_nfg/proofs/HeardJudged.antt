@@ -21,16 +21,12 @@ use Rattle.gf_nfg.specs.Heard.{read_on, refused, taken, then_on, within}
 use Rattle.gf_nfg.specs.Heard.Fails.{of_file, of_memory}
 use Rattle.gf_nfg.specs.Judgement.{IsAcceptedWithinLimit, IsJudged, IsRefusal}
 use Rattle.gf_nfg.specs.Limit.{profile_limit}
-use Rattle.gf_nfg.specs.LimitPlace.{IsWithinLimit}
 use Rattle.gf_nfg.specs.Machine.{Content, State, at, finish, nothing, run, start, step, ◌>>=◌}
 use Rattle.gf_nfg.specs.Position.{Position as p}
 use Rattle.gf_nfg.specs.Reason.{IsReason}
-use Rattle.gf_nfg.specs.ReaderState.{ArePartsOf, answer, content_of}
-use Rattle.gf_nfg.specs.Table.{Table}
-use Rattle.gf_nfg.specs.TableText.{SpellsTable}
-use Rattle.gf_nfg.specs.declared.parts.Parts.{Parts}
+use Rattle.gf_nfg.specs.ReaderState.{answer, content_in}
 use Rattle.gf_nfg.specs.declared.reader.Reader.{Reader}
-use Rattle.gf_nfg.proofs.PlacesJudged.{accepted, broken, judged_end, limit, only_memory}
+use Rattle.gf_nfg.proofs.PlacesJudged.{accepted, broken, judged_end, limit}
 use Rattle.gf_nfg.proofs.PlacesJudged.{refusal}
 use Rattle.gf_nfg.proofs.PlacesJudged.{span_of}
 use Rattle.gf_nfg.proofs.PlacesLed.{Led, led_more, led_none}
@@ -324,16 +320,10 @@ pub answer_read : (bytes : List ℕ) (all : List Lexeme) (c : Content)
 answer_read bytes all c e = sentence_found (tokens_of all) c (read_in_turn (length bytes) all start c e)
 
 pub heard_begun : (r : Reader) (bytes : List ℕ) → r.tokens.input ≡ bytes
-    → content_of r.parts ≡ nothing → to_all bytes r.tokens.ahead ≡ answer p.Format 0 0 r
+    → content_in r.heading ≡ nothing → to_all bytes r.tokens.ahead ≡ answer p.Format 0 0 r
 heard_begun r bytes input none =
     λ i. heard (at p.Format 0 0 0 (sym none i)) (record { input = sym input i; ahead = r.tokens.ahead })
 
 pub refused_why : {A : Type 0} (f : Fault) (P : Fault → Type 0) (result : Result A Fault)
     → result ≡ Err f → P f → IfErr result P
 refused_why f P result e h = subst (λ r. IfErr r P) (sym e) h
-
-pub refused_parts : (f : Fault) (bytes : List ℕ) (t : Table) (result : Result Parts Fault)
-    → result ≡ Err f → IsJudged f.why bytes f.span → SpellsTable bytes t → IsWithinLimit t
-    → ArePartsOf result t
-refused_parts f bytes t result e judged spells within =
-    subst (λ r. ArePartsOf r t) (sym e) (only_memory f.why bytes f.span t judged spells within)

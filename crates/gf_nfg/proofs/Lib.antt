@@ -1,5 +1,7 @@
+mod HeadingTexts
 mod LabelsCounted
 mod LabelsJoined
+mod LinesLaid
 mod TableAgrees
 mod TableMade
 mod TableNames
@@ -43,3 +45,5 @@ pub mod RunsSentence
 pub mod RunsStrategies
 pub mod SpelledTables
 pub mod SpelledTexts
+pub mod ToldTables
+pub mod ToldTexts

@@ -1,8 +1,10 @@
 -- What was read in full means a table, and a table is found again from its parts.
 use Rattle.std.proofs.Common.{◌≡◌, ℕ, zero, suc, ◌+◌, ◌*◌, ◌<◌, ◌≤◌, List, []}
+use Rattle.std.proofs.Common.{Bool, true, false}
 use Rattle.std.proofs.Common.{◌∷◌, ◌++◌, length, map, take, drop, refl, sym}
 use Rattle.std.proofs.Common.{ap, subst, ◌∙◌, arith, length-take, length-drop}
-use Rattle.std.specs.Prelude.{sum, replicate, pos}
+use Rattle.std.specs.Prelude.{◌==◌, sum, replicate, pos}
+use Rattle.std.proofs.lemmas.Bool.Decides.{nat_tests}
 use Rattle.std.specs.List.{AllByRecursion}
 use Rattle.std.proofs.Math.Nat.{mul_comm, mul-le-mul_right}
 use Rattle.std.proofs.lemmas.List.{drop-drop, length-map}
@@ -10,6 +12,7 @@ use Rattle.gf_fraction.specs.Ratio.{Ratio, whole}
 use Rattle.gf_fraction.proofs.AllElements.{all_mapped}
 use Rattle.gf_nfg.specs.Profiles.{numbers_from, positions, product}
 use Rattle.gf_nfg.specs.Limit.{profile_limit}
+use Rattle.gf_nfg.specs.LimitPlace.{IsWithinLimit}
 use Rattle.gf_nfg.specs.Table.{IsSpellable, IsTable, rows}
 use Rattle.gf_nfg.specs.TableParts.{Names, groups, numbers_of, row_of, IsHeld, IsNamed, HasRows}
 use Rattle.gf_nfg.specs.Machine.{Content}
@@ -151,6 +154,22 @@ pub length-entries : (c : Content) → IsComplete c → length (table_of c).entr
 length-entries c h =
     kept.length-entries (names_in c) (rows_by c c.choices) (named_rows c h).counted
     ∙ length-rows_by c c.choices h.has_rows
+
+pub within_limit : (c : Content) → IsComplete c → c.profiles ≤ profile_limit
+    → IsWithinLimit (table_of c)
+within_limit c h within = let count = length-entries c h in omega (arith, count, within)
+
+-- ---- the test whether a list is empty
+
+pub present : (size count : ℕ) (empty : Bool) → empty ≡ (size == 0) → empty ≡ false
+    → size ≡ count → 0 < count
+present size count empty is given same =
+    let test : (size == 0) ≡ false = sym is ∙ given in grind (arith, nat_tests, test, same)
+
+pub lacking : (size count : ℕ) (empty : Bool) → empty ≡ (size == 0) → empty ≡ true
+    → size ≡ count → count ≡ 0
+lacking size count empty is none same =
+    let test : (size == 0) ≡ true = sym is ∙ none in grind (arith, nat_tests, test, same)
 
 -- ---- the table as it is made
 

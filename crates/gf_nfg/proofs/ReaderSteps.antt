@@ -1,5 +1,5 @@
 -- What the methods of the reader stand on: answers carried back, and steps with a test of what is due.
-use Rattle.std.proofs.Common.{◌≡◌, ℕ, zero, suc, ◌<◌, ◌-◌, false, List, [], ◌∷◌, length, Result, Ok, Err}
+use Rattle.std.proofs.Common.{◌≡◌, ℕ, zero, suc, ◌<◌, ◌-◌, ◌*◌, false, List, [], ◌∷◌, length, Result, Ok, Err}
 use Rattle.std.proofs.Common.{refl, sym, ap, subst, ◌∙◌, arith}
 use Rattle.std.proofs.lemmas.Bool.Decides.{nat_tests}
 use Rattle.std.specs.Prelude.{MatchResult, ◌==◌}
@@ -7,15 +7,21 @@ use Rattle.gf_token.specs.Label.{label_of}
 use Rattle.gf_token.specs.declared.label.Label.{Label}
 use Rattle.gf_token.specs.Remaining.{Remaining}
 use Rattle.gf_token.specs.Token.{Lexeme, lexeme}
-use Rattle.gf_token.specs.Token.Token.{Opening, Closing}
+use Rattle.gf_token.specs.Token.Token.{Opening, Closing, Text}
 use Rattle.gf_token.specs.declared.fault.Fault.{Fault}
 use Rattle.gf_token.specs.declared.fault.Span.{Span}
 use Rattle.gf_token.specs.declared.fault.Why.{Why}
 use Rattle.gf_nfg.specs.Heard.{Answer, Fails, Goes, heard, read_on, then_on, within}
 use Rattle.gf_nfg.specs.Machine.{Content, State, at, listed, settled}
 use Rattle.gf_nfg.specs.Position.{Position as p}
-use Rattle.gf_nfg.specs.ReaderState.{labels_of}
+use Rattle.gf_nfg.specs.ReaderState.{HasToldAll, body_answer, content_in, content_told, labels_of, told_answer}
+use Rattle.gf_nfg.specs.Told.{Told}
+use Rattle.gf_nfg.specs.declared.heading.Heading.{Heading}
+use Rattle.gf_nfg.specs.declared.reader.Reader.{Reader}
+use Rattle.gf_nfg.specs.declared.receive.Version.{Version}
+use Rattle.gf_nfg.specs.declared.receive.Version.TheVariants as version
 use Rattle.std.proofs.lemmas.List.{length-map}
+use Rattle.gf_nfg.proofs.HeardJudged.{carried}
 
 -- ---- answers carried back
 
@@ -33,12 +39,6 @@ goes_from r d e h = subst (λ x. Goes x r d) (sym e) h
 pub goes_to : {A : Type 0} (r : Result A Fault) (a : Answer) {b d : Answer} → b ≡ d → Goes a r b
     → Goes a r d
 goes_to r a e h = subst (λ x. Goes a r x) e h
-
-pub ends_from : {A : Type 0} (r : Result A Fault) (c : Content) {a b : Answer} → a ≡ b
-    → MatchResult r (λ _. b.machine ≡ Ok c) (λ f. Fails f b)
-    → MatchResult r (λ _. a.machine ≡ Ok c) (λ f. Fails f a)
-ends_from r c e h =
-    subst (λ x. MatchResult r (λ _. x.machine ≡ Ok c) (λ f. Fails f x)) (sym e) h
 
 -- ---- lists of labels
 
@@ -82,6 +82,17 @@ list_closes due before n c t new s some is next input =
     }) (ap (listed (at p.InList due before 0 c)) (sym is)
     ∙ listed_settled (at p.InList due before 0 c) n some)
 
+-- ---- outcomes
+
+-- after the name of an outcome, a payoff is due for each player
+pub outcome_named : (told : Told) (outcomes players : ℕ) (t new : Remaining) (start end : ℕ)
+    (label : List ℕ) → t.ahead ≡ lexeme start end (Text label) ∷ new.ahead → new.input ≡ t.input
+    → length (content_told told).players ≡ players
+    → told_answer p.OutcomeName 0 outcomes t told ≡ told_answer p.BracedPayoff players outcomes new told
+outcome_named told outcomes players t new start end label next input size =
+    (λ i. told_answer p.OutcomeName 0 outcomes (record { input = sym input i; ahead = next i }) told)
+    ∙ ap (λ n. told_answer p.BracedPayoff n outcomes new told) size
+
 -- ---- after the last of the strategies
 
 pub lists_end : (c : Content) (t : Remaining)
@@ -109,3 +120,33 @@ label_count now before n m k e f g =
     let a = length-map now label_of in
     let b = length-map before label_of in
     omega (arith, e, f, g, a, b)
+
+-- ---- the body
+
+-- where it begins the machine stands somewhere
+pub body_begins : (v : Version) (r : Reader)
+    → (s : State) × (body_answer v r ≡ heard s r.tokens)
+body_begins version.Payoffs r = (
+  at p.FlatPayoffs (length r.heading.players.items * r.heading.profiles.count) 0 0
+      (content_in r.heading),
+  refl,
+)
+body_begins version.Outcomes r = (at p.InOutcomes 0 0 0 (content_in r.heading), refl)
+
+-- the end stands after all that was told
+pub all_told : {A T : Type 0} (holds : T → Told → Type 0) (r : Result A Fault) (t : Told)
+    {before after : Answer} {h : Heading} {to : T}
+    → t.heading ≡ h → (t.version ≡ version.Payoffs → t.numbers ≡ []) → holds to t → before ≡ after
+    → MatchResult r (λ _. after.machine ≡ Ok (content_told t)) (λ f. Fails f after)
+    → MatchResult r (λ _. HasToldAll holds before h to) (λ f. Fails f before)
+all_told holds (Ok x) t same unnumbered holding goes whole = record {
+  told = t;
+  same = same;
+  whole = ap (λ (a : Answer). a.machine) goes ∙ whole;
+  unnumbered = unnumbered;
+  holding = holding;
+}
+all_told holds (Err f) t same unnumbered holding goes fails = carried fails goes
+
+pub no_payoffs : {numbers : List ℕ} → version.Outcomes ≡ version.Payoffs → numbers ≡ []
+no_payoffs e = absurd cc

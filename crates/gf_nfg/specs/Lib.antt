@@ -19,6 +19,9 @@ pub mod TableAccess
 pub mod TableParts
 pub mod TableText
 pub mod TextParts
+pub mod Told
+pub mod ToldTable
+pub mod ToldText
 pub mod WorkedTables
 pub use Rattle.gf_fraction.specs.Ratio
 pub use Rattle.gf_token.specs.Code

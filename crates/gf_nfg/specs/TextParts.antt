@@ -1,10 +1,18 @@
 -- The pieces of a canonical text, for the functions that append them.
-use Rattle.std.specs.Prelude.{◌≡◌, ℕ, List, length, [], ◌∷◌, ◌++◌, map, codes, get_or, take}
+use Rattle.std.specs.Prelude.{◌≡◌, ℕ, Bool, List, length, [], ◌∷◌, ◌++◌, map, codes, get_or, take}
+use Rattle.std.specs.Prelude.{if◌then◌else◌}
 use Rattle.std.specs.List.{flat_map}
 use Rattle.gf_fraction.specs.Ratio.{Ratio}
 use Rattle.gf_fraction.specs.NumberText.{number_text}
 use Rattle.gf_nfg.specs.TableParts.{Names}
 use Rattle.gf_nfg.specs.TableText.{lines_text, list_text, quoted, spaced}
+
+-- title and comment are empty if it is not named
+abbrev pub names_by : Bool → Names → Names
+names_by named n = record n {
+  title = if named then n.title else [];
+  comment = if named then n.comment else [];
+}
 
 -- what stood in a vector is still at its front
 abbrev pub Keeps : List ℕ → List ℕ → Type 0

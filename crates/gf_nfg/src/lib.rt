@@ -4,7 +4,9 @@
 #![tactic(auto)]
 
 mod agree;
+mod canonical;
 mod classes;
+mod heading;
 mod labels;
 pub mod laws;
 mod limit;
@@ -16,12 +18,16 @@ mod profile;
 mod read;
 mod reader;
 mod readings;
+mod receive;
 mod rows;
 mod table;
+mod text;
 mod write;
+mod write_heading;
 
+pub use canonical::canonical_nfg;
 pub use labels::Labels;
 pub use limit::ProfileCount;
-pub use read::read_nfg;
+pub use read::{check_nfg, read_nfg};
 pub use table::Table;
 pub use write::write_nfg;

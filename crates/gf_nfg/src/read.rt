@@ -1,30 +1,51 @@
 //! Strategic files as they are read from bytes.
 
-ghost use Rattle.std.specs.Prelude.{◌≡◌, IfOk, IfErr, length};
+ghost use Rattle.std.specs.Prelude.{◌≡◌, IfErr, IfOk, OnOk, length};
+ghost use Rattle.gf_token.specs.declared.fault.Why.TheVariants.{Memory};
 ghost use Rattle.gf_nfg.specs.TableText.{SpellsTable};
-ghost use Rattle.gf_nfg.specs.Meaning.{IsComplete, table_of};
+ghost use Rattle.gf_nfg.specs.ToldTable.{HasToldTable};
 ghost use Rattle.gf_nfg.specs.LimitPlace.{IsWithinLimit};
 ghost use Rattle.gf_nfg.specs.Judgement.{IsJudged, IsReadAs};
-ghost use Rattle.gf_nfg.specs.ReaderState.{ArePartsOf, content_of};
 
+use crate::heading::Heading;
 use crate::parts::Parts;
 use crate::reader::Reader;
+use crate::receive::{Kept, Receive, Unkept};
 use crate::table::Table;
 use gf_token::Fault;
 use std::alloc::Global;
 
-/// Reads the parts of the strategic file that bytes spell.
-fn read_parts<'a>(alloc: Global, input: &'a [u8]) -> Result<Parts<'a>, Fault>
-    ensures spelled { IfOk result
-        (λ parts. SpellsTable input.entry.now (table_of (content_of parts))) }
-    ensures complete { IfOk result (λ parts. IsComplete (content_of parts)) }
-    ensures only { (t : Table) → SpellsTable input.entry.now t → IsWithinLimit t
-        → ArePartsOf result t }
+/// Reads a strategic file, and tells it to a receiver. Answers its heading.
+///
+/// Refused as `read_nfg` refuses, also where the receiver wants memory; it has then been told a part.
+pub(crate) fn tell_nfg<'a, R: Receive<'a>>(
+    alloc: Global,
+    input: &'a [u8],
+    to: &mut R,
+) -> Result<Heading<'a>, Fault>
+    requires { R.untold to.old }
+    ensures told { IfOk result (λ heading.
+        HasToldTable (R.holds to.old) input.entry.now heading to.new) }
+    ensures only { IfErr result (λ fault. (t : Table) → SpellsTable input.entry.now t
+        → IsWithinLimit t → fault.why ≡ Memory) }
     ensures judged { IfErr result (λ fault. IsJudged fault.why input.entry.now fault.span) }
 {
     let mut reader = Reader::new(alloc, input);
-    reader.read()?;
-    Ok(reader.into_parts())
+    reader.tell(to)?;
+    Ok(reader.into_heading())
+}
+
+/// Whether bytes are a strategic file. Nothing of it is kept.
+///
+/// Refused as `read_nfg` refuses; E19 where memory for its labels is refused.
+pub fn check_nfg(alloc: Global, input: &[u8]) -> Result<(), Fault>
+    ensures spelled { OnOk result ((t : Table) × SpellsTable input.now t × IsWithinLimit t) }
+    ensures only { IfErr result (λ fault. (t : Table) → SpellsTable input.now t → IsWithinLimit t
+        → fault.why ≡ Memory) }
+    ensures judged { IfErr result (λ fault. IsJudged fault.why input.now fault.span) }
+{
+    tell_nfg(alloc, input, &mut Unkept)?;
+    Ok(())
 }
 
 /// Reads the table of a strategic file from its bytes, in payoff version or in outcome version
@@ -53,8 +74,9 @@ pub fn read_nfg(alloc: Global, input: &[u8]) -> Result<Table, Fault>
     ensures only { (t : Table) → SpellsTable input.now t → IsWithinLimit t → IsReadAs result t }
     ensures judged { IfErr result (λ fault. IsJudged fault.why input.now fault.span) }
 {
-    let parts = read_parts(alloc, input)?;
-    match parts.into_table(alloc) {
+    let mut kept = Kept::new(alloc);
+    let heading = tell_nfg(alloc, input, &mut kept)?;
+    match (Parts { heading, kept }).into_table(alloc) {
         Ok(table) => Ok(table),
         Err(error) => Err(Fault::at_end(input.len(), error.into())),
     }

@@ -1,30 +1,35 @@
 //! The reader of strategic files, which asks for the token that is due (Gambit documentation, "Game
 //! representation formats").
 
-ghost use Rattle.std.specs.Prelude.{◌≡◌, ◌≤◌, ◌∷◌, ◌++◌, [], Ok, MatchResult};
-ghost use Rattle.std.specs.Prelude.{vec_capacity, vec_len};
+ghost use Rattle.std.specs.Prelude.{◌≡◌, ◌≤◌, ◌∷◌, ◌++◌, [], ◌*◌, length, min};
+ghost use Rattle.std.specs.Prelude.{IfOk, MatchResult, vec_capacity, vec_len};
 ghost use Rattle.gf_token.specs.Label.{label_of};
+ghost use Rattle.gf_token.specs.Remaining.{StandsBefore};
 ghost use Rattle.gf_token.specs.declared.fault.Why.TheVariants.{Memory};
 ghost use Rattle.gf_token.specs.TokenSpelling.{Spells};
 ghost use Rattle.gf_nfg.specs.Heard.{Fails};
 ghost use Rattle.gf_nfg.specs.Machine.{nothing};
 ghost use Rattle.gf_nfg.specs.Position.Position.{Format};
-ghost use Rattle.gf_nfg.specs.ReaderState.{answer, content_of, labels_of};
+ghost use Rattle.gf_nfg.specs.ReaderState.{HasToldAll, answer, body_answer, content_in};
+ghost use Rattle.gf_nfg.specs.ReaderState.{labels_of};
+ghost use Rattle.gf_nfg.specs.Told.{told_heading};
+ghost use Rattle.gf_nfg.specs.declared.receive.Version.TheVariants as version;
 
 mod body;
 mod heading;
 mod strategies;
 
-use crate::parts::Parts;
-use gf_token::{Fault, Label, TextToken, Tokens, Why};
+use crate::heading::Heading;
+use crate::receive::{Receive, Version};
+use gf_token::{Fault, Label, Span, TextToken, Tokens, Why};
 use std::alloc::Global;
 
 /// Reads a strategic file.
 #[derive(Drop)]
 pub struct Reader<'a> {
     tokens: Tokens<'a>,
-    /// What was read so far.
-    parts: Parts<'a>,
+    /// What was read of it so far.
+    heading: Heading<'a>,
     /// The input has room for no more numbers than this.
     room: usize,
 }
@@ -49,33 +54,120 @@ fn keep<'a>(labels: &mut Vec<Label<'a>>, text: TextToken<'a>) -> Result<(), Faul
 impl<'a> Reader<'a> {
     /// A reader before the first token of the input.
     pub fn new(alloc: Global, input: &'a [u8]) -> Reader<'a>
-        ensures content { content_of result.parts ≡ nothing }
+        ensures content { content_in result.heading ≡ nothing }
         ensures input { result.tokens.input ≡ input.entry.now }
         ensures spelled { Spells 0 input.entry.now result.tokens.ahead }
     {
         Reader {
             tokens: Tokens::new(input),
-            parts: Parts::new(alloc),
+            heading: Heading::new(alloc),
             room: input.len() / 2 + 1,
         }
     }
 
-    /// Reads the file to its end.
-    pub fn read(&mut self) -> Result<(), Fault>
-        ensures { MatchResult result
-            (λ _. (answer Format 0 0 self.old).machine ≡ Ok (content_of self.new.parts))
+    /// How many of so many numbers the input has room for.
+    fn expected(&self, due: u128) -> usize
+        ensures { result ≡ min due self.now.room }
+    {
+        if due < self.room as u128 {
+            due as usize
+        } else {
+            self.room
+        }
+    }
+
+    /// How many payoffs the players have at all profiles together.
+    fn all_payoffs(&self) -> u128
+        ensures { result
+            ≡ length self.now.heading.players.items * self.now.heading.profiles.count }
+    {
+        self.heading.players.len() as u128 * u128::from(self.heading.profiles.count)
+    }
+
+    /// Reads all that stands before the payoffs or the outcomes. Answers which of them follow, and
+    /// where the last token stands.
+    fn begin(&mut self) -> Result<(Version, Span), Fault>
+        ensures machine { MatchResult result
+            (λ begun. answer Format 0 0 self.old ≡ body_answer begun.0 self.new)
             (λ f. Fails f (answer Format 0 0 self.old)) }
+        ensures place { IfOk result (λ begun. StandsBefore self.new.tokens begun.1) }
     {
         self.heading()?;
         self.players()?;
-        self.strategies()?;
-        self.body()
+        let brace = self.strategies()?;
+        let last = self.comment(brace);
+        Ok(self.version(last))
     }
 
-    /// What was read.
-    pub fn into_parts(self) -> Parts<'a>
-        ensures { content_of result ≡ content_of self.entry.parts }
+    /// Tells the heading, whose last token stands there.
+    fn tell_heading<R: Receive<'a>>(
+        &self,
+        version: Version,
+        last: Span,
+        to: &mut R,
+    ) -> Result<(), Fault>
+        requires untold { R.untold to.old }
+        requires place { StandsBefore self.now.tokens last }
+        ensures { MatchResult result
+            (λ _. R.holds to.old to.new (told_heading version self.now.heading))
+            (λ f. Fails f (body_answer version self.now)) }
     {
-        self.parts
+        let due = match version {
+            Version::Payoffs => self.all_payoffs(),
+            Version::Outcomes => u128::from(self.heading.profiles.count),
+        };
+        let Ok(()) = to.heading(&self.heading, version, self.expected(due)) else {
+            return Err(Fault::at(last, Why::Memory));
+        };
+        Ok(())
+    }
+
+    /// Reads and tells the payoffs of the players at each profile, to the end.
+    fn tell_payoffs<R: Receive<'a>>(&mut self, to: &mut R) -> Result<(), Fault>
+        ensures { (untold : R) → R.holds untold to.old (told_heading version.Payoffs self.old.heading)
+            → MatchResult result
+            (λ _. HasToldAll (R.holds untold) (body_answer version.Payoffs self.old)
+            self.new.heading to.new)
+            (λ f. Fails f (body_answer version.Payoffs self.old)) }
+    {
+        let due = self.all_payoffs();
+        body::payoffs(&mut self.tokens, due, to)?;
+        body::end(&mut self.tokens)
+    }
+
+    /// Reads and tells the outcomes, after their opening brace, and the number of one at each
+    /// profile, to the end.
+    fn tell_outcomes<R: Receive<'a>>(&mut self, to: &mut R) -> Result<(), Fault>
+        ensures { (untold : R) → R.holds untold to.old (told_heading version.Outcomes self.old.heading)
+            → MatchResult result
+            (λ _. HasToldAll (R.holds untold) (body_answer version.Outcomes self.old)
+            self.new.heading to.new)
+            (λ f. Fails f (body_answer version.Outcomes self.old)) }
+    {
+        let outcomes = body::outcomes(&mut self.tokens, self.heading.players.len(), to)?;
+        body::numbers(&mut self.tokens, self.heading.profiles.count, outcomes, to)?;
+        body::end(&mut self.tokens)
+    }
+
+    /// Reads the file to its end, and tells it to a receiver.
+    pub(crate) fn tell<R: Receive<'a>>(&mut self, to: &mut R) -> Result<(), Fault>
+        requires { R.untold to.old }
+        ensures { MatchResult result
+            (λ _. HasToldAll (R.holds to.old) (answer Format 0 0 self.old) self.new.heading to.new)
+            (λ f. Fails f (answer Format 0 0 self.old)) }
+    {
+        let (version, last) = self.begin()?;
+        self.tell_heading(version, last, to)?;
+        match version {
+            Version::Payoffs => self.tell_payoffs(to),
+            Version::Outcomes => self.tell_outcomes(to),
+        }
+    }
+
+    /// The heading that was read.
+    pub(crate) fn into_heading(self) -> Heading<'a>
+        ensures { result ≡ self.entry.heading }
+    {
+        self.heading
     }
 }

@@ -3,211 +3,208 @@
 //!
 //! The numbers that end a file are most of what it holds, so that what reads one is `inline(always)`.
 
-ghost use Rattle.std.specs.Prelude.{◌≡◌, ◌<◌, ◌≤◌, ◌-◌, ◌*◌, ℕ, Ok, length, min};
-ghost use Rattle.std.specs.Prelude.{vec_capacity, vec_len, IfErr, IfOk, OnOk, MatchResult};
-ghost use Rattle.gf_token.specs.Remaining.{StandsBefore};
+ghost use Rattle.std.specs.Prelude.{◌≡◌, ◌<◌, ◌≤◌, ◌-◌, ℕ, Ok, length};
+ghost use Rattle.std.specs.Prelude.{IfErr, MatchResult, OnOk};
 ghost use Rattle.gf_token.specs.declared.fault.Why.TheVariants.{Memory};
-ghost use Rattle.gf_nfg.specs.Heard.{Fails, Goes};
-ghost use Rattle.gf_nfg.specs.Machine.{next_outcome};
-ghost use Rattle.gf_nfg.specs.Position.Position.{AfterBracedPayoff, AfterStrategies, BracedPayoff};
-ghost use Rattle.gf_nfg.specs.Position.Position.{FlatPayoffs, InOutcomes, OutcomeName};
-ghost use Rattle.gf_nfg.specs.Position.Position.{OutcomeNumbers};
-ghost use Rattle.gf_nfg.specs.ReaderState.{answer, content_of};
+ghost use Rattle.gf_nfg.specs.Heard.{Fails, heard};
+ghost use Rattle.gf_nfg.specs.Machine.{Content, at, next_outcome};
+ghost use Rattle.gf_nfg.specs.Position.Position.{AfterBracedPayoff, BracedPayoff, FlatPayoffs};
+ghost use Rattle.gf_nfg.specs.Position.Position.{InOutcomes, OutcomeName, OutcomeNumbers};
+ghost use Rattle.gf_nfg.specs.ReaderState.{GoesTelling, HasTold, content_told, told_answer};
+ghost use Rattle.gf_nfg.specs.Told.{Told, choosing, paying};
 
-use super::Reader;
-use gf_token::{Fault, Span, What, Why};
+use crate::receive::Receive;
+use gf_token::{Fault, Tokens, What, Why};
 
-impl<'a> Reader<'a> {
-    /// Reads a payoff. Answers where it stands.
-    #[inline(always)]
-    fn payoff(&mut self) -> Result<Span, Fault>
-        ensures flat { (due : ℕ) → 0 < due
-            → Goes (answer FlatPayoffs due 0 self.old) result (answer FlatPayoffs (due - 1) 0 self.new) }
-        ensures braced { (due outcomes : ℕ) → 0 < due
-            → Goes (answer BracedPayoff due outcomes self.old) result
-            (answer AfterBracedPayoff (due - 1) outcomes self.new) }
-        ensures place { IfOk result (λ span. StandsBefore self.new.tokens span) }
-        ensures shorter { OnOk result (length self.new.tokens.ahead ≤ length self.old.tokens.ahead) }
+/// Reads a payoff, and tells it.
+#[inline(always)]
+fn payoff<'a, R: Receive<'a>>(tokens: &mut Tokens<'a>, to: &mut R) -> Result<(), Fault>
+    ensures flat { (untold : R) (told : Told) (due : ℕ) → 0 < due → R.holds untold to.old told
+        → GoesTelling (R.holds untold) (paying told) result
+        (told_answer FlatPayoffs due 0 tokens.old told)
+        (told_answer FlatPayoffs (due - 1) 0 tokens.new) to.new }
+    ensures braced { (untold : R) (told : Told) (due outcomes : ℕ) → 0 < due
+        → R.holds untold to.old told
+        → GoesTelling (R.holds untold) (paying told) result
+        (told_answer BracedPayoff due outcomes tokens.old told)
+        (told_answer AfterBracedPayoff (due - 1) outcomes tokens.new) to.new }
+    ensures shorter { OnOk result (length tokens.new.ahead ≤ length tokens.old.ahead) }
 
-        // Memory is refused only where there was no room.
-        ensures full { IfErr result (λ f. f.why ≡ Memory
-            → vec_capacity self.old.parts.payoffs ≤ vec_len self.old.parts.payoffs) }
-    {
-        let Some((word, number)) = self.tokens.number() else {
-            return Err(self.tokens.refusal(Why::Expected(What::Number)));
-        };
-        match number {
-            Ok(payoff) => {
-                let Ok(()) = self.parts.payoffs.push(payoff) else {
-                    return Err(Fault::at(word.span, Why::Memory));
-                };
-                Ok(word.span)
-            }
-            Err(cause) => Err(Fault::at(word.span, Why::from(cause))),
+    // Memory is refused only where the receiver had no room.
+    ensures full { IfErr result (λ f. f.why ≡ Memory → R.payoffs_full to.old) }
+{
+    let Some((word, number)) = tokens.number() else {
+        return Err(tokens.refusal(Why::Expected(What::Number)));
+    };
+    match number {
+        Ok(payoff) => {
+            let Ok(()) = to.payoff(payoff) else {
+                return Err(Fault::at(word.span, Why::Memory));
+            };
+            Ok(())
         }
+        Err(cause) => Err(Fault::at(word.span, Why::from(cause))),
     }
+}
 
-    /// How many of so many numbers the input has room for.
-    fn expected(&self, due: u128) -> usize
-        ensures { result ≡ min due self.now.room }
-    {
-        if due < self.room as u128 {
-            due as usize
-        } else {
-            self.room
-        }
-    }
-
-    /// Reads the end.
-    fn end(&mut self) -> Result<(), Fault>
-        ensures flat { MatchResult result
-            (λ _. (answer FlatPayoffs 0 0 self.old).machine ≡ Ok (content_of self.new.parts))
-            (λ f. Fails f (answer FlatPayoffs 0 0 self.old)) }
-        ensures chosen { (outcomes : ℕ) → MatchResult result
-            (λ _. (answer OutcomeNumbers 0 outcomes self.old).machine
-            ≡ Ok (content_of self.new.parts))
-            (λ f. Fails f (answer OutcomeNumbers 0 outcomes self.old)) }
-    {
-        match self.tokens.next() {
-            Ok(Some(token)) => Err(Fault::at(token.span, Why::Expected(What::End))),
-            Ok(None) => Ok(()),
-            Err(broken) => Err(broken),
-        }
-    }
-
-    /// Reads so many payoffs.
-    fn flat_payoffs(&mut self, mut due: u128) -> Result<(), Fault>
-        ensures { Goes (answer FlatPayoffs due 0 self.old) result (answer FlatPayoffs 0 0 self.new) }
-    {
-        if due == 0 {
-            return Ok(());
-        }
-        let first = self.payoff()?;
+/// Reads so many payoffs.
+pub(super) fn payoffs<'a, R: Receive<'a>>(
+    tokens: &mut Tokens<'a>,
+    mut due: u128,
+    to: &mut R,
+) -> Result<(), Fault>
+    ensures { (untold : R) (told : Told) → R.holds untold to.old told
+        → GoesTelling (R.holds untold) (paying told) result
+        (told_answer FlatPayoffs due 0 tokens.old told)
+        (told_answer FlatPayoffs 0 0 tokens.new) to.new }
+{
+    while due > 0 {
+        payoff(tokens, to)?;
         due -= 1;
-        let expected = self.expected(due);
-        let Ok(()) = self.parts.payoffs.reserve(expected) else {
-            return Err(Fault::at(first, Why::Memory));
-        };
-        while due > 0 {
-            self.payoff()?;
-            due -= 1;
-        }
-        Ok(())
     }
+    Ok(())
+}
 
-    /// Reads the payoffs of the players at each profile, and the end.
-    fn payoff_body(&mut self) -> Result<(), Fault>
-        ensures { MatchResult result
-            (λ _. (answer FlatPayoffs
-            (length self.old.parts.players.items * self.old.parts.profiles.count) 0 self.old).machine
-            ≡ Ok (content_of self.new.parts))
-            (λ f. Fails f (answer FlatPayoffs
-            (length self.old.parts.players.items * self.old.parts.profiles.count) 0 self.old)) }
-    {
-        let players = self.parts.players.len() as u128;
-        self.flat_payoffs(players * u128::from(self.parts.profiles.count))?;
-        self.end()
+/// Passes the one comma that may follow a payoff in braces.
+#[inline(always)]
+fn comma(tokens: &mut Tokens<'_>)
+    ensures machine { (c : Content) (due outcomes : ℕ)
+        → heard (at AfterBracedPayoff due 0 outcomes c) tokens.old
+        ≡ heard (at BracedPayoff due 0 outcomes c) tokens.new }
+    ensures shorter { length tokens.new.ahead ≤ length tokens.old.ahead }
+{
+    tokens.comma();
+}
+
+/// Reads so many payoffs in braces.
+fn braced_payoffs<'a, R: Receive<'a>>(
+    tokens: &mut Tokens<'a>,
+    mut due: usize,
+    to: &mut R,
+) -> Result<(), Fault>
+    ensures told { (untold : R) (told : Told) (outcomes : ℕ) → R.holds untold to.old told
+        → GoesTelling (R.holds untold) (paying told) result
+        (told_answer BracedPayoff due outcomes tokens.old told)
+        (told_answer BracedPayoff 0 outcomes tokens.new) to.new }
+    ensures shorter { OnOk result (length tokens.new.ahead ≤ length tokens.old.ahead) }
+{
+    while due > 0 {
+        payoff(tokens, to)?;
+        comma(tokens);
+        due -= 1;
     }
+    Ok(())
+}
 
-    /// Reads an outcome, after its opening brace.
-    fn outcome(&mut self) -> Result<(), Fault>
-        ensures machine { (outcomes : ℕ) → Goes (answer OutcomeName 0 outcomes self.old) result
-            (answer InOutcomes 0 (next_outcome outcomes) self.new) }
-        ensures shorter { OnOk result (length self.new.tokens.ahead ≤ length self.old.tokens.ahead) }
-    {
-        let Some(_) = self.tokens.text() else {
-            return Err(self.tokens.refusal(Why::Expected(What::Text)));
-        };
-        let mut due = self.parts.players.len();
-        while due > 0 {
-            self.payoff()?;
-            self.tokens.comma();
-            due -= 1;
-        }
-        let Some(_) = self.tokens.closing() else {
-            return Err(self.tokens.refusal(Why::Expected(What::Closing)));
-        };
-        Ok(())
+/// Reads an outcome, after its opening brace.
+fn outcome<'a, R: Receive<'a>>(
+    tokens: &mut Tokens<'a>,
+    players: usize,
+    to: &mut R,
+) -> Result<(), Fault>
+    ensures told { (untold : R) (told : Told) (outcomes : ℕ)
+        → length (content_told told).players ≡ players → R.holds untold to.old told
+        → GoesTelling (R.holds untold) (paying told) result
+        (told_answer OutcomeName 0 outcomes tokens.old told)
+        (told_answer InOutcomes 0 (next_outcome outcomes) tokens.new) to.new }
+    ensures shorter { OnOk result (length tokens.new.ahead ≤ length tokens.old.ahead) }
+{
+    let Some(_) = tokens.text() else {
+        return Err(tokens.refusal(Why::Expected(What::Text)));
+    };
+    braced_payoffs(tokens, players, to)?;
+    let Some(_) = tokens.closing() else {
+        return Err(tokens.refusal(Why::Expected(What::Closing)));
+    };
+    Ok(())
+}
+
+/// Reads the outcomes, after their opening brace. Answers how many there are, or `u32::MAX` where
+/// there are more: no index is greater.
+pub(super) fn outcomes<'a, R: Receive<'a>>(
+    tokens: &mut Tokens<'a>,
+    players: usize,
+    to: &mut R,
+) -> Result<u32, Fault>
+    ensures { (untold : R) (told : Told)
+        → length (content_told told).players ≡ players → R.holds untold to.old told
+        → MatchResult result (λ outcomes. HasTold (R.holds untold) (paying told)
+        (told_answer InOutcomes 0 0 tokens.old told)
+        (told_answer OutcomeNumbers (content_told told).profiles outcomes tokens.new) to.new)
+        (λ f. Fails f (told_answer InOutcomes 0 0 tokens.old told)) }
+{
+    let mut outcomes: u32 = 0;
+    while let Some(_) = tokens.opening() {
+        outcome(tokens, players, to)?;
+        outcomes = outcomes.saturating_add(1);
     }
+    let Some(_) = tokens.closing() else {
+        return Err(tokens.refusal(Why::Expected(What::Opening)));
+    };
+    Ok(outcomes)
+}
 
-    /// Reads the number of an outcome, of which there are so many.
-    #[inline(always)]
-    fn choice(&mut self, outcomes: u32) -> Result<(), Fault>
-        ensures machine { (due : ℕ) → 0 < due
-            → Goes (answer OutcomeNumbers due outcomes self.old) result
-            (answer OutcomeNumbers (due - 1) outcomes self.new) }
+/// Reads the number of an outcome, of which there are so many, and tells it.
+#[inline(always)]
+fn number<'a, R: Receive<'a>>(
+    tokens: &mut Tokens<'a>,
+    outcomes: u32,
+    to: &mut R,
+) -> Result<(), Fault>
+    ensures told { (untold : R) (told : Told) (due : ℕ) → 0 < due → R.holds untold to.old told
+        → GoesTelling (R.holds untold) (choosing told) result
+        (told_answer OutcomeNumbers due outcomes tokens.old told)
+        (told_answer OutcomeNumbers (due - 1) outcomes tokens.new) to.new }
 
-        // Memory is refused only where there was no room.
-        ensures full { IfErr result (λ f. f.why ≡ Memory
-            → vec_capacity self.old.parts.choices ≤ vec_len self.old.parts.choices) }
-    {
-        let Some((word, index)) = self.tokens.index() else {
-            return Err(self.tokens.refusal(Why::Expected(What::Index)));
-        };
-        let Some(number) = index else {
-            return Err(Fault::at(word.span, Why::BadIndex));
-        };
-        if number > outcomes {
-            return Err(Fault::at(word.span, Why::UnknownOutcome));
-        }
-        let Ok(()) = self.parts.choices.push(number) else {
-            return Err(Fault::at(word.span, Why::Memory));
-        };
-        Ok(())
+    // Memory is refused only where the receiver had no room.
+    ensures full { IfErr result (λ f. f.why ≡ Memory → R.numbers_full to.old) }
+{
+    let Some((word, index)) = tokens.index() else {
+        return Err(tokens.refusal(Why::Expected(What::Index)));
+    };
+    let Some(number) = index else {
+        return Err(Fault::at(word.span, Why::BadIndex));
+    };
+    if number > outcomes {
+        return Err(Fault::at(word.span, Why::UnknownOutcome));
     }
+    let Ok(()) = to.number(number) else {
+        return Err(Fault::at(word.span, Why::Memory));
+    };
+    Ok(())
+}
 
-    /// Reads the number of an outcome for each profile, and the end.
-    fn choices(&mut self, outcomes: u32) -> Result<(), Fault>
-        ensures { MatchResult result
-            (λ _. (answer OutcomeNumbers self.old.parts.profiles.count outcomes self.old).machine
-            ≡ Ok (content_of self.new.parts))
-            (λ f. Fails f (answer OutcomeNumbers self.old.parts.profiles.count outcomes self.old)) }
-    {
-        let mut due = self.parts.profiles.count;
-        while due > 0 {
-            self.choice(outcomes)?;
-            due -= 1;
-        }
-        self.end()
+/// Reads the numbers of outcomes, of which there are so many, at so many profiles.
+pub(super) fn numbers<'a, R: Receive<'a>>(
+    tokens: &mut Tokens<'a>,
+    mut due: u32,
+    outcomes: u32,
+    to: &mut R,
+) -> Result<(), Fault>
+    ensures { (untold : R) (told : Told) → R.holds untold to.old told
+        → GoesTelling (R.holds untold) (choosing told) result
+        (told_answer OutcomeNumbers due outcomes tokens.old told)
+        (told_answer OutcomeNumbers 0 outcomes tokens.new) to.new }
+{
+    while due > 0 {
+        number(tokens, outcomes, to)?;
+        due -= 1;
     }
+    Ok(())
+}
 
-    /// Reads the outcomes, after their opening brace, and all that follows them.
-    fn outcome_body(&mut self) -> Result<(), Fault>
-        ensures { MatchResult result
-            (λ _. (answer InOutcomes 0 0 self.old).machine ≡ Ok (content_of self.new.parts))
-            (λ f. Fails f (answer InOutcomes 0 0 self.old)) }
-    {
-        // No index is greater than `u32::MAX`.
-        let mut outcomes: u32 = 0;
-        while let Some(_) = self.tokens.opening() {
-            self.outcome()?;
-            outcomes = outcomes.saturating_add(1);
-        }
-        let Some(brace) = self.tokens.closing() else {
-            return Err(self.tokens.refusal(Why::Expected(What::Opening)));
-        };
-        let expected = self.expected(u128::from(self.parts.profiles.count));
-        let Ok(()) = self.parts.choices.reserve(expected) else {
-            return Err(Fault::at(brace, Why::Memory));
-        };
-        self.choices(outcomes)
-    }
-
-    /// Reads the comment, if there is one, and all that follows it.
-    pub(super) fn body(&mut self) -> Result<(), Fault>
-        ensures { MatchResult result
-            (λ _. (answer AfterStrategies
-            (length self.old.parts.players.items * self.old.parts.profiles.count) 0 self.old).machine
-            ≡ Ok (content_of self.new.parts))
-            (λ f. Fails f (answer AfterStrategies
-            (length self.old.parts.players.items * self.old.parts.profiles.count) 0 self.old)) }
-    {
-        if let Some(comment) = self.tokens.text() {
-            self.parts.comment = comment.label;
-        }
-        if let Some(_) = self.tokens.opening() {
-            return self.outcome_body();
-        }
-        self.payoff_body()
+/// Reads the end.
+pub(super) fn end(tokens: &mut Tokens<'_>) -> Result<(), Fault>
+    ensures flat { (c : Content) → MatchResult result
+        (λ _. (heard (at FlatPayoffs 0 0 0 c) tokens.old).machine ≡ Ok c)
+        (λ f. Fails f (heard (at FlatPayoffs 0 0 0 c) tokens.old)) }
+    ensures chosen { (c : Content) (outcomes : ℕ) → MatchResult result
+        (λ _. (heard (at OutcomeNumbers 0 0 outcomes c) tokens.old).machine ≡ Ok c)
+        (λ f. Fails f (heard (at OutcomeNumbers 0 0 outcomes c) tokens.old)) }
+{
+    match tokens.next() {
+        Ok(Some(token)) => Err(Fault::at(token.span, Why::Expected(What::End))),
+        Ok(None) => Ok(()),
+        Err(broken) => Err(broken),
     }
 }

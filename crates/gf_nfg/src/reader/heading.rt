@@ -1,12 +1,15 @@
 //! The heading of a strategic file: its format, title and players.
 
-ghost use Rattle.std.specs.Prelude.{◌≡◌, ◌≤◌, length};
+ghost use Rattle.std.specs.Prelude.{◌≡◌, ◌≤◌, ◌*◌, ℕ, length};
+ghost use Rattle.gf_token.specs.Remaining.{StandsBefore};
 ghost use Rattle.gf_nfg.specs.Heard.{Goes};
-ghost use Rattle.gf_nfg.specs.Position.Position.{BeforePlayers, BeforeStrategies, Format};
-ghost use Rattle.gf_nfg.specs.ReaderState.{answer};
+ghost use Rattle.gf_nfg.specs.Position.Position.{AfterComment, AfterStrategies, BeforePlayers};
+ghost use Rattle.gf_nfg.specs.Position.Position.{BeforeStrategies, Format};
+ghost use Rattle.gf_nfg.specs.ReaderState.{answer, body_answer};
 
 use super::{Reader, keep};
-use gf_token::{Fault, What, Why};
+use crate::receive::Version;
+use gf_token::{Fault, Span, What, Why};
 
 impl<'a> Reader<'a> {
     /// Reads all that stands before the players.
@@ -19,24 +22,55 @@ impl<'a> Reader<'a> {
         let Some(title) = self.tokens.text() else {
             return Err(self.tokens.refusal(Why::Expected(What::Text)));
         };
-        self.parts.title = title.label;
+        self.heading.title = title.label;
         Ok(())
     }
 
     /// Reads the players.
     pub(super) fn players(&mut self) -> Result<(), Fault>
         ensures { Goes (answer BeforePlayers 0 0 self.old) result
-            (answer BeforeStrategies (length self.new.parts.players.items) 0 self.new) }
+            (answer BeforeStrategies (length self.new.heading.players.items) 0 self.new) }
     {
         let Some(_) = self.tokens.opening() else {
             return Err(self.tokens.refusal(Why::Expected(What::Opening)));
         };
         while let Some(player) = self.tokens.text() {
-            keep(&mut self.parts.players, player)?;
+            keep(&mut self.heading.players, player)?;
         }
         let Some(_) = self.tokens.closing() else {
             return Err(self.tokens.refusal(Why::Expected(What::Text)));
         };
         Ok(())
+    }
+
+    /// Reads the comment, if there is one, after the brace. Answers where the last of both stands.
+    pub(super) fn comment(&mut self, brace: Span) -> Span
+        requires { StandsBefore self.old.tokens brace }
+        ensures machine { (due : ℕ)
+            → answer AfterStrategies due 0 self.old ≡ answer AfterComment due 0 self.new }
+        ensures kept { self.new.heading
+            ≡ record self.old.heading { comment = self.new.heading.comment } }
+        ensures place { StandsBefore self.new.tokens result }
+    {
+        let Some(comment) = self.tokens.text() else {
+            return brace;
+        };
+        self.heading.comment = comment.label;
+        comment.span
+    }
+
+    /// Takes the brace that opens the outcomes, if it stands next. Answers what follows, and where
+    /// the last token stands, which stood there before.
+    pub(super) fn version(&mut self, last: Span) -> (Version, Span)
+        requires { StandsBefore self.old.tokens last }
+        ensures machine { answer AfterComment
+            (length self.old.heading.players.items * self.old.heading.profiles.count) 0 self.old
+            ≡ body_answer result.0 self.new }
+        ensures place { StandsBefore self.new.tokens result.1 }
+    {
+        match self.tokens.opening() {
+            Some(brace) => (Version::Outcomes, brace),
+            None => (Version::Payoffs, last),
+        }
     }
 }

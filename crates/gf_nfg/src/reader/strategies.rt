@@ -1,6 +1,6 @@
 //! The strategies of a strategic file: a count or a list of labels for each player.
 
-ghost use Rattle.std.specs.Prelude.{◌≡◌, ◌<◌, ◌≤◌, ◌-◌, ◌*◌, ℕ, false, length, IfErr};
+ghost use Rattle.std.specs.Prelude.{◌≡◌, ◌<◌, ◌≤◌, ◌-◌, ◌*◌, ℕ, false, length, IfErr, IfOk};
 ghost use Rattle.std.specs.Prelude.{vec_capacity, vec_len};
 ghost use Rattle.gf_token.specs.Next.{is_opening, starts};
 ghost use Rattle.gf_token.specs.Remaining.{StandsBefore};
@@ -27,15 +27,15 @@ impl<'a> Reader<'a> {
 
         // Memory is refused only where there was no room.
         ensures full { IfErr result (λ f. f.why ≡ Memory
-            → vec_capacity self.old.parts.counts ≤ vec_len self.old.parts.counts) }
+            → vec_capacity self.old.heading.counts ≤ vec_len self.old.heading.counts) }
     {
-        let Some(profiles) = self.parts.profiles.times(strategies) else {
+        let Some(profiles) = self.heading.profiles.times(strategies) else {
             return Err(Fault::at(stands, Why::TooManyProfiles));
         };
-        let Ok(()) = self.parts.counts.push(strategies as u32) else {
+        let Ok(()) = self.heading.counts.push(strategies as u32) else {
             return Err(Fault::at(stands, Why::Memory));
         };
-        self.parts.profiles = profiles;
+        self.heading.profiles = profiles;
         Ok(())
     }
 
@@ -60,18 +60,18 @@ impl<'a> Reader<'a> {
     /// Reads the rest of a list of labels, after its opening brace.
     fn list(&mut self) -> Result<(), Fault>
         ensures machine { (left : ℕ)
-            → Goes (list_answer left (length (labels_of self.old.parts.labels.items)) self.old) result
+            → Goes (list_answer left (length (labels_of self.old.heading.labels.items)) self.old) result
             (answer BeforeList left 0 self.new) }
     {
-        let before = self.parts.labels.len();
+        let before = self.heading.labels.len();
         while let Some(strategy) = self.tokens.text() {
-            keep(&mut self.parts.labels, strategy)?;
+            keep(&mut self.heading.labels, strategy)?;
         }
         let Some(brace) = self.tokens.closing() else {
             return Err(self.tokens.refusal(Why::Expected(What::Text)));
         };
         // The list starts where the labels ended.
-        let strategies = self.parts.labels.len().saturating_sub(before);
+        let strategies = self.heading.labels.len().saturating_sub(before);
         if strategies == 0 {
             return Err(Fault::at(brace, Why::NoEntry));
         }
@@ -105,10 +105,10 @@ impl<'a> Reader<'a> {
 
     /// Reads the strategies of the players, of which there are some.
     fn counts_or_lists(&mut self) -> Result<(), Fault>
-        ensures { Goes (answer FirstStrategies (length self.old.parts.players.items) 0 self.old) result
+        ensures { Goes (answer FirstStrategies (length self.old.heading.players.items) 0 self.old) result
             (answer FirstStrategies 0 0 self.new) }
     {
-        let players = self.parts.players.len();
+        let players = self.heading.players.len();
         if players == 0 {
             return Ok(());
         }
@@ -120,19 +120,21 @@ impl<'a> Reader<'a> {
         self.counts(players - 1)
     }
 
-    /// Reads the strategies of the players, in braces.
-    pub(super) fn strategies(&mut self) -> Result<(), Fault>
-        ensures { Goes (answer BeforeStrategies (length self.old.parts.players.items) 0 self.old) result
+    /// Reads the strategies of the players, in braces. Answers where the closing one stands.
+    pub(super) fn strategies(&mut self) -> Result<Span, Fault>
+        ensures machine { Goes (answer BeforeStrategies (length self.old.heading.players.items) 0
+            self.old) result
             (answer AfterStrategies
-            (length self.new.parts.players.items * self.new.parts.profiles.count) 0 self.new) }
+            (length self.new.heading.players.items * self.new.heading.profiles.count) 0 self.new) }
+        ensures place { IfOk result (λ brace. StandsBefore self.new.tokens brace) }
     {
         let Some(_) = self.tokens.opening() else {
             return Err(self.tokens.refusal(Why::Expected(What::Opening)));
         };
         self.counts_or_lists()?;
-        let Some(_) = self.tokens.closing() else {
+        let Some(brace) = self.tokens.closing() else {
             return Err(self.tokens.refusal(Why::Expected(What::Closing)));
         };
-        Ok(())
+        Ok(brace)
     }
 }

@@ -2,7 +2,7 @@ use Rattle.std.proofs.Common.{rules, ◌≡◌, ◌<◌, ◌-◌, [], ◌∷◌,
 use Rattle.gf_token.specs.Label.{label_of}
 use Rattle.gf_nfg.specs.Machine.{at, with_labels}
 use Rattle.gf_nfg.specs.Position.Position.{InList}
-use Rattle.gf_nfg.specs.ReaderState.{content_of, labels_of}
+use Rattle.gf_nfg.specs.ReaderState.{content_in, labels_of}
 use Rattle.gf_nfg.proofs.HeardJudged.{wants_memory}
 use Rattle.gf_nfg.proofs.ReaderSteps.{goes_back, goes_from, label_count, list_closes}
 use Rattle.gf_nfg.proofs.reader.Reader.list.Goals as goal
@@ -11,8 +11,8 @@ pub returns-in_err-keep : goal.returns-in_err-keep
 returns-in_err-keep c = record {
   machine = λ left. goes_back {r = c.from_residual.result} _ (search rules)
       (wants_memory c.in-Some.ensures.place c.in_err-keep.ensures.0
-      (at InList left (length (labels_of c.args.self.now.parts.labels.items)) 0
-      (with_labels (content_of c.loop-strategy.self.parts)
+      (at InList left (length (labels_of c.args.self.now.heading.labels.items)) 0
+      (with_labels (content_in c.loop-strategy.self.heading)
       (label_of c.in-Some.strategy.label ∷ [])))
       (search rules));
 }
@@ -20,18 +20,18 @@ returns-in_err-keep c = record {
 pub returns : goal.returns
 returns c =
     let now = c.loop-strategy.self in
-    let before = length (labels_of c.args.self.now.parts.labels.items) in
+    let before = length (labels_of c.args.self.now.heading.labels.items) in
     let n = c.saturating_sub-strategies.result in
     let some : 0 < n = omega (arith, c.if-strategies-eq0.false) in
-    let counted : n ≡ length (labels_of now.parts.labels.items) - before =
-    label_count now.parts.labels.items c.args.self.now.parts.labels.items c.len.result
-    c.len-before.result n (c.len.ensures ∙ now.parts.labels.ok.0)
-    (c.len-before.ensures ∙ c.args.self.now.parts.labels.ok.0) c.saturating_sub-strategies.ensures in
+    let counted : n ≡ length (labels_of now.heading.labels.items) - before =
+    label_count now.heading.labels.items c.args.self.now.heading.labels.items c.len.result
+    c.len-before.result n (c.len.ensures ∙ now.heading.labels.ok.0)
+    (c.len-before.ensures ∙ c.args.self.now.heading.labels.ok.0) c.saturating_sub-strategies.ensures in
     record {
       machine = λ left.
           goes_from c.settle.result _
           (c.loop-strategy.invariant left ∙ list_closes left before n
-          (content_of now.parts) now.tokens c.closing.new.self c.in-Some-closing.brace some counted
+          (content_in now.heading) now.tokens c.closing.new.self c.in-Some-closing.brace some counted
           (search rules) (search rules))
           (c.settle.ensures.lists left);
     }

@@ -1,5 +1,5 @@
 use Rattle.std.proofs.Common.{rules, ◌-◌, ◌∙◌}
-use Rattle.gf_nfg.specs.ReaderState.{content_of}
+use Rattle.gf_nfg.specs.ReaderState.{content_in}
 use Rattle.gf_nfg.proofs.HeardJudged.{carried}
 use Rattle.gf_nfg.proofs.ReaderSteps.{goes_back, later_opens}
 use Rattle.gf_nfg.proofs.reader.Reader.lists.Goals as goal
@@ -9,6 +9,6 @@ returns-in_err-list c =
     goes_back _ (search rules)
     (carried (c.in_err-list.ensures.machine (c.loop-due.due - 1))
     (c.loop-due.invariant
-    ∙ later_opens c.loop-due.due (content_of c.loop-due.self.parts) c.loop-due.self.tokens
+    ∙ later_opens c.loop-due.due (content_in c.loop-due.self.heading) c.loop-due.self.tokens
     c.opening.new.self c.in-Some.field-0 c.loop-due-test.true c.in-Some.ensures.next
     c.in-Some.ensures.input))

@@ -2,7 +2,7 @@ use Rattle.std.proofs.Common.{rules, [], ◌∷◌}
 use Rattle.gf_token.specs.Label.{label_of}
 use Rattle.gf_nfg.specs.Machine.{at, with_players}
 use Rattle.gf_nfg.specs.Position.Position.{InPlayers}
-use Rattle.gf_nfg.specs.ReaderState.{content_of}
+use Rattle.gf_nfg.specs.ReaderState.{content_in}
 use Rattle.gf_nfg.proofs.HeardJudged.{wants_memory}
 use Rattle.gf_nfg.proofs.ReaderSteps.{goes_back}
 use Rattle.gf_nfg.proofs.reader.Reader.players.Goals as goal
@@ -11,6 +11,6 @@ pub returns-in_err-keep : goal.returns-in_err-keep
 returns-in_err-keep c =
     goes_back {r = c.from_residual.result} _ (search rules)
     (wants_memory c.in-Some-text.ensures.place c.in_err-keep.ensures.0
-    (at InPlayers 0 0 0 (with_players (content_of c.loop-player.self.parts)
+    (at InPlayers 0 0 0 (with_players (content_in c.loop-player.self.heading)
     (label_of c.in-Some-text.player.label ∷ [])))
     (search rules))

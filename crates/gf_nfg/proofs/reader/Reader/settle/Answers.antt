@@ -1,18 +1,18 @@
 use Rattle.std.proofs.Common.{rules}
 use Rattle.gf_nfg.specs.Machine.{at, with_count}
 use Rattle.gf_nfg.specs.Position.Position.{BeforeList, Counts}
-use Rattle.gf_nfg.specs.ReaderState.{content_of}
+use Rattle.gf_nfg.specs.ReaderState.{content_in}
 use Rattle.gf_nfg.proofs.HeardJudged.{wants_memory}
 use Rattle.gf_nfg.proofs.reader.Reader.settle.Goals as goal
 
 pub returns-in_default-push-clause-counts : goal.returns-in_default-push-clause-counts
 returns-in_default-push-clause-counts c = λ due.
     wants_memory c.requires.place c.at-in_default-push.ensures
-    (at Counts due 0 0 (with_count (content_of c.args.self.now.parts) c.args.strategies))
+    (at Counts due 0 0 (with_count (content_in c.args.self.now.heading) c.args.strategies))
     (search rules)
 
 pub returns-in_default-push-clause-lists : goal.returns-in_default-push-clause-lists
 returns-in_default-push-clause-lists c = λ due.
     wants_memory c.requires.place c.at-in_default-push.ensures
-    (at BeforeList due 0 0 (with_count (content_of c.args.self.now.parts) c.args.strategies))
+    (at BeforeList due 0 0 (with_count (content_in c.args.self.now.heading) c.args.strategies))
     (search rules)

@@ -1,0 +1,12 @@
+use Rattle.gf_nfg.specs.Meaning.{table_of}
+use Rattle.gf_nfg.specs.ReaderState.{content_told}
+use Rattle.gf_nfg.proofs.MeaningTables.{within_limit}
+use Rattle.gf_nfg.proofs.read.check_nfg.Goals as goal
+
+pub returns-clause-spelled : goal.returns-clause-spelled
+returns-clause-spelled c =
+    let h = c.in_ok-tell_nfg.ensures.told in (
+      table_of (content_told h.told),
+      h.spelled,
+      within_limit (content_told h.told) h.complete h.told.heading.profiles.within,
+    )

@@ -1,0 +1,35 @@
+use Rattle.std.proofs.Common.{◌∙◌, refl, rules, arith}
+use Rattle.std.proofs.lemmas.List.{length-map}
+use Rattle.gf_token.specs.Label.{label_of}
+use Rattle.gf_nfg.specs.ReaderState.{content_told}
+use Rattle.gf_nfg.specs.Told.{choosing, paying, told_heading}
+use Rattle.gf_nfg.specs.declared.receive.Version.TheVariants.{Outcomes}
+use Rattle.gf_nfg.proofs.HeardJudged.{carried}
+use Rattle.gf_nfg.proofs.ReaderSteps.{all_told, ends_back, no_payoffs}
+use Rattle.gf_nfg.proofs.reader.Reader.tell_outcomes.Goals as goal
+
+pub returns-in_err-outcomes : goal.returns-in_err-outcomes
+returns-in_err-outcomes g c = λ untold holding.
+    let from = told_heading Outcomes c.args.self.now.heading in
+    let size = length-map c.args.self.now.heading.players.items label_of in
+    ends_back {r = c.from_residual.result} _ (search rules)
+    (c.in_err-outcomes.ensures untold from (omega (arith, size, c.len.ensures)) holding)
+
+pub returns-in_err-numbers : goal.returns-in_err-numbers
+returns-in_err-numbers g c = λ untold holding.
+    let from = told_heading Outcomes c.args.self.now.heading in
+    let size = length-map c.args.self.now.heading.players.items label_of in
+    let h = c.in_ok-outcomes.ensures untold from (omega (arith, size, c.len.ensures)) holding in
+    ends_back {r = c.from_residual-in_err-numbers.result} _ (search rules)
+    (carried (c.in_err-numbers.ensures untold (paying from h.told) h.holding) h.goes)
+
+pub returns : goal.returns
+returns g c = λ untold holding.
+    let from = told_heading Outcomes c.args.self.now.heading in
+    let size = length-map c.args.self.now.heading.players.items label_of in
+    let h = c.in_ok-outcomes.ensures untold from (omega (arith, size, c.len.ensures)) holding in
+    let n = c.in_ok-numbers.ensures untold (paying from h.told) h.holding in
+    all_told (g.R.Receive.holds untold) c.end.result (choosing (paying from h.told) n.told) refl
+    no_payoffs n.holding (h.goes ∙ n.goes)
+    (c.end.ensures.chosen (content_told (choosing (paying from h.told) n.told))
+    c.in_ok-outcomes.outcomes)

@@ -1,0 +1,25 @@
+use Rattle.std.proofs.Common.{◌∙◌, ap, refl, rules, sym}
+use Rattle.gf_nfg.specs.Position.Position.{FlatPayoffs}
+use Rattle.gf_nfg.specs.ReaderState.{content_told, told_answer}
+use Rattle.gf_nfg.specs.Told.{paying, told_heading}
+use Rattle.gf_nfg.specs.declared.receive.Version.TheVariants.{Payoffs}
+use Rattle.gf_nfg.proofs.HeardJudged.{carried}
+use Rattle.gf_nfg.proofs.ReaderSteps.{all_told, ends_back}
+use Rattle.gf_nfg.proofs.reader.Reader.tell_payoffs.Goals as goal
+
+pub returns-in_err-payoffs : goal.returns-in_err-payoffs
+returns-in_err-payoffs g c = λ untold holding.
+    let from = told_heading Payoffs c.args.self.now.heading in
+    let goes = ap (λ n. told_answer FlatPayoffs n 0 c.args.self.now.tokens from)
+    c.all_payoffs-due.ensures in
+    ends_back {r = c.from_residual.result} _ (search rules)
+    (carried (c.in_err-payoffs.ensures untold from holding) (sym goes))
+
+pub returns : goal.returns
+returns g c = λ untold holding.
+    let from = told_heading Payoffs c.args.self.now.heading in
+    let goes = ap (λ n. told_answer FlatPayoffs n 0 c.args.self.now.tokens from)
+    c.all_payoffs-due.ensures in
+    let h = c.in_ok-payoffs.ensures untold from holding in
+    all_told (g.R.Receive.holds untold) c.end.result (paying from h.told) refl (λ _. refl) h.holding
+    (sym goes ∙ h.goes) (c.end.ensures.flat (content_told (paying from h.told)))

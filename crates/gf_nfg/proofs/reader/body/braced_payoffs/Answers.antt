@@ -1,0 +1,53 @@
+use Rattle.std.proofs.Common.{◌≡◌, ◌-◌, ◌∙◌, ap, arith, refl, rules}
+use Rattle.gf_nfg.specs.Position.Position.{BracedPayoff}
+use Rattle.gf_nfg.specs.ReaderState.{content_told, told_answer}
+use Rattle.gf_nfg.specs.Told.{paying}
+use Rattle.gf_nfg.proofs.ReaderSteps.{ends_back}
+use Rattle.gf_nfg.proofs.HeardJudged.{carried}
+use Rattle.gf_nfg.proofs.reader.body.braced_payoffs.Goals as goal
+
+pub loop-due-init : goal.loop-due-init
+loop-due-init g c = record {
+  goes = λ untold told outcomes holding.
+      record { told = told.payoffs; goes = refl; holding = holding };
+  shorter = omega arith;
+}
+
+pub loop-due-preserved : goal.loop-due-preserved
+loop-due-preserved g c = record {
+  goes = λ untold told outcomes holding.
+      let h = c.loop-due.invariant.goes untold told outcomes holding in
+      let n = c.in_ok-payoff.ensures.braced untold (paying told h.told) c.loop-due.due outcomes
+      c.loop-due-test.true h.holding in
+      record {
+        told = n.told;
+        goes = h.goes ∙ n.goes
+            ∙ c.comma.ensures.machine (content_told (paying told n.told)) (c.loop-due.due - 1)
+            outcomes;
+        holding = n.holding;
+      };
+  shorter = omega (
+    arith,
+    c.loop-due.invariant.shorter,
+    c.in_ok-payoff.ensures.shorter,
+    c.comma.ensures.shorter,
+  );
+}
+
+pub returns-in_err-payoff-clause-told : goal.returns-in_err-payoff-clause-told
+returns-in_err-payoff-clause-told g c = λ untold told outcomes holding.
+    let h = c.loop-due.invariant.goes untold told outcomes holding in
+    ends_back {r = c.from_residual.result} _ (search rules)
+    (carried (c.in_err-payoff.ensures.braced untold (paying told h.told) c.loop-due.due outcomes
+    c.loop-due-test.true h.holding) h.goes)
+
+pub returns-clause-told : goal.returns-clause-told
+returns-clause-told g c = λ untold told outcomes holding.
+    let h = c.loop-due.invariant.goes untold told outcomes holding in
+    let none : c.loop-due.due ≡ 0 = omega (arith, c.loop-due-test.false) in
+    record {
+      told = h.told;
+      goes = h.goes
+          ∙ ap (λ n. told_answer BracedPayoff n outcomes c.loop-due.tokens (paying told h.told)) none;
+      holding = h.holding;
+    }

@@ -1,0 +1,21 @@
+use Rattle.std.proofs.Common.{rules, ◌-◌, [], ◌∷◌, ◌++◌}
+use Rattle.gf_nfg.specs.Machine.{at}
+use Rattle.gf_nfg.specs.Position.Position.{OutcomeNumbers}
+use Rattle.gf_nfg.specs.ReaderState.{content_told}
+use Rattle.gf_nfg.specs.Told.{with_number}
+use Rattle.gf_nfg.proofs.HeardJudged.{wants_memory}
+use Rattle.gf_nfg.proofs.reader.body.number.Goals as goal
+
+pub returns-clause-told : goal.returns-clause-told
+returns-clause-told g c = λ untold told due some holding. record {
+  told = told.numbers ++ c.in-Some-index.number ∷ [];
+  goes = search rules;
+  holding = c.in-Ok.ensures.told untold told holding;
+}
+
+pub returns-in_default-number-clause-told : goal.returns-in_default-number-clause-told
+returns-in_default-number-clause-told g c = λ untold told due some holding.
+    wants_memory c.in-Some.ensures.place c.at-in_default-number.ensures
+    (at OutcomeNumbers (due - 1) 0 c.args.outcomes
+    (content_told (with_number told c.in-Some-index.number)))
+    (search rules)

@@ -1,0 +1,36 @@
+use Rattle.std.proofs.Common.{◌≡◌, ◌∙◌, ap, arith, refl, rules}
+use Rattle.gf_nfg.specs.Position.Position.{OutcomeNumbers}
+use Rattle.gf_nfg.specs.ReaderState.{told_answer}
+use Rattle.gf_nfg.specs.Told.{choosing}
+use Rattle.gf_nfg.proofs.ReaderSteps.{ends_back}
+use Rattle.gf_nfg.proofs.HeardJudged.{carried}
+use Rattle.gf_nfg.proofs.reader.body.numbers.Goals as goal
+
+pub loop-due-init : goal.loop-due-init
+loop-due-init g c = λ untold told holding.
+    record { told = told.numbers; goes = refl; holding = holding }
+
+pub loop-due-preserved : goal.loop-due-preserved
+loop-due-preserved g c = λ untold told holding.
+    let h = c.loop-due.invariant untold told holding in
+    let n = c.in_ok-number.ensures.told untold (choosing told h.told) c.loop-due.due
+    c.loop-due-test.true h.holding in
+    record { told = n.told; goes = h.goes ∙ n.goes; holding = n.holding }
+
+pub returns-in_err-number : goal.returns-in_err-number
+returns-in_err-number g c = λ untold told holding.
+    let h = c.loop-due.invariant untold told holding in
+    ends_back {r = c.from_residual.result} _ (search rules)
+    (carried (c.in_err-number.ensures.told untold (choosing told h.told) c.loop-due.due
+    c.loop-due-test.true h.holding) h.goes)
+
+pub returns : goal.returns
+returns g c = λ untold told holding.
+    let h = c.loop-due.invariant untold told holding in
+    let none : c.loop-due.due ≡ 0 = omega (arith, c.loop-due-test.false) in
+    record {
+      told = h.told;
+      goes = h.goes
+          ∙ ap (λ n. told_answer OutcomeNumbers n c.args.outcomes c.loop-due.tokens (choosing told h.told)) none;
+      holding = h.holding;
+    }

@@ -1,0 +1,33 @@
+use Rattle.std.proofs.Common.{rules, ◌-◌, [], ◌∷◌, ◌++◌}
+use Rattle.gf_nfg.specs.Machine.{at}
+use Rattle.gf_nfg.specs.Position.Position.{AfterBracedPayoff, FlatPayoffs}
+use Rattle.gf_nfg.specs.ReaderState.{content_told}
+use Rattle.gf_nfg.specs.Told.{with_payoff}
+use Rattle.gf_nfg.proofs.HeardJudged.{wants_memory}
+use Rattle.gf_nfg.proofs.reader.body.payoff.Goals as goal
+
+pub returns-in-Ok-payoff-clause-flat : goal.returns-in-Ok-payoff-clause-flat
+returns-in-Ok-payoff-clause-flat g c = λ untold told due some holding. record {
+  told = told.payoffs ++ c.in-Ok.payoff ∷ [];
+  goes = search rules;
+  holding = c.in-Ok-payoff.ensures.told untold told holding;
+}
+
+pub returns-in-Ok-payoff-clause-braced : goal.returns-in-Ok-payoff-clause-braced
+returns-in-Ok-payoff-clause-braced g c = λ untold told due outcomes some holding. record {
+  told = told.payoffs ++ c.in-Ok.payoff ∷ [];
+  goes = search rules;
+  holding = c.in-Ok-payoff.ensures.told untold told holding;
+}
+
+pub returns-in_default-payoff-clause-flat : goal.returns-in_default-payoff-clause-flat
+returns-in_default-payoff-clause-flat g c = λ untold told due some holding.
+    wants_memory c.in-Some.ensures.place c.at.ensures
+    (at FlatPayoffs (due - 1) 0 0 (content_told (with_payoff told c.in-Ok.payoff)))
+    (search rules)
+
+pub returns-in_default-payoff-clause-braced : goal.returns-in_default-payoff-clause-braced
+returns-in_default-payoff-clause-braced g c = λ untold told due outcomes some holding.
+    wants_memory c.in-Some.ensures.place c.at.ensures
+    (at AfterBracedPayoff (due - 1) 0 outcomes (content_told (with_payoff told c.in-Ok.payoff)))
+    (search rules)

@@ -1,0 +1,115 @@
+//! The canonical text of a file, written while the file is read.
+
+ghost use Rattle.std.specs.Prelude.{◌≡◌, [], OnErr, OnOk, ◌++◌, ◌∷◌};
+ghost use Rattle.gf_fraction.specs.NumberText.{number_text};
+
+use crate::heading::Heading;
+use crate::receive::{Kept, Receive, Version};
+use crate::write_heading::write_heading;
+use gf_fraction::Fraction;
+use std::alloc::{AllocError, Global};
+
+/// The text of a file that is being told.
+#[derive(Debug, Drop)]
+pub(crate) struct Text {
+    pub(crate) text: Vec<u8>,
+    /// How many bytes it is likely to have.
+    room: usize,
+    /// Whether title and comment stand in it.
+    named: bool,
+    pub(crate) version: Version,
+    /// How many payoffs a line has.
+    width: usize,
+    /// How many payoffs the last line wants.
+    left: usize,
+    /// In outcome version payoffs and numbers, of which the lines are made at the end.
+    pub(crate) kept: Kept,
+}
+
+impl Text {
+    /// Nothing yet, of a text that is likely to have so many bytes.
+    pub(crate) fn new(alloc: Global, room: usize, named: bool) -> Text
+        ensures text { result.text.items ≡ [] }
+        ensures named { result.named ≡ named }
+        ensures kept { (result.kept.payoffs.items ≡ []) × (result.kept.numbers.items ≡ []) }
+    {
+        Text {
+            text: Vec::new(alloc),
+            room,
+            named,
+            version: Version::Payoffs,
+            width: 0,
+            left: 0,
+            kept: Kept::new(alloc),
+        }
+    }
+}
+
+/// Appends a payoff, and a byte behind it.
+#[inline(always)]
+fn write_payoff(payoff: Fraction, end: u8, out: &mut Vec<u8>) -> Result<(), AllocError>
+    ensures { OnOk result
+        (out.new.items ≡ out.old.items ++ (number_text payoff ++ end ∷ [])) }
+{
+    payoff.write(out)?;
+    out.push(end)?;
+    Ok(())
+}
+
+impl<'a> Receive<'a> for Text {
+    ghost use Rattle.std.specs.Prelude.{◌≡◌, ◌≤◌, [], ⊤, vec_capacity, vec_len};
+    ghost use Rattle.gf_nfg.specs.ToldText.{HasText};
+
+    ghost untold = { λ t. (t.text.items ≡ [])
+        × (t.kept.payoffs.items ≡ []) × (t.kept.numbers.items ≡ []) };
+
+    ghost holds = { λ untold t told. HasText untold.named t told };
+
+    ghost payoffs_full = { λ _. ⊤ };
+
+    ghost numbers_full = { λ t. vec_capacity t.kept.numbers ≤ vec_len t.kept.numbers };
+
+    fn heading(
+        &mut self,
+        heading: &Heading<'a>,
+        version: Version,
+        expected: usize,
+    ) -> Result<(), AllocError> {
+        self.text.reserve(self.room)?;
+        write_heading(heading, self.named, &mut self.text)?;
+        self.version = version;
+        self.width = heading.players.len();
+        self.left = self.width;
+        match version {
+            Version::Payoffs => {
+                if self.width == 0 {
+                    self.text.push(b'\n')?;
+                }
+            }
+            Version::Outcomes => self.kept.numbers.reserve(expected)?,
+        }
+        Ok(())
+    }
+
+    #[inline(always)]
+    fn payoff(&mut self, payoff: Fraction) -> Result<(), AllocError> {
+        if self.version == Version::Outcomes {
+            self.kept.payoffs.push(payoff)?;
+            return Ok(());
+        }
+        if self.left > 1 {
+            write_payoff(payoff, b' ', &mut self.text)?;
+            self.left -= 1;
+        } else {
+            write_payoff(payoff, b'\n', &mut self.text)?;
+            self.left = self.width;
+        }
+        Ok(())
+    }
+
+    #[inline(always)]
+    fn number(&mut self, number: u32) -> Result<(), AllocError> {
+        self.kept.numbers.push(number)?;
+        Ok(())
+    }
+}
