@@ -19,7 +19,6 @@ use Rattle.gf_form.specs.Shares.{share, share_bound, sum_of_shares}
 use Rattle.gf_form.specs.Values.{value}
 use Rattle.gf_form.specs.declared.paths.Reached.{Reached}
 use Rattle.gf_form.proofs.ReachedValues.{reached_value}
-use Rattle.gf_form.proofs.WeightedPaths.{AreWeighed, IsWeighed, weighed}
 
 times_zero : (n : ℕ) → n * 0 ≡ 0
 times_zero n = omega arith
@@ -151,21 +150,3 @@ paid_value g game spellable rows are steps choose actions choices digits k den f
       subst (λ (z : ℤ). HasValue v.0 z den)
           (sym (kept_shares g den rows are k (steps_of actions) choices all)) v.3,
     )
-
--- ---- the bounds of the nodes that are paid
-
-kept_all : (P : Reached → Type 0) (rows : List (List Ratio)) (rs : List Reached)
-    → AllByRecursion P rs → AllByRecursion P (filter (is_paid rows) rs)
-kept_all P rows [] h = h
-kept_all P rows (r ∷ rs) h = at (is_paid rows r) (kept_all P rows rs h.1)
-  where
-    at : (b : Bool) → AllByRecursion P (filter (is_paid rows) rs)
-        → AllByRecursion P (if b then r ∷ filter (is_paid rows) rs else filter (is_paid rows) rs)
-    at true rest = (h.0, rest)
-    at false rest = rest
-
-pub paid_weighed : (rows : List (List Ratio)) (g : Game) (steps : SetKey → ℕ)
-    → AreWeighed (paid_reached rows g steps)
-paid_weighed rows g steps =
-    kept_all (λ r. IsWeighed r.path) rows (reached g steps root_path g.tree)
-    (weighed g steps g.tree root_path (omega arith))

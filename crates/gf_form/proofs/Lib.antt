@@ -37,7 +37,6 @@ pub mod Lookups
 pub mod Lotteries
 pub mod MergedEntries
 pub mod Merges
-pub mod NextProfiles
 pub mod NextStrategies
 pub mod NoPlayer
 pub mod NodeTerms
@@ -75,8 +74,8 @@ pub mod ValuedNodes
 pub mod ValuesComputed
 pub mod VisitsMet
 pub mod Walks
-pub mod WeightedPaths
 pub mod Whole
 pub mod Worked
 pub mod WorkedGames
+pub mod WrittenStrategies
 pub mod Zeros

@@ -1,13 +1,11 @@
 -- Sums of the shares of nodes, and of their bounds, part by part.
-use Rattle.std.specs.List.{AllByRecursion}
-use Rattle.std.proofs.Common.{◌≡◌, ℕ, ℤ, pos, ◌+◌, ◌≤◌, Bool, true, false, List, [], ◌∷◌, ◌++◌, arith}
+use Rattle.std.proofs.Common.{◌≡◌, ℕ, ℤ, pos, ◌+◌, true, false, List, [], ◌∷◌, ◌++◌, arith}
 use Rattle.std.proofs.Common.{refl, ap, sym, ◌∙◌}
 use Rattle.std.specs.Prelude.{◌+ℤ◌, if◌then◌else◌}
 use Rattle.std.proofs.Math.IntN.{+ℤ_assoc, +ℤ_idl}
 use Rattle.gf_tree.specs.Game.{Game}
 use Rattle.gf_form.specs.Demands.{meets}
-use Rattle.gf_form.specs.Shares.{Fits, FitsAt, IsExact, IsExactIfMet, met_bounds, share}
-use Rattle.gf_form.specs.Shares.{share_bound, sum_of_bounds, sum_of_shares}
+use Rattle.gf_form.specs.Shares.{met_bounds, share, share_bound, sum_of_shares}
 use Rattle.gf_form.specs.declared.paths.Reached.{Reached}
 
 module _ (g : Game) (player den : ℕ) (steps choices : List ℕ) where
@@ -41,30 +39,3 @@ module _ (g : Game) (player den : ℕ) (steps choices : List ℕ) where
       → met_bounds g player den steps choices (r ∷ rs)
       ≡ share_bound g player den r + met_bounds g player den steps choices rs
   bound_first r rs e = rw e refl
-
-  -- ---- where all shares fit, those that are reached do
-
-  met_or_not : (met : Bool) (bound : ℕ) → (if met then bound else 0) ≤ bound
-  met_or_not true bound = omega arith
-  met_or_not false bound = omega arith
-
-  met_below : (rs : List Reached)
-      → met_bounds g player den steps choices rs ≤ sum_of_bounds g player den rs
-  met_below [] = omega arith
-  met_below (r ∷ rs) =
-      let one = met_or_not (meets steps choices r.path.demands) (share_bound g player den r) in
-      omega (arith, one, met_below rs)
-
-  exact_if_met : (rs : List Reached) → AllByRecursion (IsExact g player den) rs
-      → AllByRecursion (IsExactIfMet g player den steps choices) rs
-  exact_if_met [] h = tt
-  exact_if_met (r ∷ rs) h = (λ reached pays. h.0, exact_if_met rs h.1)
-
-  pub fits_at : (rs : List Reached) → Fits g player den rs
-      → FitsAt g player den steps choices rs
-  fits_at rs fits = record {
-    den_above_zero = fits.den_above_zero;
-    den_within = fits.den_within;
-    exact = exact_if_met rs fits.exact;
-    within = omega (arith, met_below rs, fits.within);
-  }

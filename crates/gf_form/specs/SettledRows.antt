@@ -1,6 +1,6 @@
 -- Payoffs at profiles, by the terms of which they are sums.
 use Rattle.std.specs.Prelude.{◌≡◌, ℕ, ℤ, suc, pos, ◌-◌, ◌<◌, ◌≤◌, ◌^◌, List, [], ◌++◌}
-use Rattle.std.specs.Prelude.{Some, get_or, length, map, take}
+use Rattle.std.specs.Prelude.{Some, get_or, length, take}
 use Rattle.std.specs.List.{AllByRecursion}
 use Rattle.gf_fraction.specs.Ratio.{HasValue, IsFraction, IsWithin, Ratio}
 use Rattle.gf_nfg.specs.Profiles.{product}
@@ -67,9 +67,6 @@ pub record AreWritten (asked : Asked) (count : ℕ) (written : Written) : Type 0
   pub values : AllByRecursion (HasValues asked.game.now)
       (take count (picked_profiles (numbers_in asked.picked.now)))
   pub as_long : length written.strategies.items ≡ length asked.counts.now.actions.items
-  pub strategies : 0 < count → map (λ own. own.items) written.strategies.items
-      ≡ strategies_at asked.game.now
-      (get_or (picked_profiles (numbers_in asked.picked.now)) (count - 1) [])
 
 -- the terms settle the rows of these profiles
 abbrev pub SettleRows : Asked → List ℕ → Terms → Run → Type 0

@@ -53,10 +53,6 @@ sum_of_shares g player den steps choices (r ∷ rs) =
     (if meets steps choices r.path.demands then share g player den r else pos 0)
     +ℤ sum_of_shares g player den steps choices rs
 
-abbrev pub sum_of_bounds : Game → ℕ → ℕ → List Reached → ℕ
-sum_of_bounds g player den [] = 0
-sum_of_bounds g player den (r ∷ rs) = share_bound g player den r + sum_of_bounds g player den rs
-
 -- the sum of the bounds of those that these choices reach
 abbrev pub met_bounds : Game → ℕ → ℕ → List ℕ → List ℕ → List Reached → ℕ
 met_bounds g player den steps choices [] = 0
@@ -78,13 +74,6 @@ pub record FitsAt (g : Game) (player den : ℕ) (steps choices : List ℕ) (rs :
     pub den_within : den < 2 ^ 127
     pub exact : AllByRecursion (IsExactIfMet g player den steps choices) rs
     pub within : met_bounds g player den steps choices rs < 2 ^ 127
-
--- over this denominator no share of the player has a remainder, and all together are in bound
-pub record Fits (g : Game) (player den : ℕ) (rs : List Reached) : Type 0 where
-  pub den_above_zero : 0 < den
-  pub den_within : den < 2 ^ 127
-  pub exact : AllByRecursion (IsExact g player den) rs
-  pub within : sum_of_bounds g player den rs < 2 ^ 127
 
 -- a set with one action alone has no digit, and its action is chosen; another has one, with a value
 -- for each action, at which the choice is the same

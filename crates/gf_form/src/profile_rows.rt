@@ -15,11 +15,9 @@ use crate::digits::Digits;
 use crate::fault::FormFault;
 use crate::payoffs::Payoffs;
 use crate::picked::{Picked, full_number_of};
-use crate::profile_strategies::no_actions;
 use crate::rows::listed::game_terms;
 use crate::rows::terms::Terms;
 use crate::rows::written::{Asked, Run, Written};
-use crate::values::Values;
 use gf_fraction::Fraction;
 use gf_tree::Game;
 use std::alloc::{AllocError, Global};
@@ -66,13 +64,7 @@ pub(crate) fn profile_rows(
         picked,
         numbers: &numbers,
     };
-    let mut written = Written {
-        alloc,
-        rows: Vec::with_capacity(alloc, profiles as usize * players)?,
-        strategies: no_actions(alloc, counts.actions.len())?,
-        values: Values::new(alloc),
-        spare: Vec::new(alloc),
-    };
+    let mut written = Written::new(alloc, counts, profiles, players)?;
     let Some(digits) = Digits::new(alloc, counts)? else {
         let unknown = Terms::unknown(alloc, players)?;
         written.push_alike(&asked, &unknown, 0, profiles)?;

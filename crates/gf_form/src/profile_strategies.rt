@@ -1,6 +1,6 @@
 //! The strategies of a profile of those that are picked: one of each player.
 
-ghost use Rattle.std.specs.Prelude.{◌≡◌, ◌<◌, ◌-◌, [], IfOk, OnOk, get_or, length, map};
+ghost use Rattle.std.specs.Prelude.{◌≡◌, ◌<◌, [], IfOk, OnOk, get_or, length, map};
 ghost use Rattle.gf_tree.specs.Game.{Game};
 ghost use Rattle.gf_form.specs.Counted.{AreCounts};
 ghost use Rattle.gf_form.specs.Picked.{IsPicked, numbers_in, picked_profiles};
@@ -8,7 +8,7 @@ ghost use Rattle.gf_form.specs.Strategies.{strategies_at};
 
 use crate::counts::Counts;
 use crate::picked::Picked;
-use crate::strategies::write_next;
+use crate::strategies::write_strategy;
 use std::alloc::{AllocError, Global};
 
 /// So many strategies, none of which has an action yet.
@@ -22,9 +22,7 @@ pub(crate) fn no_actions(alloc: Global, players: usize) -> Result<Vec<Vec<u32>>,
     Ok(all)
 }
 
-/// The strategies of the profile with this number, from 0, take the place of those of the one before
-/// it, and at the first profile of any. Where a player has not come to his first strategy again,
-/// those of the players behind him stay.
+/// The strategies of the profile with this number, from 0, take the place of others.
 pub(crate) fn write_strategies(
     counts: &Counts,
     picked: &Picked,
@@ -33,9 +31,7 @@ pub(crate) fn write_strategies(
 ) -> Result<(), AllocError>
     requires within { profile < picked.now.profiles.count }
     requires as_long { length all.old.items ≡ length counts.now.actions.items }
-    requires picked { (g : Game) × AreCounts g counts.now × IsPicked g picked.now
-        × (0 < profile → map (λ own. own.items) all.old.items
-        ≡ strategies_at g (get_or (picked_profiles (numbers_in picked.now)) (profile - 1) [])) }
+    requires picked { (g : Game) × AreCounts g counts.now × IsPicked g picked.now }
     ensures as_long { OnOk result (length all.new.items ≡ length counts.now.actions.items) }
     ensures strategies { OnOk result ((g : Game) → AreCounts g counts.now
         → map (λ own. own.items) all.new.items
@@ -45,13 +41,10 @@ pub(crate) fn write_strategies(
     for place in 0..counts.actions.len() {
         let numbers = &picked.numbers[place];
         let count = numbers.len();
-        let number = rest % count;
+        let number = numbers[rest % count];
         let whole = counts.strategies[place];
         let own = &mut all[place];
-        write_next(&counts.actions[place], whole, numbers, number, own)?;
-        if number > 0 {
-            return Ok(());
-        }
+        write_strategy(&counts.actions[place], whole, number, own)?;
         rest /= count;
     }
     Ok(())

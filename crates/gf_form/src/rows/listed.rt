@@ -24,23 +24,49 @@ use gf_fraction::Fraction;
 use gf_tree::Game;
 use std::alloc::{AllocError, Global};
 
-/// A denominator that serves what a path adds to each of these payoffs; 0 if there is none in bound.
-fn denominator(path: Path, row: &[Fraction]) -> u128
+/// The greatest denominator, and the greatest sum of sizes.
+const LARGEST: u128 = i128::MAX as u128;
+
+/// A multiple of a denominator: this one, if it is one, and else the denominator.
+fn served(den: u128, common: u128) -> u128
+    ensures { den ∣ result }
+{
+    if den == 0 || common % den != 0 {
+        return den;
+    }
+    common
+}
+
+/// A denominator that serves what a path adds to each of these payoffs: this one, if it does, and
+/// else the least; 0 if that is too large.
+fn denominator(path: Path, row: &[Fraction], common: u128) -> u128
     ensures { path.den ∣ result }
 {
-    let mut common = 1;
+    let mut least = 1;
     for payoff in row {
-        if payoff.den() != common {
-            let Some(more) = multiple(common, payoff.den()) else {
+        if payoff.den() != least {
+            let Some(more) = multiple(least, payoff.den()) else {
                 return 0;
             };
-            common = more;
+            least = more;
         }
     }
-    match path.den.checked_mul(common) {
-        Some(den) => den,
+    match path.den.checked_mul(least) {
+        Some(own) => served(own, common),
         None => 0,
     }
+}
+
+/// A denominator that serves all of these nodes; `None` if it is too large.
+fn common_denominator(nodes: &[Reached], payoffs: &Payoffs<'_>) -> Option<u128> {
+    let mut common = 1;
+    for node in nodes {
+        let own = denominator(node.path, payoffs.at(node.outcome), common);
+        if own != common {
+            common = multiple(common, own)?;
+        }
+    }
+    Some(common)
 }
 
 /// What a path adds to a payoff over a denominator that serves the path; `None` if that is 0, or
@@ -60,14 +86,19 @@ fn share_in(path: Path, payoff: Fraction, den: u128) -> Option<Share>
     Some(share)
 }
 
-/// Appends the term of a node.
-fn push_node(terms: &mut Terms, node: Reached, payoffs: &Payoffs<'_>) -> Result<(), AllocError>
+/// Appends the term of a node, over this denominator if it serves.
+fn push_node(
+    terms: &mut Terms,
+    node: Reached,
+    payoffs: &Payoffs<'_>,
+    common: u128,
+) -> Result<(), AllocError>
     requires { IsShaped terms.old }
     ensures term { OnOk result (IsTermMore (rows_of payoffs.now) node terms.old terms.new) }
     ensures shaped { OnOk result (IsShaped terms.new) }
     ensures players { terms.new.players ≡ terms.old.players }
 {
-    let den = denominator(node.path, payoffs.at(node.outcome));
+    let den = denominator(node.path, payoffs.at(node.outcome), common);
     let mut fits = true;
     let mut size = 0;
     for place in 0..terms.players {
@@ -115,10 +146,50 @@ impl Terms {
         self.push(spare, 0, 0)?;
         Ok(())
     }
+
+    /// Whether all are over this denominator, and fit together.
+    fn fit_over(&self, den: u128) -> bool {
+        let mut size: u128 = 0;
+        for head in &self.heads {
+            let Some(sum) = size.checked_add(head.size) else {
+                return false;
+            };
+            if head.den != den || sum > LARGEST {
+                return false;
+            }
+            size = sum;
+        }
+        den <= LARGEST
+    }
 }
 
-/// The terms of nodes that stand in order of demands.
-pub(crate) fn listed(
+/// The terms of nodes that stand in order of demands, over this denominator where it serves.
+fn listed_over(
+    alloc: Global,
+    nodes: &[Reached],
+    payoffs: &Payoffs<'_>,
+    players: usize,
+    common: u128,
+) -> Result<Terms, AllocError>
+    requires { IsNonDecreasingBy (λ (r : Reached). r.path.demands) nodes.now }
+    ensures terms { IfOk result (λ terms. (g : Game) → ArePaid g (rows_of payoffs.now)
+        → AreTermsOf g players nodes.now (entries terms)) }
+    ensures ordered { IfOk result (λ terms. AreOrdered terms) }
+    ensures shaped { IfOk result (λ terms. IsShaped terms) }
+    ensures players { IfOk result (λ terms. terms.players ≡ players) }
+{
+    let mut terms = Terms::new(alloc, players);
+    let mut spare = Terms::new(alloc, players);
+    for node in nodes {
+        push_node(&mut terms, *node, payoffs, common)?;
+        terms.join_last(&mut spare)?;
+    }
+    Ok(terms)
+}
+
+/// The terms of nodes that stand in order of demands: over one denominator, if they fit together, so
+/// that they are quick to add.
+fn listed(
     alloc: Global,
     nodes: &[Reached],
     payoffs: &Payoffs<'_>,
@@ -131,13 +202,13 @@ pub(crate) fn listed(
     ensures shaped { IfOk result (λ terms. IsShaped terms) }
     ensures players { IfOk result (λ terms. terms.players ≡ players) }
 {
-    let mut terms = Terms::new(alloc, players);
-    let mut spare = Terms::new(alloc, players);
-    for node in nodes {
-        push_node(&mut terms, *node, payoffs)?;
-        terms.join_last(&mut spare)?;
+    if let Some(common) = common_denominator(nodes, payoffs) {
+        let terms = listed_over(alloc, nodes, payoffs, players, common)?;
+        if terms.fit_over(common) {
+            return Ok(terms);
+        }
     }
-    Ok(terms)
+    listed_over(alloc, nodes, payoffs, players, 1)
 }
 
 /// The terms of a game.

@@ -22,7 +22,7 @@ use crate::expectation::expected_with;
 use crate::fault::{EvalFault, FormFault};
 use crate::payoffs::Payoffs;
 use crate::picked::Picked;
-use crate::profile_strategies::write_strategies;
+use crate::profile_strategies::{no_actions, write_strategies};
 use crate::rows::terms::Terms;
 use crate::values::Values;
 use gf_fraction::Fraction;
@@ -59,7 +59,7 @@ pub(crate) struct Run {
 pub(crate) struct Written {
     pub alloc: Global,
     pub rows: Vec<Fraction>,
-    /// Those of the last profile.
+    /// Those of the last profile with a walk.
     pub strategies: Vec<Vec<u32>>,
     pub values: Values,
     /// Lists whose room serves others.
@@ -150,6 +150,27 @@ fn row_by_walk(
 }
 
 impl Written {
+    /// No rows yet, and room for those of so many profiles.
+    pub(crate) fn new(
+        alloc: Global,
+        counts: &Counts,
+        profiles: u32,
+        players: usize,
+    ) -> Result<Written, AllocError>
+        requires { players ≤ 4294967295 }
+        ensures rows { IfOk result (λ written. written.rows.items ≡ []) }
+        ensures strategies { IfOk result (λ written.
+            length written.strategies.items ≡ length counts.now.actions.items) }
+    {
+        Ok(Written {
+            alloc,
+            rows: Vec::with_capacity(alloc, profiles as usize * players)?,
+            strategies: no_actions(alloc, counts.actions.len())?,
+            values: Values::new(alloc),
+            spare: Vec::new(alloc),
+        })
+    }
+
     /// Appends the row of the profile at this place, from 0, to which these terms come.
     fn push_row(
         &mut self,
@@ -171,11 +192,11 @@ impl Written {
             (picked_profiles (numbers_in asked.now.picked.now)) position }
     {
         let _players = asked.game.players();
-        write_strategies(asked.counts, asked.picked, before, &mut self.strategies)?;
         if let Some(den) = row_denominator(terms) {
             push_row_over(den, &terms.numbers, terms.players, &mut self.rows)?;
             return Ok(());
         }
+        write_strategies(asked.counts, asked.picked, before, &mut self.strategies)?;
         match row_by_walk(
             self.alloc,
             asked.game,

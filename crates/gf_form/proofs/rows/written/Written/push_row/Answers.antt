@@ -1,11 +1,10 @@
-use Rattle.std.proofs.Common.{◌≡◌, ◌+◌, ◌-◌, ◌<◌, ◌∙◌, ◌++◌, [], Err, List, ℕ, ℤ, ap, arith, get_or, length}
+use Rattle.std.proofs.Common.{◌≡◌, ◌+◌, ◌<◌, ◌∙◌, ◌++◌, [], Err, List, ℤ, ap, arith, get_or, length}
 use Rattle.std.proofs.Common.{subst}
 use Rattle.gf_fraction.specs.Ratio.{Ratio}
 use Rattle.gf_form.specs.Picked.{numbers_in, picked_profiles}
 use Rattle.gf_form.specs.Refusal.{HasValues, IsFirstWithout}
 use Rattle.gf_form.specs.SettledRows.{HasRowOver}
 use Rattle.gf_form.specs.StrategicForm.{ArePayoffsAt}
-use Rattle.gf_form.specs.Strategies.{strategies_at}
 use Rattle.gf_form.proofs.RowsMade.{all_more, first_without, one_row_more}
 use Rattle.gf_form.proofs.SettledRows.{row_settled}
 use Rattle.gf_form.proofs.rows.written.Written.push_row.Goals as goal
@@ -16,7 +15,6 @@ returns-in-Some-clause-written c =
     let g = asked.game.now in
     let before = c.args.before in
     let all = picked_profiles (numbers_in asked.picked.now) in
-    let back : before ≡ before + 1 - 1 = omega arith in
     let less = c.requires.within in
     let there : before < length asked.numbers.now = omega (arith, less, c.requires.asked.numbers.as_many) in
     let at = c.requires.asked.numbers.each before there in
@@ -32,9 +30,7 @@ returns-in-Some-clause-written c =
       rows = one_row_more (ArePayoffsAt g) all before c.args.self.now.rows.items
           c.push_row_over.new.rows.items more.row less c.requires.written.rows right.0 more.is;
       values = all_more (HasValues g) all before [] less c.requires.written.values right.1;
-      as_long = c.in_ok-write_strategies.ensures.as_long;
-      strategies = λ _. c.in_ok-write_strategies.ensures.strategies g c.requires.asked.counts
-          ∙ ap (λ (n : ℕ). strategies_at g (get_or all n [])) back;
+      as_long = c.requires.written.as_long;
     }
 
 pub returns-in_ok-give_back-in-Ok-clause-written : goal.returns-in_ok-give_back-in-Ok-clause-written
@@ -43,7 +39,6 @@ returns-in_ok-give_back-in-Ok-clause-written c =
     let g = asked.game.now in
     let before = c.args.before in
     let all = picked_profiles (numbers_in asked.picked.now) in
-    let back : before ≡ before + 1 - 1 = omega arith in
     let less = c.requires.within in
     record {
       rows = one_row_more (ArePayoffsAt g) all before c.args.self.now.rows.items
@@ -54,8 +49,6 @@ returns-in_ok-give_back-in-Ok-clause-written c =
       values = all_more (HasValues g) all before [] less c.requires.written.values
           c.in-Ok.ensures.values;
       as_long = c.in_ok-write_strategies.ensures.as_long;
-      strategies = λ _. c.in_ok-write_strategies.ensures.strategies g c.requires.asked.counts
-          ∙ ap (λ (n : ℕ). strategies_at g (get_or all n [])) back;
     }
 
 pub returns-in-Err-Overflow-clause-overflow : goal.returns-in-Err-Overflow-clause-overflow

@@ -1,7 +1,7 @@
 use Rattle.std.proofs.Common.{◌≡◌}
 use Rattle.gf_form.specs.PaidRows.{rows_of}
 use Rattle.gf_form.proofs.ListedEntries.{Listing}
-use Rattle.gf_form.proofs.rows.listed.listed.Given as goal
+use Rattle.gf_form.proofs.rows.listed.listed_over.Given as goal
 
 abbrev pub invariant-loop-node : goal.invariant-loop-node
 invariant-loop-node l = record {

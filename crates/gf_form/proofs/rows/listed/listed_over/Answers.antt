@@ -6,7 +6,7 @@ use Rattle.gf_form.specs.ListedNodes.{AreTermsOf}
 use Rattle.gf_form.specs.PaidRows.{rows_of}
 use Rattle.gf_form.specs.declared.paths.Reached.{Reached}
 use Rattle.gf_form.proofs.ListedEntries.{no_node, node_at, node_listed}
-use Rattle.gf_form.proofs.rows.listed.listed.Goals as goal
+use Rattle.gf_form.proofs.rows.listed.listed_over.Goals as goal
 
 pub loop-node-preserved : goal.loop-node-preserved
 loop-node-preserved c =
