@@ -21,7 +21,7 @@ import gamefile
 PROGRAM, TESTS = Path(sys.argv[1]).resolve(), Path(sys.argv[2])
 THREADS = 8
 # What eight threads have to gain on this many processors.
-PROCESSORS, GAIN, TRIES = 4, 2, 20
+PROCESSORS, GAIN, TRIES = 4, 2, 3
 GAMES_OF_SAME = 24
 
 
@@ -107,6 +107,29 @@ def judge_pair(pair):
     return failed
 
 
+def judge_renumbering(game):
+    """Gives what is wrong with the numbers that correspond in a file and in its canonical text."""
+    text = game.with_suffix(".out")
+    pairs = gamefile.renumbering(game.read_bytes(), text.read_bytes())
+    lines = [f"set {player} {number} {new}" for (player, number), new in pairs.sets.items()]
+    lines += [f"outcome {number} {new}" for number, new in pairs.outcomes.items()]
+    ran = subprocess.run([PROGRAM, "same", "--map", game, text], capture_output=True, timeout=60)
+    wanted = ran.stdout.decode().splitlines()
+    return [] if ["same", *lines] == wanted else [f"renumbering of {game.name}: {lines} and not {wanted}"]
+
+
+def judge_no_renumbering():
+    """Gives what is wrong with the numbers that correspond in files that are not the same, or are refused."""
+    tree, table = b'EFG 2 R "" { } t "" 0', b'NFG 1 R "" { } { }'
+    failed = [] if gamefile.renumbering(tree, table) is None else ["renumbering of a tree and a table"]
+    for pair, which in [((tree[:-1], table), "a"), ((tree, table[:-1]), "b")]:
+        try:
+            failed.append(f"renumbering of a refused file: {gamefile.renumbering(*pair)}")
+        except gamefile.GameFileError as error:
+            failed += [] if error.which == which else [f"renumbering refuses {error.which}"]
+    return failed
+
+
 def judge_version():
     """Gives what is wrong with the version of the package."""
     version = importlib.metadata.version("gamefile")
@@ -128,24 +151,26 @@ def large_tree():
     return b'EFG 2 R "d" { "A" }\np "" 1 1 "i" { "L" } 0\n' + line * 400_000 + b't "" 0\n'
 
 
-def seconds(threads, games):
-    """Gives the time that some threads take for all games."""
+def seconds(clock, threads, games):
+    """Gives the time that some threads take for all games, by a clock."""
     with ThreadPoolExecutor(threads) as pool:
-        start = time.perf_counter()
+        start = clock()
         list(pool.map(gamefile.check, games))
-        return time.perf_counter() - start
+        return clock() - start
 
 
 def judge_threads():
-    """Gives what is wrong if many threads are hardly faster than one. Other work on the machine can hide
-    the gain, so it is tried again."""
+    """Gives what is wrong if many threads are hardly faster than one. What one thread takes is counted in
+    processor time, which other work on the machine does not change; that of many is counted by the clock,
+    so other work only makes the gain look smaller."""
     if len(os.sched_getaffinity(0)) < PROCESSORS:
         print(f"python: fewer than {PROCESSORS} processors, so the gain of threads is not tested")
         return []
     games = [large_tree()] * 16
     gains = []
     while len(gains) < TRIES and max(gains, default=0) < GAIN:
-        gains.append(seconds(1, games) / seconds(THREADS, games))
+        alone = seconds(time.process_time, 1, games)
+        gains.append(alone / seconds(time.perf_counter, THREADS, games))
     print(f"python: {THREADS} threads are {gains[-1]:.1f} times as fast as one")
     return [] if gains[-1] >= GAIN else [f"{THREADS} threads gain less than {GAIN}: {gains}"]
 
@@ -155,9 +180,11 @@ def main():
     files += refusals()
     games = same_games()
     pairs = [(a, b) for a in games for b in games]
+    renumbered = [p for p in TESTS.glob("corpus/*.[en]fg") if p.with_suffix(".out").exists()]
     with ThreadPoolExecutor() as pool:
         results = [*pool.map(judge_file, files), *pool.map(judge_pair, pairs)]
-    results += [judge_types(), judge_version(), judge_threads()]
+        results += pool.map(judge_renumbering, renumbered)
+    results += [judge_no_renumbering(), judge_types(), judge_version(), judge_threads()]
     examples = doctest.testmod(gamefile)
     results.append([f"{examples.failed} examples"] if examples.failed else [])
     failed = [line for lines in results for line in lines]
@@ -165,7 +192,7 @@ def main():
         print(f"FAILED {line[:400]}")
     bad = sum(1 for lines in results if lines)
     print(f"python: {len(results) - bad} passed, {bad} failed")
-    return 1 if bad or not files else 0
+    return 1 if bad or not files or not renumbered else 0
 
 
 sys.exit(main())
