@@ -1,7 +1,8 @@
 # `make` proves the crates and builds the proved program, ./gamefile, and `make run` shows what it
 # writes of an example; `make library` proves and builds the library for C and Python; `make install
 # PREFIX=..` puts the program, its page and, if it was built, the library in place; `make test` proves
-# and tests everything from nothing; `make bench` times the program; `make clean` removes what was built.
+# and tests everything from nothing; `make bench` times the program and, if it was built, the library;
+# `make clean` removes what was built.
 
 RT ?= rt
 export RT
@@ -48,6 +49,10 @@ test:
 bench:
 	bench/generate
 	bench/run
+	if [ -e library/out/libgamefile.a ]; then \
+	    $${CC:-cc} -O2 -Ilibrary bench/calls.c library/out/libgamefile.a -o library/out/calls && \
+	    library/out/calls ./gamefile examples/*.?fg $(addprefix bench/inputs/,plain-tree.efg outcomes.nfg); \
+	fi
 
 clean:
 	rm -rf gamefile bench/inputs crates/*/out library/out python/gamefile/libgamefile.so.1

@@ -16,6 +16,9 @@ uint32_t gamefile_c_table(const uint8_t *in, size_t n, uint32_t flags, uint8_t *
                           size_t *needed, gamefile_fault *fault, uint64_t *profile);
 uint32_t gamefile_c_same(const uint8_t *a, size_t an, const uint8_t *b, size_t bn, uint32_t flags,
                          gamefile_fault *fault, uint32_t *which);
+uint32_t gamefile_c_renumbering(const uint8_t *a, size_t an, const uint8_t *b, size_t bn,
+                                gamefile_pair *out, size_t cap, size_t *needed, gamefile_fault *fault,
+                                uint32_t *which);
 
 /* No object is longer. */
 static int is_bytes(const void *at, size_t n)
@@ -104,6 +107,25 @@ gamefile_status gamefile_same(const uint8_t *a, size_t an, const uint8_t *b, siz
         return GAMEFILE_MISUSE;
     status = (gamefile_status)gamefile_c_same(bytes_at(a), an, bytes_at(b), bn, flags,
                                               fault != NULL ? fault : &unasked_fault, &number);
+    if (status == GAMEFILE_REFUSED && which != NULL)
+        *which = (int)number;
+    return status;
+}
+
+gamefile_status gamefile_renumbering(const uint8_t *a, size_t an, const uint8_t *b, size_t bn,
+                                     gamefile_pair *out, size_t cap, size_t *needed,
+                                     gamefile_fault *fault, int *which)
+{
+    gamefile_fault unasked_fault;
+    size_t unasked_needed;
+    gamefile_pair nowhere;
+    uint32_t number = 0;
+    gamefile_status status;
+    if (!is_bytes(a, an) || !is_bytes(b, bn) || cap > PTRDIFF_MAX / sizeof *out || (out == NULL && cap > 0))
+        return GAMEFILE_MISUSE;
+    status = (gamefile_status)gamefile_c_renumbering(
+        bytes_at(a), an, bytes_at(b), bn, out != NULL ? out : &nowhere, cap,
+        needed != NULL ? needed : &unasked_needed, fault != NULL ? fault : &unasked_fault, &number);
     if (status == GAMEFILE_REFUSED && which != NULL)
         *which = (int)number;
     return status;

@@ -65,6 +65,17 @@ typedef struct {
     size_t end;
 } gamefile_fault;
 
+/* What a pair of numbers is of. */
+enum { GAMEFILE_SET = 1u, GAMEFILE_OUTCOME = 2u };
+
+/* Numbers that correspond: of an information set, or of an outcome, in each of two trees. */
+typedef struct {
+    uint32_t kind;   /* GAMEFILE_SET or GAMEFILE_OUTCOME */
+    uint32_t player; /* the player of a set, 0 for chance; 0 for an outcome */
+    uint32_t first;  /* the number in the first tree */
+    uint32_t second; /* the number in the second tree */
+} gamefile_pair;
+
 /* In each call `kind`, `needed`, `fault`, `profile` and `which` may be NULL. What a call does not
  * answer is left as it was. */
 
@@ -96,6 +107,14 @@ gamefile_status gamefile_table(const uint8_t *in, size_t n, unsigned flags, uint
  * 0 for the first and 1 for the second. Flags: 0 or GAMEFILE_NO_NAMES. */
 gamefile_status gamefile_same(const uint8_t *a, size_t an, const uint8_t *b, size_t bn, unsigned flags,
                               gamefile_fault *fault, int *which);
+
+/* Which numbers of two files correspond, if these mean the same game: a pair for each information set
+ * and each outcome of a tree, and none for a table. The sets of chance come first, then those of player
+ * after player, and then the outcomes, all in order of first use. `cap` and `needed` count pairs. If the
+ * files do not mean the same, GAMEFILE_DIFFERENT. `which` is as in gamefile_same. */
+gamefile_status gamefile_renumbering(const uint8_t *a, size_t an, const uint8_t *b, size_t bn,
+                                     gamefile_pair *out, size_t cap, size_t *needed,
+                                     gamefile_fault *fault, int *which);
 
 /* What a code means, and a hint how to mend the file, or NULL if there is none: static English text. */
 const char *gamefile_message(uint32_t code, uint32_t expected);

@@ -135,6 +135,45 @@ static int is_same_text(bytes a, bytes b)
     return a.n == b.n && memcmp(a.at, b.at, a.n) == 0;
 }
 
+/* Whether pairs of a file and its canonical text, in which numbers count from 1 in order of first use, are
+ * those of the two texts the other way round. */
+static int are_canonical(const gamefile_pair *pairs, const gamefile_pair *back, size_t n)
+{
+    uint32_t number = 0;
+    size_t i;
+    for (i = 0; i < n; i++) {
+        int follows = i > 0 && pairs[i].kind == pairs[i - 1].kind && pairs[i].player == pairs[i - 1].player;
+        number = follows ? number + 1 : 1;
+        if (pairs[i].second != number || pairs[i].first == 0
+            || (pairs[i].kind != GAMEFILE_SET && (pairs[i].kind != GAMEFILE_OUTCOME || pairs[i].player != 0))
+            || back[i].kind != pairs[i].kind || back[i].player != pairs[i].player
+            || back[i].first != pairs[i].second || back[i].second != pairs[i].first)
+            return 0;
+    }
+    return 1;
+}
+
+static void try_renumbering(score *s, const file *f)
+{
+    gamefile_pair *pairs, *back;
+    size_t needed = 0, again = 0;
+    gamefile_status status = gamefile_renumbering(f->game.at, f->game.n, f->wanted.at, f->wanted.n, NULL,
+                                                  0, &needed, NULL, NULL);
+    expect(s, status == (needed > 0 ? GAMEFILE_TOO_SMALL : GAMEFILE_OK), f->path, "how many pairs");
+    expect(s, needed == 0 || f->wanted.at[0] == 'E', f->path, "a table has no pairs");
+    pairs = (gamefile_pair *)calloc(needed + 1, sizeof *pairs);
+    back = (gamefile_pair *)calloc(needed + 1, sizeof *back);
+    if (pairs == NULL || back == NULL)
+        abort();
+    expect(s, gamefile_renumbering(f->game.at, f->game.n, f->wanted.at, f->wanted.n, pairs, needed, &again,
+                                   NULL, NULL) == GAMEFILE_OK && again == needed, f->path, "pairs");
+    expect(s, gamefile_renumbering(f->wanted.at, f->wanted.n, f->game.at, f->game.n, back, needed + 1,
+                                   &again, NULL, NULL) == GAMEFILE_OK && again == needed, f->path, "back");
+    expect(s, are_canonical(pairs, back, needed) && back[needed].kind == 0, f->path, "canonical numbers");
+    free(pairs);
+    free(back);
+}
+
 static void try_right(score *s, const file *f)
 {
     static const unsigned table_flags[] = {0, GAMEFILE_REDUCED};
@@ -155,6 +194,7 @@ static void try_right(score *s, const file *f)
                   && strcmp(hash, other) == 0 && strlen(hash) == 64, f->path, "hash of the text");
     expect(s, gamefile_same(f->game.at, f->game.n, f->wanted.at, f->wanted.n, 0, NULL, NULL)
                   == GAMEFILE_OK, f->path, "same as its canonical text");
+    try_renumbering(s, f);
     free(text.at);
     text = text_of(s, f, 0, GAMEFILE_NO_NAMES, &status);
     expect(s, text.at != NULL && gamefile_same(f->game.at, f->game.n, text.at, text.n,
@@ -175,6 +215,7 @@ static void try_refused(score *s, const file *f)
 {
     static const uint8_t game[] = "NFG 1 R \"\" { \"A\" } { 1 } 0";
     gamefile_fault fault = {0, 0, 0, 0};
+    gamefile_pair pair = {7, 7, 7, 7};
     uint8_t out[16] = "as it was";
     char hash[65];
     size_t needed = 7;
@@ -203,6 +244,15 @@ static void try_refused(score *s, const file *f)
     expect(s, gamefile_same(game, sizeof game - 1, f->game.at, f->game.n, 0, &fault, &which)
                   == GAMEFILE_REFUSED && which == 1 && is_fault(&fault, f->wanted), f->path,
            "refused as the second of two");
+    memset(&fault, 0, sizeof fault);
+    expect(s, gamefile_renumbering(f->game.at, f->game.n, game, sizeof game - 1, &pair, 1, &needed, &fault,
+                                   &which) == GAMEFILE_REFUSED && which == 0
+                  && is_fault(&fault, f->wanted), f->path, "refused by renumbering");
+    memset(&fault, 0, sizeof fault);
+    expect(s, gamefile_renumbering(game, sizeof game - 1, f->game.at, f->game.n, &pair, 1, &needed, &fault,
+                                   &which) == GAMEFILE_REFUSED && which == 1
+                  && is_fault(&fault, f->wanted), f->path, "refused by renumbering as the second");
+    expect(s, needed == 7 && pair.kind == 7, f->path, "the pairs stay");
 }
 
 /* What no file shows: null pointers, flags, and numbers that are never changed. */
@@ -210,9 +260,11 @@ static void try_border(score *s)
 {
     static const uint8_t game[] = "NFG 1 R \"a\" { \"A\" } { 1 } 2";
     static const uint8_t other[] = "NFG 1 R \"b\" { \"A\" } { 1 } 2";
+    static const uint8_t tree[] = "EFG 2 R \"\" { \"A\" } p \"\" 1 3 \"\" { \"x\" } 0 t \"\" 5 \"\" { 1 }";
     size_t n = sizeof game - 1;
     gamefile_fault fault = {0, 0, 0, 0};
     gamefile_kind kind;
+    gamefile_pair pair = {7, 7, 7, 7};
     uint8_t out[4];
     size_t needed = 0;
     char hash[65];
@@ -224,6 +276,9 @@ static void try_border(score *s)
     expect(s, sizeof(gamefile_fault) == 8 + 2 * sizeof(size_t) && offsetof(gamefile_fault, expected) == 4
                   && offsetof(gamefile_fault, start) == 8 && sizeof(gamefile_kind) == 4
                   && sizeof(gamefile_status) == 4, "header", "layout");
+    expect(s, sizeof(gamefile_pair) == 16 && offsetof(gamefile_pair, player) == 4
+                  && offsetof(gamefile_pair, first) == 8 && offsetof(gamefile_pair, second) == 12
+                  && GAMEFILE_SET == 1 && GAMEFILE_OUTCOME == 2, "header", "pairs");
     expect(s, strcmp(gamefile_version(), GAMEFILE_VERSION) == 0, "header", "version");
     expect(s, gamefile_check(NULL, 0, NULL, &fault) == GAMEFILE_REFUSED && fault.code == 3
                   && fault.expected == GAMEFILE_WHAT_FORMAT && fault.end == 0, "NULL", "empty");
@@ -249,6 +304,18 @@ static void try_border(score *s)
     expect(s, gamefile_same(game, n, other, n, GAMEFILE_NO_NAMES, NULL, NULL) == GAMEFILE_OK, "same",
            "title aside");
     expect(s, gamefile_same(game, n, other, n, 2, NULL, NULL) == GAMEFILE_MISUSE, "flags", "same");
+    expect(s, gamefile_renumbering(NULL, 0, NULL, 0, NULL, 0, NULL, NULL, NULL) == GAMEFILE_REFUSED, "NULL",
+           "renumbering");
+    expect(s, gamefile_renumbering(game, n, game, n, NULL, 1, NULL, NULL, NULL) == GAMEFILE_MISUSE
+                  && gamefile_renumbering(NULL, 1, game, n, NULL, 0, NULL, NULL, NULL) == GAMEFILE_MISUSE
+                  && gamefile_renumbering(game, n, NULL, 1, NULL, 0, NULL, NULL, NULL) == GAMEFILE_MISUSE
+                  && gamefile_renumbering(game, n, game, n, &pair, SIZE_MAX, NULL, NULL, NULL)
+                         == GAMEFILE_MISUSE, "NULL", "renumbering not empty");
+    needed = 7;
+    expect(s, gamefile_renumbering(game, n, other, n, &pair, 1, &needed, NULL, &which) == GAMEFILE_DIFFERENT
+                  && needed == 7, "renumbering", "different");
+    expect(s, gamefile_renumbering(tree, sizeof tree - 1, tree, sizeof tree - 1, &pair, 1, &needed, NULL, NULL)
+                  == GAMEFILE_TOO_SMALL && needed == 2 && pair.kind == 7, "renumbering", "too small");
     expect(s, strcmp(gamefile_message(17, 0), "no such code") == 0
                   && strcmp(gamefile_message(1000, 0), "no such code") == 0, "message", "no code");
     expect(s, gamefile_hint(5, 0) == NULL && gamefile_hint(13, 0) != NULL, "hint", "hints");

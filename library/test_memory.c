@@ -1,78 +1,139 @@
 /* Refuses each allocation of each call in turn: test_memory FILE..
  *
- * It is linked so that the library's malloc and realloc are the ones below. A call has to answer
- * GAMEFILE_NOMEM, and to leave the buffer as it was, or to answer as if nothing had been refused. The
- * last line is 'N passed, M failed'. */
+ * It is linked so that the library's malloc and realloc are the ones below. One allocation is refused, or
+ * it and all that follow. A call has to answer GAMEFILE_NOMEM, and to leave the buffer as it was, or to
+ * answer as if nothing had been refused; and the next call, with nothing refused, has to answer so too. A
+ * file that is refused is refused so, or memory runs out before the place of its refusal. The last line is
+ * 'N passed, M failed'. */
 #include "gamefile.h"
 
 #include <stdio.h>
 #include <stdlib.h>
 #include <string.h>
 
-enum { CALLS = 6, ROOM = 1 << 20 };
+enum { CALLS = 11, ROOM = 1 << 16 };
 
 void *__real_malloc(size_t n);
 void *__real_realloc(void *at, size_t n);
 
-/* How many allocations succeed before all others are refused. */
-static unsigned long left;
+static const unsigned long ALL = (unsigned long)-1;
+
+/* How many allocations succeed before some are refused, and how many these are. */
+static unsigned long left, refusals;
+
+static int is_refused(void)
+{
+    if (left > 0) {
+        left--;
+        return 0;
+    }
+    if (refusals == 0)
+        return 0;
+    refusals--;
+    return 1;
+}
 
 void *__wrap_malloc(size_t n)
 {
-    return left > 0 ? (left--, __real_malloc(n)) : NULL;
+    return is_refused() ? NULL : __real_malloc(n);
 }
 
 void *__wrap_realloc(void *at, size_t n)
 {
-    return left > 0 ? (left--, __real_realloc(at, n)) : NULL;
+    return is_refused() ? NULL : __real_realloc(at, n);
 }
 
-/* Makes a call, and puts its answer into a buffer. */
-static gamefile_status answer(int call, const uint8_t *game, size_t n, uint8_t *out,
-                              gamefile_fault *fault)
-{
-    gamefile_kind kind;
+/* What a call answers, with the text or the pairs in its buffer. */
+typedef struct {
     gamefile_status status;
+    gamefile_fault fault;
+    uint8_t out[ROOM];
+} answer;
+
+/* Makes a call on a file, and on the same with a line more. */
+static void make(int call, const uint8_t *game, size_t n, answer *to)
+{
+    uint8_t *out = to->out;
+    gamefile_fault *fault = &to->fault;
+    gamefile_kind kind = (gamefile_kind)0;
+    memset(to, 0, sizeof *to);
     switch (call) {
     case 0:
-        status = gamefile_check(game, n, &kind, fault);
-        if (status == GAMEFILE_OK)
-            out[0] = (uint8_t)kind;
-        return status;
+        to->status = gamefile_check(game, n, &kind, fault);
+        out[0] = (uint8_t)kind;
+        break;
     case 1:
-        return gamefile_canonical(game, n, 0, out, ROOM, NULL, fault);
+        to->status = gamefile_canonical(game, n, 0, out, ROOM, NULL, fault);
+        break;
     case 2:
-        return gamefile_canonical(game, n, GAMEFILE_NO_NAMES, out, ROOM, NULL, fault);
+        to->status = gamefile_canonical(game, n, GAMEFILE_NO_NAMES, out, ROOM, NULL, fault);
+        break;
     case 3:
-        return gamefile_hash(game, n, 0, (char *)out, fault);
+        to->status = gamefile_hash(game, n, 0, (char *)out, fault);
+        break;
     case 4:
-        return gamefile_table(game, n, GAMEFILE_REDUCED, out, ROOM, NULL, fault, NULL);
+        to->status = gamefile_hash(game, n, GAMEFILE_NO_NAMES, (char *)out, fault);
+        break;
+    case 5:
+        to->status = gamefile_table(game, n, 0, out, ROOM, NULL, fault, NULL);
+        break;
+    case 6:
+        to->status = gamefile_table(game, n, GAMEFILE_REDUCED, out, ROOM, NULL, fault, NULL);
+        break;
+    case 7:
+        to->status = gamefile_same(game, n, game, n, 0, fault, NULL);
+        break;
+    case 8:
+        to->status = gamefile_same(game, n, game, n - 1, 0, fault, NULL);
+        break;
+    case 9:
+        to->status = gamefile_same(game, n, game, n - 1, GAMEFILE_NO_NAMES, fault, NULL);
+        break;
     default:
-        return gamefile_same(game, n, game, n - 1, 0, fault, NULL);
+        to->status = gamefile_renumbering(game, n, game, n - 1, (gamefile_pair *)(void *)out,
+                                          ROOM / sizeof(gamefile_pair), NULL, fault, NULL);
+        break;
     }
 }
 
-/* Whether a call answers well whichever allocation is refused first. */
-static int is_well(int call, const uint8_t *game, size_t n)
+static int is_same(const answer *a, const answer *b)
 {
-    static uint8_t wanted[ROOM], out[ROOM], zeros[ROOM];
-    gamefile_fault fault;
-    gamefile_status expected, status = GAMEFILE_NOMEM;
-    unsigned long refused;
-    memset(wanted, 0, sizeof wanted);
-    left = (unsigned long)-1;
-    expected = answer(call, game, n, wanted, &fault);
-    for (refused = 0; status == GAMEFILE_NOMEM; refused++) {
-        memset(out, 0, sizeof out);
-        memset(&fault, 0, sizeof fault);
-        left = refused;
-        status = answer(call, game, n, out, &fault);
-        if (status == GAMEFILE_NOMEM
-            && (memcmp(out, zeros, sizeof out) != 0 || (fault.code != 0 && fault.code != 19)))
+    return a->status == b->status && memcmp(&a->fault, &b->fault, sizeof a->fault) == 0
+           && memcmp(a->out, b->out, ROOM) == 0;
+}
+
+/* Whether memory ran out, and nothing was written; in a file that is refused, before its refusal. */
+static int wants_memory(const answer *a, const answer *wanted)
+{
+    static const uint8_t zeros[ROOM];
+    return a->status == GAMEFILE_NOMEM && memcmp(a->out, zeros, ROOM) == 0
+           && (a->fault.code == 0 || a->fault.code == 19)
+           && (wanted->status != GAMEFILE_REFUSED || a->fault.end <= wanted->fault.start);
+}
+
+/* Whether a call answers well whichever allocation is refused first, and how many are. */
+static int is_well(int call, const uint8_t *game, size_t n, unsigned long count)
+{
+    static answer wanted, found;
+    unsigned long number;
+    left = ALL;
+    make(call, game, n, &wanted);
+    if (wanted.status == GAMEFILE_NOMEM || wanted.status == GAMEFILE_TOO_SMALL)
+        return 0;
+    for (number = 0;; number++) {
+        left = number;
+        refusals = count;
+        make(call, game, n, &found);
+        /* Each call needs some memory, of each file. */
+        if (refusals == count)
+            return number > 0 && is_same(&found, &wanted);
+        if (!wants_memory(&found, &wanted) && !is_same(&found, &wanted))
+            return 0;
+        left = ALL;
+        make(call, game, n, &found);
+        if (!is_same(&found, &wanted))
             return 0;
     }
-    /* Each call needs some memory, of each file. */
-    return refused > 1 && status == expected && memcmp(out, wanted, sizeof out) == 0;
 }
 
 int main(int argc, char **argv)
@@ -88,7 +149,7 @@ int main(int argc, char **argv)
         n = fread(game, 1, sizeof game, f);
         fclose(f);
         for (call = 0; call < CALLS; call++) {
-            if (is_well(call, game, n)) {
+            if (is_well(call, game, n, 1) && is_well(call, game, n, ALL)) {
                 passed++;
             } else {
                 failed++;

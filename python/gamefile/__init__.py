@@ -17,10 +17,21 @@ t "" 1
 True
 """
 import ctypes
+import struct
 from pathlib import Path
-from typing import Literal, Optional
+from typing import Dict, Literal, NamedTuple, Optional, Tuple
 
-__all__ = ["GameFileError", "TableError", "canonical", "check", "key", "same", "table"]
+__all__ = [
+    "GameFileError",
+    "Renumbering",
+    "TableError",
+    "canonical",
+    "check",
+    "key",
+    "renumbering",
+    "same",
+    "table",
+]
 
 
 class _Fault(ctypes.Structure):
@@ -31,6 +42,12 @@ class _Fault(ctypes.Structure):
         ("end", ctypes.c_size_t),
     ]
 
+
+# A pair of numbers: its kind, player, first and second number, in 32 bits each (gamefile.h).
+_PAIR = struct.Struct("=4I")
+_SET = 1
+# No set or outcome is described in fewer bytes.
+_BYTES_OF_A_PAIR = 8
 
 # What a call answers (gamefile.h).
 _OK, _DIFFERENT, _REFUSED, _NOMEM = 0, 1, 2, 5
@@ -70,6 +87,15 @@ _same = _call(
     *_input,
     *_input,
     ctypes.c_uint,
+    _fault,
+    ctypes.POINTER(ctypes.c_int),
+)
+_renumbering = _call(
+    _library,
+    "gamefile_renumbering",
+    *_input,
+    *_input,
+    *_output,
     _fault,
     ctypes.POINTER(ctypes.c_int),
 )
@@ -169,6 +195,16 @@ class TableError(ArithmeticError):
         return self.reason if self.profile is None else f"{self.reason} at profile {self.profile}"
 
 
+class Renumbering(NamedTuple):
+    """Which numbers of two games correspond, in order of first use."""
+
+    #: The number of an information set in the second game, by its player and its number in the first.
+    #: Player 0 is chance.
+    sets: Dict[Tuple[int, int], int]
+    #: The number of an outcome in the second game, by its number in the first.
+    outcomes: Dict[int, int]
+
+
 def _bytes(data: bytes) -> bytes:
     if isinstance(data, bytes):
         return data
@@ -201,6 +237,12 @@ def _judge(status: int, data: bytes, fault: _Fault) -> None:
         raise MemoryError
     if status != _OK:
         raise AssertionError(f"libgamefile answers {status}")
+
+
+def _judge_two(status: int, a: bytes, b: bytes, fault: _Fault, which: ctypes.c_int) -> None:
+    if status == _REFUSED:
+        raise _refusal(b, fault, "b") if which.value else _refusal(a, fault, "a")
+    _judge(status, a, fault)
 
 
 def check(data: bytes) -> Literal["tree", "table"]:
@@ -267,11 +309,38 @@ def same(a: bytes, b: bytes, *, names: bool = True) -> bool:
     a, b = _bytes(a), _bytes(b)
     fault, which = _Fault(), ctypes.c_int()
     status = _same(a, len(a), b, len(b), 0 if names else _NO_NAMES, fault, which)
-    if status == _REFUSED:
-        raise _refusal(b, fault, "b") if which.value else _refusal(a, fault, "a")
     if status != _DIFFERENT:
-        _judge(status, a, fault)
+        _judge_two(status, a, b, fault, which)
     return status == _OK
+
+
+def renumbering(a: bytes, b: bytes) -> Optional[Renumbering]:
+    """Which information sets and outcomes of two trees correspond; None if the files are not the same.
+
+    Tables that are the same have no such numbers.
+
+    >>> tree = b'EFG 2 R "" { "A" } p "" 1 7 "" { "x" } 0 t "" 3 "" { 1 }'
+    >>> renumbering(tree, canonical(tree))
+    Renumbering(sets={(1, 7): 1}, outcomes={3: 1})
+    >>> renumbering(tree, b'NFG 1 R "" { "A" } { 1 } 1') is None
+    True
+    """
+    a, b = _bytes(a), _bytes(b)
+    needed, fault, which = ctypes.c_size_t(len(a) // _BYTES_OF_A_PAIR + 1), _Fault(), ctypes.c_int()
+    while True:
+        most = needed.value
+        room = ctypes.create_string_buffer(most * _PAIR.size)
+        status = _renumbering(a, len(a), b, len(b), room, most, needed, fault, which)
+        if status == _DIFFERENT:
+            return None
+        if status != _TOO_SMALL:
+            _judge_two(status, a, b, fault, which)
+            break
+    pairs = list(_PAIR.iter_unpack(memoryview(room)[: needed.value * _PAIR.size]))
+    return Renumbering(
+        {(player, first): second for kind, player, first, second in pairs if kind == _SET},
+        {first: second for kind, _, first, second in pairs if kind != _SET},
+    )
 
 
 def table(data: bytes, *, reduced: bool = False) -> bytes:

@@ -1,6 +1,7 @@
 """What the files made to hurt have in common: a game as the program is given it, with the answer of
 each command, and how texts of games are spelled.
 """
+import hashlib
 from typing import NamedTuple, Union
 
 # The most bytes that an input has.
@@ -39,7 +40,9 @@ class Answer(NamedTuple):
 
 
 class Game(NamedTuple):
-    """A game in two files that mean the same, and what each command answers: `same` is given both."""
+    """A game in two files that mean the same, and what each command answers: `same` and `duplicates` are
+    given both.
+    """
 
     file: bytes
     other: bytes
@@ -61,33 +64,54 @@ def answer_of(text):
     return text if isinstance(text, Answer) else Answer(text.encode())
 
 
+def without_title(text):
+    """A canonical text with an empty title: of the games here, this is the text without names."""
+    head = len('NFG 1 R "')
+    return text[:head] + text[text.index('" {', head) :]
+
+
+def hashed(text, file, other):
+    """What is answered by the hash of a text, if there is one, and about duplicates."""
+    if isinstance(text, Answer):
+        # (out of memory at the end of each file)
+        lines = [f"{name}: E19 at {len(data)}..{len(data)}" for name, data in (("file", file), ("other", other))]
+        return {"hash": ended(lines[0], 5), "duplicates": ended("\n".join(lines), 5)}
+    digest = hashlib.sha256(text.encode()).hexdigest()
+    return {"hash": answer_of(f"{digest}  file\n"), "duplicates": Answer(b"file\nother\n", status=1)}
+
+
 def accepted(kind, file, text, *, form=None, other=None, lines=""):
     """A game whose file is accepted: with its canonical text, its strategic form, which is the text if it
     is not given, and the lines of the renumbering that carries it to the other file. The reduced form is
     as the form.
     """
-    data = file.encode()
+    # Files that are equal byte by byte would say little about `same`.
+    data, same = file.encode(), (f"{file}\n" if other is None else other).encode()
     written = answer_of(text)
     form = written if form is None else answer_of(form)
     answers = {
         "check": Answer(f"{kind}\n".encode()),
         "canon": written,
+        "plain": written if isinstance(text, Answer) else answer_of(without_title(text)),
+        **hashed(text, data, same),
         "table": form,
         "reduced": form,
         "same": Answer(b"same\n"),
         "aside": Answer(b"same\n"),
         "map": Answer(f"same\n{lines}".encode()),
     }
-    # Files that are equal byte by byte would say little about `same`.
-    return Game(data, data + b"\n" if other is None else other.encode(), answers)
+    return Game(data, same, answers)
 
 
 def refused(file, line):
     """A game whose file is refused, which is the first of the two that are compared too."""
-    data = file.encode()
-    alone = dict.fromkeys(("check", "canon", "table", "reduced"), ended(line))
+    data, size = file.encode(), len(file)
+    # The other file ends a byte later.
+    other_line = line.replace(f" {size}..{size}", f" {size + 1}..{size + 1}")
+    alone = dict.fromkeys(("check", "canon", "plain", "table", "reduced"), ended(line))
     compared = dict.fromkeys(("same", "aside", "map"), ended(f"A: {line}"))
-    return Game(data, data + b"\n", alone | compared)
+    named = {"hash": ended(f"file: {line}"), "duplicates": ended(f"file: {line}\nother: {other_line}")}
+    return Game(data, data + b"\n", alone | compared | named)
 
 
 def braced(items):

@@ -318,6 +318,21 @@ def deep_payoff(sets):
     return tree.game(relevant=True)
 
 
+def largest_payoffs_of_two(sets):
+    """Two players are paid the most, so that the sum of bounds does not fit, although each payoff does."""
+    tree = Tree(3)
+    tree.toss(1, ["1/2", "1/2"])
+    tree.toss(2, [f"1/{sets}"] * sets)
+    for number in range(1, sets + 1):
+        tree.move(3, number)
+        tree.end(2 * number, 0, 0, number)
+        tree.end()
+    tree.toss(1)
+    tree.end(98, LARGEST, 0, 0)
+    tree.end(99, 0, LARGEST, 0)
+    return tree.game(relevant=True)
+
+
 def full_tree(depth):
     """A move at each node, at one set for each level."""
     tree, due = Tree(1), [0]
@@ -420,6 +435,7 @@ SHAPES = {
     "overflow at the last profile": (partial(overflow_at_the_last, 20), MOST_ROWS),
     "overflow at half of them": (partial(overflow_at_half, 20), MOST_ROWS),
     "a deep payoff": (partial(deep_payoff, 14), partial(side_by_side, 14)),
+    "the largest payoffs of two": (partial(largest_payoffs_of_two, 14), partial(side_by_side, 14)),
     "moves of one action": (partial(moves_of_one_action, 7, 50), SOME_ROWS),
     "sets in conflict": (partial(sets_in_conflict, 12), SOME_ROWS),
 }

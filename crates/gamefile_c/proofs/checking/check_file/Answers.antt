@@ -1,6 +1,0 @@
-use Rattle.std.proofs.Common.{refl}
-use Rattle.gamefile_c.specs.Checked.{right}
-use Rattle.gamefile_c.proofs.checking.check_file.Goals as goal
-
-pub returns-in-Ok : goal.returns-in-Ok
-returns-in-Ok c = right c.in-Ok.format refl c.in-Ok.ensures.format c.kind_number.ensures

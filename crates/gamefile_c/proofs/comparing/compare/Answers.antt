@@ -1,9 +1,0 @@
-use Rattle.std.proofs.Common.{◌∙◌, Option, subst, sym}
-use Rattle.gf_canon.specs.declared.sameness.Names.{Names}
-use Rattle.gamefile_c.specs.Compared.{IsComparedBy}
-use Rattle.gamefile_c.proofs.comparing.compare.Goals as goal
-
-pub returns-in-Some : goal.returns-in-Some
-returns-in-Some c = subst (λ (asked : Option Names). IsComparedBy asked c.args.a.now c.args.b.now
-    c.compare_by.new.which c.compare_by.new.fault c.compare_by.result)
-    (sym c.in-Some.is ∙ c.names_by.ensures) c.compare_by.ensures

@@ -1,0 +1,3 @@
+mod CarriedPairs
+mod PairsInTurn
+mod TableAnswers

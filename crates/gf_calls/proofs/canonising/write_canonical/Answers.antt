@@ -1,0 +1,10 @@
+use Rattle.std.proofs.Common.{◌∙◌, Option, subst, sym}
+use Rattle.gf_canon.specs.Judgement.{IsTextBy}
+use Rattle.gf_canon.specs.declared.sameness.Names.{Names}
+use Rattle.gf_calls.specs.Written.{IsWrittenBy}
+use Rattle.gf_calls.proofs.canonising.write_canonical.Goals as goal
+
+pub returns-in-Some : goal.returns-in-Some
+returns-in-Some c = subst (λ (asked : Option Names). IsWrittenBy IsTextBy asked c.args.input.now
+    c.args.out.now c.write_text.new.out c.write_text.new.needed c.write_text.new.fault c.write_text.result)
+    (sym c.in-Some.is ∙ c.names_by.ensures) c.write_text.ensures

@@ -1,0 +1,9 @@
+use Rattle.std.proofs.Common.{◌∙◌, Option, subst, sym}
+use Rattle.gf_canon.specs.declared.sameness.Names.{Names}
+use Rattle.gf_calls.specs.Written.{IsHashBy, IsWrittenBy}
+use Rattle.gf_calls.proofs.canonising.write_hash.Goals as goal
+
+pub returns-in-Some : goal.returns-in-Some
+returns-in-Some c = subst (λ (asked : Option Names). IsWrittenBy IsHashBy asked c.args.input.now
+    c.args.out.now c.write_hash_by.new.out c.write_hash_by.new.needed c.write_hash_by.new.fault c.write_hash_by.result)
+    (sym c.in-Some.is ∙ c.names_by.ensures) c.write_hash_by.ensures

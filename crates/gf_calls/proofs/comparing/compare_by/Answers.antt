@@ -1,0 +1,10 @@
+use Rattle.gf_calls.specs.Compared.{compared}
+use Rattle.gf_calls.proofs.comparing.compare_by.Goals as goal
+
+pub returns-in-Ok : goal.returns-in-Ok
+returns-in-Ok c = compared c.in-Ok.same c.same_status.ensures
+    (record {
+      first = c.in-Ok.ensures.accepted.0;
+      second = c.in-Ok.ensures.accepted.1;
+      right = c.in-Ok.ensures.same;
+    })

@@ -1,0 +1,12 @@
+use Rattle.std.proofs.Common.{◌≡◌, ◌++◌, drop, map}
+use Rattle.gf_tree.specs.SameGame.{Carries}
+use Rattle.gf_tree.specs.FirstUse.{outcome_numbers}
+use Rattle.gf_tree.specs.Renumbering.{Renumbering}
+use Rattle.gf_calls.specs.Pairs.{outcome_pair, outcome_pairs}
+use Rattle.gf_calls.proofs.pair.push_outcomes.Given as goal
+
+abbrev pub invariant-loop-before : goal.invariant-loop-before
+invariant-loop-before l = (r : Renumbering) → Carries r l.g l.h
+    → l.pairs.items ++ map (λ number. outcome_pair number (r.outcome number))
+    (drop l.before (outcome_numbers l.g))
+    ≡ l.fn.pairs.items ++ outcome_pairs r l.g

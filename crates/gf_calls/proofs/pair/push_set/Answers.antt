@@ -1,0 +1,26 @@
+use Rattle.std.proofs.Common.{◌++◌, ◌∷◌, [], ap, sym, ◌∙◌}
+use Rattle.gf_token.specs.Positions.{at_position}
+use Rattle.gf_calls.specs.Pairs.{set_pair, set_numbers}
+use Rattle.gf_calls.specs.declared.pair.Pair.{Pair}
+use Rattle.gf_calls.proofs.CarriedPairs.{pair_of, no_pair_of, set_carried}
+use Rattle.gf_calls.proofs.pair.push_set.Goals as goal
+
+pub returns-in_default : goal.returns-in_default
+returns-in_default c = λ r carries.
+    no_pair_of (r.set c.args.player) (set_pair c.args.player)
+    (at_position (set_numbers c.args.g.now c.args.player) c.args.i)
+    (at_position (set_numbers c.args.h.now c.args.player) c.args.i)
+    (set_carried r c.args.g.now c.args.h.now c.requires carries c.args.player c.args.i)
+    (λ n m here there. absurd (cc (c.in_default.ensures', there)))
+    c.args.pairs.now.items
+
+pub returns : goal.returns
+returns c = λ r carries.
+    c.in_ok-push.ensures.items
+    ∙ ap (λ (pair : Pair). c.args.pairs.now.items ++ pair ∷ []) c.set_pair.ensures
+    ∙ pair_of (r.set c.args.player) (set_pair c.args.player)
+    (at_position (set_numbers c.args.g.now c.args.player) c.args.i)
+    (at_position (set_numbers c.args.h.now c.args.player) c.args.i)
+    (set_carried r c.args.g.now c.args.h.now c.requires carries c.args.player c.args.i)
+    c.in-Some-Some.first c.in-Some-Some.second (sym c.in-Some-Some.ensures)
+    (sym c.in-Some-Some.ensures') c.args.pairs.now.items

@@ -1,0 +1,10 @@
+use Rattle.std.proofs.Common.{◌∙◌, Option, subst, sym}
+use Rattle.gf_calls.specs.Tabled.{IsTabledBy}
+use Rattle.gf_calls.specs.declared.form.Strategies.{Strategies}
+use Rattle.gf_calls.proofs.tabling.write_table.Goals as goal
+
+pub returns-in-Some : goal.returns-in-Some
+returns-in-Some c = subst (λ (asked : Option Strategies). IsTabledBy asked c.args.input.now
+    c.args.out.now c.write_by.new.out c.write_by.new.needed c.write_by.new.profile
+    c.write_by.new.fault c.write_by.result)
+    (sym c.in-Some.is ∙ c.strategies_by.ensures) c.write_by.ensures

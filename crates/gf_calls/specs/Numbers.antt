@@ -1,0 +1,75 @@
+-- The numbers that C is told in place of what cannot cross to it.
+use Rattle.std.specs.Prelude.{◌≡◌, ℕ, Option, Some, None, nat_eq, if◌then◌else◌}
+use Rattle.gf_token.specs.Code.{code_of}
+use Rattle.gf_token.specs.declared.fault.Fault.{Fault}
+use Rattle.gf_token.specs.declared.fault.What.{What}
+use Rattle.gf_token.specs.declared.fault.What.TheVariants as what
+use Rattle.gf_token.specs.declared.fault.Why.{Why}
+use Rattle.gf_token.specs.declared.fault.Why.TheVariants as why
+use Rattle.gf_canon.specs.declared.format.Format.{Format}
+use Rattle.gf_canon.specs.declared.format.Format.TheVariants as format
+use Rattle.gf_canon.specs.declared.sameness.Names.{Names}
+use Rattle.gf_canon.specs.declared.sameness.Names.TheVariants as names
+use Rattle.gf_calls.specs.declared.fault.FaultNumbers.{FaultNumbers}
+use Rattle.gf_calls.specs.declared.form.Strategies.{Strategies}
+use Rattle.gf_calls.specs.declared.form.Strategies.TheVariants as strategies
+use Rattle.gf_calls.specs.declared.status.Status.{Status}
+use Rattle.gf_calls.specs.declared.status.Status.TheVariants as status
+
+-- the number of what a call answers; 4 is no call's, since in the program it is a failed file's
+abbrev pub status_number : Status → ℕ
+status_number status.Done = 0
+status_number status.Different = 1
+status_number status.Refused = 2
+status_number status.Misuse = 3
+status_number status.OutOfMemory = 5
+status_number status.TooManyProfiles = 6
+status_number status.Overflow = 7
+status_number status.TooSmall = 8
+
+-- a call returned the number of a status of which this holds
+abbrev pub Answers : ℕ → (Status → Type 0) → Type 0
+Answers result Is = (status : Status) × (result ≡ status_number status) × Is status
+
+-- the number of a format; 0 is none's
+abbrev pub kind_number : Format → ℕ
+kind_number format.Extensive = 1
+kind_number format.Strategic = 2
+
+-- what a file was to go on with; 0 is none's
+abbrev pub what_number : What → ℕ
+what_number what.Format = 1
+what_number what.Version = 2
+what_number what.Letter = 3
+what_number what.Text = 4
+what_number what.Opening = 5
+what_number what.Closing = 6
+what_number what.Number = 7
+what_number what.Index = 8
+what_number what.Strategies = 9
+what_number what.Node = 10
+what_number what.End = 11
+
+-- of an E3, what was expected
+abbrev pub expected_number : Why → ℕ
+expected_number (why.Expected what) = what_number what
+expected_number _ = 0
+
+-- a refusal, its place, and what was expected
+abbrev pub fault_numbers : Fault → FaultNumbers
+fault_numbers fault = record {
+  code = code_of fault.why;
+  expected = expected_number fault.why;
+  start = fault.span.start;
+  end = fault.span.end;
+}
+
+-- the names that count, by a call's flags
+abbrev pub names_by : ℕ → Option Names
+names_by flags = if nat_eq flags 0 then Some names.Kept
+    else if nat_eq flags 1 then Some names.Aside else None
+
+-- the strategies of a table, by a call's flags
+abbrev pub strategies_by : ℕ → Option Strategies
+strategies_by flags = if nat_eq flags 0 then Some strategies.Pure
+    else if nat_eq flags 2 then Some strategies.Reduced else None

@@ -1,0 +1,22 @@
+-- What C is told of a file that is refused.
+use Rattle.std.specs.Prelude.{◌≡◌, ℕ, List}
+use Rattle.gf_token.specs.declared.fault.Fault.{Fault}
+use Rattle.gf_token.specs.declared.fault.Why.{Why}
+use Rattle.gf_token.specs.declared.fault.Why.TheVariants as why
+use Rattle.gf_canon.specs.Judgement.{IsRefusedWith}
+use Rattle.gf_calls.specs.Numbers.{fault_numbers}
+use Rattle.gf_calls.specs.declared.fault.FaultNumbers.{FaultNumbers}
+use Rattle.gf_calls.specs.declared.status.Status.{Status}
+use Rattle.gf_calls.specs.declared.status.Status.TheVariants.{Refused, OutOfMemory}
+
+-- out of memory is no fault of the file
+abbrev pub refusal_status : Why → Status
+refusal_status why.Memory = OutOfMemory
+refusal_status _ = Refused
+
+-- the bytes are refused, and these are the status of the refusal and its numbers
+pub record IsRefusedAs (bytes : List ℕ) (status : Status) (numbers : FaultNumbers) : Type 0 where
+  pub fault : Fault
+  pub refused : IsRefusedWith bytes fault
+  pub is_status : status ≡ refusal_status fault.why
+  pub are_numbers : numbers ≡ fault_numbers fault

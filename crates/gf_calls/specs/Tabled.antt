@@ -1,0 +1,111 @@
+-- What a call tells C that writes a file as a table.
+use Rattle.std.specs.Prelude.{◌≡◌, ◌≤◌, ℕ, List, Option, Some, None, length}
+use Rattle.std.specs.List.{Contains}
+use Rattle.gf_nfg.specs.Table.{Table}
+use Rattle.gf_nfg.specs.TableText.{table_text}
+use Rattle.gf_tree.specs.Game.{Game}
+use Rattle.gf_canon.specs.GameFile.{GameFile}
+use Rattle.gf_canon.specs.GameFile.GameFile.{extensive, strategic}
+use Rattle.gf_canon.specs.Judgement.{MeansFile, SpellsWithin}
+use Rattle.gf_form.specs.Reduced.{IsReducedForm, reduced_profiles}
+use Rattle.gf_form.specs.Refusal.{HasReducedValues, HasTooManyProfiles, HasValues}
+use Rattle.gf_form.specs.Refusal.{OverflowsAt, ReducedOverflowsAt}
+use Rattle.gf_form.specs.StrategicForm.{IsStrategicForm}
+use Rattle.gf_form.specs.Strategies.{full_profiles}
+use Rattle.gf_form.specs.declared.fault.FormFault.{FormFault}
+use Rattle.gf_form.specs.declared.fault.FormFault.TheVariants as form
+use Rattle.gf_calls.specs.Handed.{IsHandedOut}
+use Rattle.gf_calls.specs.Refused.{IsRefusedAs}
+use Rattle.gf_calls.specs.declared.fault.FaultNumbers.{FaultNumbers}
+use Rattle.gf_calls.specs.declared.form.Strategies.{Strategies}
+use Rattle.gf_calls.specs.declared.form.Strategies.TheVariants.{Pure, Reduced}
+use Rattle.gf_calls.specs.declared.status.Status.{Status}
+use Rattle.gf_calls.specs.declared.status.Status.TheVariants.{Misuse, OutOfMemory}
+use Rattle.gf_calls.specs.declared.status.Status.TheVariants.{Overflow, TooManyProfiles}
+
+-- as many players as a table is made for
+abbrev pub HasFewPlayers : Game → Type 0
+HasFewPlayers g = length g.players ≤ 4294967295
+
+-- the form of a game by its pure or by its reduced strategies
+abbrev pub IsFormBy : Strategies → Game → Table → Type 0
+IsFormBy Pure g t = IsStrategicForm g t
+IsFormBy Reduced g t = IsReducedForm g t
+
+-- each player has a bottom-up value at each profile
+abbrev pub HasValuesBy : Strategies → Game → Type 0
+HasValuesBy Pure g = (profile : List ℕ) → Contains (full_profiles g) profile → HasValues g profile
+HasValuesBy Reduced g =
+    (profile : List ℕ) → Contains (reduced_profiles g) profile → HasReducedValues g profile
+
+-- the first profile of these at which not each player has one
+abbrev pub OverflowsBy : Strategies → Game → ℕ → Type 0
+OverflowsBy Pure g profile = OverflowsAt g profile
+OverflowsBy Reduced g profile = ReducedOverflowsAt g profile
+
+-- the form of a game, and that nothing stands against it
+pub record IsFormOf (strategies : Strategies) (g : Game) (t : Table) : Type 0 where
+  pub form : IsFormBy strategies g t
+  pub few : ¬ (HasTooManyProfiles g)
+  pub values : HasValuesBy strategies g
+
+-- why no table is made of a game
+abbrev pub IsWithoutForm : Strategies → Game → FormFault → Type 0
+IsWithoutForm strategies g form.TooManyProfiles = HasTooManyProfiles g
+IsWithoutForm strategies g (form.Overflow profile) =
+    ¬ (HasTooManyProfiles g) × OverflowsBy strategies g profile
+IsWithoutForm strategies g form.Memory = Unit {0}
+
+-- the table of a file: that of a game is its form, and a table is its own
+abbrev pub IsTableOf : Strategies → GameFile → Table → Type 0
+IsTableOf strategies (extensive g) t = IsFormOf strategies g t
+IsTableOf strategies (strategic s) t = t ≡ s
+
+-- the bytes mean a file, and this is the canonical text of its table
+pub record IsTableText (strategies : Strategies) (bytes text : List ℕ) : Type 0 where
+  pub file : GameFile
+  pub spelled : SpellsWithin bytes file
+  pub table : Table
+  pub is_table : IsTableOf strategies file table
+  pub is_text : text ≡ table_text table
+
+-- what C is told where a game has no table
+abbrev pub form_status : FormFault → Status
+form_status form.TooManyProfiles = TooManyProfiles
+form_status (form.Overflow profile) = Overflow
+form_status form.Memory = OutOfMemory
+
+-- the number of the profile that overflows, and else no number
+abbrev pub IsProfileOf : FormFault → ℕ → Type 0
+IsProfileOf (form.Overflow at) profile = profile ≡ at
+IsProfileOf _ profile = Unit {0}
+
+-- the text of a table is handed out, or memory ran out
+pub data IsMadeText (t : Table) (old new : List ℕ) (needed : ℕ) (status : Status) : Type 0 where
+  made : IsHandedOut (table_text t) old new needed status → IsMadeText t old new needed status
+  not_made : status ≡ OutOfMemory → new ≡ old → IsMadeText t old new needed status
+
+-- The text of the table is handed out; or the bytes are refused; or they mean a game that has no
+-- table, or more players than one is made for; or memory ran out although they were right.
+pub data IsTabled (strategies : Strategies) (bytes old new : List ℕ) (needed profile : ℕ)
+    (numbers : FaultNumbers) (status : Status) : Type 0 where
+  written : (text : List ℕ) → IsTableText strategies bytes text
+      → IsHandedOut text old new needed status
+      → IsTabled strategies bytes old new needed profile numbers status
+  refused : IsRefusedAs bytes status numbers → new ≡ old
+      → IsTabled strategies bytes old new needed profile numbers status
+  without_form : (g : Game) → SpellsWithin bytes (extensive g) → (fault : FormFault)
+      → IsWithoutForm strategies g fault → status ≡ form_status fault → IsProfileOf fault profile
+      → new ≡ old → IsTabled strategies bytes old new needed profile numbers status
+  too_many_players : (g : Game) → SpellsWithin bytes (extensive g) → ¬ (HasFewPlayers g)
+      → status ≡ Misuse → new ≡ old
+      → IsTabled strategies bytes old new needed profile numbers status
+  out_of_memory : status ≡ OutOfMemory → MeansFile bytes → new ≡ old
+      → IsTabled strategies bytes old new needed profile numbers status
+
+-- the same, by the strategies that the flags tell; other flags are not understood
+abbrev pub IsTabledBy : Option Strategies → List ℕ → List ℕ → List ℕ → ℕ → ℕ → FaultNumbers
+    → Status → Type 0
+IsTabledBy (Some strategies) bytes old new needed profile numbers status =
+    IsTabled strategies bytes old new needed profile numbers status
+IsTabledBy None bytes old new needed profile numbers status = (status ≡ Misuse) × (new ≡ old)

@@ -1,0 +1,34 @@
+-- What a call tells C that writes the canonical text of a file, or its hash.
+use Rattle.std.specs.Prelude.{◌≡◌, ℕ, List, Option, Some, None}
+use Rattle.hex.specs.Hex.{encode_lower}
+use Rattle.sha2.specs.Sha256.{sha256}
+use Rattle.gf_canon.specs.Judgement.{IsTextBy, MeansFile}
+use Rattle.gf_canon.specs.declared.sameness.Names.{Names}
+use Rattle.gf_calls.specs.Handed.{IsHandedOut}
+use Rattle.gf_calls.specs.Refused.{IsRefusedAs}
+use Rattle.gf_calls.specs.declared.fault.FaultNumbers.{FaultNumbers}
+use Rattle.gf_calls.specs.declared.status.Status.{Status}
+use Rattle.gf_calls.specs.declared.status.Status.TheVariants.{Misuse, OutOfMemory}
+
+-- the SHA-256 digest of the file's canonical text, in hexadecimal digits
+pub record IsHashBy (names : Names) (bytes hash : List ℕ) : Type 0 where
+  pub text : List ℕ
+  pub is_text : IsTextBy names bytes text
+  pub is_digest : hash ≡ encode_lower (sha256 text)
+
+-- A text of the bytes is handed out, or they are refused; or memory ran out although they were right.
+pub data IsWritten (IsText : List ℕ → Type 0) (bytes old new : List ℕ) (needed : ℕ)
+    (numbers : FaultNumbers) (status : Status) : Type 0 where
+  written : (text : List ℕ) → IsText text → IsHandedOut text old new needed status
+      → IsWritten IsText bytes old new needed numbers status
+  refused : IsRefusedAs bytes status numbers → new ≡ old
+      → IsWritten IsText bytes old new needed numbers status
+  out_of_memory : status ≡ OutOfMemory → MeansFile bytes → new ≡ old
+      → IsWritten IsText bytes old new needed numbers status
+
+-- the same, by the names that the flags tell; other flags are not understood
+abbrev pub IsWrittenBy : (Names → List ℕ → List ℕ → Type 0) → Option Names → List ℕ → List ℕ
+    → List ℕ → ℕ → FaultNumbers → Status → Type 0
+IsWrittenBy IsText (Some names) bytes old new needed numbers status =
+    IsWritten (IsText names bytes) bytes old new needed numbers status
+IsWrittenBy IsText None bytes old new needed numbers status = (status ≡ Misuse) × (new ≡ old)

@@ -1,0 +1,98 @@
+//! The canonical text of a file, and its hash.
+
+ghost use Rattle.std.specs.Prelude.{◌≡◌, IfOk};
+ghost use Rattle.std.specs.String.{string_bytes};
+ghost use Rattle.hex.specs.Hex.{encode_lower};
+ghost use Rattle.sha2.specs.Sha256.{sha256};
+ghost use Rattle.gf_canon.specs.Judgement.{IsTextBy};
+ghost use Rattle.gf_calls.specs.Numbers.{names_by};
+ghost use Rattle.gf_calls.specs.Written.{IsHashBy, IsWritten, IsWrittenBy};
+
+use crate::fault::{FaultNumbers, tell};
+use crate::flags::names_by;
+use crate::handing::hand_out;
+use crate::status::Status;
+use gf_canon::{Names, canonical_by};
+use sha2::{Digest, Sha256};
+use std::alloc::{AllocError, Global};
+
+fn write_text(
+    alloc: Global,
+    input: &[u8],
+    names: Names,
+    out: &mut [u8],
+    needed: &mut usize,
+    fault: &mut FaultNumbers,
+) -> Status
+    ensures { IsWritten (IsTextBy names input.now) input.now out.old out.new needed.new fault.new
+        result }
+{
+    match canonical_by(alloc, input, names) {
+        Ok(text) => hand_out(&text, out, needed),
+        Err(refusal) => tell(refusal, fault),
+    }
+}
+
+/// Writes the canonical text of a file by the names that the flags tell.
+pub fn write_canonical(
+    alloc: Global,
+    input: &[u8],
+    flags: u32,
+    out: &mut [u8],
+    needed: &mut usize,
+    fault: &mut FaultNumbers,
+) -> Status
+    ensures { IsWrittenBy IsTextBy (names_by flags) input.now out.old out.new needed.new fault.new
+        result }
+{
+    match names_by(flags) {
+        Some(names) => write_text(alloc, input, names, out, needed, fault),
+        None => Status::Misuse,
+    }
+}
+
+/// The digest of a text in hexadecimal digits.
+fn hash_of(alloc: Global, text: &[u8]) -> Result<String, AllocError>
+    ensures { IfOk result (λ hash. string_bytes hash ≡ encode_lower (sha256 text.now)) }
+{
+    hex::encode(alloc, Sha256::digest(text))
+}
+
+fn write_hash_by(
+    alloc: Global,
+    input: &[u8],
+    names: Names,
+    out: &mut [u8],
+    needed: &mut usize,
+    fault: &mut FaultNumbers,
+) -> Status
+    ensures { IsWritten (IsHashBy names input.now) input.now out.old out.new needed.new fault.new
+        result }
+{
+    let text = match canonical_by(alloc, input, names) {
+        Ok(text) => text,
+        Err(refusal) => return tell(refusal, fault),
+    };
+    match hash_of(alloc, &text) {
+        Ok(hash) => hand_out(hash.as_bytes(), out, needed),
+        Err(_) => Status::OutOfMemory,
+    }
+}
+
+/// Writes the hash of a file by the names that the flags tell.
+pub fn write_hash(
+    alloc: Global,
+    input: &[u8],
+    flags: u32,
+    out: &mut [u8],
+    needed: &mut usize,
+    fault: &mut FaultNumbers,
+) -> Status
+    ensures { IsWrittenBy IsHashBy (names_by flags) input.now out.old out.new needed.new fault.new
+        result }
+{
+    match names_by(flags) {
+        Some(names) => write_hash_by(alloc, input, names, out, needed, fault),
+        None => Status::Misuse,
+    }
+}

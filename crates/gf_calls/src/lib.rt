@@ -1,0 +1,26 @@
+//! What a C program is answered: checks, canonical texts and their hashes, tables, comparisons and
+//! renumberings of game files, in numbers and in buffers of the caller. Each call hands on a call of
+//! gf_canon or gf_form, with its clauses; gamefile_c exports them.
+#![tactic(auto)]
+
+mod canonising;
+mod checking;
+mod comparing;
+mod fault;
+mod flags;
+mod form;
+mod handing;
+mod pair;
+mod pairing;
+mod status;
+mod tabling;
+
+pub use canonising::{write_canonical, write_hash};
+pub use checking::check_file;
+pub use comparing::compare;
+pub use fault::FaultNumbers;
+pub use form::Strategies;
+pub use pair::Pair;
+pub use pairing::write_renumbering;
+pub use status::Status;
+pub use tabling::write_table;

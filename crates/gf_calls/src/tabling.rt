@@ -1,0 +1,131 @@
+//! A file as a table.
+
+ghost use Rattle.std.specs.Prelude.{◌≡◌, ℕ, IfOk, List};
+ghost use Rattle.gf_nfg.specs.TableText.{table_text};
+ghost use Rattle.gf_canon.specs.GameFile.GameFile.{extensive};
+ghost use Rattle.gf_canon.specs.Judgement.{SpellsWithin};
+ghost use Rattle.gf_canon.specs.MeaningOf.{file_of};
+ghost use Rattle.gf_calls.specs.Numbers.{strategies_by};
+ghost use Rattle.gf_calls.specs.Tabled.{IsMadeText, IsProfileOf, IsTabled};
+ghost use Rattle.gf_calls.specs.Tabled.{IsTabledBy, form_status};
+
+use crate::fault::{FaultNumbers, tell};
+use crate::flags::strategies_by;
+use crate::form::{Strategies, form_of};
+use crate::handing::hand_out;
+use crate::status::Status;
+use gf_canon::{Meaning, read_file};
+use gf_form::FormFault;
+use gf_nfg::{Table, write_nfg};
+use gf_tree::Game;
+use std::alloc::{AllocError, Global};
+
+/// As many players as a table is made for.
+const MOST_PLAYERS: usize = 4294967295;
+
+/// The canonical text of a table.
+fn text_of(alloc: Global, table: &Table) -> Result<Vec<u8>, AllocError>
+    ensures { IfOk result (λ text. text.items ≡ table_text table.now) }
+{
+    let mut text = Vec::new(alloc);
+    write_nfg(table, &mut text)?;
+    Ok(text)
+}
+
+/// Tells why a game has no table.
+fn tell_form(fault: FormFault, profile: &mut u64) -> Status
+    ensures status { result ≡ form_status fault }
+    ensures profile { IsProfileOf fault profile.new }
+{
+    match fault {
+        FormFault::TooManyProfiles => Status::TooManyProfiles,
+        FormFault::Overflow { profile: at } => {
+            *profile = u64::from(at);
+            Status::Overflow
+        }
+        FormFault::Memory => Status::OutOfMemory,
+    }
+}
+
+/// Writes the text of a table that was made.
+fn write_made(alloc: Global, table: &Table, out: &mut [u8], needed: &mut usize) -> Status
+    ensures { IsMadeText table.now out.old out.new needed.new result }
+{
+    match text_of(alloc, table) {
+        Ok(text) => hand_out(&text, out, needed),
+        Err(_) => Status::OutOfMemory,
+    }
+}
+
+fn write_form(
+    alloc: Global,
+    game: &Game<'_>,
+    strategies: Strategies,
+    out: &mut [u8],
+    needed: &mut usize,
+    profile: &mut u64,
+) -> Status
+    ensures { (bytes : List ℕ) (numbers : FaultNumbers) → SpellsWithin bytes (extensive game.now)
+        → IsTabled strategies bytes out.old out.new needed.new profile.new numbers result }
+{
+    if game.players().len() > MOST_PLAYERS {
+        return Status::Misuse;
+    }
+    match form_of(alloc, game, strategies) {
+        Ok(table) => write_made(alloc, &table, out, needed),
+        Err(fault) => tell_form(fault, profile),
+    }
+}
+
+fn write_meaning(
+    alloc: Global,
+    meaning: &Meaning<'_>,
+    strategies: Strategies,
+    out: &mut [u8],
+    needed: &mut usize,
+    profile: &mut u64,
+) -> Status
+    ensures { (bytes : List ℕ) (numbers : FaultNumbers) → SpellsWithin bytes (file_of meaning.now)
+        → IsTabled strategies bytes out.old out.new needed.new profile.new numbers result }
+{
+    match meaning {
+        Meaning::Tree(game) => write_form(alloc, game, strategies, out, needed, profile),
+        Meaning::Table(table) => write_made(alloc, table, out, needed),
+    }
+}
+
+fn write_by(
+    alloc: Global,
+    input: &[u8],
+    strategies: Strategies,
+    out: &mut [u8],
+    needed: &mut usize,
+    fault: &mut FaultNumbers,
+    profile: &mut u64,
+) -> Status
+    ensures { IsTabled strategies input.now out.old out.new needed.new profile.new fault.new result }
+{
+    match read_file(alloc, input) {
+        Ok(meaning) => write_meaning(alloc, &meaning, strategies, out, needed, profile),
+        Err(refusal) => tell(refusal, fault),
+    }
+}
+
+/// Writes a file as a table by the strategies that the flags tell.
+pub fn write_table(
+    alloc: Global,
+    input: &[u8],
+    flags: u32,
+    out: &mut [u8],
+    needed: &mut usize,
+    fault: &mut FaultNumbers,
+    profile: &mut u64,
+) -> Status
+    ensures { IsTabledBy (strategies_by flags) input.now out.old out.new needed.new profile.new
+        fault.new result }
+{
+    match strategies_by(flags) {
+        Some(strategies) => write_by(alloc, input, strategies, out, needed, fault, profile),
+        None => Status::Misuse,
+    }
+}
