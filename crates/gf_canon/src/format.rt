@@ -7,7 +7,7 @@ ghost use Rattle.gf_canon.specs.Judgement.{BeginsWithWord, IsWithoutFormat};
 use gf_token::{Fault, Tokens, What, Why};
 
 /// The format of a game file.
-#[derive(Clone, Copy, Debug, PartialEq, Eq)]
+#[derive(Clone, Copy, PartialEq, Eq)]
 pub enum Format {
     /// `EFG`: the file holds a tree.
     Extensive,

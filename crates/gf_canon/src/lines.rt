@@ -15,7 +15,7 @@ use gf_tree::{FileNode, NodeByFirstUse, Receive, ToldHeading};
 use std::alloc::{AllocError, Global};
 
 /// The text of a file that is being told.
-#[derive(Debug, Drop)]
+#[derive(Drop)]
 pub(crate) struct Lines {
     pub(crate) text: Vec<u8>,
     /// How many bytes the text is likely to have.

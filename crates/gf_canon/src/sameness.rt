@@ -22,7 +22,7 @@ use gf_tree::ListedGame;
 use std::alloc::{AllocError, Global};
 
 /// Why two files are not compared.
-#[derive(Clone, Copy, Debug, PartialEq, Eq)]
+#[derive(Clone, Copy, PartialEq, Eq)]
 pub enum SameFault {
     /// The first file is refused so.
     First(Fault),
@@ -90,13 +90,19 @@ fn same_as_tree(alloc: Global, g: &ListedGame<'_>, b: &[u8], names: Names) -> Re
 }
 
 /// Whether a file that was read means the same as a table.
-fn is_same_table(alloc: Global, t: &Table, b: &Listed<'_>, names: Names) -> Result<bool, AllocError>
-    ensures { IfOk result (λ answer.
+///
+/// `Memory`: memory to compare two tables is refused.
+fn is_same_table(alloc: Global, t: &Table, b: &Listed<'_>, names: Names) -> Result<bool, SameFault>
+    ensures same { IfOk result (λ answer.
         IsTrue answer ↔ SameBy names (strategic t.now) (file_of_listed b.now)) }
+    ensures memory { IfErr result (λ fault. fault ≡ SameFault.Memory) }
 {
     match b {
         Listed::Tree(_) => Ok(false),
-        Listed::Table(u) => same_tables(alloc, t, u, names),
+        Listed::Table(u) => match same_tables(alloc, t, u, names) {
+            Ok(same) => Ok(same),
+            Err(_) => Err(SameFault::Memory),
+        },
     }
 }
 
@@ -110,13 +116,9 @@ fn same_as_table(alloc: Global, t: &Table, b: &[u8], names: Names) -> Result<boo
     ensures refused { IfErr result (λ fault.
         (a : List ℕ) → MeansFile a → AreRefusedWith a b.now fault) }
 {
-    let second = match list_file(alloc, b) {
-        Ok(second) => second,
-        Err(fault) => return Err(SameFault::Second(fault)),
-    };
-    match is_same_table(alloc, t, &second, names) {
-        Ok(same) => Ok(same),
-        Err(_) => Err(SameFault::Memory),
+    match list_file(alloc, b) {
+        Ok(second) => is_same_table(alloc, t, &second, names),
+        Err(refused) => Err(SameFault::Second(refused)),
     }
 }
 
