@@ -30,26 +30,22 @@ use Rattle.gf_tree.proofs.FrontCodes.{BeginsBare, none_or_some}
 abbrev IsOrNot : (A : Type 0) → (A → Type 0) → Type 0
 IsOrNot A P = ((x : A) × P x) ⊎ ((x : A) → ¬ (P x))
 
+decided : {D : Type 0} (Knows : D → Type 0) (o : Option D)
+    → ((d : D) → (Knows d → o ≡ Some d) × (o ≡ Some d → Knows d)) → IsOrNot D Knows
+decided Knows None h = inr (λ d k. none_or_some None d refl ((h d).0 k))
+decided Knows (Some d) h = inl (d, (h d).1 refl)
+
 set_known : (f : FileFront) (key : SetKey) → BeginsBare f.front
     → IsOrNot InformationSet (λ d. KnowsSet f.nodes key d)
-set_known f key bare = by (description_at same_set (parts f bare).content.sets key) refl
-  where
-    by : (o : Option InformationSet)
-        → description_at same_set (parts f bare).content.sets key ≡ o
-        → IsOrNot InformationSet (λ d. KnowsSet f.nodes key d)
-    by None e = inr (λ d k. none_or_some (description_at same_set (parts f bare).content.sets key) d e
-        (((parts f bare).sets key d).0 k))
-    by (Some d) e = inl (d, ((parts f bare).sets key d).1 e)
+set_known f key bare =
+    let s = parts f bare in
+    decided (KnowsSet f.nodes key) (description_at same_set s.content.sets key) (s.sets key)
 
 outcome_known : (f : FileFront) (n : ℕ) → BeginsBare f.front
     → IsOrNot Outcome (λ d. KnowsOutcome f.nodes n d)
-outcome_known f n bare = by (description_at nat_eq (parts f bare).content.outcomes n) refl
-  where
-    by : (o : Option Outcome) → description_at nat_eq (parts f bare).content.outcomes n ≡ o
-        → IsOrNot Outcome (λ d. KnowsOutcome f.nodes n d)
-    by None e = inr (λ d k. none_or_some (description_at nat_eq (parts f bare).content.outcomes n) d e
-        (((parts f bare).outcomes n d).0 k))
-    by (Some d) e = inl (d, ((parts f bare).outcomes n d).1 e)
+outcome_known f n bare =
+    let s = parts f bare in
+    decided (KnowsOutcome f.nodes n) (description_at nat_eq s.content.outcomes n) (s.outcomes n)
 
 -- a description in the node is one, and that of the same key before, if it is known
 abbrev pub IsSetHere : FileFront → SetKey → InformationSet → Type 0

@@ -38,7 +38,7 @@ use Rattle.gf_tree.proofs.DueRows.{Stands, Answers, Law, stands_by}
 use Rattle.gf_tree.proofs.FrontCodes.{begins_actions, begins_probability, none_or_some}
 use Rattle.gf_tree.proofs.FrontCodes.{one_description}
 use Rattle.gf_tree.proofs.FrontLists.{to_probability}
-use Rattle.gf_tree.proofs.FrontRefusals.{known_left}
+use Rattle.gf_tree.proofs.FrontCodes.{known_left}
 use Rattle.gf_tree.proofs.FrontRuns.{in_actions}
 use Rattle.gf_tree.proofs.FrontShares.{same_sum}
 use Rattle.gf_tree.proofs.RunShares.{share_again, share_found}

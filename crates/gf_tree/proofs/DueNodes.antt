@@ -232,42 +232,31 @@ known_opening_law : (c : Content) (b : Begun) (actions : _)
 known_opening_law c b actions Opening = tt
 known_opening_law c b actions _ = (λ a. a, refl)
 
-record Opens (q : Position) (c : Content) (label : List ℕ) : Type 0 where
-  next : Position
-  answers : (us : List Token) → run_tokens q c (Text label ∷ us) ≡ run_tokens next c us
-  law : Law next c an_opening
-  end : EndLaw next c an_opening
-
-opens_by : (c r : Content) (name label : List ℕ) (key : SetKey) (o : Option InformationSet)
-    (more : List Token) → Reads (behind_set name key o) c (Text label ∷ more) r
-    → Opens (behind_set name key o) c label
-opens_by c r name label key None more e = record {
-  next = NewSetOpening name key label;
-  answers = λ us. refl;
-  law = new_opening_law c name key label;
-  end = (λ a. a, refl);
-}
-opens_by c r name label key (Some set) more e =
-    let after = at (KnownSetOpening (begun name key set) set.actions) c in
-    let same = (text_found set.name label after more r e).0 in
-    record {
-      next = KnownSetOpening (begun name key set) set.actions;
-      answers = λ us.
-          ap (λ (l : List ℕ). then_run (same_text set.name l after) (run_on us)) same
-          ∙ ap (λ o. then_run o (run_on us)) (text_again set.name after);
-      law = known_opening_law c (begun name key set) set.actions;
-      end = (λ a. a, refl);
-    }
+opening_by : (f : FileFront) (s : Parts f) (name label : List ℕ) (key : SetKey)
+    (o : Option InformationSet) → ((us : List Token)
+    → run_tokens NodeDue s.content (f.front ++ us)
+    ≡ run_tokens (behind_set name key o) s.content (Text label ∷ us)) → Stands f.before an_opening
+opening_by f s name label key None answers =
+    stands_in f s (NewSetOpening name key label) s.content an_opening answers
+    (new_opening_law s.content name key label) (λ a. a, refl)
+opening_by f s name label key (Some set) answers =
+    let c = s.content in
+    let g = s.goes_on in
+    let next = KnownSetOpening (begun name key set) set.actions in
+    let same = (text_found set.name label (at next c) g.more g.read
+    (sym (answers g.more) ∙ g.reads)).0 in
+    stands_in f s next c an_opening (λ us. answers us
+    ∙ ap (λ (l : List ℕ). then_run (same_text set.name l (at next c)) (run_on us)) same
+    ∙ ap (λ o. then_run o (run_on us)) (text_again set.name (at next c)))
+    (known_opening_law c (begun name key set) set.actions) (λ a. a, refl)
 
 pub set_opening : (f : FileFront) (key : SetKey) → BehindSetName f.front key
     → Stands f.before an_opening
 set_opening f key h =
     let s = parts f (begins_on f.front h.0 (Text h.1 ∷ []) (begins_number h.0 key h.2) h.3) in
     let c = s.content in
-    let g = s.goes_on in
-    let k = behind_number h.0 key c h.2 (goes_before c f.front h.0 (Text h.1 ∷ []) g h.3) in
-    let first = λ (us : List Token). ap (run_tokens NodeDue c)
-    (regroup f.front h.0 (Text h.1 ∷ []) us h.3) ∙ k.answers (Text h.1 ∷ us) in
-    let o = opens_by c g.read k.name h.1 key (description_at same_set c.sets key) g.more
-    (sym (first g.more) ∙ g.reads) in
-    stands_in f s o.next c an_opening (λ us. first us ∙ o.answers us) o.law o.end
+    let k = behind_number h.0 key c h.2
+    (goes_before c f.front h.0 (Text h.1 ∷ []) s.goes_on h.3) in
+    opening_by f s k.name h.1 key (description_at same_set c.sets key)
+    (λ us. ap (run_tokens NodeDue c) (regroup f.front h.0 (Text h.1 ∷ []) us h.3)
+    ∙ k.answers (Text h.1 ∷ us))

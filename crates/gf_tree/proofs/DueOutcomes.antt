@@ -23,8 +23,8 @@ use Rattle.gf_tree.proofs.DueLaws.{after_last_node, node_by, node_due}
 use Rattle.gf_tree.proofs.DueNodes.{Parts, name_by, named_bare, stands_in, outcome_by, parts}
 use Rattle.gf_tree.proofs.DueRows.{Stands, Answers, Law}
 use Rattle.gf_tree.proofs.FrontCodes.{BeginsBare, begins_on, begins_outcome, new_is}
-use Rattle.gf_tree.proofs.FrontLists.{behind_outcome_number, known_step_of, to_outcome, to_told}
-use Rattle.gf_tree.proofs.FrontRuns.{GoesOn, goes_before}
+use Rattle.gf_tree.proofs.FrontLists.{behind_outcome_number, to_outcome, to_told}
+use Rattle.gf_tree.proofs.FrontRuns.{goes_before}
 use Rattle.gf_tree.proofs.Groups.{regroup}
 use Rattle.gf_tree.proofs.RunTokens.{run_on, text_again, text_found}
 
@@ -76,8 +76,7 @@ after_zero f h =
     let s = parts f (zero_front f h) in
     let c = s.content in
     let g = s.goes_on in
-    let o = to_outcome h.0 h.1 c h.3 (known_step_of h.0 h.1 c h.2 f.front h.3 h.5 g)
-    (goes_before c f.front h.0 (Bare h.2 ∷ []) g h.5) in
+    let o = to_outcome h.0 f.front h.2 h.5 c g h.1 h.3 in
     behind_node f s (with_node o.content o.b None) (o.players ∙ s.same_players)
     (λ us. ap (run_tokens NodeDue c) (regroup f.front h.0 (Bare h.2 ∷ []) us h.5)
     ∙ o.answers h.2 us
@@ -151,61 +150,6 @@ known_outcome f n outcome h knows =
 
 -- ---- the opening brace
 
--- where the outcome is new, and where it is known
-pub record NewOpening (c : Content) (front : List Token) (n : ℕ) : Type 0 where
-  pub b : Begun
-  pub label : List ℕ
-  pub content : Content
-  pub players : content.players ≡ c.players
-  pub unknown : description_at nat_eq c.outcomes n ≡ None
-  pub answers : (us : List Token) → run_tokens NodeDue c (front ++ us)
-      ≡ run_tokens (NewOutcomeOpening b n label) content us
-
-pub record KnownOpening (c : Content) (front : List Token) (n : ℕ) : Type 0 where
-  pub content : Content
-  pub players : content.players ≡ c.players
-  pub known : Outcome
-  pub is_known : description_at nat_eq c.outcomes n ≡ Some known
-  pub answers : (us : List Token) → run_tokens NodeDue c (front ++ us)
-      ≡ run_tokens (KnownOutcomeOpening known.payoffs) content us
-
-named_by : (front : List Token) (n : ℕ) (c : Content) (name : List ℕ) (b : Begun)
-    (content : Content) (g : GoesOn c front) (o : Option Outcome)
-    → description_at nat_eq c.outcomes n ≡ o → content.players ≡ c.players
-    → ((us : List Token) → run_tokens NodeDue c (front ++ us)
-    ≡ run_on (Text name ∷ us) (behind_outcome content b n o))
-    → NewOpening c front n ⊎ KnownOpening c front n
-named_by front n c name b content g None unknown players answers = inl (record {
-  b = b;
-  label = name;
-  content = content;
-  players = players;
-  unknown = unknown;
-  answers = answers;
-})
-named_by front n c name b content g (Some known) is_known players answers =
-    let d = with_node content b (Some n) in
-    let after = at (KnownOutcomeOpening known.payoffs) d in
-    let same = (text_found known.name name after g.more g.read (sym (answers g.more) ∙ g.reads)).0
-    in
-    inr (record {
-      content = d;
-      players = players;
-      known = known;
-      is_known = is_known;
-      answers = λ us. answers us
-          ∙ ap (λ (l : List ℕ). then_run (same_text known.name l after) (run_on us)) same
-          ∙ ap (λ o. then_run o (run_on us)) (text_again known.name after);
-    })
-
-pub behind_name : (front : List Token) (n : ℕ) (c : Content) → BehindOutcomeName front n
-    → GoesOn c front → NewOpening c front n ⊎ KnownOpening c front n
-behind_name front n c h g =
-    let k = behind_outcome_number h.0 n c h.2 (goes_before c front h.0 (Text h.1 ∷ []) g h.3) in
-    named_by front n c h.1 k.b k.content g (description_at nat_eq c.outcomes n) refl k.players
-    (λ us. ap (run_tokens NodeDue c) (regroup front h.0 (Text h.1 ∷ []) us h.3)
-    ∙ k.answers (Text h.1 ∷ us))
-
 new_opening_law : (c : Content) (b : Begun) (n : ℕ) (label : List ℕ)
     → Law (NewOutcomeOpening b n label) c an_opening
 new_opening_law c b n label Opening = tt
@@ -215,17 +159,30 @@ known_opening_law : (c : Content) (ps : List Ratio) → Law (KnownOutcomeOpening
 known_opening_law c ps Opening = tt
 known_opening_law c ps _ = (λ a. a, refl)
 
-pub begins_name : (front : List Token) (n : ℕ) → BehindOutcomeName front n → BeginsBare front
-begins_name front n h =
-    begins_on front h.0 (Text h.1 ∷ []) (begins_outcome h.0 n h.2) h.3
+opening_by : (f : FileFront) (s : Parts f) (name : List ℕ) (n : ℕ) (b : Begun) (content : Content)
+    (o : Option Outcome) → ((us : List Token) → run_tokens NodeDue s.content (f.front ++ us)
+    ≡ run_on (Text name ∷ us) (behind_outcome content b n o)) → Stands f.before an_opening
+opening_by f s name n b content None answers =
+    stands_in f s (NewOutcomeOpening b n name) content an_opening answers
+    (new_opening_law content b n name) (λ a. a, refl)
+opening_by f s name n b content (Some known) answers =
+    let g = s.goes_on in
+    let d = with_node content b (Some n) in
+    let after = at (KnownOutcomeOpening known.payoffs) d in
+    let same = (text_found known.name name after g.more g.read (sym (answers g.more) ∙ g.reads)).0
+    in
+    stands_in f s (KnownOutcomeOpening known.payoffs) d an_opening (λ us. answers us
+    ∙ ap (λ (l : List ℕ). then_run (same_text known.name l after) (run_on us)) same
+    ∙ ap (λ o. then_run o (run_on us)) (text_again known.name after))
+    (known_opening_law d known.payoffs) (λ a. a, refl)
 
 pub outcome_opening : (f : FileFront) (n : ℕ) → BehindOutcomeName f.front n
     → Stands f.before an_opening
 outcome_opening f n h =
-    let s = parts f (begins_name f.front n h) in
-    elim (behind_name f.front n s.content h s.goes_on) [
-      | inl k ↦ stands_in f s (NewOutcomeOpening k.b n k.label) k.content an_opening k.answers
-          (new_opening_law k.content k.b n k.label) (λ a. a, refl)
-      | inr k ↦ stands_in f s (KnownOutcomeOpening k.known.payoffs) k.content an_opening k.answers
-          (known_opening_law k.content k.known.payoffs) (λ a. a, refl)
-    ]
+    let s = parts f (begins_on f.front h.0 (Text h.1 ∷ []) (begins_outcome h.0 n h.2) h.3) in
+    let c = s.content in
+    let k = behind_outcome_number h.0 n c h.2
+    (goes_before c f.front h.0 (Text h.1 ∷ []) s.goes_on h.3) in
+    opening_by f s h.1 n k.b k.content (description_at nat_eq c.outcomes n)
+    (λ us. ap (run_tokens NodeDue c) (regroup f.front h.0 (Text h.1 ∷ []) us h.3)
+    ∙ k.answers (Text h.1 ∷ us))

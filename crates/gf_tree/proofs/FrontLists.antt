@@ -121,11 +121,6 @@ to_probability front number set c h g =
 
 -- ---- the number of an outcome
 
--- the set of a node is described there, or is known
-abbrev pub IsKnownStep : Content → Option (Use SetKey InformationSet) → Type 0
-IsKnownStep c set = MatchOption set (Unit {0}) (λ u. MatchOption u.description
-    ((d : InformationSet) × (description_at same_set c.sets u.key ≡ Some d)) (λ d. Unit {0}))
-
 -- where the set of a node is described, or there is none
 pub record AtTold (c : Content) (front : List Token) : Type 0 where
   pub b : Begun
@@ -216,18 +211,6 @@ described_step front u d c behind inner e h g =
           }
     ]
 
--- without one
-undescribed_step : (front : List Token) (key : SetKey) (d : InformationSet) (c : Content)
-    → description_at same_set c.sets key ≡ Some d → AtSet c front key → AtOutcome c front
-undescribed_step front key d c known h = record {
-  b = begun h.name key d;
-  content = c;
-  players = refl;
-  outcomes = refl;
-  answers = λ t us. h.answers (Bare t ∷ us)
-      ∙ ap (λ o. run_tokens (behind_set h.name key o) c (Bare t ∷ us)) known;
-}
-
 described_by : (front : List Token) (u : Use SetKey InformationSet) (d : InformationSet)
     (c : Content) (letter name : List ℕ) (mover description : List Token) (number : List ℕ)
     → front ≡ Bare letter ∷ Text name ∷ (mover ++ Bare number ∷ description)
@@ -283,34 +266,6 @@ told_outcome c front h = record {
   answers = λ t us. h.answers (Bare t ∷ us);
 }
 
-step_by : (front : List Token) (u : Use SetKey InformationSet) (o : Option InformationSet)
-    (c : Content) (letter name : List ℕ) (mover description : List Token) (number : List ℕ)
-    → u.description ≡ o
-    → front ≡ Bare letter ∷ Text name ∷ (mover ++ Bare number ∷ description)
-    → IsMover letter mover u.key.player → IsPositive number u.key.number
-    → IsDescription (IsInformationSet u.key.player) description o
-    → MatchOption o ((d : InformationSet) × (description_at same_set c.sets u.key ≡ Some d))
-    (λ d. Unit {0}) → GoesOn c front → AtOutcome c front
-step_by front u None c letter name mover description number is e moves positive h known g =
-    let to_set = Bare letter ∷ Text name ∷ mover in
-    undescribed_step front u.key known.0 c known.1 (behind_number front u.key c (
-      to_set,
-      number,
-      e ∙ ap (λ (ts : List Token). to_set ++ Bare number ∷ ts) h,
-      (letter, name, mover, refl, moves),
-      positive,
-    ) g)
-step_by front u (Some d) c letter name mover description number is e moves positive h known g =
-    told_outcome c front
-    (described_by front u d c letter name mover description number e moves positive h g)
-
-pub to_outcome : (front : List Token) (set : Option (Use SetKey InformationSet)) (c : Content)
-    → ToOutcomeNumber front set → IsKnownStep c set → GoesOn c front → AtOutcome c front
-to_outcome front None c h known g = told_outcome c front (terminal_step front c h g)
-to_outcome front (Some u) c h known g =
-    step_by front u u.description c h.0 h.1 h.4.0 h.4.2 h.4.1 refl
-    (h.3 ∙ ap (λ (ts : List Token). Bare h.0 ∷ Text h.1 ∷ ts) h.4.3) h.4.4 h.4.5 h.4.6 known g
-
 -- behind a set without a description stands a bare token only where it is known
 known_by : (name : List ℕ) (key : SetKey) (o : Option InformationSet) (c r : Content) (t : List ℕ)
     (us : List Token) → description_at same_set c.sets key ≡ o
@@ -319,37 +274,44 @@ known_by : (name : List ℕ) (key : SetKey) (o : Option InformationSet) (c r : C
 known_by name key None c r t us is e = absurd cc
 known_by name key (Some d) c r t us is e = (d, is)
 
-known_use : (front : List Token) (u : Use SetKey InformationSet) (o : Option InformationSet)
-    (c : Content) (letter name : List ℕ) (mover description : List Token) (number t : List ℕ)
-    (whole : List Token) → u.description ≡ o
-    → front ≡ Bare letter ∷ Text name ∷ (mover ++ Bare number ∷ description)
-    → IsMover letter mover u.key.player → IsPositive number u.key.number
-    → IsDescription (IsInformationSet u.key.player) description o → whole ≡ front ++ Bare t ∷ []
-    → GoesOn c whole
-    → MatchOption o ((d : InformationSet) × (description_at same_set c.sets u.key ≡ Some d))
-    (λ d. Unit {0})
-known_use front u (Some d) c letter name mover description number t whole is e moves positive h f g =
-    tt
-known_use front u None c letter name mover description number t whole is e moves positive h f g =
-    let to_set = Bare letter ∷ Text name ∷ mover in
-    let k = behind_number front u.key c (
-      to_set,
-      number,
-      e ∙ ap (λ (ts : List Token). to_set ++ Bare number ∷ ts) h,
-      (letter, name, mover, refl, moves),
-      positive,
-    ) (goes_before c whole front (Bare t ∷ []) g f) in
-    known_by k.name u.key (description_at same_set c.sets u.key) c g.read t g.more refl
-    (sym (ap (run_tokens NodeDue c) (regroup whole front (Bare t ∷ []) g.more f)
-    ∙ k.answers (Bare t ∷ g.more)) ∙ g.reads)
+-- the bare token that stands next follows a description, or the number of a known set
+module _ (front whole : List Token) (t : List ℕ) (f : whole ≡ front ++ Bare t ∷ []) (c : Content)
+    (g : GoesOn c whole) where
+  step_by : (u : Use SetKey InformationSet) (o : Option InformationSet) (letter name : List ℕ)
+      (mover description : List Token) (number : List ℕ)
+      → front ≡ Bare letter ∷ Text name ∷ (mover ++ Bare number ∷ description)
+      → IsMover letter mover u.key.player → IsPositive number u.key.number
+      → IsDescription (IsInformationSet u.key.player) description o → AtOutcome c front
+  step_by u None letter name mover description number e moves positive h =
+      let to_set = Bare letter ∷ Text name ∷ mover in
+      let k = behind_number front u.key c (
+        to_set,
+        number,
+        e ∙ ap (λ (ts : List Token). to_set ++ Bare number ∷ ts) h,
+        (letter, name, mover, refl, moves),
+        positive,
+      ) (goes_before c whole front (Bare t ∷ []) g f) in
+      let known = known_by k.name u.key (description_at same_set c.sets u.key) c g.read t g.more refl
+      (sym (ap (run_tokens NodeDue c) (regroup whole front (Bare t ∷ []) g.more f)
+      ∙ k.answers (Bare t ∷ g.more)) ∙ g.reads) in
+      record {
+        b = begun k.name u.key known.0;
+        content = c;
+        players = refl;
+        outcomes = refl;
+        answers = λ b us. k.answers (Bare b ∷ us)
+            ∙ ap (λ o. run_tokens (behind_set k.name u.key o) c (Bare b ∷ us)) known.1;
+      }
+  step_by u (Some d) letter name mover description number e moves positive h =
+      told_outcome c front (described_by front u d c letter name mover description number e moves
+      positive h (goes_before c whole front (Bare t ∷ []) g f))
 
-pub known_step_of : (front : List Token) (set : Option (Use SetKey InformationSet)) (c : Content)
-    (t : List ℕ) (whole : List Token) → ToOutcomeNumber front set → whole ≡ front ++ Bare t ∷ []
-    → GoesOn c whole → IsKnownStep c set
-known_step_of front None c t whole h f g = tt
-known_step_of front (Some u) c t whole h f g =
-    known_use front u u.description c h.0 h.1 h.4.0 h.4.2 h.4.1 t whole refl
-    (h.3 ∙ ap (λ (ts : List Token). Bare h.0 ∷ Text h.1 ∷ ts) h.4.3) h.4.4 h.4.5 h.4.6 f g
+  pub to_outcome : (set : Option (Use SetKey InformationSet)) → ToOutcomeNumber front set
+      → AtOutcome c front
+  to_outcome None h =
+      told_outcome c front (terminal_step front c h (goes_before c whole front (Bare t ∷ []) g f))
+  to_outcome (Some u) h = step_by u u.description h.0 h.1 h.4.0 h.4.2 h.4.1
+      (h.3 ∙ ap (λ (ts : List Token). Bare h.0 ∷ Text h.1 ∷ ts) h.4.3) h.4.4 h.4.5 h.4.6
 
 pub record BehindOutcome (c : Content) (front : List Token) (n : ℕ) : Type 0 where
   pub b : Begun
@@ -362,8 +324,7 @@ pub record BehindOutcome (c : Content) (front : List Token) (n : ℕ) : Type 0 w
 pub behind_outcome_number : (front : List Token) (n : ℕ) (c : Content)
     → BehindOutcomeNumber front n → GoesOn c front → BehindOutcome c front n
 behind_outcome_number front n c h g =
-    let o = to_outcome h.0 h.1 c h.4 (known_step_of h.0 h.1 c h.2 front h.4 h.3 g)
-    (goes_before c front h.0 (Bare h.2 ∷ []) g h.3) in
+    let o = to_outcome h.0 front h.2 h.3 c g h.1 h.4 in
     record {
       b = o.b;
       content = o.content;

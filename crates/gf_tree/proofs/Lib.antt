@@ -74,7 +74,6 @@ pub mod FrontRuns
 pub mod FrontLists
 pub mod FrontPayoffs
 pub mod FrontCodes
-pub mod FrontRefusals
 pub mod FrontShares
 pub mod FrontJudged
 pub mod DueRows
@@ -97,4 +96,3 @@ pub mod CutFiles
 pub mod RowReasons
 pub mod NodeReasons
 pub mod WholeNodes
-pub mod LowestCodes

@@ -27,48 +27,6 @@ within end from (l ∷ ls) h =
     let last = within end l.end ls h.2 in
     let near = h.0 in let some = h.1 in omega (arith, last, near, some)
 
--- ---- what is refused behind a token begins behind its first byte
-
-abbrev ErrIs : Fault → Result Content Fault → Type 0
-ErrIs fault o = o ≡ Err fault
-
-refused_later : (end from : ℕ) (q : Position) (c : Content) (ls : List Lexeme) (fault : Fault)
-    → AreInOrder end from ls → ErrIs fault (run end q c ls) → from ≤ fault.span.start
-refused_later end from q c [] fault h e = by (may_end q c.due) e
-  where
-    by : (b : Bool) → ErrIs fault (cond b (Ok c) (refused end end (due q c.due)))
-        → from ≤ fault.span.start
-    by true e = absurd cc
-    by false e =
-        let same : record { span = record { start = end; end = end }; why = due q c.due }
-        ≡ fault = cc in
-        subst (λ (f : Fault). from ≤ f.span.start) same h
-refused_later end from q c (l ∷ ls) fault h e =
-    by (step q c l.token) e (λ s f. refused_later end l.end s.position s.content ls fault h.2 f)
-  where
-    by : (o : Result State Why) → ErrIs fault (then_on l o (λ s. run end s.position s.content ls))
-        → ((s : State) → ErrIs fault (run end s.position s.content ls) → l.end ≤ fault.span.start)
-        → from ≤ fault.span.start
-    by (Ok s) e later =
-        let far = later s e in let near = h.0 in let some = h.1 in omega (arith, far, near, some)
-    by (Err why) e later =
-        let same : record { span = record { start = l.start; end = l.end }; why = why }
-        ≡ fault = cc in
-        subst (λ (f : Fault). from ≤ f.span.start) same h.0
-
--- so where it goes on behind a token, it has passed the token
-pub passed_before : (t : Remaining) (span : Span) → StandsBefore t span
-    → (q : Position) (c : Content) → HasPassed (run (length t.input) q c t.ahead) span.start
-passed_before t span h q c = by (run (length t.input) q c t.ahead) refl
-  where
-    by : (o : Result Content Fault) → run (length t.input) q c t.ahead ≡ o → HasPassed o span.start
-    by (Ok r) e = tt
-    by (Err fault) e =
-        let far = refused_later (length t.input) span.end q c t.ahead fault h.order e in
-        let some = h.some in omega (arith, far, some)
-
--- ---- so some file goes on
-
 -- a token before another begins before it
 begins_before : (end from : ℕ) (before after : List Lexeme) (l : Lexeme)
     → AreInOrder end from (before ++ l ∷ after) → from ≤ l.start
@@ -83,6 +41,42 @@ from_there : (end from : ℕ) (before ls : List Lexeme) → AreInOrder end from 
     → (at : ℕ) × AreInOrder end at ls
 from_there end from [] ls h = (from, h)
 from_there end from (z ∷ zs) ls h = from_there end z.end zs ls h.2
+
+-- where tokens stop: not before they begin, and not behind the end
+place_in : (end from : ℕ) (before after : List Lexeme) (span : Span)
+    → AreInOrder end from (before ++ after) → IsSpanOf after end span
+    → (from ≤ span.start) × (span.start ≤ end)
+place_in end from before [] span h place =
+    let last = within end from (before ++ []) h in
+    let start = place.0 in
+    (omega (arith, last, start), omega (arith, start))
+place_in end from before (l ∷ ls) span h place =
+    let near = begins_before end from before ls l h in
+    let there = from_there end from before (l ∷ ls) h in
+    let some = there.1.1 in
+    let last = within end l.end ls there.1.2 in
+    let start = place.0 in
+    (omega (arith, near, start), omega (arith, some, last, start))
+
+refused_in : (end from : ℕ) (q : Position) (c : Content) (ls : List Lexeme) (fault : Fault)
+    → AreInOrder end from ls → run end q c ls ≡ Err fault
+    → (from ≤ fault.span.start) × (fault.span.start ≤ end)
+refused_in end from q c ls fault h e =
+    let s = stopped end q c ls fault e in
+    place_in end from s.before s.after fault.span (subst (AreInOrder end from) s.parts h) s.place
+
+-- so where it goes on behind a token, it has passed the token
+pub passed_before : (t : Remaining) (span : Span) → StandsBefore t span
+    → (q : Position) (c : Content) → HasPassed (run (length t.input) q c t.ahead) span.start
+passed_before t span h q c = by (run (length t.input) q c t.ahead) refl
+  where
+    by : (o : Result Content Fault) → run (length t.input) q c t.ahead ≡ o → HasPassed o span.start
+    by (Ok r) e = tt
+    by (Err fault) e =
+        let far = (refused_in (length t.input) span.end q c t.ahead fault h.order e).0 in
+        let some = h.some in omega (arith, far, some)
+
+-- ---- so some file goes on
 
 abbrev FileGoesOn : List Lexeme → Lexeme → Type 0
 FileGoesOn before l = Begins IsExtensiveFile (tokens_of before ++ l.token ∷ [])
@@ -144,38 +138,12 @@ token_passed end from before after l (Err fault) order is h =
     stopped_goes_on end from before after l fault order h s
     (parts before (l ∷ after) s.before s.after s.parts)
 
--- what is refused is refused at the end at the latest
-refused_within : (end from : ℕ) (q : Position) (c : Content) (ls : List Lexeme) (fault : Fault)
-    → AreInOrder end from ls → ErrIs fault (run end q c ls) → fault.span.start ≤ end
-refused_within end from q c [] fault h e = by (may_end q c.due) e
-  where
-    by : (b : Bool) → ErrIs fault (cond b (Ok c) (refused end end (due q c.due)))
-        → fault.span.start ≤ end
-    by true e = absurd cc
-    by false e =
-        let same : record { span = record { start = end; end = end }; why = due q c.due }
-        ≡ fault = cc in
-        subst (λ (f : Fault). f.span.start ≤ end) same (omega arith)
-refused_within end from q c (l ∷ ls) fault h e =
-    by (step q c l.token) e (λ s f. refused_within end l.end s.position s.content ls fault h.2 f)
-  where
-    by : (o : Result State Why) → ErrIs fault (then_on l o (λ s. run end s.position s.content ls))
-        → ((s : State) → ErrIs fault (run end s.position s.content ls) → fault.span.start ≤ end)
-        → fault.span.start ≤ end
-    by (Ok s) e later = later s e
-    by (Err why) e later =
-        let same : record { span = record { start = l.start; end = l.end }; why = why }
-        ≡ fault = cc in
-        let last = within end l.end ls h.2 in
-        let some = h.1 in
-        subst (λ (f : Fault). f.span.start ≤ end) same (omega (arith, last, some))
-
 end_passed : (end : ℕ) (ls : List Lexeme) (o : Result Content Fault) → AreInOrder end 0 ls
     → run end Format nothing ls ≡ o → HasPassed o end → IsExtensiveFile (tokens_of ls)
 end_passed end ls (Ok r) order is h =
     read_is (tokens_of ls) r ((run_reads end Format nothing ls r).0 is)
 end_passed end ls (Err fault) order is h =
-    let last = refused_within end 0 Format nothing ls fault order is in
+    let last = (refused_in end 0 Format nothing ls fault order is).1 in
     absurd (omega (arith, last, h))
 
 passed_at : (bytes : List ℕ) (before after : List Lexeme) (span : Span)
