@@ -26,13 +26,13 @@ returns-in-Extensive-clause-placed c = game_placed c.args.input.now c.canonical_
 
 pub returns-in-Strategic-clause-only : goal.returns-in-Strategic-clause-only
 returns-in-Strategic-clause-only c = λ x spelled.
-    only_table (λ text. text.items) c.args.names c.args.input.now c.canonical_nfg.result x
+    only_table (λ text. text.items) c.args.names c.args.input.now c.canonical_table.result x
     (subst (λ (f : Format). BeginsWithWord (word_of f) c.args.input.now) c.in-Strategic.is
     c.in_ok-format_of.ensures.named)
-    c.canonical_nfg.ensures.text c.canonical_nfg.ensures.memory spelled
+    c.canonical_table.ensures.text c.canonical_table.ensures.memory spelled
 
 pub returns-in-Strategic-clause-placed : goal.returns-in-Strategic-clause-placed
-returns-in-Strategic-clause-placed c = table_placed c.args.input.now c.canonical_nfg.result
+returns-in-Strategic-clause-placed c = table_placed c.args.input.now c.canonical_table.result
     (subst (λ (f : Format). BeginsWithWord (word_of f) c.args.input.now) c.in-Strategic.is
     c.in_ok-format_of.ensures.named)
-    c.canonical_nfg.ensures.judged
+    c.canonical_table.ensures.judged

@@ -1,4 +1,4 @@
-use Rattle.std.proofs.Common.{◌≡◌, ◌∙◌, Bool, true, false, List, ℕ, Result, Ok, Err, refl}
+use Rattle.std.proofs.Common.{◌≡◌, ◌∙◌, Bool, true, false, List, ℕ, Result, Ok, Err, refl, subst, sym}
 use Rattle.std.specs.Prelude.{IfOk}
 use Rattle.gf_token.specs.declared.fault.Fault.{Fault}
 use Rattle.gf_nfg.specs.LimitPlace.{IsWithinLimit}
@@ -27,9 +27,15 @@ text_by items names named bytes (Ok text) same h = record {
 text_by items names named bytes (Err fault) same h = tt
 
 pub returns-in-Kept-clause-text : goal.returns-in-Kept-clause-text
-returns-in-Kept-clause-text c = text_by (λ text. text.items) Kept true c.args.input.now
-    c.canonical_nfg.result (λ t. refl) c.canonical_nfg.ensures.text
+returns-in-Kept-clause-text c =
+    subst (λ names. IfOk c.canonical_nfg.result (λ text. IsTextBy names c.args.input.now text.items))
+    (sym c.in-Kept.is)
+    (text_by (λ text. text.items) Kept true c.args.input.now c.canonical_nfg.result (λ t. refl)
+    c.canonical_nfg.ensures.text)
 
 pub returns-in-Aside-clause-text : goal.returns-in-Aside-clause-text
-returns-in-Aside-clause-text c = text_by (λ text. text.items) Aside false c.args.input.now
-    c.canonical_nfg.result (λ t. refl) c.canonical_nfg.ensures.text
+returns-in-Aside-clause-text c =
+    subst (λ names. IfOk c.canonical_nfg-in-Aside.result
+    (λ text. IsTextBy names c.args.input.now text.items)) (sym c.in-Aside.is)
+    (text_by (λ text. text.items) Aside false c.args.input.now c.canonical_nfg-in-Aside.result
+    (λ t. refl) c.canonical_nfg-in-Aside.ensures.text)
