@@ -67,13 +67,13 @@ int main(int argc, char **argv)
     for (i = 2; i < argc; i++) {
         FILE *f = fopen(argv[i], "rb");
         uint8_t *game = malloc(1 << 24), *out;
-        size_t n, cap;
+        size_t n, cap = 0;
         double call = 0, run = 0;
         if (f == NULL || game == NULL)
             return 1;
         n = fread(game, 1, 1 << 24, f);
         fclose(f);
-        cap = 2 * n + 4096;
+        gamefile_canonical(game, n, 0, NULL, 0, &cap, NULL);
         out = malloc(cap);
         if (out == NULL)
             return 1;
