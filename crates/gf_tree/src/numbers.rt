@@ -185,11 +185,8 @@ impl Numbers {
     pub(crate) fn place(&self, number: u32) -> Option<u32>
         ensures { result ≡ lookup (nat_eq number) self.now }
     {
-        // Most numbers are asked for where there are many: one test leads there.
-        if let Held::Many(index) = &self.held {
-            return index.place(number);
-        }
         match &self.held {
+            Held::Nothing => None,
             Held::One(one) => {
                 if number == one.number {
                     Some(one.place)
@@ -197,7 +194,7 @@ impl Numbers {
                     None
                 }
             }
-            _ => None,
+            Held::Many(index) => index.place(number),
         }
     }
 
