@@ -33,7 +33,7 @@ use Rattle.gf_tree.proofs.FrontCodes.{split}
 use Rattle.gf_tree.proofs.FrontRuns.{behind_number, due_is, goes_before, to_number, to_player}
 use Rattle.gf_tree.proofs.Groups.{regroup}
 use Rattle.gf_tree.proofs.RunPlaces.{is_read}
-use Rattle.gf_tree.proofs.RunTokens.{Reads, run_on, same_bytes, text_again, text_found}
+use Rattle.gf_tree.proofs.RunTokens.{run_on, same_bytes, text_again, text_found}
 
 -- ---- behind the front of a node
 

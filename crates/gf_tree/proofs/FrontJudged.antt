@@ -15,6 +15,9 @@ use Rattle.gf_token.specs.declared.fault.Why.TheVariants.{UnknownPlayer, NotDesc
 use Rattle.gf_token.specs.declared.fault.Why.TheVariants.{NegativeProbability, SumAboveOne}
 use Rattle.gf_token.specs.declared.fault.Why.TheVariants.{SumBelowOne, SumOverflow, NoEntry}
 use Rattle.gf_tree.specs.Judgement.{IsRefusal}
+use Rattle.gf_tree.specs.Reason.{StaysBelowOne}
+use Rattle.gf_tree.specs.Rows.{a_new_branch}
+use Rattle.gf_tree.proofs.DueActions.{new_branch}
 use Rattle.gf_tree.specs.Machine.{Content, State, due, nothing, run, step}
 use Rattle.gf_tree.specs.Machine.Position.{Format}
 use Rattle.gf_tree.specs.ReadGame.{run_tokens, then_run}
@@ -24,7 +27,7 @@ use Rattle.gf_tree.specs.Rows.{Obeys, Row, IsNoNumber, Refuses, a_first_name, a_
 use Rattle.gf_tree.specs.Rows.{an_outcome, no_label, or_comma, or_name, this_label, this_number}
 use Rattle.gf_tree.proofs.DueRows.{Stands, accepted, answers_at, leads, refused_by}
 use Rattle.gf_tree.proofs.FrontCodes.{IsUpTo, ReadsOn, refused, first_of, no_player, known_left}
-use Rattle.gf_tree.proofs.FrontShares.{above, below_one, lists_nothing, negative, overflows}
+use Rattle.gf_tree.proofs.FrontShares.{above, lists_nothing, negative, overflows}
 use Rattle.gf_tree.proofs.NodeReasons.{reasoned}
 use Rattle.gf_tree.proofs.RowReasons.{Own}
 use Rattle.gf_tree.proofs.RunEnds.{ends}
@@ -211,11 +214,23 @@ mismatch before after t s why l h k =
       | inr d ↦ mismatch_of_outcome f after t s why l h d
     ]
 
+-- ---- the closing brace of a new list
+
+below_one : (before after : List Token) (s : State) (why : Why) → Leads before s
+    → StopsAt s (Closing ∷ after) why → StaysBelowOne before → why ≡ SumBelowOne
+below_one before after s why l h k =
+    let f = front_of before (begins before s l) k.3.0 k.3.1 k.3.2 k.3.3 in
+    elim (row_refuses before (Closing ∷ after) s why l h (a_new_branch k.1.actions k.2)
+    (new_branch f k.0 k.1 k.2 k.3.4 k.3.5 k.5)) [
+      | inl e ↦ let some = k.4 in let size = ap length e.1 in absurd (omega (arith, some, size))
+      | inr e ↦ e.0
+    ]
+
 -- ---- no lower code applies
 
 -- some tokens follow those that lead to a state
-reads_on : (before : List Token) (s : State) → Leads before s → ReadsOn before
-reads_on before s h =
+reads_there : (before : List Token) (s : State) → Leads before s → ReadsOn before
+reads_there before s h =
     let e = ends s.position s.content (leads_fine before s h) in
     record { more = e.0; read = e.1; reads = walk_run before e.0 Format nothing s h ∙ e.2 }
 
@@ -235,7 +250,7 @@ one_refusal o why other h k = cc
 module _ (before after : List Token) (s : State) (why : Why) (l : Leads before s)
     (h : StopsAt s after why) where
   reads : ReadsOn before
-  reads = reads_on before s l
+  reads = reads_there before s l
 
   low_as : (other : Why) (bound : ℕ) → run_tokens Format nothing (before ++ first_of after)
       ≡ refused other → IsUpTo other bound → IsUpTo why bound
@@ -270,18 +285,18 @@ module _ (before after : List Token) (s : State) (why : Why) (l : Leads before s
       same_code why BadIndex 7 (bad_index before b after s why l h k) (omega arith)
   lower_bare b h UnknownPlayer (inl k) = no_such_player before b after s why l h k.0 k.2
   lower_bare b h UnknownPlayer (inr k) = low_as before (Bare b ∷ after) s why l h UnknownPlayer 8
-      (no_player before b (reads_on before s l) k) (omega arith)
+      (no_player before b (reads_there before s l) k) (omega arith)
   lower_bare b h NotDescribed k = undescribed before (Bare b ∷ after) s why l h k.0 k.1
   lower_bare b h Mismatch k =
       same_code why Mismatch 10 (mismatch before after (Bare b) s why l h k) (omega arith)
   lower_bare b h NegativeProbability k = low_as before (Bare b ∷ after) s why l h NegativeProbability 11
-      (negative before b (reads_on before s l) k) (omega arith)
+      (negative before b (reads_there before s l) k) (omega arith)
   lower_bare b h SumAboveOne k =
-      let r = above before b (reads_on before s l) k in
+      let r = above before b (reads_there before s l) k in
       low_as_either before (Bare b ∷ after) s why l h r.0 NegativeProbability SumAboveOne 12 r.1 r.2
       (omega arith) (omega arith)
   lower_bare b h SumOverflow k =
-      let r = overflows before b (reads_on before s l) k in
+      let r = overflows before b (reads_there before s l) k in
       low_as_either before (Bare b ∷ after) s why l h r.0 NegativeProbability SumOverflow 14 r.1 r.2
       (omega arith) (omega arith)
   lower_bare b h _ k = absurd k
@@ -290,10 +305,10 @@ module _ (before after : List Token) (s : State) (why : Why) (l : Leads before s
   lower_closing h NotDescribed k = undescribed before (Closing ∷ after) s why l h k.0 k.1
   lower_closing h Mismatch k = same_code why Mismatch 10
       (mismatch before after Closing s why l h k) (omega arith)
-  lower_closing h SumBelowOne k = low_as before (Closing ∷ after) s why l h SumBelowOne 13
-      (below_one before (reads_on before s l) k) (omega arith)
+  lower_closing h SumBelowOne k =
+      same_code why SumBelowOne 13 (below_one before after s why l h k) (omega arith)
   lower_closing h NoEntry k = low_as before (Closing ∷ after) s why l h NoEntry 15
-      (lists_nothing before (reads_on before s l) k) (omega arith)
+      (lists_nothing before (reads_there before s l) k) (omega arith)
   lower_closing h _ k = absurd k
 
   lower_text : (label : List ℕ) → StopsAt s (Text label ∷ after) why

@@ -20,7 +20,7 @@ use Rattle.gf_tree.specs.Machine.Position.{NodeDue, NewAction, NewProbability, K
 use Rattle.gf_tree.specs.Machine.Position.{KnownProbability, OutcomeNumber}
 use Rattle.gf_tree.specs.ReadGame.{run_tokens, then_run}
 use Rattle.gf_tree.specs.Sentence.{IsDescription, IsInformationSet, IsMover, IsPositive}
-use Rattle.gf_tree.proofs.FrontRuns.{AtSet, GoesOn, HaveSumFrom, behind_number, due_is, goes_before}
+use Rattle.gf_tree.proofs.FrontRuns.{GoesOn, HaveSumFrom, behind_number, due_is, goes_before}
 use Rattle.gf_tree.proofs.FrontRuns.{in_actions}
 use Rattle.gf_tree.proofs.Groups.{regroup}
 use Rattle.gf_tree.proofs.RunKnownActions.{HasProbability, label_again, probabilities}

@@ -1,7 +1,7 @@
 -- Where a probability is wrong, or a new list of actions may not end, the machine of the reader
 -- refuses for that or for a lower code.
-use Rattle.std.proofs.Common.{◌≡◌, ℕ, ◌<◌, Bool, true, false, cond, List, [], ◌∷◌, ◌++◌}
-use Rattle.std.proofs.Common.{length, map, drop, Some, Ok, Err, refl, sym, ap, subst, ◌∙◌, arith}
+use Rattle.std.proofs.Common.{◌≡◌, ℕ, ◌<◌, Bool, true, false, List, [], ◌∷◌, ◌++◌}
+use Rattle.std.proofs.Common.{map, drop, Some, Ok, Err, refl, sym, ap, subst, ◌∙◌, arith}
 use Rattle.std.proofs.Common.{inl, inr}
 use Rattle.std.specs.Prelude.{pos, int_lt, ◌<ℤ◌, ◌⊎◌}
 use Rattle.std.proofs.lemmas.Int.{ints}
@@ -17,18 +17,18 @@ use Rattle.gf_token.specs.Token.{Token}
 use Rattle.gf_token.specs.Token.Token.{Closing, Bare}
 use Rattle.gf_token.specs.declared.fault.Why.{Why}
 use Rattle.gf_token.specs.declared.fault.Why.TheVariants.{NegativeProbability, SumAboveOne}
-use Rattle.gf_token.specs.declared.fault.Why.TheVariants.{SumBelowOne, SumOverflow, NoEntry}
-use Rattle.gf_tree.specs.Description.{Action, InformationSet, SetKey, set_of}
-use Rattle.gf_tree.specs.Machine.{Content, new_set_ends, nothing, set_known, shared}
+use Rattle.gf_token.specs.declared.fault.Why.TheVariants.{SumOverflow, NoEntry}
+use Rattle.gf_tree.specs.Description.{InformationSet, SetKey, set_of}
+use Rattle.gf_tree.specs.Machine.{Content, nothing, shared}
 use Rattle.gf_tree.specs.Machine.Position.{Format, NewProbability}
-use Rattle.gf_tree.specs.Probability.{is_one, share_by, up_to_one}
+use Rattle.gf_tree.specs.Probability.{share_by, up_to_one}
 use Rattle.gf_tree.specs.ReadGame.{run_tokens, then_run}
 use Rattle.gf_tree.specs.Reason.{AddsUp, HasSum, IsWrongProbability, ListsNothing}
-use Rattle.gf_tree.specs.Reason.{NewProbabilityIsDue, StaysBelowOne}
+use Rattle.gf_tree.specs.Reason.{NewProbabilityIsDue}
 use Rattle.gf_tree.proofs.FrontCodes.{ReadsOn, begins_actions, begins_probability, refused, split}
 use Rattle.gf_tree.proofs.FrontLists.{to_probability}
 use Rattle.gf_tree.proofs.FrontRuns.{AddsShares, HaveSumFrom, in_actions}
-use Rattle.gf_tree.proofs.RunTokens.{ratio_is, run_on}
+use Rattle.gf_tree.proofs.RunTokens.{run_on}
 
 -- ---- a wrong probability
 
@@ -154,36 +154,6 @@ overflows before t reads h =
     (r.0, judged_by before h.0 h.1 t r.0 a h.3 r.1, r.2)
 
 -- ---- the closing brace of a new list
-
-not_one : (sum : Ratio) (b : Bool) → is_one sum ≡ b → sum.num <ℤ pos sum.den → b ≡ false
-not_one sum true e h =
-    let is = subst (λ (x : Ratio). x.num <ℤ pos x.den) (ratio_is sum (whole (pos 1)) e) h in
-    absurd (omega (arith, ints, is))
-not_one sum false e h = refl
-
-ends_below : (actions : List Action) (name : List ℕ) (n : ℕ) (set : InformationSet) (sum : Ratio)
-    (c : Content) → 0 < length actions → sum.num <ℤ pos sum.den
-    → new_set_ends c name (set_of 0 n) set actions sum ≡ Err SumBelowOne
-ends_below [] name n set sum c some h = absurd (omega (arith, some))
-ends_below (a ∷ actions) name n set sum c some h =
-    ap (λ (b : Bool). cond b (Ok (set_known c name (set_of 0 n) set)) (Err SumBelowOne))
-    (not_one sum (is_one sum) refl h)
-
-pub below_one : (before : List Token) → ReadsOn before → StaysBelowOne before
-    → run_tokens Format nothing (before ++ Closing ∷ []) ≡ refused SumBelowOne
-below_one before reads h =
-    let l = h.3 in
-    let key = set_of 0 h.0 in
-    let s = split l.0 l.1 before l.2 l.3 (begins_actions l.2 key h.1 l.4) reads in
-    let c = s.content in
-    elim (in_actions l.2 key h.1 c l.4 s.goes_on) [
-      | inl n ↦
-          let same = same_sum h.1 h.2 n.sum h.5 n.have_sum in
-          let low = subst (λ (x : Ratio). x.num <ℤ pos x.den) (sym same) h.6 in
-          s.answers (Closing ∷ []) ∙ n.answers (Closing ∷ [])
-          ∙ ap (λ o. then_run o (run_on [])) (ends_below h.1.actions n.name h.0 h.1 n.sum c h.4 low)
-      | inr k ↦ absurd (l.5 k.known ((s.sets key k.known).1 k.is_known))
-    ]
 
 pub lists_nothing : (before : List Token) → ReadsOn before → ListsNothing before
     → run_tokens Format nothing (before ++ Closing ∷ []) ≡ refused NoEntry

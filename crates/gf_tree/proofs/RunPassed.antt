@@ -1,5 +1,5 @@
 -- Where the machine of the reader has refused nothing, some extensive file goes on.
-use Rattle.std.proofs.Common.{◌≡◌, ℕ, ◌+◌, ◌<◌, ◌≤◌, Bool, true, false, cond, List}
+use Rattle.std.proofs.Common.{◌≡◌, ℕ, ◌+◌, ◌<◌, ◌≤◌, List}
 use Rattle.std.proofs.Common.{[], ◌∷◌, ◌++◌, length, Result, Ok, Err, refl, sym, ap}
 use Rattle.std.proofs.Common.{subst, ◌∙◌, append_assoc, append-nil, arith, inl, inr}
 use Rattle.gf_token.specs.Token.{Lexeme}
@@ -7,13 +7,12 @@ use Rattle.gf_token.specs.TokenSpelling.{Spells}
 use Rattle.gf_token.specs.Place.{tokens_of, IsSpanOf, Begins, IsAccepted, IsAcceptedThrough}
 use Rattle.gf_token.specs.declared.fault.Fault.{Fault}
 use Rattle.gf_token.specs.declared.fault.Span.{Span}
-use Rattle.gf_token.specs.declared.fault.Why.{Why}
 use Rattle.gf_token.specs.Remaining.{AreInOrder, Remaining, StandsBefore}
 use Rattle.gf_token.proofs.Places.{parts, Parts, tokens_on, begins_front}
 use Rattle.gf_token.proofs.TokensAhead.{in_order}
 use Rattle.gf_tree.specs.Front.{IsExtensiveFile}
-use Rattle.gf_tree.specs.Machine.{Content, Position, State, due, may_end}
-use Rattle.gf_tree.specs.Machine.{nothing, refused, run, step, then_on}
+use Rattle.gf_tree.specs.Machine.{Content, Position}
+use Rattle.gf_tree.specs.Machine.{nothing, run}
 use Rattle.gf_tree.specs.Machine.Position.{Format}
 use Rattle.gf_tree.specs.Passed.{HasPassed}
 use Rattle.gf_tree.proofs.RunStops.{Stopped, run_reads, stopped}
