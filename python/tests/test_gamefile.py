@@ -185,7 +185,8 @@ def judge_threads():
 
 def many_profiles(sets=18):
     """Gives a tree with a long table."""
-    moves = "".join(f'p "" 1 {number} "" {{ "x" "y" }} 0 t "" {number} "" {{ {number} }} ' for number in range(1, sets + 1))
+    move = 'p "" 1 {0} "" {{ "x" "y" }} 0 t "" {0} "" {{ {0} }} '
+    moves = "".join(map(move.format, range(1, sets + 1)))
     return f'EFG 2 R "" {{ "A" }} {moves} t "" 0'.encode()
 
 

@@ -67,7 +67,8 @@ module _ (f : ℕ → List Pair) where
       e
       ∙ ap (λ (ps : List Pair). ps ++ f (before + 1)) now
       ∙ append_assoc start (flat_map f so_far) (f (before + 1))
-      ∙ ap (λ (ps : List Pair). start ++ (flat_map f so_far ++ ps)) (sym (append-nil (f (before + 1))))
+      ∙ ap (λ (ps : List Pair). start ++ (flat_map f so_far ++ ps))
+      (sym (append-nil (f (before + 1))))
       ∙ ap (λ (ps : List Pair). start ++ ps) (sym (flat_map-append f so_far ((before + 1) ∷ [])))
       ∙ ap (λ (ks : List ℕ). start ++ flat_map f ks) joined
 

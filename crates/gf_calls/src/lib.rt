@@ -1,6 +1,6 @@
 //! What a C program is answered: checks, canonical texts and their hashes, tables, comparisons and
-//! renumberings of game files, in numbers and in buffers of the caller. Each call hands on a call of
-//! gf_canon or gf_form, with its clauses; gamefile_c exports them.
+//! renumberings of game files, in numbers and in buffers of the caller. Each answer is that of a call
+//! of gf_canon or gf_form, with its clauses; gamefile_c exports them.
 #![tactic(auto)]
 
 mod canonising;
