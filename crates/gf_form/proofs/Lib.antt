@@ -37,7 +37,6 @@ pub mod Lookups
 pub mod Lotteries
 pub mod MergedEntries
 pub mod Merges
-pub mod NextStrategies
 pub mod NoPlayer
 pub mod NodeTerms
 pub mod NumberedProfiles

@@ -34,50 +34,6 @@ pub(crate) fn write_strategy(
     Ok(())
 }
 
-/// The next strategy takes the place of one that is not the last.
-fn advance(counts: &[u32], strategy: &mut [u32])
-    requires { (number : ℕ) × (number + 1 < product counts.now)
-        × (strategy.old ≡ get_or (all_choices counts.now) number []) }
-    ensures { (number : ℕ) → number + 1 < product counts.now
-        → strategy.old ≡ get_or (all_choices counts.now) number []
-        → strategy.new ≡ get_or (all_choices counts.now) (number + 1) [] }
-{
-    let mut place = counts.len();
-    while place > 0 {
-        place -= 1;
-        if strategy[place] < counts[place] {
-            strategy[place] += 1;
-            return;
-        }
-        strategy[place] = 1;
-    }
-}
-
-/// Of the strategies with these numbers, the one at this place takes the place of the one before it,
-/// and at the first place of any.
-pub(crate) fn write_next(
-    counts: &[u32],
-    whole: u32,
-    numbers: &[u32],
-    place: usize,
-    strategy: &mut Vec<u32>,
-) -> Result<(), AllocError>
-    requires whole { whole ≡ product counts.now }
-    requires place { place < length numbers.now }
-    requires within { get_or numbers.now place 0 < whole }
-    requires before { 0 < place → strategy.old.items
-        ≡ get_or (all_choices counts.now) (get_or numbers.now (place - 1) 0) [] }
-    ensures { OnOk result (strategy.new.items
-        ≡ get_or (all_choices counts.now) (get_or numbers.now place 0) []) }
-{
-    let number = numbers[place];
-    if place > 0 && number > 0 && numbers[place - 1] == number - 1 {
-        advance(counts, strategy);
-        return Ok(());
-    }
-    write_strategy(counts, whole, number, strategy)
-}
-
 /// The label of a strategy takes the place of a text: its actions, joined by `-`.
 fn write_label(strategy: &[u32], text: &mut Vec<u8>) -> Result<(), AllocError>
     ensures text { OnOk result (text.new.items ≡ strategy_label strategy.now) }

@@ -36,6 +36,7 @@ fn factor(den: u128, from: u128) -> Option<u128>
 }
 
 /// How two terms come over one denominator; `None` if that does not fit.
+#[inline]
 pub(crate) fn scale_of(a: Head, b: Head) -> Option<Scale>
     ensures { IfSome result (IsScale a b) }
 {
@@ -63,6 +64,7 @@ pub(crate) fn scale_of(a: Head, b: Head) -> Option<Scale>
 }
 
 /// A number times a factor; `None` if it does not fit.
+#[inline]
 fn multiplied(number: i128, by: u128) -> Option<i128>
     ensures { IfSome result (λ product. product ≡ number *ℤ pos by) }
 {
@@ -73,6 +75,7 @@ fn multiplied(number: i128, by: u128) -> Option<i128>
 }
 
 /// The sum of two numbers, each times its factor; `None` if it does not fit its type.
+#[inline]
 fn weighted(a: i128, by_a: u128, b: i128, by_b: u128) -> Option<i128>
     ensures { IfSome result (λ sum. sum ≡ a *ℤ pos by_a +ℤ b *ℤ pos by_b) }
 {
@@ -86,6 +89,7 @@ fn weighted(a: i128, by_a: u128, b: i128, by_b: u128) -> Option<i128>
 }
 
 /// The sum of two numbers, each times its factor; `None` if it is not in bound.
+#[inline]
 pub(crate) fn combined(a: i128, by_a: u128, b: i128, by_b: u128) -> Option<i128>
     ensures sum { IfSome result (λ sum. sum ≡ a *ℤ pos by_a +ℤ b *ℤ pos by_b) }
     ensures within { IfSome result (λ sum. IsWithin sum) }

@@ -77,6 +77,7 @@ impl Terms {
     }
 
     /// The numbers of the term at this place, from 0.
+    #[inline]
     pub(crate) fn row(&self, place: usize) -> &[i128]
         requires shaped { IsShaped self.now }
         requires within { place < length self.now.heads.items }
@@ -87,6 +88,7 @@ impl Terms {
     }
 
     /// Appends the term of a list at this place, from 0, with demands that are lower by this.
+    #[inline]
     pub(crate) fn push(&mut self, from: &Terms, place: usize, less: u64) -> Result<(), AllocError>
         requires players { self.old.players ≡ from.now.players }
         requires shaped { IsShaped self.old × IsShaped from.now }
@@ -110,6 +112,7 @@ impl Terms {
     }
 
     /// Appends numbers that are sums of these, each times its factor; or says that some does not fit.
+    #[inline]
     fn push_numbers(
         &mut self,
         first: &[i128],
@@ -139,6 +142,7 @@ impl Terms {
     }
 
     /// Appends the sum of two terms of a list, at these places, from 0, with the demands of the first.
+    #[inline]
     pub(crate) fn push_sum(
         &mut self,
         from: &Terms,
