@@ -87,6 +87,7 @@ fn files_from<'a>(alloc: Global) -> Result<Arg<'a>, AllocError> {
 fn null<'a>(alloc: Global) -> Result<Arg<'a>, AllocError> {
     flag(alloc, "null", help::NULL)
         .short('0')
+        .conflicts_with("FILES")?
         .requires_arg("files-from")
 }
 
