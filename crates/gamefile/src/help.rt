@@ -31,6 +31,8 @@ Example:
 
 pub const FILE: &str = "The game file; standard input if none is named";
 
+pub const EXPLAIN: &str = "If it fails, say in words what is wrong, and where";
+
 pub const CANON: &str = "Write the canonical text of a game file";
 
 pub const AFTER_CANON: &str = "\
@@ -58,8 +60,13 @@ refused: nothing is written, and standard error has one line, as in
 E4 at 40..43, with a code and the place in bytes from 0. The status is 0, or 2
 if the file is refused.
 
-Example:
-  gamefile check game.nfg";
+With --explain, that line begins with the file, the line and the column, and
+ends with what is wrong. The line of the file follows, with marks under the
+place, and perhaps a hint.
+
+Examples:
+  gamefile check game.nfg
+  gamefile check --explain game.efg";
 
 pub const TABLE: &str = "Write the strategic form of a game";
 
@@ -91,6 +98,12 @@ pub const SECOND: &str = "The second game file";
 
 pub const FILES: &str = "Game files and folders; standard input if none is named";
 
+pub const FILES_FROM: &str = "Read the names of files and folders from FILE";
+
+pub const NULL: &str = "Names there end with a zero byte, as of find -print0";
+
+pub const QUIET: &str = "Do not show on a terminal how many files are done";
+
 pub const HASH: &str = "Write a hash of each game file";
 
 pub const AFTER_HASH: &str = "\
@@ -105,9 +118,11 @@ it, as in game.efg: E4 at 40..43, and the other files go on. The status is the
 worst one of all files: 0, 2, 4 or 5.
 
 With --no-names, the hash is that of the text that 'canon --no-names' writes.
+With --files-from, FILE has a name on each line, and '-' is standard input.
 
-Example:
-  gamefile hash games > hashes.txt";
+Examples:
+  gamefile hash games > hashes.txt
+  find games -name '*.efg' -print0 | gamefile hash --files-from - -0";
 
 pub const DUPLICATES: &str = "Say which game files are the same game";
 

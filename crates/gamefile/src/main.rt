@@ -3,22 +3,89 @@
 #![tactic(auto)]
 
 use arguments::job_asked;
-use gf_run::{Asked, Counted, answer, duplicates_of_words, hash_words, perform};
+use gf_run::{
+    Asked, Collection, Counted, Erasing, Job, Kept, Notes, Shown, answer, duplicates_at,
+    hash_paths, perform, perform_explained,
+};
+use std::io::{IsTerminal, Stderr, Stdout};
 use std::process::ExitCode;
 
 mod arguments;
 mod help;
 mod words;
 
+fn explained(
+    rt: &HostRuntime,
+    job: &Job,
+    output: &mut Counted<Stdout>,
+    errors: &mut Counted<Stderr>,
+) -> u8 {
+    let notes = Notes::new(rt.alloc());
+    perform_explained(
+        rt.alloc(),
+        &Kept::new(rt, &notes),
+        &notes,
+        job,
+        output,
+        errors,
+    )
+}
+
+/// Whether standard error is a terminal that is told how many files are done.
+fn is_told(rt: &HostRuntime, files: &Collection) -> bool {
+    !files.quiet && rt.stderr().is_terminal()
+}
+
+/// Standard output. What shows there how many files are done is erased before a line.
+fn erasing_output(rt: &HostRuntime, shows: bool) -> Counted<Erasing<Stdout>> {
+    let stdout = rt.stdout();
+    let erases = shows && stdout.is_terminal();
+    Counted::new(Erasing::new(stdout, erases))
+}
+
+fn hash(rt: &HostRuntime, files: Collection) -> u8 {
+    let shows = is_told(rt, &files);
+    let mut progress = Shown::new(rt, rt.stderr(), shows);
+    let mut output = erasing_output(rt, shows);
+    let mut errors = Counted::new(Erasing::new(rt.stderr(), shows));
+    hash_paths(
+        rt,
+        files.paths,
+        files.names,
+        &mut progress,
+        &mut output,
+        &mut errors,
+    )
+}
+
+fn duplicates(rt: &HostRuntime, files: Collection) -> u8 {
+    let shows = is_told(rt, &files);
+    let mut progress = Shown::new(rt, rt.stderr(), shows);
+    let mut output = erasing_output(rt, shows);
+    let mut errors = Counted::new(Erasing::new(rt.stderr(), shows));
+    duplicates_at(
+        rt,
+        files.paths,
+        files.names,
+        &mut progress,
+        &mut output,
+        &mut errors,
+    )
+}
+
 fn main(rt: HostRuntime) -> ExitCode {
     let mut output = Counted::new(rt.stdout());
     let mut errors = Counted::new(rt.stderr());
     ExitCode::from(match job_asked(&rt) {
-        Ok(Asked::Job(job)) => perform(rt.alloc(), &rt, &job, &mut output, &mut errors),
-        Ok(Asked::Hash { words, names }) => hash_words(&rt, words, names, &mut output, &mut errors),
-        Ok(Asked::Duplicates { words, names }) => {
-            duplicates_of_words(&rt, words, names, &mut output, &mut errors)
+        Ok(Asked::Job { job, explain }) => {
+            if explain {
+                explained(&rt, &job, &mut output, &mut errors)
+            } else {
+                perform(rt.alloc(), &rt, &job, &mut output, &mut errors)
+            }
         }
+        Ok(Asked::Hash(files)) => hash(&rt, files),
+        Ok(Asked::Duplicates(files)) => duplicates(&rt, files),
         Err(fault) => answer(&fault, &mut output, &mut errors),
     })
 }

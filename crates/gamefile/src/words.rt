@@ -4,7 +4,7 @@ use crate::help;
 use clap::error::ErrorKind;
 use clap::{Arg, ArgAction, ArgMatches, Command, Error};
 use gf_canon::Names;
-use gf_run::{Asked, Input, Job, WordsFault};
+use gf_run::{Asked, Collection, Input, Job, Paths, WordsFault};
 use std::alloc::{AllocError, Global};
 
 /// A command with its texts.
@@ -27,9 +27,14 @@ fn named<'a>(alloc: Global, name: &'a str, about: &'a str) -> Arg<'a> {
     Arg::new(alloc, name).required(true).help(about)
 }
 
+/// A command whose fault may be told in words.
+fn explaining<'a>(command: Command<'a>, alloc: Global) -> Result<Command<'a>, AllocError> {
+    command.arg(flag(alloc, "explain", help::EXPLAIN))
+}
+
 /// A command that reads one file.
 fn on_one_file<'a>(command: Command<'a>, alloc: Global) -> Result<Command<'a>, AllocError> {
-    command.arg(Arg::new(alloc, "FILE").help(help::FILE))
+    explaining(command, alloc)?.arg(Arg::new(alloc, "FILE").help(help::FILE))
 }
 
 fn canon<'a>(alloc: Global) -> Result<Command<'a>, AllocError> {
@@ -69,14 +74,38 @@ fn with_two_files<'a>(command: Command<'a>, alloc: Global) -> Result<Command<'a>
         .arg(named(alloc, "B", help::SECOND))
 }
 
+/// The option that names a list of files.
+fn files_from<'a>(alloc: Global) -> Result<Arg<'a>, AllocError> {
+    Arg::new(alloc, "files-from")
+        .long("files-from")
+        .value_name("FILE")
+        .help(help::FILES_FROM)
+        .conflicts_with("FILES")
+}
+
+/// The option that says how a name ends in such a list.
+fn null<'a>(alloc: Global) -> Result<Arg<'a>, AllocError> {
+    flag(alloc, "null", help::NULL)
+        .short('0')
+        .conflicts_with("FILES")?
+        .requires_arg("files-from")
+}
+
+/// A command that may read its files from a list.
+fn with_list<'a>(command: Command<'a>, alloc: Global) -> Result<Command<'a>, AllocError> {
+    let command = taking(command, files_from(alloc))?;
+    taking(command, null(alloc))
+}
+
 /// A command that reads many files.
 fn on_many_files<'a>(command: Command<'a>, alloc: Global) -> Result<Command<'a>, AllocError> {
     let files = Arg::new(alloc, "FILES")
         .num_args(..)
         .value_name("FILE|FOLDER")
         .help(help::FILES);
-    command
-        .arg(flag(alloc, "no-names", help::NO_NAMES))?
+    let command = command.arg(flag(alloc, "no-names", help::NO_NAMES))?;
+    with_list(command, alloc)?
+        .arg(flag(alloc, "quiet", help::QUIET))?
         .arg(files)
 }
 
@@ -96,7 +125,7 @@ fn duplicates<'a>(alloc: Global) -> Result<Command<'a>, AllocError> {
 
 fn same<'a>(alloc: Global) -> Result<Command<'a>, AllocError> {
     let same = command(alloc, "same", help::SAME, help::AFTER_SAME);
-    with_two_files(with_same_options(same, alloc)?, alloc)
+    with_two_files(explaining(with_same_options(same, alloc)?, alloc)?, alloc)
 }
 
 /// A command that has one command more.
@@ -182,7 +211,7 @@ fn same_of(alloc: Global, matches: &ArgMatches<'_>) -> Result<Job, AllocError> {
 }
 
 /// The words that name files and folders.
-fn files_of(alloc: Global, matches: &ArgMatches<'_>) -> Result<Vec<String>, AllocError> {
+fn words_of(alloc: Global, matches: &ArgMatches<'_>) -> Result<Vec<String>, AllocError> {
     let mut words = Vec::new(alloc);
     if let Some(given) = matches.get_strs("FILES") {
         for word in given {
@@ -192,25 +221,52 @@ fn files_of(alloc: Global, matches: &ArgMatches<'_>) -> Result<Vec<String>, Allo
     Ok(words)
 }
 
-fn hash_of(alloc: Global, matches: &ArgMatches<'_>) -> Result<Asked, AllocError> {
-    Ok(Asked::Hash {
-        words: files_of(alloc, matches)?,
+/// The list of names that a word means, where `-` is standard input.
+fn list_of(alloc: Global, name: &str, is_null: bool) -> Result<Paths, AllocError> {
+    let list = if name == "-" {
+        Input::Standard
+    } else {
+        Input::File(String::from_str(alloc, name)?)
+    };
+    let end = if is_null { 0 } else { b'\n' };
+    Ok(Paths::List { list, end })
+}
+
+fn paths_of(alloc: Global, matches: &ArgMatches<'_>) -> Result<Paths, AllocError> {
+    match matches.get_str("files-from") {
+        Some(name) => list_of(alloc, name, matches.get_flag("null")),
+        None => Ok(Paths::Words(words_of(alloc, matches)?)),
+    }
+}
+
+fn files_of(alloc: Global, matches: &ArgMatches<'_>) -> Result<Collection, AllocError> {
+    Ok(Collection {
+        paths: paths_of(alloc, matches)?,
         names: names_of(matches),
+        quiet: matches.get_flag("quiet"),
     })
 }
 
-fn duplicates_of(alloc: Global, matches: &ArgMatches<'_>) -> Result<Asked, AllocError> {
-    Ok(Asked::Duplicates {
-        words: files_of(alloc, matches)?,
-        names: names_of(matches),
+/// Whether a command has the option that tells its fault in words.
+fn explains(matches: &ArgMatches<'_>) -> bool {
+    match matches.subcommand() {
+        Some((_, inner)) => inner.get_flag("explain"),
+        None => false,
+    }
+}
+
+fn job_asked_of(alloc: Global, matches: &ArgMatches<'_>) -> Result<Asked, AllocError> {
+    Ok(Asked::Job {
+        job: job_of(alloc, matches)?,
+        explain: explains(matches),
     })
 }
 
 fn asked_of(alloc: Global, matches: &ArgMatches<'_>) -> Result<Asked, AllocError> {
     match matches.subcommand() {
-        Some(("hash", inner)) => hash_of(alloc, inner),
-        Some(("duplicates", inner)) => duplicates_of(alloc, inner),
-        _ => Ok(Asked::Job(job_of(alloc, matches)?)),
+        Some(("hash", inner)) => Ok(Asked::Hash(files_of(alloc, inner)?)),
+        Some(("duplicates", inner)) => Ok(Asked::Duplicates(files_of(alloc, inner)?)),
+        _ => job_asked_of(alloc, matches),
     }
 }
 
@@ -261,8 +317,9 @@ fn fault_of(alloc: Global, error: &Error, words: &[&str]) -> Result<WordsFault, 
 }
 
 /// What the words behind the program's name ask for: `canon [--no-names] [FILE]`, `check [FILE]`,
-/// `table [--reduced] [FILE]`, `same [--map | --no-names] A B`, `hash [--no-names] [FILE|FOLDER]..`,
-/// `duplicates [--no-names] [FILE|FOLDER]..`, or none of these, which is `canon` of standard input.
+/// `table [--reduced] [FILE]` or `same [--map | --no-names] A B`, each with `--explain` or without;
+/// `hash [--no-names] [--quiet]` or `duplicates [--no-names] [--quiet]`, with `[FILE|FOLDER]..` or
+/// `--files-from FILE [--null]`; or none of these, which is `canon` of standard input.
 ///
 /// - `Help`: the words ask for help, as `--help` does, or `help`, behind a command too; or for the
 ///   version, as `--version` or `-V` does, but not behind a command.

@@ -1,5 +1,6 @@
 pub mod CarriedLines
 pub mod Errors
+pub mod FaultLines
 pub mod FewPlayers
 pub mod FormTexts
 pub mod FoundDuplicates
@@ -11,6 +12,8 @@ pub mod JobFaults
 pub mod LinesInTurn
 pub mod MoreRead
 pub mod MoreWritten
+pub mod OneGroup
+pub mod Places
 pub mod Refusals
 pub mod RunsOfTwo
 pub mod WeakerRequests

@@ -1,7 +1,7 @@
 -- Which of the files that were read are one game, and the text that names them.
 use Rattle.std.specs.Prelude.{◌≡◌, ℕ, Bool, nat_eq, nat_lt, List, [], ◌∷◌, ◌++◌, codes, length, map}
 use Rattle.std.specs.Cmp.Lexicographic.{pointwise}
-use Rattle.std.specs.List.{filter, flat_map, join_by}
+use Rattle.std.specs.List.{Contains, filter, flat_map, join_by}
 use Rattle.gf_tree.specs.FiniteMap.{first_uses}
 
 -- a file that was read: its name, and the hash of its canonical text
@@ -24,6 +24,13 @@ having files hash = filter (λ file. same_hash hash file.hash) files
 -- the files in groups of one hash, a group for each hash
 abbrev pub groups_of : List HashedFile → List (List HashedFile)
 groups_of files = map (having files) (hashes_of files)
+
+-- two files stand in one group of these files
+pub record AreInOneGroup (files : List HashedFile) (a b : HashedFile) : Type 0 where
+  pub group : List HashedFile
+  pub is_group : Contains (groups_of files) group
+  pub first : Contains group a
+  pub second : Contains group b
 
 -- the names of files
 abbrev pub names_of : List HashedFile → List (List ℕ)

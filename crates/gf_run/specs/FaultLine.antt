@@ -26,6 +26,20 @@ form_text form.TooManyProfiles = codes "too many profiles"
 form_text (form.Overflow profile) = codes "overflow at profile " ++ decimal profile
 form_text form.Memory = codes "E19"
 
+-- the input that the line of a fault begins with
+abbrev pub fault_label : RunFault → List ℕ
+fault_label (Refused which fault) = label_of which
+fault_label (Read which) = label_of which
+fault_label fault = []
+
+-- the line of a fault, without the input that it begins with and without its line feed
+abbrev pub short_line : RunFault → List ℕ
+short_line (Refused which fault) = place_text fault
+short_line (Read which) = codes "E20"
+short_line Write = codes "E21"
+short_line (Form fault) = form_text fault
+short_line Memory = codes "E19"
+
 -- the line of a fault, with its line feed
 abbrev pub fault_line : RunFault → List ℕ
 fault_line (Refused which fault) = label_of which ++ place_text fault ++ codes "\n"

@@ -15,12 +15,13 @@ use Rattle.gf_run.specs.Run.{Answers}
 use Rattle.gf_run.specs.declared.fault.RunFault.{RunFault}
 use Rattle.gf_run.specs.declared.fault.RunFault.TheVariants.{Memory, Write}
 use Rattle.gf_run.specs.declared.asked.Input.{Input}
-use Rattle.gf_run.specs.declared.asked.Input.TheVariants.{File, Standard}
+use Rattle.gf_run.specs.declared.asked.Input.TheVariants.{File, NotText, Standard}
 
 -- what an input is called
 abbrev pub name_of : Input → List ℕ
 name_of Standard = codes "-"
 name_of (File name) = string_bytes name
+name_of (NotText name) = string_bytes name
 
 -- the line of a fault behind the name of its file
 abbrev pub named_line : List ℕ → RunFault → List ℕ

@@ -2,6 +2,7 @@ pub mod Counted
 pub mod Duplicates
 pub mod DuplicatesRun
 pub mod Ending
+pub mod Explained
 pub mod Failures
 pub mod FaultLine
 pub mod FaultStatus
@@ -12,9 +13,11 @@ pub mod HashText
 pub mod Hashes
 pub mod Input
 pub mod JobRun
+pub mod Kept
 pub mod Opened
 pub mod Opening
 pub mod Output
+pub mod Place
 pub mod Run
 pub mod RunOfTwo
 pub mod SameFaults

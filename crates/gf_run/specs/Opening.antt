@@ -3,7 +3,7 @@ use Rattle.std.specs.Prelude.{ℕ, List, Result, Ok, Err}
 use Rattle.std.specs.String.{string_bytes}
 use Rattle.std.specs.declared.io.Error.{Error}
 use Rattle.gf_run.specs.declared.asked.Input.{Input}
-use Rattle.gf_run.specs.declared.asked.Input.TheVariants.{Standard, File}
+use Rattle.gf_run.specs.declared.asked.Input.TheVariants.{Standard, File, NotText}
 
 -- of what opens inputs: what standard input may be, and what opening the file of a name may answer
 module _ {S : Type 0} (standard : S → Type 0) (opens : List ℕ → Result S Error → Type 0) where
@@ -11,11 +11,13 @@ module _ {S : Type 0} (standard : S → Type 0) (opens : List ℕ → Result S E
   abbrev pub IsOpened : Input → S → Type 0
   IsOpened Standard s = standard s
   IsOpened (File name) s = opens (string_bytes name) (Ok s)
+  IsOpened (NotText name) s = ⊥
 
   -- an input could not be opened
   abbrev pub IsNotOpened : Input → Type 0
   IsNotOpened Standard = ⊥
   IsNotOpened (File name) = (error : Error) × opens (string_bytes name) (Err error)
+  IsNotOpened (NotText name) = Unit {0}
 
   -- an input was opened, and a run over it went so
   pub record RunsOver (Run : S → S → Type 0) (input : Input) : Type 0 where

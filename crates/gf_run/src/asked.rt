@@ -13,6 +13,9 @@ pub enum Input {
     Standard,
     /// The file of this name.
     File(String),
+    /// A file whose name is not UTF-8, so that it cannot be opened: its name, with U+FFFD in place of
+    /// what is not.
+    NotText(String),
 }
 
 /// What the words ask for.
@@ -39,14 +42,34 @@ pub enum Job {
     },
 }
 
+/// What names the files of a collection.
+#[derive(Debug, Drop)]
+pub enum Paths {
+    /// These files and folders; standard input if there are none.
+    Words(Vec<String>),
+    /// The files and folders in this list, in which each name ends with this byte.
+    List { list: Input, end: u8 },
+}
+
+/// The files that are read in one run.
+#[derive(Debug, Drop)]
+pub struct Collection {
+    pub paths: Paths,
+    /// Whether their names count.
+    pub names: Names,
+    /// Whether a terminal is not told how many files are done.
+    pub quiet: bool,
+}
+
 /// What the words ask for: one answer, or one for each of many files.
 #[derive(Debug, Drop)]
 pub enum Asked {
-    Job(Job),
-    /// The hashes of the files that these words name, with their names or without.
-    Hash { words: Vec<String>, names: Names },
-    /// Which of the files that these words name are one game, by their names or without.
-    Duplicates { words: Vec<String>, names: Names },
+    /// A job, whose fault is told in words where `explain` is true.
+    Job { job: Job, explain: bool },
+    /// The hashes of these files.
+    Hash(Collection),
+    /// Which of these files are one game.
+    Duplicates(Collection),
 }
 
 /// Why the words ask for no job.

@@ -15,6 +15,7 @@ use std::io::{Read, Write};
 pub struct Counted<T> {
     inner: T,
     failures: u64,
+    last_error: Option<io::Error>,
 }
 
 impl<T> Counted<T> {
@@ -22,7 +23,11 @@ impl<T> Counted<T> {
         ensures inner { inner_of result ≡ inner }
         ensures failures { failures_of result ≡ 0 }
     {
-        Counted { inner, failures: 0 }
+        Counted {
+            inner,
+            failures: 0,
+            last_error: None,
+        }
     }
 }
 
@@ -74,10 +79,17 @@ impl<W: Write> Sink for Counted<W> {
         if !matches!(&answer, Ok(count) if *count > 0) {
             self.failures = self.failures.saturating_add(1);
         }
+        if let Err(error) = &answer {
+            self.last_error = Some(*error);
+        }
         answer
     }
 
     fn failures(&self) -> u64 {
         self.failures
+    }
+
+    fn last_error(&self) -> Option<io::Error> {
+        self.last_error
     }
 }

@@ -5,15 +5,16 @@ ghost use Rattle.gf_run.specs.Duplicates.{HashedFile, IsKeptOf, duplicates};
 ghost use Rattle.gf_run.specs.DuplicatesRun.{Closes, Finds, HasHash, Reads};
 ghost use Rattle.gf_run.specs.Hashes.{IsNotHashed};
 
-use crate::asked::Input;
+use crate::asked::{Input, Paths};
 use crate::ending::tell;
 use crate::fault::RunFault;
-use crate::folders::files_named;
 use crate::groups::Groups;
 use crate::hash::read_hash;
 use crate::hashes::{name_of, tell_of};
 use crate::inputs::Inputs;
 use crate::job::open_input;
+use crate::paths::{files_at, tell_unlisted};
+use crate::progress::Progress;
 use crate::sink::{Sink, push_all};
 use gf_canon::Names;
 use std::alloc::{AllocError, Global};
@@ -95,11 +96,13 @@ fn write_groups<W: Sink, E: Sink>(
 /// the others go on. A group has a line for each name, and an empty line stands between two groups,
 /// which are in the order of their first files. The status is the worst of all: 1 if there is a group,
 /// and above it those of the faults. If memory runs out, E19 is told, and nothing is written.
-pub fn run_duplicates<I: Inputs, W: Sink, E: Sink>(
+/// `progress` is told of each file that is done.
+pub fn run_duplicates<I: Inputs, P: Progress, W: Sink, E: Sink>(
     alloc: Global,
     inputs: &I,
     files: &[Input],
     names: Names,
+    progress: &mut P,
     output: &mut W,
     errors: &mut E,
 ) -> u8
@@ -116,21 +119,37 @@ pub fn run_duplicates<I: Inputs, W: Sink, E: Sink>(
             Ok(status) => worst = status,
             Err(AllocError) => return worst.max(tell(&RunFault::Memory, errors)),
         }
+        progress.step(files.len());
     }
+    progress.end();
     write_groups(alloc, &groups, worst, output, errors)
 }
 
-/// Writes which of the files that words name are one game, as `run_duplicates` does, and gives the exit
-/// status. Before a file is opened, all words are followed. If memory runs out then, E19 is told.
-pub fn duplicates_of_words<R: Inputs + Files + AllocGlobal + Clone + Drop, W: Sink, E: Sink>(
+/// Writes which of the files at these paths are one game, as `run_duplicates` does, and gives the exit
+/// status.
+///
+/// Before a file is opened, all paths are followed. If memory runs out then, E19 is told; if a list of
+/// names cannot be read, E20 after its name.
+pub fn duplicates_at<R: Inputs + Files + AllocGlobal, P: Progress, W: Sink, E: Sink>(
     rt: &R,
-    words: Vec<String>,
+    paths: Paths,
     names: Names,
+    progress: &mut P,
     output: &mut W,
     errors: &mut E,
 ) -> u8 {
-    match files_named(rt, words) {
-        Ok(files) => run_duplicates(rt.alloc(), rt, files.as_slice(), names, output, errors),
-        Err(_) => tell(&RunFault::Memory, errors),
+    match files_at(rt, paths) {
+        Ok(files) => {
+            run_duplicates(
+                rt.alloc(),
+                rt,
+                files.as_slice(),
+                names,
+                progress,
+                output,
+                errors,
+            )
+        }
+        Err(fault) => tell_unlisted(rt.alloc(), &fault, errors),
     }
 }

@@ -1,9 +1,9 @@
-//! The files that words name: each file itself, and of a folder the game files below it.
+//! The files that a path names: a file itself, and of a folder the game files below it.
 
 use crate::asked::Input;
 use std::alloc::{AllocError, Global};
 use std::collections::BTreeSet;
-use std::io::ErrorKind;
+use std::io::{BufRead, BufReader, ErrorKind, Read};
 use std::os::unix::fs::MetadataExt;
 use std::rt::Files;
 use std::{fs, io};
@@ -26,89 +26,123 @@ fn folder_at<R: Files>(rt: &R, path: &str) -> Option<(u64, u64)> {
     }
 }
 
-/// Adds the paths of what stands in a folder. An error that comes on the way, as that of a name that is
-/// not UTF-8, is answered at the end.
-fn push_paths<R: Files + AllocGlobal + Clone + Drop>(
+/// Adds the names that a reader gives, each ended by this byte.
+pub fn push_names<R: Read + Drop>(
+    alloc: Global,
+    input: R,
+    end: u8,
+    names: &mut Vec<Vec<u8>>,
+) -> io::Result<()> {
+    for name in BufReader::new(alloc, input)?.split(alloc, end) {
+        names.push(name?)?;
+    }
+    Ok(())
+}
+
+/// The path of a folder with a slash at its end.
+fn with_slash(alloc: Global, folder: &str) -> Result<String, AllocError> {
+    let mut path = String::from_str(alloc, folder)?;
+    if !folder.ends_with('/') {
+        path.push('/')?;
+    }
+    Ok(path)
+}
+
+/// Adds what stands in a folder, by name. Names that came before an error stay.
+fn push_entries<R: Files + AllocGlobal>(
     rt: &R,
     folder: &str,
-    paths: &mut Vec<String>,
+    names: &mut Vec<Vec<u8>>,
 ) -> io::Result<()> {
-    let mut all = Ok(());
-    for entry in fs::read_dir(rt, folder)? {
-        match entry {
-            Ok(entry) => paths.push(String::from_str(rt.alloc(), entry.path().as_str())?)?,
-            Err(error) => all = Err(error),
+    push_names(rt.alloc(), rt.open_dir(folder)?, 0, names)
+}
+
+/// Puts the paths of names in a folder before all that waits, so that the first comes first.
+fn push_paths(
+    alloc: Global,
+    folder: &str,
+    names: &[Vec<u8>],
+    waiting: &mut Vec<Vec<u8>>,
+) -> Result<(), AllocError> {
+    for name in names.iter().rev() {
+        if name.as_slice() != b".".as_slice() && name.as_slice() != b"..".as_slice() {
+            let mut path = Vec::from_slice(alloc, folder.as_bytes())?;
+            path.extend_from_slice(name.as_slice())?;
+            waiting.push(path)?;
         }
     }
-    all
+    Ok(())
 }
 
 /// Puts what stands in a folder before all that waits, by rising bytes of its names. A folder that
 /// cannot be read whole is kept as a file, which cannot be read either.
-fn open_folder<R: Files + AllocGlobal + Clone + Drop>(
+fn open_folder<R: Files + AllocGlobal>(
     rt: &R,
     folder: String,
-    waiting: &mut Vec<String>,
+    waiting: &mut Vec<Vec<u8>>,
     files: &mut Vec<Input>,
 ) -> Result<(), AllocError> {
-    let mut paths = Vec::new(rt.alloc());
-    match push_paths(rt, folder.as_str(), &mut paths) {
+    let mut names = Vec::new(rt.alloc());
+    let path = with_slash(rt.alloc(), folder.as_str())?;
+    match push_entries(rt, path.as_str(), &mut names) {
         Ok(()) => {}
         Err(error) if error.kind() == ErrorKind::OutOfMemory => return Err(AllocError),
         Err(_) => files.push(Input::File(folder))?,
     }
-    paths.sort()?;
-    for path in paths.into_iter().rev() {
-        waiting.push(path)?;
-    }
-    Ok(())
+    names.sort()?;
+    push_paths(rt.alloc(), path.as_str(), names.as_slice(), waiting)
 }
 
-/// Adds the file that a word names, or the game files below the folder that it names. No folder is gone
-/// through twice, so that links may lead anywhere.
-fn push_files<R: Files + AllocGlobal + Clone + Drop>(
+/// A file whose name is not UTF-8.
+fn not_text(alloc: Global, name: &[u8]) -> Result<Input, AllocError> {
+    Ok(Input::NotText(String::from_utf8_lossy(alloc, name)?))
+}
+
+/// Adds the file at a path, if it is a game file or was named itself; or opens the folder there, unless
+/// it was gone through.
+fn push_path<R: Files + AllocGlobal>(
     rt: &R,
-    word: String,
+    path: String,
+    is_named: bool,
+    folders: &mut BTreeSet<(u64, u64)>,
+    waiting: &mut Vec<Vec<u8>>,
     files: &mut Vec<Input>,
 ) -> Result<(), AllocError> {
-    let mut folders = BTreeSet::new(rt.alloc());
-    let mut waiting = Vec::new(rt.alloc());
-    waiting.push(word)?;
-    for turn in 0..u64::MAX {
-        let Some(path) = waiting.pop() else {
-            break;
-        };
-        match folder_at(rt, path.as_str()) {
-            Some(folder) => {
-                if folders.insert(folder)? {
-                    open_folder(rt, path, &mut waiting, files)?;
-                }
+    match folder_at(rt, path.as_str()) {
+        Some(folder) => {
+            if folders.insert(folder)? {
+                open_folder(rt, path, waiting, files)?;
             }
-            None => {
-                if turn == 0 || is_game_file(path.as_str()) {
-                    files.push(Input::File(path))?;
-                }
+        }
+        None => {
+            if is_named || is_game_file(path.as_str()) {
+                files.push(Input::File(path))?;
             }
         }
     }
     Ok(())
 }
 
-/// The files that words name, in their order; standard input if there are no words. Of a folder they
-/// are the files below it whose names end in `.efg` or `.nfg`, in letters of either case, each folder in
-/// order of its names by bytes.
-///
-/// `AllocError` where memory is refused.
-pub fn files_named<R: Files + AllocGlobal + Clone + Drop>(
+/// Adds the file at a path, or the game files below the folder there: those whose names end in `.efg`
+/// or `.nfg`, in letters of either case, each folder in order of its names by bytes. No folder is gone
+/// through twice, so that links may lead anywhere. A name that is not UTF-8 may be that of a game file
+/// or of a folder, so it is added too.
+pub fn push_files<R: Files + AllocGlobal>(
     rt: &R,
-    words: Vec<String>,
-) -> Result<Vec<Input>, AllocError> {
-    let mut files = Vec::new(rt.alloc());
-    if words.is_empty() {
-        files.push(Input::Standard)?;
+    path: Vec<u8>,
+    files: &mut Vec<Input>,
+) -> Result<(), AllocError> {
+    let mut folders = BTreeSet::new(rt.alloc());
+    let mut waiting = Vec::new(rt.alloc());
+    waiting.push(path)?;
+    for turn in 0..u64::MAX {
+        let Some(path) = waiting.pop() else {
+            break;
+        };
+        match String::from_utf8(path) {
+            Ok(path) => push_path(rt, path, turn == 0, &mut folders, &mut waiting, files)?,
+            Err(error) => files.push(not_text(rt.alloc(), error.as_bytes())?)?,
+        }
     }
-    for word in words {
-        push_files(rt, word, &mut files)?;
-    }
-    Ok(files)
+    Ok(())
 }

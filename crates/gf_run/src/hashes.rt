@@ -6,13 +6,14 @@ ghost use Rattle.gf_run.specs.Hashes.{IsHashed, IsNotHashed, IsToldOf, Runs, Ste
 ghost use Rattle.gf_run.specs.Hashes.{name_of, named_line};
 ghost use Rattle.gf_run.specs.Output.{IsWriteFault, IsWritten};
 
-use crate::asked::Input;
+use crate::asked::{Input, Paths};
 use crate::ending::tell;
 use crate::fault::{RunFault, WriteFault, status};
-use crate::folders::files_named;
 use crate::hash::run_hash;
 use crate::inputs::Inputs;
 use crate::job::open_input;
+use crate::paths::{files_at, tell_unlisted};
+use crate::progress::Progress;
 use crate::report::line_of;
 use crate::sink::{Sink, push_all};
 use gf_canon::Names;
@@ -25,7 +26,7 @@ pub(crate) fn name_of(input: &Input) -> &str
 {
     match input {
         Input::Standard => "-",
-        Input::File(name) => name.as_str(),
+        Input::File(name) | Input::NotText(name) => name.as_str(),
     }
 }
 
@@ -113,12 +114,13 @@ fn hash_next<I: Inputs, W: Sink, E: Sink>(
 ///
 /// Each file is opened, read and freed before the next one. A file that is refused, or cannot be opened
 /// or read, has no line; its fault is told on standard error after its name, and the others go on. If
-/// the output fails, E21 is told, and the run ends.
-pub fn run_hashes<I: Inputs, W: Sink, E: Sink>(
+/// the output fails, E21 is told, and the run ends. `progress` is told of each file that is done.
+pub fn run_hashes<I: Inputs, P: Progress, W: Sink, E: Sink>(
     alloc: Global,
     inputs: &I,
     files: &[Input],
     names: Names,
+    progress: &mut P,
     output: &mut W,
     errors: &mut E,
 ) -> u8
@@ -134,21 +136,34 @@ pub fn run_hashes<I: Inputs, W: Sink, E: Sink>(
             Ok(status) => worst = status,
             Err(WriteFault) => return worst.max(tell(&RunFault::Write, errors)),
         }
+        progress.step(files.len());
     }
+    progress.end();
     worst
 }
 
-/// Writes the hashes of the files that words name, as `run_hashes` does, and gives the exit status.
-/// Before a file is opened, all words are followed. If memory runs out then, E19 is told.
-pub fn hash_words<R: Inputs + Files + AllocGlobal + Clone + Drop, W: Sink, E: Sink>(
+/// Writes the hashes of the files at these paths, as `run_hashes` does, and gives the exit status.
+///
+/// Before a file is opened, all paths are followed. If memory runs out then, E19 is told; if a list of
+/// names cannot be read, E20 after its name.
+pub fn hash_paths<R: Inputs + Files + AllocGlobal, P: Progress, W: Sink, E: Sink>(
     rt: &R,
-    words: Vec<String>,
+    paths: Paths,
     names: Names,
+    progress: &mut P,
     output: &mut W,
     errors: &mut E,
 ) -> u8 {
-    match files_named(rt, words) {
-        Ok(files) => run_hashes(rt.alloc(), rt, files.as_slice(), names, output, errors),
-        Err(_) => tell(&RunFault::Memory, errors),
+    match files_at(rt, paths) {
+        Ok(files) => run_hashes(
+            rt.alloc(),
+            rt,
+            files.as_slice(),
+            names,
+            progress,
+            output,
+            errors,
+        ),
+        Err(fault) => tell_unlisted(rt.alloc(), &fault, errors),
     }
 }

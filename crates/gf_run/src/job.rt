@@ -46,6 +46,7 @@ pub(crate) fn open_input<I: Inputs>(inputs: &I, input: &Input) -> Result<I::Open
     match input {
         Input::Standard => Ok(inputs.standard()),
         Input::File(name) => open_file(inputs, name.as_str(), Which::Only),
+        Input::NotText(_) => Err(RunFault::Read(Which::Only)),
     }
 }
 
@@ -185,7 +186,7 @@ fn same<I: Inputs, W: Sink>(
 }
 
 /// Opens the inputs of a job, does it, and gives the exit status of its answer.
-fn run_job<I: Inputs, W: Sink>(
+pub(crate) fn run_job<I: Inputs, W: Sink>(
     alloc: Global,
     inputs: &I,
     job: &Job,

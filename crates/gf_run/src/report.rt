@@ -1,7 +1,7 @@
 //! What is told of a fault: its line on standard error.
 
 ghost use Rattle.std.specs.Prelude.{◌≡◌, ◌≤◌, length, OnOk, OnErr};
-ghost use Rattle.gf_run.specs.FaultLine.{fault_line, label_of};
+ghost use Rattle.gf_run.specs.FaultLine.{fault_label, fault_line, label_of, short_line};
 ghost use Rattle.gf_run.specs.Output.{IsWriteFault, IsWritten};
 
 use crate::fault::{RunFault, Which, WriteFault};
@@ -21,35 +21,53 @@ fn label(which: Which) -> &'static [u8]
     }
 }
 
-/// The line of a fault.
-pub(crate) fn line_of(fault: &RunFault) -> Line
-    ensures { result ≡ fault_line fault.now }
+/// What the line of a fault begins with.
+fn label_of(fault: &RunFault) -> &'static [u8]
+    ensures text { result.now ≡ fault_label fault.now }
+    ensures short { length result.now ≤ 3 }
+{
+    match fault {
+        RunFault::Refused { which, .. } | RunFault::Read(which) => label(*which),
+        RunFault::Write | RunFault::Form(_) | RunFault::Memory => b"",
+    }
+}
+
+/// The line of a fault, without its input and without its line feed.
+pub(crate) fn short_line_of(fault: &RunFault) -> Line
+    ensures text { result ≡ short_line fault.now }
+    ensures short { length result ≤ 70 }
 {
     let mut line = Line::new();
     match fault {
-        RunFault::Refused { which, fault } => {
-            line.push(label(*which));
+        RunFault::Refused { fault, .. } => {
             line.push(b"E");
             line.push_number(usize::from(fault.why.code()));
             line.push(b" at ");
             line.push_number(fault.span.start);
             line.push(b"..");
             line.push_number(fault.span.end);
-            line.push(b"\n");
         }
-        RunFault::Read(which) => {
-            line.push(label(*which));
-            line.push(b"E20\n");
-        }
-        RunFault::Write => line.push(b"E21\n"),
-        RunFault::Form(FormFault::TooManyProfiles) => line.push(b"too many profiles\n"),
+        RunFault::Read(_) => line.push(b"E20"),
+        RunFault::Write => line.push(b"E21"),
+        RunFault::Form(FormFault::TooManyProfiles) => line.push(b"too many profiles"),
         RunFault::Form(FormFault::Overflow { profile }) => {
             line.push(b"overflow at profile ");
             line.push_number(*profile as usize);
-            line.push(b"\n");
         }
-        RunFault::Form(FormFault::Memory) | RunFault::Memory => line.push(b"E19\n"),
+        RunFault::Form(FormFault::Memory) | RunFault::Memory => line.push(b"E19"),
     }
+    line
+}
+
+/// The line of a fault.
+#[tactic(auto, using(crate::proofs::FaultLines::line_parts))]
+pub(crate) fn line_of(fault: &RunFault) -> Line
+    ensures { result ≡ fault_line fault.now }
+{
+    let mut line = Line::new();
+    line.push(label_of(fault));
+    line.push(short_line_of(fault).as_slice());
+    line.push(b"\n");
     line
 }
 

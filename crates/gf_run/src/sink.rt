@@ -32,6 +32,9 @@ pub trait Sink: Write {
     /// How many errors `push` has answered, and how many pushes took nothing, up to `u64::MAX`.
     fn failures(&self) -> u64
         ensures { result ≡ count self.now };
+
+    /// The last error that `push` has answered.
+    fn last_error(&self) -> Option<io::Error>;
 }
 
 /// A push that is asked again after an interruption. The sixteenth in a row is a write fault, and

@@ -7,8 +7,13 @@ use std::alloc::{AllocError, Global};
 /// What the words ask for, or the kind of answer that they have.
 fn asked(alloc: Global, words: &[&str]) -> Result<String, AllocError> {
     match parse_words(alloc, words) {
-        Ok(Asked::Job(job)) => format!(in alloc; "{job:?}"),
-        Ok(hash) => format!(in alloc; "{hash:?}"),
+        Ok(
+            Asked::Job {
+                job,
+                explain: false,
+            },
+        ) => format!(in alloc; "{job:?}"),
+        Ok(other) => format!(in alloc; "{other:?}"),
         Err(WordsFault::Help(_)) => String::from_str(alloc, "help"),
         Err(WordsFault::Usage(_)) => String::from_str(alloc, "usage"),
         Err(WordsFault::Memory) => String::from_str(alloc, "memory"),
@@ -17,13 +22,17 @@ fn asked(alloc: Global, words: &[&str]) -> Result<String, AllocError> {
 
 #[test]
 fn ask_for_jobs(rt: HostRuntime) -> Result<(), AllocError> {
-    let rows: [(&[&str], &str); 10] = [
+    let rows: [(&[&str], &str); 13] = [
         (&[], "Canon { input: Standard, names: Kept }"),
         (
             &["canon", "a.efg"],
             "Canon { input: File(\"a.efg\"), names: Kept }",
         ),
         (&["check", "-"], "Check(File(\"-\"))"),
+        (
+            &["check", "--explain"],
+            "Job { job: Check(Standard), explain: true }",
+        ),
         (&["table"], "Table { input: Standard, reduced: false }"),
         (
             &["table", "a.efg", "--reduced"],
@@ -47,7 +56,15 @@ fn ask_for_jobs(rt: HostRuntime) -> Result<(), AllocError> {
         ),
         (
             &["hash", "a", "--no-names", "b"],
-            "Hash { words: [\"a\", \"b\"], names: Aside }",
+            "Hash(Collection { paths: Words([\"a\", \"b\"]), names: Aside, quiet: false })",
+        ),
+        (
+            &["duplicates", "--files-from", "a", "--quiet"],
+            "Duplicates(Collection { paths: List { list: File(\"a\"), end: 10 }, names: Kept, quiet: true })",
+        ),
+        (
+            &["hash", "-0", "--files-from", "-"],
+            "Hash(Collection { paths: List { list: Standard, end: 0 }, names: Kept, quiet: false })",
         ),
     ];
     for (words, job) in rows {

@@ -1,0 +1,9 @@
+//! A fault in words: where it is, what is wrong, the line with marks under the place, and a hint.
+
+mod excerpt;
+mod place;
+mod sentence;
+mod shown;
+mod text;
+
+pub use text::explanation;

@@ -1,0 +1,30 @@
+//! The line and the column of a place in a file.
+
+ghost use Rattle.std.specs.Prelude.{◌≤◌, length};
+ghost use Rattle.gf_run.specs.Input.{limit};
+ghost use Rattle.gf_run.specs.Place.{IsPlaceAfter};
+
+/// A line and a column, both from 1. Columns are counted in bytes.
+#[derive(Clone, Copy, Debug, PartialEq, Eq)]
+pub struct Place {
+    pub line: usize,
+    pub column: usize,
+}
+
+/// The place after these bytes: the line after so many line feeds, and the column after so many bytes
+/// since the last of them.
+pub fn place_after(bytes: &[u8]) -> Place
+    requires { length bytes.now ≤ limit }
+    ensures { IsPlaceAfter bytes.now result }
+{
+    let mut place = Place { line: 1, column: 1 };
+    for byte in bytes {
+        if *byte == b'\n' {
+            place.line += 1;
+            place.column = 1;
+        } else {
+            place.column += 1;
+        }
+    }
+    place
+}

@@ -1,0 +1,186 @@
+//! What is wrong with a file, in a sentence, and how it may be mended. The sentences that name no token
+//! are those of library/gamefile.c.
+
+use crate::explain::shown::push_front;
+use gf_form::FormFault;
+use gf_token::{What, Why};
+use itoa::Buffer;
+use std::alloc::AllocError;
+
+/// The most bytes of a token that a sentence shows.
+const MOST: usize = 40;
+
+/// A sentence.
+#[derive(Clone, Copy, Debug)]
+enum Sentence {
+    Plain(&'static str),
+    /// What stands before and after the token.
+    Naming(&'static str, &'static str),
+}
+
+/// What was expected.
+fn expectation(what: What) -> &'static str {
+    match what {
+        What::Format => "expected `NFG` or `EFG` at the start of the file, found ",
+        What::Version => "expected version 1 (after NFG) or version 2 (after EFG), found ",
+        What::Letter => "expected `R` or `D`, found ",
+        What::Text => "expected a text in double quotes, found ",
+        What::Opening => "expected `{`, found ",
+        What::Closing => "expected `}`, found ",
+        What::Number => "expected a number, found ",
+        What::Index => "expected a whole number, found ",
+        What::Strategies => {
+            "expected the number of strategies of each player, or lists of their labels, found "
+        }
+        What::Node => "expected a node: `c`, `p` or `t`, found ",
+        What::End => "expected the end of the file, found ",
+    }
+}
+
+/// The sentence of a fault in a number.
+fn about_number(why: Why) -> Sentence {
+    match why {
+        Why::NotANumber => Sentence::Naming("", " is not a number"),
+        Why::ZeroDenominator => Sentence::Plain("the denominator is zero"),
+        Why::NumberTooLarge => {
+            Sentence::Plain("this number is too large or has too many digits")
+        }
+        Why::NegativeProbability => Sentence::Plain("a probability cannot be negative"),
+        Why::SumAboveOne => Sentence::Plain("the probabilities add up to more than 1"),
+        Why::SumBelowOne => Sentence::Plain("the probabilities add up to less than 1"),
+        _ => Sentence::Plain("the sum of these probabilities needs more than 127 bits"),
+    }
+}
+
+/// The sentence of a fault in a file; of a number's as `about_number` has it.
+fn sentence_of(why: Why, found: &[u8]) -> Sentence {
+    match why {
+        Why::TooLong => Sentence::Plain(
+            "the file is larger than 16,777,216 bytes, the largest size that gamefile reads",
+        ),
+        Why::Unterminated => Sentence::Plain("this quotation mark is never closed"),
+        Why::Expected(what) => Sentence::Naming(expectation(what), ""),
+        Why::BadIndex => Sentence::Naming(
+            "",
+            " is not a valid number here: expected a whole number from 1 to 4,294,967,295 (from 0 for \
+            an outcome)",
+        ),
+        Why::UnknownPlayer => {
+            if found == b"p".as_slice() {
+                Sentence::Plain("this game has no players, so it cannot have a player's node")
+            } else {
+                Sentence::Naming("there is no player ", "")
+            }
+        }
+        Why::NotDescribed => Sentence::Plain(
+            "this information set or outcome is used for the first time, so its description must \
+            follow its number",
+        ),
+        Why::Mismatch => Sentence::Plain(
+            "this differs from the description given when the number was first used",
+        ),
+        Why::NoEntry => Sentence::Plain(
+            "this list is empty: a player needs at least one strategy, an information set at least \
+            one action",
+        ),
+        Why::UnknownOutcome => {
+            Sentence::Naming(
+                "there is no outcome ",
+                ": the file describes fewer outcomes",
+            )
+        }
+        Why::TooManyProfiles => {
+            Sentence::Plain("the table would have more than 1,048,576 strategy profiles")
+        }
+        Why::Memory => Sentence::Plain("out of memory"),
+        why => about_number(why),
+    }
+}
+
+/// Appends a token as a sentence names it. None stands at the end of the file.
+fn push_token(text: &mut String, token: &[u8]) -> Result<(), AllocError> {
+    if token.is_empty() {
+        return text.push_str("the end of the file");
+    }
+    if token.starts_with(b"\"") {
+        text.push_str("the text ")?;
+        return push_front(text, token, MOST);
+    }
+    text.push('`')?;
+    push_front(text, token, MOST)?;
+    text.push('`')
+}
+
+/// Appends what is wrong at the token that was found.
+pub fn push_sentence(text: &mut String, why: Why, found: &[u8]) -> Result<(), AllocError> {
+    match sentence_of(why, found) {
+        Sentence::Plain(words) => text.push_str(words),
+        Sentence::Naming(before, after) => {
+            text.push_str(before)?;
+            push_token(text, found)?;
+            text.push_str(after)
+        }
+    }
+}
+
+/// Appends why a game has no table.
+pub fn push_form(text: &mut String, fault: &FormFault) -> Result<(), AllocError> {
+    match fault {
+        FormFault::TooManyProfiles => {
+            text.push_str("the strategic form has more than 1,048,576 strategy profiles")
+        }
+        FormFault::Overflow { profile } => {
+            let mut buffer = Buffer::new();
+            text.push_str("the expected payoffs at profile ")?;
+            text.push_str(buffer.format(*profile))?;
+            text.push_str(" need numbers of more than 127 bits")
+        }
+        FormFault::Memory => text.push_str("out of memory"),
+    }
+}
+
+/// Whether a token looks like a number.
+fn is_numeric(token: &[u8]) -> bool {
+    match token.first() {
+        Some(byte) => byte.is_ascii_digit() || *byte == b'-' || *byte == b'+' || *byte == b'.',
+        None => false,
+    }
+}
+
+/// A hint about a token in a place where something else is due.
+fn hint_at(what: What, found: &[u8]) -> Option<&'static str> {
+    match what {
+        What::Format if found.starts_with(b"\xef\xbb\xbf") => {
+            Some("the file begins with a byte order mark; save it as UTF-8 without one")
+        }
+        What::Closing if is_numeric(found) => {
+            Some("a list of payoffs, or of numbers of strategies, has one for each player")
+        }
+        What::Number if found == b",".as_slice() => Some(
+            "commas may follow only payoffs in braces",
+        ),
+        What::Node if found.is_empty() => {
+            Some("the tree is incomplete: each action needs a subtree")
+        }
+        What::Node => Some("each action needs a subtree"),
+        What::End => Some("the game is already complete here"),
+        _ => None,
+    }
+}
+
+/// How a file may be mended.
+pub fn hint(why: Why, found: &[u8]) -> Option<&'static str> {
+    match why {
+        Why::Unterminated => Some(
+            "a quotation mark inside a label is written \\\" ; a label cannot end in a backslash",
+        ),
+        Why::Expected(what) => hint_at(what, found),
+        Why::NotANumber => Some("write 3, -0.5, 1e-3 or 1/3"),
+        Why::NumberTooLarge => Some(
+            "numerators and denominators have at most 127 bits; at most 38 digits after the point",
+        ),
+        Why::Mismatch => Some("repeat it exactly, or leave it out"),
+        Why::SumBelowOne => Some("probabilities are exact: write 1/3 rather than 0.333"),
+        _ => None,
+    }
+}
