@@ -41,6 +41,7 @@ pub mod NextStrategies
 pub mod NoPlayer
 pub mod NodeTerms
 pub mod NumberedProfiles
+pub mod OnlyStrategies
 pub mod OrderedShares
 pub mod OverOneDenominator
 pub mod PaidRowsKept
