@@ -32,6 +32,8 @@ pub mod JoinedTexts
 pub mod KeptShares
 pub mod KnownSets
 pub mod LabelsJoined
+pub mod LeftVisits
+pub mod LevelsKept
 pub mod ListedEntries
 pub mod Lookups
 pub mod Lotteries

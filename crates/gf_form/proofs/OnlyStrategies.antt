@@ -1,6 +1,6 @@
 -- A player with one strategy: he has one action at each set, so that all his sets are relevant.
 use Rattle.std.proofs.Common.{◌≡◌, ℕ, zero, suc, ◌+◌, ◌*◌, ◌<◌, ◌≤◌, Bool, true, false, cond, List}
-use Rattle.std.proofs.Common.{[], ◌∷◌, ◌++◌, Option, Some, None, MatchOption, length, map, get_or}
+use Rattle.std.proofs.Common.{[], ◌∷◌, Option, Some, None, MatchOption, length, map, get_or}
 use Rattle.std.proofs.Common.{refl, sym, ap, subst, ◌∙◌, arith, inl, inr}
 use Rattle.std.specs.Prelude.{◌==◌, ◌||◌, ◌&&◌, codes, decimal, filter, find, not, option_map, unwrap_or}
 use Rattle.std.specs.List.{AllByRecursion, Contains, cons_option, filter_map, join_with_byte}

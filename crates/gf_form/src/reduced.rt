@@ -66,9 +66,8 @@ fn first_strategies(
     ensures labels { IfOk result (λ own. own.1 ≡ reduced_labels game.now player) }
 {
     let _players = game.players();
-    let relevance = Relevance::of_player(alloc, game, player)?;
+    let mut relevance = Relevance::of_player(alloc, game, player, counts)?;
     let mut strategy = Vec::with_capacity(alloc, counts.len())?;
-    let mut reached = Vec::new(alloc);
     let mut relevant = Vec::with_capacity(alloc, counts.len())?;
     let mut text = Vec::new(alloc);
     let mut firsts = Vec::new(alloc);
@@ -76,7 +75,7 @@ fn first_strategies(
     let mut number = 0;
     while number < whole {
         write_strategy(counts, whole, number, &mut strategy)?;
-        relevance.write_relevant(&strategy, &mut reached, &mut relevant)?;
+        relevance.write_relevant(alloc, &strategy, &mut relevant)?;
         if is_first(&relevant, &strategy) {
             write_reduced_label(&relevant, &strategy, &mut text)?;
             labels.push(Label::of_spelling(&text))?;

@@ -1,4 +1,4 @@
-use Rattle.std.proofs.Common.{◌≡◌, ◌++◌, ◌∷◌, ◌∙◌, [], ℕ, List, ap, map, subst, sym}
+use Rattle.std.proofs.Common.{◌++◌, ◌∷◌, ◌∙◌, [], ℕ, List, ap, map, subst, sym}
 use Rattle.gf_nfg.specs.Profiles.{product}
 use Rattle.gf_form.specs.Firsts.{AreFirstsOf}
 use Rattle.gf_form.specs.Strategies.{all_choices, strategy_label}
