@@ -256,18 +256,16 @@ def tree_players(count=4_000_000):
     return accepted("tree", file, text, form=many_players(count, "", "0"))
 
 
-def players_with_sets(count=None, without=()):
-    """Most of a million players with a set each, or so many."""
-    numbers = range(1, (count or fitting(20, '""', 'p""123456 1""{""}0\n')) + 1)
+def players_with_sets():
+    """Most of a million players with a set each."""
+    numbers = range(1, fitting(20, '""', 'p""123456 1""{""}0\n') + 1)
     moves = "".join(f'p""{player} 1""{{""}}0\n' for player in numbers)
     nodes = "".join(f'p "" {player} 1 "" {{ "" }} 0\n' for player in numbers)
     lines = "".join(f"set {player} 1 1\n" for player in numbers)
     file = f'EFG 2 R ""{{{chr(34) * 2 * len(numbers)}}}{moves}t""0'
     text = tree_text("", [""] * len(numbers), nodes + 't "" 0\n')
     form = many_players(len(numbers), "1", "0")
-    game = accepted("tree", file, text, form=form, lines=lines)
-    kept = {command: answer for command, answer in game.answers.items() if command not in without}
-    return game._replace(answers=kept)
+    return accepted("tree", file, text, form=form, lines=lines)
 
 
 def sets_of_one():
@@ -449,7 +447,7 @@ FILES = {
     "a tree without its end": (cut_tree, cut_table),
     "nested moves": (nested_moves, plain_tree),
     "players of a tree": (tree_players, plain_tree),
-    "players with a set each": (partial(players_with_sets, without=["reduced"]), plain_tree),
+    "players with a set each": (players_with_sets, plain_tree),
     "sets of one player": (sets_of_one, plain_tree),
     "colliding sets": (colliding_sets, scattered_sets),
     "nested outcomes": (nested_outcomes, plain_tree),
@@ -461,9 +459,4 @@ FILES = {
     "coprime sums": (coprime_sums, equal_sides),
     "actions again": (actions_again, plain_tree),
     "sides again": (sides_again, plain_tree),
-}
-
-# The same where a command is too slow at full size, as docs/DECISIONS.md says: at a size that passes.
-KNOWN = {
-    "fewer players with a set": (partial(players_with_sets, 5_000), plain_tree),
 }

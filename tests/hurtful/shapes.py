@@ -438,6 +438,8 @@ SHAPES = {
     "the largest payoffs of two": (partial(largest_payoffs_of_two, 14), partial(side_by_side, 14)),
     "moves of one action": (partial(moves_of_one_action, 7, 50), SOME_ROWS),
     "sets in conflict": (partial(sets_in_conflict, 12), SOME_ROWS),
+    "a full tree": (partial(full_tree, 17), partial(side_by_side, 17)),
+    "a mixed tree": (partial(mixed_tree, 12, 16), partial(side_by_side, 16)),
 }
 
 # The same of shapes that are too slow at full size, which docs/DECISIONS.md lists: at a size that passes.
@@ -462,8 +464,6 @@ KNOWN = {
         partial(branches_with_denominators, 60, 9, False, primes(5, 10**9)),
         partial(branches_with_denominators, 60, 9, False, [7] * 5),
     ),
-    "a full tree": (partial(full_tree, 10), SOME_ROWS),
     "a wide tree": (partial(wide_tree, 500, 8, 20, without=["reduced"]), MOST_ROWS),
-    "a wide tree reduced": (partial(wide_tree, 50, 5, 11), SOME_ROWS),
-    "a mixed tree": (partial(mixed_tree, 8, 11), SOME_ROWS),
+    "a wide tree reduced": (partial(wide_tree, 100, 6, 14), partial(side_by_side, 14)),
 }

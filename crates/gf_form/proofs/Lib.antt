@@ -32,6 +32,8 @@ pub mod JoinedTexts
 pub mod KeptShares
 pub mod KnownSets
 pub mod LabelsJoined
+pub mod LeftVisits
+pub mod LevelsKept
 pub mod ListedEntries
 pub mod Lookups
 pub mod Lotteries
@@ -40,6 +42,7 @@ pub mod Merges
 pub mod NoPlayer
 pub mod NodeTerms
 pub mod NumberedProfiles
+pub mod OnlyStrategies
 pub mod OrderedShares
 pub mod OverOneDenominator
 pub mod PaidRowsKept

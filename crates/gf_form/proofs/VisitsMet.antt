@@ -1,13 +1,15 @@
 -- Lists of visits: one more visit, and the visit with a number.
 use Rattle.std.proofs.Common.{◌≡◌, ℕ, zero, suc, ◌+◌, ◌<◌, ◌≤◌, Bool, true, false, List, []}
 use Rattle.std.proofs.Common.{◌∷◌, ◌++◌, Some, length, refl, sym, ap, ◌∙◌, subst, arith, inl, inr}
-use Rattle.std.proofs.Common.{add-one, get_or, set, slice_get, take}
+use Rattle.std.proofs.Common.{get_or, set, slice_get, take}
 use Rattle.std.specs.Prelude.{◌==◌, ◌||◌, ◌&&◌, ◌⊎◌}
 use Rattle.std.proofs.Math.Bool.{or_assoc}
 use Rattle.std.proofs.lemmas.Bool.{eq-eqb, eqb-false, eqb-true, ne_eqb}
 use Rattle.std.proofs.lemmas.Grind.{get_or-set_at}
-use Rattle.std.proofs.lemmas.List.{get_or-set_other, length-append, length-set}
-use Rattle.gf_form.specs.Visits.{AreOrdered, AreReached, Meets, Reaches, is_met, is_taken}
+use Rattle.std.proofs.lemmas.List.{get_or-set_other, length-append, length-set, take_more}
+use Rattle.std.proofs.lemmas.List.Folds.{list_any-append}
+use Rattle.std.specs.List.{list_any}
+use Rattle.gf_form.specs.Visits.{AreOrdered, AreReached, Meets, Reaches, is_met, is_taken, visit_at}
 use Rattle.gf_form.specs.declared.visits.Visit.{Visit}
 
 module _ (choices : ℕ → ℕ) (reached : ℕ → Bool) where
@@ -150,16 +152,6 @@ met_ordered sets old visit new number m ordered visited above within = by m.grow
     by (inr more) = subst (AreOrdered sets 1) (sym more)
         (ordered_last sets old visit 1 ordered (omega (arith, visited)) above within)
 
--- ---- what comes about, visit after visit
-
--- of so many visits from the first one on, each comes about where its last move is taken
-pub record ReachedTo (choices : ℕ → ℕ) (vs : List Visit) (flags : List Bool) (i : ℕ)
-    : Type 0 where
-  pub counted : length flags ≡ suc i
-  pub first : get_or flags 0 false ≡ true
-  pub reached : (k : ℕ) (v : Visit) → k < i → slice_get vs k ≡ Some v
-      → get_or flags (suc k) false ≡ is_taken choices (λ number. get_or flags number false) v.last
-
 pub ordered_there : (sets : ℕ) (vs : List Visit) (v : Visit) (k number : ℕ)
     → AreOrdered sets number vs → slice_get vs k ≡ Some v
     → (v.last.visit < number + k) × (1 ≤ v.set) × (v.set ≤ sets)
@@ -171,58 +163,9 @@ ordered_there sets (w ∷ vs) v zero number h there =
 ordered_there sets (w ∷ vs) v (suc k) number h there =
     let o = ordered_there sets vs v k (number + 1) h.3 there in (omega (arith, o.0), o.1, o.2)
 
--- one flag more leaves the earlier ones
-flag_kept : (flags : List Bool) (flag : Bool) (k : ℕ) → k < length flags
-    → get_or (flags ++ flag ∷ []) k false ≡ get_or flags k false
-flag_kept [] flag k h = absurd (omega (arith, h))
-flag_kept (f ∷ flags) flag zero h = refl
-flag_kept (f ∷ flags) flag (suc k) h = flag_kept flags flag k (omega (arith, h))
+-- ---- what comes about
 
-flag_last : (flags : List Bool) (flag : Bool)
-    → get_or (flags ++ flag ∷ []) (length flags) false ≡ flag
-flag_last [] flag = refl
-flag_last (f ∷ flags) flag = flag_last flags flag
-
-some_same : {x y : Visit} → Some x ≡ Some y → x ≡ y
-some_same e = cc
-
-pub reached_more : (choices : ℕ → ℕ) (sets : ℕ) (vs : List Visit) (flags next : List Bool) (i : ℕ)
-    (v : Visit) (flag : Bool) → AreOrdered sets 1 vs → ReachedTo choices vs flags i
-    → slice_get vs i ≡ Some v → next ≡ flags ++ flag ∷ []
-    → flag ≡ is_taken choices (λ number. get_or flags number false) v.last
-    → ReachedTo choices vs next (i + 1)
-reached_more choices sets vs flags next i v flag ordered h there is flag_is =
-    subst (λ flags. ReachedTo choices vs flags (i + 1)) (sym is) (record {
-      counted = omega (arith, length-append flags (flag ∷ []), h.counted);
-      first = flag_kept flags flag 0 (omega (arith, h.counted)) ∙ h.first;
-      reached = λ k w less at. by k w at (k == i) refl less;
-    })
-  where
-    kept : (k : ℕ) (w : Visit) → k ≤ i → slice_get vs k ≡ Some w
-        → is_taken choices (λ number. get_or flags number false) w.last
-        ≡ is_taken choices (λ number. get_or (flags ++ flag ∷ []) number false) w.last
-    kept k w within at =
-        let o = ordered_there sets vs w k 1 ordered at in
-        λ i. sym (flag_kept flags flag w.last.visit (omega (arith, o.0, within, h.counted))) i
-        && choices w.last.set == w.last.action
-
-    by : (k : ℕ) (w : Visit) → slice_get vs k ≡ Some w → (b : Bool) → (k == i) ≡ b → k < i + 1
-        → get_or (flags ++ flag ∷ []) (suc k) false
-        ≡ is_taken choices (λ number. get_or (flags ++ flag ∷ []) number false) w.last
-    by k w at false e less =
-        let earlier : k < i = omega (arith, eqb-false k i e, less) in
-        flag_kept flags flag (suc k) (omega (arith, earlier, h.counted))
-        ∙ h.reached k w earlier at ∙ kept k w (omega (arith, earlier)) at
-    by k w at true e less =
-        let last = eqb-true k i e in
-        let same : v ≡ w = some_same (sym there ∙ ap (slice_get vs) (sym last) ∙ at) in
-        let end : suc k ≡ length flags = omega (arith, last, h.counted) in
-        ap (λ (n : ℕ). get_or (flags ++ flag ∷ []) n false) end
-        ∙ flag_last flags flag ∙ flag_is
-        ∙ ap (λ (v : Visit). is_taken choices (λ number. get_or flags number false) v.last) same
-        ∙ kept k w (omega (arith, last)) at
-
-all_reached : (choices : ℕ → ℕ) (reached : ℕ → Bool) (vs : List Visit) (number : ℕ)
+pub all_reached : (choices : ℕ → ℕ) (reached : ℕ → Bool) (vs : List Visit) (number : ℕ)
     → ((k : ℕ) (v : Visit) → slice_get vs k ≡ Some v
     → reached (number + k) ≡ is_taken choices reached v.last)
     → AreReached choices reached number vs
@@ -235,106 +178,64 @@ all_reached choices reached (v ∷ vs) number h =
           ap reached next ∙ h (suc k) w at),
     )
 
-pub reached_all : (choices : ℕ → ℕ) (vs : List Visit) (flags : List Bool)
-    → ReachedTo choices vs flags (length vs)
-    → Reaches choices (λ number. get_or flags number false) vs
-reached_all choices vs flags h = (
-  h.first,
-  all_reached choices (λ number. get_or flags number false) vs 1 (λ k v at.
-      let next : 1 + k ≡ suc k = omega arith in
-      ap (λ (n : ℕ). get_or flags n false) next ∙ h.reached k v (slice_within vs k v at) at),
-)
+-- ---- what is met, number after number
 
--- ---- what is met, visit after visit
-
-take_more : (vs : List Visit) (v : Visit) (i : ℕ) → slice_get vs i ≡ Some v
-    → (take (suc i) vs ≡ take i vs ++ v ∷ []) × (length (take i vs) ≡ i)
-take_more [] v i there = absurd cc
-take_more (w ∷ vs) v zero there = let same : w ≡ v = cc in (ap (λ w. w ∷ []) same, refl)
-take_more (w ∷ vs) v (suc i) there =
-    let more = take_more vs v i there in
-    (ap (λ (vs : List Visit). w ∷ vs) more.0, ap suc more.1)
-
--- of so many sets, whether each is met on one of so many visits from the first one on
-pub record MetTo (sets : ℕ) (reached : ℕ → Bool) (vs : List Visit) (flags : List Bool) (i : ℕ)
+-- of so many sets, whether each is met on one of the first visits with these numbers
+pub record MetTo (sets : ℕ) (vs : List Visit) (numbers : List ℕ) (flags : List Bool) (i : ℕ)
     : Type 0 where
   pub counted : length flags ≡ sets
-  pub met : (before : ℕ) → before < sets
-      → get_or flags before false ≡ is_met reached (suc before) 1 (take i vs)
+  pub met : (before : ℕ) → before < sets → get_or flags before false
+      ≡ list_any (λ number. (visit_at vs number).set == suc before) (take i numbers)
 
-met_next : (sets : ℕ) (reached : ℕ → Bool) (vs : List Visit) (flags next : List Bool) (i : ℕ)
-    (v : Visit) → MetTo sets reached vs flags i → slice_get vs i ≡ Some v → length next ≡ sets
-    → ((before : ℕ) → before < sets → get_or next before false
-    ≡ (get_or flags before false || (v.set == suc before && reached (i + 1))))
-    → MetTo sets reached vs next (i + 1)
-met_next sets reached vs flags next i v h there counted flag = record {
-  counted = counted;
-  met = λ before less.
-      let more = take_more vs v i there in
-      let number : i + 1 ≡ 1 + length (take i vs) = omega (arith, more.1) in
-      flag before less
-      ∙ (λ j. h.met before less j || (v.set == suc before && reached (number j)))
-      ∙ sym (met_last (λ k. k) reached (take i vs) v (suc before) 1)
-      ∙ ap (is_met reached (suc before) 1) (sym more.0 ∙ ap (λ (n : ℕ). take n vs) (sym (add-one i)));
-}
-
-pub met_on : (sets : ℕ) (reached : ℕ → Bool) (vs : List Visit) (flags next : List Bool) (i at : ℕ)
-    (v : Visit) → MetTo sets reached vs flags i → slice_get vs i ≡ Some v
-    → reached (i + 1) ≡ true → suc at ≡ v.set → v.set ≤ sets → next ≡ set flags at true
-    → MetTo sets reached vs next (i + 1)
-met_on sets reached vs flags next i at v h there is set_is within is_next =
-    let inside : at < length flags = omega (arith, set_is, within, h.counted) in
-    met_next sets reached vs flags next i v h there
-    (ap length is_next ∙ length-set flags at true ∙ h.counted)
-    (λ before less. ap (λ (f : List Bool). get_or f before false) is_next
-    ∙ by before (before == at) refl inside
-    ∙ ap (λ b. get_or flags before false || (v.set == suc before && b)) (sym is))
+flag_on : (flags : List Bool) (at position before : ℕ) → at < length flags → suc at ≡ position
+    → get_or (set flags at true) before false
+    ≡ (get_or flags before false || position == suc before)
+flag_on flags at position before inside is = by (before == at) refl
   where
-    by : (before : ℕ) (b : Bool) → (before == at) ≡ b → at < length flags
-        → get_or (set flags at true) before false
-        ≡ (get_or flags before false || (v.set == suc before && true))
-    by before true e inside =
+    or_true : (b : Bool) → (b || true) ≡ true
+    or_true true = refl
+    or_true false = refl
+
+    or_false : (b : Bool) → b ≡ (b || false)
+    or_false true = refl
+    or_false false = refl
+
+    by : (b : Bool) → (before == at) ≡ b → get_or (set flags at true) before false
+        ≡ (get_or flags before false || position == suc before)
+    by true e =
         let same : before ≡ at = eqb-true before at e in
-        let here : (v.set == suc before) ≡ true =
-        eq-eqb v.set (suc before) (omega (arith, same, set_is)) in
         get_or-set_at flags at before true false same inside
         ∙ sym (or_true (get_or flags before false))
-        ∙ (λ i. get_or flags before false || (sym here i && true))
-      where
-        or_true : (b : Bool) → (b || true) ≡ true
-        or_true true = refl
-        or_true false = refl
-    by before false e inside =
+        ∙ ap (λ b. get_or flags before false || b)
+        (sym (eq-eqb position (suc before) (omega (arith, same, is))))
+    by false e =
         let differs = eqb-false before at e in
-        let other : (v.set == suc before) ≡ false =
-        ne_eqb v.set (suc before) (λ q. differs (omega (arith, q, set_is))) in
         get_or-set_other flags at before true false differs
         ∙ or_false (get_or flags before false)
-        ∙ (λ i. get_or flags before false || (sym other i && true))
-      where
-        or_false : (b : Bool) → b ≡ (b || false)
-        or_false true = refl
-        or_false false = refl
+        ∙ ap (λ b. get_or flags before false || b)
+        (sym (ne_eqb position (suc before) (λ q. differs (omega (arith, q, is)))))
 
-pub met_off : (sets : ℕ) (reached : ℕ → Bool) (vs : List Visit) (flags : List Bool) (i : ℕ)
-    (v : Visit) → MetTo sets reached vs flags i → slice_get vs i ≡ Some v
-    → reached (i + 1) ≡ false → MetTo sets reached vs flags (i + 1)
-met_off sets reached vs flags i v h there is =
-    met_next sets reached vs flags flags i v h there h.counted
-    (λ before less. nothing (get_or flags before false) (v.set == suc before)
-    ∙ ap (λ b. get_or flags before false || (v.set == suc before && b)) (sym is))
+any_more : (test : ℕ → Bool) (xs : List ℕ) (i : ℕ) → i < length xs
+    → list_any test (take (i + 1) xs) ≡ (list_any test (take i xs) || test (get_or xs i 0))
+any_more test xs i less =
+    ap (list_any test) (take_more xs i 0 less)
+    ∙ list_any-append test (take i xs) (get_or xs i 0 ∷ [])
+    ∙ ap (λ b. list_any test (take i xs) || b) (or_nothing (test (get_or xs i 0)))
   where
-    nothing : (a b : Bool) → a ≡ (a || (b && false))
-    nothing true b = refl
-    nothing false true = refl
-    nothing false false = refl
+    or_nothing : (b : Bool) → (b || false) ≡ b
+    or_nothing true = refl
+    or_nothing false = refl
 
-take_whole : (vs : List Visit) → take (length vs) vs ≡ vs
-take_whole [] = refl
-take_whole (v ∷ vs) = ap (λ (vs : List Visit). v ∷ vs) (take_whole vs)
-
-pub met_all : (sets : ℕ) (reached : ℕ → Bool) (vs : List Visit) (flags : List Bool)
-    → MetTo sets reached vs flags (length vs) → (before : ℕ) → before < sets
-    → get_or flags before false ≡ is_met reached (suc before) 1 vs
-met_all sets reached vs flags h before less =
-    h.met before less ∙ ap (is_met reached (suc before) 1) (take_whole vs)
+pub met_next : (sets : ℕ) (vs : List Visit) (numbers : List ℕ) (flags next : List Bool) (i at : ℕ)
+    → MetTo sets vs numbers flags i → i < length numbers → at < sets
+    → suc at ≡ (visit_at vs (get_or numbers i 0)).set → next ≡ set flags at true
+    → MetTo sets vs numbers next (i + 1)
+met_next sets vs numbers flags next i at h less inside is is_next = record {
+  counted = ap length is_next ∙ length-set flags at true ∙ h.counted;
+  met = λ before within.
+      ap (λ (f : List Bool). get_or f before false) is_next
+      ∙ flag_on flags at (visit_at vs (get_or numbers i 0)).set before
+      (omega (arith, inside, h.counted)) is
+      ∙ ap (λ b. b || (visit_at vs (get_or numbers i 0)).set == suc before) (h.met before within)
+      ∙ sym (any_more (λ number. (visit_at vs number).set == suc before) numbers i less);
+}

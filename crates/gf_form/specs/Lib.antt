@@ -12,6 +12,7 @@ pub mod FullNumbers
 pub mod GameDigits
 pub mod KeptNodes
 pub mod LabelTexts
+pub mod Levels
 pub mod ListedNodes
 pub mod PaidRows
 pub mod PathsLeft

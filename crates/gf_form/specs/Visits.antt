@@ -1,6 +1,7 @@
 -- The visits of a player to his sets, and which of them come about by his own choices.
 use Rattle.std.specs.Prelude.{◌≡◌, ◌≤◌, ◌<◌, ◌+◌, ◌==◌, ◌&&◌, ◌||◌, ◌⊎◌, ⊤, ℕ, Bool, true, false}
-use Rattle.std.specs.Prelude.{List, [], ◌∷◌, ◌++◌, Some, unwrap_or}
+use Rattle.std.specs.Prelude.{◌-◌, List, [], ◌∷◌, ◌++◌, Some, get_or, length, unwrap_or}
+use Rattle.std.specs.List.{AllByRecursion}
 use Rattle.gf_token.specs.Positions.{at_position}
 use Rattle.gf_form.specs.declared.visits.Move.{Move}
 use Rattle.gf_form.specs.declared.visits.Visit.{Visit}
@@ -8,6 +9,16 @@ use Rattle.gf_form.specs.declared.visits.Visits.{Visits}
 
 abbrev pub visits_of : Visits → List Visit
 visits_of v = v.visits.keys
+
+-- the visit with this number, from 1
+abbrev pub visit_at : List Visit → ℕ → Visit
+visit_at visits number =
+    get_or visits (number - 1) (record { last = record { visit = 0; set = 0; action = 0 }; set = 0 })
+
+-- each is the number of a visit
+abbrev pub AreNumbers : List Visit → List ℕ → Type 0
+AreNumbers visits numbers =
+    AllByRecursion (λ number. (1 ≤ number) × (number ≤ length visits)) numbers
 
 -- what a strategy chooses at the set with this position, and 0 where there is none
 abbrev pub chosen : List ℕ → ℕ → ℕ

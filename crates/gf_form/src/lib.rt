@@ -10,6 +10,7 @@ mod fault;
 mod form_labels;
 mod full_rows;
 pub mod laws;
+mod levels;
 mod op;
 mod paths;
 mod payoffs;

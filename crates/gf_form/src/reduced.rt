@@ -13,7 +13,7 @@ ghost use Rattle.gf_form.specs.Strategies.{action_counts, players_of};
 use crate::counts::Counts;
 use crate::reduced_labels::write_reduced_label;
 use crate::relevance::Relevance;
-use crate::strategies::write_strategy;
+use crate::strategies::{strategy_labels, write_strategy};
 use gf_nfg::Labels;
 use gf_token::Label;
 use gf_tree::Game;
@@ -66,9 +66,8 @@ fn first_strategies(
     ensures labels { IfOk result (λ own. own.1 ≡ reduced_labels game.now player) }
 {
     let _players = game.players();
-    let relevance = Relevance::of_player(alloc, game, player)?;
+    let mut relevance = Relevance::of_player(alloc, game, player, counts)?;
     let mut strategy = Vec::with_capacity(alloc, counts.len())?;
-    let mut reached = Vec::new(alloc);
     let mut relevant = Vec::with_capacity(alloc, counts.len())?;
     let mut text = Vec::new(alloc);
     let mut firsts = Vec::new(alloc);
@@ -76,7 +75,7 @@ fn first_strategies(
     let mut number = 0;
     while number < whole {
         write_strategy(counts, whole, number, &mut strategy)?;
-        relevance.write_relevant(&strategy, &mut reached, &mut relevant)?;
+        relevance.write_relevant(alloc, &strategy, &mut relevant)?;
         if is_first(&relevant, &strategy) {
             write_reduced_label(&relevant, &strategy, &mut text)?;
             labels.push(Label::of_spelling(&text))?;
@@ -85,6 +84,45 @@ fn first_strategies(
         number += strategies_alike(counts, &relevant, &strategy);
     }
     Ok((firsts, labels))
+}
+
+/// The same of a player who has one strategy. He has one action at each of his sets, so that all of
+/// them are relevant, and the tree need not be walked for him.
+fn only_strategy(
+    alloc: Global,
+    game: &Game<'_>,
+    player: u32,
+    counts: &[u32],
+) -> Result<(Vec<u32>, Labels), AllocError>
+    requires counts { counts.now ≡ action_counts game.now player }
+    requires one { product counts.now ≡ 1 }
+    ensures firsts { IfOk result (λ own. AreFirstsOf game.now own.0.items player) }
+    ensures labels { IfOk result (λ own. own.1 ≡ reduced_labels game.now player) }
+{
+    let _players = game.players();
+    let mut firsts = Vec::with_capacity(alloc, 1)?;
+    firsts.push(0)?;
+    let labels = strategy_labels(alloc, counts, 1)?;
+    Ok((firsts, labels))
+}
+
+/// The same of any player.
+fn own_strategies(
+    alloc: Global,
+    game: &Game<'_>,
+    player: u32,
+    counts: &[u32],
+    whole: u32,
+) -> Result<(Vec<u32>, Labels), AllocError>
+    requires counts { counts.now ≡ action_counts game.now player }
+    requires whole { whole ≡ product counts.now }
+    ensures firsts { IfOk result (λ own. AreFirstsOf game.now own.0.items player) }
+    ensures labels { IfOk result (λ own. own.1 ≡ reduced_labels game.now player) }
+{
+    if whole == 1 {
+        return only_strategy(alloc, game, player, counts);
+    }
+    first_strategies(alloc, game, player, counts, whole)
 }
 
 /// The numbers of the first strategies of each player, and the labels of his reduced ones.
@@ -106,7 +144,7 @@ pub(crate) fn all_reduced(
     for place in 0..counts.actions.len() {
         let player = place as u32 + 1;
         let whole = counts.strategies[place];
-        let (own, names) = first_strategies(alloc, game, player, &counts.actions[place], whole)?;
+        let (own, names) = own_strategies(alloc, game, player, &counts.actions[place], whole)?;
         firsts.push(own)?;
         labels.push(names)?;
     }

@@ -1,5 +1,5 @@
 //! Which sets of a player are relevant under a strategy of his. One walk through the tree, whatever
-//! the strategy, finds the visits to his sets; a strategy then tells which of them come about.
+//! the strategy, finds the visits to his sets; its choices then tell which of them are left.
 
 ghost use Rattle.std.specs.Prelude.{◌≡◌, ◌<◌, ◌≤◌, ◌&&◌, ◌+◌, ◌*◌, ℕ, IfOk, OnOk, length};
 ghost use Rattle.gf_tree.specs.Branches.{game_of, tree_of};
@@ -14,7 +14,8 @@ ghost use Rattle.gf_form.specs.Survey.{open_size, survey_size};
 ghost use Rattle.gf_form.specs.TellsRelevance.{TellsRelevance};
 ghost use Rattle.gf_form.specs.Visits.{chosen, is_taken, visits_of};
 
-use crate::visits::{Move, Visit, Visits};
+use crate::levels::Levels;
+use crate::visits::{Move, Visit, Visits, write_met};
 use gf_tree::{Branch, Branches, Game};
 use std::alloc::{AllocError, Global};
 
@@ -141,37 +142,43 @@ fn visits_in(alloc: Global, game: &Game<'_>, player: u32) -> Result<Visits, Allo
 pub(crate) struct Relevance {
     sets: usize,
     visits: Visits,
+    levels: Levels,
 }
 
 impl Relevance {
-    /// That of a player.
+    /// That of a player with so many actions at each of his sets.
     pub(crate) fn of_player(
         alloc: Global,
         game: &Game<'_>,
         player: u32,
+        counts: &[u32],
     ) -> Result<Relevance, AllocError>
         ensures { IfOk result (TellsRelevance game.now player) }
     {
+        let visits = visits_in(alloc, game, player)?;
+        let levels = Levels::new(alloc, counts, visits.all())?;
         Ok(Relevance {
             sets: game.set_count(player),
-            visits: visits_in(alloc, game, player)?,
+            visits,
+            levels,
         })
     }
 
-    /// Writes whether each set, first set first, is relevant under a strategy. `reached` is room for
-    /// whether each visit comes about by it.
+    /// Writes whether each set, first set first, is relevant under a strategy.
     pub(crate) fn write_relevant(
-        &self,
+        &mut self,
+        alloc: Global,
         strategy: &[u32],
-        reached: &mut Vec<bool>,
         relevant: &mut Vec<bool>,
     ) -> Result<(), AllocError>
-        requires { (g : Game) × (player : ℕ) × TellsRelevance g player self.now }
-        ensures { OnOk result ((g : Game) (player : ℕ) → TellsRelevance g player self.now
+        requires { (g : Game) × (player : ℕ) × TellsRelevance g player self.old }
+        ensures tells { OnOk result ((g : Game) (player : ℕ) → TellsRelevance g player self.old
+            → TellsRelevance g player self.new) }
+        ensures relevant { OnOk result ((g : Game) (player : ℕ) → TellsRelevance g player self.old
             → relevant.new.items ≡ relevant_sets g player strategy.now) }
     {
-        self.visits.write_reached(strategy, reached)?;
-        self.visits.write_met(self.sets, reached, relevant)?;
+        self.levels.choose(alloc, self.visits.all(), strategy)?;
+        write_met(self.visits.all(), self.levels.last(), self.sets, relevant)?;
         Ok(())
     }
 }

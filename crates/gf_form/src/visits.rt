@@ -1,7 +1,8 @@
 //! The visits of a player to his sets: the ways to come to them, told by his own moves alone.
 
-ghost use Rattle.std.specs.Prelude.{◌≡◌, ◌<◌, ◌≤◌, suc, ℕ, [], false, IfOk, OnOk, get_or, length};
-ghost use Rattle.gf_form.specs.Visits.{AreOrdered, Meets, Reaches, chosen, is_met, visits_of};
+ghost use Rattle.std.specs.Prelude.{◌≡◌, ◌==◌, ◌<◌, suc, ℕ, [], false, IfOk, OnOk, get_or, length};
+ghost use Rattle.std.specs.List.{list_any};
+ghost use Rattle.gf_form.specs.Visits.{AreNumbers, AreOrdered, Meets, chosen, visit_at, visits_of};
 ghost use Rattle.gf_form.specs.declared.visits.Visit.{Visit};
 
 use indexmap::IndexSet;
@@ -32,7 +33,7 @@ pub(crate) struct Visits {
 }
 
 /// What a strategy chooses at a set, by its position from 1; 0 where there is no such set.
-fn action_at(strategy: &[u32], position: u32) -> u32
+pub(crate) fn action_at(strategy: &[u32], position: u32) -> u32
     ensures { result ≡ chosen strategy.now position }
 {
     if position == 0 {
@@ -64,50 +65,31 @@ impl Visits {
         Ok(place + 1)
     }
 
-    /// Writes whether each visit comes about where this is the player's strategy, by the number of
-    /// the visit; at 0 it is true.
-    pub(crate) fn write_reached(
-        &self,
-        strategy: &[u32],
-        reached: &mut Vec<bool>,
-    ) -> Result<(), AllocError>
-        requires { (sets : ℕ) × AreOrdered sets 1 (visits_of self.now) }
-        ensures count { OnOk result (length reached.new.items ≡ suc (length (visits_of self.now))) }
-        ensures reached { OnOk result (Reaches (chosen strategy.now)
-            (λ number. get_or reached.new.items number false) (visits_of self.now)) }
+    /// The visits, in order.
+    pub(crate) fn all(&self) -> &[Visit]
+        ensures { result.now ≡ visits_of self.now }
     {
-        reached.clear();
-        reached.push(true)?;
-        for visit in self.visits.as_slice() {
-            let last = visit.last;
-            let is_chosen = action_at(strategy, last.set) as usize == last.action;
-            let is_reached = reached[last.visit] && is_chosen;
-            reached.push(is_reached)?;
-        }
-        Ok(())
+        self.visits.as_slice()
     }
+}
 
-    /// Writes whether each of so many sets is met on some visit that comes about.
-    pub(crate) fn write_met(
-        &self,
-        sets: usize,
-        reached: &[bool],
-        met: &mut Vec<bool>,
-    ) -> Result<(), AllocError>
-        requires ordered { AreOrdered sets 1 (visits_of self.now) }
-        requires count { length reached.now ≡ suc (length (visits_of self.now)) }
-        ensures count { OnOk result (length met.new.items ≡ sets) }
-        ensures met { OnOk result ((before : ℕ) → before < sets → get_or met.new.items before false
-            ≡ is_met (λ number. get_or reached.now number false) (suc before) 1
-            (visits_of self.now)) }
-    {
-        met.clear();
-        met.resize(sets, false)?;
-        for (before, visit) in self.visits.as_slice().iter().enumerate() {
-            if reached[before + 1] {
-                met[visit.set as usize - 1] = true;
-            }
-        }
-        Ok(())
+/// Writes whether each of so many sets is met on one of the visits with these numbers.
+pub(crate) fn write_met(
+    visits: &[Visit],
+    numbers: &[usize],
+    sets: usize,
+    met: &mut Vec<bool>,
+) -> Result<(), AllocError>
+    requires ordered { AreOrdered sets 1 visits.now }
+    requires within { AreNumbers visits.now numbers.now }
+    ensures count { OnOk result (length met.new.items ≡ sets) }
+    ensures met { OnOk result ((before : ℕ) → before < sets → get_or met.new.items before false
+        ≡ list_any (λ number. (visit_at visits.now number).set == suc before) numbers.now) }
+{
+    met.clear();
+    met.resize(sets, false)?;
+    for number in numbers {
+        met[visits[*number - 1].set as usize - 1] = true;
     }
+    Ok(())
 }

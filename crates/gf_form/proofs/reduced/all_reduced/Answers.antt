@@ -29,8 +29,8 @@ overflow_add-player c =
       all_counted c.args.game.now c.args.counts.now c.requires.counts,
     )
 
-pub first_strategies-requires-clause-counts : goal.first_strategies-requires-clause-counts
-first_strategies-requires-clause-counts c =
+pub own_strategies-requires-clause-counts : goal.own_strategies-requires-clause-counts
+own_strategies-requires-clause-counts c =
     let g = c.args.game.now in
     let counts = c.args.counts.now in
     let place = c.loop-place.place in
@@ -44,8 +44,8 @@ first_strategies-requires-clause-counts c =
     })
     ∙ actions_of g counts c.requires.counts place (omega (arith, c.loop-place-test.true))
 
-pub first_strategies-requires-clause-whole : goal.first_strategies-requires-clause-whole
-first_strategies-requires-clause-whole c =
+pub own_strategies-requires-clause-whole : goal.own_strategies-requires-clause-whole
+own_strategies-requires-clause-whole c =
     read_whole c.args.game.now c.args.counts.now c.requires.counts c.loop-place.place
     c.index-whole.result.now c.index.result.now c.deref.result.now
     (record {

@@ -30,7 +30,7 @@ is_first-requires c =
     c.in_ok-write_strategy.ensures
     ∙ ap (λ (counts : List ℕ). get_or (all_choices counts) n []) c.requires.counts in
     ap length (c.deref-in-loop-number.ensures.value
-    ∙ c.in_ok-write_relevant.ensures g player c.in_ok-relevance.ensures
+    ∙ c.in_ok-write_relevant.ensures.relevant g player c.loop-number.invariant.3
     ∙ ap (relevant_sets g player) (c.deref.ensures.value ∙ written))
     ∙ flags_fit g c.players-players.ensures.is_game player n less
     ∙ sym (ap length (c.deref-in-loop-number-2.ensures.value ∙ written))
@@ -48,7 +48,7 @@ write_reduced_label-requires c =
     c.in_ok-write_strategy.ensures
     ∙ ap (λ (counts : List ℕ). get_or (all_choices counts) n []) c.requires.counts in
     ap length (c.deref-then-is_first.ensures.value
-    ∙ c.in_ok-write_relevant.ensures g player c.in_ok-relevance.ensures
+    ∙ c.in_ok-write_relevant.ensures.relevant g player c.loop-number.invariant.3
     ∙ ap (relevant_sets g player) (c.deref.ensures.value ∙ written))
     ∙ flags_fit g c.players-players.ensures.is_game player n less
     ∙ sym (ap length (c.deref-then-is_first-2.ensures.value ∙ written))
@@ -72,7 +72,7 @@ loop-number-preserved c =
     c.in_ok-write_strategy.ensures
     ∙ ap (λ (counts : List ℕ). get_or (all_choices counts) n []) c.requires.counts in
     let relevant : c.write_relevant.new.relevant.items ≡ relevant_sets g player s =
-    c.in_ok-write_relevant.ensures g player c.in_ok-relevance.ensures
+    c.in_ok-write_relevant.ensures.relevant g player c.loop-number.invariant.3
     ∙ ap (relevant_sets g player) (c.deref.ensures.value ∙ written) in
     let flags : c.deref-in-loop-number.result.now ≡ relevant_sets g player s =
     c.deref-in-loop-number.ensures.value ∙ relevant in
@@ -87,7 +87,7 @@ loop-number-preserved c =
     c.deref-in-loop-number-3.result.now (relevant_sets g player s)
     c.deref-in-loop-number-4.result.now s c.strategies_alike-number.result c.requires.counts
     (c.deref-in-loop-number-3.ensures.value
-    ∙ c.in_ok-write_relevant.ensures g player c.in_ok-relevance.ensures
+    ∙ c.in_ok-write_relevant.ensures.relevant g player c.loop-number.invariant.3
     ∙ ap (relevant_sets g player) (c.deref.ensures.value ∙ written))
     (c.deref-in-loop-number-4.ensures.value ∙ written) c.strategies_alike-number.ensures in
     let within = all_within g c.players-players.ensures.is_game player n
@@ -127,6 +127,7 @@ loop-number-preserved c =
           )),
       so_far.1,
       omega (arith, within, c.requires.whole ∙ ap product c.requires.counts),
+      c.in_ok-write_relevant.ensures.tells g player c.loop-number.invariant.3,
     )
 
 pub returns-clause-firsts : goal.returns-clause-firsts
@@ -199,7 +200,7 @@ overflow_add-number c =
     c.deref-in-loop-number-3.result.now (relevant_sets g player s)
     c.deref-in-loop-number-4.result.now s c.strategies_alike-number.result c.requires.counts
     (c.deref-in-loop-number-3.ensures.value
-    ∙ c.in_ok-write_relevant.ensures g player c.in_ok-relevance.ensures
+    ∙ c.in_ok-write_relevant.ensures.relevant g player c.loop-number.invariant.3
     ∙ ap (relevant_sets g player) (c.deref.ensures.value ∙ written))
     (c.deref-in-loop-number-4.ensures.value ∙ written) c.strategies_alike-number.ensures in
     let within = all_within g c.players-players.ensures.is_game player n
@@ -228,7 +229,7 @@ loop-number-smaller c =
     c.deref-in-loop-number-3.result.now (relevant_sets g player s)
     c.deref-in-loop-number-4.result.now s c.strategies_alike-number.result c.requires.counts
     (c.deref-in-loop-number-3.ensures.value
-    ∙ c.in_ok-write_relevant.ensures g player c.in_ok-relevance.ensures
+    ∙ c.in_ok-write_relevant.ensures.relevant g player c.loop-number.invariant.3
     ∙ ap (relevant_sets g player) (c.deref.ensures.value ∙ written))
     (c.deref-in-loop-number-4.ensures.value ∙ written) c.strategies_alike-number.ensures in
     let within = all_within g c.players-players.ensures.is_game player n
