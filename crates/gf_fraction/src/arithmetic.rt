@@ -7,7 +7,7 @@ ghost use Rattle.gf_fraction.specs.Ratio.{IsWithin, signed};
 ghost use Rattle.gf_fraction.specs.Steps.{HoldsCommon, IsLowest, PartsFit};
 
 /// The result does not fit.
-#[derive(Clone, Copy, Debug, PartialEq, Eq, Hash)]
+#[derive(Clone, Copy)]
 pub struct Overflow;
 
 /// The greatest denominator, and the greatest size of a numerator.

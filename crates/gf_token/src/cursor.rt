@@ -32,7 +32,7 @@ use std::marker::Model;
 /// Whitespace has no meaning between tokens (Gambit documentation, "Game representation formats");
 /// it is the bytes 9 to 13 and 32, and other bytes that begin nothing else are those of a bare
 /// token (this project's profile).
-#[derive(Debug, Drop)]
+#[derive(Drop)]
 pub struct Cursor<'a> {
     input: &'a [u8],
     at: usize,

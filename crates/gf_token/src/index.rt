@@ -5,7 +5,7 @@ ghost use Rattle.gf_token.specs.Index.{IsIndex, IsNoIndex};
 ghost use Rattle.gf_token.specs.Indices.{index_of};
 
 /// Why a text is no index.
-#[derive(Clone, Copy, Debug, PartialEq, Eq, Hash)]
+#[derive(Clone, Copy, PartialEq, Eq)]
 pub enum IndexFault {
     /// The text is empty, or has a byte that is no digit.
     NotDigits,

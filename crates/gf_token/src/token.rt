@@ -4,7 +4,7 @@ use crate::fault::Span;
 use crate::label::Label;
 
 /// What a token is (Gambit documentation, "Game representation formats").
-#[derive(Clone, Copy, Debug, PartialEq, Eq)]
+#[derive(Clone, Copy)]
 pub enum Kind<'a> {
     /// `{`
     Opening,
@@ -20,21 +20,21 @@ pub enum Kind<'a> {
 }
 
 /// A token, and where the bytes stand that spell it; a text's quotes are among them.
-#[derive(Clone, Copy, Debug, PartialEq, Eq)]
+#[derive(Clone, Copy)]
 pub struct Token<'a> {
     pub span: Span,
     pub kind: Kind<'a>,
 }
 
 /// A bare token, where one was asked for.
-#[derive(Clone, Copy, Debug, PartialEq, Eq)]
+#[derive(Clone, Copy)]
 pub struct BareToken<'a> {
     pub span: Span,
     pub bytes: &'a [u8],
 }
 
 /// A text, where one was asked for; its quotes are within its span.
-#[derive(Clone, Copy, Debug, PartialEq, Eq)]
+#[derive(Clone, Copy)]
 pub struct TextToken<'a> {
     pub span: Span,
     pub label: Label<'a>,

@@ -23,7 +23,7 @@ use std::marker::Model;
 ///
 /// A token that is asked for is taken where it comes next; where another one does, nothing is
 /// taken.
-#[derive(Debug, Drop)]
+#[derive(Drop)]
 pub struct Tokens<'a> {
     input: &'a [u8],
     cursor: Cursor<'a>,
