@@ -61,6 +61,7 @@ pub mod Stretching
 pub mod SubtreeSizes
 pub mod TreesOnce
 pub mod Uses
+pub mod Worked
 pub mod WorkedGames
 pub mod WorkedNone
 pub mod WorkedReasons
