@@ -221,7 +221,7 @@ fn words_of(alloc: Global, matches: &ArgMatches<'_>) -> Result<Vec<String>, Allo
     Ok(words)
 }
 
-/// The list of names that a word means, where `-` is standard input.
+/// The list of names that a word means; `-` is standard input.
 fn list_of(alloc: Global, name: &str, is_null: bool) -> Result<Paths, AllocError> {
     let list = if name == "-" {
         Input::Standard

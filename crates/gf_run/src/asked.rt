@@ -64,7 +64,7 @@ pub struct Collection {
 /// What the words ask for: one answer, or one for each of many files.
 #[derive(Debug, Drop)]
 pub enum Asked {
-    /// A job, whose fault is told in words where `explain` is true.
+    /// A job, whose fault is told in words if `explain` is true.
     Job { job: Job, explain: bool },
     /// The hashes of these files.
     Hash(Collection),

@@ -86,7 +86,7 @@ fn push_refusal(text: &mut String, fault: &Fault, bytes: &[u8]) -> Result<(), Al
     Ok(())
 }
 
-/// Appends what the system says of an error, where it is known.
+/// Appends what the system says of an error, if it is known.
 fn push_reason(
     alloc: Global,
     text: &mut String,
