@@ -15,10 +15,8 @@ sources := crates.txt $(shell find crates -name out -prune -o -type f -print)
 
 all: gamefile
 
-# Crate after crate, each by every processor: two runs of `rt` cannot share the crates below them.
-gamefile: $(sources)
-	cd crates/gamefile && $(RT) run gamefile --jobs $$(nproc) < stdin > /dev/null
-	cp crates/gamefile/out/gamefile gamefile
+gamefile: $(sources) prove
+	./prove gamefile
 
 run: gamefile
 	./gamefile canon examples/battle-of-the-sexes.nfg
