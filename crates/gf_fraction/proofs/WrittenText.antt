@@ -48,23 +48,22 @@ pub at_most_one : (b : Bool) → from_bool b ≤ 1
 at_most_one true = omega arith
 at_most_one false = omega arith
 
--- from where a text begins a window of so many bytes is appended, and what it took too much is cut off
-module _ (window_len : ℕ) (before number behind text : List ℕ) (start : ℕ)
-    (within : start ≤ window_len) (room : length text ≡ window_len + window_len)
-    (rest : length behind ≡ window_len)
+-- from where a text begins a window of 41 bytes is appended, and what it took too much is cut off
+module _ (before number behind text : List ℕ) (start : ℕ) (within : start ≤ 41)
+    (room : length text ≡ 82) (rest : length behind ≡ 41)
     (written : drop start text ≡ number ++ behind) where
-  long : length number + start ≡ window_len
+  long : length number + start ≡ 41
   long =
       let all = sym (length-drop start text) ∙ ap length written ∙ length-append number behind in
       omega (arith, all)
 
-  window : take window_len (drop start text) ≡ number ++ take start behind
-  window = ap (take window_len) written
+  window : take 41 (drop start text) ≡ number ++ take start behind
+  window = ap (take 41) written
       ∙ ap (λ n. take n (number ++ behind)) (sym long)
       ∙ take-append-add number behind start
 
-  pub cut : (n : ℕ) → n ≡ length (before ++ take window_len (drop start text))
-      → take (n - start) (before ++ take window_len (drop start text)) ≡ before ++ number
+  pub cut : (n : ℕ) → n ≡ length (before ++ take 41 (drop start text))
+      → take (n - start) (before ++ take 41 (drop start text)) ≡ before ++ number
   cut n count =
       let short = length-take-le start behind (omega arith) in
       let all : n ≡ length before + (length number + length (take start behind)) =

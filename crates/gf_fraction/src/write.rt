@@ -1,7 +1,7 @@
 //! The text of a fraction.
 
-ghost use Rattle.std.specs.Prelude.{◌≡◌, ◌++◌, ◌∷◌, ◌<◌, ◌≤◌, [], drop, length, codes};
-ghost use Rattle.std.specs.Prelude.{decimal, pos, unsigned_abs, OnErr, OnOk, if◌then◌else◌, ◌==◌};
+ghost use Rattle.std.specs.Prelude.{◌≡◌, ◌++◌, ◌∷◌, ◌≤◌, [], drop, length, codes};
+ghost use Rattle.std.specs.Prelude.{decimal, pos, OnErr, OnOk, if◌then◌else◌, ◌==◌};
 ghost use Rattle.std.specs.Fmt.{signed_decimal};
 ghost use Rattle.gf_fraction.specs.NumberText.{number_text};
 
@@ -14,15 +14,6 @@ const WORDS_LEN: usize = 41;
 
 /// Room for a text that ends at `WORDS_LEN`, and for `WORDS_LEN` bytes from wherever it begins.
 const ROOM: usize = 2 * WORDS_LEN;
-
-/// The longest text of a whole number below `SHORT`: a sign and four digits.
-const SHORT_LEN: usize = 5;
-
-/// The same room for it.
-const SHORT_ROOM: usize = 2 * SHORT_LEN;
-
-/// Whole numbers below this are written by a way of their own: most payoffs are such.
-const SHORT: u64 = 10_000;
 
 /// Writes a slash and a denominator so that they end at `WORDS_LEN`, or nothing where it is 1.
 /// Answers where they begin.
@@ -54,33 +45,6 @@ fn write_words(num: i64, den: u64, text: &mut [u8; ROOM]) -> usize
     start - usize::from(num < 0)
 }
 
-/// Writes a whole number below `SHORT`, so that it ends at `SHORT_LEN`. Answers where it begins.
-fn write_whole(num: i64, text: &mut [u8; SHORT_ROOM]) -> usize
-    requires { unsigned_abs num < 10000 }
-    ensures within { result ≤ 5 }
-    ensures written { drop result text.new
-        ≡ number_text (record { num = num; den = 1 }) ++ drop 5 text.old }
-{
-    let start = write_digits(num.unsigned_abs(), text, SHORT_LEN);
-    text[start - 1] = b'-';
-    start - usize::from(num < 0)
-}
-
-/// Appends a whole number below `SHORT`.
-#[inline(always)]
-fn write_short(num: i64, out: &mut Vec<u8>) -> Result<(), AllocError>
-    requires { unsigned_abs num < 10000 }
-    ensures ok { OnOk result
-        (out.new.items ≡ out.old.items ++ number_text (record { num = num; den = 1 })) }
-    ensures err { OnErr result (out.new.items ≡ out.old.items) }
-{
-    let mut text = [0; SHORT_ROOM];
-    let start = write_whole(num, &mut text);
-    out.extend_from_slice(&text[start..start + SHORT_LEN])?;
-    out.truncate(out.len() - start);
-    Ok(())
-}
-
 impl Fraction {
     /// Appends `n`, or `n/d` where the denominator is above 1, in decimal digits. `Fraction::read`
     /// reads it back.
@@ -92,9 +56,6 @@ impl Fraction {
         ensures err { OnErr result (out.new.items ≡ out.old.items) }
     {
         if let (Ok(num), Ok(den)) = (i64::try_from(self.num()), u64::try_from(self.den())) {
-            if den == 1 && num.unsigned_abs() < SHORT {
-                return write_short(num, out);
-            }
             let mut text = [0; ROOM];
             let start = write_words(num, den, &mut text);
             // A copy of a known length needs no call. What it takes behind the text is cut off.

@@ -1,6 +1,5 @@
 use Rattle.std.proofs.Common.{◌≡◌, ◌++◌, ◌∙◌, ◌+◌, ◌-◌, drop, take, length, replicate}
-use Rattle.std.proofs.Common.{ℕ, List, w64, to_z, of_z, ap, arith, subst, sym, to_z-of_z}
-use Rattle.std.specs.Prelude.{OnOk}
+use Rattle.std.proofs.Common.{ℕ, List, w64, to_z, of_z, ap, arith, to_z-of_z}
 use Rattle.std.specs.Int.{w128}
 use Rattle.gf_fraction.specs.NumberText.{number_text}
 use Rattle.gf_fraction.proofs.WrittenText.{cut}
@@ -27,20 +26,5 @@ returns-in-Ok-Ok-clause-ok c =
     ∙ ap (λ n. c.args.out.now.items ++ take n (drop w.result w.new.text)) e in
     let count = c.len.ensures ∙ c.extend_from_slice.new.self.ok.0 ∙ ap length appended in
     c.truncate.ensures.items ∙ ap (take (c.len.result - w.result)) appended
-    ∙ cut 41 c.args.out.now.items (number_text c.args.self) zeros w.new.text w.result w.ensures.within
+    ∙ cut c.args.out.now.items (number_text c.args.self) zeros w.new.text w.result w.ensures.within
     w.array_long (omega arith) written c.len.result count
-
-pub returns-then-unsigned_abs-lt-SHORT-clause-ok : goal.returns-then-unsigned_abs-lt-SHORT-clause-ok
-returns-then-unsigned_abs-lt-SHORT-clause-ok c =
-    let wide = c.in-Ok-Ok.ensures.1 in
-    let narrow = rw (← wide) at c.in-Ok-Ok.ensures.0 in
-    let num : to_z w64 (of_z w64 c.in-Ok-Ok.num) ≡ c.args.self.num =
-    to_z-of_z narrow
-    ∙ wide
-    ∙ to_z-of_z {w = w128} (record { sfits = c.num.type_inv })
-    ∙ c.num.ensures.value in
-    let den : 1 ≡ c.args.self.den =
-    sym c.if-den-eq1.true ∙ c.in-Ok-Ok.ensures'.1 ∙ c.den.ensures.value in
-    subst (λ (bs : List ℕ). OnOk c.write_short.result
-    (c.write_short.new.out.items ≡ c.args.out.now.items ++ bs))
-    (λ i. number_text (record { num = num i; den = den i })) c.write_short.ensures.ok
