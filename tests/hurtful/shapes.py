@@ -440,6 +440,7 @@ SHAPES = {
     "sets in conflict": (partial(sets_in_conflict, 12), SOME_ROWS),
     "a full tree": (partial(full_tree, 17), partial(side_by_side, 17)),
     "a mixed tree": (partial(mixed_tree, 12, 16), partial(side_by_side, 16)),
+    "a wide tree reduced": (partial(wide_tree, 100, 6, 14), partial(side_by_side, 14)),
 }
 
 # The same of shapes that are too slow at full size, which docs/DECISIONS.md lists: at a size that passes.
@@ -465,5 +466,4 @@ KNOWN = {
         partial(branches_with_denominators, 60, 9, False, [7] * 5),
     ),
     "a wide tree": (partial(wide_tree, 500, 8, 20, without=["reduced"]), MOST_ROWS),
-    "a wide tree reduced": (partial(wide_tree, 100, 6, 14), partial(side_by_side, 14)),
 }

@@ -1,6 +1,6 @@
 -- The numbers of the visits that are left behind a player's choices, level by level.
 use Rattle.std.proofs.Common.{◌≡◌, ℕ, zero, suc, ◌+◌, ◌-◌, ◌<◌, ◌≤◌, Bool, true, false, cond, List}
-use Rattle.std.proofs.Common.{[], ◌∷◌, ◌++◌, Some, length, get_or, set, slice_get, take, refl}
+use Rattle.std.proofs.Common.{[], ◌∷◌, ◌++◌, Some, length, map, get_or, set, slice_get, take, refl}
 use Rattle.std.proofs.Common.{sym, ap, subst, ◌∙◌, arith, inl, inr}
 use Rattle.std.specs.Prelude.{◌==◌, ◌||◌, ◌&&◌, ◌⊎◌, filter, nat_lt, not}
 use Rattle.std.specs.List.{AllByRecursion, list_any}
@@ -14,16 +14,16 @@ use Rattle.gf_nfg.specs.Profiles.{numbers_from}
 use Rattle.gf_tree.proofs.FirstUses.{in_filter, of_filter}
 use Rattle.gf_tree.proofs.RenumberedStores.{some_same}
 use Rattle.gf_tree.proofs.Uses.{Has, all_of_each}
-use Rattle.gf_form.specs.Levels.{AreLeft, AreLevels, is_made_at, is_made_to}
-use Rattle.gf_form.specs.Visits.{AreNumbers, AreOrdered, Reaches, is_met, visit_at}
+use Rattle.gf_form.specs.Levels.{AreLeft, AreLevels, IsLevel, is_made_at, is_made_to}
+use Rattle.gf_form.specs.Visits.{AreNumbers, AreOrdered, chosen, is_met, visit_at}
 use Rattle.gf_form.specs.declared.visits.Move.{Move}
 use Rattle.gf_form.specs.declared.visits.Visit.{Visit}
 use Rattle.gf_form.proofs.Following.{in_either}
-use Rattle.gf_form.proofs.VisitsMet.{all_reached, ordered_there, slice_within}
+use Rattle.gf_form.proofs.VisitsMet.{ordered_there, slice_within}
 
 -- ---- lists
 
-has_number : (first n m : ℕ) → first ≤ m → m < first + n → Has (numbers_from first n) m
+pub has_number : (first n m : ℕ) → first ≤ m → m < first + n → Has (numbers_from first n) m
 has_number first zero m above less = absurd (omega (arith, above, less))
 has_number first (suc n) m above less =
     by (cases_lt first m) (λ later. has_number (first + 1) n m later (omega (arith, less)))
@@ -33,7 +33,7 @@ has_number first (suc n) m above less =
     by (inl later) others = inr (others (omega (arith, later)))
     by (inr here) others = inl (omega (arith, here, above))
 
-number_within : (first n m : ℕ) → Has (numbers_from first n) m → (first ≤ m) × (m < first + n)
+pub number_within : (first n m : ℕ) → Has (numbers_from first n) m → (first ≤ m) × (m < first + n)
 number_within first zero m h = absurd h
 number_within first (suc n) m (inl e) = (omega (arith, e), omega (arith, e))
 number_within first (suc n) m (inr h) =
@@ -61,14 +61,14 @@ filter_both p q (x ∷ xs) = by (q x) (filter_both p q xs)
     by true others = λ i. cond (p x) (x ∷ others i) (others i)
     by false others = others
 
-filter_none : (xs : List ℕ) → filter (λ x. true) xs ≡ xs
+pub filter_none : (xs : List ℕ) → filter (λ x. true) xs ≡ xs
 filter_none [] = refl
 filter_none (x ∷ xs) = ap (λ (xs : List ℕ). x ∷ xs) (filter_none xs)
 
 -- ---- the numbers that are left
 
 module _ (left : ℕ → Bool) where
-  left_within : (first n m : ℕ) → Has (filter left (numbers_from first n)) m
+  pub left_within : (first n m : ℕ) → Has (filter left (numbers_from first n)) m
       → (first ≤ m) × (m < first + n)
   left_within first n m i = number_within first n m (of_filter left (numbers_from first n) m i).0
 
@@ -111,7 +111,7 @@ number_there vs test numbers i h less =
     (subst (λ (ns : List ℕ). Has ns (get_or numbers i 0)) h.are (has_got numbers i less)) in
     (w.0, omega (arith, w.1))
 
-visit_is : (vs : List Visit) (k : ℕ) (v : Visit) → slice_get vs k ≡ Some v
+pub visit_is : (vs : List Visit) (k : ℕ) (v : Visit) → slice_get vs k ≡ Some v
     → visit_at vs (suc k) ≡ v
 visit_is vs k v at =
     let before : suc k - 1 ≡ k = omega arith in
@@ -277,54 +277,6 @@ level_within levels count set are = by levels set are.each
     by (level ∷ levels) zero h = h.0
     by (level ∷ levels) (suc set) h = by levels set h.1
 
-pub none_chosen : (vs : List Visit) (levels : List ℕ) (count : ℕ) (choices : ℕ → ℕ)
-    → AreLevels levels count → (numbers : List ℕ) → numbers ≡ numbers_from 1 (length vs)
-    → AreLeft vs (is_made_to levels 0 choices) numbers
-none_chosen vs levels count choices are numbers is = record {
-  left = λ n. true;
-  first = refl;
-  behind = λ k v at.
-      let later : nat_lt 0 (get_or levels v.last.set 1) ≡ true =
-      lt-ltb 0 (get_or levels v.last.set 1)
-      (omega (arith, (level_within levels count v.last.set are).0)) in
-      ap (λ b. b || choices v.last.set == v.last.action) (sym later);
-  are = is ∙ sym (filter_none (numbers_from 1 (length vs)));
-}
-
--- choices that agree on the levels so far leave the same
-pub same_left : (vs : List Visit) (levels : List ℕ) (level : ℕ) (old new : ℕ → ℕ) (numbers : List ℕ)
-    → ((set : ℕ) → get_or levels set 1 ≤ level → old set ≡ new set)
-    → AreLeft vs (is_made_to levels level old) numbers
-    → AreLeft vs (is_made_to levels level new) numbers
-same_left vs levels level old new numbers agree h = record {
-  left = h.left;
-  first = h.first;
-  behind = λ k v at. h.behind k v at
-      ∙ ap (λ b. h.left v.last.visit && b)
-      (by v.last (cases_lt level (get_or levels v.last.set 1)));
-  are = h.are;
-}
-  where
-    by : (m : Move) → (level < get_or levels m.set 1) ⊎ (get_or levels m.set 1 ≤ level)
-        → is_made_to levels level old m ≡ is_made_to levels level new m
-    by m (inl later) =
-        let is = lt-ltb level (get_or levels m.set 1) later in
-        ap (λ b. b || old m.set == m.action) is ∙ sym (ap (λ b. b || new m.set == m.action) is)
-    by m (inr known) =
-        ap (λ (n : ℕ). nat_lt level (get_or levels m.set 1) || n == m.action) (agree m.set known)
-
-pub all_made : (vs : List Visit) (levels : List ℕ) (count : ℕ) (choices : ℕ → ℕ) (numbers : List ℕ)
-    → AreLevels levels count → AreLeft vs (is_made_to levels count choices) numbers
-    → AreLeft vs (λ m. choices m.set == m.action) numbers
-all_made vs levels count choices numbers are h = record {
-  left = h.left;
-  first = h.first;
-  behind = λ k v at. h.behind k v at
-      ∙ ap (λ b. h.left v.last.visit && (b || choices v.last.set == v.last.action))
-      (le-ltb count (get_or levels v.last.set 1) (level_within levels count v.last.set are).1);
-  are = h.are;
-}
-
 -- one level more is made where those before it and its own are
 pub made_more : (levels : List ℕ) (level : ℕ) (choices : ℕ → ℕ) (m : Move) → 1 ≤ level
     → is_made_to levels level choices m
@@ -359,7 +311,7 @@ made_more levels level choices m above = by (choices m.set == m.action) (cases_l
 -- ---- what is met
 
 -- a set is met on a visit that is left exactly where it is met on one that comes about
-met_left : (left : ℕ → Bool) (position : ℕ) (at : ℕ → Visit) (first : ℕ) (vs : List Visit)
+pub met_left : (left : ℕ → Bool) (position : ℕ) (at : ℕ → Visit) (first : ℕ) (vs : List Visit)
     → ((k : ℕ) (v : Visit) → slice_get vs k ≡ Some v → at (first + k) ≡ v)
     → list_any (λ n. (at n).set == position) (filter left (numbers_from first (length vs)))
     ≡ is_met left position first vs
@@ -395,22 +347,24 @@ met_left left position at first (v ∷ vs) h =
         λ i. (ap (λ (w : Visit). w.set == position) here ∙ and_true (v.set == position)) i || others i
     by false others = others ∙ and_false (v.set == position) (is_met left position (first + 1) vs)
 
-module _ (choices : ℕ → ℕ) (vs : List Visit) (numbers : List ℕ)
-    (h : AreLeft vs (λ m. choices m.set == m.action) numbers) where
-  pub left_reached : Reaches choices h.left vs
-  left_reached = (
-    h.first,
-    all_reached choices h.left vs 1 (λ k v at.
-        let next : 1 + k ≡ suc k = omega arith in
-        ap h.left next ∙ h.behind k v at),
-  )
+-- ---- what a level gives
 
-  pub left_met : (position : ℕ)
-      → list_any (λ number. (visit_at vs number).set == position) numbers
-      ≡ is_met h.left position 1 vs
-  left_met position =
-      ap (list_any (λ number. (visit_at vs number).set == position)) h.are
-      ∙ met_left h.left position (visit_at vs) 1 vs
-      (λ k v at.
-      let next : 1 + k ≡ suc k = omega arith in
-      ap (visit_at vs) next ∙ visit_is vs k v at)
+pub level_numbers : (sets : ℕ) (vs : List Visit) (levels highest : List ℕ) (level : ℕ)
+    (strategy numbers : List ℕ) (known : List Bool)
+    → IsLevel sets vs levels highest level strategy numbers known → AreNumbers vs numbers
+level_numbers sets vs levels highest level strategy numbers known (inl h) =
+    subst (AreNumbers vs) (sym h.0) tt
+level_numbers sets vs levels highest level strategy numbers known (inr h) =
+    are_numbers vs (is_made_to levels level (chosen strategy)) numbers h.left
+
+pub level_left : (sets : ℕ) (vs : List Visit) (levels highest : List ℕ) (level : ℕ)
+    (strategy numbers : List ℕ) (known : List Bool)
+    → IsLevel sets vs levels highest level strategy numbers known
+    → (numbers ≡ []) ⊎ AreLeft vs (is_made_to levels level (chosen strategy)) numbers
+level_left sets vs levels highest level strategy numbers known (inl h) = inl h.0
+level_left sets vs levels highest level strategy numbers known (inr h) = inr h.left
+
+pub list_numbers : (vs : List Visit) (test : Move → Bool) (numbers list : List ℕ)
+    → (numbers ≡ [] → list ≡ []) → (numbers ≡ []) ⊎ AreLeft vs test list → AreNumbers vs list
+list_numbers vs test numbers list none (inl e) = subst (AreNumbers vs) (sym (none e)) tt
+list_numbers vs test numbers list none (inr h) = are_numbers vs test list h

@@ -39,6 +39,7 @@ pub mod Lookups
 pub mod Lotteries
 pub mod MergedEntries
 pub mod Merges
+pub mod MetSets
 pub mod NoPlayer
 pub mod NodeTerms
 pub mod NumberedProfiles

@@ -1,11 +1,12 @@
 -- Lists of visits: one more visit, and the visit with a number.
 use Rattle.std.proofs.Common.{◌≡◌, ℕ, zero, suc, ◌+◌, ◌<◌, ◌≤◌, Bool, true, false, List, []}
 use Rattle.std.proofs.Common.{◌∷◌, ◌++◌, Some, length, refl, sym, ap, ◌∙◌, subst, arith, inl, inr}
-use Rattle.std.proofs.Common.{get_or, set, slice_get, take}
+use Rattle.std.proofs.Common.{add-one, get_or, set, slice_get, take}
 use Rattle.std.specs.Prelude.{◌==◌, ◌||◌, ◌&&◌, ◌⊎◌}
 use Rattle.std.proofs.Math.Bool.{or_assoc}
 use Rattle.std.proofs.lemmas.Bool.{eq-eqb, eqb-false, eqb-true, ne_eqb}
 use Rattle.std.proofs.lemmas.Grind.{get_or-set_at}
+use Rattle.std.proofs.lemmas.Option.{slice_get-get_or}
 use Rattle.std.proofs.lemmas.List.{get_or-set_other, length-append, length-set, take_more}
 use Rattle.std.proofs.lemmas.List.Folds.{list_any-append}
 use Rattle.std.specs.List.{list_any}
@@ -25,7 +26,7 @@ module _ (choices : ℕ → ℕ) (reached : ℕ → Bool) where
       let next : number + suc (length vs) ≡ number + 1 + length vs = omega arith in
       ((h.0, others.0), ap reached next ∙ others.1)
 
-  reached_there : (vs : List Visit) (v : Visit) (k number : ℕ)
+  pub reached_there : (vs : List Visit) (v : Visit) (k number : ℕ)
       → AreReached choices reached number vs → slice_get vs k ≡ Some v
       → reached (number + k) ≡ is_taken choices reached v.last
   reached_there [] v k number h there = absurd cc
@@ -163,9 +164,68 @@ ordered_there sets (w ∷ vs) v zero number h there =
 ordered_there sets (w ∷ vs) v (suc k) number h there =
     let o = ordered_there sets vs v k (number + 1) h.3 there in (omega (arith, o.0), o.1, o.2)
 
--- ---- what comes about
+-- ---- what comes about, visit after visit
 
-pub all_reached : (choices : ℕ → ℕ) (reached : ℕ → Bool) (vs : List Visit) (number : ℕ)
+-- of so many visits from the first one on, each comes about where its last move is taken
+pub record ReachedTo (choices : ℕ → ℕ) (vs : List Visit) (flags : List Bool) (i : ℕ)
+    : Type 0 where
+  pub counted : length flags ≡ suc i
+  pub first : get_or flags 0 false ≡ true
+  pub reached : (k : ℕ) (v : Visit) → k < i → slice_get vs k ≡ Some v
+      → get_or flags (suc k) false ≡ is_taken choices (λ number. get_or flags number false) v.last
+
+-- one flag more leaves the earlier ones
+flag_kept : (flags : List Bool) (flag : Bool) (k : ℕ) → k < length flags
+    → get_or (flags ++ flag ∷ []) k false ≡ get_or flags k false
+flag_kept [] flag k h = absurd (omega (arith, h))
+flag_kept (f ∷ flags) flag zero h = refl
+flag_kept (f ∷ flags) flag (suc k) h = flag_kept flags flag k (omega (arith, h))
+
+flag_last : (flags : List Bool) (flag : Bool)
+    → get_or (flags ++ flag ∷ []) (length flags) false ≡ flag
+flag_last [] flag = refl
+flag_last (f ∷ flags) flag = flag_last flags flag
+
+some_same : {x y : Visit} → Some x ≡ Some y → x ≡ y
+some_same e = cc
+
+pub reached_more : (choices : ℕ → ℕ) (sets : ℕ) (vs : List Visit) (flags next : List Bool) (i : ℕ)
+    (v : Visit) (flag : Bool) → AreOrdered sets 1 vs → ReachedTo choices vs flags i
+    → slice_get vs i ≡ Some v → next ≡ flags ++ flag ∷ []
+    → flag ≡ is_taken choices (λ number. get_or flags number false) v.last
+    → ReachedTo choices vs next (i + 1)
+reached_more choices sets vs flags next i v flag ordered h there is flag_is =
+    subst (λ flags. ReachedTo choices vs flags (i + 1)) (sym is) (record {
+      counted = omega (arith, length-append flags (flag ∷ []), h.counted);
+      first = flag_kept flags flag 0 (omega (arith, h.counted)) ∙ h.first;
+      reached = λ k w less at. by k w at (k == i) refl less;
+    })
+  where
+    kept : (k : ℕ) (w : Visit) → k ≤ i → slice_get vs k ≡ Some w
+        → is_taken choices (λ number. get_or flags number false) w.last
+        ≡ is_taken choices (λ number. get_or (flags ++ flag ∷ []) number false) w.last
+    kept k w within at =
+        let o = ordered_there sets vs w k 1 ordered at in
+        λ i. sym (flag_kept flags flag w.last.visit (omega (arith, o.0, within, h.counted))) i
+        && choices w.last.set == w.last.action
+
+    by : (k : ℕ) (w : Visit) → slice_get vs k ≡ Some w → (b : Bool) → (k == i) ≡ b → k < i + 1
+        → get_or (flags ++ flag ∷ []) (suc k) false
+        ≡ is_taken choices (λ number. get_or (flags ++ flag ∷ []) number false) w.last
+    by k w at false e less =
+        let earlier : k < i = omega (arith, eqb-false k i e, less) in
+        flag_kept flags flag (suc k) (omega (arith, earlier, h.counted))
+        ∙ h.reached k w earlier at ∙ kept k w (omega (arith, earlier)) at
+    by k w at true e less =
+        let last = eqb-true k i e in
+        let same : v ≡ w = some_same (sym there ∙ ap (slice_get vs) (sym last) ∙ at) in
+        let end : suc k ≡ length flags = omega (arith, last, h.counted) in
+        ap (λ (n : ℕ). get_or (flags ++ flag ∷ []) n false) end
+        ∙ flag_last flags flag ∙ flag_is
+        ∙ ap (λ (v : Visit). is_taken choices (λ number. get_or flags number false) v.last) same
+        ∙ kept k w (omega (arith, last)) at
+
+all_reached : (choices : ℕ → ℕ) (reached : ℕ → Bool) (vs : List Visit) (number : ℕ)
     → ((k : ℕ) (v : Visit) → slice_get vs k ≡ Some v
     → reached (number + k) ≡ is_taken choices reached v.last)
     → AreReached choices reached number vs
@@ -178,16 +238,48 @@ all_reached choices reached (v ∷ vs) number h =
           ap reached next ∙ h (suc k) w at),
     )
 
--- ---- what is met, number after number
+pub reached_all : (choices : ℕ → ℕ) (vs : List Visit) (flags : List Bool)
+    → ReachedTo choices vs flags (length vs)
+    → Reaches choices (λ number. get_or flags number false) vs
+reached_all choices vs flags h = (
+  h.first,
+  all_reached choices (λ number. get_or flags number false) vs 1 (λ k v at.
+      let next : 1 + k ≡ suc k = omega arith in
+      ap (λ (n : ℕ). get_or flags n false) next ∙ h.reached k v (slice_within vs k v at) at),
+)
 
--- of so many sets, whether each is met on one of the first visits with these numbers
-pub record MetTo (sets : ℕ) (vs : List Visit) (numbers : List ℕ) (flags : List Bool) (i : ℕ)
-    : Type 0 where
-  pub counted : length flags ≡ sets
-  pub met : (before : ℕ) → before < sets → get_or flags before false
-      ≡ list_any (λ number. (visit_at vs number).set == suc before) (take i numbers)
+-- for all choices some visits come about
+pub some_reached : (choices : ℕ → ℕ) (sets : ℕ) (vs : List Visit) → AreOrdered sets 1 vs
+    → (reached : ℕ → Bool) × Reaches choices reached vs
+some_reached choices sets vs ordered =
+    let f = made (length vs) (omega arith) in
+    (λ number. get_or f.0 number false, reached_all choices vs f.0 f.1)
+  where
+    none : Visit
+    none = record { last = record { visit = 0; set = 0; action = 0 }; set = 0 }
 
-flag_on : (flags : List Bool) (at position before : ℕ) → at < length flags → suc at ≡ position
+    made : (i : ℕ) → i ≤ length vs → (flags : List Bool) × ReachedTo choices vs flags i
+    made zero within = (
+      true ∷ [],
+      record {
+        counted = refl;
+        first = refl;
+        reached = λ k v less at. absurd (omega (arith, less));
+      },
+    )
+    made (suc i) within =
+        let f = made i (omega (arith, within)) in
+        let v = get_or vs i none in
+        let flag = is_taken choices (λ number. get_or f.0 number false) v.last in (
+          f.0 ++ flag ∷ [],
+          subst (ReachedTo choices vs (f.0 ++ flag ∷ [])) (add-one i)
+              (reached_more choices sets vs f.0 (f.0 ++ flag ∷ []) i v flag ordered f.1
+              (slice_get-get_or vs i none (omega (arith, within))) refl refl),
+        )
+
+-- ---- flags that are set, and numbers in turn
+
+pub flag_on : (flags : List Bool) (at position before : ℕ) → at < length flags → suc at ≡ position
     → get_or (set flags at true) before false
     ≡ (get_or flags before false || position == suc before)
 flag_on flags at position before inside is = by (before == at) refl
@@ -215,7 +307,7 @@ flag_on flags at position before inside is = by (before == at) refl
         ∙ ap (λ b. get_or flags before false || b)
         (sym (ne_eqb position (suc before) (λ q. differs (omega (arith, q, is)))))
 
-any_more : (test : ℕ → Bool) (xs : List ℕ) (i : ℕ) → i < length xs
+pub any_more : (test : ℕ → Bool) (xs : List ℕ) (i : ℕ) → i < length xs
     → list_any test (take (i + 1) xs) ≡ (list_any test (take i xs) || test (get_or xs i 0))
 any_more test xs i less =
     ap (list_any test) (take_more xs i 0 less)
@@ -225,17 +317,3 @@ any_more test xs i less =
     or_nothing : (b : Bool) → (b || false) ≡ b
     or_nothing true = refl
     or_nothing false = refl
-
-pub met_next : (sets : ℕ) (vs : List Visit) (numbers : List ℕ) (flags next : List Bool) (i at : ℕ)
-    → MetTo sets vs numbers flags i → i < length numbers → at < sets
-    → suc at ≡ (visit_at vs (get_or numbers i 0)).set → next ≡ set flags at true
-    → MetTo sets vs numbers next (i + 1)
-met_next sets vs numbers flags next i at h less inside is is_next = record {
-  counted = ap length is_next ∙ length-set flags at true ∙ h.counted;
-  met = λ before within.
-      ap (λ (f : List Bool). get_or f before false) is_next
-      ∙ flag_on flags at (visit_at vs (get_or numbers i 0)).set before
-      (omega (arith, inside, h.counted)) is
-      ∙ ap (λ b. b || (visit_at vs (get_or numbers i 0)).set == suc before) (h.met before within)
-      ∙ sym (any_more (λ number. (visit_at vs number).set == suc before) numbers i less);
-}

@@ -1,5 +1,5 @@
 -- What tells the relevant sets of a player under each of his strategies.
-use Rattle.std.specs.Prelude.{◌≡◌, ℕ, length}
+use Rattle.std.specs.Prelude.{ℕ, length}
 use Rattle.gf_tree.specs.FirstUse.{player_keys}
 use Rattle.gf_tree.specs.Game.{Game}
 use Rattle.gf_form.specs.Levels.{IsLevels}
@@ -8,6 +8,5 @@ use Rattle.gf_form.specs.Visits.{visits_of}
 use Rattle.gf_form.specs.declared.relevance.Relevance.{Relevance}
 
 pub record TellsRelevance (g : Game) (player : ℕ) (r : Relevance) : Type 0 where
-  pub sets : r.sets ≡ length (player_keys g player)
   pub visits : FindRelevance g player (visits_of r.visits)
-  pub levels : IsLevels (visits_of r.visits) r.levels
+  pub levels : IsLevels (length (player_keys g player)) (visits_of r.visits) r.levels

@@ -1,9 +1,11 @@
 //! Which visits of a player are left behind his choices, level by level.
 
-ghost use Rattle.std.specs.Prelude.{◌≡◌, ◌==◌, ◌≤◌, ◌<◌, ◌-◌, ◌^◌, suc, ℕ, false, true, IfOk, OnOk};
-ghost use Rattle.std.specs.Prelude.{get_or, length};
+ghost use Rattle.std.specs.Prelude.{◌≡◌, ◌≤◌, ◌<◌, ◌-◌, ◌^◌, ◌||◌, ◌⊎◌, suc, ℕ, [], false, true};
+ghost use Rattle.std.specs.Prelude.{IfOk, OnOk, get_or, length};
+ghost use Rattle.std.specs.List.{list_any};
 ghost use Rattle.gf_nfg.specs.Profiles.{numbers_from};
-ghost use Rattle.gf_form.specs.Levels.{AreLeft, AreLevels, IsLevels, is_made_at, is_made_to, last_left};
+ghost use Rattle.gf_form.specs.Levels.{AreHighest, AreLeft, AreLevels, IsLevels, TellsMet};
+ghost use Rattle.gf_form.specs.Levels.{is_made_at, is_made_to, is_settled_at, is_unknown, last_known};
 ghost use Rattle.gf_form.specs.Visits.{AreNumbers, AreOrdered, chosen};
 ghost use Rattle.gf_form.specs.declared.visits.Visit.{Visit};
 
@@ -20,8 +22,12 @@ pub(crate) struct Levels {
     count: usize,
     /// The choices.
     strategy: Vec<u32>,
-    /// The numbers of the visits that are left.
+    /// The highest level of a move before each visit, by its number.
+    of_visits: Vec<usize>,
+    /// The numbers of the visits that are left, or none if all that they meet is known.
     lists: Vec<Vec<usize>>,
+    /// Whether each set is known to be met, whatever the choices on the later levels.
+    known: Vec<Vec<bool>>,
     /// Room for whether a visit is left, by its number; `true` at 0.
     left: Vec<bool>,
 }
@@ -78,6 +84,16 @@ fn all_left(alloc: Global, count: usize) -> Result<Vec<bool>, AllocError>
     Ok(left)
 }
 
+/// So many sets, none of which is known to be met.
+fn none_known(alloc: Global, sets: usize) -> Result<Vec<bool>, AllocError>
+    ensures count { IfOk result (λ known. length known.items ≡ sets) }
+    ensures none { IfOk result (λ known. (place : ℕ) → get_or known.items place false ≡ false) }
+{
+    let mut known = Vec::new(alloc);
+    known.resize(sets, false)?;
+    Ok(known)
+}
+
 /// Whether a move is on another level, or is the one that is chosen.
 fn is_made(levels: &[usize], level: usize, strategy: &[u32], last: Move) -> bool
     ensures { result ≡ is_made_at levels.now level (chosen strategy.now) last }
@@ -101,11 +117,12 @@ fn left_on(
     requires level { 1 ≤ level }
     requires ordered { (sets : ℕ) × AreOrdered sets 1 visits.now }
     requires within { AreNumbers visits.now numbers.now }
-    requires numbers { AreLeft visits.now
+    requires numbers { (numbers.now ≡ []) ⊎ AreLeft visits.now
         (is_made_to levels.now (level - 1) (chosen strategy.now)) numbers.now }
     requires flags { length left.old ≡ suc (length visits.now) }
     requires first { get_or left.old 0 false ≡ true }
-    ensures numbers { IfOk result (λ list. AreLeft visits.now
+    ensures none { IfOk result (λ list. numbers.now ≡ [] → list.items ≡ []) }
+    ensures numbers { IfOk result (λ list. (numbers.now ≡ []) ⊎ AreLeft visits.now
         (is_made_to levels.now level (chosen strategy.now)) list.items) }
     ensures flags { length left.new ≡ suc (length visits.now) }
     ensures first { get_or left.new 0 false ≡ true }
@@ -123,21 +140,90 @@ fn left_on(
     Ok(list)
 }
 
+/// The highest level of a move before each visit, by its number from 1; 0 before them.
+fn highest_levels(
+    alloc: Global,
+    visits: &[Visit],
+    levels: &[usize],
+) -> Result<Vec<usize>, AllocError>
+    requires { (sets : ℕ) × AreOrdered sets 1 visits.now }
+    ensures { IfOk result (λ highest. AreHighest visits.now levels.now highest.items) }
+{
+    let mut highest = Vec::with_capacity(alloc, visits.len() + 1)?;
+    highest.push(0)?;
+    for visit in visits {
+        let before = highest[visit.last.visit];
+        let level = level_of(levels, visit.last.set as usize);
+        let higher = if before < level { level } else { before };
+        highest.push(higher)?;
+    }
+    Ok(highest)
+}
+
+/// Whether each set is known to be met, from what was known on the levels before this one, and the
+/// visits that are left on it.
+fn known_on(
+    alloc: Global,
+    visits: &[Visit],
+    highest: &[usize],
+    level: usize,
+    numbers: &[usize],
+    before: &[bool],
+) -> Result<Vec<bool>, AllocError>
+    requires ordered { AreOrdered (length before.now) 1 visits.now }
+    requires within { AreNumbers visits.now numbers.now }
+    requires highest { length highest.now ≡ suc (length visits.now) }
+    ensures count { IfOk result (λ known. length known.items ≡ length before.now) }
+    ensures known { IfOk result (λ known. (place : ℕ) → get_or known.items place false
+        ≡ (get_or before.now place false
+        || list_any (is_settled_at visits.now highest.now level place) numbers.now)) }
+{
+    let mut known = Vec::with_capacity(alloc, before.len())?;
+    known.extend_from_slice(before)?;
+    for number in numbers {
+        if highest[*number] <= level {
+            known[visits[*number - 1].set as usize - 1] = true;
+        }
+    }
+    Ok(known)
+}
+
+/// Whether one of the visits with these numbers is to a set that is not known to be met.
+fn any_unknown(visits: &[Visit], numbers: &[usize], known: &[bool]) -> bool
+    requires ordered { AreOrdered (length known.now) 1 visits.now }
+    requires within { AreNumbers visits.now numbers.now }
+    ensures { result ≡ list_any (is_unknown visits.now known.now) numbers.now }
+{
+    for number in numbers {
+        if !known[visits[*number - 1].set as usize - 1] {
+            return true;
+        }
+    }
+    false
+}
+
 impl Levels {
     /// Those of a player with these visits and so many actions at each set, before any choice.
     pub(crate) fn new(alloc: Global, counts: &[u32], visits: &[Visit]) -> Result<Levels, AllocError>
-        ensures { IfOk result (IsLevels visits.now) }
+        requires { AreOrdered (length counts.now) 1 visits.now }
+        ensures { IfOk result (IsLevels (length counts.now) visits.now) }
     {
         let (of_sets, count) = levels_of(alloc, counts)?;
+        let of_visits = highest_levels(alloc, visits, &of_sets)?;
         let left = all_left(alloc, visits.len())?;
         let all = all_numbers(alloc, visits.len())?;
+        let none = none_known(alloc, counts.len())?;
         let mut lists = Vec::new(alloc);
         lists.push(all)?;
+        let mut known = Vec::new(alloc);
+        known.push(none)?;
         Ok(Levels {
             of_sets,
             count,
             strategy: Vec::new(alloc),
+            of_visits,
             lists,
+            known,
             left,
         })
     }
@@ -163,6 +249,43 @@ impl Levels {
         kept
     }
 
+    /// Makes the choices on one level more.
+    fn go_on(&mut self, alloc: Global, visits: &[Visit]) -> Result<(), AllocError>
+        requires sets { (sets : ℕ) × AreOrdered sets 1 visits.now × IsLevels sets visits.now self.old }
+        requires more { length self.old.lists.items ≤ self.old.count }
+        ensures count { self.new.count ≡ self.old.count }
+        ensures strategy { self.new.strategy.items ≡ self.old.strategy.items }
+        ensures more { OnOk result
+            (length self.new.lists.items ≡ suc (length self.old.lists.items)) }
+        ensures levels { OnOk result ((sets : ℕ) → AreOrdered sets 1 visits.now
+            → IsLevels sets visits.now self.old → IsLevels sets visits.now self.new) }
+    {
+        let level = self.lists.len();
+        let mut list = left_on(
+            alloc,
+            visits,
+            &self.of_sets,
+            level,
+            &self.strategy,
+            &self.lists[level - 1],
+            &mut self.left,
+        )?;
+        let known = known_on(
+            alloc,
+            visits,
+            &self.of_visits,
+            level,
+            &list,
+            &self.known[level - 1],
+        )?;
+        if !any_unknown(visits, &list, &known) {
+            list.clear();
+        }
+        self.lists.push(list)?;
+        self.known.push(known)?;
+        Ok(())
+    }
+
     /// Makes the choices of a strategy.
     pub(crate) fn choose(
         &mut self,
@@ -170,37 +293,29 @@ impl Levels {
         visits: &[Visit],
         strategy: &[u32],
     ) -> Result<(), AllocError>
-        requires ordered { (sets : ℕ) × AreOrdered sets 1 visits.now }
-        requires levels { IsLevels visits.now self.old }
-        ensures levels { OnOk result (IsLevels visits.now self.new) }
-        ensures left { OnOk result (AreLeft visits.now (λ last. chosen strategy.now last.set == last.action)
-            (last_left self.new)) }
+        requires sets { (sets : ℕ) × AreOrdered sets 1 visits.now × IsLevels sets visits.now self.old }
+        ensures levels { OnOk result ((sets : ℕ) → AreOrdered sets 1 visits.now
+            → IsLevels sets visits.now self.old → IsLevels sets visits.now self.new) }
+        ensures known { OnOk result ((sets : ℕ) → AreOrdered sets 1 visits.now
+            → IsLevels sets visits.now self.old
+            → TellsMet sets visits.now strategy.now (last_known self.new)) }
     {
         let kept = self.kept(strategy);
         self.lists.truncate(kept + 1);
+        self.known.truncate(kept + 1);
         self.strategy.clear();
         self.strategy.extend_from_slice(strategy)?;
         while self.lists.len() <= self.count {
-            let level = self.lists.len();
-            let list = left_on(
-                alloc,
-                visits,
-                &self.of_sets,
-                level,
-                strategy,
-                &self.lists[level - 1],
-                &mut self.left,
-            )?;
-            self.lists.push(list)?;
+            self.go_on(alloc, visits)?;
         }
         Ok(())
     }
 
-    /// The numbers of the visits that are left behind all choices.
-    pub(crate) fn last(&self) -> &[usize]
-        requires { 0 < length self.now.lists.items }
-        ensures { result.now ≡ last_left self.now }
+    /// Whether each set is met, first set first, where the choices of a strategy are made.
+    pub(crate) fn met(&self) -> &[bool]
+        requires { 0 < length self.now.known.items }
+        ensures { result.now ≡ last_known self.now }
     {
-        &self.lists[self.lists.len() - 1]
+        &self.known[self.known.len() - 1]
     }
 }

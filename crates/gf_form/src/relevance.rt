@@ -9,13 +9,14 @@ ghost use Rattle.gf_tree.specs.PrefixOrder.{flatten};
 ghost use Rattle.gf_form.specs.Comes.{tree_comes};
 ghost use Rattle.gf_form.specs.Relevance.{FindRelevance};
 ghost use Rattle.gf_form.specs.Shown.{relevant_sets};
+ghost use Rattle.gf_form.specs.Strategies.{action_counts};
 ghost use Rattle.gf_form.specs.Survey.{FindsMore, IsSurvey, last_move, open_comes};
 ghost use Rattle.gf_form.specs.Survey.{open_size, survey_size};
 ghost use Rattle.gf_form.specs.TellsRelevance.{TellsRelevance};
 ghost use Rattle.gf_form.specs.Visits.{chosen, is_taken, visits_of};
 
 use crate::levels::Levels;
-use crate::visits::{Move, Visit, Visits, write_met};
+use crate::visits::{Move, Visit, Visits};
 use gf_tree::{Branch, Branches, Game};
 use std::alloc::{AllocError, Global};
 
@@ -140,7 +141,6 @@ fn visits_in(alloc: Global, game: &Game<'_>, player: u32) -> Result<Visits, Allo
 /// What tells the relevant sets of a player under each of his strategies.
 #[derive(Drop)]
 pub(crate) struct Relevance {
-    sets: usize,
     visits: Visits,
     levels: Levels,
 }
@@ -153,15 +153,12 @@ impl Relevance {
         player: u32,
         counts: &[u32],
     ) -> Result<Relevance, AllocError>
+        requires { counts.now ≡ action_counts game.now player }
         ensures { IfOk result (TellsRelevance game.now player) }
     {
         let visits = visits_in(alloc, game, player)?;
         let levels = Levels::new(alloc, counts, visits.all())?;
-        Ok(Relevance {
-            sets: game.set_count(player),
-            visits,
-            levels,
-        })
+        Ok(Relevance { visits, levels })
     }
 
     /// Writes whether each set, first set first, is relevant under a strategy.
@@ -178,7 +175,8 @@ impl Relevance {
             → relevant.new.items ≡ relevant_sets g player strategy.now) }
     {
         self.levels.choose(alloc, self.visits.all(), strategy)?;
-        write_met(self.visits.all(), self.levels.last(), self.sets, relevant)?;
+        relevant.clear();
+        relevant.extend_from_slice(self.levels.met())?;
         Ok(())
     }
 }

@@ -1,8 +1,7 @@
 //! The visits of a player to his sets: the ways to come to them, told by his own moves alone.
 
-ghost use Rattle.std.specs.Prelude.{◌≡◌, ◌==◌, ◌<◌, suc, ℕ, [], false, IfOk, OnOk, get_or, length};
-ghost use Rattle.std.specs.List.{list_any};
-ghost use Rattle.gf_form.specs.Visits.{AreNumbers, AreOrdered, Meets, chosen, visit_at, visits_of};
+ghost use Rattle.std.specs.Prelude.{◌≡◌, [], IfOk};
+ghost use Rattle.gf_form.specs.Visits.{Meets, chosen, visits_of};
 ghost use Rattle.gf_form.specs.declared.visits.Visit.{Visit};
 
 use indexmap::IndexSet;
@@ -71,25 +70,4 @@ impl Visits {
     {
         self.visits.as_slice()
     }
-}
-
-/// Writes whether each of so many sets is met on one of the visits with these numbers.
-pub(crate) fn write_met(
-    visits: &[Visit],
-    numbers: &[usize],
-    sets: usize,
-    met: &mut Vec<bool>,
-) -> Result<(), AllocError>
-    requires ordered { AreOrdered sets 1 visits.now }
-    requires within { AreNumbers visits.now numbers.now }
-    ensures count { OnOk result (length met.new.items ≡ sets) }
-    ensures met { OnOk result ((before : ℕ) → before < sets → get_or met.new.items before false
-        ≡ list_any (λ number. (visit_at visits.now number).set == suc before) numbers.now) }
-{
-    met.clear();
-    met.resize(sets, false)?;
-    for number in numbers {
-        met[visits[*number - 1].set as usize - 1] = true;
-    }
-    Ok(())
 }

@@ -242,3 +242,12 @@ loop-number-smaller c =
       are.as_many,
       some_alike (action_counts g player) are.from (omega (arith, less)),
     )
+
+pub strategies_alike-number-requires-clause-flags : goal.strategies_alike-number-requires-clause-flags
+strategies_alike-number-requires-clause-flags c =
+    let g = c.args.game.now in
+    let player = c.args.player in
+    ap length (c.deref-in-loop-number-3.ensures.value
+    ∙ c.in_ok-write_relevant.ensures.relevant g player c.loop-number.invariant.3)
+    ∙ flags_counted g c.players-players.ensures.is_game player c.deref.result.now
+    ∙ sym (ap length c.requires.counts)
