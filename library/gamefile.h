@@ -1,9 +1,10 @@
-/* gamefile.h: game files of Gambit (.efg and .nfg) checked, compared, and written as canonical text
- * or as a table. See docs/LIBRARY.md.
+/* gamefile.h: checks Gambit game files (.efg and .nfg), compares them, and writes them as canonical
+ * text or as a table. See docs/LIBRARY.md.
  *
- * Bytes go in and bytes come out: a text is written into the caller's buffer, and is not ended by a
- * zero byte. The library keeps no state, so any call may run on any thread, many at once. Inputs are
- * borrowed for the call; NULL with a length of 0 is an empty input. A buffer may not overlap an input.
+ * Bytes go in and bytes come out: a text is written into your buffer, without a zero byte at its
+ * end. The library keeps no state, so you may make any call on any thread, and many at once. Inputs
+ * are borrowed for the call; NULL with a length of 0 is an empty input. A buffer must not overlap
+ * an input.
  *
  * Codes, statuses and the other numbers below never change; later versions may add some. */
 #ifndef GAMEFILE_H
@@ -18,13 +19,13 @@ extern "C" {
 
 #define GAMEFILE_VERSION "1.0.0"
 
-/* What a call answers. */
+/* What a call returns. */
 typedef enum {
-    GAMEFILE_OK = 0,                /* done; of two files, they mean the same */
+    GAMEFILE_OK = 0,                /* done; for two files: they mean the same */
     GAMEFILE_DIFFERENT = 1,         /* two files do not mean the same */
     GAMEFILE_REFUSED = 2,           /* a file is refused; the fault says why, and where */
     GAMEFILE_MISUSE = 3,            /* flags that the call does not have, or NULL with a length
-                                       above 0; of a table also more than 4,294,967,295 players */
+                                       above 0; for a table also more than 4,294,967,295 players */
     GAMEFILE_NOMEM = 5,             /* out of memory */
     GAMEFILE_TOO_MANY_PROFILES = 6, /* a table would have more than 1,048,576 profiles */
     GAMEFILE_OVERFLOW = 7,          /* a payoff of a table needs numbers of more than 127 bits */
@@ -37,7 +38,7 @@ typedef enum { GAMEFILE_TREE = 1, GAMEFILE_TABLE = 2 } gamefile_kind;
 enum {
     GAMEFILE_NO_NAMES = 1u, /* title, comment, and the names of nodes, information sets and outcomes
                                count as empty */
-    GAMEFILE_REDUCED = 2u   /* of a tree, the reduced strategic form */
+    GAMEFILE_REDUCED = 2u   /* for a tree, the reduced strategic form */
 };
 
 /* What was expected, if the code is 3. */
@@ -55,9 +56,10 @@ enum {
     GAMEFILE_WHAT_END = 11
 };
 
-/* Why a file is refused: the number of a code E2 to E18, what was expected (0 unless the code is 3),
- * and the place in bytes from 0, its end one past the last. Written after GAMEFILE_REFUSED, and after
- * GAMEFILE_NOMEM with the code 19 if memory ran out while a file was read. */
+/* Why a file is refused: the number of a code E2 to E18, what was expected (0 unless the code is
+ * 3), and the place in bytes from 0; `end` is one past the last byte. It is written if the status
+ * is GAMEFILE_REFUSED, and with the code 19 if it is GAMEFILE_NOMEM and memory ran out while a file
+ * was read. */
 typedef struct {
     uint32_t code;
     uint32_t expected;
@@ -65,10 +67,10 @@ typedef struct {
     size_t end;
 } gamefile_fault;
 
-/* What a pair of numbers is of. */
+/* What a pair of numbers belongs to. */
 enum { GAMEFILE_SET = 1u, GAMEFILE_OUTCOME = 2u };
 
-/* Numbers that correspond: of an information set, or of an outcome, in each of two trees. */
+/* The numbers of an information set, or of an outcome, that correspond in two trees. */
 typedef struct {
     uint32_t kind;   /* GAMEFILE_SET or GAMEFILE_OUTCOME */
     uint32_t player; /* the player of a set, 0 for chance; 0 for an outcome */
@@ -76,47 +78,49 @@ typedef struct {
     uint32_t second; /* the number in the second tree */
 } gamefile_pair;
 
-/* In each call `kind`, `needed`, `fault`, `profile` and `which` may be NULL. What a call does not
- * answer is left as it was. */
+/* In each call, `kind`, `needed`, `fault`, `profile` and `which` may be NULL. What a call has no
+ * answer for is left as it was. */
 
-/* The version of the library, as GAMEFILE_VERSION is that of this header. */
+/* The version of the library. GAMEFILE_VERSION is the version of this header. */
 const char *gamefile_version(void);
 
 /* Whether the bytes are a game file, and of which kind. */
 gamefile_status gamefile_check(const uint8_t *in, size_t n, gamefile_kind *kind, gamefile_fault *fault);
 
-/* The canonical text, which two files have in common exactly if they mean the same game. Flags: 0 or
- * GAMEFILE_NO_NAMES. `needed` is the length of the text, after GAMEFILE_OK and after
- * GAMEFILE_TOO_SMALL. A text is seldom longer than its file: a buffer of n + n / 8 + 4096 bytes nearly
- * always holds it. NULL with a `cap` of 0 asks for the length. */
+/* The canonical text, which is the same for two files exactly if they mean the same game. Flags: 0
+ * or GAMEFILE_NO_NAMES. After GAMEFILE_OK and GAMEFILE_TOO_SMALL, `needed` is the length of the
+ * text. A text is seldom longer than its file: a buffer of n + n / 8 + 4096 bytes nearly always
+ * holds it. To get the length only, pass NULL with a `cap` of 0. */
 gamefile_status gamefile_canonical(const uint8_t *in, size_t n, unsigned flags, uint8_t *out,
                                    size_t cap, size_t *needed, gamefile_fault *fault);
 
-/* The SHA-256 digest of the canonical text, as 64 hexadecimal digits and a zero byte. It is the same in
- * all versions 1.x. Flags: 0 or GAMEFILE_NO_NAMES. */
+/* The SHA-256 digest of the canonical text, as 64 hexadecimal digits and a zero byte. It is the
+ * same in all versions 1.x. Flags: 0 or GAMEFILE_NO_NAMES. */
 gamefile_status gamefile_hash(const uint8_t *in, size_t n, unsigned flags, char hash[65],
                               gamefile_fault *fault);
 
-/* A tree as its strategic form, with exact expected payoffs; a strategic file as its canonical text.
- * Flags: 0 or GAMEFILE_REDUCED. After GAMEFILE_OVERFLOW `profile` is the first profile that overflows,
- * from 1. Buffer and `needed` are as in gamefile_canonical. */
+/* The strategic form of a tree, with exact expected payoffs; for a strategic file, its canonical
+ * text. Flags: 0 or GAMEFILE_REDUCED. After GAMEFILE_OVERFLOW, `profile` is the first profile that
+ * overflows, counted from 1. The buffer and `needed` are as in gamefile_canonical. */
 gamefile_status gamefile_table(const uint8_t *in, size_t n, unsigned flags, uint8_t *out, size_t cap,
                                size_t *needed, gamefile_fault *fault, uint64_t *profile);
 
-/* GAMEFILE_OK if two files mean the same game, else GAMEFILE_DIFFERENT. If one is refused, `which` is
- * 0 for the first and 1 for the second. Flags: 0 or GAMEFILE_NO_NAMES. */
+/* Returns GAMEFILE_OK if two files mean the same game, and otherwise GAMEFILE_DIFFERENT. If one is
+ * refused, `which` is 0 for the first and 1 for the second. Flags: 0 or GAMEFILE_NO_NAMES. */
 gamefile_status gamefile_same(const uint8_t *a, size_t an, const uint8_t *b, size_t bn, unsigned flags,
                               gamefile_fault *fault, int *which);
 
-/* Which numbers of two files correspond, if these mean the same game: a pair for each information set
- * and each outcome of a tree, and none for a table. The sets of chance come first, then those of player
- * after player, and then the outcomes, all in order of first use. `cap` and `needed` count pairs. If the
- * files do not mean the same, GAMEFILE_DIFFERENT. `which` is as in gamefile_same. */
+/* Which numbers of two files correspond, if these mean the same game: a pair for each information
+ * set and each outcome of a tree, and none for a table. The sets of chance come first, then those
+ * of each player in turn, and then the outcomes, all in order of first use. `cap` and `needed`
+ * count pairs. If the files do not mean the same, the call returns GAMEFILE_DIFFERENT. `which` is
+ * as in gamefile_same. */
 gamefile_status gamefile_renumbering(const uint8_t *a, size_t an, const uint8_t *b, size_t bn,
                                      gamefile_pair *out, size_t cap, size_t *needed,
                                      gamefile_fault *fault, int *which);
 
-/* What a code means, and a hint how to mend the file, or NULL if there is none: static English text. */
+/* What a code means, and a hint on how to mend the file, or NULL if there is none. Both are static
+ * English texts. */
 const char *gamefile_message(uint32_t code, uint32_t expected);
 const char *gamefile_hint(uint32_t code, uint32_t expected);
 

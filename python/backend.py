@@ -1,4 +1,4 @@
-"""Builds the wheel of gamefile with the standard library alone, so that pip needs no network.
+"""Builds the wheel of gamefile with the standard library only, so that pip needs no network.
 
 The wheel holds the package with its shared object, which `make library` puts there.
 """
@@ -16,7 +16,7 @@ FILES = ["__init__.py", "py.typed", SHARED_OBJECT]
 
 
 def platform_tag():
-    """Gives the machine that the shared object runs on, as a wheel's name tells it."""
+    """Gives the machine that the shared object runs on, in the form that a wheel's name has."""
     return sysconfig.get_platform().replace("-", "_").replace(".", "_")
 
 

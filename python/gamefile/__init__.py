@@ -1,6 +1,6 @@
-"""Game files of Gambit (.efg and .nfg) checked, compared, and written as canonical text or as a table.
+"""Checks Gambit game files (.efg, .nfg), compares them, and writes canonical texts and tables.
 
-Every function takes the bytes of a file and keeps nothing, so it may be called on any thread. The
+Every function takes the bytes of a file and keeps nothing, so you may call it on any thread. The
 interpreter's lock is free during a call.
 
 >>> game = b'EFG 2 R "toss" { "A" } c "" 9 "coin" { "h" 0.5 "t" 2/4 } 0 t "" 7 "win" { 1e0 } t "" 7'
@@ -49,7 +49,7 @@ _SET = 1
 # No set or outcome is described in fewer bytes.
 _BYTES_OF_A_PAIR = 8
 
-# What a call answers (gamefile.h).
+# What a call returns (gamefile.h).
 _OK, _DIFFERENT, _REFUSED, _NOMEM = 0, 1, 2, 5
 _TOO_MANY_PROFILES, _OVERFLOW, _TOO_SMALL = 6, 7, 8
 _NO_NAMES, _REDUCED = 1, 2
@@ -133,9 +133,9 @@ class GameFileError(ValueError):
     column: int
     #: What is wrong, in English.
     message: str
-    #: How to mend it, if there is advice.
+    #: How to mend it, or None if there is no hint.
     hint: Optional[str]
-    #: Of two files, which is refused; else None.
+    #: Which of two files is refused; None if there is only one.
     which: Optional[Literal["a", "b"]]
 
     def __init__(
@@ -178,10 +178,10 @@ class TableError(ArithmeticError):
     overflow 1
     """
 
-    #: Why: the strategic form has more than 1,048,576 profiles, or a payoff needs numbers of more than
-    #: 127 bits.
+    #: Why there is none: the strategic form has more than 1,048,576 profiles, or a payoff needs
+    #: numbers of more than 127 bits.
     reason: Literal["too many profiles", "overflow"]
-    #: The first profile that overflows, from 1.
+    #: The first profile that overflows, counted from 1; None if there are too many profiles.
     profile: Optional[int]
 
     def __init__(
@@ -198,8 +198,8 @@ class TableError(ArithmeticError):
 class Renumbering(NamedTuple):
     """Which numbers of two games correspond, in order of first use."""
 
-    #: The number of an information set in the second game, by its player and its number in the first.
-    #: Player 0 is chance.
+    #: The number of an information set in the second game, by its player and its number in the
+    #: first. Player 0 is chance.
     sets: Dict[Tuple[int, int], int]
     #: The number of an outcome in the second game, by its number in the first.
     outcomes: Dict[int, int]
@@ -246,7 +246,7 @@ def _judge_two(status: int, a: bytes, b: bytes, fault: _Fault, which: ctypes.c_i
 
 
 def check(data: bytes) -> Literal["tree", "table"]:
-    """The kind of a game file: a tree (extensive) or a table (strategic).
+    """Returns the kind of a game file: a tree (extensive) or a table (strategic).
 
     >>> check(b'NFG 1 R "" { "A" } { 2 } 1 2')
     'table'
@@ -258,9 +258,10 @@ def check(data: bytes) -> Literal["tree", "table"]:
 
 
 def canonical(data: bytes, *, names: bool = True) -> bytes:
-    """The canonical text of a game, which two files have in common exactly if they are the same.
+    """Returns the canonical text of a game, which is the same exactly for files that mean the same.
 
-    Without names, title, comment, and the names of nodes, information sets and outcomes are empty.
+    Without names, the title, the comment, and the names of nodes, information sets and outcomes are
+    empty.
 
     >>> game = b'NFG 1 D "x" { "A" } { 2 } 0.5 4/2'
     >>> print(canonical(game).decode(), end="")
@@ -285,7 +286,7 @@ def canonical(data: bytes, *, names: bool = True) -> bytes:
 
 
 def key(data: bytes, *, names: bool = True) -> str:
-    """The SHA-256 digest of the canonical text, in 64 hexadecimal digits: a name for the game.
+    """Returns the SHA-256 digest of the canonical text in 64 hexadecimal digits: a name for the game.
 
     It stays the same in all versions 1.x.
 
@@ -299,7 +300,7 @@ def key(data: bytes, *, names: bool = True) -> str:
 
 
 def same(a: bytes, b: bytes, *, names: bool = True) -> bool:
-    """Whether two files mean the same game.
+    """Returns whether two files mean the same game.
 
     >>> same(b'NFG 1 R "x" { "A" } { 1 } 1', b'NFG 1 R "y" { "A" } { 1 } 1.0')
     False
@@ -315,9 +316,9 @@ def same(a: bytes, b: bytes, *, names: bool = True) -> bool:
 
 
 def renumbering(a: bytes, b: bytes) -> Optional[Renumbering]:
-    """Which information sets and outcomes of two trees correspond; None if the files are not the same.
+    """Returns which information sets and outcomes of two trees correspond.
 
-    Tables that are the same have no such numbers.
+    Returns None if the files do not mean the same. For two tables that do, the result is empty.
 
     >>> tree = b'EFG 2 R "" { "A" } p "" 1 7 "" { "x" } 0 t "" 3 "" { 1 }'
     >>> renumbering(tree, canonical(tree))
@@ -344,8 +345,9 @@ def renumbering(a: bytes, b: bytes) -> Optional[Renumbering]:
 
 
 def table(data: bytes, *, reduced: bool = False) -> bytes:
-    """A tree as a strategic file: its strategic form, or the reduced one; a strategic file in canonical
-    text.
+    """Returns a tree as a strategic file: its strategic form, or its reduced form.
+
+    For a strategic file, returns its canonical text.
 
     >>> tree = b'EFG 2 R "" { "A" } p "" 1 1 "" { "x" "y" } 0 t "" 1 "" { 3 } t "" 2 "" { 4 }'
     >>> print(table(tree).decode(), end="")
