@@ -286,9 +286,9 @@ def canonical(data: bytes, *, names: bool = True) -> bytes:
 
 
 def key(data: bytes, *, names: bool = True) -> str:
-    """Returns the SHA-256 digest of the canonical text in 64 hexadecimal digits: a name for the game.
+    """Returns the SHA-256 digest of the canonical text, in 64 hexadecimal digits.
 
-    It stays the same in all versions 1.x.
+    It names the game, and stays the same in all versions 1.x.
 
     >>> key(b'NFG 1 R "x" { "A" } { 2 } 1 2') == key(b'NFG 1 D "x" { "A" } { 2 } 1.0 4/2')
     True
