@@ -9,7 +9,7 @@ use Rattle.gf_token.specs.Token.Token.{Opening, Closing, Comma, Text, Bare, Brok
 use Rattle.gf_token.specs.TokenSpelling.{IsSpelled, GoesOn, BeginsWith, Spells, StandsIn}
 
 -- each token has a byte
-some_byte : (t : Token) → IsSpelled t → 0 < length (spelling t)
+pub some_byte : (t : Token) → IsSpelled t → 0 < length (spelling t)
 some_byte Opening h = omega arith
 some_byte Closing h = omega arith
 some_byte Comma h = omega arith

@@ -1,5 +1,5 @@
--- What the parts of `Cursor::next` find. No public contract cites this file.
-use Rattle.std.specs.Prelude.{◌≡◌, ℕ, ◌+◌, ◌<◌, ◌≤◌, true, false, List, [], ◌∷◌, length, drop}
+-- What is found in the bytes from a place on. No public contract cites this file.
+use Rattle.std.specs.Prelude.{◌≡◌, ℕ, ◌+◌, ◌<◌, true, false, List, [], ◌∷◌, length, drop}
 use Rattle.std.specs.Prelude.{get_or, slice_range, Result, Ok, Err}
 use Rattle.gf_token.specs.Byte.{is_space}
 use Rattle.gf_token.specs.LabelSpelling.{is_spelling}
@@ -7,7 +7,7 @@ use Rattle.gf_token.specs.Token.{Lexeme, lexeme}
 use Rattle.gf_token.specs.Token.Token.{Text, Broken}
 use Rattle.gf_token.specs.Lexing.{lex}
 use Rattle.gf_token.specs.Lexing.Mode.{Gap}
-use Rattle.gf_token.specs.Cursor.{lexeme_of}
+use Rattle.gf_token.specs.HeldTokens.{lexeme_of}
 use Rattle.gf_token.specs.declared.fault.Fault.{Fault}
 use Rattle.gf_token.specs.declared.fault.Why.TheVariants.{Unterminated}
 use Rattle.gf_token.specs.declared.token.Token.{Token}
@@ -32,7 +32,6 @@ pub record ClosesText (bytes : List ℕ) (start end : ℕ) : Type 0 where
 
 -- what stands at `start`
 abbrev pub Finds : List ℕ → ℕ → Result Token Fault → Type 0
-Finds bytes start (Ok t) =
-    (t.span.end ≤ length bytes) × (lexed bytes start ≡ lexeme_of t ∷ lexed bytes t.span.end)
+Finds bytes start (Ok t) = lexed bytes start ≡ lexeme_of t ∷ lexed bytes t.span.end
 Finds bytes start (Err f) =
     (f.why ≡ Unterminated) × (lexed bytes start ≡ lexeme f.span.start f.span.end Broken ∷ [])

@@ -7,7 +7,7 @@ pub mod Indices
 pub mod Grammar
 pub mod Code
 pub mod Label
-pub mod Cursor
+pub mod HeldTokens
 pub mod Lexing
 pub mod Finding
 pub mod Next

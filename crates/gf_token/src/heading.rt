@@ -15,6 +15,7 @@ use crate::tokens::Tokens;
 impl<'a> Tokens<'a> {
     /// Takes the word that is due: the name of a format, or its version (Gambit documentation,
     /// "Game representation formats"). Any other token, or the end, is refused.
+    #[tactic(auto, using(crate::proofs::TokensAhead::taken_token))]
     pub fn word(&mut self, word: &[u8], due: What) -> Result<(), Fault>
         ensures { MatchResult result (λ _. Takes (is_word word.now) self.old self.new)
             (IsRefused (is_word word.now) (Expected due) self.old) }
@@ -31,6 +32,7 @@ impl<'a> Tokens<'a> {
 
     /// Takes the letter that tells how numbers are written, `R` or `D`, which has no meaning (this
     /// project's profile). Any other token, or the end, is refused.
+    #[tactic(auto, using(crate::proofs::TokensAhead::taken_token))]
     pub fn letter(&mut self) -> Result<(), Fault>
         ensures { MatchResult result (λ _. Takes is_letter self.old self.new)
             (IsRefused is_letter (Expected what.Letter) self.old) }

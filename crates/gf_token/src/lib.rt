@@ -8,17 +8,16 @@
 #![tactic(auto)]
 
 mod byte;
-mod cursor;
 mod fault;
 mod heading;
 mod index;
 mod label;
 pub mod laws;
+mod scan;
 mod token;
 mod tokens;
 mod write;
 
-pub use cursor::Cursor;
 pub use fault::{Fault, Span, What, Why};
 pub use index::{IndexFault, read_index};
 pub use label::Label;

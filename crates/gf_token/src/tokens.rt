@@ -1,8 +1,11 @@
 //! The tokens of an input, of which a reader asks for the one that is due.
+//!
+//! What is asked for at each token is `inline(always)`: wide values would otherwise pass through
+//! memory.
 
 ghost use Rattle.std.specs.Prelude.{◌≡◌, ◌≤◌, ◌∷◌, [], false, length, IfSome, MatchOption};
 ghost use Rattle.gf_fraction.specs.Computed.{number_of};
-ghost use Rattle.gf_token.specs.Cursor.{Nexts};
+ghost use Rattle.gf_token.specs.HeldTokens.{Nexts};
 ghost use Rattle.gf_token.specs.Indices.{index_of};
 ghost use Rattle.gf_token.specs.Label.{label_of};
 ghost use Rattle.gf_token.specs.Next.{starts, is_bare_token, is_closing, is_quoted};
@@ -12,9 +15,12 @@ ghost use Rattle.gf_token.specs.Token.{lexeme};
 ghost use Rattle.gf_token.specs.Token.Token.{Bare, Closing, Comma, Opening, Text};
 ghost use Rattle.gf_token.specs.TokenSpelling.{Spells};
 
-use crate::cursor::Cursor;
+use crate::byte::is_bare;
 use crate::fault::{Fault, Span, Why};
 use crate::label::Label;
+use crate::scan::{
+    bare_end, closing_quote, end_of_label, gap_end, index_end, number_end, token_at,
+};
 use crate::token::{BareToken, TextToken, Token};
 use gf_fraction::{Fraction, NumberFault};
 use std::marker::Model;
@@ -23,20 +29,25 @@ use std::marker::Model;
 ///
 /// A token that is asked for is taken where it comes next; where another one does, nothing is
 /// taken.
+///
+/// Whitespace has no meaning between tokens (Gambit documentation, "Game representation formats");
+/// it is the bytes 9 to 13 and 32, and other bytes that begin nothing else are those of a bare
+/// token (this project's profile).
 #[derive(Drop)]
 pub struct Tokens<'a> {
     input: &'a [u8],
-    cursor: Cursor<'a>,
+    at: usize,
 }
 
 impl<'a> Model for Tokens<'a> {
+    ghost use Rattle.gf_token.specs.Finding.{lexed};
     ghost use Rattle.gf_token.specs.Remaining.{AreAhead, Remaining};
 
     ghost Value = { Remaining };
 
-    ghost view = { λ t. record { input = t.input.now; ahead = t.cursor } };
+    ghost view = { λ t. record { input = t.input.now; ahead = lexed t.input.now t.at } };
 
-    ghost invariant = { λ t. AreAhead t.input.now t.cursor };
+    ghost invariant = { λ t. AreAhead t.input.now (lexed t.input.now t.at) };
 }
 
 impl<'a> Tokens<'a> {
@@ -47,13 +58,11 @@ impl<'a> Tokens<'a> {
         ensures spelled { Spells 0 input.entry.now result.ahead }
         ensures few { length result.ahead ≤ length input.entry.now }
     {
-        Tokens {
-            input,
-            cursor: Cursor::new(input),
-        }
+        Tokens { input, at: 0 }
     }
 
     /// The next token where it is a bare one.
+    #[tactic(auto, using(crate::proofs::Starts::starts_steps, crate::proofs::TokensAhead::taken))]
     #[inline(always)]
     pub fn bare(&mut self) -> Option<BareToken<'a>>
         ensures next { MatchOption result
@@ -63,10 +72,19 @@ impl<'a> Tokens<'a> {
         ensures input { self.new.input ≡ self.old.input }
         ensures place { IfSome result (λ t. StandsBefore self.new t.span) }
     {
-        self.cursor.bare()
+        let start = gap_end(self.input, self.at)?;
+        if !is_bare(self.input[start]) {
+            return None;
+        }
+        let end = bare_end(self.input, start);
+        let bytes = &self.input[start..end];
+        self.at = end;
+        let span = Span { start, end };
+        Some(BareToken { span, bytes })
     }
 
     /// The next token where it is a bare one, with the index that it spells, if it spells one.
+    #[tactic(auto, using(crate::proofs::Starts::starts_steps, crate::proofs::TokensAhead::taken))]
     #[inline(always)]
     pub fn index(&mut self) -> Option<(BareToken<'a>, Option<u32>)>
         ensures next { MatchOption result
@@ -77,10 +95,19 @@ impl<'a> Tokens<'a> {
         ensures input { self.new.input ≡ self.old.input }
         ensures place { IfSome result (λ t. StandsBefore self.new t.0.span) }
     {
-        self.cursor.index()
+        let start = gap_end(self.input, self.at)?;
+        if !is_bare(self.input[start]) {
+            return None;
+        }
+        let (end, index) = index_end(self.input, start);
+        let bytes = &self.input[start..end];
+        self.at = end;
+        let span = Span { start, end };
+        Some((BareToken { span, bytes }, index))
     }
 
     /// The next token where it is a bare one, with the number that it spells, or why it spells none.
+    #[tactic(auto, using(crate::proofs::Starts::starts_steps, crate::proofs::TokensAhead::taken))]
     #[inline(always)]
     pub fn number(&mut self) -> Option<(BareToken<'a>, Result<Fraction, NumberFault>)>
         ensures next { MatchOption result
@@ -91,19 +118,32 @@ impl<'a> Tokens<'a> {
         ensures input { self.new.input ≡ self.old.input }
         ensures place { IfSome result (λ t. StandsBefore self.new t.0.span) }
     {
-        self.cursor.number()
+        let start = gap_end(self.input, self.at)?;
+        if !is_bare(self.input[start]) {
+            return None;
+        }
+        let (end, number) = number_end(self.input, start);
+        let bytes = &self.input[start..end];
+        self.at = end;
+        let span = Span { start, end };
+        Some((BareToken { span, bytes }, number))
     }
 
     /// Whether the next token begins with a quote: it is a text, or a text that has no end. Nothing
     /// is taken.
+    #[tactic(auto, using(crate::proofs::Starts::starts_steps))]
     #[inline(always)]
     pub fn is_quoted(&self) -> bool
         ensures { result ≡ starts is_quoted self.now.ahead }
     {
-        self.cursor.is_quoted()
+        match gap_end(self.input, self.at) {
+            Some(start) => self.input[start] == b'"',
+            None => false,
+        }
     }
 
     /// The next token where it is a text.
+    #[tactic(auto, using(crate::proofs::Starts::starts_steps, crate::proofs::TokensAhead::taken))]
     #[inline(always)]
     pub fn text(&mut self) -> Option<TextToken<'a>>
         ensures next { MatchOption result
@@ -113,10 +153,20 @@ impl<'a> Tokens<'a> {
         ensures input { self.new.input ≡ self.old.input }
         ensures place { IfSome result (λ t. StandsBefore self.new t.span) }
     {
-        self.cursor.text()
+        let start = gap_end(self.input, self.at)?;
+        if self.input[start] != b'"' {
+            return None;
+        }
+        let quote = closing_quote(self.input, start)?;
+        let label = Label::of_spelling(&self.input[start + 1..quote]);
+        let end = quote + 1;
+        self.at = end;
+        let span = Span { start, end };
+        Some(TextToken { span, label })
     }
 
     /// The place of the next token where it is the text of this label.
+    #[tactic(auto, using(crate::proofs::Starts::starts_steps, crate::proofs::TokensAhead::taken))]
     #[inline(always)]
     pub fn text_of(&mut self, label: Label<'_>) -> Option<Span>
         ensures next { MatchOption result
@@ -127,10 +177,14 @@ impl<'a> Tokens<'a> {
         ensures input { self.new.input ≡ self.old.input }
         ensures place { IfSome result (λ s. StandsBefore self.new s) }
     {
-        self.cursor.text_of(label)
+        let start = gap_end(self.input, self.at)?;
+        let end = end_of_label(self.input, start, label)?;
+        self.at = end;
+        Some(Span { start, end })
     }
 
     /// The place of the next token where it is an opening brace.
+    #[tactic(auto, using(crate::proofs::Starts::starts_steps, crate::proofs::TokensAhead::taken))]
     #[inline(always)]
     pub fn opening(&mut self) -> Option<Span>
         ensures next { MatchOption result
@@ -139,10 +193,17 @@ impl<'a> Tokens<'a> {
         ensures input { self.new.input ≡ self.old.input }
         ensures place { IfSome result (λ s. StandsBefore self.new s) }
     {
-        self.cursor.opening()
+        let start = gap_end(self.input, self.at)?;
+        if self.input[start] != b'{' {
+            return None;
+        }
+        let end = start + 1;
+        self.at = end;
+        Some(Span { start, end })
     }
 
     /// The place of the next token where it is a closing brace.
+    #[tactic(auto, using(crate::proofs::Starts::starts_steps, crate::proofs::TokensAhead::taken))]
     #[inline(always)]
     pub fn closing(&mut self) -> Option<Span>
         ensures next { MatchOption result
@@ -151,10 +212,17 @@ impl<'a> Tokens<'a> {
         ensures input { self.new.input ≡ self.old.input }
         ensures place { IfSome result (λ s. StandsBefore self.new s) }
     {
-        self.cursor.closing()
+        let start = gap_end(self.input, self.at)?;
+        if self.input[start] != b'}' {
+            return None;
+        }
+        let end = start + 1;
+        self.at = end;
+        Some(Span { start, end })
     }
 
     /// The place of the next token where it is a comma.
+    #[tactic(auto, using(crate::proofs::Starts::starts_steps, crate::proofs::TokensAhead::taken))]
     #[inline(always)]
     pub fn comma(&mut self) -> Option<Span>
         ensures next { MatchOption result
@@ -163,7 +231,13 @@ impl<'a> Tokens<'a> {
         ensures input { self.new.input ≡ self.old.input }
         ensures place { IfSome result (λ s. StandsBefore self.new s) }
     {
-        self.cursor.comma()
+        let start = gap_end(self.input, self.at)?;
+        if self.input[start] != b',' {
+            return None;
+        }
+        let end = start + 1;
+        self.at = end;
+        Some(Span { start, end })
     }
 
     /// The next token, whatever it is, or `None` at the end. A text that has no end is refused with
@@ -172,7 +246,12 @@ impl<'a> Tokens<'a> {
         ensures next { Nexts self.old.ahead result self.new.ahead }
         ensures input { self.new.input ≡ self.old.input }
     {
-        self.cursor.next()
+        let Some(start) = gap_end(self.input, self.at) else {
+            return Ok(None);
+        };
+        let token = token_at(self.input, start)?;
+        self.at = token.span.end;
+        Ok(Some(token))
     }
 
     /// The refusal of what comes next, where something else is due: it stands at the next token, or
@@ -181,7 +260,7 @@ impl<'a> Tokens<'a> {
     pub fn refusal(&mut self, due: Why) -> Fault
         ensures { result ≡ refusal (length self.old.input) due self.old.ahead }
     {
-        match self.cursor.next() {
+        match self.next() {
             Ok(Some(token)) => Fault::at(token.span, due),
             Ok(None) => Fault::at_end(self.input.len(), due),
             Err(broken) => broken,

@@ -1,7 +1,7 @@
 use Rattle.std.proofs.Common.{◌≡◌, ◌-◌, length, drop}
 use Rattle.gf_token.specs.Lexing.{lex}
 use Rattle.gf_token.specs.Lexing.Mode.{Gap}
-use Rattle.gf_token.proofs.cursor.long_gap_end.Given as goal
+use Rattle.gf_token.proofs.scan.long_gap_end.Given as goal
 
 abbrev pub invariant-loop-at : goal.invariant-loop-at
 invariant-loop-at l = lex Gap l.from (drop l.from l.input) ≡ lex Gap l.at (drop l.at l.input)

@@ -1,11 +1,11 @@
 use Rattle.std.proofs.Common.{◌≡◌, ◌-◌, get_or, arith}
 use Rattle.gf_token.proofs.Steps.{stays_open, closes}
-use Rattle.gf_token.proofs.cursor.long_text_end.Goals.{}
-use Rattle.gf_token.proofs.cursor.long_text_end.Goals.{
+use Rattle.gf_token.proofs.scan.long_text_end.Goals.{}
+use Rattle.gf_token.proofs.scan.long_text_end.Goals.{
   else-input-at-eq34-via-then-input-at-eq34+else-input-at-ne92,
 }
-use Rattle.gf_token.proofs.cursor.long_text_end.Goals.{else-input-at-eq34-via-else-input-at-eq34}
-use Rattle.gf_token.proofs.cursor.long_text_end.Goals as goal
+use Rattle.gf_token.proofs.scan.long_text_end.Goals.{else-input-at-eq34-via-else-input-at-eq34}
+use Rattle.gf_token.proofs.scan.long_text_end.Goals as goal
 
 pub returns-then-input-at-ne92 : goal.returns-then-input-at-ne92
 returns-then-input-at-ne92 c =

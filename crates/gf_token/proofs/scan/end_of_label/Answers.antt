@@ -1,4 +1,4 @@
-use Rattle.std.proofs.Common.{◌≡◌, ◌+◌, ◌<◌, ◌≤◌, ◌∷◌, ap, arith, length, subst, List, ℕ}
+use Rattle.std.proofs.Common.{◌≡◌, ◌+◌, ◌<◌, ◌∷◌, ap, arith, length, subst, List, ℕ}
 use Rattle.std.proofs.lemmas.Bool.Decides.{Decides-eqb, not_from_Decides}
 use Rattle.std.proofs.lemmas.Slice.Eq.{slice_eq-Decides}
 use Rattle.std.specs.Prelude.{slice_range}
@@ -8,19 +8,19 @@ use Rattle.gf_token.specs.Token.{lexeme}
 use Rattle.gf_token.specs.Token.Token.{Text}
 use Rattle.gf_token.proofs.TextsOfLabels.{label_found, too_short, no_quote_before, no_quote_behind}
 use Rattle.gf_token.proofs.TextsOfLabels.{other_bytes, Unlike}
-use Rattle.gf_token.proofs.cursor.end_of_label.Goals.{
+use Rattle.gf_token.proofs.scan.end_of_label.Goals.{
   then-input-start-ne34-via-then-input-start-ne34,
 }
-use Rattle.gf_token.proofs.cursor.end_of_label.Goals.{
+use Rattle.gf_token.proofs.scan.end_of_label.Goals.{
   then-input-start-ne34-via-else-input-start-ne34+then-input-text,
 }
-use Rattle.gf_token.proofs.cursor.end_of_label.Goals.{
+use Rattle.gf_token.proofs.scan.end_of_label.Goals.{
   else-input-quote-eq34-via-then-input-quote-eq34+else-eq,
 }
-use Rattle.gf_token.proofs.cursor.end_of_label.Goals.{
+use Rattle.gf_token.proofs.scan.end_of_label.Goals.{
   else-input-quote-eq34-via-else-input-quote-eq34,
 }
-use Rattle.gf_token.proofs.cursor.end_of_label.Goals as goal
+use Rattle.gf_token.proofs.scan.end_of_label.Goals as goal
 
 pub returns-then-input-start-ne34 : goal.returns-then-input-start-ne34
 returns-then-input-start-ne34 c =
@@ -45,12 +45,10 @@ returns-then-eq c =
     let within : start + 1 + length raw < length bytes = omega arith in
     let equal = (slice_eq-Decides Decides-eqb (slice_range bytes (start + 1)
     (start + 1 + length raw)) raw c.eq.result c.eq.ensures).0 c.if-eq.true in
-    subst (λ (x : List ℕ). (end ≤ length bytes)
-    × (lexed bytes start ≡ lexeme start end (Text x) ∷ lexed bytes end)) c.raw-raw.ensures.same (
-      omega (arith, within),
-      label_found bytes raw start within c.if-input-start-ne34.false equal
-          c.if-input-quote-eq34.true c.raw-raw.ensures.spelled,
-    )
+    subst (λ (x : List ℕ). lexed bytes start ≡ lexeme start end (Text x) ∷ lexed bytes end)
+    c.raw-raw.ensures.same
+    (label_found bytes raw start within c.if-input-start-ne34.false equal c.if-input-quote-eq34.true
+    c.raw-raw.ensures.spelled)
 
 pub returns-else-input-quote-eq34 : goal.returns-else-input-quote-eq34
 returns-else-input-quote-eq34 c =

@@ -1,6 +1,6 @@
 use Rattle.std.proofs.Common.{◌≤◌, ◌-◌, length}
 use Rattle.gf_token.proofs.Steps.{IsOpen}
-use Rattle.gf_token.proofs.cursor.long_text_end.Given as goal
+use Rattle.gf_token.proofs.scan.long_text_end.Given as goal
 
 abbrev pub invariant-loop-at : goal.invariant-loop-at
 invariant-loop-at l = record {

@@ -1,11 +1,16 @@
 use Rattle.std.proofs.Common.{◌≡◌, ◌<◌, ◌+◌, ◌==◌, length, true, sym, ◌∙◌, arith, get_or, refl}
 use Rattle.std.specs.Char.{is_ascii_digit}
+use Rattle.std.specs.Prelude.{slice_range, Ok}
+use Rattle.gf_fraction.proofs.ComputedAnswers.{answer_is}
 use Rattle.gf_fraction.proofs.SpelledIsFound.{digit_from_ascii}
 use Rattle.gf_token.proofs.ScannedIndices.{digit_is_bare, first_digits, first_value, has_room}
 use Rattle.gf_token.proofs.ScannedIndices.{more_digits, more_value}
 use Rattle.gf_token.proofs.ScannedNumbers.{first_digit_open, number_scanned}
 use Rattle.gf_token.proofs.Steps.{bare_more}
-use Rattle.gf_token.proofs.cursor.number_end.Goals as goal
+use Rattle.gf_token.proofs.scan.number_end.Goals as goal
+
+pub returns-clause-number : goal.returns-clause-number
+returns-clause-number c = answer_is _ c.read.result c.read.ensures
 
 pub loop-at-init : goal.loop-at-init
 loop-at-init c =
@@ -75,7 +80,8 @@ pub returns-then-at-input-clause-number : goal.returns-then-at-input-clause-numb
 returns-then-at-input-clause-number c =
     let i = c.loop-at.invariant in
     let bytes = c.args.input.now in
-    number_scanned bytes c.args.start c.from.result c.loop-at.at c.loop-at.value
+    answer_is (slice_range bytes c.args.start c.loop-at.at) (Ok c.whole.result)
+    (number_scanned bytes c.args.start c.from.result c.loop-at.at c.loop-at.value
     (get_or bytes c.args.start 0 == 45) c.whole.result c.from.ensures c.requires.within refl i.begins
     (omega (arith, i.within, i.stops)) i.digits i.value (omega (arith, c.loop-at.auto.value-fits))
-    c.whole.ensures.value
+    c.whole.ensures.value)

@@ -1,16 +1,22 @@
 use Rattle.std.proofs.Common.{◌≡◌, ◌≤◌, ◌<◌, ◌-◌, length, drop}
 use Rattle.std.specs.Prelude.{slice_range}
+use Rattle.std.specs.Str.Parse.{AllDigits, digits_value}
 use Rattle.gf_token.specs.Lexing.{lex}
 use Rattle.gf_token.specs.Lexing.Mode.{Gap, InBare}
-use Rattle.gf_token.proofs.cursor.bare_end.Given as goal
+use Rattle.gf_token.proofs.scan.number_end.Given as goal
 
 abbrev pub invariant-loop-at : goal.invariant-loop-at
 invariant-loop-at l = record {
-  within : l.at ≤ length l.input;
-  begins : l.start < l.at;
+  within : l.at ≤ l.stop;
+  stops : l.stop ≤ length l.input;
+  begins : l.first < l.at;
+  signed : l.start ≤ l.first;
+  few : l.stop - l.first ≤ 19;
   same : lex Gap l.start (drop l.start l.input)
       ≡ lex (InBare l.start (slice_range l.input l.start l.at)) l.at (drop l.at l.input);
+  digits : AllDigits 10 (slice_range l.input l.first l.at);
+  value : l.value ≡ digits_value 10 (slice_range l.input l.first l.at);
 }
 
 abbrev pub decreases-loop-at : goal.decreases-loop-at
-decreases-loop-at l = length l.input - l.at
+decreases-loop-at l = l.stop - l.at

@@ -1,4 +1,4 @@
--- Tokens as the code has them, and what a cursor gives.
+-- Tokens as the code has them, and what is taken of those to come.
 use Rattle.std.specs.Prelude.{◌≡◌, List, [], ◌∷◌, Option, Some, None, Result, Ok, Err}
 use Rattle.gf_token.specs.Token.{Token, Lexeme, lexeme}
 use Rattle.gf_token.specs.Token.Token.{Opening, Closing, Comma, Text, Bare, Broken}

@@ -1,6 +1,6 @@
 use Rattle.std.proofs.Common.{◌≡◌, ℕ, ◌+◌, ◌-◌, ◌∙◌, ap, arith, get_or}
 use Rattle.gf_token.proofs.Steps.{closes, opens}
-use Rattle.gf_token.proofs.cursor.closing_quote.Goals as goal
+use Rattle.gf_token.proofs.scan.closing_quote.Goals as goal
 
 pub returns-then-input-first-eq34 : goal.returns-then-input-first-eq34
 returns-then-input-first-eq34 c =

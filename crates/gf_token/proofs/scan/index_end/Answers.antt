@@ -4,7 +4,7 @@ use Rattle.gf_fraction.proofs.SpelledIsFound.{digit_from_ascii}
 use Rattle.gf_token.proofs.ScannedIndices.{digit_is_bare, first_digits, first_value, has_room}
 use Rattle.gf_token.proofs.ScannedIndices.{more_digits, more_value, scanned}
 use Rattle.gf_token.proofs.Steps.{bare_more, bare_open}
-use Rattle.gf_token.proofs.cursor.index_end.Goals as goal
+use Rattle.gf_token.proofs.scan.index_end.Goals as goal
 
 pub loop-at-init : goal.loop-at-init
 loop-at-init c =

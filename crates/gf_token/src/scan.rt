@@ -1,0 +1,256 @@
+//! Where the tokens of an input begin and end: functions over its bytes, of which `Tokens` is made.
+//!
+//! What is called at each token is `inline(always)`: wide values would otherwise pass through
+//! memory.
+
+ghost use Rattle.std.specs.Prelude.{◌≡◌, ◌<◌, ◌≤◌, ◌+◌, [], ◌∷◌, length, slice_range};
+ghost use Rattle.std.specs.Prelude.{◌^◌, nat_lt, slice_index, MatchOption, None, Some};
+ghost use Rattle.std.specs.Prelude.{true, false, if◌then◌else◌};
+ghost use Rattle.std.specs.Char.{digit_value, is_ascii_digit};
+ghost use Rattle.gf_fraction.specs.Computed.{number_of};
+ghost use Rattle.gf_token.specs.Byte.{is_space, is_bare};
+ghost use Rattle.gf_token.specs.Finding.{lexed, ClosesText, EndsGap, Finds};
+ghost use Rattle.gf_token.specs.Indices.{index_of};
+ghost use Rattle.gf_token.specs.Label.{label_of};
+ghost use Rattle.gf_token.specs.Next.{starts, is_text_of};
+ghost use Rattle.gf_token.specs.Token.{lexeme};
+ghost use Rattle.gf_token.specs.Token.Token.{Bare, Broken, Text};
+
+use crate::byte::{is_bare, is_space};
+use crate::fault::{Fault, Span, Why};
+use crate::index::{WORD_DIGITS, index_in};
+use crate::label::Label;
+use crate::token::{Kind, Token};
+use gf_fraction::{Fraction, NumberFault};
+
+/// Where a gap of any length ends that begins at `from`, or `None` where no token follows it.
+#[tactic(auto, using(crate::proofs::Steps::gap_steps))]
+#[inline(never)]
+fn long_gap_end(input: &[u8], from: usize) -> Option<usize>
+    ensures { MatchOption result (lexed input.now from ≡ []) (EndsGap input.now from) }
+{
+    let mut at = from;
+    while at < input.len() {
+        if !is_space(input[at]) {
+            return Some(at);
+        }
+        at += 1;
+    }
+    None
+}
+
+/// Where the gap ends that begins at `from`, or `None` where no token follows it. Most gaps are of at
+/// most one byte, and take no loop.
+#[tactic(auto, using(crate::proofs::Steps::gap_steps))]
+#[inline(always)]
+pub(crate) fn gap_end(input: &[u8], from: usize) -> Option<usize>
+    ensures { MatchOption result (lexed input.now from ≡ []) (EndsGap input.now from) }
+{
+    if from >= input.len() {
+        return None;
+    }
+    if !is_space(input[from]) {
+        return Some(from);
+    }
+    let next = from + 1;
+    if next < input.len() && !is_space(input[next]) {
+        return Some(next);
+    }
+    long_gap_end(input, next)
+}
+
+/// Where the bare token ends that begins at `start`.
+#[tactic(auto, using(crate::proofs::Steps::bare_steps))]
+#[inline(always)]
+pub(crate) fn bare_end(input: &[u8], start: usize) -> usize
+    requires within { start < length input.now }
+    requires bare { is_bare (slice_index input.now start) ≡ true }
+    ensures within { (start < result) × (result ≤ length input.now) }
+    ensures found { lexed input.now start
+        ≡ lexeme start result (Bare (slice_range input.now start result))
+        ∷ lexed input.now result }
+{
+    let mut at = start + 1;
+    while at < input.len() && is_bare(input[at]) {
+        at += 1;
+    }
+    at
+}
+
+/// The value of a digit.
+#[inline(always)]
+fn digit_value(byte: u8) -> u64
+    requires { is_ascii_digit byte ≡ true }
+    ensures { result ≡ digit_value byte }
+{
+    u64::from(byte - b'0')
+}
+
+/// Where the bare token ends that begins at `start`, and the index that it spells, if it spells one.
+/// Digits are read in the scan that finds their end.
+#[tactic(auto, using(crate::proofs::Steps::bare_steps))]
+#[inline(always)]
+pub(crate) fn index_end(input: &[u8], start: usize) -> (usize, Option<u32>)
+    requires within { start < length input.now }
+    requires bare { is_bare (slice_index input.now start) ≡ true }
+    ensures within { (start < result.0) × (result.0 ≤ length input.now) }
+    ensures found { lexed input.now start
+        ≡ lexeme start result.0 (Bare (slice_range input.now start result.0))
+        ∷ lexed input.now result.0 }
+    ensures index { result.1 ≡ index_of (slice_range input.now start result.0) }
+{
+    if input[start].is_ascii_digit() {
+        let stop = start + (input.len() - start).min(WORD_DIGITS);
+        let mut at = start + 1;
+        let mut value = digit_value(input[start]);
+        while at < stop && input[at].is_ascii_digit() {
+            value = value * 10 + digit_value(input[at]);
+            at += 1;
+        }
+        if at >= input.len() || !is_bare(input[at]) {
+            return (at, index_of_value(value));
+        }
+    }
+    let end = bare_end(input, start);
+    (end, index_in(&input[start..end]))
+}
+
+/// The index of a value.
+#[inline(always)]
+fn index_of_value(value: u64) -> Option<u32>
+    ensures { result ≡ (if nat_lt value (2 ^ 32) then Some value else None) }
+{
+    match u32::try_from(value) {
+        Ok(index) => Some(index),
+        Err(_) => None,
+    }
+}
+
+/// Where the bare token ends that begins at `start`, and the number that it spells, or why it spells
+/// none. The digits of a short whole number are read in the scan that finds their end.
+#[tactic(auto, using(crate::proofs::Steps::bare_steps))]
+#[inline(always)]
+pub(crate) fn number_end(input: &[u8], start: usize) -> (usize, Result<Fraction, NumberFault>)
+    requires within { start < length input.now }
+    requires bare { is_bare (slice_index input.now start) ≡ true }
+    ensures within { (start < result.0) × (result.0 ≤ length input.now) }
+    ensures found { lexed input.now start
+        ≡ lexeme start result.0 (Bare (slice_range input.now start result.0))
+        ∷ lexed input.now result.0 }
+    ensures number { result.1 ≡ number_of (slice_range input.now start result.0) }
+{
+    let negative = input[start] == b'-';
+    let first = start + usize::from(negative);
+    if first < input.len() && input[first].is_ascii_digit() {
+        let stop = first + (input.len() - first).min(WORD_DIGITS);
+        let mut at = first + 1;
+        let mut value = digit_value(input[first]);
+        while at < stop && input[at].is_ascii_digit() {
+            value = value * 10 + digit_value(input[at]);
+            at += 1;
+        }
+        if at == input.len() || !is_bare(input[at]) {
+            return (at, Ok(Fraction::whole(negative, value)));
+        }
+    }
+    let end = bare_end(input, start);
+    (end, Fraction::read(&input[start..end]))
+}
+
+/// The quote that closes a text of any length, which the quote at `start` opens.
+#[tactic(auto, using(crate::proofs::Steps::text_steps))]
+#[inline(never)]
+fn long_text_end(input: &[u8], start: usize) -> Option<usize>
+    requires within { start < length input.now }
+    requires quote { slice_index input.now start ≡ 34 }
+    ensures { MatchOption result
+        (lexed input.now start ≡ lexeme start (start + 1) Broken ∷ [])
+        (ClosesText input.now start) }
+{
+    let mut at = start + 1;
+    while at < input.len() {
+        if input[at] == b'"' && input[at - 1] != b'\\' {
+            return Some(at);
+        }
+        at += 1;
+    }
+    None
+}
+
+/// The quote that closes the text which the quote at `start` opens. Many texts are empty, and take no
+/// loop.
+#[tactic(auto, using(crate::proofs::Steps::text_steps))]
+#[inline(always)]
+pub(crate) fn closing_quote(input: &[u8], start: usize) -> Option<usize>
+    requires within { start < length input.now }
+    requires quote { slice_index input.now start ≡ 34 }
+    ensures { MatchOption result
+        (lexed input.now start ≡ lexeme start (start + 1) Broken ∷ [])
+        (ClosesText input.now start) }
+{
+    let first = start + 1;
+    if first < input.len() && input[first] == b'"' {
+        return Some(first);
+    }
+    long_text_end(input, start)
+}
+
+/// Where the text of this label ends, if it begins at `start`. Its end is not searched for: the label
+/// has no quote that would close it.
+#[tactic(auto, using(crate::proofs::TextsOfLabels::label_steps))]
+#[inline(always)]
+pub(crate) fn end_of_label(input: &[u8], start: usize, label: Label<'_>) -> Option<usize>
+    requires within { start < length input.now }
+    requires no_gap { is_space (slice_index input.now start) ≡ false }
+    ensures { MatchOption result
+        (starts (is_text_of (label_of label.entry)) (lexed input.now start) ≡ false)
+        (λ end. lexed input.now start
+        ≡ lexeme start end (Text (label_of label.entry)) ∷ lexed input.now end) }
+{
+    let raw = label.raw();
+    let text = start + 1;
+    if input[start] != b'"' || input.len() - text <= raw.len() {
+        return None;
+    }
+    let quote = text + raw.len();
+    if input[quote] == b'"' && &input[text..quote] == raw {
+        Some(quote + 1)
+    } else {
+        None
+    }
+}
+
+/// The token that begins at `start`.
+#[tactic(auto, using(crate::proofs::Steps::token_steps))]
+pub(crate) fn token_at(input: &[u8], start: usize) -> Result<Token<'_>, Fault>
+    requires within { start < length input.now }
+    requires no_gap { is_space (slice_index input.now start) ≡ false }
+    ensures { Finds input.entry.now start result }
+{
+    let (end, kind) = match input[start] {
+        b'{' => (start + 1, Kind::Opening),
+        b'}' => (start + 1, Kind::Closing),
+        b',' => (start + 1, Kind::Comma),
+        b'"' => match closing_quote(input, start) {
+            Some(quote) => (
+                quote + 1,
+                Kind::Text(Label::of_spelling(&input[start + 1..quote])),
+            ),
+            None => {
+                let span = Span {
+                    start,
+                    end: start + 1,
+                };
+                return Err(Fault::at(span, Why::Unterminated));
+            }
+        },
+        _ => {
+            let end = bare_end(input, start);
+            (end, Kind::Bare(&input[start..end]))
+        }
+    };
+    Ok(Token {
+        span: Span { start, end },
+        kind,
+    })
+}
