@@ -19,6 +19,7 @@ pub mod DueRows
 pub mod DueTable
 pub mod HeardJudged
 pub mod LimitCounts
+pub mod LimitPlaces
 pub mod LimitProducts
 pub mod LimitTokens
 pub mod LimitWalks

@@ -1,4 +1,4 @@
--- The limit place is where the product of the counts passes the limit.
+-- The limit place is where the files that begin so are all past the limit.
 use Rattle.std.proofs.Common.{◌≡◌, ℕ, ◌<◌, List, [], ◌∷◌, ◌++◌, length, map}
 use Rattle.std.proofs.Common.{refl, sym, ap, subst, ◌∙◌, append_assoc, arith, inl, inr}
 use Rattle.std.specs.Prelude.{codes, ◌↔◌}
@@ -11,8 +11,8 @@ use Rattle.gf_nfg.specs.Limit.{profile_limit}
 use Rattle.gf_nfg.specs.Table.{Table}
 use Rattle.gf_nfg.specs.Sentence.{Sentence, IsCount, IsLabelList}
 use Rattle.gf_token.specs.Place.{tokens_of}
-use Rattle.gf_nfg.specs.LimitPlace.{StaysWithinLimit, IsLimitPlace}
-use Rattle.gf_nfg.specs.LimitByCounts.{GivesCounts, PassesLimitAt}
+use Rattle.gf_nfg.specs.LimitByFiles.{StaysWithinLimit, IsLimitByFiles}
+use Rattle.gf_nfg.specs.LimitPlace.{GivesCounts, IsLimitPlace}
 use Rattle.gf_nfg.proofs.LimitProducts.{Strategies, PassesAtLast, by_counts, entries_counted, past}
 use Rattle.gf_nfg.proofs.LimitWalks.{headed, headed_on}
 use Rattle.gf_nfg.proofs.LimitTokens.{last_of, StandsIn, parted, AreGroups, each_parts}
@@ -113,9 +113,9 @@ one_limit_token xs x ys us u vs e h k = elim (parted xs x ys us u vs e) [
 
 -- ---- the law
 
-place_by_counts : (bytes : List ℕ) (span : Span) → IsLimitPlace bytes span
-    → PassesLimitAt bytes span
-place_by_counts bytes span h =
+place_by_files : (bytes : List ℕ) (span : Span) → IsLimitByFiles bytes span
+    → IsLimitPlace bytes span
+place_by_files bytes span h =
     let ts = tokens_of h.before in
     let t = h.lexeme.token in
     let b = h.past.begins in
@@ -138,9 +138,9 @@ place_by_counts bytes span h =
       nowhere_before = f.passes.nowhere_before;
     }
 
-counts_at_place : (bytes : List ℕ) (span : Span) → PassesLimitAt bytes span
-    → IsLimitPlace bytes span
-counts_at_place bytes span h =
+files_at_place : (bytes : List ℕ) (span : Span) → IsLimitPlace bytes span
+    → IsLimitByFiles bytes span
+files_at_place bytes span h =
     let passes : PassesAtLast h.counts = record {
       some = h.gives.some_strategy;
       passes = h.passes;
@@ -158,6 +158,6 @@ counts_at_place bytes span h =
       first = l.first;
     }
 
-pub limit_by_counts : (bytes : List ℕ) (span : Span)
-    → IsLimitPlace bytes span ↔ PassesLimitAt bytes span
-limit_by_counts bytes span = (place_by_counts bytes span, counts_at_place bytes span)
+pub limit_by_files : (bytes : List ℕ) (span : Span)
+    → IsLimitPlace bytes span ↔ IsLimitByFiles bytes span
+limit_by_files bytes span = (files_at_place bytes span, place_by_files bytes span)

@@ -18,14 +18,14 @@ use Rattle.gf_nfg.specs.Limit.{profile_limit}
 use Rattle.gf_nfg.specs.Profiles.{product}
 use Rattle.gf_nfg.specs.Sentence.{IsCount, counted_labels}
 use Rattle.gf_token.specs.Place.{tokens_of}
-use Rattle.gf_nfg.specs.LimitByCounts.{GivesCounts, PassesLimitAt}
+use Rattle.gf_nfg.specs.LimitPlace.{GivesCounts, IsLimitPlace}
 use Rattle.gf_token.specs.Indices.{index_of}
 use Rattle.gf_nfg.specs.Machine.{State}
 use Rattle.gf_nfg.proofs.MeaningLists.{counts_back}
 use Rattle.gf_nfg.proofs.PlacesWalk.{Leads}
 use Rattle.gf_nfg.proofs.PlacesLimit.{stays_within}
 use Rattle.gf_nfg.proofs.LimitWalks.{headed}
-use Rattle.gf_nfg.proofs.LimitCounts.{limit_by_counts}
+use Rattle.gf_nfg.proofs.LimitCounts.{limit_by_files}
 
 -- ---- one that passes it
 
@@ -81,7 +81,7 @@ index_1025 : IsIndex (codes "1025") 1025
 unfolding digits
 index_1025 = decimal_is_index 1025 (omega arith)
 
-pub at_second : PassesLimitAt passing (record { start = 31; end = 35 })
+pub at_second : IsLimitPlace passing (record { start = 31; end = 35 })
 at_second = record {
   before = before_second;
   lexeme = second;
@@ -107,9 +107,9 @@ stays : Stays (tokens_of (lex Gap 0 staying))
 unfolding lex index_of
 stays = (_, refl, omega arith)
 
-pub nowhere : (span : Span) → ¬ (PassesLimitAt staying span)
+pub nowhere : (span : Span) → ¬ (IsLimitPlace staying span)
 nowhere span passes =
-    let h = (limit_by_counts staying span).1 passes in
+    let h = (limit_by_files staying span).0 passes in
     let ls = h.before ++ h.lexeme ∷ h.after in
     let same = same_tokens staying (lex Gap 0 staying) ls (found staying 0) h.spelled in
     let parts = map-append (λ (l : Lexeme). l.token) h.before (h.lexeme ∷ h.after) in

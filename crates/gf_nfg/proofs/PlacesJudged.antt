@@ -17,10 +17,12 @@ use Rattle.gf_nfg.specs.Table.{Table}
 use Rattle.gf_nfg.specs.Sentence.{Sentence, IsStrategicFile}
 use Rattle.gf_nfg.specs.TableText.{SpellsTable}
 use Rattle.gf_token.specs.Place.{tokens_of, IsOffendingPlace}
-use Rattle.gf_nfg.specs.LimitPlace.{IsLimitPlace, IsWithinLimit, StaysWithinLimit}
+use Rattle.gf_nfg.specs.LimitPlace.{IsLimitPlace, IsWithinLimit}
 use Rattle.gf_nfg.specs.Machine.{State, Content, step, finish, due_at, ended}
 use Rattle.gf_nfg.specs.Judgement.{IsRefusal, IsAcceptedWithinLimit, IsJudged}
 use Rattle.gf_token.proofs.Places.{no_file as refused_no_file}
+use Rattle.gf_nfg.proofs.LimitCounts.{limit_by_files}
+use Rattle.gf_nfg.proofs.LimitPlaces.{later, nowhere}
 use Rattle.gf_nfg.proofs.RunsEnds.{broken_refused}
 use Rattle.gf_nfg.proofs.PlacesLed.{Led, spelled_as}
 use Rattle.gf_nfg.proofs.PlacesLimit.{makes_more, read_past, stays_within}
@@ -53,7 +55,8 @@ pub refusal : (bytes : List ℕ) (all rest : List Lexeme) (l : Lexeme) (s : Stat
 refusal bytes all rest l s why spelled h within whole e = record {
   place = offending bytes all rest l s why spelled h e;
   reason = reason (tokens_of h.seen) (tokens_of rest) l.token s why h.leads whole e;
-  within = stays_within (tokens_of h.seen) s h.leads within;
+  within = nowhere bytes (span_of l) (offending bytes all rest l s why spelled h e)
+      (stays_within (tokens_of h.seen) s h.leads within);
 }
 
 pub limit : (bytes : List ℕ) (all rest : List Lexeme) (l : Lexeme) (s after : State)
@@ -62,7 +65,7 @@ pub limit : (bytes : List ℕ) (all rest : List Lexeme) (l : Lexeme) (s after : 
     → IsLimitPlace bytes (span_of l)
 limit bytes all rest l s after spelled h within e over =
     let leads = leads_more (tokens_of h.seen) l.token s after h.leads e in
-    record {
+    (limit_by_files bytes (span_of l)).1 (record {
       before = h.seen;
       lexeme = l;
       after = rest;
@@ -76,7 +79,7 @@ limit bytes all rest l s after spelled h within e over =
             omega (arith, over, grown);
       };
       first = stays_within (tokens_of h.seen) s h.leads within;
-    }
+    })
 
 -- a token that is not refused
 pub accepted : (bytes : List ℕ) (all rest : List Lexeme) (l : Lexeme) (s after : State)
@@ -85,15 +88,16 @@ pub accepted : (bytes : List ℕ) (all rest : List Lexeme) (l : Lexeme) (s after
 accepted bytes all rest l s after spelled h e within =
     let through = tokens_of h.seen ++ l.token ∷ [] in
     let leads = leads_more (tokens_of h.seen) l.token s after h.leads e in
+    let parts = subst (λ (ls : List Lexeme). Spells 0 bytes ls) h.parts spelled in
     record {
       place = record {
         before = h.seen;
         after = l ∷ rest;
-        spelled = subst (λ (ls : List Lexeme). Spells 0 bytes ls) h.parts spelled;
+        spelled = parts;
         place = (refl, refl);
         accepted = begins through after leads;
       };
-      within = stays_within through after leads within;
+      within = later bytes h.seen rest l parts (stays_within through after leads within);
     }
 
 -- ---- a text without an end
@@ -104,10 +108,12 @@ pub broken : (bytes : List ℕ) (all rest : List Lexeme) (from to : ℕ) (s : St
     → IsRefusal Unterminated bytes (record { start = from; end = to })
 broken bytes all rest from to s spelled h within =
     let b = broken_refused s in
+    let l = lexeme from to Broken in
     record {
-      place = offending bytes all rest (lexeme from to Broken) s b.0 spelled h b.1;
+      place = offending bytes all rest l s b.0 spelled h b.1;
       reason = broken_reason (tokens_of h.seen) (tokens_of rest);
-      within = stays_within (tokens_of h.seen) s h.leads within;
+      within = nowhere bytes (span_of l) (offending bytes all rest l s b.0 spelled h b.1)
+          (stays_within (tokens_of h.seen) s h.leads within);
     }
 
 -- ---- the end
@@ -116,18 +122,21 @@ pub refusal_end : (bytes : List ℕ) (all : List Lexeme) (s : State) (expected :
     → Spells 0 bytes all → Led all [] s → s.content.profiles ≤ profile_limit
     → finish s ≡ Err (Expected expected)
     → IsRefusal (Expected expected) bytes (end_of (length bytes))
-refusal_end bytes all s expected spelled h within e = record {
-  place = record {
-    before = h.seen;
-    after = [];
-    spelled = subst (λ (ls : List Lexeme). Spells 0 bytes ls) h.parts spelled;
-    place = (refl, refl);
-    begins = begins (tokens_of h.seen) s h.leads;
-    refused = no_file (tokens_of h.seen) s (Expected expected) h.leads e;
-  };
-  reason = end_reason (tokens_of h.seen) s expected h.leads e;
-  within = stays_within (tokens_of h.seen) s h.leads within;
-}
+refusal_end bytes all s expected spelled h within e =
+    let off : IsOffendingPlace IsStrategicFile bytes (end_of (length bytes)) = record {
+      before = h.seen;
+      after = [];
+      spelled = subst (λ (ls : List Lexeme). Spells 0 bytes ls) h.parts spelled;
+      place = (refl, refl);
+      begins = begins (tokens_of h.seen) s h.leads;
+      refused = no_file (tokens_of h.seen) s (Expected expected) h.leads e;
+    } in
+    record {
+      place = off;
+      reason = end_reason (tokens_of h.seen) s expected h.leads e;
+      within = nowhere bytes (end_of (length bytes)) off
+          (stays_within (tokens_of h.seen) s h.leads within);
+    }
 
 abbrev pub err : Why → Result Content Why
 err why = Err why
@@ -145,12 +154,17 @@ judged_end bytes all s why spelled h within e =
     subst (λ (x : Why). IsJudged x bytes (end_of (length bytes))) (sym w.1)
     (refusal_end bytes all s w.0 spelled h within (e ∙ ap err w.1))
 
--- no front of a file within the limit passes it
-file_within : (tokens : List Token) (t : Table) → Sentence tokens t → IsWithinLimit t
-    → StaysWithinLimit tokens
-file_within tokens t sentence within = λ front back token parts _.
-    let whole = parts ∙ sym (append_assoc front (token ∷ []) back) in
-    (back, t, subst (λ (x : List Token). Sentence x t) whole sentence, within)
+-- no table within the limit passes it
+all_past : (bytes : List ℕ) (span : Span) (t : Table)
+    → IsLimitPlace bytes span → SpellsTable bytes t → IsWithinLimit t → ⊥
+all_past bytes span t place k within =
+    let h = (limit_by_files bytes span).0 place in
+    let sentence = spelled_as bytes (h.before ++ h.lexeme ∷ h.after) t h.spelled k in
+    let over = h.past.past (tokens_of h.after) t (subst (λ (x : List Token). Sentence x t)
+    (map-append (λ (x : Lexeme). x.token) h.before (h.lexeme ∷ h.after)
+    ∙ sym (append_assoc (tokens_of h.before) (h.lexeme.token ∷ []) (tokens_of h.after)))
+    sentence) in
+    omega (arith, over, within)
 
 -- a file within the limit is accepted through its end
 accepted_whole : (bytes : List ℕ) (t : Table) → SpellsTable bytes t → IsWithinLimit t
@@ -163,7 +177,7 @@ accepted_whole bytes t h within = record {
     place = (refl, refl);
     accepted = (t, h.2);
   };
-  within = file_within (tokens_of h.0) t h.2 within;
+  within = λ limit place. absurd (all_past bytes limit t place h within);
 }
 
 -- so that memory may be wanted there
@@ -184,16 +198,6 @@ none_spelled bytes span t h k =
     let parts = map-append (λ (x : Lexeme). x.token) h.before h.after in
     refused_no_file IsStrategicFile (tokens_of h.before) (tokens_of h.after) h.refused
     (t, subst (λ (x : List Token). Sentence x t) parts sentence)
-
-all_past : (bytes : List ℕ) (span : Span) (t : Table)
-    → IsLimitPlace bytes span → SpellsTable bytes t → IsWithinLimit t → ⊥
-all_past bytes span t h k within =
-    let sentence = spelled_as bytes (h.before ++ h.lexeme ∷ h.after) t h.spelled k in
-    let over = h.past.past (tokens_of h.after) t (subst (λ (x : List Token). Sentence x t)
-    (map-append (λ (x : Lexeme). x.token) h.before (h.lexeme ∷ h.after)
-    ∙ sym (append_assoc (tokens_of h.before) (h.lexeme.token ∷ []) (tokens_of h.after)))
-    sentence) in
-    omega (arith, over, within)
 
 pub only_memory : (why : Why) (bytes : List ℕ) (span : Span) (t : Table)
     → IsJudged why bytes span → SpellsTable bytes t → IsWithinLimit t → why ≡ Memory

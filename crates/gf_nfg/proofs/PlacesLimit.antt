@@ -24,7 +24,7 @@ use Rattle.gf_nfg.specs.Machine.{at_after_comment, at_outcome_end, at_braced_pay
 use Rattle.gf_nfg.specs.Machine.{at_outcome_number, due_at, ended, ◌>>=◌}
 use Rattle.gf_nfg.specs.Meaning.{table_of}
 use Rattle.gf_nfg.specs.Limit.{profile_limit}
-use Rattle.gf_nfg.specs.LimitPlace.{BeginsWithinLimit, StaysWithinLimit, IsBareOrClosing}
+use Rattle.gf_nfg.specs.LimitByFiles.{BeginsWithinLimit, StaysWithinLimit, IsBareOrClosing}
 use Rattle.gf_token.proofs.ReadingIndices.{count_is}
 use Rattle.gf_nfg.proofs.MeaningTables.{length-entries}
 use Rattle.gf_nfg.proofs.RunsCommon.{ok_is}

@@ -1,26 +1,26 @@
 -- What the reader of strategic files answers.
-use Rattle.std.specs.Prelude.{◌≡◌, ℕ, List, Result, Ok, Err}
-use Rattle.gf_token.specs.Place.{tokens_of, through, IsAcceptedThrough, IsOffendingPlace}
+use Rattle.std.specs.Prelude.{◌≡◌, ℕ, ◌<◌, List, Result, Ok, Err}
+use Rattle.gf_token.specs.Place.{tokens_of, IsAcceptedThrough, IsOffendingPlace}
 use Rattle.gf_token.specs.declared.fault.Fault.{Fault}
 use Rattle.gf_token.specs.declared.fault.Span.{Span}
 use Rattle.gf_token.specs.declared.fault.Why.{Why}
 use Rattle.gf_token.specs.declared.fault.Why.TheVariants.{TooLong, TooManyProfiles, Memory}
-use Rattle.gf_nfg.specs.LimitPlace.{IsLimitPlace, StaysWithinLimit}
+use Rattle.gf_nfg.specs.LimitPlace.{IsLimitPlace}
 use Rattle.gf_nfg.specs.Reason.{IsReason}
 use Rattle.gf_nfg.specs.Sentence.{IsStrategicFile}
 use Rattle.gf_nfg.specs.Table.{Table}
 
--- the span is that of the offending place, the refusal is for what stands there, and there is no
--- limit place before
+-- The span is that of the offending place, the refusal is for what stands there, and the profiles
+-- pass their limit nowhere.
 pub record IsRefusal (why : Why) (bytes : List ℕ) (span : Span) : Type 0 where
   pub place : IsOffendingPlace IsStrategicFile bytes span
   pub reason : IsReason why (tokens_of place.before) (tokens_of place.after)
-  pub within : StaysWithinLimit (tokens_of place.before)
+  pub within : (limit : Span) → ¬ (IsLimitPlace bytes limit)
 
--- there is nothing to refuse at the span, and no limit place up to there
+-- there is nothing to refuse at the span, and the profiles do not pass their limit up to there
 pub record IsAcceptedWithinLimit (bytes : List ℕ) (span : Span) : Type 0 where
   pub place : IsAcceptedThrough IsStrategicFile bytes span
-  pub within : StaysWithinLimit (through (tokens_of place.before) (tokens_of place.after))
+  pub within : (limit : Span) → IsLimitPlace bytes limit → span.start < limit.start
 
 -- A refusal, by its reason. Memory is wanted only where there is nothing to refuse.
 abbrev pub IsJudged : Why → List ℕ → Span → Type 0

@@ -3,7 +3,7 @@ pub mod Due
 pub mod Judgement
 pub mod Heard
 pub mod Limit
-pub mod LimitByCounts
+pub mod LimitByFiles
 pub mod LimitPlace
 pub mod Machine
 pub mod Meaning

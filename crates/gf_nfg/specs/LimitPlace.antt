@@ -1,50 +1,46 @@
 -- Where the profiles of a strategic file pass their limit.
-use Rattle.std.specs.Prelude.{◌≡◌, ℕ, ◌<◌, ◌≤◌, List, [], ◌∷◌, ◌++◌, length}
+use Rattle.std.specs.Prelude.{◌≡◌, ℕ, ◌<◌, ◌≤◌, ◌⊎◌, List, [], ◌∷◌, ◌++◌, length, map, take, codes}
+use Rattle.std.specs.List.{AllByRecursion}
 use Rattle.gf_token.specs.Token.{Token, Lexeme}
-use Rattle.gf_token.specs.Token.Token.{Closing, Bare}
+use Rattle.gf_token.specs.Token.Token.{Opening, Text, Bare}
 use Rattle.gf_token.specs.TokenSpelling.{Spells}
-use Rattle.gf_token.specs.Place.{tokens_of, Begins}
+use Rattle.gf_token.specs.Grammar.{Each, braced}
+use Rattle.gf_token.specs.Place.{tokens_of}
 use Rattle.gf_token.specs.declared.fault.Span.{Span}
 use Rattle.gf_nfg.specs.Limit.{profile_limit}
+use Rattle.gf_nfg.specs.Profiles.{product}
 use Rattle.gf_nfg.specs.Table.{Table}
-use Rattle.gf_nfg.specs.Sentence.{Sentence, IsStrategicFile}
+use Rattle.gf_nfg.specs.Sentence.{IsCount, IsLabelList}
 
--- a table has no more profiles than it may have
+-- a table has no more profiles than allowed
 abbrev pub IsWithinLimit : Table → Type 0
 IsWithinLimit t = length t.entries ≤ profile_limit
 
--- some file of no more profiles than that begins with these tokens
-abbrev pub BeginsWithinLimit : List Token → Type 0
-BeginsWithinLimit tokens =
-    (more : List Token) × (t : Table) × Sentence (tokens ++ more) t × IsWithinLimit t
+-- `NFG` `1` letter Text players Opening, and then a count for each of the first players, or a whole
+-- list of labels for each of them: these players have so many strategies, and each has at least one
+pub record GivesCounts (tokens : List Token) (counts : List ℕ) : Type 0 where
+  pub letter : List ℕ
+  pub title : List ℕ
+  pub players : List (List ℕ)
+  pub inner : List Token
+  pub strategies : List (List (List ℕ))
+  pub parts : tokens ≡ Bare (codes "NFG") ∷ Bare (codes "1") ∷ Bare letter ∷ Text title
+      ∷ (braced (map Text players) ++ Opening ∷ inner)
+  pub is_letter : (letter ≡ codes "R") ⊎ (letter ≡ codes "D")
+  pub is_inner : Each IsCount inner strategies ⊎ Each IsLabelList inner strategies
+  pub are_counts : counts ≡ map length strategies
+  pub some_strategy : AllByRecursion (λ n. 0 < n) counts
+  pub first_players : length counts ≤ length players
 
--- files begin with these tokens, all of them with more profiles
-pub record BeginsPastLimit (tokens : List Token) : Type 0 where
-  pub begins : Begins IsStrategicFile tokens
-  pub past : (more : List Token) (t : Table) → Sentence (tokens ++ more) t
-      → profile_limit < length t.entries
-
--- where a file's profiles grow in number: at a count, which is a bare token, and at the closing
--- brace of a list
-abbrev pub IsBareOrClosing : Token → Type 0
-IsBareOrClosing (Bare bytes) = Unit {0}
-IsBareOrClosing Closing = Unit {0}
-IsBareOrClosing _ = ⊥
-
--- at none of these tokens the profiles pass their limit
-abbrev pub StaysWithinLimit : List Token → Type 0
-StaysWithinLimit tokens = (front back : List Token) (token : Token)
-    → tokens ≡ front ++ token ∷ back → IsBareOrClosing token
-    → BeginsWithinLimit (front ++ token ∷ [])
-
--- The span is that of the first count or closing brace at which the profiles pass their limit. No
--- offending place stands up to there.
+-- The span is that of a player's count, or of the brace that closes a player's list of labels. The
+-- product of the counts so far is above the limit there, and nowhere before.
 pub record IsLimitPlace (bytes : List ℕ) (span : Span) : Type 0 where
   pub before : List Lexeme
   pub lexeme : Lexeme
   pub after : List Lexeme
+  pub counts : List ℕ
   pub spelled : Spells 0 bytes (before ++ lexeme ∷ after)
   pub place : (span.start ≡ lexeme.start) × (span.end ≡ lexeme.end)
-  pub grows : IsBareOrClosing lexeme.token
-  pub past : BeginsPastLimit (tokens_of before ++ lexeme.token ∷ [])
-  pub first : StaysWithinLimit (tokens_of before)
+  pub gives : GivesCounts (tokens_of before ++ lexeme.token ∷ []) counts
+  pub passes : profile_limit < product counts
+  pub nowhere_before : (k : ℕ) → k < length counts → product (take k counts) ≤ profile_limit

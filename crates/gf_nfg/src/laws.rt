@@ -13,7 +13,7 @@ ghost use Rattle.gf_nfg.specs.ProfilePlaces.{IsProfile, place};
 ghost use Rattle.gf_nfg.specs.SameTable.{SamePlay, SameTable};
 ghost use Rattle.gf_nfg.specs.TableText.{table_text, SpellsTable};
 ghost use Rattle.gf_nfg.specs.LimitPlace.{IsLimitPlace, IsWithinLimit};
-ghost use Rattle.gf_nfg.specs.LimitByCounts.{PassesLimitAt};
+ghost use Rattle.gf_nfg.specs.LimitByFiles.{IsLimitByFiles};
 ghost use Rattle.gf_nfg.specs.Judgement.{IsRefused};
 ghost use Rattle.gf_nfg.specs.WorkedTables.{no_players, no_players_text, selten};
 ghost use Rattle.gf_nfg.specs.WorkedTables.{selten_by_counts, selten_by_outcomes, selten_text};
@@ -37,15 +37,16 @@ pub fn read_or_refused()
         → IsRefused other bytes place → (span ≡ place) × (code_of why ≡ code_of other) }
 {}
 
-/// The limit place is where the product of the players' counts passes the limit. Counts of 1,024
-/// and 1,025 pass it at the second, and twice 1,024 nowhere.
-pub fn limit_by_counts()
+/// The limit place is the first count or closing brace such that files begin with the tokens through
+/// it, all of them with more profiles than allowed. Counts of 1,024 and 1,025 pass the limit at the
+/// second, and two counts of 1,024 nowhere.
+pub fn limit_by_files()
     ensures of_files { (bytes : List ℕ) (span : Span)
-        → IsLimitPlace bytes span ↔ PassesLimitAt bytes span }
-    ensures at_second { PassesLimitAt (codes "NFG 1 R \"b\" { \"A\" \"B\" } { 1024 1025 }")
+        → IsLimitPlace bytes span ↔ IsLimitByFiles bytes span }
+    ensures at_second { IsLimitPlace (codes "NFG 1 R \"b\" { \"A\" \"B\" } { 1024 1025 }")
         (record { start = 31; end = 35 }) }
     ensures nowhere { (span : Span)
-        → ¬ (PassesLimitAt (codes "NFG 1 R \"b\" { \"A\" \"B\" } { 1024 1024 }") span) }
+        → ¬ (IsLimitPlace (codes "NFG 1 R \"b\" { \"A\" \"B\" } { 1024 1024 }") span) }
 {}
 
 /// Files mean the tables with labels that can be spelled and with fractions as payoffs, all of them

@@ -1,9 +1,9 @@
-use Rattle.gf_nfg.proofs.LimitCounts.{limit_by_counts}
+use Rattle.gf_nfg.proofs.LimitCounts.{limit_by_files}
 use Rattle.gf_nfg.proofs.LimitWorked.{at_second, nowhere}
-use Rattle.gf_nfg.proofs.laws.limit_by_counts.Goals as goal
+use Rattle.gf_nfg.proofs.laws.limit_by_files.Goals as goal
 
 pub returns-clause-of_files : goal.returns-clause-of_files
-returns-clause-of_files c = limit_by_counts
+returns-clause-of_files c = limit_by_files
 
 pub returns-clause-at_second : goal.returns-clause-at_second
 returns-clause-at_second c = at_second
