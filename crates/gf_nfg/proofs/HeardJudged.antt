@@ -1,9 +1,8 @@
 -- What the machine answers to the tokens of an input is what the file means, or a refusal that is
 -- due there; and where it has passed a place, memory may be wanting.
 use Rattle.std.proofs.Common.{◌≡◌, ℕ, ◌+◌, ◌<◌, ◌≤◌, Bool, true, false, List, [], ◌∷◌, ◌++◌, length}
-use Rattle.std.proofs.Common.{Result, Ok, Err, refl, sym, subst, arith}
+use Rattle.std.proofs.Common.{Option, None, Some, Result, Ok, Err, refl, sym, subst, ap, ◌∙◌, arith}
 use Rattle.std.specs.Prelude.{IfErr, if◌then◌else◌}
-use Rattle.gf_token.specs.Next.{is_broken}
 use Rattle.gf_token.specs.Place.{tokens_of, IsSpanOf}
 use Rattle.gf_token.specs.Remaining.{AreInOrder, Remaining, StandsBefore}
 use Rattle.gf_token.specs.Token.{Token, Lexeme, lexeme}
@@ -11,74 +10,67 @@ use Rattle.gf_token.specs.Token.Token.{Opening, Closing, Comma, Text, Bare, Brok
 use Rattle.gf_token.specs.TokenSpelling.{Spells}
 use Rattle.gf_token.specs.declared.fault.Fault.{Fault}
 use Rattle.gf_token.specs.declared.fault.Span.{Span}
+use Rattle.gf_token.specs.declared.fault.What.{What}
 use Rattle.gf_token.specs.declared.fault.Why.{Why}
 use Rattle.gf_token.specs.declared.fault.Why.TheVariants.{Memory, TooLong, TooManyProfiles}
 use Rattle.gf_token.specs.declared.fault.Why.TheVariants.{Unterminated}
 use Rattle.gf_token.proofs.Spelled.{same_tokens}
 use Rattle.gf_token.proofs.TokensAhead.{in_order}
 use Rattle.gf_nfg.specs.Heard.{Answer, Fails, HasPassed, HasPassedPlace, at_end, heard, is_past}
-use Rattle.gf_nfg.specs.Heard.{read_on, refused, taken, then_on, within}
+use Rattle.gf_nfg.specs.Heard.{read_on, taken, then_on, within}
 use Rattle.gf_nfg.specs.Heard.Fails.{of_file, of_memory}
-use Rattle.gf_nfg.specs.Judgement.{IsAcceptedWithinLimit, IsJudged, IsRefusal}
+use Rattle.gf_nfg.specs.Judgement.{IsAcceptedWithinLimit, IsJudged, IsRefusal, IsRefused}
 use Rattle.gf_nfg.specs.Limit.{profile_limit}
-use Rattle.gf_nfg.specs.Machine.{Content, State, at, finish, nothing, run, start, step, ◌>>=◌}
+use Rattle.gf_nfg.specs.Machine.{Content, State, at, due_at, ended, finish, nothing, start, step}
 use Rattle.gf_nfg.specs.Position.{Position as p}
 use Rattle.gf_nfg.specs.Reason.{IsReason}
 use Rattle.gf_nfg.specs.ReaderState.{answer, content_in}
 use Rattle.gf_nfg.specs.declared.reader.Reader.{Reader}
-use Rattle.gf_nfg.proofs.PlacesJudged.{accepted, broken, judged_end, limit}
-use Rattle.gf_nfg.proofs.PlacesJudged.{refusal}
-use Rattle.gf_nfg.proofs.PlacesJudged.{span_of}
-use Rattle.gf_nfg.proofs.PlacesLed.{Led, led_more, led_none}
+use Rattle.gf_nfg.proofs.PlacesJudged.{accepted, broken, end_of, err, limit, only_expected}
+use Rattle.gf_nfg.proofs.PlacesJudged.{refusal, refusal_end, span_of}
+use Rattle.gf_nfg.proofs.PlacesLed.{Led, led_more, led_none, read_whole}
 use Rattle.gf_nfg.proofs.PlacesLimit.{bounded, past}
 use Rattle.gf_nfg.proofs.ReasonFound.{IsWhole}
-use Rattle.gf_nfg.proofs.RunsSentence.{Read, sentence_found}
+use Rattle.gf_nfg.proofs.RunsCommon.{ok_is}
+use Rattle.gf_nfg.proofs.RunsSentence.{Read}
 
--- ---- reasons lie in the file
+-- ---- reasons
 
-abbrev LiesInFile : Why → Type 0
-LiesInFile Memory = ⊥
-LiesInFile TooLong = ⊥
-LiesInFile TooManyProfiles = ⊥
-LiesInFile why = Unit {0}
+-- no reason is want of memory or a limit
+no_reason : (before after : List Token) → ¬ (IsReason Memory before after)
+    × ¬ (IsReason TooManyProfiles before after) × ¬ (IsReason TooLong before after)
+no_reason before [] = (λ h. h.0, λ h. h.0, λ h. h.0)
+no_reason before (t ∷ after) = (λ h. h.0, λ h. h.0, λ h. h.0)
 
-lies_in_file : (why : Why) (before after : List Token) → IsReason why before after → LiesInFile why
-lies_in_file Memory before [] h = h.0
-lies_in_file Memory before (t ∷ after) h = h.0
-lies_in_file TooLong before [] h = h.0
-lies_in_file TooLong before (t ∷ after) h = h.0
-lies_in_file TooManyProfiles before [] h = h.0
-lies_in_file TooManyProfiles before (t ∷ after) h = h.0
-lies_in_file _ before after h = tt
-
-judged_by : (why : Why) (bytes : List ℕ) (span : Span) → LiesInFile why
-    → IsRefusal why bytes span → IsJudged why bytes span
-judged_by Memory bytes span h k = absurd h
-judged_by TooLong bytes span h k = absurd h
-judged_by TooManyProfiles bytes span h k = absurd h
-judged_by _ bytes span h k = k
-
-refusal_judged : (why : Why) (bytes : List ℕ) (span : Span) → IsRefusal why bytes span
-    → IsJudged why bytes span
-refusal_judged why bytes span h = judged_by why bytes span
-    (lies_in_file why (tokens_of h.place.before) (tokens_of h.place.after) h.reason) h
+refused_by : (why : Why) (bytes : List ℕ) (span : Span) → IsRefusal why bytes span
+    → IsRefused why bytes span
+refused_by Memory bytes span h =
+    absurd ((no_reason (tokens_of h.place.before) (tokens_of h.place.after)).0 h.reason)
+refused_by TooManyProfiles bytes span h =
+    absurd ((no_reason (tokens_of h.place.before) (tokens_of h.place.after)).1 h.reason)
+refused_by TooLong bytes span h =
+    absurd ((no_reason (tokens_of h.place.before) (tokens_of h.place.after)).2 h.reason)
+refused_by why bytes span h = (λ e. absurd cc, h)
 
 -- ---- a token
 
--- what the machine does at a token: it goes on, and the token is accepted; or its refusal is judged
+-- what the machine does at a token: it goes on, and the token is accepted; or it is refused
 data Took (bytes : List ℕ) (all ls : List Lexeme) (l : Lexeme) (o : Result State Why) : Type 0 where
   goes_on : (after : State) → o ≡ Ok after → Led all ls after
       → after.content.profiles ≤ profile_limit → IsAcceptedWithinLimit bytes (span_of l)
       → Took bytes all ls l o
-  refuses : (why : Why) → o ≡ Err why → IsJudged why bytes (span_of l) → Took bytes all ls l o
+  refuses : (why : Why) → o ≡ Err why → IsRefused why bytes (span_of l) → Took bytes all ls l o
 
 module _ (bytes : List ℕ) (all : List Lexeme) (spelled : Spells 0 bytes all) where
   took_past : (s after : State) (l : Lexeme) (ls : List Lexeme) (b : Bool) → Led all (l ∷ ls) s
       → s.content.profiles ≤ profile_limit → step s l.token ≡ Ok after
       → is_past after.position after.content.profiles ≡ b
       → Took bytes all ls l (if b then Err TooManyProfiles else Ok after)
-  took_past s after l ls true h few is over = refuses TooManyProfiles refl
-      (limit bytes all ls l s after spelled h few is (past after.position after.content.profiles over))
+  took_past s after l ls true h few is over = refuses TooManyProfiles refl (
+    λ same. absurd cc,
+    limit bytes all ls l s after spelled h few is
+        (past after.position after.content.profiles over),
+  )
   took_past s after l ls false h few is not =
       let more = bounded s after l.token is few not in
       goes_on after refl (led_more all ls l s after h is) more
@@ -90,99 +82,93 @@ module _ (bytes : List ℕ) (all : List Lexeme) (spelled : Spells 0 bytes all) w
   took_step s l ls (Ok after) h few whole is =
       took_past s after l ls (is_past after.position after.content.profiles) h few is refl
   took_step s l ls (Err why) h few whole is = refuses why refl
-      (refusal_judged why bytes (span_of l) (refusal bytes all ls l s why spelled h few whole is))
+      (refused_by why bytes (span_of l) (refusal bytes all ls l s why spelled h few whole is))
 
   took : (s : State) (start end : ℕ) (t : Token) (ls : List Lexeme)
       → Led all (lexeme start end t ∷ ls) s → s.content.profiles ≤ profile_limit
       → Took bytes all ls (lexeme start end t) (taken s t)
   took s start end Broken ls h few =
-      refuses Unterminated refl (broken bytes all ls start end s spelled h few)
+      refuses Unterminated refl
+      (refused_by Unterminated bytes _ (broken bytes all ls start end s spelled h few))
   took s start end Opening ls h few = took_step s _ ls (step s Opening) h few tt refl
   took s start end Closing ls h few = took_step s _ ls (step s Closing) h few tt refl
   took s start end Comma ls h few = took_step s _ ls (step s Comma) h few tt refl
   took s start end (Text label) ls h few = took_step s _ ls (step s (Text label)) h few tt refl
   took s start end (Bare b) ls h few = took_step s _ ls (step s (Bare b)) h few tt refl
 
--- ---- what is refused
+-- ---- all tokens
 
-abbrev ErrIs : Fault → Result Content Fault → Type 0
-ErrIs fault o = o ≡ Err fault
+-- what is known of an answer: the bytes mean a file within the limit, or they are refused
+abbrev pub IsAnswered : List ℕ → List Lexeme → Result Content Fault → Type 0
+IsAnswered bytes all (Ok c) = Read (tokens_of all) c × (c.profiles ≤ profile_limit)
+IsAnswered bytes all (Err f) = IsRefused f.why bytes f.span
 
--- the same refusal, as it was found
-found : (start end : ℕ) (why : Why) (fault : Fault) → ErrIs fault (refused start end why)
-    → (P : Fault → Type 0) → P (record { span = record { start = start; end = end }; why = why })
-    → P fault
-found start end why fault e P h =
-    let same : record { span = record { start = start; end = end }; why = why } ≡ fault = cc in
-    subst P same h
-
--- the answer where a token is taken so
+-- the answer if a token is taken so
 abbrev answer_at : ℕ → List Lexeme → Lexeme → Result State Why → Result Content Fault
 answer_at end ls l o = then_on l.start l.end o (λ next. read_on end next ls)
 
-module _ (bytes : List ℕ) (all : List Lexeme) (spelled : Spells 0 bytes all) (fault : Fault) where
-  abbrev Judged : Fault → Type 0
-  Judged f = IsJudged f.why bytes f.span
+ended_is : (c r : Content) (o : Option What) → ended c o ≡ Ok r → c ≡ r
+ended_is c r None e = ok_is c r e
+ended_is c r (Some expected) e = absurd cc
 
-  refused_at_end : (s : State) (o : Result Content Why) → Led all [] s
-      → s.content.profiles ≤ profile_limit → finish s ≡ o → ErrIs fault (at_end (length bytes) o)
-      → Judged fault
-  refused_at_end s (Ok c) h few is e = absurd cc
-  refused_at_end s (Err why) h few is e = found (length bytes) (length bytes) why fault e Judged
-      (judged_end bytes all s why spelled h few is)
+module _ (bytes : List ℕ) (all : List Lexeme) (spelled : Spells 0 bytes all) where
+  end_answered : (s : State) (o : Result Content Why) → Led all [] s
+      → s.content.profiles ≤ profile_limit → finish s ≡ o
+      → IsAnswered bytes all (at_end (length bytes) o)
+  end_answered s (Ok c) h few e = (
+    read_whole all s c h e,
+    subst (λ (r : Content). r.profiles ≤ profile_limit)
+        (ended_is s.content c (due_at s.position s.due) e) few,
+  )
+  end_answered s (Err why) h few e =
+      let w = only_expected s.content (due_at s.position s.due) why e in
+      subst (λ (x : Why). IsRefused x bytes (end_of (length bytes))) (sym w.1)
+      (λ same. absurd cc, refusal_end bytes all s w.0 spelled h few (e ∙ ap err w.1))
 
-  refused_token : (l : Lexeme) (ls : List Lexeme) (o : Result State Why) → Took bytes all ls l o
-      → ErrIs fault (answer_at (length bytes) ls l o)
+  token_answered : (l : Lexeme) (ls : List Lexeme) (o : Result State Why) → Took bytes all ls l o
       → ((after : State) → Led all ls after → after.content.profiles ≤ profile_limit
-      → ErrIs fault (read_on (length bytes) after ls) → Judged fault)
-      → Judged fault
-  refused_token l ls o (goes_on after is led more accepted) e later =
-      later after led more (subst (λ x. ErrIs fault (answer_at (length bytes) ls l x)) is e)
-  refused_token l ls o (refuses why is judged) e later = found l.start l.end why fault
-      (subst (λ x. ErrIs fault (answer_at (length bytes) ls l x)) is e) Judged judged
+      → IsAnswered bytes all (read_on (length bytes) after ls))
+      → IsAnswered bytes all (answer_at (length bytes) ls l o)
+  token_answered l ls o (goes_on after is led more accepted) later =
+      subst (λ x. IsAnswered bytes all (answer_at (length bytes) ls l x)) (sym is)
+      (later after led more)
+  token_answered l ls o (refuses why is refused) later =
+      subst (λ x. IsAnswered bytes all (answer_at (length bytes) ls l x)) (sym is) refused
 
-  refused_on : (s : State) (ls : List Lexeme) → Led all ls s → s.content.profiles ≤ profile_limit
-      → ErrIs fault (read_on (length bytes) s ls) → Judged fault
-  refused_on s [] h few e = refused_at_end s (finish s) h few refl e
-  refused_on s (l ∷ ls) h few e = refused_token l ls (taken s l.token)
-      (took bytes all spelled s l.start l.end l.token ls h few) e
-      (λ after led more f. refused_on after ls led more f)
+  answered_on : (s : State) (ls : List Lexeme) → Led all ls s → s.content.profiles ≤ profile_limit
+      → IsAnswered bytes all (read_on (length bytes) s ls)
+  answered_on s [] h few = end_answered s (finish s) h few refl
+  answered_on s (l ∷ ls) h few = token_answered l ls (taken s l.token)
+      (took bytes all spelled s l.start l.end l.token ls h few)
+      (λ after led more. answered_on after ls led more)
 
-  pub refused_judged : ErrIs fault (read_on (length bytes) start all)
-      → IsJudged fault.why bytes fault.span
-  refused_judged e = refused_on start all (led_none all) (omega arith) e
+  pub all_answered : IsAnswered bytes all (read_on (length bytes) start all)
+  all_answered = answered_on start all (led_none all) (omega arith)
 
 -- ---- memory
 
-refused_later : (end from : ℕ) (s : State) (ls : List Lexeme) (fault : Fault)
-    → AreInOrder end from ls → ErrIs fault (read_on end s ls) → from ≤ fault.span.start
-refused_later end from s [] fault h e = by (finish s) e
+-- what is refused after a token begins after its start
+passed_on : (end from start : ℕ) → start < from → (s : State) (ls : List Lexeme)
+    → AreInOrder end from ls → HasPassed (read_on end s ls) start
+passed_on end from start less s [] h = by (finish s)
   where
-    by : (o : Result Content Why) → ErrIs fault (at_end end o) → from ≤ fault.span.start
-    by (Ok c) e = absurd cc
-    by (Err why) e = found end end why fault e (λ f. from ≤ f.span.start) h
-refused_later end from s (l ∷ ls) fault h e =
-    by (taken s l.token) e (λ after f. refused_later end l.end after ls fault h.2 f)
+    by : (o : Result Content Why) → HasPassed (at_end end o) start
+    by (Ok c) = tt
+    by (Err why) = omega (arith, less, h)
+passed_on end from start less s (l ∷ ls) h =
+    let near = h.0 in let some = h.1 in
+    by (taken s l.token)
+    (λ after. passed_on end l.end start (omega (arith, less, near, some)) after ls h.2)
   where
-    by : (o : Result State Why)
-        → ErrIs fault (then_on l.start l.end o (λ after. read_on end after ls))
-        → ((after : State) → ErrIs fault (read_on end after ls) → l.end ≤ fault.span.start)
-        → from ≤ fault.span.start
-    by (Ok after) e later =
-        let far = later after e in let near = h.0 in let some = h.1 in omega (arith, far, near, some)
-    by (Err why) e later = found l.start l.end why fault e (λ f. from ≤ f.span.start) h.0
+    by : (o : Result State Why) → ((after : State) → HasPassed (read_on end after ls) start)
+        → HasPassed (answer_at end ls l o) start
+    by (Ok after) later = later after
+    by (Err why) later = let near = h.0 in omega (arith, less, near)
 
 -- so where the machine goes on after a token, it has passed the token
 passed_before : (t : Remaining) (span : Span) → StandsBefore t span
     → (s : State) → HasPassed (read_on (length t.input) s t.ahead) span.start
-passed_before t span h s = by (read_on (length t.input) s t.ahead) refl
-  where
-    by : (o : Result Content Fault) → read_on (length t.input) s t.ahead ≡ o
-        → HasPassed o span.start
-    by (Ok c) e = tt
-    by (Err fault) e =
-        let far = refused_later (length t.input) span.end s t.ahead fault h.order e in
-        let some = h.some in omega (arith, far, some)
+passed_before t span h s = passed_on (length t.input) span.end span.start h.some s t.ahead h.order
 
 pub carried : {f : Fault} {a b : Answer} → Fails f b → a ≡ b → Fails f a
 carried {f} {a} {b} h e = subst (Fails f) (sym e) h
@@ -278,46 +264,16 @@ to_all bytes all = heard start (record { input = bytes; ahead = all })
 
 pub answer_judged : (bytes : List ℕ) (all : List Lexeme) (fault : Fault) → Spells 0 bytes all
     → Fails fault (to_all bytes all) → IsJudged fault.why bytes fault.span
-answer_judged bytes all fault spelled (of_file e) = refused_judged bytes all spelled fault e
+answer_judged bytes all fault spelled (of_file e) =
+    (subst (IsAnswered bytes all) e (all_answered bytes all spelled)).1
 answer_judged bytes all fault spelled (of_memory is h) =
     subst (λ why. IsJudged why bytes fault.span) (sym is)
     (memory_judged bytes all spelled fault.span h)
 
-read_in_turn : (end : ℕ) (ls : List Lexeme) (s : State) (c : Content) → read_on end s ls ≡ Ok c
-    → run s (tokens_of ls) ≡ Ok c
-read_in_turn end [] s c e = by (finish s) e
-  where
-    by : (o : Result Content Why) → at_end end o ≡ Ok c → o ≡ Ok c
-    by (Ok d) e = cc
-    by (Err why) e = absurd cc
-read_in_turn end (l ∷ ls) s c e =
-    by (is_broken l.token) e (λ after f. read_in_turn end ls after c f)
-  where
-    past_by : (b : Bool) (after : State) → then_on l.start l.end
-        (if b then Err TooManyProfiles else Ok after) (λ next. read_on end next ls) ≡ Ok c
-        → ((next : State) → read_on end next ls ≡ Ok c → run next (tokens_of ls) ≡ Ok c)
-        → run after (tokens_of ls) ≡ Ok c
-    past_by true after e later = absurd cc
-    past_by false after e later = later after e
-
-    step_by : (o : Result State Why)
-        → then_on l.start l.end (within o) (λ next. read_on end next ls) ≡ Ok c
-        → ((next : State) → read_on end next ls ≡ Ok c → run next (tokens_of ls) ≡ Ok c)
-        → (o >>= λ after. run after (tokens_of ls)) ≡ Ok c
-    step_by (Ok after) e later =
-        past_by (is_past after.position after.content.profiles) after e later
-    step_by (Err why) e later = absurd cc
-
-    by : (b : Bool) → then_on l.start l.end (if b then Err Unterminated else within (step s l.token))
-        (λ next. read_on end next ls) ≡ Ok c
-        → ((next : State) → read_on end next ls ≡ Ok c → run next (tokens_of ls) ≡ Ok c)
-        → (step s l.token >>= λ after. run after (tokens_of ls)) ≡ Ok c
-    by true e later = absurd cc
-    by false e later = step_by (step s l.token) e later
-
-pub answer_read : (bytes : List ℕ) (all : List Lexeme) (c : Content)
+pub answer_read : (bytes : List ℕ) (all : List Lexeme) (c : Content) → Spells 0 bytes all
     → (to_all bytes all).machine ≡ Ok c → Read (tokens_of all) c
-answer_read bytes all c e = sentence_found (tokens_of all) c (read_in_turn (length bytes) all start c e)
+answer_read bytes all c spelled e =
+    (subst (IsAnswered bytes all) e (all_answered bytes all spelled)).0
 
 pub heard_begun : (r : Reader) (bytes : List ℕ) → r.tokens.input ≡ bytes
     → content_in r.heading ≡ nothing → to_all bytes r.tokens.ahead ≡ answer p.Format 0 0 r

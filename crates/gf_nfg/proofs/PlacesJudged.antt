@@ -146,14 +146,6 @@ pub only_expected : (c : Content) (o : Option What) (why : Why) → ended c o �
 only_expected c None why e = absurd cc
 only_expected c (Some what) why e = (what, cc)
 
-pub judged_end : (bytes : List ℕ) (all : List Lexeme) (s : State) (why : Why)
-    → Spells 0 bytes all → Led all [] s → s.content.profiles ≤ profile_limit → finish s ≡ Err why
-    → IsJudged why bytes (end_of (length bytes))
-judged_end bytes all s why spelled h within e =
-    let w = only_expected s.content (due_at s.position s.due) why e in
-    subst (λ (x : Why). IsJudged x bytes (end_of (length bytes))) (sym w.1)
-    (refusal_end bytes all s w.0 spelled h within (e ∙ ap err w.1))
-
 -- no table within the limit passes it
 all_past : (bytes : List ℕ) (span : Span) (t : Table)
     → IsLimitPlace bytes span → SpellsTable bytes t → IsWithinLimit t → ⊥

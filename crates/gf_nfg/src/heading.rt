@@ -9,7 +9,7 @@ use gf_token::Label;
 use std::alloc::Global;
 
 /// What stands before the payoffs of a strategic file. Its labels are slices of the input.
-#[derive(Debug, Drop)]
+#[derive(Drop)]
 pub struct Heading<'a> {
     pub title: Label<'a>,
     /// Empty where the file has none.

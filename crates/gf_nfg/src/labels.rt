@@ -16,7 +16,7 @@ use std::alloc::{AllocError, Global};
 use std::marker::Model;
 
 /// Labels in one buffer, with the place where each ends.
-#[derive(Debug, Drop)]
+#[derive(Drop)]
 pub struct Labels {
     bytes: Vec<u8>,
     ends: Vec<usize>,

@@ -7,7 +7,7 @@ ghost use Rattle.gf_nfg.specs.Limit.{profile_limit};
 pub const PROFILE_LIMIT: u32 = 1_048_576;
 
 /// A number of profiles: one at least, and no more than a table may have.
-#[derive(Clone, Copy, Debug, PartialEq, Eq)]
+#[derive(Clone, Copy)]
 pub struct ProfileCount {
     pub count: u32,
     ghost some: { 0 < count },

@@ -14,7 +14,7 @@ use std::alloc::{AllocError, Global};
 use std::marker::Model;
 
 /// The title, the comment, the players' names and the labels of their strategies.
-#[derive(Debug, Drop)]
+#[derive(Drop)]
 pub(crate) struct Names {
     /// The title, the comment and the players' names.
     heading: Labels,

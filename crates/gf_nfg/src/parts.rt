@@ -13,7 +13,7 @@ use crate::table::Table;
 use std::alloc::{AllocError, Global};
 
 /// What a strategic file holds; outcomes' names are not kept.
-#[derive(Debug, Drop)]
+#[derive(Drop)]
 pub struct Parts<'a> {
     pub heading: Heading<'a>,
     /// Rows of one payoff for each player, one row behind the other: those of the profiles in turn,

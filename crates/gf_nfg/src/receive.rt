@@ -7,7 +7,7 @@ use gf_fraction::Fraction;
 use std::alloc::{AllocError, Global};
 
 /// What follows the heading of a file.
-#[derive(Clone, Copy, Debug, PartialEq, Eq)]
+#[derive(Clone, Copy, PartialEq, Eq)]
 pub enum Version {
     /// The payoffs at each profile.
     Payoffs,
@@ -92,7 +92,7 @@ impl<'a> Receive<'a> for Unkept {
 }
 
 /// A receiver that keeps payoffs and numbers.
-#[derive(Debug, Drop)]
+#[derive(Drop)]
 pub(crate) struct Kept {
     pub payoffs: Vec<Fraction>,
     pub numbers: Vec<u32>,

@@ -11,7 +11,7 @@ use std::alloc::{AllocError, Global};
 use std::marker::Model;
 
 /// A row of one payoff for each player at each profile.
-#[derive(Debug, Drop)]
+#[derive(Drop)]
 pub(crate) struct Rows {
     players: usize,
     profiles: u32,
@@ -39,7 +39,7 @@ impl Model for Rows {
 }
 
 /// Rows with numbers, from 0, that profiles share.
-#[derive(Clone, Copy, Debug)]
+#[derive(Clone, Copy)]
 pub(crate) struct Shared<'t> {
     /// The number of its row for each profile.
     pub numbers: &'t [u32],

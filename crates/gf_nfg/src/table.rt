@@ -24,7 +24,7 @@ use std::marker::Model;
 /// A table: a title, a comment, players with at least one strategy each, and the payoffs at each
 /// profile of strategies. It has at most 1,048,576 profiles. Players and strategies are counted
 /// from 1.
-#[derive(Debug, Drop)]
+#[derive(Drop)]
 pub struct Table {
     names: Names,
     payoffs: Rows,

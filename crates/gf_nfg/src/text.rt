@@ -10,7 +10,7 @@ use gf_fraction::Fraction;
 use std::alloc::{AllocError, Global};
 
 /// The text of a file that is being told.
-#[derive(Debug, Drop)]
+#[derive(Drop)]
 pub(crate) struct Text {
     pub(crate) text: Vec<u8>,
     /// How many bytes it is likely to have.

@@ -29,7 +29,7 @@ pub returns-clause-told : goal.returns-clause-told
 returns-clause-told g c =
     let n = c.new-reader.ensures in
     let h = c.in_ok-tell.ensures in
-    let read = answer_read c.args.input.now c.new-reader.result.tokens.ahead (content_told h.told)
+    let read = answer_read c.args.input.now c.new-reader.result.tokens.ahead (content_told h.told) n.spelled
     (ap (λ (a : Answer). a.machine)
     (heard_begun c.new-reader.result c.args.input.now n.input n.content) ∙ h.whole) in
     record {
