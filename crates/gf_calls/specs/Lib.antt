@@ -1,9 +1,9 @@
-pub mod Numbers
-pub mod Refused
-pub mod Handed
 pub mod Checked
-pub mod Written
 pub mod Compared
-pub mod Tabled
-pub mod Pairs
+pub mod Handed
+pub mod Numbers
 pub mod Paired
+pub mod Pairs
+pub mod Refused
+pub mod Tabled
+pub mod Written

@@ -22,7 +22,7 @@ use Rattle.gf_tree.proofs.Renumberings.{Agree, agreed_games}
 use Rattle.gf_tree.proofs.TreesOnce.{same_set_equality}
 use Rattle.gf_tree.proofs.Uses.{Has, IsEquality, has}
 use Rattle.gf_tree.specs.CanonicalGame.{canonical_game}
-use Rattle.gf_canon.specs.ListedInOrder.{lists_in_order}
+use Rattle.gf_canon.specs.inner.ListedInOrder.{lists_in_order}
 use Rattle.gf_canon.proofs.NumbersInOrder.{outcomes_in_order, sets_in_order}
 
 -- ---- numbers in order

@@ -12,11 +12,11 @@ use Rattle.gf_tree.specs.Spellable.{IsSpellable}
 use Rattle.gf_tree.specs.Told.{Told, heading_in}
 use Rattle.gf_tree.proofs.SpelledGames.{spelled_is_spellable}
 use Rattle.gf_tree.specs.CanonicalGame.{canonical_game}
-use Rattle.gf_canon.specs.ComparedTrees.{IsCompared}
+use Rattle.gf_canon.specs.inner.ComparedTrees.{IsCompared}
 use Rattle.gf_canon.specs.GameFile.GameFile.{extensive, strategic}
 use Rattle.gf_canon.specs.Judgement.{SpellsWithin}
 use Rattle.gf_canon.specs.MeaningOf.{file_of_listed}
-use Rattle.gf_canon.specs.NamedBy.{node_by}
+use Rattle.gf_canon.specs.inner.NamedBy.{node_by}
 use Rattle.gf_canon.specs.SameBy.{SameBy}
 use Rattle.gf_canon.specs.declared.meaning.Listed.{Listed}
 use Rattle.gf_canon.specs.declared.meaning.Listed.TheVariants.{Tree}

@@ -18,7 +18,7 @@ use Rattle.gf_token.specs.declared.fault.Why.{Why}
 use Rattle.gf_token.specs.declared.fault.Why.TheVariants.{Unterminated, Expected}
 use Rattle.gf_token.proofs.Places.{no_file}
 use Rattle.gf_token.proofs.Spelled.{same_tokens}
-use Rattle.gf_nfg.specs.Machine.{start}
+use Rattle.gf_nfg.specs.inner.Machine.{start}
 use Rattle.gf_nfg.specs.Sentence.{IsStrategicFile}
 use Rattle.gf_nfg.proofs.PlacesWalk.{begins as strategic_begins}
 use Rattle.gf_tree.specs.Front.{IsExtensiveFile}

@@ -13,7 +13,7 @@ use Rattle.gf_tree.proofs.Games.{flatten_map, map_entry}
 use Rattle.gf_tree.proofs.MappedTrees.{map_tree_twice}
 use Rattle.gf_tree.proofs.Members.{map_twice}
 use Rattle.gf_tree.specs.CanonicalGame.{canonical_game}
-use Rattle.gf_canon.specs.NamedBy.{node_by, outcome_by, set_by, use_by}
+use Rattle.gf_canon.specs.inner.NamedBy.{node_by, outcome_by, set_by, use_by}
 use Rattle.gf_canon.specs.NamesAside.{unnamed_game, unnamed_node}
 use Rattle.gf_canon.specs.declared.sameness.Names.TheVariants.{Aside, Kept}
 use Rattle.gf_canon.proofs.Unnamed.{unnamed_outcome_at, unnamed_outcomes, unnamed_outcomes_of}

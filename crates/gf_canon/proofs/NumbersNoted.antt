@@ -19,7 +19,7 @@ use Rattle.gf_tree.proofs.TreesOnce.{same_set_equality}
 use Rattle.gf_tree.proofs.Uses.{Has, IsEquality, contains, has}
 use Rattle.gf_canon.specs.NewNumbers.{IsOnlyRenumbering, new_numbers, new_outcome_number}
 use Rattle.gf_canon.specs.NewNumbers.{new_set_number, number_of_set, set_order}
-use Rattle.gf_canon.specs.Noted.{noted}
+use Rattle.gf_canon.specs.inner.Noted.{noted}
 use Rattle.gf_tree.specs.SameGame.{Carries, SameGame}
 use Rattle.gf_canon.specs.declared.new_numbers.Renumbering.{Renumbering}
 use Rattle.gf_tree.proofs.SameGames.{only_outcomes, only_sets}

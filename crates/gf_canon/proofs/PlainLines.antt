@@ -13,8 +13,8 @@ use Rattle.gf_tree.specs.Description.{InformationSet, SetKey}
 use Rattle.gf_tree.specs.FileTree.{FileNode, Use}
 use Rattle.gf_nfg.specs.TableText.{quoted, spaced}
 use Rattle.gf_canon.specs.GameText.{described_fields, mover_fields, set_fields}
-use Rattle.gf_canon.specs.TextParts.{mover_letter, node_line, number_then, plain_line, player_letter}
-use Rattle.gf_canon.specs.TextParts.{player_then, tail_text}
+use Rattle.gf_canon.specs.inner.TextParts.{mover_letter, node_line, number_then, plain_line, player_letter}
+use Rattle.gf_canon.specs.inner.TextParts.{player_then, tail_text}
 
 pub zero_text : decimal 0 ≡ codes "0"
 unfolding digits

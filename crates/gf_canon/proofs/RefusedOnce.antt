@@ -16,13 +16,13 @@ use Rattle.gf_token.specs.declared.fault.Why.{Why}
 use Rattle.gf_token.specs.declared.fault.Why.TheVariants.{Expected, Memory}
 use Rattle.gf_token.proofs.Places.{one_offending_place, one_span}
 use Rattle.gf_token.proofs.Spelled.{same_tokens, spelled_once}
-use Rattle.gf_nfg.specs.Machine.{start}
+use Rattle.gf_nfg.specs.inner.Machine.{start}
 use Rattle.gf_nfg.proofs.PlacesAll.{answered as table_answered}
 use Rattle.gf_nfg.proofs.PlacesOnce.{not_both as not_table_and_refused}
 use Rattle.gf_nfg.proofs.PlacesOnce.{refused_once as table_refused_once}
 use Rattle.gf_nfg.proofs.PlacesWalk.{follows as strategic_follows}
-use Rattle.gf_tree.specs.Machine.{at, nothing}
-use Rattle.gf_tree.specs.Machine.Position.{Format as AtFormat}
+use Rattle.gf_tree.specs.inner.Machine.{at, nothing}
+use Rattle.gf_tree.specs.inner.Machine.Position.{Format as AtFormat}
 use Rattle.gf_tree.proofs.RefusedOnce.{answered as game_answered}
 use Rattle.gf_tree.proofs.RefusedOnce.{not_both as not_game_and_refused}
 use Rattle.gf_tree.proofs.RefusedOnce.{refused_once as game_refused_once}

@@ -11,7 +11,7 @@ use Rattle.std.proofs.lemmas.List.{append-nil}
 use Rattle.gf_fraction.specs.Ratio.{Ratio}
 use Rattle.gf_fraction.specs.NumberText.{number_text}
 use Rattle.gf_nfg.specs.TableText.{lines_text, list_text, quoted, spaced}
-use Rattle.gf_nfg.specs.TextParts.{others_text}
+use Rattle.gf_nfg.specs.inner.TextParts.{others_text}
 use Rattle.gf_token.specs.Label.{label_of}
 use Rattle.gf_token.specs.declared.label.Label.{Label}
 use Rattle.gf_tree.specs.Actions.{actions_of}
@@ -23,7 +23,7 @@ use Rattle.gf_tree.specs.Game.{Game}
 use Rattle.gf_canon.specs.GameText.{action_fields, described_fields, mover_fields, set_fields}
 use Rattle.gf_canon.specs.GameText.{step_fields}
 use Rattle.gf_canon.specs.GameText.{game_text, node_text}
-use Rattle.gf_canon.specs.TextParts.{first_line, heading_text, node_line}
+use Rattle.gf_canon.specs.inner.TextParts.{first_line, heading_text, node_line}
 
 -- ---- lists in braces
 

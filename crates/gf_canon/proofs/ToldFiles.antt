@@ -4,7 +4,7 @@ use Rattle.gf_token.specs.declared.fault.Fault.{Fault}
 use Rattle.gf_tree.specs.Told.{Heading, Told}
 use Rattle.gf_canon.specs.FileFormat.{MeansFileOf}
 use Rattle.gf_canon.specs.GameFile.GameFile.{extensive, strategic}
-use Rattle.gf_canon.specs.ToldFile.{IsToldFile}
+use Rattle.gf_canon.specs.inner.ToldFile.{IsToldFile}
 use Rattle.gf_canon.specs.declared.format.Format.{Format}
 use Rattle.gf_canon.specs.declared.format.Format.TheVariants.{Extensive, Strategic}
 

@@ -11,9 +11,9 @@ use Rattle.gf_tree.specs.ToldGame.{HasToldGame}
 use Rattle.gf_tree.specs.CanonicalGame.{canonical_game}
 use Rattle.gf_canon.specs.GameFile.{canonical_text}
 use Rattle.gf_canon.specs.GameFile.GameFile.{extensive}
-use Rattle.gf_canon.specs.NamedBy.{name_by, node_by}
+use Rattle.gf_canon.specs.inner.NamedBy.{name_by, node_by}
 use Rattle.gf_canon.specs.NamesAside.{file_by, unnamed_game}
-use Rattle.gf_canon.specs.TextParts.{heading_text, node_line, told_text}
+use Rattle.gf_canon.specs.inner.TextParts.{heading_text, node_line, told_text}
 use Rattle.gf_canon.specs.declared.sameness.Names.{Names}
 use Rattle.gf_canon.specs.declared.sameness.Names.TheVariants.{Kept, Aside}
 use Rattle.gf_canon.proofs.NodesNamed.{nodes_aside, nodes_kept}

@@ -10,11 +10,11 @@ use Rattle.gf_tree.specs.Told.{Heading, heading_in}
 use Rattle.gf_tree.specs.CanonicalGame.{canonical_game}
 use Rattle.gf_canon.specs.GameFile.GameFile.{extensive}
 use Rattle.gf_canon.specs.GameText.{game_text}
-use Rattle.gf_canon.specs.NamedBy.{heading_by, node_by}
+use Rattle.gf_canon.specs.inner.NamedBy.{heading_by, node_by}
 use Rattle.gf_canon.specs.NamesAside.{unnamed_game}
 use Rattle.gf_canon.specs.SameBy.{SameBy}
 use Rattle.gf_tree.specs.SameGame.{SameGame}
-use Rattle.gf_canon.specs.TextParts.{heading_text}
+use Rattle.gf_canon.specs.inner.TextParts.{heading_text}
 use Rattle.gf_canon.specs.declared.sameness.Names.{Names}
 use Rattle.gf_canon.specs.declared.sameness.Names.TheVariants.{Aside, Kept}
 use Rattle.gf_tree.proofs.CanonicalGames.{canonical_is_game, same_by_canonical}

@@ -3,7 +3,7 @@
 ghost use Rattle.std.specs.Prelude.{IfErr, IfOk};
 ghost use Rattle.gf_canon.specs.FileFormat.{MeansFileOf};
 ghost use Rattle.gf_canon.specs.Judgement.{IsRefusedWith};
-ghost use Rattle.gf_canon.specs.ToldFile.{IsToldFile};
+ghost use Rattle.gf_canon.specs.inner.ToldFile.{IsToldFile};
 
 use crate::format::{Format, format_of};
 use gf_nfg::check_nfg;

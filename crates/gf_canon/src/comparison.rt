@@ -50,7 +50,7 @@ impl<'g, 'a, 'b> Receive<'b> for Comparison<'g, 'a> {
     ghost use Rattle.std.specs.Prelude.{◌≡◌, IsTrue};
     ghost use Rattle.gf_tree.specs.FileNodes.{file_nodes};
     ghost use Rattle.gf_tree.specs.CanonicalGame.{canonical_game};
-    ghost use Rattle.gf_canon.specs.ComparedTrees.{IsCompared};
+    ghost use Rattle.gf_canon.specs.inner.ComparedTrees.{IsCompared};
 
     ghost untold = { λ c. IsTrue c.same × (c.left ≡ file_nodes (canonical_game c.game.now)) };
 

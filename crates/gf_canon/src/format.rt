@@ -1,7 +1,7 @@
 //! The formats of game files, told apart by the first token.
 
 ghost use Rattle.std.specs.Prelude.{IfErr, IfOk};
-ghost use Rattle.gf_canon.specs.FormatWord.{word_of};
+ghost use Rattle.gf_canon.specs.inner.FormatWord.{word_of};
 ghost use Rattle.gf_canon.specs.Judgement.{BeginsWithWord, IsWithoutFormat};
 
 use gf_token::{Fault, Tokens, What, Why};

@@ -1,10 +1,10 @@
 //! The lines of a text, written while a file is read.
 
 ghost use Rattle.std.specs.Prelude.{◌≡◌, ◌++◌, [], OnErr, OnOk};
-ghost use Rattle.gf_nfg.specs.TextParts.{Keeps};
+ghost use Rattle.gf_nfg.specs.inner.TextParts.{Keeps};
 ghost use Rattle.gf_tree.specs.FileNodeOf.{file_node_of};
-ghost use Rattle.gf_canon.specs.NamedBy.{node_by};
-ghost use Rattle.gf_canon.specs.TextParts.{node_line};
+ghost use Rattle.gf_canon.specs.inner.NamedBy.{node_by};
+ghost use Rattle.gf_canon.specs.inner.TextParts.{node_line};
 ghost use Rattle.gf_canon.specs.declared.sameness.Names.TheVariants.{Aside};
 
 use crate::named::{name_by, unnamed};
@@ -49,7 +49,7 @@ fn write_unnamed(node: FileNode<'_, '_>, out: &mut Vec<u8>) -> Result<(), AllocE
 
 impl<'a> Receive<'a> for Lines {
     ghost use Rattle.std.specs.Prelude.{◌≡◌, []};
-    ghost use Rattle.gf_canon.specs.TextParts.{told_text};
+    ghost use Rattle.gf_canon.specs.inner.TextParts.{told_text};
 
     ghost untold = { λ lines. lines.text.items ≡ [] };
 

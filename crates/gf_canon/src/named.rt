@@ -4,7 +4,7 @@ ghost use Rattle.std.specs.Prelude.{◌≡◌, option_map};
 ghost use Rattle.gf_token.specs.Label.{label_of};
 ghost use Rattle.gf_tree.specs.FileNodeOf.{described_outcome, described_set, file_node_of};
 ghost use Rattle.gf_tree.specs.FileNodeOf.{outcome_use_of, set_use_of};
-ghost use Rattle.gf_canon.specs.NamedBy.{name_by, node_by, outcome_by, set_by, use_by};
+ghost use Rattle.gf_canon.specs.inner.NamedBy.{name_by, node_by, outcome_by, set_by, use_by};
 ghost use Rattle.gf_canon.specs.declared.sameness.Names.TheVariants.{Aside};
 
 use crate::sameness::Names;

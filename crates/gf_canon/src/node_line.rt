@@ -2,12 +2,12 @@
 
 ghost use Rattle.std.specs.Prelude.{◌≡◌, ◌++◌, ◌∷◌, [], OnErr, OnOk, decimal, option_map};
 ghost use Rattle.gf_nfg.specs.TableText.{spaced};
-ghost use Rattle.gf_nfg.specs.TextParts.{Keeps, others_text};
+ghost use Rattle.gf_nfg.specs.inner.TextParts.{Keeps, others_text};
 ghost use Rattle.gf_token.specs.Label.{label_of};
 ghost use Rattle.gf_tree.specs.FileNodeOf.{described_set, file_node_of, outcome_use_of, set_use_of};
 ghost use Rattle.gf_canon.specs.GameText.{described_fields, mover_fields, result_fields};
 ghost use Rattle.gf_canon.specs.GameText.{set_fields, step_fields};
-ghost use Rattle.gf_canon.specs.TextParts.{node_line};
+ghost use Rattle.gf_canon.specs.inner.TextParts.{node_line};
 
 use crate::braces::{write_outcome, write_set};
 use crate::plain_line::write_plain;

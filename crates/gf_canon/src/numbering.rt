@@ -6,7 +6,7 @@ ghost use Rattle.gf_tree.specs.FirstUse.{player_keys};
 ghost use Rattle.gf_tree.specs.Game.{IsGame};
 ghost use Rattle.gf_tree.specs.Spellable.{IsSpellable};
 ghost use Rattle.gf_tree.specs.CanonicalGame.{canonical_game};
-ghost use Rattle.gf_canon.specs.ListedInOrder.{lists_in_order};
+ghost use Rattle.gf_canon.specs.inner.ListedInOrder.{lists_in_order};
 
 use gf_tree::Game;
 use std::alloc::{AllocError, Global};

@@ -5,7 +5,7 @@ ghost use Rattle.gf_tree.specs.FileNodes.{file_nodes};
 ghost use Rattle.gf_tree.specs.Game.{IsGame};
 ghost use Rattle.gf_tree.specs.CanonicalGame.{canonical_game};
 ghost use Rattle.gf_canon.specs.GameFile.GameFile.{extensive};
-ghost use Rattle.gf_canon.specs.NamedBy.{node_by};
+ghost use Rattle.gf_canon.specs.inner.NamedBy.{node_by};
 ghost use Rattle.gf_canon.specs.SameBy.{SameBy};
 
 use crate::compare::{same_heading, same_node};

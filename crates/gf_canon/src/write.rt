@@ -2,13 +2,13 @@
 //! profile.
 
 ghost use Rattle.std.specs.Prelude.{◌≡◌, ◌++◌, OnErr, OnOk, map};
-ghost use Rattle.gf_nfg.specs.TextParts.{Keeps};
+ghost use Rattle.gf_nfg.specs.inner.TextParts.{Keeps};
 ghost use Rattle.gf_token.specs.Label.{label_of};
 ghost use Rattle.gf_tree.specs.Game.{IsGame};
 ghost use Rattle.gf_tree.specs.GameOf.{SpellsGame};
 ghost use Rattle.gf_tree.specs.Spellable.{IsSpellable};
 ghost use Rattle.gf_canon.specs.GameText.{game_text};
-ghost use Rattle.gf_canon.specs.TextParts.{first_line, heading_text};
+ghost use Rattle.gf_canon.specs.inner.TextParts.{first_line, heading_text};
 
 use crate::braces::write_labels;
 use crate::node_line::write_node;

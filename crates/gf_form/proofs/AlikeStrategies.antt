@@ -14,9 +14,9 @@ use Rattle.gf_tree.specs.FirstUse.{player_keys}
 use Rattle.gf_tree.specs.Game.{Game, IsGame}
 use Rattle.gf_tree.proofs.Members.{map_same}
 use Rattle.gf_tree.proofs.TreesOnce.{same_set_equality}
-use Rattle.gf_form.specs.AlikeStrategies.{AreAlike}
+use Rattle.gf_form.specs.inner.AlikeStrategies.{AreAlike}
 use Rattle.gf_form.specs.Reduced.{is_relevant}
-use Rattle.gf_form.specs.Shown.{chooses_first, relevant_sets}
+use Rattle.gf_form.specs.inner.Shown.{chooses_first, relevant_sets}
 use Rattle.gf_form.specs.Strategies.{action_counts, all_choices, choice_at, strategies}
 use Rattle.gf_form.proofs.Choices.{IsChoice, are_choices, length-all_choices, place, place_at}
 use Rattle.gf_form.proofs.FirstStrategies.{choice_length, flags_counted, is_first, keys_counted}

@@ -7,8 +7,8 @@ use Rattle.std.specs.List.{AllZip}
 use Rattle.std.proofs.lemmas.List.{length-map}
 use Rattle.gf_nfg.specs.Profiles.{numbers_from}
 use Rattle.gf_tree.specs.Game.{Game, IsGame}
-use Rattle.gf_form.specs.Counted.{AreCounts}
-use Rattle.gf_form.specs.Firsts.{AreFirsts, AreFirstsOf}
+use Rattle.gf_form.specs.inner.Counted.{AreCounts}
+use Rattle.gf_form.specs.inner.Firsts.{AreFirsts, AreFirstsOf}
 use Rattle.gf_form.specs.Reduced.{reduced, reduced_strategies}
 use Rattle.gf_form.specs.Strategies.{players_of, strategies}
 use Rattle.gf_form.specs.declared.counts.Counts.{Counts}

@@ -11,7 +11,7 @@ use Rattle.gf_tree.specs.Description.{Action, AddToOne, AreActions, IsLottery, I
 use Rattle.gf_tree.specs.Description.{SetKey}
 use Rattle.gf_tree.specs.Game.{Game, IsGame, Node, set_at}
 use Rattle.gf_form.specs.Payoff.{action_at}
-use Rattle.gf_form.specs.Values.{chances_at}
+use Rattle.gf_form.specs.inner.Values.{chances_at}
 use Rattle.gf_form.proofs.KnownSets.{each_set}
 use Rattle.gf_form.proofs.Lookups.{Each, each_at, each_or, each_then, each_weaker}
 

@@ -15,7 +15,7 @@ use Rattle.gf_tree.specs.Description.{InformationSet, SetKey, same_set}
 use Rattle.gf_tree.specs.Game.{Node, Game, IsGame, HasChildren, set_at}
 use Rattle.gf_tree.specs.PrefixOrder.{flatten, flatten_all}
 use Rattle.gf_tree.proofs.Uses.{has_map}
-use Rattle.gf_form.specs.Comes.{tree_comes, trees_come}
+use Rattle.gf_form.specs.inner.Comes.{tree_comes, trees_come}
 use Rattle.gf_form.specs.Plays.{Play, from_node, plays, plays_from}
 use Rattle.gf_form.specs.Reduced.{comes_to, is_own_choice, is_relevant}
 use Rattle.gf_form.proofs.KnownSets.{set_is}

@@ -5,7 +5,7 @@ use Rattle.std.proofs.lemmas.Grind.{get_or_default_zero}
 use Rattle.std.proofs.lemmas.List.{get_or-map, length-map}
 use Rattle.gf_nfg.specs.Profiles.{product}
 use Rattle.gf_tree.specs.Game.{Game}
-use Rattle.gf_form.specs.Counted.{AreCounts}
+use Rattle.gf_form.specs.inner.Counted.{AreCounts}
 use Rattle.gf_form.specs.Strategies.{action_counts, strategies}
 use Rattle.gf_form.specs.declared.counts.Counts.{Counts}
 use Rattle.gf_form.proofs.Choices.{length-all_choices}

@@ -12,8 +12,8 @@ use Rattle.std.proofs.Math.Nat.{add-mul-mod_self_right, div-mul_cancel, dvd-mul_
 use Rattle.std.proofs.Math.Nat.{dvd-mul_left_of_dvd, mod-eq_of_lt, mul-add-div, mul-le-mul_right}
 use Rattle.gf_fraction.proofs.Products.{mul_above}
 use Rattle.gf_nfg.specs.Profiles.{product}
-use Rattle.gf_form.specs.Demands.{meets, spans, steps_of}
-use Rattle.gf_form.specs.ReachedNodes.{demanded}
+use Rattle.gf_form.specs.inner.Demands.{meets, spans, steps_of}
+use Rattle.gf_form.specs.inner.ReachedNodes.{demanded}
 
 -- ---- numbers by their digits
 

@@ -6,7 +6,7 @@ use Rattle.std.proofs.Math.Nat.{add-mul, div-lt_iff_lt-mul, mod-add-div, mod-lt,
 use Rattle.std.proofs.lemmas.List.{get_or_default}
 use Rattle.std.proofs.lemmas.Slice.Zip.{AllZip-long}
 use Rattle.gf_nfg.specs.Profiles.{product}
-use Rattle.gf_form.specs.DigitSteps.{at_digits, picked}
+use Rattle.gf_form.specs.inner.DigitSteps.{at_digits, picked}
 use Rattle.gf_form.specs.Strategies.{all_choices}
 use Rattle.gf_form.proofs.Choices.{IsChoice, are_choices, every_choice, length-all_choices, place}
 use Rattle.gf_form.proofs.Choices.{place_at}

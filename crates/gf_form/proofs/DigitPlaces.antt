@@ -7,9 +7,9 @@ use Rattle.std.proofs.Math.Nat.{mul_assoc, mul_comm}
 use Rattle.std.proofs.lemmas.List.{map-append}
 use Rattle.gf_fraction.proofs.Products.{mul_above}
 use Rattle.gf_nfg.specs.Profiles.{product}
-use Rattle.gf_form.specs.Demands.{spans, steps_of}
-use Rattle.gf_form.specs.DigitSteps.{all_steps, at_digits, picked, steps_behind, width}
-use Rattle.gf_form.specs.Shares.{IsDigitOf}
+use Rattle.gf_form.specs.inner.Demands.{spans, steps_of}
+use Rattle.gf_form.specs.inner.DigitSteps.{all_steps, at_digits, picked, steps_behind, width}
+use Rattle.gf_form.specs.inner.Shares.{IsDigitOf}
 use Rattle.gf_form.proofs.CountedActions.{ArePositive, product_positive}
 
 -- ---- products

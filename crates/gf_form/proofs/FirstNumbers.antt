@@ -7,7 +7,7 @@ use Rattle.std.proofs.Math.Seq.{take-suc}
 use Rattle.std.proofs.lemmas.List.{append-nil, map-append}
 use Rattle.std.proofs.lemmas.List.Elements.{filter-append}
 use Rattle.gf_fraction.proofs.AllElements.{all_both}
-use Rattle.gf_form.specs.Shown.{chooses_first}
+use Rattle.gf_form.specs.inner.Shown.{chooses_first}
 
 -- what a strategy chooses from one set on
 chooses_next : (flags : List Bool) (s : List ℕ) (i : ℕ) → i < length flags → i < length s

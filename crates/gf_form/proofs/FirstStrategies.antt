@@ -21,7 +21,7 @@ use Rattle.gf_tree.proofs.Members.{in_left, in_right, map_same}
 use Rattle.gf_tree.proofs.TreesOnce.{same_set_equality}
 use Rattle.gf_tree.proofs.Uses.{Has, IsEquality, each, has, has_map, mapped_from}
 use Rattle.gf_form.specs.Reduced.{is_relevant, reduced, reduced_strategies, same_choice}
-use Rattle.gf_form.specs.Shown.{chooses_first, relevant_sets, shown}
+use Rattle.gf_form.specs.inner.Shown.{chooses_first, relevant_sets, shown}
 use Rattle.gf_form.specs.Strategies.{action_counts, all_choices, choice_at, strategies}
 use Rattle.gf_form.proofs.Choices.{IsChoice, are_choices, every_choice, place, places_are}
 use Rattle.gf_form.proofs.Following.{in_either}

@@ -20,9 +20,9 @@ use Rattle.gf_nfg.proofs.BackProfiles.{every_profile, length-profiles}
 use Rattle.gf_nfg.proofs.NumbersInTurn.{get_or-numbers_from, length-numbers_from}
 use Rattle.gf_tree.specs.Game.{Game, IsGame}
 use Rattle.gf_tree.proofs.Uses.{Has, all_of_each, contains, each, has_map}
-use Rattle.gf_form.specs.Firsts.{AreFirsts, AreFirstsOf, IsPaidAt}
-use Rattle.gf_form.specs.Picked.{AreNumbers, full_at, picked_profiles}
-use Rattle.gf_form.specs.ProfileRows.{AreRowsAt}
+use Rattle.gf_form.specs.inner.Firsts.{AreFirsts, AreFirstsOf, IsPaidAt}
+use Rattle.gf_form.specs.inner.Picked.{AreNumbers, full_at, picked_profiles}
+use Rattle.gf_form.specs.inner.ProfileRows.{AreRowsAt}
 use Rattle.gf_form.specs.Reduced.{AreReducedPayoffsAt, IsReducedForm, reduced, reduced_at}
 use Rattle.gf_form.specs.Reduced.{reduced_by, reduced_label}
 use Rattle.gf_form.specs.Reduced.{reduced_labels, reduced_profiles, reduced_strategies}

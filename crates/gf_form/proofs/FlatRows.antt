@@ -14,8 +14,8 @@ use Rattle.std.proofs.lemmas.List.{take-append-le}
 use Rattle.gf_fraction.specs.Ratio.{IsWithin}
 use Rattle.gf_fraction.proofs.AllElements.{all_both, all_parts}
 use Rattle.std.specs.List.{AllByRecursion}
-use Rattle.gf_form.specs.Entries.{Entry, HasNumbers, HasSum, IsScale, IsShaped, IsSumOf, entries}
-use Rattle.gf_form.specs.Entries.{entries_of, entry_at, lowered, no_entry, no_head, number_at}
+use Rattle.gf_form.specs.inner.Entries.{Entry, HasNumbers, HasSum, IsScale, IsShaped, IsSumOf, entries}
+use Rattle.gf_form.specs.inner.Entries.{entries_of, entry_at, lowered, no_entry, no_head, number_at}
 use Rattle.gf_form.specs.declared.rows.sums.Scale.{Scale}
 use Rattle.gf_form.specs.declared.rows.terms.Head.{Head}
 use Rattle.gf_form.specs.declared.rows.terms.Terms.{Terms}

@@ -10,8 +10,8 @@ use Rattle.gf_nfg.specs.TableAccess.{IsTableOf}
 use Rattle.gf_nfg.proofs.BackProfiles.{length-profiles}
 use Rattle.gf_nfg.proofs.NumbersInTurn.{length-numbers_from}
 use Rattle.gf_tree.specs.Game.{Game}
-use Rattle.gf_form.specs.FitsTable.{FitsTable}
-use Rattle.gf_form.specs.ProfileRows.{AreRowsAt}
+use Rattle.gf_form.specs.inner.FitsTable.{FitsTable}
+use Rattle.gf_form.specs.inner.ProfileRows.{AreRowsAt}
 use Rattle.gf_form.specs.StrategicForm.{ArePayoffsAt, IsFormBy}
 use Rattle.gf_form.specs.Strategies.{players_of}
 use Rattle.gf_form.proofs.CountedActions.{as_many_players}

@@ -10,9 +10,9 @@ use Rattle.gf_nfg.specs.Profiles.{product, profiles}
 use Rattle.gf_nfg.specs.ProfilePlaces.{place}
 use Rattle.gf_nfg.proofs.BackProfiles.{length-profiles, place_at}
 use Rattle.gf_tree.specs.Game.{Game}
-use Rattle.gf_form.specs.FullNumbers.{full_number}
-use Rattle.gf_form.specs.Counted.{AreCounts}
-use Rattle.gf_form.specs.Picked.{AreNumbers, IsPicked, full_at, numbers_in, picked_profiles}
+use Rattle.gf_form.specs.inner.FullNumbers.{full_number}
+use Rattle.gf_form.specs.inner.Counted.{AreCounts}
+use Rattle.gf_form.specs.inner.Picked.{AreNumbers, IsPicked, full_at, numbers_in, picked_profiles}
 use Rattle.gf_form.specs.Strategies.{action_counts, full_profiles, players_of, strategies}
 use Rattle.gf_form.specs.declared.counts.Counts.{Counts}
 use Rattle.gf_form.specs.declared.picked.Picked.{Picked}

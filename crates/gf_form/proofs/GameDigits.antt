@@ -12,10 +12,10 @@ use Rattle.gf_tree.specs.Description.{SetKey, InformationSet, same_set}
 use Rattle.gf_tree.specs.FiniteMap.{Described, description_at}
 use Rattle.gf_tree.specs.FirstUse.{player_sets}
 use Rattle.gf_tree.specs.Game.{Game, IsGame, set_at}
-use Rattle.gf_form.specs.Demands.{spans, steps_of}
-use Rattle.gf_form.specs.DigitSteps.{all_steps, at_digits, width}
-use Rattle.gf_form.specs.GameDigits.{HasDigits, digit_actions, digit_steps}
-use Rattle.gf_form.specs.Shares.{AreDigits, IsDigitOf}
+use Rattle.gf_form.specs.inner.Demands.{spans, steps_of}
+use Rattle.gf_form.specs.inner.DigitSteps.{all_steps, at_digits, width}
+use Rattle.gf_form.specs.inner.GameDigits.{HasDigits, digit_actions, digit_steps}
+use Rattle.gf_form.specs.inner.Shares.{AreDigits, IsDigitOf}
 use Rattle.gf_form.specs.Strategies.{action_counts, all_choices, choice_at, choices_by}
 use Rattle.gf_form.specs.Strategies.{full_profiles, players_of, strategies, strategies_at}
 use Rattle.gf_form.specs.Strategies.{strategy_at}

@@ -7,14 +7,14 @@ use Rattle.std.proofs.lemmas.List.{get_or_append_left}
 use Rattle.gf_fraction.specs.Ratio.{HasValue, Ratio}
 use Rattle.gf_tree.specs.Game.{Game, IsGame}
 use Rattle.gf_tree.specs.Spellable.{IsSpellable}
-use Rattle.gf_form.specs.Demands.{steps_of}
-use Rattle.gf_form.specs.Entries.{entries}
-use Rattle.gf_form.specs.GameDigits.{HasDigits, digit_actions}
-use Rattle.gf_form.specs.KeptNodes.{paid_reached}
-use Rattle.gf_form.specs.ListedNodes.{AreTermsOf}
-use Rattle.gf_form.specs.Rows.{ArePaid}
-use Rattle.gf_form.specs.Picked.{numbers_in, picked_profiles}
-use Rattle.gf_form.specs.SettledRows.{AreFullNumbers, Settles, SettlesAt}
+use Rattle.gf_form.specs.inner.Demands.{steps_of}
+use Rattle.gf_form.specs.inner.Entries.{entries}
+use Rattle.gf_form.specs.inner.GameDigits.{HasDigits, digit_actions}
+use Rattle.gf_form.specs.inner.KeptNodes.{paid_reached}
+use Rattle.gf_form.specs.inner.ListedNodes.{AreTermsOf}
+use Rattle.gf_form.specs.inner.Rows.{ArePaid}
+use Rattle.gf_form.specs.inner.Picked.{numbers_in, picked_profiles}
+use Rattle.gf_form.specs.inner.SettledRows.{AreFullNumbers, Settles, SettlesAt}
 use Rattle.gf_form.specs.Strategies.{all_choices, choices_by, full_profiles, strategies_at}
 use Rattle.gf_form.specs.declared.digits.Digits.{Digits}
 use Rattle.gf_form.specs.declared.picked.Picked.{Picked}

@@ -4,9 +4,9 @@ use Rattle.std.proofs.Common.{ap, arith, drop, get_or, length, refl, subst, sym,
 use Rattle.std.proofs.lemmas.List.{drop-take, get_or-take, get_or_default, length-take}
 use Rattle.std.proofs.lemmas.List.Sorted.{IsNonDecreasingBy-take}
 use Rattle.gf_tree.specs.Game.{Game}
-use Rattle.gf_form.specs.Entries.{AreOrdered, EndsBelow, Entry, HasSum, entries, entries_of}
-use Rattle.gf_form.specs.Entries.{entry_at, lowered, no_entry, no_head}
-use Rattle.gf_form.specs.ListedNodes.{AreTermsOf}
+use Rattle.gf_form.specs.inner.Entries.{AreOrdered, EndsBelow, Entry, HasSum, entries, entries_of}
+use Rattle.gf_form.specs.inner.Entries.{entry_at, lowered, no_entry, no_head}
+use Rattle.gf_form.specs.inner.ListedNodes.{AreTermsOf}
 use Rattle.gf_form.specs.declared.paths.Reached.{Reached}
 use Rattle.gf_form.specs.declared.rows.terms.Head.{Head}
 use Rattle.gf_form.specs.declared.rows.terms.Terms.{Terms}

@@ -10,13 +10,13 @@ use Rattle.gf_fraction.specs.Rational.{zero_ratio}
 use Rattle.gf_tree.specs.Description.{SetKey}
 use Rattle.gf_tree.specs.Game.{Game, IsGame}
 use Rattle.gf_tree.specs.Spellable.{IsSpellable}
-use Rattle.gf_form.specs.Demands.{meets, steps_of}
-use Rattle.gf_form.specs.KeptNodes.{is_paid, paid_reached}
-use Rattle.gf_form.specs.ReachedNodes.{reached, root_path}
-use Rattle.gf_form.specs.Rows.{ArePaid, at_place, row_at}
-use Rattle.gf_form.specs.Shares.{AreDigits, FitsAt, IsExactIfMet, met_bounds, over, pay_at, scale}
-use Rattle.gf_form.specs.Shares.{share, share_bound, sum_of_shares}
-use Rattle.gf_form.specs.Values.{value}
+use Rattle.gf_form.specs.inner.Demands.{meets, steps_of}
+use Rattle.gf_form.specs.inner.KeptNodes.{is_paid, paid_reached}
+use Rattle.gf_form.specs.inner.ReachedNodes.{reached, root_path}
+use Rattle.gf_form.specs.inner.Rows.{ArePaid, at_place, row_at}
+use Rattle.gf_form.specs.inner.Shares.{AreDigits, FitsAt, IsExactIfMet, met_bounds, over, pay_at, scale}
+use Rattle.gf_form.specs.inner.Shares.{share, share_bound, sum_of_shares}
+use Rattle.gf_form.specs.inner.Values.{value}
 use Rattle.gf_form.specs.declared.paths.Reached.{Reached}
 use Rattle.gf_form.proofs.ReachedValues.{reached_value}
 

@@ -14,8 +14,8 @@ use Rattle.gf_nfg.specs.Profiles.{numbers_from}
 use Rattle.gf_tree.proofs.FirstUses.{in_filter, of_filter}
 use Rattle.gf_tree.proofs.RenumberedStores.{some_same}
 use Rattle.gf_tree.proofs.Uses.{Has, all_of_each}
-use Rattle.gf_form.specs.Levels.{AreLeft, AreLevels, IsLevel, is_made_at, is_made_to}
-use Rattle.gf_form.specs.Visits.{AreNumbers, AreOrdered, chosen, is_met, visit_at}
+use Rattle.gf_form.specs.inner.Levels.{AreLeft, AreLevels, IsLevel, is_made_at, is_made_to}
+use Rattle.gf_form.specs.inner.Visits.{AreNumbers, AreOrdered, chosen, is_met, visit_at}
 use Rattle.gf_form.specs.declared.visits.Move.{Move}
 use Rattle.gf_form.specs.declared.visits.Visit.{Visit}
 use Rattle.gf_form.proofs.Following.{in_either}

@@ -10,8 +10,8 @@ use Rattle.std.proofs.lemmas.Bool.{cases_lt}
 use Rattle.std.proofs.lemmas.List.{get_or-map, get_or-take, length-append, length-map, length-take-le, map-append, take_all}
 use Rattle.gf_fraction.proofs.AllElements.{all_both}
 use Rattle.gf_nfg.specs.Profiles.{numbers_from}
-use Rattle.gf_form.specs.Levels.{AreHighest, AreLevels, IsLevel, IsLevels, TellsMet, known_to, last_known, left_to}
-use Rattle.gf_form.specs.Visits.{AreOrdered, chosen}
+use Rattle.gf_form.specs.inner.Levels.{AreHighest, AreLevels, IsLevel, IsLevels, TellsMet, known_to, last_known, left_to}
+use Rattle.gf_form.specs.inner.Visits.{AreOrdered, chosen}
 use Rattle.gf_form.specs.declared.levels.Levels.{Levels}
 use Rattle.gf_form.specs.declared.visits.Visit.{Visit}
 use Rattle.gf_form.proofs.MetSets.{level_kept, level_tells, none_chosen}

@@ -11,18 +11,18 @@ use Rattle.gf_fraction.proofs.AllElements.{all_both, all_parts}
 use Rattle.gf_fraction.proofs.Integers.{*ℤ_assoc}
 use Rattle.gf_fraction.specs.Ratio.{Ratio}
 use Rattle.gf_tree.specs.Game.{Game}
-use Rattle.gf_form.specs.Demands.{meets}
-use Rattle.gf_form.specs.Entries.{Entry, IsExactAt, IsSumOf, number_at}
-use Rattle.gf_form.specs.ListedNodes.{AreTermsOf, HasShare, IsTermMore, IsTermOf}
-use Rattle.gf_form.specs.Entries.{AreOrdered, EndsBelow, IsShaped, entries}
-use Rattle.gf_form.specs.Rows.{ArePaid}
+use Rattle.gf_form.specs.inner.Demands.{meets}
+use Rattle.gf_form.specs.inner.Entries.{Entry, IsExactAt, IsSumOf, number_at}
+use Rattle.gf_form.specs.inner.ListedNodes.{AreTermsOf, HasShare, IsTermMore, IsTermOf}
+use Rattle.gf_form.specs.inner.Entries.{AreOrdered, EndsBelow, IsShaped, entries}
+use Rattle.gf_form.specs.inner.Rows.{ArePaid}
 use Rattle.gf_form.specs.declared.rows.terms.Terms.{Terms}
 use Rattle.gf_form.proofs.Merges.{below_more, ordered_more}
 use Rattle.std.proofs.Common.{get_or, length, take}
 use Rattle.std.specs.List.Sorted.{IsNonDecreasingBy}
 use Rattle.std.proofs.lemmas.List.{get_or_default, take_more}
-use Rattle.gf_form.specs.Shares.{IsExact, IsExactIfMet, over, pay_at, scale, share}
-use Rattle.gf_form.specs.Shares.{share_bound}
+use Rattle.gf_form.specs.inner.Shares.{IsExact, IsExactIfMet, over, pay_at, scale, share}
+use Rattle.gf_form.specs.inner.Shares.{share_bound}
 use Rattle.gf_form.specs.declared.paths.Reached.{Reached}
 use Rattle.gf_form.proofs.MergedEntries.{both_size, both_sum, exact_first, exact_second}
 use Rattle.gf_form.proofs.MergedEntries.{size_append, sum_append}

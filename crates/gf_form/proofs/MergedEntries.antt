@@ -12,9 +12,9 @@ use Rattle.std.proofs.lemmas.Int.{ints}
 use Rattle.std.proofs.lemmas.Nat.Gcd.{dvd_trans}
 use Rattle.gf_fraction.proofs.AllElements.{all_both, all_parts}
 use Rattle.gf_fraction.proofs.Integers.{*ℤ_assoc, add-*ℤ}
-use Rattle.gf_form.specs.Demands.{meets}
-use Rattle.gf_form.specs.Entries.{AreExactAt, AreMerged, Entry, IsExactAt, IsSumOf}
-use Rattle.gf_form.specs.Entries.{lowered, number_at, size_of_entries, sum_of_entries}
+use Rattle.gf_form.specs.inner.Demands.{meets}
+use Rattle.gf_form.specs.inner.Entries.{AreExactAt, AreMerged, Entry, IsExactAt, IsSumOf}
+use Rattle.gf_form.specs.inner.Entries.{lowered, number_at, size_of_entries, sum_of_entries}
 use Rattle.gf_form.proofs.OverOneDenominator.{quotient_through}
 
 and_false : (b : Bool) → (b && false) ≡ false

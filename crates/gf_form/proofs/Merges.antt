@@ -10,8 +10,8 @@ use Rattle.std.proofs.lemmas.List.{drop-drop, length-append, take-append-drop}
 use Rattle.std.proofs.lemmas.List.{take_rest}
 use Rattle.std.proofs.lemmas.List.Sorted.{IsNonDecreasingBy-push, IsNonDecreasingBy-short}
 use Rattle.gf_fraction.specs.Ratio.{IsWithin}
-use Rattle.gf_form.specs.Entries.{AreMerged, AreOrdered, Entry, HasSum, IsShaped, entries, entry_at}
-use Rattle.gf_form.specs.Entries.{CountsBelow, EndsBelow, entries_of, lowered, no_entry, no_head}
+use Rattle.gf_form.specs.inner.Entries.{AreMerged, AreOrdered, Entry, HasSum, IsShaped, entries, entry_at}
+use Rattle.gf_form.specs.inner.Entries.{CountsBelow, EndsBelow, entries_of, lowered, no_entry, no_head}
 use Rattle.gf_form.specs.declared.rows.terms.Head.{Head}
 use Rattle.gf_form.specs.declared.rows.terms.Terms.{Terms}
 use Rattle.gf_form.proofs.FlatRows.{entries_count, entry_head, head_at}

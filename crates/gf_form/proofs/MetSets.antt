@@ -13,9 +13,9 @@ use Rattle.gf_nfg.specs.Profiles.{numbers_from}
 use Rattle.gf_tree.proofs.FirstUses.{in_filter, of_filter}
 use Rattle.gf_tree.proofs.RenumberedStores.{some_same}
 use Rattle.gf_tree.proofs.Uses.{Has, all_of_each, each}
-use Rattle.gf_form.specs.Levels.{AreHighest, AreLeft, AreLevels, AreOpen, IsLevel, IsSettled}
-use Rattle.gf_form.specs.Levels.{TellsAll, TellsMet, is_made_to, is_settled_at, is_unknown}
-use Rattle.gf_form.specs.Visits.{AreOrdered, Reaches, chosen, is_met, is_taken, visit_at}
+use Rattle.gf_form.specs.inner.Levels.{AreHighest, AreLeft, AreLevels, AreOpen, IsLevel, IsSettled}
+use Rattle.gf_form.specs.inner.Levels.{TellsAll, TellsMet, is_made_to, is_settled_at, is_unknown}
+use Rattle.gf_form.specs.inner.Visits.{AreOrdered, Reaches, chosen, is_met, is_taken, visit_at}
 use Rattle.gf_form.specs.declared.visits.Move.{Move}
 use Rattle.gf_form.specs.declared.visits.Visit.{Visit}
 use Rattle.gf_form.proofs.LeftVisits.{comes_earlier, filter_none, has_number, left_within, level_within}

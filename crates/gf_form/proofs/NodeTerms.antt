@@ -12,10 +12,10 @@ use Rattle.gf_fraction.proofs.AllElements.{all_both}
 use Rattle.std.proofs.Math.Nat.{one-dvd}
 use Rattle.gf_fraction.specs.Ratio.{IsWithin, Ratio, whole}
 use Rattle.gf_tree.specs.Game.{Game}
-use Rattle.gf_form.specs.Entries.{Entry}
-use Rattle.gf_form.specs.ListedNodes.{HasShare, IsShareIn, IsTermOf}
-use Rattle.gf_form.specs.Rows.{ArePaid, at_place, row_at}
-use Rattle.gf_form.specs.Shares.{IsShare, over, share_bound}
+use Rattle.gf_form.specs.inner.Entries.{Entry}
+use Rattle.gf_form.specs.inner.ListedNodes.{HasShare, IsShareIn, IsTermOf}
+use Rattle.gf_form.specs.inner.Rows.{ArePaid, at_place, row_at}
+use Rattle.gf_form.specs.inner.Shares.{IsShare, over, share_bound}
 use Rattle.gf_form.specs.declared.share.Share.{Share}
 use Rattle.gf_form.specs.declared.paths.Path.{Path}
 use Rattle.gf_form.specs.declared.paths.Reached.{Reached}

@@ -22,11 +22,11 @@ use Rattle.gf_tree.proofs.FirstUses.{was_used}
 use Rattle.gf_tree.proofs.Members.{map_same, map_twice}
 use Rattle.gf_tree.proofs.TreesOnce.{same_set_equality}
 use Rattle.gf_tree.proofs.Uses.{Has, has_map}
-use Rattle.gf_form.specs.Comes.{tree_comes, trees_come}
-use Rattle.gf_form.specs.Firsts.{AreFirstsOf}
+use Rattle.gf_form.specs.inner.Comes.{tree_comes, trees_come}
+use Rattle.gf_form.specs.inner.Firsts.{AreFirstsOf}
 use Rattle.gf_form.specs.Reduced.{is_own_choice, is_relevant, reduced, reduced_label, reduced_labels}
 use Rattle.gf_form.specs.Reduced.{reduced_strategies}
-use Rattle.gf_form.specs.Shown.{chooses_first, relevant_sets, shown}
+use Rattle.gf_form.specs.inner.Shown.{chooses_first, relevant_sets, shown}
 use Rattle.gf_form.specs.Strategies.{action_counts, all_choices, choice_at, strategies, strategy_label}
 use Rattle.gf_form.proofs.Choices.{length-all_choices}
 use Rattle.gf_form.proofs.Chosen.{among_his, his_actions}

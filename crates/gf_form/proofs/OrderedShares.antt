@@ -8,8 +8,8 @@ use Rattle.std.specs.List.Sorted.{IsPermutation}
 use Rattle.std.proofs.lemmas.List.Sorted.{sum_by-IsPermutation}
 use Rattle.std.proofs.lemmas.List.Sums.{sum_by-cons}
 use Rattle.gf_tree.specs.Game.{Game}
-use Rattle.gf_form.specs.Demands.{meets}
-use Rattle.gf_form.specs.Shares.{met_bounds, share, share_bound, sum_of_shares}
+use Rattle.gf_form.specs.inner.Demands.{meets}
+use Rattle.gf_form.specs.inner.Shares.{met_bounds, share, share_bound, sum_of_shares}
 use Rattle.gf_form.specs.declared.paths.Reached.{Reached}
 
 more : (z s : ℤ) (m n : ℕ) → up s + n ≡ m + down s

@@ -22,7 +22,7 @@ use Rattle.gf_fraction.proofs.LowestTerms.{mul_pos_left, mul_pos_right}
 use Rattle.gf_fraction.proofs.Products.{mul_above}
 use Rattle.gf_fraction.proofs.Rationals.{equal_refl, plus_both, same_parts, times_both}
 use Rattle.gf_fraction.proofs.Sums.{IsLcm-from_gcd}
-use Rattle.gf_form.specs.Shares.{over}
+use Rattle.gf_form.specs.inner.Shares.{over}
 
 -- ---- quotients
 

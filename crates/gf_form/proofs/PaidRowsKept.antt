@@ -17,8 +17,8 @@ use Rattle.gf_tree.specs.FirstUse.{outcome_numbers}
 use Rattle.gf_tree.specs.Game.{Game, IsGame, outcome_at}
 use Rattle.gf_tree.specs.Spellable.{IsSpellable}
 use Rattle.gf_tree.proofs.Places.{at_index}
-use Rattle.gf_form.specs.Program.{paid}
-use Rattle.gf_form.specs.Rows.{ArePaid, IsRow, at_place, row_at}
+use Rattle.gf_form.specs.inner.Program.{paid}
+use Rattle.gf_form.specs.inner.Rows.{ArePaid, IsRow, at_place, row_at}
 use Rattle.gf_form.proofs.Denominators.{payoffs_of}
 use Rattle.gf_form.proofs.Lookups.{Each, each_found, each_mapped, each_weaker}
 

@@ -13,13 +13,13 @@ use Rattle.gf_tree.specs.Description.{SetKey}
 use Rattle.gf_tree.specs.Game.{Game, Node}
 use Rattle.gf_tree.specs.Subtrees.{child_trees, list_of, root_node}
 use Rattle.gf_tree.specs.declared.branch.Branch.{Branch}
-use Rattle.gf_form.specs.PathsLeft.{any_nodes, below, lot_nodes, next_nodes, open_nodes, option_nodes}
-use Rattle.gf_form.specs.PathsLeft.{taken}
-use Rattle.gf_form.specs.Program.{paid_at_node}
-use Rattle.gf_form.specs.ReachedNodes.{by_action, by_any, by_chance, by_choice, by_lot, demanded}
-use Rattle.gf_form.specs.ReachedNodes.{over_set, reached}
+use Rattle.gf_form.specs.inner.PathsLeft.{any_nodes, below, lot_nodes, next_nodes, open_nodes, option_nodes}
+use Rattle.gf_form.specs.inner.PathsLeft.{taken}
+use Rattle.gf_form.specs.inner.Program.{paid_at_node}
+use Rattle.gf_form.specs.inner.ReachedNodes.{by_action, by_any, by_chance, by_choice, by_lot, demanded}
+use Rattle.gf_form.specs.inner.ReachedNodes.{over_set, reached}
 use Rattle.gf_form.specs.Strategies.{choices_by}
-use Rattle.gf_form.specs.Values.{chances_at}
+use Rattle.gf_form.specs.inner.Values.{chances_at}
 use Rattle.gf_form.specs.declared.paths.Open.{Open}
 use Rattle.gf_form.specs.declared.paths.Path.{Path}
 use Rattle.gf_form.specs.declared.paths.Reached.{Reached}

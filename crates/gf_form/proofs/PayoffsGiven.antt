@@ -11,9 +11,9 @@ use Rattle.gf_tree.specs.Spellable.{IsSpellable}
 use Rattle.gf_form.specs.BottomUp.{IsValue}
 use Rattle.gf_form.specs.Payoff.{payoff}
 use Rattle.gf_form.specs.Refusal.{HasValuesBy}
-use Rattle.gf_form.specs.Rows.{at_place}
+use Rattle.gf_form.specs.inner.Rows.{at_place}
 use Rattle.gf_form.specs.StrategicForm.{ArePayoffs}
-use Rattle.gf_form.specs.Values.{value}
+use Rattle.gf_form.specs.inner.Values.{value}
 use Rattle.gf_form.proofs.BottomUp.{value_is_payoff}
 use Rattle.gf_form.proofs.RowSums.{fraction_at}
 use Rattle.gf_form.proofs.ValuesComputed.{computed_value, value_computed}

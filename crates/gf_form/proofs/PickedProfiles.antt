@@ -15,8 +15,8 @@ use Rattle.gf_nfg.specs.ProfilePlaces.{IsProfile, place}
 use Rattle.gf_nfg.proofs.BackProfiles.{are_profiles, every_profile, length-profiles, place_at}
 use Rattle.gf_nfg.proofs.NumbersInTurn.{get_or-numbers_from, length-numbers_from}
 use Rattle.gf_tree.specs.Game.{Game}
-use Rattle.gf_form.specs.Counted.{AreCounts}
-use Rattle.gf_form.specs.Picked.{AreNumbers, IsPicked, full_at, numbers_in, picked_profiles}
+use Rattle.gf_form.specs.inner.Counted.{AreCounts}
+use Rattle.gf_form.specs.inner.Picked.{AreNumbers, IsPicked, full_at, numbers_in, picked_profiles}
 use Rattle.gf_form.specs.Strategies.{AreStrategies, action_counts, all_choices, full_profiles}
 use Rattle.gf_form.specs.Strategies.{players_of, strategies, strategies_at, strategy_at}
 use Rattle.gf_form.specs.declared.counts.Counts.{Counts}

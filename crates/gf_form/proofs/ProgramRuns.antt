@@ -12,10 +12,10 @@ use Rattle.gf_tree.specs.Description.{SetKey, Outcome}
 use Rattle.gf_tree.specs.FirstUse.{outcome_numbers}
 use Rattle.gf_tree.specs.Game.{Game, Node, outcome_at}
 use Rattle.gf_form.specs.Payoff.{payoff_at}
-use Rattle.gf_form.specs.Values.{chance_value, chances_at, child_value, plus_of, times_of, value}
-use Rattle.gf_form.specs.Values.{value_over}
-use Rattle.gf_form.specs.Program.{chance_code, child_code, code, code_over, paid, paid_at_node}
-use Rattle.gf_form.specs.Program.{run}
+use Rattle.gf_form.specs.inner.Values.{chance_value, chances_at, child_value, plus_of, times_of, value}
+use Rattle.gf_form.specs.inner.Values.{value_over}
+use Rattle.gf_form.specs.inner.Program.{chance_code, child_code, code, code_over, paid, paid_at_node}
+use Rattle.gf_form.specs.inner.Program.{run}
 use Rattle.gf_form.specs.declared.op.Op.{Op}
 use Rattle.gf_form.specs.declared.op.Op.TheVariants.{Push, Begin, Nothing, Weigh, Pay}
 use Rattle.gf_tree.proofs.FoundKeys.{not_described}

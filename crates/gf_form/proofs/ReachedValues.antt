@@ -18,14 +18,14 @@ use Rattle.gf_tree.specs.PrefixOrder.{flatten, flatten_all}
 use Rattle.gf_tree.specs.Description.{SetKey}
 use Rattle.gf_tree.specs.Game.{Game, HasChildren, IsGame, Node, set_at}
 use Rattle.gf_tree.specs.Spellable.{IsSpellable}
-use Rattle.gf_form.specs.Demands.{meets, steps_of}
+use Rattle.gf_form.specs.inner.Demands.{meets, steps_of}
 use Rattle.gf_form.specs.Payoff.{payoff_at}
-use Rattle.gf_form.specs.Program.{paid_at_node}
-use Rattle.gf_form.specs.ReachedNodes.{at_least_one, by_action, by_any, by_chance, by_choice}
-use Rattle.gf_form.specs.ReachedNodes.{by_lot, demanded, has_room, over_set, reached, root_path}
-use Rattle.gf_form.specs.Shares.{AreDigits, FitsAt, IsExactIfMet, met_bounds}
-use Rattle.gf_form.specs.Shares.{sum_of_shares}
-use Rattle.gf_form.specs.Values.{chance_value, chances_at, child_value, value, value_over}
+use Rattle.gf_form.specs.inner.Program.{paid_at_node}
+use Rattle.gf_form.specs.inner.ReachedNodes.{at_least_one, by_action, by_any, by_chance, by_choice}
+use Rattle.gf_form.specs.inner.ReachedNodes.{by_lot, demanded, has_room, over_set, reached, root_path}
+use Rattle.gf_form.specs.inner.Shares.{AreDigits, FitsAt, IsExactIfMet, met_bounds}
+use Rattle.gf_form.specs.inner.Shares.{sum_of_shares}
+use Rattle.gf_form.specs.inner.Values.{chance_value, chances_at, child_value, value, value_over}
 use Rattle.gf_form.specs.declared.paths.Path.{Path}
 use Rattle.gf_form.specs.declared.paths.Reached.{Reached}
 use Rattle.gf_form.proofs.ChanceSigns.{chance_size}

@@ -15,7 +15,7 @@ use Rattle.gf_tree.specs.FirstUse.{player_keys}
 use Rattle.gf_tree.specs.Game.{Game}
 use Rattle.gf_tree.proofs.FirstUses.{AreDistinct, first_uses_distinct, is_used, was_used}
 use Rattle.gf_tree.proofs.Uses.{Has, contains, has, has_map, mapped_from}
-use Rattle.gf_form.specs.LabelTexts.{choice_text}
+use Rattle.gf_form.specs.inner.LabelTexts.{choice_text}
 use Rattle.gf_form.specs.Reduced.{is_relevant, reduced, reduced_at, reduced_by, reduced_label}
 use Rattle.gf_form.specs.Reduced.{reduced_profiles, reduced_strategies, same_choice}
 use Rattle.gf_form.specs.Strategies.{action_counts, choice_at, full_profiles, players_of}

@@ -7,9 +7,9 @@ use Rattle.std.specs.List.{AllByRecursion}
 use Rattle.std.proofs.Math.Seq.{take-append_seam, take-nil}
 use Rattle.std.proofs.lemmas.List.{append-nil, length-append}
 use Rattle.gf_fraction.proofs.AllElements.{all_both}
-use Rattle.gf_form.specs.LabelTexts.{IsPlain, choice_text}
+use Rattle.gf_form.specs.inner.LabelTexts.{IsPlain, choice_text}
 use Rattle.gf_form.specs.Reduced.{reduced_label}
-use Rattle.gf_form.specs.Shown.{shown}
+use Rattle.gf_form.specs.inner.Shown.{shown}
 use Rattle.gf_form.proofs.CountedActions.{take_past}
 use Rattle.gf_form.proofs.StrategiesByNumber.{plain_number}
 

@@ -3,9 +3,9 @@ use Rattle.std.proofs.Common.{◌≡◌, ℕ, suc, ◌<◌, Bool, false, List, [
 use Rattle.std.proofs.Common.{map, slice_get, refl, sym, ◌∙◌, arith}
 use Rattle.gf_tree.specs.FirstUse.{player_keys}
 use Rattle.gf_tree.specs.Game.{Game}
-use Rattle.gf_form.specs.Relevance.{FindRelevance}
-use Rattle.gf_form.specs.Shown.{relevant_sets}
-use Rattle.gf_form.specs.Visits.{Reaches, chosen, is_met}
+use Rattle.gf_form.specs.inner.Relevance.{FindRelevance}
+use Rattle.gf_form.specs.inner.Shown.{relevant_sets}
+use Rattle.gf_form.specs.inner.Visits.{Reaches, chosen, is_met}
 use Rattle.gf_form.specs.declared.visits.Visit.{Visit}
 use Rattle.gf_form.proofs.VisitsMet.{slice_within}
 

@@ -15,8 +15,8 @@ use Rattle.gf_fraction.proofs.ComputedArithmetic.{product_of-none, product_of-so
 use Rattle.gf_fraction.proofs.ComputedArithmetic.{sum_of-some}
 use Rattle.gf_fraction.specs.Ratio.{Ratio, IsFraction}
 use Rattle.gf_fraction.specs.Rational.{zero_ratio}
-use Rattle.gf_form.specs.Rows.{at_place}
-use Rattle.gf_form.specs.Values.{plus_of, times_of}
+use Rattle.gf_form.specs.inner.Rows.{at_place}
+use Rattle.gf_form.specs.inner.Values.{plus_of, times_of}
 use Rattle.gf_form.proofs.ValuesComputed.{zero_fraction}
 use Rattle.gf_form.proofs.Zeros.{none_times, plus_zero, times_zero, zero_plus}
 

@@ -15,7 +15,7 @@ use Rattle.gf_nfg.specs.Table.{Table, rows}
 use Rattle.gf_nfg.specs.TableAccess.{IsTableOf}
 use Rattle.gf_tree.specs.Game.{Game}
 use Rattle.gf_token.specs.Positions.{at_position}
-use Rattle.gf_form.specs.ProfileRows.{AreRowsAt}
+use Rattle.gf_form.specs.inner.ProfileRows.{AreRowsAt}
 use Rattle.gf_form.specs.Refusal.{IsFirstWithout}
 use Rattle.gf_form.specs.StrategicForm.{IsFormBy}
 use Rattle.gf_form.specs.Strategies.{players_of}

@@ -13,7 +13,7 @@ use Rattle.std.proofs.lemmas.Nat.Gcd.{dvd_refl}
 use Rattle.gf_fraction.proofs.AllElements.{all_both}
 use Rattle.gf_fraction.proofs.Integers.{*ℤ-one}
 use Rattle.gf_fraction.specs.Rational.{zero_ratio}
-use Rattle.gf_form.specs.Entries.{AreExactAt, IsShaped, entries_of, no_head}
+use Rattle.gf_form.specs.inner.Entries.{AreExactAt, IsShaped, entries_of, no_head}
 use Rattle.gf_form.specs.declared.rows.terms.Head.{Head}
 use Rattle.gf_form.proofs.FlatRows.{itself}
 use Rattle.gf_fraction.specs.Ratio.{HasValue, IsFraction, IsWithin, Ratio}
@@ -21,18 +21,18 @@ use Rattle.gf_fraction.proofs.LowestTerms.{one_fraction}
 use Rattle.gf_nfg.specs.Profiles.{product}
 use Rattle.gf_tree.specs.Game.{Game, IsGame}
 use Rattle.gf_tree.specs.Spellable.{IsSpellable}
-use Rattle.gf_form.specs.Demands.{spans, steps_of}
-use Rattle.gf_form.specs.Entries.{AreMerged, Entry, entries, size_of_entries, sum_of_entries}
+use Rattle.gf_form.specs.inner.Demands.{spans, steps_of}
+use Rattle.gf_form.specs.inner.Entries.{AreMerged, Entry, entries, size_of_entries, sum_of_entries}
 use Rattle.gf_form.specs.Refusal.{HasValues}
-use Rattle.gf_form.specs.Rows.{at_place}
-use Rattle.gf_form.specs.SettledRows.{HasRowOver, IsRowOver, PaysOver, SettleRows, Settles}
-use Rattle.gf_form.specs.SettledRows.{SettlesAt}
+use Rattle.gf_form.specs.inner.Rows.{at_place}
+use Rattle.gf_form.specs.inner.SettledRows.{HasRowOver, IsRowOver, PaysOver, SettleRows, Settles}
+use Rattle.gf_form.specs.inner.SettledRows.{SettlesAt}
 use Rattle.gf_form.specs.declared.rows.written.Asked.{Asked}
 use Rattle.gf_form.specs.declared.rows.written.Run.{Run}
 use Rattle.gf_form.specs.StrategicForm.{ArePayoffsAt}
 use Rattle.gf_form.specs.Strategies.{all_choices, choices_by, full_profiles, strategies_at}
-use Rattle.gf_form.specs.GameDigits.{actions_at}
-use Rattle.gf_form.specs.Values.{value}
+use Rattle.gf_form.specs.inner.GameDigits.{actions_at}
+use Rattle.gf_form.specs.inner.Values.{value}
 use Rattle.gf_form.specs.declared.digits.Digit.{Digit}
 use Rattle.gf_form.specs.declared.rows.terms.Terms.{Terms}
 use Rattle.gf_form.proofs.Choices.{length-all_choices, place, place_at}

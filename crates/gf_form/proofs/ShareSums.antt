@@ -4,8 +4,8 @@ use Rattle.std.proofs.Common.{refl, ap, sym, ◌∙◌}
 use Rattle.std.specs.Prelude.{◌+ℤ◌, if◌then◌else◌}
 use Rattle.std.proofs.Math.IntN.{+ℤ_assoc, +ℤ_idl}
 use Rattle.gf_tree.specs.Game.{Game}
-use Rattle.gf_form.specs.Demands.{meets}
-use Rattle.gf_form.specs.Shares.{met_bounds, share, share_bound, sum_of_shares}
+use Rattle.gf_form.specs.inner.Demands.{meets}
+use Rattle.gf_form.specs.inner.Shares.{met_bounds, share, share_bound, sum_of_shares}
 use Rattle.gf_form.specs.declared.paths.Reached.{Reached}
 
 module _ (g : Game) (player den : ℕ) (steps choices : List ℕ) where

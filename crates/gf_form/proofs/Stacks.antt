@@ -11,11 +11,11 @@ use Rattle.gf_tree.proofs.RenumberedStores.{all_and_one}
 use Rattle.std.proofs.Common.{◌+◌, ◌≤◌, suc}
 use Rattle.gf_tree.specs.Game.{Game}
 use Rattle.gf_form.proofs.PaidRowsKept.{empty_at}
-use Rattle.gf_form.specs.Program.{operands, paid, run}
+use Rattle.gf_form.specs.inner.Program.{operands, paid, run}
 use Rattle.gf_form.specs.declared.op.Op.{Op}
 use Rattle.gf_form.specs.declared.op.Op.TheVariants.{Push, Begin, Nothing, Weigh, Pay}
-use Rattle.gf_form.specs.Rows.{AreRows, IsRow, PaysTo, WeighsTo, at_place, column, column_on}
-use Rattle.gf_form.specs.Values.{plus_of, times_of}
+use Rattle.gf_form.specs.inner.Rows.{AreRows, IsRow, PaysTo, WeighsTo, at_place, column, column_on}
+use Rattle.gf_form.specs.inner.Values.{plus_of, times_of}
 use Rattle.gf_form.proofs.RowSums.{fraction_at}
 use Rattle.gf_form.proofs.Zeros.{zero_plus}
 

@@ -16,7 +16,7 @@ use Rattle.std.proofs.Math.ListN.{drop_of_length-le}
 use Rattle.std.proofs.Math.Seq.{drop-cons, take-append_seam, take-nil, take-suc}
 use Rattle.std.proofs.lemmas.List.{append-nil, get_or_default, length-append, map-append}
 use Rattle.gf_nfg.specs.Profiles.{product}
-use Rattle.gf_form.specs.LabelTexts.{IsPlain}
+use Rattle.gf_form.specs.inner.LabelTexts.{IsPlain}
 use Rattle.gf_form.specs.Strategies.{all_choices, strategy_label}
 use Rattle.gf_form.proofs.Choices.{IsChoice, are_choices, every_choice, length-all_choices}
 use Rattle.gf_form.proofs.Choices.{place, place_at}

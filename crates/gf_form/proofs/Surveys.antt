@@ -25,13 +25,13 @@ use Rattle.gf_tree.proofs.PlayerSets.{sets_by_first_use}
 use Rattle.gf_tree.proofs.RenumberedStores.{has_place}
 use Rattle.gf_tree.proofs.TreesOnce.{same_set_equality}
 use Rattle.gf_tree.proofs.Uses.{Has}
-use Rattle.gf_form.specs.Comes.{list_comes, tree_comes, trees_come}
+use Rattle.gf_form.specs.inner.Comes.{list_comes, tree_comes, trees_come}
 use Rattle.gf_form.specs.Reduced.{is_own_choice}
-use Rattle.gf_form.specs.Relevance.{FindRelevance}
+use Rattle.gf_form.specs.inner.Relevance.{FindRelevance}
 use Rattle.gf_form.specs.Strategies.{choice_at}
-use Rattle.gf_form.specs.Survey.{FindsMore, last_move, open_comes, open_size, sizes, survey_comes}
-use Rattle.gf_form.specs.Survey.{IsSurvey, survey_size}
-use Rattle.gf_form.specs.Visits.{AreOrdered, Meets, Reaches, chosen, is_met, is_taken, visits_of}
+use Rattle.gf_form.specs.inner.Survey.{FindsMore, last_move, open_comes, open_size, sizes, survey_comes}
+use Rattle.gf_form.specs.inner.Survey.{IsSurvey, survey_size}
+use Rattle.gf_form.specs.inner.Visits.{AreOrdered, Meets, Reaches, chosen, is_met, is_taken, visits_of}
 use Rattle.gf_form.specs.declared.relevance.Open.{Open}
 use Rattle.gf_form.specs.declared.relevance.Survey.{Survey}
 use Rattle.gf_form.specs.declared.visits.Move.{Move}

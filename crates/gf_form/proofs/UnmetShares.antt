@@ -16,12 +16,12 @@ use Rattle.gf_tree.specs.PrefixOrder.{flatten, flatten_all}
 use Rattle.gf_tree.specs.Description.{InformationSet, SetKey}
 use Rattle.gf_tree.specs.Game.{Game, HasChildren, Node, set_at}
 use Rattle.gf_nfg.specs.Profiles.{product}
-use Rattle.gf_form.specs.Demands.{meets, spans, steps_of}
-use Rattle.gf_form.specs.Program.{paid_at_node}
-use Rattle.gf_form.specs.ReachedNodes.{by_action, by_any, by_chance, by_choice, by_lot, demanded}
-use Rattle.gf_form.specs.ReachedNodes.{over_set, reached}
-use Rattle.gf_form.specs.Shares.{AreDigits, IsDigitOf, sum_of_shares}
-use Rattle.gf_form.specs.Values.{chances_at}
+use Rattle.gf_form.specs.inner.Demands.{meets, spans, steps_of}
+use Rattle.gf_form.specs.inner.Program.{paid_at_node}
+use Rattle.gf_form.specs.inner.ReachedNodes.{by_action, by_any, by_chance, by_choice, by_lot, demanded}
+use Rattle.gf_form.specs.inner.ReachedNodes.{over_set, reached}
+use Rattle.gf_form.specs.inner.Shares.{AreDigits, IsDigitOf, sum_of_shares}
+use Rattle.gf_form.specs.inner.Values.{chances_at}
 use Rattle.gf_form.specs.declared.paths.Path.{Path}
 use Rattle.gf_form.specs.declared.paths.Reached.{Reached}
 use Rattle.gf_form.proofs.DemandDigits.{AreWithin, digit_is, meets_is, met, met_set, pack}

@@ -19,11 +19,11 @@ use Rattle.gf_fraction.specs.Computed.{product_of, sum_of}
 use Rattle.gf_fraction.proofs.EqualRatios.{Decides-ratio}
 use Rattle.gf_fraction.proofs.Integers.{*ℤ_assoc, add-*ℤ}
 use Rattle.gf_tree.specs.Game.{Game}
-use Rattle.gf_form.specs.Demands.{meets}
-use Rattle.gf_form.specs.ReachedNodes.{at_least_one}
-use Rattle.gf_form.specs.Shares.{IsExact, met_bounds, over, pay_at, share, share_bound}
-use Rattle.gf_form.specs.Shares.{sum_of_shares}
-use Rattle.gf_form.specs.Values.{plus_of, times_of}
+use Rattle.gf_form.specs.inner.Demands.{meets}
+use Rattle.gf_form.specs.inner.ReachedNodes.{at_least_one}
+use Rattle.gf_form.specs.inner.Shares.{IsExact, met_bounds, over, pay_at, share, share_bound}
+use Rattle.gf_form.specs.inner.Shares.{sum_of_shares}
+use Rattle.gf_form.specs.inner.Values.{plus_of, times_of}
 use Rattle.gf_form.specs.declared.paths.Reached.{Reached}
 use Rattle.gf_form.proofs.OverOneDenominator.{over_value, product_over, quotient_above, quotient_le}
 use Rattle.gf_form.proofs.OverOneDenominator.{quotient_of_product, sum_over, sum_size}

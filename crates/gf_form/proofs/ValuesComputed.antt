@@ -19,8 +19,8 @@ use Rattle.gf_tree.specs.Spellable.{IsSpellable}
 use Rattle.gf_form.specs.BottomUp.{IsChanceValue, IsChildValue, IsMoveValue, IsTerminalValue}
 use Rattle.gf_form.specs.BottomUp.{IsValue}
 use Rattle.gf_form.specs.Payoff.{payoff_at}
-use Rattle.gf_form.specs.Values.{chance_value, chances_at, child_value, plus_of, times_of}
-use Rattle.gf_form.specs.Values.{value, value_over}
+use Rattle.gf_form.specs.inner.Values.{chance_value, chances_at, child_value, plus_of, times_of}
+use Rattle.gf_form.specs.inner.Values.{value, value_over}
 use Rattle.gf_form.proofs.Denominators.{payoff_fraction, probability_fraction}
 
 pub zero_fraction : IsFraction zero_ratio

@@ -10,7 +10,7 @@ use Rattle.std.proofs.lemmas.Option.{slice_get-get_or}
 use Rattle.std.proofs.lemmas.List.{get_or-set_other, length-append, length-set, take_more}
 use Rattle.std.proofs.lemmas.List.Folds.{list_any-append}
 use Rattle.std.specs.List.{list_any}
-use Rattle.gf_form.specs.Visits.{AreOrdered, AreReached, Meets, Reaches, is_met, is_taken, visit_at}
+use Rattle.gf_form.specs.inner.Visits.{AreOrdered, AreReached, Meets, Reaches, is_met, is_taken, visit_at}
 use Rattle.gf_form.specs.declared.visits.Visit.{Visit}
 
 module _ (choices : ℕ → ℕ) (reached : ℕ → Bool) where

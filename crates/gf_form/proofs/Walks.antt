@@ -26,10 +26,10 @@ use Rattle.gf_tree.proofs.PlayerSets.{sets_by_first_use}
 use Rattle.gf_tree.proofs.RenumberedStores.{has_place}
 use Rattle.gf_tree.proofs.TreesOnce.{same_set_equality}
 use Rattle.gf_tree.proofs.Uses.{Has}
-use Rattle.gf_form.specs.CodeLeft.{list_code, open_code, opened, option_code}
-use Rattle.gf_form.specs.Program.{chance_code, child_code, code, code_over, paid_at_node}
+use Rattle.gf_form.specs.inner.CodeLeft.{list_code, open_code, opened, option_code}
+use Rattle.gf_form.specs.inner.Program.{chance_code, child_code, code, code_over, paid_at_node}
 use Rattle.gf_form.specs.Strategies.{choice_at, choices_by, strategy_at}
-use Rattle.gf_form.specs.Values.{chances_at}
+use Rattle.gf_form.specs.inner.Values.{chances_at}
 use Rattle.gf_form.specs.declared.op.Op.{Op}
 use Rattle.gf_form.specs.declared.op.Op.TheVariants.{Push, Begin, Nothing, Weigh, Pay}
 use Rattle.gf_form.specs.declared.walk.Open.{Open}

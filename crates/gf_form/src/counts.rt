@@ -4,7 +4,7 @@ ghost use Rattle.std.specs.Prelude.{◌≡◌, ◌<◌, ◌≤◌, IfOk, MatchOp
 ghost use Rattle.gf_token.specs.Positions.{at_position};
 ghost use Rattle.gf_nfg.specs.Limit.{profile_limit};
 ghost use Rattle.gf_nfg.specs.Profiles.{product};
-ghost use Rattle.gf_form.specs.Counted.{AreCounts};
+ghost use Rattle.gf_form.specs.inner.Counted.{AreCounts};
 ghost use Rattle.gf_form.specs.Refusal.{HasTooManyProfiles};
 ghost use Rattle.gf_form.specs.Strategies.{action_counts};
 

@@ -4,9 +4,9 @@
 ghost use Rattle.std.specs.Prelude.{◌≡◌, ◌<◌, ◌*◌, ◌^◌, ◌++◌, ℕ, IfOk, IfSome, OnOk, length, map};
 ghost use Rattle.gf_nfg.specs.Profiles.{product};
 ghost use Rattle.gf_tree.specs.Game.{Game, IsGame};
-ghost use Rattle.gf_form.specs.Counted.{AreCounts};
-ghost use Rattle.gf_form.specs.DigitSteps.{all_steps, picked, steps_behind, width};
-ghost use Rattle.gf_form.specs.GameDigits.{HasDigits};
+ghost use Rattle.gf_form.specs.inner.Counted.{AreCounts};
+ghost use Rattle.gf_form.specs.inner.DigitSteps.{all_steps, picked, steps_behind, width};
+ghost use Rattle.gf_form.specs.inner.GameDigits.{HasDigits};
 
 use crate::counts::Counts;
 use std::alloc::{AllocError, Global};

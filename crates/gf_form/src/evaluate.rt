@@ -4,12 +4,12 @@ ghost use Rattle.std.specs.Prelude.{◌≡◌, ◌<◌, ◌≤◌, ℕ, suc, Lis
 ghost use Rattle.std.specs.Prelude.{IsErrOf, OnOk, length, map};
 ghost use Rattle.gf_fraction.specs.Ratio.{Ratio};
 ghost use Rattle.gf_tree.specs.Game.{Game};
-ghost use Rattle.gf_form.specs.PaidRows.{rows_of};
-ghost use Rattle.gf_form.specs.Program.{operands, run};
-ghost use Rattle.gf_form.specs.Rows.{ArePaid, AreRows, IsRow, at_place, column};
-ghost use Rattle.gf_form.specs.RowsOn.{rows_on};
+ghost use Rattle.gf_form.specs.inner.PaidRows.{rows_of};
+ghost use Rattle.gf_form.specs.inner.Program.{operands, run};
+ghost use Rattle.gf_form.specs.inner.Rows.{ArePaid, AreRows, IsRow, at_place, column};
+ghost use Rattle.gf_form.specs.inner.RowsOn.{rows_on};
 ghost use Rattle.gf_form.specs.Strategies.{choices_by};
-ghost use Rattle.gf_form.specs.Values.{value};
+ghost use Rattle.gf_form.specs.inner.Values.{value};
 ghost use Rattle.gf_form.specs.declared.op.Op.{Op};
 
 use crate::fault::EvalFault;

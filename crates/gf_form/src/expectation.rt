@@ -2,9 +2,9 @@
 
 ghost use Rattle.std.specs.Prelude.{◌≤◌, IfOk, IsErrOf, OnOk, map};
 ghost use Rattle.std.specs.List.{AllZip};
-ghost use Rattle.gf_form.specs.PaidRows.{rows_of};
+ghost use Rattle.gf_form.specs.inner.PaidRows.{rows_of};
 ghost use Rattle.gf_form.specs.Refusal.{HasValuesBy};
-ghost use Rattle.gf_form.specs.Rows.{ArePaid};
+ghost use Rattle.gf_form.specs.inner.Rows.{ArePaid};
 ghost use Rattle.gf_form.specs.StrategicForm.{ArePayoffs};
 ghost use Rattle.gf_form.specs.Strategies.{AreStrategies, choices_by};
 

@@ -2,7 +2,7 @@
 
 ghost use Rattle.std.specs.Prelude.{◌≡◌, IfOk, map};
 ghost use Rattle.gf_tree.specs.Game.{Game};
-ghost use Rattle.gf_form.specs.Counted.{AreCounts};
+ghost use Rattle.gf_form.specs.inner.Counted.{AreCounts};
 ghost use Rattle.gf_form.specs.StrategicForm.{strategy_labels as labels_of};
 ghost use Rattle.gf_form.specs.Strategies.{players_of};
 

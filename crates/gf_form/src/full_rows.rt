@@ -2,8 +2,8 @@
 
 ghost use Rattle.std.specs.Prelude.{◌≤◌, ℕ, IfOk, IsErrOf, OnOk, length};
 ghost use Rattle.std.specs.List.{AllByRecursion};
-ghost use Rattle.gf_form.specs.Counted.{AreCounts};
-ghost use Rattle.gf_form.specs.ProfileRows.{AreRowsAt};
+ghost use Rattle.gf_form.specs.inner.Counted.{AreCounts};
+ghost use Rattle.gf_form.specs.inner.ProfileRows.{AreRowsAt};
 ghost use Rattle.gf_form.specs.Refusal.{HasValues, OverflowsAt};
 ghost use Rattle.gf_form.specs.StrategicForm.{ArePayoffsAt};
 ghost use Rattle.gf_form.specs.Strategies.{full_profiles};

@@ -4,9 +4,9 @@ ghost use Rattle.std.specs.Prelude.{◌≡◌, ◌≤◌, ◌<◌, ◌-◌, ◌^
 ghost use Rattle.std.specs.Prelude.{IfOk, OnOk, get_or, length};
 ghost use Rattle.std.specs.List.{list_any};
 ghost use Rattle.gf_nfg.specs.Profiles.{numbers_from};
-ghost use Rattle.gf_form.specs.Levels.{AreHighest, AreLeft, AreLevels, IsLevels, TellsMet};
-ghost use Rattle.gf_form.specs.Levels.{is_made_at, is_made_to, is_settled_at, is_unknown, last_known};
-ghost use Rattle.gf_form.specs.Visits.{AreNumbers, AreOrdered, chosen};
+ghost use Rattle.gf_form.specs.inner.Levels.{AreHighest, AreLeft, AreLevels, IsLevels, TellsMet};
+ghost use Rattle.gf_form.specs.inner.Levels.{is_made_at, is_made_to, is_settled_at, is_unknown, last_known};
+ghost use Rattle.gf_form.specs.inner.Visits.{AreNumbers, AreOrdered, chosen};
 ghost use Rattle.gf_form.specs.declared.visits.Visit.{Visit};
 
 use crate::visits::{Move, Visit, action_at};

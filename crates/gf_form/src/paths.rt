@@ -5,10 +5,10 @@ ghost use Rattle.std.specs.Prelude.{IfOk, MatchOption, OnErr, OnOk, vec_capacity
 ghost use Rattle.gf_token.specs.Positions.{at_position};
 ghost use Rattle.gf_tree.specs.Branches.{game_of, tree_of};
 ghost use Rattle.gf_tree.specs.Subtrees.{child_trees, root_node};
-ghost use Rattle.gf_form.specs.PathsLeft.{branch_nodes, nodes_behind, nodes_by, nodes_left};
-ghost use Rattle.gf_form.specs.PathsLeft.{open_nodes, steps_of_paths, taken, turns_left};
-ghost use Rattle.gf_form.specs.Program.{paid_at_node};
-ghost use Rattle.gf_form.specs.ReachedNodes.{by_chance, by_choice, reached, root_path};
+ghost use Rattle.gf_form.specs.inner.PathsLeft.{branch_nodes, nodes_behind, nodes_by, nodes_left};
+ghost use Rattle.gf_form.specs.inner.PathsLeft.{open_nodes, steps_of_paths, taken, turns_left};
+ghost use Rattle.gf_form.specs.inner.Program.{paid_at_node};
+ghost use Rattle.gf_form.specs.inner.ReachedNodes.{by_chance, by_choice, reached, root_path};
 ghost use Rattle.gf_form.specs.Strategies.{choices_by, strategy_at};
 
 use crate::digits::Digits;

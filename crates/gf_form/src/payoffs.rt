@@ -4,8 +4,8 @@ ghost use Rattle.std.specs.Prelude.{◌≡◌, ℕ, suc, IfOk, IsTrue, length, m
 ghost use Rattle.gf_fraction.specs.Rational.{zero_ratio};
 ghost use Rattle.gf_tree.specs.Game.{IsGame};
 ghost use Rattle.gf_tree.specs.Spellable.{IsSpellable};
-ghost use Rattle.gf_form.specs.Program.{paid};
-ghost use Rattle.gf_form.specs.Rows.{ArePaid, IsRow, at_place, row_at};
+ghost use Rattle.gf_form.specs.inner.Program.{paid};
+ghost use Rattle.gf_form.specs.inner.Rows.{ArePaid, IsRow, at_place, row_at};
 
 use gf_fraction::Fraction;
 use gf_tree::Game;
@@ -50,7 +50,7 @@ pub(crate) struct Payoffs<'g> {
 }
 
 impl<'g> Payoffs<'g> {
-    ghost use Rattle.gf_form.specs.PaidRows.{rows_of};
+    ghost use Rattle.gf_form.specs.inner.PaidRows.{rows_of};
 
     /// Those of all outcomes of a game.
     pub(crate) fn new(alloc: Global, game: &'g Game<'_>) -> Result<Payoffs<'g>, AllocError>

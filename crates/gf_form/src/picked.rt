@@ -5,8 +5,8 @@ ghost use Rattle.std.specs.List.{AllByRecursion};
 ghost use Rattle.gf_nfg.specs.Limit.{profile_limit};
 ghost use Rattle.gf_nfg.specs.Profiles.{numbers_from, product};
 ghost use Rattle.gf_tree.specs.Game.{Game};
-ghost use Rattle.gf_form.specs.Counted.{AreCounts};
-ghost use Rattle.gf_form.specs.Picked.{IsPicked, numbers_in, picked_profiles};
+ghost use Rattle.gf_form.specs.inner.Counted.{AreCounts};
+ghost use Rattle.gf_form.specs.inner.Picked.{IsPicked, numbers_in, picked_profiles};
 ghost use Rattle.gf_form.specs.Strategies.{full_profiles};
 
 use crate::counts::Counts;

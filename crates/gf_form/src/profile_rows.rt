@@ -3,11 +3,11 @@
 ghost use Rattle.std.specs.Prelude.{◌≤◌, ℕ, IfOk, IsErrOf, OnOk, length};
 ghost use Rattle.std.specs.List.{AllByRecursion};
 ghost use Rattle.gf_tree.specs.Game.{Game};
-ghost use Rattle.gf_form.specs.Counted.{AreCounts};
-ghost use Rattle.gf_form.specs.Picked.{IsPicked, numbers_in, picked_profiles};
-ghost use Rattle.gf_form.specs.ProfileRows.{AreRowsAt};
+ghost use Rattle.gf_form.specs.inner.Counted.{AreCounts};
+ghost use Rattle.gf_form.specs.inner.Picked.{IsPicked, numbers_in, picked_profiles};
+ghost use Rattle.gf_form.specs.inner.ProfileRows.{AreRowsAt};
 ghost use Rattle.gf_form.specs.Refusal.{HasValues, IsFirstWithout};
-ghost use Rattle.gf_form.specs.SettledRows.{AreFullNumbers};
+ghost use Rattle.gf_form.specs.inner.SettledRows.{AreFullNumbers};
 ghost use Rattle.gf_form.specs.StrategicForm.{ArePayoffsAt};
 
 use crate::counts::Counts;

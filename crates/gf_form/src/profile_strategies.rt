@@ -2,8 +2,8 @@
 
 ghost use Rattle.std.specs.Prelude.{◌≡◌, ◌<◌, [], IfOk, OnOk, get_or, length, map};
 ghost use Rattle.gf_tree.specs.Game.{Game};
-ghost use Rattle.gf_form.specs.Counted.{AreCounts};
-ghost use Rattle.gf_form.specs.Picked.{IsPicked, numbers_in, picked_profiles};
+ghost use Rattle.gf_form.specs.inner.Counted.{AreCounts};
+ghost use Rattle.gf_form.specs.inner.Picked.{IsPicked, numbers_in, picked_profiles};
 ghost use Rattle.gf_form.specs.Strategies.{strategies_at};
 
 use crate::counts::Counts;

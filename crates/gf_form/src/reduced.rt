@@ -3,11 +3,11 @@
 
 ghost use Rattle.std.specs.Prelude.{◌≡◌, ◌<◌, ◌≤◌, ◌^◌, IfOk, length, map};
 ghost use Rattle.gf_nfg.specs.Profiles.{product};
-ghost use Rattle.gf_form.specs.AlikeStrategies.{AreAlike};
-ghost use Rattle.gf_form.specs.Counted.{AreCounts};
-ghost use Rattle.gf_form.specs.Firsts.{AreFirsts, AreFirstsOf};
+ghost use Rattle.gf_form.specs.inner.AlikeStrategies.{AreAlike};
+ghost use Rattle.gf_form.specs.inner.Counted.{AreCounts};
+ghost use Rattle.gf_form.specs.inner.Firsts.{AreFirsts, AreFirstsOf};
 ghost use Rattle.gf_form.specs.Reduced.{reduced_labels};
-ghost use Rattle.gf_form.specs.Shown.{chooses_first};
+ghost use Rattle.gf_form.specs.inner.Shown.{chooses_first};
 ghost use Rattle.gf_form.specs.Strategies.{action_counts, players_of};
 
 use crate::counts::Counts;

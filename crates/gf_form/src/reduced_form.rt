@@ -3,9 +3,9 @@
 ghost use Rattle.std.specs.Prelude.{◌≡◌, ◌≤◌, ℕ, List, IfOk, IsErrOf, IsTrue, OnOk, length, map};
 ghost use Rattle.std.specs.List.{AllByRecursion, Contains};
 ghost use Rattle.gf_nfg.specs.Limit.{profile_limit};
-ghost use Rattle.gf_form.specs.Counted.{AreCounts};
-ghost use Rattle.gf_form.specs.Firsts.{AreFirsts, IsPaidAt};
-ghost use Rattle.gf_form.specs.ProfileRows.{AreRowsAt};
+ghost use Rattle.gf_form.specs.inner.Counted.{AreCounts};
+ghost use Rattle.gf_form.specs.inner.Firsts.{AreFirsts, IsPaidAt};
+ghost use Rattle.gf_form.specs.inner.ProfileRows.{AreRowsAt};
 ghost use Rattle.gf_form.specs.Reduced.{IsReducedForm, reduced_labels, reduced_profiles};
 ghost use Rattle.gf_form.specs.Refusal.{HasReducedValues, HasTooManyProfiles, ReducedOverflowsAt};
 ghost use Rattle.gf_form.specs.Strategies.{full_profiles, players_of};

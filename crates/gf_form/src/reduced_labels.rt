@@ -3,9 +3,9 @@
 ghost use Rattle.std.specs.Prelude.{◌≡◌, ◌++◌, [], ◌∷◌, None, Some, OnOk, length, if◌then◌else◌};
 ghost use Rattle.std.specs.List.{AllByRecursion};
 ghost use Rattle.gf_token.specs.LabelSpelling.{IsLabel};
-ghost use Rattle.gf_form.specs.LabelTexts.{IsPlain, choice_text};
+ghost use Rattle.gf_form.specs.inner.LabelTexts.{IsPlain, choice_text};
 ghost use Rattle.gf_form.specs.Reduced.{reduced_label};
-ghost use Rattle.gf_form.specs.Shown.{shown};
+ghost use Rattle.gf_form.specs.inner.Shown.{shown};
 
 use itoa::Buffer;
 use std::alloc::AllocError;

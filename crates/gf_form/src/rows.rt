@@ -2,8 +2,8 @@
 
 ghost use Rattle.std.specs.Prelude.{◌≡◌, ◌<◌, ◌≤◌, ℕ, None, Some, OnOk, IsErrOf, length};
 ghost use Rattle.gf_fraction.specs.Ratio.{IsFraction};
-ghost use Rattle.gf_form.specs.Rows.{IsRow, at_place};
-ghost use Rattle.gf_form.specs.Values.{plus_of, times_of};
+ghost use Rattle.gf_form.specs.inner.Rows.{IsRow, at_place};
+ghost use Rattle.gf_form.specs.inner.Values.{plus_of, times_of};
 
 use crate::fault::EvalFault;
 use gf_fraction::Fraction;

@@ -1,9 +1,9 @@
 //! What a node adds to a player's payoff, over a denominator.
 
 ghost use Rattle.std.specs.Prelude.{◌≡◌, ◌<◌, IfSome};
-ghost use Rattle.gf_form.specs.PaidRows.{rows_of};
-ghost use Rattle.gf_form.specs.Rows.{at_place, row_at};
-ghost use Rattle.gf_form.specs.Shares.{IsShare};
+ghost use Rattle.gf_form.specs.inner.PaidRows.{rows_of};
+ghost use Rattle.gf_form.specs.inner.Rows.{at_place, row_at};
+ghost use Rattle.gf_form.specs.inner.Shares.{IsShare};
 
 use crate::paths::Path;
 use crate::payoffs::Payoffs;

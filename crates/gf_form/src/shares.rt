@@ -1,8 +1,8 @@
 //! The nodes that pay somebody something, of those that choices can reach.
 
 ghost use Rattle.std.specs.Prelude.{◌≡◌, IfOk, map};
-ghost use Rattle.gf_form.specs.KeptNodes.{paid_reached};
-ghost use Rattle.gf_form.specs.PaidRows.{rows_of};
+ghost use Rattle.gf_form.specs.inner.KeptNodes.{paid_reached};
+ghost use Rattle.gf_form.specs.inner.PaidRows.{rows_of};
 ghost use Rattle.gf_form.specs.Strategies.{choices_by};
 
 use crate::digits::Digits;

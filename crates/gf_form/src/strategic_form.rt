@@ -3,9 +3,9 @@
 ghost use Rattle.std.specs.Prelude.{◌≡◌, ◌≤◌, ℕ, List, IfOk, IsErrOf, OnOk, length};
 ghost use Rattle.std.specs.List.{Contains};
 ghost use Rattle.gf_nfg.specs.TableAccess.{IsTableOf};
-ghost use Rattle.gf_form.specs.Counted.{AreCounts};
-ghost use Rattle.gf_form.specs.FitsTable.{FitsTable};
-ghost use Rattle.gf_form.specs.ProfileRows.{AreRowsAt};
+ghost use Rattle.gf_form.specs.inner.Counted.{AreCounts};
+ghost use Rattle.gf_form.specs.inner.FitsTable.{FitsTable};
+ghost use Rattle.gf_form.specs.inner.ProfileRows.{AreRowsAt};
 ghost use Rattle.gf_form.specs.Refusal.{HasTooManyProfiles, HasValues, OverflowsAt};
 ghost use Rattle.gf_form.specs.StrategicForm.{ArePayoffsAt, IsStrategicForm};
 ghost use Rattle.gf_form.specs.Strategies.{full_profiles};

@@ -5,7 +5,7 @@
 ghost use Rattle.std.specs.Prelude.{◌≡◌, ◌<◌, ◌≤◌, ℕ, List, [], ◌∷◌, ◌++◌, None, Option, Some, OnOk};
 ghost use Rattle.std.specs.Prelude.{IsErrOf, OnErr, length, vec_capacity, vec_len};
 ghost use Rattle.gf_fraction.specs.Ratio.{Ratio};
-ghost use Rattle.gf_form.specs.Rows.{AreRows, IsRow, PaysTo, WeighsTo, at_place, column};
+ghost use Rattle.gf_form.specs.inner.Rows.{AreRows, IsRow, PaysTo, WeighsTo, at_place, column};
 
 use crate::fault::EvalFault;
 use crate::rows::{pay, weigh};
@@ -22,7 +22,7 @@ pub(crate) struct Values {
 }
 
 impl Values {
-    ghost use Rattle.gf_form.specs.RowsOn.{rows_on};
+    ghost use Rattle.gf_form.specs.inner.RowsOn.{rows_on};
 
     /// No values.
     pub(crate) fn new(alloc: Global) -> Values

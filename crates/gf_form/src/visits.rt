@@ -1,7 +1,7 @@
 //! The visits of a player to his sets: the ways to come to them, told by his own moves alone.
 
 ghost use Rattle.std.specs.Prelude.{◌≡◌, [], IfOk};
-ghost use Rattle.gf_form.specs.Visits.{Meets, chosen, visits_of};
+ghost use Rattle.gf_form.specs.inner.Visits.{Meets, chosen, visits_of};
 ghost use Rattle.gf_form.specs.declared.visits.Visit.{Visit};
 
 use indexmap::IndexSet;

@@ -7,10 +7,10 @@ ghost use Rattle.std.specs.Prelude.{vec_capacity, vec_len};
 ghost use Rattle.gf_token.specs.Positions.{at_position};
 ghost use Rattle.gf_tree.specs.Branches.{tree_of};
 ghost use Rattle.gf_tree.specs.PrefixOrder.{flatten};
-ghost use Rattle.gf_form.specs.CodeLeft.{branch_chances, branch_code, child_then_payoffs};
-ghost use Rattle.gf_form.specs.CodeLeft.{code_behind, code_left, next_size, rest_code};
-ghost use Rattle.gf_form.specs.CodeLeft.{strategies_of_walk};
-ghost use Rattle.gf_form.specs.Program.{code};
+ghost use Rattle.gf_form.specs.inner.CodeLeft.{branch_chances, branch_code, child_then_payoffs};
+ghost use Rattle.gf_form.specs.inner.CodeLeft.{code_behind, code_left, next_size, rest_code};
+ghost use Rattle.gf_form.specs.inner.CodeLeft.{strategies_of_walk};
+ghost use Rattle.gf_form.specs.inner.Program.{code};
 ghost use Rattle.gf_form.specs.Strategies.{choices_by, strategy_at};
 
 use crate::op::Op;

@@ -1,8 +1,8 @@
-pub mod Ratio
+pub mod Computed
 pub mod Fits
+pub mod NumberScan
 pub mod NumberSpelling
 pub mod NumberText
-pub mod NumberScan
-pub mod Computed
-pub mod Steps
+pub mod Ratio
 pub mod Rational
+pub mod Steps

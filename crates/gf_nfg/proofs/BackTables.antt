@@ -15,7 +15,7 @@ use Rattle.gf_fraction.proofs.ReadingBack.{written_is_read}
 use Rattle.gf_fraction.proofs.AllElements.{all_weaker, all_parts, all_lists}
 use Rattle.gf_nfg.specs.Table.{Table, IsTable, IsSpellable, rows}
 use Rattle.gf_nfg.specs.Sentence.{IsLabelList, IsPayoff, IsPayoffBody, Sentence}
-use Rattle.gf_nfg.specs.TextParts.{row_text}
+use Rattle.gf_nfg.specs.inner.TextParts.{row_text}
 use Rattle.gf_nfg.specs.TableText.{spaced, list_text, quoted, table_text, SpellsTable}
 use Rattle.gf_nfg.specs.SameTable.{SameTable}
 use Rattle.gf_nfg.proofs.PlacesLed.{spells_one_table}

@@ -6,12 +6,12 @@ use Rattle.gf_fraction.specs.Computed.{gcd_within, lowest_of, number_of}
 use Rattle.gf_fraction.specs.NumberText.{number_text}
 use Rattle.gf_token.specs.Token.{Token}
 use Rattle.gf_token.specs.Indices.{index_of}
-use Rattle.gf_token.specs.Lexing.{lex}
-use Rattle.gf_token.specs.Lexing.Mode.{Gap}
+use Rattle.gf_token.specs.inner.Lexing.{lex}
+use Rattle.gf_token.specs.inner.Lexing.Mode.{Gap}
 use Rattle.gf_token.specs.declared.fault.Why.{Why}
 use Rattle.gf_token.proofs.Spelled.{found}
-use Rattle.gf_nfg.specs.Machine.{Content, run, start}
-use Rattle.gf_nfg.specs.Meaning.{table_of}
+use Rattle.gf_nfg.specs.inner.Machine.{Content, run, start}
+use Rattle.gf_nfg.specs.inner.Meaning.{table_of}
 use Rattle.gf_nfg.specs.Sentence.{Sentence}
 use Rattle.gf_nfg.specs.Table.{Table}
 use Rattle.gf_nfg.specs.TableText.{table_text, SpellsTable}

@@ -10,7 +10,7 @@ use Rattle.std.proofs.lemmas.List.FromFn.{get_or-range_with_len, length-range_wi
 use Rattle.std.proofs.lemmas.Option.{slice_get-get_or, slice_get-map}
 use Rattle.gf_fraction.specs.Ratio.{Ratio}
 use Rattle.gf_fraction.proofs.AllElements.{all_at}
-use Rattle.gf_nfg.specs.Classes.{LeadBack, ShareRows}
+use Rattle.gf_nfg.specs.inner.Classes.{LeadBack, ShareRows}
 use Rattle.gf_nfg.specs.TableParts.{AreShared, kept_row}
 use Rattle.gf_nfg.proofs.TableAgrees.{same_more}
 

@@ -20,13 +20,13 @@ use Rattle.gf_fraction.specs.NumberSpelling.{HasNumberFault, Reads}
 use Rattle.gf_fraction.specs.Computed.{number_of}
 use Rattle.gf_fraction.specs.declared.fraction.NumberFault.{NumberFault}
 use Rattle.gf_fraction.proofs.ComputedAnswers.{number_is_computed, number_is, number_again}
-use Rattle.gf_nfg.specs.Position.{Position}
-use Rattle.gf_nfg.specs.Position.{Position as p}
+use Rattle.gf_nfg.specs.inner.Position.{Position}
+use Rattle.gf_nfg.specs.inner.Position.{Position as p}
 use Rattle.gf_nfg.specs.Due.{Role, Suits}
 use Rattle.gf_nfg.specs.Due.Role.{Format, Version, Letter, Count, Payoff, OutcomeNumber}
 use Rattle.gf_token.specs.Indices.{index_of, count_of}
-use Rattle.gf_nfg.specs.Machine.{State, Content, at, step, counted, listed, paid, chosen}
-use Rattle.gf_nfg.specs.Machine.{at_strategies_end, at_first, at_count, at_list_opening}
+use Rattle.gf_nfg.specs.inner.Machine.{State, Content, at, step, counted, listed, paid, chosen}
+use Rattle.gf_nfg.specs.inner.Machine.{at_strategies_end, at_first, at_count, at_list_opening}
 use Rattle.gf_token.proofs.ReadingIndices.{index_is, index_again, count_is, count_again}
 use Rattle.gf_nfg.proofs.RunsCommon.{not_zero, same_bytes}
 

@@ -8,14 +8,14 @@ use Rattle.gf_token.specs.declared.fault.What.{What}
 use Rattle.gf_token.specs.declared.fault.What.TheVariants as what
 use Rattle.gf_token.specs.declared.fault.Why.{Why}
 use Rattle.gf_token.specs.declared.fault.Why.TheVariants.{Expected}
-use Rattle.gf_nfg.specs.Position.{Position}
-use Rattle.gf_nfg.specs.Position.{Position as p}
+use Rattle.gf_nfg.specs.inner.Position.{Position}
+use Rattle.gf_nfg.specs.inner.Position.{Position as p}
 use Rattle.gf_token.specs.Place.{MayFollow}
 use Rattle.gf_nfg.specs.Sentence.{IsStrategicFile}
 use Rattle.gf_nfg.specs.Due.{Role, RoleIsDue, IsDue}
 use Rattle.gf_nfg.specs.Due.Role.{Format, Version, Letter, Count, Payoff, OutcomeNumber}
-use Rattle.gf_nfg.specs.Machine.{State, Content, at, step, finish, with_labels, ◌>>=◌}
-use Rattle.gf_nfg.specs.Meaning.{table_of}
+use Rattle.gf_nfg.specs.inner.Machine.{State, Content, at, step, finish, with_labels, ◌>>=◌}
+use Rattle.gf_nfg.specs.inner.Meaning.{table_of}
 use Rattle.gf_nfg.proofs.RunsCommon.{not_zero}
 use Rattle.gf_nfg.proofs.PlacesWalk.{Leads, walk, follows, refused, is_file}
 use Rattle.gf_nfg.proofs.DueRows.{Row, Accepts, AcceptsBare, Answers, Law, no, only}

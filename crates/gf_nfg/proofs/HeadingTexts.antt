@@ -7,8 +7,8 @@ use Rattle.std.proofs.lemmas.Simd.{map-map}
 use Rattle.std.proofs.lemmas.List.{take-map, take_min}
 use Rattle.gf_token.specs.Label.{label_of}
 use Rattle.gf_token.specs.declared.label.Label.{Label}
-use Rattle.gf_nfg.specs.Meaning.{strategies_of}
-use Rattle.gf_nfg.specs.ReaderState.{labels_of}
+use Rattle.gf_nfg.specs.inner.Meaning.{strategies_of}
+use Rattle.gf_nfg.specs.inner.ReaderState.{labels_of}
 use Rattle.gf_nfg.specs.Sentence.{counted_labels}
 use Rattle.gf_nfg.specs.TableParts.{groups}
 use Rattle.gf_nfg.specs.TableText.{list_text, quoted}

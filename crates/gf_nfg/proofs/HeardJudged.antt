@@ -16,15 +16,15 @@ use Rattle.gf_token.specs.declared.fault.Why.TheVariants.{Memory, TooLong, TooMa
 use Rattle.gf_token.specs.declared.fault.Why.TheVariants.{Unterminated}
 use Rattle.gf_token.proofs.Spelled.{same_tokens}
 use Rattle.gf_token.proofs.TokensAhead.{in_order}
-use Rattle.gf_nfg.specs.Heard.{Answer, Fails, HasPassed, HasPassedPlace, at_end, heard, is_past}
-use Rattle.gf_nfg.specs.Heard.{read_on, taken, then_on, within}
-use Rattle.gf_nfg.specs.Heard.Fails.{of_file, of_memory}
+use Rattle.gf_nfg.specs.inner.Heard.{Answer, Fails, HasPassed, HasPassedPlace, at_end, heard, is_past}
+use Rattle.gf_nfg.specs.inner.Heard.{read_on, taken, then_on, within}
+use Rattle.gf_nfg.specs.inner.Heard.Fails.{of_file, of_memory}
 use Rattle.gf_nfg.specs.Judgement.{IsAcceptedWithinLimit, IsJudged, IsRefusal, IsRefused}
 use Rattle.gf_nfg.specs.Limit.{profile_limit}
-use Rattle.gf_nfg.specs.Machine.{Content, State, at, due_at, ended, finish, nothing, start, step}
-use Rattle.gf_nfg.specs.Position.{Position as p}
+use Rattle.gf_nfg.specs.inner.Machine.{Content, State, at, due_at, ended, finish, nothing, start, step}
+use Rattle.gf_nfg.specs.inner.Position.{Position as p}
 use Rattle.gf_nfg.specs.Reason.{IsReason}
-use Rattle.gf_nfg.specs.ReaderState.{answer, content_in}
+use Rattle.gf_nfg.specs.inner.ReaderState.{answer, content_in}
 use Rattle.gf_nfg.specs.declared.reader.Reader.{Reader}
 use Rattle.gf_nfg.proofs.PlacesJudged.{accepted, broken, end_of, err, limit, only_expected}
 use Rattle.gf_nfg.proofs.PlacesJudged.{refusal, refusal_end, span_of}

@@ -8,14 +8,14 @@ use Rattle.gf_token.specs.Token.{Token}
 use Rattle.gf_token.specs.Token.Token.{Opening}
 use Rattle.gf_token.specs.Grammar.{Each}
 use Rattle.gf_fraction.proofs.AllElements.{all_parts}
-use Rattle.gf_nfg.specs.Position.{Position}
-use Rattle.gf_nfg.specs.Position.{Position as p}
+use Rattle.gf_nfg.specs.inner.Position.{Position}
+use Rattle.gf_nfg.specs.inner.Position.{Position as p}
 use Rattle.gf_nfg.specs.Limit.{profile_limit}
 use Rattle.gf_nfg.specs.Profiles.{product}
 use Rattle.gf_nfg.specs.Sentence.{IsCount, IsLabelList}
 use Rattle.gf_nfg.specs.LimitByFiles.{BeginsPastLimit, IsBareOrClosing, StaysWithinLimit}
 use Rattle.gf_nfg.specs.LimitPlace.{GivesCounts}
-use Rattle.gf_nfg.specs.Machine.{State, step}
+use Rattle.gf_nfg.specs.inner.Machine.{State, step}
 use Rattle.gf_nfg.proofs.PlacesWalk.{Leads, leads_on, leads_more, begins}
 use Rattle.gf_nfg.proofs.PlacesLimit.{makes_more, read_past, stays_within}
 use Rattle.gf_nfg.proofs.LimitProducts.{Strategies, PassesAtLast, PassesWith}

@@ -8,13 +8,13 @@ use Rattle.std.proofs.lemmas.List.{append-nil, length-append}
 use Rattle.gf_token.specs.Token.{Token}
 use Rattle.gf_token.specs.Token.Token.{Opening, Closing, Text, Bare}
 use Rattle.gf_token.specs.Grammar.{Each, braced}
-use Rattle.gf_nfg.specs.Position.{Position}
-use Rattle.gf_nfg.specs.Position.{Position as p}
+use Rattle.gf_nfg.specs.inner.Position.{Position}
+use Rattle.gf_nfg.specs.inner.Position.{Position as p}
 use Rattle.gf_nfg.specs.Profiles.{product}
 use Rattle.gf_token.specs.Indices.{count_of}
 use Rattle.gf_nfg.specs.Sentence.{IsCount, IsLabelList}
-use Rattle.gf_nfg.specs.Machine.{State, Content, at, step, nothing, listed}
-use Rattle.gf_nfg.specs.Machine.{with_title, with_players, with_labels, with_count}
+use Rattle.gf_nfg.specs.inner.Machine.{State, Content, at, step, nothing, listed}
+use Rattle.gf_nfg.specs.inner.Machine.{with_title, with_players, with_labels, with_count}
 use Rattle.gf_token.proofs.ReadingIndices.{count_again}
 use Rattle.gf_nfg.proofs.MeaningLists.{length-counted_labels}
 use Rattle.gf_nfg.proofs.RunsCommon.{not_zero, pred_suc, with_no_players, with_more_players}

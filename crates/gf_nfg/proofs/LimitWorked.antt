@@ -8,8 +8,8 @@ use Rattle.gf_token.specs.Token.{Token, Lexeme, lexeme}
 use Rattle.gf_token.specs.Token.Token.{Opening, Closing, Text, Bare}
 use Rattle.gf_token.specs.TokenSpelling.{Spells}
 use Rattle.gf_token.specs.Grammar.{Each}
-use Rattle.gf_token.specs.Lexing.{lex}
-use Rattle.gf_token.specs.Lexing.Mode.{Gap}
+use Rattle.gf_token.specs.inner.Lexing.{lex}
+use Rattle.gf_token.specs.inner.Lexing.Mode.{Gap}
 use Rattle.gf_token.specs.Index.{IsIndex}
 use Rattle.gf_token.specs.declared.fault.Span.{Span}
 use Rattle.gf_token.proofs.Spelled.{found, same_tokens}
@@ -20,7 +20,7 @@ use Rattle.gf_nfg.specs.Sentence.{IsCount, counted_labels}
 use Rattle.gf_token.specs.Place.{tokens_of}
 use Rattle.gf_nfg.specs.LimitPlace.{GivesCounts, IsLimitPlace}
 use Rattle.gf_token.specs.Indices.{index_of}
-use Rattle.gf_nfg.specs.Machine.{State}
+use Rattle.gf_nfg.specs.inner.Machine.{State}
 use Rattle.gf_nfg.proofs.MeaningLists.{counts_back}
 use Rattle.gf_nfg.proofs.PlacesWalk.{Leads}
 use Rattle.gf_nfg.proofs.PlacesLimit.{stays_within}

@@ -11,8 +11,8 @@ use Rattle.gf_fraction.specs.NumberText.{number_text}
 use Rattle.gf_nfg.specs.Profiles.{positions}
 use Rattle.gf_nfg.specs.TableParts.{row_of}
 use Rattle.gf_nfg.specs.TableText.{lines_text}
-use Rattle.gf_nfg.specs.TextParts.{row_text}
-use Rattle.gf_nfg.specs.ToldText.{AreLaid, AreLines, begun_text}
+use Rattle.gf_nfg.specs.inner.TextParts.{row_text}
+use Rattle.gf_nfg.specs.inner.ToldText.{AreLaid, AreLines, begun_text}
 use Rattle.gf_nfg.proofs.MeaningLists.{joined, length-joined_rows}
 use Rattle.gf_nfg.proofs.MeaningTables.{rows_again}
 

@@ -15,9 +15,9 @@ use Rattle.gf_nfg.specs.Limit.{profile_limit}
 use Rattle.gf_nfg.specs.LimitPlace.{IsWithinLimit}
 use Rattle.gf_nfg.specs.Table.{IsSpellable, IsTable, rows}
 use Rattle.gf_nfg.specs.TableParts.{Names, groups, numbers_of, row_of, IsHeld, IsNamed, HasRows}
-use Rattle.gf_nfg.specs.Machine.{Content}
-use Rattle.gf_nfg.specs.Meaning.{names_in, choices_of, strategies_of, rows_by}
-use Rattle.gf_nfg.specs.Meaning.{table_of, HasPayoffs, HasLabels, IsComplete}
+use Rattle.gf_nfg.specs.inner.Machine.{Content}
+use Rattle.gf_nfg.specs.inner.Meaning.{names_in, choices_of, strategies_of, rows_by}
+use Rattle.gf_nfg.specs.inner.Meaning.{table_of, HasPayoffs, HasLabels, IsComplete}
 use Rattle.gf_nfg.proofs.MeaningLists.{joined, sum-cons, counts_back}
 use Rattle.gf_nfg.proofs.MeaningLists.{groups-joined, take-by, drop-by}
 use Rattle.gf_nfg.proofs.TableRows as kept

@@ -7,11 +7,11 @@ use Rattle.gf_token.specs.declared.fault.Fault.{Fault}
 use Rattle.gf_token.specs.declared.fault.Span.{Span}
 use Rattle.gf_token.specs.declared.fault.Why.{Why}
 use Rattle.gf_token.proofs.Spelled.{spelled_once}
-use Rattle.gf_nfg.specs.Heard.{read_on}
+use Rattle.gf_nfg.specs.inner.Heard.{read_on}
 use Rattle.gf_nfg.specs.Judgement.{IsRefused}
 use Rattle.gf_nfg.specs.LimitPlace.{IsWithinLimit}
-use Rattle.gf_nfg.specs.Machine.{Content, start}
-use Rattle.gf_nfg.specs.Meaning.{table_of}
+use Rattle.gf_nfg.specs.inner.Machine.{Content, start}
+use Rattle.gf_nfg.specs.inner.Meaning.{table_of}
 use Rattle.gf_nfg.specs.Table.{Table}
 use Rattle.gf_nfg.specs.TableText.{SpellsTable}
 use Rattle.gf_nfg.proofs.HeardJudged.{IsAnswered, all_answered}

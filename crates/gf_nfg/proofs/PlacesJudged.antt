@@ -18,7 +18,7 @@ use Rattle.gf_nfg.specs.Sentence.{Sentence, IsStrategicFile}
 use Rattle.gf_nfg.specs.TableText.{SpellsTable}
 use Rattle.gf_token.specs.Place.{tokens_of, IsOffendingPlace}
 use Rattle.gf_nfg.specs.LimitPlace.{IsLimitPlace, IsWithinLimit}
-use Rattle.gf_nfg.specs.Machine.{State, Content, step, finish, due_at, ended}
+use Rattle.gf_nfg.specs.inner.Machine.{State, Content, step, finish, due_at, ended}
 use Rattle.gf_nfg.specs.Judgement.{IsRefusal, IsAcceptedWithinLimit, IsJudged}
 use Rattle.gf_token.proofs.Places.{no_file as refused_no_file}
 use Rattle.gf_nfg.proofs.LimitCounts.{limit_by_files}

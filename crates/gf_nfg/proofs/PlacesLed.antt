@@ -10,8 +10,8 @@ use Rattle.gf_nfg.specs.Table.{Table}
 use Rattle.gf_nfg.specs.Sentence.{Sentence}
 use Rattle.gf_nfg.specs.TableText.{SpellsTable}
 use Rattle.gf_token.specs.Place.{tokens_of}
-use Rattle.gf_nfg.specs.Machine.{State, Content, run, step, finish, start}
-use Rattle.gf_nfg.specs.Meaning.{table_of}
+use Rattle.gf_nfg.specs.inner.Machine.{State, Content, run, step, finish, start}
+use Rattle.gf_nfg.specs.inner.Meaning.{table_of}
 use Rattle.gf_nfg.proofs.RunsSentence.{Read, sentence_found, one_table}
 use Rattle.gf_nfg.proofs.PlacesWalk.{Leads, leads_more, leads_run}
 

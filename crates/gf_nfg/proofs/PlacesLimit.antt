@@ -4,25 +4,25 @@ use Rattle.std.proofs.Common.{cond, List, [], ◌∷◌, ◌++◌, length, Optio
 use Rattle.std.proofs.Common.{Result, Ok, Err, refl, sym, ap, subst, ◌∙◌, arith, nat_eq}
 use Rattle.std.specs.Prelude.{nat_le, nat_lt}
 use Rattle.std.proofs.lemmas.Bool.Decides.{nat_tests}
-use Rattle.gf_nfg.specs.Heard.{is_past}
+use Rattle.gf_nfg.specs.inner.Heard.{is_past}
 use Rattle.gf_token.specs.Token.{Token}
 use Rattle.gf_token.specs.Token.Token.{Opening, Closing, Comma, Text, Bare, Broken}
 use Rattle.gf_token.specs.declared.fault.What.{What}
 use Rattle.gf_token.specs.declared.fault.Why.{Why}
 use Rattle.gf_fraction.specs.Ratio.{Ratio}
 use Rattle.gf_fraction.specs.declared.fraction.NumberFault.{NumberFault}
-use Rattle.gf_nfg.specs.Position.{Position}
-use Rattle.gf_nfg.specs.Position.{Position as p}
+use Rattle.gf_nfg.specs.inner.Position.{Position}
+use Rattle.gf_nfg.specs.inner.Position.{Position as p}
 use Rattle.gf_fraction.specs.Computed.{number_of}
 use Rattle.gf_token.specs.Indices.{index_of, count_of}
 use Rattle.gf_nfg.specs.Table.{Table}
 use Rattle.gf_nfg.specs.Sentence.{Sentence}
-use Rattle.gf_nfg.specs.Machine.{State, Content, at, step, run, start, counted, listed}
-use Rattle.gf_nfg.specs.Machine.{settled, paid, chosen, at_strategies_end, at_first}
-use Rattle.gf_nfg.specs.Machine.{at_count, at_list_opening, at_payoff, at_flat_payoffs}
-use Rattle.gf_nfg.specs.Machine.{at_after_comment, at_outcome_end, at_braced_payoff}
-use Rattle.gf_nfg.specs.Machine.{at_outcome_number, due_at, ended, ◌>>=◌}
-use Rattle.gf_nfg.specs.Meaning.{table_of}
+use Rattle.gf_nfg.specs.inner.Machine.{State, Content, at, step, run, start, counted, listed}
+use Rattle.gf_nfg.specs.inner.Machine.{settled, paid, chosen, at_strategies_end, at_first}
+use Rattle.gf_nfg.specs.inner.Machine.{at_count, at_list_opening, at_payoff, at_flat_payoffs}
+use Rattle.gf_nfg.specs.inner.Machine.{at_after_comment, at_outcome_end, at_braced_payoff}
+use Rattle.gf_nfg.specs.inner.Machine.{at_outcome_number, due_at, ended, ◌>>=◌}
+use Rattle.gf_nfg.specs.inner.Meaning.{table_of}
 use Rattle.gf_nfg.specs.Limit.{profile_limit}
 use Rattle.gf_nfg.specs.LimitByFiles.{BeginsWithinLimit, StaysWithinLimit, IsBareOrClosing}
 use Rattle.gf_token.proofs.ReadingIndices.{count_is}

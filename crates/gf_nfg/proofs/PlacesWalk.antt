@@ -6,8 +6,8 @@ use Rattle.gf_token.specs.Token.{Token}
 use Rattle.gf_token.specs.declared.fault.Why.{Why}
 use Rattle.gf_nfg.specs.Sentence.{Sentence, IsStrategicFile}
 use Rattle.gf_token.specs.Place.{Begins, MayFollow}
-use Rattle.gf_nfg.specs.Machine.{State, Content, run, step, finish, start, ◌>>=◌}
-use Rattle.gf_nfg.specs.Meaning.{table_of}
+use Rattle.gf_nfg.specs.inner.Machine.{State, Content, run, step, finish, start, ◌>>=◌}
+use Rattle.gf_nfg.specs.inner.Meaning.{table_of}
 use Rattle.gf_nfg.proofs.RunsCommon.{ok_is}
 use Rattle.gf_nfg.proofs.RunsSentence.{sentence_found, sentence_again}
 use Rattle.gf_nfg.proofs.RunsEnds.{ends}

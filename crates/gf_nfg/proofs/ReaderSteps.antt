@@ -11,11 +11,11 @@ use Rattle.gf_token.specs.Token.Token.{Opening, Closing, Text}
 use Rattle.gf_token.specs.declared.fault.Fault.{Fault}
 use Rattle.gf_token.specs.declared.fault.Span.{Span}
 use Rattle.gf_token.specs.declared.fault.Why.{Why}
-use Rattle.gf_nfg.specs.Heard.{Answer, Fails, Goes, heard, read_on, then_on, within}
-use Rattle.gf_nfg.specs.Machine.{Content, State, at, listed, settled}
-use Rattle.gf_nfg.specs.Position.{Position as p}
-use Rattle.gf_nfg.specs.ReaderState.{HasToldAll, body_answer, content_in, content_told, labels_of, told_answer}
-use Rattle.gf_nfg.specs.Told.{Told}
+use Rattle.gf_nfg.specs.inner.Heard.{Answer, Fails, Goes, heard, read_on, then_on, within}
+use Rattle.gf_nfg.specs.inner.Machine.{Content, State, at, listed, settled}
+use Rattle.gf_nfg.specs.inner.Position.{Position as p}
+use Rattle.gf_nfg.specs.inner.ReaderState.{HasToldAll, body_answer, content_in, content_told, labels_of, told_answer}
+use Rattle.gf_nfg.specs.inner.Told.{Told}
 use Rattle.gf_nfg.specs.declared.heading.Heading.{Heading}
 use Rattle.gf_nfg.specs.declared.reader.Reader.{Reader}
 use Rattle.gf_nfg.specs.declared.receive.Version.{Version}

@@ -27,7 +27,7 @@ use Rattle.gf_nfg.specs.Due.{Role, Suits, RoleIsDue, IsDue}
 use Rattle.gf_nfg.specs.Due.Role.{Format, Version, Letter, Count, Payoff, OutcomeNumber}
 use Rattle.gf_nfg.specs.Reason.{Applies, IsReason}
 use Rattle.gf_token.specs.Indices.{index_of, count_of}
-use Rattle.gf_nfg.specs.Machine.{State, step, finish}
+use Rattle.gf_nfg.specs.inner.Machine.{State, step, finish}
 use Rattle.gf_token.proofs.ReadingIndices.{index_is, index_again, count_is, count_again}
 use Rattle.gf_nfg.proofs.RunsEnds.{zero_text, zero_number, zero_is_number, zero_is_index}
 use Rattle.gf_nfg.proofs.PlacesWalk.{Leads, leads_on, begins, stops}

@@ -7,9 +7,9 @@ use Rattle.gf_token.specs.Token.{Token}
 use Rattle.gf_token.specs.Token.Token.{Opening, Closing, Text, Bare}
 use Rattle.gf_token.specs.Grammar.{Each, braced, IsComment}
 use Rattle.gf_fraction.specs.Ratio.{Ratio}
-use Rattle.gf_nfg.specs.Position.{Position as p}
+use Rattle.gf_nfg.specs.inner.Position.{Position as p}
 use Rattle.gf_nfg.specs.Sentence.{IsPayoff, IsOutcomeInBraces}
-use Rattle.gf_nfg.specs.Machine.{Content, at, run, with_comment, with_payoffs, with_choices}
+use Rattle.gf_nfg.specs.inner.Machine.{Content, at, run, with_comment, with_payoffs, with_choices}
 use Rattle.gf_nfg.proofs.MeaningLists.{joined}
 use Rattle.gf_nfg.proofs.RunsPayoffs.{flat_found, flat_again}
 use Rattle.gf_nfg.proofs.RunsOutcomes.{Choices, IsChoice, greatest, outcomes_found}

@@ -8,8 +8,8 @@ use Rattle.std.proofs.lemmas.Bool.Decides.{Decides-eqb}
 use Rattle.gf_token.specs.Token.{Token}
 use Rattle.gf_token.specs.declared.fault.Why.{Why}
 use Rattle.gf_fraction.specs.Ratio.{Ratio}
-use Rattle.gf_nfg.specs.Machine.{State, Content, run, with_players, with_labels}
-use Rattle.gf_nfg.specs.Machine.{with_payoffs, with_choices, ◌>>=◌}
+use Rattle.gf_nfg.specs.inner.Machine.{State, Content, run, with_players, with_labels}
+use Rattle.gf_nfg.specs.inner.Machine.{with_payoffs, with_choices, ◌>>=◌}
 
 pub not_zero : (d : ℕ) → nat_eq (suc d) 0 ≡ false
 not_zero d = search (tests, rules)

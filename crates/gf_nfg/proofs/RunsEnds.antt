@@ -12,12 +12,12 @@ use Rattle.gf_token.specs.declared.fault.What.TheVariants as what
 use Rattle.gf_token.specs.declared.fault.Why.{Why}
 use Rattle.gf_token.specs.declared.fault.Why.TheVariants.{Expected}
 use Rattle.gf_fraction.specs.Ratio.{Ratio, whole}
-use Rattle.gf_nfg.specs.Position.{Position}
-use Rattle.gf_nfg.specs.Position.{Position as p}
+use Rattle.gf_nfg.specs.inner.Position.{Position}
+use Rattle.gf_nfg.specs.inner.Position.{Position as p}
 use Rattle.gf_fraction.specs.Computed.{number_of, lowest_of, gcd_within}
 use Rattle.gf_token.specs.Indices.{index_of, count_of}
-use Rattle.gf_nfg.specs.Machine.{State, Content, at, step, run, listed, with_title, with_labels}
-use Rattle.gf_nfg.specs.Machine.{with_count, with_payoffs, with_choices, next_outcome}
+use Rattle.gf_nfg.specs.inner.Machine.{State, Content, at, step, run, listed, with_title, with_labels}
+use Rattle.gf_nfg.specs.inner.Machine.{with_count, with_payoffs, with_choices, next_outcome}
 use Rattle.gf_nfg.proofs.RunsCommon.{not_zero, pred_suc}
 
 -- it can be completed, to so many profiles

@@ -8,8 +8,8 @@ use Rattle.gf_token.specs.Token.Token.{Opening, Closing, Text, Bare}
 use Rattle.gf_token.specs.declared.fault.What.TheVariants as what
 use Rattle.gf_token.specs.declared.fault.Why.TheVariants.{Expected}
 use Rattle.gf_token.specs.Grammar.{braced}
-use Rattle.gf_nfg.specs.Position.{Position as p}
-use Rattle.gf_nfg.specs.Machine.{Content, at, run, start, nothing, with_title, with_players}
+use Rattle.gf_nfg.specs.inner.Position.{Position as p}
+use Rattle.gf_nfg.specs.inner.Machine.{Content, at, run, start, nothing, with_title, with_players}
 use Rattle.gf_nfg.proofs.RunsCommon.{guard_ok, same_bytes, with_no_players, with_more_players}
 
 -- ---- what was read

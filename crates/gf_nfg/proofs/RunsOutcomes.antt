@@ -12,11 +12,11 @@ use Rattle.gf_token.specs.Index.{IsIndex}
 use Rattle.gf_token.specs.declared.fault.Why.{Why}
 use Rattle.gf_token.specs.Grammar.{Each, braced, IsPayoffInBraces}
 use Rattle.gf_fraction.specs.Ratio.{Ratio}
-use Rattle.gf_nfg.specs.Position.{Position as p}
+use Rattle.gf_nfg.specs.inner.Position.{Position as p}
 use Rattle.gf_token.specs.Indices.{index_of}
 use Rattle.gf_nfg.specs.Sentence.{IsOutcomeInBraces}
-use Rattle.gf_nfg.specs.Machine.{State, Content, at, run, chosen, with_payoffs}
-use Rattle.gf_nfg.specs.Machine.{with_choices, next_outcome, ◌>>=◌}
+use Rattle.gf_nfg.specs.inner.Machine.{State, Content, at, run, chosen, with_payoffs}
+use Rattle.gf_nfg.specs.inner.Machine.{with_choices, next_outcome, ◌>>=◌}
 use Rattle.gf_token.proofs.ReadingIndices.{index_is, index_again}
 use Rattle.gf_nfg.proofs.MeaningLists.{joined}
 use Rattle.gf_nfg.proofs.RunsCommon.{not_zero, pred_suc, ok_why, ok_is, with_no_payoffs}

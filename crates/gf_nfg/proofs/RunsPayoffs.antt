@@ -8,12 +8,12 @@ use Rattle.gf_token.specs.Token.Token.{Closing, Comma, Bare}
 use Rattle.gf_token.specs.Grammar.{Each, IsPayoffInBraces}
 use Rattle.gf_fraction.specs.Ratio.{Ratio}
 use Rattle.gf_fraction.specs.declared.fraction.NumberFault.{NumberFault}
-use Rattle.gf_nfg.specs.Position.{Position}
-use Rattle.gf_nfg.specs.Position.{Position as p}
+use Rattle.gf_nfg.specs.inner.Position.{Position}
+use Rattle.gf_nfg.specs.inner.Position.{Position as p}
 use Rattle.gf_fraction.specs.Computed.{number_of}
 use Rattle.gf_fraction.proofs.ComputedAnswers.{number_is, number_again}
 use Rattle.gf_nfg.specs.Sentence.{IsPayoff}
-use Rattle.gf_nfg.specs.Machine.{State, Content, at, run, paid, with_payoffs, next_outcome, ◌>>=◌}
+use Rattle.gf_nfg.specs.inner.Machine.{State, Content, at, run, paid, with_payoffs, next_outcome, ◌>>=◌}
 use Rattle.gf_nfg.proofs.RunsCommon.{not_zero, pred_suc, ok_why, ok_is}
 use Rattle.gf_nfg.proofs.RunsCommon.{with_no_payoffs, with_more_payoffs}
 

@@ -9,16 +9,16 @@ use Rattle.gf_token.specs.Token.Token.{Opening, Closing, Text, Bare}
 use Rattle.gf_token.specs.Grammar.{Each, braced, IsComment}
 use Rattle.gf_fraction.specs.Ratio.{Ratio}
 use Rattle.gf_fraction.proofs.AllElements.{all_images}
-use Rattle.gf_nfg.specs.Position.{Position as p}
+use Rattle.gf_nfg.specs.inner.Position.{Position as p}
 use Rattle.gf_nfg.specs.Profiles.{positions, profiles, product}
 use Rattle.gf_nfg.specs.Table.{Table, IsTable, rows}
 use Rattle.gf_nfg.specs.Sentence.{Sentence, IsStrategies, IsPayoff, IsOutcomeInBraces}
 use Rattle.gf_nfg.specs.Sentence.{IsPayoffBody, IsOutcomeBody, IsOutcomeNumber}
 use Rattle.gf_nfg.specs.Sentence.{IsCount, IsLabelList, counted_labels}
-use Rattle.gf_nfg.specs.Machine.{Content, at, run, start}
+use Rattle.gf_nfg.specs.inner.Machine.{Content, at, run, start}
 use Rattle.gf_nfg.specs.TableParts.{entries_of, row_of}
-use Rattle.gf_nfg.specs.Meaning.{strategies_of, rows_by, table_of}
-use Rattle.gf_nfg.specs.Meaning.{HasPayoffs, HasLabels, IsComplete}
+use Rattle.gf_nfg.specs.inner.Meaning.{strategies_of, rows_by, table_of}
+use Rattle.gf_nfg.specs.inner.Meaning.{HasPayoffs, HasLabels, IsComplete}
 use Rattle.gf_nfg.proofs.MeaningLists.{joined, length-counted_labels, length-joined}
 use Rattle.gf_nfg.proofs.MeaningLists.{length-joined_rows, product_above_zero}
 use Rattle.gf_nfg.proofs.MeaningTables.{is_table, rows-table_of, strategies_of-joined}

@@ -10,12 +10,12 @@ use Rattle.gf_token.specs.Token.{Token}
 use Rattle.gf_token.specs.Token.Token.{Opening, Closing, Text, Bare}
 use Rattle.gf_token.specs.declared.fault.Why.{Why}
 use Rattle.gf_token.specs.Grammar.{Each, braced}
-use Rattle.gf_nfg.specs.Position.{Position as p}
+use Rattle.gf_nfg.specs.inner.Position.{Position as p}
 use Rattle.gf_nfg.specs.Profiles.{product}
 use Rattle.gf_token.specs.Indices.{count_of}
 use Rattle.gf_nfg.specs.Sentence.{IsCount, IsLabelList, counted_labels}
-use Rattle.gf_nfg.specs.Machine.{State, Content, at, run, counted, listed}
-use Rattle.gf_nfg.specs.Machine.{opened, with_count, with_labels, ◌>>=◌}
+use Rattle.gf_nfg.specs.inner.Machine.{State, Content, at, run, counted, listed}
+use Rattle.gf_nfg.specs.inner.Machine.{opened, with_count, with_labels, ◌>>=◌}
 use Rattle.gf_token.proofs.ReadingIndices.{count_is, count_again}
 use Rattle.gf_nfg.proofs.MeaningLists.{joined, length-counted_labels}
 use Rattle.gf_nfg.proofs.RunsCommon.{not_zero, pred_suc, with_no_labels, with_more_labels}

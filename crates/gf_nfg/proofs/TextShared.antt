@@ -8,7 +8,7 @@ use Rattle.std.proofs.lemmas.List.{drop_more, get_or-map, length-map, map-append
 use Rattle.std.proofs.lemmas.Option.{get_or_from_slice_get}
 use Rattle.gf_fraction.specs.Ratio.{Ratio}
 use Rattle.gf_nfg.specs.Profiles.{numbers_from}
-use Rattle.gf_nfg.specs.TextParts.{line_text, lines_with, row_text}
+use Rattle.gf_nfg.specs.inner.TextParts.{line_text, lines_with, row_text}
 use Rattle.gf_nfg.specs.TableParts.{RisesTo, kept_row, pieces, row_of}
 use Rattle.gf_nfg.specs.TableText.{lines_text}
 use Rattle.gf_nfg.proofs.NumbersInTurn.{get_or-numbers_from, length-numbers_from, numbers_joined}

@@ -10,7 +10,7 @@ use Rattle.gf_fraction.specs.Ratio.{Ratio}
 use Rattle.gf_fraction.specs.NumberText.{number_text}
 use Rattle.gf_nfg.specs.TableParts.{Names, own_of}
 use Rattle.gf_nfg.specs.TableText.{list_text, spaced, lines_text}
-use Rattle.gf_nfg.specs.TextParts.{Keeps, others_text, row_text}
+use Rattle.gf_nfg.specs.inner.TextParts.{Keeps, others_text, row_text}
 use Rattle.gf_nfg.proofs.TableRows.{counted_own}
 
 -- each item and a space, and the closing brace

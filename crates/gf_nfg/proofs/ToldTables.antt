@@ -1,12 +1,12 @@
 -- What was told of a file, and was kept or written, means its table.
 use Rattle.std.proofs.Common.{◌≡◌, ℕ, List, subst, sym}
 use Rattle.gf_nfg.specs.LimitPlace.{IsWithinLimit}
-use Rattle.gf_nfg.specs.Machine.{Content}
-use Rattle.gf_nfg.specs.Meaning.{IsComplete, table_of}
-use Rattle.gf_nfg.specs.ReaderState.{content_of, content_told, content_with}
+use Rattle.gf_nfg.specs.inner.Machine.{Content}
+use Rattle.gf_nfg.specs.inner.Meaning.{IsComplete, table_of}
+use Rattle.gf_nfg.specs.inner.ReaderState.{content_of, content_told, content_with}
 use Rattle.gf_nfg.specs.TableText.{SpellsTable}
-use Rattle.gf_nfg.specs.Told.{Told}
-use Rattle.gf_nfg.specs.ToldTable.{HasToldTable}
+use Rattle.gf_nfg.specs.inner.Told.{Told}
+use Rattle.gf_nfg.specs.inner.ToldTable.{HasToldTable}
 use Rattle.gf_nfg.specs.declared.heading.Heading.{Heading}
 use Rattle.gf_nfg.specs.declared.receive.Kept.{Kept}
 use Rattle.gf_nfg.proofs.MeaningTables.{within_limit}

@@ -5,16 +5,16 @@ use Rattle.std.proofs.lemmas.Grind.{flat_map-append}
 use Rattle.std.proofs.lemmas.List.{append-nil}
 use Rattle.gf_fraction.specs.Ratio.{Ratio}
 use Rattle.gf_fraction.specs.NumberText.{number_text}
-use Rattle.gf_nfg.specs.Machine.{Content}
-use Rattle.gf_nfg.specs.Meaning.{HasPayoffs, IsComplete, names_in, rows_by, table_of}
+use Rattle.gf_nfg.specs.inner.Machine.{Content}
+use Rattle.gf_nfg.specs.inner.Meaning.{HasPayoffs, IsComplete, names_in, rows_by, table_of}
 use Rattle.gf_nfg.specs.Profiles.{product}
 use Rattle.gf_nfg.specs.LimitPlace.{IsWithinLimit}
-use Rattle.gf_nfg.specs.ReaderState.{content_of, content_told, content_with}
+use Rattle.gf_nfg.specs.inner.ReaderState.{content_of, content_told, content_with}
 use Rattle.gf_nfg.specs.Table.{Table, rows}
 use Rattle.gf_nfg.specs.TableText.{SpellsTable, lines_text, list_text, named_by, quoted, table_text}
-use Rattle.gf_nfg.specs.TextParts.{first_line, heading_text, names_by, row_text}
-use Rattle.gf_nfg.specs.ToldTable.{HasToldTable}
-use Rattle.gf_nfg.specs.ToldText.{AreLines, HasBody, HasText}
+use Rattle.gf_nfg.specs.inner.TextParts.{first_line, heading_text, names_by, row_text}
+use Rattle.gf_nfg.specs.inner.ToldTable.{HasToldTable}
+use Rattle.gf_nfg.specs.inner.ToldText.{AreLines, HasBody, HasText}
 use Rattle.gf_nfg.specs.declared.heading.Heading.{Heading}
 use Rattle.gf_nfg.specs.declared.text.Text.{Text}
 use Rattle.gf_nfg.specs.declared.receive.Version.{Version}

@@ -4,10 +4,10 @@ ghost use Rattle.std.specs.Prelude.{◌≡◌, ◌++◌, List, ℕ, IfErr, IfOk,
 ghost use Rattle.gf_token.specs.declared.fault.Why.TheVariants.{Memory};
 ghost use Rattle.gf_nfg.specs.Judgement.{IsJudged};
 ghost use Rattle.gf_nfg.specs.LimitPlace.{IsWithinLimit};
-ghost use Rattle.gf_nfg.specs.Meaning.{IsComplete, rows_by};
-ghost use Rattle.gf_nfg.specs.ReaderState.{content_of};
+ghost use Rattle.gf_nfg.specs.inner.Meaning.{IsComplete, rows_by};
+ghost use Rattle.gf_nfg.specs.inner.ReaderState.{content_of};
 ghost use Rattle.gf_nfg.specs.TableText.{SpellsTable, lines_text, named_by, table_text};
-ghost use Rattle.gf_nfg.specs.TextParts.{row_text};
+ghost use Rattle.gf_nfg.specs.inner.TextParts.{row_text};
 
 use crate::lines::write_rows;
 use crate::parts::Parts;

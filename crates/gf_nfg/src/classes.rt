@@ -2,7 +2,7 @@
 
 ghost use Rattle.std.specs.Prelude.{◌≡◌, ◌<◌, ℕ, List, IfOk, false, length};
 ghost use Rattle.gf_fraction.specs.Ratio.{Ratio};
-ghost use Rattle.gf_nfg.specs.Classes.{ShareRows};
+ghost use Rattle.gf_nfg.specs.inner.Classes.{ShareRows};
 
 use std::alloc::{AllocError, Global};
 use std::marker::Model;
@@ -16,7 +16,7 @@ pub(crate) struct Classes {
 
 impl Model for Classes {
     ghost use Rattle.std.specs.Prelude.{List, ℕ};
-    ghost use Rattle.gf_nfg.specs.Classes.{LeadBack};
+    ghost use Rattle.gf_nfg.specs.inner.Classes.{LeadBack};
 
     ghost Value = { List ℕ };
 

@@ -1,8 +1,8 @@
 //! All of a strategic file but its payoffs, as it was read.
 
 ghost use Rattle.std.specs.Prelude.{◌≡◌};
-ghost use Rattle.gf_nfg.specs.Machine.{nothing};
-ghost use Rattle.gf_nfg.specs.ReaderState.{content_in};
+ghost use Rattle.gf_nfg.specs.inner.Machine.{nothing};
+ghost use Rattle.gf_nfg.specs.inner.ReaderState.{content_in};
 
 use crate::limit::ProfileCount;
 use gf_token::Label;

@@ -7,7 +7,7 @@ ghost use Rattle.gf_token.specs.Label.{label_of};
 ghost use Rattle.gf_token.specs.LabelSpelling.{IsLabel};
 ghost use Rattle.gf_nfg.specs.Sentence.{counted_labels};
 ghost use Rattle.gf_nfg.specs.TableParts.{AreSpellings};
-ghost use Rattle.gf_nfg.specs.TextParts.{Keeps};
+ghost use Rattle.gf_nfg.specs.inner.TextParts.{Keeps};
 
 use crate::pieces::piece;
 use gf_token::Label;

@@ -8,7 +8,7 @@ ghost use Rattle.gf_fraction.specs.NumberText.{number_text};
 ghost use Rattle.gf_nfg.specs.Profiles.{numbers_from};
 ghost use Rattle.gf_nfg.specs.TableParts.{kept_row};
 ghost use Rattle.gf_nfg.specs.TableText.{lines_text};
-ghost use Rattle.gf_nfg.specs.TextParts.{Keeps, line_text, lines_with, others_text, row_text};
+ghost use Rattle.gf_nfg.specs.inner.TextParts.{Keeps, line_text, lines_with, others_text, row_text};
 
 use crate::pieces::piece;
 use crate::rows::{Rows, Shared};

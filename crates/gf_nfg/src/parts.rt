@@ -1,8 +1,8 @@
 //! What a strategic file holds, as it was read, and the table that it means.
 
 ghost use Rattle.std.specs.Prelude.{◌≡◌, IfOk};
-ghost use Rattle.gf_nfg.specs.Meaning.{IsComplete, names_in, rows_by, table_of};
-ghost use Rattle.gf_nfg.specs.ReaderState.{content_of};
+ghost use Rattle.gf_nfg.specs.inner.Meaning.{IsComplete, names_in, rows_by, table_of};
+ghost use Rattle.gf_nfg.specs.inner.ReaderState.{content_of};
 ghost use Rattle.gf_nfg.specs.Table.{IsSpellable};
 
 use crate::heading::Heading;

@@ -3,7 +3,7 @@
 ghost use Rattle.std.specs.Prelude.{◌≡◌, IfErr, IfOk, OnOk, length};
 ghost use Rattle.gf_token.specs.declared.fault.Why.TheVariants.{Memory};
 ghost use Rattle.gf_nfg.specs.TableText.{SpellsTable};
-ghost use Rattle.gf_nfg.specs.ToldTable.{HasToldTable};
+ghost use Rattle.gf_nfg.specs.inner.ToldTable.{HasToldTable};
 ghost use Rattle.gf_nfg.specs.LimitPlace.{IsWithinLimit};
 ghost use Rattle.gf_nfg.specs.Judgement.{IsJudged, IsReadAs};
 

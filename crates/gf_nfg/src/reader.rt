@@ -7,12 +7,12 @@ ghost use Rattle.gf_token.specs.Label.{label_of};
 ghost use Rattle.gf_token.specs.Remaining.{StandsBefore};
 ghost use Rattle.gf_token.specs.declared.fault.Why.TheVariants.{Memory};
 ghost use Rattle.gf_token.specs.TokenSpelling.{Spells};
-ghost use Rattle.gf_nfg.specs.Heard.{Fails};
-ghost use Rattle.gf_nfg.specs.Machine.{nothing};
-ghost use Rattle.gf_nfg.specs.Position.Position.{Format};
-ghost use Rattle.gf_nfg.specs.ReaderState.{HasToldAll, answer, body_answer, content_in};
-ghost use Rattle.gf_nfg.specs.ReaderState.{labels_of};
-ghost use Rattle.gf_nfg.specs.Told.{told_heading};
+ghost use Rattle.gf_nfg.specs.inner.Heard.{Fails};
+ghost use Rattle.gf_nfg.specs.inner.Machine.{nothing};
+ghost use Rattle.gf_nfg.specs.inner.Position.Position.{Format};
+ghost use Rattle.gf_nfg.specs.inner.ReaderState.{HasToldAll, answer, body_answer, content_in};
+ghost use Rattle.gf_nfg.specs.inner.ReaderState.{labels_of};
+ghost use Rattle.gf_nfg.specs.inner.Told.{told_heading};
 ghost use Rattle.gf_nfg.specs.declared.receive.Version.TheVariants as version;
 
 mod body;

@@ -19,7 +19,7 @@ pub enum Version {
 /// turn, and then the numbers of outcomes.
 pub(crate) trait Receive<'a> {
     ghost use Rattle.std.specs.Prelude.{OnErr, OnOk};
-    ghost use Rattle.gf_nfg.specs.Told.{Told, told_heading, with_number, with_payoff};
+    ghost use Rattle.gf_nfg.specs.inner.Told.{Told, told_heading, with_number, with_payoff};
 
     /// It was told nothing.
     ghost untold: { Self → Type 0 };

@@ -58,7 +58,7 @@ fn write_payoff(payoff: Fraction, end: u8, out: &mut Vec<u8>) -> Result<(), Allo
 
 impl<'a> Receive<'a> for Text {
     ghost use Rattle.std.specs.Prelude.{◌≡◌, ◌≤◌, [], ⊤, vec_capacity, vec_len};
-    ghost use Rattle.gf_nfg.specs.ToldText.{HasText};
+    ghost use Rattle.gf_nfg.specs.inner.ToldText.{HasText};
 
     ghost untold = { λ t. (t.text.items ≡ [])
         × (t.kept.payoffs.items ≡ []) × (t.kept.numbers.items ≡ []) };

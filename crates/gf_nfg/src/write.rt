@@ -5,7 +5,7 @@ ghost use Rattle.std.specs.Prelude.{◌≡◌, ◌<◌, ◌++◌, OnErr, OnOk, l
 ghost use Rattle.gf_nfg.specs.Table.{IsSpellable, IsTable};
 ghost use Rattle.gf_nfg.specs.TableParts.{own_of};
 ghost use Rattle.gf_nfg.specs.TableText.{SpellsTable, list_text, quoted, table_text};
-ghost use Rattle.gf_nfg.specs.TextParts.{Keeps, first_line, heading_text};
+ghost use Rattle.gf_nfg.specs.inner.TextParts.{Keeps, first_line, heading_text};
 
 use crate::lines::write_rows;
 use crate::names::Names;

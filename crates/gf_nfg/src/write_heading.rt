@@ -2,12 +2,12 @@
 
 ghost use Rattle.std.specs.Prelude.{◌≡◌, ◌++◌, [], OnOk, if◌then◌else◌, map};
 ghost use Rattle.gf_token.specs.Label.{label_of};
-ghost use Rattle.gf_nfg.specs.Meaning.{names_in, strategies_of};
-ghost use Rattle.gf_nfg.specs.ReaderState.{content_in, labels_of};
+ghost use Rattle.gf_nfg.specs.inner.Meaning.{names_in, strategies_of};
+ghost use Rattle.gf_nfg.specs.inner.ReaderState.{content_in, labels_of};
 ghost use Rattle.gf_nfg.specs.Sentence.{counted_labels};
 ghost use Rattle.gf_nfg.specs.TableParts.{groups};
 ghost use Rattle.gf_nfg.specs.TableText.{list_text, quoted};
-ghost use Rattle.gf_nfg.specs.TextParts.{first_line, heading_text, names_by};
+ghost use Rattle.gf_nfg.specs.inner.TextParts.{first_line, heading_text, names_by};
 
 use crate::heading::Heading;
 use gf_token::{Label, write_label};

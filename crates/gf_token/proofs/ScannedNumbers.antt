@@ -11,8 +11,8 @@ use Rattle.gf_fraction.specs.Ratio.{Ratio, signed, whole}
 use Rattle.gf_fraction.specs.NumberSpelling.{IsNumber}
 use Rattle.gf_fraction.proofs.WholeNumbers.{digits_spelled, sign_of}
 use Rattle.gf_token.specs.Byte.{is_bare}
-use Rattle.gf_token.specs.Lexing.{lex}
-use Rattle.gf_token.specs.Lexing.Mode.{Gap, InBare}
+use Rattle.gf_token.specs.inner.Lexing.{lex}
+use Rattle.gf_token.specs.inner.Lexing.Mode.{Gap, InBare}
 use Rattle.gf_token.proofs.ScannedIndices.{digit_is_bare}
 use Rattle.gf_token.proofs.Steps.{bare_more, bare_open}
 

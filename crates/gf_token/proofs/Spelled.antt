@@ -12,8 +12,8 @@ use Rattle.gf_token.specs.LabelSpelling.{is_spelling_after}
 use Rattle.gf_token.specs.Token.{Token, Lexeme, lexeme, spelling}
 use Rattle.gf_token.specs.Token.Token.{Opening, Closing, Comma, Text, Bare, Broken}
 use Rattle.gf_token.specs.TokenSpelling.{IsGap, IsSpelled, MayPrecede, GoesOn, Spells}
-use Rattle.gf_token.specs.Lexing.{Mode, lex, single, begins}
-use Rattle.gf_token.specs.Lexing.Mode.{Gap, InText, InBare}
+use Rattle.gf_token.specs.inner.Lexing.{Mode, lex, single, begins}
+use Rattle.gf_token.specs.inner.Lexing.Mode.{Gap, InText, InBare}
 use Rattle.gf_token.proofs.Steps.{space_out, space_after, bare_out}
 
 abbrev pub AllBare : List ℕ → Type 0

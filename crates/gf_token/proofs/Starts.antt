@@ -6,8 +6,8 @@ use Rattle.std.proofs.lemmas.Bool.{cases_eq}
 use Rattle.gf_token.specs.Byte.{is_space, is_bare}
 use Rattle.gf_token.specs.Token.{Token, Lexeme, lexeme}
 use Rattle.gf_token.specs.Token.Token.{Opening, Closing, Comma, Text, Bare, Broken}
-use Rattle.gf_token.specs.Lexing.{lex, ended, after, single, begins}
-use Rattle.gf_token.specs.Lexing.Mode.{Gap, InText, InBare}
+use Rattle.gf_token.specs.inner.Lexing.{lex, ended, after, single, begins}
+use Rattle.gf_token.specs.inner.Lexing.Mode.{Gap, InText, InBare}
 use Rattle.gf_token.specs.Next.{starts, is_quoted, is_text_token, is_bare_token}
 use Rattle.gf_token.specs.Next.{is_opening, is_closing, is_comma}
 use Rattle.gf_token.proofs.Steps.{lex_more, bare_out, bare_if, opening, closing, comma}

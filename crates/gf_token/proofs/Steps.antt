@@ -11,9 +11,9 @@ use Rattle.gf_token.specs.Byte.{is_space, is_bare}
 use Rattle.gf_token.specs.LabelSpelling.{is_spelling, is_spelling_after}
 use Rattle.gf_token.specs.Token.{Lexeme, lexeme}
 use Rattle.gf_token.specs.Token.Token.{Opening, Closing, Comma, Bare, Broken}
-use Rattle.gf_token.specs.Lexing.{Mode, lex, ended, after, single, begins, last}
-use Rattle.gf_token.specs.Finding.{ClosesText}
-use Rattle.gf_token.specs.Lexing.Mode.{Gap, InText, InBare}
+use Rattle.gf_token.specs.inner.Lexing.{Mode, lex, ended, after, single, begins, last}
+use Rattle.gf_token.specs.inner.Finding.{ClosesText}
+use Rattle.gf_token.specs.inner.Lexing.Mode.{Gap, InText, InBare}
 
 pub lex_more : (m : Mode) (bytes : List ℕ) (at : ℕ) → at < length bytes → lex m at
     (drop at bytes) ≡ ended m at (get_or bytes at 0) ++ lex (after m at (get_or bytes at 0))

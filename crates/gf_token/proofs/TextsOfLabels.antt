@@ -12,8 +12,8 @@ use Rattle.std.proofs.lemmas.Slice.Eq.{slice_eq-Decides}
 use Rattle.std.proofs.Math.Seq.{get_or-append_seam, take-append_seam}
 use Rattle.gf_token.specs.Byte.{is_space}
 use Rattle.gf_token.specs.LabelSpelling.{is_spelling}
-use Rattle.gf_token.specs.Lexing.{lex}
-use Rattle.gf_token.specs.Lexing.Mode.{Gap, InText}
+use Rattle.gf_token.specs.inner.Lexing.{lex}
+use Rattle.gf_token.specs.inner.Lexing.Mode.{Gap, InText}
 use Rattle.gf_token.specs.Next.{starts, is_text_of}
 use Rattle.gf_token.specs.Token.{Token, Lexeme, lexeme, spelling}
 use Rattle.gf_token.specs.Token.Token.{Opening, Closing, Comma, Text, Bare, Broken}

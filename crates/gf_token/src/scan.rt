@@ -9,7 +9,7 @@ ghost use Rattle.std.specs.Prelude.{true, false, if◌then◌else◌};
 ghost use Rattle.std.specs.Char.{digit_value, is_ascii_digit};
 ghost use Rattle.gf_fraction.specs.Computed.{number_of};
 ghost use Rattle.gf_token.specs.Byte.{is_space, is_bare};
-ghost use Rattle.gf_token.specs.Finding.{lexed, ClosesText, EndsGap, Finds};
+ghost use Rattle.gf_token.specs.inner.Finding.{lexed, ClosesText, EndsGap, Finds};
 ghost use Rattle.gf_token.specs.Indices.{index_of};
 ghost use Rattle.gf_token.specs.Label.{label_of};
 ghost use Rattle.gf_token.specs.Next.{starts, is_text_of};

@@ -40,7 +40,7 @@ pub struct Tokens<'a> {
 }
 
 impl<'a> Model for Tokens<'a> {
-    ghost use Rattle.gf_token.specs.Finding.{lexed};
+    ghost use Rattle.gf_token.specs.inner.Finding.{lexed};
     ghost use Rattle.gf_token.specs.Remaining.{AreAhead, Remaining};
 
     ghost Value = { Remaining };

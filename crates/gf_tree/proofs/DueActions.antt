@@ -21,12 +21,12 @@ use Rattle.gf_token.specs.declared.fault.Why.TheVariants.{SumAboveOne, SumBelowO
 use Rattle.gf_tree.specs.Description.{Action, InformationSet, SetKey, same_set, set_of}
 use Rattle.gf_tree.specs.FiniteMap.{description_at}
 use Rattle.gf_tree.specs.Front.{InActions, IsNewSet, KnowsSet, ToProbability}
-use Rattle.gf_tree.specs.Machine.{Begun, Content, State, at, new_set_ends, same_number}
-use Rattle.gf_tree.specs.Machine.{set_known, shared}
-use Rattle.gf_tree.specs.Machine.Position.{NewAction, NewProbability, KnownAction}
-use Rattle.gf_tree.specs.Machine.Position.{KnownProbability}
-use Rattle.gf_tree.specs.Probability.{Share, is_one, same_ratio, share_by, share_of, up_to_one}
-use Rattle.gf_tree.specs.ReadGame.{run_tokens}
+use Rattle.gf_tree.specs.inner.Machine.{Begun, Content, State, at, new_set_ends, same_number}
+use Rattle.gf_tree.specs.inner.Machine.{set_known, shared}
+use Rattle.gf_tree.specs.inner.Machine.Position.{NewAction, NewProbability, KnownAction}
+use Rattle.gf_tree.specs.inner.Machine.Position.{KnownProbability}
+use Rattle.gf_tree.specs.inner.Probability.{Share, is_one, same_ratio, share_by, share_of, up_to_one}
+use Rattle.gf_tree.specs.inner.ReadGame.{run_tokens}
 use Rattle.gf_tree.specs.Reason.{GoesOnWith, HasSum, IsWrongBehind}
 use Rattle.gf_tree.specs.RowPlaces.{FileFront}
 use Rattle.gf_tree.specs.Rows.{IsNoNumber, a_new_action, a_new_branch, a_probability}

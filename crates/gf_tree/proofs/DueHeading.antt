@@ -6,9 +6,9 @@ use Rattle.gf_token.specs.Token.{Token}
 use Rattle.gf_token.specs.Token.Token.{Opening, Closing, Text, Bare}
 use Rattle.gf_token.specs.declared.fault.What.TheVariants as what
 use Rattle.gf_token.specs.declared.fault.Why.{Why}
-use Rattle.gf_tree.specs.Machine.{Content, Position, State, at, nothing, step, with_player}
-use Rattle.gf_tree.specs.Machine.Position.{Format, Version, Letter, Title, BeforePlayers}
-use Rattle.gf_tree.specs.Machine.Position.{InPlayers as Players, AfterPlayers, NodeDue}
+use Rattle.gf_tree.specs.inner.Machine.{Content, Position, State, at, nothing, step, with_player}
+use Rattle.gf_tree.specs.inner.Machine.Position.{Format, Version, Letter, Title, BeforePlayers}
+use Rattle.gf_tree.specs.inner.Machine.Position.{InPlayers as Players, AfterPlayers, NodeDue}
 use Rattle.gf_tree.specs.RowPlaces.{BehindComment, BehindPlayers, InPlayers, ToPlayers, ToTitle}
 use Rattle.gf_tree.specs.Rows.{Row, a_letter, a_node, a_player_name, a_text, a_word}
 use Rattle.gf_tree.specs.Rows.{an_opening, or_text}

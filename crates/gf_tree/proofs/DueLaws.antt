@@ -17,10 +17,10 @@ use Rattle.gf_token.specs.declared.fault.Why.TheVariants.{Expected}
 use Rattle.gf_token.specs.Index.{IsIndex}
 use Rattle.gf_token.specs.Indices.{count_of, index_of}
 use Rattle.gf_token.proofs.ReadingIndices.{count_again, index_again}
-use Rattle.gf_tree.specs.Machine.{Content, State, after_node, at, node_letter, personal_node}
-use Rattle.gf_tree.specs.Machine.Position.{Format, Version, Letter, Title, BeforePlayers, InPlayers}
-use Rattle.gf_tree.specs.Machine.Position.{AfterPlayers, NodeDue, ChanceName, PersonalName}
-use Rattle.gf_tree.specs.Machine.Position.{TerminalName}
+use Rattle.gf_tree.specs.inner.Machine.{Content, State, after_node, at, node_letter, personal_node}
+use Rattle.gf_tree.specs.inner.Machine.Position.{Format, Version, Letter, Title, BeforePlayers, InPlayers}
+use Rattle.gf_tree.specs.inner.Machine.Position.{AfterPlayers, NodeDue, ChanceName, PersonalName}
+use Rattle.gf_tree.specs.inner.Machine.Position.{TerminalName}
 use Rattle.gf_tree.specs.Rows.{a_letter, a_node, a_player_name, a_text}
 use Rattle.gf_tree.specs.Rows.{a_word, an_end, an_opening, or_text}
 use Rattle.gf_tree.specs.Sentence.{IsPositive}

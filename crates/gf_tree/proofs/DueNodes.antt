@@ -15,13 +15,13 @@ use Rattle.gf_token.proofs.ReadingIndices.{count_again, count_is, index_is}
 use Rattle.gf_tree.specs.Description.{InformationSet, SetKey, same_set}
 use Rattle.gf_tree.specs.FiniteMap.{description_at}
 use Rattle.gf_tree.specs.Front.{BehindSetNumber, IsNewSet, KnowsSet, ToPlayerNumber, ToSetNumber}
-use Rattle.gf_tree.specs.Machine.{Begun, Content, Position, State, after_node, at, begun}
-use Rattle.gf_tree.specs.Machine.{behind_set, node_letter, outcome_number, personal_node}
-use Rattle.gf_tree.specs.Machine.{player_number, same_text, set_number}
-use Rattle.gf_tree.specs.Machine.Position.{NodeDue, ChanceName, PersonalName, TerminalName}
-use Rattle.gf_tree.specs.Machine.Position.{PlayerNumber, SetNumber, NewSetName, NewSetOpening}
-use Rattle.gf_tree.specs.Machine.Position.{KnownSetName, KnownSetOpening}
-use Rattle.gf_tree.specs.ReadGame.{run_tokens, then_run}
+use Rattle.gf_tree.specs.inner.Machine.{Begun, Content, Position, State, after_node, at, begun}
+use Rattle.gf_tree.specs.inner.Machine.{behind_set, node_letter, outcome_number, personal_node}
+use Rattle.gf_tree.specs.inner.Machine.{player_number, same_text, set_number}
+use Rattle.gf_tree.specs.inner.Machine.Position.{NodeDue, ChanceName, PersonalName, TerminalName}
+use Rattle.gf_tree.specs.inner.Machine.Position.{PlayerNumber, SetNumber, NewSetName, NewSetOpening}
+use Rattle.gf_tree.specs.inner.Machine.Position.{KnownSetName, KnownSetOpening}
+use Rattle.gf_tree.specs.inner.ReadGame.{run_tokens, then_run}
 use Rattle.gf_tree.specs.RowPlaces.{BehindLetter, BehindSetName, FileFront}
 use Rattle.gf_tree.specs.Rows.{Row, a_first_name, a_player, a_set, a_text, an_opening}
 use Rattle.gf_tree.specs.Rows.{an_outcome, or_name}

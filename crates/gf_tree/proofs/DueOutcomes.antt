@@ -11,12 +11,12 @@ use Rattle.gf_token.proofs.ReadingIndices.{index_again}
 use Rattle.gf_tree.specs.Description.{Outcome}
 use Rattle.gf_tree.specs.FiniteMap.{description_at}
 use Rattle.gf_tree.specs.Front.{BehindOutcomeNumber, IsNewOutcome, KnowsOutcome, ToOutcomeNumber}
-use Rattle.gf_tree.specs.Machine.{Begun, Content, after_node, at, behind_outcome}
-use Rattle.gf_tree.specs.Machine.{outcome_number, same_text, with_node}
-use Rattle.gf_tree.specs.Machine.Position.{NodeDue, OutcomeNumber, NewOutcomeName}
-use Rattle.gf_tree.specs.Machine.Position.{NewOutcomeOpening, KnownOutcomeName}
-use Rattle.gf_tree.specs.Machine.Position.{KnownOutcomeOpening}
-use Rattle.gf_tree.specs.ReadGame.{run_tokens, then_run}
+use Rattle.gf_tree.specs.inner.Machine.{Begun, Content, after_node, at, behind_outcome}
+use Rattle.gf_tree.specs.inner.Machine.{outcome_number, same_text, with_node}
+use Rattle.gf_tree.specs.inner.Machine.Position.{NodeDue, OutcomeNumber, NewOutcomeName}
+use Rattle.gf_tree.specs.inner.Machine.Position.{NewOutcomeOpening, KnownOutcomeName}
+use Rattle.gf_tree.specs.inner.Machine.Position.{KnownOutcomeOpening}
+use Rattle.gf_tree.specs.inner.ReadGame.{run_tokens, then_run}
 use Rattle.gf_tree.specs.RowPlaces.{BehindOutcomeName, BehindSet, BehindZero, FileFront}
 use Rattle.gf_tree.specs.Rows.{a_first_name, a_node, an_end, an_opening, an_outcome, or_name}
 use Rattle.gf_tree.proofs.DueLaws.{after_last_node, node_by, node_due}

@@ -16,10 +16,10 @@ use Rattle.gf_token.specs.declared.fault.Why.{Why}
 use Rattle.gf_tree.specs.Description.{Outcome}
 use Rattle.gf_tree.specs.FiniteMap.{description_at}
 use Rattle.gf_tree.specs.Front.{InPayoffs, IsExtensiveFile, IsNewOutcome, KnowsOutcome}
-use Rattle.gf_tree.specs.Machine.{Begun, Content, State, at, outcome_ends, paid, same_number}
-use Rattle.gf_tree.specs.Machine.Position.{NodeDue}
-use Rattle.gf_tree.specs.Machine.Position.{AfterKnownPayoff}
-use Rattle.gf_tree.specs.ReadGame.{run_tokens}
+use Rattle.gf_tree.specs.inner.Machine.{Begun, Content, State, at, outcome_ends, paid, same_number}
+use Rattle.gf_tree.specs.inner.Machine.Position.{NodeDue}
+use Rattle.gf_tree.specs.inner.Machine.Position.{AfterKnownPayoff}
+use Rattle.gf_tree.specs.inner.ReadGame.{run_tokens}
 use Rattle.gf_tree.specs.RowPlaces.{BehindComma, BehindNode, BehindPayoff}
 use Rattle.gf_tree.specs.RowPlaces.{BehindPayoffs, FileFront, ToPayoff}
 use Rattle.gf_tree.specs.Rows.{Row, a_closing, a_node, a_payoff, an_end, or_comma}

@@ -8,14 +8,14 @@ use Rattle.gf_token.specs.Place.{Begins, IsAccepted}
 use Rattle.gf_token.specs.declared.fault.Why.{Why}
 use Rattle.gf_token.specs.declared.fault.Why.TheVariants.{Unterminated}
 use Rattle.gf_tree.specs.Front.{IsExtensiveFile}
-use Rattle.gf_tree.specs.Machine.{Content, Position, State, at, due, may_end, node_or_end}
-use Rattle.gf_tree.specs.Machine.{nothing, step}
-use Rattle.gf_tree.specs.Machine.Position.{Format}
-use Rattle.gf_tree.specs.Machine.Position.{NodeDue}
-use Rattle.gf_tree.specs.Machine.Position.{KnownAction}
-use Rattle.gf_tree.specs.Machine.Position.{NewPayoff, AfterNewPayoff, KnownOutcomeName}
-use Rattle.gf_tree.specs.Machine.Position.{KnownPayoff, AfterKnownPayoff}
-use Rattle.gf_tree.specs.ReadGame.{run_tokens, then_run}
+use Rattle.gf_tree.specs.inner.Machine.{Content, Position, State, at, due, may_end, node_or_end}
+use Rattle.gf_tree.specs.inner.Machine.{nothing, step}
+use Rattle.gf_tree.specs.inner.Machine.Position.{Format}
+use Rattle.gf_tree.specs.inner.Machine.Position.{NodeDue}
+use Rattle.gf_tree.specs.inner.Machine.Position.{KnownAction}
+use Rattle.gf_tree.specs.inner.Machine.Position.{NewPayoff, AfterNewPayoff, KnownOutcomeName}
+use Rattle.gf_tree.specs.inner.Machine.Position.{KnownPayoff, AfterKnownPayoff}
+use Rattle.gf_tree.specs.inner.ReadGame.{run_tokens, then_run}
 use Rattle.gf_tree.specs.Rows.{Row, Accepts, Refuses, RefusesFor, Takes}
 use Rattle.gf_tree.proofs.RunPlaces.{Leads, follows, is_file, is_read, no_file, not_follows}
 use Rattle.gf_tree.proofs.RunPlaces.{then_walk, walk, walk_run}

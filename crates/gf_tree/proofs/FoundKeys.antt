@@ -7,7 +7,7 @@ use Rattle.std.proofs.lemmas.Iterator.Adapters.{position_from-zero}
 use Rattle.gf_fraction.specs.Ratio.{Ratio}
 use Rattle.gf_tree.specs.Description.{Action, InformationSet, Outcome}
 use Rattle.gf_tree.specs.FiniteMap.{Described, description_at}
-use Rattle.gf_tree.specs.GameParts.{outcome_with, set_with}
+use Rattle.gf_tree.specs.Description.{outcome_with, set_with}
 use Rattle.gf_tree.proofs.Uses.{IsEquality}
 
 either_way : {K : Type 0} (same : K → K → Bool) → IsEquality same → (key k : K)

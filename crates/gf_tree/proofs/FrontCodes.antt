@@ -16,9 +16,9 @@ use Rattle.gf_tree.specs.FiniteMap.{description_at}
 use Rattle.gf_tree.specs.FileTree.{FileNode}
 use Rattle.gf_tree.specs.Front.{BehindOutcomeNumber, BehindSetNumber, EndsInNode, InActions}
 use Rattle.gf_tree.specs.Front.{InPayoffs, KnowsOutcome, KnowsSet, ToProbability}
-use Rattle.gf_tree.specs.Machine.{Content, nothing, Begun, after_node, begun, personal_node}
-use Rattle.gf_tree.specs.Machine.Position.{Format, NodeDue, KnownAction}
-use Rattle.gf_tree.specs.ReadGame.{run_tokens, then_run}
+use Rattle.gf_tree.specs.inner.Machine.{Content, nothing, Begun, after_node, begun, personal_node}
+use Rattle.gf_tree.specs.inner.Machine.Position.{Format, NodeDue, KnownAction}
+use Rattle.gf_tree.specs.inner.ReadGame.{run_tokens, then_run}
 use Rattle.gf_tree.proofs.FrontNodes.{learned_at, parted}
 use Rattle.gf_tree.proofs.FrontRuns.{GoesOn, in_actions}
 use Rattle.gf_tree.proofs.Groups.{NoText}

@@ -18,9 +18,9 @@ use Rattle.gf_tree.specs.Judgement.{IsRefusal}
 use Rattle.gf_tree.specs.Reason.{StaysBelowOne}
 use Rattle.gf_tree.specs.Rows.{a_new_branch}
 use Rattle.gf_tree.proofs.DueActions.{new_branch}
-use Rattle.gf_tree.specs.Machine.{Content, State, due, nothing, run, step}
-use Rattle.gf_tree.specs.Machine.Position.{Format}
-use Rattle.gf_tree.specs.ReadGame.{run_tokens, then_run}
+use Rattle.gf_tree.specs.inner.Machine.{Content, State, due, nothing, run, step}
+use Rattle.gf_tree.specs.inner.Machine.Position.{Format}
+use Rattle.gf_tree.specs.inner.ReadGame.{run_tokens, then_run}
 use Rattle.gf_tree.specs.Reason.{Holds, IsReason, DiffersFromOutcome, DiffersFromSet, IsBadIndex}
 use Rattle.gf_tree.specs.Reason.{EndsInFirstUse, IsMismatch, IsNoText}
 use Rattle.gf_tree.specs.Rows.{Obeys, Row, IsNoNumber, Refuses, a_first_name, a_node, an_end}

@@ -12,13 +12,13 @@ use Rattle.gf_tree.specs.Description.{Action, InformationSet, SetKey, same_set, 
 use Rattle.gf_tree.specs.FiniteMap.{description_at}
 use Rattle.gf_tree.specs.FileTree.{Use}
 use Rattle.gf_tree.specs.Front.{BehindOutcomeNumber, InActions, ToOutcomeNumber, ToProbability}
-use Rattle.gf_tree.specs.Machine.{Begun, Content, at, begun, behind_label, behind_outcome}
-use Rattle.gf_tree.specs.Machine.{set_known, behind_set, new_set_ends, set_ends, with_set}
-use Rattle.gf_tree.specs.Probability.{is_one}
+use Rattle.gf_tree.specs.inner.Machine.{Begun, Content, at, begun, behind_label, behind_outcome}
+use Rattle.gf_tree.specs.inner.Machine.{set_known, behind_set, new_set_ends, set_ends, with_set}
+use Rattle.gf_tree.specs.inner.Probability.{is_one}
 use Rattle.gf_token.specs.declared.fault.Why.TheVariants.{SumBelowOne}
-use Rattle.gf_tree.specs.Machine.Position.{NodeDue, NewAction, NewProbability, KnownAction}
-use Rattle.gf_tree.specs.Machine.Position.{KnownProbability, OutcomeNumber}
-use Rattle.gf_tree.specs.ReadGame.{run_tokens, then_run}
+use Rattle.gf_tree.specs.inner.Machine.Position.{NodeDue, NewAction, NewProbability, KnownAction}
+use Rattle.gf_tree.specs.inner.Machine.Position.{KnownProbability, OutcomeNumber}
+use Rattle.gf_tree.specs.inner.ReadGame.{run_tokens, then_run}
 use Rattle.gf_tree.specs.Sentence.{IsDescription, IsInformationSet, IsMover, IsPositive}
 use Rattle.gf_tree.proofs.FrontRuns.{GoesOn, HaveSumFrom, behind_number, due_is, goes_before}
 use Rattle.gf_tree.proofs.FrontRuns.{in_actions}

@@ -12,9 +12,9 @@ use Rattle.gf_tree.specs.FiniteMap.{Described, description_at}
 use Rattle.gf_tree.specs.FileTree.{Use, FileNode}
 use Rattle.gf_tree.specs.Front.{EndsInNode}
 use Rattle.gf_tree.specs.Learned.{Learns}
-use Rattle.gf_tree.specs.Machine.{Content, nothing}
-use Rattle.gf_tree.specs.Machine.Position.{Format, AfterPlayers, NodeDue}
-use Rattle.gf_tree.specs.ReadGame.{run_tokens}
+use Rattle.gf_tree.specs.inner.Machine.{Content, nothing}
+use Rattle.gf_tree.specs.inner.Machine.Position.{Format, AfterPlayers, NodeDue}
+use Rattle.gf_tree.specs.inner.ReadGame.{run_tokens}
 use Rattle.gf_tree.specs.Sentence.{IsNode, Says}
 use Rattle.gf_tree.proofs.Groups.{NoText}
 use Rattle.gf_tree.proofs.LearnedGames.{told_found}

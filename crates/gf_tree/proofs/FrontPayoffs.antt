@@ -14,10 +14,10 @@ use Rattle.gf_token.specs.Grammar.{Each, IsPayoffInBraces}
 use Rattle.gf_tree.specs.Description.{Outcome}
 use Rattle.gf_tree.specs.FiniteMap.{description_at}
 use Rattle.gf_tree.specs.Front.{InPayoffs}
-use Rattle.gf_tree.specs.Machine.{Begun, Content, at, behind_outcome, with_node, with_payoff}
-use Rattle.gf_tree.specs.Machine.Position.{NodeDue, AfterNewPayoff, AfterKnownPayoff}
-use Rattle.gf_tree.specs.Machine.Position.{KnownOutcomeName, KnownOutcomeOpening}
-use Rattle.gf_tree.specs.ReadGame.{run_tokens, then_run}
+use Rattle.gf_tree.specs.inner.Machine.{Begun, Content, at, behind_outcome, with_node, with_payoff}
+use Rattle.gf_tree.specs.inner.Machine.Position.{NodeDue, AfterNewPayoff, AfterKnownPayoff}
+use Rattle.gf_tree.specs.inner.Machine.Position.{KnownOutcomeName, KnownOutcomeOpening}
+use Rattle.gf_tree.specs.inner.ReadGame.{run_tokens, then_run}
 use Rattle.gf_tree.proofs.FrontRuns.{GoesOn, goes_before}
 use Rattle.gf_tree.proofs.Groups.{numbers_once, regroup}
 use Rattle.gf_tree.proofs.RunPayoffs.{known_at, known_comma, known_step, more_payoffs, new_at}

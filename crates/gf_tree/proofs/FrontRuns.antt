@@ -16,12 +16,12 @@ use Rattle.gf_token.proofs.ReadingIndices.{count_again}
 use Rattle.gf_tree.specs.Description.{Action, InformationSet, SetKey, same_set, set_of, IsSet}
 use Rattle.gf_tree.specs.FiniteMap.{description_at}
 use Rattle.gf_tree.specs.Front.{BehindSetNumber, InActions, ToPlayerNumber, ToSetNumber}
-use Rattle.gf_tree.specs.Machine.{Begun, Content, after_node, at, begun, behind_label, behind_set}
-use Rattle.gf_tree.specs.Machine.{personal_node, set_number, shared, with_action}
-use Rattle.gf_tree.specs.Machine.Position.{NodeDue, PlayerNumber, SetNumber, NewAction, KnownAction}
-use Rattle.gf_tree.specs.Machine.Position.{KnownProbability, KnownSetName, KnownSetOpening}
-use Rattle.gf_tree.specs.Probability.{share_of}
-use Rattle.gf_tree.specs.ReadGame.{run_tokens, then_run}
+use Rattle.gf_tree.specs.inner.Machine.{Begun, Content, after_node, at, begun, behind_label, behind_set}
+use Rattle.gf_tree.specs.inner.Machine.{personal_node, set_number, shared, with_action}
+use Rattle.gf_tree.specs.inner.Machine.Position.{NodeDue, PlayerNumber, SetNumber, NewAction, KnownAction}
+use Rattle.gf_tree.specs.inner.Machine.Position.{KnownProbability, KnownSetName, KnownSetOpening}
+use Rattle.gf_tree.specs.inner.Probability.{share_of}
+use Rattle.gf_tree.specs.inner.ReadGame.{run_tokens, then_run}
 use Rattle.gf_tree.specs.Sentence.{IsAction, IsMover}
 use Rattle.gf_tree.proofs.Groups.{numbers_once, regroup}
 use Rattle.gf_tree.proofs.RunActions.{more_actions, no_actions, shared_found, with_actions}

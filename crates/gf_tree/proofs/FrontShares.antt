@@ -19,10 +19,10 @@ use Rattle.gf_token.specs.declared.fault.Why.{Why}
 use Rattle.gf_token.specs.declared.fault.Why.TheVariants.{NegativeProbability, SumAboveOne}
 use Rattle.gf_token.specs.declared.fault.Why.TheVariants.{SumOverflow, NoEntry}
 use Rattle.gf_tree.specs.Description.{InformationSet, SetKey, set_of}
-use Rattle.gf_tree.specs.Machine.{Content, nothing, shared}
-use Rattle.gf_tree.specs.Machine.Position.{Format, NewProbability}
-use Rattle.gf_tree.specs.Probability.{share_by, up_to_one}
-use Rattle.gf_tree.specs.ReadGame.{run_tokens, then_run}
+use Rattle.gf_tree.specs.inner.Machine.{Content, nothing, shared}
+use Rattle.gf_tree.specs.inner.Machine.Position.{Format, NewProbability}
+use Rattle.gf_tree.specs.inner.Probability.{share_by, up_to_one}
+use Rattle.gf_tree.specs.inner.ReadGame.{run_tokens, then_run}
 use Rattle.gf_tree.specs.Reason.{AddsUp, HasSum, IsWrongProbability, ListsNothing}
 use Rattle.gf_tree.specs.Reason.{NewProbabilityIsDue}
 use Rattle.gf_tree.proofs.FrontCodes.{ReadsOn, begins_actions, begins_probability, refused, split}

@@ -8,7 +8,7 @@ use Rattle.gf_tree.specs.PrefixOrder.{Entry, flatten}
 use Rattle.gf_tree.specs.Description.{SetKey, InformationSet, Outcome}
 use Rattle.gf_tree.specs.FiniteMap.{Described}
 use Rattle.gf_tree.specs.Game.{Node, Game, IsGame}
-use Rattle.gf_tree.specs.GameParts.{AreNodes, IsHeld, game_with}
+use Rattle.gf_tree.specs.inner.GameParts.{AreNodes, IsHeld, game_with}
 use Rattle.gf_tree.specs.KeptNodes.{entries_with, kept_of, tree_with}
 use Rattle.gf_tree.specs.Listed.{AreListed}
 use Rattle.gf_tree.specs.Renumbering.{Renumbering, IsRenumbering, renumbered, renumbered_node}

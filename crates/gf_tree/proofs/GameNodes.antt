@@ -15,10 +15,10 @@ use Rattle.gf_tree.specs.FiniteMap.{Described}
 use Rattle.gf_tree.specs.Game.{Node, IsGame}
 use Rattle.gf_tree.specs.Spellable.{IsSpellable}
 use Rattle.gf_tree.specs.GameCode.{no_node}
-use Rattle.gf_tree.specs.GameParts.{AreNodes, IsHeld, game_with}
+use Rattle.gf_tree.specs.inner.GameParts.{AreNodes, IsHeld, game_with}
 use Rattle.gf_tree.specs.Subtrees.{child_trees, list_of, root_node, subtree_at}
 use Rattle.gf_tree.specs.Subtrees.{subtree_sizes, subtrees, subtrees_all}
-use Rattle.gf_tree.specs.Skipped.{Begin, skipped}
+use Rattle.gf_tree.specs.inner.Skipped.{Begin, skipped}
 use Rattle.gf_tree.specs.KeptNodes.{Kept, IsPlaced, ArePlaced, child_count}
 use Rattle.gf_tree.specs.KeptNodes.{child_counts, entries_with}
 use Rattle.gf_tree.specs.KeptNodes.{kept_of, node_with, sizes_of, tree_with}

@@ -14,9 +14,9 @@ use Rattle.gf_tree.specs.FileNodes.{file_nodes, node_behind, use_behind, with_th
 use Rattle.gf_tree.specs.FiniteMap.{Described, description_at, first_uses}
 use Rattle.gf_tree.specs.Game.{Game, Node, IsGame}
 use Rattle.gf_tree.specs.GameCode.{no_node}
-use Rattle.gf_tree.specs.GameParts.{IsHeld, game_with}
+use Rattle.gf_tree.specs.inner.GameParts.{IsHeld, game_with}
 use Rattle.gf_tree.specs.KeptNodes.{Kept, entries_with, entry_with, kept_of}
-use Rattle.gf_tree.specs.KnownUses.{AreKnown, use_at}
+use Rattle.gf_tree.specs.inner.KnownUses.{AreKnown, use_at}
 use Rattle.gf_tree.specs.PrefixOrder.{Entry, flatten}
 use Rattle.gf_tree.specs.Subtrees.{subtrees}
 use Rattle.gf_tree.specs.declared.kept.Stored.{Stored}

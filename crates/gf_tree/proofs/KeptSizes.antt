@@ -8,7 +8,7 @@ use Rattle.gf_tree.specs.PrefixOrder.{Entry, flatten, flatten_all}
 use Rattle.gf_tree.specs.Description.{SetKey, InformationSet}
 use Rattle.gf_tree.specs.FiniteMap.{Described}
 use Rattle.gf_tree.specs.Subtrees.{subtree_sizes}
-use Rattle.gf_tree.specs.Skipped.{Begin, skipped, sizes_grown}
+use Rattle.gf_tree.specs.inner.Skipped.{Begin, skipped, sizes_grown}
 use Rattle.gf_tree.specs.KeptNodes.{ArePlaced, child_count, child_counts, kept_of, sizes_of}
 use Rattle.gf_tree.specs.declared.kept.Stored.{Stored}
 use Rattle.gf_tree.proofs.SubtreeSizes.{begin_children, counts_of, sizes_are, skips_once, stands}

@@ -13,7 +13,7 @@ use Rattle.std.proofs.lemmas.Option.{slice_get-map}
 use Rattle.gf_tree.specs.FiniteMap.{Described, description_at, first_uses}
 use Rattle.gf_tree.specs.FirstUse.{through_first_use, first_use_number}
 use Rattle.gf_tree.specs.FileNodes.{use_behind}
-use Rattle.gf_tree.specs.KnownUses.{use_at}
+use Rattle.gf_tree.specs.inner.KnownUses.{use_at}
 use Rattle.gf_tree.proofs.FirstUseNumbers.{number_at, number_at_most}
 use Rattle.gf_tree.proofs.FirstUses.{AreDistinct, first_uses_distinct}
 use Rattle.gf_tree.proofs.Lookups.{entry_at}

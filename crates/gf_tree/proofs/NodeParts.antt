@@ -20,12 +20,12 @@ use Rattle.gf_tree.specs.Description.{Action, SetKey, InformationSet, Outcome, s
 use Rattle.gf_tree.specs.FiniteMap.{Described}
 use Rattle.gf_tree.specs.FirstUse.{outcome_numbers}
 use Rattle.gf_tree.specs.Game.{Game, IsGame, Node, set_at, used_outcomes, used_sets}
-use Rattle.gf_tree.specs.GameParts.{AreNodes}
+use Rattle.gf_tree.specs.inner.GameParts.{AreNodes}
 use Rattle.gf_tree.specs.KeptNodes.{kept_of, tree_with}
 use Rattle.gf_tree.specs.KnownSets.{known_of, number_among}
 use Rattle.gf_tree.specs.Movers.{IsMover}
 use Rattle.gf_tree.specs.OutcomePositions.{position_among, position_at}
-use Rattle.gf_tree.specs.Skipped.{Begin, skipped}
+use Rattle.gf_tree.specs.inner.Skipped.{Begin, skipped}
 use Rattle.gf_tree.specs.Subtrees.{child_trees, root_node, subtree_at, subtree_sizes}
 use Rattle.gf_tree.specs.Subtrees.{subtrees, subtrees_all}
 use Rattle.gf_tree.specs.declared.kept.Stored.{Stored}

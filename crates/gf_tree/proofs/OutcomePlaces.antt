@@ -7,8 +7,8 @@ use Rattle.std.specs.Map.{lookup}
 use Rattle.std.proofs.lemmas.Iterator.Adapters.{position_from-zero}
 use Rattle.gf_fraction.specs.Ratio.{Ratio}
 use Rattle.gf_tree.specs.declared.outcomes.Entry.{Entry}
-use Rattle.gf_tree.specs.KnownOutcomes.{KnownOutcomes}
-use Rattle.gf_tree.specs.StoredOutcomes.{described, stored_outcomes, places_from, AreOutcomes}
+use Rattle.gf_tree.specs.inner.KnownOutcomes.{KnownOutcomes}
+use Rattle.gf_tree.specs.inner.StoredOutcomes.{described, stored_outcomes, places_from, AreOutcomes}
 
 found_from : (payoffs : List Ratio) (number : ℕ) (entries : List Entry) (place : ℕ)
     → lookup (nat_eq number) (places_from place entries)

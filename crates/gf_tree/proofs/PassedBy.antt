@@ -5,9 +5,9 @@ use Rattle.gf_token.specs.Remaining.{Remaining}
 use Rattle.gf_token.specs.Token.{Lexeme, Token, lexeme}
 use Rattle.gf_token.specs.Token.Token.{Bare, Broken, Closing, Comma, Opening, Text}
 use Rattle.gf_tree.specs.Description.{InformationSet, Outcome, SetKey}
-use Rattle.gf_tree.specs.Machine.{Content, Position, begun}
-use Rattle.gf_tree.specs.Machine.Position.{KnownOutcomeName, KnownSetName, NodeDue, OutcomeNumber}
-use Rattle.gf_tree.specs.ReaderState.{heard}
+use Rattle.gf_tree.specs.inner.Machine.{Content, Position, begun}
+use Rattle.gf_tree.specs.inner.Machine.Position.{KnownOutcomeName, KnownSetName, NodeDue, OutcomeNumber}
+use Rattle.gf_tree.specs.inner.ReaderState.{heard}
 
 abbrev remaining : List ℕ → List Lexeme → Remaining
 remaining input ahead = record { input = input; ahead = ahead }

@@ -15,17 +15,17 @@ use Rattle.gf_tree.specs.Description.{SetKey, InformationSet, Outcome}
 use Rattle.gf_tree.specs.FiniteMap.{Described}
 use Rattle.gf_tree.specs.Game.{Game, IsGame, Node}
 use Rattle.gf_tree.specs.GameOf.{SpellsGame}
-use Rattle.gf_tree.specs.GameParts.{game_with}
+use Rattle.gf_tree.specs.inner.GameParts.{game_with}
 use Rattle.gf_tree.specs.Judgement.{IsJudged, IsRefusal}
 use Rattle.gf_tree.specs.KeptNodes.{Kept, entries_with}
-use Rattle.gf_tree.specs.Machine.{Content, nothing, run}
-use Rattle.gf_tree.specs.Machine.Position.{Format}
-use Rattle.gf_tree.specs.Passed.{HasPassed}
+use Rattle.gf_tree.specs.inner.Machine.{Content, nothing, run}
+use Rattle.gf_tree.specs.inner.Machine.Position.{Format}
+use Rattle.gf_tree.specs.inner.Passed.{HasPassed}
 use Rattle.gf_tree.specs.PrefixOrder.{Entry, Fills}
-use Rattle.gf_tree.specs.ReadGame.{game_of}
+use Rattle.gf_tree.specs.inner.ReadGame.{game_of}
 use Rattle.gf_tree.specs.Reason.{IsReason}
-use Rattle.gf_tree.specs.ReaderState.{Answer, Fails, HasPassedPlace, heard}
-use Rattle.gf_tree.specs.ReaderState.Fails.{of_file, of_memory}
+use Rattle.gf_tree.specs.inner.ReaderState.{Answer, Fails, HasPassedPlace, heard}
+use Rattle.gf_tree.specs.inner.ReaderState.Fails.{of_file, of_memory}
 use Rattle.gf_tree.specs.Spellable.{IsSpellable}
 use Rattle.gf_tree.proofs.FrontJudged.{refuses}
 use Rattle.gf_tree.proofs.RunGames.{file_found}

@@ -8,7 +8,7 @@ use Rattle.std.proofs.Common.{subst}
 use Rattle.std.proofs.lemmas.List.{length-append, length-map}
 use Rattle.std.proofs.lemmas.List.Quantifiers.{position-Some}
 use Rattle.gf_tree.specs.KnownSets.{KnownSets}
-use Rattle.gf_tree.specs.KnownOutcomes.{KnownOutcomes}
+use Rattle.gf_tree.specs.inner.KnownOutcomes.{KnownOutcomes}
 use Rattle.gf_tree.specs.declared.reader.Reader.{Reader}
 use Rattle.std.specs.List.{find}
 use Rattle.std.proofs.lemmas.Option.{slice_get_within}
@@ -25,28 +25,28 @@ use Rattle.gf_tree.proofs.RunPassed.{passed_before}
 use Rattle.gf_token.specs.Remaining.{Remaining, StandsBefore}
 use Rattle.gf_token.specs.declared.fault.Span.{Span}
 use Rattle.gf_token.specs.declared.token.TextToken.{TextToken}
-use Rattle.gf_tree.specs.GameParts.{outcome_with, set_with}
+use Rattle.gf_tree.specs.Description.{outcome_with, set_with}
 use Rattle.gf_tree.specs.KeptNodes.{ArePlaced, Kept}
 use Rattle.gf_tree.specs.KeptNodes.{actions_counted, entries_with}
-use Rattle.gf_tree.specs.Machine.{Begun, Content, begun, behind_set, nothing, run, set_ends}
-use Rattle.gf_tree.specs.Machine.{set_known, set_number, then_on, with_outcome, with_set}
-use Rattle.gf_tree.specs.Machine.{Position, State, new_set_ends, with_action}
-use Rattle.gf_tree.specs.Machine.Position.{Format, KnownSetName, NewAction}
-use Rattle.gf_tree.specs.Machine.Position.{OutcomeNumber, SetNumber}
+use Rattle.gf_tree.specs.inner.Machine.{Begun, Content, begun, behind_set, nothing, run, set_ends}
+use Rattle.gf_tree.specs.inner.Machine.{set_known, set_number, then_on, with_outcome, with_set}
+use Rattle.gf_tree.specs.inner.Machine.{Position, State, new_set_ends, with_action}
+use Rattle.gf_tree.specs.inner.Machine.Position.{Format, KnownSetName, NewAction}
+use Rattle.gf_tree.specs.inner.Machine.Position.{OutcomeNumber, SetNumber}
 use Rattle.gf_tree.specs.Actions.{actions_of}
 use Rattle.gf_tree.specs.declared.action.Action as held
 use Rattle.gf_token.specs.declared.fault.Fault.{Fault}
 use Rattle.gf_token.specs.declared.fault.Why.{Why}
-use Rattle.gf_tree.specs.AddsUp.{adds_up}
+use Rattle.gf_tree.specs.inner.AddsUp.{adds_up}
 use Rattle.gf_token.specs.Indices.{count_of}
 use Rattle.gf_token.specs.Token.{Lexeme, lexeme}
 use Rattle.gf_token.specs.Token.Token.{Bare, Closing}
 use Rattle.gf_token.specs.declared.fault.Why.TheVariants.{Memory, SumBelowOne}
-use Rattle.gf_tree.specs.FoundSet.{FoundOutcome, FoundSet}
-use Rattle.gf_tree.specs.ReaderState.{Answer, Fails, Goes, Grows, IsSound, answer}
-use Rattle.gf_tree.specs.ReaderState.{begun_with}
-use Rattle.gf_tree.specs.ReaderState.{behind_label, content_of, heard}
-use Rattle.gf_tree.specs.ReaderState.Fails.{of_memory}
+use Rattle.gf_tree.specs.inner.FoundSet.{FoundOutcome, FoundSet}
+use Rattle.gf_tree.specs.inner.ReaderState.{Answer, Fails, Goes, Grows, IsSound, answer}
+use Rattle.gf_tree.specs.inner.ReaderState.{begun_with}
+use Rattle.gf_tree.specs.inner.ReaderState.{behind_label, content_of, heard}
+use Rattle.gf_tree.specs.inner.ReaderState.Fails.{of_memory}
 use Rattle.gf_tree.proofs.FoundKeys.{described_at, found_from}
 use Rattle.gf_tree.proofs.FoundKeys.{set_in_parts}
 use Rattle.gf_tree.proofs.TreesOnce.{same_set_equality}

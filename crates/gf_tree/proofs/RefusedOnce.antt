@@ -19,9 +19,9 @@ use Rattle.gf_tree.specs.Front.{IsExtensiveFile}
 use Rattle.gf_tree.specs.Game.{Game}
 use Rattle.gf_tree.specs.GameOf.{SpellsGame}
 use Rattle.gf_tree.specs.Judgement.{IsRefusal, IsRefused}
-use Rattle.gf_tree.specs.Machine.{Content, nothing, run}
-use Rattle.gf_tree.specs.Machine.Position.{Format}
-use Rattle.gf_tree.specs.ReadGame.{game_of}
+use Rattle.gf_tree.specs.inner.Machine.{Content, nothing, run}
+use Rattle.gf_tree.specs.inner.Machine.Position.{Format}
+use Rattle.gf_tree.specs.inner.ReadGame.{game_of}
 use Rattle.gf_tree.specs.Reason.{Holds, IsReason}
 use Rattle.gf_tree.proofs.ReadGames.{not_memory, read_spells, refused_judged}
 

@@ -11,10 +11,10 @@ use Rattle.gf_tree.specs.Description.{SetKey, InformationSet, Outcome}
 use Rattle.gf_tree.specs.FiniteMap.{Described}
 use Rattle.gf_tree.specs.Game.{Node}
 use Rattle.gf_tree.specs.GameCode.{no_node}
-use Rattle.gf_tree.specs.GameParts.{game_with}
+use Rattle.gf_tree.specs.inner.GameParts.{game_with}
 use Rattle.gf_tree.specs.KeptNodes.{Kept, actions_counted, entries_with, tree_with}
 use Rattle.gf_tree.specs.Renumbering.{Renumbering, renumbered, renumbered_node, renumbered_set}
-use Rattle.gf_tree.specs.Skipped.{sizes_grown}
+use Rattle.gf_tree.specs.inner.Skipped.{sizes_grown}
 use Rattle.gf_tree.specs.Subtrees.{subtree_sizes}
 use Rattle.gf_tree.proofs.Games.{map_entry, flatten_map}
 use Rattle.gf_tree.proofs.SubtreeSizes.{counts_of, sizes_are}

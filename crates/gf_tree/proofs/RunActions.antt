@@ -13,12 +13,12 @@ use Rattle.gf_token.specs.declared.fault.Why.TheVariants.{SumBelowOne}
 use Rattle.gf_fraction.specs.Ratio.{Ratio, IsFraction, whole}
 use Rattle.gf_fraction.specs.Fits.{AddsTo}
 use Rattle.gf_tree.specs.Description.{Action, InformationSet, SetKey, set_of, AddToOne, AreActions}
-use Rattle.gf_tree.specs.Probability.{Share, is_one, share_of}
+use Rattle.gf_tree.specs.inner.Probability.{Share, is_one, share_of}
 use Rattle.gf_tree.specs.Sentence.{IsAction}
-use Rattle.gf_tree.specs.Machine.{Content, at, begun, new_set_ends}
-use Rattle.gf_tree.specs.Machine.{set_ends, shared, with_action, with_set}
-use Rattle.gf_tree.specs.Machine.Position.{NewAction, OutcomeNumber}
-use Rattle.gf_tree.specs.ReadGame.{run_tokens, then_run}
+use Rattle.gf_tree.specs.inner.Machine.{Content, at, begun, new_set_ends}
+use Rattle.gf_tree.specs.inner.Machine.{set_ends, shared, with_action, with_set}
+use Rattle.gf_tree.specs.inner.Machine.Position.{NewAction, OutcomeNumber}
+use Rattle.gf_tree.specs.inner.ReadGame.{run_tokens, then_run}
 use Rattle.gf_tree.proofs.RunTokens.{Reads, run_on, guard_ok, ratio_is}
 use Rattle.gf_tree.proofs.RunShares.{share_found, share_again, sum_high}
 

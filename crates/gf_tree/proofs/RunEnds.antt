@@ -15,19 +15,19 @@ use Rattle.gf_token.specs.Indices.{count_of, index_of}
 use Rattle.gf_token.specs.declared.fault.Why.TheVariants.{UnknownPlayer}
 use Rattle.gf_tree.specs.Description.{Action, InformationSet, Outcome, SetKey, same_set, set_of}
 use Rattle.gf_tree.specs.FiniteMap.{description_at}
-use Rattle.gf_tree.specs.Machine.{Begun, Content, Position, State, at, begun}
-use Rattle.gf_tree.specs.Machine.{behind_label, behind_set, new_set_ends, outcome_number}
-use Rattle.gf_tree.specs.Machine.{paid, player_number, set_ends, set_known, set_number}
-use Rattle.gf_tree.specs.Machine.{shared, step, with_action, with_node}
-use Rattle.gf_tree.specs.Machine.Position.{Format, Version, Letter, Title, BeforePlayers, InPlayers}
-use Rattle.gf_tree.specs.Machine.Position.{AfterPlayers, NodeDue, ChanceName, PersonalName}
-use Rattle.gf_tree.specs.Machine.Position.{TerminalName, PlayerNumber, SetNumber, NewSetName}
-use Rattle.gf_tree.specs.Machine.Position.{NewSetOpening, NewAction, NewProbability, KnownSetName}
-use Rattle.gf_tree.specs.Machine.Position.{KnownSetOpening, KnownAction, KnownProbability}
-use Rattle.gf_tree.specs.Machine.Position.{OutcomeNumber, NewOutcomeName, NewOutcomeOpening}
-use Rattle.gf_tree.specs.Machine.Position.{NewPayoff, AfterNewPayoff, KnownOutcomeName}
-use Rattle.gf_tree.specs.Machine.Position.{KnownOutcomeOpening, KnownPayoff, AfterKnownPayoff}
-use Rattle.gf_tree.specs.ReadGame.{then_run}
+use Rattle.gf_tree.specs.inner.Machine.{Begun, Content, Position, State, at, begun}
+use Rattle.gf_tree.specs.inner.Machine.{behind_label, behind_set, new_set_ends, outcome_number}
+use Rattle.gf_tree.specs.inner.Machine.{paid, player_number, set_ends, set_known, set_number}
+use Rattle.gf_tree.specs.inner.Machine.{shared, step, with_action, with_node}
+use Rattle.gf_tree.specs.inner.Machine.Position.{Format, Version, Letter, Title, BeforePlayers, InPlayers}
+use Rattle.gf_tree.specs.inner.Machine.Position.{AfterPlayers, NodeDue, ChanceName, PersonalName}
+use Rattle.gf_tree.specs.inner.Machine.Position.{TerminalName, PlayerNumber, SetNumber, NewSetName}
+use Rattle.gf_tree.specs.inner.Machine.Position.{NewSetOpening, NewAction, NewProbability, KnownSetName}
+use Rattle.gf_tree.specs.inner.Machine.Position.{KnownSetOpening, KnownAction, KnownProbability}
+use Rattle.gf_tree.specs.inner.Machine.Position.{OutcomeNumber, NewOutcomeName, NewOutcomeOpening}
+use Rattle.gf_tree.specs.inner.Machine.Position.{NewPayoff, AfterNewPayoff, KnownOutcomeName}
+use Rattle.gf_tree.specs.inner.Machine.Position.{KnownOutcomeOpening, KnownPayoff, AfterKnownPayoff}
+use Rattle.gf_tree.specs.inner.ReadGame.{then_run}
 use Rattle.gf_tree.proofs.RunTokens.{Reads, run_on, text_again}
 use Rattle.gf_tree.proofs.RunPayoffs.{number_same}
 use Rattle.gf_tree.proofs.RunShares.{share_again}

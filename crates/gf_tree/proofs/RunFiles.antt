@@ -17,9 +17,9 @@ use Rattle.gf_tree.specs.GameOf.{keys_alone}
 use Rattle.gf_tree.specs.Game.{Game, HasChildren, Node}
 use Rattle.gf_tree.specs.Learned.{Learns}
 use Rattle.gf_tree.specs.Sentence.{IsNode}
-use Rattle.gf_tree.specs.Machine.{Content, after_node, node_or_end}
-use Rattle.gf_tree.specs.Machine.Position.{NodeDue}
-use Rattle.gf_tree.specs.ReadGame.{run_tokens, then_run, game_of}
+use Rattle.gf_tree.specs.inner.Machine.{Content, after_node, node_or_end}
+use Rattle.gf_tree.specs.inner.Machine.Position.{NodeDue}
+use Rattle.gf_tree.specs.inner.ReadGame.{run_tokens, then_run, game_of}
 use Rattle.gf_tree.proofs.Games.{map_entry}
 use Rattle.gf_tree.proofs.Groups.{NoText}
 use Rattle.gf_tree.proofs.TreesOnce.{same_set_equality}

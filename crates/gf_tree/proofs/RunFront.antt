@@ -19,21 +19,21 @@ use Rattle.gf_tree.specs.Description.{Action, InformationSet, Outcome, SetKey, s
 use Rattle.gf_tree.specs.FiniteMap.{description_at}
 use Rattle.gf_tree.specs.Game.{Node}
 use Rattle.gf_tree.specs.PrefixOrder.{Entry}
-use Rattle.gf_tree.specs.Probability.{Share, share_of, is_one, same_ratio}
-use Rattle.gf_tree.specs.Machine.{Begun, Content, Position, State, after_node, at, begun}
-use Rattle.gf_tree.specs.Machine.{behind_label, behind_outcome, due, may_end, new_set_ends}
-use Rattle.gf_tree.specs.Machine.{node_letter, outcome_ends, outcome_number, paid, personal_node}
-use Rattle.gf_tree.specs.Machine.{player_number, refused, run, same_number, set_ends, set_known}
-use Rattle.gf_tree.specs.Machine.{set_number, shared, step, then_on, with_node, new_label}
-use Rattle.gf_tree.specs.Machine.Position.{Format, Version, Letter, Title, BeforePlayers, InPlayers}
-use Rattle.gf_tree.specs.Machine.Position.{AfterPlayers, NodeDue, ChanceName, PersonalName}
-use Rattle.gf_tree.specs.Machine.Position.{TerminalName, PlayerNumber, SetNumber, NewSetName}
-use Rattle.gf_tree.specs.Machine.Position.{NewSetOpening, NewAction, NewProbability, KnownSetName}
-use Rattle.gf_tree.specs.Machine.Position.{KnownSetOpening, KnownAction, KnownProbability}
-use Rattle.gf_tree.specs.Machine.Position.{OutcomeNumber, NewOutcomeName, NewOutcomeOpening}
-use Rattle.gf_tree.specs.Machine.Position.{NewPayoff, AfterNewPayoff, KnownOutcomeName}
-use Rattle.gf_tree.specs.Machine.Position.{KnownOutcomeOpening, KnownPayoff, AfterKnownPayoff}
-use Rattle.gf_tree.specs.ReaderState.{behind, heard, with_front, with_nodes}
+use Rattle.gf_tree.specs.inner.Probability.{Share, share_of, is_one, same_ratio}
+use Rattle.gf_tree.specs.inner.Machine.{Begun, Content, Position, State, after_node, at, begun}
+use Rattle.gf_tree.specs.inner.Machine.{behind_label, behind_outcome, due, may_end, new_set_ends}
+use Rattle.gf_tree.specs.inner.Machine.{node_letter, outcome_ends, outcome_number, paid, personal_node}
+use Rattle.gf_tree.specs.inner.Machine.{player_number, refused, run, same_number, set_ends, set_known}
+use Rattle.gf_tree.specs.inner.Machine.{set_number, shared, step, then_on, with_node, new_label}
+use Rattle.gf_tree.specs.inner.Machine.Position.{Format, Version, Letter, Title, BeforePlayers, InPlayers}
+use Rattle.gf_tree.specs.inner.Machine.Position.{AfterPlayers, NodeDue, ChanceName, PersonalName}
+use Rattle.gf_tree.specs.inner.Machine.Position.{TerminalName, PlayerNumber, SetNumber, NewSetName}
+use Rattle.gf_tree.specs.inner.Machine.Position.{NewSetOpening, NewAction, NewProbability, KnownSetName}
+use Rattle.gf_tree.specs.inner.Machine.Position.{KnownSetOpening, KnownAction, KnownProbability}
+use Rattle.gf_tree.specs.inner.Machine.Position.{OutcomeNumber, NewOutcomeName, NewOutcomeOpening}
+use Rattle.gf_tree.specs.inner.Machine.Position.{NewPayoff, AfterNewPayoff, KnownOutcomeName}
+use Rattle.gf_tree.specs.inner.Machine.Position.{KnownOutcomeOpening, KnownPayoff, AfterKnownPayoff}
+use Rattle.gf_tree.specs.inner.ReaderState.{behind, heard, with_front, with_nodes}
 
 module _ (ns : List (Entry Node)) where
   abbrev fronted : Result State Why → Result State Why

@@ -17,9 +17,9 @@ use Rattle.gf_tree.specs.Game.{Game, Node, HasChildren}
 use Rattle.gf_tree.specs.GameCode.{no_node}
 use Rattle.gf_tree.specs.GameOf.{keys_alone, MeansGame}
 use Rattle.gf_tree.specs.Learned.{Learns, LearnsGame}
-use Rattle.gf_tree.specs.Machine.{Content, nothing}
-use Rattle.gf_tree.specs.Machine.Position.{Format, AfterPlayers, NodeDue}
-use Rattle.gf_tree.specs.ReadGame.{run_tokens, game_of}
+use Rattle.gf_tree.specs.inner.Machine.{Content, nothing}
+use Rattle.gf_tree.specs.inner.Machine.Position.{Format, AfterPlayers, NodeDue}
+use Rattle.gf_tree.specs.inner.ReadGame.{run_tokens, game_of}
 use Rattle.gf_tree.proofs.Prefix.{one_tree, fills_one, grows_again}
 use Rattle.gf_tree.proofs.Games.{flatten_map}
 use Rattle.gf_tree.proofs.LearnedGames.{game_learned_once}

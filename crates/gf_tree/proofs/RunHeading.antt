@@ -6,10 +6,10 @@ use Rattle.std.specs.Cmp.Lexicographic.{pointwise}
 use Rattle.gf_token.specs.Token.{Token}
 use Rattle.gf_token.specs.Token.Token.{Opening, Closing, Text, Bare}
 use Rattle.gf_token.specs.Grammar.{braced}
-use Rattle.gf_tree.specs.Machine.{Content, at, nothing, with_player}
-use Rattle.gf_tree.specs.Machine.Position.{Format, Version, Letter, Title}
-use Rattle.gf_tree.specs.Machine.Position.{BeforePlayers, InPlayers, AfterPlayers}
-use Rattle.gf_tree.specs.ReadGame.{run_tokens}
+use Rattle.gf_tree.specs.inner.Machine.{Content, at, nothing, with_player}
+use Rattle.gf_tree.specs.inner.Machine.Position.{Format, Version, Letter, Title}
+use Rattle.gf_tree.specs.inner.Machine.Position.{BeforePlayers, InPlayers, AfterPlayers}
+use Rattle.gf_tree.specs.inner.ReadGame.{run_tokens}
 use Rattle.gf_tree.proofs.RunTokens.{Reads, guard_ok, same_bytes}
 
 -- ---- what was read

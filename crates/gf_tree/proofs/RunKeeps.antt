@@ -19,19 +19,19 @@ use Rattle.gf_token.specs.declared.fault.Why.{Why}
 use Rattle.gf_token.specs.declared.fault.Why.TheVariants.{Expected}
 use Rattle.gf_tree.specs.Description.{Action, InformationSet, Outcome, SetKey, same_set, set_of}
 use Rattle.gf_tree.specs.FiniteMap.{Described, description_at}
-use Rattle.gf_tree.specs.Probability.{Share, share_of, is_one, same_ratio}
-use Rattle.gf_tree.specs.Machine.{Begun, Content, Position, State, after_node, at, begun}
-use Rattle.gf_tree.specs.Machine.{behind_label, behind_outcome, behind_set, new_label}
-use Rattle.gf_tree.specs.Machine.{new_set_ends, node_letter, outcome_number, paid, personal_node}
-use Rattle.gf_tree.specs.Machine.{player_number, same_number, set_ends, set_number, shared, step}
-use Rattle.gf_tree.specs.Machine.Position.{Format, Version, Letter, Title, BeforePlayers, InPlayers}
-use Rattle.gf_tree.specs.Machine.Position.{AfterPlayers, NodeDue, ChanceName, PersonalName}
-use Rattle.gf_tree.specs.Machine.Position.{TerminalName, PlayerNumber, SetNumber, NewSetName}
-use Rattle.gf_tree.specs.Machine.Position.{NewSetOpening, NewAction, NewProbability, KnownSetName}
-use Rattle.gf_tree.specs.Machine.Position.{KnownSetOpening, KnownAction, KnownProbability}
-use Rattle.gf_tree.specs.Machine.Position.{OutcomeNumber, NewOutcomeName, NewOutcomeOpening}
-use Rattle.gf_tree.specs.Machine.Position.{NewPayoff, AfterNewPayoff, KnownOutcomeName}
-use Rattle.gf_tree.specs.Machine.Position.{KnownOutcomeOpening, KnownPayoff, AfterKnownPayoff}
+use Rattle.gf_tree.specs.inner.Probability.{Share, share_of, is_one, same_ratio}
+use Rattle.gf_tree.specs.inner.Machine.{Begun, Content, Position, State, after_node, at, begun}
+use Rattle.gf_tree.specs.inner.Machine.{behind_label, behind_outcome, behind_set, new_label}
+use Rattle.gf_tree.specs.inner.Machine.{new_set_ends, node_letter, outcome_number, paid, personal_node}
+use Rattle.gf_tree.specs.inner.Machine.{player_number, same_number, set_ends, set_number, shared, step}
+use Rattle.gf_tree.specs.inner.Machine.Position.{Format, Version, Letter, Title, BeforePlayers, InPlayers}
+use Rattle.gf_tree.specs.inner.Machine.Position.{AfterPlayers, NodeDue, ChanceName, PersonalName}
+use Rattle.gf_tree.specs.inner.Machine.Position.{TerminalName, PlayerNumber, SetNumber, NewSetName}
+use Rattle.gf_tree.specs.inner.Machine.Position.{NewSetOpening, NewAction, NewProbability, KnownSetName}
+use Rattle.gf_tree.specs.inner.Machine.Position.{KnownSetOpening, KnownAction, KnownProbability}
+use Rattle.gf_tree.specs.inner.Machine.Position.{OutcomeNumber, NewOutcomeName, NewOutcomeOpening}
+use Rattle.gf_tree.specs.inner.Machine.Position.{NewPayoff, AfterNewPayoff, KnownOutcomeName}
+use Rattle.gf_tree.specs.inner.Machine.Position.{KnownOutcomeOpening, KnownPayoff, AfterKnownPayoff}
 use Rattle.gf_tree.proofs.TreesOnce.{same_set_equality}
 use Rattle.gf_tree.proofs.RunLearned.{one, found_has, all_more}
 use Rattle.gf_tree.proofs.RunShares.{share_found}

@@ -9,9 +9,9 @@ use Rattle.gf_fraction.specs.Ratio.{Ratio}
 use Rattle.gf_fraction.specs.NumberSpelling.{IsNumber}
 use Rattle.gf_tree.specs.Description.{Action, AreActions}
 use Rattle.gf_tree.specs.Sentence.{IsAction}
-use Rattle.gf_tree.specs.Machine.{Begun, Content, at, behind_label}
-use Rattle.gf_tree.specs.Machine.Position.{OutcomeNumber, KnownAction, KnownProbability}
-use Rattle.gf_tree.specs.ReadGame.{run_tokens, then_run}
+use Rattle.gf_tree.specs.inner.Machine.{Begun, Content, at, behind_label}
+use Rattle.gf_tree.specs.inner.Machine.Position.{OutcomeNumber, KnownAction, KnownProbability}
+use Rattle.gf_tree.specs.inner.ReadGame.{run_tokens, then_run}
 use Rattle.gf_tree.proofs.RunTokens.{Reads, run_on, text_found, text_again}
 use Rattle.gf_tree.proofs.RunPayoffs.{number_found, number_same}
 

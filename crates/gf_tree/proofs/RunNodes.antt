@@ -18,11 +18,11 @@ use Rattle.gf_tree.specs.FileTree.{Use, FileNode}
 use Rattle.gf_tree.specs.GameOf.{keys_alone}
 use Rattle.gf_tree.specs.Learned.{Learns}
 use Rattle.gf_tree.specs.Sentence.{IsMover, IsStep, IsResult, IsNode}
-use Rattle.gf_tree.specs.Machine.{Content, at, begun, node_letter}
-use Rattle.gf_tree.specs.Machine.{personal_node, player_number, after_node}
-use Rattle.gf_tree.specs.Machine.Position.{NodeDue, ChanceName, PersonalName}
-use Rattle.gf_tree.specs.Machine.Position.{TerminalName, SetNumber, OutcomeNumber}
-use Rattle.gf_tree.specs.ReadGame.{run_tokens, then_run}
+use Rattle.gf_tree.specs.inner.Machine.{Content, at, begun, node_letter}
+use Rattle.gf_tree.specs.inner.Machine.{personal_node, player_number, after_node}
+use Rattle.gf_tree.specs.inner.Machine.Position.{NodeDue, ChanceName, PersonalName}
+use Rattle.gf_tree.specs.inner.Machine.Position.{TerminalName, SetNumber, OutcomeNumber}
+use Rattle.gf_tree.specs.inner.ReadGame.{run_tokens, then_run}
 use Rattle.gf_tree.proofs.Groups.{NoText}
 use Rattle.gf_tree.proofs.TreesOnce.{same_set_equality}
 use Rattle.gf_tree.proofs.RunTokens.{Reads, run_on, guard_ok, same_bytes}

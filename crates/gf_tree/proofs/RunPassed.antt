@@ -11,10 +11,10 @@ use Rattle.gf_token.specs.Remaining.{AreInOrder, Remaining, StandsBefore}
 use Rattle.gf_token.proofs.Places.{parts, Parts, tokens_on, begins_front}
 use Rattle.gf_token.proofs.TokensAhead.{in_order}
 use Rattle.gf_tree.specs.Front.{IsExtensiveFile}
-use Rattle.gf_tree.specs.Machine.{Content, Position}
-use Rattle.gf_tree.specs.Machine.{nothing, run}
-use Rattle.gf_tree.specs.Machine.Position.{Format}
-use Rattle.gf_tree.specs.Passed.{HasPassed}
+use Rattle.gf_tree.specs.inner.Machine.{Content, Position}
+use Rattle.gf_tree.specs.inner.Machine.{nothing, run}
+use Rattle.gf_tree.specs.inner.Machine.Position.{Format}
+use Rattle.gf_tree.specs.inner.Passed.{HasPassed}
 use Rattle.gf_tree.proofs.RunStops.{Stopped, run_reads, stopped}
 use Rattle.gf_tree.proofs.RunPlaces.{begins, read_is}
 

@@ -13,12 +13,12 @@ use Rattle.gf_fraction.specs.Computed.{number_of}
 use Rattle.gf_fraction.specs.declared.fraction.NumberFault.{NumberFault}
 use Rattle.gf_fraction.proofs.ComputedAnswers.{number_is, number_again}
 use Rattle.gf_tree.specs.Description.{Outcome}
-use Rattle.gf_tree.specs.Probability.{same_ratio}
-use Rattle.gf_tree.specs.Machine.{Begun, Content, Position, State, at, paid}
-use Rattle.gf_tree.specs.Machine.{same_number, with_node, with_outcome, with_payoff}
-use Rattle.gf_tree.specs.Machine.Position.{NodeDue, NewPayoff, AfterNewPayoff}
-use Rattle.gf_tree.specs.Machine.Position.{KnownPayoff, AfterKnownPayoff}
-use Rattle.gf_tree.specs.ReadGame.{run_tokens, then_run}
+use Rattle.gf_tree.specs.inner.Probability.{same_ratio}
+use Rattle.gf_tree.specs.inner.Machine.{Begun, Content, Position, State, at, paid}
+use Rattle.gf_tree.specs.inner.Machine.{same_number, with_node, with_outcome, with_payoff}
+use Rattle.gf_tree.specs.inner.Machine.Position.{NodeDue, NewPayoff, AfterNewPayoff}
+use Rattle.gf_tree.specs.inner.Machine.Position.{KnownPayoff, AfterKnownPayoff}
+use Rattle.gf_tree.specs.inner.ReadGame.{run_tokens, then_run}
 use Rattle.gf_tree.proofs.RunTokens.{Reads, run_on, guard_ok, ratio_is, ratio_same}
 
 -- ---- numbers in braces

@@ -6,9 +6,9 @@ use Rattle.gf_token.specs.Token.{Token}
 use Rattle.gf_token.specs.Place.{Begins, MayFollow}
 use Rattle.gf_token.specs.declared.fault.Why.{Why}
 use Rattle.gf_tree.specs.Front.{IsExtensiveFile}
-use Rattle.gf_tree.specs.Machine.{Content, Position, State, at, due, may_end, nothing, step}
-use Rattle.gf_tree.specs.Machine.Position.{Format}
-use Rattle.gf_tree.specs.ReadGame.{game_of, run_tokens, then_run}
+use Rattle.gf_tree.specs.inner.Machine.{Content, Position, State, at, due, may_end, nothing, step}
+use Rattle.gf_tree.specs.inner.Machine.Position.{Format}
+use Rattle.gf_tree.specs.inner.ReadGame.{game_of, run_tokens, then_run}
 use Rattle.gf_tree.proofs.Games.{some_game}
 use Rattle.gf_tree.proofs.LearnedGames.{game_learned_once}
 use Rattle.gf_tree.proofs.RunTokens.{Reads, run_on, ok_read}

@@ -17,11 +17,11 @@ use Rattle.gf_tree.specs.FiniteMap.{Described, description_at}
 use Rattle.gf_tree.specs.FileTree.{Use}
 use Rattle.gf_tree.specs.Learned.{Learns}
 use Rattle.gf_tree.specs.Sentence.{IsDescription, IsOutcomeDescription, IsResult}
-use Rattle.gf_tree.specs.Machine.{Begun, Content, at, behind_outcome, outcome_number, with_node}
-use Rattle.gf_tree.specs.Machine.Position.{NodeDue, OutcomeNumber, NewOutcomeName}
-use Rattle.gf_tree.specs.Machine.Position.{NewOutcomeOpening, NewPayoff, KnownOutcomeName}
-use Rattle.gf_tree.specs.Machine.Position.{KnownOutcomeOpening, KnownPayoff}
-use Rattle.gf_tree.specs.ReadGame.{run_tokens, then_run}
+use Rattle.gf_tree.specs.inner.Machine.{Begun, Content, at, behind_outcome, outcome_number, with_node}
+use Rattle.gf_tree.specs.inner.Machine.Position.{NodeDue, OutcomeNumber, NewOutcomeName}
+use Rattle.gf_tree.specs.inner.Machine.Position.{NewOutcomeOpening, NewPayoff, KnownOutcomeName}
+use Rattle.gf_tree.specs.inner.Machine.Position.{KnownOutcomeOpening, KnownPayoff}
+use Rattle.gf_tree.specs.inner.ReadGame.{run_tokens, then_run}
 use Rattle.gf_tree.proofs.Groups.{NoText}
 use Rattle.gf_tree.proofs.RunTokens.{Reads, run_on, text_found, text_again}
 use Rattle.gf_tree.proofs.RunPayoffs.{Numbers, new_result, new_found}

@@ -15,11 +15,11 @@ use Rattle.gf_tree.specs.FiniteMap.{Described, description_at}
 use Rattle.gf_tree.specs.FileTree.{Use}
 use Rattle.gf_tree.specs.Learned.{Learns}
 use Rattle.gf_tree.specs.Sentence.{IsPositive, IsDescription, IsInformationSet}
-use Rattle.gf_tree.specs.Machine.{Content, at, begun, behind_set, set_number}
-use Rattle.gf_tree.specs.Machine.Position.{SetNumber, NewSetName, NewSetOpening}
-use Rattle.gf_tree.specs.Machine.Position.{NewAction, KnownSetName, KnownSetOpening}
-use Rattle.gf_tree.specs.Machine.Position.{KnownAction, OutcomeNumber}
-use Rattle.gf_tree.specs.ReadGame.{run_tokens, then_run}
+use Rattle.gf_tree.specs.inner.Machine.{Content, at, begun, behind_set, set_number}
+use Rattle.gf_tree.specs.inner.Machine.Position.{SetNumber, NewSetName, NewSetOpening}
+use Rattle.gf_tree.specs.inner.Machine.Position.{NewAction, KnownSetName, KnownSetOpening}
+use Rattle.gf_tree.specs.inner.Machine.Position.{KnownAction, OutcomeNumber}
+use Rattle.gf_tree.specs.inner.ReadGame.{run_tokens, then_run}
 use Rattle.gf_tree.proofs.TreesOnce.{same_set_equality}
 use Rattle.gf_tree.proofs.RunTokens.{Reads, run_on, text_found, text_again}
 use Rattle.gf_tree.proofs.RunActions.{others_are, are_others, new_found, new_again}

@@ -16,7 +16,7 @@ use Rattle.gf_fraction.proofs.ComputedAnswers.{number_is, number_again}
 use Rattle.gf_fraction.proofs.Products.{mul_above}
 use Rattle.gf_token.specs.declared.fault.Why.{Why}
 use Rattle.gf_token.specs.declared.fault.Why.TheVariants.{SumAboveOne, NegativeProbability}
-use Rattle.gf_tree.specs.Probability.{Share, share_of, share_by, up_to_one}
+use Rattle.gf_tree.specs.inner.Probability.{Share, share_of, share_by, up_to_one}
 
 abbrev pub ok_share : Share → Result Share Why
 ok_share s = Ok s

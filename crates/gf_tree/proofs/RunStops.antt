@@ -9,10 +9,10 @@ use Rattle.gf_token.specs.declared.fault.Why.{Why}
 use Rattle.gf_tree.specs.Game.{Game}
 use Rattle.gf_tree.specs.GameOf.{SpellsGame}
 use Rattle.gf_tree.specs.Front.{IsExtensiveFile}
-use Rattle.gf_tree.specs.Machine.{Content, Position, State, at, due, may_end}
-use Rattle.gf_tree.specs.Machine.{nothing, refused, run, step, then_on}
-use Rattle.gf_tree.specs.Machine.Position.{Format}
-use Rattle.gf_tree.specs.ReadGame.{game_of, then_run}
+use Rattle.gf_tree.specs.inner.Machine.{Content, Position, State, at, due, may_end}
+use Rattle.gf_tree.specs.inner.Machine.{nothing, refused, run, step, then_on}
+use Rattle.gf_tree.specs.inner.Machine.Position.{Format}
+use Rattle.gf_tree.specs.inner.ReadGame.{game_of, then_run}
 use Rattle.gf_tree.proofs.RunTokens.{Reads, run_on, ok_read}
 use Rattle.gf_tree.proofs.RunGames.{machine_means}
 use Rattle.gf_tree.proofs.RunPlaces.{Leads, walk, then_walk, not_follows, no_file}

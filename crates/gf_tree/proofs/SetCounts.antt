@@ -8,8 +8,8 @@ use Rattle.gf_tree.specs.declared.action.Action.{Action as Held}
 use Rattle.gf_tree.specs.declared.sets.Entry.{Entry}
 use Rattle.gf_tree.specs.Actions.{action_of, actions_of}
 use Rattle.gf_tree.specs.KnownSets.{KnownSets}
-use Rattle.gf_tree.specs.StoredSets.{described, end_of, stored_sets}
-use Rattle.gf_tree.specs.Stretches.{AreStretches}
+use Rattle.gf_tree.specs.inner.StoredSets.{described, end_of, stored_sets}
+use Rattle.gf_tree.specs.inner.Stretches.{AreStretches}
 
 abbrev pub counts_of : List Entry → List ℕ
 counts_of entries = map (λ e. e.count) entries

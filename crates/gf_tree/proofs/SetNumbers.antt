@@ -13,7 +13,7 @@ use Rattle.std.proofs.Math.Seq.{get_or-append_seam}
 use Rattle.gf_tree.specs.declared.action.Action.{Action as Held}
 use Rattle.gf_tree.specs.declared.sets.Entry.{Entry}
 use Rattle.gf_tree.specs.KnownSets.{KnownSets, known_of, number_among}
-use Rattle.gf_tree.specs.StoredSets.{described, stored_sets, AreNumbered}
+use Rattle.gf_tree.specs.inner.StoredSets.{described, stored_sets, AreNumbered}
 
 abbrev pub of_player : ℕ → List Entry → List Entry
 of_player player entries = filter (λ x. x.player == player) entries

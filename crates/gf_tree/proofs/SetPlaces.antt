@@ -11,7 +11,7 @@ use Rattle.gf_tree.specs.declared.action.Action.{Action as Held}
 use Rattle.gf_tree.specs.declared.sets.Entry.{Entry}
 use Rattle.gf_tree.specs.Description.{same_set, set_of}
 use Rattle.gf_tree.specs.KnownSets.{KnownSets, known_of}
-use Rattle.gf_tree.specs.StoredSets.{described, stored_sets, places_from, AreSets}
+use Rattle.gf_tree.specs.inner.StoredSets.{described, stored_sets, places_from, AreSets}
 
 same_either_way : (a b : ℕ) → (a == b) ≡ (b == a)
 same_either_way a b = by (a == b) refl (b == a) refl

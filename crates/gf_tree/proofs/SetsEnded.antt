@@ -13,8 +13,8 @@ use Rattle.gf_tree.specs.declared.sets.Entry.{Entry}
 use Rattle.gf_tree.specs.Description.{same_set, set_of}
 use Rattle.gf_tree.specs.Actions.{actions_of}
 use Rattle.gf_tree.specs.KnownSets.{KnownSets, with_set}
-use Rattle.gf_tree.specs.StoredSets.{described, end_of, stored_sets, places_from}
-use Rattle.gf_tree.specs.StoredSets.{AreSets, HoldActions}
+use Rattle.gf_tree.specs.inner.StoredSets.{described, end_of, stored_sets, places_from}
+use Rattle.gf_tree.specs.inner.StoredSets.{AreSets, HoldActions}
 use Rattle.gf_tree.proofs.SetPlaces.{found}
 use Rattle.gf_tree.proofs.SetNumbers.{of_player, numbered_behind}
 use Rattle.gf_tree.proofs.StoredActions.{set_made}

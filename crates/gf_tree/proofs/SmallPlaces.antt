@@ -6,7 +6,7 @@ use Rattle.std.specs.Map.{lookup}
 use Rattle.std.proofs.lemmas.Bool.{eqb-true, eqb-false, eq-eqb}
 use Rattle.std.proofs.lemmas.List.{get_or-set_same, get_or-set_other, map-append}
 use Rattle.gf_tree.specs.declared.small_numbers.Placed.{Placed}
-use Rattle.gf_tree.specs.SmallNumbers.{AreFound, place_at, placed_pairs}
+use Rattle.gf_tree.specs.inner.SmallNumbers.{AreFound, place_at, placed_pairs}
 
 -- what is found among the first pairs is found, and else what is found behind them
 pub found_before : (test : ℕ → Bool) (pairs more : List (ℕ × ℕ)) (place : ℕ)

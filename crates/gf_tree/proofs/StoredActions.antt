@@ -8,7 +8,7 @@ use Rattle.gf_tree.specs.Actions.{action_of, actions_of}
 use Rattle.gf_tree.specs.Description.{InformationSet, SetKey, set_of}
 use Rattle.gf_tree.specs.FiniteMap.{Described}
 use Rattle.gf_tree.specs.KnownSets.{KnownSets}
-use Rattle.gf_tree.specs.StoredSets.{described, end_of, stored_sets, AreSets}
+use Rattle.gf_tree.specs.inner.StoredSets.{described, end_of, stored_sets, AreSets}
 use Rattle.gf_tree.proofs.Stretching.{items_behind}
 
 abbrev pub set_made : Entry → List Held → Described SetKey InformationSet

@@ -7,8 +7,8 @@ use Rattle.gf_token.specs.Label.{label_of}
 use Rattle.gf_tree.specs.declared.outcomes.Entry.{Entry}
 use Rattle.gf_tree.specs.Description.{Outcome}
 use Rattle.gf_tree.specs.FiniteMap.{Described}
-use Rattle.gf_tree.specs.KnownOutcomes.{KnownOutcomes}
-use Rattle.gf_tree.specs.StoredOutcomes.{described, end_of, stored_outcomes, AreOutcomes}
+use Rattle.gf_tree.specs.inner.KnownOutcomes.{KnownOutcomes}
+use Rattle.gf_tree.specs.inner.StoredOutcomes.{described, end_of, stored_outcomes, AreOutcomes}
 use Rattle.gf_tree.proofs.OutcomePlaces.{places_then}
 use Rattle.gf_tree.proofs.Stretching.{entry_behind, items_behind}
 

@@ -5,7 +5,7 @@ use Rattle.std.specs.Prelude.{slice_range}
 use Rattle.std.specs.List.{AllByRecursion}
 use Rattle.std.proofs.lemmas.List.{take-append-le, take-append-drop, drop-append-le}
 use Rattle.std.proofs.lemmas.List.{length-drop, length-take-le}
-use Rattle.gf_tree.specs.Stretches.{AreStretches}
+use Rattle.gf_tree.specs.inner.Stretches.{AreStretches}
 
 same_part : {T : Type 0} (items more : List T) (i j : ℕ) → i ≤ j → j ≤ length items
     → slice_range (items ++ more) i j ≡ slice_range items i j

@@ -10,7 +10,7 @@ use Rattle.gf_tree.specs.PrefixOrder.{Entry, flatten, flatten_all}
 use Rattle.gf_tree.specs.GrowsAgain.{join}
 use Rattle.gf_tree.specs.Subtrees.{list_of, subtrees}
 use Rattle.gf_tree.specs.Subtrees.{subtrees_all, subtree_sizes}
-use Rattle.gf_tree.specs.Skipped.{Begin, skipped, sizes_grown}
+use Rattle.gf_tree.specs.inner.Skipped.{Begin, skipped, sizes_grown}
 
 abbrev size_of : {N : Type 0} → Tree N → ℕ
 size_of t = length (flatten t)

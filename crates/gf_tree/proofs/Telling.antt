@@ -11,17 +11,17 @@ use Rattle.gf_tree.specs.Game.{Node}
 use Rattle.gf_tree.specs.KeptNodes.{ArePlaced, IsPlaced, Kept, child_count}
 use Rattle.gf_tree.specs.KeptNodes.{entries_with, entry_with, position_of}
 use Rattle.gf_tree.specs.KnownSets.{KnownSets, known_of}
-use Rattle.gf_tree.specs.KnownOutcomes.{KnownOutcomes}
-use Rattle.gf_tree.specs.Machine.{Content, Position, with_node}
-use Rattle.gf_tree.specs.Machine.Position.{NodeDue}
+use Rattle.gf_tree.specs.inner.KnownOutcomes.{KnownOutcomes}
+use Rattle.gf_tree.specs.inner.Machine.{Content, Position, with_node}
+use Rattle.gf_tree.specs.inner.Machine.Position.{NodeDue}
 use Rattle.gf_tree.specs.PrefixOrder.{Entry}
 use Rattle.std.specs.Prelude.{MatchOption, ⊤}
-use Rattle.gf_tree.specs.ReaderState.{Answer, Fails, Goes, GoesTelling, Grows}
-use Rattle.gf_tree.specs.ReaderState.{HasRead, HasReadAll}
-use Rattle.gf_tree.specs.ReaderState.{HasTold, Tells, TellsNode, answer, begun_with, behind}
-use Rattle.gf_tree.specs.ReaderState.{content_of, content_with, heard, with_nodes}
-use Rattle.gf_tree.specs.ReaderState.Fails.{of_file, of_memory}
-use Rattle.gf_tree.specs.Passed.{HasPassed}
+use Rattle.gf_tree.specs.inner.ReaderState.{Answer, Fails, Goes, GoesTelling, Grows}
+use Rattle.gf_tree.specs.inner.ReaderState.{HasRead, HasReadAll}
+use Rattle.gf_tree.specs.inner.ReaderState.{HasTold, Tells, TellsNode, answer, begun_with, behind}
+use Rattle.gf_tree.specs.inner.ReaderState.{content_of, content_with, heard, with_nodes}
+use Rattle.gf_tree.specs.inner.ReaderState.Fails.{of_file, of_memory}
+use Rattle.gf_tree.specs.inner.Passed.{HasPassed}
 use Rattle.gf_tree.specs.Told.{Heading, Told, if_next, kept_as, told_from, told_node, told_outcome}
 use Rattle.gf_tree.specs.Told.{told_set}
 use Rattle.gf_tree.specs.Told.{used_outcomes_from, used_sets_from}

@@ -9,11 +9,11 @@ use Rattle.gf_tree.specs.Description.{InformationSet, Outcome, SetKey}
 use Rattle.gf_tree.specs.FiniteMap.{Described}
 use Rattle.gf_tree.specs.Game.{Game}
 use Rattle.gf_tree.specs.GameOf.{SpellsGame}
-use Rattle.gf_tree.specs.Machine.{Content, nothing, run}
-use Rattle.gf_tree.specs.Machine.Position.{Format, NodeDue}
-use Rattle.gf_tree.specs.ReadGame.{game_of}
-use Rattle.gf_tree.specs.ReaderState.{Answer, HasReadAll, answer, content_of, content_with}
-use Rattle.gf_tree.specs.ReaderState.{heading_read, heard}
+use Rattle.gf_tree.specs.inner.Machine.{Content, nothing, run}
+use Rattle.gf_tree.specs.inner.Machine.Position.{Format, NodeDue}
+use Rattle.gf_tree.specs.inner.ReadGame.{game_of}
+use Rattle.gf_tree.specs.inner.ReaderState.{Answer, HasReadAll, answer, content_of, content_with}
+use Rattle.gf_tree.specs.inner.ReaderState.{heading_read, heard}
 use Rattle.gf_tree.specs.Told.{Heading, Told, heading_in, told_from}
 use Rattle.gf_tree.specs.ToldGame.{HasToldGame}
 use Rattle.gf_tree.specs.declared.reader.Reader.{Reader}

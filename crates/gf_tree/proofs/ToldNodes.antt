@@ -22,11 +22,11 @@ use Rattle.gf_tree.specs.Game.{Game, Node, IsGame, used_outcomes, used_sets}
 use Rattle.gf_tree.specs.GameCode.{no_node}
 use Rattle.gf_tree.specs.KeptNodes.{ArePlaced, IsPlaced, Kept, entries_with, entry_with}
 use Rattle.gf_tree.specs.KnownSets.{known_of}
-use Rattle.gf_tree.specs.KnownUses.{use_at}
-use Rattle.gf_tree.specs.Machine.{Content, nothing, run}
-use Rattle.gf_tree.specs.Machine.Position.{Format}
+use Rattle.gf_tree.specs.inner.KnownUses.{use_at}
+use Rattle.gf_tree.specs.inner.Machine.{Content, nothing, run}
+use Rattle.gf_tree.specs.inner.Machine.Position.{Format}
 use Rattle.gf_tree.specs.PrefixOrder.{Entry, flatten}
-use Rattle.gf_tree.specs.ReadGame.{game_of}
+use Rattle.gf_tree.specs.inner.ReadGame.{game_of}
 use Rattle.gf_tree.specs.Renumbering.{Renumbering, renumbered, renumbered_node}
 use Rattle.gf_tree.specs.Told.{told_from, told_node, told_outcome, told_set}
 use Rattle.gf_tree.proofs.FirstUseNumbers.{number_at}

@@ -3,8 +3,8 @@ use Rattle.std.proofs.Common.{◌≡◌, ℕ, List, length, Err, refl}
 use Rattle.std.specs.Fmt.{digits}
 use Rattle.gf_fraction.specs.Computed.{gcd_within, lowest_of, number_of, sum_of}
 use Rattle.gf_token.specs.Indices.{index_of}
-use Rattle.gf_token.specs.Lexing.{lex}
-use Rattle.gf_token.specs.Lexing.Mode.{Gap}
+use Rattle.gf_token.specs.inner.Lexing.{lex}
+use Rattle.gf_token.specs.inner.Lexing.Mode.{Gap}
 use Rattle.gf_token.specs.declared.fault.Span.{Span}
 use Rattle.gf_token.specs.declared.fault.Why.{Why}
 use Rattle.gf_token.specs.declared.fault.Why.TheVariants.{Mismatch, NegativeProbability}
@@ -13,8 +13,8 @@ use Rattle.gf_token.specs.declared.fault.Why.TheVariants.{SumOverflow, UnknownPl
 use Rattle.gf_token.proofs.Spelled.{found}
 use Rattle.gf_tree.specs.Game.{Game}
 use Rattle.gf_tree.specs.GameOf.{SpellsGame}
-use Rattle.gf_tree.specs.Machine.{nothing, run}
-use Rattle.gf_tree.specs.Machine.Position.{Format}
+use Rattle.gf_tree.specs.inner.Machine.{nothing, run}
+use Rattle.gf_tree.specs.inner.Machine.Position.{Format}
 use Rattle.gf_tree.specs.WorkedReasons.{span_of}
 use Rattle.gf_tree.specs.WorkedTrees.{fewer_actions_file, mismatched_file, more_actions_file}
 use Rattle.gf_tree.specs.WorkedTrees.{negative_file, nobody_file, other_action_file}

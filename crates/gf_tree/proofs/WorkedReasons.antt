@@ -4,8 +4,8 @@ use Rattle.std.proofs.Common.{◌≡◌, ℕ, List, length, Err, refl}
 use Rattle.std.specs.Fmt.{digits}
 use Rattle.gf_fraction.specs.Computed.{gcd_within, lowest_of, number_of, sum_of}
 use Rattle.gf_token.specs.Indices.{index_of}
-use Rattle.gf_token.specs.Lexing.{lex}
-use Rattle.gf_token.specs.Lexing.Mode.{Gap}
+use Rattle.gf_token.specs.inner.Lexing.{lex}
+use Rattle.gf_token.specs.inner.Lexing.Mode.{Gap}
 use Rattle.gf_token.specs.declared.fault.Span.{Span}
 use Rattle.gf_token.specs.declared.fault.What.TheVariants as what
 use Rattle.gf_token.specs.declared.fault.Why.{Why}
@@ -16,8 +16,8 @@ use Rattle.gf_token.specs.declared.fault.Why.TheVariants.{SumAboveOne, SumBelowO
 use Rattle.gf_token.specs.declared.fault.Why.TheVariants.{UnknownPlayer, ZeroDenominator}
 use Rattle.gf_token.proofs.Spelled.{found}
 use Rattle.gf_tree.specs.Judgement.{IsRefusal}
-use Rattle.gf_tree.specs.Machine.{nothing, run}
-use Rattle.gf_tree.specs.Machine.Position.{Format}
+use Rattle.gf_tree.specs.inner.Machine.{nothing, run}
+use Rattle.gf_tree.specs.inner.Machine.Position.{Format}
 use Rattle.gf_tree.specs.WorkedReasons.{above_one_front, action_missing_front}
 use Rattle.gf_tree.specs.WorkedReasons.{action_too_many_front, below_one_front, negative_front}
 use Rattle.gf_tree.specs.WorkedReasons.{no_action_front, no_denominator_front, no_lottery_front}

@@ -59,3 +59,10 @@ pub record IsSet (players : ℕ) (key : SetKey) (set : InformationSet) : Type 0 
 pub record IsOutcome (players : ℕ) (number : ℕ) (outcome : Outcome) : Type 0 where
   pub number_from_one : 0 < number
   pub one_payoff_each : length outcome.payoffs ≡ players
+
+-- a set and an outcome by their parts
+abbrev pub set_with : List ℕ → List Action → InformationSet
+set_with name actions = record { name = name; actions = actions }
+
+abbrev pub outcome_with : List ℕ → List Ratio → Outcome
+outcome_with name payoffs = record { name = name; payoffs = payoffs }

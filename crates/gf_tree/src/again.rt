@@ -5,12 +5,12 @@ ghost use Rattle.gf_fraction.specs.Ratio.{Ratio};
 ghost use Rattle.gf_token.specs.Label.{label_of};
 ghost use Rattle.gf_tree.specs.Actions.{action_of, actions_of};
 ghost use Rattle.gf_tree.specs.Description.{Action as spec_action, SetKey};
-ghost use Rattle.gf_tree.specs.GameParts.{outcome_with, set_with};
-ghost use Rattle.gf_tree.specs.Machine.{Begun, Content, begun};
-ghost use Rattle.gf_tree.specs.Machine.Position.{KnownAction, KnownOutcomeName, KnownOutcomeOpening};
-ghost use Rattle.gf_tree.specs.Machine.Position.{KnownPayoff, KnownProbability};
-ghost use Rattle.gf_tree.specs.Machine.Position.{KnownSetName, KnownSetOpening, NodeDue, OutcomeNumber};
-ghost use Rattle.gf_tree.specs.ReaderState.{Goes, heard};
+ghost use Rattle.gf_tree.specs.Description.{outcome_with, set_with};
+ghost use Rattle.gf_tree.specs.inner.Machine.{Begun, Content, begun};
+ghost use Rattle.gf_tree.specs.inner.Machine.Position.{KnownAction, KnownOutcomeName, KnownOutcomeOpening};
+ghost use Rattle.gf_tree.specs.inner.Machine.Position.{KnownPayoff, KnownProbability};
+ghost use Rattle.gf_tree.specs.inner.Machine.Position.{KnownSetName, KnownSetOpening, NodeDue, OutcomeNumber};
+ghost use Rattle.gf_tree.specs.inner.ReaderState.{Goes, heard};
 
 use crate::action::Action;
 use gf_fraction::Fraction;

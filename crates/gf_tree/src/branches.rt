@@ -1,7 +1,7 @@
 //! The branches below a node, one after another.
 
 ghost use Rattle.std.specs.Prelude.{◌≡◌, ◌+◌, ◌<◌, drop, length};
-ghost use Rattle.gf_tree.specs.Skipped.{skipped};
+ghost use Rattle.gf_tree.specs.inner.Skipped.{skipped};
 ghost use Rattle.gf_tree.specs.Subtrees.{child_trees, subtree_at, subtree_sizes, subtrees};
 
 use crate::branch::Branch;

@@ -11,12 +11,13 @@ ghost use Rattle.gf_tree.specs.PrefixOrder.{Fills, flatten};
 ghost use Rattle.gf_tree.specs.Description.{set_of};
 ghost use Rattle.gf_tree.specs.FirstUse.{outcome_numbers, player_keys};
 ghost use Rattle.gf_tree.specs.Game.{IsGame, outcome_at, set_at};
-ghost use Rattle.gf_tree.specs.GameParts.{game_with, outcome_with, set_with};
+ghost use Rattle.gf_tree.specs.inner.GameParts.{game_with};
+ghost use Rattle.gf_tree.specs.Description.{outcome_with, set_with};
 ghost use Rattle.gf_tree.specs.KeptNodes.{ArePlaced, entries_with};
 ghost use Rattle.gf_tree.specs.Movers.{IsMover};
 ghost use Rattle.gf_tree.specs.NodeOf.{node_of};
 ghost use Rattle.gf_tree.specs.OutcomePositions.{position_among};
-ghost use Rattle.gf_tree.specs.Skipped.{skipped};
+ghost use Rattle.gf_tree.specs.inner.Skipped.{skipped};
 ghost use Rattle.gf_tree.specs.Spellable.{IsSpellable};
 ghost use Rattle.gf_tree.specs.Subtrees.{child_trees, root_node, subtree_at, subtree_sizes};
 ghost use Rattle.gf_tree.specs.Subtrees.{subtrees};
@@ -59,7 +60,7 @@ impl<'a> Model for Game<'a> {
     ghost use Rattle.gf_token.specs.Label.{label_of};
     ghost use Rattle.gf_tree.specs.Game.{Game};
     ghost use Rattle.gf_tree.specs.GameCode.{game_code};
-    ghost use Rattle.gf_tree.specs.GameParts.{IsHeld, game_with};
+    ghost use Rattle.gf_tree.specs.inner.GameParts.{IsHeld, game_with};
     ghost use Rattle.gf_tree.specs.KeptNodes.{kept_of};
 
     ghost Value = { Game };

@@ -13,8 +13,8 @@ ghost use Rattle.gf_tree.specs.Game.{Node};
 ghost use Rattle.gf_tree.specs.KeptNodes.{ArePlaced, child_count, child_counts};
 ghost use Rattle.gf_tree.specs.KeptNodes.{kept_of, position_of, sizes_of};
 ghost use Rattle.gf_tree.specs.NodeOf.{outcome_of, set_of_step};
-ghost use Rattle.gf_tree.specs.Skipped.{Begin, skipped};
-ghost use Rattle.gf_tree.specs.Steps.{is_step};
+ghost use Rattle.gf_tree.specs.inner.Skipped.{Begin, skipped};
+ghost use Rattle.gf_tree.specs.inner.Steps.{is_step};
 ghost use Rattle.gf_tree.specs.Subtrees.{subtree_sizes};
 
 use crate::node::Step;

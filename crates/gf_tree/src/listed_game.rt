@@ -5,7 +5,7 @@ ghost use Rattle.gf_token.specs.Label.{label_of};
 ghost use Rattle.gf_tree.specs.FileNodes.{file_nodes};
 ghost use Rattle.gf_tree.specs.FirstUse.{first_use_numbers};
 ghost use Rattle.gf_tree.specs.Game.{IsGame};
-ghost use Rattle.gf_tree.specs.GameParts.{game_with};
+ghost use Rattle.gf_tree.specs.inner.GameParts.{game_with};
 ghost use Rattle.gf_tree.specs.KeptNodes.{ArePlaced, entries_with};
 ghost use Rattle.gf_tree.specs.PrefixOrder.{Fills};
 ghost use Rattle.gf_tree.specs.Renumbering.{renumbered};
@@ -37,7 +37,7 @@ impl<'a> Model for ListedGame<'a> {
     ghost use Rattle.gf_token.specs.Label.{label_of};
     ghost use Rattle.gf_tree.specs.Game.{Game};
     ghost use Rattle.gf_tree.specs.GameCode.{game_code};
-    ghost use Rattle.gf_tree.specs.GameParts.{IsListed, game_with};
+    ghost use Rattle.gf_tree.specs.inner.GameParts.{IsListed, game_with};
 
     ghost Value = { Game };
 

@@ -1,7 +1,7 @@
 //! Nodes as callers see them.
 
 ghost use Rattle.std.specs.Prelude.{IsTrue};
-ghost use Rattle.gf_tree.specs.Steps.{is_step};
+ghost use Rattle.gf_tree.specs.inner.Steps.{is_step};
 
 use gf_token::Label;
 

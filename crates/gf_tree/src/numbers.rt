@@ -5,8 +5,8 @@ ghost use Rattle.std.specs.Prelude.{length, option_map, slice_get, OnOk, OnErr, 
 ghost use Rattle.std.specs.Map.{lookup};
 ghost use Rattle.indexmap.specs.IndexMap.{get};
 ghost use Rattle.gf_token.specs.Positions.{at_position};
-ghost use Rattle.gf_tree.specs.Numbers.{pairs_in};
-ghost use Rattle.gf_tree.specs.SmallNumbers.{placed_pairs};
+ghost use Rattle.gf_tree.specs.inner.Numbers.{pairs_in};
+ghost use Rattle.gf_tree.specs.inner.SmallNumbers.{placed_pairs};
 
 use crate::indexing::Indexing;
 use crate::seeded::Seeded;
@@ -161,7 +161,7 @@ pub(crate) struct Numbers {
 
 impl Model for Numbers {
     ghost use Rattle.std.specs.Prelude.{ℕ, List};
-    ghost use Rattle.gf_tree.specs.Numbers.{pairs_of, IsHeld};
+    ghost use Rattle.gf_tree.specs.inner.Numbers.{pairs_of, IsHeld};
 
     ghost Value = { List (ℕ × ℕ) };
 

@@ -5,8 +5,8 @@ ghost use Rattle.std.specs.Prelude.{None, Some, nat_eq, map, length};
 ghost use Rattle.std.specs.Prelude.{slice_get, option_map, position, OnOk, OnErr, IfOk};
 ghost use Rattle.gf_token.specs.Label.{label_of};
 ghost use Rattle.gf_token.specs.Positions.{at_position};
-ghost use Rattle.gf_tree.specs.KnownOutcomes.{with_outcome, with_payoff};
-ghost use Rattle.gf_tree.specs.StoredOutcomes.{end_of};
+ghost use Rattle.gf_tree.specs.inner.KnownOutcomes.{with_outcome, with_payoff};
+ghost use Rattle.gf_tree.specs.inner.StoredOutcomes.{end_of};
 
 use crate::indexing::Indexing;
 use crate::numbers::{Numbers, next_place};
@@ -51,8 +51,8 @@ pub(crate) struct Outcomes<'a> {
 }
 
 impl<'a> Model for Outcomes<'a> {
-    ghost use Rattle.gf_tree.specs.KnownOutcomes.{KnownOutcomes};
-    ghost use Rattle.gf_tree.specs.StoredOutcomes.{stored_outcomes, AreOutcomes};
+    ghost use Rattle.gf_tree.specs.inner.KnownOutcomes.{KnownOutcomes};
+    ghost use Rattle.gf_tree.specs.inner.StoredOutcomes.{stored_outcomes, AreOutcomes};
 
     ghost Value = { KnownOutcomes };
 

@@ -8,11 +8,11 @@ ghost use Rattle.std.specs.Prelude.{◌≡◌, ◌<◌, ◌≤◌, ◌∷◌, []
 ghost use Rattle.gf_token.specs.Remaining.{StandsBefore};
 ghost use Rattle.gf_token.specs.TokenSpelling.{Spells};
 ghost use Rattle.gf_token.specs.Token.{Lexeme};
-ghost use Rattle.gf_tree.specs.Machine.{nothing, run};
-ghost use Rattle.gf_tree.specs.Machine.Position.{Format, NodeDue};
-ghost use Rattle.gf_tree.specs.ReadGame.{game_of};
+ghost use Rattle.gf_tree.specs.inner.Machine.{nothing, run};
+ghost use Rattle.gf_tree.specs.inner.Machine.Position.{Format, NodeDue};
+ghost use Rattle.gf_tree.specs.inner.ReadGame.{game_of};
 ghost use Rattle.gf_tree.specs.KeptNodes.{ArePlaced};
-ghost use Rattle.gf_tree.specs.ReaderState.{answer, content_of, content_with, Goes, HasRoom, IsSound};
+ghost use Rattle.gf_tree.specs.inner.ReaderState.{answer, content_of, content_with, Goes, HasRoom, IsSound};
 
 mod heading;
 mod nodes;

@@ -1,7 +1,7 @@
 //! The hasher of the maps from a file's numbers.
 
 ghost use Rattle.std.specs.Prelude.{◌≡◌};
-ghost use Rattle.gf_tree.specs.Seeded.{start_for};
+ghost use Rattle.gf_tree.specs.inner.Seeded.{start_for};
 
 use std::hash::{BuildHasher, DefaultHasher, FoldHasher, Hasher};
 
@@ -30,7 +30,7 @@ impl Seeded {
 }
 
 impl BuildHasher for Seeded {
-    ghost use Rattle.gf_tree.specs.Seeded.{start_of};
+    ghost use Rattle.gf_tree.specs.inner.Seeded.{start_of};
 
     type Hasher = FoldHasher;
 

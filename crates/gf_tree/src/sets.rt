@@ -8,8 +8,8 @@ ghost use Rattle.gf_token.specs.Label.{label_of};
 ghost use Rattle.gf_token.specs.Positions.{at_position};
 ghost use Rattle.gf_tree.specs.Actions.{action_of, actions_of};
 ghost use Rattle.gf_tree.specs.Description.{same_set, set_of};
-ghost use Rattle.gf_tree.specs.Stretches.{AreStretches};
-ghost use Rattle.gf_tree.specs.StoredSets.{HoldActions, end_of};
+ghost use Rattle.gf_tree.specs.inner.Stretches.{AreStretches};
+ghost use Rattle.gf_tree.specs.inner.StoredSets.{HoldActions, end_of};
 ghost use Rattle.gf_tree.specs.KnownSets.{known_of, number_among, with_action, with_set};
 
 use crate::action::{Action, same_actions};
@@ -146,7 +146,7 @@ pub(crate) struct Sets<'a> {
 impl<'a> Model for Sets<'a> {
     ghost use Rattle.gf_tree.specs.KnownSets.{KnownSets};
     ghost use Rattle.std.specs.Prelude.{◌≡◌, map};
-    ghost use Rattle.gf_tree.specs.StoredSets.{stored_sets, AreSets};
+    ghost use Rattle.gf_tree.specs.inner.StoredSets.{stored_sets, AreSets};
 
     ghost Value = { KnownSets };
 

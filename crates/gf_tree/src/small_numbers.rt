@@ -33,7 +33,7 @@ pub(crate) struct SmallNumbers {
 
 impl Model for SmallNumbers {
     ghost use Rattle.std.specs.Prelude.{ℕ, List};
-    ghost use Rattle.gf_tree.specs.SmallNumbers.{placed_pairs, AreFound};
+    ghost use Rattle.gf_tree.specs.inner.SmallNumbers.{placed_pairs, AreFound};
 
     ghost Value = { List (ℕ × ℕ) };
 

@@ -5,11 +5,11 @@ ghost use Rattle.std.specs.Int.{◌∣◌};
 ghost use Rattle.std.specs.List.Sorted.{IsNonDecreasingBy};
 ghost use Rattle.gf_fraction.specs.Ratio.{IsWithin};
 ghost use Rattle.gf_tree.specs.Game.{Game};
-ghost use Rattle.gf_form.specs.Entries.{AreOrdered, EndsBelow, IsShaped, entries};
-ghost use Rattle.gf_form.specs.KeptNodes.{paid_reached};
-ghost use Rattle.gf_form.specs.ListedNodes.{AreTermsOf, IsShareIn, IsTermMore};
-ghost use Rattle.gf_form.specs.PaidRows.{rows_of};
-ghost use Rattle.gf_form.specs.Rows.{ArePaid};
+ghost use Rattle.gf_form.specs.inner.Entries.{AreOrdered, EndsBelow, IsShaped, entries};
+ghost use Rattle.gf_form.specs.inner.KeptNodes.{paid_reached};
+ghost use Rattle.gf_form.specs.inner.ListedNodes.{AreTermsOf, IsShareIn, IsTermMore};
+ghost use Rattle.gf_form.specs.inner.PaidRows.{rows_of};
+ghost use Rattle.gf_form.specs.inner.Rows.{ArePaid};
 ghost use Rattle.gf_form.specs.Strategies.{choices_by};
 ghost use Rattle.gf_form.specs.declared.paths.Reached.{Reached};
 

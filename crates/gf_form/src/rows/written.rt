@@ -4,17 +4,17 @@ ghost use Rattle.std.specs.Prelude.{◌≡◌, ◌+◌, ◌*◌, ◌<◌, ◌≤
 ghost use Rattle.std.specs.Prelude.{get_or, length, map, pos};
 ghost use Rattle.gf_fraction.specs.Ratio.{HasValue, IsFraction, IsWithin};
 ghost use Rattle.gf_nfg.specs.Profiles.{product};
-ghost use Rattle.gf_form.specs.Demands.{spans};
-ghost use Rattle.gf_form.specs.Entries.{AreOrdered, IsShaped, entries};
-ghost use Rattle.gf_form.specs.PaidRows.{rows_of};
-ghost use Rattle.gf_form.specs.Picked.{IsPicked, numbers_in, picked_profiles};
+ghost use Rattle.gf_form.specs.inner.Demands.{spans};
+ghost use Rattle.gf_form.specs.inner.Entries.{AreOrdered, IsShaped, entries};
+ghost use Rattle.gf_form.specs.inner.PaidRows.{rows_of};
+ghost use Rattle.gf_form.specs.inner.Picked.{IsPicked, numbers_in, picked_profiles};
 ghost use Rattle.gf_form.specs.Refusal.{HasValues, IsFirstWithout};
-ghost use Rattle.gf_form.specs.Rows.{ArePaid};
-ghost use Rattle.gf_form.specs.SettledRows.{AreWritten, HasRowOver, IsAsked, IsRowOver};
-ghost use Rattle.gf_form.specs.SettledRows.{SettleRows, Settles};
+ghost use Rattle.gf_form.specs.inner.Rows.{ArePaid};
+ghost use Rattle.gf_form.specs.inner.SettledRows.{AreWritten, HasRowOver, IsAsked, IsRowOver};
+ghost use Rattle.gf_form.specs.inner.SettledRows.{SettleRows, Settles};
 ghost use Rattle.gf_form.specs.StrategicForm.{ArePayoffsAt};
 ghost use Rattle.gf_form.specs.Strategies.{strategies_at};
-ghost use Rattle.gf_form.specs.GameDigits.{HaveSteps, actions_at};
+ghost use Rattle.gf_form.specs.inner.GameDigits.{HaveSteps, actions_at};
 
 use crate::counts::Counts;
 use crate::digits::Digit;

@@ -6,12 +6,12 @@
 ghost use Rattle.std.specs.Prelude.{◌≡◌, ◌<◌, ◌≤◌, ◌-◌, ℕ, Ok, length};
 ghost use Rattle.std.specs.Prelude.{IfErr, MatchResult, OnOk};
 ghost use Rattle.gf_token.specs.declared.fault.Why.TheVariants.{Memory};
-ghost use Rattle.gf_nfg.specs.Heard.{Fails, heard};
-ghost use Rattle.gf_nfg.specs.Machine.{Content, at, next_outcome};
-ghost use Rattle.gf_nfg.specs.Position.Position.{AfterBracedPayoff, BracedPayoff, FlatPayoffs};
-ghost use Rattle.gf_nfg.specs.Position.Position.{InOutcomes, OutcomeName, OutcomeNumbers};
-ghost use Rattle.gf_nfg.specs.ReaderState.{GoesTelling, HasTold, content_told, told_answer};
-ghost use Rattle.gf_nfg.specs.Told.{Told, choosing, paying};
+ghost use Rattle.gf_nfg.specs.inner.Heard.{Fails, heard};
+ghost use Rattle.gf_nfg.specs.inner.Machine.{Content, at, next_outcome};
+ghost use Rattle.gf_nfg.specs.inner.Position.Position.{AfterBracedPayoff, BracedPayoff, FlatPayoffs};
+ghost use Rattle.gf_nfg.specs.inner.Position.Position.{InOutcomes, OutcomeName, OutcomeNumbers};
+ghost use Rattle.gf_nfg.specs.inner.ReaderState.{GoesTelling, HasTold, content_told, told_answer};
+ghost use Rattle.gf_nfg.specs.inner.Told.{Told, choosing, paying};
 
 use crate::receive::Receive;
 use gf_token::{Fault, Tokens, What, Why};

@@ -2,10 +2,10 @@
 
 ghost use Rattle.std.specs.Prelude.{◌≡◌, ◌≤◌, ◌*◌, ℕ, length};
 ghost use Rattle.gf_token.specs.Remaining.{StandsBefore};
-ghost use Rattle.gf_nfg.specs.Heard.{Goes};
-ghost use Rattle.gf_nfg.specs.Position.Position.{AfterComment, AfterStrategies, BeforePlayers};
-ghost use Rattle.gf_nfg.specs.Position.Position.{BeforeStrategies, Format};
-ghost use Rattle.gf_nfg.specs.ReaderState.{answer, body_answer};
+ghost use Rattle.gf_nfg.specs.inner.Heard.{Goes};
+ghost use Rattle.gf_nfg.specs.inner.Position.Position.{AfterComment, AfterStrategies, BeforePlayers};
+ghost use Rattle.gf_nfg.specs.inner.Position.Position.{BeforeStrategies, Format};
+ghost use Rattle.gf_nfg.specs.inner.ReaderState.{answer, body_answer};
 
 use super::{Reader, keep};
 use crate::receive::Version;

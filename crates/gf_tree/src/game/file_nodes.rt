@@ -4,7 +4,7 @@ ghost use Rattle.std.specs.Prelude.{◌≡◌, ◌+◌, ◌<◌, ◌≤◌, Some
 ghost use Rattle.gf_token.specs.Positions.{at_position};
 ghost use Rattle.gf_tree.specs.FileNodeOf.{file_node_of, outcome_use_of, set_use_of};
 ghost use Rattle.gf_tree.specs.FileNodes.{file_nodes};
-ghost use Rattle.gf_tree.specs.KnownUses.{AreKnown, use_at};
+ghost use Rattle.gf_tree.specs.inner.KnownUses.{AreKnown, use_at};
 ghost use Rattle.gf_tree.specs.Subtrees.{subtrees};
 
 use crate::file_node::{FileNode, OutcomeDescription, OutcomeUse, SetDescription, SetUse};
@@ -127,7 +127,7 @@ impl<'g, 'a> Model for FileNodes<'g, 'a> {
     ghost use Rattle.std.specs.Prelude.{List, drop};
     ghost use Rattle.gf_tree.specs.FileTree.{FileNode};
     ghost use Rattle.gf_tree.specs.FileNodes.{file_nodes};
-    ghost use Rattle.gf_tree.specs.KnownUses.{AreKnown};
+    ghost use Rattle.gf_tree.specs.inner.KnownUses.{AreKnown};
 
     ghost Value = { List FileNode };
 

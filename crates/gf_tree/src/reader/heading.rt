@@ -2,9 +2,9 @@
 
 ghost use Rattle.std.specs.Prelude.{◌≡◌, ◌≤◌, ◌∷◌, length, IfOk, OnOk};
 ghost use Rattle.gf_token.specs.Remaining.{StandsBefore};
-ghost use Rattle.gf_tree.specs.Machine.Position.{AfterPlayers, BeforePlayers, Format};
-ghost use Rattle.gf_tree.specs.Machine.Position.{NodeDue};
-ghost use Rattle.gf_tree.specs.ReaderState.{answer, Goes, IsSound};
+ghost use Rattle.gf_tree.specs.inner.Machine.Position.{AfterPlayers, BeforePlayers, Format};
+ghost use Rattle.gf_tree.specs.inner.Machine.Position.{NodeDue};
+ghost use Rattle.gf_tree.specs.inner.ReaderState.{answer, Goes, IsSound};
 
 use super::Reader;
 use gf_token::{Fault, Span, What, Why};

@@ -1,10 +1,10 @@
 //! The nodes of an extensive file, in prefix order.
 
 ghost use Rattle.std.specs.Prelude.{◌≡◌, ◌<◌, ◌≤◌, ℕ, List, [], Ok, length, OnOk, MatchResult};
-ghost use Rattle.gf_tree.specs.Machine.Position.{ChanceName, NodeDue, PersonalName};
-ghost use Rattle.gf_tree.specs.Machine.Position.{PlayerNumber, SetNumber, TerminalName};
-ghost use Rattle.gf_tree.specs.ReaderState.{answer, content_of, Fails, Goes, GoesTelling};
-ghost use Rattle.gf_tree.specs.ReaderState.{HasReadAll, HasRoom, IsSound, heading_read};
+ghost use Rattle.gf_tree.specs.inner.Machine.Position.{ChanceName, NodeDue, PersonalName};
+ghost use Rattle.gf_tree.specs.inner.Machine.Position.{PlayerNumber, SetNumber, TerminalName};
+ghost use Rattle.gf_tree.specs.inner.ReaderState.{answer, content_of, Fails, Goes, GoesTelling};
+ghost use Rattle.gf_tree.specs.inner.ReaderState.{HasReadAll, HasRoom, IsSound, heading_read};
 
 use super::Reader;
 use crate::readings;

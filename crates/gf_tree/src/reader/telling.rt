@@ -5,9 +5,9 @@ ghost use Rattle.std.specs.Prelude.{MatchOption, MatchResult, OnOk, ⊤};
 ghost use Rattle.gf_token.specs.Label.{label_of};
 ghost use Rattle.gf_token.specs.Remaining.{StandsBefore};
 ghost use Rattle.gf_tree.specs.KeptNodes.{child_count, position_of};
-ghost use Rattle.gf_tree.specs.Machine.Position.{NodeDue};
-ghost use Rattle.gf_tree.specs.ReaderState.{Fails, HasRoom, IsSound, TellsNode, answer};
-ghost use Rattle.gf_tree.specs.ReaderState.{heading_read};
+ghost use Rattle.gf_tree.specs.inner.Machine.Position.{NodeDue};
+ghost use Rattle.gf_tree.specs.inner.ReaderState.{Fails, HasRoom, IsSound, TellsNode, answer};
+ghost use Rattle.gf_tree.specs.inner.ReaderState.{heading_read};
 
 use super::Reader;
 use crate::kept::position;

@@ -1,5 +1,5 @@
 use Rattle.std.proofs.Common.{◌≡◌, ◌++◌, drop}
-use Rattle.gf_nfg.specs.TextParts.{Keeps}
+use Rattle.gf_nfg.specs.inner.TextParts.{Keeps}
 use Rattle.gf_canon.proofs.TextPieces.{labels_left}
 use Rattle.gf_canon.proofs.braces.write_labels.Given as goal
 

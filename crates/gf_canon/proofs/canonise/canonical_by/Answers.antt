@@ -1,5 +1,5 @@
 use Rattle.std.proofs.Common.{subst}
-use Rattle.gf_canon.specs.FormatWord.{word_of}
+use Rattle.gf_canon.specs.inner.FormatWord.{word_of}
 use Rattle.gf_canon.specs.Judgement.{BeginsWithWord}
 use Rattle.gf_canon.specs.declared.format.Format.{Format}
 use Rattle.gf_canon.proofs.EitherFormat.{game_placed, table_placed}

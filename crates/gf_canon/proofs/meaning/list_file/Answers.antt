@@ -1,5 +1,5 @@
 use Rattle.std.proofs.Common.{subst}
-use Rattle.gf_canon.specs.FormatWord.{word_of}
+use Rattle.gf_canon.specs.inner.FormatWord.{word_of}
 use Rattle.gf_canon.specs.Judgement.{BeginsWithWord, IsRefusedWith}
 use Rattle.gf_canon.specs.declared.format.Format.{Format}
 use Rattle.gf_canon.proofs.FilesJudged.{refused_with}

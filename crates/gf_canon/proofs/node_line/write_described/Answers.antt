@@ -1,6 +1,6 @@
 use Rattle.std.proofs.Common.{◌++◌, option_map}
 use Rattle.gf_nfg.specs.TableText.{spaced}
-use Rattle.gf_nfg.specs.TextParts.{others_text}
+use Rattle.gf_nfg.specs.inner.TextParts.{others_text}
 use Rattle.gf_token.specs.Label.{label_of}
 use Rattle.gf_tree.specs.FileNodeOf.{outcome_use_of, set_use_of}
 use Rattle.gf_canon.specs.GameText.{result_fields, step_fields}

@@ -4,7 +4,7 @@ use Rattle.std.proofs.lemmas.Bool.Decides.{nat_tests}
 use Rattle.std.proofs.lemmas.List.{nil_from_length}
 use Rattle.gf_token.specs.Label.{label_of}
 use Rattle.gf_tree.specs.FileNodeOf.{set_use_of}
-use Rattle.gf_canon.specs.TextParts.{tail_text}
+use Rattle.gf_canon.specs.inner.TextParts.{tail_text}
 use Rattle.gf_canon.proofs.PlainLines.{named_written, tail_length, unnamed_written}
 use Rattle.gf_canon.proofs.plain_line.write_plain.Goals as goal
 

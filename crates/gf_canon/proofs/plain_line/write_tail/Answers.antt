@@ -1,6 +1,6 @@
 use Rattle.std.proofs.Common.{[], ◌∷◌, drop, arith, rules}
 use Rattle.std.proofs.lemmas.Bool.Decides.{nat_tests}
-use Rattle.gf_canon.specs.TextParts.{number_then}
+use Rattle.gf_canon.specs.inner.TextParts.{number_then}
 use Rattle.gf_canon.proofs.PlainLines.{number_tail, outcome_tail}
 use Rattle.gf_canon.proofs.PlainLines.{tail_chance, tail_none, tail_player}
 use Rattle.gf_canon.proofs.plain_line.write_tail.Goals as goal

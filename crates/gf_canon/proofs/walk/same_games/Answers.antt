@@ -1,5 +1,5 @@
 use Rattle.std.proofs.Common.{ap, sym, ◌∙◌}
-use Rattle.gf_canon.specs.NamedBy.{heading_by}
+use Rattle.gf_canon.specs.inner.NamedBy.{heading_by}
 use Rattle.gf_canon.proofs.WalkedNodes.{same_by_walk}
 use Rattle.gf_canon.proofs.walk.same_games.Goals as goal
 

@@ -1,4 +1,4 @@
-use Rattle.gf_canon.specs.NamedBy.{node_by}
+use Rattle.gf_canon.specs.inner.NamedBy.{node_by}
 use Rattle.gf_canon.proofs.WalkedNodes.{walks_on}
 use Rattle.gf_canon.proofs.walk.same_nodes.Goals as goal
 

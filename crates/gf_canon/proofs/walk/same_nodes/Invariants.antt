@@ -2,7 +2,7 @@ use Rattle.std.proofs.Common.{◌≡◌, map}
 use Rattle.std.specs.Prelude.{◌↔◌}
 use Rattle.gf_tree.specs.FileNodes.{file_nodes}
 use Rattle.gf_tree.specs.CanonicalGame.{canonical_game}
-use Rattle.gf_canon.specs.NamedBy.{node_by}
+use Rattle.gf_canon.specs.inner.NamedBy.{node_by}
 use Rattle.gf_canon.proofs.walk.same_nodes.Given as goal
 
 abbrev pub invariant-loop-node : goal.invariant-loop-node

@@ -1,5 +1,5 @@
 use Rattle.std.proofs.Common.{◌≡◌, ◌++◌}
-use Rattle.gf_nfg.specs.TextParts.{Keeps}
+use Rattle.gf_nfg.specs.inner.TextParts.{Keeps}
 use Rattle.gf_tree.specs.FileNodes.{file_nodes}
 use Rattle.gf_canon.proofs.TextPieces.{node_lines}
 use Rattle.gf_canon.proofs.write.write_text.Given as goal

@@ -1,6 +1,6 @@
 use Rattle.std.proofs.Common.{◌≡◌, ◌++◌, ◌∷◌, ◌∙◌, [], Vec, Global, ap, get_or, map, refl}
 use Rattle.std.proofs.lemmas.List.{map-append}
-use Rattle.gf_form.specs.DigitSteps.{picked}
+use Rattle.gf_form.specs.inner.DigitSteps.{picked}
 use Rattle.gf_form.specs.declared.digits.Digit.{Digit}
 use Rattle.gf_form.proofs.DigitsMade.{all_picked, picked_on, picked_past}
 use Rattle.gf_form.proofs.digits.push_digits.Goals as goal

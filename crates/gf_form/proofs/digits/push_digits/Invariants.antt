@@ -1,5 +1,5 @@
 use Rattle.std.proofs.Common.{◌≡◌, ◌++◌, drop, map}
-use Rattle.gf_form.specs.DigitSteps.{picked}
+use Rattle.gf_form.specs.inner.DigitSteps.{picked}
 use Rattle.gf_form.proofs.digits.push_digits.Given as goal
 
 abbrev pub invariant-loop-place : goal.invariant-loop-place

@@ -2,7 +2,7 @@ use Rattle.std.proofs.Common.{◌≡◌, ◌<◌, ◌≤◌, ◌*◌, ◌^◌, �
 use Rattle.std.proofs.Common.{ap, arith, get_or, length, map, subst, sym}
 use Rattle.std.proofs.lemmas.List.{get_or-map, length-map, map-append}
 use Rattle.gf_nfg.specs.Profiles.{product}
-use Rattle.gf_form.specs.DigitSteps.{all_steps, steps_behind, width}
+use Rattle.gf_form.specs.inner.DigitSteps.{all_steps, steps_behind, width}
 use Rattle.gf_form.proofs.CountsGiven.{actions_in}
 use Rattle.gf_form.proofs.DigitsMade.{all_player_steps, all_player_values, player_steps}
 use Rattle.gf_form.proofs.DigitsMade.{player_values}

@@ -1,6 +1,6 @@
 use Rattle.std.proofs.Common.{◌≡◌, ◌<◌, ◌*◌, ◌^◌, ◌++◌, drop, map}
 use Rattle.gf_nfg.specs.Profiles.{product}
-use Rattle.gf_form.specs.DigitSteps.{all_steps, width}
+use Rattle.gf_form.specs.inner.DigitSteps.{all_steps, width}
 use Rattle.gf_form.proofs.CountsGiven.{actions_in}
 use Rattle.gf_form.proofs.digits.steps_of_all.Given as goal
 

@@ -1,5 +1,5 @@
 use Rattle.std.proofs.Common.{◌≡◌, ◌*◌, ◌++◌, ℕ, drop}
-use Rattle.gf_form.specs.DigitSteps.{steps_behind, width}
+use Rattle.gf_form.specs.inner.DigitSteps.{steps_behind, width}
 use Rattle.gf_form.proofs.digits.steps_within.Given as goal
 
 abbrev pub invariant-loop-count : goal.invariant-loop-count

@@ -1,5 +1,5 @@
 use Rattle.std.proofs.Common.{◌<◌, ◌+◌, ◌*◌, ◌^◌, ◌∙◌, ℕ, ap, drop, get_or, refl, subst, sym}
-use Rattle.gf_form.specs.DigitSteps.{width}
+use Rattle.gf_form.specs.inner.DigitSteps.{width}
 use Rattle.gf_form.proofs.DigitsMade.{all_values, values_more, values_same}
 use Rattle.gf_form.proofs.digits.values_with.Goals as goal
 use Rattle.gf_form.proofs.digits.values_with.Goals.{then-count-gt1+in_ok-values, else-count-gt1}

@@ -1,5 +1,5 @@
 use Rattle.std.proofs.Common.{◌≡◌, ◌<◌, ◌*◌, ◌^◌, drop}
-use Rattle.gf_form.specs.DigitSteps.{width}
+use Rattle.gf_form.specs.inner.DigitSteps.{width}
 use Rattle.gf_form.proofs.digits.values_with.Given as goal
 
 abbrev pub invariant-loop-count : goal.invariant-loop-count

@@ -2,12 +2,12 @@ use Rattle.std.proofs.Common.{◌≡◌, ◌∙◌, suc, [], ◌∷◌, List, Ma
 use Rattle.std.proofs.Common.{ap, arith, length, map, subst, sym}
 use Rattle.std.proofs.lemmas.List.{append-nil}
 use Rattle.gf_fraction.specs.Ratio.{Ratio}
-use Rattle.gf_form.specs.CodeLeft.{code_left}
-use Rattle.gf_form.specs.Program.{code, run}
-use Rattle.gf_form.specs.Rows.{AreRows, at_place, column}
-use Rattle.gf_form.specs.RowsOn.{rows_on}
+use Rattle.gf_form.specs.inner.CodeLeft.{code_left}
+use Rattle.gf_form.specs.inner.Program.{code, run}
+use Rattle.gf_form.specs.inner.Rows.{AreRows, at_place, column}
+use Rattle.gf_form.specs.inner.RowsOn.{rows_on}
 use Rattle.gf_form.specs.Strategies.{choices_by}
-use Rattle.gf_form.specs.Values.{value}
+use Rattle.gf_form.specs.inner.Values.{value}
 use Rattle.gf_form.specs.declared.op.Op.{Op}
 use Rattle.gf_form.specs.declared.fault.EvalFault.TheVariants.{Overflow}
 use Rattle.gf_form.proofs.ProgramRuns.{code_runs}

@@ -1,11 +1,11 @@
 use Rattle.std.proofs.Common.{◌≡◌, ℕ, suc, [], ◌∷◌, length, map}
-use Rattle.gf_form.specs.CodeLeft.{code_left}
-use Rattle.gf_form.specs.PaidRows.{rows_of}
-use Rattle.gf_form.specs.Program.{run}
-use Rattle.gf_form.specs.Rows.{ArePaid, AreRows, column}
-use Rattle.gf_form.specs.RowsOn.{rows_on}
+use Rattle.gf_form.specs.inner.CodeLeft.{code_left}
+use Rattle.gf_form.specs.inner.PaidRows.{rows_of}
+use Rattle.gf_form.specs.inner.Program.{run}
+use Rattle.gf_form.specs.inner.Rows.{ArePaid, AreRows, column}
+use Rattle.gf_form.specs.inner.RowsOn.{rows_on}
 use Rattle.gf_form.specs.Strategies.{choices_by}
-use Rattle.gf_form.specs.Values.{value}
+use Rattle.gf_form.specs.inner.Values.{value}
 use Rattle.gf_form.proofs.evaluate.evaluate.Given as goal
 
 abbrev pub invariant-loop-walk : goal.invariant-loop-walk

@@ -1,9 +1,9 @@
 use Rattle.std.proofs.Common.{◌∙◌, ◌∷◌, None, List, ap, length, subst, suc, sym}
 use Rattle.std.proofs.lemmas.Result.{on_ok_weaker}
 use Rattle.gf_fraction.specs.Ratio.{Ratio}
-use Rattle.gf_form.specs.Program.{run}
-use Rattle.gf_form.specs.Rows.{IsRow, at_place, column}
-use Rattle.gf_form.specs.RowsOn.{rows_on}
+use Rattle.gf_form.specs.inner.Program.{run}
+use Rattle.gf_form.specs.inner.Rows.{IsRow, at_place, column}
+use Rattle.gf_form.specs.inner.RowsOn.{rows_on}
 use Rattle.gf_form.specs.declared.op.Op.{Op}
 use Rattle.gf_form.proofs.ProgramRuns.{stays_undefined}
 use Rattle.gf_form.proofs.Stacks.{begin_runs, pay_runs, push_runs, weigh_runs}

@@ -1,6 +1,6 @@
 use Rattle.std.proofs.Common.{◌≡◌, map, take}
 use Rattle.gf_tree.specs.Game.{Game}
-use Rattle.gf_form.specs.Counted.{AreCounts}
+use Rattle.gf_form.specs.inner.Counted.{AreCounts}
 use Rattle.gf_form.specs.StrategicForm.{strategy_labels}
 use Rattle.gf_form.specs.Strategies.{players_of}
 use Rattle.gf_form.proofs.form_labels.all_labels.Given as goal

@@ -3,8 +3,8 @@ use Rattle.std.proofs.Common.{length, subst, sym, take}
 use Rattle.std.proofs.Math.Seq.{take-length}
 use Rattle.std.specs.Prelude.{◌||◌}
 use Rattle.std.specs.List.{list_any}
-use Rattle.gf_form.specs.Levels.{is_settled_at}
-use Rattle.gf_form.specs.Visits.{visit_at}
+use Rattle.gf_form.specs.inner.Levels.{is_settled_at}
+use Rattle.gf_form.specs.inner.Visits.{visit_at}
 use Rattle.gf_form.proofs.LeftVisits.{comes_earlier}
 use Rattle.gf_form.proofs.MetSets.{KnownTo, known_more, known_still}
 use Rattle.gf_form.proofs.StrategiesByNumber.{all_at}

@@ -1,8 +1,8 @@
 use Rattle.std.proofs.Common.{◌≡◌, ◌≤◌, ◌<◌, ◌-◌, ◌∙◌, ◌++◌, ◌∷◌, [], ◌&&◌, ◌⊎◌, ℕ, List, Vec, Global, ap, append-nil}
 use Rattle.std.proofs.Common.{arith, cond, false, filter, get_or, inl, inr, length, refl, subst, sym, take}
 use Rattle.std.proofs.Math.Seq.{take-nil}
-use Rattle.gf_form.specs.Levels.{AreLeft, is_made_at, is_made_to}
-use Rattle.gf_form.specs.Visits.{chosen, visit_at}
+use Rattle.gf_form.specs.inner.Levels.{AreLeft, is_made_at, is_made_to}
+use Rattle.gf_form.specs.inner.Visits.{chosen, visit_at}
 use Rattle.gf_form.proofs.LeftVisits.{PassedTo, comes_earlier, made_more, passed_all, passed_more}
 use Rattle.gf_form.proofs.StrategiesByNumber.{all_at}
 use Rattle.gf_form.proofs.levels.left_on.Goals as goal

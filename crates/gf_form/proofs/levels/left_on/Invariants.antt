@@ -1,5 +1,5 @@
-use Rattle.gf_form.specs.Levels.{is_made_at}
-use Rattle.gf_form.specs.Visits.{chosen}
+use Rattle.gf_form.specs.inner.Levels.{is_made_at}
+use Rattle.gf_form.specs.inner.Visits.{chosen}
 use Rattle.gf_form.proofs.LeftVisits.{PassedTo}
 use Rattle.gf_form.proofs.levels.left_on.Given as goal
 

@@ -1,5 +1,5 @@
 use Rattle.std.proofs.Common.{◌+◌, ◌≤◌}
-use Rattle.gf_form.specs.Levels.{AreLevels}
+use Rattle.gf_form.specs.inner.Levels.{AreLevels}
 use Rattle.gf_form.proofs.levels.levels_of.Given as goal
 
 abbrev pub invariant-loop-actions : goal.invariant-loop-actions

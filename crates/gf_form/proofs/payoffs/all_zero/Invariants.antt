@@ -1,6 +1,6 @@
 use Rattle.std.proofs.Common.{◌≡◌, ◌<◌, ℕ}
 use Rattle.gf_fraction.specs.Rational.{zero_ratio}
-use Rattle.gf_form.specs.Rows.{at_place}
+use Rattle.gf_form.specs.inner.Rows.{at_place}
 use Rattle.gf_form.proofs.payoffs.all_zero.Given as goal
 
 abbrev pub invariant-loop-payoff : goal.invariant-loop-payoff

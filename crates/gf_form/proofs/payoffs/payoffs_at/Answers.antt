@@ -1,6 +1,6 @@
 use Rattle.std.proofs.Common.{sym}
 use Rattle.gf_token.specs.Label.{label_of}
-use Rattle.gf_tree.specs.GameParts.{outcome_with}
+use Rattle.gf_tree.specs.Description.{outcome_with}
 use Rattle.gf_form.proofs.PaidRowsKept.{paid_some, row_of_outcome}
 use Rattle.gf_form.proofs.payoffs.payoffs_at.Goals as goal
 

@@ -1,7 +1,7 @@
 use Rattle.std.proofs.Common.{◌+◌, ◌*◌, ◌/◌, ◌<◌, ℕ, List, Vec, Global, ap, arith, get_or, length}
 use Rattle.std.proofs.Common.{[], subst, sym}
 use Rattle.std.proofs.lemmas.List.{length-map}
-use Rattle.gf_form.specs.Picked.{numbers_in}
+use Rattle.gf_form.specs.inner.Picked.{numbers_in}
 use Rattle.gf_form.proofs.FullNumbers.{CountsOn, IsFullNumber, as_long, count_at, counts_all}
 use Rattle.gf_form.proofs.FullNumbers.{counts_first, of_profile, player_more, small, whole_small}
 use Rattle.gf_form.proofs.PickedProfiles.{numbers_within, rest_within, some_number}

@@ -1,4 +1,4 @@
-use Rattle.gf_form.specs.Picked.{numbers_in}
+use Rattle.gf_form.specs.inner.Picked.{numbers_in}
 use Rattle.gf_form.proofs.FullNumbers.{CountsOn}
 use Rattle.gf_form.proofs.picked.full_number_of.Given as goal
 

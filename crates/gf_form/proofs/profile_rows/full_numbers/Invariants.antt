@@ -1,7 +1,7 @@
 use Rattle.std.proofs.Common.{◌≡◌, ◌<◌, ℕ, get_or, length}
 use Rattle.gf_tree.specs.Game.{Game}
-use Rattle.gf_form.specs.Counted.{AreCounts}
-use Rattle.gf_form.specs.Picked.{IsPicked}
+use Rattle.gf_form.specs.inner.Counted.{AreCounts}
+use Rattle.gf_form.specs.inner.Picked.{IsPicked}
 use Rattle.gf_form.proofs.GameRows.{IsFullNumber}
 use Rattle.gf_form.proofs.profile_rows.full_numbers.Given as goal
 

@@ -1,11 +1,11 @@
 use Rattle.std.proofs.Common.{List, ℕ, arith, get_or, subst, sym}
 use Rattle.std.specs.Prelude.{IfSome}
 use Rattle.gf_tree.specs.Game.{Game, IsGame}
-use Rattle.gf_form.specs.Counted.{AreCounts}
-use Rattle.gf_form.specs.GameDigits.{HasDigits, digit_actions}
-use Rattle.gf_form.specs.PaidRows.{rows_of}
-use Rattle.gf_form.specs.SettledRows.{SettlesAt}
-use Rattle.gf_form.specs.GameDigits.{actions_at}
+use Rattle.gf_form.specs.inner.Counted.{AreCounts}
+use Rattle.gf_form.specs.inner.GameDigits.{HasDigits, digit_actions}
+use Rattle.gf_form.specs.inner.PaidRows.{rows_of}
+use Rattle.gf_form.specs.inner.SettledRows.{SettlesAt}
+use Rattle.gf_form.specs.inner.GameDigits.{actions_at}
 use Rattle.gf_form.specs.declared.digits.Digit.{Digit}
 use Rattle.gf_form.proofs.GameRows.{settle_all}
 use Rattle.gf_form.proofs.profile_rows.profile_rows.Goals as goal

@@ -1,7 +1,7 @@
 use Rattle.std.proofs.Common.{◌≡◌, ◌%◌, ◌<◌, ◌∙◌, ℕ, [], List, Vec, Global}
 use Rattle.std.proofs.Common.{arith, get_or, length, map, slice_set}
 use Rattle.std.proofs.lemmas.List.{get_or_default, length-map, map-set}
-use Rattle.gf_form.specs.Picked.{numbers_in}
+use Rattle.gf_form.specs.inner.Picked.{numbers_in}
 use Rattle.gf_form.specs.Strategies.{all_choices}
 use Rattle.gf_form.proofs.CountsGiven.{actions_in, read_actions, read_count, read_whole}
 use Rattle.gf_form.proofs.WrittenStrategies.{first_written, last_written, one_written}

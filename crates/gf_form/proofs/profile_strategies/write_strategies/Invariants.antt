@@ -1,5 +1,5 @@
 use Rattle.std.proofs.Common.{map}
-use Rattle.gf_form.specs.Picked.{numbers_in}
+use Rattle.gf_form.specs.inner.Picked.{numbers_in}
 use Rattle.gf_form.proofs.CountsGiven.{actions_in}
 use Rattle.gf_form.proofs.WrittenStrategies.{Written}
 use Rattle.gf_form.proofs.profile_strategies.write_strategies.Given as goal

@@ -3,7 +3,7 @@ use Rattle.std.proofs.Common.{subst, sym}
 use Rattle.std.specs.List.{AllZip}
 use Rattle.std.proofs.lemmas.List.{map-append}
 use Rattle.gf_nfg.proofs.NumbersInTurn.{length-numbers_from}
-use Rattle.gf_form.specs.Firsts.{AreFirstsOf}
+use Rattle.gf_form.specs.inner.Firsts.{AreFirstsOf}
 use Rattle.gf_form.specs.Reduced.{reduced_labels}
 use Rattle.gf_form.specs.Strategies.{players_of}
 use Rattle.gf_form.proofs.CountedActions.{as_many_players, of_player, one_item_more, take_past}

@@ -1,6 +1,6 @@
 use Rattle.std.proofs.Common.{◌≡◌, map, take}
 use Rattle.std.specs.List.{AllZip}
-use Rattle.gf_form.specs.Firsts.{AreFirstsOf}
+use Rattle.gf_form.specs.inner.Firsts.{AreFirstsOf}
 use Rattle.gf_form.specs.Reduced.{reduced_labels}
 use Rattle.gf_form.specs.Strategies.{players_of}
 use Rattle.gf_form.proofs.reduced.all_reduced.Given as goal

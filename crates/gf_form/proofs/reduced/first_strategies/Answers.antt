@@ -6,7 +6,7 @@ use Rattle.gf_token.specs.LabelSpelling.{IsLabel}
 use Rattle.gf_nfg.specs.Profiles.{product}
 use Rattle.gf_tree.proofs.Members.{map_twice}
 use Rattle.gf_form.specs.Reduced.{reduced, reduced_label}
-use Rattle.gf_form.specs.Shown.{chooses_first, relevant_sets, shown}
+use Rattle.gf_form.specs.inner.Shown.{chooses_first, relevant_sets, shown}
 use Rattle.gf_form.specs.Strategies.{action_counts, all_choices, strategies}
 use Rattle.gf_form.proofs.Choices.{length-all_choices}
 use Rattle.gf_form.proofs.CountedActions.{take_past}

@@ -1,7 +1,7 @@
 use Rattle.std.proofs.Common.{◌≡◌, ◌-◌, ◌≤◌, [], get_or, map}
 use Rattle.gf_form.specs.Reduced.{reduced, reduced_label}
 use Rattle.gf_form.specs.Strategies.{strategies}
-use Rattle.gf_form.specs.TellsRelevance.{TellsRelevance}
+use Rattle.gf_form.specs.inner.TellsRelevance.{TellsRelevance}
 use Rattle.gf_form.proofs.FirstNumbers.{AreFirst}
 use Rattle.gf_form.proofs.FirstStrategies.{is_first}
 use Rattle.gf_form.proofs.reduced.first_strategies.Given as goal

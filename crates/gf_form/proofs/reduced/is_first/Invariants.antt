@@ -1,5 +1,5 @@
 use Rattle.std.proofs.Common.{◌≡◌, drop}
-use Rattle.gf_form.specs.Shown.{chooses_first}
+use Rattle.gf_form.specs.inner.Shown.{chooses_first}
 use Rattle.gf_form.proofs.reduced.is_first.Given as goal
 
 abbrev pub invariant-loop-before : goal.invariant-loop-before

@@ -1,6 +1,6 @@
 use Rattle.std.proofs.Common.{◌++◌, ◌∷◌, ◌∙◌, [], ℕ, List, ap, map, subst, sym}
 use Rattle.gf_nfg.specs.Profiles.{product}
-use Rattle.gf_form.specs.Firsts.{AreFirstsOf}
+use Rattle.gf_form.specs.inner.Firsts.{AreFirstsOf}
 use Rattle.gf_form.specs.Strategies.{all_choices, strategy_label}
 use Rattle.gf_form.proofs.OnlyStrategies.{only_first, only_label}
 use Rattle.gf_form.proofs.reduced.only_strategy.Goals as goal

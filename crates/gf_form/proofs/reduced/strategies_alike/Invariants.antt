@@ -1,5 +1,5 @@
 use Rattle.std.proofs.Common.{◌≡◌}
-use Rattle.gf_form.specs.AlikeStrategies.{AreAlike}
+use Rattle.gf_form.specs.inner.AlikeStrategies.{AreAlike}
 use Rattle.gf_form.proofs.reduced.strategies_alike.Given as goal
 
 abbrev pub invariant-loop-from : goal.invariant-loop-from

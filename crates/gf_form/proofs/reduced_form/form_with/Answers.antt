@@ -1,8 +1,8 @@
 use Rattle.std.proofs.Common.{◌≤◌, ℕ, List, arith, length, subst, sym}
 use Rattle.std.proofs.lemmas.Result.{IfOk-weaker}
 use Rattle.gf_nfg.specs.Limit.{profile_limit}
-use Rattle.gf_form.specs.Firsts.{IsPaidAt}
-use Rattle.gf_form.specs.ProfileRows.{AreRowsAt}
+use Rattle.gf_form.specs.inner.Firsts.{IsPaidAt}
+use Rattle.gf_form.specs.inner.ProfileRows.{AreRowsAt}
 use Rattle.gf_form.specs.Reduced.{reduced_labels}
 use Rattle.gf_form.proofs.FirstsPicked.{fewer_profiles, paid_fractions, paid_full, reduced_made}
 use Rattle.gf_form.proofs.FirstsPicked.{reduced_form_profiles, some_reduced_label}

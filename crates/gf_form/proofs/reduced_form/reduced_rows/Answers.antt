@@ -2,9 +2,9 @@ use Rattle.std.proofs.Common.{◌∙◌, ℕ, List, Vec, Global, ap, arith, map,
 use Rattle.std.specs.List.{AllByRecursion}
 use Rattle.std.proofs.lemmas.Bool.{false≢true}
 use Rattle.std.proofs.lemmas.Result.{IfOk-weaker, on_ok_weaker}
-use Rattle.gf_form.specs.Firsts.{AreFirsts}
-use Rattle.gf_form.specs.Picked.{numbers_in}
-use Rattle.gf_form.specs.ProfileRows.{AreRowsAt}
+use Rattle.gf_form.specs.inner.Firsts.{AreFirsts}
+use Rattle.gf_form.specs.inner.Picked.{numbers_in}
+use Rattle.gf_form.specs.inner.ProfileRows.{AreRowsAt}
 use Rattle.gf_form.specs.Refusal.{HasValues, IsFirstWithout}
 use Rattle.gf_form.specs.StrategicForm.{ArePayoffsAt}
 use Rattle.gf_form.proofs.AllReduced.{all_are_firsts}

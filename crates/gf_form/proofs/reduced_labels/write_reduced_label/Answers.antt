@@ -1,7 +1,7 @@
 use Rattle.std.proofs.Common.{arith, subst, sym}
 use Rattle.std.specs.List.{AllByRecursion}
-use Rattle.gf_form.specs.LabelTexts.{IsPlain}
-use Rattle.gf_form.specs.Shown.{shown}
+use Rattle.gf_form.specs.inner.LabelTexts.{IsPlain}
+use Rattle.gf_form.specs.inner.Shown.{shown}
 use Rattle.gf_form.proofs.ReducedText.{all_marked, mark_removed, marked_more}
 use Rattle.gf_form.proofs.StrategiesByNumber.{all_taken, plain_label}
 use Rattle.gf_form.proofs.reduced_labels.write_reduced_label.Goals as goal

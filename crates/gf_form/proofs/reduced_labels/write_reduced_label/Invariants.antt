@@ -1,7 +1,7 @@
 use Rattle.std.proofs.Common.{◌≡◌, take}
 use Rattle.std.specs.List.{AllByRecursion}
-use Rattle.gf_form.specs.LabelTexts.{IsPlain}
-use Rattle.gf_form.specs.Shown.{shown}
+use Rattle.gf_form.specs.inner.LabelTexts.{IsPlain}
+use Rattle.gf_form.specs.inner.Shown.{shown}
 use Rattle.gf_form.proofs.ReducedText.{marked}
 use Rattle.gf_form.proofs.reduced_labels.write_reduced_label.Given as goal
 

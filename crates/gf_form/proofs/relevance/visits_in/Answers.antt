@@ -2,9 +2,9 @@ use Rattle.std.proofs.Common.{◌≡◌, ◌∙◌, [], ℕ, ap, arith, refl, su
 use Rattle.std.proofs.lemmas.List.{nil_from_length}
 use Rattle.gf_tree.specs.Branches.{game_of, tree_of}
 use Rattle.gf_tree.specs.Game.{Game}
-use Rattle.gf_form.specs.Relevance.{FindRelevance}
-use Rattle.gf_form.specs.Survey.{FindsMore, IsSurvey, open_comes, survey_size}
-use Rattle.gf_form.specs.Visits.{visits_of}
+use Rattle.gf_form.specs.inner.Relevance.{FindRelevance}
+use Rattle.gf_form.specs.inner.Survey.{FindsMore, IsSurvey, open_comes, survey_size}
+use Rattle.gf_form.specs.inner.Visits.{visits_of}
 use Rattle.gf_form.specs.declared.relevance.Survey.{Survey}
 use Rattle.gf_form.proofs.Surveys.{Finds, begun, finds_relevance, popped_survey, survey_last, went_on}
 use Rattle.gf_form.proofs.relevance.visits_in.Goals as goal

@@ -1,5 +1,5 @@
 use Rattle.std.proofs.Common.{◌≡◌}
-use Rattle.gf_form.specs.Survey.{IsSurvey, survey_size}
+use Rattle.gf_form.specs.inner.Survey.{IsSurvey, survey_size}
 use Rattle.gf_form.proofs.Surveys.{Finds}
 use Rattle.gf_form.proofs.relevance.visits_in.Given as goal
 

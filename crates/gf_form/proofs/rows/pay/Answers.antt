@@ -1,7 +1,7 @@
 use Rattle.std.proofs.Common.{◌≡◌, ◌∙◌, Option, Some, arith, subst, sym, length}
 use Rattle.gf_fraction.specs.Ratio.{Ratio}
 use Rattle.gf_fraction.specs.Rational.{zero_ratio}
-use Rattle.gf_form.specs.Values.{plus_of}
+use Rattle.gf_form.specs.inner.Values.{plus_of}
 use Rattle.gf_form.proofs.RowSums.{Added, all_added, is_paid, not_paid, nothing_paid}
 use Rattle.gf_form.proofs.RowSums.{one_added}
 use Rattle.gf_form.proofs.ValuesComputed.{zero_fraction}

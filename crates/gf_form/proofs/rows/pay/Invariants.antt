@@ -1,5 +1,5 @@
 use Rattle.std.proofs.Common.{Some}
-use Rattle.gf_form.specs.Values.{plus_of}
+use Rattle.gf_form.specs.inner.Values.{plus_of}
 use Rattle.gf_form.proofs.RowSums.{Added}
 use Rattle.gf_form.proofs.rows.pay.Given as goal
 

@@ -1,8 +1,8 @@
 use Rattle.std.proofs.Common.{◌≡◌, ◌++◌, length, map}
 use Rattle.std.specs.List.{filter}
-use Rattle.gf_form.specs.KeptNodes.{is_paid, paid_reached}
-use Rattle.gf_form.specs.PaidRows.{rows_of}
-use Rattle.gf_form.specs.PathsLeft.{nodes_left}
+use Rattle.gf_form.specs.inner.KeptNodes.{is_paid, paid_reached}
+use Rattle.gf_form.specs.inner.PaidRows.{rows_of}
+use Rattle.gf_form.specs.inner.PathsLeft.{nodes_left}
 use Rattle.gf_form.specs.Strategies.{choices_by}
 use Rattle.gf_form.proofs.shares.paid_nodes.Given as goal
 

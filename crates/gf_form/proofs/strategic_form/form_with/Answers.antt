@@ -2,7 +2,7 @@ use Rattle.std.proofs.Common.{◌<◌, ◌≤◌, ℕ, List, length, subst, sym}
 use Rattle.std.proofs.lemmas.List.{length-map}
 use Rattle.std.proofs.lemmas.Result.{IfOk-weaker}
 use Rattle.gf_nfg.specs.Limit.{profile_limit}
-use Rattle.gf_form.specs.ProfileRows.{AreRowsAt}
+use Rattle.gf_form.specs.inner.ProfileRows.{AreRowsAt}
 use Rattle.gf_form.specs.StrategicForm.{ArePayoffsAt, strategy_labels}
 use Rattle.gf_form.specs.Strategies.{strategies, strategy_label}
 use Rattle.gf_form.proofs.FormMade.{fits_table, form_made, full_row, row_fractions}

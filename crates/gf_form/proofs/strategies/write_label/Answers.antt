@@ -3,7 +3,7 @@ use Rattle.std.proofs.Common.{refl, subst, sym}
 use Rattle.std.specs.Prelude.{decimal}
 use Rattle.std.specs.List.{AllByRecursion}
 use Rattle.gf_fraction.proofs.AllElements.{all_both}
-use Rattle.gf_form.specs.LabelTexts.{IsPlain}
+use Rattle.gf_form.specs.inner.LabelTexts.{IsPlain}
 use Rattle.gf_form.proofs.CountedActions.{take_past}
 use Rattle.gf_form.proofs.StrategiesByNumber.{all_taken, dash_removed, dashed, dashed_more}
 use Rattle.gf_form.proofs.StrategiesByNumber.{plain_label, plain_number}

@@ -1,6 +1,6 @@
 use Rattle.std.proofs.Common.{◌≡◌, take}
 use Rattle.std.specs.List.{AllByRecursion}
-use Rattle.gf_form.specs.LabelTexts.{IsPlain}
+use Rattle.gf_form.specs.inner.LabelTexts.{IsPlain}
 use Rattle.gf_form.proofs.StrategiesByNumber.{dashed}
 use Rattle.gf_form.proofs.strategies.write_label.Given as goal
 

@@ -1,11 +1,11 @@
 use Rattle.std.proofs.Common.{◌≡◌, ◌∙◌, ◌++◌, List, ℕ, Bool, ap, map, refl, rules, subst}
 use Rattle.gf_token.specs.declared.fault.Why.TheVariants.{Memory}
-use Rattle.gf_nfg.specs.Meaning.{rows_by, table_of}
-use Rattle.gf_nfg.specs.ReaderState.{content_of}
+use Rattle.gf_nfg.specs.inner.Meaning.{rows_by, table_of}
+use Rattle.gf_nfg.specs.inner.ReaderState.{content_of}
 use Rattle.gf_nfg.specs.TableText.{lines_text}
-use Rattle.gf_nfg.specs.TextParts.{row_text}
-use Rattle.gf_nfg.specs.ToldTable.{HasToldTable}
-use Rattle.gf_nfg.specs.ToldText.{HasText}
+use Rattle.gf_nfg.specs.inner.TextParts.{row_text}
+use Rattle.gf_nfg.specs.inner.ToldTable.{HasToldTable}
+use Rattle.gf_nfg.specs.inner.ToldText.{HasText}
 use Rattle.gf_nfg.specs.declared.receive.Version.TheVariants.{Payoffs}
 use Rattle.gf_nfg.proofs.PlacesJudged.{memory_at_end}
 use Rattle.gf_nfg.proofs.ToldTexts.{outcomes_begin, payoffs_text, text_with}

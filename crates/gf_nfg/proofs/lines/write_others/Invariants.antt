@@ -1,5 +1,5 @@
 use Rattle.std.proofs.Common.{◌≡◌, ◌++◌, drop}
-use Rattle.gf_nfg.specs.TextParts.{Keeps}
+use Rattle.gf_nfg.specs.inner.TextParts.{Keeps}
 use Rattle.gf_nfg.proofs.Texts.{payoffs_rest}
 use Rattle.gf_nfg.proofs.lines.write_others.Given as goal
 

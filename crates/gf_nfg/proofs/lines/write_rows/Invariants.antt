@@ -1,5 +1,5 @@
 use Rattle.std.proofs.Common.{◌≡◌, ◌++◌}
-use Rattle.gf_nfg.specs.TextParts.{Keeps}
+use Rattle.gf_nfg.specs.inner.TextParts.{Keeps}
 use Rattle.gf_nfg.proofs.Texts.{lines_rest}
 use Rattle.gf_nfg.proofs.lines.write_rows.Given as goal
 

@@ -1,7 +1,7 @@
 use Rattle.std.proofs.Common.{◌<◌, ◌∙◌, ◌++◌, ap, subst, sym, ℕ, List}
 use Rattle.std.specs.List.{AllByRecursion}
 use Rattle.gf_nfg.specs.TableParts.{kept_row}
-use Rattle.gf_nfg.specs.TextParts.{lines_with}
+use Rattle.gf_nfg.specs.inner.TextParts.{lines_with}
 use Rattle.gf_nfg.proofs.TextShared.{lines_chosen, lines_counted}
 use Rattle.gf_nfg.proofs.lines.write_shared.Goals as goal
 

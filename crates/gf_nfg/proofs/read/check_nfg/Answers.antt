@@ -1,5 +1,5 @@
-use Rattle.gf_nfg.specs.Meaning.{table_of}
-use Rattle.gf_nfg.specs.ReaderState.{content_told}
+use Rattle.gf_nfg.specs.inner.Meaning.{table_of}
+use Rattle.gf_nfg.specs.inner.ReaderState.{content_told}
 use Rattle.gf_nfg.proofs.MeaningTables.{within_limit}
 use Rattle.gf_nfg.proofs.read.check_nfg.Goals as goal
 

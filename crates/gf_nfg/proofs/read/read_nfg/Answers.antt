@@ -1,6 +1,6 @@
 use Rattle.std.proofs.Common.{◌∙◌}
-use Rattle.gf_nfg.specs.Meaning.{table_of}
-use Rattle.gf_nfg.specs.ReaderState.{content_of}
+use Rattle.gf_nfg.specs.inner.Meaning.{table_of}
+use Rattle.gf_nfg.specs.inner.ReaderState.{content_of}
 use Rattle.gf_nfg.proofs.PlacesJudged.{memory_at_end}
 use Rattle.gf_nfg.proofs.PlacesLed.{spells_one_table}
 use Rattle.gf_nfg.proofs.SpelledTables.{spelled_is_spellable}

@@ -1,6 +1,6 @@
 use Rattle.std.proofs.Common.{rules, ◌∙◌, ap, sym}
-use Rattle.gf_nfg.specs.Heard.{Answer}
-use Rattle.gf_nfg.specs.ReaderState.{content_told}
+use Rattle.gf_nfg.specs.inner.Heard.{Answer}
+use Rattle.gf_nfg.specs.inner.ReaderState.{content_told}
 use Rattle.gf_nfg.proofs.HeardJudged.{answer_judged, answer_read, carried, heard_begun}
 use Rattle.gf_nfg.proofs.HeardJudged.{refused_why}
 use Rattle.gf_nfg.proofs.PlacesJudged.{only_memory}

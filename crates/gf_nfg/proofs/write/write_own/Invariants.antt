@@ -1,7 +1,7 @@
 use Rattle.std.proofs.Common.{◌≡◌, ◌++◌}
 use Rattle.gf_nfg.specs.TableParts.{own_of}
 use Rattle.gf_nfg.specs.TableText.{quoted}
-use Rattle.gf_nfg.specs.TextParts.{Keeps}
+use Rattle.gf_nfg.specs.inner.TextParts.{Keeps}
 use Rattle.gf_nfg.proofs.Texts.{rest_text}
 use Rattle.gf_nfg.proofs.write.write_own.Given as goal
 

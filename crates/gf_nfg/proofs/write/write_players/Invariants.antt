@@ -1,6 +1,6 @@
 use Rattle.std.proofs.Common.{◌≡◌, ◌++◌}
 use Rattle.gf_nfg.specs.TableText.{quoted}
-use Rattle.gf_nfg.specs.TextParts.{Keeps}
+use Rattle.gf_nfg.specs.inner.TextParts.{Keeps}
 use Rattle.gf_nfg.proofs.Texts.{rest_text}
 use Rattle.gf_nfg.proofs.write.write_players.Given as goal
 

@@ -1,6 +1,6 @@
 use Rattle.std.proofs.Common.{◌≡◌, ◌++◌, map}
 use Rattle.gf_nfg.specs.TableText.{list_text, quoted}
-use Rattle.gf_nfg.specs.TextParts.{Keeps}
+use Rattle.gf_nfg.specs.inner.TextParts.{Keeps}
 use Rattle.gf_nfg.proofs.Texts.{rest_text}
 use Rattle.gf_nfg.proofs.write.write_strategies.Given as goal
 

@@ -1,6 +1,6 @@
 use Rattle.std.proofs.Common.{◌++◌, ◌∙◌, ap, arith, drop, map, refl, sym}
 use Rattle.std.proofs.lemmas.List.{drop_all}
-use Rattle.gf_nfg.specs.ReaderState.{labels_of}
+use Rattle.gf_nfg.specs.inner.ReaderState.{labels_of}
 use Rattle.gf_nfg.specs.TableParts.{groups}
 use Rattle.gf_nfg.specs.TableText.{list_text, quoted}
 use Rattle.gf_nfg.proofs.HeadingTexts.{group_written, groups_left}

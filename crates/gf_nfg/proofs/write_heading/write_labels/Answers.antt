@@ -1,6 +1,6 @@
 use Rattle.std.proofs.Common.{◌++◌, ◌∙◌, ap, arith, map, sym}
 use Rattle.std.proofs.lemmas.List.{drop_all}
-use Rattle.gf_nfg.specs.ReaderState.{labels_of}
+use Rattle.gf_nfg.specs.inner.ReaderState.{labels_of}
 use Rattle.gf_nfg.specs.TableText.{quoted}
 use Rattle.gf_nfg.proofs.Texts.{items_text, list_ended}
 use Rattle.gf_nfg.proofs.write_heading.write_labels.Goals as goal

@@ -1,5 +1,5 @@
 use Rattle.std.proofs.Common.{◌≡◌, ◌++◌, drop, map}
-use Rattle.gf_nfg.specs.ReaderState.{labels_of}
+use Rattle.gf_nfg.specs.inner.ReaderState.{labels_of}
 use Rattle.gf_nfg.specs.TableText.{quoted}
 use Rattle.gf_nfg.proofs.Texts.{items_text}
 use Rattle.gf_nfg.proofs.write_heading.write_labels.Given as goal

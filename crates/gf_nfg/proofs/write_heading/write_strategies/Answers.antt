@@ -1,7 +1,7 @@
 use Rattle.std.proofs.Common.{◌≡◌, ◌∙◌, ◌++◌, List, OnOk, arith, map, ℕ, subst}
 use Rattle.std.proofs.lemmas.List.{length-map}
 use Rattle.gf_token.specs.Label.{label_of}
-use Rattle.gf_nfg.specs.ReaderState.{labels_of}
+use Rattle.gf_nfg.specs.inner.ReaderState.{labels_of}
 use Rattle.gf_nfg.specs.Sentence.{counted_labels}
 use Rattle.gf_nfg.specs.TableParts.{groups}
 use Rattle.gf_nfg.specs.TableText.{list_text, quoted}

@@ -1,7 +1,7 @@
 use Rattle.std.proofs.Common.{◌≡◌, ◌≤◌, ◌<◌, ◌-◌, length, drop}
 use Rattle.std.specs.Prelude.{slice_range}
-use Rattle.gf_token.specs.Lexing.{lex}
-use Rattle.gf_token.specs.Lexing.Mode.{Gap, InBare}
+use Rattle.gf_token.specs.inner.Lexing.{lex}
+use Rattle.gf_token.specs.inner.Lexing.Mode.{Gap, InBare}
 use Rattle.gf_token.proofs.scan.bare_end.Given as goal
 
 abbrev pub invariant-loop-at : goal.invariant-loop-at

@@ -2,7 +2,7 @@ use Rattle.std.proofs.Common.{◌≡◌, ◌+◌, ◌<◌, ◌∷◌, ap, arith,
 use Rattle.std.proofs.lemmas.Bool.Decides.{Decides-eqb, not_from_Decides}
 use Rattle.std.proofs.lemmas.Slice.Eq.{slice_eq-Decides}
 use Rattle.std.specs.Prelude.{slice_range}
-use Rattle.gf_token.specs.Finding.{lexed}
+use Rattle.gf_token.specs.inner.Finding.{lexed}
 use Rattle.gf_token.specs.Label.{label_of}
 use Rattle.gf_token.specs.Token.{lexeme}
 use Rattle.gf_token.specs.Token.Token.{Text}

@@ -1,6 +1,6 @@
 use Rattle.std.proofs.Common.{◌≡◌, ◌-◌, length, drop}
-use Rattle.gf_token.specs.Lexing.{lex}
-use Rattle.gf_token.specs.Lexing.Mode.{Gap}
+use Rattle.gf_token.specs.inner.Lexing.{lex}
+use Rattle.gf_token.specs.inner.Lexing.Mode.{Gap}
 use Rattle.gf_token.proofs.scan.long_gap_end.Given as goal
 
 abbrev pub invariant-loop-at : goal.invariant-loop-at

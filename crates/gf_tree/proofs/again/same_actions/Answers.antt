@@ -1,8 +1,8 @@
 use Rattle.std.proofs.Common.{◌∙◌, ◌+◌, ◌∷◌, ap, sym, drop, rules}
 use Rattle.std.proofs.lemmas.List.{at_drop_more}
 use Rattle.gf_tree.specs.Actions.{action_of, actions_of}
-use Rattle.gf_tree.specs.Machine.Position.{KnownAction}
-use Rattle.gf_tree.specs.ReaderState.{heard}
+use Rattle.gf_tree.specs.inner.Machine.Position.{KnownAction}
+use Rattle.gf_tree.specs.inner.ReaderState.{heard}
 use Rattle.gf_tree.specs.declared.action.Action.{Action}
 use Rattle.gf_tree.proofs.ReaderSteps.{carried, goes_back}
 use Rattle.gf_tree.proofs.again.same_actions.Goals as goal

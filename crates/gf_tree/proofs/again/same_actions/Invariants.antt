@@ -1,8 +1,8 @@
 use Rattle.std.proofs.Common.{◌≡◌, ◌≤◌, length, drop}
 use Rattle.gf_tree.specs.Actions.{actions_of}
-use Rattle.gf_tree.specs.Machine.{Begun, Content}
-use Rattle.gf_tree.specs.Machine.Position.{KnownSetOpening, KnownAction}
-use Rattle.gf_tree.specs.ReaderState.{heard}
+use Rattle.gf_tree.specs.inner.Machine.{Begun, Content}
+use Rattle.gf_tree.specs.inner.Machine.Position.{KnownSetOpening, KnownAction}
+use Rattle.gf_tree.specs.inner.ReaderState.{heard}
 use Rattle.gf_tree.proofs.again.same_actions.Given as goal
 
 abbrev pub invariant-loop-action : goal.invariant-loop-action

@@ -1,9 +1,9 @@
 use Rattle.std.proofs.Common.{◌∙◌, ◌+◌, ◌∷◌, ap, sym, drop, rules}
 use Rattle.std.proofs.lemmas.List.{at_drop_all, at_drop_more}
 use Rattle.gf_fraction.specs.Ratio.{Ratio}
-use Rattle.gf_tree.specs.Machine.Position.{KnownPayoff}
-use Rattle.gf_tree.specs.ReaderState.{heard}
-use Rattle.gf_tree.specs.ReaderState.Fails.{of_file}
+use Rattle.gf_tree.specs.inner.Machine.Position.{KnownPayoff}
+use Rattle.gf_tree.specs.inner.ReaderState.{heard}
+use Rattle.gf_tree.specs.inner.ReaderState.Fails.{of_file}
 use Rattle.gf_tree.proofs.ReaderSteps.{carried, goes_back}
 use Rattle.gf_tree.proofs.again.same_payoffs.Goals as goal
 

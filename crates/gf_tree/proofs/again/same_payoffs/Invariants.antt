@@ -1,7 +1,7 @@
 use Rattle.std.proofs.Common.{◌≡◌, ◌≤◌, length, drop}
-use Rattle.gf_tree.specs.Machine.{Content}
-use Rattle.gf_tree.specs.Machine.Position.{KnownOutcomeOpening, KnownPayoff}
-use Rattle.gf_tree.specs.ReaderState.{heard}
+use Rattle.gf_tree.specs.inner.Machine.{Content}
+use Rattle.gf_tree.specs.inner.Machine.Position.{KnownOutcomeOpening, KnownPayoff}
+use Rattle.gf_tree.specs.inner.ReaderState.{heard}
 use Rattle.gf_tree.proofs.again.same_payoffs.Given as goal
 
 abbrev pub invariant-loop-payoff : goal.invariant-loop-payoff

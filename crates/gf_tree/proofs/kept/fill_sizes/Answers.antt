@@ -3,7 +3,7 @@ use Rattle.std.proofs.Common.{arith, drop, get_or, map, ap, subst}
 use Rattle.std.proofs.Math.ListN.{length-set}
 use Rattle.std.proofs.Math.Seq.{map-set_same}
 use Rattle.gf_tree.specs.KeptNodes.{child_count, child_counts, kept_of, sizes_of}
-use Rattle.gf_tree.specs.Skipped.{skipped, sizes_grown}
+use Rattle.gf_tree.specs.inner.Skipped.{skipped, sizes_grown}
 use Rattle.gf_tree.specs.Game.{Node}
 use Rattle.gf_tree.specs.declared.kept.Stored.{Stored}
 use Rattle.gf_tree.proofs.KeptSizes.{Filled, filled_all, filled_begin, filled_more, set_placed}

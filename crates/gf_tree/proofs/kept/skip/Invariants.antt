@@ -1,6 +1,6 @@
 use Rattle.std.proofs.Common.{◌≡◌, ◌+◌, ◌≤◌, drop, length}
 use Rattle.gf_tree.specs.KeptNodes.{sizes_of}
-use Rattle.gf_tree.specs.Skipped.{Begin, skipped}
+use Rattle.gf_tree.specs.inner.Skipped.{Begin, skipped}
 use Rattle.gf_tree.proofs.kept.skip.Given as goal
 
 abbrev pub invariant-loop-left : goal.invariant-loop-left

@@ -1,7 +1,7 @@
 use Rattle.std.proofs.Common.{◌∙◌, ap, rules}
-use Rattle.gf_tree.specs.KnownOutcomes.{KnownOutcomes}
+use Rattle.gf_tree.specs.inner.KnownOutcomes.{KnownOutcomes}
 use Rattle.gf_tree.specs.KnownSets.{KnownSets}
-use Rattle.gf_tree.specs.Machine.{Content}
+use Rattle.gf_tree.specs.inner.Machine.{Content}
 use Rattle.gf_tree.proofs.ReadGames.{answer_judged, answer_only}
 use Rattle.gf_tree.proofs.ReaderSteps.{carried, heard_begun, refused_why}
 use Rattle.gf_tree.proofs.ToldGames.{if_err, on_ok, told_game}

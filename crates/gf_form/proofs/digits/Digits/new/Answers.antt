@@ -4,7 +4,7 @@ use Rattle.std.proofs.Common.{subst, sym}
 use Rattle.std.specs.Prelude.{IfSome}
 use Rattle.std.proofs.lemmas.List.{get_or-map, length-map}
 use Rattle.gf_nfg.specs.Profiles.{product}
-use Rattle.gf_form.specs.DigitSteps.{all_steps, at_digits, width}
+use Rattle.gf_form.specs.inner.DigitSteps.{all_steps, at_digits, width}
 use Rattle.gf_form.specs.declared.counts.Counts.{Counts}
 use Rattle.gf_form.specs.declared.digits.Digit.{Digit}
 use Rattle.gf_form.specs.declared.digits.Digits.{Digits}

@@ -1,5 +1,5 @@
 use Rattle.std.proofs.Common.{◌≡◌, drop, map}
-use Rattle.gf_form.specs.DigitSteps.{at_digits}
+use Rattle.gf_form.specs.inner.DigitSteps.{at_digits}
 use Rattle.gf_form.proofs.CountsGiven.{actions_in}
 use Rattle.gf_form.proofs.digits.Digits.new.Given as goal
 

@@ -1,5 +1,5 @@
 use Rattle.std.proofs.Common.{◌≡◌, ◌++◌, ◌∙◌, ℕ, List, ap, arith, sym}
-use Rattle.gf_form.specs.Visits.{chosen}
+use Rattle.gf_form.specs.inner.Visits.{chosen}
 use Rattle.gf_form.proofs.LevelsKept.{all_told, levels_kept}
 use Rattle.gf_form.proofs.levels.Levels.choose.Goals as goal
 

@@ -1,6 +1,6 @@
 use Rattle.std.proofs.Common.{◌≡◌, ◌-◌, ℕ, length, suc}
-use Rattle.gf_form.specs.Levels.{IsLevels}
-use Rattle.gf_form.specs.Visits.{AreOrdered}
+use Rattle.gf_form.specs.inner.Levels.{IsLevels}
+use Rattle.gf_form.specs.inner.Visits.{AreOrdered}
 use Rattle.gf_form.proofs.levels.Levels.choose.Given as goal
 
 abbrev pub invariant-loop-self : goal.invariant-loop-self

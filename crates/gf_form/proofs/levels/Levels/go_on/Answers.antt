@@ -3,8 +3,8 @@ use Rattle.std.proofs.Common.{arith, false, get_or, inl, inr, length, refl, subs
 use Rattle.std.specs.Prelude.{◌||◌}
 use Rattle.std.specs.List.{list_any}
 use Rattle.std.specs.Vec.{with_items}
-use Rattle.gf_form.specs.Levels.{AreLeft, IsLevel, is_made_to, is_settled_at, is_unknown, known_to, left_to}
-use Rattle.gf_form.specs.Visits.{AreNumbers, AreOrdered, chosen}
+use Rattle.gf_form.specs.inner.Levels.{AreLeft, IsLevel, is_made_to, is_settled_at, is_unknown, known_to, left_to}
+use Rattle.gf_form.specs.inner.Visits.{AreNumbers, AreOrdered, chosen}
 use Rattle.gf_form.proofs.LeftVisits.{level_left, level_numbers, list_numbers}
 use Rattle.gf_form.proofs.LevelsKept.{level_more, list_read, refilled}
 use Rattle.gf_form.proofs.MetSets.{next_level}

@@ -1,8 +1,8 @@
 use Rattle.std.proofs.Common.{◌∙◌, ◌++◌, [], List, ap, sym}
 use Rattle.gf_tree.specs.Branches.{game_of, tree_of}
 use Rattle.gf_tree.specs.BranchesLeft.{branches_given, branches_left, game_of_branches}
-use Rattle.gf_form.specs.PathsLeft.{below, branch_nodes, nodes_behind, open_nodes, steps_of_paths}
-use Rattle.gf_form.specs.ReachedNodes.{by_choice}
+use Rattle.gf_form.specs.inner.PathsLeft.{below, branch_nodes, nodes_behind, open_nodes, steps_of_paths}
+use Rattle.gf_form.specs.inner.ReachedNodes.{by_choice}
 use Rattle.gf_form.specs.declared.paths.Open.{Open}
 use Rattle.gf_form.specs.declared.paths.Open.TheVariants.{Choice}
 use Rattle.gf_form.specs.declared.paths.Path.{Path}

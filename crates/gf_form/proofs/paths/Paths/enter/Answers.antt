@@ -5,8 +5,8 @@ use Rattle.gf_token.specs.Positions.{at_position}
 use Rattle.gf_tree.specs.Branches.{game_of, tree_of}
 use Rattle.gf_tree.specs.BranchesLeft.{branches_given, branches_left, game_of_branches}
 use Rattle.gf_tree.specs.Subtrees.{child_trees}
-use Rattle.gf_form.specs.CodeLeft.{branch_chances}
-use Rattle.gf_form.specs.PathsLeft.{nodes_behind, steps_of_paths}
+use Rattle.gf_form.specs.inner.CodeLeft.{branch_chances}
+use Rattle.gf_form.specs.inner.PathsLeft.{nodes_behind, steps_of_paths}
 use Rattle.gf_form.specs.Strategies.{choices_by, strategy_at}
 use Rattle.gf_form.specs.declared.paths.Open.TheVariants.{Chance}
 use Rattle.gf_form.specs.declared.paths.Reached.{Reached}

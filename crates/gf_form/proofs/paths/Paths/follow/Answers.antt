@@ -2,7 +2,7 @@ use Rattle.std.proofs.Common.{◌∙◌, ◌≡◌, ◌++◌, List, ap, length, 
 use Rattle.gf_tree.specs.Branches.{game_of, tree_of}
 use Rattle.gf_tree.specs.BranchesLeft.{branches_given, branches_left, game_of_branches}
 use Rattle.gf_tree.specs.Subtrees.{child_trees}
-use Rattle.gf_form.specs.PathsLeft.{nodes_behind, nodes_by, steps_of_paths, taken}
+use Rattle.gf_form.specs.inner.PathsLeft.{nodes_behind, nodes_by, steps_of_paths, taken}
 use Rattle.gf_form.specs.declared.paths.Open.TheVariants.{Choice}
 use Rattle.gf_form.specs.declared.paths.Reached.{Reached}
 use Rattle.gf_form.proofs.PathsTold.{first_chosen, last_pushed}

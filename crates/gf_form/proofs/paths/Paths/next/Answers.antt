@@ -1,5 +1,5 @@
 use Rattle.std.proofs.Common.{◌∙◌, ◌++◌, [], ◌∷◌, ap, sym}
-use Rattle.gf_form.specs.PathsLeft.{steps_of_paths}
+use Rattle.gf_form.specs.inner.PathsLeft.{steps_of_paths}
 use Rattle.gf_form.specs.declared.paths.Open.{Open}
 use Rattle.gf_form.specs.declared.paths.Open.TheVariants.{Chance, Choice}
 use Rattle.gf_form.proofs.PathsTold.{last_pushed}

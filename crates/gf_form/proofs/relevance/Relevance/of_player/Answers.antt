@@ -4,9 +4,9 @@ use Rattle.gf_tree.specs.Description.{InformationSet, SetKey}
 use Rattle.gf_tree.specs.FiniteMap.{Described}
 use Rattle.gf_tree.specs.FirstUse.{player_keys, player_sets}
 use Rattle.gf_tree.specs.Game.{Game}
-use Rattle.gf_form.specs.Levels.{IsLevels}
+use Rattle.gf_form.specs.inner.Levels.{IsLevels}
 use Rattle.gf_form.specs.Strategies.{action_counts}
-use Rattle.gf_form.specs.Visits.{AreOrdered, visits_of}
+use Rattle.gf_form.specs.inner.Visits.{AreOrdered, visits_of}
 use Rattle.gf_form.specs.declared.visits.Visit.{Visit}
 use Rattle.gf_form.proofs.relevance.Relevance.of_player.Goals as goal
 

@@ -1,7 +1,7 @@
 use Rattle.std.proofs.Common.{◌≡◌, ◌++◌, ◌<◌, ◌∙◌, ℕ, Bool, List, ap, arith, false, get_or, length, subst, sym}
 use Rattle.gf_tree.specs.FirstUse.{player_keys}
-use Rattle.gf_form.specs.Levels.{IsLevels, TellsMet, last_known}
-use Rattle.gf_form.specs.Visits.{AreOrdered, chosen, visits_of}
+use Rattle.gf_form.specs.inner.Levels.{IsLevels, TellsMet, last_known}
+use Rattle.gf_form.specs.inner.Visits.{AreOrdered, chosen, visits_of}
 use Rattle.gf_form.specs.declared.visits.Visit.{Visit}
 use Rattle.gf_form.proofs.LevelsKept.{told_wide}
 use Rattle.gf_form.proofs.RelevantSets.{relevant_met}

@@ -2,8 +2,8 @@ use Rattle.std.proofs.Common.{◌≡◌, ◌≤◌, ◌∙◌, Some, ap, length,
 use Rattle.gf_token.specs.Positions.{at_position}
 use Rattle.gf_tree.specs.Branches.{game_of, tree_of}
 use Rattle.gf_tree.specs.FirstUse.{player_keys}
-use Rattle.gf_form.specs.Survey.{sizes, survey_size}
-use Rattle.gf_form.specs.Visits.{visits_of}
+use Rattle.gf_form.specs.inner.Survey.{sizes, survey_size}
+use Rattle.gf_form.specs.inner.Visits.{visits_of}
 use Rattle.gf_form.specs.declared.relevance.Open.{Open}
 use Rattle.gf_form.specs.declared.relevance.Survey.{Survey}
 use Rattle.gf_form.proofs.Surveys.{entered_other, entered_own, position_within, survey_kept}

@@ -2,9 +2,9 @@ use Rattle.std.proofs.Common.{◌&&◌, ap, arith, refl, subst}
 use Rattle.gf_tree.specs.Branches.{tree_of}
 use Rattle.gf_tree.specs.BranchesLeft.{game_of_branches}
 use Rattle.gf_tree.specs.Game.{Game}
-use Rattle.gf_form.specs.Comes.{tree_comes}
-use Rattle.gf_form.specs.Survey.{FindsMore, sizes, survey_size}
-use Rattle.gf_form.specs.Visits.{chosen, is_taken}
+use Rattle.gf_form.specs.inner.Comes.{tree_comes}
+use Rattle.gf_form.specs.inner.Survey.{FindsMore, sizes, survey_size}
+use Rattle.gf_form.specs.inner.Visits.{chosen, is_taken}
 use Rattle.gf_form.specs.declared.relevance.Open.{Open}
 use Rattle.gf_form.specs.declared.relevance.Survey.{Survey}
 use Rattle.gf_form.specs.declared.visits.Move.{Move}

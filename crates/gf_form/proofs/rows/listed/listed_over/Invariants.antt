@@ -1,5 +1,5 @@
 use Rattle.std.proofs.Common.{◌≡◌}
-use Rattle.gf_form.specs.PaidRows.{rows_of}
+use Rattle.gf_form.specs.inner.PaidRows.{rows_of}
 use Rattle.gf_form.proofs.ListedEntries.{Listing}
 use Rattle.gf_form.proofs.rows.listed.listed_over.Given as goal
 

@@ -3,9 +3,9 @@ use Rattle.std.proofs.Common.{lit<, of_z, pos, sym, to_z, Vec, Global}
 use Rattle.std.specs.Int.{w128}
 use Rattle.std.proofs.lemmas.Int.{fits_signed_from_abs, to_z-of_z}
 use Rattle.gf_fraction.specs.Ratio.{IsWithin}
-use Rattle.gf_form.specs.Entries.{entries_of}
-use Rattle.gf_form.specs.PaidRows.{rows_of}
-use Rattle.gf_form.specs.Rows.{at_place, row_at}
+use Rattle.gf_form.specs.inner.Entries.{entries_of}
+use Rattle.gf_form.specs.inner.PaidRows.{rows_of}
+use Rattle.gf_form.specs.inner.Rows.{at_place, row_at}
 use Rattle.gf_form.specs.declared.rows.terms.Head.{Head}
 use Rattle.gf_form.proofs.FlatRows.{is_pushed}
 use Rattle.gf_form.proofs.NodeTerms.{IsNumber, is_number, is_term, none_known, one_filled}

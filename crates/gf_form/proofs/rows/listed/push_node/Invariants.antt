@@ -1,6 +1,6 @@
 use Rattle.std.proofs.Common.{◌≡◌, ℕ}
-use Rattle.gf_form.specs.PaidRows.{rows_of}
-use Rattle.gf_form.specs.Rows.{at_place, row_at}
+use Rattle.gf_form.specs.inner.PaidRows.{rows_of}
+use Rattle.gf_form.specs.inner.Rows.{at_place, row_at}
 use Rattle.gf_form.proofs.NodeTerms.{Filling}
 use Rattle.gf_form.proofs.rows.listed.push_node.Given as goal
 

@@ -1,6 +1,6 @@
 use Rattle.std.proofs.Common.{List, ℕ, arith, subst, sym}
 use Rattle.std.specs.Prelude.{IfOk, OnOk}
-use Rattle.gf_form.specs.Picked.{numbers_in}
+use Rattle.gf_form.specs.inner.Picked.{numbers_in}
 use Rattle.gf_form.specs.Refusal.{HasValuesBy}
 use Rattle.gf_form.specs.StrategicForm.{ArePayoffs}
 use Rattle.gf_form.specs.Strategies.{AreStrategies, choices_by}

@@ -1,7 +1,7 @@
 use Rattle.std.proofs.Common.{◌∙◌, None, length, sym}
 use Rattle.std.proofs.lemmas.Bool.{eqb-true}
-use Rattle.gf_form.specs.Rows.{at_place, column}
-use Rattle.gf_form.specs.RowsOn.{rows_on}
+use Rattle.gf_form.specs.inner.Rows.{at_place, column}
+use Rattle.gf_form.specs.inner.RowsOn.{rows_on}
 use Rattle.gf_form.proofs.Stacks.{below_players, last_row, nothing_pays, one_more_row, pays, pays_to}
 use Rattle.gf_form.proofs.Stacks.{popped, pushed, rows_in}
 use Rattle.gf_form.proofs.values.Values.pay.Goals as goal

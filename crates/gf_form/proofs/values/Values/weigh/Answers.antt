@@ -1,9 +1,9 @@
 use Rattle.std.proofs.Common.{◌<◌, ◌∙◌, List, ap, subst, sym, length}
 use Rattle.std.proofs.Common.{None, Some}
-use Rattle.gf_form.specs.Values.{plus_of, times_of}
+use Rattle.gf_form.specs.inner.Values.{plus_of, times_of}
 use Rattle.gf_fraction.specs.Ratio.{Ratio}
-use Rattle.gf_form.specs.Rows.{IsRow, at_place, column}
-use Rattle.gf_form.specs.RowsOn.{rows_on}
+use Rattle.gf_form.specs.inner.Rows.{IsRow, at_place, column}
+use Rattle.gf_form.specs.inner.RowsOn.{rows_on}
 use Rattle.gf_form.proofs.Stacks.{below_players, last_row, one_more_row, popped, pushed, rows_in}
 use Rattle.gf_form.proofs.Stacks.{weighs, weighs_to}
 use Rattle.gf_form.proofs.values.Values.weigh.Goals as goal

@@ -7,9 +7,9 @@ use Rattle.std.specs.Prelude.{option_to_list, unwrap_or}
 use Rattle.std.proofs.lemmas.Result.{IfOk-weaker}
 use Rattle.gf_token.specs.Positions.{at_position}
 use Rattle.gf_form.specs.Strategies.{strategy_at}
-use Rattle.gf_form.specs.CodeLeft.{branch_chances, branch_code, child_then_payoffs, code_behind}
-use Rattle.gf_form.specs.CodeLeft.{code_left, option_code, strategies_of_walk}
-use Rattle.gf_form.specs.Program.{paid_at_node}
+use Rattle.gf_form.specs.inner.CodeLeft.{branch_chances, branch_code, child_then_payoffs, code_behind}
+use Rattle.gf_form.specs.inner.CodeLeft.{code_left, option_code, strategies_of_walk}
+use Rattle.gf_form.specs.inner.Program.{paid_at_node}
 use Rattle.gf_form.specs.Strategies.{choices_by}
 use Rattle.gf_form.specs.declared.op.Op.{Op}
 use Rattle.gf_form.specs.declared.op.Op.TheVariants.{Begin, Pay}

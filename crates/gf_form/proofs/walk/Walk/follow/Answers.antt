@@ -3,9 +3,9 @@ use Rattle.gf_token.specs.Positions.{at_position}
 use Rattle.gf_tree.specs.Branches.{game_of, tree_of}
 use Rattle.gf_tree.specs.Subtrees.{child_trees, root_node}
 use Rattle.gf_tree.specs.declared.branch.Branch.{Branch}
-use Rattle.gf_form.specs.CodeLeft.{branch_code, code_behind, next_code, opened}
-use Rattle.gf_form.specs.CodeLeft.{strategies_of_walk}
-use Rattle.gf_form.specs.Program.{paid_at_node}
+use Rattle.gf_form.specs.inner.CodeLeft.{branch_code, code_behind, next_code, opened}
+use Rattle.gf_form.specs.inner.CodeLeft.{strategies_of_walk}
+use Rattle.gf_form.specs.inner.Program.{paid_at_node}
 use Rattle.gf_form.specs.declared.op.Op.{Op}
 use Rattle.gf_form.specs.declared.op.Op.TheVariants.{Nothing, Pay}
 use Rattle.gf_form.specs.declared.walk.Open.{Open}

@@ -6,9 +6,9 @@ use Rattle.gf_tree.specs.Tree.{Tree}
 use Rattle.gf_tree.specs.Game.{Node}
 use Rattle.gf_tree.specs.declared.branch.Branch.{Branch}
 use Rattle.std.specs.Prelude.{◌+◌, Option, ℕ}
-use Rattle.gf_form.specs.CodeLeft.{branch_chances, branch_code, code_behind, list_code, next_code}
-use Rattle.gf_form.specs.CodeLeft.{opened, strategies_of_walk}
-use Rattle.gf_form.specs.Program.{paid_at_node}
+use Rattle.gf_form.specs.inner.CodeLeft.{branch_chances, branch_code, code_behind, list_code, next_code}
+use Rattle.gf_form.specs.inner.CodeLeft.{opened, strategies_of_walk}
+use Rattle.gf_form.specs.inner.Program.{paid_at_node}
 use Rattle.gf_form.specs.Strategies.{choices_by}
 use Rattle.gf_form.specs.declared.op.Op.{Op}
 use Rattle.gf_form.specs.declared.op.Op.TheVariants.{Pay}

@@ -2,8 +2,8 @@ use Rattle.std.proofs.Common.{◌∙◌, ◌++◌, [], ◌∷◌, List, ap, sym}
 use Rattle.std.specs.Prelude.{Option}
 use Rattle.gf_fraction.specs.Ratio.{Ratio}
 use Rattle.gf_tree.specs.declared.branch.Branch.{Branch}
-use Rattle.gf_form.specs.CodeLeft.{branch_chances, next_code, opened, rest_code}
-use Rattle.gf_form.specs.CodeLeft.{strategies_of_walk}
+use Rattle.gf_form.specs.inner.CodeLeft.{branch_chances, next_code, opened, rest_code}
+use Rattle.gf_form.specs.inner.CodeLeft.{strategies_of_walk}
 use Rattle.gf_form.specs.declared.op.Op.{Op}
 use Rattle.gf_form.specs.declared.op.Op.TheVariants.{Pay, Weigh}
 use Rattle.gf_form.specs.declared.walk.Open.{Open}

@@ -1,5 +1,5 @@
 use Rattle.std.proofs.Common.{◌≡◌}
-use Rattle.gf_form.specs.CodeLeft.{code_left, next_size, strategies_of_walk}
+use Rattle.gf_form.specs.inner.CodeLeft.{code_left, next_size, strategies_of_walk}
 use Rattle.gf_form.proofs.walk.Walk.next.Given as goal
 
 abbrev pub invariant-loop-branch : goal.invariant-loop-branch

@@ -2,7 +2,7 @@ use Rattle.std.proofs.Common.{◌≡◌, Ok, arith, refl, subst, sym}
 use Rattle.std.specs.List.{range_with_len}
 use Rattle.std.proofs.lemmas.Iterator.{YieldsList-from_range, items_from_collect}
 use Rattle.std.specs.declared.alloc.AllocError.{AllocError}
-use Rattle.gf_nfg.specs.Classes.{LeadBack}
+use Rattle.gf_nfg.specs.inner.Classes.{LeadBack}
 use Rattle.gf_nfg.proofs.ClassesJoined.{back_begun}
 use Rattle.gf_nfg.proofs.classes.Classes.new.Goals as goal
 

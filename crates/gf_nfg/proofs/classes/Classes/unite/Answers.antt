@@ -1,6 +1,6 @@
 use Rattle.std.proofs.Common.{◌≡◌, ◌∙◌, ap, arith, length, subst, sym}
 use Rattle.std.proofs.lemmas.Bool.Decides.{nat_tests}
-use Rattle.gf_nfg.specs.Classes.{ShareRows}
+use Rattle.gf_nfg.specs.inner.Classes.{ShareRows}
 use Rattle.gf_nfg.proofs.ClassesJoined.{rows_united}
 use Rattle.gf_nfg.proofs.classes.Classes.unite.Goals as goal
 

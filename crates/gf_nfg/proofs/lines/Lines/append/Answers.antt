@@ -1,6 +1,6 @@
 use Rattle.std.proofs.Common.{◌+◌, ◌∙◌, ◌++◌, sym, ap, arith, length}
 use Rattle.std.proofs.Common.{drop, length-append, append_assoc, List, ℕ}
-use Rattle.gf_nfg.specs.TextParts.{lines_with}
+use Rattle.gf_nfg.specs.inner.TextParts.{lines_with}
 use Rattle.gf_nfg.proofs.TextShared.{chosen_next}
 use Rattle.gf_nfg.proofs.lines.Lines.append.Goals as goal
 

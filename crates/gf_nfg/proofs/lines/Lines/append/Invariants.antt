@@ -1,6 +1,6 @@
 use Rattle.std.proofs.Common.{◌≡◌, ◌+◌, ◌++◌, ◌≤◌, drop, length}
 use Rattle.std.specs.Prelude.{vec_capacity, vec_len}
-use Rattle.gf_nfg.specs.TextParts.{lines_with}
+use Rattle.gf_nfg.specs.inner.TextParts.{lines_with}
 use Rattle.gf_nfg.proofs.lines.Lines.append.Given as goal
 
 abbrev pub invariant-loop-number : goal.invariant-loop-number

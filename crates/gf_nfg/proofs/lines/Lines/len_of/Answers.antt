@@ -1,5 +1,5 @@
 use Rattle.std.proofs.Common.{◌+◌, ◌∙◌, ap, arith, length, drop, length-append}
-use Rattle.gf_nfg.specs.TextParts.{lines_with}
+use Rattle.gf_nfg.specs.inner.TextParts.{lines_with}
 use Rattle.gf_nfg.proofs.TextShared.{chosen_next}
 use Rattle.gf_nfg.proofs.lines.Lines.len_of.Goals as goal
 

@@ -1,5 +1,5 @@
 use Rattle.std.proofs.Common.{◌≡◌, ◌+◌, drop, length}
-use Rattle.gf_nfg.specs.TextParts.{lines_with}
+use Rattle.gf_nfg.specs.inner.TextParts.{lines_with}
 use Rattle.gf_nfg.proofs.lines.Lines.len_of.Given as goal
 
 abbrev pub invariant-loop-number : goal.invariant-loop-number

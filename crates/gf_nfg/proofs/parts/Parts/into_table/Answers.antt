@@ -1,6 +1,6 @@
 use Rattle.std.proofs.Common.{◌∙◌}
 use Rattle.gf_nfg.specs.TableParts.{table_with}
-use Rattle.gf_nfg.specs.ReaderState.{content_of}
+use Rattle.gf_nfg.specs.inner.ReaderState.{content_of}
 use Rattle.gf_nfg.proofs.MeaningTables.{held}
 use Rattle.gf_nfg.proofs.parts.Parts.into_table.Goals as goal
 

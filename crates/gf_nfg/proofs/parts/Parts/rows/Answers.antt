@@ -4,9 +4,9 @@ use Rattle.std.specs.List.{AllByRecursion}
 use Rattle.std.proofs.lemmas.List.{length-map}
 use Rattle.gf_fraction.specs.Ratio.{Ratio}
 use Rattle.gf_token.specs.Label.{label_of}
-use Rattle.gf_nfg.specs.Meaning.{rows_by}
+use Rattle.gf_nfg.specs.inner.Meaning.{rows_by}
 use Rattle.gf_nfg.specs.TableParts.{row_of}
-use Rattle.gf_nfg.specs.ReaderState.{content_of}
+use Rattle.gf_nfg.specs.inner.ReaderState.{content_of}
 use Rattle.gf_nfg.proofs.MeaningTables.{count_chosen, lacking, none_chosen, present}
 use Rattle.gf_nfg.proofs.MeaningTables.{payoffs_in_turn, rows_chosen, some_chosen}
 use Rattle.gf_nfg.proofs.parts.Parts.rows.Goals as goal

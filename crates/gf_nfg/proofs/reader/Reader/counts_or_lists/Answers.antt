@@ -1,10 +1,10 @@
 use Rattle.std.proofs.Common.{rules, ◌≡◌, ◌<◌, ◌-◌, ◌∙◌, ap, sym, subst, refl, length, false}
 use Rattle.gf_token.specs.Next.{is_opening, starts}
 use Rattle.gf_token.specs.Remaining.{Remaining}
-use Rattle.gf_nfg.specs.Heard.{heard}
-use Rattle.gf_nfg.specs.Machine.{at}
-use Rattle.gf_nfg.specs.Position.Position.{FirstStrategies}
-use Rattle.gf_nfg.specs.ReaderState.{answer, content_in}
+use Rattle.gf_nfg.specs.inner.Heard.{heard}
+use Rattle.gf_nfg.specs.inner.Machine.{at}
+use Rattle.gf_nfg.specs.inner.Position.Position.{FirstStrategies}
+use Rattle.gf_nfg.specs.inner.ReaderState.{answer, content_in}
 use Rattle.gf_nfg.proofs.HeardJudged.{carried}
 use Rattle.gf_nfg.proofs.ReaderSteps.{counts_end, first_opens, goes_back, goes_from, goes_to, lists_end}
 use Rattle.gf_nfg.proofs.reader.Reader.counts_or_lists.Goals as goal

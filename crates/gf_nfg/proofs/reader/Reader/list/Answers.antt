@@ -1,8 +1,8 @@
 use Rattle.std.proofs.Common.{rules, ◌≡◌, ◌<◌, ◌-◌, [], ◌∷◌, ◌∙◌, length, arith}
 use Rattle.gf_token.specs.Label.{label_of}
-use Rattle.gf_nfg.specs.Machine.{at, with_labels}
-use Rattle.gf_nfg.specs.Position.Position.{InList}
-use Rattle.gf_nfg.specs.ReaderState.{content_in, labels_of}
+use Rattle.gf_nfg.specs.inner.Machine.{at, with_labels}
+use Rattle.gf_nfg.specs.inner.Position.Position.{InList}
+use Rattle.gf_nfg.specs.inner.ReaderState.{content_in, labels_of}
 use Rattle.gf_nfg.proofs.HeardJudged.{wants_memory}
 use Rattle.gf_nfg.proofs.ReaderSteps.{goes_back, goes_from, label_count, list_closes}
 use Rattle.gf_nfg.proofs.reader.Reader.list.Goals as goal

@@ -1,5 +1,5 @@
 use Rattle.std.proofs.Common.{rules, ◌-◌, ◌∙◌}
-use Rattle.gf_nfg.specs.ReaderState.{content_in}
+use Rattle.gf_nfg.specs.inner.ReaderState.{content_in}
 use Rattle.gf_nfg.proofs.HeardJudged.{carried}
 use Rattle.gf_nfg.proofs.ReaderSteps.{goes_back, later_opens}
 use Rattle.gf_nfg.proofs.reader.Reader.lists.Goals as goal

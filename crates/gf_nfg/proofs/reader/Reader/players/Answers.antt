@@ -1,8 +1,8 @@
 use Rattle.std.proofs.Common.{rules, [], ◌∷◌}
 use Rattle.gf_token.specs.Label.{label_of}
-use Rattle.gf_nfg.specs.Machine.{at, with_players}
-use Rattle.gf_nfg.specs.Position.Position.{InPlayers}
-use Rattle.gf_nfg.specs.ReaderState.{content_in}
+use Rattle.gf_nfg.specs.inner.Machine.{at, with_players}
+use Rattle.gf_nfg.specs.inner.Position.Position.{InPlayers}
+use Rattle.gf_nfg.specs.inner.ReaderState.{content_in}
 use Rattle.gf_nfg.proofs.HeardJudged.{wants_memory}
 use Rattle.gf_nfg.proofs.ReaderSteps.{goes_back}
 use Rattle.gf_nfg.proofs.reader.Reader.players.Goals as goal

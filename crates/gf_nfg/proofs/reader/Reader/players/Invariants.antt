@@ -1,6 +1,6 @@
 use Rattle.std.proofs.Common.{◌≡◌, length}
-use Rattle.gf_nfg.specs.Position.Position.{BeforePlayers, InPlayers}
-use Rattle.gf_nfg.specs.ReaderState.{answer}
+use Rattle.gf_nfg.specs.inner.Position.Position.{BeforePlayers, InPlayers}
+use Rattle.gf_nfg.specs.inner.ReaderState.{answer}
 use Rattle.gf_nfg.proofs.reader.Reader.players.Given as goal
 
 abbrev pub invariant-loop-player : goal.invariant-loop-player

@@ -1,7 +1,7 @@
 use Rattle.std.proofs.Common.{rules}
-use Rattle.gf_nfg.specs.Machine.{at, with_count}
-use Rattle.gf_nfg.specs.Position.Position.{BeforeList, Counts}
-use Rattle.gf_nfg.specs.ReaderState.{content_in}
+use Rattle.gf_nfg.specs.inner.Machine.{at, with_count}
+use Rattle.gf_nfg.specs.inner.Position.Position.{BeforeList, Counts}
+use Rattle.gf_nfg.specs.inner.ReaderState.{content_in}
 use Rattle.gf_nfg.proofs.HeardJudged.{wants_memory}
 use Rattle.gf_nfg.proofs.reader.Reader.settle.Goals as goal
 

@@ -1,8 +1,8 @@
 use Rattle.std.proofs.Common.{◌∙◌, refl, rules, arith}
 use Rattle.std.proofs.lemmas.List.{length-map}
 use Rattle.gf_token.specs.Label.{label_of}
-use Rattle.gf_nfg.specs.ReaderState.{content_told}
-use Rattle.gf_nfg.specs.Told.{choosing, paying, told_heading}
+use Rattle.gf_nfg.specs.inner.ReaderState.{content_told}
+use Rattle.gf_nfg.specs.inner.Told.{choosing, paying, told_heading}
 use Rattle.gf_nfg.specs.declared.receive.Version.TheVariants.{Outcomes}
 use Rattle.gf_nfg.proofs.HeardJudged.{carried}
 use Rattle.gf_nfg.proofs.ReaderSteps.{all_told, ends_back, no_payoffs}

@@ -1,7 +1,7 @@
 use Rattle.std.proofs.Common.{◌∙◌, ap, refl, rules, sym}
-use Rattle.gf_nfg.specs.Position.Position.{FlatPayoffs}
-use Rattle.gf_nfg.specs.ReaderState.{content_told, told_answer}
-use Rattle.gf_nfg.specs.Told.{paying, told_heading}
+use Rattle.gf_nfg.specs.inner.Position.Position.{FlatPayoffs}
+use Rattle.gf_nfg.specs.inner.ReaderState.{content_told, told_answer}
+use Rattle.gf_nfg.specs.inner.Told.{paying, told_heading}
 use Rattle.gf_nfg.specs.declared.receive.Version.TheVariants.{Payoffs}
 use Rattle.gf_nfg.proofs.HeardJudged.{carried}
 use Rattle.gf_nfg.proofs.ReaderSteps.{all_told, ends_back}

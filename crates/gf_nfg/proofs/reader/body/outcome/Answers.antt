@@ -1,10 +1,10 @@
 use Rattle.std.proofs.Common.{◌≡◌, ◌∙◌, rules}
 use Rattle.gf_token.specs.Label.{label_of}
-use Rattle.gf_nfg.specs.Heard.{Fails}
-use Rattle.gf_nfg.specs.Machine.{next_outcome}
-use Rattle.gf_nfg.specs.Position.Position.{BracedPayoff, InOutcomes}
-use Rattle.gf_nfg.specs.ReaderState.{told_answer}
-use Rattle.gf_nfg.specs.Told.{paying}
+use Rattle.gf_nfg.specs.inner.Heard.{Fails}
+use Rattle.gf_nfg.specs.inner.Machine.{next_outcome}
+use Rattle.gf_nfg.specs.inner.Position.Position.{BracedPayoff, InOutcomes}
+use Rattle.gf_nfg.specs.inner.ReaderState.{told_answer}
+use Rattle.gf_nfg.specs.inner.Told.{paying}
 use Rattle.gf_nfg.proofs.HeardJudged.{carried}
 use Rattle.gf_nfg.proofs.ReaderSteps.{ends_back, outcome_named}
 use Rattle.gf_nfg.proofs.reader.body.outcome.Goals as goal

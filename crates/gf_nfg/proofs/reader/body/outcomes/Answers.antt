@@ -1,8 +1,8 @@
 use Rattle.std.proofs.Common.{◌≡◌, ◌∙◌, ap, refl, rules}
-use Rattle.gf_nfg.specs.Machine.{next_outcome}
-use Rattle.gf_nfg.specs.Position.Position.{InOutcomes, OutcomeName}
-use Rattle.gf_nfg.specs.ReaderState.{told_answer}
-use Rattle.gf_nfg.specs.Told.{paying}
+use Rattle.gf_nfg.specs.inner.Machine.{next_outcome}
+use Rattle.gf_nfg.specs.inner.Position.Position.{InOutcomes, OutcomeName}
+use Rattle.gf_nfg.specs.inner.ReaderState.{told_answer}
+use Rattle.gf_nfg.specs.inner.Told.{paying}
 use Rattle.gf_nfg.proofs.HeardJudged.{carried}
 use Rattle.gf_nfg.proofs.ReaderSteps.{ends_back}
 use Rattle.gf_nfg.proofs.reader.body.outcomes.Goals as goal

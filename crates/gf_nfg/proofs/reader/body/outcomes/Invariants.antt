@@ -1,7 +1,7 @@
 use Rattle.std.proofs.Common.{◌≡◌, length}
-use Rattle.gf_nfg.specs.Position.Position.{InOutcomes}
-use Rattle.gf_nfg.specs.ReaderState.{HasTold, content_told, told_answer}
-use Rattle.gf_nfg.specs.Told.{Told, paying}
+use Rattle.gf_nfg.specs.inner.Position.Position.{InOutcomes}
+use Rattle.gf_nfg.specs.inner.ReaderState.{HasTold, content_told, told_answer}
+use Rattle.gf_nfg.specs.inner.Told.{Told, paying}
 use Rattle.gf_nfg.proofs.reader.body.outcomes.Given as goal
 
 abbrev pub invariant-loop-tokens : goal.invariant-loop-tokens

@@ -1,8 +1,8 @@
 use Rattle.std.proofs.Common.{rules, ◌-◌, [], ◌∷◌, ◌++◌}
-use Rattle.gf_nfg.specs.Machine.{at}
-use Rattle.gf_nfg.specs.Position.Position.{AfterBracedPayoff, FlatPayoffs}
-use Rattle.gf_nfg.specs.ReaderState.{content_told}
-use Rattle.gf_nfg.specs.Told.{with_payoff}
+use Rattle.gf_nfg.specs.inner.Machine.{at}
+use Rattle.gf_nfg.specs.inner.Position.Position.{AfterBracedPayoff, FlatPayoffs}
+use Rattle.gf_nfg.specs.inner.ReaderState.{content_told}
+use Rattle.gf_nfg.specs.inner.Told.{with_payoff}
 use Rattle.gf_nfg.proofs.HeardJudged.{wants_memory}
 use Rattle.gf_nfg.proofs.reader.body.payoff.Goals as goal
 

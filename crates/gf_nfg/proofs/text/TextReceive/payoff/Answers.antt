@@ -1,10 +1,10 @@
 use Rattle.std.proofs.Common.{◌≡◌, ◌∷◌, ◌++◌, [], rules, ◌-◌, subst, sym}
 use Rattle.gf_fraction.specs.NumberText.{number_text}
-use Rattle.gf_nfg.specs.Meaning.{names_in}
-use Rattle.gf_nfg.specs.ReaderState.{content_in}
-use Rattle.gf_nfg.specs.TextParts.{heading_text, names_by}
-use Rattle.gf_nfg.specs.Told.{with_payoff}
-use Rattle.gf_nfg.specs.ToldText.{HasBody}
+use Rattle.gf_nfg.specs.inner.Meaning.{names_in}
+use Rattle.gf_nfg.specs.inner.ReaderState.{content_in}
+use Rattle.gf_nfg.specs.inner.TextParts.{heading_text, names_by}
+use Rattle.gf_nfg.specs.inner.Told.{with_payoff}
+use Rattle.gf_nfg.specs.inner.ToldText.{HasBody}
 use Rattle.gf_nfg.specs.declared.receive.Version.TheVariants.{Outcomes}
 use Rattle.gf_nfg.proofs.ToldTexts.{is_payoffs, line_ends, longer, one_more}
 use Rattle.gf_nfg.proofs.text.TextReceive.payoff.Goals as goal

@@ -1,6 +1,6 @@
 use Rattle.std.proofs.Common.{◌+◌, ◌∙◌, List, ap, drop, slice_get}
 use Rattle.gf_tree.specs.KeptNodes.{sizes_of}
-use Rattle.gf_tree.specs.Skipped.{skipped}
+use Rattle.gf_tree.specs.inner.Skipped.{skipped}
 use Rattle.gf_tree.specs.Subtrees.{subtrees}
 use Rattle.gf_tree.specs.Game.{Game}
 use Rattle.gf_tree.specs.declared.kept.Stored.{Stored}

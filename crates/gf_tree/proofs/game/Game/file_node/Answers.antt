@@ -2,7 +2,7 @@ use Rattle.std.proofs.Common.{◌+◌, ◌∙◌, Some, ap, slice_get, subst, sy
 use Rattle.gf_token.specs.Label.{label_of}
 use Rattle.gf_tree.specs.FileNodes.{file_nodes}
 use Rattle.gf_tree.specs.Game.{Game}
-use Rattle.gf_tree.specs.KnownUses.{AreKnown}
+use Rattle.gf_tree.specs.inner.KnownUses.{AreKnown}
 use Rattle.gf_tree.proofs.GivenNodes.{here_in, known_given, node_given, placed}
 use Rattle.gf_tree.proofs.game.Game.file_node.Goals as goal
 

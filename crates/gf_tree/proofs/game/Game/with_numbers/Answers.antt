@@ -4,7 +4,7 @@ use Rattle.gf_token.specs.Label.{label_of}
 use Rattle.gf_tree.specs.Description.{SetKey, InformationSet, Outcome}
 use Rattle.gf_tree.specs.FiniteMap.{Described}
 use Rattle.gf_tree.specs.Game.{Game}
-use Rattle.gf_tree.specs.GameParts.{game_with}
+use Rattle.gf_tree.specs.inner.GameParts.{game_with}
 use Rattle.gf_tree.specs.KeptNodes.{kept_of}
 use Rattle.gf_tree.specs.Listed.{listed_numbers}
 use Rattle.gf_tree.specs.Renumbering.{IsRenumbering, renumbered}

@@ -3,7 +3,7 @@ use Rattle.indexmap.specs.IndexMap.{IndexMap}
 use Rattle.gf_tree.specs.declared.seeded.Seeded.{Seeded}
 use Rattle.std.specs.Map.{lookup}
 use Rattle.gf_tree.proofs.SmallPlaces.{absent_behind}
-use Rattle.gf_tree.specs.Numbers.{entries_of}
+use Rattle.gf_tree.specs.inner.Numbers.{entries_of}
 use Rattle.gf_tree.proofs.numbers.Index.insert.Goals as goal
 
 pub add-requires : goal.add-requires

@@ -3,7 +3,7 @@ use Rattle.indexmap.specs.IndexMap.{IndexMap}
 use Rattle.gf_tree.specs.declared.seeded.Seeded.{Seeded}
 use Rattle.std.specs.Map.{lookup}
 use Rattle.gf_tree.proofs.SmallPlaces.{found_before, found_behind}
-use Rattle.gf_tree.specs.Numbers.{entries_of}
+use Rattle.gf_tree.specs.inner.Numbers.{entries_of}
 use Rattle.gf_tree.proofs.numbers.Index.place.Goals as goal
 
 pub returns-in-Some : goal.returns-in-Some

@@ -1,5 +1,5 @@
-use Rattle.gf_tree.specs.GameParts.{set_with}
-use Rattle.gf_tree.specs.ReaderState.{content_of}
+use Rattle.gf_tree.specs.Description.{set_with}
+use Rattle.gf_tree.specs.inner.ReaderState.{content_of}
 use Rattle.gf_tree.proofs.ReaderSteps.{labelled, wants_memory}
 use Rattle.gf_tree.proofs.reader.Reader.action.Goals as goal
 

@@ -1,5 +1,5 @@
 use Rattle.gf_tree.specs.Description.{set_of}
-use Rattle.gf_tree.specs.ReaderState.{content_of}
+use Rattle.gf_tree.specs.inner.ReaderState.{content_of}
 use Rattle.gf_tree.proofs.ReaderSteps.{set_known_again}
 use Rattle.gf_tree.proofs.reader.Reader.described_set.Goals as goal
 

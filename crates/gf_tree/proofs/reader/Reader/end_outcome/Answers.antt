@@ -1,10 +1,10 @@
 use Rattle.std.proofs.Common.{Some, ap, length, refl, rules, sym}
 use Rattle.gf_token.specs.Label.{label_of}
-use Rattle.gf_tree.specs.GameParts.{outcome_with}
+use Rattle.gf_tree.specs.Description.{outcome_with}
 use Rattle.gf_tree.specs.KeptNodes.{position_of}
-use Rattle.gf_tree.specs.Machine.{with_node, with_outcome}
-use Rattle.gf_tree.specs.Machine.Position.{NodeDue}
-use Rattle.gf_tree.specs.ReaderState.{begun_with, content_of}
+use Rattle.gf_tree.specs.inner.Machine.{with_node, with_outcome}
+use Rattle.gf_tree.specs.inner.Machine.Position.{NodeDue}
+use Rattle.gf_tree.specs.inner.ReaderState.{begun_with, content_of}
 use Rattle.gf_tree.specs.declared.reader.Reader.{Reader}
 use Rattle.gf_tree.proofs.ReaderSteps.{wants_memory}
 use Rattle.gf_tree.proofs.Telling.{grows_same, placed_at, tells}

@@ -1,5 +1,5 @@
 use Rattle.gf_token.specs.Label.{label_of}
-use Rattle.gf_tree.specs.ReaderState.{content_of}
+use Rattle.gf_tree.specs.inner.ReaderState.{content_of}
 use Rattle.gf_tree.proofs.ReaderSteps.{set_end, taken}
 use Rattle.std.proofs.Common.{ap, refl}
 use Rattle.gf_tree.specs.declared.reader.Reader.{Reader}

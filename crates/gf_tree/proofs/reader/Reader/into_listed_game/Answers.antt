@@ -1,5 +1,5 @@
 use Rattle.std.proofs.Common.{refl}
-use Rattle.gf_tree.specs.ReaderState.{content_with}
+use Rattle.gf_tree.specs.inner.ReaderState.{content_with}
 use Rattle.gf_tree.proofs.ReadGames.{whole}
 use Rattle.gf_tree.proofs.reader.Reader.into_listed_game.Goals as goal
 

@@ -1,9 +1,9 @@
 use Rattle.std.proofs.Common.{◌≡◌, ◌≤◌, length}
 use Rattle.gf_token.specs.Label.{label_of}
-use Rattle.gf_tree.specs.GameParts.{outcome_with}
+use Rattle.gf_tree.specs.Description.{outcome_with}
 use Rattle.gf_tree.specs.KeptNodes.{position_of}
-use Rattle.gf_tree.specs.Machine.Position.{NewOutcomeName, NewPayoff}
-use Rattle.gf_tree.specs.ReaderState.{answer, begun_with}
+use Rattle.gf_tree.specs.inner.Machine.Position.{NewOutcomeName, NewPayoff}
+use Rattle.gf_tree.specs.inner.ReaderState.{answer, begun_with}
 use Rattle.gf_tree.proofs.reader.Reader.new_outcome.Given as goal
 
 abbrev pub invariant-loop-left : goal.invariant-loop-left

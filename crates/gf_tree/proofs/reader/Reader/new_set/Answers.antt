@@ -3,9 +3,9 @@ use Rattle.std.specs.Prelude.{suc}
 use Rattle.gf_token.specs.Label.{label_of}
 use Rattle.gf_token.specs.Remaining.{Remaining}
 use Rattle.gf_tree.specs.Description.{set_of}
-use Rattle.gf_tree.specs.GameParts.{set_with}
-use Rattle.gf_tree.specs.Machine.Position.{NewAction, OutcomeNumber}
-use Rattle.gf_tree.specs.ReaderState.{answer, begun_with}
+use Rattle.gf_tree.specs.Description.{set_with}
+use Rattle.gf_tree.specs.inner.Machine.Position.{NewAction, OutcomeNumber}
+use Rattle.gf_tree.specs.inner.ReaderState.{answer, begun_with}
 use Rattle.gf_tree.proofs.ReaderSteps.{goes_on}
 use Rattle.std.proofs.Common.{rules}
 use Rattle.gf_tree.proofs.ReaderSteps.{carried, fails_back}

@@ -1,6 +1,6 @@
 use Rattle.std.proofs.Common.{[], length}
-use Rattle.gf_tree.specs.Machine.Position.{NodeDue}
-use Rattle.gf_tree.specs.ReaderState.{answer, HasRead, HasRoom, IsSound, heading_read}
+use Rattle.gf_tree.specs.inner.Machine.Position.{NodeDue}
+use Rattle.gf_tree.specs.inner.ReaderState.{answer, HasRead, HasRoom, IsSound, heading_read}
 use Rattle.gf_tree.proofs.reader.Reader.nodes.Given as goal
 
 abbrev pub invariant-loop-self : goal.invariant-loop-self

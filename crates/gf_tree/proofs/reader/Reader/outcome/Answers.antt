@@ -1,9 +1,9 @@
 use Rattle.std.proofs.Common.{◌≡◌, ◌∙◌, ap, sym, false, Some, None, length, refl, rules}
 use Rattle.gf_token.specs.Label.{label_of}
 use Rattle.gf_tree.specs.KeptNodes.{position_of}
-use Rattle.gf_tree.specs.Machine.{with_node}
-use Rattle.gf_tree.specs.Machine.Position.{KnownOutcomeName, NodeDue}
-use Rattle.gf_tree.specs.ReaderState.{begun_with, content_of}
+use Rattle.gf_tree.specs.inner.Machine.{with_node}
+use Rattle.gf_tree.specs.inner.Machine.Position.{KnownOutcomeName, NodeDue}
+use Rattle.gf_tree.specs.inner.ReaderState.{begun_with, content_of}
 use Rattle.gf_tree.proofs.ReaderSteps.{wants_memory}
 use Rattle.gf_tree.proofs.PassedBy.{outcome_passed_by}
 use Rattle.gf_tree.proofs.Telling.{grows_none, placed_at, tells}

@@ -1,7 +1,7 @@
 use Rattle.std.proofs.Common.{◌++◌, [], ◌∷◌, rules}
-use Rattle.gf_tree.specs.GameParts.{outcome_with}
-use Rattle.gf_tree.specs.Machine.Position.{AfterNewPayoff}
-use Rattle.gf_tree.specs.ReaderState.{content_of}
+use Rattle.gf_tree.specs.Description.{outcome_with}
+use Rattle.gf_tree.specs.inner.Machine.Position.{AfterNewPayoff}
+use Rattle.gf_tree.specs.inner.ReaderState.{content_of}
 use Rattle.gf_tree.proofs.ReaderSteps.{wants_memory}
 use Rattle.gf_tree.proofs.reader.Reader.payoff.Goals as goal
 

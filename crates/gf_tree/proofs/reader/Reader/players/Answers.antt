@@ -1,8 +1,8 @@
 use Rattle.std.proofs.Common.{rules}
 use Rattle.gf_token.specs.Label.{label_of}
-use Rattle.gf_tree.specs.Machine.{with_player}
-use Rattle.gf_tree.specs.Machine.Position.{InPlayers}
-use Rattle.gf_tree.specs.ReaderState.{content_of}
+use Rattle.gf_tree.specs.inner.Machine.{with_player}
+use Rattle.gf_tree.specs.inner.Machine.Position.{InPlayers}
+use Rattle.gf_tree.specs.inner.ReaderState.{content_of}
 use Rattle.gf_tree.proofs.ReaderSteps.{wants_memory}
 use Rattle.gf_tree.proofs.reader.Reader.players.Goals as goal
 

@@ -1,7 +1,7 @@
 use Rattle.std.proofs.Common.{◌∙◌, ap, rules}
 use Rattle.gf_token.specs.Indices.{positive}
 use Rattle.gf_tree.specs.Description.{set_of}
-use Rattle.gf_tree.specs.ReaderState.{content_of}
+use Rattle.gf_tree.specs.inner.ReaderState.{content_of}
 use Rattle.gf_tree.proofs.PassedBy.{set_passed_by}
 use Rattle.gf_tree.proofs.ReaderSteps.{set_again, set_known_again, taken}
 use Rattle.gf_tree.proofs.reader.Reader.set.Goals as goal

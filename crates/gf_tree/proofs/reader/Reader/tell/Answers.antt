@@ -1,7 +1,7 @@
 use Rattle.std.proofs.Common.{◌≡◌, ◌+◌, ◌-◌, ◌++◌, ◌∷◌, [], ℕ, ap, arith, refl, rules, subst}
 use Rattle.gf_token.specs.Label.{label_of}
 use Rattle.gf_tree.specs.KeptNodes.{Kept, child_count, position_of}
-use Rattle.gf_tree.specs.ReaderState.{content_of}
+use Rattle.gf_tree.specs.inner.ReaderState.{content_of}
 use Rattle.gf_tree.specs.Told.{told_node}
 use Rattle.gf_tree.proofs.Telling.{told_goes}
 use Rattle.gf_tree.proofs.reader.Reader.tell.Goals as goal

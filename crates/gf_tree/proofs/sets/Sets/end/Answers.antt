@@ -3,7 +3,7 @@ use Rattle.gf_tree.proofs.SetCounts.{counts_then}
 use Rattle.gf_tree.proofs.SetsEnded.{absent, has_fewer, are_stored, view_then}
 use Rattle.gf_tree.specs.declared.action.Action.{Action as Held}
 use Rattle.gf_tree.specs.declared.sets.Entry.{Entry}
-use Rattle.gf_tree.specs.StoredSets.{HoldActions, end_of}
+use Rattle.gf_tree.specs.inner.StoredSets.{HoldActions, end_of}
 use Rattle.gf_tree.proofs.sets.Sets.end.Goals as goal
 
 pub note-requires-clause-absent : goal.note-requires-clause-absent

@@ -1,4 +1,4 @@
-use Rattle.gf_form.specs.GameDigits.{actions_at}
+use Rattle.gf_form.specs.inner.GameDigits.{actions_at}
 use Rattle.gf_form.proofs.SettledRows.{settled_next, step_within, stride_is}
 use Rattle.gf_form.proofs.rows.terms.Terms.choose.Goals as goal
 

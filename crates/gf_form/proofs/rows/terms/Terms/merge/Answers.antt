@@ -1,5 +1,5 @@
 use Rattle.std.proofs.Common.{◌+◌, ◌*◌, ◌∙◌, List, ap, arith, subst}
-use Rattle.gf_form.specs.Entries.{CountsBelow}
+use Rattle.gf_form.specs.inner.Entries.{CountsBelow}
 use Rattle.gf_form.specs.declared.rows.terms.Head.{Head}
 use Rattle.gf_form.proofs.FlatRows.{entry_head, head_read}
 use Rattle.gf_form.proofs.Merges.{both_go, first_merge, free_goes, last_merge, own_goes}

@@ -1,5 +1,5 @@
 use Rattle.std.proofs.Common.{◌≡◌, ◌∙◌, subst, ap, arith, length, ◌++◌, ◌∷◌, [], sym}
-use Rattle.gf_form.specs.Entries.{Entry, entries}
+use Rattle.gf_form.specs.inner.Entries.{Entry, entries}
 use Rattle.gf_form.specs.declared.rows.terms.Head.{Head}
 use Rattle.gf_form.proofs.FlatRows.{entry_head, head_read, is_pushed, less_head, lowered_is, row_in_bound}
 use Rattle.gf_form.proofs.FlatRows.{row_length}

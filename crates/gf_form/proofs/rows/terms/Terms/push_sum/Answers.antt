@@ -1,6 +1,6 @@
 use Rattle.std.proofs.Common.{◌≡◌, ◌∙◌, ◌<◌, ◌*◌, ◌++◌, ◌∷◌, [], ◌+ℤ◌, ◌*ℤ◌, arith, ap, get_or, length, pos, ℕ}
 use Rattle.std.proofs.Common.{sym, true, subst, Vec, Global}
-use Rattle.gf_form.specs.Entries.{HasSum, IsScale, entries, entries_of, entry_at}
+use Rattle.gf_form.specs.inner.Entries.{HasSum, IsScale, entries, entries_of, entry_at}
 use Rattle.gf_form.specs.declared.rows.terms.Head.{Head}
 use Rattle.gf_form.proofs.FlatRows.{entry_head, has_sum, head_read, is_pushed, row_in_bound, row_length}
 use Rattle.gf_form.proofs.FlatRows.{sum_made}

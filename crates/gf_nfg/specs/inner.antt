@@ -1,0 +1,11 @@
+-- Definitions that only proofs and private contracts use.
+pub mod Classes
+pub mod Heard
+pub mod Machine
+pub mod Meaning
+pub mod Position
+pub mod ReaderState
+pub mod TextParts
+pub mod Told
+pub mod ToldTable
+pub mod ToldText

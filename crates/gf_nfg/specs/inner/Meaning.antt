@@ -1,0 +1,57 @@
+-- The table that what was read means.
+use Rattle.std.specs.Prelude.{◌≡◌, ℕ, ◌*◌, ◌<◌, ◌≤◌, List, [], ◌∷◌}
+use Rattle.std.specs.Prelude.{length, map, sum, Option, None, Some}
+use Rattle.std.specs.List.{AllByRecursion}
+use Rattle.gf_fraction.specs.Ratio.{Ratio}
+use Rattle.gf_nfg.specs.Profiles.{product}
+use Rattle.gf_nfg.specs.Table.{Table}
+use Rattle.gf_nfg.specs.Sentence.{counted_labels}
+use Rattle.gf_nfg.specs.TableParts.{Names, groups, numbers_of, row_of, table_with}
+use Rattle.gf_nfg.specs.inner.Machine.{Content}
+
+-- of so many strategies for each player, and their labels in turn, or none where there are counts
+-- alone
+abbrev pub strategies_of : List ℕ → List (List ℕ) → List (List (List ℕ))
+strategies_of counts [] = map counted_labels counts
+strategies_of counts (label ∷ labels) = groups counts (label ∷ labels)
+
+abbrev pub names_in : Content → Names
+names_in c = record {
+  title = c.title;
+  comment = c.comment;
+  players = c.players;
+  strategies = strategies_of c.counts c.labels;
+}
+
+-- the outcomes that are chosen, if this is the outcome version
+abbrev pub choices_of : List ℕ → Option (List ℕ)
+choices_of [] = None
+choices_of (k ∷ choices) = Some (k ∷ choices)
+
+-- the rows of the profiles
+abbrev pub rows_by : Content → List ℕ → List (List Ratio)
+rows_by c choices =
+    map (row_of (length c.players) c.payoffs) (numbers_of c.profiles (choices_of choices))
+
+abbrev pub table_of : Content → Table
+table_of c = table_with (names_in c) (rows_by c c.choices)
+
+-- the payoffs are rows of the profiles, or of outcomes of which one is chosen for each profile
+abbrev pub HasPayoffs : Content → List ℕ → Type 0
+HasPayoffs c [] = length c.payoffs ≡ length c.players * c.profiles
+HasPayoffs c (k ∷ choices) =
+    (outcomes : ℕ) × (length c.payoffs ≡ length c.players * outcomes)
+    × (length (k ∷ choices) ≡ c.profiles) × AllByRecursion (λ n. n ≤ outcomes) (k ∷ choices)
+
+-- a label for each strategy, or none at all
+abbrev pub HasLabels : List ℕ → List (List ℕ) → Type 0
+HasLabels counts [] = Unit {0}
+HasLabels counts (label ∷ labels) = length (label ∷ labels) ≡ sum counts
+
+-- a positive count for each player, as many labels, and as many rows as there are profiles
+pub record IsComplete (c : Content) : Type 0 where
+  pub one_count_each : length c.counts ≡ length c.players
+  pub some_strategy : AllByRecursion (λ n. 0 < n) c.counts
+  pub profiles_are : c.profiles ≡ product c.counts
+  pub has_labels : HasLabels c.counts c.labels
+  pub has_rows : HasPayoffs c c.choices

@@ -1,0 +1,95 @@
+-- What a reader and what it has read stand for, without where they lie in memory.
+use Rattle.std.specs.Prelude.{◌≡◌, ℕ, ◌*◌, List, [], length, map, MatchResult, Result, Ok}
+use Rattle.gf_fraction.specs.Ratio.{Ratio}
+use Rattle.gf_token.specs.Label.{label_of}
+use Rattle.gf_token.specs.declared.label.Label.{Label}
+use Rattle.gf_token.specs.declared.fault.Fault.{Fault}
+use Rattle.gf_token.specs.declared.fault.Span.{Span}
+use Rattle.gf_token.specs.Remaining.{Remaining}
+use Rattle.gf_nfg.specs.inner.Heard.{Answer, Fails, heard, read_on, then_on, within}
+use Rattle.gf_nfg.specs.inner.Machine.{Content, at, settled}
+use Rattle.gf_nfg.specs.inner.Position.{Position}
+use Rattle.gf_nfg.specs.inner.Position.{Position as p}
+use Rattle.gf_nfg.specs.inner.Told.{Told}
+use Rattle.gf_nfg.specs.declared.heading.Heading.{Heading}
+use Rattle.gf_nfg.specs.declared.parts.Parts.{Parts}
+use Rattle.gf_nfg.specs.declared.reader.Reader.{Reader}
+use Rattle.gf_nfg.specs.declared.receive.Version.{Version}
+use Rattle.gf_nfg.specs.declared.receive.Version.TheVariants as version
+
+abbrev pub labels_of : List Label → List (List ℕ)
+labels_of labels = map label_of labels
+
+-- a heading, with these payoffs and these numbers of outcomes
+abbrev pub content_with : Heading → List Ratio → List ℕ → Content
+content_with h payoffs choices = record {
+  title = label_of h.title;
+  comment = label_of h.comment;
+  players = labels_of h.players.items;
+  counts = h.counts.items;
+  labels = labels_of h.labels.items;
+  profiles = h.profiles.count;
+  payoffs = payoffs;
+  choices = choices;
+}
+
+abbrev pub content_in : Heading → Content
+content_in h = content_with h [] []
+
+abbrev pub content_of : Parts → Content
+content_of f = content_with f.heading f.kept.payoffs.items f.kept.numbers.items
+
+abbrev pub content_told : Told → Content
+content_told t = content_with t.heading t.payoffs t.numbers
+
+-- what the machine answers to the tokens that a reader has still to come, from a position where so
+-- many of something are due, after so many outcomes
+abbrev pub answer : Position → ℕ → ℕ → Reader → Answer
+answer q due outcomes r = heard (at q due 0 outcomes (content_in r.heading)) r.tokens
+
+-- the same within a list of labels, before which there were so many
+abbrev pub list_answer : ℕ → ℕ → Reader → Answer
+list_answer due before r = heard (at p.InList due before 0 (content_in r.heading)) r.tokens
+
+-- the same where a token tells that the next player has so many strategies
+abbrev pub settling : Position → ℕ → ℕ → Span → Reader → Answer
+settling q due strategies stands r = record {
+  input = r.tokens.input;
+  machine = then_on stands.start stands.end
+      (within (settled (at q due 0 0 (content_in r.heading)) strategies))
+      (λ after. read_on (length r.tokens.input) after r.tokens.ahead);
+}
+
+-- ---- the body
+
+-- what the machine answers to the tokens to come, where so much was told
+abbrev pub told_answer : Position → ℕ → ℕ → Remaining → Told → Answer
+told_answer q due outcomes tokens t = heard (at q due 0 outcomes (content_told t)) tokens
+
+-- where the body begins, what the machine answers to the tokens that a reader has still to come
+abbrev pub body_answer : Version → Reader → Answer
+body_answer version.Payoffs r =
+    answer p.FlatPayoffs (length r.heading.players.items * r.heading.profiles.count) 0 r
+body_answer version.Outcomes r = answer p.InOutcomes 0 0 r
+
+-- The receiver was told a list, and the machine goes on after it.
+pub record HasTold {A T : Type 0} (holds : T → Told → Type 0) (telling : List A → Told)
+    (before : Answer) (after : Told → Answer) (to : T) : Type 0 where
+  pub told : List A
+  pub goes : before ≡ after (telling told)
+  pub holding : holds to (telling told)
+
+-- the same of a call
+abbrev pub GoesTelling : {A T X : Type 0} → (T → Told → Type 0) → (List A → Told) → Result X Fault
+    → Answer → (Told → Answer) → T → Type 0
+GoesTelling holds telling result before after to =
+    MatchResult result (λ _. HasTold holds telling before after to) (λ f. Fails f before)
+
+-- The receiver was told all of a file, to its end. In payoff version no numbers were told.
+pub record HasToldAll {T : Type 0} (holds : T → Told → Type 0) (before : Answer) (heading : Heading)
+    (to : T) : Type 0 where
+  pub told : Told
+  pub same : told.heading ≡ heading
+  pub whole : before.machine ≡ Ok (content_told told)
+  pub unnumbered : told.version ≡ version.Payoffs → told.numbers ≡ []
+  pub holding : holds to told

@@ -1,0 +1,19 @@
+-- What a receiver was told of a table.
+use Rattle.std.specs.Prelude.{◌≡◌, ℕ, List, []}
+use Rattle.gf_nfg.specs.inner.Meaning.{IsComplete, table_of}
+use Rattle.gf_nfg.specs.inner.ReaderState.{content_told}
+use Rattle.gf_nfg.specs.TableText.{SpellsTable}
+use Rattle.gf_nfg.specs.inner.Told.{Told}
+use Rattle.gf_nfg.specs.declared.heading.Heading.{Heading}
+use Rattle.gf_nfg.specs.declared.receive.Version.TheVariants.{Payoffs}
+
+-- It was told this heading and a body, and they mean a table that the bytes spell. In payoff version no
+-- numbers were told.
+pub record HasToldTable {T : Type 0} (holds : T → Told → Type 0) (bytes : List ℕ)
+    (heading : Heading) (to : T) : Type 0 where
+  pub told : Told
+  pub same : told.heading ≡ heading
+  pub spelled : SpellsTable bytes (table_of (content_told told))
+  pub complete : IsComplete (content_told told)
+  pub unnumbered : told.version ≡ Payoffs → told.numbers ≡ []
+  pub holding : holds to told

@@ -1,0 +1,20 @@
+-- Definitions that only proofs and private contracts use.
+pub mod AddsUp
+pub mod FoundSet
+pub mod GameParts
+pub mod KnownOutcomes
+pub mod KnownUses
+pub mod Machine
+pub mod Numbers
+pub mod Passed
+pub mod Probability
+pub mod ReadGame
+pub mod ReaderState
+pub mod Seeded
+pub mod Shares
+pub mod Skipped
+pub mod SmallNumbers
+pub mod Steps
+pub mod StoredOutcomes
+pub mod StoredSets
+pub mod Stretches

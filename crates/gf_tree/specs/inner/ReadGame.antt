@@ -1,0 +1,28 @@
+-- What the machine of the reader answers to tokens alone, and the game of what was read.
+use Rattle.std.specs.Prelude.{List, [], ◌∷◌, Result, Ok, Err, if◌then◌else◌}
+use Rattle.gf_token.specs.Token.{Token}
+use Rattle.gf_token.specs.declared.fault.Why.{Why}
+use Rattle.gf_tree.specs.Game.{Game}
+use Rattle.gf_tree.specs.GameCode.{no_node}
+use Rattle.gf_tree.specs.Grown.{grow, root}
+use Rattle.gf_tree.specs.inner.Machine.{Content, Position, State, due, may_end, step}
+
+abbrev pub then_run : Result State Why → (State → Result Content Why) → Result Content Why
+then_run (Ok s) f = f s
+then_run (Err why) f = Err why
+
+-- the answer to the tokens to come, whatever their places
+abbrev pub run_tokens : Position → Content → List Token → Result Content Why
+run_tokens q c [] = if may_end q c.due then Ok c else Err (due q c.due)
+run_tokens q c (t ∷ ts) = then_run (step q c t) (λ s. run_tokens s.position s.content ts)
+
+-- the game of what was read
+abbrev pub game_of : Content → Game
+game_of c = record {
+  title = c.title;
+  comment = c.comment;
+  players = c.players;
+  tree = root no_node (grow c.nodes);
+  sets = c.sets;
+  outcomes = c.outcomes;
+}

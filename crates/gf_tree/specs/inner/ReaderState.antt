@@ -1,0 +1,181 @@
+-- What a reader stands for, without where it lies in memory. Of its nodes it keeps nothing: it
+-- stands for a machine that begins where it is, and has read none.
+use Rattle.std.specs.Prelude.{◌≡◌, ◌<◌, ◌^◌, ◌+◌, ◌*◌, ◌++◌, ℕ, List, max}
+use Rattle.std.specs.Prelude.{[], ◌∷◌, length, map, option_map, MatchResult, Result, Ok, Err}
+use Rattle.gf_token.specs.Label.{label_of}
+use Rattle.gf_token.specs.Positions.{at_position}
+use Rattle.gf_token.specs.Remaining.{IsPlaceIn, Remaining}
+use Rattle.gf_token.specs.Token.{lexeme}
+use Rattle.gf_token.specs.Token.Token.{Text}
+use Rattle.gf_token.specs.declared.fault.Fault.{Fault}
+use Rattle.gf_token.specs.declared.fault.Span.{Span}
+use Rattle.gf_token.specs.declared.fault.Why.TheVariants.{Memory}
+use Rattle.gf_token.specs.declared.token.TextToken.{TextToken}
+use Rattle.gf_tree.specs.Description.{InformationSet, SetKey}
+use Rattle.gf_tree.specs.FiniteMap.{Described}
+use Rattle.gf_tree.specs.Game.{Node}
+use Rattle.gf_tree.specs.KeptNodes.{ArePlaced, IsPlaced, Kept, child_count}
+use Rattle.gf_tree.specs.KeptNodes.{entries_with, entry_with}
+use Rattle.gf_tree.specs.inner.Machine.{Begun, Content, Position, State, run, with_node}
+use Rattle.gf_tree.specs.inner.Machine.Position.{NodeDue}
+use Rattle.gf_tree.specs.inner.Passed.{HasPassed}
+use Rattle.gf_tree.specs.PrefixOrder.{Entry}
+use Rattle.gf_tree.specs.inner.ReadGame.{game_of}
+use Rattle.gf_tree.specs.Told.{Heading, Told, heading_in, told_from, told_node}
+use Rattle.gf_tree.specs.Told.{used_outcomes_from, used_sets_from}
+use Rattle.gf_tree.specs.declared.reader.Reader.{Reader}
+
+abbrev pub content_of : Reader → Content
+content_of r = record {
+  title = label_of r.title;
+  comment = label_of r.comment;
+  players = map label_of r.players.items;
+  nodes = [];
+  due = r.due;
+  sets = r.sets.known;
+  outcomes = r.outcomes.known;
+}
+
+-- the heading that was read
+abbrev pub heading_read : Reader → Heading
+heading_read r = heading_in (game_of (content_of r))
+
+-- with these nodes, of which it was told
+abbrev pub content_with : Reader → List Kept → Content
+content_with r nodes = record (content_of r) {
+  nodes = entries_with r.sets.known r.outcomes.known nodes;
+}
+
+-- what the machine answers to the tokens to come of an input
+pub record Answer : Type 0 where
+  pub input : List ℕ
+  pub machine : Result Content Fault
+
+abbrev pub heard : Position → Content → Remaining → Answer
+heard q c t = record { input = t.input; machine = run (length t.input) q c t.ahead }
+
+abbrev pub heard_from : State → Remaining → Answer
+heard_from s t = heard s.position s.content t
+
+abbrev pub answer : Position → Reader → Answer
+answer q r = heard q (content_of r) r.tokens
+
+-- a node with this name, whose set has this position, or 0
+abbrev pub begun_with : List (Described SetKey InformationSet) → List ℕ → ℕ → Begun
+begun_with sets name position = record {
+  name = name;
+  set = option_map (λ s. s.key) (at_position sets position);
+  children = child_count sets position;
+}
+
+-- there are no more sets and outcomes than there are numbers for them
+pub record IsSound (r : Reader) : Type 0 where
+  pub sets : length r.sets.known < 2 ^ 32
+  pub outcomes : length r.outcomes.known < 2 ^ 32
+
+-- with so many tokens more to come than there are, all of them could be nodes with as many children
+-- as a set can have actions
+abbrev pub HasRoom : ℕ → Reader → Type 0
+HasRoom more r = r.due + (length r.tokens.ahead + more) * 18446744073709551616 < 2 ^ 128
+
+-- ---- nodes that were told
+
+-- with these nodes before its own
+abbrev pub with_front : List (Entry Node) → Content → Content
+with_front nodes c = record c { nodes = nodes ++ c.nodes }
+
+abbrev pub with_nodes : List (Entry Node) → Result Content Fault → Result Content Fault
+with_nodes nodes (Ok c) = Ok (with_front nodes c)
+with_nodes nodes (Err fault) = Err fault
+
+abbrev pub behind : List (Entry Node) → Answer → Answer
+behind nodes a = record { input = a.input; machine = with_nodes nodes a.machine }
+
+-- one list is a front of the other
+pub record Grows {A : Type 0} (old new : List A) : Type 0 where
+  pub more : List A
+  pub parts : new ≡ old ++ more
+
+-- This node was told, and the machine goes on as behind it; nothing else has changed.
+pub record TellsNode {T : Type 0} (holds : T → T → Heading → List Told → Type 0) (old new : Reader)
+    (from to : T) (node : Kept) : Type 0 where
+  pub goes : (q : Position) → heard q (with_node (content_of old)
+      (begun_with old.sets.known node.name node.set)
+      (option_map (λ o. o.key) (at_position old.outcomes.known node.outcome))) old.tokens
+      ≡ behind (entry_with new.sets.known new.outcomes.known node ∷ []) (answer q new)
+  pub kept : new ≡ record old {
+    due = new.due;
+    told_sets = new.told_sets;
+    told_outcomes = new.told_outcomes;
+  }
+  pub told : (untold : T) (heading : Heading) (told : List Told) → holds untold from heading told
+      → holds untold to heading (told ++ told_node old.sets.known
+      old.outcomes.known old.told_sets old.told_outcomes node ∷ [])
+  pub told_sets : new.told_sets ≡ max old.told_sets node.set
+  pub told_outcomes : new.told_outcomes ≡ max old.told_outcomes node.outcome
+
+-- One node more was told, behind which the machine goes on.
+pub record Tells {T : Type 0} (holds : T → T → Heading → List Told → Type 0) (before : Answer)
+    (old new : Reader) (from to : T) : Type 0 where
+  pub node : Kept
+  pub goes : before
+      ≡ behind (entry_with new.sets.known new.outcomes.known node ∷ []) (answer NodeDue new)
+  pub placed : IsPlaced (length new.sets.known) (length new.outcomes.known) node
+  pub told : (untold : T) (heading : Heading) (told : List Told) → holds untold from heading told
+      → holds untold to heading (told ++ told_node new.sets.known
+      new.outcomes.known old.told_sets old.told_outcomes node ∷ [])
+  pub told_sets : new.told_sets ≡ max old.told_sets node.set
+  pub told_outcomes : new.told_outcomes ≡ max old.told_outcomes node.outcome
+  pub sets : Grows old.sets.known new.sets.known
+  pub outcomes : Grows old.outcomes.known new.outcomes.known
+
+-- it was told these nodes, of which the first is the first one of the file
+pub record HasTold {T : Type 0} (holds : T → List Told → Type 0) (r : Reader) (to : T)
+    (nodes : List Kept) : Type 0 where
+  pub placed : ArePlaced (length r.sets.known) (length r.outcomes.known) nodes
+  pub told : holds to (told_from r.sets.known r.outcomes.known 0 0 nodes)
+  pub told_sets : r.told_sets ≡ used_sets_from 0 nodes
+  pub told_outcomes : r.told_outcomes ≡ used_outcomes_from 0 nodes
+
+-- with them the machine has come from that answer to this position
+pub record HasRead {T : Type 0} (holds : T → List Told → Type 0) (before : Answer) (q : Position)
+    (r : Reader) (to : T) : Type 0 where
+  pub nodes : List Kept
+  pub goes : before ≡ behind (entries_with r.sets.known r.outcomes.known nodes) (answer q r)
+  pub has_told : HasTold holds r to nodes
+
+-- with them it has come from that answer to the end
+pub record HasReadAll {T : Type 0} (holds : T → List Told → Type 0) (before : Answer) (r : Reader)
+    (to : T) : Type 0 where
+  pub nodes : List Kept
+  pub whole : before.machine ≡ Ok (content_with r nodes)
+  pub has_told : HasTold holds r to nodes
+
+-- ---- refusals
+
+-- memory is wanting at a place of the input that the machine has passed
+pub record HasPassedPlace (before : Answer) (span : Span) : Type 0 where
+  pub place : IsPlaceIn before.input span
+  pub passed : HasPassed before.machine span.start
+
+-- the code refuses as the machine does, or for want of memory where the machine goes on
+pub data Fails (f : Fault) (before : Answer) : Type 0 where
+  of_file : before.machine ≡ Err f → Fails f before
+  of_memory : f.why ≡ Memory → HasPassedPlace before f.span → Fails f before
+
+-- the machine answers to the tokens before a call as to those behind it
+abbrev pub Goes : {A : Type 0} → Answer → Result A Fault → Answer → Type 0
+Goes before (Ok _) after = before ≡ after
+Goes before (Err f) after = Fails f before
+
+-- the same of a call that tells a node
+abbrev pub GoesTelling : {A T : Type 0} → (T → T → Heading → List Told → Type 0) → Result A Fault → Answer
+    → Reader → Reader → T → T → Type 0
+GoesTelling holds result before old new from to =
+    MatchResult result (λ _. Tells holds before old new from to) (λ f. Fails f before)
+
+-- the tokens with a text before them
+abbrev pub behind_label : Remaining → TextToken → Remaining
+behind_label t label = record t {
+  ahead = lexeme label.span.start label.span.end (Text (label_of label.label)) ∷ t.ahead;
+}
