@@ -1,4 +1,4 @@
-//! The words that the program was started with.
+//! The arguments that the program was started with.
 
 use crate::words::parse_words;
 use gf_run::{Asked, WordsFault};
@@ -10,7 +10,7 @@ use std::rt::Env;
 
 const NOT_UTF8: &str = "error: a word is not UTF-8\n\nFor more information, try '--help'.\n";
 
-/// The words behind the program's name. The name itself is left out, and may be any bytes.
+/// The arguments after the program's name. The name itself is left out, and may be any bytes.
 #[derive(Drop)]
 struct BehindName<'a, R> {
     rt: &'a R,
@@ -40,7 +40,7 @@ fn not_words(alloc: Global, kind: ErrorKind) -> WordsFault {
     }
 }
 
-/// What the program was started for. Words that are not UTF-8 are wrong usage.
+/// What the program was started for. Arguments that are not UTF-8 are wrong usage.
 pub fn job_asked<R: Env + AllocGlobal>(rt: &R) -> Result<Asked, WordsFault> {
     let alloc = rt.alloc();
     let given = env::args(&(BehindName { rt }, alloc)).map_err(|error| not_words(

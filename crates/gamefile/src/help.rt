@@ -1,4 +1,4 @@
-//! What help says of the program and of its commands.
+//! What help says about the program and its commands.
 
 /// The version of the program.
 pub const VERSION: &str = "1.0.0";

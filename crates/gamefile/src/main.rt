@@ -1,5 +1,5 @@
-//! `gamefile` reads game files of Gambit: it writes the canonical text of a game, tells what a file
-//! holds, writes a tree as a table, and tells whether two files mean the same.
+//! `gamefile` reads Gambit game files: it writes the canonical text of a game, says what a file
+//! holds, writes a tree as a table, and says whether two files mean the same.
 #![tactic(auto)]
 
 use arguments::job_asked;
@@ -31,12 +31,12 @@ fn explained(
     )
 }
 
-/// Whether standard error is a terminal that is told how many files are done.
+/// Whether standard error is a terminal on which it is shown how many files are done.
 fn is_told(rt: &HostRuntime, files: &Collection) -> bool {
     !files.quiet && rt.stderr().is_terminal()
 }
 
-/// Standard output. What shows there how many files are done is erased before a line.
+/// Standard output. If how many files are done is shown there, that is erased before a line.
 fn erasing_output(rt: &HostRuntime, shows: bool) -> Counted<Erasing<Stdout>> {
     let stdout = rt.stdout();
     let erases = shows && stdout.is_terminal();

@@ -31,7 +31,7 @@ enum Run {
 }
 
 impl Run {
-    /// What it writes of `INPUT`.
+    /// What it writes for `INPUT`.
     fn output(self) -> &'static [u8] {
         match self {
             Run::Canon | Run::Table | Run::Reduced => b"NFG 1 R \"\" { }\n{ }\n\"\"\n\n\n",
@@ -65,7 +65,7 @@ struct Outcome {
     write_failures: u64,
 }
 
-/// What comes of a run of `INPUT`.
+/// The result of a run over `INPUT`.
 fn outcome_of(alloc: Global, run: Run, reads: &[Step], writes: &[Step]) -> Outcome {
     let mut input = Counted::new(ScriptReader {
         steps: reads,
@@ -123,7 +123,7 @@ fn refused(which: Which, start: usize, end: usize, why: Why) -> RunFault {
     }
 }
 
-/// The line that is written of a fault.
+/// The line that is written for a fault.
 fn line(alloc: Global, fault: &RunFault) -> Result<Vec<u8>, WriteFault> {
     let mut line = Vec::new(alloc);
     write_fault(fault, &mut Counted::new(&mut line))?;

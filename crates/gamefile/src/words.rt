@@ -1,4 +1,4 @@
-//! The words of the command line, and what they ask for.
+//! The command line, and what it asks for.
 
 use crate::help;
 use clap::error::ErrorKind;
@@ -27,7 +27,7 @@ fn named<'a>(alloc: Global, name: &'a str, about: &'a str) -> Arg<'a> {
     Arg::new(alloc, name).required(true).help(about)
 }
 
-/// A command whose fault may be told in words.
+/// A command whose fault may be explained in words.
 fn explaining<'a>(command: Command<'a>, alloc: Global) -> Result<Command<'a>, AllocError> {
     command.arg(flag(alloc, "explain", help::EXPLAIN))
 }
@@ -54,7 +54,7 @@ fn table<'a>(alloc: Global) -> Result<Command<'a>, AllocError> {
     on_one_file(table.arg(flag(alloc, "reduced", help::REDUCED))?, alloc)
 }
 
-/// A command that takes one argument more.
+/// A command that takes one more argument.
 fn taking<'a>(
     command: Command<'a>,
     arg: Result<Arg<'a>, AllocError>,
@@ -128,7 +128,7 @@ fn same<'a>(alloc: Global) -> Result<Command<'a>, AllocError> {
     with_two_files(explaining(with_same_options(same, alloc)?, alloc)?, alloc)
 }
 
-/// A command that has one command more.
+/// A command that has one more command.
 fn having<'a>(
     command: Command<'a>,
     inner: Result<Command<'a>, AllocError>,
@@ -210,7 +210,7 @@ fn same_of(alloc: Global, matches: &ArgMatches<'_>) -> Result<Job, AllocError> {
     })
 }
 
-/// The words that name files and folders.
+/// The arguments that name files and folders.
 fn words_of(alloc: Global, matches: &ArgMatches<'_>) -> Result<Vec<String>, AllocError> {
     let mut words = Vec::new(alloc);
     if let Some(given) = matches.get_strs("FILES") {
@@ -221,7 +221,7 @@ fn words_of(alloc: Global, matches: &ArgMatches<'_>) -> Result<Vec<String>, Allo
     Ok(words)
 }
 
-/// The list of names that a word means; `-` is standard input.
+/// The list of names that an argument means; `-` is standard input.
 fn list_of(alloc: Global, name: &str, is_null: bool) -> Result<Paths, AllocError> {
     let list = if name == "-" {
         Input::Standard
@@ -247,7 +247,7 @@ fn files_of(alloc: Global, matches: &ArgMatches<'_>) -> Result<Collection, Alloc
     })
 }
 
-/// Whether a command has the option that tells its fault in words.
+/// Whether a command has the option that explains its fault in words.
 fn explains(matches: &ArgMatches<'_>) -> bool {
     match matches.subcommand() {
         Some((_, inner)) => inner.get_flag("explain"),
@@ -283,15 +283,15 @@ fn job_of(alloc: Global, matches: &ArgMatches<'_>) -> Result<Job, AllocError> {
     }
 }
 
-/// Whether a word that is no command looks like the name of a game file. What a terminal may not show
-/// as it stands does not.
+/// Whether an argument that is not a command looks like the name of a game file. An argument that a
+/// terminal may not show as it is does not.
 fn looks_like_file(word: &str) -> bool {
     let name = word.as_bytes();
     (name.ends_with(b".efg") || name.ends_with(b".nfg"))
         && name.iter().all(|byte| byte.is_ascii_graphic())
 }
 
-/// Appends the command that was perhaps meant, if the first word names a file in its place.
+/// Appends the command that was perhaps meant, if the first argument names a file instead.
 fn push_hint(alloc: Global, words: &[&str], text: &mut String) -> Result<(), AllocError> {
     match words.first() {
         Some(word) if looks_like_file(word) => {
@@ -316,16 +316,17 @@ fn fault_of(alloc: Global, error: &Error, words: &[&str]) -> Result<WordsFault, 
     })
 }
 
-/// What the words behind the program's name ask for: `canon [--no-names] [FILE]`, `check [FILE]`,
-/// `table [--reduced] [FILE]` or `same [--map | --no-names] A B`, each with `--explain` or without;
-/// `hash [--no-names] [--quiet]` or `duplicates [--no-names] [--quiet]`, with `[FILE|FOLDER]..` or
-/// `--files-from FILE [--null]`; or none of these, which is `canon` of standard input.
+/// What the arguments after the program's name ask for: `canon [--no-names] [FILE]`, `check
+/// [FILE]`, `table [--reduced] [FILE]` or `same [--map | --no-names] A B`, each with `--explain` or
+/// without; `hash [--no-names] [--quiet]` or `duplicates [--no-names] [--quiet]`, with
+/// `[FILE|FOLDER]..` or `--files-from FILE [--null]`; or none of these, which is `canon` of
+/// standard input.
 ///
-/// - `Help`: the words ask for help, as `--help` does, or `help`, behind a command too; or for the
-///   version, as `--version` or `-V` does, but not behind a command.
-/// - `Usage`: they are no such words.
-/// - `Memory`: memory ran out. If it ran out while the words were judged, `Usage` may come in its
-///   place.
+/// - `Help`: the arguments ask for help, as `--help` or `help` does, also after a command; or for
+///   the version, as `--version` or `-V` does, but not after a command.
+/// - `Usage`: they ask for nothing of this kind.
+/// - `Memory`: memory ran out. If it ran out while the arguments were judged, `Usage` may come in
+///   its place.
 pub fn parse_words<'a>(alloc: Global, words: &'a [&'a str]) -> Result<Asked, WordsFault> {
     match gamefile(alloc)?.try_get_matches_from(words) {
         Ok(matches) => Ok(asked_of(alloc, &matches)?),

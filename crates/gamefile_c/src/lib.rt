@@ -1,5 +1,5 @@
-//! The calls of a C program, for each of which gf_calls has the answer and its clauses.
-//! library/gamefile.c gives them the names and the forms of gamefile.h.
+//! The calls for a C program. gf_calls has the answer to each of them, and its clauses.
+//! library/gamefile.c gives them the names and forms of gamefile.h.
 #![tactic(auto)]
 
 ghost use Rattle.gf_canon.specs.Judgement.{IsTextBy};
@@ -26,8 +26,8 @@ pub extern "C" fn gamefile_c_check(
     gf_calls::check_file(alloc, input, kind, fault).number()
 }
 
-/// Writes the canonical text of a file into a buffer, and the length of the text beside it; with the
-/// flag 1, names aside.
+/// Writes the canonical text of a file into a buffer, and the length of the text beside it; with
+/// the flag 1, with names aside.
 #[unsafe(no_mangle)]
 pub extern "C" fn gamefile_c_canonical(
     alloc: Global,
@@ -43,8 +43,8 @@ pub extern "C" fn gamefile_c_canonical(
     gf_calls::write_canonical(alloc, input, flags, out, needed, fault).number()
 }
 
-/// Writes the SHA-256 digest of the canonical text of a file into a buffer, in 64 hexadecimal digits;
-/// with the flag 1, of the text with names aside.
+/// Writes the SHA-256 digest of the canonical text of a file into a buffer, in 64 hexadecimal
+/// digits; with the flag 1, for the text with names aside.
 #[unsafe(no_mangle)]
 pub extern "C" fn gamefile_c_hash(
     alloc: Global,
@@ -61,8 +61,8 @@ pub extern "C" fn gamefile_c_hash(
 }
 
 /// Writes a file as a table into a buffer, and the length of its text beside it: a tree as its
-/// strategic form, or with the flag 2 as its reduced form. The number of a profile that overflows is
-/// told, counted from 1.
+/// strategic form, or with the flag 2 as its reduced form. The number of a profile that overflows
+/// is reported, counted from 1.
 #[unsafe(no_mangle)]
 pub extern "C" fn gamefile_c_table(
     alloc: Global,
@@ -79,8 +79,8 @@ pub extern "C" fn gamefile_c_table(
     gf_calls::write_table(alloc, input, flags, out, needed, fault, profile).number()
 }
 
-/// Whether two files mean the same; with the flag 1, names aside. If one is refused, which: 0 for the
-/// first, 1 for the second.
+/// Whether two files mean the same; with the flag 1, with names aside. If one is refused, it is
+/// reported which: 0 for the first, 1 for the second.
 #[unsafe(no_mangle)]
 pub extern "C" fn gamefile_c_same(
     alloc: Global,
@@ -95,8 +95,9 @@ pub extern "C" fn gamefile_c_same(
     gf_calls::compare(alloc, a, b, flags, fault, which).number()
 }
 
-/// Writes which numbers of two files correspond into a buffer, and how many pairs these are beside
-/// it, if the files mean the same. If one is refused, which: 0 for the first, 1 for the second.
+/// If two files mean the same, writes the pairs of numbers that correspond into a buffer, and
+/// beside it how many pairs there are. If one is refused, it is reported which: 0 for the first, 1
+/// for the second.
 #[unsafe(no_mangle)]
 pub extern "C" fn gamefile_c_renumbering(
     alloc: Global,

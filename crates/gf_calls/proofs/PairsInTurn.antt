@@ -1,4 +1,5 @@
--- Pairs that are told one after another: one for each item of a list, or a list for each player.
+-- Pairs that are appended one after another: one for each item of a list, or a list for each
+-- player.
 use Rattle.std.proofs.Common.{◌≡◌, ℕ, zero, suc, ◌+◌, ◌^◌, ◌≤◌, List, [], ◌∷◌, ◌++◌, length, map}
 use Rattle.std.proofs.Common.{drop, refl, sym, ap, ◌∙◌, append_assoc, arith}
 use Rattle.std.proofs.lemmas.Grind.{flat_map-append}
@@ -27,7 +28,7 @@ module _ {A : Type 0} (f : A → Pair) where
   left (x ∷ xs) zero = refl
   left (x ∷ xs) (suc before) = left xs before
 
-  -- pairs : what is told before so many items; whole : what is told in the end
+  -- pairs : what is told before this many items; whole : what is told in the end
   pub pair_more : (xs : List A) (before : ℕ) (pairs more whole : List Pair)
       → pairs ++ map f (drop before xs) ≡ whole
       → more ≡ pairs ++ map f (option_to_list (at_position xs (before + 1)))

@@ -1,4 +1,4 @@
--- What a check of a file tells C.
+-- What a call answers that checks a file.
 use Rattle.std.specs.Prelude.{◌≡◌, ℕ, List}
 use Rattle.gf_canon.specs.FileFormat.{MeansFileOf}
 use Rattle.gf_canon.specs.declared.format.Format.{Format}

@@ -1,4 +1,4 @@
--- What a comparison of two files tells C.
+-- What a call answers that compares two files.
 use Rattle.std.specs.Prelude.{◌≡◌, ◌↔◌, ℕ, Bool, true, false, IsTrue, List, Option, Some, None}
 use Rattle.gf_canon.specs.GameFile.{GameFile}
 use Rattle.gf_canon.specs.Judgement.{MeansFile, SpellsWithin}
@@ -10,7 +10,7 @@ use Rattle.gf_calls.specs.declared.status.Status.{Status}
 use Rattle.gf_calls.specs.declared.status.Status.TheVariants.{Different, Done, Misuse}
 use Rattle.gf_calls.specs.declared.status.Status.TheVariants.{OutOfMemory}
 
--- the status of an answer whether two files mean the same
+-- the status of the answer whether two files mean the same
 abbrev pub same_status : Bool → Status
 same_status true = Done
 same_status false = Different
@@ -33,7 +33,7 @@ pub data IsCompared (names : Names) (a b : List ℕ) (which : ℕ) (numbers : Fa
   out_of_memory : status ≡ OutOfMemory → MeansFile a → MeansFile b
       → IsCompared names a b which numbers status
 
--- the same, by the names that the flags tell; other flags are not understood
+-- the same, with names as the flags say; other flags are not understood
 abbrev pub IsComparedBy : Option Names → List ℕ → List ℕ → ℕ → FaultNumbers → Status → Type 0
 IsComparedBy (Some names) a b which numbers status = IsCompared names a b which numbers status
 IsComparedBy None a b which numbers status = status ≡ Misuse

@@ -3,8 +3,8 @@ use Rattle.std.specs.Prelude.{◌≡◌, ℕ, ◌<◌, ◌≤◌, List, ◌++◌
 use Rattle.gf_calls.specs.declared.status.Status.{Status}
 use Rattle.gf_calls.specs.declared.status.Status.TheVariants.{Done, TooSmall}
 
--- The text stands at the start of the buffer, and nothing else was changed; or the buffer is too
--- small and is as it was. The caller learns the length of the text either way.
+-- The text is at the start of the buffer, and nothing else was changed; or the buffer is too small
+-- and is as it was. Either way, the caller learns the length of the text.
 pub data IsHandedOut {A : Type 0} (text old new : List A) (needed : ℕ) (status : Status)
     : Type 0 where
   fits : status ≡ Done → needed ≡ length text → length text ≤ length old

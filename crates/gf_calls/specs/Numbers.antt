@@ -1,4 +1,4 @@
--- The numbers that C is told in place of what cannot cross to it.
+-- The numbers that C gets in place of values that cannot cross to it.
 use Rattle.std.specs.Prelude.{◌≡◌, ℕ, Option, Some, None, nat_eq, if◌then◌else◌}
 use Rattle.gf_token.specs.Code.{code_of}
 use Rattle.gf_token.specs.declared.fault.Fault.{Fault}
@@ -16,7 +16,8 @@ use Rattle.gf_calls.specs.declared.form.Strategies.TheVariants as strategies
 use Rattle.gf_calls.specs.declared.status.Status.{Status}
 use Rattle.gf_calls.specs.declared.status.Status.TheVariants as status
 
--- the number of what a call answers; 4 is no call's, since in the program it is a failed file's
+-- the number of what a call answers; no call answers 4, which in the program means that a file
+-- failed
 abbrev pub status_number : Status → ℕ
 status_number status.Done = 0
 status_number status.Different = 1
@@ -31,12 +32,12 @@ status_number status.TooSmall = 8
 abbrev pub Answers : ℕ → (Status → Type 0) → Type 0
 Answers result Is = (status : Status) × (result ≡ status_number status) × Is status
 
--- the number of a format; 0 is none's
+-- the number of a format; 0 is the number of none
 abbrev pub kind_number : Format → ℕ
 kind_number format.Extensive = 1
 kind_number format.Strategic = 2
 
--- what a file was to go on with; 0 is none's
+-- what was expected; 0 stands for nothing
 abbrev pub what_number : What → ℕ
 what_number what.Format = 1
 what_number what.Version = 2
@@ -50,7 +51,7 @@ what_number what.Strategies = 9
 what_number what.Node = 10
 what_number what.End = 11
 
--- of an E3, what was expected
+-- for an E3, what was expected
 abbrev pub expected_number : Why → ℕ
 expected_number (why.Expected what) = what_number what
 expected_number _ = 0

@@ -1,4 +1,4 @@
--- What a call tells C that pairs the numbers of two files.
+-- What a call answers that pairs the numbers of two files.
 use Rattle.std.specs.Prelude.{◌≡◌, ℕ, List}
 use Rattle.gf_canon.specs.GameFile.{GameFile, SameFile}
 use Rattle.gf_canon.specs.Judgement.{MeansFile, SpellsWithin}
@@ -20,7 +20,8 @@ pub data IsPairing (x y : GameFile) (old new : List Pair) (needed : ℕ) (status
       → IsPairing x y old new needed status
   out_of_memory : status ≡ OutOfMemory → new ≡ old → IsPairing x y old new needed status
 
--- both mean files, about which this is answered; or the first file, 0, is refused; or the second, 1
+-- both mean files, and this is the answer about them; or the first file, 0, is refused; or the
+-- second, 1
 pub data IsPaired (a b : List ℕ) (old new : List Pair) (needed which : ℕ) (numbers : FaultNumbers)
     (status : Status) : Type 0 where
   read : (x y : GameFile) → SpellsWithin a x → SpellsWithin b y

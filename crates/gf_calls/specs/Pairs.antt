@@ -33,13 +33,13 @@ set_pairs r g player =
 abbrev pub outcome_pairs : Renumbering → Game → List Pair
 outcome_pairs r g = map (λ number. outcome_pair number (r.outcome number)) (outcome_numbers g)
 
--- the sets of chance, who is player 0, then those of player after player, and then the outcomes
+-- the sets of chance, which is player 0, then those of each player in turn, and then the outcomes
 abbrev pub renumbering_pairs : Renumbering → Game → List Pair
 renumbering_pairs r g =
     flat_map (set_pairs r g) (numbers_from 0 (suc (length g.players))) ++ outcome_pairs r g
 
--- of two games those of each renumbering that carries the first to the second: so all of them have
--- the same pairs; tables have none
+-- for two games, those of each renumbering that carries the first to the second, so all of these
+-- have the same pairs; tables have none
 abbrev pub ArePairs : GameFile → GameFile → List Pair → Type 0
 ArePairs (extensive g) (extensive h) pairs =
     (r : Renumbering) → Carries r g h → pairs ≡ renumbering_pairs r g

@@ -1,4 +1,4 @@
--- What C is told of a file that is refused.
+-- What a call answers if a file is refused.
 use Rattle.std.specs.Prelude.{◌≡◌, ℕ, List}
 use Rattle.gf_token.specs.declared.fault.Fault.{Fault}
 use Rattle.gf_token.specs.declared.fault.Why.{Why}
@@ -9,7 +9,7 @@ use Rattle.gf_calls.specs.declared.fault.FaultNumbers.{FaultNumbers}
 use Rattle.gf_calls.specs.declared.status.Status.{Status}
 use Rattle.gf_calls.specs.declared.status.Status.TheVariants.{Refused, OutOfMemory}
 
--- out of memory is no fault of the file
+-- running out of memory is not a fault of the file
 abbrev pub refusal_status : Why → Status
 refusal_status why.Memory = OutOfMemory
 refusal_status _ = Refused

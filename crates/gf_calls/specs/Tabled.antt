@@ -1,4 +1,4 @@
--- What a call tells C that writes a file as a table.
+-- What a call answers that writes a file as a table.
 use Rattle.std.specs.Prelude.{◌≡◌, ◌≤◌, ℕ, List, Option, Some, None, length}
 use Rattle.std.specs.List.{Contains}
 use Rattle.gf_nfg.specs.Table.{Table}
@@ -23,7 +23,7 @@ use Rattle.gf_calls.specs.declared.status.Status.{Status}
 use Rattle.gf_calls.specs.declared.status.Status.TheVariants.{Misuse, OutOfMemory}
 use Rattle.gf_calls.specs.declared.status.Status.TheVariants.{Overflow, TooManyProfiles}
 
--- as many players as a table is made for
+-- no more players than a table can have
 abbrev pub HasFewPlayers : Game → Type 0
 HasFewPlayers g = length g.players ≤ 4294967295
 
@@ -43,20 +43,20 @@ abbrev pub OverflowsBy : Strategies → Game → ℕ → Type 0
 OverflowsBy Pure g profile = OverflowsAt g profile
 OverflowsBy Reduced g profile = ReducedOverflowsAt g profile
 
--- the form of a game, and that nothing stands against it
+-- the form of a game, and nothing rules it out
 pub record IsFormOf (strategies : Strategies) (g : Game) (t : Table) : Type 0 where
   pub form : IsFormBy strategies g t
   pub few : ¬ (HasTooManyProfiles g)
   pub values : HasValuesBy strategies g
 
--- why no table is made of a game
+-- why a game has no table
 abbrev pub IsWithoutForm : Strategies → Game → FormFault → Type 0
 IsWithoutForm strategies g form.TooManyProfiles = HasTooManyProfiles g
 IsWithoutForm strategies g (form.Overflow profile) =
     ¬ (HasTooManyProfiles g) × OverflowsBy strategies g profile
 IsWithoutForm strategies g form.Memory = Unit {0}
 
--- the table of a file: that of a game is its form, and a table is its own
+-- the table of a file: for a game its form, and for a table the table itself
 abbrev pub IsTableOf : Strategies → GameFile → Table → Type 0
 IsTableOf strategies (extensive g) t = IsFormOf strategies g t
 IsTableOf strategies (strategic s) t = t ≡ s
@@ -69,13 +69,13 @@ pub record IsTableText (strategies : Strategies) (bytes text : List ℕ) : Type 
   pub is_table : IsTableOf strategies file table
   pub is_text : text ≡ table_text table
 
--- what C is told where a game has no table
+-- what is answered if a game has no table
 abbrev pub form_status : FormFault → Status
 form_status form.TooManyProfiles = TooManyProfiles
 form_status (form.Overflow profile) = Overflow
 form_status form.Memory = OutOfMemory
 
--- the number of the profile that overflows, and else no number
+-- the number of the profile that overflows, and otherwise no number
 abbrev pub IsProfileOf : FormFault → ℕ → Type 0
 IsProfileOf (form.Overflow at) profile = profile ≡ at
 IsProfileOf _ profile = Unit {0}
@@ -86,7 +86,7 @@ pub data IsMadeText (t : Table) (old new : List ℕ) (needed : ℕ) (status : St
   not_made : status ≡ OutOfMemory → new ≡ old → IsMadeText t old new needed status
 
 -- The text of the table is handed out; or the bytes are refused; or they mean a game that has no
--- table, or more players than one is made for; or memory ran out although they were right.
+-- table, or more players than a table can have; or memory ran out although they are valid.
 pub data IsTabled (strategies : Strategies) (bytes old new : List ℕ) (needed profile : ℕ)
     (numbers : FaultNumbers) (status : Status) : Type 0 where
   written : (text : List ℕ) → IsTableText strategies bytes text
@@ -103,7 +103,7 @@ pub data IsTabled (strategies : Strategies) (bytes old new : List ℕ) (needed p
   out_of_memory : status ≡ OutOfMemory → MeansFile bytes → new ≡ old
       → IsTabled strategies bytes old new needed profile numbers status
 
--- the same, by the strategies that the flags tell; other flags are not understood
+-- the same, with strategies as the flags say; other flags are not understood
 abbrev pub IsTabledBy : Option Strategies → List ℕ → List ℕ → List ℕ → ℕ → ℕ → FaultNumbers
     → Status → Type 0
 IsTabledBy (Some strategies) bytes old new needed profile numbers status =

@@ -1,4 +1,4 @@
--- What a call tells C that writes the canonical text of a file, or its hash.
+-- What a call answers that writes the canonical text of a file, or its hash.
 use Rattle.std.specs.Prelude.{◌≡◌, ℕ, List, Option, Some, None}
 use Rattle.hex.specs.Hex.{encode_lower}
 use Rattle.sha2.specs.Sha256.{sha256}
@@ -16,7 +16,8 @@ pub record IsHashBy (names : Names) (bytes hash : List ℕ) : Type 0 where
   pub is_text : IsTextBy names bytes text
   pub is_digest : hash ≡ encode_lower (sha256 text)
 
--- A text of the bytes is handed out, or they are refused; or memory ran out although they were right.
+-- A text of the bytes is handed out, or they are refused; or memory ran out although they are
+-- valid.
 pub data IsWritten (IsText : List ℕ → Type 0) (bytes old new : List ℕ) (needed : ℕ)
     (numbers : FaultNumbers) (status : Status) : Type 0 where
   written : (text : List ℕ) → IsText text → IsHandedOut text old new needed status
@@ -26,7 +27,7 @@ pub data IsWritten (IsText : List ℕ → Type 0) (bytes old new : List ℕ) (ne
   out_of_memory : status ≡ OutOfMemory → MeansFile bytes → new ≡ old
       → IsWritten IsText bytes old new needed numbers status
 
--- the same, by the names that the flags tell; other flags are not understood
+-- the same, with names as the flags say; other flags are not understood
 abbrev pub IsWrittenBy : (Names → List ℕ → List ℕ → Type 0) → Option Names → List ℕ → List ℕ
     → List ℕ → ℕ → FaultNumbers → Status → Type 0
 IsWrittenBy IsText (Some names) bytes old new needed numbers status =

@@ -33,7 +33,7 @@ fn write_text(
     }
 }
 
-/// Writes the canonical text of a file by the names that the flags tell.
+/// Writes the canonical text of a file, with names as the flags say.
 pub fn write_canonical(
     alloc: Global,
     input: &[u8],
@@ -79,7 +79,7 @@ fn write_hash_by(
     }
 }
 
-/// Writes the hash of a file by the names that the flags tell.
+/// Writes the hash of a file, with names as the flags say.
 pub fn write_hash(
     alloc: Global,
     input: &[u8],

@@ -18,7 +18,7 @@ fn kind_number(format: Format) -> u32
     }
 }
 
-/// Checks a file, and tells its kind or its refusal.
+/// Checks a file, and reports its kind or its refusal.
 pub fn check_file(alloc: Global, input: &[u8], kind: &mut u32, fault: &mut FaultNumbers) -> Status
     ensures { IsChecked input.now kind.new fault.new result }
 {

@@ -44,7 +44,7 @@ fn compare_by(
     }
 }
 
-/// Compares two files by the names that the flags tell.
+/// Compares two files, with names as the flags say.
 pub fn compare(
     alloc: Global,
     a: &[u8],

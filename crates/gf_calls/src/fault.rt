@@ -1,4 +1,4 @@
-//! What C is told of a refusal.
+//! How a refusal is reported to C.
 
 ghost use Rattle.std.specs.Prelude.{◌≡◌};
 ghost use Rattle.gf_calls.specs.Numbers.{expected_number, fault_numbers, what_number};
@@ -7,7 +7,7 @@ ghost use Rattle.gf_calls.specs.Refused.{refusal_status};
 use crate::status::Status;
 use gf_token::{Fault, What, Why};
 
-/// A refusal in numbers: its code, what was expected if that is 3, and its place in bytes.
+/// A refusal in numbers: its code, what was expected if the code is 3, and its place in bytes.
 #[repr(C)]
 #[derive(Clone, Copy, Drop)]
 pub struct FaultNumbers {
@@ -53,7 +53,7 @@ fn refusal_status(why: Why) -> Status
     }
 }
 
-/// Tells a refusal, and gives its status.
+/// Reports a refusal, and returns its status.
 pub fn tell(fault: Fault, numbers: &mut FaultNumbers) -> Status
     ensures status { result ≡ refusal_status fault.why }
     ensures numbers { numbers.new ≡ fault_numbers fault }

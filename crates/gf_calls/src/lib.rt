@@ -1,6 +1,6 @@
-//! What a C program is answered: checks, canonical texts and their hashes, tables, comparisons and
-//! renumberings of game files, in numbers and in buffers of the caller. Each answer is that of a call
-//! of gf_canon or gf_form, with its clauses; gamefile_c exports them.
+//! The answers that a C program gets: checks, canonical texts and their hashes, tables, comparisons
+//! and renumberings of game files, in numbers and in the caller's buffers. Each answer is that of a
+//! call of gf_canon or gf_form, with its clauses; gamefile_c exports them.
 #![tactic(auto)]
 
 mod canonising;

@@ -50,8 +50,8 @@ fn outcome_pair(first: u32, second: u32) -> Pair
     }
 }
 
-/// Appends the pair of a player's set by its position in order of first use, if there is one. What
-/// is carried has the same position in both games.
+/// Appends the pair of a player's set by its position in order of first use, if there is one. A set
+/// and the set that it is carried to have the same position in both games.
 fn push_set(
     g: &Game<'_>,
     h: &Game<'_>,
@@ -89,7 +89,7 @@ fn push_sets(
     Ok(())
 }
 
-/// Those of a player by any number; he has no sets if the number is too large.
+/// The same for a player with any number; he has no sets if the number is too large.
 fn push_player(
     g: &Game<'_>,
     h: &Game<'_>,
@@ -141,8 +141,8 @@ fn push_outcomes(g: &Game<'_>, h: &Game<'_>, pairs: &mut Vec<Pair>) -> Result<()
 
 /// Appends the pairs of the renumbering that carries a game to another, if there is one: a pair for
 /// each information set of the first, and then one for each outcome. The sets of chance come first,
-/// and then those of player after player, each player's in order of first use, and so do the
-/// outcomes.
+/// and then those of each player in turn. Each player's sets, and the outcomes, are in order of
+/// first use.
 pub fn push_pairs(g: &Game<'_>, h: &Game<'_>, pairs: &mut Vec<Pair>) -> Result<(), AllocError>
     ensures { OnOk result ((r : Renumbering) → Carries r g.now h.now
         → pairs.new.items ≡ pairs.old.items ++ renumbering_pairs r g.now) }

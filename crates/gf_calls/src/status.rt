@@ -3,10 +3,10 @@
 ghost use Rattle.std.specs.Prelude.{◌≡◌};
 ghost use Rattle.gf_calls.specs.Numbers.{status_number};
 
-/// What a call answers; C is told its number.
+/// What a call answers; C gets its number.
 #[derive(Clone, Copy)]
 pub enum Status {
-    /// The answer is given; of two files, they mean the same.
+    /// The answer is given; for two files: they mean the same.
     Done,
     /// Two files do not mean the same.
     Different,

@@ -20,7 +20,7 @@ use gf_nfg::{Table, write_nfg};
 use gf_tree::Game;
 use std::alloc::{AllocError, Global};
 
-/// As many players as a table is made for.
+/// The most players that a table can have.
 const MOST_PLAYERS: usize = 4294967295;
 
 /// The canonical text of a table.
@@ -32,7 +32,7 @@ fn text_of(alloc: Global, table: &Table) -> Result<Vec<u8>, AllocError>
     Ok(text)
 }
 
-/// Tells why a game has no table.
+/// Reports why a game has no table.
 fn tell_form(fault: FormFault, profile: &mut u64) -> Status
     ensures status { result ≡ form_status fault }
     ensures profile { IsProfileOf fault profile.new }
@@ -111,7 +111,7 @@ fn write_by(
     }
 }
 
-/// Writes a file as a table by the strategies that the flags tell.
+/// Writes a file as a table, with strategies as the flags say.
 pub fn write_table(
     alloc: Global,
     input: &[u8],

@@ -27,7 +27,7 @@ use Rattle.gf_canon.proofs.NumbersInOrder.{outcomes_in_order, sets_in_order}
 
 -- ---- numbers in order
 
--- one number more
+-- one more number
 pub number_more : (n : ℕ) (numbers more : List ℕ) → numbers ≡ positions n
     → more ≡ numbers ++ (n + 1) ∷ [] → more ≡ positions (n + 1)
 number_more n numbers more is e =
@@ -70,7 +70,7 @@ no_numbers g player past can =
 abbrev pub own_list : Game → ℕ → List ℕ
 own_list g player = positions (length (player_keys g player))
 
--- those of chance and of so many players
+-- those of chance and of this many players
 abbrev pub lists_through : Game → ℕ → List (List ℕ)
 lists_through g players = map (own_list g) (numbers_from 0 (players + 1))
 

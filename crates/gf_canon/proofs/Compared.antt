@@ -1,4 +1,4 @@
--- What a test of two lists says of what their items stand for.
+-- What a test of two lists says about what their items stand for.
 use Rattle.std.proofs.Common.{◌≡◌, Bool, List, [], ◌∷◌}
 use Rattle.std.proofs.Common.{map, nat_eq, refl}
 use Rattle.std.specs.Bool.{Decides}

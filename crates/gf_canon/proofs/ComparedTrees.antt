@@ -67,7 +67,7 @@ module _ (names : Names) (g h : Game) (bytes : List ℕ) (game : IsGame g) (spel
             is.1 (no_more.0, none_left (node_by names) left no_more.1),
       )
 
--- a game is no table
+-- a game is not a table
 pub no_table : (names : Names) (g : Game) (t : Table)
     → IsTrue false ↔ SameBy names (extensive g) (strategic t)
 no_table Kept g t = (λ h. absurd cc, λ s. absurd s)

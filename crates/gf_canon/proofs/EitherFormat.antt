@@ -1,4 +1,4 @@
--- Where a file is refused in its format, it is refused in the language of both: the first token tells
+-- If a file is refused in its format, it is refused in the language of both: the first token tells
 -- them apart.
 use Rattle.std.proofs.Common.{◌≡◌, ℕ, List, [], ◌∷◌, ◌++◌, Result, Ok, Err, IfErr}
 use Rattle.std.proofs.Common.{refl, sym, ap, ◌∙◌, inl, inr}

@@ -31,7 +31,7 @@ use Rattle.gf_canon.specs.FirstDescribed.{DescribeFirstUses, IsFileOf}
 
 -- ---- uses
 
--- the uses of these keys behind those
+-- the uses of these keys after those
 abbrev pub uses_behind : {K D : Type 0} → (K → K → Bool) → (K → Option D) → List K → List K
     → List (Use K D)
 uses_behind same at before [] = []
@@ -144,7 +144,7 @@ key_described same equality at keys key d h e =
 
 -- ---- exactly the first uses are described
 
--- a use is that of its key behind the keys before it
+-- a use is that of its key after the keys before it
 use_at_place : {K D : Type 0} (same : K → K → Bool) (at : K → Option D)
     (before keys : List K) (front after : List (Use K D)) (u : Use K D)
     → uses_behind same at before keys ≡ front ++ u ∷ after
@@ -200,7 +200,7 @@ first_uses_described {K} {D} same equality at keys known front after u e = (
 
 -- ---- entries
 
--- the entries behind those, one after another
+-- the entries after those, one after another
 abbrev pub entries_behind : Game → List (Entry Node) → List (Entry Node) → List (Entry FileNode)
 entries_behind g before [] = []
 entries_behind g before (e ∷ es) =

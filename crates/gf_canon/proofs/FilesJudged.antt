@@ -1,4 +1,4 @@
--- What is answered to the bytes of a file: its canonical text, or want of memory.
+-- What the bytes of a file are answered with: its canonical text, or out of memory.
 use Rattle.std.proofs.Common.{◌≡◌, ℕ, List, [], length, Result, Ok, Err, IfOk, IfErr, IsErrAnd}
 use Rattle.std.proofs.Common.{MatchResult, refl, sym, ap, subst, ◌∙◌, append-nil}
 use Rattle.std.specs.Prelude.{codes}
@@ -22,7 +22,7 @@ use Rattle.gf_canon.specs.declared.sameness.Names.{Names}
 use Rattle.gf_canon.proofs.Files.{spells_one_file}
 use Rattle.gf_canon.proofs.Formats.{named_by_word, none_without_format, two_words}
 
--- ---- where memory is wanting behind the last token
+-- ---- where memory runs out after the last token
 
 abbrev pub wants_memory : List ℕ → Fault
 wants_memory bytes =

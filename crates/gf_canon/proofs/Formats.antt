@@ -177,7 +177,7 @@ named_by_word word bytes x h spells =
     let k = tokens_in bytes x spells in
     sym (begun_word word bytes k.lexemes h k.spelled) ∙ k.word
 
--- what is refused for its format is no file
+-- what is refused for its format is not a file
 pub none_without_format : (why : Why) (bytes : List ℕ) (span : Span) (x : GameFile)
     → IsWithoutFormat why bytes span → SpellsFile bytes x → ⊥
 none_without_format why bytes span x h spells =

@@ -1,4 +1,4 @@
--- Keys in order of first use have the numbers 1, 2 and so on; so have a player's sets and the
+-- Keys in order of first use have the numbers 1, 2 and so on, and so do a player's sets and the
 -- outcomes of a game.
 use Rattle.std.proofs.Common.{◌≡◌, ◌+◌, ℕ, Bool, List, [], ◌∷◌, ◌++◌, length, map, refl}
 use Rattle.std.proofs.Common.{sym, ap, ◌∙◌, arith, append_assoc, length-append, subst}

@@ -1,5 +1,5 @@
--- The new numbers that are noted node by node are those of the renumbering that carries the one
--- game to the other.
+-- The new numbers that are noted node by node are those of the renumbering that carries one game to
+-- the other.
 use Rattle.std.proofs.Common.{◌≡◌, ℕ, zero, suc, ◌<◌, Bool, true, false, cond, List, [], ◌∷◌, map}
 use Rattle.std.proofs.Common.{Option, None, Some, refl, sym, ap, subst, ◌∙◌, inl, inr, ◌⊎◌, arith}
 use Rattle.std.specs.Prelude.{◌↔◌, IsSome, is_some, nat_eq, option_map, unwrap_or}
@@ -38,7 +38,7 @@ set_noted had now k m old new is_old is_new key e =
     e ∙ ap (λ b. cond b (Some m.1) (had key)) (same_pair k (key.player, key.number))
     ∙ (λ i. noted same_set (λ s. s.number) (is_old i) (is_new i) had key)
 
--- ---- keys one behind the other
+-- ---- keys one after another
 
 -- Each key that has a number is one of all, and has the number that f gives it. Each of all has a
 -- number or is left.
@@ -113,7 +113,7 @@ module _ {K : Type 0} (f : K → ℕ) (had : K → Option ℕ) (all : List K)
       by (Some n) e = (noted_all.sound k n e).0
       by None e = absurd (cc (ap is_some e, some))
 
--- ---- nodes one behind the other
+-- ---- nodes one after another
 
 pub record AreWalked (r : numbers.Renumbering) (g : Game) (sets : SetKey → Option ℕ)
     (outcomes : ℕ → Option ℕ) (left others : List Node) : Type 0 where

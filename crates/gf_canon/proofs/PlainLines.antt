@@ -23,7 +23,7 @@ zero_text = refl
 then_joined : (n : ℕ) (xs rest : List ℕ) → number_then n xs ++ rest ≡ number_then n (xs ++ rest)
 then_joined n xs rest = ap (λ (bs : List ℕ). 32 ∷ bs) (append_assoc (decimal n) xs rest)
 
--- the outcome's number, behind which the line feed was set
+-- the outcome's number, after which the line feed was set
 pub outcome_tail : (outcome : ℕ) (text new : List ℕ) (r : ℕ) → 37 < length text
     → drop r new ≡ number_then outcome (drop 37 (set text 37 10))
     → drop r new ≡ number_then outcome (10 ∷ []) ++ drop 38 text

@@ -1,5 +1,5 @@
--- A canonical game can be spelled where the game can: its numbers are no greater than the greatest
--- of the game's.
+-- A canonical game can be spelled if the game can: its numbers are no greater than the greatest
+-- number of the game.
 use Rattle.std.proofs.Common.{◌≡◌, ℕ, Bool, ◌^◌, ◌<◌, true, false, eqb, List, [], ◌∷◌}
 use Rattle.std.proofs.Common.{length, map, refl, sym, subst, ◌∙◌, arith, inl, inr}
 use Rattle.std.specs.Prelude.{nat_eq, ◌⊎◌}

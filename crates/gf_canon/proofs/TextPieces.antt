@@ -59,7 +59,7 @@ list_closed all old opened out e h =
     ∙ append_assoc old (codes "{ ") (items_text all)
     ∙ ap (λ (bs : List ℕ). old ++ bs) (sym (list_text_is all))
 
--- ---- fields behind one another
+-- ---- fields one after another
 
 pub spaced_is : (first : List ℕ) (items : List (List ℕ))
     → spaced (first ∷ items) ≡ first ++ others_text items
@@ -80,7 +80,7 @@ spaced_joined x xs ys =
     ∙ sym (append_assoc x (others_text xs) (others_text ys))
     ∙ ap (λ (bs : List ℕ). bs ++ others_text ys) (sym (spaced_is x xs))
 
--- who moves, and what stands behind
+-- who moves, and what comes after
 pub mover_joined : (name : List ℕ) (player : ℕ) (ys : List (List ℕ))
     → spaced (mover_fields name player ++ ys) ≡ spaced (mover_fields name player) ++ others_text ys
 mover_joined name zero ys = spaced_joined (codes "c") (quoted name ∷ []) ys

@@ -1,5 +1,5 @@
--- The texts of two files, with their names or without, are equal exactly if the files are the same
--- so.
+-- The texts of two files, with names or without, are equal exactly if the files are the same in
+-- this sense.
 use Rattle.std.proofs.Common.{◌≡◌, ℕ, List, ap, sym, ◌∙◌}
 use Rattle.std.specs.Prelude.{◌↔◌}
 use Rattle.gf_canon.specs.GameFile.{GameFile, SpellsFile, canonical_text}

@@ -1,4 +1,4 @@
--- What is told of a file tells what it means.
+-- What is told of a file determines what it means.
 use Rattle.std.proofs.Common.{ℕ, List, Result, Ok, Err, IfOk, refl}
 use Rattle.gf_token.specs.declared.fault.Fault.{Fault}
 use Rattle.gf_tree.specs.Told.{Heading, Told}

@@ -19,7 +19,7 @@ use Rattle.gf_canon.specs.declared.sameness.Names.TheVariants.{Kept, Aside}
 use Rattle.gf_canon.proofs.NodesNamed.{nodes_aside, nodes_kept}
 use Rattle.gf_canon.proofs.TextPieces.{game_text_is, node_lines}
 
--- one node more is one line more
+-- one more node is one more line
 line_more : (names : Names) (heading : Heading) (told : List Told) (t : Told) (old new : List ℕ)
     → old ≡ told_text names heading told → new ≡ old ++ node_line (node_by names t.node)
     → new ≡ told_text names heading (told ++ t ∷ [])

@@ -1,4 +1,5 @@
--- Without its names a game is a game still, and games that are the same are so aside from names.
+-- Without its names a game is still a game, and games that are the same are also the same aside
+-- from names.
 use Rattle.std.proofs.Common.{◌≡◌, ℕ, Bool, true, false, cond, List, [], ◌∷◌, length}
 use Rattle.std.proofs.Common.{map, Option, Some, None, refl, sym, ap, subst, ◌∙◌}
 use Rattle.std.specs.Prelude.{nat_eq, option_map, MatchOption, ◌↔◌}

@@ -1,4 +1,4 @@
--- Worked games: one by many numbers, and its text.
+-- Worked games: one with many numberings, and its text.
 use Rattle.std.proofs.Common.{◌≡◌, List, get_or, refl, sym, ap, arith}
 use Rattle.std.specs.Fmt.{digits}
 use Rattle.gf_fraction.specs.NumberText.{number_text}

@@ -1,4 +1,4 @@
--- Worked games that are not the same, and some that are aside from names.
+-- Worked games that are not the same, and some that are the same aside from names.
 use Rattle.std.proofs.Common.{◌≡◌, ℕ, List, [], ◌∷◌, length, map, get_or, Option}
 use Rattle.std.proofs.Common.{Some, None, refl, sym, ap, subst, ◌∙◌, arith, inl}
 use Rattle.std.specs.List.{flat_map}

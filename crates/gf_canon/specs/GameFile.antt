@@ -23,7 +23,7 @@ abbrev pub SpellsFile : List ℕ → GameFile → Type 0
 SpellsFile bytes (extensive g) = SpellsGame bytes g
 SpellsFile bytes (strategic t) = SpellsTable bytes t
 
--- a game and a table never are the same
+-- a game and a table are never the same
 abbrev pub SameFile : GameFile → GameFile → Type 0
 SameFile (extensive g) (extensive h) = SameGame g h
 SameFile (strategic t) (strategic u) = SameTable t u

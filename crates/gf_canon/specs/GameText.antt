@@ -22,7 +22,7 @@ set_fields set = quoted set.name ∷ list_text (flat_map action_fields set.actio
 abbrev pub outcome_fields : Outcome → List (List ℕ)
 outcome_fields outcome = quoted outcome.name ∷ list_text (map number_text outcome.payoffs) ∷ []
 
--- number, and the description where there is one
+-- number, and the description if there is one
 abbrev pub described_fields : {D : Type 0} → (D → List (List ℕ)) → ℕ → Option D → List (List ℕ)
 described_fields fields number description =
     decimal number ∷ flat_map fields (option_to_list description)

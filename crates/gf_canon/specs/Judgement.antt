@@ -1,4 +1,4 @@
--- What is answered to the bytes of a game file of either format, and how they are refused.
+-- What the bytes of a game file of either format are answered with, and how they are refused.
 use Rattle.std.specs.Prelude.{◌≡◌, ◌⊎◌, ℕ, List, [], ◌∷◌, codes}
 use Rattle.gf_token.specs.Place.{tokens_of, IsAcceptedThrough, IsOffendingPlace}
 use Rattle.gf_token.specs.Token.{Token, Lexeme}
@@ -23,7 +23,7 @@ use Rattle.gf_canon.specs.declared.sameness.Names.TheVariants.{Kept}
 
 -- ---- texts
 
--- a table has no more profiles than it may have; of a game there is no limit
+-- a table has no more profiles than it may have; a game has no limit
 abbrev pub IsFileWithinLimit : GameFile → Type 0
 IsFileWithinLimit (extensive g) = Unit {0}
 IsFileWithinLimit (strategic t) = IsWithinLimit t
@@ -54,8 +54,8 @@ abbrev pub IsInEitherFormat : List Token → Type 0
 IsInEitherFormat tokens = IsExtensiveFile tokens ⊎ IsStrategicFile tokens
 
 -- The place of a refusal, by its reason, in the language of both formats: where the profiles of a
--- strategic file pass their limit, or the offending place. Memory is wanted only where there is
--- nothing to refuse.
+-- strategic file pass their limit, or the offending place. Memory is refused only at a place with
+-- nothing else to refuse.
 abbrev pub IsPlaced : Why → List ℕ → Span → Type 0
 IsPlaced Memory bytes span = IsAcceptedThrough IsInEitherFormat bytes span
 IsPlaced TooManyProfiles bytes span = IsLimitPlace bytes span
@@ -68,7 +68,7 @@ pub record BeginsWithWord (word bytes : List ℕ) : Type 0 where
   pub spelled : Spells 0 bytes (first ∷ others)
   pub is_word : first.token ≡ Bare word
 
--- E2 at a text that has no end, else E3: a format is due
+-- E2 at an unterminated text, otherwise E3: a format is due
 abbrev pub IsFormatReason : Why → List Token → Type 0
 IsFormatReason why (Broken ∷ after) = why ≡ Unterminated
 IsFormatReason why _ = why ≡ Expected Format
@@ -87,11 +87,11 @@ pub data IsJudged (why : Why) (bytes : List ℕ) (span : Span) : Type 0 where
       → IsJudged why bytes span
   of_neither : IsWithoutFormat why bytes span → IsJudged why bytes span
 
--- a refusal for another cause than want of memory
+-- a refusal for another reason than lack of memory
 abbrev pub IsRefused : Why → List ℕ → Span → Type 0
 IsRefused why bytes span = ¬ (why ≡ Memory) × IsJudged why bytes span
 
--- the fault names the reason and the place, and where memory suffices the bytes mean no file
+-- the fault names the reason and the place; unless memory ran out, the bytes mean no file
 pub record IsRefusedWith (bytes : List ℕ) (fault : Fault) : Type 0 where
   pub judged : IsJudged fault.why bytes fault.span
   pub placed : IsPlaced fault.why bytes fault.span

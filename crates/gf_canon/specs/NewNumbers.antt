@@ -18,16 +18,16 @@ set_order a b = ordering_then (nat_cmp a.0 b.0) (nat_cmp a.1 b.1)
 abbrev pub number_of_set : BTreeMap (ℕ × ℕ) ℕ → SetKey → Option ℕ
 number_of_set sets key = get set_order sets (key.player, key.number)
 
--- the new number of a player's set, where it has one
+-- the new number of a player's set, if it has one
 abbrev pub new_set_number : Renumbering → ℕ → ℕ → Option ℕ
 new_set_number r player number = number_of_set r.sets (set_of player number)
 
--- and that of an outcome; 0 is the null outcome, and stays as it is
+-- the new number of an outcome; 0 is the null outcome, and stays as it is
 abbrev pub new_outcome_number : Renumbering → ℕ → Option ℕ
 new_outcome_number r zero = Some 0
 new_outcome_number r (suc n) = get nat_cmp r.outcomes (suc n)
 
--- as functions, with 0 where there is no number
+-- as functions, with 0 if there is no number
 abbrev pub new_numbers : Renumbering → numbers.Renumbering
 new_numbers r = record {
   set = λ player number. unwrap_or (new_set_number r player number) 0;

@@ -1,4 +1,4 @@
--- What is answered where two files are compared.
+-- What is answered when two files are compared.
 use Rattle.std.specs.Prelude.{◌≡◌, ℕ, List}
 use Rattle.gf_token.specs.declared.fault.Why.TheVariants as reason
 use Rattle.gf_canon.specs.Judgement.{IsRefusedWith, MeansFile}

@@ -31,7 +31,7 @@ pub(crate) fn write_labels(labels: &[Label<'_>], out: &mut Vec<u8>) -> Result<()
     Ok(())
 }
 
-/// Appends an action: its label, and where it has one its probability.
+/// Appends an action: its label, and its probability if it has one.
 fn write_action(action: &Action<'_>, out: &mut Vec<u8>) -> Result<(), AllocError>
     ensures text { OnOk result
         (out.new.items ≡ out.old.items ++ spaced_out (action_fields (action_of action.now))) }

@@ -48,19 +48,21 @@ fn canonical_table(alloc: Global, input: &[u8], names: Names) -> Result<Vec<u8>,
     }
 }
 
-/// The canonical text of a game file, laid out by this project's profile: that of a tree by its
-/// canonical numbers, or that of a table. The first token tells the format, `EFG` or `NFG` (Gambit
-/// documentation, "Game representation formats"). With `Names::Aside` title, comment and the names of
-/// nodes, information sets and outcomes are written empty: two such texts are equal exactly if
-/// `same_by` answers that the files mean the same.
+/// The canonical text of a game file, laid out by this project's profile: for a tree by its
+/// canonical numbers, and for a table as it is. The first token tells the format, `EFG` or `NFG`
+/// (Gambit documentation, "Game representation formats"). With `Names::Aside`, the title, the
+/// comment, and the names of nodes, information sets and outcomes are written empty: two such texts
+/// are equal exactly if `same_by` returns true for the files.
 ///
-/// A file is refused as `read_efg` or `read_nfg` refuses one of its format: at the first token with
-/// which no file goes on, at the end where more is due, or where the profiles of a table pass their
-/// limit. Spans are in bytes of the input, from 0. Beside those refusals come:
-/// - E2: the first token is a text that has no end; at its opening quote.
-/// - E3: the first token is anything else but a word above, or there is none; there.
-/// - E19: memory for the text is refused; at the token where it was wanted, or for lines that are made
-///   when a table was read, at the end. There was nothing else to refuse.
+/// # Errors
+///
+/// A file is refused as `read_efg` or `read_nfg` refuses a file of its format: at the first token
+/// with which no file goes on, at the end if more is due, or where the profiles of a table pass
+/// their limit. Spans are in bytes of the input, from 0. There are also these refusals:
+/// - E2: the first token is an unterminated text; at its opening quote.
+/// - E3: the first token is anything other than these words, or there is none; at that place.
+/// - E19: memory for the text is refused; at the token that needed it, or, for lines that are made
+///   after a table was read, at the end. There was nothing else to refuse.
 pub fn canonical_by(alloc: Global, input: &[u8], names: Names) -> Result<Vec<u8>, Fault>
     ensures text { IfOk result (λ text. IsTextBy names input.now text.items) }
     ensures only { (x : GameFile) → SpellsWithin input.now x → MatchResult result
@@ -76,7 +78,9 @@ pub fn canonical_by(alloc: Global, input: &[u8], names: Names) -> Result<Vec<u8>
 
 /// The canonical text of a game file with all its names.
 ///
-/// Refused as `canonical_by` refuses it.
+/// # Errors
+///
+/// Those of `canonical_by`.
 pub fn canonical(alloc: Global, input: &[u8]) -> Result<Vec<u8>, Fault>
     ensures text { IfOk result (λ text. IsCanonicalText input.now text.items) }
     ensures only { (x : GameFile) → SpellsWithin input.now x → MatchResult result

@@ -43,7 +43,7 @@ fn note_set(sets: &mut BTreeMap<(u32, u32), u32>, old: Step, new: Step) -> Resul
     }
 }
 
-/// Gives an outcome the number of another. 0 is none.
+/// Gives an outcome the number of another. 0 is no outcome.
 fn note_outcome(outcomes: &mut BTreeMap<u32, u32>, old: u32, new: u32) -> Result<(), AllocError>
     ensures { OnOk result ((key : ℕ) → get nat_cmp outcomes.new key
         ≡ noted nat_eq (λ n. n) (outcome_of old) (outcome_of new)
@@ -78,9 +78,11 @@ fn numbers_between(alloc: Global, g: &Game<'_>, h: &Game<'_>) -> Result<Renumber
 }
 
 /// The only renumbering of information sets, player by player, and of outcomes that carries the
-/// first game to the second, or `None` where none does (this project's profile).
+/// first game to the second, or `None` if none does (this project's profile).
 ///
-/// `AllocError` where memory is refused.
+/// # Errors
+///
+/// `AllocError` if memory is refused.
 pub fn renumbering(
     alloc: Global,
     g: &Game<'_>,

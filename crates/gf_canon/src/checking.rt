@@ -1,4 +1,4 @@
-//! Whether a file is right, with nothing of it kept.
+//! Whether a file is valid, with nothing of it kept.
 
 ghost use Rattle.std.specs.Prelude.{IfErr, IfOk};
 ghost use Rattle.gf_canon.specs.FileFormat.{MeansFileOf};
@@ -32,11 +32,11 @@ impl<'a> Receive<'a> for Unkept {
     }
 }
 
-/// The format of a game file, which is read whole: that of a tree, which is told to a receiver, or that
-/// of a table, of which nothing is kept.
+/// The format of a game file, which is read whole. A tree is told to a receiver; nothing of a table
+/// is kept.
 ///
-/// Refused as `canonical` refuses it; E19 where memory for the descriptions of sets and outcomes, for
-/// the receiver, or for the labels of a table, is refused.
+/// Refused as by `canonical`; E19 if memory is refused for the descriptions of sets and outcomes,
+/// for the receiver, or for the labels of a table.
 pub(crate) fn tell_file<'a, R: Receive<'a>>(
     alloc: Global,
     input: &'a [u8],
@@ -58,11 +58,13 @@ pub(crate) fn tell_file<'a, R: Receive<'a>>(
     }
 }
 
-/// The format of a game file, which is read whole: that of a tree, whose nodes are not kept and whose
-/// text is not made, or that of a table.
+/// The format of a game file, which is read whole. The nodes of a tree are not kept, and no text is
+/// made.
 ///
-/// Refused as `canonical` refuses it; E19 where memory for the descriptions of sets and outcomes, or
-/// for the labels of a table, is refused.
+/// # Errors
+///
+/// Those of `canonical`; E19 if memory is refused for the descriptions of sets and outcomes, or for
+/// the labels of a table.
 pub fn check(alloc: Global, input: &[u8]) -> Result<Format, Fault>
     ensures format { IfOk result (MeansFileOf input.now) }
     ensures refused { IfErr result (IsRefusedWith input.now) }

@@ -41,7 +41,7 @@ fn same_payoffs(a: &[Fraction], b: &[Fraction]) -> bool
     a == b
 }
 
-/// Whether two sets are described the same. Most uses of a set describe none.
+/// Whether two sets are described in the same way. Most uses of a set describe none.
 #[cold]
 #[inline(never)]
 fn same_described_set(a: SetDescription<'_, '_>, b: SetDescription<'_, '_>, names: Names) -> bool
@@ -51,7 +51,7 @@ fn same_described_set(a: SetDescription<'_, '_>, b: SetDescription<'_, '_>, name
     same_name(a.name, b.name, names) && same_actions(a.actions, b.actions)
 }
 
-/// Whether two descriptions of sets are the same, or both are not there.
+/// Whether two descriptions of sets are the same, or both are absent.
 #[inline(always)]
 fn same_set_description(
     a: Option<SetDescription<'_, '_>>,
@@ -69,7 +69,7 @@ fn same_set_description(
     }
 }
 
-/// Whether two outcomes are described the same. Most uses of an outcome describe none.
+/// Whether two outcomes are described in the same way. Most uses of an outcome describe none.
 #[cold]
 #[inline(never)]
 fn same_described_outcome(
@@ -83,7 +83,7 @@ fn same_described_outcome(
     same_name(a.name, b.name, names) && same_payoffs(a.payoffs, b.payoffs)
 }
 
-/// Whether two descriptions of outcomes are the same, or both are not there.
+/// Whether two descriptions of outcomes are the same, or both are absent.
 #[inline(always)]
 fn same_outcome_description(
     a: Option<OutcomeDescription<'_, '_>>,
@@ -101,7 +101,7 @@ fn same_outcome_description(
     }
 }
 
-/// Whether two uses of sets are the same, or both are not there.
+/// Whether two uses of sets are the same, or both are absent.
 #[inline(always)]
 fn same_set_use(a: Option<SetUse<'_, '_>>, b: Option<SetUse<'_, '_>>, names: Names) -> bool
     ensures { IsTrue result
@@ -119,7 +119,7 @@ fn same_set_use(a: Option<SetUse<'_, '_>>, b: Option<SetUse<'_, '_>>, names: Nam
     }
 }
 
-/// Whether two uses of outcomes are the same, or both are not there.
+/// Whether two uses of outcomes are the same, or both are absent.
 #[inline(always)]
 fn same_outcome_use(
     a: Option<OutcomeUse<'_, '_>>,
@@ -150,7 +150,7 @@ fn same_file_node(a: &FileNode<'_, '_>, b: &FileNode<'_, '_>, names: Names) -> b
         && same_outcome_use(a.outcome, b.outcome, names)
 }
 
-/// Whether two nodes are the same, also where they describe a set or an outcome. Most do not.
+/// Whether two nodes are the same, even if they describe a set or an outcome. Most do not.
 #[cold]
 #[inline(never)]
 fn same_described(a: NodeByFirstUse<'_, '_>, b: NodeByFirstUse<'_, '_>, names: Names) -> bool
@@ -173,7 +173,7 @@ pub(crate) fn same_node(a: NodeByFirstUse<'_, '_>, b: NodeByFirstUse<'_, '_>, na
     }
 }
 
-/// Whether all that stands before the nodes of two games is the same.
+/// Whether everything before the nodes of two games is the same.
 pub(crate) fn same_heading(a: ToldHeading<'_, '_>, b: ToldHeading<'_, '_>, names: Names) -> bool
     ensures { IsTrue result
         ↔ (heading_by names (heading_of a.entry) ≡ heading_by names (heading_of b.entry)) }

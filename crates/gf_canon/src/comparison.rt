@@ -9,13 +9,13 @@ use crate::sameness::Names;
 use gf_tree::{ListedGame, NodeByFirstUse, NodesByFirstUse, Receive, ToldHeading};
 use std::alloc::AllocError;
 
-/// A comparison of a game with a tree that is told. What a renumbering carries to each other has the
-/// same first-use number: so each node is compared with one node, and nothing is searched for. Takes
-/// no memory.
+/// A comparison of a game with a tree that is told. Sets and outcomes that a renumbering carries to
+/// each other have the same first-use number, so each node is compared with one node, and nothing
+/// is searched for. This takes no memory.
 #[derive(Drop)]
 pub(crate) struct Comparison<'g, 'a> {
     game: &'g ListedGame<'a>,
-    /// The nodes of the game behind as many as were told. After a difference it stands still.
+    /// The nodes of the game after as many as were told. After a difference it stays as it is.
     left: NodesByFirstUse<'g, 'a>,
     names: Names,
     /// No difference was found.
@@ -38,7 +38,7 @@ impl<'g, 'a> Comparison<'g, 'a> {
         }
     }
 
-    /// Whether no difference was found, where nothing more is told.
+    /// Whether no difference was found, if nothing more is told.
     pub(crate) fn is_same(mut self) -> bool
         ensures { IsTrue result ↔ (IsTrue self.entry.same × (self.entry.left ≡ [])) }
     {

@@ -17,8 +17,8 @@ pub enum Format {
 
 /// The format that the first token names (Gambit documentation, "Game representation formats").
 ///
-/// Any other first token, or none, is refused there with E3; a text that has no end with E2, at its
-/// opening quote.
+/// Any other first token, or none, is refused there with E3; an unterminated text is refused with
+/// E2, at its opening quote.
 pub(crate) fn format_of(input: &[u8]) -> Result<Format, Fault>
     ensures named { IfOk result (λ format. BeginsWithWord (word_of format) input.now) }
     ensures refused { IfErr result (λ fault. IsWithoutFormat fault.why input.now fault.span) }

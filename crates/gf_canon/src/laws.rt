@@ -36,16 +36,16 @@ ghost use Rattle.gf_canon.specs.WorkedGames.{bonus_text, five_text, lower_case_p
 ghost use Rattle.gf_canon.specs.WorkedGames.{nobody, nobody_text, numbered_five, plain_prize};
 ghost use Rattle.gf_canon.specs.WorkedGames.{renamed_prize, seen, two_prizes, unseen, zero_outcome};
 
-/// Each list of bytes has a canonical text, or it is refused, and never both; and it has no two
-/// texts, and is not refused at two places or with two codes.
+/// Each list of bytes has a canonical text, or it is refused, but never both. It never has two
+/// texts, and is never refused at two places or with two codes.
 ///
-/// Two lists of bytes with canonical texts have equal ones exactly if they mean the same: two trees
-/// where some renumbering of information sets, player by player, and of outcomes carries the one to
-/// the other; two tables where title, comment, players, strategies and the payoffs at each profile
-/// agree; and never a tree and a table. A canonical text is its own canonical text.
+/// If two lists of bytes have canonical texts, these are equal exactly if the bytes mean the same.
+/// Two trees do if some renumbering of information sets, player by player, and of outcomes carries
+/// one to the other; two tables do if title, comment, players, strategies and the payoffs at each
+/// profile agree; a tree and a table never do. A canonical text is its own canonical text.
 ///
-/// A refusal stands at its offending place, which is one in the language of both formats, or where
-/// the profiles of a table pass their limit, with the reason that the format gives there.
+/// A refusal stands at the offending place in the language of both formats, or where the profiles
+/// of a table pass their limit, with the reason that the format gives there.
 pub fn headline()
     ensures text_or_refusal { (bytes : List ℕ) → ((text : List ℕ) × IsCanonicalText bytes text)
         ⊎ ((why : Why) × (span : Span) × IsRefused why bytes span) }
@@ -66,7 +66,7 @@ pub fn headline()
         → IsRefusedWith bytes (record { span = span; why = why }) }
 {}
 
-/// Sameness of files is reflexive, symmetric and transitive, with their names or without.
+/// Sameness of files is reflexive, symmetric and transitive, with names or without.
 pub fn same_is_equivalence()
     ensures reflexive { (names : Names) (x : GameFile) → IsGameFile x → SameBy names x x }
     ensures symmetric { (names : Names) (x y : GameFile) → IsGameFile x → SameBy names x y
@@ -90,7 +90,8 @@ pub fn one_renumbering()
         → (number : ℕ) → HasOutcome g number → r.outcome number ≡ s.outcome number }
 {}
 
-/// What a renumbering carries to each other stands at the same place in order of first use.
+/// Sets and outcomes that a renumbering carries to each other have the same place in order of first
+/// use.
 pub fn carried_in_order()
     ensures sets { (r : Renumbering) (g h : Game) → IsGame g → IsGame h → Carries r g h
         → (player : ℕ) → map (λ key. key.number) (player_keys h player)
@@ -99,7 +100,7 @@ pub fn carried_in_order()
         → outcome_numbers h ≡ map r.outcome (outcome_numbers g) }
 {}
 
-/// What a renumbering carries to each other has the same first-use number.
+/// Sets and outcomes that a renumbering carries to each other have the same first-use number.
 pub fn first_use_numbers_stay()
     ensures sets { (r : Renumbering) (g h : Game) → Carries r g h → (player number : ℕ)
         → HasSet g player number → (first_use_numbers h).set player (r.set player number)
@@ -109,8 +110,8 @@ pub fn first_use_numbers_stay()
         → (first_use_numbers h).outcome (r.outcome number) ≡ (first_use_numbers g).outcome number }
 {}
 
-/// Keys in order of first use have the first-use numbers 1, 2 and so on; so have a player's sets in
-/// a game, and its outcomes.
+/// Keys in order of first use have the first-use numbers 1, 2 and so on, and so do the sets of a
+/// player in a game, and its outcomes.
 pub fn numbered_in_order<K>()
     ensures keys { (same : K → K → Bool) → ((a b : K) → Decides (same a b) (a ≡ b))
         → (uses : List K)
@@ -132,8 +133,8 @@ pub fn canonical_game_is_same()
     ensures again { (g : Game) → IsGame g → canonical_game (canonical_game g) ≡ canonical_game g }
 {}
 
-/// Two games are the same exactly if their canonical games are equal. So are two tables, and a game
-/// and a table never are.
+/// Two games are the same exactly if their canonical games are equal. So are two tables; a game and
+/// a table never are.
 pub fn same_by_canonical_game()
     ensures games { (g h : Game) → IsGame g → IsGame h
         → SameGame g h ↔ (canonical_game g ≡ canonical_game h) }
@@ -141,7 +142,7 @@ pub fn same_by_canonical_game()
         → SameFile a b ↔ (canonical_file a ≡ canonical_file b) }
 {}
 
-/// Every game has one file tree in which exactly the first uses are described, and no other; its
+/// Every game has exactly one file tree in which the first uses are described and no others; its
 /// nodes are those of the game's text.
 pub fn file_of_each_game()
     ensures some { (g : Game) → IsGame g
@@ -149,8 +150,8 @@ pub fn file_of_each_game()
     ensures one { (g : Game) (f h : FileTree) → IsFileOf g f → IsFileOf g h → f ≡ h }
 {}
 
-/// The text of a game is an extensive file that means this game, so that two games have two texts;
-/// and a file that can hold a game can hold its canonical game.
+/// The text of a game is an extensive file that means this game, so different games have different
+/// texts. If a file can hold a game, it can also hold its canonical game.
 pub fn text_reads_back()
     ensures reads_back { (g : Game) → IsGame g → IsSpellable g → SpellsGame (game_text g) g }
     ensures two_texts { (g h : Game) → IsGame g → IsSpellable g → IsGame h → IsSpellable h
@@ -158,7 +159,7 @@ pub fn text_reads_back()
     ensures canonical { (g : Game) → IsGame g → IsSpellable g → IsSpellable (canonical_game g) }
 {}
 
-/// Bytes mean one game or one table at most, and never both.
+/// Bytes mean at most one game or one table, and never both.
 pub fn means_one_file()
     ensures { (bytes : List ℕ) (x y : GameFile) → SpellsFile bytes x → SpellsFile bytes y → x ≡ y }
 {}
@@ -174,9 +175,9 @@ pub fn equal_canonical_texts()
         → SpellsFile (canonical_text x) y → canonical_text y ≡ canonical_text x }
 {}
 
-/// Files that mean the same do so aside from names. Two files mean the same aside from names
-/// exactly if the canonical texts of what they mean without its names are equal; two tables are so
-/// exactly if they play alike.
+/// Files that mean the same also mean the same aside from names. Two files mean the same aside from
+/// names exactly if the canonical texts of what they mean, without names, are equal. Two tables do
+/// so exactly if they play alike.
 pub fn same_aside_names()
     ensures aside { (x y : GameFile) → SameFile x y → SameAsideNames x y }
     ensures equal { (a b : List ℕ) (x y : GameFile) → SpellsFile a x → SpellsFile b y
@@ -184,8 +185,8 @@ pub fn same_aside_names()
     ensures tables { (t u : Table) → SameAsideNames (strategic t) (strategic u) ↔ SamePlay t u }
 {}
 
-/// The texts of two files, with their names or without, are equal exactly if the files are the same
-/// so.
+/// The texts of two files, with names or without, are equal exactly if the files are the same in
+/// this sense.
 pub fn equal_texts_by_names()
     ensures { (names : Names) (a b s t : List ℕ) → IsTextBy names a s → IsTextBy names b t
         → (x y : GameFile) → SpellsWithin a x → SpellsWithin b y → (s ≡ t) ↔ SameBy names x y }
@@ -200,7 +201,7 @@ pub fn worked_texts()
 {}
 
 /// The game "five" by its first-use numbers; a copy by other numbers, and the only renumbering that
-/// carries the one to the other.
+/// carries one to the other.
 pub fn worked_numbers()
     ensures numbers { five ≡ numbered_five 9 7 3 4 }
     ensures first_uses { ((first_use_numbers five).set 0 9 ≡ 1)
@@ -212,8 +213,8 @@ pub fn worked_numbers()
         → (r.set 0 9 ≡ 2) × (r.set 1 7 ≡ 3) × (r.set 1 3 ≡ 8) × (r.outcome 4 ≡ 2) }
 {}
 
-/// Worked games that are not the same: one set is not two with equal descriptions, nor is one
-/// outcome two, and no outcome is not one that pays zero.
+/// Worked games that are not the same: one set is not the same as two with equal descriptions, nor
+/// one outcome as two, nor no outcome as one that pays zero.
 pub fn worked_differences()
     ensures sets { ¬ (SameGame unseen seen) × ¬ (SameGame seen unseen) }
     ensures outcomes { ¬ (SameGame plain_prize two_prizes) × ¬ (SameGame two_prizes plain_prize) }
@@ -222,7 +223,7 @@ pub fn worked_differences()
 {}
 
 /// Other names of a worked game, its first node, its set and its outcome make another game, which
-/// is the same aside from names. Another label of an action makes another game in both ways.
+/// is the same aside from names. Another label of an action makes another game in both senses.
 pub fn worked_names()
     ensures other { ¬ (SameGame plain_prize renamed_prize) }
     ensures aside { SameAsideNames (extensive plain_prize) (extensive renamed_prize) }

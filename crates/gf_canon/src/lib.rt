@@ -1,5 +1,5 @@
-//! Game files of Gambit by their canonical numbers: when two mean the same game, and the one text
-//! for all of them.
+//! Gambit game files by their canonical numbers: when two of them mean the same game, and the one
+//! text for all of these.
 #![tactic(auto)]
 
 mod braces;

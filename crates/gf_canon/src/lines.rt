@@ -24,7 +24,7 @@ pub(crate) struct Lines {
 }
 
 impl Lines {
-    /// No lines yet, of a text that is likely to have so many bytes.
+    /// No lines yet, of a text that is likely to have this many bytes.
     pub(crate) fn new(alloc: Global, room: usize, names: Names) -> Lines
         ensures text { result.text.items ≡ [] }
         ensures names { result.names ≡ names }

@@ -19,7 +19,7 @@ pub enum Meaning<'a> {
     Table(Table),
 }
 
-/// What a game file means, a game as the list of its nodes.
+/// What a game file means; a game is kept as the list of its nodes.
 #[derive(Drop)]
 pub(crate) enum Listed<'a> {
     Tree(ListedGame<'a>),
@@ -44,10 +44,12 @@ pub(crate) fn list_file<'a>(alloc: Global, input: &'a [u8]) -> Result<Listed<'a>
     }
 }
 
-/// Reads a game file of either format, which its first token tells: `EFG` or `NFG` (Gambit
+/// Reads a game file of either format. The first token tells which: `EFG` or `NFG` (Gambit
 /// documentation, "Game representation formats").
 ///
-/// Refused as `canonical` refuses it; E19 where memory for the game or the table is refused.
+/// # Errors
+///
+/// Those of `canonical`; E19 if memory for the game or the table is refused.
 pub fn read_file<'a>(alloc: Global, input: &'a [u8]) -> Result<Meaning<'a>, Fault>
     ensures spelled { IfOk result (λ meaning. SpellsWithin input.entry.now (file_of meaning)) }
     ensures refused { IfErr result (IsRefusedWith input.entry.now) }

@@ -1,4 +1,4 @@
-//! What counts of the parts of a file, with their names or without.
+//! What counts of the parts of a file, with names or without.
 
 ghost use Rattle.std.specs.Prelude.{◌≡◌, option_map};
 ghost use Rattle.gf_token.specs.Label.{label_of};

@@ -6,8 +6,8 @@ ghost use Rattle.gf_canon.specs.NewNumbers.{new_outcome_number, new_set_number};
 use std::alloc::Global;
 use std::collections::BTreeMap;
 
-/// A renumbering of a game: the new number of each player's information sets, chance being player
-/// 0, and of each outcome.
+/// A renumbering of a game: the new numbers of each player's information sets, where chance is
+/// player 0, and of the outcomes.
 #[derive(Drop)]
 pub struct Renumbering {
     /// By player and number.
@@ -16,15 +16,15 @@ pub struct Renumbering {
 }
 
 impl Renumbering {
-    /// The new number of a player's set. `None` where the game has no such set.
+    /// The new number of a player's set, or `None` if the game has no such set.
     pub fn set(&self, player: u32, number: u32) -> Option<u32>
         ensures { result ≡ new_set_number self.now player number }
     {
         self.sets.get(&(player, number)).copied()
     }
 
-    /// The new number of an outcome; 0, the null outcome, stays 0. `None` where the game has no such
-    /// outcome.
+    /// The new number of an outcome, or `None` if the game has no such outcome. 0, the null
+    /// outcome, stays 0.
     pub fn outcome(&self, number: u32) -> Option<u32>
         ensures { result ≡ new_outcome_number self.now number }
     {

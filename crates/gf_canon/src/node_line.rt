@@ -19,7 +19,7 @@ use std::alloc::AllocError;
 /// Room for a space and the digits of a number.
 const ROOM: usize = 11;
 
-/// Appends a number behind a space. On an `Err` the items are as they were.
+/// Appends a space and a number. After an `Err` the items are as they were.
 fn write_number(number: u32, out: &mut Vec<u8>) -> Result<(), AllocError>
     ensures text { OnOk result (out.new.items ≡ out.old.items ++ others_text (decimal number ∷ [])) }
     ensures same { OnErr result (out.new.items ≡ out.old.items) }
@@ -30,7 +30,7 @@ fn write_number(number: u32, out: &mut Vec<u8>) -> Result<(), AllocError>
     out.extend_from_slice(&text[start..])
 }
 
-/// Appends the letter, the node's name, and the player's number, where another than chance moves.
+/// Appends the letter, the node's name, and the player's number if it is not chance that moves.
 fn write_mover(name: Label<'_>, player: u32, out: &mut Vec<u8>) -> Result<(), AllocError>
     ensures text { OnOk result
         (out.new.items ≡ out.old.items ++ spaced (mover_fields (label_of name.entry) player)) }
@@ -45,7 +45,7 @@ fn write_mover(name: Label<'_>, player: u32, out: &mut Vec<u8>) -> Result<(), Al
     write_number(player, out)
 }
 
-/// Appends the number of a set, and its description where the file gives it.
+/// Appends the number of a set, and its description if the file gives it.
 fn write_set_use(set: SetUse<'_, '_>, out: &mut Vec<u8>) -> Result<(), AllocError>
     ensures text { OnOk result (out.new.items ≡ out.old.items ++ others_text
         (described_fields set_fields set.entry.number
@@ -83,7 +83,7 @@ fn write_step(
     }
 }
 
-/// Appends the number of an outcome, and its description where the file gives it.
+/// Appends the number of an outcome, and its description if the file gives it.
 fn write_result(outcome: Option<OutcomeUse<'_, '_>>, out: &mut Vec<u8>) -> Result<(), AllocError>
     ensures text { OnOk result (out.new.items ≡ out.old.items
         ++ others_text (result_fields (option_map outcome_use_of outcome.entry))) }

@@ -23,7 +23,7 @@ fn numbers_to(alloc: Global, count: usize) -> Result<Vec<u32>, AllocError>
     Ok(numbers)
 }
 
-/// The numbers of a player's sets in order of first use; none where there is no such player.
+/// The numbers of a player's sets in order of first use; none if there is no such player.
 fn own_numbers(alloc: Global, g: &Game<'_>, player: usize) -> Result<Vec<u32>, AllocError>
     requires { IsSpellable g.now }
     ensures { IfOk result (λ numbers. numbers.items
@@ -50,10 +50,12 @@ fn set_numbers(alloc: Global, g: &Game<'_>) -> Result<Vec<Vec<u32>>, AllocError>
     Ok(lists)
 }
 
-/// The same game by its canonical numbers: the sets of each player, chance too, and the outcomes
+/// The same game by its canonical numbers: the sets of each player and of chance, and the outcomes,
 /// are numbered from 1 in order of first use in prefix order.
 ///
-/// `AllocError` where memory is refused.
+/// # Errors
+///
+/// `AllocError` if memory is refused.
 pub fn renumber<'a>(alloc: Global, g: &Game<'a>) -> Result<Game<'a>, AllocError>
     ensures { IfOk result (λ game. game ≡ canonical_game g.now) }
 {

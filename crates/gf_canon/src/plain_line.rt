@@ -19,7 +19,7 @@ const LINE_LEN: usize = 38;
 /// Room for a line that ends at `LINE_LEN`, and for `LINE_LEN` bytes from wherever it begins.
 const ROOM: usize = 2 * LINE_LEN;
 
-/// Writes a space and the digits of a number so that they end at `end`. Answers where they begin.
+/// Writes a space and the digits of a number so that they end at `end`. Returns where they begin.
 #[inline(always)]
 fn write_number_before(end: usize, number: u32, text: &mut [u8; ROOM]) -> usize
     requires within { (11 ≤ end) × (end ≤ 38) }
@@ -31,7 +31,7 @@ fn write_number_before(end: usize, number: u32, text: &mut [u8; ROOM]) -> usize
     at
 }
 
-/// Writes what stands behind a node's name so that it ends at `LINE_LEN`. Answers where it begins.
+/// Writes what follows a node's name so that it ends at `LINE_LEN`. Returns where it begins.
 #[inline(always)]
 fn write_tail(set: Option<SetUse<'_, '_>>, outcome: u32, text: &mut [u8; ROOM]) -> usize
     ensures within { (4 ≤ result) × (result ≤ 38) }
@@ -61,7 +61,7 @@ fn letter(set: Option<SetUse<'_, '_>>) -> u8
     }
 }
 
-/// Writes a letter, a space and two quotes before a place. Answers where they begin.
+/// Writes a letter, a space and two quotes before a place. Returns where they begin.
 #[inline(always)]
 fn write_front_before(at: usize, letter: u8, text: &mut [u8; ROOM]) -> usize
     requires within { (4 ≤ at) × (at ≤ 38) }
@@ -75,7 +75,7 @@ fn write_front_before(at: usize, letter: u8, text: &mut [u8; ROOM]) -> usize
     at - 4
 }
 
-/// Appends what was written so that it ends at `LINE_LEN`, from where it begins. On an `Err` the
+/// Appends what was written so that it ends at `LINE_LEN`, from where it begins. After an `Err` the
 /// items are as they were.
 #[inline(always)]
 fn append_from(start: usize, text: &[u8; ROOM], out: &mut Vec<u8>) -> Result<(), AllocError>
@@ -84,7 +84,7 @@ fn append_from(start: usize, text: &[u8; ROOM], out: &mut Vec<u8>) -> Result<(),
         → length line + start ≡ 38 → OnOk result (out.new.items ≡ out.old.items ++ line) }
     ensures err { OnErr result (out.new.items ≡ out.old.items) }
 {
-    // A copy of a known length needs no call. What it takes behind the line is cut off.
+    // A copy of a known length needs no call. What it takes after the line is cut off.
     out.extend_from_slice(&text[start..start + LINE_LEN])?;
     out.truncate(out.len() - start);
     Ok(())

@@ -24,15 +24,15 @@ use std::alloc::{AllocError, Global};
 /// Why two files are not compared.
 #[derive(Clone, Copy, PartialEq, Eq)]
 pub enum SameFault {
-    /// The first file is refused so.
+    /// The first file is refused with this fault.
     First(Fault),
-    /// The first file is accepted, and the second is refused so.
+    /// The first file is accepted, and the second is refused with this fault.
     Second(Fault),
     /// Both are accepted, and memory to compare them is refused.
     Memory,
 }
 
-/// Whether names count where files are compared.
+/// Whether names count when files are compared.
 #[derive(Clone, Copy, Debug, PartialEq, Eq)]
 pub enum Names {
     /// All names count.
@@ -54,9 +54,11 @@ fn same_tables(alloc: Global, t: &Table, u: &Table, names: Names) -> Result<bool
     )
 }
 
-/// Whether two files that were read mean the same, as `same_by` says of their bytes.
+/// Whether two files that were read mean the same, as `same_by` says about their bytes.
 ///
-/// `AllocError` where memory to compare tables is refused. Trees take none.
+/// # Errors
+///
+/// `AllocError` if memory to compare tables is refused. Comparing trees takes no memory.
 pub fn same_meaning(
     alloc: Global,
     a: &Meaning<'_>,
@@ -142,14 +144,16 @@ fn same_as(alloc: Global, first: &Listed<'_>, b: &[u8], names: Names) -> Result<
     }
 }
 
-/// Whether two files mean the same, with their names or without (this project's profile): two trees
-/// where some renumbering of information sets, player by player, and of outcomes carries the one to
-/// the other; two tables where the labels that count and the payoffs at each profile agree; and
-/// never a tree and a table.
+/// Whether two files mean the same, with names or without (this project's profile). Two trees do if
+/// some renumbering of information sets, player by player, and of outcomes carries one to the
+/// other; two tables do if the labels that count and the payoffs at each profile agree; a tree and
+/// a table never do.
 ///
-/// The first file is judged whole, and then the second, as `canonical` judges a file; what is put
-/// aside is matched while it is read, as ever. Files of equal bytes are judged once. Spans are in bytes
-/// of the file that is refused.
+/// # Errors
+///
+/// The whole first file is judged, and then the second, as `canonical` judges a file. Names that
+/// are set aside still have to match in repeated descriptions. Files of equal bytes are judged
+/// once. Spans are in bytes of the file that is refused.
 /// - `First`: the first file is refused.
 /// - `Second`: the first file is accepted, and the second is refused.
 /// - `Memory`: both are accepted, and memory to compare them is refused.
@@ -173,11 +177,13 @@ pub fn same_by(alloc: Global, a: &[u8], b: &[u8], names: Names) -> Result<bool, 
 }
 
 /// Whether two files mean the same (this project's profile), which they do exactly if their
-/// canonical texts are equal: two trees where some renumbering of information sets, player by
-/// player, and of outcomes carries the one to the other; two tables where title, comment, players,
-/// strategy labels and the payoffs at each profile agree; and never a tree and a table.
+/// canonical texts are equal. Two trees do if some renumbering of information sets, player by
+/// player, and of outcomes carries one to the other; two tables do if title, comment, players,
+/// strategy labels and the payoffs at each profile agree; a tree and a table never do.
 ///
-/// Refused as `same_by` refuses.
+/// # Errors
+///
+/// Those of `same_by`.
 pub fn same(alloc: Global, a: &[u8], b: &[u8]) -> Result<bool, SameFault>
     ensures same { (x y : GameFile) → SpellsWithin a.now x → SpellsWithin b.now y
         → MatchResult result (λ answer. IsTrue answer ↔ SameFile x y) WantsMemory }

@@ -29,8 +29,9 @@ fn same_nodes(g: &Game<'_>, h: &Game<'_>, names: Names) -> bool
     others.next().is_none()
 }
 
-/// Whether two games are the same. What a renumbering carries to each other has the same first-use
-/// number: so each node is compared with one node, and nothing is searched for. Takes no memory.
+/// Whether two games are the same. Sets and outcomes that a renumbering carries to each other have
+/// the same first-use number, so each node is compared with one node, and nothing is searched for.
+/// This takes no memory.
 pub(crate) fn same_games(g: &Game<'_>, h: &Game<'_>, names: Names) -> bool
     ensures same { IsTrue result ↔ SameBy names (extensive g.now) (extensive h.now) }
     ensures games { IsGame g.now × IsGame h.now }

@@ -32,7 +32,7 @@ fn write_first_line(
     write_labels(players, out)
 }
 
-/// Appends all that stands before the nodes.
+/// Appends everything before the nodes.
 pub(crate) fn write_heading(
     title: Label<'_>,
     comment: Label<'_>,
@@ -64,12 +64,14 @@ fn write_text(g: &Game<'_>, out: &mut Vec<u8>) -> Result<(), AllocError>
     Ok(())
 }
 
-/// Appends the text of the game by its own numbers: a line for each node in prefix order, each set
-/// and each outcome described where it is first used, each number in lowest terms. The text is an
-/// extensive file that means this game (`reads_back`); that of a game from `renumber` is the
+/// Appends the text of the game by its own numbers: a line for each node in prefix order, with each
+/// set and each outcome described at its first use, and each number in lowest terms. The text is an
+/// extensive file that means this game (`reads_back`); for a game from `renumber`, it is the
 /// canonical text.
 ///
-/// `AllocError` where memory is refused, and then the vector's items are as they were.
+/// # Errors
+///
+/// `AllocError` if memory is refused; the vector's items are then as they were.
 pub fn write_efg(g: &Game<'_>, out: &mut Vec<u8>) -> Result<(), AllocError>
     ensures ok { OnOk result (out.new.items ≡ out.old.items ++ game_text g.now) }
     ensures reads_back { SpellsGame (game_text g.now) g.now }

@@ -1,5 +1,5 @@
--- Of strategies that differ at the end alone, where nothing that they choose matters, none but the
--- first is the first of those that reduce to one.
+-- Among strategies that differ only at the end, where nothing that they choose matters, only the
+-- first is the first of those that reduce to the same one.
 use Rattle.std.proofs.Common.{◌≡◌, ◌∙◌, ◌⊎◌, ℕ, zero, suc, ◌+◌, ◌-◌, ◌*◌, ◌<◌, ◌≤◌, Bool, true, false}
 use Rattle.std.proofs.Common.{List, [], ◌∷◌, map, length, get_or, drop, refl, ap, sym, subst, arith}
 use Rattle.std.proofs.Common.{inl, inr}
@@ -86,8 +86,8 @@ agree_on : (a b from : ℕ) (s t : List ℕ) → a ≡ b
 agree_on a b from s t e h zero before = e
 agree_on a b from s t e h (suc k) before = h k (omega (arith, before))
 
--- those that stand behind one which has the first action from a place on, so many of them, agree
--- with it before that place, and none has the first action at each place behind
+-- this many that come after one which has the first action from a place on agree with it before
+-- that place, and none of them has the first action at each place after it
 in_block : (counts : List ℕ) (from : ℕ) (s t : List ℕ) (m : ℕ) → IsChoice counts s
     → IsChoice counts t → place counts t ≡ place counts s + m → m < product (drop from counts)
     → FirstFrom counts from s

@@ -1,4 +1,4 @@
--- Where there are as many reduced strategies as strategies, each strategy is the first that reduces to
+-- If there are as many reduced strategies as strategies, each strategy is the first that reduces to
 -- its own.
 use Rattle.std.proofs.Common.{◌≡◌, ℕ, zero, suc, ◌+◌, ◌≤◌, Bool, true, false, cond}
 use Rattle.std.proofs.Common.{List, [], ◌∷◌, length, map, get_or, drop, refl, sym, ap, ◌∙◌, arith}

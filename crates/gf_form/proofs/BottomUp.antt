@@ -1,4 +1,4 @@
--- Where the bottom-up value is defined, it is the payoff by plays.
+-- If the bottom-up value is defined, it is the payoff by plays.
 use Rattle.std.proofs.Common.{◌≡◌, ℕ, zero, suc, ◌+◌, Bool, true, false, List, ◌++◌, Option}
 use Rattle.std.proofs.Common.{Some, None, MatchOption, length, map, refl, sym, subst, arith}
 use Rattle.std.specs.Prelude.{◌==◌, option_map}

@@ -1,5 +1,4 @@
--- All choices at sets with so many actions each: every one stands in the list, once and at its
--- place.
+-- All choices at sets with this many actions each: every one is in the list, once and at its place.
 use Rattle.std.proofs.Common.{◌≡◌, ℕ, zero, suc, ◌+◌, ◌-◌, ◌*◌, ◌<◌, ◌≤◌, List, [], ◌∷◌, ◌++◌}
 use Rattle.std.proofs.Common.{length, map, get_or, refl, sym, ap, ◌∙◌, append_assoc, arith}
 use Rattle.std.specs.Prelude.{◌↔◌}
@@ -96,7 +95,7 @@ choices_distinct counts i j d hi hj e =
 
 -- ---- every choice
 
--- one of so many actions at each set
+-- one of this many actions at each set
 abbrev pub IsChoice : List ℕ → List ℕ → Type 0
 IsChoice counts choice = AllZip (λ action count. (1 ≤ action) × (action ≤ count)) choice counts
 

@@ -1,4 +1,4 @@
--- A set is relevant exactly where the choices come to it in the tree.
+-- A set is relevant exactly if the choices come to it in the tree.
 use Rattle.std.proofs.Common.{◌≡◌, ℕ, ◌+◌, ◌<◌, Bool, true, false, List, [], ◌∷◌, Option}
 use Rattle.std.proofs.Common.{Some, None, MatchOption, length, map, refl, sym, ap, ◌∙◌, arith}
 use Rattle.std.proofs.Common.{subst}

@@ -72,7 +72,7 @@ past_limit counts i own made positive h is made_is past =
     (λ j. made_is j * is j) ∙ sym (product_more counts i h) in
     omega (arith, part, whole, past)
 
--- one of the numbers is past the limit
+-- one of the numbers is above the limit
 pub past_alone : (counts : List ℕ) (i own made : ℕ) → ArePositive counts → i < length counts
     → own ≡ get_or counts i 0 → made ≡ product (take i counts) → 0 < made
     → profile_limit < own → profile_limit < product counts

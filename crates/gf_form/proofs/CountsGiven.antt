@@ -1,4 +1,4 @@
--- What is counted of each player, by his place from 0.
+-- What is counted for each player, by his place from 0.
 use Rattle.std.proofs.Common.{◌≡◌, ◌+◌, ◌<◌, ℕ, List, [], Vec, Global, length, map, get_or}
 use Rattle.std.proofs.Common.{sym, ap, ◌∙◌, arith}
 use Rattle.std.proofs.lemmas.Grind.{get_or_default_zero}

@@ -17,7 +17,7 @@ use Rattle.gf_form.specs.inner.ReachedNodes.{demanded}
 
 -- ---- numbers by their digits
 
--- a digit for each set, which is 0 or one of so many actions
+-- a digit for each set, which is 0 or one of this many actions
 abbrev pub AreWithin : List ℕ → List ℕ → Type 0
 AreWithin [] [] = ⊤
 AreWithin (n ∷ ns) (d ∷ ds) = (d ≤ n) × AreWithin ns ds

@@ -1,5 +1,5 @@
--- The first of the strategies that reduce to one: it has the first action wherever no choice
--- matters.
+-- The first of the strategies that reduce to the same one: it has the first action wherever no
+-- choice matters.
 use Rattle.std.proofs.Common.{◌≡◌, ℕ, zero, suc, ◌+◌, ◌-◌, ◌*◌, ◌<◌, ◌≤◌, Bool, true, false}
 use Rattle.std.proofs.Common.{List, [], ◌∷◌, ◌++◌, Some, None, length, map, get_or, drop}
 use Rattle.std.proofs.Common.{refl, sym, ap, subst, ◌∙◌, append-nil, append_assoc, arith, cond, inl, inr}

@@ -110,7 +110,7 @@ few_firsts g game firsts h few =
       ap product (firsts_counted g firsts h),
     )
 
--- one player more
+-- one more player
 pub one_player_more : (g : Game) (firsts next : List (List ℕ)) (own : List ℕ) (place : ℕ)
     → place < length g.players → AllZip (AreFirstsOf g) firsts (take place (players_of g))
     → AreFirstsOf g own (place + 1) → next ≡ firsts ++ own ∷ []

@@ -1,4 +1,4 @@
--- Forms of a game: there is one at most, and one exists where there are payoffs at each profile.
+-- Forms of a game: there is at most one, and one exists if there are payoffs at each profile.
 use Rattle.std.proofs.Common.{◌≡◌, ℕ, List, [], ◌∷◌, length, map}
 use Rattle.std.proofs.Common.{refl, sym, ap, ◌∙◌, subst, inl, inr}
 use Rattle.std.specs.Prelude.{◌↔◌}
@@ -76,7 +76,7 @@ some_entries R (p ∷ ps) rows =
       (row.1, others.2),
     )
 
--- a form exists exactly where there are right payoffs at each profile
+-- a form exists exactly if there are right payoffs at each profile
 pub some_form_by : (labels : ℕ → List (List ℕ)) (R : List ℕ → List Ratio → Type 0) (g : Game)
     → ((p : List ℕ) → Has (form_profiles labels g) p → (row : List Ratio) × R p row)
     → (t : Table) × IsFormBy labels R g t

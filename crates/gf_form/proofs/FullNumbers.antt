@@ -80,7 +80,7 @@ pub counts_first : (counts : List ℕ) (picked : List (List ℕ)) (profile : ℕ
     → CountsOn counts picked profile 0 0 1 profile
 counts_first counts picked profile = record { so_far = omega arith; whole_is = omega arith }
 
--- one player more
+-- one more player
 pub record CountsNext (counts : List ℕ) (picked : List (List ℕ)) (profile i number whole rest n : ℕ)
     : Type 0 where
   pub sum : number + whole * n ≤ full_number counts picked profile

@@ -1,4 +1,4 @@
--- What is made of the numbers of actions are the digits of the game.
+-- What is made from the numbers of actions are the digits of the game.
 use Rattle.std.proofs.Common.{◌≡◌, ℕ, zero, suc, ◌+◌, ◌-◌, ◌<◌, ◌≤◌, ◌^◌, Bool, true, false}
 use Rattle.std.proofs.Common.{cond, List, [], ◌∷◌, ◌++◌, Some, length, map, get_or, refl, sym}
 use Rattle.std.proofs.Common.{ap, subst, ◌∙◌, arith}

@@ -1,4 +1,4 @@
--- Terms of which the last two become their sum.
+-- Terms, when the last two become their sum.
 use Rattle.std.proofs.Common.{◌≡◌, ℕ, ℤ, zero, suc, ◌+◌, ◌-◌, ◌*◌, List, [], ◌∷◌, ◌++◌}
 use Rattle.std.proofs.Common.{ap, arith, drop, get_or, length, refl, subst, sym, take, ◌∙◌}
 use Rattle.std.proofs.lemmas.List.{drop-take, get_or-take, get_or_default, length-take}

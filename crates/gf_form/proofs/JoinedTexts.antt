@@ -1,4 +1,4 @@
--- Texts without a dash are told from the text that joins them by dashes.
+-- Texts without a dash can be recovered from the text that joins them by dashes.
 use Rattle.std.proofs.Common.{◌≡◌, ℕ, ◌+◌, ◌%◌, ◌^◌, ◌<◌, ◌≤◌, List, [], ◌∷◌}
 use Rattle.std.proofs.Common.{◌++◌, length, map, get_or, drop, refl, sym, ap, ◌∙◌, arith}
 use Rattle.std.specs.Prelude.{decimal}
@@ -27,7 +27,7 @@ undashed_number n h =
 head_same : (x y : ℕ) (xs ys : List ℕ) → x ∷ xs ≡ y ∷ ys → x ≡ y
 head_same x y xs ys e = ap (λ (zs : List ℕ). get_or zs 0 0) e
 
--- what stands before the first dash, and behind it
+-- what stands before the first dash, and after it
 cut : (xs ys us vs : List ℕ) → AreUndashed xs → AreUndashed ys → xs ++ 45 ∷ us ≡ ys ++ 45 ∷ vs
     → (xs ≡ ys) × (us ≡ vs)
 cut [] [] us vs hx hy e = (refl, ap (drop 1) e)

@@ -1,4 +1,4 @@
--- The information sets of a game by their keys: what is so of each, and whose they are.
+-- The information sets of a game by their keys: what holds for each, and whose they are.
 use Rattle.std.proofs.Common.{◌≡◌, ℕ, true, Some, length, subst}
 use Rattle.std.specs.Prelude.{◌==◌, find}
 use Rattle.std.proofs.lemmas.Bool.{eqb-true}

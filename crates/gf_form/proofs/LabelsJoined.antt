@@ -1,4 +1,4 @@
--- Labels of strategies, made of labels at the first sets and at the others.
+-- Labels of strategies, made from labels at the first sets and at the others.
 use Rattle.std.proofs.Common.{◌≡◌, ◌∙◌, ℕ, zero, suc, ◌+◌, ◌-◌, ◌*◌, ◌<◌}
 use Rattle.std.proofs.Common.{List, [], ◌∷◌, ◌++◌, Some, map, length, get_or, take, refl, ap}
 use Rattle.std.proofs.Common.{sym, subst, add-one, arith, append_assoc}
@@ -88,7 +88,8 @@ long counts n less =
     (all_at (IsChoice counts) (all_choices counts) n [] (are_choices counts)
     (omega (arith, less, length-all_choices counts)))
 
--- labels of strategies, made of so many first ones with all others, and of one more with so many
+-- labels of strategies, made from this many first ones with all others, and from one more with this
+-- many
 abbrev pub AreJoined : List (List ℕ) → List (List ℕ) → List (List ℕ) → ℕ → ℕ → Type 0
 AreJoined firsts others labels i j = (xs ys : List ℕ) → 0 < length xs → 0 < length ys
     → firsts ≡ map strategy_label (all_choices xs) → others ≡ map strategy_label (all_choices ys)

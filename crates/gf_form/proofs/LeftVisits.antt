@@ -1,4 +1,4 @@
--- The numbers of the visits that are left behind a player's choices, level by level.
+-- The numbers of the visits that are left after a player's choices, level by level.
 use Rattle.std.proofs.Common.{◌≡◌, ℕ, zero, suc, ◌+◌, ◌-◌, ◌<◌, ◌≤◌, Bool, true, false, cond, List}
 use Rattle.std.proofs.Common.{[], ◌∷◌, ◌++◌, Some, length, map, get_or, set, slice_get, take, refl}
 use Rattle.std.proofs.Common.{sym, ap, subst, ◌∙◌, arith, inl, inr}
@@ -132,7 +132,7 @@ comes_earlier sets vs number ordered above within =
     let o = ordered_there sets vs (visit_at vs number) (number - 1) 1 ordered there in
     (omega (arith, o.0, above), o.1, o.2)
 
--- ---- one level more
+-- ---- one more level
 
 -- of the first visits with these numbers, whether each is left, and the numbers of those that are
 pub record PassedTo (vs : List Visit) (made : Move → Bool) (numbers : List ℕ) (flags : List Bool)
@@ -264,7 +264,7 @@ module _ (sets : ℕ) (vs : List Visit) (ordered : AreOrdered sets 1 vs) (test m
           ∙ nothing (before.left v.last.visit) (get_or flags v.last.visit false) (test v.last)
           (made v.last) (sym follows ∙ e)
 
--- ---- before any choice, and behind all
+-- ---- before any choice, and after all
 
 pub level_within : (levels : List ℕ) (count set : ℕ) → AreLevels levels count
     → (1 ≤ get_or levels set 1) × (get_or levels set 1 ≤ count)
@@ -277,7 +277,7 @@ level_within levels count set are = by levels set are.each
     by (level ∷ levels) zero h = h.0
     by (level ∷ levels) (suc set) h = by levels set h.1
 
--- one level more is made where those before it and its own are
+-- one more level is made where those before it and its own are
 pub made_more : (levels : List ℕ) (level : ℕ) (choices : ℕ → ℕ) (m : Move) → 1 ≤ level
     → is_made_to levels level choices m
     ≡ (is_made_to levels (level - 1) choices m && is_made_at levels level choices m)
@@ -310,7 +310,7 @@ made_more levels level choices m above = by (choices m.set == m.action) (cases_l
 
 -- ---- what is met
 
--- a set is met on a visit that is left exactly where it is met on one that comes about
+-- a set is met on a visit that is left exactly if it is met on one that comes about
 pub met_left : (left : ℕ → Bool) (position : ℕ) (at : ℕ → Visit) (first : ℕ) (vs : List Visit)
     → ((k : ℕ) (v : Visit) → slice_get vs k ≡ Some v → at (first + k) ≡ v)
     → list_any (λ n. (at n).set == position) (filter left (numbers_from first (length vs)))

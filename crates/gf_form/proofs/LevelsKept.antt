@@ -1,4 +1,4 @@
--- What is known of the levels where choices change, and where one level more is reached.
+-- What is known about the levels when choices change, and when one more level is reached.
 use Rattle.std.proofs.Common.{◌≡◌, ℕ, zero, suc, ◌+◌, ◌-◌, ◌<◌, ◌≤◌, Bool, true, false, List, Vec, Global, []}
 use Rattle.std.proofs.Common.{◌∷◌, ◌++◌, Some, length, map, get_or, slice_get, take, refl, sym, ap, subst}
 use Rattle.std.proofs.Common.{◌∙◌, arith, append-nil, inl, inr}
@@ -136,7 +136,7 @@ module _ (sets : ℕ) (vs : List Visit) (old : Levels) (lists : Lists) (known : 
       flags = ap length is_known
           ∙ length-take-le (kept + 1) old.known.items (omega (arith, inside, h.as_many))
 
-  -- one level more
+  -- one more level
   pub level_more : (left : Vec Bool Global) (list : Vec ℕ Global) (flags : Vec Bool Global)
       → length old.lists.items ≤ old.count → lists.items ≡ old.lists.items ++ list ∷ []
       → known.items ≡ old.known.items ++ flags ∷ [] → length left.items ≡ suc (length vs)
@@ -273,7 +273,7 @@ none_reached sets vs of_sets count strategy of_visits lists known left all none 
           levels highest numbers nothing)));
     }
 
--- behind all choices
+-- after all choices
 pub all_told : (sets : ℕ) (vs : List Visit) (l : Levels) (strategy : List ℕ) → AreOrdered sets 1 vs
     → IsLevels sets vs l → l.strategy.items ≡ strategy → l.count < length l.lists.items
     → TellsMet sets vs strategy (last_known l)
@@ -291,7 +291,7 @@ told_wide sets vs l h =
 
 -- ---- choices that stay
 
--- of so many sets from the first one on, those on the first levels have the same choices
+-- of this many sets from the first one on, those on the first levels have the same choices
 abbrev pub Agree : List ℕ → List ℕ → List ℕ → ℕ → ℕ → Type 0
 Agree levels old new before kept = (k : ℕ) → k < before → get_or levels (suc k) 1 ≤ kept
     → get_or old k 0 ≡ get_or new k 0

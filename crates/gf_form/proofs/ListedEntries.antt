@@ -185,7 +185,7 @@ no_node = record { path = record { weight = 0; bound = 0; den = 0; demands = 0 }
 abbrev pub node_at : List Reached → ℕ → Reached
 node_at nodes place = get_or nodes place no_node
 
--- the terms of the first nodes, so many, and the next node demands no less
+-- the terms of this many of the first nodes, and the next node demands no less
 pub record Listing (rows : List (List Ratio)) (players : ℕ) (rs : List Reached) (at : ℕ)
     (terms : Terms) : Type 0 where
   pub told : (g : Game) → ArePaid g rows → AreTermsOf g players (take at rs) (entries terms)

@@ -1,4 +1,4 @@
--- What is found in a list of which each element has a property.
+-- What is found in a list whose elements all have a property.
 use Rattle.std.proofs.Common.{◌≡◌, ℕ, zero, suc, Bool, true, false, cond, List, [], ◌∷◌, Option}
 use Rattle.std.proofs.Common.{Some, None, MatchOption, refl, ap, ◌∙◌, ◌≤◌, ◌-◌, ◌+◌, get_or, arith}
 use Rattle.std.specs.Prelude.{option_map, unwrap_or, option_and_then, slice_get, ⊤}

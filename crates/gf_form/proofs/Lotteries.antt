@@ -1,5 +1,5 @@
--- The probabilities of an information set: of chance they add to one, and a player's actions have
--- none.
+-- The probabilities of an information set: those of chance add up to one, and a player's actions
+-- have none.
 use Rattle.std.proofs.Common.{◌≡◌, ℕ, zero, suc, ◌+◌, ◌<◌, false, List, []}
 use Rattle.std.proofs.Common.{◌∷◌, Option, Some, None, length, map, get_or, drop}
 use Rattle.std.proofs.Common.{refl, sym, ap, subst, ◌∙◌, arith, true≢false}

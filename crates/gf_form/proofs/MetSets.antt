@@ -170,7 +170,7 @@ module _ (sets : ℕ) (vs : List Visit) (ordered : AreOrdered sets 1 vs) (levels
       (are.within count counted number))
       strategy (λ set upto. refl)
 
-  -- ---- one level more
+  -- ---- one more level
 
   module _ (count : ℕ) (counted : AreLevels levels count) (level : ℕ) (above : 1 ≤ level)
       (strategy numbers list : List ℕ) (before known : List Bool)

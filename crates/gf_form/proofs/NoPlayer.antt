@@ -1,4 +1,4 @@
--- Chance is no player: it has no strategy and no payoff.
+-- Chance is not a player: it has no strategy and no payoff.
 use Rattle.std.proofs.Common.{◌≡◌, ℕ, List, [], ◌∷◌, Option, Some, None, refl}
 use Rattle.std.specs.Prelude.{option_and_then, unwrap_or}
 use Rattle.gf_fraction.specs.Rational.{zero_ratio}

@@ -50,7 +50,7 @@ is_number path pay other den size s same is most = record {
   bound = most;
 }
 
--- so many numbers of a row more
+-- this many more numbers of a row
 pub record Filling (path : Path) (pays : ℕ → Ratio) (den size place : ℕ) (fits : Bool)
     (old new : List ℤ) : Type 0 where
   pub row : List ℤ

@@ -1,4 +1,4 @@
--- A player with one strategy: he has one action at each set, so that all his sets are relevant.
+-- A player with one strategy: he has one action at each set, so all his sets are relevant.
 use Rattle.std.proofs.Common.{◌≡◌, ℕ, zero, suc, ◌+◌, ◌*◌, ◌<◌, ◌≤◌, Bool, true, false, cond, List}
 use Rattle.std.proofs.Common.{[], ◌∷◌, Option, Some, None, MatchOption, length, map, get_or}
 use Rattle.std.proofs.Common.{refl, sym, ap, subst, ◌∙◌, arith, inl, inr}

@@ -1,5 +1,5 @@
--- Fractions with their numerators over one denominator for all: sums and products of them fit where
--- the numerators are in bound.
+-- Fractions with their numerators over one denominator for all: sums and products of them fit if
+-- the numerators are within bounds.
 use Rattle.std.proofs.Common.{◌≡◌, ℕ, ℤ, suc, zero, pos, ◌+◌, ◌*◌, ◌/◌, ◌%◌, ◌^◌, ◌<◌, ◌≤◌}
 use Rattle.std.proofs.Common.{arith, refl, ap, sym, subst, ◌∙◌, Some}
 use Rattle.std.specs.Prelude.{◌*ℤ◌, ◌+ℤ◌, unsigned_abs}

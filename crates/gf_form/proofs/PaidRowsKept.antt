@@ -83,7 +83,7 @@ row_of_outcome g game spellable number outcome e = record {
         IsOutcome (length g.players) o.key o.description) (λ o. o.key == number) g.outcomes
         game.each_outcome))
 
--- ---- rows that are kept one behind the other
+-- ---- rows that are kept one after another
 
 snoc_before : {A : Type 0} (xs : List A) (x : A) (k : ℕ) → k < length xs
     → slice_get (xs ++ x ∷ []) k ≡ slice_get xs k
@@ -103,7 +103,7 @@ pub record IsPaidAt (g : Game) (row : List Ratio) (position : ℕ) : Type 0 wher
   pub paid_is : (k : ℕ) → at_place row k ≡ paid g (suc k) position
   pub row_is : IsRow (length g.players) row
 
--- those of the first outcomes, so many
+-- those of this many of the first outcomes
 pub record ArePaidTo (g : Game) (rows : List (List Ratio)) (count : ℕ) : Type 0 where
   pub counted : length rows ≡ count
   pub each : (position : ℕ) → position ≤ count → IsPaidAt g (row_at rows position) position

@@ -1,4 +1,4 @@
--- The nodes that choices can reach, told by a walk through branches.
+-- The nodes that choices can reach, given by a walk through branches.
 use Rattle.std.proofs.Common.{◌≡◌, ℕ, zero, suc, ◌+◌, false, true, List, [], ◌∷◌}
 use Rattle.std.proofs.Common.{◌++◌, length, Option, Some, None, refl, sym, ap, ◌∙◌}
 use Rattle.std.proofs.Common.{append_assoc, Bool}

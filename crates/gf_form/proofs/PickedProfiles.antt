@@ -1,4 +1,4 @@
--- The strategies of a profile with a number, where some of each player are picked: those of one player
+-- The strategies of a profile with a number, if some of each player are picked: those of one player
 -- after another, each by what is left of the number.
 use Rattle.std.proofs.Common.{◌≡◌, ℕ, zero, suc, ◌+◌, ◌-◌, ◌*◌, ◌/◌, ◌%◌, ◌<◌, ◌≤◌, List, [], ◌∷◌}
 use Rattle.std.proofs.Common.{◌++◌, length, map, get_or, drop, refl, sym, ap, subst, ◌∙◌}
@@ -67,8 +67,8 @@ some_factor (c ∷ counts) number zero h less = (positive_parts c (product count
 some_factor (c ∷ counts) number (suc i) h less =
     some_factor counts 0 i (positive_parts c (product counts) number h).1 (omega (arith, less))
 
--- The strategies of the profile with this number, where players have so many actions at their sets,
--- and strategies with these numbers.
+-- The strategies of the profile with this number, where players have this many actions at their
+-- sets, and strategies with these numbers.
 abbrev pub numbered : List (List ℕ) → List (List ℕ) → ℕ → List (List ℕ)
 numbered [] picked number = []
 numbered (own ∷ others) [] number = []

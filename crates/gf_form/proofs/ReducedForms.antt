@@ -1,4 +1,4 @@
--- The reduced form of a game: each of its profiles is reduced to by a full profile, and each full
+-- The reduced form of a game: some full profile reduces to each of its profiles, and each full
 -- profile reduces to one.
 use Rattle.std.proofs.Common.{◌≡◌, ℕ, zero, suc, ◌≤◌, List, [], ◌∷◌, Option, Some, None}
 use Rattle.std.proofs.Common.{length, map, refl, sym, ap, ◌∙◌, subst, arith, inl, inr}

@@ -1,4 +1,4 @@
--- Full profiles that reduce to one have the same payoffs.
+-- Full profiles that reduce to the same one have the same payoffs.
 use Rattle.std.proofs.Common.{◌≡◌, ℕ, zero, suc, ◌+◌, ◌-◌, ◌<◌, Bool, true, false}
 use Rattle.std.proofs.Common.{cond, List, [], ◌∷◌, Option, Some, None, length, map}
 use Rattle.std.proofs.Common.{get_or, drop, refl, sym, ap, ◌∙◌, subst, arith, inl, inr}
@@ -96,7 +96,7 @@ module _ (g : Game) (all : List (List ℕ)) (p : ℕ) where
   his_steps [] = refl
   his_steps (s ∷ steps) = λ i. his_step s.node.set s.taken i && his_steps steps i
 
--- ---- profiles that reduce to one
+-- ---- profiles that reduce to the same one
 
 module _ (g : Game) where
   abbrev pub AreReducedAlike : List (List ℕ) → List (List ℕ) → Type 0

@@ -1,5 +1,5 @@
 -- The reduced strategies of a player: what his strategies reduce to, each once, with labels that
--- differ; and the profiles of the reduced form, each of which is reduced to.
+-- differ; and the profiles of the reduced form, to each of which some full profile reduces.
 use Rattle.std.proofs.Common.{◌≡◌, ℕ, zero, suc, ◌-◌, ◌^◌, ◌<◌, Bool, true, false}
 use Rattle.std.proofs.Common.{List, [], ◌∷◌, Option, Some, None, MatchOption, length, map, get_or}
 use Rattle.std.proofs.Common.{drop, refl, sym, ap, subst, ◌∙◌, arith, inl, inr}

@@ -13,7 +13,7 @@ use Rattle.gf_form.specs.inner.Shown.{shown}
 use Rattle.gf_form.proofs.CountedActions.{take_past}
 use Rattle.gf_form.proofs.StrategiesByNumber.{plain_number}
 
--- each choice with a dash behind it
+-- each choice with a dash after it
 abbrev pub marked : List (Option ℕ) → List ℕ
 marked [] = []
 marked (choice ∷ choices) = (choice_text choice ++ 45 ∷ []) ++ marked choices

@@ -1,4 +1,4 @@
--- Full profiles that reduce to one have the same bottom-up values.
+-- Full profiles that reduce to the same one have the same bottom-up values.
 use Rattle.std.proofs.Common.{◌≡◌, ℕ, zero, suc, ◌+◌, ◌<◌, Bool, true, false, List, []}
 use Rattle.std.proofs.Common.{◌∷◌, ◌++◌, Option, Some, None, MatchOption, map, refl}
 use Rattle.std.proofs.Common.{sym, ap, ◌∙◌, subst, arith, inl, append_assoc}
@@ -194,7 +194,7 @@ module _ (g : Game) (c d : SetKey → ℕ) (player : ℕ) (agree : AgreeWhereCho
         child_too ts n (k + 1) taken (suc position) value before (from_others n k t ts before on)
         chosen there (omega (arith, e)) v
 
--- ---- profiles that reduce to one
+-- ---- profiles that reduce to the same one
 
 comes_here : (choices : SetKey → ℕ) (key : SetKey) (n : Node) (k : ℕ) (rest before : List Step)
     → n.set ≡ Some key → list_all (is_own_choice choices key.player) before ≡ true

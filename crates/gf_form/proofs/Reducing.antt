@@ -1,4 +1,4 @@
--- Strategies that reduce to one agree with the same plays.
+-- Strategies that reduce to the same one agree with the same plays.
 use Rattle.std.proofs.Common.{◌≡◌, ℕ, Bool, true, false, List, [], ◌∷◌, Option, Some, None}
 use Rattle.std.proofs.Common.{map, get_or, drop, refl, sym, ap, ◌∙◌, subst, inl, inr}
 use Rattle.std.specs.Prelude.{◌⊎◌, ◌==◌, ◌||◌, ◌&&◌, not, unwrap_or, if◌then◌else◌}
@@ -122,7 +122,7 @@ module _ (g : Game) (player : ℕ) where
             own_move key s.taken (key.player == player) refl
             (λ own. same key (relevant key (eqb-true _ _ own) come))
 
-    -- behind a move that he chooses, the rest is relevant too
+    -- after a move that he chooses, the rest is relevant too
     relevant_on : (s : Step) (rest : List Step) → IsRelevantBelow (s ∷ rest)
         → is_own_choice c player s ≡ true → IsRelevantBelow rest
     relevant_on s rest relevant h key own come =

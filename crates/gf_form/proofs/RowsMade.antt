@@ -113,7 +113,7 @@ module _ (R : List ℕ → List Ratio → Type 0) where
       let both = length-append row (flat_map (λ row. row) rows) in
       omega (arith, both, h.0, counted n rows h.1, suc-mul (length rows) n)
 
-  -- where each row has so many
+  -- if each row has this many
   pub rows_counted : (n : ℕ) → ((p : List ℕ) (row : List Ratio) → R p row → length row ≡ n)
       → (ps : List (List ℕ)) (payoffs : List Ratio) → AreRowsAt R ps payoffs
       → length payoffs ≡ length ps * n

@@ -1,4 +1,4 @@
--- Games that are the same have the same plays but for their numbers, and so the same reduced
+-- Games that are the same have the same plays except for their numbers, and so the same reduced
 -- strategies and the same reduced form.
 use Rattle.std.proofs.Common.{◌≡◌, ℕ, ◌+◌, Bool, true, false, List, [], ◌∷◌, ◌++◌}
 use Rattle.std.proofs.Common.{Option, Some, None, length, map, refl, sym, ap, ◌∙◌, subst}
@@ -72,7 +72,7 @@ mutual
       ∙ sym (map-append (carried_play f) (map (from_node n k) (plays t))
       (plays_from n (k + 1) ts))
 
--- what holds of the nodes of a tree holds of those on its plays
+-- what holds for the nodes of a tree holds for those on its plays
 module _ (P : Node → Type 0) where
   abbrev OnSteps : List Step → Type 0
   OnSteps steps = AllByRecursion (λ s. P s.node) steps

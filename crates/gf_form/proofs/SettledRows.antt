@@ -68,7 +68,8 @@ choice_first n ns b r less within =
 
 -- ---- profiles at which the choice at the slowest digit is the same
 
--- the choice of a number, from 0, at the slowest digit of so many actions, and the first number with it
+-- the choice of a number, from 0, at the slowest digit of this many actions, and the first number
+-- with it
 pub record IsChoiceOf (n count number before first : ℕ) : Type 0 where
   pub less : before < n
   pub from : first ≤ number
@@ -226,7 +227,7 @@ no_row den numbers old = record {
   values = λ k less. absurd (omega (arith, less));
 }
 
--- one number more of a row
+-- one more number of a row
 pub one_more_over : (den place : ℕ) (numbers : List ℤ) (old new after : List Ratio) (f : Ratio)
     → after ≡ new ++ f ∷ [] → IsFraction f → HasValue f (get_or numbers place (pos 0)) den
     → HasRowOver den place numbers old new → HasRowOver den (place + 1) numbers old after

@@ -1,4 +1,4 @@
--- The strategy with a number: an action after another, each by what is left of the number.
+-- The strategy with a number: one action after another, each by what is left of the number.
 use Rattle.std.proofs.Common.{◌≡◌, ℕ, zero, suc, ◌+◌, ◌-◌, ◌*◌, ◌/◌, ◌%◌, ◌<◌, ◌≤◌, List, [], ◌∷◌}
 use Rattle.std.proofs.Common.{◌++◌, length, map, get_or, take, drop, refl, sym, ap, subst, ◌∙◌}
 use Rattle.std.proofs.Common.{append_assoc, add-one, arith}
@@ -126,7 +126,7 @@ goes_last counts number i stride rest strategy h past =
 
 -- ---- labels
 
--- each action with a dash behind it
+-- each action with a dash after it
 abbrev pub dashed : List ℕ → List ℕ
 dashed strategy = flat_map (λ action. decimal action ++ 45 ∷ []) strategy
 
@@ -143,7 +143,7 @@ dashed_more strategy i action less is =
     ∙ sym (take-suc strategy i 0 less)
     ∙ ap (λ (n : ℕ). take n strategy) (sym (add-one i)))
 
--- behind the last action stands one dash too many
+-- after the last action stands one dash too many
 pub dash_last : (action : ℕ) (strategy : List ℕ)
     → dashed (action ∷ strategy) ≡ strategy_label (action ∷ strategy) ++ 45 ∷ []
 dash_last action [] = append-nil (decimal action ++ 45 ∷ [])

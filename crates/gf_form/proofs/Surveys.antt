@@ -1,4 +1,4 @@
--- A survey of a tree: what is found where it goes into a branch.
+-- A survey of a tree: what is found when it goes into a branch.
 use Rattle.std.proofs.Common.{◌≡◌, ℕ, zero, suc, ◌+◌, ◌≤◌, Bool, true, false, List, []}
 use Rattle.std.proofs.Common.{◌∷◌, ◌++◌, Some, None, length, refl, sym, ap}
 use Rattle.std.proofs.Common.{◌∙◌, subst, arith}
@@ -94,7 +94,7 @@ module _ (choices : SetKey → ℕ) (key : SetKey) where
       ap (λ b. (is_own_choice choices key.player (record { node = n; taken = k })
       && tree_comes choices key t) || b) (trees_list n (k + 1) ts)
 
-  -- behind what is so, a child counts by its own test
+  -- after what is so, a child counts by its own test
   behind : (a : Bool) (own test : ℕ → Bool) (k : ℕ) (ts : List (Tree Node))
       → ((j : ℕ) → (a && own j) ≡ test j)
       → (a && list_comes choices key own k ts) ≡ list_comes choices key test k ts
@@ -391,8 +391,8 @@ position_within xs (suc k) x h = (omega arith, omega (arith, slice_within xs k x
 
 -- ---- the whole survey
 
--- It comes to a set in what it has met and in what is left exactly where the choices come to it in
--- the tree.
+-- It comes to a set in what it has met and in what is left exactly if the choices come to it in the
+-- tree.
 abbrev pub Finds : Game → ℕ → Survey → Type 0
 Finds g player s = (strategy : List ℕ) (reached : ℕ → Bool) (position : ℕ) (key : SetKey)
     → at_position (player_keys g player) position ≡ Some key

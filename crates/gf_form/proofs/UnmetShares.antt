@@ -1,4 +1,4 @@
--- The digits of the sets along a path, and that nothing is added where choices do not meet them.
+-- The digits of the sets along a path, and that nothing is added if choices do not meet them.
 use Rattle.std.proofs.Common.{◌≡◌, ℕ, zero, suc, pos, ◌+◌, ◌*◌, ◌%◌, ◌^◌, ◌<◌, ◌≤◌, Bool, true}
 use Rattle.std.proofs.Common.{false, List}
 use Rattle.std.proofs.Common.{◌++◌, Option, Some, None, MatchOption, length, get_or, set, refl}
@@ -29,7 +29,7 @@ use Rattle.gf_form.proofs.DemandDigits.{pack_below}
 use Rattle.gf_form.proofs.DemandDigits.{set_pack, set_within, within_length}
 use Rattle.gf_form.proofs.ShareSums.{shares_append, unmet_first}
 
--- a set with so many actions is at a node with children
+-- a set with this many actions is at a node with children
 pub set_there : (g : Game) (key : SetKey) (m : ℕ)
     → option_map (λ set. length set.actions) (set_at g key) ≡ Some m
     → (set : InformationSet) × (set_at g key ≡ Some set) × (length set.actions ≡ m)
@@ -45,7 +45,7 @@ set_there g key m h = by (set_at g key) refl h
 abbrev pub HasDigits : List ℕ → Path → List ℕ → Type 0
 HasDigits actions path ds = (path.demands ≡ pack actions ds) × AreWithin actions ds
 
--- at the place of this step, with so many actions, any will do
+-- at the place of this step, with this many actions, any will do
 pub record IsFree (actions ds : List ℕ) (step count place : ℕ) : Type 0 where
   pub within : place < length actions
   pub step_is : get_or (steps_of actions) place 0 ≡ step

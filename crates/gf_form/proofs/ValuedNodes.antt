@@ -66,8 +66,8 @@ right_zero : (z : ℤ) → z +ℤ pos 0 ≡ z
 right_zero z = +ℤ_comm z (pos 0) ∙ +ℤ_idl z
 
 module _ (den : ℕ) (den_above : 0 < den) (den_within : den < 2 ^ 127) where
-  -- over what is left of the denominator behind a path that has so much of it, or zero, which asks
-  -- nothing of the denominators
+  -- over what is left of the denominator after a path that has so much of it, or zero, which
+  -- demands nothing of the denominators
   abbrev pub IsPart : ℕ → Ratio → ℤ → Type 0
   IsPart by r n = ((by ∣ den) × HasValue r n (den / by)) ⊎ ((r ≡ zero_ratio) × (n ≡ pos 0))
 
@@ -129,7 +129,7 @@ module _ (g : Game) (player den : ℕ) (den_above : 0 < den) (den_within : den <
   IsOver by r n = IsPart den den_above den_within by r n
 
   -- The value is that of an amount over what is left of the denominator; the shares of these nodes,
-  -- which stand behind a path, are the path's weight times the amount.
+  -- which come after a path, are the path's weight times the amount.
   pub record IsValued (value : Option Ratio) (weight bound by : ℕ) (rs : List Reached)
       : Type 0 where
     pub ratio : Ratio

@@ -166,7 +166,7 @@ ordered_there sets (w ∷ vs) v (suc k) number h there =
 
 -- ---- what comes about, visit after visit
 
--- of so many visits from the first one on, each comes about where its last move is taken
+-- of this many visits from the first one on, each comes about where its last move is taken
 pub record ReachedTo (choices : ℕ → ℕ) (vs : List Visit) (flags : List Bool) (i : ℕ)
     : Type 0 where
   pub counted : length flags ≡ suc i
@@ -174,7 +174,7 @@ pub record ReachedTo (choices : ℕ → ℕ) (vs : List Visit) (flags : List Boo
   pub reached : (k : ℕ) (v : Visit) → k < i → slice_get vs k ≡ Some v
       → get_or flags (suc k) false ≡ is_taken choices (λ number. get_or flags number false) v.last
 
--- one flag more leaves the earlier ones
+-- one more flag leaves the earlier ones
 flag_kept : (flags : List Bool) (flag : Bool) (k : ℕ) → k < length flags
     → get_or (flags ++ flag ∷ []) k false ≡ get_or flags k false
 flag_kept [] flag k h = absurd (omega (arith, h))

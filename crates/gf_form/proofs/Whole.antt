@@ -1,4 +1,4 @@
--- The plays that follow choices of actions have probability one in all, and so there are some.
+-- The plays that follow choices of actions have probability one in all, so there are some.
 use Rattle.std.proofs.Common.{◌≡◌, ℕ, zero, suc, pos, ◌+◌, ◌<◌, ◌≤◌, Bool, true}
 use Rattle.std.proofs.Common.{false, List, [], ◌∷◌, Option, Some, None, MatchOption}
 use Rattle.std.proofs.Common.{length, map, refl, sym, ap, subst, arith, inl}

@@ -1,4 +1,4 @@
--- The bottom-up value of a game. It decides which payoffs overflow, and no payoff.
+-- The bottom-up value of a game. It decides which payoffs overflow, and never what a payoff is.
 use Rattle.std.specs.Prelude.{◌≡◌, ℕ, zero, suc, ◌+◌, ◌==◌, MatchOption}
 use Rattle.std.specs.Bool.{MatchBool}
 use Rattle.gf_fraction.specs.Ratio.{Ratio}
@@ -15,8 +15,8 @@ use Rattle.gf_form.specs.Payoff.{probability, payoff_at}
 abbrev pub IsTerminalValue : Game → ℕ → Node → Ratio → Type 0
 IsTerminalValue g player n value = value ≡ payoff_at g player n
 
--- At a node of this set, its payoff plus what comes from below: by chance, where chance moves, and
--- by choice, where a player does.
+-- At a node of this set, its payoff plus what comes from below: by chance if chance moves, and by
+-- choice if a player does.
 abbrev pub IsMoveValue : Game → ℕ → Node → SetKey → (Ratio → Type 0) → (Ratio → Type 0) → Ratio
     → Type 0
 IsMoveValue g player n key IsByChance IsByChoice value =
@@ -24,7 +24,7 @@ IsMoveValue g player n key IsByChance IsByChoice value =
     × AddsTo (payoff_at g player n) below value
 
 abbrev mutual
-  -- By chance the sum over the children comes from below, and by choice the value of the child that
+  -- By chance, the sum over the children comes from below; by choice, the value of the child that
   -- is chosen.
   pub IsValue : Game → (SetKey → ℕ) → ℕ → Tree Node → Ratio → Type 0
   IsValue g choices player (branch n ts) value =
@@ -32,8 +32,8 @@ abbrev mutual
       (λ key. IsMoveValue g player n key (IsChanceValue g choices player n 1 zero_ratio ts)
       (IsChildValue g choices player (choices key) ts) value)
 
-  -- the sum so far, and probability times value of each of these children in turn, the first of
-  -- which has position k
+  -- the sum so far, plus probability times value of each of these children in turn; the first one
+  -- has position k
   pub IsChanceValue : Game → (SetKey → ℕ) → ℕ → Node → ℕ → Ratio → Trees Node → Ratio → Type 0
   IsChanceValue g choices player n k sum none value = value ≡ sum
   IsChanceValue g choices player n k sum (more t ts) value =

@@ -13,11 +13,11 @@ action_at g s =
     option_and_then (λ key. option_and_then (λ set. at_position set.actions s.taken) (set_at g key))
     s.node.set
 
--- its probability where chance moves, and one where a player does
+-- its probability if chance moves, and one if a player does
 abbrev pub probability : Game → Step → Ratio
 probability g s = unwrap_or (option_and_then (λ a. a.probability) (action_at g s)) one_ratio
 
--- what a node's outcome pays the player, and zero where there is none
+-- what a node's outcome pays the player, and zero if it has none
 abbrev pub payoff_at : Game → ℕ → Node → Ratio
 payoff_at g player n = unwrap_or (option_and_then (λ number.
     option_and_then (λ outcome. at_position outcome.payoffs player) (outcome_at g number))

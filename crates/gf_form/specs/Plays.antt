@@ -29,7 +29,7 @@ abbrev mutual
   plays (branch n none) = record { steps = []; leaf = n } ∷ []
   plays (branch n (more t ts)) = plays_from n 1 (more t ts)
 
-  -- those that take one of these children of a node, the first of which has position k
+  -- those that take one of these children of a node; the first one has position k
   pub plays_from : Node → ℕ → Trees Node → List Play
   plays_from n k none = []
   plays_from n k (more t ts) = map (from_node n k) (plays t) ++ plays_from n (k + 1) ts
@@ -42,7 +42,7 @@ abbrev pub is_chosen : (SetKey → ℕ) → Step → Bool
 is_chosen choices s =
     option_map_or (λ key. key.player == 0 || choices key == s.taken) s.node.set true
 
--- a play follows a profile where each personal move on it is the profile's choice
+-- a play follows a profile if each personal move on it is the profile's choice
 abbrev pub follows : (SetKey → ℕ) → Play → Bool
 follows choices play = list_all (is_chosen choices) play.steps
 

@@ -21,17 +21,17 @@ abbrev pub is_own_choice : (SetKey → ℕ) → ℕ → Step → Bool
 is_own_choice choices player s =
     option_map_or (λ key. not (key.player == player) || choices key == s.taken) s.node.set true
 
--- a play agrees with choices where each of the player's moves on it is his choice
+-- a play agrees with choices if each of the player's moves on it is his choice
 abbrev pub agrees : (SetKey → ℕ) → ℕ → Play → Bool
 agrees choices player play = list_all (is_own_choice choices player) play.steps
 
--- the steps come to a node of this set, with all moves of its owner before it as he chooses
+-- the steps come to a node of this set, and all moves of its owner before it are as he chooses
 abbrev pub comes_to : (SetKey → ℕ) → SetKey → List Step → Bool
 comes_to choices key [] = false
 comes_to choices key (s ∷ steps) = option_map_or (same_set key) s.node.set false
     || (is_own_choice choices key.player s && comes_to choices key steps)
 
--- a set is relevant where some play comes to it so
+-- a set is relevant if some play comes to it in this way
 abbrev pub is_relevant : Game → (SetKey → ℕ) → SetKey → Bool
 is_relevant g choices key = list_any (λ play. comes_to choices key play.steps) (plays g.tree)
 
@@ -52,7 +52,7 @@ abbrev pub reduced_strategies : Game → ℕ → List (List (Option ℕ))
 reduced_strategies g player =
     first_uses (pointwise same_choice) (map (reduced g player) (strategies g player))
 
--- its actions, and `*` where there is none, joined by `-`
+-- its actions, or `*` if there is none, joined by `-`
 abbrev pub reduced_label : List (Option ℕ) → List ℕ
 reduced_label strategy =
     join_with_byte 45 (map (λ choice. option_map_or decimal choice (codes "*")) strategy)

@@ -14,7 +14,7 @@ use Rattle.gf_form.specs.Reduced.{reduced_at, reduced_by, reduced_profiles}
 abbrev pub HasTooManyProfiles : Game → Type 0
 HasTooManyProfiles g = profile_limit < length (full_profiles g)
 
--- each player has a bottom-up value, where these are the choices
+-- each player has a bottom-up value, if these are the choices
 abbrev pub HasValuesBy : Game → (SetKey → ℕ) → Type 0
 HasValuesBy g choices = AllByRecursion
     (λ player. (value : Ratio) × IsValue g choices player g.tree value) (players_of g)
@@ -46,6 +46,6 @@ abbrev pub HasReducedValues : Game → List ℕ → Type 0
 HasReducedValues g profile = (full : List ℕ) → Contains (full_profiles g) full
     → reduced_by g full ≡ reduced_at g profile → HasValues g full
 
--- the same of the profiles of the reduced form
+-- the same for the profiles of the reduced form
 abbrev pub ReducedOverflowsAt : Game → ℕ → Type 0
 ReducedOverflowsAt g position = IsFirstWithout (HasReducedValues g) (reduced_profiles g) position

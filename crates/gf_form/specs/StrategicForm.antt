@@ -27,8 +27,8 @@ abbrev pub PaysFractions : Game → Type 0
 PaysFractions g = (profile : List ℕ) → Contains (full_profiles g) profile
     → AllByRecursion (PaysFraction g (choices_by g (strategies_at g profile))) (players_of g)
 
--- A table of the game, its title, its comment and its players: with these labels of each player's
--- strategies, and at each profile payoffs that are right there.
+-- A table with the game's title, comment and players, with these labels of each player's
+-- strategies, and with payoffs at each profile that are right there.
 pub record IsFormBy (labels : ℕ → List (List ℕ)) (IsRight : List ℕ → List Ratio → Type 0) (g : Game)
     (t : Table) : Type 0 where
   pub title : t.title ≡ g.title
@@ -42,7 +42,8 @@ pub record IsFormBy (labels : ℕ → List (List ℕ)) (IsRight : List ℕ → L
 abbrev pub strategy_labels : Game → ℕ → List (List ℕ)
 strategy_labels g player = map strategy_label (strategies g player)
 
--- the payoffs where these strategies meet, of each player the one at his position in the profile
+-- the payoffs if these strategies meet: each player's strategy is the one at his position in the
+-- profile
 abbrev pub ArePayoffsAt : Game → List ℕ → List Ratio → Type 0
 ArePayoffsAt g profile payoffs = ArePayoffs g (choices_by g (strategies_at g profile)) payoffs
 

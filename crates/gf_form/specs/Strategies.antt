@@ -12,7 +12,7 @@ use Rattle.gf_tree.specs.Game.{Game}
 abbrev pub action_counts : Game → ℕ → List ℕ
 action_counts g player = map (λ s. length s.description.actions) (player_sets g player)
 
--- Where there are so many actions at each set: one action for each set, by its position from 1. The
+-- If there are this many actions at each set: one action for each set, by its position from 1. The
 -- last set's advances fastest.
 abbrev pub all_choices : List ℕ → List (List ℕ)
 all_choices [] = [] ∷ []
@@ -37,7 +37,7 @@ strategy_label strategy = join_with_byte 45 (map decimal strategy)
 abbrev pub players_of : Game → List ℕ
 players_of g = positions (length g.players)
 
--- the strategy at this position, from 1; at no position there is one that chooses nothing
+-- the strategy at this position, from 1; if there is no such position, one that chooses nothing
 abbrev pub strategy_at : {A : Type 0} → List (List A) → ℕ → List A
 strategy_at strategies position = unwrap_or (at_position strategies position) []
 
@@ -51,7 +51,7 @@ choice_at (s ∷ sets) (action ∷ others) key =
     if same_set s key then action else choice_at sets others key
 choice_at _ _ key = 0
 
--- what the owner of a set chooses at it, where these are the strategies of all players; chance has
+-- what the owner of a set chooses at it, if these are the strategies of all players; chance has
 -- none
 abbrev pub choices_by : Game → List (List ℕ) → SetKey → ℕ
 choices_by g all key = choice_at (player_keys g key.player) (strategy_at all key.player) key

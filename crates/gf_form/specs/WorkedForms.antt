@@ -24,7 +24,7 @@ table title strategies entries = record {
 abbrev pub entry : List ℕ → List Ratio → Entry
 entry profile payoffs = record { profile = profile; payoffs = payoffs }
 
--- at this strategy this whole payoff
+-- at this strategy, this whole payoff
 abbrev pub pays : ℕ → ℕ → Entry
 pays strategy payoff = entry (strategy ∷ []) (whole (pos payoff) ∷ [])
 
@@ -40,7 +40,7 @@ bonus_form = record {
       ∷ entry (2 ∷ 1 ∷ []) (whole (pos 2) ∷ half ∷ []) ∷ [];
 }
 
--- ---- a payoff that fits, by a sum on its way that does not
+-- ---- a payoff that fits, although a sum on the way to it does not
 
 abbrev pub overflowing : Game
 overflowing = game (codes "o")
@@ -56,7 +56,7 @@ overflowing = game (codes "o")
 abbrev pub second : List (List ℕ)
 second = (2 ∷ 1 ∷ []) ∷ []
 
--- ---- a payoff that overflows where chance never comes
+-- ---- a payoff that overflows where chance never leads
 
 -- what chance does, with probability one
 abbrev pub sure : List ℕ → Action
@@ -80,8 +80,8 @@ unlikely = game (codes "q")
 abbrev pub only : List (List ℕ)
 only = [] ∷ []
 
--- ---- a payoff at a node of chance, which fits beside each child's product, but is added behind
--- their sum
+-- ---- a payoff at a node of chance, which fits together with each child's product, but is added
+-- after their sum
 
 abbrev pub balancing : Game
 balancing = game (codes "b")
@@ -91,7 +91,7 @@ balancing = game (codes "b")
     ∷ described 2 (paying (codes "y") greatest)
     ∷ described 3 (paying (codes "z") (whole (pos (2 ^ 127 - 3)))) ∷ [])
 
--- ---- a choice that does not matter behind an action that ends the play
+-- ---- a choice that does not matter, after an action that ends the play
 
 abbrev pub ending : Game
 ending = game (codes "r")
@@ -111,7 +111,7 @@ abbrev pub ending_reduced : Table
 ending_reduced = table (codes "r") (codes "1-*" ∷ codes "2-1" ∷ codes "2-2" ∷ [])
     (pays 1 1 ∷ pays 2 2 ∷ pays 3 3 ∷ [])
 
--- ---- a set behind both actions of one that is met twice, which no strategy chooses
+-- ---- a set after both actions of one that is met twice, which no strategy chooses
 
 abbrev pub contradicted : Game
 contradicted = game []

@@ -12,8 +12,8 @@ use gf_nfg::ProfileCount;
 use gf_tree::Game;
 use std::alloc::{AllocError, Global};
 
-/// How many actions there are at a player's set, by its position from 1 among his; 0 where he has
-/// no such set.
+/// How many actions there are at a player's set, by its position from 1 among his; 0 if he has no
+/// such set.
 pub(crate) fn action_count(game: &Game<'_>, player: u32, position: usize) -> usize
     ensures { result ≡ unwrap_or (at_position (action_counts game.now player) position) 0 }
 {
@@ -27,8 +27,8 @@ pub(crate) fn action_count(game: &Game<'_>, player: u32, position: usize) -> usi
     }
 }
 
-/// How many actions there are at each of a player's sets, and how many strategies he has; `None`
-/// where these alone are more than a table may have profiles.
+/// How many actions there are at each of a player's sets, and how many strategies he has; `None` if
+/// there are more of these alone than a table may have profiles.
 fn own_counts(
     alloc: Global,
     game: &Game<'_>,
@@ -57,15 +57,15 @@ fn own_counts(
 /// How many actions there are at each set of each player, and how many strategies and profiles.
 #[derive(Drop)]
 pub(crate) struct Counts {
-    /// Of each player, for each of his sets in order of first use.
+    /// For each player, and for each of his sets in order of first use.
     pub actions: Vec<Vec<u32>>,
-    /// Of each player.
+    /// For each player.
     pub strategies: Vec<u32>,
     pub profiles: ProfileCount,
 }
 
 impl Counts {
-    /// Those of a game; `None` where it has more profiles than a table may have.
+    /// The counts of a game; `None` if it has more profiles than a table may have.
     pub(crate) fn new(alloc: Global, game: &Game<'_>) -> Result<Option<Counts>, AllocError>
         requires { length game.now.players ≤ 4294967295 }
         ensures { IfOk result

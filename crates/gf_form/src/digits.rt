@@ -1,5 +1,5 @@
-//! Sets at which a player has a choice, as the digits of a number: 0 where any action will do, and
-//! else the action's position.
+//! Sets at which a player has a choice, as the digits of a number: 0 if any action will do, and
+//! otherwise the action's position.
 
 ghost use Rattle.std.specs.Prelude.{◌≡◌, ◌<◌, ◌*◌, ◌^◌, ◌++◌, ℕ, IfOk, IfSome, OnOk, length, map};
 ghost use Rattle.gf_nfg.specs.Profiles.{product};
@@ -21,7 +21,7 @@ pub(crate) struct Digit {
 }
 
 /// How many values the digits of a player's sets have together with those of the players before
-/// him, which have `faster` values; `None` past the greatest number.
+/// him, which have `faster` values; `None` above the greatest number.
 fn values_with(actions: &[u32], faster: u64) -> Option<u64>
     ensures { IfSome result
         (λ values. (values ≡ width actions.now * faster) × (values < 2 ^ 64)) }
@@ -35,8 +35,8 @@ fn values_with(actions: &[u32], faster: u64) -> Option<u64>
     Some(values)
 }
 
-/// The step of each of a player's sets, where his digits and those of the players before him have
-/// so many values together.
+/// The step of each of a player's sets, if his digits and those of the players before him have this
+/// many values together.
 fn steps_within(alloc: Global, actions: &[u32], values: u64) -> Result<Vec<u64>, AllocError>
     ensures { IfOk result (λ steps. (faster : ℕ) → values ≡ width actions.now * faster
         → steps.items ≡ steps_behind faster actions.now) }
@@ -54,7 +54,7 @@ fn steps_within(alloc: Global, actions: &[u32], values: u64) -> Result<Vec<u64>,
     Ok(steps)
 }
 
-/// The steps of all players' sets; `None` where the digits have too many values together.
+/// The steps of all players' sets; `None` if the digits have too many values together.
 fn steps_of_all(alloc: Global, counts: &Counts) -> Result<Option<Vec<Vec<u64>>>, AllocError>
     ensures { IfOk result (λ made. IfSome made (λ steps.
         (map (λ own. own.items) steps.items
@@ -73,7 +73,7 @@ fn steps_of_all(alloc: Global, counts: &Counts) -> Result<Option<Vec<Vec<u64>>>,
     Ok(Some(steps))
 }
 
-/// The digits of a player's sets, with these steps, go behind others.
+/// Appends the digits of a player's sets, with these steps.
 fn push_digits(actions: &[u32], steps: &[u64], digits: &mut Vec<Digit>) -> Result<(), AllocError>
     requires { length steps.now ≡ length actions.now }
     ensures steps { OnOk result (map (λ digit. digit.step) digits.new.items
@@ -95,15 +95,15 @@ fn push_digits(actions: &[u32], steps: &[u64], digits: &mut Vec<Digit>) -> Resul
 /// The digits of a game.
 #[derive(Drop)]
 pub(crate) struct Digits {
-    /// The step of the digit of each set of each player, in order of first use; 0 where there is one
-    /// action alone.
+    /// The step of the digit of each set of each player, in order of first use; 0 if there is only
+    /// one action.
     pub steps: Vec<Vec<u64>>,
     /// From the slowest on.
     pub digits: Vec<Digit>,
 }
 
 impl Digits {
-    /// Those of a game with so many actions; `None` where they have too many values together.
+    /// The digits of a game with this many actions; `None` if they have too many values together.
     pub(crate) fn new(alloc: Global, counts: &Counts) -> Result<Option<Digits>, AllocError>
         ensures { IfOk result (λ made. IfSome made (λ digits. (g : Game) → IsGame g
             → AreCounts g counts.now → HasDigits g digits)) }

@@ -46,9 +46,9 @@ fn step(payoffs: &Payoffs<'_>, op: Op, values: &mut Values) -> Result<(), EvalFa
     }
 }
 
-/// The value of the whole tree for each player, where these are the payoffs of the outcomes and the
-/// choices of all players. The row is empty where each is zero. The values on the way are found in the
-/// room of earlier ones.
+/// The value of the whole tree for each player, given the payoffs of the outcomes and the choices
+/// of all players. The row is empty if each value is zero. The values on the way use the room of
+/// earlier ones.
 pub(crate) fn evaluate(
     alloc: Global,
     game: &Game<'_>,

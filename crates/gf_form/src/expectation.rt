@@ -1,4 +1,4 @@
-//! The payoffs where players choose these actions.
+//! The payoffs if the players choose these actions.
 
 ghost use Rattle.std.specs.Prelude.{◌≤◌, IfOk, IsErrOf, OnOk, map};
 ghost use Rattle.std.specs.List.{AllZip};
@@ -17,7 +17,7 @@ use gf_fraction::Fraction;
 use gf_tree::Game;
 use std::alloc::Global;
 
-/// What `expected` gives, where these are the payoffs of the outcomes. The row has the room of one of
+/// What `expected` returns, given the payoffs of the outcomes. The row uses the room of one of
 /// these values.
 pub(crate) fn expected_with(
     alloc: Global,
@@ -47,18 +47,19 @@ pub(crate) fn expected_with(
     Ok(row)
 }
 
-/// What each player is paid, in their order, where the players choose these actions: the sum, over
-/// the plays that follow the choices, of the probability of the play times the payoffs of its
-/// outcomes.
+/// What each player is paid, in their order, if the players choose these actions: the sum, over the
+/// plays that follow the choices, of the probability of the play times the payoffs of its outcomes.
 ///
-/// The caller sees to it that there is one list for each player, with the position of an action,
+/// The caller has to ensure that there is one list for each player, with the position of an action,
 /// from 1, for each of his sets in order of first use.
 ///
-/// `Overflow` where the bottom-up value of some player is not defined: the value at a leaf is its
-/// payoff, at a node of a player its payoff and the value of the child that is chosen, and at a node
-/// of chance its payoff and the sum of the children's values times their probabilities, added in
-/// their order from 0; and it is not defined where a sum or a product on the way does not fit (this
-/// project's profile). `Memory` where memory is refused.
+/// # Errors
+///
+/// `Overflow` if the bottom-up value of some player is not defined. The value at a leaf is its
+/// payoff; at a node of a player, its payoff plus the value of the child that is chosen; and at a
+/// node of chance, its payoff plus the sum of the children's values times their probabilities,
+/// added in their order from 0. It is not defined if a sum or a product on the way does not fit
+/// (this project's profile). `Memory` if memory is refused.
 pub fn expected(
     alloc: Global,
     game: &Game<'_>,

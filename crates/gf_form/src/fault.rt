@@ -2,7 +2,7 @@
 
 use std::alloc::{AllocError, AllocFailed};
 
-/// Why the payoffs at some choices are not given.
+/// Why there are no payoffs at some choices.
 #[derive(Clone, Copy, Debug, PartialEq, Eq, Hash)]
 pub enum EvalFault {
     /// The bottom-up value of some player is not defined: a sum or a product on the way does not
@@ -39,8 +39,8 @@ impl<T: Drop> From<AllocFailed<T>> for EvalFault {
 pub enum FormFault {
     /// There are more profiles than a table may have.
     TooManyProfiles,
-    /// Some player has no bottom-up value at the profile with this number, from 1; at those before
-    /// it each has.
+    /// Some player has no bottom-up value at the profile with this number, from 1; at all profiles
+    /// before it, each player has one.
     Overflow { profile: u32 },
     /// Memory was refused.
     Memory,

@@ -26,9 +26,9 @@ ghost use Rattle.gf_form.specs.WorkedForms.{balancing, bonus_form, contradicted,
 ghost use Rattle.gf_form.specs.WorkedForms.{ending_form, ending_reduced, greatest, only};
 ghost use Rattle.gf_form.specs.WorkedForms.{overflowing, second, unlikely};
 
-/// Worked games: plays, strategic and reduced forms, and payoffs that fit where the bottom-up value
-/// does not, once by a child that has no probability, and once by the sum of the children, to which
-/// the node's own payoff comes last.
+/// Worked games: plays, strategic and reduced forms, and payoffs that fit although the bottom-up
+/// value does not, once because of a child with probability zero, and once because of the sum of
+/// the children, to which the node's own payoff is added last.
 pub fn worked_forms()
     ensures games { AllByRecursion (λ g. IsGame g × IsSpellable g)
         (overflowing ∷ unlikely ∷ balancing ∷ ending ∷ contradicted ∷ []) }
@@ -53,8 +53,7 @@ pub fn worked_forms()
         ≡ codes "1-*" ∷ codes "2-*" ∷ [] }
 {}
 
-/// Where the bottom-up value is defined, it is one fraction, the payoff by plays, whatever is
-/// chosen.
+/// If the bottom-up value is defined, it is one fraction, the payoff by plays, whatever is chosen.
 pub fn value_is_payoff()
     ensures one_value { (g : Game) (choices : SetKey → ℕ) (player : ℕ) (x y : Ratio) → IsGame g
         → IsSpellable g
@@ -108,9 +107,9 @@ pub fn same_games_same_form()
         → (position : ℕ) → OverflowsAt g position ↔ OverflowsAt h position }
 {}
 
-/// Games that are the same have the same reduced strategies: a strategy reduces to the same in both,
-/// and so does a profile. They have the same reduced form, or a bottom-up value is not defined first
-/// at the same profile of it. Both have too many profiles or neither, by the law
+/// Games that are the same have the same reduced strategies: a strategy reduces to the same in
+/// both, and so does a profile. They have the same reduced form, or lack a bottom-up value first at
+/// the same profile of it. Both have too many profiles or neither does, by the law
 /// [`same_games_same_form`](crate::laws::same_games_same_form).
 pub fn same_games_same_reduced_form()
     ensures reduced { (g h : Game) → IsGame g → IsGame h → SameGame g h
@@ -126,9 +125,9 @@ pub fn same_games_same_reduced_form()
         → (position : ℕ) → ReducedOverflowsAt g position ↔ ReducedOverflowsAt h position }
 {}
 
-/// A play follows the choices exactly if its players' moves are those. Some play follows them, if
-/// they are actions, and all that do have probability one together: at a player's move they take
-/// one child, and they part only where chance moves.
+/// A play follows the choices exactly if its players' moves are those. If the choices are actions,
+/// some play follows them, and all plays that do have probability one together: at a player's move
+/// they take the same child, and they part only where chance moves.
 pub fn plays_follow_choices()
     ensures by_moves { (choices : SetKey → ℕ) (play : Play) → (follows choices play ≡ true)
         ↔ AllByRecursion
@@ -146,14 +145,14 @@ pub fn plays_follow_choices()
         → follows choices p ≡ true → follows choices q ≡ true → (p ≡ q) ⊎ PartAtChance p q }
 {}
 
-/// Chance is no player: no strategy chooses at its sets, and nothing is paid to it.
+/// Chance is not a player: no strategy chooses at its sets, and nothing is paid to it.
 pub fn chance_is_no_player()
     ensures choices { (g : Game) (all : List (List ℕ)) (number : ℕ)
         → choices_by g all (set_of 0 number) ≡ 0 }
     ensures payoff { (g : Game) (n : Node) → payoff_at g 0 n ≡ zero_ratio }
 {}
 
-/// The strategies of a profile are those of its players, one of each, and they choose an action at
+/// The strategies of a profile are those of its players, one for each, and they choose an action at
 /// each set.
 pub fn strategies_have_actions()
     ensures one_each { (g : Game) (profile : List ℕ) → Contains (full_profiles g) profile
@@ -164,7 +163,7 @@ pub fn strategies_have_actions()
         → HasActions g (choices_by g all) }
 {}
 
-/// Two strategies of a player reduce to one exactly if the same plays agree with them.
+/// Two strategies of a player reduce to the same one exactly if the same plays agree with them.
 pub fn reduced_strategies_agree()
     ensures { (g : Game) (player : ℕ) (s t : List ℕ) → IsGame g → IsSpellable g → 0 < player
         → Contains (strategies g player) s → Contains (strategies g player) t
@@ -193,8 +192,8 @@ pub fn every_reduced_strategy()
         → i ≡ j }
 {}
 
-/// Each profile of the reduced form is reduced to by some full profile, and each full profile
-/// reduces to a profile of the reduced form, and to that one alone.
+/// Some full profile reduces to each profile of the reduced form, and each full profile reduces to
+/// exactly one profile of the reduced form.
 pub fn every_reduced_profile()
     ensures each_comes { (g : Game) (profile : List ℕ) → Contains (reduced_profiles g) profile
         → (full : List ℕ) × Contains (full_profiles g) full
@@ -206,7 +205,7 @@ pub fn every_reduced_profile()
         → Contains (reduced_profiles g) q → reduced_at g p ≡ reduced_at g q → p ≡ q }
 {}
 
-/// Full profiles that reduce to one have the same payoffs, and bottom-up values that are the same,
+/// Full profiles that reduce to the same one have the same payoffs and the same bottom-up values,
 /// defined for both or for neither.
 pub fn reduced_profiles_pay_alike()
     ensures payoffs { (g : Game) (player : ℕ) (p q : List ℕ) → Contains (full_profiles g) p
@@ -220,8 +219,8 @@ pub fn reduced_profiles_pay_alike()
         ↔ IsValue g (choices_by g (strategies_at g q)) player g.tree value }
 {}
 
-/// A game has one strategic form and one reduced form at most, and it has them exactly where every
-/// payoff is a fraction.
+/// A game has at most one strategic form and at most one reduced form, and it has them exactly if
+/// every payoff is a fraction.
 pub fn one_form()
     ensures strategic { (g : Game) (t u : Table) → IsStrategicForm g t → IsStrategicForm g u
         → t ≡ u }

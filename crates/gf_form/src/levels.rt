@@ -1,4 +1,4 @@
-//! Which visits of a player are left behind his choices, level by level.
+//! Which visits of a player are left after his choices, level by level.
 
 ghost use Rattle.std.specs.Prelude.{◌≡◌, ◌≤◌, ◌<◌, ◌-◌, ◌^◌, ◌||◌, ◌⊎◌, suc, ℕ, [], false, true};
 ghost use Rattle.std.specs.Prelude.{IfOk, OnOk, get_or, length};
@@ -12,12 +12,13 @@ ghost use Rattle.gf_form.specs.declared.visits.Visit.{Visit};
 use crate::visits::{Move, Visit, action_at};
 use std::alloc::{AllocError, Global};
 
-/// The visits that are left behind the choices on no level, on the first one, on the first two, and
-/// so on. The sets at which the player has one action are on the first level, and each of the others
-/// is on one of its own. Where choices on the last levels change, what is left on those before stays.
+/// The visits that are left after the choices on no level, on the first one, on the first two, and
+/// so on. The sets at which the player has one action are on the first level, and each of the
+/// others is on a level of its own. If choices on the last levels change, what is left on the
+/// levels before them stays.
 #[derive(Drop)]
 pub(crate) struct Levels {
-    /// The level of each set, by its position from 1; at 0 that of no set.
+    /// The level of each set, by its position from 1; at 0, that of no set.
     of_sets: Vec<usize>,
     count: usize,
     /// The choices.
@@ -42,7 +43,7 @@ fn level_of(levels: &[usize], position: usize) -> usize
     }
 }
 
-/// The levels of sets with so many actions, and how many levels there are.
+/// The levels of sets with this many actions, and how many levels there are.
 fn levels_of(alloc: Global, counts: &[u32]) -> Result<(Vec<usize>, usize), AllocError>
     ensures { IfOk result (λ made. AreLevels made.0.items made.1) }
 {
@@ -60,7 +61,7 @@ fn levels_of(alloc: Global, counts: &[u32]) -> Result<(Vec<usize>, usize), Alloc
     Ok((levels, count))
 }
 
-/// The numbers of so many visits.
+/// The numbers of this many visits.
 fn all_numbers(alloc: Global, count: usize) -> Result<Vec<usize>, AllocError>
     requires { count < 2 ^ 63 }
     ensures { IfOk result (λ numbers. numbers.items ≡ numbers_from 1 count) }
@@ -72,7 +73,7 @@ fn all_numbers(alloc: Global, count: usize) -> Result<Vec<usize>, AllocError>
     Ok(numbers)
 }
 
-/// So many visits, by their numbers from 1, that are all left, and `true` before them.
+/// This many visits, by their numbers from 1, which are all left, and `true` before them.
 fn all_left(alloc: Global, count: usize) -> Result<Vec<bool>, AllocError>
     requires { count < 2 ^ 63 }
     ensures count { IfOk result (λ left. length left.items ≡ suc count) }
@@ -84,7 +85,7 @@ fn all_left(alloc: Global, count: usize) -> Result<Vec<bool>, AllocError>
     Ok(left)
 }
 
-/// So many sets, none of which is known to be met.
+/// This many sets, none of which is known to be met.
 fn none_known(alloc: Global, sets: usize) -> Result<Vec<bool>, AllocError>
     ensures count { IfOk result (λ known. length known.items ≡ sets) }
     ensures none { IfOk result (λ known. (place : ℕ) → get_or known.items place false ≡ false) }
@@ -104,7 +105,7 @@ fn is_made(levels: &[usize], level: usize, strategy: &[u32], last: Move) -> bool
     action_at(strategy, last.set) as usize == last.action
 }
 
-/// Of the visits that are left on the levels before this one, those that are left on it too.
+/// Among the visits that are left on the levels before this one, those that are left on it too.
 fn left_on(
     alloc: Global,
     visits: &[Visit],
@@ -203,7 +204,8 @@ fn any_unknown(visits: &[Visit], numbers: &[usize], known: &[bool]) -> bool
 }
 
 impl Levels {
-    /// Those of a player with these visits and so many actions at each set, before any choice.
+    /// The levels of a player with these visits and this many actions at each set, before any
+    /// choice.
     pub(crate) fn new(alloc: Global, counts: &[u32], visits: &[Visit]) -> Result<Levels, AllocError>
         requires { AreOrdered (length counts.now) 1 visits.now }
         ensures { IfOk result (IsLevels (length counts.now) visits.now) }
@@ -228,7 +230,7 @@ impl Levels {
         })
     }
 
-    /// On how many levels a strategy makes the choices that were made before.
+    /// On how many levels a strategy makes the same choices as were made before.
     fn kept(&self, strategy: &[u32]) -> usize
         requires some { 0 < length self.now.lists.items }
         requires levels { AreLevels self.now.of_sets.items self.now.count }
@@ -249,7 +251,7 @@ impl Levels {
         kept
     }
 
-    /// Makes the choices on one level more.
+    /// Makes the choices on one more level.
     fn go_on(&mut self, alloc: Global, visits: &[Visit]) -> Result<(), AllocError>
         requires sets { (sets : ℕ) × AreOrdered sets 1 visits.now × IsLevels sets visits.now self.old }
         requires more { length self.old.lists.items ≤ self.old.count }
@@ -311,7 +313,7 @@ impl Levels {
         Ok(())
     }
 
-    /// Whether each set is met, first set first, where the choices of a strategy are made.
+    /// Whether each set is met, first set first, after the choices of a strategy are made.
     pub(crate) fn met(&self) -> &[bool]
         requires { 0 < length self.now.known.items }
         ensures { result.now ≡ last_known self.now }

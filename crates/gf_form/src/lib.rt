@@ -1,5 +1,5 @@
 //! The strategic form of an extensive game: pure strategies, plays, payoffs and reduced strategies;
-//! and what the players are paid where they choose given actions.
+//! and what the players are paid if they choose given actions.
 #![tactic(auto)]
 
 mod counts;

@@ -1,4 +1,4 @@
-//! The nodes that choices can reach, told one after another, each with what the path to it asks for.
+//! The nodes that choices can reach, one after another, each with what the path to it demands.
 
 ghost use Rattle.std.specs.Prelude.{◌≡◌, ◌≤◌, ◌++◌, [], ◌∷◌, None, length, map, unwrap_or};
 ghost use Rattle.std.specs.Prelude.{IfOk, MatchOption, OnErr, OnOk, vec_capacity, vec_len};
@@ -17,12 +17,12 @@ use gf_fraction::Fraction;
 use gf_tree::{Branch, Branches, Game};
 use std::alloc::{AllocError, Global};
 
-/// What a path from the root asks for.
+/// What a path from the root demands.
 #[derive(Clone, Copy)]
 pub(crate) struct Path {
     /// The product of the numerators of its probabilities.
     pub weight: u128,
-    /// The same with 1 for each numerator that is zero.
+    /// The same, with 1 in place of each numerator that is zero.
     pub bound: u128,
     /// The product of the denominators of its probabilities; 0 if a product does not fit.
     pub den: u128,
@@ -39,7 +39,7 @@ pub(crate) struct Reached {
 }
 
 impl Path {
-    /// That of the root.
+    /// The path to the root.
     fn root() -> Path
         ensures { result ≡ root_path }
     {
@@ -51,7 +51,7 @@ impl Path {
         }
     }
 
-    /// On by an action of this probability.
+    /// One step further, by an action of this probability.
     fn by_chance(self, chance: Fraction) -> Path
         ensures { result ≡ by_chance self chance }
     {
@@ -76,8 +76,8 @@ impl Path {
         }
     }
 
-    /// On by the action at this position, at a set whose digit has this step. What is demanded fits:
-    /// the digits have fewer than 2^64 values together.
+    /// One step further, by the action at this position, at a set whose digit has this step. The
+    /// demands fit: the digits have fewer than 2^64 values together.
     fn by_choice(self, step: u64, position: usize) -> Path
         ensures { result ≡ by_choice self step position }
     {
@@ -90,8 +90,8 @@ impl Path {
         }
     }
 
-    /// The action that is taken at a set whose digit has this step, by its position among so many;
-    /// 0 where any will do.
+    /// The action that is taken at a set whose digit has this step, by its position among this
+    /// many; 0 if any will do.
     fn taken(self, step: u64, actions: usize) -> u64
         ensures { result ≡ taken self step actions }
     {
@@ -123,7 +123,7 @@ enum Open<'g, 'a> {
     },
 }
 
-/// A walk through a tree that tells the nodes which choices can reach, in prefix order.
+/// A walk through a tree that gives the nodes which choices can reach, in prefix order.
 #[derive(Drop)]
 pub(crate) struct Paths<'d, 'g, 'a> {
     digits: &'d Digits,
@@ -163,7 +163,7 @@ impl<'d, 'g, 'a> Paths<'d, 'g, 'a> {
         }
     }
 
-    /// The next child of an open node of chance comes next, if one is left.
+    /// Makes the next child of an open node of chance come next, if one is left.
     fn draw(
         &mut self,
         node: Branch<'g, 'a>,
@@ -177,7 +177,7 @@ impl<'d, 'g, 'a> Paths<'d, 'g, 'a> {
             ≡ nodes_left self.new) }
         ensures turns { OnOk result (turns_left self.new ≤ turns_left self.old) }
 
-        // It fails only where there was no room.
+        // It fails only if there was no room.
         ensures full { OnErr result (vec_capacity self.old.«open» ≤ vec_len self.old.«open») }
     {
         let Some(child) = rest.next() else {
@@ -189,7 +189,7 @@ impl<'d, 'g, 'a> Paths<'d, 'g, 'a> {
         Ok(())
     }
 
-    /// The next child of an open node of a player comes next, if one is left.
+    /// Makes the next child of an open node of a player come next, if one is left.
     fn choose(
         &mut self,
         mut rest: Branches<'g, 'a>,
@@ -203,7 +203,7 @@ impl<'d, 'g, 'a> Paths<'d, 'g, 'a> {
             ≡ nodes_left self.new) }
         ensures turns { OnOk result (turns_left self.new ≤ turns_left self.old) }
 
-        // It fails only where there was no room.
+        // It fails only if there was no room.
         ensures full { OnErr result (vec_capacity self.old.«open» ≤ vec_len self.old.«open») }
     {
         let Some(child) = rest.next() else {
@@ -215,7 +215,7 @@ impl<'d, 'g, 'a> Paths<'d, 'g, 'a> {
         Ok(())
     }
 
-    /// Sees to what comes below a player's node, at a set whose digit has this step.
+    /// Opens what comes below a player's node, at a set whose digit has this step.
     fn follow(&mut self, branch: Branch<'g, 'a>, path: Path, step: u64) -> Result<(), AllocError>
         requires { self.old.next ≡ None }
         ensures same { steps_of_paths self.new ≡ steps_of_paths self.old }
@@ -223,7 +223,7 @@ impl<'d, 'g, 'a> Paths<'d, 'g, 'a> {
             (taken path step (length (child_trees (tree_of branch.entry))))
             ++ nodes_behind self.old ≡ nodes_left self.new) }
 
-        // It fails only where there was no room.
+        // It fails only if there was no room.
         ensures full { OnErr result (vec_capacity self.old.«open» ≤ vec_len self.old.«open») }
     {
         let action = path.taken(step, branch.children());
@@ -236,7 +236,7 @@ impl<'d, 'g, 'a> Paths<'d, 'g, 'a> {
         Ok(())
     }
 
-    /// Sees to what comes below a node.
+    /// Opens what comes below a node.
     fn enter(&mut self, branch: Branch<'g, 'a>, path: Path) -> Result<(), AllocError>
         requires { self.old.next ≡ None }
         ensures same { steps_of_paths self.new ≡ steps_of_paths self.old }
@@ -247,7 +247,7 @@ impl<'d, 'g, 'a> Paths<'d, 'g, 'a> {
               outcome = paid_at_node (game_of branch.entry) (root_node (tree_of branch.entry));
             } ∷ nodes_left self.new) }
 
-        // It fails only where there was no room.
+        // It fails only if there was no room.
         ensures full { OnErr result (vec_capacity self.old.«open» ≤ vec_len self.old.«open») }
     {
         let Some((player, position)) = branch.mover() else {
@@ -266,7 +266,7 @@ impl<'d, 'g, 'a> Paths<'d, 'g, 'a> {
         self.follow(branch, path, step)
     }
 
-    /// The next node, or `None` behind the last one.
+    /// The next node, or `None` after the last one.
     pub(crate) fn next(&mut self) -> Result<Option<Reached>, AllocError>
         ensures same { steps_of_paths self.new ≡ steps_of_paths self.old }
         ensures left { IfOk result (λ node. MatchOption node (nodes_left self.old ≡ [])

@@ -23,7 +23,7 @@ fn all_zero(row: &[Fraction]) -> bool
     true
 }
 
-/// The payoffs of the outcome at this position, from 1; none where nobody is paid anything.
+/// The payoffs of the outcome at this position, from 1; none if nobody is paid anything.
 fn payoffs_at<'g>(game: &'g Game<'_>, position: usize) -> &'g [Fraction]
     requires is_game { IsGame game.now }
     requires spellable { IsSpellable game.now }
@@ -43,7 +43,7 @@ fn payoffs_at<'g>(game: &'g Game<'_>, position: usize) -> &'g [Fraction]
 }
 
 /// A row of payoffs for each outcome. The row of an outcome that pays nobody anything is empty, so
-/// that it costs nothing to add it.
+/// adding it costs nothing.
 #[derive(Drop)]
 pub(crate) struct Payoffs<'g> {
     rows: Vec<&'g [Fraction]>,
@@ -52,7 +52,7 @@ pub(crate) struct Payoffs<'g> {
 impl<'g> Payoffs<'g> {
     ghost use Rattle.gf_form.specs.inner.PaidRows.{rows_of};
 
-    /// Those of all outcomes of a game.
+    /// The payoffs of all outcomes of a game.
     pub(crate) fn new(alloc: Global, game: &'g Game<'_>) -> Result<Payoffs<'g>, AllocError>
         requires is_game { IsGame game.now }
         requires spellable { IsSpellable game.now }
@@ -66,7 +66,7 @@ impl<'g> Payoffs<'g> {
         Ok(Payoffs { rows })
     }
 
-    /// The row of the outcome at this position, from 1; an empty one where there is none.
+    /// The row of the outcome at this position, from 1; an empty one if there is no such outcome.
     pub(crate) fn at(&self, position: u32) -> &'g [Fraction]
         ensures { result.now ≡ row_at (rows_of self.now) position }
     {

@@ -16,14 +16,14 @@ use std::alloc::{AllocError, Global};
 /// Some strategies of each player, and how many profiles they have.
 #[derive(Drop)]
 pub(crate) struct Picked {
-    /// Of each player, by their numbers, from 0.
+    /// For each player, by their numbers, from 0.
     pub numbers: Vec<Vec<u32>>,
     pub profiles: ProfileCount,
-    /// Whether they are known to be all, in order.
+    /// Whether they are known to be all strategies, in order.
     pub are_all: bool,
 }
 
-/// So many numbers, from 0.
+/// This many numbers, from 0.
 fn numbers_below(alloc: Global, count: u32) -> Result<Vec<u32>, AllocError>
     ensures { IfOk result (λ numbers. numbers.items ≡ numbers_from 0 count) }
 {
@@ -53,7 +53,7 @@ impl Picked {
         })
     }
 
-    /// The strategies with these numbers; `None` where they have more profiles than a table may have.
+    /// The strategies with these numbers; `None` if they have more profiles than a table may have.
     pub(crate) fn of_numbers(numbers: Vec<Vec<u32>>) -> Option<Picked>
         requires { AllByRecursion (λ count. 0 < count)
             (map length (map (λ own. own.items) numbers.items)) }

@@ -1,4 +1,4 @@
-//! The strategies of a profile of those that are picked: one of each player.
+//! The strategies of a profile of those that are picked: one for each player.
 
 ghost use Rattle.std.specs.Prelude.{◌≡◌, ◌<◌, [], IfOk, OnOk, get_or, length, map};
 ghost use Rattle.gf_tree.specs.Game.{Game};
@@ -11,7 +11,7 @@ use crate::picked::Picked;
 use crate::strategies::write_strategy;
 use std::alloc::{AllocError, Global};
 
-/// So many strategies, none of which has an action yet.
+/// This many strategies, none of which has an action yet.
 pub(crate) fn no_actions(alloc: Global, players: usize) -> Result<Vec<Vec<u32>>, AllocError>
     ensures { IfOk result (λ all. length all.items ≡ players) }
 {
@@ -22,7 +22,7 @@ pub(crate) fn no_actions(alloc: Global, players: usize) -> Result<Vec<Vec<u32>>,
     Ok(all)
 }
 
-/// The strategies of the profile with this number, from 0, take the place of others.
+/// Replaces others by the strategies of the profile with this number, from 0.
 pub(crate) fn write_strategies(
     counts: &Counts,
     picked: &Picked,

@@ -1,5 +1,5 @@
-//! The reduced strategies of a player. Of the strategies that reduce to one, the first has the first
-//! action at each set that is not relevant under it, and no other has.
+//! The reduced strategies of a player. Among the strategies that reduce to the same one, only the
+//! first has the first action at each set that is not relevant under it.
 
 ghost use Rattle.std.specs.Prelude.{◌≡◌, ◌<◌, ◌≤◌, ◌^◌, IfOk, length, map};
 ghost use Rattle.gf_nfg.specs.Profiles.{product};
@@ -32,9 +32,9 @@ fn is_first(relevant: &[bool], strategy: &[u32]) -> bool
     true
 }
 
-/// How many strategies, from this one on, have its actions but at sets at the end, where it has the
-/// first action and none of which is relevant under it. What is relevant under it is so under all of
-/// them, so that no other is the first of those that reduce to one.
+/// How many strategies, from this one on, have the same actions except at the last sets, if it has
+/// the first action there and these are not relevant under it. The same sets are relevant under all
+/// of them, so none of the others is the first of those that reduce to the same one.
 fn strategies_alike(counts: &[u32], relevant: &[bool], strategy: &[u32]) -> u32
     requires flags { length relevant.now ≡ length counts.now }
     requires actions { length strategy.now ≡ length counts.now }
@@ -51,8 +51,9 @@ fn strategies_alike(counts: &[u32], relevant: &[bool], strategy: &[u32]) -> u32
     alike
 }
 
-/// The numbers of the first strategies that reduce to each reduced strategy of a player, from 0, and
-/// the labels of these. At his sets there are so many actions each, and `whole` strategies.
+/// The numbers of the first strategies that reduce to each reduced strategy of a player, from 0,
+/// and the labels of the reduced ones. Each of his sets has this many actions, and he has `whole`
+/// strategies.
 fn first_strategies(
     alloc: Global,
     game: &Game<'_>,
@@ -86,8 +87,8 @@ fn first_strategies(
     Ok((firsts, labels))
 }
 
-/// The same of a player who has one strategy. He has one action at each of his sets, so that all of
-/// them are relevant, and the tree need not be walked for him.
+/// The same for a player who has one strategy. He has one action at each of his sets, so all of
+/// them are relevant, and there is no need to walk the tree for him.
 fn only_strategy(
     alloc: Global,
     game: &Game<'_>,
@@ -106,7 +107,7 @@ fn only_strategy(
     Ok((firsts, labels))
 }
 
-/// The same of any player.
+/// The same for any player.
 fn own_strategies(
     alloc: Global,
     game: &Game<'_>,

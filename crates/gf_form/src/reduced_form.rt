@@ -38,9 +38,9 @@ fn have_all(counts: &Counts, firsts: &[Vec<u32>]) -> bool
     true
 }
 
-/// What each player is paid at each profile of the reduced form, where these are the numbers of the
-/// first strategies of each player. Where all strategies are first ones, the profiles are those of
-/// the strategic form, in its order.
+/// What each player is paid at each profile of the reduced form, given the numbers of the first
+/// strategies of each player. If all strategies are first ones, the profiles are those of the
+/// strategic form, in its order.
 fn reduced_rows(
     alloc: Global,
     game: &Game<'_>,
@@ -89,19 +89,21 @@ fn form_with(
 /// The reduced form of a game: the table of its players and of their reduced strategies, with the
 /// payoffs at each profile.
 ///
-/// A reduced strategy is what is left of a pure one without the choices that cannot matter: it has
-/// an action at each set to which some play comes on which the set's owner makes all his earlier
-/// moves as he chooses, and `*` at the others. Its label is these, joined by `-`: `1-*` (this
-/// project's profile). The reduced strategies stand in the order of the first strategies that reduce
-/// to them, and the payoffs at a profile are those at every profile of the strategic form that
-/// reduces to it.
+/// A reduced strategy is what is left of a pure one without the choices that cannot matter. It has
+/// an action at each set that some play reaches on which the set's owner makes all his earlier
+/// moves as he chooses, and `*` at the others. Its label joins these by `-`: `1-*` (this project's
+/// profile). The reduced strategies are in the order of the first strategies that reduce to them,
+/// and the payoffs at a profile are those at every profile of the strategic form that reduces to
+/// it.
 ///
-/// The caller sees to it that there are at most 4,294,967,295 players.
+/// The caller has to ensure that there are at most 4,294,967,295 players.
 ///
-/// `TooManyProfiles` where the strategic form has more than 1,048,576 profiles (this project's
-/// profile), whatever the number of those of the reduced form. `Overflow` with the number of a
-/// profile, from 1 in the order of the table, where some player has no bottom-up value at it and
-/// each has at all profiles before it. `Memory` where memory is refused.
+/// # Errors
+///
+/// `TooManyProfiles` if the strategic form has more than 1,048,576 profiles (this project's
+/// profile), however many the reduced form has. `Overflow` with the number of a profile, from 1 in
+/// the order of the table, if some player has no bottom-up value at it and each player has one at
+/// all profiles before it. `Memory` if memory is refused.
 pub fn table_reduced(alloc: Global, game: &Game<'_>) -> Result<Table, FormFault>
     requires { length game.now.players ≤ 4294967295 }
     ensures form { IfOk result (λ t. IsReducedForm game.now t) }

@@ -10,7 +10,7 @@ ghost use Rattle.gf_form.specs.inner.Shown.{shown};
 use itoa::Buffer;
 use std::alloc::AllocError;
 
-/// Writes the choice at a set behind a text, `*` where the set is not relevant, and a dash.
+/// Appends the choice at a set to a text, or `*` if the set is not relevant, and a dash.
 fn write_choice(is_relevant: bool, action: u32, text: &mut Vec<u8>) -> Result<(), AllocError>
     ensures text { OnOk result (text.new.items ≡ (text.old.items
         ++ choice_text (if is_relevant then Some action else None)) ++ 45 ∷ []) }
@@ -28,8 +28,8 @@ fn write_choice(is_relevant: bool, action: u32, text: &mut Vec<u8>) -> Result<()
     Ok(())
 }
 
-/// The label of a reduced strategy takes the place of a text: the actions at the relevant sets, and
-/// `*` at the others, joined by `-`.
+/// Replaces a text by the label of a reduced strategy: the actions at the relevant sets, and `*` at
+/// the others, joined by `-`.
 pub(crate) fn write_reduced_label(
     relevant: &[bool],
     strategy: &[u32],

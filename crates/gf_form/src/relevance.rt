@@ -1,5 +1,6 @@
-//! Which sets of a player are relevant under a strategy of his. One walk through the tree, whatever
-//! the strategy, finds the visits to his sets; its choices then tell which of them are left.
+//! Which sets of a player are relevant under one of his strategies. One walk through the tree,
+//! whatever the strategy, finds the visits to his sets; the choices of the strategy then show which
+//! of them are left.
 
 ghost use Rattle.std.specs.Prelude.{◌≡◌, ◌<◌, ◌≤◌, ◌&&◌, ◌+◌, ◌*◌, ℕ, IfOk, OnOk, length};
 ghost use Rattle.gf_tree.specs.Branches.{game_of, tree_of};
@@ -25,7 +26,7 @@ use std::alloc::{AllocError, Global};
 struct Open<'g, 'a> {
     /// The children that are left.
     rest: Branches<'g, 'a>,
-    /// The player's last move before the node, or, where he moves at it, his move there, whose
+    /// The player's last move before the node, or, if he moves at the node, his move there, whose
     /// action is that of the child.
     last: Move,
     is_own: bool,
@@ -36,7 +37,7 @@ struct Open<'g, 'a> {
 struct Survey<'g, 'a> {
     player: u32,
     visits: Visits,
-    /// Those on the path to the branch that comes next.
+    /// The nodes on the path to the branch that comes next.
     nodes: Vec<Open<'g, 'a>>,
 }
 
@@ -138,7 +139,7 @@ fn visits_in(alloc: Global, game: &Game<'_>, player: u32) -> Result<Visits, Allo
     Ok(survey.visits)
 }
 
-/// What tells the relevant sets of a player under each of his strategies.
+/// What shows the relevant sets of a player under each of his strategies.
 #[derive(Drop)]
 pub(crate) struct Relevance {
     visits: Visits,
@@ -146,7 +147,7 @@ pub(crate) struct Relevance {
 }
 
 impl Relevance {
-    /// That of a player with so many actions at each of his sets.
+    /// That of a player with this many actions at each of his sets.
     pub(crate) fn of_player(
         alloc: Global,
         game: &Game<'_>,

@@ -1,4 +1,4 @@
-//! Rows of numbers, one for each player, that are added up. An empty row is one of zeros.
+//! Rows of numbers, one for each player, that are added up. An empty row stands for zeros.
 
 ghost use Rattle.std.specs.Prelude.{◌≡◌, ◌<◌, ◌≤◌, ℕ, None, Some, OnOk, IsErrOf, length};
 ghost use Rattle.gf_fraction.specs.Ratio.{IsFraction};

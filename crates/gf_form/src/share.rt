@@ -13,7 +13,7 @@ use gf_fraction::Fraction;
 #[derive(Clone, Copy)]
 pub(crate) struct Share {
     pub amount: i128,
-    /// A bound of its size, which does not tell of probabilities that are zero.
+    /// A bound for its size, which does not depend on whether probabilities are zero.
     pub bound: u128,
 }
 
@@ -27,8 +27,8 @@ pub(crate) fn payoff_at(payoffs: &Payoffs<'_>, outcome: u32, place: usize) -> Fr
     }
 }
 
-/// What a path adds to a payoff over a common denominator; `None` where it is not a whole number, or
-/// one that is too large.
+/// What a path adds to a payoff over a common denominator; `None` if that is not a whole number, or
+/// is too large.
 pub(crate) fn share_of(path: Path, payoff: Fraction, den: u128) -> Option<Share>
     requires { 0 < path.den }
     ensures { IfSome result (IsShare path payoff den) }

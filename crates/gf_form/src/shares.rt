@@ -1,4 +1,4 @@
-//! The nodes that pay somebody something, of those that choices can reach.
+//! The nodes that pay somebody something, among those that choices can reach.
 
 ghost use Rattle.std.specs.Prelude.{◌≡◌, IfOk, map};
 ghost use Rattle.gf_form.specs.inner.KeptNodes.{paid_reached};
@@ -11,7 +11,7 @@ use crate::payoffs::Payoffs;
 use gf_tree::Game;
 use std::alloc::{AllocError, Global};
 
-/// Those in prefix order.
+/// These nodes in prefix order.
 pub(crate) fn paid_nodes(
     alloc: Global,
     game: &Game<'_>,

@@ -61,16 +61,19 @@ fn form_with(
 /// The strategic form of a game: the table of its players and of their pure strategies, with the
 /// payoffs at each profile.
 ///
-/// A pure strategy has an action at each of its player's sets, in order of first use. Its label is
-/// their positions, from 1, joined by `-`: `1-2` (this project's profile). The last set's action
-/// advances fastest. The payoffs at a profile are those of [`expected`](crate::expected).
+/// A pure strategy has an action at each of its player's sets, in order of first use. Its label
+/// joins their positions, from 1, by `-`: `1-2` (this project's profile). From one strategy to the
+/// next, the last set's action advances fastest. The payoffs at a profile are those of
+/// [`expected`](crate::expected).
 ///
-/// The caller sees to it that there are at most 4,294,967,295 players.
+/// The caller has to ensure that there are at most 4,294,967,295 players.
 ///
-/// `TooManyProfiles` where there are more than 1,048,576 profiles (this project's profile), whatever
-/// their payoffs. `Overflow` with the number of a profile, from 1 in the order of the table, where
-/// some player has no bottom-up value at it and each has at all profiles before it. `Memory` where
-/// memory is refused.
+/// # Errors
+///
+/// `TooManyProfiles` if there are more than 1,048,576 profiles (this project's profile), whatever
+/// their payoffs. `Overflow` with the number of a profile, from 1 in the order of the table, if
+/// some player has no bottom-up value at it and each player has one at all profiles before it.
+/// `Memory` if memory is refused.
 pub fn table(alloc: Global, game: &Game<'_>) -> Result<Table, FormFault>
     requires { length game.now.players ≤ 4294967295 }
     ensures form { IfOk result (λ t. IsStrategicForm game.now t) }

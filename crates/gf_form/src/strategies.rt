@@ -11,7 +11,7 @@ use gf_token::Label;
 use itoa::Buffer;
 use std::alloc::{AllocError, Global};
 
-/// The strategy with this number, from 0, takes the place of another. At sets with so many actions
+/// Replaces another strategy by the one with this number, from 0. At sets with this many actions
 /// each there are `whole` strategies, and the last set's action advances fastest.
 pub(crate) fn write_strategy(
     counts: &[u32],
@@ -34,7 +34,7 @@ pub(crate) fn write_strategy(
     Ok(())
 }
 
-/// The label of a strategy takes the place of a text: its actions, joined by `-`.
+/// Replaces a text by the label of a strategy: its actions, joined by `-`.
 fn write_label(strategy: &[u32], text: &mut Vec<u8>) -> Result<(), AllocError>
     ensures text { OnOk result (text.new.items ≡ strategy_label strategy.now) }
     ensures label { OnOk result (IsLabel text.new.items) }
@@ -50,7 +50,8 @@ fn write_label(strategy: &[u32], text: &mut Vec<u8>) -> Result<(), AllocError>
     Ok(())
 }
 
-/// The labels of all strategies at sets with so many actions each, one by one; there are `whole`.
+/// The labels of all strategies at sets with this many actions each, one by one; there are `whole`
+/// strategies.
 fn labels_in_turn(alloc: Global, counts: &[u32], whole: u32) -> Result<Labels, AllocError>
     requires { whole ≡ product counts.now }
     ensures { IfOk result (λ labels. labels ≡ map strategy_label (all_choices counts.now)) }
@@ -66,7 +67,8 @@ fn labels_in_turn(alloc: Global, counts: &[u32], whole: u32) -> Result<Labels, A
     Ok(labels)
 }
 
-/// How many strategies there are at sets with so many actions each; `None` past the greatest number.
+/// How many strategies there are at sets with this many actions each; `None` above the greatest
+/// number.
 fn strategy_count(counts: &[u32]) -> Option<u32>
     ensures { IfSome result (λ whole. whole ≡ product counts.now) }
 {
@@ -106,8 +108,9 @@ fn joined_labels(alloc: Global, firsts: &Labels, others: &Labels) -> Result<Labe
     Ok(labels)
 }
 
-/// The labels of all strategies at sets with so many actions each; there are `whole`. The labels at
-/// half of the sets are few, and to join them is less work than to write each action anew.
+/// The labels of all strategies at sets with this many actions each; there are `whole` strategies.
+/// There are few labels for half of the sets, and joining them is less work than writing each
+/// action anew.
 pub(crate) fn strategy_labels(
     alloc: Global,
     counts: &[u32],

@@ -24,8 +24,9 @@ fn is_strategy(game: &Game<'_>, player: u32, strategy: &[u32]) -> bool
     true
 }
 
-/// Whether there is one list for each player, with the position of an action, from 1, for each of his
-/// sets in order of first use: what [`expected`](crate::expected) asks its caller to see to.
+/// Whether there is one list for each player, with the position of an action, from 1, for each of
+/// his sets in order of first use: this is what the caller of [`expected`](crate::expected) has to
+/// ensure.
 pub fn are_strategies(game: &Game<'_>, choices: &[Vec<u32>]) -> bool
     ensures sound { IsTrue result → AreStrategies game.now (map (λ own. own.items) choices.now) }
     ensures complete { length game.now.players ≤ 4294967295

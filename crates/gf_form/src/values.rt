@@ -1,6 +1,6 @@
 //! The stack of values that the operations of a tree work on, with a row of numbers for each value.
-//! The room of a row that is taken off serves a later one, so that a walk allocates no rows once there
-//! were as many as it wants at a time.
+//! The room of a row that is taken off is used for a later one, so a walk allocates no more rows
+//! once it has as many as it needs at a time.
 
 ghost use Rattle.std.specs.Prelude.{◌≡◌, ◌<◌, ◌≤◌, ℕ, List, [], ◌∷◌, ◌++◌, None, Option, Some, OnOk};
 ghost use Rattle.std.specs.Prelude.{IsErrOf, OnErr, length, vec_capacity, vec_len};
@@ -12,12 +12,12 @@ use crate::rows::{pay, weigh};
 use gf_fraction::Fraction;
 use std::alloc::{AllocError, Global};
 
-/// Rows of numbers, one for each player, the last one on top. An empty row is one of zeros.
+/// Rows of numbers, one for each player, the last one on top. An empty row stands for zeros.
 #[derive(Drop)]
 pub(crate) struct Values {
     alloc: Global,
     rows: Vec<Vec<Fraction>>,
-    /// Rows that were taken off, whatever they have.
+    /// Rows that were taken off, whatever they hold.
     spare: Vec<Vec<Fraction>>,
 }
 
@@ -45,7 +45,7 @@ impl Values {
         Ok(())
     }
 
-    /// A row goes onto the stack.
+    /// Puts a row onto the stack.
     pub(crate) fn push(&mut self, row: &[Fraction]) -> Result<(), EvalFault>
         ensures pushed { OnOk result (rows_on self.new ≡ rows_on self.old ++ row.now ∷ []) }
         ensures memory { IsErrOf result EvalFault.Overflow → ⊥ }
@@ -60,7 +60,7 @@ impl Values {
         Ok(())
     }
 
-    /// The row on top, times a probability, is added to the one below it.
+    /// Adds the row on top, times a probability, to the one below it.
     pub(crate) fn weigh(&mut self, chance: Fraction) -> Result<(), EvalFault>
         requires two { 2 ≤ length (rows_on self.old) }
         requires rows { (players : ℕ) × AreRows players (rows_on self.old) }
@@ -82,7 +82,7 @@ impl Values {
         Ok(())
     }
 
-    /// Payoffs are added to the row on top. Where there are none, nothing is.
+    /// Adds payoffs to the row on top, or nothing if there are none.
     pub(crate) fn pay(&mut self, payoffs: &[Fraction]) -> Result<(), EvalFault>
         requires one { 1 ≤ length (rows_on self.old) }
         requires rows { (players : ℕ) × AreRows players (rows_on self.old)
@@ -106,7 +106,7 @@ impl Values {
         Ok(())
     }
 
-    /// The row on top is taken off.
+    /// Takes the row on top off the stack.
     pub(crate) fn pop(&mut self) -> Vec<Fraction>
         requires { 1 ≤ length (rows_on self.old) }
         ensures { (rest : List (List Ratio)) × (rows_on self.old ≡ rest ++ result.items ∷ []) }
@@ -118,7 +118,7 @@ impl Values {
     pub(crate) fn give_back(&mut self, row: Vec<Fraction>) -> Result<(), AllocError>
         ensures rows { rows_on self.new ≡ rows_on self.old }
 
-        // It fails only where there was no room.
+        // It fails only if there was no room.
         ensures full { OnErr result (vec_capacity self.old.spare ≤ vec_len self.old.spare) }
     {
         self.spare.push(row)?;

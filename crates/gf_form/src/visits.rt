@@ -1,4 +1,5 @@
-//! The visits of a player to his sets: the ways to come to them, told by his own moves alone.
+//! The visits of a player to his sets: the ways to come to them, as far as his own moves
+//! distinguish them.
 
 ghost use Rattle.std.specs.Prelude.{◌≡◌, [], IfOk};
 ghost use Rattle.gf_form.specs.inner.Visits.{Meets, chosen, visits_of};
@@ -7,7 +8,7 @@ ghost use Rattle.gf_form.specs.declared.visits.Visit.{Visit};
 use indexmap::IndexSet;
 use std::alloc::{AllocError, Global};
 
-/// The last move of a player before a node. All is 0 where he has not moved.
+/// The last move of a player before a node. Everything is 0 if he has not moved.
 #[derive(Clone, Copy, PartialEq, Eq, Hash)]
 pub(crate) struct Move {
     /// The number of the visit on which he moved, from 1.
@@ -18,7 +19,7 @@ pub(crate) struct Move {
     pub action: usize,
 }
 
-/// A way to come to a set: behind this move, and so behind all before it.
+/// A way to come to a set: after this move, and so after all moves before it.
 #[derive(Clone, Copy, PartialEq, Eq, Hash)]
 pub(crate) struct Visit {
     pub last: Move,
@@ -31,7 +32,7 @@ pub(crate) struct Visits {
     visits: IndexSet<Visit>,
 }
 
-/// What a strategy chooses at a set, by its position from 1; 0 where there is no such set.
+/// What a strategy chooses at a set, by its position from 1; 0 if there is no such set.
 pub(crate) fn action_at(strategy: &[u32], position: u32) -> u32
     ensures { result ≡ chosen strategy.now position }
 {
@@ -54,7 +55,7 @@ impl Visits {
         }
     }
 
-    /// The number of a visit, from 1. One that is new comes last.
+    /// The number of a visit, from 1. A new one comes last.
     pub(crate) fn meet(&mut self, visit: Visit) -> Result<usize, AllocError>
         ensures { IfOk result (Meets (visits_of self.old) visit (visits_of self.new)) }
     {

@@ -1,5 +1,5 @@
-//! The operations of a tree, told one after another where they are asked for: the tree is walked
-//! once, and no more is kept than the nodes on the path.
+//! The operations of a tree, given one after another as they are asked for: the tree is walked
+//! once, and only the nodes on the path are kept.
 
 ghost use Rattle.std.specs.Prelude.{◌≡◌, ◌<◌, ◌≤◌, ◌++◌, [], ◌∷◌, None, Some, IfNone, IfOk};
 ghost use Rattle.std.specs.Prelude.{MatchOption, OnErr, OnOk, length, map, option_to_list, unwrap_or};
@@ -18,11 +18,11 @@ use gf_fraction::Fraction;
 use gf_tree::{Branch, Branches, Game};
 use std::alloc::{AllocError, Global};
 
-/// What is still to come at a node, once the value of a child stands on the stack.
+/// What is still to come at a node, once the value of a child is on the stack.
 #[derive(Drop)]
 enum Open<'g, 'a> {
-    /// Chance moves: the sum of the children before it stands below that value, and these branches
-    /// are left.
+    /// Chance moves: the sum of the children before it is below that value, and these branches are
+    /// left.
     Chance {
         node: Branch<'g, 'a>,
         rest: Branches<'g, 'a>,
@@ -31,12 +31,12 @@ enum Open<'g, 'a> {
     Payoffs(u32),
 }
 
-/// A walk through a tree that tells its operations.
+/// A walk through a tree that gives its operations.
 #[derive(Drop)]
 pub(crate) struct Walk<'c, 'g, 'a> {
     /// The action at each set of each player.
     choices: &'c [Vec<u32>],
-    /// The subtree that comes next, where none is being left.
+    /// The subtree that comes next, unless one is being left.
     next: Option<Branch<'g, 'a>>,
     /// The nodes on the path to it.
     open: Vec<Open<'g, 'a>>,
@@ -59,7 +59,7 @@ fn choice_of(choices: &[Vec<u32>], player: u32, position: u32) -> u32
     }
 }
 
-/// The probability of the action at this position, or one where a player moves.
+/// The probability of the action at this position, or one if a player moves.
 pub(crate) fn chance_of(node: &Branch<'_, '_>, position: usize) -> Fraction
     ensures { result ≡ branch_chances node.now position }
 {
@@ -90,14 +90,14 @@ impl<'c, 'g, 'a> Walk<'c, 'g, 'a> {
         }
     }
 
-    /// The children of a node of chance that are left come next, and then its payoffs.
+    /// Makes the remaining children of a node of chance come next, and then its payoffs.
     fn go_on(&mut self, node: Branch<'g, 'a>, mut rest: Branches<'g, 'a>) -> Result<(), AllocError>
         requires { self.old.next ≡ None }
         ensures same { strategies_of_walk self.new ≡ strategies_of_walk self.old }
         ensures left { OnOk result (rest_code (strategies_of_walk self.old) node.entry rest.entry
             ++ code_behind self.old ≡ code_left self.new) }
 
-        // It fails only where there was no room.
+        // It fails only if there was no room.
         ensures full { OnErr result (vec_capacity self.old.«open» ≤ vec_len self.old.«open») }
     {
         match rest.next() {
@@ -110,7 +110,7 @@ impl<'c, 'g, 'a> Walk<'c, 'g, 'a> {
         Ok(())
     }
 
-    /// The child that is chosen at a node comes next, and then the payoffs of the node.
+    /// Makes the child that is chosen at a node come next, and then the payoffs of the node.
     fn follow(
         &mut self,
         node: Branch<'g, 'a>,
@@ -126,7 +126,7 @@ impl<'c, 'g, 'a> Walk<'c, 'g, 'a> {
         ensures smaller { IfOk result (λ op. IfNone op
             (next_size self.new.next < length (flatten (tree_of node.entry)))) }
 
-        // It fails only where there was no room.
+        // It fails only if there was no room.
         ensures full { OnErr result (vec_capacity self.old.«open» ≤ vec_len self.old.«open») }
     {
         let choice = choice_of(self.choices, player, position);
@@ -140,8 +140,8 @@ impl<'c, 'g, 'a> Walk<'c, 'g, 'a> {
         }
     }
 
-    /// Goes into a branch. Answers its first operation, or `None` where that is one of a child,
-    /// which comes next.
+    /// Goes into a branch. Returns its first operation, or `None` if that belongs to a child, which
+    /// comes next.
     fn enter(&mut self, branch: Branch<'g, 'a>) -> Result<Option<Op>, AllocError>
         requires { self.old.next ≡ None }
         ensures same { strategies_of_walk self.new ≡ strategies_of_walk self.old }
@@ -150,7 +150,7 @@ impl<'c, 'g, 'a> Walk<'c, 'g, 'a> {
         ensures smaller { IfOk result (λ op. IfNone op
             (next_size self.new.next < length (flatten (tree_of branch.entry)))) }
 
-        // It fails only where there was no room.
+        // It fails only if there was no room.
         ensures full { OnErr result (vec_capacity self.old.«open» ≤ vec_len self.old.«open») }
     {
         match branch.mover() {
@@ -166,7 +166,7 @@ impl<'c, 'g, 'a> Walk<'c, 'g, 'a> {
         }
     }
 
-    /// Leaves a subtree, whose value stands on the stack.
+    /// Leaves a subtree, whose value is on the stack.
     fn leave(&mut self) -> Result<Option<Op>, AllocError>
         requires { self.old.next ≡ None }
         ensures same { strategies_of_walk self.new ≡ strategies_of_walk self.old }
@@ -184,7 +184,7 @@ impl<'c, 'g, 'a> Walk<'c, 'g, 'a> {
         }
     }
 
-    /// The next operation, or `None` behind the last one.
+    /// The next operation, or `None` after the last one.
     pub(crate) fn next(&mut self) -> Result<Option<Op>, AllocError>
         ensures same { strategies_of_walk self.new ≡ strategies_of_walk self.old }
         ensures left { IfOk result (λ op. MatchOption op (code_left self.old ≡ [])

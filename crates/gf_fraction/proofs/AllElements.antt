@@ -1,4 +1,4 @@
--- What holds of each element of a list, and of lists that are put together.
+-- What holds for each element of a list, and for lists that are put together.
 use Rattle.std.proofs.Common.{◌≡◌, ℕ, zero, suc, List, [], ◌∷◌, ◌++◌, map, Some, slice_get, subst}
 use Rattle.std.specs.List.{AllByRecursion, flat_map}
 

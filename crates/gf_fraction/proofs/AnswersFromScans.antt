@@ -1,4 +1,4 @@
--- The answer that a text has, from what the scan of it finds: capped numbers keep its value and its
+-- The answer for a text, from what the scan of it finds: capped numbers keep its value and its
 -- fault.
 use Rattle.std.proofs.Common.{◌≡◌, ℕ, ℤ, pos, negsuc, suc, ◌<◌, ◌≤◌, min, Bool, true, List, []}
 use Rattle.std.proofs.Common.{◌∷◌, ◌++◌, length, Some, None, arith, refl, ap, sym, ◌∙◌, subst}

@@ -1,4 +1,4 @@
--- The answer of reading as it is computed is the one that the text has.
+-- The computed answer of reading is the one that the text has.
 use Rattle.std.proofs.Common.{◌≡◌, ℕ, ℤ, pos, negsuc, ◌^◌, ◌<◌, Bool, true, false, List, Option}
 use Rattle.std.proofs.Common.{Some, None, Result, Ok, Err, MatchResult, arith, refl, sym, subst}
 use Rattle.std.specs.Prelude.{◌==◌, ◌-ℤ◌, ◌≤ℤ◌, int_le, if◌then◌else◌}

@@ -1,4 +1,4 @@
--- Sums and products as they are computed are what the relations ask for.
+-- Computed sums and products are those of the relations.
 use Rattle.std.proofs.Common.{◌≡◌, ℕ, ℤ, pos, suc, zero, ◌*◌, ◌/◌, ◌%◌, ◌^◌, ◌<◌}
 use Rattle.std.proofs.Common.{Bool, true, false, Option, Some, None, MatchOption}
 use Rattle.std.proofs.Common.{arith, refl, ap, sym, subst, inl, inr, ◌⊎◌}

@@ -1,4 +1,4 @@
--- Common divisors, and numbers that have none but 1.
+-- Common divisors, and numbers that have none except 1.
 use Rattle.std.proofs.Common.{◌%◌, ◌≡◌, ℕ, suc, zero, ◌+◌, ◌*◌, ◌/◌}
 use Rattle.std.proofs.Common.{◌<◌, arith, ap, sym, ◌∙◌, refl, subst}
 use Rattle.std.specs.Int.{IsGcd, ◌∣◌}

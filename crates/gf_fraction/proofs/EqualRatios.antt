@@ -1,4 +1,4 @@
--- A test of two ratios part by part tells whether they are equal.
+-- A test of two ratios part by part decides whether they are equal.
 use Rattle.std.proofs.Common.{◌≡◌, Bool, true, false, nat_eq, refl, ap}
 use Rattle.std.specs.Prelude.{◌&&◌}
 use Rattle.std.specs.Bool.{Decides}

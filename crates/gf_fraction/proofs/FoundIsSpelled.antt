@@ -1,4 +1,4 @@
--- What a scan finds in a text, the text spells.
+-- A text spells what a scan finds in it.
 use Rattle.std.proofs.Common.{◌≡◌, ℕ, ℤ, pos, ◌<◌, min, Bool, true, false, List}
 use Rattle.std.proofs.Common.{[], ◌∷◌, ◌++◌, length, Option, Some, None, arith}
 use Rattle.std.proofs.Common.{refl, ap, sym, ◌∙◌, subst, inl, inr, append_assoc}
@@ -59,7 +59,7 @@ only_digits text some none =
     empty (c ∷ cs) h = absurd (let e : length (c ∷ cs) ≡ 0 = eqb-true (length (c ∷ cs)) 0 h in
         let f : 0 < length (c ∷ cs) = omega arith in omega arith)
 
--- an exponent behind its mark
+-- an exponent after its mark
 record FoundExponent (text : List ℕ) (e : ℤ) : Type 0 where
   pub sign : List ℕ
   pub digits : List ℕ
@@ -103,7 +103,7 @@ pub record Found (text : List ℕ) (spelling : Spelling) : Type 0 where
   pub shape : HasShape text reading
   pub is : spelling ≡ held reading
 
--- behind digits with or without a point
+-- after digits with or without a point
 found_end : (text digits rest : List ℕ) (places : ℕ) (s : Spelling) → IsPlain text digits places
     → scan_end (capped (digits_value 10 digits)) places rest ≡ Some s → Found (text ++ rest) s
 found_end text digits [] places s is h =

@@ -1,4 +1,4 @@
--- What a method knows of a fraction by its fields, said of the ratio that clauses see.
+-- What a method knows about a fraction by its fields, stated for the ratio that clauses see.
 use Rattle.std.proofs.Common.{◌≡◌, ap, subst, ◌∙◌, to_z, of_z}
 use Rattle.std.specs.Int.{w128}
 use Rattle.std.proofs.lemmas.Int.{to_z-of_z, fits_signed_from_abs}

@@ -1,4 +1,4 @@
--- The digits at the head of a text: their value, how many they are, and what follows them.
+-- The digits at the head of a text: their value, how many there are, and what follows them.
 use Rattle.std.proofs.Common.{◌≡◌, ℕ, ◌+◌, ◌-◌, ◌*◌, ◌<◌, ◌≤◌, Bool, true}
 use Rattle.std.proofs.Common.{false, List, [], ◌∷◌, ◌++◌, length, get_or, drop}
 use Rattle.std.proofs.Common.{arith, refl, ap, sym, ◌∙◌, add-one, length-append}
@@ -13,7 +13,7 @@ use Rattle.gf_fraction.specs.NumberScan.{capped, leading, behind, leading_value}
 pub digit_value-ascii : (c : ℕ) → is_ascii_digit c ≡ true → digit_value c ≡ c - 48
 digit_value-ascii c h = grind (arith, nat_tests)
 
--- one digit more, and none
+-- one more digit, and none
 pub leading_value-digit : (v c : ℕ) (cs : List ℕ) → is_ascii_digit c ≡ true
     → leading_value v (c ∷ cs) ≡ leading_value (v * 10 + (c - 48)) cs
 leading_value-digit v c cs h =

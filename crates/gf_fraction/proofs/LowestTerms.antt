@@ -1,4 +1,5 @@
--- Ratios in lowest terms: when they are fractions, which value they have, and that it has no other.
+-- Ratios in lowest terms: when they are fractions, which value they have, and that no other ratio
+-- has it.
 use Rattle.std.proofs.Common.{◌≡◌, ℕ, ℤ, Bool, pos, suc, zero, ◌*◌, ◌^◌}
 use Rattle.std.proofs.Common.{◌<◌, ◌≤◌, arith, ap, sym, ◌∙◌, subst}
 use Rattle.std.specs.Prelude.{◌*ℤ◌, unsigned_abs, int_lt}

@@ -1,4 +1,5 @@
--- Numbers without their twos, and the greatest common divisor by steps that leave these out.
+-- Numbers without their factors of two, and the greatest common divisor by steps that leave these
+-- out.
 use Rattle.std.proofs.Common.{◌≡◌, ℕ, zero, suc, ◌+◌, ◌-◌, ◌*◌, ◌/◌, ◌%◌, ◌^◌}
 use Rattle.std.proofs.Common.{◌<◌, ◌≤◌, min, arith, ap, sym, ◌∙◌, subst, inl, inr}
 use Rattle.std.specs.Prelude.{◌⊎◌}

@@ -1,4 +1,4 @@
--- Short numbers: what one pass over a text says of numerator and denominator, where 64 bits have
+-- Short numbers: what one pass over a text says about numerator and denominator, if 64 bits have
 -- room for them.
 use Rattle.std.proofs.Common.{◌≡◌, ℕ, pos, zero, suc, ◌+◌, ◌-◌, ◌^◌, ◌<◌, ◌≤◌, Bool}
 use Rattle.std.proofs.Common.{true, List, [], ◌∷◌, length, get_or, take, drop, Some}
@@ -68,7 +68,7 @@ short_whole text rest v value end short none some =
       };
     }
 
--- a slash and digits of value d behind digits of value v
+-- a slash and digits of value d after digits of value v
 pub short_ratio : (text rest under after : List ℕ) (v d : ℕ)
     → leading_value 0 text ≡ leading_value v rest → behind text ≡ behind rest → v < 2 ^ 64
     → rest ≡ 47 ∷ under → length rest < length text

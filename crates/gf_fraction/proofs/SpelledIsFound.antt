@@ -1,4 +1,4 @@
--- Where a text has a shape, the scan of it finds what the text says, capped.
+-- If a text has one of the shapes, the scan of it finds what the text says, capped.
 use Rattle.std.proofs.Common.{◌≡◌, ℕ, ℤ, pos, negsuc, suc, zero, ◌+◌, ◌*◌, ◌<◌, min}
 use Rattle.std.proofs.Common.{Bool, true, false, List, [], ◌∷◌, ◌++◌, length, Option, Some, None}
 use Rattle.std.proofs.Common.{arith, refl, ap, sym, ◌∙◌, subst, inl, inr, append_assoc}

@@ -1,4 +1,4 @@
--- Where a sum or a product is a fraction, it is one fraction.
+-- If a sum or a product is a fraction, it is only one fraction.
 use Rattle.std.proofs.Common.{◌≡◌, ◌*◌, ◌<◌, arith}
 use Rattle.std.specs.Prelude.{pos, ◌*ℤ◌}
 use Rattle.gf_fraction.specs.Ratio.{IsFraction, Ratio, whole}

@@ -12,7 +12,7 @@ use Rattle.std.proofs.lemmas.Bool.{ne_eqb}
 use Rattle.std.proofs.Math.Dec.{leb-suc-zero}
 use Rattle.gf_fraction.specs.NumberText.{number_text}
 
--- what stands behind the numerator
+-- what comes after the numerator
 abbrev pub under_text : ℕ → List ℕ
 under_text d = if d == 1 then [] else codes "/" ++ decimal d
 

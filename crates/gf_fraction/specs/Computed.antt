@@ -1,6 +1,6 @@
--- Sums, products and the answers of reading, computed, for the machines of the crates above. No
--- contract here cites them: that they are what the relations ask for is proved in
--- proofs/ComputedArithmetic and proofs/ComputedAnswers.
+-- Sums, products and what reading answers, computed, for the machines of the crates above. No
+-- contract here cites them: proofs/ComputedArithmetic and proofs/ComputedAnswers prove that they
+-- agree with the relations.
 use Rattle.std.specs.Prelude.{◌==◌, ◌&&◌, ℕ, ℤ, Bool, zero, suc, List, Option, Some, None}
 use Rattle.std.specs.Prelude.{Result, Ok, Err, pos, unsigned_abs, int_lt, int_le, nat_lt}
 use Rattle.std.specs.Prelude.{nat_le, ◌+ℤ◌, ◌-ℤ◌, ◌*ℤ◌, ◌*◌, ◌/◌, ◌%◌, ◌^◌, if◌then◌else◌}
@@ -13,7 +13,7 @@ use Rattle.gf_fraction.specs.declared.fraction.NumberFault.TheVariants.{NotANumb
 use Rattle.gf_fraction.specs.declared.fraction.NumberFault.TheVariants.{ZeroDenominator, TooLarge}
 use Rattle.gf_fraction.specs.declared.read.Spelling.{Spelling}
 
--- the greatest common divisor, by Euclid's steps, of which a number above b is enough
+-- the greatest common divisor, by Euclid's steps; any number of steps above b is enough
 unfoldable pub gcd_within : ℕ → ℕ → ℕ → ℕ
 gcd_within zero a b = a
 gcd_within (suc n) a zero = a
@@ -29,7 +29,7 @@ lowest_of z d = lowest_by z d (gcd_within (suc d) (unsigned_abs z) d)
 abbrev pub is_within : ℤ → Bool
 is_within z = nat_lt (unsigned_abs z) (2 ^ 127)
 
--- the sum of the numerators over a denominator, if all these are within the bound
+-- the sum of two numerators over a denominator, if all of these are within the bound
 abbrev pub sum_within : ℤ → ℤ → ℕ → Option Ratio
 sum_within left right den =
     if nat_lt den (2 ^ 127) && is_within left && is_within right && is_within (left +ℤ right)

@@ -21,8 +21,8 @@ pub record IsLcm (a b m : ℕ) : Type 0 where
 abbrev pub scaled_num : Ratio → ℕ → ℤ
 scaled_num x m = x.num *ℤ pos (m / x.den)
 
--- the sum fits: with the least common denominator, that number, both numerators scaled to it and
--- their sum are at most 2^127 - 1 in size
+-- the sum fits: the least common denominator, both numerators scaled to it, and their sum are at
+-- most 2^127 - 1 in size
 pub record SumFits (x y : Ratio) : Type 0 where
   pub den : ℕ
   pub least : IsLcm x.den y.den den

@@ -1,5 +1,5 @@
--- What the code finds in a number text as it goes along it. Contracts inside this crate cite it,
--- and no public one.
+-- What the code finds in a number text as it goes along. Only contracts inside this crate cite this
+-- file.
 use Rattle.std.specs.Prelude.{◌≡◌, ◌<◌, ℕ, ℤ, Bool, true, false, List, [], ◌∷◌}
 use Rattle.std.specs.Prelude.{length, Option, Some, None, pos, ◌==◌, ◌||◌, ◌&&◌}
 use Rattle.std.specs.Prelude.{nat_lt, min, ◌^◌, option_map, if◌then◌else◌}
@@ -16,7 +16,7 @@ use Rattle.gf_fraction.specs.declared.fraction.NumberFault.TheVariants.{ZeroDeno
 use Rattle.gf_fraction.specs.declared.read.Spelling.{Spelling}
 use Rattle.gf_fraction.specs.declared.read.Spelling.TheVariants.{Decimal, Rational}
 
--- a number, where 2^127 stands for any that is too large
+-- a number; 2^127 stands for any that is too large
 abbrev pub capped : ℕ → ℕ
 capped n = min n (2 ^ 127)
 
@@ -29,7 +29,7 @@ abbrev pub behind : List ℕ → List ℕ
 behind [] = []
 behind (c ∷ cs) = if is_ascii_digit c then behind cs else c ∷ cs
 
--- the value of the digits that a text begins with, behind digits of value n
+-- the value of the digits that a text begins with, after digits of value n
 abbrev pub leading_value : ℕ → List ℕ → ℕ
 leading_value n text = digits_value_after 10 n (leading text)
 
@@ -45,14 +45,14 @@ abbrev pub after_sign : List ℕ → List ℕ
 after_sign [] = []
 after_sign (c ∷ cs) = if (c == 43) || (c == 45) then cs else c ∷ cs
 
--- digits alone, behind the mark of an exponent and its sign. Past 38, all are alike
+-- only digits, after the mark of an exponent and its sign; above 38, all are alike
 abbrev pub scan_exponent : List ℕ → Option ℤ
 scan_exponent text =
     if has_digits (after_sign text) && (length (behind (after_sign text)) == 0)
     then Some (signed (is_minus text) (min (capped (leading_value 0 (after_sign text))) 39))
     else None
 
--- the end of a text, or an exponent, behind digits with or without a point
+-- the end of a text, or an exponent, after digits with or without a point
 abbrev pub scan_end : ℕ → ℕ → List ℕ → Option Spelling
 scan_end digits places [] = Some (Decimal digits places (pos 0))
 scan_end digits places (c ∷ cs) =
@@ -64,20 +64,20 @@ abbrev pub scan_decimal : ℕ → Bool → ℕ → List ℕ → Option Spelling
 scan_decimal digits true places rest = scan_end digits places rest
 scan_decimal digits false places rest = None
 
--- digits behind a point
+-- digits after a point
 abbrev pub scan_pointed : ℕ → Bool → List ℕ → Option Spelling
 scan_pointed digits some text =
     scan_decimal (capped (leading_value digits text)) (some || has_digits text)
     (length (leading text)) (behind text)
 
--- a denominator behind a slash
+-- a denominator after a slash
 abbrev pub scan_fraction : ℕ → Bool → List ℕ → Option Spelling
 scan_fraction num some text =
     if some && has_digits text && (length (behind text) == 0)
     then Some (Rational num (capped (leading_value 0 text)))
     else None
 
--- what follows the first digits, of which this is the value, if there are some
+-- what follows the first digits, which have this value, if there are any
 abbrev pub scan_rest : ℕ → Bool → List ℕ → Option Spelling
 scan_rest digits some [] = scan_decimal digits some 0 []
 scan_rest digits some (c ∷ cs) =
@@ -85,7 +85,7 @@ scan_rest digits some (c ∷ cs) =
     else if c == 46 then scan_pointed digits some cs
     else scan_decimal digits some 0 (c ∷ cs)
 
--- a text behind its sign
+-- a text after its sign
 abbrev pub scan : List ℕ → Option Spelling
 scan text = scan_rest (capped (leading_value 0 text)) (has_digits text) (behind text)
 
@@ -94,7 +94,7 @@ abbrev pub reading_of : Spelling → Reading
 reading_of (Decimal digits places exponent) = decimal digits places exponent
 reading_of (Rational num den) = rational num den
 
--- a text behind its sign that says a numerator over a denominator, within the bounds
+-- a text after its sign that says a numerator over a denominator, within the bounds
 pub record IsShort (text : List ℕ) (num den : ℕ) : Type 0 where
   pub spelling : Spelling
   pub scanned : scan text ≡ Some spelling
@@ -110,14 +110,14 @@ pub record IsShortLowest (text : List ℕ) (p q : ℕ) : Type 0 where
   pub said : IsShort text num den
   pub lowest : IsLowest num den p q
 
--- the value of a reading within its bounds, and what is wrong with another one
+-- the value of a reading within its bounds, or what is wrong with it
 pub record IsValueOf (negative : Bool) (reading : Reading) (r : Ratio) : Type 0 where
   pub den_above_zero : 0 < den_of reading
   pub bounded : IsBounded reading
   pub fraction : IsFraction r
   pub value : HasValue r (signed negative (size_of reading)) (den_of reading)
 
--- the same of digits and a power of ten
+-- the same for digits and a power of ten
 pub record IsScaled (negative : Bool) (digits : ℕ) (power : ℤ) (r : Ratio) : Type 0 where
   pub within : scaled_digits digits power < 2 ^ 127
   pub fraction : IsFraction r

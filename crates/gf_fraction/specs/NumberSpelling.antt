@@ -1,4 +1,4 @@
--- How a text spells a number, within which bounds, and why another text spells none (this
+-- How a text spells a number, within which bounds, and why any other text spells none (this
 -- project's profile).
 use Rattle.std.specs.Prelude.{◌≡◌, ◌⊎◌, ℕ, ℤ, Bool, true, false, List, [], ◌++◌}
 use Rattle.std.specs.Prelude.{length, codes, Result, MatchResult, pos, negsuc}
@@ -9,8 +9,8 @@ use Rattle.gf_fraction.specs.declared.fraction.NumberFault.{NumberFault}
 use Rattle.gf_fraction.specs.declared.fraction.NumberFault.TheVariants.{NotANumber}
 use Rattle.gf_fraction.specs.declared.fraction.NumberFault.TheVariants.{ZeroDenominator, TooLarge}
 
--- what a text says behind its sign, before any bound is asked: digits, of which so many stand
--- behind the point, with an exponent; or a numerator over a denominator
+-- what a text says after its sign, before any bound is checked: digits, this many of them after the
+-- point, with an exponent; or a numerator over a denominator
 pub data Reading : Type 0 where
   decimal : (digits places : ℕ) (exponent : ℤ) → Reading
   rational : (num den : ℕ) → Reading
@@ -21,8 +21,8 @@ pub data IsSign : List ℕ → Bool → Type 0 where
   plus : IsSign (codes "+") false
   minus : IsSign (codes "-") true
 
--- digits, or digits with one point, of which one side may be empty: the digits without the point,
--- and how many stand behind it
+-- digits, or digits with one point, one side of which may be empty: the digits without the point,
+-- and how many follow it
 pub data IsPlain : List ℕ → (digits : List ℕ) → (places : ℕ) → Type 0 where
   whole : (digits : List ℕ) → IsNumeral 10 digits → IsPlain digits digits 0
   pointed : (before after : List ℕ) → IsNumeral 10 (before ++ after)
@@ -40,8 +40,8 @@ pub record IsExponent (text : List ℕ) (exponent : ℤ) : Type 0 where
   pub some : IsNumeral 10 digits
   pub value : exponent ≡ signed negative (digits_value 10 digits)
 
--- the four shapes behind the sign: digits; digits with one point; either of these with an
--- exponent; digits, a slash and digits
+-- the four shapes after the sign: digits; digits with one point; either of these with an exponent;
+-- digits, a slash and digits
 pub data HasShape : List ℕ → Reading → Type 0 where
   plain : (text digits : List ℕ) (places : ℕ) → IsPlain text digits places
       → HasShape text (decimal (digits_value 10 digits) places (pos 0))
@@ -51,7 +51,7 @@ pub data HasShape : List ℕ → Reading → Type 0 where
   fraction : (num den : List ℕ) → IsNumeral 10 num → IsNumeral 10 den
       → HasShape (num ++ codes "/" ++ den) (rational (digits_value 10 num) (digits_value 10 den))
 
--- the text is a sign, or none, and behind it one of the shapes
+-- the text is a sign, or none, followed by one of the shapes
 pub record Spells (text : List ℕ) (negative : Bool) (reading : Reading) : Type 0 where
   pub sign : List ℕ
   pub rest : List ℕ
@@ -59,7 +59,7 @@ pub record Spells (text : List ℕ) (negative : Bool) (reading : Reading) : Type
   pub is_sign : IsSign sign negative
   pub has_shape : HasShape rest reading
 
--- digits over ten to the power k, where k is not negative, and else digits times ten to the power
+-- digits over ten to the power k if k is not negative, and otherwise digits times ten to the power
 -- -k: the size of the numerator, and the denominator
 abbrev pub scaled_digits : ℕ → ℤ → ℕ
 scaled_digits digits (pos k) = digits
@@ -78,9 +78,9 @@ abbrev pub den_of : Reading → ℕ
 den_of (decimal digits places exponent) = power_of_ten (pos places -ℤ exponent)
 den_of (rational num den) = den
 
--- the bounds of a decimal: the digits are at most 2^127 - 1, at most 38 of them stand behind the
--- point, the exponent is -38 to 38, the power of ten under the digits is at most 38, and where that
--- is negative, the digits times ten to its size are at most 2^127 - 1
+-- the bounds of a decimal: the digits are at most 2^127 - 1, at most 38 of them follow the point,
+-- the exponent is -38 to 38, the power of ten under the digits is at most 38, and if that power is
+-- negative, the digits times ten to its size are at most 2^127 - 1
 pub record IsBoundedDecimal (digits places : ℕ) (exponent : ℤ) : Type 0 where
   pub digits_within : digits < 2 ^ 127
   pub places_within : places ≤ 38
@@ -93,7 +93,7 @@ abbrev pub IsBounded : Reading → Type 0
 IsBounded (decimal digits places exponent) = IsBoundedDecimal digits places exponent
 IsBounded (rational num den) = (num < 2 ^ 127) × (den < 2 ^ 127)
 
--- the text is a number, and r its value in lowest terms
+-- the text is a number, and r is its value in lowest terms
 pub record IsNumber (text : List ℕ) (r : Ratio) : Type 0 where
   pub negative : Bool
   pub reading : Reading
@@ -103,14 +103,14 @@ pub record IsNumber (text : List ℕ) (r : Ratio) : Type 0 where
   pub fraction : IsFraction r
   pub value : HasValue r (signed negative (size_of reading)) (den_of reading)
 
--- the text has a shape, and a zero denominator
+-- the text has one of the shapes, and a zero denominator
 pub record HasZeroDenominator (text : List ℕ) : Type 0 where
   pub negative : Bool
   pub reading : Reading
   pub spelled : Spells text negative reading
   pub zero : den_of reading ≡ 0
 
--- the text has a shape, no zero denominator, and breaks a bound
+-- the text has one of the shapes, and no zero denominator, but breaks a bound
 pub record IsTooLarge (text : List ℕ) : Type 0 where
   pub negative : Bool
   pub reading : Reading
@@ -118,13 +118,14 @@ pub record IsTooLarge (text : List ℕ) : Type 0 where
   pub den_above_zero : 0 < den_of reading
   pub unbounded : ¬ (IsBounded reading)
 
--- why a text is no number: it has no shape, else a zero denominator, else it breaks a bound
+-- why a text is not a number: it has none of the shapes; otherwise it has a zero denominator;
+-- otherwise it breaks a bound
 abbrev pub HasNumberFault : List ℕ → NumberFault → Type 0
 HasNumberFault text NotANumber =
     (negative : Bool) (reading : Reading) → ¬ (Spells text negative reading)
 HasNumberFault text ZeroDenominator = HasZeroDenominator text
 HasNumberFault text TooLarge = IsTooLarge text
 
--- what reading the text answers: its value, or why it is no number
+-- what reading the text answers: its value, or why it is not a number
 abbrev pub Reads : List ℕ → Result Ratio NumberFault → Type 0
 Reads text answer = MatchResult answer (λ r. IsNumber text r) (λ fault. HasNumberFault text fault)

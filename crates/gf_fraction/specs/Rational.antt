@@ -20,12 +20,12 @@ plus x y = record { num = x.num *ℤ pos y.den +ℤ y.num *ℤ pos x.den; den = 
 abbrev pub times : Ratio → Ratio → Ratio
 times x y = record { num = x.num *ℤ y.num; den = x.den * y.den }
 
--- the sum of these
+-- their sum
 abbrev pub total : List Ratio → Ratio
 total [] = zero_ratio
 total (x ∷ xs) = plus x (total xs)
 
--- the product of these
+-- their product
 abbrev pub ratio_product : List Ratio → Ratio
 ratio_product [] = one_ratio
 ratio_product (x ∷ xs) = times x (ratio_product xs)

@@ -1,5 +1,5 @@
--- What the steps of an addition and a multiplication give. Contracts inside this crate cite it, and
--- no public one.
+-- What the steps of an addition and a multiplication give. Only contracts inside this crate cite
+-- this file.
 use Rattle.std.specs.Prelude.{◌≡◌, ℕ, ℤ, pos, ◌+ℤ◌, ◌*ℤ◌, ◌*◌, ◌^◌, ◌<◌}
 use Rattle.std.specs.Int.{IsGcd, ◌∣◌}
 use Rattle.gf_fraction.specs.Ratio.{IsWithin}
@@ -17,8 +17,8 @@ pub record IsLowest (n d p q : ℕ) : Type 0 where
   pub den : q * by ≡ d
   pub apart : IsGcd p q 1
 
--- with the denominator b * p, that number, the numerators a * p and c * q and their sum are at most
--- 2^127 - 1 in size
+-- the denominator b * p, the numerators a * p and c * q, and their sum are at most 2^127 - 1 in
+-- size
 pub record PartsFit (a c : ℤ) (b p q : ℕ) : Type 0 where
   pub den : b * p < 2 ^ 127
   pub left : IsWithin (a *ℤ pos p)

@@ -13,11 +13,11 @@ pub struct Overflow;
 /// The greatest denominator, and the greatest size of a numerator.
 pub const LARGEST: u128 = i128::MAX as u128;
 
-/// The greatest number of 64 bits. Up to it a division is quick.
+/// The greatest number of 64 bits. Up to it, division is fast.
 const WORD: u128 = u64::MAX as u128;
 
-/// The greatest common divisor of two odd numbers. A difference of odd numbers is even, and its
-/// twos divide neither of them, so that no step needs a division.
+/// The greatest common divisor of two odd numbers. The difference of two odd numbers is even, and
+/// its factors of two divide neither of them, so no step needs a division.
 fn odd_gcd(a: u64, b: u64) -> u64
     requires odd_a { a % 2 ≡ 1 }
     requires odd_b { b % 2 ≡ 1 }
@@ -48,7 +48,7 @@ fn word_gcd(a: u64, b: u64) -> u64
     odd_gcd(a >> a_twos, b >> b_twos) << a_twos.min(b_twos)
 }
 
-/// The greatest common divisor. Steps are of 64 bits as soon as both numbers are.
+/// The greatest common divisor. Steps use 64 bits as soon as both numbers fit.
 pub fn gcd(a: u128, b: u128) -> u128
     ensures { IsGcd a b result }
 {
@@ -68,7 +68,7 @@ pub fn gcd(a: u128, b: u128) -> u128
     u128::from(word_gcd(x as u64, y as u64))
 }
 
-/// The quotient, by a division of 64 bits where both numbers allow it, and by none where the
+/// The quotient, by a division of 64 bits if both numbers fit, and without a division if the
 /// divisor is 1.
 pub fn quotient(n: u128, by: u128) -> u128
     requires { 0 < by }
@@ -83,8 +83,8 @@ pub fn quotient(n: u128, by: u128) -> u128
     }
 }
 
-/// A numerator's size and a denominator in lowest terms. What they share is sought in `common`
-/// alone.
+/// A numerator's size and a denominator in lowest terms. Common factors are looked for only in
+/// `common`.
 pub fn lowest(size: u128, den: u128, common: u128) -> (u128, u128)
     requires { HoldsCommon size den common }
     ensures { IsLowest size den result.0 result.1 }
@@ -93,7 +93,7 @@ pub fn lowest(size: u128, den: u128, common: u128) -> (u128, u128)
     (quotient(size, shared), quotient(den, shared))
 }
 
-/// The same of numbers of 64 bits.
+/// The same for numbers of 64 bits.
 pub fn lowest_words(size: u64, den: u64) -> (u64, u64)
     requires { 0 < den }
     ensures { IsLowest size den result.0 result.1 }
@@ -108,8 +108,8 @@ pub fn lowest_words(size: u64, den: u64) -> (u64, u64)
     (size / shared, den / shared)
 }
 
-/// Digits over ten to a power, in lowest terms. They share twos and fives alone, and to find these
-/// takes a shift and divisions by a constant.
+/// Digits over ten to a power, in lowest terms. Common factors are only twos and fives, and these
+/// are found by a shift and divisions by a constant.
 pub fn lowest_decimal(digits: u64, places: u32) -> (u64, u64)
     requires { places ≤ 19 }
     ensures { IsLowest digits (10 ^ places) result.0 result.1 }

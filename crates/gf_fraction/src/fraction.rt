@@ -25,7 +25,7 @@ pub enum NumberFault {
 }
 
 /// An exact fraction in lowest terms, with a denominator of 1 to `M` and a numerator of at most `M`
-/// in size, where `M` is `2^127 - 1`. Two fractions are `==` where their values are.
+/// in size, where `M` is `2^127 - 1`. Two fractions are `==` if their values are equal.
 #[derive(Copy, Debug, PartialEq, Eq, Hash)]
 pub struct Fraction {
     num: i128,
@@ -44,7 +44,7 @@ impl Model for Fraction {
     ghost inverse = { λ r. record { num = r.num; den = r.den } };
 }
 
-// By hand, so that it says what a derived one keeps to itself: that it is a fraction.
+// By hand, so that it says what a derived clone does not: that the result is a fraction.
 impl Clone for Fraction {
     ghost use Rattle.std.specs.Prelude.{◌≡◌};
     ghost use Rattle.gf_fraction.specs.Ratio.{IsFraction};
@@ -64,7 +64,9 @@ impl Clone for Fraction {
 impl Fraction {
     /// `num` over `den`, in lowest terms.
     ///
-    /// `ZeroDenominator` where `den` is zero, else `TooLarge` where `den` or the size of `num`, as
+    /// # Errors
+    ///
+    /// `ZeroDenominator` if `den` is zero; otherwise `TooLarge` if `den` or the size of `num`, as
     /// given, is above `2^127 - 1` (this project's profile).
     pub fn new(num: i128, den: u128) -> Result<Fraction, NumberFault>
         ensures zero_denominator { den ≡ 0 → result ≡ Err NumberFault.ZeroDenominator }
@@ -82,7 +84,7 @@ impl Fraction {
         Ok(Fraction::reduced(num, den, den))
     }
 
-    /// `num` over `den` in lowest terms. What they share is sought in `common` alone.
+    /// `num` over `den` in lowest terms. Common factors are looked for only in `common`.
     pub(crate) fn reduced(num: i128, den: u128, common: u128) -> Fraction
         requires den_above_zero { 0 < den }
         requires den_within { den < 2 ^ 127 }
@@ -98,7 +100,7 @@ impl Fraction {
         }
     }
 
-    /// `num` over `den` with a sign, where they are in lowest terms.
+    /// `num` over `den` with a sign, if they are in lowest terms.
     pub(crate) fn of_words(negative: bool, num: u64, den: u64) -> Fraction
         requires den_above_zero { 0 < den }
         requires lowest { IsGcd num den 1 }
@@ -168,9 +170,11 @@ impl Fraction {
 
     /// The exact sum.
     ///
-    /// `Overflow` where the least common denominator, a numerator scaled to it, or the sum of these
-    /// numerators is above `2^127 - 1` in size, also where the sum in lowest terms would not be
-    /// (this project's profile).
+    /// # Errors
+    ///
+    /// `Overflow` if the least common denominator, a numerator scaled to it, or the sum of these
+    /// numerators is above `2^127 - 1` in size, even if the sum in lowest terms would not be (this
+    /// project's profile).
     pub fn add(self, o: Fraction) -> Result<Fraction, Overflow>
         ensures sum { IfOk result (λ r. IsFraction r × IsSum r self o) }
         ensures overflow { MatchResult result (λ _. SumFits self o) (λ _. ¬ (SumFits self o)) }
@@ -188,8 +192,10 @@ impl Fraction {
 
     /// The exact product.
     ///
-    /// `Overflow` where in lowest terms a part of it is above `2^127 - 1` in size (this project's
-    /// profile).
+    /// # Errors
+    ///
+    /// `Overflow` if a part of the product in lowest terms is above `2^127 - 1` in size (this
+    /// project's profile).
     pub fn mul(self, o: Fraction) -> Result<Fraction, Overflow>
         ensures product { IfOk result (λ r. IsFraction r × IsProduct r self o) }
         ensures overflow { MatchResult result (λ _. ProductFits self o)

@@ -1,10 +1,10 @@
 //! Exact fractions within 128 bits, and the texts of numbers.
 //!
 //! A fraction is kept in lowest terms, with a denominator of 1 to `M` and a numerator of at most
-//! `M` in size, where `M` is `2^127 - 1`. Arithmetic is exact or answers `Overflow`. No call but
+//! `M` in size, where `M` is `2^127 - 1`. Arithmetic is exact or returns `Overflow`. No call except
 //! `Fraction::write` takes memory.
 //!
-//! Tests of these calls stand in gamefile: a crate with tests is proved a second time for them.
+//! The tests of these calls are in gamefile: a crate with tests is proved a second time for them.
 #![tactic(auto)]
 
 mod arithmetic;

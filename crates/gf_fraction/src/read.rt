@@ -11,20 +11,21 @@ ghost use Rattle.gf_fraction.specs.NumberScan.{scan_decimal, scan_exponent, scan
 use crate::arithmetic::{LARGEST, lowest_decimal, lowest_words, product, with_sign};
 use crate::fraction::{Fraction, NumberFault};
 
-/// Stands for any number above `LARGEST`, since what is too large need only be known to be so.
+/// Stands for any number above `LARGEST`: all that matters about such a number is that it is too
+/// large.
 const TOO_LARGE: u128 = LARGEST + 1;
 
-/// The greatest exponent, the greatest count of digits behind a point, and the greatest power of
+/// The greatest exponent, the greatest count of digits after a point, and the greatest power of
 /// ten.
 const POWER: i32 = 38;
 
 /// The greatest power of ten of 64 bits.
 const WORD_PLACES: usize = 19;
 
-/// What a text of one of the shapes says behind its sign.
+/// What a text of one of the shapes says after its sign.
 #[derive(Clone, Copy)]
 enum Spelling {
-    /// Digits, of which `places` stand behind the point, and an exponent.
+    /// Digits, of which `places` follow the point, and an exponent.
     Decimal {
         digits: u128,
         places: usize,
@@ -39,7 +40,7 @@ enum Spelling {
 /// The digits at the head of a text.
 #[derive(Clone, Copy)]
 struct Run<'a> {
-    /// Their value, behind the digits before them.
+    /// Their value, after the digits before them.
     value: u128,
     /// How many there are.
     len: usize,
@@ -47,8 +48,8 @@ struct Run<'a> {
     rest: &'a [u8],
 }
 
-/// Whether a text begins with a minus, and the text behind its sign. A sign is as often there as
-/// not, so no branch depends on it.
+/// Whether a text begins with a minus, and the text after its sign. A sign is present about as
+/// often as not, so no branch depends on it.
 fn split_sign(text: &[u8]) -> (bool, &[u8])
     ensures negative { result.0 ≡ is_minus text.entry.now }
     ensures rest { result.1.now ≡ after_sign text.entry.now }
@@ -77,8 +78,8 @@ fn word_digits(from: u64, text: &[u8]) -> (u64, &[u8])
     (value, &[])
 }
 
-/// A numerator and a denominator in lowest terms, where a text has no exponent and 64 bits have
-/// room for both as spelled and for one digit more. Most numbers are read so.
+/// A numerator and a denominator in lowest terms, if a text has no exponent and 64 bits have room
+/// for both as spelled and for one more digit. Most numbers are read in this way.
 fn short(text: &[u8]) -> Option<(u64, u64)>
     ensures { IfSome result (λ r. IsShortLowest text.now r.0 r.1) }
 {
@@ -105,7 +106,7 @@ fn short(text: &[u8]) -> Option<(u64, u64)>
     }
 }
 
-/// Reads digits, behind digits of the value `from`.
+/// Reads digits, after digits of the value `from`.
 fn wide_digits(from: u128, text: &[u8]) -> (u128, &[u8])
     requires { from ≤ 2 ^ 127 }
     ensures value { result.0 ≡ capped (leading_value from text.entry.now) }
@@ -125,8 +126,7 @@ fn wide_digits(from: u128, text: &[u8]) -> (u128, &[u8])
     (value, &[])
 }
 
-/// The digits at the head of a text, behind digits of the value `from`. The first steps are of 64
-/// bits.
+/// The digits at the head of a text, after digits of the value `from`. The first steps use 64 bits.
 #[tactic(auto, using(crate::proofs::LeadingDigits::digit_counts))]
 fn digits(from: u128, text: &[u8]) -> Run<'_>
     requires { from ≤ 2 ^ 127 }
@@ -148,7 +148,7 @@ fn digits(from: u128, text: &[u8]) -> Run<'_>
     }
 }
 
-/// The exponent behind its mark. Past 38 all are alike.
+/// The exponent after its mark. Above 38, all are alike.
 fn scan_exponent(text: &[u8]) -> Option<i32>
     ensures { result ≡ scan_exponent text.now }
 {
@@ -180,7 +180,7 @@ fn scan_decimal(digits: u128, has_digits: bool, places: usize, rest: &[u8]) -> O
     })
 }
 
-/// The denominator behind a slash.
+/// The denominator after a slash.
 fn scan_fraction(num: u128, has_digits: bool, text: &[u8]) -> Option<Spelling>
     ensures { result ≡ scan_fraction num has_digits text.now }
 {
@@ -195,7 +195,7 @@ fn scan_fraction(num: u128, has_digits: bool, text: &[u8]) -> Option<Spelling>
     }
 }
 
-/// What a text says behind its sign, if it has one of the shapes.
+/// What a text says after its sign, if it has one of the shapes.
 fn scan(text: &[u8]) -> Option<Spelling>
     ensures { result ≡ scan text.now }
 {
@@ -236,7 +236,7 @@ fn power_of_ten(power: u32) -> u128
     10u128.pow(power)
 }
 
-/// Digits over ten to a power, or times ten to the negated power where it is negative.
+/// Digits over ten to a power, or times ten to the negated power if the power is negative.
 fn scaled(negative: bool, digits: u128, power: i32) -> Result<Fraction, NumberFault>
     requires digits_within { digits < 2 ^ 127 }
     requires power_within { unsigned_abs power ≤ 38 }
@@ -283,7 +283,7 @@ fn decimal(
 }
 
 impl Spelling {
-    /// The value with its sign, where no bound is broken.
+    /// The value with its sign, if no bound is broken.
     fn value(self, negative: bool) -> Result<Fraction, NumberFault>
         ensures { MatchResult result (λ f. IsValueOf negative (reading_of self) f)
             (λ fault. HasReadingFault (reading_of self) fault) }
@@ -302,16 +302,18 @@ impl Spelling {
 impl Fraction {
     /// The number that a text spells: an optional sign `+` or `-`, and then
     /// - digits;
-    /// - digits with one point, of which one side may be empty;
+    /// - digits with one point, one side of which may be empty;
     /// - either of these, then `e` or `E`, an optional sign and digits;
     /// - or digits, `/` and digits.
     ///
-    /// `NotANumber` for any other text, else `ZeroDenominator` where the denominator is zero, else
-    /// `TooLarge` where a bound is broken. With `M` for `2^127 - 1`, both parts of a rational are
-    /// at most `M`. Elsewhere, with `p` digits behind the point and an exponent `e`, the digits
-    /// without the point are at most `M`, `p` and `p - e` at most 38, `e` is -38 to 38, and where
-    /// `e` is above `p`, the digits times `10^(e - p)` are at most `M`. Leading zeros count nowhere
-    /// (this project's profile).
+    /// # Errors
+    ///
+    /// `NotANumber` for any other text; otherwise `ZeroDenominator` if the denominator is zero;
+    /// otherwise `TooLarge` if a bound is broken. With `M` for `2^127 - 1`, both parts of a
+    /// rational are at most `M`. In all other shapes, with `p` digits after the point and an
+    /// exponent `e`, the digits without the point are at most `M`, `p` and `p - e` are at most 38,
+    /// `e` is -38 to 38, and if `e` is above `p`, the digits times `10^(e - p)` are at most `M`.
+    /// Leading zeros never count (this project's profile).
     pub fn read(text: &[u8]) -> Result<Fraction, NumberFault>
         ensures { Reads text.now result }
     {

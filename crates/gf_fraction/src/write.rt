@@ -15,8 +15,8 @@ const WORDS_LEN: usize = 41;
 /// Room for a text that ends at `WORDS_LEN`, and for `WORDS_LEN` bytes from wherever it begins.
 const ROOM: usize = 2 * WORDS_LEN;
 
-/// Writes a slash and a denominator so that they end at `WORDS_LEN`, or nothing where it is 1.
-/// Answers where they begin.
+/// Writes a slash and a denominator so that they end at `WORDS_LEN`, or nothing if it is 1. Returns
+/// where they begin.
 fn write_under(den: u64, text: &mut [u8; ROOM]) -> usize
     ensures within { (20 ≤ result) × (result ≤ 41) }
     ensures written { drop result text.new
@@ -30,7 +30,7 @@ fn write_under(den: u64, text: &mut [u8; ROOM]) -> usize
     at
 }
 
-/// Writes `n`, or `n/d` where the denominator is above 1, so that it ends at `WORDS_LEN`. Answers
+/// Writes `n`, or `n/d` if the denominator is above 1, so that it ends at `WORDS_LEN`. Returns
 /// where it begins.
 #[tactic(auto, unfolding(crate::specs::NumberText::number_text))]
 fn write_words(num: i64, den: u64, text: &mut [u8; ROOM]) -> usize
@@ -40,16 +40,18 @@ fn write_words(num: i64, den: u64, text: &mut [u8; ROOM]) -> usize
 {
     let under = write_under(den, text);
     let start = write_digits(num.unsigned_abs(), text, under);
-    // A sign is as often there as not, so the minus is stored without a branch.
+    // A sign is present about as often as not, so the minus is stored without a branch.
     text[start - 1] = b'-';
     start - usize::from(num < 0)
 }
 
 impl Fraction {
-    /// Appends `n`, or `n/d` where the denominator is above 1, in decimal digits. `Fraction::read`
+    /// Appends `n`, or `n/d` if the denominator is above 1, in decimal digits. `Fraction::read`
     /// reads it back.
     ///
-    /// `AllocError` where memory is refused, and then the vector's items are as they were.
+    /// # Errors
+    ///
+    /// `AllocError` if memory is refused; the vector's items are then as they were.
     #[tactic(auto, unfolding(crate::specs::NumberText::number_text))]
     pub fn write(self, out: &mut Vec<u8>) -> Result<(), AllocError>
         ensures ok { OnOk result (out.new.items ≡ out.old.items ++ number_text self) }
@@ -58,7 +60,7 @@ impl Fraction {
         if let (Ok(num), Ok(den)) = (i64::try_from(self.num()), u64::try_from(self.den())) {
             let mut text = [0; ROOM];
             let start = write_words(num, den, &mut text);
-            // A copy of a known length needs no call. What it takes behind the text is cut off.
+            // A copy of a known length needs no call. What it takes after the text is cut off.
             out.extend_from_slice(&text[start..start + WORDS_LEN])?;
             out.truncate(out.len() - start);
             return Ok(());
@@ -66,7 +68,7 @@ impl Fraction {
         self.write_wide(out)
     }
 
-    /// The same of parts of any size.
+    /// The same for parts of any size.
     #[inline(never)]
     #[tactic(auto, unfolding(crate::specs::NumberText::number_text))]
     fn write_wide(self, out: &mut Vec<u8>) -> Result<(), AllocError>

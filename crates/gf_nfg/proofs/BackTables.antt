@@ -1,4 +1,4 @@
--- The canonical text of a table spells that table, so that two tables have two texts.
+-- The canonical text of a table spells that table, so different tables have different texts.
 use Rattle.std.proofs.Common.{◌≡◌, ℕ, List, [], ◌∷◌, ◌++◌, map, refl, sym, ap, subst, inl, inr}
 use Rattle.std.specs.Prelude.{◌↔◌, codes}
 use Rattle.std.specs.List.{AllByRecursion, flat_map}

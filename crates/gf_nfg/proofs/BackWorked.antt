@@ -1,5 +1,5 @@
--- Worked tables: the machine of the reader reads their files to them, and each is computed; and
--- their texts.
+-- Worked tables, each computed: the machine of the reader reads their files to them; and their
+-- texts.
 use Rattle.std.proofs.Common.{◌≡◌, ℕ, List, map, Result, Ok, Err, refl, subst}
 use Rattle.std.specs.Fmt.{digits}
 use Rattle.gf_fraction.specs.Computed.{gcd_within, lowest_of, number_of}

@@ -1,4 +1,4 @@
--- Places in classes that grow, and the rows at them.
+-- Places in classes that are merged, and the rows at them.
 use Rattle.std.proofs.Common.{◌≡◌, ◌≢◌, ℕ, ◌+◌, ◌-◌, ◌<◌, ◌≤◌, List, length, get_or, set, take}
 use Rattle.std.proofs.Common.{Option, Some, slice_get, option_map, refl, sym, ap, subst, ◌∙◌, arith, inl, inr}
 use Rattle.std.specs.Prelude.{if◌then◌else◌, max, min, nat_lt}
@@ -124,7 +124,7 @@ rows_united parents a b high low ha hb h l row same rows =
 
 -- ---- the rows of two tables
 
--- the rows of the first have the places from 0 on, and those of the second the places behind them
+-- the rows of the first have the places from 0 on, and those of the second the places after them
 abbrev pub row_of_both : ℕ → (ℕ → List Ratio) → (ℕ → List Ratio) → ℕ → List Ratio
 row_of_both first f g place = if nat_lt place first then f place else g (place - first)
 

@@ -261,7 +261,7 @@ abbrev pub has_some : ℕ → Bool
 has_some zero = false
 has_some (suc n) = true
 
--- a list in which so many labels stand
+-- a list in which this many labels stand
 abbrev pub list_row : ℕ → Row
 list_row n = record a_text { closing = has_some n; unfilled = not (has_some n) }
 
@@ -378,7 +378,7 @@ after_last_payoff from outcomes c Comma = refl
 after_last_payoff from outcomes c Closing = refl
 after_last_payoff from outcomes c _ = (no, refl)
 
--- behind the comma of the last payoff, and where there are no players
+-- after the comma of the last payoff, and where there are no players
 pub no_payoff : (from outcomes : ℕ) (c : Content)
     → Law (at p.BracedPayoff 0 from outcomes c) a_closing
 no_payoff from outcomes c Closing = refl

@@ -1,4 +1,4 @@
--- Each state of the machine stands in a row of the table, and what the row names is due there.
+-- Each state of the machine belongs to a row of the table, and what the row names is due there.
 use Rattle.std.proofs.Common.{◌≡◌, ℕ, zero, suc, ◌-◌, true, false, List, [], ◌∷◌, length, map}
 use Rattle.std.proofs.Common.{Option, Some, Result, Ok, Err, refl, sym, subst, ◌∙◌, inl, inr}
 use Rattle.std.specs.Prelude.{◌⊎◌, ◌↔◌, not}

@@ -50,7 +50,7 @@ abbrev pub groups_left : List ℕ → List Label → List ℕ
 groups_left counts labels =
     items_text (map (λ own. list_text (map quoted own)) (groups counts (labels_of labels)))
 
--- the labels of the next group, and those behind it
+-- the labels of the next group, and those after it
 module _ (labels : List Label) (start n end : ℕ) (within : start ≤ length labels)
     (is : end ≡ min (length labels) (start + n)) where
   here : min n (length (drop start labels)) ≡ end - start

@@ -1,5 +1,5 @@
--- What the machine answers to the tokens of an input is what the file means, or a refusal that is
--- due there; and where it has passed a place, memory may be wanting.
+-- What the machine answers to the tokens of an input is what the file means, or the refusal that is
+-- due; and at a place that it has passed, memory may be refused.
 use Rattle.std.proofs.Common.{◌≡◌, ℕ, ◌+◌, ◌<◌, ◌≤◌, Bool, true, false, List, [], ◌∷◌, ◌++◌, length}
 use Rattle.std.proofs.Common.{Option, None, Some, Result, Ok, Err, refl, sym, subst, ap, ◌∙◌, arith}
 use Rattle.std.specs.Prelude.{IfErr, if◌then◌else◌}
@@ -36,7 +36,7 @@ use Rattle.gf_nfg.proofs.RunsSentence.{Read}
 
 -- ---- reasons
 
--- no reason is want of memory or a limit
+-- no reason is lack of memory or a limit
 no_reason : (before after : List Token) → ¬ (IsReason Memory before after)
     × ¬ (IsReason TooManyProfiles before after) × ¬ (IsReason TooLong before after)
 no_reason before [] = (λ h. h.0, λ h. h.0, λ h. h.0)
@@ -182,10 +182,10 @@ wants_memory {f} {span} {t} {a} stands is s goes =
       passed = passed_before t span stands s;
     })) goes)
 
--- ---- where it has passed a token, memory may be wanting
+-- ---- where it has passed a token, memory may run out
 
 module _ (bytes : List ℕ) (all : List Lexeme) (spelled : Spells 0 bytes all) where
-  -- a token behind others begins behind them
+  -- a token after others begins after them
   begins_later : (end from : ℕ) (before after : List Lexeme) (l : Lexeme)
       → AreInOrder end from (before ++ l ∷ after) → from ≤ l.start
   begins_later end from [] after l h = h.0

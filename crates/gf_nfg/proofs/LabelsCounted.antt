@@ -20,7 +20,7 @@ digits_label before (b ∷ bytes) e h =
 pub decimal_label : (n : ℕ) → n < 10 ^ 64 → IsLabel (decimal n)
 decimal_label n h = digits_label 34 (decimal n) refl (decimal_is_IsNumeral_wide n h).0.1
 
--- the labels of the numbers behind this one
+-- the labels of the numbers after this one
 abbrev pub counted_rest : ℕ → ℕ → List (List ℕ)
 counted_rest before count = map decimal (numbers_from (before + 1) (count - before))
 

@@ -1,4 +1,4 @@
--- Labels that are put together: one behind the other, or joined to one.
+-- Labels that are put together: one after another, or joined to one.
 use Rattle.std.proofs.Common.{◌≡◌, ◌∙◌, ℕ, ◌+◌, ◌-◌, ◌<◌, true, List, [], ◌∷◌, ◌++◌, map, length}
 use Rattle.std.proofs.Common.{subst, Some, slice_get, take, drop, get_or, refl, sym, ap, arith, append_assoc}
 use Rattle.std.specs.Prelude.{Result, Ok, Err, OnOk, is_ok, sum}
@@ -47,7 +47,7 @@ pub labels_spelled : (ls : List Label) → AreSpellings (map label_of ls)
 labels_spelled [] = tt
 labels_spelled (l ∷ ls) = (l.spelled, labels_spelled ls)
 
--- what holds of each holds of each of each piece
+-- what holds for each item holds for each item of each piece
 pub all_pieces : {A : Type 0} (P : A → Type 0) (from : ℕ) (ends : List ℕ) (items : List A)
     → AllByRecursion P items → AllByRecursion (λ xs. AllByRecursion P xs) (pieces from ends items)
 all_pieces P from [] items h = tt
@@ -86,7 +86,7 @@ one_joined_more (y ∷ z ∷ labels) x some =
     ap (λ (bs : List ℕ). y ++ 45 ∷ bs) (one_joined_more (z ∷ labels) x (omega arith))
     ∙ sym (append_assoc y (45 ∷ join_with_byte 45 (z ∷ labels)) (45 ∷ x))
 
--- ---- one label more
+-- ---- one more label
 
 pub one_added : (old labels next others : List (List ℕ)) (at : ℕ) (x : List ℕ)
     → at < length others → slice_get others at ≡ Some x → labels ≡ old ++ take at others

@@ -18,7 +18,7 @@ use Rattle.gf_nfg.proofs.LimitWalks.{headed, headed_on}
 use Rattle.gf_nfg.proofs.LimitTokens.{last_of, StandsIn, parted, AreGroups, each_parts}
 use Rattle.gf_nfg.proofs.LimitTokens.{IsLimitToken, limit_by_last}
 
--- ---- a file past the limit has counts that pass it
+-- ---- a file above the limit has counts that pass it
 
 -- the first of some tokens through which the product of the counts passes the limit
 record Found (tokens : List Token) : Type 0 where

@@ -98,7 +98,7 @@ by_strategies front labels h =
       over = omega (arith, last, passes);
     }
 
--- ---- a table past the limit
+-- ---- a table above the limit
 
 -- it has as many entries as the product of its players' numbers of strategies
 pub entries_counted : (t : Table) → IsTable t
@@ -107,7 +107,7 @@ entries_counted t h =
     sym (length-map t.entries (λ e. e.profile)) ∙ ap length h.one_entry_each
     ∙ length-profiles (map length t.strategies)
 
--- so many profiles, and the first of these strategies with which they are too many
+-- this many profiles, and the first of these strategies with which they are too many
 record Crossed (base : ℕ) (strategies : Strategies) : Type 0 where
   front : Strategies
   labels : List (List ℕ)

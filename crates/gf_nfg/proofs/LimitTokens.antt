@@ -1,4 +1,4 @@
--- Where counts pass the limit, the profiles of all files pass it.
+-- If counts pass the limit, the profiles of all files with them pass it.
 use Rattle.std.proofs.Common.{◌≡◌, ℕ, suc, ◌+◌, ◌-◌, ◌*◌, ◌<◌, ◌≤◌, List, [], ◌∷◌, ◌++◌}
 use Rattle.std.proofs.Common.{length, map, Ok, refl, sym, ap, subst, ◌∙◌, append_assoc, arith}
 use Rattle.std.proofs.Common.{inl, inr}
@@ -37,11 +37,11 @@ last_of x (y ∷ ys) =
     let h = last_of y ys in
     record { front = x ∷ h.front; last = h.last; parts = (λ i. x ∷ h.parts i) }
 
--- a token that stands behind some tokens stands in others too, before their end
+-- a token that comes after some tokens stands in others too, before their end
 abbrev pub StandsIn : List Token → Token → List Token → Type 0
 StandsIn xs x us = (zs : List Token) × (us ≡ xs ++ x ∷ zs)
 
--- a token behind some tokens and one behind others are one, or one of them stands before the other
+-- a token after some tokens and one after others are one, or one of them stands before the other
 abbrev pub Parted : List Token → Token → List Token → Token → Type 0
 Parted xs x us u = ((xs ≡ us) × (x ≡ u)) ⊎ (StandsIn xs x us ⊎ StandsIn us u xs)
 
@@ -130,7 +130,7 @@ each_one P labels ts h =
     let whole : ts ≡ h.0 = h.2 ∙ ap (λ (us : List Token). h.0 ++ us) h.4 ∙ append-nil h.0 in
     subst (λ (us : List Token). P us labels) (sym whole) h.3
 
--- behind tokens from which groups of this kind are taken, one for each player
+-- after tokens from which groups of this kind are taken, one for each player
 passes_by : (P : List Token → List (List ℕ) → Type 0) (Takes : Position → Type 0)
     → AreTaken P Takes
     → (before inner : List Token) (players : ℕ) (front : Strategies) (labels : List (List ℕ))
@@ -169,7 +169,7 @@ passes_by P Takes taken before inner players front labels r each h enough ts t e
       over = omega (arith, more, over);
     }
 
--- behind a heading of these players
+-- after a heading of these players
 passes_headed : (P : List Token → List (List ℕ) → Type 0) (Takes : Position → Type 0)
     → AreTaken P Takes → Takes p.FirstStrategies
     → (letter title : List ℕ) (players : List (List ℕ)) (inner : List Token)

@@ -1,4 +1,4 @@
--- Where a heading leads the machine, and counts or lists of labels behind it.
+-- Where a heading leads the machine, and the counts or lists of labels after it.
 use Rattle.std.proofs.Common.{◌≡◌, ℕ, zero, suc, ◌+◌, ◌-◌, ◌*◌, ◌<◌, List, [], ◌∷◌, ◌++◌}
 use Rattle.std.proofs.Common.{length, map, Some, Ok, refl, sym, ap, subst, ◌∙◌, append_assoc, arith}
 use Rattle.std.proofs.Common.{inl, inr}
@@ -25,7 +25,7 @@ use Rattle.gf_nfg.proofs.LimitProducts.{Strategies, AllSome}
 
 -- ---- the heading
 
--- a heading, and tokens behind it
+-- a heading, and tokens after it
 abbrev pub headed : List ℕ → List ℕ → List (List ℕ) → List Token → List Token
 headed letter title players tokens =
     Bare (codes "NFG") ∷ Bare (codes "1") ∷ Bare letter ∷ Text title
@@ -196,7 +196,7 @@ lists_taken s due group labels takes e h some =
 
 -- ---- the groups of some players
 
--- tokens lead to where so many groups more are taken, and to so many profiles
+-- tokens lead to where this many more groups are taken, and to this many profiles
 pub record Reaches (Takes : Position → Type 0) (ts : List Token) (due profiles : ℕ)
     : Type 0 where
   pub state : State
@@ -205,7 +205,7 @@ pub record Reaches (Takes : Position → Type 0) (ts : List Token) (due profiles
   pub due_is : state.due ≡ due
   pub grown : state.content.profiles ≡ profiles
 
--- tokens in groups behind others
+-- tokens in groups after others
 behind : (before first others inner : List Token) → inner ≡ first ++ others
     → (before ++ first) ++ others ≡ before ++ inner
 behind before first others inner e =

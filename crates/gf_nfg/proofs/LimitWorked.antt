@@ -1,4 +1,5 @@
--- Two worked files: the counts of the one pass the limit at the second, those of the other nowhere.
+-- Two worked files: the counts of one pass the limit at the second count, those of the other
+-- nowhere.
 use Rattle.std.proofs.Common.{◌≡◌, ℕ, zero, suc, ◌<◌, ◌≤◌, List, [], ◌∷◌, ◌++◌, take}
 use Rattle.std.proofs.Common.{refl, sym, ap, subst, ◌∙◌, arith, inl}
 use Rattle.std.specs.Prelude.{codes}

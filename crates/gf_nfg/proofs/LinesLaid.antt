@@ -35,7 +35,7 @@ all_more : (P : List Ratio → Type 0) (rows : List (List Ratio)) (row : List Ra
 all_more P [] row all p = (p, tt)
 all_more P (r ∷ rows) row all p = (all.0, all_more P rows row all.1 p)
 
--- a line behind full ones
+-- a line after full ones
 line_more : (full : List (List Ratio)) (row : List Ratio)
     → lines_text (map row_text full) ++ (row_text row ++ 10 ∷ [])
     ≡ lines_text (map row_text (full ++ row ∷ []))

@@ -1,4 +1,4 @@
--- Lists that stand one behind the other, and their lengths.
+-- Lists that stand one after another, and their lengths.
 use Rattle.std.proofs.Common.{◌≡◌, ℕ, zero, suc, ◌+◌, ◌*◌, ◌<◌, List, [], ◌∷◌, ◌++◌, length}
 use Rattle.std.proofs.Common.{map, take, drop, Some, refl, sym, ap, subst, ◌∙◌, arith}
 use Rattle.std.specs.Prelude.{decimal, sum, slice_get}
@@ -22,7 +22,7 @@ drop-front : {A : Type 0} (xs ys : List A) → drop (length xs) (xs ++ ys) ≡ y
 drop-front [] ys = refl
 drop-front (x ∷ xs) ys = drop-front xs ys
 
--- so long a front, and what is behind it
+-- a prefix of this length, and what is after it
 pub take-by : {A : Type 0} (n : ℕ) (xs ys : List A) → length xs ≡ n → take n (xs ++ ys) ≡ xs
 take-by n xs ys e = subst (λ k. take k (xs ++ ys) ≡ xs) e (take-front xs ys)
 
@@ -47,7 +47,7 @@ counts_back (n ∷ counts) = rw length-counted_labels (ap (λ ns. n ∷ ns) (cou
 pub sum-cons : (n : ℕ) (ns : List ℕ) → sum (n ∷ ns) ≡ n + sum ns
 sum-cons n ns = sum_by-cons (λ (x : ℕ). x) n ns
 
--- lists one behind the other are parted by their lengths
+-- lists one after another are parted by their lengths
 pub groups-joined : {A : Type 0} (lists : List (List A))
     → groups (map length lists) (joined lists) ≡ lists
 groups-joined [] = refl

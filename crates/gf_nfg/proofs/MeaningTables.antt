@@ -1,4 +1,4 @@
--- What was read in full means a table, and a table is found again from its parts.
+-- What was read in full means a table, and a table can be recovered from its parts.
 use Rattle.std.proofs.Common.{◌≡◌, ℕ, zero, suc, ◌+◌, ◌*◌, ◌<◌, ◌≤◌, List, []}
 use Rattle.std.proofs.Common.{Bool, true, false}
 use Rattle.std.proofs.Common.{◌∷◌, ◌++◌, length, map, take, drop, refl, sym}
@@ -48,7 +48,7 @@ strategies_of-joined ((label ∷ labels) ∷ lists) h = groups-joined ((label �
 
 -- ---- rows
 
--- so many rows of this length, from the payoffs in turn
+-- this many rows of this length, from the payoffs in turn
 abbrev pub rows_of : ℕ → ℕ → List Ratio → List (List Ratio)
 rows_of players zero payoffs = []
 rows_of players (suc n) payoffs = take players payoffs ∷ rows_of players n (drop players payoffs)
@@ -75,7 +75,7 @@ rows_in_turn players n payoffs =
     let none : 0 * players ≡ 0 = omega arith in
     numbered_rows players 0 n payoffs ∙ ap (λ (m : ℕ). rows_of players n (drop m payoffs)) none
 
--- rows one behind the other are parted again
+-- rows one after another are parted again
 rows_of-joined : (players : ℕ) (rs : List (List Ratio))
     → AllByRecursion (λ row. length row ≡ players) rs → rows_of players (length rs) (joined rs) ≡ rs
 rows_of-joined players [] h = refl

@@ -1,4 +1,4 @@
--- Numbers in turn, and where an element stands in a list.
+-- Numbers in turn, and the place of an element in a list.
 use Rattle.std.proofs.Common.{◌≡◌, ℕ, zero, suc, ◌+◌, ◌-◌, ◌<◌, ◌≤◌, List, ◌∷◌, ◌++◌}
 use Rattle.std.proofs.Common.{length, get_or, refl, sym, ap, ◌∙◌, arith, length-append}
 use Rattle.std.specs.List.{Contains}
@@ -24,7 +24,7 @@ get_or-numbers_from first (suc n) zero d h = omega arith
 get_or-numbers_from first (suc n) (suc i) d h = get_or-numbers_from (first + 1) n i d (omega arith)
     ∙ (let e : first + 1 + i ≡ first + suc i = omega arith in e)
 
--- an element, by what stands before it and behind it
+-- an element, by what stands before it and after it
 abbrev pub IsIn : {X : Type 0} → List X → X → Type 0
 IsIn {X} xs x = (before after : List X) × (xs ≡ before ++ x ∷ after)
 

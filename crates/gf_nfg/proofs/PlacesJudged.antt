@@ -1,4 +1,4 @@
--- Where the reader refuses, no file goes on, or each that does is past the limit.
+-- Where the reader refuses, no file goes on, or each file that does is above the limit.
 use Rattle.std.proofs.Common.{◌≡◌, ℕ, ◌<◌, ◌≤◌, List, [], ◌∷◌, ◌++◌, length}
 use Rattle.std.proofs.Common.{Option, None, Some, Result, Ok, Err}
 use Rattle.std.proofs.Common.{refl, sym, ap, subst, ◌∙◌, append_assoc, arith}
@@ -100,7 +100,7 @@ accepted bytes all rest l s after spelled h e within =
       within = later bytes h.seen rest l parts (stays_within through after leads within);
     }
 
--- ---- a text without an end
+-- ---- an unterminated text
 
 pub broken : (bytes : List ℕ) (all rest : List Lexeme) (from to : ℕ) (s : State)
     → Spells 0 bytes all → Led all (lexeme from to Broken ∷ rest) s
@@ -181,7 +181,7 @@ memory_at_end bytes t fault why h within is memory =
     subst (λ (f : Fault). IsJudged f.why bytes f.span) (sym is)
     (subst P (sym memory) (accepted_whole bytes t h within))
 
--- ---- no table within the limit is refused but for want of memory
+-- ---- no table within the limit is refused but for lack of memory
 
 none_spelled : (bytes : List ℕ) (span : Span) (t : Table)
     → IsOffendingPlace IsStrategicFile bytes span → SpellsTable bytes t → ⊥

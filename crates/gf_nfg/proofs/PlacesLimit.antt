@@ -1,4 +1,4 @@
--- No token makes the profiles fewer, so that past their limit they stay.
+-- No token makes the number of profiles smaller, so above their limit they stay there.
 use Rattle.std.proofs.Common.{◌≡◌, ℕ, zero, suc, ◌-◌, ◌*◌, ◌<◌, ◌≤◌, Bool, true, false}
 use Rattle.std.proofs.Common.{cond, List, [], ◌∷◌, ◌++◌, length, Option, Some, None}
 use Rattle.std.proofs.Common.{Result, Ok, Err, refl, sym, ap, subst, ◌∙◌, arith, nat_eq}
@@ -267,7 +267,7 @@ pub makes_more : (s after : State) (t : Token)
     → step s t ≡ Ok after → s.content.profiles < after.content.profiles → IsBareOrClosing t
 makes_more s after t e more = more_by s after t (grows s after t e) more
 
--- behind one of these no list is open
+-- after one of these no list is open
 pub settles : (s after : State) (t : Token) → step s t ≡ Ok after → IsBareOrClosing t
     → IsSettled after.position
 settles s after t e h = settled_by s after t (grows s after t e) h
@@ -296,7 +296,7 @@ run_grows (t ∷ ts) s r e =
     let rest = run_grows ts h.0 r h.2 in
     omega (arith, first, rest)
 
--- ---- past the limit
+-- ---- above the limit
 
 -- a walk makes them no fewer
 walk_grows : (ts : List Token) (s after : State) → walk s ts ≡ Ok after

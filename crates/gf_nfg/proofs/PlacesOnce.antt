@@ -55,7 +55,7 @@ refused_once bytes why other s t h k = elim (refusal_or_limit why bytes s h.0 h.
   ]
 ]
 
--- what is refused is no file within the limit
+-- what is refused is not a file within the limit
 pub not_both : (bytes : List ℕ) (t : Table) (why : Why) (s : Span)
     → SpellsTable bytes t → IsWithinLimit t → ¬ (IsRefused why bytes s)
 not_both bytes t why s spelled within h = h.0 (only_memory why bytes s t h.1 spelled within)

@@ -1,4 +1,5 @@
--- What the methods of the reader stand on: answers carried back, and steps with a test of what is due.
+-- What the methods of the reader rest on: answers carried back, and steps with a test of what is
+-- due.
 use Rattle.std.proofs.Common.{◌≡◌, ℕ, zero, suc, ◌<◌, ◌-◌, ◌*◌, false, List, [], ◌∷◌, length, Result, Ok, Err}
 use Rattle.std.proofs.Common.{refl, sym, ap, subst, ◌∙◌, arith}
 use Rattle.std.proofs.lemmas.Bool.Decides.{nat_tests}

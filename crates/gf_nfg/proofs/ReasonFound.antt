@@ -310,7 +310,7 @@ reason ts after t s why leads whole e =
     subst (λ (o : Result State Why). Answers k.row t o) e (k.law t) in
     refused_reason ts after t s (record { leads = leads; stands = k }) why whole a.0 a.1
 
--- ---- a text without an end
+-- ---- an unterminated text
 
 pub broken_reason : (ts after : List Token) → IsReason Unterminated ts (Broken ∷ after)
 broken_reason ts after = (tt, lowest_broken ts)

@@ -121,7 +121,7 @@ flat_behind_strategies (Bare b ∷ ts) due from c numbers h = refl
 flat_behind_strategies (t ∷ ts) due from c numbers h =
     let w = payoffs_begin t ts numbers h in absurd cc
 
--- behind an absent comment, or one that was read
+-- after an absent comment, or one that was read
 pub flat_body_again : (comment ts : List Token) (said : List ℕ)
     (from : ℕ) (c : Content) (numbers : List Ratio)
     → c.comment ≡ [] → IsComment comment said

@@ -32,7 +32,7 @@ guard_ok false s why ts r e = absurd cc
 pub same_bytes : (b word : List ℕ) → pointwise nat_eq b word ≡ true → b ≡ word
 same_bytes b word e = (slice_eq-Decides Decides-eqb b word (pointwise nat_eq b word) refl).0 e
 
--- nothing more, and more behind the first
+-- nothing more, and more after the first
 
 pub with_no_players : (c : Content) → with_players c [] ≡ c
 with_no_players c = ap (λ (ps : List (List ℕ)). record c { players = ps }) (append-nil c.players)

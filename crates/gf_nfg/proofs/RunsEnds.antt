@@ -20,7 +20,7 @@ use Rattle.gf_nfg.specs.inner.Machine.{State, Content, at, step, run, listed, wi
 use Rattle.gf_nfg.specs.inner.Machine.{with_count, with_payoffs, with_choices, next_outcome}
 use Rattle.gf_nfg.proofs.RunsCommon.{not_zero, pred_suc}
 
--- it can be completed, to so many profiles
+-- it can be completed, to this many profiles
 abbrev pub EndsWith : State → ℕ → Type 0
 EndsWith s profiles =
     (more : List Token) × (r : Content) × (run s more ≡ Ok r) × (r.profiles ≡ profiles)
@@ -179,7 +179,7 @@ text_step due from outcomes c = refl
 longer : (c : Content) → length (with_labels c ([] ∷ [])).labels ≡ length c.labels + 1
 longer c = length-append c.labels ([] ∷ [])
 
--- a list is filled up with so many empty labels, and closed; then come lists of one label
+-- a list is filled up with this many empty labels, and closed; then come lists of one label
 lists_ends : (due from outcomes : ℕ) (c : Content) → Ends (at p.BeforeList due from outcomes c)
 lists_ends zero from outcomes c =
     then _ (at p.AfterStrategies (length c.players * c.profiles) from outcomes c) Closing refl
@@ -286,7 +286,7 @@ ends_by s (inr h) =
 pub ends : (s : State) → (more : List Token) × (r : Content) × (run s more ≡ Ok r)
 ends s = ends_by s (settled_or_not s.position)
 
--- ---- a text without an end is refused in each state
+-- ---- an unterminated text is refused in each state
 
 abbrev refused : Why → Result State Why
 refused why = Err why

@@ -1,4 +1,4 @@
--- Runs over the outcomes in braces, and over the outcomes' numbers behind them.
+-- Runs over the outcomes in braces, and over the outcome numbers after them.
 use Rattle.std.proofs.Common.{◌≡◌, ℕ, zero, suc, ◌+◌, ◌-◌, ◌<◌, ◌≤◌, ◌^◌, min, Bool, true}
 use Rattle.std.proofs.Common.{false, cond, List, [], ◌∷◌, ◌++◌, length, Option, Some, None}
 use Rattle.std.proofs.Common.{Ok, Err, refl, sym, ap, subst, ◌∙◌, append_assoc, arith}
@@ -25,7 +25,7 @@ use Rattle.gf_nfg.proofs.RunsPayoffs.{braces_found, braces_again}
 
 -- ---- outcomes
 
--- the greatest number of so many outcomes
+-- the greatest number of this many outcomes
 abbrev pub greatest : ℕ → ℕ
 greatest n = min n (2 ^ 32 - 1)
 
@@ -106,7 +106,7 @@ shorter inner ts rest steps e h =
     let same : length ts ≡ length (inner ++ Closing ∷ rest) = ap length e in
     omega (arith, all, same)
 
--- in so many steps as are more than the tokens
+-- in more steps than there are tokens
 outcomes_in : (steps : ℕ) (ts : List Token) (due from before : ℕ) (c r : Content)
     → length ts < steps → run (at p.InOutcomes due from (greatest before) c) ts ≡ Ok r
     → Outcomes ts from before c r

@@ -82,7 +82,7 @@ no_comma : (b : Bool) → MayBeComma b []
 no_comma true = inl refl
 no_comma false = refl
 
--- (number [Comma])^due Closing, behind a comma if there may be one
+-- (number [Comma])^due Closing, after a comma if there may be one
 pub record Braces (may : Bool) (ts : List Token) (due from outcomes : ℕ) (c r : Content) : Type
     0 where
   pub numbers : List Ratio

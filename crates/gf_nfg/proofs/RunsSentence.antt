@@ -1,4 +1,4 @@
--- A run of the machine that ends well has read a sentence, and each sentence is read.
+-- A run of the machine that succeeds has read a sentence, and each sentence is read.
 use Rattle.std.proofs.Common.{◌≡◌, ℕ, ◌*◌, ◌<◌, ◌≤◌, List, [], ◌∷◌, ◌++◌, length, map, Ok}
 use Rattle.std.proofs.Common.{refl, sym, ap, subst, ◌∙◌, append_assoc, arith, inl, inr}
 use Rattle.std.specs.Prelude.{codes, ◌⊎◌, sum}

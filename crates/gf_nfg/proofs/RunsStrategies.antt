@@ -20,7 +20,7 @@ use Rattle.gf_token.proofs.ReadingIndices.{count_is, count_again}
 use Rattle.gf_nfg.proofs.MeaningLists.{joined, length-counted_labels}
 use Rattle.gf_nfg.proofs.RunsCommon.{not_zero, pred_suc, with_no_labels, with_more_labels}
 
--- players with so many strategies each, and with these labels, more
+-- more players, with this many strategies each and with these labels
 abbrev pub with_counts : Content → List ℕ → List (List ℕ) → Content
 with_counts c counts labels = record c {
   counts = c.counts ++ counts;
@@ -28,7 +28,7 @@ with_counts c counts labels = record c {
   profiles = c.profiles * product counts;
 }
 
--- behind the closing brace: a payoff is due for each player at each profile
+-- after the closing brace: a payoff is due for each player at each profile
 abbrev pub ended : ℕ → ℕ → Content → State
 ended from outcomes c = at p.AfterStrategies (length c.players * c.profiles) from outcomes c
 
@@ -240,7 +240,7 @@ shorter labels ts rest steps e h =
     let same : length ts ≡ length (map Text labels ++ Closing ∷ rest) = ap length e in
     omega (arith, all, same)
 
--- in so many steps as are more than the tokens
+-- in more steps than there are tokens
 lists_found : (steps : ℕ) (ts : List Token) (due from outcomes : ℕ) (c r : Content)
     → length ts < steps → run (at p.BeforeList due from outcomes c) ts ≡ Ok r
     → Lists ts due outcomes c r
@@ -396,7 +396,7 @@ first_open_step : (due from outcomes : ℕ) (c : Content) (ts : List Token)
     ≡ run (at p.BeforeList (suc due) from outcomes c) (Opening ∷ ts)
 first_open_step due from outcomes c ts = rw (not_zero, pred_suc) refl
 
--- behind the closing brace of the last list, from some place on
+-- after the closing brace of the last list, from some place on
 pub record ListsRead (lists : List (List (List ℕ))) (rest : List Token) (outcomes : ℕ) (c : Content)
     (o : Result Content Why) : Type 0 where
   pub from : ℕ

@@ -49,7 +49,7 @@ count_spelled tokens names h =
     let wide : 2 ^ 32 < 10 ^ 64 = omega arith in omega (arith, wide, h.3.2) in
     subst (λ ls. AllByRecursion IsLabel ls) (sym h.4) (counted_labels 1 h.1 small)
 
--- what holds of each group's value holds of each
+-- what holds for each group's value holds for each
 each_value : {A : Type 0} (P : List Token → A → Type 0) (Q : A → Type 0)
     → ((tokens : List Token) (x : A) → P tokens x → Q x) → (xs : List A) (tokens : List Token)
     → Each P tokens xs → AllByRecursion Q xs

@@ -1,4 +1,4 @@
--- Which tokens a text spells that is made of pieces with whitespace between them.
+-- Which tokens a text spells that consists of pieces with whitespace between them.
 use Rattle.std.proofs.Common.{◌≡◌, ℕ, ◌+◌, true, false, List, [], ◌∷◌, ◌++◌}
 use Rattle.std.proofs.Common.{length, map, refl, ap, append_assoc, arith}
 use Rattle.std.specs.Prelude.{codes}
@@ -22,7 +22,7 @@ abbrev pub IsApart : List ℕ → Type 0
 IsApart [] = Unit {0}
 IsApart (b ∷ bytes) = is_space b ≡ true
 
--- a piece of a text spells these tokens, with anything behind it that stands apart
+-- a piece of a text spells these tokens, with anything after it that stands apart
 abbrev pub Says : List ℕ → List Token → Type 0
 Says piece tokens = (rest : List ℕ) (others : List Token) → IsApart rest → Tells rest others
     → Tells (piece ++ rest) (tokens ++ others)

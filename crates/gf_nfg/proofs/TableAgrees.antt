@@ -24,7 +24,7 @@ same_next (a ∷ xs) (b ∷ ys) (suc k) x y h g e s =
     let rest : take k xs ≡ take k ys = cc in
     rw (same, same_next xs ys k x y h g e rest) refl
 
--- one place more
+-- one more place
 pub same_more : {A : Type 0} (xs ys : List A) (k : ℕ) (x y : A) → slice_get xs k ≡ Some x
     → slice_get ys k ≡ Some y → x ≡ y → take k xs ≡ take k ys → take (k + 1) xs ≡ take (k + 1) ys
 same_more xs ys k x y h g e s =

@@ -1,4 +1,4 @@
--- A table that is made of labels and fractions.
+-- A table that is made from labels and fractions.
 use Rattle.std.proofs.Common.{◌≡◌, ℕ, ◌*◌, ◌/◌, ◌<◌, ◌≤◌, List, [], ◌∷◌}
 use Rattle.std.proofs.Common.{length, map, refl, sym, ap, subst, ◌∙◌, arith}
 use Rattle.std.specs.Prelude.{Option, SomeIff, Vec, unwrap_or, vec_len}

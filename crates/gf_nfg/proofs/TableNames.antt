@@ -164,7 +164,7 @@ strategies_more before labels labels' own ends ends' strategies a e f =
           ∙ ap (λ (ss : List (List (List ℕ))). ss ++ own ∷ []) a.are);
     }
 
--- the same, of the strategies of so many players
+-- the same, of the strategies of this many players
 pub strategies_of_more : {A : Type 0} (f : A → List (List ℕ))
     (before labels labels' own : List (List ℕ)) (ends ends' : List ℕ) (all : List A) (i : ℕ) (d : A)
     → i < length all → own ≡ f (get_or all i d)
@@ -252,7 +252,7 @@ strategy_has_player heading labels ends names at strategy are view h =
       length-players heading labels ends names are view,
     )
 
--- ---- groups of so many
+-- ---- groups of this many
 
 sum-push : (sizes : List ℕ) (size : ℕ) → sum (sizes ++ size ∷ []) ≡ sum sizes + size
 sum-push sizes size = sum_by_push (λ n. n) sizes size
@@ -272,7 +272,7 @@ groups-push (n ∷ sizes) size items =
     ap (λ gs. take n items ∷ gs) (groups-push sizes size (drop n items)
     ∙ ap (λ xs. groups sizes (drop n items) ++ take size xs ∷ []) behind)
 
--- the labels of so many players are added
+-- the labels of this many players are added
 pub record AreAdded {A : Type 0} (f : A → List ℕ) (before labels : List (List ℕ))
     (ends sizes : List ℕ) (items : List A) (start : ℕ) : Type 0 where
   pub strategies : AreStrategies before labels ends (groups sizes (map f items))

@@ -43,7 +43,7 @@ pub record AreMade (row : ℕ → List Ratio) (text ends : List ℕ) (number : �
   pub rises : RisesTo (length text) 0 ends
   pub lines : pieces 0 ends text ≡ map (λ n. line_text (row n)) (numbers_from 0 number)
 
--- the line of one row more
+-- the line of one more row
 line_more : (row : ℕ → List Ratio) (text ends : List ℕ) (number : ℕ) → AreMade row text ends number
     → AreMade row (text ++ line_text (row number))
     (ends ++ length (text ++ line_text (row number)) ∷ []) (number + 1)

@@ -1,4 +1,4 @@
--- What a text has of a file that is being told, and that at its end it is the canonical text.
+-- What a text has of a file that is being told, and that it is the canonical text at the end.
 use Rattle.std.proofs.Common.{◌≡◌, ℕ, ◌-◌, ◌*◌, ◌<◌, ◌≤◌, Bool, List, [], ◌∷◌, ◌++◌}
 use Rattle.std.proofs.Common.{length, map, refl, sym, ap, subst, ◌∙◌, append_assoc, arith}
 use Rattle.std.proofs.lemmas.Grind.{flat_map-append}
@@ -23,7 +23,7 @@ use Rattle.gf_nfg.proofs.LinesLaid.{laid_line, laid_more, lines_whole}
 use Rattle.gf_nfg.proofs.MeaningTables.{rows-table_of, within_limit}
 use Rattle.gf_nfg.proofs.ToldTables.{MeansTable}
 
--- ---- one payoff more
+-- ---- one more payoff
 
 pub longer : (bytes heading before out : List ℕ) (more : List ℕ) → before ≡ heading ++ bytes
     → out ≡ before ++ more → out ≡ heading ++ (bytes ++ more)
@@ -79,7 +79,7 @@ text_parts named c =
     ∷ quoted names.comment ∷ [] ∷ [] in
     flat_map-append (λ (line : List ℕ). line ++ 10 ∷ []) heads (map row_text (rows (table_of c)))
 
--- with these lines behind its heading it is the canonical text
+-- with these lines after its heading it is the canonical text
 pub text_with : (named : Bool) (c : Content) (out : List ℕ) → IsComplete c
     → out ≡ heading_text (names_by named (names_in c))
     ++ lines_text (map row_text (rows_by c c.choices))

@@ -1,4 +1,4 @@
--- What is due after some tokens of a strategic file: what may stand next.
+-- What is due after some tokens of a strategic file: what may come next.
 use Rattle.std.specs.Prelude.{◌≡◌, ℕ, ◌<◌, ◌≤◌, ◌⊎◌, ◌↔◌, List, codes}
 use Rattle.gf_token.specs.Token.{Token}
 use Rattle.gf_token.specs.Token.Token.{Opening, Closing, Text, Bare}
@@ -11,7 +11,7 @@ use Rattle.gf_token.specs.Place.{MayFollow}
 use Rattle.gf_nfg.specs.Sentence.{IsStrategicFile}
 
 -- what a bare token is in a file: one of its first three tokens, a count of strategies, a payoff,
--- or the number of one of so many outcomes
+-- or the number of one of this many outcomes
 pub data Role : Type 0 where
   Format : Role
   Version : Role
@@ -29,9 +29,9 @@ Suits Count bytes = (n : ℕ) × IsIndex bytes n × (0 < n)
 Suits Payoff bytes = (n : Ratio) × IsNumber bytes n
 Suits (OutcomeNumber outcomes) bytes = (n : ℕ) × IsIndex bytes n × (n ≤ outcomes)
 
--- A role is due where just those bare tokens may follow that suit it. So a role is told by what may
--- stand in its place: a count, a payoff and the number of an outcome do not suit the same tokens,
--- nor does one of the first three.
+-- A role is due if exactly those bare tokens may follow that suit it. So a role is known by what
+-- may stand in its place: different tokens suit a count, a payoff, the number of an outcome, and
+-- each of the first three tokens.
 abbrev pub RoleIsDue : List Token → Role → Type 0
 RoleIsDue before role =
     (bytes : List ℕ) → MayFollow IsStrategicFile before (Bare bytes) ↔ Suits role bytes

@@ -22,18 +22,18 @@ pub record IsAcceptedWithinLimit (bytes : List ℕ) (span : Span) : Type 0 where
   pub place : IsAcceptedThrough IsStrategicFile bytes span
   pub within : (limit : Span) → IsLimitPlace bytes limit → span.start < limit.start
 
--- A refusal, by its reason. Memory is wanted only where there is nothing to refuse.
+-- A refusal, by its reason. Memory is refused only at a place with nothing else to refuse.
 abbrev pub IsJudged : Why → List ℕ → Span → Type 0
 IsJudged Memory bytes span = IsAcceptedWithinLimit bytes span
 IsJudged TooManyProfiles bytes span = IsLimitPlace bytes span
 IsJudged TooLong bytes span = ⊥
 IsJudged why bytes span = IsRefusal why bytes span
 
--- a refusal for another cause than want of memory
+-- a refusal for another reason than lack of memory
 abbrev pub IsRefused : Why → List ℕ → Span → Type 0
 IsRefused why bytes span = ¬ (why ≡ Memory) × IsJudged why bytes span
 
--- this table, or want of memory
+-- this table, or out of memory
 abbrev pub IsReadAs : Result Table Fault → Table → Type 0
 IsReadAs (Ok read) t = read ≡ t
 IsReadAs (Err fault) t = fault.why ≡ Memory

@@ -2,7 +2,7 @@
 use Rattle.std.specs.Prelude.{ℕ, zero, suc, ◌+◌, ◌*◌, List, [], ◌∷◌, map}
 use Rattle.std.specs.List.{flat_map}
 
--- so many numbers from this one on
+-- this many numbers, from this one on
 abbrev pub numbers_from : ℕ → ℕ → List ℕ
 numbers_from first zero = []
 numbers_from first (suc n) = first ∷ numbers_from (first + 1) n
@@ -11,8 +11,8 @@ numbers_from first (suc n) = first ∷ numbers_from (first + 1) n
 abbrev pub positions : ℕ → List ℕ
 positions n = numbers_from 1 n
 
--- Of players with so many strategies each: one strategy for each player, by its position. The first
--- player's advances fastest.
+-- For players with this many strategies each: one strategy for each player, by its position. The
+-- first player's advances fastest.
 abbrev pub profiles : List ℕ → List (List ℕ)
 profiles [] = [] ∷ []
 profiles (count ∷ counts) =

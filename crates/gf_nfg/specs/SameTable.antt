@@ -1,4 +1,4 @@
--- Which tables are the same, and which are so in all that is played.
+-- Which tables are the same, and which are the same in all that is played.
 use Rattle.std.specs.Prelude.{◌≡◌, ◌↔◌, ℕ, List}
 use Rattle.std.specs.List.{Contains}
 use Rattle.gf_fraction.specs.Ratio.{Ratio}
@@ -15,7 +15,7 @@ pub record SamePlay (t u : Table) : Type 0 where
   pub payoffs : (profile : List ℕ) (payoffs : List Ratio)
       → PaysAt t profile payoffs ↔ PaysAt u profile payoffs
 
--- and title and comment too
+-- and the title and the comment too
 pub record SameTable (t u : Table) : Type 0 where
   pub title : t.title ≡ u.title
   pub comment : t.comment ≡ u.comment

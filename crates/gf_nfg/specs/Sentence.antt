@@ -14,7 +14,7 @@ use Rattle.gf_nfg.specs.Table.{Table, IsTable, rows}
 abbrev pub counted_labels : ℕ → List (List ℕ)
 counted_labels n = map decimal (positions n)
 
--- a count of n stands for the labels "1" to n; that it is positive, `IsTable` says
+-- a count of n stands for the labels "1" to n; `IsTable` says that it is positive
 abbrev pub IsCount : List Token → List (List ℕ) → Type 0
 IsCount tokens labels = (bytes : List ℕ) × (n : ℕ) × (tokens ≡ Bare bytes ∷ []) × IsIndex bytes n
     × (labels ≡ counted_labels n)
@@ -23,7 +23,7 @@ IsCount tokens labels = (bytes : List ℕ) × (n : ℕ) × (tokens ≡ Bare byte
 abbrev pub IsLabelList : List Token → List (List ℕ) → Type 0
 IsLabelList tokens labels = tokens ≡ braced (map Text labels)
 
--- the strategies of the players: a braced list of counts, or one of lists of labels
+-- the strategies of the players: a list of counts in braces, or a list of lists of labels
 abbrev pub IsStrategies : List Token → List (List (List ℕ)) → Type 0
 IsStrategies tokens strategies = (inner : List Token) × (tokens ≡ braced inner)
     × (Each IsCount inner strategies ⊎ Each IsLabelList inner strategies)
@@ -44,7 +44,7 @@ abbrev pub Pays : ℕ → List (List Ratio) → ℕ → List Ratio → Type 0
 Pays players outcomes zero payoffs = payoffs ≡ replicate players (whole (pos 0))
 Pays players outcomes (suc k) payoffs = slice_get outcomes k ≡ Some payoffs
 
--- an outcome's number
+-- an outcome number
 abbrev pub IsOutcomeNumber : ℕ → List (List Ratio) → List Token → List Ratio → Type 0
 IsOutcomeNumber players outcomes tokens payoffs = (bytes : List ℕ) × (k : ℕ)
     × (tokens ≡ Bare bytes ∷ []) × IsIndex bytes k × Pays players outcomes k payoffs

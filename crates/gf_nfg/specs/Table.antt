@@ -29,11 +29,11 @@ pub record IsTable (t : Table) : Type 0 where
   pub one_entry_each : map (λ e. e.profile) t.entries ≡ profiles (map length t.strategies)
   pub one_payoff_each : AllByRecursion (λ row. length row ≡ length t.players) (rows t)
 
--- title, comment, the players' names and the strategies'
+-- title, comment, and the names of the players and of the strategies
 abbrev pub labels : Table → List (List ℕ)
 labels t = t.title ∷ t.comment ∷ (t.players ++ flat_map (λ names. names) t.strategies)
 
--- a file can hold it: its labels are spellings of labels, and its payoffs fractions
+-- a file can hold it: its labels are spellings of labels, and its payoffs are fractions
 pub record IsSpellable (t : Table) : Type 0 where
   pub labels_spelled : AllByRecursion IsLabel (labels t)
   pub payoffs_are_fractions : AllByRecursion (λ row. AllByRecursion IsFraction row) (rows t)

@@ -34,12 +34,12 @@ pub record IsCut (ends : List ℕ) (bytes : List ℕ) : Type 0 where
   pub rises : RisesTo (length bytes) 0 ends
   pub spelled : AreSpellings (pieces 0 ends bytes)
 
--- so many items, then so many of the others, and so on
+-- this many items, then this many of the others, and so on
 abbrev pub groups : {A : Type 0} → List ℕ → List A → List (List A)
 groups [] items = []
 groups (size ∷ sizes) items = take size items ∷ groups sizes (drop size items)
 
--- a table but for its payoffs
+-- a table except for its payoffs
 pub record Names : Type 0 where
   pub title : List ℕ
   pub comment : List ℕ
@@ -65,7 +65,7 @@ pub record AreNames (heading strategies : List (List ℕ)) (ends : List ℕ) : T
   pub one_end_each : length heading ≡ 2 + length ends
   pub rises : RisesTo (length strategies) 0 ends
 
--- Behind the labels `before` stand the strategies of some players, and each player's end at one of
+-- After the labels `before` come the strategies of some players, and each player's end at one of
 -- these ends.
 pub record AreStrategies (before labels : List (List ℕ)) (ends : List ℕ)
     (strategies : List (List (List ℕ))) : Type 0 where
@@ -92,13 +92,12 @@ table_with names rows = record {
   entries = entries_of (profiles (map length names.strategies)) rows;
 }
 
--- the row with this number, from 1, of rows that stand one behind the other; at 0 each player is
--- paid zero
+-- the row with this number, from 1, among rows one after another; at 0 each player is paid zero
 abbrev pub row_of : ℕ → List Ratio → ℕ → List Ratio
 row_of players payoffs zero = replicate players (whole (pos 0))
 row_of players payoffs (suc k) = take players (drop (k * players) payoffs)
 
--- the number of the row of each profile: without a choice they are the profiles' own
+-- the number of the row of each profile; if there are no choices, the number of the profile itself
 abbrev pub numbers_of : ℕ → Option (List ℕ) → List ℕ
 numbers_of count None = positions count
 numbers_of count (Some choices) = choices
@@ -108,26 +107,26 @@ abbrev pub number_in : Option (List ℕ) → ℕ → Option ℕ
 number_in None place = Some (place + 1)
 number_in (Some choices) place = slice_get choices place
 
--- the row with this number as it is kept: at 0 that of zeros
+-- the row with this number as it is kept; at 0 the row of zeros
 abbrev pub kept_row : ℕ → List Ratio → List Ratio → ℕ → List Ratio
 kept_row players payoffs zeros zero = zeros
 kept_row players payoffs zeros (suc k) = take players (drop (k * players) payoffs)
 
--- a number for each profile, below a bound: profiles with one number have one row, and each number
--- has a row
+-- a number for each profile, below a bound: profiles with the same number have the same row, and
+-- each number has a row
 pub record AreShared (rows : List (List Ratio)) (numbers : List ℕ) (players : ℕ)
     (payoffs zeros : List Ratio) (bound : ℕ) : Type 0 where
   pub rows_are : rows ≡ map (kept_row players payoffs zeros) numbers
   pub below : AllByRecursion (λ number. number < bound) numbers
   pub kept : (number : ℕ) → number < bound → number * players ≤ length payoffs
 
--- these are names of a table with so many profiles
+-- these are the names of a table with this many profiles
 pub record IsNamed (names : Names) (count : ℕ) : Type 0 where
   pub one_list_each : length names.strategies ≡ length names.players
   pub some_strategy : AllByRecursion (λ own. 0 < length own) names.strategies
   pub counted : count ≡ product (map length names.strategies)
 
--- these are names and rows of a table that a file within the limit of profiles can hold
+-- these are the names and rows of a table that a file within the limit of profiles can hold
 pub record IsHeld (names : Names) (rows : List (List Ratio)) : Type 0 where
   pub named : IsNamed names (length rows)
   pub one_payoff_each : AllByRecursion (λ row. length row ≡ length names.players) rows
@@ -155,8 +154,8 @@ pub record HasRows (players count : ℕ) (payoffs zeros : List Ratio)
 
 -- ---- profiles
 
--- the place of a profile, from 0, among those of players with so many strategies; none if it is not
--- one of them
+-- the place of a profile, from 0, among those of players with this many strategies; none if it is
+-- not one of them
 abbrev pub place_of : List ℕ → List ℕ → Option ℕ
 place_of [] [] = Some 0
 place_of (count ∷ counts) (suc k ∷ others) =

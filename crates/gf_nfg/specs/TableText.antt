@@ -11,7 +11,7 @@ use Rattle.gf_nfg.specs.Sentence.{Sentence}
 abbrev pub spaced : List (List ℕ) → List ℕ
 spaced tokens = join_with_byte 32 tokens
 
--- a list in braces, `{ }` where it is empty
+-- a list in braces, `{ }` if it is empty
 abbrev pub list_text : List (List ℕ) → List ℕ
 list_text items = spaced (codes "{" ∷ (items ++ codes "}" ∷ []))
 

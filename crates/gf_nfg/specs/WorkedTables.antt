@@ -7,7 +7,7 @@ use Rattle.gf_nfg.specs.Table.{Entry, Table}
 abbrev pub two_paid : List ℕ → ℕ → ℕ → Entry
 two_paid profile x y = record { profile = profile; payoffs = whole (pos x) ∷ whole (pos y) ∷ [] }
 
--- two players, of three strategies and of two
+-- two players, one with three strategies and one with two
 abbrev pub selten : Table
 selten = record {
   title = codes "Selten";

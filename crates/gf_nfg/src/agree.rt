@@ -88,8 +88,8 @@ fn same_rows(a: &Rows, b: &Rows) -> bool
     true
 }
 
-/// Whether both have the same rows. Where profiles share them in both, rows that were found the same
-/// are in one class from then on, so that no more are compared than there are.
+/// Whether both have the same rows. If profiles share rows in both, rows that were found to be the
+/// same are in one class from then on, so there are fewer comparisons than the two have rows.
 fn same_kept_rows(alloc: Global, a: &Rows, b: &Rows) -> Result<bool, AllocError>
     ensures { IfOk result (λ answer. IsTrue answer ↔ (a.now ≡ b.now)) }
 {
@@ -111,21 +111,24 @@ fn same_kept_rows(alloc: Global, a: &Rows, b: &Rows) -> Result<bool, AllocError>
 
 impl Table {
     /// Whether the players, the labels of their strategies and the payoffs at each profile are the
-    /// same in both. Titles and comments do not count. Takes no memory.
+    /// same in both. Titles and comments do not count. This takes no memory.
     ///
-    /// That takes time for each payoff that is spelled, and a file by outcomes can spell a hundred
-    /// thousand for each of its bytes. `plays_alike` takes time for what the tables keep.
+    /// It takes time for each payoff that is spelled, and a file in outcome version can spell a
+    /// hundred thousand of them for each of its bytes. `plays_alike` takes time only for what the
+    /// tables keep.
     pub fn play_agrees(&self, o: &Table) -> bool
         ensures { IsTrue result ↔ SamePlay self.now o.now }
     {
         same_names(self.names(), o.names()) && same_rows(self.rows(), o.rows())
     }
 
-    /// What `play_agrees` answers, in time that grows with what both tables keep: payoffs for each
-    /// outcome, and for each profile the number of its outcome. Takes memory for a place for each
-    /// outcome.
+    /// What `play_agrees` returns, in time that grows with what both tables keep: the payoffs of
+    /// each outcome, and the number of the outcome at each profile. This takes memory for a place
+    /// for each outcome.
     ///
-    /// `AllocError` where memory is refused.
+    /// # Errors
+    ///
+    /// `AllocError` if memory is refused.
     pub fn plays_alike(&self, alloc: Global, o: &Table) -> Result<bool, AllocError>
         ensures { IfOk result (λ answer. IsTrue answer ↔ SamePlay self.now o.now) }
     {

@@ -18,7 +18,7 @@ use crate::text::Text;
 use gf_token::{Fault, Why};
 use std::alloc::{AllocError, Global};
 
-/// Text with a line for each profile at its end.
+/// A text that ends with a line for each profile.
 fn with_lines(alloc: Global, text: Vec<u8>, parts: Parts<'_>) -> Result<Vec<u8>, AllocError>
     requires { IsComplete (content_of parts) }
     ensures { IfOk result (λ whole. whole.items ≡ text.items
@@ -31,10 +31,12 @@ fn with_lines(alloc: Global, text: Vec<u8>, parts: Parts<'_>) -> Result<Vec<u8>,
 }
 
 /// The canonical text of a strategic file, written while the file is read; title and comment are
-/// written empty if it is not `named`. In outcome version its lines are made at the end, when the
+/// written empty unless it is `named`. In outcome version its lines are made at the end, when the
 /// length of all of them is known.
 ///
-/// Refused as `read_nfg` refuses; E19 where memory for the text is refused.
+/// # Errors
+///
+/// Those of `read_nfg`; E19 if memory for the text is refused.
 pub fn canonical_nfg(alloc: Global, input: &[u8], named: bool) -> Result<Vec<u8>, Fault>
     ensures text { IfOk result (λ text. (t : Table) × SpellsTable input.now t × IsWithinLimit t
         × (text.items ≡ table_text (named_by named t))) }

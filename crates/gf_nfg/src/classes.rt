@@ -1,4 +1,4 @@
-//! Places in classes that grow together.
+//! Places in classes that are merged.
 
 ghost use Rattle.std.specs.Prelude.{◌≡◌, ◌<◌, ℕ, List, IfOk, false, length};
 ghost use Rattle.gf_fraction.specs.Ratio.{Ratio};
@@ -7,7 +7,7 @@ ghost use Rattle.gf_nfg.specs.inner.Classes.{ShareRows};
 use std::alloc::{AllocError, Global};
 use std::marker::Model;
 
-/// Places from 0 on, each in one class. From parent to parent a place leads to the root of its
+/// Places from 0 on, each in one class. From parent to parent, each place leads to the root of its
 /// class, which is its own parent.
 #[derive(Drop)]
 pub(crate) struct Classes {
@@ -26,7 +26,7 @@ impl Model for Classes {
 }
 
 impl Classes {
-    /// So many places, each in a class of its own.
+    /// This many places, each in a class of its own.
     pub(crate) fn new(alloc: Global, places: usize) -> Result<Classes, AllocError>
         ensures places { IfOk result (λ classes. length classes ≡ places) }
         ensures rows { IfOk result
@@ -36,8 +36,8 @@ impl Classes {
         Ok(Classes { parents })
     }
 
-    /// The root of the class of this place. The places on the way are hung nearer to it, so that
-    /// ways stay short.
+    /// The root of the class of this place. The places on the way are moved nearer to it, so that
+    /// paths stay short.
     fn root(&mut self, place: usize) -> usize
         requires { place < length self.old }
         ensures is_place { result < length self.new }
@@ -54,7 +54,7 @@ impl Classes {
         at
     }
 
-    /// Makes the classes of two places one. Answers whether they were two.
+    /// Merges the classes of two places. Returns whether they were different.
     pub(crate) fn unite(&mut self, a: usize, b: usize) -> bool
         requires first { a < length self.old }
         requires second { b < length self.old }

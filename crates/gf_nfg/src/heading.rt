@@ -1,4 +1,4 @@
-//! All of a strategic file but its payoffs, as it was read.
+//! All of a strategic file except its payoffs, as it was read.
 
 ghost use Rattle.std.specs.Prelude.{◌≡◌};
 ghost use Rattle.gf_nfg.specs.inner.Machine.{nothing};
@@ -8,16 +8,16 @@ use crate::limit::ProfileCount;
 use gf_token::Label;
 use std::alloc::Global;
 
-/// What stands before the payoffs of a strategic file. Its labels are slices of the input.
+/// What comes before the payoffs of a strategic file. Its labels are slices of the input.
 #[derive(Drop)]
 pub struct Heading<'a> {
     pub title: Label<'a>,
-    /// Empty where the file has none.
+    /// Empty if the file has none.
     pub comment: Label<'a>,
     pub players: Vec<Label<'a>>,
     /// How many strategies each player has.
     pub counts: Vec<u32>,
-    /// The strategies' labels in turn; none where the file gives counts alone.
+    /// The strategies' labels in turn; none if the file gives only counts.
     pub labels: Vec<Label<'a>>,
     /// The product of the counts.
     pub profiles: ProfileCount,

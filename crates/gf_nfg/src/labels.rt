@@ -75,8 +75,11 @@ impl Labels {
         self.bytes.len()
     }
 
-    /// Makes room for so many labels more, which have so many bytes all together. `AllocError` where
-    /// memory is refused.
+    /// Makes room for this many more labels, which have this many bytes all together.
+    ///
+    /// # Errors
+    ///
+    /// `AllocError` if memory is refused.
     pub fn reserve(&mut self, labels: usize, bytes: usize) -> Result<(), AllocError>
         ensures { self.new ≡ self.old }
     {
@@ -85,7 +88,11 @@ impl Labels {
         Ok(())
     }
 
-    /// Adds a label at the end. `AllocError` where memory is refused, and then nothing is added.
+    /// Adds a label at the end.
+    ///
+    /// # Errors
+    ///
+    /// `AllocError` if memory is refused; nothing is then added.
     pub fn push(&mut self, label: Label<'_>) -> Result<(), AllocError>
         ensures ok { OnOk result (self.new ≡ self.old ++ label_of label.entry ∷ []) }
         ensures err { OnErr result (self.new ≡ self.old) }
@@ -96,8 +103,11 @@ impl Labels {
         Ok(())
     }
 
-    /// Adds one label at the end: these, joined by `-`. `AllocError` where memory is refused, and then
-    /// nothing is added.
+    /// Adds one label at the end: these, joined by `-`.
+    ///
+    /// # Errors
+    ///
+    /// `AllocError` if memory is refused; nothing is then added.
     pub fn push_joined(&mut self, parts: &[Label<'_>]) -> Result<(), AllocError>
         ensures ok { OnOk result
             (self.new ≡ self.old ++ join_with_byte 45 (map label_of parts.now) ∷ []) }
@@ -114,8 +124,11 @@ impl Labels {
         Ok(())
     }
 
-    /// These labels, and the others behind them. Where there are none of these, the others are not
-    /// copied. `AllocError` where memory is refused.
+    /// These labels, followed by the others. If there are none of these, the others are not copied.
+    ///
+    /// # Errors
+    ///
+    /// `AllocError` if memory is refused.
     pub fn followed_by(self, others: Labels) -> Result<Labels, AllocError>
         ensures labels { IfOk result (λ all. all ≡ self ++ others) }
         ensures spelled { IfOk result (λ all. AreSpellings all) }
@@ -130,7 +143,7 @@ impl Labels {
         Ok(all)
     }
 
-    /// Adds labels at the end. Where memory is refused some of them may have been added.
+    /// Adds labels at the end. If memory is refused, some of them may have been added.
     pub(crate) fn extend(&mut self, labels: &[Label<'_>]) -> Result<(), AllocError>
         ensures { OnOk result (self.new ≡ self.old ++ map label_of labels.now) }
     {
@@ -140,7 +153,7 @@ impl Labels {
         Ok(())
     }
 
-    /// Adds the others' labels at the end. Where memory is refused some of them may have been added.
+    /// Adds the others' labels at the end. If memory is refused, some of them may have been added.
     fn extend_by(&mut self, others: &Labels) -> Result<(), AllocError>
         ensures { OnOk result (self.new ≡ self.old ++ others.now) }
     {
@@ -151,8 +164,8 @@ impl Labels {
         Ok(())
     }
 
-    /// Adds the labels "1" to `count` at the end. Where memory is refused some of them may have
-    /// been added.
+    /// Adds the labels "1" to `count` at the end. If memory is refused, some of them may have been
+    /// added.
     pub(crate) fn extend_counted(&mut self, count: u32) -> Result<(), AllocError>
         ensures { OnOk result (self.new ≡ self.old ++ counted_labels count) }
     {

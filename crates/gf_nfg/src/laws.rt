@@ -18,7 +18,7 @@ ghost use Rattle.gf_nfg.specs.Judgement.{IsRefused};
 ghost use Rattle.gf_nfg.specs.WorkedTables.{no_players, no_players_text, selten};
 ghost use Rattle.gf_nfg.specs.WorkedTables.{selten_by_counts, selten_by_outcomes, selten_text};
 
-/// Tokens mean one table at most, and so do bytes.
+/// Tokens mean at most one table, and so do bytes.
 pub fn means_one_table()
     ensures of_tokens { (tokens : List Token) (t u : Table) → Sentence tokens t → Sentence tokens u
         → t ≡ u }
@@ -26,8 +26,8 @@ pub fn means_one_table()
         → t ≡ u }
 {}
 
-/// Each list of bytes spells a table within the limit of profiles, or it is refused. None does
-/// both, and none is refused at two places or with two codes.
+/// Each list of bytes spells a table within the limit of profiles or is refused, never both; and
+/// none is refused at two places or with two codes.
 pub fn read_or_refused()
     ensures one_of_both { (bytes : List ℕ) → ((t : Table) × SpellsTable bytes t × IsWithinLimit t)
         ⊎ ((why : Why) × (span : Span) × IsRefused why bytes span) }
@@ -49,8 +49,7 @@ pub fn limit_by_files()
         → ¬ (IsLimitPlace (codes "NFG 1 R \"b\" { \"A\" \"B\" } { 1024 1024 }") span) }
 {}
 
-/// Files mean the tables with labels that can be spelled and with fractions as payoffs, all of them
-/// and no others.
+/// Files mean exactly the tables whose labels can be spelled and whose payoffs are fractions.
 pub fn tables_of_files()
     ensures { (t : Table) → ((bytes : List ℕ) × SpellsTable bytes t) ↔ (IsTable t × IsSpellable t) }
 {}
@@ -63,8 +62,8 @@ pub fn text_reads_back()
         → SpellsTable bytes t → SpellsTable (table_text t) u → table_text u ≡ table_text t }
 {}
 
-/// The profiles of players with so many strategies each are all choices of one for each of them,
-/// each once and at its place.
+/// The profiles of players with this many strategies each are all choices of one strategy for each
+/// player, each once and at its place.
 pub fn every_profile()
     ensures each_choice { (counts profile : List ℕ)
         → Contains (profiles counts) profile ↔ IsProfile counts profile }
@@ -72,8 +71,8 @@ pub fn every_profile()
         → map (place counts) (profiles counts) ≡ numbers_from 0 (product counts) }
 {}
 
-/// With an entry for each profile in turn, tables that are the same are equal, and those that are
-/// so in all that is played have the same rows.
+/// If each table has an entry for each profile in turn, tables that are the same are equal, and
+/// tables that play alike have the same rows.
 pub fn same_is_equal()
     ensures tables { (t u : Table) → IsTable t → IsTable u → SameTable t u ↔ (t ≡ u) }
     ensures play { (t u : Table) → IsTable t → IsTable u → SamePlay t u
@@ -89,7 +88,7 @@ pub fn equal_texts()
 {}
 
 /// A worked table: a file in payoff version and one in outcome version mean it, and this is its
-/// text. And the text of the table without players.
+/// text; and the text of the table without players.
 pub fn worked_tables()
     ensures by_counts { SpellsTable selten_by_counts selten }
     ensures by_outcomes { SpellsTable selten_by_outcomes selten }

@@ -1,6 +1,6 @@
-//! Strategic files of Gambit: their tables, their reader and their canonical text.
+//! Gambit strategic files: their tables, their reader and their canonical text.
 //!
-//! Tests of these calls stand in gamefile: a crate with tests is proved a second time for them.
+//! The tests of these calls are in gamefile: a crate with tests is proved a second time for them.
 #![tactic(auto)]
 
 mod agree;

@@ -3,10 +3,10 @@
 ghost use Rattle.std.specs.Prelude.{◌≡◌, ◌<◌, ◌≤◌, ◌*◌, MatchOption};
 ghost use Rattle.gf_nfg.specs.Limit.{profile_limit};
 
-/// A table has at most so many profiles (this project's profile).
+/// A table has at most this many profiles (this project's profile).
 pub const PROFILE_LIMIT: u32 = 1_048_576;
 
-/// A number of profiles: one at least, and no more than a table may have.
+/// A number of profiles: at least one, and no more than a table may have.
 #[derive(Clone, Copy)]
 pub struct ProfileCount {
     pub count: u32,
@@ -15,14 +15,14 @@ pub struct ProfileCount {
 }
 
 impl ProfileCount {
-    /// The one profile of no players.
+    /// The only profile without players.
     pub fn one() -> ProfileCount
         ensures { result.count ≡ 1 }
     {
         ProfileCount { count: 1 }
     }
 
-    /// The number of profiles with one player more, who has so many strategies; `None` past the
+    /// The number of profiles with one more player, who has this many strategies; `None` above the
     /// limit.
     pub fn times(self, strategies: usize) -> Option<ProfileCount>
         requires { 0 < strategies }

@@ -16,7 +16,7 @@ use gf_fraction::Fraction;
 use std::alloc::{AllocError, Global};
 use std::marker::Model;
 
-/// Appends payoffs, each behind a space.
+/// Appends payoffs, each after a space.
 #[tactic(auto, using(crate::proofs::Texts::others_more))]
 fn write_others(payoffs: &[Fraction], out: &mut Vec<u8>) -> Result<(), AllocError>
     ensures text { OnOk result
@@ -45,7 +45,7 @@ fn write_row(payoffs: &[Fraction], out: &mut Vec<u8>) -> Result<(), AllocError>
     }
 }
 
-/// Lines, one behind the other, with the place where each ends.
+/// Lines, one after another, with the place where each ends.
 #[derive(Drop)]
 struct Lines {
     text: Vec<u8>,
@@ -64,7 +64,7 @@ impl Model for Lines {
 }
 
 impl Lines {
-    /// The line of each row that profiles share, made in the order in which the rows lie in memory.
+    /// The line of each row that profiles share, made in the order of the rows in memory.
     fn of_rows(alloc: Global, shared: Shared<'_>) -> Result<Lines, AllocError>
         requires { (number : ℕ) → number < shared.rows
             → number * shared.players ≤ length shared.payoffs.now }
@@ -90,7 +90,7 @@ impl Lines {
         piece(&self.text, &self.ends, number)
     }
 
-    /// How long the lines with these numbers are together, or `None` where that is past `usize`.
+    /// How long the lines with these numbers are together, or `None` if that does not fit `usize`.
     fn len_of(&self, numbers: &[u32]) -> Option<usize>
         requires { AllByRecursion (λ number. number < length self.now) numbers.now }
         ensures { MatchOption result (2 ^ 64 ≤ length (lines_with self.now numbers.now))
@@ -119,8 +119,8 @@ impl Lines {
     }
 }
 
-/// Appends a line of payoffs for each profile, where profiles share rows. The line of a row is made
-/// once, and so is room for all of them, so that a text too large is refused before it is begun.
+/// Appends a line of payoffs for each profile, if profiles share rows. The line of a row is made
+/// once, and so is room for all lines, so a text that is too large is refused before it is begun.
 fn write_shared(shared: Shared<'_>, out: &mut Vec<u8>) -> Result<(), AllocError>
     requires below { AllByRecursion (λ number. number < shared.rows) shared.numbers.now }
     requires kept { (number : ℕ) → number < shared.rows

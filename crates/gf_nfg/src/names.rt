@@ -1,4 +1,5 @@
-//! Everything of a table but its payoffs: its title, its comment, its players and their strategies.
+//! Everything of a table except its payoffs: its title, its comment, its players and their
+//! strategies.
 
 ghost use Rattle.std.specs.Prelude.{◌≡◌, ◌<◌, [], ◌∷◌, Some, IfOk, OnOk, length, map, IsSomeAnd};
 ghost use Rattle.std.specs.Prelude.{option_and_then, option_map, slice_get, sum};
@@ -18,9 +19,9 @@ use std::marker::Model;
 pub(crate) struct Names {
     /// The title, the comment and the players' names.
     heading: Labels,
-    /// Each player's strategies, one player behind the other.
+    /// Each player's strategies, one player after another.
     strategies: Labels,
-    /// Where each player's strategies end among those of all.
+    /// Where each player's strategies end among all strategies.
     ends: Vec<usize>,
 }
 
@@ -51,7 +52,7 @@ fn heading(
     Ok(labels)
 }
 
-/// Adds the strategies of each player, and answers where they end.
+/// Adds the strategies of each player, and returns where they end.
 fn add_lists(
     alloc: Global,
     strategies: &[Vec<Label<'_>>],
@@ -68,7 +69,7 @@ fn add_lists(
     Ok(ends)
 }
 
-/// Adds the labels "1" to a count for each player, and answers where they end.
+/// Adds the labels "1" to a count for each player, and returns where they end.
 fn add_counted(alloc: Global, counts: &[u32], labels: &mut Labels) -> Result<Vec<usize>, AllocError>
     ensures { IfOk result
         (λ ends. AreStrategies labels.old labels.new ends.items (map counted_labels counts.now)) }
@@ -81,7 +82,7 @@ fn add_counted(alloc: Global, counts: &[u32], labels: &mut Labels) -> Result<Vec
     Ok(ends)
 }
 
-/// Adds labels that stand one behind the other, so many for each player, and answers where each
+/// Adds labels that come one after another, this many for each player, and returns where each
 /// player's end.
 fn add_grouped(
     alloc: Global,
@@ -104,8 +105,8 @@ fn add_grouped(
     Ok(ends)
 }
 
-/// All these labels, one list behind the other, and where each list ends. Those of the first list
-/// that has some are not copied.
+/// All these labels, one list after another, and where each list ends. The labels of the first list
+/// that has any are not copied.
 fn joined(alloc: Global, lists: Vec<Labels>) -> Result<(Labels, Vec<usize>), AllocError>
     ensures strategies { IfOk result (λ all. AreStrategies [] all.0 all.1.items lists.items) }
     ensures spelled { IfOk result (λ all. AreSpellings all.0) }
@@ -146,8 +147,8 @@ impl Names {
         })
     }
 
-    /// The strategies are these labels, a list for each player. Where there is one player, they are
-    /// not copied.
+    /// The strategies are these labels, a list for each player. If there is only one player, they
+    /// are not copied.
     pub(crate) fn of_labels(
         alloc: Global,
         title: Label<'_>,
@@ -200,7 +201,7 @@ impl Names {
         })
     }
 
-    /// The strategies' labels stand one behind the other, so many for each player.
+    /// The strategies' labels come one after another, this many for each player.
     #[inline(never)]
     pub(crate) fn grouped(
         alloc: Global,
@@ -229,7 +230,7 @@ impl Names {
         })
     }
 
-    /// How many bytes the labels have in a text, with their quotes and a byte behind each.
+    /// How many bytes the labels have in a text, with their quotes and a byte after each.
     pub(crate) fn room(&self) -> usize {
         let labels = self.heading.len().saturating_add(self.strategies.len());
         let bytes = self.heading.size().saturating_add(self.strategies.size());

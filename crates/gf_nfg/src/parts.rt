@@ -12,18 +12,18 @@ use crate::rows::Rows;
 use crate::table::Table;
 use std::alloc::{AllocError, Global};
 
-/// What a strategic file holds; outcomes' names are not kept.
+/// What a strategic file holds; the names of outcomes are not kept.
 #[derive(Drop)]
 pub struct Parts<'a> {
     pub heading: Heading<'a>,
-    /// Rows of one payoff for each player, one row behind the other: those of the profiles in turn,
-    /// the first player's strategy fastest, or those of the outcomes. For each profile the number of
-    /// its outcome, from 1, or 0 where each player is paid zero; none in the payoff version.
+    /// Rows of one payoff for each player, one row after another: those of the profiles in turn,
+    /// the first player's strategy fastest, or those of the outcomes. For each profile the number
+    /// of its outcome, from 1, or 0 if each player is paid zero; none in payoff version.
     pub kept: Kept,
 }
 
 impl<'a> Parts<'a> {
-    /// Everything of the table but its payoffs.
+    /// Everything of the table except its payoffs.
     fn names(&self, alloc: Global) -> Result<Names, AllocError>
         requires { IsComplete (content_of self.now) }
         ensures { IfOk result (λ names. names ≡ names_in (content_of self.now)) }

@@ -6,7 +6,7 @@ ghost use Rattle.gf_nfg.specs.TableParts.{RisesTo, pieces, start_of};
 
 use std::ops::Range;
 
-/// Where the piece with this number, from 0, lies in a list that is cut at these ends.
+/// Where the piece with this number, from 0, is in a list that is cut at these ends.
 #[tactic(auto, using(crate::proofs::TablePieces::start_of_suc))]
 pub(crate) fn piece_at(first: usize, ends: &[usize], number: usize) -> Range<usize>
     requires { number < length ends.now }

@@ -15,9 +15,12 @@ use crate::table::Table;
 use gf_token::Fault;
 use std::alloc::Global;
 
-/// Reads a strategic file, and tells it to a receiver. Answers its heading.
+/// Reads a strategic file, and tells it to a receiver. Returns its heading.
 ///
-/// Refused as `read_nfg` refuses, also where the receiver wants memory; it has then been told a part.
+/// # Errors
+///
+/// Those of `read_nfg`, also if the receiver is refused memory; the receiver has then been told a
+/// part of the file.
 pub(crate) fn tell_nfg<'a, R: Receive<'a>>(
     alloc: Global,
     input: &'a [u8],
@@ -37,7 +40,9 @@ pub(crate) fn tell_nfg<'a, R: Receive<'a>>(
 
 /// Whether bytes are a strategic file. Nothing of it is kept.
 ///
-/// Refused as `read_nfg` refuses; E19 where memory for its labels is refused.
+/// # Errors
+///
+/// Those of `read_nfg`; E19 if memory for its labels is refused.
 pub fn check_nfg(alloc: Global, input: &[u8]) -> Result<(), Fault>
     ensures spelled { OnOk result ((t : Table) × SpellsTable input.now t × IsWithinLimit t) }
     ensures only { IfErr result (λ fault. (t : Table) → SpellsTable input.now t → IsWithinLimit t
@@ -52,22 +57,24 @@ pub fn check_nfg(alloc: Global, input: &[u8]) -> Result<(), Fault>
 /// (Gambit documentation, "Game representation formats"). The table has at most 1,048,576 profiles
 /// (this project's profile), and the names of outcomes are not kept.
 ///
-/// A file is refused at the first token with which no strategic file goes on, or at the end where
-/// more is due. Spans are in bytes of the input, from 0. What is wrong there:
-/// - E2: a text has no end; at its opening quote.
+/// # Errors
+///
+/// A file is refused at the first token with which no strategic file goes on, or at the end if more
+/// is due. Spans are in bytes of the input, from 0. What is wrong there:
+/// - E2: a text is unterminated; at its opening quote.
 /// - E3: a token of the wrong kind, or the end.
-/// - E4, E5, E6: a bare token where a payoff is due, that spells no number, has a zero denominator,
-///   or is past 128 bits or has too many digits behind its point.
-/// - E7: a bare token where a count or the number of an outcome is due, and it is none.
+/// - E4, E5, E6: a payoff is due, and a bare token does not spell a number, has a zero denominator,
+///   needs more than 127 bits, or has too many digits after its point.
+/// - E7: a count or the number of an outcome is due, and a bare token is not one.
 /// - E15: the closing brace of a list without strategies.
 /// - E16: the number of an outcome above the number of outcomes.
 ///
-/// With E18 it is refused at the first count, or closing brace of a list, at which the product of
-/// the players' strategies so far passes the limit.
+/// With E18, it is refused at the first count, or closing brace of a list, at which the product of
+/// the numbers of strategies so far passes the limit.
 ///
-/// E19 is answered where memory is refused, and only where there is nothing else to refuse: at the
-/// token that asks for it, where a strategic file begins with the tokens through that one and none
-/// of them passes the limit; or at the end, where the bytes are a file within the limit.
+/// E19 is returned if memory is refused, and only if there is nothing else to refuse: at the token
+/// that needs it, if a strategic file begins with the tokens through that one and none of them
+/// passes the limit; or at the end, if the bytes are a file within the limit.
 pub fn read_nfg(alloc: Global, input: &[u8]) -> Result<Table, Fault>
     ensures spelled { IfOk result (λ t. SpellsTable input.now t) }
     ensures within { IfOk result (λ t. IsWithinLimit t) }

@@ -30,7 +30,7 @@ pub struct Reader<'a> {
     tokens: Tokens<'a>,
     /// What was read of it so far.
     heading: Heading<'a>,
-    /// The input has room for no more numbers than this.
+    /// The input cannot hold more numbers than this.
     room: usize,
 }
 
@@ -38,7 +38,7 @@ pub struct Reader<'a> {
 #[inline(always)]
 #[tactic(auto, using(std::proofs::lemmas::List::map_push))]
 fn keep<'a>(labels: &mut Vec<Label<'a>>, text: TextToken<'a>) -> Result<(), Fault>
-    // Memory is refused only where there was no room.
+    // Memory is refused only if there was no room.
     ensures { MatchResult result
         (λ _. labels_of labels.new.items
         ≡ labels_of labels.old.items ++ label_of text.entry.label ∷ [])
@@ -65,7 +65,7 @@ impl<'a> Reader<'a> {
         }
     }
 
-    /// How many of so many numbers the input has room for.
+    /// How many of this many numbers the input can hold.
     fn expected(&self, due: u128) -> usize
         ensures { result ≡ min due self.now.room }
     {
@@ -84,8 +84,8 @@ impl<'a> Reader<'a> {
         self.heading.players.len() as u128 * u128::from(self.heading.profiles.count)
     }
 
-    /// Reads all that stands before the payoffs or the outcomes. Answers which of them follow, and
-    /// where the last token stands.
+    /// Reads everything before the payoffs or the outcomes. Returns which of them follow, and the
+    /// place of the last token.
     fn begin(&mut self) -> Result<(Version, Span), Fault>
         ensures machine { MatchResult result
             (λ begun. answer Format 0 0 self.old ≡ body_answer begun.0 self.new)
@@ -99,7 +99,7 @@ impl<'a> Reader<'a> {
         Ok(self.version(last))
     }
 
-    /// Tells the heading, whose last token stands there.
+    /// Tells the heading, whose last token is at this place.
     fn tell_heading<R: Receive<'a>>(
         &self,
         version: Version,

@@ -1,4 +1,4 @@
-//! What becomes of what stands in a file: a reader tells it to a receiver.
+//! What becomes of the contents of a file: a reader tells them to a receiver.
 
 ghost use Rattle.std.specs.Prelude.{◌≡◌, []};
 
@@ -15,8 +15,8 @@ pub enum Version {
     Outcomes,
 }
 
-/// Who is told the heading of a file, then its payoffs, those of the profiles or of the outcomes in
-/// turn, and then the numbers of outcomes.
+/// What is told the heading of a file, then its payoffs, those of the profiles or of the outcomes
+/// in turn, and then the numbers of outcomes.
 pub(crate) trait Receive<'a> {
     ghost use Rattle.std.specs.Prelude.{OnErr, OnOk};
     ghost use Rattle.gf_nfg.specs.inner.Told.{Told, told_heading, with_number, with_payoff};
@@ -24,7 +24,8 @@ pub(crate) trait Receive<'a> {
     /// It was told nothing.
     ghost untold: { Self → Type 0 };
 
-    /// What it has of what it was told. The first is what it was before it was told anything.
+    /// What it holds of what it was told. The first argument is what it was before it was told
+    /// anything.
     ghost holds: { Self → Self → Told → Type 0 };
 
     /// There is no room for a payoff.

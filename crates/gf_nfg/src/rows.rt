@@ -15,12 +15,12 @@ use std::marker::Model;
 pub(crate) struct Rows {
     players: usize,
     profiles: u32,
-    /// The rows that are kept, one behind the other.
+    /// The rows that are kept, one after another.
     payoffs: Vec<Fraction>,
-    /// For each profile the number of its row, from 1, or 0 where each player is paid zero. Without
-    /// numbers the rows are those of the profiles in turn.
+    /// For each profile the number of its row, from 1, or 0 if each player is paid zero. Without
+    /// numbers, the rows are those of the profiles in turn.
     choices: Option<Vec<u32>>,
-    /// A zero for each player, where there are numbers.
+    /// A zero for each player, if there are numbers.
     zeros: Vec<Fraction>,
 }
 
@@ -41,7 +41,7 @@ impl Model for Rows {
 /// Rows with numbers, from 0, that profiles share.
 #[derive(Clone, Copy)]
 pub(crate) struct Shared<'t> {
-    /// The number of its row for each profile.
+    /// The number of the row of each profile.
     pub numbers: &'t [u32],
     /// How many rows there are.
     pub rows: usize,
@@ -146,7 +146,7 @@ impl Rows {
         row_at(self.players, &self.payoffs, &self.zeros, number)
     }
 
-    /// The rows and their numbers, where profiles may share them.
+    /// The rows and their numbers, if profiles may share them.
     pub(crate) fn shared(&self) -> Option<Shared<'_>>
         ensures shared { IfSome result (λ s. AreShared self.now
             s.numbers.now s.players s.payoffs.now s.zeros.now s.rows) }

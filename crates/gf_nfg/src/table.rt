@@ -42,7 +42,7 @@ impl Model for Table {
 }
 
 impl Table {
-    /// The table of these names and of a row at each profile.
+    /// The table of these names, with a row at each profile.
     pub(crate) fn of_parts(names: Names, payoffs: Rows) -> Table
         requires { IsHeld names payoffs }
         ensures { result ≡ table_with names payoffs }
@@ -54,11 +54,13 @@ impl Table {
     /// the first player's strategy advances fastest, and each profile has one payoff for each
     /// player (Gambit documentation, "Game representation formats").
     ///
-    /// The caller sees to it that there are at most 4,294,967,295 players, one list of at least one
-    /// strategy for each, at most 1,048,576 profiles (this project's profile), and as many payoffs
-    /// as profiles times players.
+    /// The caller has to ensure that there are at most 4,294,967,295 players, one list of at least
+    /// one strategy for each, at most 1,048,576 profiles (this project's profile), and as many
+    /// payoffs as profiles times players.
     ///
-    /// `AllocError` where memory is refused.
+    /// # Errors
+    ///
+    /// `AllocError` if memory is refused.
     pub fn new(
         alloc: Global,
         title: Label<'_>,
@@ -82,8 +84,8 @@ impl Table {
         Ok(Table::in_turn(alloc, names, rows))
     }
 
-    /// The table of these parts, as `new` makes it. The payoffs are not copied, nor are the labels of
-    /// the strategies where there is one player.
+    /// The table of these parts, as `new` makes it. The payoffs are not copied, nor are the labels
+    /// of the strategies if there is only one player.
     pub fn with_labels(
         alloc: Global,
         title: Label<'_>,
@@ -118,7 +120,7 @@ impl Table {
         Table::of_parts(names, payoffs)
     }
 
-    /// Everything but the payoffs.
+    /// Everything except the payoffs.
     pub(crate) fn names(&self) -> &Names
         ensures is_table { IsTable self.now }
         ensures spellable { IsSpellable self.now }
@@ -146,21 +148,21 @@ impl Table {
         self.names.title()
     }
 
-    /// The comment, which is empty where a file has none.
+    /// The comment, which is empty if the file has none.
     pub fn comment(&self) -> Label<'_>
         ensures { label_of result ≡ self.now.comment }
     {
         self.names.comment()
     }
 
-    /// How many players there are, or 4,294,967,295 where there are more.
+    /// How many players there are, or 4,294,967,295 if there are more.
     pub fn players(&self) -> u32
         ensures { result ≡ min (length self.now.players) 4294967295 }
     {
         self.names.players().min(u32::MAX as usize) as u32
     }
 
-    /// The name of player `i`, or `None` where there is none.
+    /// The name of player `i`, or `None` if there is no such player.
     pub fn player(&self, i: u32) -> Option<Label<'_>>
         ensures { option_map label_of result ≡ at_position self.now.players i }
     {
@@ -171,7 +173,7 @@ impl Table {
         Some(self.names.player(i - 1))
     }
 
-    /// How many strategies player `i` has, or `None` where there is no such player.
+    /// How many strategies player `i` has, or `None` if there is no such player.
     pub fn strategies(&self, i: u32) -> Option<u32>
         ensures { result ≡ option_map length (at_position self.now.strategies i) }
     {
@@ -182,7 +184,7 @@ impl Table {
         Some(self.names.strategies(i - 1) as u32)
     }
 
-    /// The label of strategy `s` of player `i`, or `None` where there is none.
+    /// The label of strategy `s` of player `i`, or `None` if there is no such strategy.
     pub fn strategy(&self, i: u32, s: u32) -> Option<Label<'_>>
         ensures { option_map label_of result
             ≡ option_and_then (λ own. at_position own s) (at_position self.now.strategies i) }
@@ -196,9 +198,9 @@ impl Table {
 
     /// How many profiles there are: at most 1,048,576.
     ///
-    /// The contract says of each table that a file can hold it: each player has a strategy, and
-    /// each profile one entry with one payoff for each player (`is_table`); its labels can be
-    /// spelled, and its payoffs are fractions (`spellable`); and it is within the limit of profiles
+    /// The contract says that a file can hold each table: each player has a strategy, and each
+    /// profile one entry with one payoff for each player (`is_table`); its labels can be spelled,
+    /// and its payoffs are fractions (`spellable`); and it is within the limit of profiles
     /// (`within`).
     pub fn profiles(&self) -> u32
         ensures number { result ≡ length self.now.entries }
@@ -209,8 +211,8 @@ impl Table {
         self.payoffs.len()
     }
 
-    /// The payoffs at the profile of these strategies, one for each player. `None` where the list
-    /// has another length than the players, or a number is no strategy of its player.
+    /// The payoffs at the profile of these strategies, one for each player. `None` if the list has
+    /// another length than the list of players, or if a number is not a strategy of its player.
     pub fn payoffs(&self, profile: &[u32]) -> Option<&[Fraction]>
         ensures { option_map (λ row. row.now) result ≡ payoffs_at profile.now self.now.entries }
     {

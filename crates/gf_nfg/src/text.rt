@@ -15,19 +15,19 @@ pub(crate) struct Text {
     pub(crate) text: Vec<u8>,
     /// How many bytes it is likely to have.
     room: usize,
-    /// Whether title and comment stand in it.
+    /// Whether the title and the comment are written.
     named: bool,
     pub(crate) version: Version,
     /// How many payoffs a line has.
     width: usize,
-    /// How many payoffs the last line wants.
+    /// How many payoffs the last line still lacks.
     left: usize,
-    /// In outcome version payoffs and numbers, of which the lines are made at the end.
+    /// In outcome version: payoffs and numbers, from which the lines are made at the end.
     pub(crate) kept: Kept,
 }
 
 impl Text {
-    /// Nothing yet, of a text that is likely to have so many bytes.
+    /// Nothing yet, of a text that is likely to have this many bytes.
     pub(crate) fn new(alloc: Global, room: usize, named: bool) -> Text
         ensures text { result.text.items ≡ [] }
         ensures named { result.named ≡ named }
@@ -45,7 +45,7 @@ impl Text {
     }
 }
 
-/// Appends a payoff, and a byte behind it.
+/// Appends a payoff, and a byte after it.
 #[inline(always)]
 fn write_payoff(payoff: Fraction, end: u8, out: &mut Vec<u8>) -> Result<(), AllocError>
     ensures { OnOk result

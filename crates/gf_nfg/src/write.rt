@@ -71,7 +71,7 @@ fn write_first_line(names: &Names, out: &mut Vec<u8>) -> Result<(), AllocError>
     write_players(names, out)
 }
 
-/// Appends all that stands before the payoffs.
+/// Appends everything before the payoffs.
 fn write_heading(names: &Names, out: &mut Vec<u8>) -> Result<(), AllocError>
     ensures text { OnOk result (out.new.items ≡ out.old.items ++ heading_text names.now) }
     ensures kept { OnErr result (Keeps out.old.items out.new.items) }
@@ -100,7 +100,9 @@ fn write_text(t: &Table, out: &mut Vec<u8>) -> Result<(), AllocError>
 /// Appends the canonical text of the table: payoff version, each number in lowest terms, one line
 /// for each profile. The text is a strategic file that means this table (`reads_back`).
 ///
-/// `AllocError` where memory is refused, and then the vector's items are as they were.
+/// # Errors
+///
+/// `AllocError` if memory is refused; the vector's items are then as they were.
 pub fn write_nfg(t: &Table, out: &mut Vec<u8>) -> Result<(), AllocError>
     ensures ok { OnOk result (out.new.items ≡ out.old.items ++ table_text t.now) }
     ensures reads_back { SpellsTable (table_text t.now) t.now }

@@ -58,8 +58,8 @@ fn write_counts(counts: &[u32], out: &mut Vec<u8>) -> Result<(), AllocError>
     Ok(())
 }
 
-/// Appends labels that stand one behind the other, so many for each player, in braces, and all of
-/// them in braces.
+/// Appends labels that come one after another, this many for each player in braces, and all of them
+/// in braces.
 fn write_groups(counts: &[u32], labels: &[Label<'_>], out: &mut Vec<u8>) -> Result<(), AllocError>
     ensures { OnOk result (out.new.items ≡ out.old.items
         ++ list_text (map (λ own. list_text (map quoted own))
@@ -120,7 +120,7 @@ fn label_by<'a>(named: bool, label: Label<'a>) -> Label<'a>
     }
 }
 
-/// Appends all that stands before the payoffs; title and comment empty if it is not `named`.
+/// Appends everything before the payoffs; title and comment are empty unless it is `named`.
 pub(crate) fn write_heading(
     heading: &Heading<'_>,
     named: bool,

@@ -1,4 +1,4 @@
--- What holds of the error of a result.
+-- What holds for the error of a result.
 use Rattle.std.proofs.Common.{◌≡◌, Result, Ok, Err, IfErr, IsErrAnd, MatchResult, OnErr, sym, subst}
 
 -- an error, and what holds whether there is one or not

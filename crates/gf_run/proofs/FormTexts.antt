@@ -1,4 +1,4 @@
--- What is written of a file as a table, and why nothing is.
+-- What is written for a file as a table, and why nothing is.
 use Rattle.std.proofs.Common.{◌≡◌, ℕ, zero, suc, List, Some, subst, sym, ◌∙◌, IsErrAnd, Result, Ok, Err}
 use Rattle.std.specs.List.{Contains}
 use Rattle.std.proofs.lemmas.List.Elements.{Contains-get_or}
@@ -49,7 +49,7 @@ nothing_against_reduced g few values (form.Overflow position) against =
     none_without (HasReducedValues g) (reduced_profiles g) values position against.1
 nothing_against_reduced g few values form.Memory never = never
 
--- a fault before writing is no fault of the writer
+-- a fault before writing is not a fault of the writer
 pub not_of_writer : {A : Type 0} (r : Result A RunFault) (fault : RunFault) (X : Type 0)
     → IsErrAnd r (λ e. e ≡ fault) → (fault ≡ Write → ⊥) → r ≡ Err Write → X
 not_of_writer (Ok x) fault X is before e = absurd is

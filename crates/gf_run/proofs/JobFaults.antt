@@ -1,4 +1,5 @@
--- A run that failed behind a front of its answer's text, or untouched, is a job that failed so.
+-- A run that failed after a prefix of its answer's text, or untouched, is a job that failed in this
+-- way.
 use Rattle.std.proofs.Common.{◌≡◌, ◌≢◌, ℕ, List, Option, Result, refl}
 use Rattle.std.specs.declared.io.Error.{Error}
 use Rattle.gf_run.specs.JobRun.{Does, EndsWith, Fails}

@@ -1,4 +1,4 @@
--- Lines that are written one behind the other: one for each item of a list, or for each player.
+-- Lines that are written one after another: one for each item of a list, or for each player.
 use Rattle.std.proofs.Common.{◌≡◌, ℕ, zero, suc, ◌+◌, ◌^◌, ◌≤◌, List, [], ◌∷◌, ◌++◌, length, map}
 use Rattle.std.proofs.Common.{drop, refl, sym, ap, ◌∙◌, append_assoc, arith}
 use Rattle.std.proofs.lemmas.Grind.{flat_map-append}
@@ -26,7 +26,7 @@ module _ {A : Type 0} (f : A → List ℕ) where
   left (x ∷ xs) zero = ap (λ (bs : List ℕ). bs ++ flat_map f xs) (sym (append-nil (f x)))
   left (x ∷ xs) (suc before) = left xs before
 
-  -- text : what is written before so many items; whole : what is written in the end
+  -- text : what is written before this many items; whole : what is written in the end
   pub line_more : (xs : List A) (before : ℕ) (text more whole : List ℕ)
       → text ++ flat_map f (drop before xs) ≡ whole
       → more ≡ text ++ flat_map f (option_to_list (at_position xs (before + 1)))

@@ -8,7 +8,7 @@ use Rattle.gf_run.specs.Input.{HasLength, HasRoom, IsRead, limit}
 use Rattle.gf_run.specs.Turns.{Moves, more}
 use Rattle.gf_run.proofs.WeakerRequests.{Moves-weaker}
 
--- a front of a buffer fits behind bytes
+-- the first bytes of a buffer fit after others
 pub HasRoom-front : (bytes buffer : List ℕ) (room : ℕ)
     → 0 < room → room ≤ length buffer → length bytes + room ≤ limit + 1
     → (front : List ℕ) → HasLength (length (take room buffer)) front → HasRoom bytes front

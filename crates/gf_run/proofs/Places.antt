@@ -16,7 +16,7 @@ feeds_more text byte =
     sum_by-append (λ x. cond (nat_eq line_feed x) 1 0) text (byte ∷ [])
     ∙ plus_zero (line_feeds text) (cond (nat_eq line_feed byte) 1 0)
 
--- a byte that is no line feed
+-- a byte that is not a line feed
 pub unlike : (byte : ℕ) → (byte ≡ line_feed → ⊥) → nat_eq line_feed byte ≡ false
 unlike byte other = ne_eqb line_feed byte (λ e. other (sym e))
 

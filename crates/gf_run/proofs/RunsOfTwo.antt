@@ -20,7 +20,7 @@ use Rattle.gf_run.specs.SameText.{IsAnswer, IsLine, IsLineAndMap, answer_line, r
 
 -- ---- answers
 
--- what holds of each answer
+-- what holds for each answer
 pub IfOk-all : {A E : Type 0} (r : Result A E) (P Q : A → Type 0) → ((a : A) → P a → Q a)
     → IfOk r P → IfOk r Q
 IfOk-all (Ok a) P Q f h = f a h

@@ -1,4 +1,4 @@
--- What holds of the bytes of each request may be said more weakly.
+-- A weaker statement about the bytes of each request holds too.
 use Rattle.std.proofs.Common.{ℕ, List, Result, zero, suc, inl, inr}
 use Rattle.std.specs.declared.io.Error.{Error}
 use Rattle.std.specs.declared.io.ErrorKind.{ErrorKind}

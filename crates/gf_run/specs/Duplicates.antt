@@ -1,4 +1,4 @@
--- Which of the files that were read are one game, and the text that names them.
+-- Which of the files that were read are the same game, and the text that names them.
 use Rattle.std.specs.Prelude.{◌≡◌, ℕ, Bool, nat_eq, nat_lt, List, [], ◌∷◌, ◌++◌, codes, length, map}
 use Rattle.std.specs.Cmp.Lexicographic.{pointwise}
 use Rattle.std.specs.List.{Contains, filter, flat_map, join_by}
@@ -25,7 +25,7 @@ having files hash = filter (λ file. same_hash hash file.hash) files
 abbrev pub groups_of : List HashedFile → List (List HashedFile)
 groups_of files = map (having files) (hashes_of files)
 
--- two files stand in one group of these files
+-- two files are in one group of these files
 pub record AreInOneGroup (files : List HashedFile) (a b : HashedFile) : Type 0 where
   pub group : List HashedFile
   pub is_group : Contains (groups_of files) group
@@ -52,17 +52,17 @@ name_lines names = flat_map (λ name. name ++ codes "\n") names
 abbrev pub groups_text : List (List (List ℕ)) → List ℕ
 groups_text groups = join_by name_lines (codes "\n") groups
 
--- the empty line that stands before a group, unless the text so far is empty
+-- the empty line before a group, unless the text so far is empty
 abbrev pub empty_line : List ℕ → List ℕ
 empty_line [] = []
 empty_line (byte ∷ text) = codes "\n"
 
--- the exit status where these are the groups of two files or more
+-- the exit status if these are the groups of two files or more
 abbrev pub groups_status : List (List (List ℕ)) → ℕ
 groups_status [] = 0
 groups_status (group ∷ groups) = 1
 
--- what is kept of files: their hashes, and for each of them the names of its files
+-- what is kept of files: their hashes, and for each hash the names of its files
 pub record KeptNames : Type 0 where
   pub hashes : List (List ℕ)
   pub names : List (List (List ℕ))

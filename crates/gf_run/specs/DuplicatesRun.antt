@@ -1,4 +1,4 @@
--- What a run that looks for duplicates does, file after file and then with their groups.
+-- What a run that looks for duplicates does, file by file and then with their groups.
 use Rattle.std.specs.Prelude.{◌≡◌, ◌⊎◌, ℕ, max, List, [], ◌∷◌, ◌++◌, Option, Result}
 use Rattle.std.specs.declared.io.Error.{Error}
 use Rattle.gf_canon.specs.declared.sameness.Names.{Names}
@@ -15,14 +15,14 @@ use Rattle.gf_run.specs.declared.fault.RunFault.{RunFault}
 use Rattle.gf_run.specs.declared.fault.RunFault.TheVariants.{Memory, Write}
 use Rattle.gf_run.specs.declared.asked.Input.{Input}
 
--- where the reading of files stands: those that have a hash, in their order, standard error, and the
--- worst status so far
+-- how far the reading of files has come: the files that have a hash, in their order, standard
+-- error, and the worst status so far
 pub record Reading (E : Type 0) : Type 0 where
   pub files : List HashedFile
   pub errors : E
   pub status : ℕ
 
--- of what opens inputs, and of the inputs
+-- for what opens inputs, and for the inputs
 module _ {S : Type 0} (standard : S → Type 0) (opens : List ℕ → Result S Error → Type 0)
     (remaining : S → Option (List ℕ)) (gives : S → List ℕ → Result ℕ Error → S → Type 0) where
   -- the file was opened and read whole, and this is the hash of its canonical text
@@ -30,12 +30,12 @@ module _ {S : Type 0} (standard : S → Type 0) (opens : List ℕ → Result S E
   HasHash names hash input = RunsOver standard opens (λ old new.
       (bytes : List ℕ) × IsHashOf names bytes hash × IsReadWhole remaining gives old new bytes) input
 
--- and of standard error
+-- and for standard error
 module _ {S E : Type 0} (standard : S → Type 0) (opens : List ℕ → Result S Error → Type 0)
     (remaining : S → Option (List ℕ)) (count : S → ℕ)
     (gives : S → List ℕ → Result ℕ Error → S → Type 0) (contents : E → Option (List ℕ))
     (failures : E → ℕ) (takes : E → List ℕ → Result ℕ Error → E → Type 0) where
-  -- one file: it has a hash; or it has none, and its fault was told
+  -- one file: it has a hash; or it has none, and its fault was reported
   pub data Reads (names : Names) (input : Input) (a b : Reading E) : Type 0 where
     hashed : (hash : List ℕ) → HasHash standard opens remaining gives names hash input
         → b.files ≡ a.files ++ record { name = name_of input; hash = hash } ∷ []
@@ -45,18 +45,18 @@ module _ {S E : Type 0} (standard : S → Type 0) (opens : List ℕ → Result S
         → IsToldOf contents failures takes (name_of input) fault status a.errors b.errors
         → b.status ≡ max a.status status → Reads names input a b
 
--- of standard output and of standard error
+-- for standard output and for standard error
 module _ {W E : Type 0} (contents : W → Option (List ℕ)) (count : W → ℕ)
     (takes : W → List ℕ → Result ℕ Error → W → Type 0) (contents' : E → Option (List ℕ))
     (count' : E → ℕ) (takes' : E → List ℕ → Result ℕ Error → E → Type 0) where
-  -- memory ran out, which was told, and nothing was written
+  -- memory ran out, which was reported, and nothing was written
   pub record IsOutOfMemory (output : W) (a : Reading E) (b : Standing W E) : Type 0 where
     pub unwritten : b.output ≡ output
     pub told : IsTold contents' count' takes' (fault_line Memory) a.errors b.errors
     pub status : b.status ≡ max a.status (status_of Memory)
 
-  -- after all files: the groups were written; or a front of them, and then the writer failed, which
-  -- was told; or memory ran out
+  -- after all files: the groups were written; or a prefix of them, and then the writer failed,
+  -- which was reported; or memory ran out
   pub data Closes (output : W) (a : Reading E) (b : Standing W E) : Type 0 where
     written : IsWritten contents takes output b.output (groups_text (duplicates a.files))
         → b.errors ≡ a.errors → b.status ≡ max a.status (groups_status (duplicates a.files))
@@ -66,11 +66,11 @@ module _ {W E : Type 0} (contents : W → Option (List ℕ)) (count : W → ℕ)
         → b.status ≡ max a.status (status_of Write) → Closes output a b
     out_of_memory : IsOutOfMemory output a b → Closes output a b
 
-  -- and of what opens inputs, and of the inputs
+  -- and for what opens inputs, and for the inputs
   module _ {S : Type 0} (standard : S → Type 0) (opens : List ℕ → Result S Error → Type 0)
       (remaining : S → Option (List ℕ)) (failures : S → ℕ)
       (gives : S → List ℕ → Result ℕ Error → S → Type 0) where
-    -- the files, one after the other, and then their groups; or until memory ran out
+    -- the files, one after another, and then their groups; or the files until memory ran out
     abbrev pub Finds : Names → List Input → W → Reading E → Standing W E → Type 0
     Finds names [] output a b = Closes output a b
     Finds names (input ∷ inputs) output a b = IsOutOfMemory output a b

@@ -1,4 +1,4 @@
--- How a run ends whose fault is told in words.
+-- How a run ends whose fault is explained in words.
 use Rattle.std.specs.Prelude.{◌≡◌, ◌⊎◌, ℕ, Bool, true, false, ◌<◌, List, [], ◌++◌, codes, decimal, length, take, Option, Result}
 use Rattle.std.specs.String.{string_bytes}
 use Rattle.std.specs.declared.io.Error.{Error}
@@ -23,11 +23,12 @@ abbrev pub placed_text : List ℕ → Place → List ℕ
 placed_text name place = name ++ codes ":" ++ decimal place.line ++ codes ":"
     ++ decimal place.column ++ codes ": "
 
--- the name alone
+-- only the name
 abbrev pub unplaced_text : List ℕ → List ℕ
 unplaced_text name = name ++ codes ": "
 
--- where a refusal is: the place after the bytes before it; of a file that is too long its name alone
+-- where a refusal is: the place after the bytes before it; for a file that is too long, only its
+-- name
 pub data IsWhere (fault : Fault) (name bytes text : List ℕ) : Type 0 where
   placed : (place : Place) → IsPlaceAfter (take fault.span.start bytes) place
       → text ≡ placed_text name place → IsWhere fault name bytes text
@@ -71,13 +72,13 @@ is_of_second (Refused which fault) = is_second which
 is_of_second (Read which) = is_second which
 is_of_second fault = false
 
--- what is told of a fault of a job: an explanation; or its line, if memory for that ran out
+-- what is written about a fault of a job: an explanation; or its line, if memory for that ran out
 abbrev pub IsToldInWords : Job → RunFault → List ℕ → Type 0
 IsToldInWords job fault text = (text ≡ fault_line fault)
     ⊎ ((bytes : List ℕ) × IsExplained fault (called job (is_of_second fault)) bytes text)
 
--- of standard error: what is asked for is done with this status, and nothing was told; or it failed
--- with a fault, this is the status of the fault, and it was told in words
+-- for standard error: what is asked for is done with this status, and nothing was reported; or it
+-- failed with a fault, this is the status of the fault, and it was explained in words
 module _ {S : Type 0} (contents : S → Option (List ℕ)) (count : S → ℕ)
     (gives : S → List ℕ → Result ℕ Error → S → Type 0) where
   abbrev pub EndsInWords : (Done : ℕ → Type 0) (Fails : RunFault → Type 0) → Job → ℕ → S → S → Type 0

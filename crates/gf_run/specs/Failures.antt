@@ -10,12 +10,12 @@ next_count n = max n (min (n + 1) (2 ^ 64 - 1))
 abbrev pub CountsPull : ℕ → Result ℕ Error → ℕ → Type 0
 CountsPull old answer new = MatchResult answer (λ _. new ≡ old) (λ _. new ≡ next_count old)
 
--- the count after a push's answer: an error is a failure, and so is that nothing was taken
+-- the count after a push's answer: an error is a failure, and so is taking nothing
 abbrev pub CountsPush : ℕ → Result ℕ Error → ℕ → Type 0
 CountsPush old answer new = MatchResult answer
     (λ n. (0 < n → new ≡ old) × (n ≡ 0 → new ≡ next_count old))
     (λ _. new ≡ next_count old)
 
--- the count rose, or it stood at its greatest value
+-- the count rose, or it was at its greatest value
 pub record HasRisen (old new : ℕ) : Type 0 where
   pub risen : next_count old ≤ new

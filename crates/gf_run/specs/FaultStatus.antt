@@ -12,7 +12,7 @@ abbrev pub refusal_status : Why → ℕ
 refusal_status why.Memory = 5
 refusal_status _ = 2
 
--- the exit status where a game has no table
+-- the exit status if a game has no table
 abbrev pub form_status : FormFault → ℕ
 form_status form.Memory = 5
 form_status _ = 2
@@ -25,7 +25,7 @@ status_of Write = 4
 status_of (Form fault) = form_status fault
 status_of Memory = 5
 
--- the exit status where two files mean the same, and where they differ
+-- the exit status if two files mean the same, and if they differ
 abbrev pub answer_status : Bool → ℕ
 answer_status true = 0
 answer_status false = 1

@@ -1,4 +1,4 @@
--- What is written of the kind of a file.
+-- What is written about the kind of a file.
 use Rattle.std.specs.Prelude.{◌≡◌, ℕ, List, codes}
 use Rattle.gf_canon.specs.FileFormat.{format_of}
 use Rattle.gf_canon.specs.GameFile.{GameFile}
@@ -8,7 +8,7 @@ use Rattle.gf_canon.specs.declared.format.Format.TheVariants.{Extensive, Strateg
 use Rattle.gf_run.specs.declared.check.FileKind.{FileKind}
 use Rattle.gf_run.specs.declared.check.FileKind.TheVariants as kind
 
--- of a file in this format
+-- for a file in this format
 abbrev pub kind_in : Format → FileKind
 kind_in Extensive = kind.Tree
 kind_in Strategic = kind.Strategic

@@ -1,5 +1,5 @@
--- What is written of a file as a table: the strategic form of a tree, or the reduced one, and a
--- table itself.
+-- What is written for a file as a table: the strategic form of a tree, or its reduced form, and a
+-- table as it is.
 use Rattle.std.specs.Prelude.{◌≡◌, ◌≤◌, ℕ, List, length, Option, Result}
 use Rattle.std.specs.declared.io.Error.{Error}
 use Rattle.gf_nfg.specs.Table.{Table}
@@ -30,20 +30,20 @@ abbrev pub OverflowsBy : Strategies → Game → ℕ → Type 0
 OverflowsBy Pure g profile = OverflowsAt g profile
 OverflowsBy Reduced g profile = ReducedOverflowsAt g profile
 
--- why no table is made of a file: of one that is a table there is always one
+-- why a file has no table; a file that is a table always has one
 abbrev pub IsWithoutForm : Strategies → GameFile → FormFault → Type 0
 IsWithoutForm strategies (extensive g) form.TooManyProfiles = HasTooManyProfiles g
 IsWithoutForm strategies (extensive g) (form.Overflow profile) =
     ¬ (HasTooManyProfiles g) × OverflowsBy strategies g profile
 IsWithoutForm strategies _ _ = ⊥
 
--- the form of a game, where nothing stands against it; a table is its own
+-- the form of a game, if nothing rules it out; for a table, the table itself
 abbrev pub IsFormOf : Strategies → GameFile → Table → Type 0
 IsFormOf strategies (extensive g) t = IsFormBy strategies g t
     × ((fault : FormFault) → ¬ (IsWithoutForm strategies (extensive g) fault))
 IsFormOf strategies (strategic s) t = t ≡ s
 
--- as many players at most as can be counted in a table
+-- at most as many players as can be counted in a table
 abbrev pub HasFewPlayers : GameFile → Type 0
 HasFewPlayers (extensive g) = length g.players ≤ 4294967295
 HasFewPlayers (strategic t) = Unit {0}
@@ -56,8 +56,7 @@ pub record IsFormText (strategies : Strategies) (bytes text : List ℕ) : Type 0
   pub is_form : IsFormOf strategies file table
   pub is_text : text ≡ table_text table
 
--- why a file that is right has no answer: no table is made of its game, or memory or the writer
--- failed
+-- why a valid file has no answer: its game has no table, or memory or the writer failed
 abbrev pub IsFormFault : Strategies → GameFile → RunFault → Type 0
 IsFormFault strategies x (Form fault) = IsWithoutForm strategies x fault
 IsFormFault strategies x Write = Unit {0}
@@ -71,11 +70,11 @@ IsFaultOfBytes strategies bytes (Refused which fault) =
 IsFaultOfBytes strategies bytes fault =
     (x : GameFile) × SpellsWithin bytes x × IsFormFault strategies x fault
 
--- of a reader: the bytes that it has left, where it tells them, its count of failures, and what
--- a pull gives
+-- for a reader: the bytes that it has left, if it reports them, its count of failures, and what a
+-- pull gives
 module _ {S : Type 0} (remaining : S → Option (List ℕ)) (count : S → ℕ)
     (gives : S → List ℕ → Result ℕ Error → S → Type 0) where
-  -- how far a run that has no answer read its input: not to its end, or whole
+  -- how far a run that has no answer read its input: not to the end, or whole
   pub data ReadsFormUntil (strategies : Strategies) (fault : RunFault) (old new : S)
       : Type 0 where
     not_read : IsNotRead remaining count gives Only fault old new

@@ -35,11 +35,11 @@ IsFaultOfFile bytes Write = MeansFile bytes
 IsFaultOfFile bytes (Form fault) = ⊥
 IsFaultOfFile bytes Memory = MeansFile bytes
 
--- of a reader: the bytes that it has left, where it tells them, its count of failures, and what a
+-- for a reader: the bytes that it has left, if it reports them, its count of failures, and what a
 -- pull gives
 module _ {S : Type 0} (remaining : S → Option (List ℕ)) (count : S → ℕ)
     (gives : S → List ℕ → Result ℕ Error → S → Type 0) where
-  -- how far a run that has no line read its input: not to its end, or whole
+  -- how far a run that has no line read its input: not to the end, or whole
   pub data ReadsFileUntil (fault : RunFault) (old new : S) : Type 0 where
     not_read : IsNotRead remaining count gives Only fault old new → ReadsFileUntil fault old new
     read : (bytes : List ℕ) → IsReadWhole remaining gives old new bytes → IsFaultOfFile bytes fault

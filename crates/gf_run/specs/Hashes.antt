@@ -1,4 +1,4 @@
--- What a run over many files does, file after file.
+-- What a run over many files does, file by file.
 use Rattle.std.specs.Prelude.{◌≡◌, ◌⊎◌, ℕ, max, List, [], ◌∷◌, ◌++◌, codes, Option, Result}
 use Rattle.std.specs.String.{string_bytes}
 use Rattle.std.specs.declared.io.Error.{Error}
@@ -23,18 +23,18 @@ name_of Standard = codes "-"
 name_of (File name) = string_bytes name
 name_of (NotText name) = string_bytes name
 
--- the line of a fault behind the name of its file
+-- the line of a fault after the name of its file
 abbrev pub named_line : List ℕ → RunFault → List ℕ
 named_line name fault = name ++ codes ": " ++ fault_line fault
 
--- where a run stands: standard output, standard error, and the worst status so far
+-- how far a run has come: standard output, standard error, and the worst status so far
 pub record Standing (W E : Type 0) : Type 0 where
   pub output : W
   pub errors : E
   pub status : ℕ
 
--- of a writer of errors: the line of a fault was told behind the name of its file, and this is the
--- status; or memory for that ran out
+-- for a writer of errors: the line of a fault was written after the name of its file, and this is
+-- the status; or memory for that ran out
 module _ {E : Type 0} (contents : E → Option (List ℕ)) (count : E → ℕ)
     (gives : E → List ℕ → Result ℕ Error → E → Type 0) where
   abbrev pub IsToldOf : List ℕ → RunFault → ℕ → E → E → Type 0
@@ -42,7 +42,7 @@ module _ {E : Type 0} (contents : E → Option (List ℕ)) (count : E → ℕ)
       ((status ≡ status_of fault) × IsTold contents count gives (named_line name fault) old new)
       ⊎ ((status ≡ status_of Memory) × IsTold contents count gives (fault_line Memory) old new)
 
--- of what opens inputs, and of the inputs
+-- for what opens inputs, and for the inputs
 module _ {S : Type 0} (standard : S → Type 0) (opens : List ℕ → Result S Error → Type 0)
     (remaining : S → Option (List ℕ)) (count : S → ℕ)
     (gives : S → List ℕ → Result ℕ Error → S → Type 0) where
@@ -56,11 +56,11 @@ module _ {S : Type 0} (standard : S → Type 0) (opens : List ℕ → Result S E
   IsNotHashed fault input =
       EndsOver standard opens remaining count gives (ReadsFileUntil remaining count gives) fault input
 
-  -- and of standard output and of standard error
+  -- and for standard output and for standard error
   module _ {W E : Type 0} (contents : W → Option (List ℕ)) (failures : W → ℕ)
       (takes : W → List ℕ → Result ℕ Error → W → Type 0) (contents' : E → Option (List ℕ))
       (failures' : E → ℕ) (takes' : E → List ℕ → Result ℕ Error → E → Type 0) where
-    -- one file: its line was written; or it has none, and its fault was told
+    -- one file: its line was written; or it has none, and its fault was reported
     pub data Step (names : Names) (input : Input) (a b : Standing W E) : Type 0 where
       hashed : IsHashed names (IsWritten contents takes a.output b.output) input
           → b.errors ≡ a.errors → b.status ≡ a.status → Step names input a b
@@ -68,13 +68,13 @@ module _ {S : Type 0} (standard : S → Type 0) (opens : List ℕ → Result S E
           → IsToldOf contents' failures' takes' (name_of input) fault status a.errors b.errors
           → b.status ≡ max a.status status → Step names input a b
 
-    -- a front of the line was written, and then the writer failed, which was told
+    -- a prefix of the line was written, and then the writer failed, which was reported
     pub record IsCutOff (names : Names) (input : Input) (a b : Standing W E) : Type 0 where
       pub line : IsHashed names (IsWriteFault contents failures takes a.output b.output) input
       pub told : IsTold contents' failures' takes' (fault_line Write) a.errors b.errors
       pub status : b.status ≡ max a.status (status_of Write)
 
-    -- the files, one after the other, until the writer failed
+    -- the files, one after another, until the writer failed
     abbrev pub Runs : Names → List Input → Standing W E → Standing W E → Type 0
     Runs names [] a b = b ≡ a
     Runs names (input ∷ inputs) a b = IsCutOff names input a b

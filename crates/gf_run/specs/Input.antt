@@ -22,12 +22,12 @@ too_long = record { span = record { start = limit; end = limit }; why = TooLong 
 abbrev pub HasLength : ℕ → List ℕ → Type 0
 HasLength n buffer = length buffer ≡ n
 
--- behind these bytes a buffer has room for one more, and for no byte but one past the limit
+-- after these bytes a buffer has room for one more, and for no byte but one past the limit
 pub record HasRoom (bytes buffer : List ℕ) : Type 0 where
   pub some : 0 < length buffer
   pub within : length bytes + length buffer ≤ limit + 1
 
--- of a reader: the bytes that it has left, where it tells them, and what a pull gives
+-- for a reader: the bytes that it has left, if it reports them, and what a pull gives
 module _ {S : Type 0} (remaining : S → Option (List ℕ))
     (gives : S → List ℕ → Result ℕ Error → S → Type 0) where
   -- these bytes came
@@ -57,7 +57,7 @@ module _ {S : Type 0} (remaining : S → Option (List ℕ))
     pub one_more : length bytes ≡ limit + 1
     pub read : IsRead old new bytes
 
--- of a reader: its count of failures too
+-- for a reader: its count of failures too
 module _ {S : Type 0} (remaining : S → Option (List ℕ)) (count : S → ℕ)
     (gives : S → List ℕ → Result ℕ Error → S → Type 0) where
   -- no more bytes came than the limit, and then the reader failed, which was counted

@@ -25,18 +25,19 @@ use Rattle.gf_run.specs.declared.asked.Input.TheVariants.{File}
 use Rattle.gf_run.specs.declared.asked.Job.{Job}
 use Rattle.gf_run.specs.declared.asked.Job.TheVariants.{Canon, Check, Table, Same}
 
--- the strategies of a form, the reduced ones where they are asked for
+-- the strategies of a form, or the reduced ones if they are asked for
 abbrev pub strategies_of : Bool → Strategies
 strategies_of false = Pure
 strategies_of true = Reduced
 
--- the answer about two files, with the renumbering where it is asked for, or by names
+-- the answer about two files, with the renumbering if it is asked for, or by names
 abbrev pub IsAnswerBy : Bool → Names → Bool → List ℕ → List ℕ → List ℕ → Type 0
 IsAnswerBy true names = IsAnswer SameFile IsLineAndMap
 IsAnswerBy false names = IsAnswer (SameBy names) IsLine
 
--- of what opens inputs: what standard input may be, and what opening the file of a name may
--- answer; and of the inputs: the bytes that each has left, where it tells them, and what a pull gives
+-- for what opens inputs: what standard input may be, and what opening the file of a name may
+-- answer; and for the inputs: the bytes that each has left, if it reports them, and what a pull
+-- gives
 module _ {S : Type 0} (standard : S → Type 0) (opens : List ℕ → Result S Error → Type 0)
     (remaining : S → Option (List ℕ)) (gives : S → List ℕ → Result ℕ Error → S → Type 0) where
   -- the inputs of a job were opened and read whole, the text that answers them was `written`, and
@@ -55,7 +56,7 @@ module _ {S : Type 0} (standard : S → Type 0) (opens : List ℕ → Result S E
       (IsReadWhole remaining gives old new) (IsReadWhole remaining gives old' new') written)
       (File a) (File b)
 
--- of the inputs: their counts of failures too
+-- for the inputs: their counts of failures too
 module _ {S : Type 0} (standard : S → Type 0) (opens : List ℕ → Result S Error → Type 0)
     (remaining : S → Option (List ℕ)) (count : S → ℕ)
     (gives : S → List ℕ → Result ℕ Error → S → Type 0) where
@@ -83,7 +84,7 @@ module _ {S : Type 0} (standard : S → Type 0) (opens : List ℕ → Result S E
       EndsOver (ReadsFormUntil remaining count gives (strategies_of reduced)) fault input
   EndsWith (Same a b map names) fault = EndsOverTwo fault (File a) (File b)
 
-  -- why a job was not done: a front of the text that answers it was written, and then the output
+  -- why a job was not done: a prefix of the text that answers it was written, and then the output
   -- failed; or it came to a fault before anything was asked of the output
   abbrev pub Fails : (untouched : Type 0) (cut_off : List ℕ → Type 0) → Job → RunFault → Type 0
   Fails untouched cut_off job Write =

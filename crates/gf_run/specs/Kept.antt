@@ -1,4 +1,4 @@
--- What stands behind an input that is noted.
+-- What is behind an input that is noted.
 use Rattle.std.specs.Prelude.{ℕ, Result, Ok, Err}
 use Rattle.std.specs.declared.io.Error.{Error}
 use Rattle.gf_run.specs.declared.kept.Kept.{Kept}
@@ -10,7 +10,7 @@ input_of kept = kept.inner
 abbrev pub inputs_of : {I : Type 0} → Kept I → I
 inputs_of kept = kept.inputs.now
 
--- what was answered when it was opened
+-- the answer when it was opened
 abbrev pub answer_of : {R : Type 0} → Result (KeptInput R) Error → Result R Error
 answer_of (Ok kept) = Ok kept.inner
 answer_of (Err error) = Err error

@@ -3,7 +3,7 @@ use Rattle.std.specs.Prelude.{ℕ, List, Option}
 use Rattle.gf_run.specs.declared.opened.Opened.{Opened}
 use Rattle.gf_run.specs.declared.opened.Opened.TheVariants.{Standard, File}
 
--- the bytes that it has left, where that which it reads tells them
+-- the bytes that it has left, if what it reads reports them
 abbrev pub remaining_of : {S F : Type 0} → (S → Option (List ℕ)) → (F → Option (List ℕ))
     → Opened S F → Option (List ℕ)
 remaining_of standard file (Standard input) = standard input

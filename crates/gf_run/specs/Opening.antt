@@ -5,7 +5,7 @@ use Rattle.std.specs.declared.io.Error.{Error}
 use Rattle.gf_run.specs.declared.asked.Input.{Input}
 use Rattle.gf_run.specs.declared.asked.Input.TheVariants.{Standard, File, NotText}
 
--- of what opens inputs: what standard input may be, and what opening the file of a name may answer
+-- for what opens inputs: what standard input may be, and what opening the file of a name may answer
 module _ {S : Type 0} (standard : S → Type 0) (opens : List ℕ → Result S Error → Type 0) where
   -- an input was opened
   abbrev pub IsOpened : Input → S → Type 0
@@ -19,14 +19,14 @@ module _ {S : Type 0} (standard : S → Type 0) (opens : List ℕ → Result S E
   IsNotOpened (File name) = (error : Error) × opens (string_bytes name) (Err error)
   IsNotOpened (NotText name) = Unit {0}
 
-  -- an input was opened, and a run over it went so
+  -- an input was opened, and a run over it did this
   pub record RunsOver (Run : S → S → Type 0) (input : Input) : Type 0 where
     pub old : S
     pub new : S
     pub opened : IsOpened input old
     pub run : Run old new
 
-  -- two files were opened, and a run over them went so
+  -- two files were opened, and a run over them did this
   pub record RunsOverTwo (Run : S → S → S → S → Type 0) (a b : Input) : Type 0 where
     pub first_old : S
     pub first_new : S

@@ -9,17 +9,17 @@ use Rattle.gf_run.specs.Turns.{GivesUp, Moves, Transfers}
 abbrev pub IsOffer : List ℕ → List ℕ → Type 0
 IsOffer offered bytes = bytes ≡ offered
 
--- what is left of a text behind the bytes that were taken
+-- what is left of a text after the bytes that were taken
 abbrev pub IsRest : List ℕ → List ℕ → List ℕ → Type 0
 IsRest text taken rest = taken ++ rest ≡ text
 
--- of a writer: what a push gives
+-- for a writer: what a push gives
 module _ {S : Type 0} (gives : S → List ℕ → Result ℕ Error → S → Type 0) where
   -- the writer gave up, or took nothing
   abbrev pub Stops : (List ℕ → Type 0) → S → S → Type 0
   Stops P old new = GivesUp gives P old new ⊎ ((bytes : List ℕ) × Moves gives P bytes 0 old new)
 
--- of a writer: the bytes that it holds, where it tells them, and what a push gives
+-- for a writer: the bytes that it holds, if it reports them, and what a push gives
 module _ {S : Type 0} (contents : S → Option (List ℕ))
     (gives : S → List ℕ → Result ℕ Error → S → Type 0) where
   -- a text was taken whole: each turn offered what was left of it
@@ -27,10 +27,11 @@ module _ {S : Type 0} (contents : S → Option (List ℕ))
     pub appended : Appends (contents old) (contents new) text
     pub turns : Transfers gives (IsRest text) text old new
 
--- of a writer: its count of failures too
+-- for a writer: its count of failures too
 module _ {S : Type 0} (contents : S → Option (List ℕ)) (count : S → ℕ)
     (gives : S → List ℕ → Result ℕ Error → S → Type 0) where
-  -- a front of a text was taken, less than the whole, and then the writer failed, which was counted
+  -- a prefix of a text was taken, less than the whole, and then the writer failed, which was
+  -- counted
   pub record IsWriteFault (old new : S) (text : List ℕ) : Type 0 where
     pub taken : List ℕ
     pub rest : List ℕ

@@ -21,8 +21,8 @@ pub record IsLastLine (text line : List ℕ) : Type 0 where
   pub begins : BeginsLine before
   pub whole : line_feeds line ≡ 0
 
--- the place after a text: its line is 1 and the number of line feeds in the text, and its column 1 and
--- the number of bytes since the last of them
+-- the place after a text: its line is 1 plus the number of line feeds in the text, and its column
+-- is 1 plus the number of bytes since the last of them
 pub record IsPlaceAfter (text : List ℕ) (place : Place) : Type 0 where
   pub line : place.line ≡ line_feeds text + 1
   pub last : List ℕ

@@ -23,8 +23,8 @@ pub record Refuses (IsRefusal : List ℕ → Fault → Type 0)
   pub input : read bytes
   pub refused : IsRefusal bytes fault
 
--- of a reader: the bytes that it has left, where it tells them, its count of failures, and what
--- a pull gives
+-- for a reader: the bytes that it has left, if it reports them, its count of failures, and what a
+-- pull gives
 module _ {S : Type 0} (remaining : S → Option (List ℕ)) (count : S → ℕ)
     (gives : S → List ℕ → Result ℕ Error → S → Type 0) where
   -- how far a run that has no answer read an input, at each fault

@@ -7,7 +7,7 @@ use Rattle.gf_run.specs.declared.fault.RunFault.TheVariants.{Refused, Read, Writ
 use Rattle.gf_run.specs.declared.fault.Which.TheVariants.{Only, First, Second}
 use Rattle.gf_run.specs.Input.{IsNotRead, IsReadWhole}
 
--- the bytes that were read of two inputs have this answer, and its text was written
+-- the bytes that were read from two inputs have this answer, and its text was written
 pub record AnswersTwo (IsAnswer : List ℕ → List ℕ → List ℕ → Type 0)
     (first second written : List ℕ → Type 0) : Type 0 where
   pub first_bytes : List ℕ
@@ -29,7 +29,7 @@ IsFaultOfFiles a b Write = MeansFile a × MeansFile b
 IsFaultOfFiles a b (Form fault) = ⊥
 IsFaultOfFiles a b Memory = MeansFile a × MeansFile b
 
--- of two readers: the bytes that each has left, where it tells them, its count of failures, and
+-- for two readers: the bytes that each has left, if it reports them, its count of failures, and
 -- what a pull gives
 module _ {R S : Type 0} (remaining : R → Option (List ℕ)) (count : R → ℕ)
     (gives : R → List ℕ → Result ℕ Error → R → Type 0) (remaining' : S → Option (List ℕ))

@@ -1,4 +1,4 @@
--- What is written of two files that are compared.
+-- What is written about two files that are compared.
 use Rattle.std.specs.Prelude.{◌≡◌, ◌↔◌, ℕ, suc, Bool, true, false, IsTrue, List, ◌++◌, length, map}
 use Rattle.std.specs.Prelude.{codes, decimal}
 use Rattle.std.specs.List.{flat_map}
@@ -19,12 +19,12 @@ answer_line false = codes "different\n"
 
 -- ---- the lines of a renumbering
 
--- `set P X Y`, of a set of player P, by its number and its new number
+-- `set P X Y` for a set of player P, by its number and its new number
 abbrev pub set_line : ℕ → ℕ → ℕ → List ℕ
 set_line player number new_number = codes "set " ++ decimal player ++ codes " "
     ++ decimal number ++ codes " " ++ decimal new_number ++ codes "\n"
 
--- `outcome X Y`, of an outcome, by its number and its new number
+-- `outcome X Y` for an outcome, by its number and its new number
 abbrev pub outcome_line : ℕ → ℕ → List ℕ
 outcome_line number new_number =
     codes "outcome " ++ decimal number ++ codes " " ++ decimal new_number ++ codes "\n"
@@ -43,19 +43,19 @@ abbrev pub outcome_lines : Renumbering → Game → List ℕ
 outcome_lines r g =
     flat_map (λ number. outcome_line number (r.outcome number)) (outcome_numbers g)
 
--- the sets of chance, who is player 0, then those of player after player, and then the outcomes
+-- the sets of chance, which is player 0, then those of each player in turn, and then the outcomes
 abbrev pub renumbering_lines : Renumbering → Game → List ℕ
 renumbering_lines r g =
     flat_map (set_lines r g) (numbers_from 0 (suc (length g.players))) ++ outcome_lines r g
 
 -- ---- the answer about two files
 
--- the line alone
+-- only the line
 abbrev pub IsLine : GameFile → GameFile → Bool → List ℕ → Type 0
 IsLine x y same text = text ≡ answer_line same
 
--- the line, and behind it, where two games are the same, those of each renumbering that carries the
--- first to the second: so all of them have the same lines
+-- the line, followed, if two games are the same, by those of each renumbering that carries the
+-- first to the second; so all of these have the same lines
 abbrev pub IsLineAndMap : GameFile → GameFile → Bool → List ℕ → Type 0
 IsLineAndMap (extensive g) (extensive h) true text = SameGame g h
     × ((r : Renumbering) → Carries r g h → text ≡ answer_line true ++ renumbering_lines r g)

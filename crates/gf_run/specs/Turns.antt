@@ -1,4 +1,4 @@
--- What a reader or a writer was asked and answered, request after request.
+-- What a reader or a writer was asked and answered, request by request.
 use Rattle.std.specs.Prelude.{◌≡◌, ◌≢◌, ℕ, ◌<◌, ◌≤◌, ◌⊎◌, List, [], ◌++◌, length, take, zero, suc}
 use Rattle.std.specs.Prelude.{Result, Ok, Err}
 use Rattle.std.specs.IoError.{error_kind}
@@ -6,11 +6,11 @@ use Rattle.std.specs.declared.io.Error.{Error}
 use Rattle.std.specs.declared.io.ErrorKind.{ErrorKind}
 use Rattle.std.specs.declared.io.ErrorKind.TheVariants.{Interrupted}
 
--- `gives old bytes answer new` holds where a request with these bytes may be answered so at `old`,
+-- `gives old bytes answer new` holds if a request with these bytes may have this answer at `old`,
 -- and leads to `new`. The bytes of a pull are its buffer as the pull leaves it, and those of a push
 -- are what it offers.
 module _ {S : Type 0} (gives : S → List ℕ → Result ℕ Error → S → Type 0) where
-  -- a request was answered with such an error, and P held of its bytes
+  -- a request was answered with such an error, and P held for its bytes
   pub record IsError (P : List ℕ → Type 0) (Kind : ErrorKind → Type 0) (old new : S) : Type 0 where
     pub bytes : List ℕ
     pub asked : P bytes
@@ -22,7 +22,7 @@ module _ {S : Type 0} (gives : S → List ℕ → Result ℕ Error → S → Typ
   abbrev pub IsInterrupted : (List ℕ → Type 0) → S → S → Type 0
   IsInterrupted P = IsError P (λ kind. kind ≡ Interrupted)
 
-  -- a request failed, and not by an interruption
+  -- a request failed, but not by an interruption
   abbrev pub IsFailed : (List ℕ → Type 0) → S → S → Type 0
   IsFailed P = IsError P (λ kind. kind ≢ Interrupted)
 
@@ -49,8 +49,8 @@ module _ {S : Type 0} (gives : S → List ℕ → Result ℕ Error → S → Typ
   abbrev pub GivesUp : (List ℕ → Type 0) → S → S → Type 0
   GivesUp P old new = IsTurn P (IsFailed P) old new ⊎ Interruptions P 16 old new
 
-  -- one turn after another moved these bytes, each at least one of them. `Asks moved` holds of what
-  -- a turn asks after `moved`.
+  -- one turn after another moved these bytes, each at least one of them. `Asks moved` holds for
+  -- what a turn asks after `moved`.
   pub data Transfers (Asks : List ℕ → List ℕ → Type 0) : List ℕ → S → S → Type 0 where
     none : (s : S) → Transfers Asks [] s s
     more : (moved bytes : List ℕ) (n : ℕ) (old mid new : S)

@@ -1,4 +1,4 @@
-//! What a run is asked for, or why it is asked for nothing.
+//! What the arguments ask for, or why they ask for nothing.
 
 ghost use Rattle.std.specs.Prelude.{◌≡◌};
 ghost use Rattle.gf_run.specs.declared.asked.WordsFault.TheVariants.{Memory};
@@ -18,22 +18,22 @@ pub enum Input {
     NotText(String),
 }
 
-/// What the words ask for.
+/// What the arguments ask for.
 #[derive(Debug, Drop)]
 pub enum Job {
-    /// The canonical text of a file, with its names or without.
+    /// The canonical text of a file, with names or without.
     Canon {
         input: Input,
         names: Names,
     },
     /// What a file holds.
     Check(Input),
-    /// The strategic form of a tree, the reduced one where `reduced` is true; a table as it is.
+    /// The strategic form of a tree, or its reduced form if `reduced` is true; a table as it is.
     Table {
         input: Input,
         reduced: bool,
     },
-    /// Whether the files of these names mean the same; with the renumbering where `map` is true.
+    /// Whether the files of these names mean the same; with the renumbering if `map` is true.
     Same {
         a: String,
         b: String,
@@ -57,27 +57,27 @@ pub struct Collection {
     pub paths: Paths,
     /// Whether their names count.
     pub names: Names,
-    /// Whether a terminal is not told how many files are done.
+    /// Whether the terminal does not show how many files are done.
     pub quiet: bool,
 }
 
-/// What the words ask for: one answer, or one for each of many files.
+/// What the arguments ask for: one answer, or one for each of many files.
 #[derive(Debug, Drop)]
 pub enum Asked {
-    /// A job, whose fault is told in words if `explain` is true.
+    /// A job, whose fault is explained in words if `explain` is true.
     Job { job: Job, explain: bool },
     /// The hashes of these files.
     Hash(Collection),
-    /// Which of these files are one game.
+    /// Which of these files are the same game.
     Duplicates(Collection),
 }
 
-/// Why the words ask for no job.
+/// Why the arguments ask for no job.
 #[derive(Debug, Drop)]
 pub enum WordsFault {
     /// Help or the version is asked for, and this is its text.
     Help(String),
-    /// The words are wrong, and this text says how.
+    /// The arguments are wrong, and this text says how.
     Usage(String),
     /// Memory ran out.
     Memory,

@@ -1,4 +1,4 @@
-//! The run that tells what a file holds.
+//! The run that says what a file holds.
 
 ghost use Rattle.std.specs.Prelude.{◌≡◌, ◌≢◌, IfErr, IfOk};
 ghost use Rattle.gf_canon.specs.Judgement.{IsRefusedWith};
@@ -42,10 +42,14 @@ fn kind_line(kind: FileKind) -> &'static [u8]
     }
 }
 
-/// What the file that it reads holds; writes `tree` or `table` and a line feed.
+/// Returns what the file that it reads holds; writes `tree` or `table` and a line feed.
 ///
-/// No node of a tree is kept, and no text of a game is made. Reads, writes and refuses as `run_canon`
+/// No node of a tree is kept, and no text of a game is made. It reads and writes as `run_canon`
 /// does.
+///
+/// # Errors
+///
+/// Those of `run_canon`.
 pub fn run_check<R: Source, W: Sink>(
     alloc: Global,
     input: &mut R,

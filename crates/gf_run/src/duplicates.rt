@@ -1,4 +1,4 @@
-//! The run that tells which files are one game.
+//! The run that says which files are the same game.
 
 ghost use Rattle.std.specs.Prelude.{◌≡◌, List, [], IfErr, IfOk, OnErr};
 ghost use Rattle.gf_run.specs.Duplicates.{HashedFile, IsKeptOf, duplicates};
@@ -37,8 +37,8 @@ fn hash_of_file<I: Inputs>(
     read_hash(alloc, &mut input, names)
 }
 
-/// Reads a file, and puts its name into the group of its hash, or tells its fault; gives the worst
-/// status so far.
+/// Reads a file, and puts its name into the group of its hash, or reports its fault; returns the
+/// worst status so far.
 fn read_next<'a, I: Inputs, E: Sink>(
     alloc: Global,
     inputs: &I,
@@ -66,7 +66,7 @@ fn read_next<'a, I: Inputs, E: Sink>(
     }
 }
 
-/// Writes the groups of two files or more, and gives the exit status: 1 if there are any.
+/// Writes the groups of two files or more, and returns the exit status: 1 if there are any.
 fn write_groups<W: Sink, E: Sink>(
     alloc: Global,
     groups: &Groups<'_>,
@@ -88,15 +88,15 @@ fn write_groups<W: Sink, E: Sink>(
     }
 }
 
-/// Writes which of these files are one game, and gives the exit status. Two files that were read stand
-/// in one group exactly if their hashes are equal; groups of one file are left out.
+/// Writes which of these files are the same game, and returns the exit status. Two files that were
+/// read are in one group exactly if their hashes are equal; groups of one file are left out.
 ///
-/// The files are read in their order, each one freed before the next one. One that is refused, or
-/// cannot be opened or read, is in no group: its fault is told on standard error after its name, and
-/// the others go on. A group has a line for each name, and an empty line stands between two groups,
-/// which are in the order of their first files. The status is the worst of all: 1 if there is a group,
-/// and above it those of the faults. If memory runs out, E19 is told, and nothing is written.
-/// `progress` is told of each file that is done.
+/// The files are read in their order, each one freed before the next one. A file that is refused,
+/// or cannot be opened or read, is in no group: its fault is written to standard error after its
+/// name, and the run goes on. A group has a line for each name, and there is an empty line between
+/// two groups, which are in the order of their first files. The status is the worst of all: 1 if
+/// there is a group, and above it those of the faults. If memory runs out, E19 is reported, and
+/// nothing is written. `progress` is told of each file that is done.
 pub fn run_duplicates<I: Inputs, P: Progress, W: Sink, E: Sink>(
     alloc: Global,
     inputs: &I,
@@ -125,11 +125,11 @@ pub fn run_duplicates<I: Inputs, P: Progress, W: Sink, E: Sink>(
     write_groups(alloc, &groups, worst, output, errors)
 }
 
-/// Writes which of the files at these paths are one game, as `run_duplicates` does, and gives the exit
-/// status.
+/// Writes which of the files at these paths are the same game, as `run_duplicates` does, and
+/// returns the exit status.
 ///
-/// Before a file is opened, all paths are followed. If memory runs out then, E19 is told; if a list of
-/// names cannot be read, E20 after its name.
+/// All paths are followed before a file is opened. If memory runs out then, E19 is reported; if a
+/// list of names cannot be read, E20 is reported after its name.
 pub fn duplicates_at<R: Inputs + Files + AllocGlobal, P: Progress, W: Sink, E: Sink>(
     rt: &R,
     paths: Paths,

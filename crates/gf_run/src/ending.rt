@@ -1,4 +1,4 @@
-//! How the program ends: its exit status, and what it tells on standard error.
+//! How the program ends: its exit status, and what it writes to standard error.
 
 ghost use Rattle.std.specs.Prelude.{◌≡◌};
 ghost use Rattle.gf_run.specs.Ending.{IsAnswered, IsTold};
@@ -11,9 +11,9 @@ use crate::fault::RunFault;
 use crate::report::write_fault;
 use crate::sink::{Sink, push_all};
 
-/// Tells a fault on standard error, and gives its exit status.
+/// Writes the line of a fault to standard error, and returns its exit status.
 ///
-/// The status stays if the line cannot be written.
+/// The status stays the same if the line cannot be written.
 pub fn tell<E: Sink>(fault: &RunFault, errors: &mut E) -> u8
     ensures status { result ≡ status_of fault.now }
     ensures told { IsTold E.contents E.count E.push_gives (fault_line fault.now) errors.old errors.new }
@@ -22,11 +22,12 @@ pub fn tell<E: Sink>(fault: &RunFault, errors: &mut E) -> u8
     fault::status(fault)
 }
 
-/// Answers words that ask for no job, and gives the exit status.
+/// Answers arguments that ask for no job, and returns the exit status.
 ///
 /// - `Help`: 0, and the text is written to standard output; or, if that fails, 4 and the line of
 ///   E21.
-/// - `Usage`: 3, and the text is told on standard error. The status stays if that fails.
+/// - `Usage`: 3, and the text is written to standard error. The status stays the same if that
+///   fails.
 /// - `Memory`: 5, and the line of E19.
 pub fn answer<W: Sink, E: Sink>(fault: &WordsFault, output: &mut W, errors: &mut E) -> u8
     ensures { IsAnswered W.contents W.count W.push_gives E.contents E.count E.push_gives

@@ -1,4 +1,4 @@
-//! What the program does for a job whose fault is told in words.
+//! What the program does for a job whose fault is explained in words.
 
 ghost use Rattle.std.specs.Prelude.{◌≡◌, ◌⊎◌, List, ℕ, Bool, IfOk};
 ghost use Rattle.gf_run.specs.Ending.{IsTold};
@@ -54,8 +54,8 @@ fn is_of_second(fault: &RunFault) -> bool
     }
 }
 
-/// Tells a fault in words, and gives its exit status. If memory for that is refused, only its line is
-/// told.
+/// Explains a fault in words, and returns its exit status. If memory for that is refused, only its
+/// line is written.
 fn tell_in_words<E: Sink>(
     alloc: Global,
     fault: &RunFault,
@@ -86,12 +86,12 @@ fn tell_in_words<E: Sink>(
     }
 }
 
-/// Does a job as `perform` does, and tells a fault in words. The inputs note in `notes` what is read of
-/// them, as `Kept` has it.
+/// Does a job as `perform` does, and explains a fault in words. The inputs note in `notes` what is
+/// read from them, as `Kept` does.
 ///
-/// What is told begins with the name of the file, the line and the column, if the file is refused, and
-/// then the line that `perform` tells, without `A: ` or `B: `. After that come what is wrong, the line of
-/// the file with marks under the place, and a hint.
+/// The explanation begins with the name of the file, the line and the column, if the file is
+/// refused; then comes the line that `perform` writes, without `A: ` or `B: `. After that come what
+/// is wrong, the line of the file with marks under the place, and a hint.
 pub fn perform_explained<I: Inputs, W: Sink, E: Sink>(
     alloc: Global,
     inputs: &I,

@@ -35,7 +35,7 @@ pub enum RunFault {
     /// The writer failed.
     #[error("the output could not be written")]
     Write,
-    /// A game has no table. For want of memory it is `Memory` below that a run answers.
+    /// A game has no table. If memory runs out, a run returns `Memory` below instead.
     #[error("the game has no table")]
     Form(FormFault),
     /// Memory ran out.
@@ -93,8 +93,8 @@ impl From<WriteFault> for RunFault {
     }
 }
 
-/// The exit status of a fault: 2 for a refusal, and for a game that has no table; 4 where a reader or
-/// the writer failed; and 5 for want of memory.
+/// The exit status of a fault: 2 for a refusal, and for a game that has no table; 4 if a reader or
+/// the writer failed; and 5 if memory ran out.
 pub fn status(fault: &RunFault) -> u8
     ensures { result ≡ status_of fault.now }
 {
@@ -109,7 +109,7 @@ pub fn status(fault: &RunFault) -> u8
     }
 }
 
-/// The exit status of an answer whether two files mean the same: 0 where they do, and 1 where they
+/// The exit status of the answer whether two files mean the same: 0 if they do, and 1 if they
 /// differ.
 pub fn answer_status(same: bool) -> u8
     ensures { result ≡ answer_status same }

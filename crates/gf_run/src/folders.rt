@@ -1,4 +1,4 @@
-//! The files that a path names: a file itself, and of a folder the game files below it.
+//! The files that a path names: a file itself, or, for a folder, the game files below it.
 
 use crate::asked::Input;
 use std::alloc::{AllocError, Global};
@@ -8,7 +8,7 @@ use std::os::unix::fs::MetadataExt;
 use std::rt::Files;
 use std::{fs, io};
 
-/// Whether a name ends as that of a game file, in letters of either case.
+/// Whether a name ends like that of a game file, in upper or lower case.
 fn is_game_file(name: &str) -> bool {
     match name.rsplit_once('.') {
         Some((_, ending)) => {
@@ -18,7 +18,8 @@ fn is_game_file(name: &str) -> bool {
     }
 }
 
-/// The device and the number of the folder that a path names, through links. `None` if it names none.
+/// The device and the number of the folder that a path names, through links. `None` if it does not
+/// name a folder.
 fn folder_at<R: Files>(rt: &R, path: &str) -> Option<(u64, u64)> {
     match fs::metadata(rt, path) {
         Ok(found) if found.is_dir() => Some((found.dev(), found.ino())),
@@ -48,7 +49,7 @@ fn with_slash(alloc: Global, folder: &str) -> Result<String, AllocError> {
     Ok(path)
 }
 
-/// Adds what stands in a folder, by name. Names that came before an error stay.
+/// Adds what is in a folder, by name. Names that came before an error stay.
 fn push_entries<R: Files + AllocGlobal>(
     rt: &R,
     folder: &str,
@@ -57,7 +58,7 @@ fn push_entries<R: Files + AllocGlobal>(
     push_names(rt.alloc(), rt.open_dir(folder)?, 0, names)
 }
 
-/// Puts the paths of names in a folder before all that waits, so that the first comes first.
+/// Puts the paths of names in a folder before everything that waits, so that the first comes first.
 fn push_paths(
     alloc: Global,
     folder: &str,
@@ -74,8 +75,8 @@ fn push_paths(
     Ok(())
 }
 
-/// Puts what stands in a folder before all that waits, by rising bytes of its names. A folder that
-/// cannot be read whole is kept as a file, which cannot be read either.
+/// Puts what is in a folder before everything that waits, ordered by the bytes of the names. A
+/// folder that cannot be read whole is kept as a file, which cannot be read either.
 fn open_folder<R: Files + AllocGlobal>(
     rt: &R,
     folder: String,
@@ -98,8 +99,8 @@ fn not_text(alloc: Global, name: &[u8]) -> Result<Input, AllocError> {
     Ok(Input::NotText(String::from_utf8_lossy(alloc, name)?))
 }
 
-/// Adds the file at a path, if it is a game file or was named itself; or opens the folder there, unless
-/// it was gone through.
+/// Adds the file at a path, if it is a game file or was named itself; or opens the folder there,
+/// unless it was visited already.
 fn push_path<R: Files + AllocGlobal>(
     rt: &R,
     path: String,
@@ -123,10 +124,10 @@ fn push_path<R: Files + AllocGlobal>(
     Ok(())
 }
 
-/// Adds the file at a path, or the game files below the folder there: those whose names end in `.efg`
-/// or `.nfg`, in letters of either case, each folder in order of its names by bytes. No folder is gone
-/// through twice, so that links may lead anywhere. A name that is not UTF-8 may be that of a game file
-/// or of a folder, so it is added too.
+/// Adds the file at a path, or the game files below the folder there: those whose names end in
+/// `.efg` or `.nfg`, in upper or lower case, each folder ordered by the bytes of its names. No
+/// folder is visited twice, so links may lead anywhere. A name that is not UTF-8 may be that of a
+/// game file or of a folder, so it is added too.
 pub fn push_files<R: Files + AllocGlobal>(
     rt: &R,
     path: Vec<u8>,

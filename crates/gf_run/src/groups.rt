@@ -1,4 +1,4 @@
-//! The names of files, in groups of one hash.
+//! The names of files, in groups with the same hash.
 
 ghost use Rattle.std.specs.Prelude.{◌≡◌, List, [], ◌∷◌, ◌++◌, map, IfOk, OnOk};
 ghost use Rattle.gf_run.specs.Duplicates.{HashedFile, IsKeptOf, KeptNames};
@@ -8,13 +8,13 @@ use indexmap::IndexSet;
 use std::alloc::{AllocError, Global};
 use std::marker::Model;
 
-/// The names of files that were read, in groups of one hash. It takes memory for the hashes and for a
-/// reference to each name.
+/// The names of files that were read, in groups with the same hash. This takes memory for the
+/// hashes and for a reference to each name.
 #[derive(Drop)]
 pub struct Groups<'a> {
     /// The different hashes, in the order of the first files that have them.
     hashes: IndexSet<[u8; 32]>,
-    /// For each of them the names of its files.
+    /// For each of them, the names of its files.
     names: Vec<Vec<&'a str>>,
 }
 

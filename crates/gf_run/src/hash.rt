@@ -27,7 +27,7 @@ fn hash_of(alloc: Global, bytes: &[u8], names: Names) -> Result<[u8; 32], RunFau
     Ok(Sha256::digest(text.as_slice()))
 }
 
-/// Reads a file whole, and gives the hash of its canonical text, with its names or without.
+/// Reads a file whole, and returns the hash of its canonical text, with names or without.
 ///
 /// - `Refused`, `Read`: as `run_canon` has them.
 /// - `Memory`: memory ran out while the input was read.
@@ -67,14 +67,16 @@ fn line_of(alloc: Global, name: &str, bytes: &[u8], names: Names) -> Result<Stri
     Ok(hash_line(alloc, name, hash)?)
 }
 
-/// Writes the hash of the canonical text of the file that it reads, with its names or without, and the
+/// Writes the hash of the canonical text of the file that it reads, with names or without, and the
 /// name: `HEX  NAME` and a line feed.
 ///
-/// The input is read whole before it is judged. Before any fault but `Write` nothing is asked of the
-/// output.
+/// The input is read whole before it is judged. Before any fault except `Write`, nothing is asked
+/// of the output.
+///
+/// # Errors
 ///
 /// - `Refused`, `Read`, `Write`: as `run_canon` has them.
-/// - `Memory`: memory ran out while the input was read, or for the line of a file that is right.
+/// - `Memory`: memory ran out while the input was read, or for the line of a valid file.
 pub fn run_hash<R: Source, W: Sink>(
     alloc: Global,
     input: &mut R,

@@ -40,7 +40,7 @@ fn named_line(alloc: Global, name: &str, fault: &RunFault) -> Result<Vec<u8>, Al
     Ok(line)
 }
 
-/// Tells the fault of a file after its name, and gives its status.
+/// Writes the fault of a file after its name, and returns its status.
 pub(crate) fn tell_of<E: Sink>(alloc: Global, name: &str, fault: &RunFault, errors: &mut E) -> u8
     ensures { IsToldOf E.contents E.count E.push_gives name.now fault.now result
         errors.old errors.new }
@@ -77,7 +77,8 @@ fn hash_file<I: Inputs, W: Sink>(
     run_hash(alloc, &mut input, name_of(file), names, output)
 }
 
-/// Writes the line of a file's hash, or tells the fault of the file; gives the worst status so far.
+/// Writes the line of a file's hash, or reports the fault of the file; returns the worst status so
+/// far.
 fn hash_next<I: Inputs, W: Sink, E: Sink>(
     alloc: Global,
     inputs: &I,
@@ -109,12 +110,13 @@ fn hash_next<I: Inputs, W: Sink, E: Sink>(
     }
 }
 
-/// Writes the hashes of files in their order, a line for each, and gives the exit status: the worst of
-/// those that the files have, 0 if all are hashed.
+/// Writes the hashes of files in their order, a line for each, and returns the exit status: the
+/// worst of all files, or 0 if all are hashed.
 ///
-/// Each file is opened, read and freed before the next one. A file that is refused, or cannot be opened
-/// or read, has no line; its fault is told on standard error after its name, and the others go on. If
-/// the output fails, E21 is told, and the run ends. `progress` is told of each file that is done.
+/// Each file is opened, read and freed before the next one. A file that is refused, or cannot be
+/// opened or read, has no line; its fault is written to standard error after its name, and the run
+/// goes on. If the output fails, E21 is reported, and the run ends. `progress` is told of each file
+/// that is done.
 pub fn run_hashes<I: Inputs, P: Progress, W: Sink, E: Sink>(
     alloc: Global,
     inputs: &I,
@@ -142,10 +144,11 @@ pub fn run_hashes<I: Inputs, P: Progress, W: Sink, E: Sink>(
     worst
 }
 
-/// Writes the hashes of the files at these paths, as `run_hashes` does, and gives the exit status.
+/// Writes the hashes of the files at these paths, as `run_hashes` does, and returns the exit
+/// status.
 ///
-/// Before a file is opened, all paths are followed. If memory runs out then, E19 is told; if a list of
-/// names cannot be read, E20 after its name.
+/// All paths are followed before a file is opened. If memory runs out then, E19 is reported; if a
+/// list of names cannot be read, E20 is reported after its name.
 pub fn hash_paths<R: Inputs + Files + AllocGlobal, P: Progress, W: Sink, E: Sink>(
     rt: &R,
     paths: Paths,

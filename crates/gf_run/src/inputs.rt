@@ -11,10 +11,10 @@ pub trait Inputs {
     /// An input that is open.
     type Opened: Source + Drop;
 
-    /// Holds of what standard input may be.
+    /// Holds for what standard input may be.
     ghost standard_gives: { Self → Self.Opened → Type 0 } = { λ _ _. ⊤ };
 
-    /// Holds of a name and of what opening the file of this name may answer.
+    /// Holds for a name and for what opening the file of this name may answer.
     ghost open_gives: { Self → List ℕ → Result Self.Opened Error → Type 0 } = { λ _ _ _. ⊤ };
 
     /// Standard input.

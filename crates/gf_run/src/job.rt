@@ -50,7 +50,7 @@ pub(crate) fn open_input<I: Inputs>(inputs: &I, input: &Input) -> Result<I::Open
     }
 }
 
-/// The run over a tree or a table that writes its form, the reduced one if `reduced` is true.
+/// The run over a tree or a table that writes its form, or the reduced form if `reduced` is true.
 fn write_form<R: Source, W: Sink>(
     alloc: Global,
     input: &mut R,
@@ -74,7 +74,7 @@ fn write_form<R: Source, W: Sink>(
     }
 }
 
-/// The run that compares two files: with the renumbering if `map` is true, else by `names`.
+/// The run that compares two files: with the renumbering if `map` is true, otherwise by `names`.
 fn compare<R: Source, S: Source, W: Sink>(
     alloc: Global,
     a: &mut R,
@@ -185,7 +185,7 @@ fn same<I: Inputs, W: Sink>(
     Ok(answer_status(same))
 }
 
-/// Opens the inputs of a job, does it, and gives the exit status of its answer.
+/// Opens the inputs of a job, does the job, and returns the exit status of its answer.
 pub(crate) fn run_job<I: Inputs, W: Sink>(
     alloc: Global,
     inputs: &I,
@@ -208,15 +208,16 @@ pub(crate) fn run_job<I: Inputs, W: Sink>(
     }
 }
 
-/// Does a job, and gives the exit status.
+/// Does a job, and returns the exit status.
 ///
 /// The inputs that the job names are opened, both before either is read. Then the job reads, writes
-/// and fails as `run_canon`, `run_check`, `run_table`, `run_table_reduced`, `run_same`, `run_same_by`
-/// or `run_same_map` does. The status is 0, and of files that are compared and differ 1.
+/// and fails as `run_canon`, `run_check`, `run_table`, `run_table_reduced`, `run_same`,
+/// `run_same_by` or `run_same_map` does. The status is 0, or 1 if two files are compared and
+/// differ.
 ///
-/// A fault is told on standard error in one line, and the status is its own: 2 for a refusal and for
-/// a game without a table, 4 if an input could not be opened or read or the output not written, and
-/// 5 if memory ran out. It stays if the line cannot be written.
+/// A fault is reported in one line on standard error, and has its own status: 2 for a refusal and
+/// for a game without a table, 4 if an input could not be opened or read or the output could not be
+/// written, and 5 if memory ran out. The status stays the same if the line cannot be written.
 pub fn perform<I: Inputs, W: Sink, E: Sink>(
     alloc: Global,
     inputs: &I,

@@ -1,4 +1,4 @@
-//! Inputs that note what a job reads of them, so that a fault can be explained.
+//! Inputs that note what a job reads from them, so that a fault can be explained.
 
 ghost use Rattle.gf_run.specs.Kept.{answer_of, input_of, inputs_of};
 
@@ -12,7 +12,7 @@ use std::io::Read;
 /// What is noted of an input.
 #[derive(Drop)]
 pub struct Note {
-    /// What was read of it.
+    /// What was read from it.
     pub bytes: Vec<u8>,
     /// Whether memory for some of that was refused.
     pub is_short: bool,
@@ -82,7 +82,7 @@ impl Notes {
     }
 }
 
-/// An input that notes what is read of it.
+/// An input that notes what is read from it.
 #[derive(Drop)]
 pub struct KeptInput<'a, R> {
     inner: R,
@@ -116,7 +116,7 @@ impl<R: Source> Source for KeptInput<'_, R> {
     }
 }
 
-/// What opens inputs, and notes what is read of them.
+/// What opens inputs, and notes what is read from them.
 #[derive(Drop)]
 pub struct Kept<'a, I> {
     inputs: &'a I,

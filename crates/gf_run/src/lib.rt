@@ -1,5 +1,5 @@
-//! What the program does for a job: it opens and reads game files, writes the answer, and tells a
-//! fault in one line with an exit status. Over any readers and writers.
+//! What the program does for a job: it opens and reads game files, writes the answer, and reports a
+//! fault in one line with an exit status. It works over any readers and writers.
 #![tactic(auto)]
 
 mod asked;

@@ -1,4 +1,4 @@
-//! The files of a collection: those that words or a list of names lead to.
+//! The files of a collection: those that arguments or a list of names lead to.
 
 use crate::asked::{Input, Paths};
 use crate::ending::tell;
@@ -44,7 +44,7 @@ fn names_in<R: Inputs + AllocGlobal>(
     }
 }
 
-/// The files that words name, in their order; standard input if there are no words.
+/// The files that arguments name, in their order; standard input if there are none.
 fn files_named<R: Files + AllocGlobal>(
     rt: &R,
     words: Vec<String>,
@@ -72,8 +72,8 @@ fn files_listed<R: Inputs + Files + AllocGlobal>(
     Ok(files)
 }
 
-/// The files of a collection, in the order of their paths; of a folder the game files below it, as
-/// `push_files` has them.
+/// The files of a collection, in the order of their paths; for a folder, the game files below it,
+/// as `push_files` adds them.
 pub fn files_at<R: Inputs + Files + AllocGlobal>(
     rt: &R,
     paths: Paths,
@@ -84,8 +84,8 @@ pub fn files_at<R: Inputs + Files + AllocGlobal>(
     }
 }
 
-/// Tells why the files of a collection are not known, and gives the exit status: E20 after the name of
-/// the list, or E19.
+/// Reports why the files of a collection are not known, and returns the exit status: E20 after the
+/// name of the list, or E19.
 pub(crate) fn tell_unlisted<E: Sink>(alloc: Global, fault: &Unlisted, errors: &mut E) -> u8 {
     match fault {
         Unlisted::NotRead(list) => {

@@ -8,19 +8,19 @@ use std::time::{Clock, Instant};
 /// What erases the line of a terminal.
 const ERASE: &[u8] = b"\r\x1b[K";
 
-/// How long nothing is shown, and then how often, in milliseconds.
+/// How long nothing is shown at first, and then how often something is, in milliseconds.
 const PAUSE: u128 = 200;
 
 /// What is told of each file that is done.
 pub trait Progress {
-    /// One more file is done, of so many.
+    /// One more file is done, of this many.
     fn step(&mut self, all: usize);
 
     /// The run over them is at its end.
     fn end(&mut self);
 }
 
-/// Shows on a terminal how many files are done, in a line that is erased in the end.
+/// Shows on a terminal how many files are done, in a line that is erased at the end.
 #[derive(Drop)]
 pub struct Shown<'a, R, W> {
     rt: &'a R,
@@ -76,7 +76,7 @@ impl<R: Clock, W: Write> Progress for Shown<'_, R, W> {
     }
 }
 
-/// A writer to a terminal that erases what stands in a line before it begins one.
+/// A writer to a terminal that erases what is in a line before it begins one.
 #[derive(Drop)]
 pub struct Erasing<W> {
     terminal: W,

@@ -42,8 +42,8 @@ fn outcome_line(number: u32, new_number: u32) -> Line
     line
 }
 
-/// Appends the line of a player's set by its position in order of first use, where there is one.
-/// What is carried has the same position in both games.
+/// Appends the line of a player's set by its position in order of first use, if there is one. A set
+/// and the set that it is carried to have the same position in both games.
 fn push_set(
     g: &Game<'_>,
     h: &Game<'_>,
@@ -76,7 +76,7 @@ fn push_sets(g: &Game<'_>, h: &Game<'_>, player: u32, text: &mut Vec<u8>) -> Res
     Ok(())
 }
 
-/// Those of a player by any number; he has no sets where the number is too large.
+/// The same for a player with any number; he has no sets if the number is too large.
 fn push_player(
     g: &Game<'_>,
     h: &Game<'_>,
@@ -94,7 +94,7 @@ fn push_player(
     }
 }
 
-/// Appends the line of an outcome by its position in order of first use, where there is one.
+/// Appends the line of an outcome by its position in order of first use, if there is one.
 fn push_outcome(g: &Game<'_>, h: &Game<'_>, i: usize, text: &mut Vec<u8>) -> Result<(), AllocError>
     requires { IsGame g.now × IsGame h.now }
     ensures { OnOk result ((r : Renumbering) → Carries r g.now h.now
@@ -121,11 +121,11 @@ fn push_outcomes(g: &Game<'_>, h: &Game<'_>, text: &mut Vec<u8>) -> Result<(), A
     Ok(())
 }
 
-/// Appends the lines of the renumbering that carries a game to another, where there is one:
-/// `set P X Y` for each information set of the first, P being its player, X its number and Y its
-/// number in the other, and then `outcome X Y` for each outcome. The sets of chance come first, who
-/// is player 0, and then those of player after player, each player's in order of first use, and so
-/// do the outcomes (this project's profile).
+/// Appends the lines of the renumbering that carries a game to another, if there is one: `set P X
+/// Y` for each information set of the first, where P is its player, X its number and Y its number
+/// in the other, and then `outcome X Y` for each outcome. The sets of chance, which is player 0,
+/// come first, and then those of each player in turn. Each player's sets, and the outcomes, are in
+/// order of first use (this project's profile).
 pub fn push_renumbering(g: &Game<'_>, h: &Game<'_>, text: &mut Vec<u8>) -> Result<(), AllocError>
     ensures { OnOk result ((r : Renumbering) → Carries r g.now h.now
         → text.new.items ≡ text.old.items ++ renumbering_lines r g.now) }

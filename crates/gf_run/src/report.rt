@@ -1,4 +1,4 @@
-//! What is told of a fault: its line on standard error.
+//! What is written about a fault: its line on standard error.
 
 ghost use Rattle.std.specs.Prelude.{◌≡◌, ◌≤◌, length, OnOk, OnErr};
 ghost use Rattle.gf_run.specs.FaultLine.{fault_label, fault_line, label_of, short_line};
@@ -71,10 +71,10 @@ pub(crate) fn line_of(fault: &RunFault) -> Line
     line
 }
 
-/// Writes the line of a fault: its code, the place of a refusal in bytes, and in front the input,
-/// `A: ` or `B: `, where it is one of two; or why a game has no table. It takes no memory.
+/// Writes the line of a fault: its code and the place of a refusal in bytes, after `A: ` or `B: `
+/// if it is about one of two inputs; or why a game has no table. This takes no memory.
 ///
-/// Where the writer fails, a front of the line has gone out.
+/// If the writer fails, a prefix of the line has been written.
 pub fn write_fault<W: Sink>(fault: &RunFault, output: &mut W) -> Result<(), WriteFault>
     ensures all { OnOk result
         (IsWritten W.contents W.push_gives output.old output.new (fault_line fault.now)) }

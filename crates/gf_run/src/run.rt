@@ -12,16 +12,19 @@ use crate::source::{Source, load};
 use gf_canon::{Names, canonical_by};
 use std::alloc::Global;
 
-/// Writes the canonical text of the file that it reads, with its names or without.
+/// Writes the canonical text of the file that it reads, with names or without.
 ///
-/// The input is read whole before it is judged, and the text is made whole before its first byte
-/// is written. So only after `Write` has a front of the text gone out, and before any other fault
+/// The input is read whole before it is judged, and the text is made whole before its first byte is
+/// written. So a prefix of the text has been written only after `Write`; before any other fault,
 /// nothing is asked of the output.
+///
+/// # Errors
 ///
 /// - `Refused`: the file is refused as `canonical_by` refuses it, or it has a byte past the first
 ///   16,777,216, which is the last one that is read. With E19, memory ran out for the game, the
-///   table or the text, and there was nothing else to refuse: at a token, a file begins with the
-///   tokens through it; at the end, the bytes are a file. No profiles pass their limit there.
+///   table or the text, and there was nothing else to refuse: if the place is a token, some file
+///   begins with the tokens through it; if it is the end, the bytes are a file. No profiles pass
+///   their limit up to there.
 /// - `Read`, `Write`: the reader or the writer failed, or was interrupted sixteen times in a row,
 ///   or the writer took nothing. `failures` has counted it.
 /// - `Memory`: memory ran out while the input was read.

@@ -15,20 +15,22 @@ use crate::source::{Source, load};
 use gf_canon::{Names, same_by};
 use std::alloc::Global;
 
-/// Whether the two files that it reads mean the same, with their names or without, as `same_by`
+/// Returns whether the two files that it reads mean the same, with names or without, as `same_by`
 /// says; writes `same` or `different` and a line feed.
 ///
-/// The first input is read whole, then the second, and only then is the first judged and then the
-/// second. The text is made whole before its first byte is written: so only after `Write` has a
-/// front of it gone out, and before any other fault nothing is asked of the output.
+/// The first input is read whole, and then the second; only then is the first judged, and then the
+/// second. The text is made whole before its first byte is written. So a prefix of it has been
+/// written only after `Write`; before any other fault, nothing is asked of the output.
+///
+/// # Errors
 ///
 /// - `Refused`: the first or the second file is refused as `same_by` refuses it, or it has a byte
-///   past the first 16,777,216, which is the last one that is read of it. Where the first is too
-///   long, the second is not read.
+///   past the first 16,777,216, which is the last one that is read of it. If the first is too long,
+///   the second is not read.
 /// - `Read`: the reader of the first or of the second failed, or was interrupted sixteen times in a
-///   row. `failures` has counted it. Where the first fails, the second is not read.
-/// - `Write`: the writer failed so, or took nothing, which `failures` has counted too.
-/// - `Memory`: memory ran out while an input was read, or where both files are accepted.
+///   row. `failures` has counted it. If the first fails, the second is not read.
+/// - `Write`: the writer failed in this way, or took nothing, which `failures` has counted too.
+/// - `Memory`: memory ran out while an input was read, or although both files are accepted.
 pub fn run_same_by<R: Source, S: Source, W: Sink>(
     alloc: Global,
     a: &mut R,
@@ -56,10 +58,14 @@ pub fn run_same_by<R: Source, S: Source, W: Sink>(
     Ok(same)
 }
 
-/// Whether the two files that it reads mean the same, as `same` says; writes `same` or `different`
-/// and a line feed.
+/// Returns whether the two files that it reads mean the same, as `same` says; writes `same` or
+/// `different` and a line feed.
 ///
-/// Reads, writes and refuses as `run_same_by` does.
+/// It reads and writes as `run_same_by` does.
+///
+/// # Errors
+///
+/// Those of `run_same_by`.
 pub fn run_same<R: Source, S: Source, W: Sink>(
     alloc: Global,
     a: &mut R,
@@ -82,16 +88,21 @@ pub fn run_same<R: Source, S: Source, W: Sink>(
     run_same_by(alloc, a, b, Names::Kept, output)
 }
 
-/// Whether the two files that it reads mean the same, as `same` says; writes `same` or `different`
-/// and a line feed, and behind `same`, where both are trees, the lines of the only renumbering that
-/// carries the first to the second.
+/// Returns whether the two files that it reads mean the same, as `same` says; writes `same` or
+/// `different` and a line feed, and after `same`, if both are trees, the lines of the only
+/// renumbering that carries the first to the second.
 ///
-/// Such lines are `set P X Y` for each information set of the first tree, P being its player, X its
-/// number and Y its number in the second tree, and then `outcome X Y` for each outcome but the null
-/// outcome. The sets of chance come first, who is player 0, and then those of player after player;
-/// each player's sets, and the outcomes, stand in order of first use (this project's profile).
+/// These lines are `set P X Y` for each information set of the first tree, where P is its player, X
+/// its number and Y its number in the second tree, and then `outcome X Y` for each outcome except
+/// the null outcome. The sets of chance, which is player 0, come first, and then those of each
+/// player in turn. Each player's sets, and the outcomes, are in order of first use (this project's
+/// profile).
 ///
-/// Reads, writes and refuses as `run_same_by` does.
+/// It reads and writes as `run_same_by` does.
+///
+/// # Errors
+///
+/// Those of `run_same_by`.
 pub fn run_same_map<R: Source, S: Source, W: Sink>(
     alloc: Global,
     a: &mut R,

@@ -1,4 +1,4 @@
-//! What is written of two files that are compared.
+//! What is written about two files that are compared.
 
 ghost use Rattle.std.specs.Prelude.{◌≡◌, ◌↔◌, ℕ, IfErr, IfOk, IsTrue, List};
 ghost use Rattle.gf_canon.specs.GameFile.{SameFile};
@@ -11,7 +11,7 @@ use crate::renumbering_text::push_renumbering;
 use gf_canon::{Meaning, Names, SameFault, read_file, same_meaning};
 use std::alloc::{AllocError, Global};
 
-/// Whether two files are the same, and what is written of it.
+/// Whether two files are the same, and what is written about it.
 #[derive(Drop)]
 pub struct Answer {
     pub same: bool,
@@ -52,7 +52,7 @@ fn answer_of(alloc: Global, a: &Meaning<'_>, b: &Meaning<'_>) -> Result<Answer, 
     Ok(answer)
 }
 
-/// The answer about two files that were read, of which the second is not needed any more.
+/// The answer about two files that were read; the second is not needed any more.
 fn answer_at_end(alloc: Global, a: &Meaning<'_>, b: Meaning<'_>) -> Result<Answer, AllocError>
     ensures same { IfOk result (λ answer.
         IsTrue answer.same ↔ SameFile (file_of a.now) (file_of b.entry)) }
@@ -79,10 +79,10 @@ fn answer_beside(alloc: Global, first: &Meaning<'_>, b: &[u8]) -> Result<Answer,
     }
 }
 
-/// Whether two files are the same; and where they are trees, the lines of the only renumbering that
+/// Whether two files are the same; and, if they are trees, the lines of the only renumbering that
 /// carries the first to the second.
 ///
-/// Refused as `same` refuses.
+/// Refused as by `same`.
 pub fn answer_with_map(alloc: Global, a: &[u8], b: &[u8]) -> Result<Answer, SameFault>
     ensures answer { IfOk result (λ answer.
         IsAnswer SameFile IsLineAndMap answer.same a.now b.now answer.text.items) }

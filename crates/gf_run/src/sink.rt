@@ -13,12 +13,13 @@ use crate::turns::{PATIENCE, is_interruption};
 use std::io;
 use std::io::Write;
 
-/// A writer that counts the errors that it answers and the pushes that take nothing.
+/// A writer that counts the errors that it returns and the pushes that take nothing.
 pub trait Sink: Write {
     /// The failures so far, up to `u64::MAX`.
     ghost count: { Self → ℕ };
 
-    /// Holds of the state before a push, the bytes that it offers, its answer and the state after.
+    /// Holds for the state before a push, the bytes that it offers, its answer, and the state after
+    /// it.
     ghost push_gives: { Self → List ℕ → Result ℕ Error → Self → Type 0 } = { λ _ _ _ _. ⊤ };
 
     /// Does what `write` does.
@@ -29,16 +30,16 @@ pub trait Sink: Write {
         ensures given { push_gives self.old from.now result self.new }
         ensures counted { CountsPush (count self.old) result (count self.new) };
 
-    /// How many errors `push` has answered, and how many pushes took nothing, up to `u64::MAX`.
+    /// How many errors `push` has returned, plus how many pushes took nothing, up to `u64::MAX`.
     fn failures(&self) -> u64
         ensures { result ≡ count self.now };
 
-    /// The last error that `push` has answered.
+    /// The last error that `push` has returned.
     fn last_error(&self) -> Option<io::Error>;
 }
 
-/// A push that is asked again after an interruption. The sixteenth in a row is a write fault, and
-/// so is a push that takes nothing.
+/// A push that is repeated after an interruption. The sixteenth interruption in a row is a write
+/// fault, and so is a push that takes nothing.
 fn push_again<W: Sink>(output: &mut W, from: &[u8]) -> Result<usize, WriteFault>
     ensures bound { WritesAtMost result from.now }
     ensures bytes { WriteAppends (W.contents output.old) (W.contents output.new) result from.now }
@@ -63,7 +64,7 @@ fn push_again<W: Sink>(output: &mut W, from: &[u8]) -> Result<usize, WriteFault>
     Err(WriteFault)
 }
 
-/// Writes all of `text`. Where the writer fails, a front of it has gone out.
+/// Writes all of `text`. If the writer fails, a prefix of it has been written.
 pub fn push_all<W: Sink>(output: &mut W, text: &[u8]) -> Result<(), WriteFault>
     ensures all { OnOk result
         (IsWritten W.contents W.push_gives output.old output.new text.now) }

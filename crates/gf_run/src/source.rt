@@ -23,13 +23,13 @@ pub const LIMIT: usize = 16_777_216;
 /// How many bytes are asked for at once.
 const CHUNK: usize = 65_536;
 
-/// A reader that counts the errors that it answers.
+/// A reader that counts the errors that it returns.
 pub trait Source: Read {
     /// The failures so far, up to `u64::MAX`.
     ghost count: { Self → ℕ };
 
-    /// Holds of the state before a pull, its buffer as it leaves it, its answer and the state
-    /// after.
+    /// Holds for the state before a pull, the buffer as the pull leaves it, its answer, and the
+    /// state after it.
     ghost pull_gives: { Self → List ℕ → Result ℕ Error → Self → Type 0 } = { λ _ _ _ _. ⊤ };
 
     /// Does what `read` does.
@@ -40,12 +40,13 @@ pub trait Source: Read {
         ensures given { pull_gives self.old to.new result self.new }
         ensures counted { CountsPull (count self.old) result (count self.new) };
 
-    /// How many errors `pull` has answered, up to `u64::MAX`.
+    /// How many errors `pull` has returned, up to `u64::MAX`.
     fn failures(&self) -> u64
         ensures { result ≡ count self.now };
 }
 
-/// A pull that is asked again after an interruption. The sixteenth in a row is a read fault.
+/// A pull that is repeated after an interruption. The sixteenth interruption in a row is a read
+/// fault.
 fn pull_again<R: Source>(input: &mut R, to: &mut [u8], which: Which) -> Result<usize, RunFault>
     ensures bound { ReadsAtMost result to.new }
     ensures bytes { ReadConsumes (R.remaining input.old) (R.remaining input.new) result to.new }
@@ -80,7 +81,7 @@ fn too_long(which: Which) -> RunFault
     }
 }
 
-/// How many bytes are asked for behind so many: no more than one past the limit.
+/// How many bytes are asked for after this many: no more than one past the limit.
 fn room_behind(len: usize) -> usize
     requires { len ≤ limit }
     ensures some { 0 < result }

@@ -1,4 +1,4 @@
-//! The runs that write a game as a table: its strategic form, or the reduced one.
+//! The runs that write a game as a table: its strategic form, or its reduced form.
 
 ghost use Rattle.std.specs.Prelude.{◌≡◌, ◌≢◌, ◌≤◌, IfErr, IfOk, OnOk, length};
 ghost use Rattle.gf_nfg.specs.TableText.{table_text};
@@ -104,14 +104,18 @@ fn run_form<R: Source, W: Sink>(
     Ok(())
 }
 
-/// Writes the strategic form of the tree that it reads, as a strategic file in canonical text; of a
-/// strategic file its canonical text.
+/// Writes the strategic form of the tree that it reads, as a strategic file in canonical text; for
+/// a strategic file, its canonical text.
 ///
-/// Reads, writes and refuses as `run_canon` does. Beside its faults come:
+/// It reads and writes as `run_canon` does.
+///
+/// # Errors
+///
+/// Those of `run_canon`, and also:
 /// - `Form` with `TooManyProfiles`: the tree has more than 1,048,576 profiles.
-/// - `Form` with `Overflow`: there are no more, and at this profile, counted from 1, and at none
-///   before it the bottom-up value of some player is not defined.
-/// - `Memory`: also where memory ran out for the strategic form or the text.
+/// - `Form` with `Overflow`: it has no more, and this profile, counted from 1, is the first at
+///   which the bottom-up value of some player is not defined.
+/// - `Memory`: also if memory ran out for the strategic form or the text.
 pub fn run_table<R: Source, W: Sink>(
     alloc: Global,
     input: &mut R,
@@ -130,10 +134,14 @@ pub fn run_table<R: Source, W: Sink>(
     run_form(alloc, input, output, Strategies::Pure)
 }
 
-/// Writes the reduced form of the tree that it reads, by its reduced strategies, as a strategic file
-/// in canonical text; of a strategic file its canonical text.
+/// Writes the reduced form of the tree that it reads, by its reduced strategies, as a strategic
+/// file in canonical text; for a strategic file, its canonical text.
 ///
-/// Reads, writes and refuses as `run_table` does; but `Overflow` names a profile of the reduced form.
+/// It reads and writes as `run_table` does.
+///
+/// # Errors
+///
+/// Those of `run_table`; but `Overflow` names a profile of the reduced form.
 pub fn run_table_reduced<R: Source, W: Sink>(
     alloc: Global,
     input: &mut R,

@@ -1,4 +1,4 @@
-//! How often a reader or a writer is asked again that was interrupted.
+//! How often a reader or a writer is asked again after an interruption.
 
 ghost use Rattle.std.specs.Prelude.{◌≡◌, ◌↔◌, IsTrue};
 ghost use Rattle.std.specs.IoError.{error_kind};
@@ -10,7 +10,7 @@ use std::io::ErrorKind;
 /// How many interruptions in a row end a turn.
 pub const PATIENCE: u32 = 16;
 
-/// Whether the request that this error answers is made again.
+/// Whether the request that this error answers is repeated.
 pub fn is_interruption(error: &io::Error) -> bool
     ensures { IsTrue result ↔ (error_kind error.now ≡ Interrupted) }
 {

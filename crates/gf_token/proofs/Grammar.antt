@@ -1,4 +1,4 @@
--- Groups of tokens, one behind the other.
+-- Groups of tokens, one after another.
 use Rattle.std.proofs.Common.{List, [], ◌∷◌, refl}
 use Rattle.std.specs.List.{AllByRecursion, flat_map}
 use Rattle.gf_token.specs.Token.{Token}

@@ -1,4 +1,4 @@
--- The spellings of labels, said of their quotes and their last byte.
+-- The spellings of labels, in terms of their quotes and their last byte.
 use Rattle.std.proofs.Common.{◌≡◌, ℕ, true, ◌==◌, ◌||◌, List, [], ◌∷◌, ◌++◌, refl, ap, ◌∙◌, arith}
 use Rattle.std.proofs.Common.{IsTrue, ◌↔◌}
 use Rattle.std.specs.Prelude.{not}
@@ -7,7 +7,7 @@ use Rattle.std.proofs.lemmas.Bool.Decides.{nat_tests}
 use Rattle.gf_token.specs.LabelSpelling.{is_spelling, is_spelling_after, EndsInBackslash}
 use Rattle.gf_token.specs.LabelSpelling.{EscapesQuotes}
 
--- the last of the bytes behind one
+-- the last of the bytes after one
 last_of : ℕ → List ℕ → ℕ
 last_of before [] = before
 last_of before (b ∷ bytes) = last_of b bytes
@@ -72,7 +72,7 @@ unfolding last_of
 ends_back [] before = refl
 ends_back (b ∷ front) before = ends_back front b
 
--- a quote is no backslash
+-- a quote is not a backslash
 other_byte : (b : ℕ) → b ≡ 34 → b ≡ 92 → ⊥
 other_byte b quote e = omega arith
 

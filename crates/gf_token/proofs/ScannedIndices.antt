@@ -1,4 +1,4 @@
--- The digits of an index, one by one, where they are read while their end is sought.
+-- The digits of an index, one by one, if they are read while their end is looked for.
 use Rattle.std.proofs.Common.{[], ◌≡◌, ℕ, ◌+◌, ◌-◌, ◌*◌, ◌<◌, ◌≤◌, ◌^◌, true, List, length, take, drop}
 use Rattle.std.proofs.Common.{get_or, Some, None, sym, ap, subst, ◌∙◌, arith, refl, lit<}
 use Rattle.std.specs.Prelude.{nat_lt, slice_range, if◌then◌else◌}

@@ -1,4 +1,4 @@
--- A sign and digits, where they are read while the end of a bare token is sought.
+-- A sign and digits, if they are read while the end of a bare token is looked for.
 use Rattle.std.proofs.Common.{◌∷◌, ◌++◌, ◌≡◌, ℕ, suc, ◌+◌, ◌-◌, ◌<◌, ◌≤◌, ◌^◌, ◌==◌, Bool, true, false}
 use Rattle.std.proofs.Common.{List, length, take, drop, get_or, sym, ap, subst, ◌∙◌, arith}
 use Rattle.std.specs.Prelude.{slice_range}
@@ -39,7 +39,7 @@ first_digit_open bytes start sign true one within bare some digit =
 is_45 : (b : ℕ) → (b == 45) ≡ true → b ≡ 45
 is_45 b h = grind (arith, nat_tests)
 
--- the bytes of a sign, or none, and those behind it
+-- the bytes of a sign, or none, and those after it
 signed_slice : (bytes : List ℕ) (start sign at : ℕ) (negative : Bool) → sign ≡ from_bool negative
     → start < length bytes → (get_or bytes start 0 == 45) ≡ negative → start + sign < at
     → slice_range bytes start at ≡ sign_of negative ++ slice_range bytes (start + sign) at

@@ -26,7 +26,7 @@ slice_between front mid back =
     ∙ ap (take (length mid)) (drop-append_seam front (mid ++ back))
     ∙ take-append_seam mid back
 
--- a token that stands behind the bytes `front`
+-- a token that comes after the bytes `front`
 stands_behind : (front bytes : List ℕ) (l : Lexeme) → BeginsWith (length front) bytes l
     → StandsIn (front ++ bytes) l
 stands_behind front bytes l first =

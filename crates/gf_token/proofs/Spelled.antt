@@ -19,7 +19,7 @@ use Rattle.gf_token.proofs.Steps.{space_out, space_after, bare_out}
 abbrev pub AllBare : List ℕ → Type 0
 AllBare bytes = AllByRecursion (λ b. is_bare b ≡ true) bytes
 
--- no label behind the byte `before` is closed by a quote
+-- no label after the byte `before` is closed by a quote
 abbrev ClosesNever : ℕ → List ℕ → Type 0
 ClosesNever before bytes =
     (label rest : List ℕ) → is_spelling_after before label ≡ true → bytes ≡ label ++ 34 ∷ rest → ⊥
@@ -103,7 +103,7 @@ text_breaks (b ∷ bs) acc start at before h =
           (closes_never_on b before bs s h))
     ]
 
--- a token, and what the bytes behind it spell
+-- a token, and what the bytes after it spell
 token_again : (t : Token) (at : ℕ) (rest : List ℕ) (others : List Lexeme) → IsSpelled t
     → MayPrecede t rest
     → GoesOn t others (lex Gap (at + length (spelling t)) rest ≡ others)
@@ -164,7 +164,7 @@ spelled (l ∷ ls) at bytes h =
 
 -- ---- what is found is spelled so
 
--- what stands behind an open bare token
+-- what comes after an open bare token
 record BareEnds (start : ℕ) (text : List ℕ) (at : ℕ) (bytes : List ℕ)
     (ls : List Lexeme) : Type 0 where
   more : List ℕ
@@ -176,7 +176,7 @@ record BareEnds (start : ℕ) (text : List ℕ) (at : ℕ) (bytes : List ℕ)
   stands : MayPrecede (Bare (text ++ more)) rest
   then : Spells (at + length more) rest others
 
--- what stands behind an open text
+-- what comes after an open text
 data TextEnds (start before : ℕ) (text : List ℕ) (at : ℕ) (bytes : List ℕ)
     (ls : List Lexeme) : Type 0 where
   closed : (more rest : List ℕ) (others : List Lexeme) → bytes ≡ more ++ 34 ∷ rest
@@ -394,7 +394,7 @@ text_step b at start before text bs false s ih =
     text_on b at start before text bs (lex (InText start b (text ++ b ∷ [])) (at + 1) bs) s
     (ih (InText start b (text ++ b ∷ [])))
 
--- nothing is no label and a quote
+-- the empty list is not a label followed by a quote
 closes_never_none : (before : ℕ) → ClosesNever before []
 closes_never_none before [] rest spelled parts = absurd cc
 closes_never_none before (c ∷ label) rest spelled parts = absurd cc

@@ -17,7 +17,7 @@ use Rattle.gf_fraction.specs.Ratio.{Ratio, IsFraction}
 use Rattle.gf_fraction.specs.NumberText.{number_text}
 use Rattle.gf_fraction.proofs.AllElements.{all_both}
 
--- bytes of bare tokens, one at least
+-- bytes of bare tokens, at least one
 record IsBareText (bytes : List ℕ) : Type 0 where
   some : 0 < length bytes
   bare : AllBare bytes

@@ -1,4 +1,4 @@
--- The tokens that bytes spell can be spelled, each of them.
+-- Each of the tokens that bytes spell can be spelled.
 use Rattle.std.proofs.Common.{ℕ, List, [], ◌∷◌, ◌++◌, map, sym, subst, refl, inl, inr}
 use Rattle.std.specs.List.{AllByRecursion}
 use Rattle.gf_fraction.proofs.AllElements.{all_parts}
@@ -30,7 +30,7 @@ all_spelled (l ∷ ls) at bytes h = (
       (all_spelled ls l.end h.0.rest) h.1,
 )
 
--- what stands between braces is spelled, and what stands behind them
+-- what stands between braces is spelled, and what comes after them
 pub braced_spelled : (inner rest : List Token) → AllSpelled (braced inner ++ rest)
     → AllSpelled inner × AllSpelled rest
 braced_spelled inner rest h =

@@ -1,4 +1,4 @@
--- What the byte at a place says of the token that begins there.
+-- What the byte at a place says about the token that begins there.
 use Rattle.std.proofs.Common.{◌≡◌, ℕ, ◌+◌, ◌<◌, Bool, true, false, ◌==◌, ◌&&◌}
 use Rattle.std.proofs.Common.{not, List, [], ◌∷◌, ◌++◌, length, get_or, drop}
 use Rattle.std.proofs.Common.{refl, ap, ◌∙◌, if◌then◌else◌, inl, inr}
@@ -125,7 +125,7 @@ pub no_comma : (bytes : List ℕ) (at : ℕ) → at < length bytes → is_space 
 no_comma bytes at lt s q = not_in_front is_comma bytes at lt s (λ b t. refl) (λ e t. refl)
     (λ e. refl) (λ e. refl) (λ e. refl) (λ e. absurd (q e))
 
--- a text that has no end
+-- an unterminated text
 pub broken_front : (test : Token → Bool) (ls : List Lexeme) (start end : ℕ)
     → ls ≡ lexeme start end Broken ∷ [] → test Broken ≡ false → starts test ls ≡ false
 broken_front test ls start end e h = ap (starts test) e ∙ h

@@ -1,4 +1,4 @@
--- The text of a label that is known: which bytes it is, and that no others are.
+-- The text of a known label: which bytes it is, and that no others are.
 use Rattle.std.proofs.Common.{◌≡◌, ℕ, ◌+◌, ◌-◌, ◌<◌, ◌≤◌, true, false, List, [], ◌∷◌}
 use Rattle.std.proofs.Common.{◌++◌, length, get_or, take, drop, refl, sym, ap, ◌∙◌, arith, subst}
 use Rattle.std.proofs.Common.{append_assoc, inl, inr, suc}
@@ -30,7 +30,7 @@ record Quotes (bytes : List ℕ) (start : ℕ) (label : List ℕ) : Type 0 where
 
 -- ---- they are the text
 
--- so many bytes from a place on, where they are these, and a quote behind them
+-- this many bytes from a place on, where they are these, and a quote after them
 parted : (bytes label : List ℕ) (from : ℕ) → from + length label < length bytes
     → slice_range bytes from (from + length label) ≡ label
     → get_or bytes (from + length label) 0 ≡ 34

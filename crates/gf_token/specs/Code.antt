@@ -3,7 +3,7 @@ use Rattle.std.specs.Prelude.{ℕ}
 use Rattle.gf_token.specs.declared.fault.Why.{Why}
 use Rattle.gf_token.specs.declared.fault.Why.TheVariants as why
 
--- the number of a refusal; 17 is none's
+-- the number of a refusal; no refusal has 17
 abbrev pub code_of : Why → ℕ
 code_of why.TooLong = 1
 code_of why.Unterminated = 2

@@ -6,7 +6,7 @@ use Rattle.gf_fraction.specs.NumberSpelling.{IsNumber}
 use Rattle.gf_token.specs.Token.{Token}
 use Rattle.gf_token.specs.Token.Token.{Opening, Closing, Comma, Text, Bare}
 
--- tokens that stand one group behind the other, a group for each of these values
+-- tokens in groups, one after another, a group for each of these values
 abbrev pub Each : {A : Type 0} → (List Token → A → Type 0) → List Token → List A → Type 0
 Each P tokens [] = tokens ≡ []
 Each P tokens (x ∷ xs) =

@@ -4,7 +4,7 @@ use Rattle.std.specs.Str.Parse.{AllDigits, digits_value}
 use Rattle.gf_token.specs.declared.index.IndexFault.{IndexFault}
 use Rattle.gf_token.specs.declared.index.IndexFault.TheVariants.{NotDigits, TooLarge}
 
--- digits alone, one at least
+-- only digits, at least one
 abbrev pub IsDigits : List ℕ → Type 0
 IsDigits bytes = (0 < length bytes) × AllDigits 10 bytes
 
@@ -12,7 +12,7 @@ IsDigits bytes = (0 < length bytes) × AllDigits 10 bytes
 abbrev pub IsIndex : List ℕ → ℕ → Type 0
 IsIndex bytes n = IsDigits bytes × (digits_value 10 bytes ≡ n) × (n < 2 ^ 32)
 
--- why bytes are no index
+-- why bytes are not an index
 abbrev pub IsNoIndex : List ℕ → IndexFault → Type 0
 IsNoIndex bytes NotDigits = ¬ (IsDigits bytes)
 IsNoIndex bytes TooLarge = IsDigits bytes × (2 ^ 32 ≤ digits_value 10 bytes)

@@ -1,4 +1,4 @@
--- What stands at the front of tokens to come.
+-- What the tokens to come begin with.
 use Rattle.std.specs.Prelude.{Bool, true, false, ◌||◌, nat_eq, ℕ, List, [], ◌∷◌, codes}
 use Rattle.std.specs.Cmp.Lexicographic.{pointwise}
 use Rattle.gf_token.specs.Token.{Token, Lexeme}
@@ -35,7 +35,7 @@ abbrev pub is_bare_token : Token → Bool
 is_bare_token (Bare _) = true
 is_bare_token _ = false
 
--- a text that has no end
+-- an unterminated text
 abbrev pub is_broken : Token → Bool
 is_broken Broken = true
 is_broken _ = false
@@ -45,7 +45,7 @@ abbrev pub is_word : List ℕ → Token → Bool
 is_word word (Bare bytes) = pointwise nat_eq bytes word
 is_word word _ = false
 
--- the letter that tells how numbers are written
+-- the letter for how numbers are written
 abbrev pub is_letter : Token → Bool
 is_letter (Bare bytes) = pointwise nat_eq bytes (codes "R") || pointwise nat_eq bytes (codes "D")
 is_letter _ = false

@@ -1,4 +1,4 @@
--- Why a token in a number's place is refused.
+-- Why a token in the place of a number is refused.
 use Rattle.gf_fraction.specs.declared.fraction.NumberFault.{NumberFault}
 use Rattle.gf_fraction.specs.declared.fraction.NumberFault.TheVariants as fault
 use Rattle.gf_token.specs.declared.fault.Why.{Why}

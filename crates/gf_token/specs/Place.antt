@@ -7,34 +7,34 @@ use Rattle.gf_token.specs.declared.fault.Span.{Span}
 abbrev pub tokens_of : List Lexeme → List Token
 tokens_of lexemes = map (λ l. l.token) lexemes
 
--- the span of the first of these tokens; the end of so many bytes, where there is none
+-- the span of the first of these tokens; or the end of this many bytes, if there is none
 abbrev pub IsSpanOf : List Lexeme → ℕ → Span → Type 0
 IsSpanOf [] size span = (span.start ≡ size) × (span.end ≡ size)
 IsSpanOf (l ∷ ls) size span = (span.start ≡ l.start) × (span.end ≡ l.end)
 
--- the tokens before a place with the one that stands there; the end has none
+-- the tokens before a place and the one that stands there; at the end there is none
 abbrev pub through : List Token → List Token → List Token
 through before [] = before
 through before (token ∷ after) = before ++ token ∷ []
 
--- of a language
+-- for a language
 module _ (IsFile : List Token → Type 0) where
   -- some file begins with these tokens
   abbrev pub Begins : List Token → Type 0
   Begins tokens = (more : List Token) × IsFile (tokens ++ more)
 
-  -- some file begins with the tokens and this one behind them
+  -- some file begins with the tokens followed by this one
   abbrev pub MayFollow : List Token → Token → Type 0
   MayFollow before token = Begins (before ++ token ∷ [])
 
-  -- behind the tokens before a place some file goes on with the one that stands there; at the end
-  -- they are a file
+  -- after the tokens before a place, some file goes on with the one that stands there; at the end,
+  -- the tokens are a file
   abbrev pub IsAccepted : List Token → List Token → Type 0
   IsAccepted before [] = IsFile before
   IsAccepted before (token ∷ after) = MayFollow before token
 
-  -- the span is that of the first token with which no file goes on; or it is the end, where some
-  -- file begins with all tokens, but they are none themselves
+  -- the span is that of the first token with which no file goes on; or it is the end, if some file
+  -- begins with all tokens, but they are not a file themselves
   pub record IsOffendingPlace (bytes : List ℕ) (span : Span) : Type 0 where
     pub before : List Lexeme
     pub after : List Lexeme

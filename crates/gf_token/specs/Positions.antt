@@ -1,4 +1,4 @@
--- Positions in a list, from 1 on.
+-- Positions in a list, counted from 1.
 use Rattle.std.specs.Prelude.{ℕ, zero, suc, List, Option, None, slice_get}
 
 -- the item at this position; at 0 there is none

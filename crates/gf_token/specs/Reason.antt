@@ -7,8 +7,8 @@ use Rattle.gf_token.specs.declared.fault.Why.{Why}
 use Rattle.gf_token.specs.declared.fault.Why.TheVariants.{Expected}
 
 module _ (Holds : Why → Type 0) (IsDue : What → Type 0) where
-  -- The reason is the lowest code that holds; where none does, it is E3, which names something
-  -- that is due.
+  -- The reason is the lowest code that holds; if none does, it is E3, which names something that is
+  -- due.
   abbrev pub IsReason : Why → Type 0
   IsReason (Expected what) = IsDue what × ((why : Why) → ¬ (Holds why))
   IsReason why = Holds why × ((other : Why) → Holds other → code_of why ≤ code_of other)

@@ -1,4 +1,4 @@
--- An input with the tokens that are still to come, and where a token stands that was taken.
+-- An input with the tokens that are still to come, and the place of a token that was taken.
 use Rattle.std.specs.Prelude.{◌≡◌, ◌<◌, ◌≤◌, ℕ, Bool, true, false, List, [], ◌∷◌, ◌++◌, length}
 use Rattle.std.specs.Prelude.{if◌then◌else◌}
 use Rattle.gf_token.specs.Next.{is_broken, starts}
@@ -14,7 +14,7 @@ pub record Remaining : Type 0 where
   pub input : List ℕ
   pub ahead : List Lexeme
 
--- behind some tokens the input spells these
+-- after some tokens, the input spells these
 pub record AreAhead (input : List ℕ) (ahead : List Lexeme) : Type 0 where
   pub behind : List Lexeme
   pub spelled : Spells 0 input (behind ++ ahead)
@@ -24,18 +24,18 @@ abbrev pub IsPlaceIn : List ℕ → Span → Type 0
 IsPlaceIn input span = (before : List Lexeme) × (after : List Lexeme)
     × Spells 0 input (before ++ after) × IsSpanOf after (length input) span
 
--- tokens in their order from a byte on, of an input of so many bytes
+-- tokens in their order from a byte on, in an input of this many bytes
 abbrev pub AreInOrder : ℕ → ℕ → List Lexeme → Type 0
 AreInOrder end from [] = from ≤ end
 AreInOrder end from (l ∷ ls) = (from ≤ l.start) × (l.start < l.end) × AreInOrder end l.end ls
 
--- a token of the input stands there, and those ahead stand behind it
+-- a token of the input stands there, and those ahead come after it
 pub record StandsBefore (remaining : Remaining) (span : Span) : Type 0 where
   pub place : IsPlaceIn remaining.input span
   pub some : span.start < span.end
   pub order : AreInOrder (length remaining.input) span.end remaining.ahead
 
--- the next token, which passes the test, is taken
+-- the next token passes the test, and is taken
 pub record Takes (test : Token → Bool) (old new : Remaining) : Type 0 where
   pub token : Token
   pub start : ℕ
@@ -45,7 +45,7 @@ pub record Takes (test : Token → Bool) (old new : Remaining) : Type 0 where
 
 -- ---- a refusal of what comes next
 
--- where something else is due, in an input of so many bytes
+-- if something else is due, in an input of this many bytes
 abbrev pub refusal : ℕ → Why → List Lexeme → Fault
 refusal end why [] = record { span = record { start = end; end = end }; why = why }
 refusal end why (l ∷ ls) = record {
@@ -53,7 +53,7 @@ refusal end why (l ∷ ls) = record {
   why = if is_broken l.token then Unterminated else why;
 }
 
--- the next token passes no such test, and is refused, or the end is
+-- the next token does not pass the test, and is refused; or the end is
 pub record IsRefused (test : Token → Bool) (due : Why) (remaining : Remaining) (fault : Fault)
     : Type 0 where
   pub other : starts test remaining.ahead ≡ false

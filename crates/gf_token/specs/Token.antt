@@ -1,8 +1,8 @@
 -- Tokens, and the bytes that each is spelled by.
 use Rattle.std.specs.Prelude.{ℕ, List, [], ◌∷◌, ◌++◌}
 
--- A text holds the spelling of its label. `Broken` is a `"` at which no text begins: it stands in
--- no sentence of a grammar.
+-- A text holds the spelling of its label. `Broken` is a `"` at which no text begins: no sentence of
+-- a grammar contains it.
 pub data Token : Type 0 where
   Opening : Token
   Closing : Token

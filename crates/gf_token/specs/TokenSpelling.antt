@@ -17,19 +17,19 @@ IsSpelled (Bare []) = ⊥
 IsSpelled (Bare (b ∷ bytes)) = AllByRecursion (λ x. is_bare x ≡ true) (b ∷ bytes)
 IsSpelled _ = Unit {0}
 
--- no text begins with a quote and these bytes: no label at their front is closed by a quote
+-- no text begins with a quote and these bytes: they do not begin with a label that a quote closes
 abbrev pub BeginsNoText : List ℕ → Type 0
 BeginsNoText bytes =
     (label rest : List ℕ) → is_spelling label ≡ true → bytes ≡ label ++ 34 ∷ rest → ⊥
 
--- which bytes may directly follow a token: behind a bare token no byte of a bare token,
--- and behind the quote that is a broken text none that make it a text
+-- which bytes may directly follow a token: after a bare token, not a byte of a bare token; after
+-- the quote of a broken text, none that make it a text
 abbrev pub MayPrecede : Token → List ℕ → Type 0
 MayPrecede (Bare _) (b ∷ bytes) = is_bare b ≡ false
 MayPrecede Broken bytes = BeginsNoText bytes
 MayPrecede _ _ = Unit {0}
 
--- from place `at` on, the bytes are a gap of whitespace, this token and a rest
+-- from place `at` on, the bytes are a gap of whitespace, this token, and a rest
 pub record BeginsWith (at : ℕ) (bytes : List ℕ) (l : Lexeme) : Type 0 where
   pub gap : List ℕ
   pub rest : List ℕ
@@ -40,7 +40,8 @@ pub record BeginsWith (at : ℕ) (bytes : List ℕ) (l : Lexeme) : Type 0 where
   pub start : l.start ≡ at + length gap
   pub end : l.end ≡ l.start + length (spelling l.token)
 
--- which tokens may follow a token: behind a broken text none, and else those that the rest spells
+-- which tokens may follow a token: none after a broken text, and otherwise those that the rest
+-- spells
 abbrev pub GoesOn : Token → List Lexeme → Type 0 → Type 0
 GoesOn Broken others spelled = others ≡ []
 GoesOn _ others spelled = spelled

@@ -3,8 +3,8 @@
 ghost use Rattle.std.specs.Prelude.{◌≡◌};
 ghost use Rattle.gf_token.specs.Byte.{is_space, is_bare};
 
-// An `s` at the place of each byte of whitespace, a dot at that of each byte of a bare token, and
-// each other byte at its own.
+// An `s` at the place of each byte of whitespace, a dot at the place of each byte of a bare token,
+// and every other byte at its own place.
 static CLASSES: [u8; 256] = *b"\
     .........sssss..................\
     s.\".........,...................\
@@ -26,6 +26,6 @@ pub(crate) fn is_space(byte: u8) -> bool
 pub(crate) fn is_bare(byte: u8) -> bool
     ensures { result ≡ is_bare byte }
 {
-    // The bytes of numbers and words take no look-up.
+    // The bytes of numbers and words need no look-up.
     matches!(byte, b'-'..=b'z') || CLASSES[byte as usize] == b'.'
 }

@@ -10,19 +10,19 @@ use std::alloc::{AllocError, AllocFailed};
 
 /// A part of an input: its first byte, and one past its last. Bytes are counted from 0.
 ///
-/// At the end of an input both are its length.
+/// At the end of an input, both are its length.
 #[derive(Clone, Copy, Debug, PartialEq, Eq, Hash)]
 pub struct Span {
     pub start: usize,
     pub end: usize,
 }
 
-/// What a file may go on with, at a place where it does not.
+/// What was expected at a place where a file has something else.
 #[derive(Clone, Copy, Debug, PartialEq, Eq, Hash)]
 pub enum What {
     /// The name of the format, `NFG` or `EFG`.
     Format,
-    /// The version of the format, `1` of `NFG` and `2` of `EFG`.
+    /// The version of the format, `1` for `NFG` and `2` for `EFG`.
     Version,
     /// The letter `R` or `D`.
     Letter,
@@ -44,53 +44,54 @@ pub enum What {
     End,
 }
 
-/// Why a file is refused, and the place that a [`Fault`] names then (this project's profile).
+/// Why a file is refused, and the place that its [`Fault`] names (this project's profile).
 #[derive(Clone, Copy, Debug, PartialEq, Eq, Hash)]
 pub enum Why {
-    /// E1: the file is longer than a program reads; at the limit.
+    /// E1: the file is longer than the program's limit; at the limit.
     TooLong,
-    /// E2: a text has no end; at its opening quote, one byte long.
+    /// E2: a text is unterminated; at its opening quote, one byte.
     Unterminated,
-    /// E3: a token of the wrong kind, or the end; there.
+    /// E3: a token of the wrong kind, or the end; at the token or the end.
     Expected(What),
-    /// E4: a bare token in a number's place that spells none; at the token.
+    /// E4: a bare token in the place of a number that does not spell one; at the token.
     NotANumber,
     /// E5: a rational number whose denominator is zero; at the token.
     ZeroDenominator,
-    /// E6: a number past 128 bits, or with too many digits behind its point; at the token.
+    /// E6: a number that needs more than 127 bits, or has too many digits after its point; at the
+    /// token.
     NumberTooLarge,
-    /// E7: a bare token in an index's place that is none, or is zero where a positive one is asked;
-    /// at the token.
+    /// E7: a bare token in the place of an index that is not one, or is zero if a positive one is
+    /// required; at the token.
     BadIndex,
-    /// E8: a player's number above the number of players, at the number; or a personal node where
-    /// there are no players, at its letter.
+    /// E8: a player's number above the number of players, at the number; or a personal node in a
+    /// game without players, at its letter.
     UnknownPlayer,
-    /// E9: the first use of an information set or outcome, with no description; at the token behind
+    /// E9: the first use of an information set or outcome, with no description; at the token after
     /// its number, or the end.
     NotDescribed,
-    /// E10: a repeated description that differs; at the first token that does.
+    /// E10: a repeated description that differs from the first; at the first token that does.
     Mismatch,
     /// E11: a probability below zero; at the number.
     NegativeProbability,
-    /// E12: the probabilities of an information set so far add to more than one; at the number.
+    /// E12: the probabilities of an information set so far add up to more than one; at the number.
     SumAboveOne,
-    /// E13: the probabilities of an information set add to less than one; at the closing brace.
+    /// E13: the probabilities of an information set add up to less than one; at the closing brace.
     SumBelowOne,
-    /// E14: the sum of the probabilities so far does not fit 128 bits; at the number.
+    /// E14: the sum of the probabilities so far needs more than 127 bits; at the number.
     SumOverflow,
     /// E15: an empty list of actions or of a player's strategies; at the closing brace.
     NoEntry,
-    /// E16: an outcome's number above the number of outcomes of a strategic file; at the number.
+    /// E16: an outcome number above the number of outcomes of a strategic file; at the number.
     UnknownOutcome,
     /// E18: more profiles than a table may have; at the count, or the closing brace of the labels.
     TooManyProfiles,
-    /// E19: memory ran out, where there was nothing else to refuse; at the token that was read, or
+    /// E19: memory ran out, and there was nothing else to refuse; at the token that was read, or
     /// the end.
     Memory,
 }
 
 impl Why {
-    /// The number that users see behind the `E`: 1 to 16, 18 or 19.
+    /// The number that users see after the `E`: 1 to 16, 18 or 19.
     pub fn code(&self) -> u8
         ensures { result ≡ code_of self.now }
     {
@@ -117,7 +118,7 @@ impl Why {
     }
 }
 
-/// A text in a number's place that spells none is refused for the same cause.
+/// A text in the place of a number that does not spell one is refused for the same reason.
 impl From<NumberFault> for Why {
     ghost from_gives = { λ fault why. why ≡ why_of fault };
 

@@ -30,7 +30,7 @@ impl<'a> Tokens<'a> {
         }
     }
 
-    /// Takes the letter that tells how numbers are written, `R` or `D`, which has no meaning (this
+    /// Takes the letter for how numbers are written, `R` or `D`, which has no effect (this
     /// project's profile). Any other token, or the end, is refused.
     #[tactic(auto, using(crate::proofs::TokensAhead::taken_token))]
     pub fn letter(&mut self) -> Result<(), Fault>

@@ -4,12 +4,12 @@ ghost use Rattle.std.specs.Prelude.{◌≡◌, MatchResult};
 ghost use Rattle.gf_token.specs.Index.{IsIndex, IsNoIndex};
 ghost use Rattle.gf_token.specs.Indices.{index_of};
 
-/// Why a text is no index.
+/// Why a text is not an index.
 #[derive(Clone, Copy, PartialEq, Eq)]
 pub enum IndexFault {
-    /// The text is empty, or has a byte that is no digit.
+    /// The text is empty, or has a byte that is not a digit.
     NotDigits,
-    /// The text is digits alone, of a value above 4,294,967,295.
+    /// The text has only digits, with a value above 4,294,967,295.
     TooLarge,
 }
 
@@ -19,11 +19,13 @@ const TOO_LARGE: u64 = u32::MAX as u64 + 1;
 /// The greatest number of digits whose value always fits 64 bits.
 pub(crate) const WORD_DIGITS: usize = 19;
 
-/// The index that `text` spells by digits alone, in base ten; any number of zeros may lead (this
-/// project's profile).
+/// The index that `text` spells by digits only, in base ten; any number of leading zeros is allowed
+/// (this project's profile).
 ///
-/// `NotDigits` where the text is empty or has a byte that is no digit, also behind a number that is
-/// too large; `TooLarge` where it is digits alone and their value is above 4,294,967,295.
+/// # Errors
+///
+/// `NotDigits` if the text is empty or has a byte that is not a digit, even after a number that is
+/// too large; `TooLarge` if it has only digits and their value is above 4,294,967,295.
 pub fn read_index(text: &[u8]) -> Result<u32, IndexFault>
     ensures { MatchResult result (IsIndex text.now) (IsNoIndex text.now) }
 {

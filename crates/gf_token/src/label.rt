@@ -3,7 +3,7 @@
 ghost use Rattle.std.specs.Prelude.{◌≡◌, ◌↔◌, IsTrue, IsSome, IfSome};
 ghost use Rattle.gf_token.specs.LabelSpelling.{is_spelling, is_spelling_after};
 
-/// A label as a file spells it, between its quotes. Labels are equal where their bytes are.
+/// A label as a file spells it, between its quotes. Labels are equal if their bytes are.
 ///
 /// A quotation mark in a label is written `\"` (Gambit documentation, "Game representation
 /// formats"). A backslash before any other byte stands for itself, a label does not end in one, and
@@ -31,8 +31,8 @@ fn is_spelling(raw: &[u8]) -> bool
 impl<'a> Label<'a> {
     ghost use Rattle.gf_token.specs.Label.{label_of};
 
-    /// The label that `raw` spells, or `None` where `raw` ends in a backslash or has a `"` that
-    /// does not directly follow one.
+    /// The label that `raw` spells, or `None` if `raw` ends in a backslash or has a `"` that does
+    /// not directly follow one.
     pub fn new(raw: &'a [u8]) -> Option<Label<'a>>
         ensures spelled { IsSome result ↔ IsTrue (is_spelling raw.entry.now) }
         ensures same { IfSome result (λ label. label_of label ≡ raw.entry.now) }
@@ -44,10 +44,10 @@ impl<'a> Label<'a> {
         }
     }
 
-    /// The label that `raw` spells, where that is known: nothing is checked at run time.
+    /// The label that `raw` spells, if it is known to spell one: nothing is checked at run time.
     ///
-    /// The caller sees to it that `raw` does not end in a backslash, and that each `"` in it
-    /// directly follows one. `Label::new` checks bytes that may be anything.
+    /// The caller has to ensure that `raw` does not end in a backslash, and that each `"` in it
+    /// directly follows one. `Label::new` checks any bytes.
     #[inline(always)]
     pub fn of_spelling(raw: &'a [u8]) -> Label<'a>
         requires { IsTrue (is_spelling raw.now) }

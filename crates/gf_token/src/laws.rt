@@ -20,14 +20,15 @@ pub fn spans_are_slices()
 {}
 
 /// The bytes between a label's quotes are those in which each `"` directly follows a backslash, and
-/// the last of which is no backslash.
+/// in which the last byte is not a backslash.
 pub fn labels_escape_quotes()
     ensures { (bytes : List ℕ)
         → IsTrue (is_spelling bytes) ↔ (EscapesQuotes bytes × ¬ (EndsInBackslash bytes)) }
 {}
 
-/// Where an index is due, bytes are read as `n` exactly if they are digits alone, at least one, of
-/// value `n`, which is at most 4,294,967,295; where a count is due, exactly if `n` is also above 0.
+/// If an index is due, bytes are read as `n` exactly if they are only digits, at least one, with
+/// the value `n`, which is at most 4,294,967,295. If a count is due, exactly if `n` is also above
+/// 0.
 pub fn indices_by_digits()
     ensures index { (bytes : List ℕ) (n : ℕ) → (index_of bytes ≡ Some n) ↔ IsIndex bytes n }
     ensures count { (bytes : List ℕ) (n : ℕ)

@@ -1,10 +1,10 @@
-//! Tokens of Gambit's game files: labels, tokens with their spans, indices, and the faults that
+//! The tokens of Gambit game files: labels, tokens with their spans, indices, and the faults that
 //! name a place in a file.
 //!
-//! The rules are those of the Gambit documentation, "Game representation formats", and where that
-//! text leaves a choice, of this project's profile.
+//! The rules are those of the Gambit documentation, "Game representation formats", and, where that
+//! text leaves a choice, those of this project's profile.
 //!
-//! Tests of these calls stand in gamefile: a crate with tests is proved a second time for them.
+//! The tests of these calls are in gamefile: a crate with tests is proved a second time for them.
 #![tactic(auto)]
 
 mod byte;

@@ -23,7 +23,7 @@ use crate::label::Label;
 use crate::token::{Kind, Token};
 use gf_fraction::{Fraction, NumberFault};
 
-/// Where a gap of any length ends that begins at `from`, or `None` where no token follows it.
+/// Where a gap of any length ends that begins at `from`, or `None` if no token follows it.
 #[tactic(auto, using(crate::proofs::Steps::gap_steps))]
 #[inline(never)]
 fn long_gap_end(input: &[u8], from: usize) -> Option<usize>
@@ -39,8 +39,8 @@ fn long_gap_end(input: &[u8], from: usize) -> Option<usize>
     None
 }
 
-/// Where the gap ends that begins at `from`, or `None` where no token follows it. Most gaps are of at
-/// most one byte, and take no loop.
+/// Where the gap ends that begins at `from`, or `None` if no token follows it. Most gaps have at
+/// most one byte, and need no loop.
 #[tactic(auto, using(crate::proofs::Steps::gap_steps))]
 #[inline(always)]
 pub(crate) fn gap_end(input: &[u8], from: usize) -> Option<usize>
@@ -177,8 +177,8 @@ fn long_text_end(input: &[u8], start: usize) -> Option<usize>
     None
 }
 
-/// The quote that closes the text which the quote at `start` opens. Many texts are empty, and take no
-/// loop.
+/// The quote that closes the text which the quote at `start` opens. Many texts are empty, and need
+/// no loop.
 #[tactic(auto, using(crate::proofs::Steps::text_steps))]
 #[inline(always)]
 pub(crate) fn closing_quote(input: &[u8], start: usize) -> Option<usize>

@@ -19,21 +19,21 @@ pub enum Kind<'a> {
     Bare(&'a [u8]),
 }
 
-/// A token, and where the bytes stand that spell it; a text's quotes are among them.
+/// A token, and the place of the bytes that spell it, which for a text include its quotes.
 #[derive(Clone, Copy)]
 pub struct Token<'a> {
     pub span: Span,
     pub kind: Kind<'a>,
 }
 
-/// A bare token, where one was asked for.
+/// A bare token that was asked for.
 #[derive(Clone, Copy)]
 pub struct BareToken<'a> {
     pub span: Span,
     pub bytes: &'a [u8],
 }
 
-/// A text, where one was asked for; its quotes are within its span.
+/// A text that was asked for; its span includes its quotes.
 #[derive(Clone, Copy)]
 pub struct TextToken<'a> {
     pub span: Span,

@@ -1,6 +1,6 @@
-//! The tokens of an input, of which a reader asks for the one that is due.
+//! The tokens of an input: a reader asks for the one that is due.
 //!
-//! What is asked for at each token is `inline(always)`: wide values would otherwise pass through
+//! What is called for each token is `inline(always)`: wide values would otherwise pass through
 //! memory.
 
 ghost use Rattle.std.specs.Prelude.{◌≡◌, ◌≤◌, ◌∷◌, [], false, length, IfSome, MatchOption};
@@ -27,11 +27,10 @@ use std::marker::Model;
 
 /// An input, seen with the tokens that are still to come.
 ///
-/// A token that is asked for is taken where it comes next; where another one does, nothing is
-/// taken.
+/// A token that is asked for is taken if it comes next; if another one does, nothing is taken.
 ///
 /// Whitespace has no meaning between tokens (Gambit documentation, "Game representation formats");
-/// it is the bytes 9 to 13 and 32, and other bytes that begin nothing else are those of a bare
+/// it is the bytes 9 to 13 and 32. All other bytes that begin nothing else are those of a bare
 /// token (this project's profile).
 #[derive(Drop)]
 pub struct Tokens<'a> {
@@ -61,7 +60,7 @@ impl<'a> Tokens<'a> {
         Tokens { input, at: 0 }
     }
 
-    /// The next token where it is a bare one.
+    /// The next token if it is a bare one.
     #[tactic(auto, using(crate::proofs::Starts::starts_steps, crate::proofs::TokensAhead::taken))]
     #[inline(always)]
     pub fn bare(&mut self) -> Option<BareToken<'a>>
@@ -83,7 +82,7 @@ impl<'a> Tokens<'a> {
         Some(BareToken { span, bytes })
     }
 
-    /// The next token where it is a bare one, with the index that it spells, if it spells one.
+    /// The next token if it is a bare one, with the index that it spells, if it spells one.
     #[tactic(auto, using(crate::proofs::Starts::starts_steps, crate::proofs::TokensAhead::taken))]
     #[inline(always)]
     pub fn index(&mut self) -> Option<(BareToken<'a>, Option<u32>)>
@@ -106,7 +105,7 @@ impl<'a> Tokens<'a> {
         Some((BareToken { span, bytes }, index))
     }
 
-    /// The next token where it is a bare one, with the number that it spells, or why it spells none.
+    /// The next token if it is a bare one, with the number that it spells, or why it spells none.
     #[tactic(auto, using(crate::proofs::Starts::starts_steps, crate::proofs::TokensAhead::taken))]
     #[inline(always)]
     pub fn number(&mut self) -> Option<(BareToken<'a>, Result<Fraction, NumberFault>)>
@@ -129,7 +128,7 @@ impl<'a> Tokens<'a> {
         Some((BareToken { span, bytes }, number))
     }
 
-    /// Whether the next token begins with a quote: it is a text, or a text that has no end. Nothing
+    /// Whether the next token begins with a quote: it is a text, or an unterminated text. Nothing
     /// is taken.
     #[tactic(auto, using(crate::proofs::Starts::starts_steps))]
     #[inline(always)]
@@ -142,7 +141,7 @@ impl<'a> Tokens<'a> {
         }
     }
 
-    /// The next token where it is a text.
+    /// The next token if it is a text.
     #[tactic(auto, using(crate::proofs::Starts::starts_steps, crate::proofs::TokensAhead::taken))]
     #[inline(always)]
     pub fn text(&mut self) -> Option<TextToken<'a>>
@@ -165,7 +164,7 @@ impl<'a> Tokens<'a> {
         Some(TextToken { span, label })
     }
 
-    /// The place of the next token where it is the text of this label.
+    /// The place of the next token if it is the text of this label.
     #[tactic(auto, using(crate::proofs::Starts::starts_steps, crate::proofs::TokensAhead::taken))]
     #[inline(always)]
     pub fn text_of(&mut self, label: Label<'_>) -> Option<Span>
@@ -183,7 +182,7 @@ impl<'a> Tokens<'a> {
         Some(Span { start, end })
     }
 
-    /// The place of the next token where it is an opening brace.
+    /// The place of the next token if it is an opening brace.
     #[tactic(auto, using(crate::proofs::Starts::starts_steps, crate::proofs::TokensAhead::taken))]
     #[inline(always)]
     pub fn opening(&mut self) -> Option<Span>
@@ -202,7 +201,7 @@ impl<'a> Tokens<'a> {
         Some(Span { start, end })
     }
 
-    /// The place of the next token where it is a closing brace.
+    /// The place of the next token if it is a closing brace.
     #[tactic(auto, using(crate::proofs::Starts::starts_steps, crate::proofs::TokensAhead::taken))]
     #[inline(always)]
     pub fn closing(&mut self) -> Option<Span>
@@ -221,7 +220,7 @@ impl<'a> Tokens<'a> {
         Some(Span { start, end })
     }
 
-    /// The place of the next token where it is a comma.
+    /// The place of the next token if it is a comma.
     #[tactic(auto, using(crate::proofs::Starts::starts_steps, crate::proofs::TokensAhead::taken))]
     #[inline(always)]
     pub fn comma(&mut self) -> Option<Span>
@@ -240,8 +239,12 @@ impl<'a> Tokens<'a> {
         Some(Span { start, end })
     }
 
-    /// The next token, whatever it is, or `None` at the end. A text that has no end is refused with
-    /// [`Why::Unterminated`], at its opening quote, and not taken.
+    /// The next token, whatever it is, or `None` at the end.
+    ///
+    /// # Errors
+    ///
+    /// An unterminated text is refused with [`Why::Unterminated`], at its opening quote, and not
+    /// taken.
     pub fn next(&mut self) -> Result<Option<Token<'a>>, Fault>
         ensures next { Nexts self.old.ahead result self.new.ahead }
         ensures input { self.new.input ≡ self.old.input }
@@ -254,8 +257,8 @@ impl<'a> Tokens<'a> {
         Ok(Some(token))
     }
 
-    /// The refusal of what comes next, where something else is due: it stands at the next token, or
-    /// at the end. A text that has no end is refused with [`Why::Unterminated`] all the same.
+    /// The refusal of what comes next, if something else is due: it stands at the next token, or at
+    /// the end. An unterminated text is refused with [`Why::Unterminated`] in any case.
     #[cold]
     pub fn refusal(&mut self, due: Why) -> Fault
         ensures { result ≡ refusal (length self.old.input) due self.old.ahead }

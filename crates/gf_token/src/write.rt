@@ -9,13 +9,13 @@ ghost use Rattle.gf_token.specs.Token.Token.{Text};
 use crate::label::Label;
 use std::alloc::AllocError;
 
-/// Appends the label between quotes. Where memory runs out, `out` keeps the items that it had.
+/// Appends the label between quotes. If memory runs out, `out` keeps the items that it had.
 pub fn write_label(label: Label<'_>, out: &mut Vec<u8>) -> Result<(), AllocError>
     ensures ok { OnOk result
         (out.new.items ≡ out.old.items ++ spelling (Text (label_of label.entry))) }
     ensures err { OnErr result (out.new.items ≡ out.old.items) }
 
-    // It fails only where there was no room, and the room never shrinks.
+    // It fails only if there was no room, and the room never shrinks.
     ensures full { OnErr result
         (vec_capacity out.old < vec_len out.old + length (spelling (Text (label_of label.entry)))) }
     ensures capacity { vec_capacity out.old ≤ vec_capacity out.new }

@@ -1,4 +1,5 @@
--- The canonical game: a game, the same as the first, and one for all that are the same.
+-- The canonical game: it is a game, the same as the first, and there is one for all games that are
+-- the same.
 use Rattle.std.proofs.Common.{◌≡◌, ℕ, Bool, List, map, filter, refl, sym, ap, subst, ◌∙◌}
 use Rattle.std.specs.Prelude.{nat_eq, ◌↔◌}
 use Rattle.std.proofs.lemmas.Bool.{eqb-true}

@@ -77,7 +77,7 @@ at_images_same f g es h = map_same (λ e. record { key = f e.key; description = 
 
 -- ---- back from the images
 
--- the first of these keys with this image, or the key itself where there is none
+-- the first of these keys with this image, or the key itself if there is none
 abbrev pub undo : {K : Type 0} → (K → K → Bool) → (K → K) → List K → K → K
 undo same f us key = unwrap_or (find (λ u. same (f u) key) us) key
 

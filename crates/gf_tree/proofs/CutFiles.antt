@@ -32,7 +32,7 @@ use Rattle.gf_tree.proofs.Uses.{Has, contains, has, has_first}
 module _ (f : FileFront) (letter name : List ℕ) (more result : List Token)
     (outcome : Option (Use ℕ Outcome)) (is_result : IsResult (length f.players) result outcome)
     (outcome_here : AllHere (IsOutcomeHere f) outcome) (bare : BeginsBare f.front) where
-  -- behind the step
+  -- after the step
   stepped : (step ts : List Token) (set : Option (Use SetKey InformationSet))
       → IsStep letter step set → f.front ≡ Bare letter ∷ Text name ∷ (step ++ ts)
       → ts ++ more ≡ result
@@ -71,7 +71,7 @@ module _ (f : FileFront) (letter name : List ℕ) (more result : List Token)
     abbrev use_here : Option InformationSet → Use SetKey InformationSet
     use_here o = record { key = set_of player n; description = o }
 
-    -- behind the set and its description
+    -- after the set and its description
     described : (description : List Token) (o : Option InformationSet) (ts : List Token)
         → IsDescription (IsInformationSet player) description o
         → f.front ≡ behind ++ (description ++ ts) → ts ++ more ≡ result
@@ -336,7 +336,7 @@ module _ (before more : List Token) (file : IsExtensiveFile (before ++ more)) wh
   closed : BehindPlayers (headed says.letter tree.title (braced names)) tree.players
   closed = (headed says.letter tree.title (Opening ∷ names), opened, refl)
 
-  -- behind the players
+  -- after the players
   behind_players : (ts comment : List Token) → IsComment comment tree.comment
       → before ≡ headed says.letter tree.title (braced names ++ ts)
       → ts ++ more ≡ comment ++ says.nodes → IsBeforeRow before
@@ -361,7 +361,7 @@ module _ (before more : List Token) (file : IsExtensiveFile (before ++ more)) wh
       (e ∙ (λ i. headed says.letter tree.title (braced names ++ first i ∷ u ∷ ts)))
       (ap (drop 1) whole)
 
-  -- in the players or behind them
+  -- in the players or after them
   in_players : (ts : List Token) → before ≡ headed says.letter tree.title (Opening ∷ ts)
       → ts ++ more ≡ names ++ Closing ∷ (says.comment ++ says.nodes) → IsBeforeRow before
   in_players ts e parts =

@@ -1,5 +1,5 @@
--- Where the front of a file ends in a node, it stands before a row of the table of positions: the
--- node is cut there.
+-- If the front of a file ends in a node, it stands before a row of the table of positions: the node
+-- is cut there.
 use Rattle.std.proofs.Common.{◌≡◌, ℕ, zero, suc, ◌<◌, List, [], ◌∷◌, ◌++◌, drop, length, map, Option}
 use Rattle.std.proofs.Common.{Some, None, MatchOption, refl, sym, ap, subst, ◌∙◌, append_assoc}
 use Rattle.std.proofs.Common.{append-nil, arith, inl, inr, nat_eq}
@@ -98,7 +98,7 @@ payoffs_read ps (t ∷ ts) more inner e h =
           w.each (payoff_front w.first w.front w.rest w.last w.is_last));
     }
 
--- behind the opening brace or a comma, or behind a payoff
+-- after the opening brace or a comma, or after a payoff
 pub payoff_place : (front behind inner : List Token) (n : ℕ) (name : List ℕ)
     (payoffs : List Ratio) → BehindOutcomeNumber behind n
     → front ≡ behind ++ Text name ∷ Opening ∷ inner → Each IsPayoffInBraces inner payoffs
@@ -202,7 +202,7 @@ module _ (f : FileFront) (bare : BeginsBare f.front) where
       payoffs_by behind front n d r r.left h e is refl
       (payoff_place f.front behind front n d.name r.seen h e r.each)
 
-  -- in the description of an outcome, or behind it
+  -- in the description of an outcome, or after it
   outcome_place : (behind front more description : List Token) (n : ℕ) (o : Option Outcome)
       → BehindOutcomeNumber behind n → f.front ≡ behind ++ front → front ++ more ≡ description
       → IsDescription (IsOutcomeDescription (length f.players)) description o
@@ -316,7 +316,7 @@ module _ (f : FileFront) (bare : BeginsBare f.front) where
     abbrev seen_set : InformationSet
     seen_set = record { name = d.name; actions = seen }
 
-    -- behind some actions
+    -- after some actions
     listed : (player : ℕ) → IsSetHere f (set_of player n) d
         → InActions f.front (set_of player n) seen_set → IsInNode f
     listed player is h = elim (set_known f (set_of player n) bare) [
@@ -345,7 +345,7 @@ module _ (f : FileFront) (bare : BeginsBare f.front) where
         first (suc player) is h new =
             IsInNode.NewAction (set_of (suc player) n) seen_set h new (omega arith)
 
-    -- behind some actions of chance and the label of the next
+    -- after some actions of chance and the label of the next
     shared : (next : Action) (others : List Action) (p : Ratio) (to : List Token)
         → IsSetHere f (set_of 0 n) d → InActions to (set_of 0 n) seen_set
         → f.front ≡ to ++ Text next.label ∷ [] → left ≡ next ∷ others → next.probability ≡ Some p

@@ -1,4 +1,4 @@
--- Where a list ends that is the front of others: in which of them, and in which group.
+-- Where a prefix of several lists ends: in which of them, and in which group.
 use Rattle.std.proofs.Common.{◌≡◌, List, [], ◌∷◌, ◌++◌, drop, refl, sym, ap, subst, ◌∙◌}
 use Rattle.std.proofs.Common.{append_assoc, append-nil, inl, inr}
 use Rattle.std.specs.Prelude.{◌⊎◌}
@@ -8,7 +8,7 @@ use Rattle.gf_token.specs.Grammar.{Each}
 pub first_is : {A : Type 0} (x y : A) (xs ys : List A) → x ∷ xs ≡ y ∷ ys → x ≡ y
 first_is x y xs ys e = cc
 
--- what stands behind the same front is the same
+-- what comes after the same front is the same
 pub others_are : {A : Type 0} (front xs ys : List A) → front ++ xs ≡ front ++ ys → xs ≡ ys
 others_are [] xs ys e = e
 others_are (x ∷ front) xs ys e = others_are front xs ys (ap (drop 1) e)

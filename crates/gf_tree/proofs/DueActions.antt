@@ -1,4 +1,4 @@
--- The rows of the actions of a set, where it is new and where it is known.
+-- The rows of the actions of a set, for a new set and for a known one.
 use Rattle.std.proofs.Common.{◌≡◌, ℕ, zero, suc, ◌<◌, Bool, true, false, cond, List, [], ◌∷◌}
 use Rattle.std.proofs.Common.{Option, Some, None, MatchOption, Result, Ok, Err, refl, sym, ap}
 use Rattle.std.proofs.Common.{subst, ◌∙◌, append-nil, arith, inl, inr}
@@ -133,7 +133,7 @@ below sum is high other = by (int_lt sum.num (pos sum.den)) refl
     by true t = grind (arith, ints, t)
     by false t = absurd (other (one_is sum is (equal sum.num sum.den high t)))
 
--- the sum of a list that is open is one at most
+-- the sum of a list that is open is at most one
 pub sum_below : (f : FileFront) (n : ℕ) (set : InformationSet) (sum : Ratio)
     → InActions f.front (set_of 0 n) set → IsNewSet f.nodes (set_of 0 n) → HasSum set sum
     → sum ≢ whole (pos 1) → sum.num <ℤ pos sum.den
@@ -156,7 +156,7 @@ one_number o p q e h = cc
 not_both : {A : Type 0} (o : Result A Why) (x : A) (why : Why) → o ≡ Ok x → o ≡ Err why → ⊥
 not_both o x why e h = cc
 
--- why the bytes are no probability behind this sum
+-- why the bytes are no probability after this sum
 abbrev IsNoShare : Ratio → List ℕ → Why → Type 0
 IsNoShare sum b why = IsNoNumber b why ⊎ ((p : Ratio) × IsNumber b p × IsWrongBehind why sum p)
 

@@ -1,5 +1,5 @@
--- What is due by what stands before has a role: just those bare tokens may follow that suit it. And
--- what a role names is due where just those may follow that suit it.
+-- What is due, by what stands before, has a role: exactly those bare tokens may follow that suit
+-- it. Conversely, what a role names is due if exactly those may follow that suit it.
 use Rattle.std.proofs.Common.{◌≡◌, ℕ, ◌<◌, List, [], ◌∷◌, ◌++◌, length, Option, Some, None}
 use Rattle.std.proofs.Common.{refl, sym, ap, subst, ◌∙◌, arith, inl, inr, nat_eq}
 use Rattle.std.specs.Prelude.{codes, ◌⊎◌}

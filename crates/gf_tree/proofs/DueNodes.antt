@@ -35,7 +35,7 @@ use Rattle.gf_tree.proofs.Groups.{regroup}
 use Rattle.gf_tree.proofs.RunPlaces.{is_read}
 use Rattle.gf_tree.proofs.RunTokens.{run_on, same_bytes, text_again, text_found}
 
--- ---- behind the front of a node
+-- ---- after the front of a node
 
 pub reads_on : (f : FileFront) → ReadsOn f.before
 reads_on f =
@@ -48,7 +48,7 @@ Parts f = Split f.players f.nodes f.before f.front
 pub parts : (f : FileFront) → BeginsBare f.front → Parts f
 parts f bare = split f.players f.nodes f.before f.front f.ends bare (reads_on f)
 
--- where the machine comes to behind the front
+-- where the machine comes to after the front
 pub stands_in : (f : FileFront) (s : Parts f) (q : Position) (c : Content) (row : Row)
     → ((us : List Token) → run_tokens NodeDue s.content (f.front ++ us) ≡ run_tokens q c us)
     → Law q c row → EndLaw q c row → Stands f.before row

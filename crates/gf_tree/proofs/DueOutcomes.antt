@@ -1,4 +1,4 @@
--- The rows of the outcome of a node up to its braces, and those behind a whole node.
+-- The rows of the outcome of a node up to its braces, and those after a whole node.
 use Rattle.std.proofs.Common.{◌≡◌, ℕ, zero, suc, List, [], ◌∷◌, ◌++◌, length, Option, Some, None}
 use Rattle.std.proofs.Common.{refl, sym, ap, subst, ◌∙◌, inl, inr, nat_eq, false}
 use Rattle.std.proofs.Common.{tests, rules}
@@ -44,7 +44,7 @@ outcome_number_due f h =
     stands_in f s (OutcomeNumber k.b) k.content an_outcome k.answers (outcome_law k.content k.b)
     (λ a. a, refl)
 
--- ---- behind a node
+-- ---- after a node
 
 not_zero : (n : ℕ) → nat_eq (suc n) 0 ≡ false
 not_zero n = search (tests, rules)

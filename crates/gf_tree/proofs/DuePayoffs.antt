@@ -1,4 +1,4 @@
--- The rows of the payoffs of an outcome, where it is new and where it is known.
+-- The rows of the payoffs of an outcome, for a new outcome and for a known one.
 use Rattle.std.proofs.Common.{◌≡◌, ℕ, zero, suc, ◌<◌, Bool, true, false, List, [], ◌∷◌, ◌++◌}
 use Rattle.std.proofs.Common.{length, Result, Ok, Err, refl, sym, ap, subst, ◌∙◌}
 use Rattle.std.proofs.Common.{append_assoc, arith, inl, inr, nat_eq}
@@ -321,7 +321,7 @@ pub after_last_payoff : (f : FileFront) (n : ℕ) (payoffs : List Ratio)
     → Stands f.before (or_comma a_closing)
 after_last_payoff f n payoffs h = none_left f n payoffs true (seen_behind f.front n payoffs h)
 
--- ---- behind a description
+-- ---- after a description
 
 -- a new outcome ends where no payoff is left
 new_ended : (may : Bool) (b : Begun) (n : ℕ) (outcome : Outcome) (left : ℕ) (c r : Content)
@@ -359,7 +359,7 @@ after_payoffs f h =
           (sym (first g.more ∙ k.answers (Closing ∷ g.more)) ∙ g.reads))
     ]
 
--- ---- behind a node
+-- ---- after a node
 
 pub either : (f : FileFront) → BehindNode f.front → GoesOnBehind f
 either f (inl h) = after_zero f h

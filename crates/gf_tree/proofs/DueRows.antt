@@ -1,5 +1,5 @@
--- Where the machine of the reader stands for the tokens before a place, just what a row accepts may
--- follow, and all else is refused as the row says, if the machine answers so.
+-- If the machine of the reader stands for the tokens before a place, exactly what a row accepts may
+-- follow, and everything else is refused as the row says, provided that the machine answers so.
 use Rattle.std.proofs.Common.{◌≡◌, ◌↔◌, ℕ, zero, suc, Bool, true, false, cond, List, [], ◌∷◌, ◌++◌}
 use Rattle.std.proofs.Common.{Result, Ok, Err, refl, sym, ap, subst, ◌∙◌}
 use Rattle.gf_token.specs.Token.{Token}
@@ -38,7 +38,7 @@ AnswersEnd row false why = ¬ row.end × (why ≡ row.otherwise)
 abbrev pub EndLaw : Position → Content → Row → Type 0
 EndLaw q c row = AnswersEnd row (may_end q c.due) (due q c.due)
 
--- behind these tokens the machine answers as from this state
+-- after these tokens the machine answers as from this state
 abbrev pub StandsFor : List Token → Position → Content → Type 0
 StandsFor before q c =
     (us : List Token) → run_tokens Format nothing (before ++ us) ≡ run_tokens q c us
@@ -88,7 +88,7 @@ pub leads : (before : List Token) → Begins IsExtensiveFile before
 leads before h =
     let r = is_read (before ++ h.0) h.1 in leads_on before h.0 Format nothing r.0 r.1
 
--- ---- at the end nothing is refused as a text without an end
+-- ---- at the end nothing is refused as an unterminated text
 
 node_ends : (n : ℕ) → node_or_end n ≡ Unterminated → ⊥
 node_ends zero e = absurd cc
@@ -133,7 +133,7 @@ not_always s why h =
 
 -- ---- what may follow, and why the rest is refused
 
--- just what the row accepts is accepted, and all else stops the machine as the row says
+-- exactly what the row accepts is accepted, and everything else stops the machine as the row says
 abbrev pub AnswersAt : List Token → State → Row → List Token → Type 0
 AnswersAt before s row after = (IsAccepted IsExtensiveFile before after ↔ Accepts row after)
     × (¬ (Accepts row after) → (why : Why) × Refuses row after why × StopsAt s after why)

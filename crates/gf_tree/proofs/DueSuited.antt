@@ -1,4 +1,4 @@
--- The tokens that suit a role tell what a refusal names there.
+-- The tokens that suit a role determine what a refusal names there.
 use Rattle.std.proofs.Common.{◌≡◌, ℕ, List, Some, None, Err}
 use Rattle.std.proofs.Common.{false, nat_eq, refl, ◌∙◌, arith, inl, inr}
 use Rattle.std.specs.Prelude.{codes, ◌≢◌}
@@ -229,7 +229,7 @@ number_by (Probability sum) q same numbers b s = refl
 number_by Payoff q same numbers b s = refl
 number_by (KnownNumber p) q same numbers b s = refl
 
--- roles that the same tokens suit, one at least, have one name
+-- roles that the same tokens suit, at least one, have one name
 pub one_name : (r q : Role)
     → ((x : List ℕ) → (Suits r x → Suits q x) × (Suits q x → Suits r x)) → (b : List ℕ)
     → Suits r b → what_of r ≡ what_of q

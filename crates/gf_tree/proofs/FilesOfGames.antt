@@ -1,4 +1,4 @@
--- A file tree of each game: all descriptions stand at each use.
+-- A file tree of each game: each use has its description.
 use Rattle.std.proofs.Common.{◌≡◌, ◌↔◌, ℕ, Bool, true, false, List, [], ◌∷◌}
 use Rattle.std.proofs.Common.{length, map, Some, None, Option, MatchOption}
 use Rattle.std.proofs.Common.{option_map, refl, sym, ap, subst, ◌∙◌, inl, inr}
@@ -96,7 +96,7 @@ is_map {K} {D} same equality ks xs e =
           (subst (Has (map (use_at at) ks)) is (has_map (use_at at) ks s.key key)));
     }
 
--- what holds of the entries holds of what a use is described by
+-- what holds for the entries holds for what a use is described by
 of_told : {K D : Type 0} (same : K → K → Bool) (ks : List K) (xs : List (Described K D))
     → IsMapOf same ks xs → (P : K → D → Type 0) → AllByRecursion (λ s. P s.key s.description) xs
     → (key : K) (d : D) → Describes (map (use_at (description_at same xs)) ks) key d → P key d

@@ -115,7 +115,7 @@ place {K} same tells (k ∷ ks) key h = elim (cases_Bool (same k key))
               (ap others p.all ∙ filter_last (λ x. not (same k x)) p.before key p.after passes);
         }
 
--- the number is one more than so many keys before
+-- the number is one more than this many keys before
 number_is : {K : Type 0} (same : K → K → Bool) (ks : List K) (key : K) (p : Place same ks key)
     → first_use_number same ks key ≡ length p.before + 1
 number_is same ks key p = ap length p.through ∙ length-append p.before (key ∷ [])

@@ -1,4 +1,4 @@
--- A key's place among descriptions, and what stands there.
+-- A key's place among descriptions, and what is there.
 use Rattle.std.proofs.Common.{◌≡◌, ℕ, suc, ◌+◌, Bool, true, false, List, [], ◌∷◌, map, Some}
 use Rattle.std.proofs.Common.{None, Option, option_map, slice_get, refl, sym, ap, ◌∙◌, arith}
 use Rattle.std.specs.Prelude.{position}

@@ -1,6 +1,6 @@
--- The front of a node behind whole nodes: the machine of the reader reads it from what was learned in
--- them, in the braces of a known set asks for what is left of it, and refuses a player where there is
--- none.
+-- The front of a node after whole nodes: the machine of the reader reads it from what was learned
+-- in them, expects in the braces of a known set what is left of it, and refuses a player if there
+-- are none.
 use Rattle.std.proofs.Common.{◌≡◌, ℕ, ◌≤◌, List, [], ◌∷◌, ◌++◌, length, Option, Some, None, Result}
 use Rattle.std.proofs.Common.{Err, refl, sym, ap, ◌∙◌, nat_eq, inl, inr, append_assoc}
 use Rattle.std.specs.List.{filter_map}
@@ -82,7 +82,7 @@ plain_front : (front us : List Token) → BeginsBare front → NoText (front ++ 
 plain_front front us h l others e =
     let both = sym (ap (λ (ts : List Token). ts ++ us) h.2) ∙ e in absurd cc
 
--- the front stands behind whole nodes, and is read from what was learned in them
+-- the front comes after whole nodes, and is read from what was learned in them
 pub record Split (players : List (List ℕ)) (nodes : List FileNode)
     (before front : List Token) : Type 0 where
   pub content : Content
@@ -140,7 +140,7 @@ known_outcome c n outcome are known =
 
 -- ---- an unknown player
 
--- where there is none
+-- if there is none
 pub no_player : (before : List Token) (t : List ℕ) → ReadsOn before
     → ((nodes : List FileNode) × EndsInNode before [] nodes [] × NodeIsDue before × (t ≡ codes "p"))
     → run_tokens Format nothing (before ++ Bare t ∷ []) ≡ refused UnknownPlayer

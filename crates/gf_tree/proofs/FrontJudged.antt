@@ -330,7 +330,7 @@ module _ (before after : List Token) (s : State) (why : Why) (l : Leads before s
       (mismatch before after Comma s why l h k) (omega arith)
   lower_comma h _ k = absurd k
 
-  -- a text without an end has the lowest code of all
+  -- an unterminated text has the lowest code of all
   lower_broken : why ≡ Unterminated → Lower before (Broken ∷ after) why
   lower_broken e other k = subst (λ (w : Why). IsUpTo w (code_of other)) (sym e) (by other k)
     where
@@ -347,7 +347,7 @@ module _ (before after : List Token) (s : State) (why : Why) (l : Leads before s
 abbrev refused_state : Why → Result State Why
 refused_state why = Err why
 
--- what is refused at a text without an end
+-- what is refused at an unterminated text
 broken_is : (s : State) (why : Why) → step s.position s.content Broken ≡ Err why
     → why ≡ Unterminated
 broken_is s why e = let f : refused_state Unterminated ≡ refused_state why = e in cc
@@ -381,7 +381,7 @@ pub reason : (before after : List Token) (s : State) (why : Why) → Leads befor
 reason before after s why l h =
     reason_by why before after (own before after s why l h) (lower before after s why l h)
 
--- so a row that stands there says what may follow, and why all else is refused
+-- so a row that stands there says what may follow, and why everything else is refused
 pub obeys : {before : List Token} {row : Row} → Stands before row → Obeys before row
 obeys {before} {row} stands =
     let l = leads before stands.begins in

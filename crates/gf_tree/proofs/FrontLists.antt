@@ -1,5 +1,5 @@
--- What the machine of the reader answers behind the front of a node, from a probability up to the
--- number of the outcome: that is told by its shape too.
+-- What the machine of the reader answers after the front of a node, from a probability up to the
+-- number of the outcome: the shape of the front determines this too.
 use Rattle.std.proofs.Common.{◌≡◌, ℕ, zero, suc, Bool, List, [], ◌∷◌, ◌++◌, length, Option}
 use Rattle.std.proofs.Common.{Some, None, MatchOption, Ok, Err, cond, refl, sym, ap, subst, ◌∙◌}
 use Rattle.std.proofs.Common.{append_assoc, inl, inr, nat_eq}
@@ -266,7 +266,7 @@ told_outcome c front h = record {
   answers = λ t us. h.answers (Bare t ∷ us);
 }
 
--- behind a set without a description stands a bare token only where it is known
+-- after a set without a description stands a bare token only where it is known
 known_by : (name : List ℕ) (key : SetKey) (o : Option InformationSet) (c r : Content) (t : List ℕ)
     (us : List Token) → description_at same_set c.sets key ≡ o
     → Reads (behind_set name key o) c (Bare t ∷ us) r

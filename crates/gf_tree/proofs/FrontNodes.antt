@@ -1,4 +1,4 @@
--- What the machine of the reader answers behind whole nodes: that is told by what they say.
+-- What the machine of the reader answers after whole nodes: what they say determines this.
 use Rattle.std.proofs.Common.{◌≡◌, ℕ, suc, Bool, List, [], ◌∷◌, ◌++◌, length, map, Some, refl, sym}
 use Rattle.std.proofs.Common.{ap, subst, ◌∙◌, append_assoc, nat_eq}
 use Rattle.std.specs.Prelude.{codes}
@@ -30,7 +30,7 @@ use Rattle.gf_tree.proofs.RunTokens.{Reads}
 use Rattle.gf_tree.proofs.SentencesOnce.{node_once}
 use Rattle.gf_tree.proofs.Uses.{IsEquality}
 
--- ---- what is known behind nodes
+-- ---- what is known after nodes
 
 -- a description of a key is known exactly if some use gives it
 pub learned_at : {K D : Type 0} (same : K → K → Bool) → IsEquality same
@@ -45,7 +45,7 @@ learned_at {K} {D} same equality uses known h key d =
 
 -- ---- whole nodes
 
--- behind these tokens the machine answers as from a content in which their nodes were learned
+-- after these tokens the machine answers as from a content in which their nodes were learned
 pub record Walked (c : Content) (nodes : List FileNode) (tokens : List Token) : Type 0 where
   pub content : Content
   pub players : content.players ≡ c.players
@@ -169,7 +169,7 @@ walked_nodes (n ∷ nodes) tokens rest c r each plain sets outcomes reads =
 
 -- ---- the heading, and whole nodes
 
--- behind these tokens the machine answers as behind the front alone, from a content in which the
+-- after these tokens the machine answers as after the front alone, from a content in which the
 -- nodes were learned
 pub record Parted (players : List (List ℕ)) (nodes : List FileNode)
     (before front : List Token) : Type 0 where

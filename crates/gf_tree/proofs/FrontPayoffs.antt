@@ -1,5 +1,5 @@
--- What the machine of the reader answers behind the front of a node, among the payoffs of its
--- outcome: that is told by its shape too.
+-- What the machine of the reader answers after the front of a node, among the payoffs of its
+-- outcome: the shape of the front determines this too.
 use Rattle.std.proofs.Common.{◌≡◌, ℕ, zero, suc, ◌+◌, Bool, true, false, List, [], ◌∷◌, ◌++◌}
 use Rattle.std.proofs.Common.{length, Option, Some, None, refl, sym, ap, subst, ◌∙◌, arith, inl}
 use Rattle.std.proofs.Common.{inr, nat_eq}
@@ -50,7 +50,7 @@ some_left true b n outcome zero t us c r e = absurd cc
 some_left false b n outcome zero t us c r e = absurd cc
 some_left may b n outcome (suc k) t us c r e = (k, refl)
 
--- behind a comma, or none
+-- after a comma, or none
 behind_comma : (comma : List Token) (b : Begun) (n : ℕ) (outcome : Outcome) (left : ℕ) (c : Content)
     → ((comma ≡ []) ⊎ (comma ≡ Comma ∷ []))
     → (may : Bool) × ((us : List Token) → run_tokens (AfterNewPayoff b n outcome left) c (comma ++ us)

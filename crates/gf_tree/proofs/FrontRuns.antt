@@ -1,4 +1,5 @@
--- What the machine of the reader answers behind the front of a node: that is told by its shape.
+-- What the machine of the reader answers after the front of a node: the shape of the front
+-- determines this.
 use Rattle.std.proofs.Common.{◌≡◌, ℕ, zero, suc, ◌<◌, ◌≤◌, List, [], ◌∷◌, ◌++◌, length, map}
 use Rattle.std.proofs.Common.{Option, Some, None, Ok, refl, sym, ap, subst, ◌∙◌, arith, inl, inr}
 use Rattle.std.specs.Prelude.{codes, pos, ◌⊎◌, ◌≤ℤ◌}
@@ -159,7 +160,7 @@ AddsShares sum [] total = sum ≡ total
 AddsShares sum (p ∷ ps) total = IsFraction p × (pos 0 ≤ℤ p.num)
     × ((next : Ratio) × AddsTo sum p next × AddsShares next ps total)
 
--- behind this sum
+-- after this sum
 abbrev pub HaveSumFrom : ℕ → Ratio → List Action → Ratio → Type 0
 HaveSumFrom zero sum actions total =
     (ps : List Ratio) × (map (λ a. a.probability) actions ≡ map Some ps) × AddsShares sum ps total

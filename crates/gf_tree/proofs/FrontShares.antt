@@ -1,5 +1,5 @@
--- Where a probability is wrong, or a new list of actions may not end, the machine of the reader
--- refuses for that or for a lower code.
+-- If a probability is wrong, or a new list of actions may not end, the machine of the reader
+-- refuses for that reason or with a lower code.
 use Rattle.std.proofs.Common.{◌≡◌, ℕ, ◌<◌, Bool, true, false, List, [], ◌∷◌, ◌++◌}
 use Rattle.std.proofs.Common.{map, drop, Some, Ok, Err, refl, sym, ap, subst, ◌∙◌, arith}
 use Rattle.std.proofs.Common.{inl, inr}
@@ -61,7 +61,7 @@ pub has_sum : (set : InformationSet) (sum : Ratio)
     → HaveSumFrom 0 (whole (pos 0)) set.actions sum → HasSum set sum
 has_sum set sum h = (h.0, h.1, adds_up (whole (pos 0)) h.0 sum h.2)
 
--- the machine asks for a probability behind this sum
+-- the machine asks for a probability after this sum
 record AsksShare (before : List Token) (sum : Ratio) : Type 0 where
   content : Content
   name : List ℕ

@@ -88,7 +88,7 @@ given_counted g =
 
 -- ---- the use at a node
 
--- so many keys are known before the entry, and its key has this position among all of them
+-- this many keys are known before the entry, and its key has this position among all of them
 record IsAt {K D E : Type 0} (same : K → K → Bool) (known : List (Described K D)) (f : E → Option K)
     (es : List E) (at : ℕ) (e : E) (position met : ℕ) : Type 0 where
   all : map (λ d. d.key) known ≡ first_uses same (filter_map f es)

@@ -1,4 +1,4 @@
--- Groups of tokens at the front of a list: what they say is said once, and leaves one rest.
+-- Groups of tokens at the front of a list: they say only one thing, and leave only one rest.
 use Rattle.std.proofs.Common.{◌≡◌, ℕ, List, [], ◌∷◌, ◌++◌, map, drop, Ok, refl}
 use Rattle.std.proofs.Common.{sym, ap, subst, ◌∙◌, append_assoc, inl, inr}
 use Rattle.std.specs.Prelude.{◌⊎◌, Option, Some, None}
@@ -63,7 +63,7 @@ closed_once P agree begun (x ∷ xs) (y ∷ ys) inner inner' rest rest' h k e =
     let b = closed_once P agree begun xs ys h.1 k.1 rest rest' h.4 k.4 a.1 in
     (λ i. a.0 i ∷ b.0 i, b.1)
 
--- what stands behind an opening brace
+-- what comes after an opening brace
 pub opened : (inner inner' rest rest' : List Token) → braced inner ++ rest ≡ braced inner' ++ rest'
     → inner ++ Closing ∷ rest ≡ inner' ++ Closing ∷ rest'
 opened inner inner' rest rest' e = sym (append_assoc inner (Closing ∷ []) rest)

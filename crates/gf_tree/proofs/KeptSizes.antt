@@ -36,7 +36,7 @@ skips_node nodes at (suc left) d h b =
 
 -- ---- one step of filling in
 
--- behind a number of children stand the sizes of so many trees
+-- after a number of children stand the sizes of this many trees
 begin_at : {N : Type 0} (t : Tree N) (at c : ℕ) (rest : List ℕ) → at < length (flatten t)
     → drop at (counts_of (flatten t)) ≡ c ∷ rest → Begin c (sizes_grown rest)
 begin_at {N} t at c rest h e =

@@ -1,4 +1,4 @@
--- Which keys are known behind some uses, and what the next use says.
+-- Which keys are known after some uses, and what the next use says.
 use Rattle.std.proofs.Common.{◌≡◌, ℕ, zero, suc, ◌+◌, ◌<◌, Bool, true, false, not}
 use Rattle.std.proofs.Common.{List, [], ◌∷◌, ◌++◌, length, map, Some}
 use Rattle.std.proofs.Common.{option_map, slice_get, max, refl, sym, ap, subst, ◌∙◌, arith, inl, inr}

@@ -81,7 +81,7 @@ new_by same known key k d false (Some c) t e = rw (at_more same known key k d c 
 new_by same known key k d true None t e = rw (at_last same known key k d true t e) refl
 new_by same known key k d false None t e = rw (at_last same known key k d false t e) refl
 
--- what is new behind one more description
+-- what is new after one more description
 new_more : {K D : Type 0} (same : K → K → Bool) (known : List (Described K D)) (key k : K) (d : D)
     → is_new same (known ++ one key d ∷ []) k ≡ (not (same key k) && is_new same known k)
 new_more same known key k d =
@@ -95,7 +95,7 @@ old_by same equality known key k d e true t =
     ap is_none (ap (description_at same known) (sym ((equality key k).0 t)) ∙ e)
 old_by same equality known key k d e false t = refl
 
--- ---- uses behind what is known
+-- ---- uses after what is known
 
 abbrev told : {K D : Type 0} → K → D → Use K D
 told key d = record { key = key; description = Some d }
@@ -144,7 +144,7 @@ module _ {K D : Type 0} (same : K → K → Bool) (equality : IsEquality same) w
       by_option (Some c) p = absurd (not_some (description_at same (known ++ one key d ∷ []) k) c e
           (at_more same known key k d c p))
 
-  -- what is found behind one more is that one, or was known
+  -- what is found after one more is that one, or was known
   at_either : (known : List (Described K D)) (key k : K) (d c : D)
       → description_at same (known ++ one key d ∷ []) k ≡ Some c
       → ((key ≡ k) × (c ≡ d)) ⊎ (description_at same known k ≡ Some c)

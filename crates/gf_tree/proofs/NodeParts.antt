@@ -1,4 +1,4 @@
--- The parts of a node as it is kept: who moves there, its actions, and the place behind its subtree.
+-- The parts of a node as it is kept: who moves there, its actions, and the place after its subtree.
 use Rattle.std.proofs.Common.{◌≡◌, ℕ, zero, suc, ◌+◌, ◌-◌, ◌<◌, ◌≤◌, List, [], ◌∷◌, ◌++◌, length}
 use Rattle.std.proofs.Common.{map, drop, take, get_or, slice_get, Option, Some, None, option_map}
 use Rattle.std.proofs.Common.{MatchOption}
@@ -39,7 +39,7 @@ use Rattle.gf_tree.proofs.SubtreeSizes.{begin_first, stands, subtrees_counted}
 use Rattle.gf_tree.proofs.TreesOnce.{same_set_equality}
 use Rattle.gf_tree.proofs.Uses.{Has}
 
--- ---- places behind subtrees
+-- ---- places after subtrees
 
 -- one tree begins at each place
 pub begin_here : {N : Type 0} (t : Tree N) (at : ℕ) → at < length (subtrees t)
@@ -53,7 +53,7 @@ begin_here {N} t at h =
     (r.stands.trees ∙ sym (append-nil (subtrees_all (more (branch r.node r.below) r.others)))) in
     rw here (begin_first 1 (more (branch r.node r.below) r.others) [] (omega arith))
 
--- one tree more is skipped
+-- one more tree is skipped
 skips_more : (n : ℕ) (xs : List ℕ) → Begin (suc n) xs
     → skipped (suc n) xs ≡ skipped n xs + skipped 1 (drop (skipped n xs) xs)
 skips_more zero xs h = omega arith
@@ -65,7 +65,7 @@ skips_more (suc n) (s ∷ xs) h =
     sym (drop-drop (skipped n rest) s (s ∷ xs)) in
     rw same (omega (arith, more))
 
--- the branch of the next child, and the place of the one behind it
+-- the branch of the next child, and the place of the one after it
 pub record IsNextChild {N : Type 0} (t : Tree N) (at before place : ℕ) : Type 0 where
   pub within : place < length (subtrees t)
   pub there : drop before (child_trees (subtree_at t at))

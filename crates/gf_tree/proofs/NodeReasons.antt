@@ -1,4 +1,4 @@
--- The rows of nodes refuse for reasons, and so does each row that stands behind the front of a file.
+-- The rows of nodes refuse for reasons, and so does each row after the front of a file.
 use Rattle.std.proofs.Common.{◌≡◌, ◌≢◌, ℕ, ◌<◌, List, [], ◌∷◌, ◌++◌, length}
 use Rattle.std.proofs.Common.{Bool, true, false, Option, Some, None, MatchOption, refl, sym, ap, subst, ◌∙◌, arith}
 use Rattle.std.proofs.Common.{inl, inr}
@@ -51,7 +51,7 @@ use Rattle.gf_tree.proofs.RowReasons.{number_named, opening, reasons, some_text,
 
 -- ---- nodes
 
--- the number of the outcome is due behind a known set without a description
+-- the number of the outcome is due after a known set without a description
 known_step : (front : List Token) (key : SetKey) → BehindSetNumber front key
     → ToOutcomeNumber front (Some (record { key = key; description = None }))
 known_step front key h = (
@@ -62,7 +62,7 @@ known_step front key h = (
   (h.3.2, h.1, [], refl, h.3.4, h.4, refl),
 )
 
--- what is left behind some is the same
+-- what is left after some is the same
 one_next : {A : Type 0} (seen : List A) (x y : A) (xs ys others : List A) → others ≡ seen ++ x ∷ xs
     → others ≡ seen ++ y ∷ ys → x ≡ y
 one_next seen x y xs ys others e h =
@@ -336,7 +336,7 @@ module _ (f : FileFront) where
       (λ b why e. e) (λ why e. e) (λ b k. absurd k)
   in_node (IsInNode.AfterNode h) = behind h
 
--- a row stands behind the tokens that some file begins with, and its refusals have reasons
+-- a row comes after the tokens that some file begins with, and its refusals have reasons
 pub reasoned : (before : List Token) → Begins IsExtensiveFile before → Reasoned before
 reasoned before begins = by (some_row before begins)
   where

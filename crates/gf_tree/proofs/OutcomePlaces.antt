@@ -1,4 +1,4 @@
--- The places of outcomes, and what they tell of the outcomes that are known.
+-- The places of outcomes, and what they say about the outcomes that are known.
 use Rattle.std.proofs.Common.{◌≡◌, ℕ, ◌+◌, Bool, true, false, List, [], ◌∷◌, ◌++◌, length, map}
 use Rattle.std.proofs.Common.{nat_eq, refl, sym, ap, ◌∙◌, arith}
 use Rattle.std.specs.Prelude.{position}

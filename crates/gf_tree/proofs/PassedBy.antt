@@ -1,4 +1,4 @@
--- A set or an outcome that is known, behind whose number no description follows.
+-- A set or an outcome that is known, with no description after its number.
 use Rattle.std.proofs.Common.{◌≡◌, ℕ, false, List, [], ◌∷◌, refl}
 use Rattle.gf_token.specs.Next.{is_quoted, starts}
 use Rattle.gf_token.specs.Remaining.{Remaining}

@@ -1,5 +1,5 @@
 -- The answer of the machine to the tokens of a file is what the file means: the one game that its
--- bytes spell, or a refusal where it is due.
+-- bytes spell, or a refusal where one is due.
 use Rattle.std.proofs.Common.{◌≡◌, ℕ, List, [], ◌∷◌, ◌++◌, length, Result, Ok, Err}
 use Rattle.std.proofs.Common.{refl, sym, ap, subst, ◌∙◌}
 use Rattle.gf_token.specs.Token.{Token, Lexeme}
@@ -128,14 +128,14 @@ refused_judged bytes ls fault spelled e =
     let refusal = refuses bytes ls fault spelled e in
     judged_by fault.why bytes fault.span (refusal_lies fault.why bytes fault.span refusal) refusal
 
--- it never refuses for want of memory
+-- it never refuses for lack of memory
 pub not_memory : (bytes : List ℕ) (ls : List Lexeme) (fault : Fault) → Spells 0 bytes ls
     → run (length bytes) Format nothing ls ≡ Err fault → ¬ (fault.why ≡ Memory)
 not_memory bytes ls fault spelled e = λ h.
     subst LiesInFile h
     (refusal_lies fault.why bytes fault.span (refuses bytes ls fault spelled e))
 
--- where memory is wanting at a place that it has passed
+-- where memory runs out at a place that it has passed
 pub memory_judged : (bytes : List ℕ) (before after : List Lexeme) (span : Span)
     → Spells 0 bytes (before ++ after) → IsSpanOf after (length bytes) span
     → HasPassed (run (length bytes) Format nothing (before ++ after)) span.start

@@ -1,4 +1,4 @@
--- What the reader keeps stays what it stands for when more is known.
+-- What the reader keeps still stands for the same when more is known.
 use Rattle.std.proofs.Common.{◌≡◌, ◌<◌, ◌≤◌, ◌+◌, ℕ, zero, suc, Bool, true, false}
 use Rattle.std.proofs.Common.{List, [], ◌∷◌, ◌++◌, length, map, Option, Some, None}
 use Rattle.std.proofs.Common.{option_map, slice_get, refl, sym, ap, ◌∙◌, arith}
@@ -306,7 +306,7 @@ taken {t} {u} {l} ahead input = λ i. record { input = sym input i; ahead = ahea
 
 -- ---- a set that is known
 
--- behind its number its description, if there is one, was read
+-- after its number its description, if there is one, was read
 pub set_known_again : (c : Content) (node : List ℕ) (key : SetKey) (place : ℕ)
     (rest behind : Remaining) (set : InformationSet) → FoundSet c.sets key place set
     → heard (KnownSetName node key set) c rest ≡ heard (OutcomeNumber (begun node key set)) c behind
@@ -434,7 +434,7 @@ refused_why f P result e h = subst (λ r. IfErr r P) (sym e) h
 
 -- ---- memory that is wanting
 
--- at a token behind which the machine goes on
+-- at a token after which the machine goes on
 pub wants_memory : {f : Fault} {span : Span} {t : Remaining} {a : Answer} → StandsBefore t span
     → f ≡ record { span = span; why = Memory } → (q : Position) (c : Content) → a ≡ heard q c t
     → Fails f a

@@ -43,7 +43,7 @@ answered bytes =
       (not_memory bytes ls fault spelled e, refused_judged bytes ls fault spelled e),
     )
 
--- a refusal for another cause than want of memory is one at the offending place
+-- a refusal for another cause than lack of memory is one at the offending place
 refusal : (why : Why) (bytes : List ℕ) (span : Span) → IsRefused why bytes span
     → IsRefusal why bytes span
 refusal Memory bytes span h = absurd (h.0 refl)

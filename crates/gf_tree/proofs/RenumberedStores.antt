@@ -78,7 +78,7 @@ next_absent {K} {D} same tells es place e d h =
     (absent same tells e.key (take place (map (λ e. e.key) es))
     (not_yet (map (λ e. e.key) es) place e.key d key))
 
--- ---- one entry more
+-- ---- one more entry
 
 take_next : {X : Type 0} (xs : List X) (place : ℕ) (x : X) → slice_get xs place ≡ Some x
     → take (suc place) xs ≡ take place xs ++ x ∷ []

@@ -47,7 +47,7 @@ Own why before after = Holds why before after
 abbrev pub IsTold : List Token → Type 0
 IsTold before = (r : Role) × OnlySuitedFollow before r × IsDue before (what_of r)
 
--- a row stands behind these tokens, and its refusals have reasons
+-- a row comes after these tokens, and its refusals have reasons
 pub record Reasoned (before : List Token) : Type 1 where
   pub row : Row
   pub stands : Stands before row

@@ -22,7 +22,7 @@ use Rattle.gf_tree.specs.inner.ReadGame.{run_tokens, then_run}
 use Rattle.gf_tree.proofs.RunTokens.{Reads, run_on, guard_ok, ratio_is}
 use Rattle.gf_tree.proofs.RunShares.{share_found, share_again, sum_high}
 
--- the probabilities of chance behind this sum add to one; a player's actions have none
+-- the probabilities of chance after this sum add up to one; a player's actions have none
 abbrev pub AreOthers : ℕ → Ratio → List Action → Type 0
 AreOthers zero sum actions =
     (ps : List Ratio) × (map (λ a. a.probability) actions ≡ map Some ps) × AddToOne sum ps
@@ -175,7 +175,7 @@ record FirstShare (sum p : Ratio) (actions : List Action) : Type 0 where
   adds : AddsTo sum p next
   others : AreOthers 0 next actions
 
--- the first probability, and that the others add to one with it
+-- the first probability, and that the others add up to one with it
 first_share : (a : Action) (actions : List Action) (p sum : Ratio) (ps : List Ratio)
     → a.probability ≡ Some p → a.probability ∷ map (λ b. b.probability) actions ≡ map Some ps
     → AddToOne sum ps
@@ -189,7 +189,7 @@ first_share a actions p sum (q ∷ ps) e same h =
     h in
     record { not_below = k.0; next = k.1.0; adds = k.1.1; others = (ps, ap (drop 1) same, k.1.2) }
 
--- the sum of the probabilities so far is one at most, where the others add to one with it
+-- the sum of the probabilities so far is at most one, if the others add up to one with it
 high : (actions : List Action) (inner : List Token) (sum : Ratio) → IsFraction sum
     → Each (IsAction 0) inner actions → AreOthers 0 sum actions → sum.num ≤ℤ pos sum.den
 high [] inner sum fraction each h = by h.0 h.1 h.2

@@ -77,7 +77,7 @@ outcome_ends : (b : Begun) (c : Content) → Ends (OutcomeNumber b) c
 outcome_ends b c = by (OutcomeNumber b) c (Bare (codes "0")) (at NodeDue (with_node c b None))
     (ap (outcome_number c b) zero_is_index) (node_ends (with_node c b None))
 
--- the same behind a known outcome
+-- the same after a known outcome
 known_outcome_by : (due : ℕ) (outcome : Outcome) (c : Content) → c.due ≡ due
     → Ends (KnownOutcomeName outcome) c
 known_outcome_by zero outcome c is = ([], c, rw is refl)
@@ -129,7 +129,7 @@ closed : (name : List ℕ) (player n : ℕ) (set : InformationSet) (sum : Ratio)
 closed name zero n set sum c one = ap (set_ends c name 0 n set) one
 closed name (suc player) n set sum c one = refl
 
--- behind an action, where the probabilities add to one
+-- after an action, where the probabilities add up to one
 actions_end : (name : List ℕ) (key : SetKey) (set : InformationSet)
     (actions : List Action) (sum : Ratio) (c : Content)
     → set.actions ≡ actions → 0 < length actions

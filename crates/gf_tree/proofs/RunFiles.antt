@@ -177,7 +177,7 @@ no_text players (n ∷ ns) tokens h = λ l others e.
     let both = sym whole ∙ e in
     absurd cc
 
--- behind a use its key is known
+-- after a use its key is known
 known_behind : (known mid : MapOf) (u : Use SetKey InformationSet)
     → Learns same_set known (u ∷ []) mid
     → (d : InformationSet) × (description_at same_set mid u.key ≡ Some d)
@@ -190,7 +190,7 @@ known_behind known mid u learns = elim (one_use same_set known u mid learns) [
   | inr h ↦ (h.description, ap (λ x. description_at same_set x u.key) h.no_more ∙ h.is_known)
 ]
 
--- a node has its children by what is known behind it
+-- a node has its children by what is known after it
 children_then : (known mid end : MapOf) (o : Option (Use SetKey InformationSet)) (children : ℕ)
     → Learns same_set known (uses_of o) mid
     → ((key : SetKey) (d : InformationSet) → description_at same_set mid key ≡ Some d
@@ -204,7 +204,7 @@ children_then known mid end (Some u) children learns same h =
     λ (o : Option InformationSet). option_map (λ (set : InformationSet). length set.actions) o in
     ap counts k.1 ∙ ap counts (sym (same u.key k.0 k.1)) ∙ h
 
--- all that is read behind this content
+-- all that is read after this content
 abbrev pub behind_nodes : Content → List (Entry FileNode) → MapOf → List (Described ℕ Outcome)
     → Content
 behind_nodes c es sets outcomes =

@@ -1,5 +1,5 @@
 -- What holds wherever the machine goes on: numbers that it knows are fractions, a sum of
--- probabilities is one at most, and where a player moves, there is one.
+-- probabilities is at most one, and if a player moves, there is such a player.
 use Rattle.std.proofs.Common.{◌≡◌, ℕ, zero, suc, ◌<◌, Bool, true, false, cond, List}
 use Rattle.std.proofs.Common.{[], ◌∷◌, ◌++◌, length, Option, Some, None}
 use Rattle.std.proofs.Common.{MatchOption, Result, Ok, Err, refl, ap, arith, nat_eq}
@@ -43,7 +43,7 @@ FineActions actions = AllByRecursion (λ a. MatchOption a.probability (Unit {0})
 abbrev pub FinePayoffs : List Ratio → Type 0
 FinePayoffs ps = AllByRecursion IsFraction ps
 
--- where so many players are
+-- if there are this many players
 abbrev pub FineAt : ℕ → Position → Type 0
 FineAt players PersonalName = 0 < players
 FineAt players (PlayerNumber name) = 0 < players

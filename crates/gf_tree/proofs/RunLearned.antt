@@ -1,4 +1,4 @@
--- What is learned by one use, and by uses behind each other.
+-- What is learned by one use, and by uses one after another.
 use Rattle.std.proofs.Common.{◌≡◌, Bool, true, false, cond, List, [], ◌∷◌, ◌++◌, Some, None, Option}
 use Rattle.std.proofs.Common.{MatchOption, option_map, find, refl, ap, subst, ◌∙◌, inl, inr}
 use Rattle.std.specs.Prelude.{◌⊎◌}
@@ -64,7 +64,7 @@ pub one_use : {K D : Type 0} (same : K → K → Bool)
     → IsNew same known u end ⊎ IsKnown same known u end
 one_use same known u end h = by_known same known u end (description_at same known u.key) refl h
 
--- ---- uses behind each other
+-- ---- uses one after another
 
 pub learns_on : {K D : Type 0} (same : K → K → Bool)
     (us vs : List (Use K D)) (known mid end : List (Described K D))
@@ -148,7 +148,7 @@ kept {K} {D} same (u ∷ us) known end h key d e =
         later (known ++ one u.key l.0 ∷ []) l.2 (kept_more same known (one u.key l.0) key d e)
     by later (Some c) l = later known l.1 e
 
--- behind one more, its key has its description
+-- after one more, its key has its description
 pub at_new : {K D : Type 0} (same : K → K → Bool) → IsEquality same
     → (known : List (Described K D)) (key : K) (d : D) → description_at same known key ≡ None
     → description_at same (known ++ one key d ∷ []) key ≡ Some d
@@ -167,7 +167,7 @@ at_new {K} {D} same equality (y ∷ known) key d e =
     by later true e = absurd cc
     by later false e = later e
 
--- what holds of all entries holds of what is found
+-- what holds for all entries holds for what is found
 pub found_has : {K D : Type 0} (same : K → K → Bool)
     → IsEquality same → (P : K → D → Type 0) (es : List (Described K D)) (key : K) (d : D)
     → AllByRecursion (λ s. P s.key s.description) es
@@ -196,7 +196,7 @@ pub all_before : {X : Type 0} (P : X → Type 0) (xs : List X) (x : X)
 all_before P [] x h = tt
 all_before P (y ∷ xs) x h = (h.0, all_before P xs x h.1)
 
--- what holds of all that is known in the end holds of what was known before
+-- what holds for all that is known in the end holds for what was known before
 pub all_known : {K D : Type 0} (same : K → K → Bool) (P : Described K D → Type 0)
     (us : List (Use K D)) (known end : List (Described K D))
     → Learns same known us end

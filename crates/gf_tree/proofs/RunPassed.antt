@@ -41,7 +41,7 @@ from_there : (end from : ℕ) (before ls : List Lexeme) → AreInOrder end from 
 from_there end from [] ls h = (from, h)
 from_there end from (z ∷ zs) ls h = from_there end z.end zs ls h.2
 
--- where tokens stop: not before they begin, and not behind the end
+-- where tokens stop: not before they begin, and not after the end
 place_in : (end from : ℕ) (before after : List Lexeme) (span : Span)
     → AreInOrder end from (before ++ after) → IsSpanOf after end span
     → (from ≤ span.start) × (span.start ≤ end)
@@ -64,7 +64,7 @@ refused_in end from q c ls fault h e =
     let s = stopped end q c ls fault e in
     place_in end from s.before s.after fault.span (subst (AreInOrder end from) s.parts h) s.place
 
--- so where it goes on behind a token, it has passed the token
+-- so where it goes on after a token, it has passed the token
 pub passed_before : (t : Remaining) (span : Span) → StandsBefore t span
     → (q : Position) (c : Content) → HasPassed (run (length t.input) q c t.ahead) span.start
 passed_before t span h q c = by (run (length t.input) q c t.ahead) refl

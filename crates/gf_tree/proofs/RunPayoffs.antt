@@ -1,4 +1,4 @@
--- Runs over the payoffs of an outcome in braces, where it is new and where it is known.
+-- Runs over the payoffs of an outcome in braces, for a new outcome and for a known one.
 use Rattle.std.proofs.Common.{◌≡◌, ℕ, zero, suc, Bool, true, false, List, [], ◌∷◌}
 use Rattle.std.proofs.Common.{◌++◌, length, Some, Result, Ok, Err, refl, sym, ap}
 use Rattle.std.proofs.Common.{subst, ◌∙◌, append_assoc, append-nil, inl, inr}
@@ -31,7 +31,7 @@ no_comma : (may : Bool) → MayBeComma may []
 no_comma true = inl refl
 no_comma false = refl
 
--- (number [Comma])* Closing rest, behind a comma if there may be one
+-- (number [Comma])* Closing rest, after a comma if there may be one
 pub record Numbers (may : Bool) (ts : List Token) (numbers : List Ratio)
     (rest : List Token) : Type 0 where
   pub comma : List Token

@@ -68,7 +68,7 @@ walk_fine (t ∷ ts) q c s fine e =
     let h = walked (step q c t) (λ x. walk x.position x.content ts) s e in
     walk_fine ts h.0.position h.0.content s (subst LeadsFine h.1 (keeps q c t fine)) h.2
 
--- what holds of each state that tokens lead to
+-- what holds for each state that tokens lead to
 pub leads_fine : (ts : List Token) (s : State) → Leads ts s → Fine s.position s.content
 leads_fine ts s h = walk_fine ts Format nothing s (tt, tt, tt) h
 

@@ -51,7 +51,7 @@ pub record ResultRead (ts : List Token) (b : Begun) (c r : Content) : Type 0 whe
   pub are : AreOutcomes (length c.players) outcomes
   pub goes_on : Reads NodeDue (with_node (with_outcomes c outcomes) b (key_of outcome)) rest r
 
--- ---- behind the number
+-- ---- after the number
 
 -- the description of an outcome, or none, and what follows
 record Behind (ts : List Token) (b : Begun) (n : ℕ) (c r : Content) : Type 0 where
@@ -85,7 +85,7 @@ known_opening_found : (ts : List Token) (ps : List Ratio) (c r : Content)
 known_opening_found (Opening ∷ rest) ps c r e = (rest, refl, e)
 known_opening_found _ ps c r e = absurd cc
 
--- a name, an opening brace, and numbers and the closing brace behind it
+-- a name, an opening brace, and numbers and the closing brace after it
 described : (ts t1 t2 rest : List Token) (name : List ℕ)
     (numbers : List Ratio) (h : Numbers false t2 numbers rest)
     → ts ≡ Text name ∷ t1 → t1 ≡ Opening ∷ t2

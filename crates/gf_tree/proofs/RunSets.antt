@@ -34,7 +34,7 @@ with_sets c sets = record c { sets = sets }
 abbrev pub AreSets : ℕ → List (Described SetKey InformationSet) → Type 0
 AreSets players sets = AllByRecursion (λ s. IsSet players s.key s.description) sets
 
--- ---- behind the number
+-- ---- after the number
 
 -- the description of a set, or none, and what follows
 record Behind (ts : List Token) (name : List ℕ) (player n : ℕ) (c r : Content) : Type 0 where
@@ -70,7 +70,7 @@ known_opening_found : (ts : List Token) (b : _) (actions : List Action) (c r : C
 known_opening_found (Opening ∷ rest) b actions c r e = (rest, refl, e)
 known_opening_found _ b actions c r e = absurd cc
 
--- a name, an opening brace, and actions and the closing brace behind it
+-- a name, an opening brace, and actions and the closing brace after it
 described : (ts t1 t2 inner rest : List Token) (label : List ℕ) → ts ≡ Text label ∷ t1
     → t1 ≡ Opening ∷ t2 → t2 ≡ inner ++ Closing ∷ rest → ts ≡ (Text label ∷ braced inner) ++ rest
 described ts t1 t2 inner rest label e f g =
@@ -225,7 +225,7 @@ set_found _ name player c r among are e = absurd cc
 some_is : (s t : InformationSet) (o : Option InformationSet) → o ≡ Some s → o ≡ Some t → s ≡ t
 some_is s t o h k = cc
 
--- behind the description stands the number of the outcome
+-- after the description stands the number of the outcome
 behind_again : (tokens rest : List Token) (t name : List ℕ) (u : Use SetKey InformationSet)
     (sets : List (Described SetKey InformationSet)) (set : InformationSet) (c : Content)
     → IsDescription (IsInformationSet u.key.player) tokens u.description

@@ -119,7 +119,7 @@ naturals z x y a b n some above e high =
     let parts : a * y + b * x ≤ x * y = le_of_mul-le-mul_right within some in
     le_of_mul-le-mul_right (let low : a * y ≤ x * y = omega (arith, parts) in low) above
 
--- a sum that a number not below zero leads to one at most is one at most
+-- a sum that a number not below zero leads to at most one is at most one
 pub sum_high : (sum p next : Ratio) → 0 < p.den → 0 < sum.den → pos 0 ≤ℤ p.num → AddsTo sum p next
     → next.num ≤ℤ pos next.den → sum.num ≤ℤ pos sum.den
 sum_high sum p next above some low adds high = by sum.num p.num next.num low high adds.2

@@ -1,4 +1,4 @@
--- The machine of the reader over lexemes: what it reads of bytes, and where it refuses them.
+-- The machine of the reader over lexemes: what it reads from bytes, and where it refuses them.
 use Rattle.std.proofs.Common.{◌≡◌, ◌↔◌, ℕ, Bool, true, false, cond, List, [], ◌∷◌}
 use Rattle.std.proofs.Common.{◌++◌, length, Result, Ok, Err, refl, ap, subst, ◌∙◌}
 use Rattle.gf_token.specs.Token.{Token, Lexeme}

@@ -29,7 +29,7 @@ module _ {A B : Type 0} (f : A → B) where
       let others = one_further xs ys k x y (omega (arith, h)) (omega (arith, n)) e rest in
       λ i. first i ∷ others i
 
-  -- one place more
+  -- one more place
   pub same_more : (xs ys : List A) (k : ℕ) (x y : A) → k < length xs → length xs ≡ length ys
       → x ≡ get_or xs k x → y ≡ get_or ys k y → f x ≡ f y
       → take k (map f xs) ≡ take k (map f ys) → take (k + 1) (map f xs) ≡ take (k + 1) (map f ys)

@@ -1,4 +1,4 @@
--- A list of tokens says one thing at most, node by node.
+-- A list of tokens says at most one thing, node by node.
 use Rattle.std.proofs.Common.{◌≡◌, ℕ, zero, suc, List, [], ◌∷◌, ◌++◌, length, map, drop}
 use Rattle.std.proofs.Common.{refl, sym, ap, subst, ◌∙◌, append_assoc, arith, inl, inr}
 use Rattle.std.specs.Prelude.{Option, Some, None, codes}

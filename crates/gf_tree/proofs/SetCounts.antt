@@ -1,4 +1,4 @@
--- How many actions each set has, as it is kept apart.
+-- How many actions each set has, as it is kept separately.
 use Rattle.std.proofs.Common.{◌≡◌, ℕ, zero, suc, ◌-◌, ◌<◌, ◌≤◌, List, [], ◌∷◌, ◌++◌, length, map}
 use Rattle.std.proofs.Common.{drop, Some, sym, ap, ◌∙◌, arith}
 use Rattle.std.specs.Prelude.{get_or, option_map, slice_get, slice_range}
@@ -48,7 +48,7 @@ is_counted entries actions from counts place n whole stretches each view within 
     ∙ counted actions from stretches.within entries place n stretches.ordered
     (is ∙ ap (λ (ns : List ℕ). get_or ns place n) each) (omega (arith, within, as_long))
 
--- one set more
+-- one more set
 pub counts_then : (entries stored : List Entry) (counts after : List ℕ) (new : Entry)
     → counts ≡ counts_of entries → stored ≡ entries ++ new ∷ [] → after ≡ counts ++ new.count ∷ []
     → after ≡ counts_of stored

@@ -50,7 +50,7 @@ is_among entries actions from place e whole numbered view within is =
     ap (λ (k : KnownSets). number_among k.known place) (sym view) ∙ ap (option_map count) there
     ∙ ap (λ (n : ℕ). Some n) same
 
--- one set more, with the next number of its player
+-- one more set, with the next number of its player
 module _ (entries : List Entry) (new : Entry) (numbered : AreNumbered entries)
     (next : new.among ≡ length (of_player new.player entries) + 1) where
   one_more : length (of_player new.player (entries ++ new ∷ [])) ≡ new.among

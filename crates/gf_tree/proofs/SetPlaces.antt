@@ -1,4 +1,4 @@
--- The places of a player's sets, and what they tell of the sets that are known.
+-- The places of a player's sets, and what they say about the sets that are known.
 use Rattle.std.proofs.Common.{◌≡◌, ℕ, ◌+◌, Bool, true, false, List, [], ◌∷◌, length, map, nat_eq}
 use Rattle.std.proofs.Common.{refl, sym, ap, ◌∙◌}
 use Rattle.std.specs.Prelude.{◌==◌, get_or, position}

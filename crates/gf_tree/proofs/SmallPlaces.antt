@@ -1,4 +1,4 @@
--- The places of small numbers, and of those behind them.
+-- The places of small numbers, and of those after them.
 use Rattle.std.proofs.Common.{◌≡◌, ℕ, ◌+◌, ◌<◌, Bool, true, false, List, [], ◌∷◌, ◌++◌, length}
 use Rattle.std.proofs.Common.{suc, Some, None, nat_eq, refl, sym, ap, ◌∙◌, arith}
 use Rattle.std.specs.Prelude.{get_or, slice_set, Option}
@@ -8,7 +8,7 @@ use Rattle.std.proofs.lemmas.List.{get_or-set_same, get_or-set_other, map-append
 use Rattle.gf_tree.specs.declared.small_numbers.Placed.{Placed}
 use Rattle.gf_tree.specs.inner.SmallNumbers.{AreFound, place_at, placed_pairs}
 
--- what is found among the first pairs is found, and else what is found behind them
+-- what is found among the first pairs is found, and else what is found after them
 pub found_before : (test : ℕ → Bool) (pairs more : List (ℕ × ℕ)) (place : ℕ)
     → lookup test pairs ≡ Some place → lookup test (pairs ++ more) ≡ Some place
 found_before test [] more place is = absurd cc

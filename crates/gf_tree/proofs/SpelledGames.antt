@@ -23,7 +23,7 @@ use Rattle.gf_tree.specs.Spellable.{IsSpellableOutcome, IsSpellable}
 use Rattle.gf_tree.proofs.Uses.{each, all_of_each, has}
 use Rattle.gf_tree.proofs.Games.{map_entry, flatten_map, is_game}
 
--- what holds of each group of spelled tokens
+-- what holds for each group of spelled tokens
 each_spelled : {A : Type 0} (P : List Token → A → Type 0) (Q : A → Type 0)
     → ((tokens : List Token) (x : A) → P tokens x → AllSpelled tokens → Q x)
     → (xs : List A) (tokens : List Token) → Each P tokens xs → AllSpelled tokens
@@ -49,7 +49,7 @@ mover_bound : (letter : List ℕ) (tokens : List Token) (player : ℕ) → IsMov
 mover_bound letter tokens zero h = omega arith
 mover_bound letter tokens (suc player) h = h.3.2
 
--- a set's description, or an outcome's, where there is one
+-- a set's description, or an outcome's, if there is one
 abbrev SetSpelled : Use SetKey InformationSet → Type 0
 SetSpelled u = MatchOption u.description (Unit {0})
     (λ d. IsSpellableSet (record { key = u.key; description = d }))

@@ -1,4 +1,4 @@
--- What is stored of sets, once one action more is pending.
+-- What is stored of sets, once one more action is pending.
 use Rattle.std.proofs.Common.{◌≡◌, ℕ, List, [], ◌∷◌, ◌++◌, map, drop, ap, ◌∙◌}
 use Rattle.std.proofs.lemmas.List.{drop-append-le, map-append}
 use Rattle.gf_token.specs.Label.{label_of}

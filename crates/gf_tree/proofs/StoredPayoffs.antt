@@ -1,4 +1,4 @@
--- What is stored of outcomes, once one payoff more is pending or one outcome more is complete.
+-- What is stored of outcomes, once one more payoff is pending or one more outcome is complete.
 use Rattle.std.proofs.Common.{◌≡◌, ℕ, ◌+◌, ◌<◌, ◌^◌, List, [], ◌∷◌, ◌++◌, length, map, drop, ap}
 use Rattle.std.proofs.Common.{◌∙◌, arith, length-append}
 use Rattle.std.proofs.lemmas.List.{drop-append-le}
@@ -41,7 +41,7 @@ module _ (ns : List (ℕ × ℕ)) (entries : List Entry) (payoffs : List Ratio) 
       ap (λ (xs : List Ratio). stored_outcomes entries xs from) is ∙ more
       ∙ ap (λ (k : KnownOutcomes). record k { pending = k.pending ++ payoff ∷ [] }) view
 
-  -- one outcome more, with the payoffs from here on
+  -- one more outcome, with the payoffs from here on
   module _ (new : Entry) (stored : List Entry) (is : stored ≡ entries ++ new ∷ []) (place last : ℕ)
       (at : place ≡ length entries) (all : last ≡ length payoffs)
       (starts : new.start ≡ from) (ends : end_of new ≡ last) where

@@ -1,4 +1,4 @@
--- Stretches of a list of items, where items or entries come behind.
+-- Stretches of a list of items, if items or entries are appended.
 use Rattle.std.proofs.Common.{◌≡◌, ℕ, ◌-◌, ◌≤◌, List, [], ◌∷◌, ◌++◌, length, map, take, drop, refl}
 use Rattle.std.proofs.Common.{sym, ap, ◌∙◌, arith}
 use Rattle.std.specs.Prelude.{slice_range}
@@ -64,7 +64,7 @@ module _ {E T : Type 0} (start end : E → ℕ) where
         (omega (arith, are.within), omega arith);
   }
 
-  -- items behind the stretches may go
+  -- items after the stretches may go
   until : (entries : List E) (items : List T) (from last : ℕ)
       → AreStretches start end entries items from → from ≤ last → last ≤ length items
       → AreStretches start end entries (take last items) from
@@ -82,7 +82,7 @@ module _ {E T : Type 0} (start end : E → ℕ) where
       (until entries items from last are behind within))
       ∙ ap (λ (xs : List T). map (made make xs) entries) (take-append-drop last items)
 
-  -- a stretch of the items so far becomes that of a new entry, and the items behind all go
+  -- a stretch of the items so far becomes that of a new entry, and all items after it go
   pub entry_within : (entries : List E) (items : List T) (from last : ℕ) (e : E)
       → AreStretches start end entries items from → from ≤ last → last ≤ length items
       → start e ≤ end e → end e ≤ last

@@ -18,13 +18,13 @@ size_of t = length (flatten t)
 abbrev pub counts_of : {N : Type 0} → List (Entry N) → List ℕ
 counts_of es = map (λ e. e.children) es
 
--- ---- a list behind its first part
+-- ---- a list after its first part
 
 drop_all : {X : Type 0} (xs ys : List X) → drop (length xs) (xs ++ ys) ≡ ys
 drop_all [] ys = refl
 drop_all (x ∷ xs) ys = drop_all xs ys
 
--- what stands behind the element at a place
+-- what comes after the element at a place
 pub drop_suc : {X : Type 0} (xs ys : List X) (at : ℕ) (x : X) → drop at xs ≡ x ∷ ys
     → drop (suc at) xs ≡ ys
 drop_suc [] ys zero x e = absurd cc
@@ -56,7 +56,7 @@ mutual
 abbrev sizes : {N : Type 0} → List (Tree N) → List ℕ
 sizes ss = map (λ s. length (flatten s)) ss
 
--- the subtrees behind those of a tree
+-- the subtrees after those of a tree
 behind_tree : {N : Type 0} (t : Tree N) (ss : List (Tree N))
     → drop (size_of t) (subtrees t ++ ss) ≡ ss
 behind_tree t ss = rw (← subtrees_counted t) (drop_all (subtrees t) ss)
@@ -100,7 +100,7 @@ skipped_all (more t ts) ss =
     ∙ ap (λ n. size_of t + n) (skipped_all ts ss)
     ∙ sym (length-append (flatten t) (flatten_all ts)))
 
--- behind the first n trees stands the next
+-- after the first n trees stands the next
 pub skips_to : {N : Type 0} (n : ℕ) (ts : Trees N) (ss : List (Tree N)) → n < count ts
     → slice_get (subtrees_all ts ++ ss) (skipped n (sizes (subtrees_all ts ++ ss)))
     ≡ slice_get (list_of ts) n
@@ -158,7 +158,7 @@ subtrees_join none us = refl
 subtrees_join (more t ts) us = ap (λ es. subtrees t ++ es) (subtrees_join ts us)
     ∙ sym (append_assoc (subtrees t) (subtrees_all ts) (subtrees_all us))
 
--- from this place on stands a tree, and other trees behind it
+-- from this place on stands a tree, and other trees after it
 pub record Stands {N : Type 0} (es : List (Entry N)) (ss : List (Tree N)) (at : ℕ) (n : N)
     (ts us : Trees N) : Type 0 where
   pub entries : drop at es ≡ flatten (branch n ts) ++ flatten_all us
@@ -241,7 +241,7 @@ skips_once (s ∷ xs) (suc at) left h =
       same = rw e (omega (arith, r.same));
     }
 
--- ---- the sizes behind a node begin with its children's
+-- ---- the sizes after a node begin with its children's
 
 pub begin_children : {N : Type 0} (ts us : Trees N)
     → Begin (count ts) (sizes_grown (counts_of (flatten_all ts ++ flatten_all us)))

@@ -1,4 +1,4 @@
--- What a reader has told of the nodes of a file, and that the machine goes on behind it.
+-- What a reader has told of the nodes of a file, and that the machine goes on after it.
 use Rattle.std.proofs.Common.{◌≡◌, ◌<◌, ◌≤◌, ◌+◌, ◌-◌, ℕ, List, [], ◌∷◌, ◌++◌, length, max}
 use Rattle.std.proofs.Common.{map, take, Option, Some, None, option_map, Result, Ok, Err}
 use Rattle.std.proofs.Common.{refl, sym, ap, subst, ◌∙◌, append_assoc, append-nil, arith}
@@ -78,7 +78,7 @@ module _ (sets more_sets : List (Described SetKey InformationSet))
       node_stays used_sets used_outcomes n h.0 i
       ∷ told_stays (max used_sets n.set) (max used_outcomes n.outcome) ns h.1 i
 
--- ---- one node more
+-- ---- one more node
 
 module _ (sets : List (Described SetKey InformationSet)) (outcomes : List (Described ℕ Outcome))
     (n : Kept) where
@@ -111,7 +111,7 @@ entries_more sets outcomes (m ∷ ms) n =
     ap (λ (es : List (Entry Node)). entry_with sets outcomes m ∷ es)
     (entries_more sets outcomes ms n)
 
--- ---- answers behind nodes
+-- ---- answers after nodes
 
 behind_both : (ns ms : List (Entry Node)) (a : Answer) → behind ns (behind ms a) ≡ behind (ns ++ ms) a
 behind_both ns ms a = ap (λ (m : Result Content Fault). record { input = a.input; machine = m })
@@ -122,7 +122,7 @@ behind_both ns ms a = ap (λ (m : Result Content Fault). record { input = a.inpu
         (sym (append_assoc ns ms c.nodes))
     by (Err fault) = refl
 
--- what is refused behind nodes is refused with them
+-- what is refused after nodes is refused with them
 pub fails_behind : {f : Fault} {a : Answer} (ns : List (Entry Node)) → Fails f a
     → Fails f (behind ns a)
 fails_behind {f} {a} ns (of_file e) = of_file (ap (with_nodes ns) e)
@@ -206,7 +206,7 @@ module _ {T : Type 0} {holds : T → T → Heading → List Told → Type 0} {be
         outcomes = subst (λ (k : KnownOutcomes). Grows old.outcomes.known k.known) (sym o) outcomes;
       }
 
-  -- the same where a description that is repeated comes behind it
+  -- the same where a description that is repeated comes after it
   pub tells_again : {A : Type 0} (q : Position) (old r m new : Reader) (node : Kept)
       (result : Result A Fault) → r.told_sets ≡ old.told_sets
       → r.told_outcomes ≡ old.told_outcomes → Grows old.sets.known r.sets.known

@@ -1,4 +1,4 @@
--- What a receiver holds behind the end of a file is the game that the file means.
+-- What a receiver holds after the end of a file is the game that the file means.
 use Rattle.std.proofs.Common.{◌≡◌, ℕ, List, [], length, Result, Ok, Err, refl, sym, ap, subst, ◌∙◌}
 use Rattle.std.specs.Prelude.{IfErr, MatchResult, OnOk}
 use Rattle.gf_token.specs.Place.{tokens_of}
@@ -24,7 +24,7 @@ use Rattle.gf_tree.proofs.RunSets.{AreSets}
 use Rattle.gf_tree.proofs.RunStops.{run_reads}
 use Rattle.gf_tree.proofs.ToldNodes.{told_of_file}
 
--- the reader has come behind the heading, and knows no set and no outcome
+-- the reader has passed the heading, and knows no set and no outcome
 pub record IsBehindHeading (bytes : List ℕ) (ls : List Lexeme) (r : Reader) : Type 0 where
   pub spelled : Spells 0 bytes ls
   pub goes : heard Format nothing (record { input = bytes; ahead = ls }) ≡ answer NodeDue r

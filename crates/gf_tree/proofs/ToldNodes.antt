@@ -1,5 +1,5 @@
--- What a reader tells of the nodes of a file are the nodes of the game by its first-use numbers, as
--- a file gives them.
+-- The nodes that a reader tells are those of the game by its first-use numbers, as a file gives
+-- them.
 use Rattle.std.proofs.Common.{◌≡◌, ℕ, zero, suc, ◌+◌, ◌<◌, ◌≤◌, List, [], ◌∷◌, ◌++◌, length, map}
 use Rattle.std.proofs.Common.{take, max, Option, None, Some, option_map, slice_get, nat_eq, refl}
 use Rattle.std.proofs.Common.{sym, ap, ◌∙◌, arith, append_assoc, append-nil, length-append}
@@ -54,7 +54,7 @@ taken_through : {A : Type 0} (front : List A) (x : A) (back : List A)
 taken_through [] x back = refl
 taken_through (y ∷ front) x back = ap (λ ys. y ∷ ys) (taken_through front x back)
 
--- an item with those before it, behind others
+-- an item with those before it, after others
 behind_front : {A B : Type 0} (f : List A → A → B) (front : List A) (x : A) (xs : List A)
     → map (λ p. f (front ++ p.0) p.1) (with_those_before (x ∷ xs))
     ≡ f front x ∷ map (λ p. f ((front ++ x ∷ []) ++ p.0) p.1) (with_those_before xs)
@@ -70,9 +70,9 @@ behind_front {A} {B} f front x xs =
     (λ p i. ap (λ ys. f ys p.1) (sym (append_assoc front (x ∷ []) p.0))) in
     λ i. first i ∷ others i
 
--- ---- the use at a position, behind other uses
+-- ---- the use at a position, after other uses
 
--- this use comes behind those before, and stands for the key at this position
+-- this use comes after those before, and stands for the key at this position
 record IsUse {K D : Type 0} (same : K → K → Bool) (known : List (Described K D))
     (before after : List K) (used : Option K) (position met : ℕ) : Type 0 where
   all : map (λ d. d.key) known ≡ first_uses same (before ++ cons_option used after)
@@ -197,7 +197,7 @@ module _ (g : Game) (game : IsGame g) where
     abbrev outcomes_in : List Kept → List ℕ
     outcomes_in ns = filter_map (λ e. e.node.outcome) (entries ns)
 
-    -- these nodes are told behind those in front
+    -- these nodes are told after those in front
     record IsFront (front ns : List Kept) (met_sets met_outcomes : ℕ) : Type 0 where
       parts : nodes ≡ front ++ ns
       sets : met_sets ≡ length (first_uses same_set (sets_in front))

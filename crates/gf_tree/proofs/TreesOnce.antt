@@ -1,4 +1,4 @@
--- Tokens mean one consistent file tree at most, and one game.
+-- Tokens mean at most one consistent file tree, and at most one game.
 use Rattle.std.proofs.Common.{◌≡◌, ℕ, ◌==◌, nat_eq, List, [], ◌∷◌, map, drop}
 use Rattle.std.proofs.Common.{Some, None, Option, refl, sym, ap, subst, ◌∙◌}
 use Rattle.std.specs.List.{AllByRecursion, filter_map, cons_option}

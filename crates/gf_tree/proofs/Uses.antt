@@ -39,7 +39,7 @@ mapped_from f [] y h = absurd h
 mapped_from f (x ∷ xs) y (inl e) = (x, inl refl, e)
 mapped_from f (x ∷ xs) y (inr h) = let m = mapped_from f xs y h in (m.0, inr m.1, m.2)
 
--- what holds of all holds of each
+-- what holds for all holds for each
 pub each : {X : Type 0} (P : X → Type 0) (xs : List X) (x : X) → AllByRecursion P xs → Has xs x
     → P x
 each P [] x all h = absurd h

@@ -1,4 +1,4 @@
--- Behind a heading, and behind a whole node, stand whole nodes alone.
+-- After a heading, and after a whole node, there are only whole nodes.
 use Rattle.std.proofs.Common.{◌≡◌, ℕ, ◌≤◌, List, [], ◌∷◌, ◌++◌, length, map, Some}
 use Rattle.std.proofs.Common.{None, refl, sym, ap, ◌∙◌, append_assoc, append-nil, arith, inl, inr}
 use Rattle.std.specs.Prelude.{codes, ◌⊎◌}
@@ -89,7 +89,7 @@ node_ends f n is =
       };
     }
 
--- behind the number of an outcome, without a description
+-- after the number of an outcome, without a description
 pub number_node : (f : FileFront) (n : ℕ) → BehindOutcomeNumber f.front n
     → (nodes : List FileNode) × EndsInNode f.before f.players nodes []
 number_node f n h =

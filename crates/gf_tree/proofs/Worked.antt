@@ -209,7 +209,7 @@ one_paid n name bytes r h k = record {
   );
 }
 
--- and so with a comma behind the number
+-- and so with a comma after the number
 abbrev pub one_paid_with_comma : (n : ℕ) (name bytes : List ℕ) (r : Ratio)
     → IsSmall n → IsNumber bytes r → SaidResult 1
 one_paid_with_comma n name bytes r h k = record {

@@ -1,4 +1,4 @@
--- Worked games: the machine of the reader reads their files to them, and each is computed.
+-- Worked games, each computed: the machine of the reader reads their files to them.
 use Rattle.std.proofs.Common.{◌≡◌, ℕ, List, length, Result, Ok, Err, refl}
 use Rattle.std.specs.Fmt.{digits}
 use Rattle.gf_fraction.specs.Computed.{gcd_within, lowest_of, number_of, sum_of}

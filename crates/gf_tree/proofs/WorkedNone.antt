@@ -1,4 +1,4 @@
--- Worked files that mean no game: the machine of the reader refuses them, and each is computed.
+-- Worked files that mean no game, each computed: the machine of the reader refuses them.
 use Rattle.std.proofs.Common.{◌≡◌, ℕ, List, length, Err, refl}
 use Rattle.std.specs.Fmt.{digits}
 use Rattle.gf_fraction.specs.Computed.{gcd_within, lowest_of, number_of, sum_of}

@@ -1,5 +1,5 @@
--- Worked files and fronts of files that are refused: the machine of the reader refuses them so, and
--- each is computed.
+-- Worked files and beginnings of files that are refused, each computed: the machine of the reader
+-- refuses them in this way.
 use Rattle.std.proofs.Common.{◌≡◌, ℕ, List, length, Err, refl}
 use Rattle.std.specs.Fmt.{digits}
 use Rattle.gf_fraction.specs.Computed.{gcd_within, lowest_of, number_of, sum_of}

@@ -39,7 +39,7 @@ use Rattle.gf_tree.proofs.WrittenTokens.{IsWhole, bytes_of, spell}
 
 -- ---- the descriptions of a game
 
--- the entry of a key that is used, and what holds of it
+-- the entry of a key that is used, and what holds for it
 entry_of : {K D : Type 0} (same : K → K → Bool)
     → IsEquality same → (ks : List K) (xs : List (Described K D))
     → map (λ s. s.key) xs ≡ first_uses same ks → (P : Described K D → Type 0) → AllByRecursion P xs

@@ -1,4 +1,4 @@
--- Bytes that spell given tokens: one space stands behind each.
+-- Bytes that spell given tokens: one space follows each.
 use Rattle.std.proofs.Common.{◌≡◌, ℕ, ◌+◌, List, [], ◌∷◌, ◌++◌, length}
 use Rattle.std.proofs.Common.{map, refl, ap, append_assoc, arith}
 use Rattle.std.specs.List.{AllByRecursion, flat_map}

@@ -1,16 +1,16 @@
--- Which file trees describe their sets and outcomes at first use, and never in two ways.
+-- Which file trees describe their sets and outcomes at first use, and never in two different ways.
 use Rattle.std.specs.Prelude.{◌≡◌, ℕ, List, ◌∷◌, ◌++◌, length, Some, MatchOption}
 use Rattle.std.specs.List.{AllByRecursion, Contains}
 use Rattle.gf_tree.specs.PrefixOrder.{Entry, flatten}
 use Rattle.gf_tree.specs.Description.{SetKey, InformationSet, Outcome, IsSet, IsOutcome}
 use Rattle.gf_tree.specs.FileTree.{Use, FileNode, FileTree, set_uses, outcome_uses}
 
--- a use describes its key so
+-- a use describes its key in this way
 abbrev pub Describes : {K D : Type 0} → List (Use K D) → K → D → Type 0
 Describes uses key description =
     Contains uses (record { key = key; description = Some description })
 
--- behind these uses, this one is the first of its key
+-- after these uses, this one is the first of its key
 abbrev pub IsFirstUse : {K D : Type 0} → List (Use K D) → Use K D → Type 0
 IsFirstUse before u = AllByRecursion (λ v. ¬ (v.key ≡ u.key)) before
 
@@ -24,13 +24,13 @@ pub record AreConsistent {K D : Type 0} (uses : List (Use K D)) : Type 0 where
       → IsFirstUse before u → IsDescribed u
   pub described_alike : (key : K) (c d : D) → Describes uses key c → Describes uses key d → c ≡ d
 
--- a terminal node has no children, and another as many as its set has actions
+-- a terminal node has no children, and any other node has as many as its set has actions
 abbrev pub HasChildrenAsDescribed : List (Use SetKey InformationSet) → Entry FileNode → Type 0
 HasChildrenAsDescribed uses e = MatchOption e.node.set (e.children ≡ 0)
     (λ u. (set : InformationSet) → Describes uses u.key set → length set.actions ≡ e.children)
 
--- the uses of sets are consistent and those of outcomes; each description is one of a set or an
--- outcome among these players; and each node has its children
+-- the uses of sets are consistent, and so are those of outcomes; each description is one of a set
+-- or an outcome among these players; and each node has its children
 pub record IsConsistent (f : FileTree) : Type 0 where
   pub sets : AreConsistent (set_uses (flatten f.tree))
   pub outcomes : AreConsistent (outcome_uses (flatten f.tree))

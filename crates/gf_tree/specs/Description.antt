@@ -30,32 +30,32 @@ set_of player number = record { player = player; number = number }
 abbrev pub same_set : SetKey → SetKey → Bool
 same_set a b = a.player == b.player && a.number == b.number
 
--- added to this sum in their order, probabilities have sums that fit, and the last sum is one; none
--- is negative
+-- if the probabilities are added to this sum in their order, each sum fits, and the last sum is
+-- one; no probability is negative
 abbrev pub AddToOne : Ratio → List Ratio → Type 0
 AddToOne sum [] = sum ≡ whole (pos 1)
 AddToOne sum (p ∷ ps) = (pos 0 ≤ℤ p.num) × ((next : Ratio) × AddsTo sum p next × AddToOne next ps)
 
--- each action has a probability, and they add to one
+-- each action has a probability, and these add up to one
 abbrev pub IsLottery : List Action → Type 0
 IsLottery actions =
     (probabilities : List Ratio) × (map (λ a. a.probability) actions ≡ map Some probabilities)
     × AddToOne (whole (pos 0)) probabilities
 
--- the actions of this player, who is chance if he is player 0
+-- the actions of this player; player 0 is chance
 abbrev pub AreActions : ℕ → List Action → Type 0
 AreActions zero actions = IsLottery actions
 AreActions (suc player) actions = AllByRecursion (λ a. a.probability ≡ None) actions
 
--- among so many players: a set of one of them or of chance, its number from 1, and with at least
--- one action
+-- among this many players: a set of one of them or of chance, with a number from 1 and at least one
+-- action
 pub record IsSet (players : ℕ) (key : SetKey) (set : InformationSet) : Type 0 where
   pub player : key.player ≤ players
   pub number : 0 < key.number
   pub some_action : 0 < length set.actions
   pub actions : AreActions key.player set.actions
 
--- an outcome, its number from 1, with a payoff for each player
+-- an outcome, with a number from 1 and a payoff for each player
 pub record IsOutcome (players : ℕ) (number : ℕ) (outcome : Outcome) : Type 0 where
   pub number_from_one : 0 < number
   pub one_payoff_each : length outcome.payoffs ≡ players

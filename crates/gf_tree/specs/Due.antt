@@ -1,4 +1,4 @@
--- What is due behind the front of an extensive file.
+-- What is due after the front of an extensive file.
 use Rattle.std.specs.Prelude.{◌≡◌, ℕ, ◌<◌, ◌⊎◌, List, [], ◌∷◌, codes, length, Option}
 use Rattle.gf_token.specs.Token.{Token}
 use Rattle.gf_token.specs.Token.Token.{Opening, Closing, Text, Bare}
@@ -14,7 +14,7 @@ use Rattle.gf_tree.specs.Front.{ToProbability, ToOutcomeNumber, InPayoffs, IsSet
 abbrev pub NodeIsDue : List Token → Type 0
 NodeIsDue before = MayFollow IsExtensiveFile before (Bare (codes "t"))
 
--- the number of a player, among so many
+-- the number of a player, among this many
 abbrev pub PlayerIsDue : List Token → ℕ → Type 0
 PlayerIsDue before count = (players : List (List ℕ)) × (nodes : List FileNode)
     × (front : List Token) × EndsInNode before players nodes front × (count ≡ length players)
@@ -25,7 +25,7 @@ abbrev pub SetIsDue : List Token → Type 0
 SetIsDue before = (players : List (List ℕ)) × (nodes : List FileNode) × (front : List Token)
     × (player : ℕ) × EndsInNode before players nodes front × ToSetNumber front player
 
--- the number of an outcome, behind a set that is known
+-- the number of an outcome, after a set that is known
 abbrev pub OutcomeIsDue : List Token → Type 0
 OutcomeIsDue before = (players : List (List ℕ)) × (nodes : List FileNode) × (front : List Token)
     × (set : Option (Use SetKey InformationSet)) × EndsInNode before players nodes front

@@ -1,4 +1,4 @@
--- What may follow where a bare token is due behind the front of an extensive file.
+-- What may follow if a bare token is due after the front of an extensive file.
 use Rattle.std.specs.Prelude.{◌≡◌, ℕ, ◌≤◌, pos, ◌≤ℤ◌, ◌⊎◌, ◌↔◌, List, codes}
 use Rattle.gf_fraction.specs.Ratio.{Ratio}
 use Rattle.gf_fraction.specs.Fits.{AddsTo}
@@ -13,9 +13,9 @@ use Rattle.gf_tree.specs.Front.{IsExtensiveFile}
 use Rattle.gf_tree.specs.Rows.{IsNodeLetter}
 use Rattle.gf_tree.specs.Sentence.{IsPositive}
 
--- what a bare token is in a file: one of its first three tokens, the letter of a node among so many
--- players, the number of one of so many players, of a set or of an outcome, a probability behind
--- others of this sum, a payoff, or a number that is given again
+-- what a bare token is in a file: one of its first three tokens, the letter of a node among this
+-- many players, the number of one of this many players, of a set or of an outcome, a probability
+-- after others of this sum, a payoff, or a number that is repeated
 pub data Role : Type 0 where
   Format : Role
   Version : Role
@@ -42,7 +42,7 @@ Suits (Probability sum) bytes = (p : Ratio) × (total : Ratio) × IsNumber bytes
 Suits Payoff bytes = (p : Ratio) × IsNumber bytes p
 Suits (KnownNumber p) bytes = IsNumber bytes p
 
--- what a refusal names where the role is due
+-- what a refusal names if the role is due
 abbrev pub what_of : Role → What
 what_of Format = what.Format
 what_of Version = what.Version
@@ -55,13 +55,12 @@ what_of (Probability sum) = what.Number
 what_of Payoff = what.Number
 what_of (KnownNumber p) = what.Number
 
--- just those bare tokens may follow that suit the role
+-- exactly those bare tokens may follow that suit the role
 abbrev pub OnlySuitedFollow : List Token → Role → Type 0
 OnlySuitedFollow before role =
     (bytes : List ℕ) → MayFollow IsExtensiveFile before (Bare bytes) ↔ Suits role bytes
 
--- bare tokens alone are what is due; texts and braces tell for themselves, and there are no
--- strategies
+-- what is due is a bare token; texts and braces need no role, and there are no strategies
 abbrev pub IsToldByRole : What → Type 0
 IsToldByRole what.Text = ⊥
 IsToldByRole what.Opening = ⊥

@@ -1,5 +1,5 @@
--- How a file gives the nodes of a game: each use of a set or an outcome is described exactly where
--- its key was not used before.
+-- How a file gives the nodes of a game: each use of a set or an outcome is described exactly if its
+-- key was not used before.
 use Rattle.std.specs.Prelude.{nat_eq, Bool, List, [], ◌∷◌, map, Option, None, option_map}
 use Rattle.std.specs.Prelude.{if◌then◌else◌}
 use Rattle.std.specs.List.{filter_map, list_any}
@@ -13,12 +13,12 @@ abbrev pub with_those_before : {A : Type 0} → List A → List (List A × A)
 with_those_before [] = []
 with_those_before (x ∷ xs) = ([], x) ∷ map (λ p. (x ∷ p.0, p.1)) (with_those_before xs)
 
--- a use of this key behind uses of those, described where it is the first
+-- a use of this key after uses of those, described if it is the first
 abbrev pub use_behind : {K D : Type 0} → (K → K → Bool) → (K → Option D) → List K → K → Use K D
 use_behind same description before key =
     record { key = key; description = if list_any (same key) before then None else description key }
 
--- a node behind those
+-- a node after those
 abbrev pub node_behind : Game → List (Entry Node) → Node → FileNode
 node_behind g before n = record {
   name = n.name;

@@ -5,7 +5,7 @@ use Rattle.gf_tree.specs.Tree.{Tree}
 use Rattle.gf_tree.specs.PrefixOrder.{Entry}
 use Rattle.gf_tree.specs.Description.{SetKey, InformationSet, Outcome}
 
--- a key as it stands in a file, with its description or without
+-- a key as it stands in a file, with its description or without it
 pub record Use (K D : Type 0) : Type 0 where
   pub key : K
   pub description : Option D

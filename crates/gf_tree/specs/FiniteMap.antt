@@ -6,7 +6,7 @@ pub record Described (K D : Type 0) : Type 0 where
   pub key : K
   pub description : D
 
--- the description of a key, where it has one
+-- the description of a key, if it has one
 abbrev pub description_at : {K D : Type 0} → (K → K → Bool) → List (Described K D) → K → Option D
 description_at same entries key =
     option_map (λ e. e.description) (find (λ e. same e.key key) entries)

@@ -20,7 +20,7 @@ first_use_number same uses key = length (first_uses same (through_first_use same
 abbrev pub sets_of : ℕ → List SetKey → List SetKey
 sets_of player uses = filter (λ key. key.player == player) uses
 
--- the number of each player's set, chance's too, among that player's sets, and that of each outcome
+-- the number of each set among the sets of its player, or of chance, and the number of each outcome
 abbrev pub first_use_numbers : Game → Renumbering
 first_use_numbers g = record {
   set = λ player number.

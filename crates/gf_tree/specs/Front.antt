@@ -1,5 +1,5 @@
--- The front of an extensive file: its heading, whole nodes one behind the other, and the front of
--- the next node. What is due behind it, and what is wrong there, is read off this shape.
+-- The front of an extensive file: its heading, whole nodes one after another, and the front of the
+-- next node. This shape shows what is due after it, and what is wrong there.
 use Rattle.std.specs.Prelude.{◌≡◌, ℕ, ◌⊎◌, List, [], ◌∷◌, ◌++◌}
 use Rattle.std.specs.Prelude.{codes, Option, Some, MatchOption}
 use Rattle.std.specs.List.{filter_map}
@@ -15,7 +15,7 @@ use Rattle.gf_tree.specs.Sentence.{IsAction, IsMover, IsPositive, IsStep, Says, 
 abbrev pub IsExtensiveFile : List Token → Type 0
 IsExtensiveFile tokens = (f : FileTree) × Sentence tokens f × IsConsistent f
 
--- a heading and whole nodes, and behind them these tokens of the next node
+-- a heading and whole nodes, followed by these tokens of the next node
 pub record EndsInNode (before : List Token) (players : List (List ℕ)) (nodes : List FileNode)
     (front : List Token) : Type 0 where
   pub title : List ℕ
@@ -26,7 +26,7 @@ pub record EndsInNode (before : List Token) (players : List (List ℕ)) (nodes :
 
 -- ---- how far a node has come
 
--- its letter, its name and, where a player moves, his number; the set's number is next
+-- its letter, its name and, if a player moves, his number; the set's number is next
 abbrev pub ToSetNumber : List Token → ℕ → Type 0
 ToSetNumber front player = (letter : List ℕ) × (name : List ℕ) × (mover : List Token)
     × (front ≡ Bare letter ∷ Text name ∷ mover) × IsMover letter mover player
@@ -35,36 +35,39 @@ ToSetNumber front player = (letter : List ℕ) × (name : List ℕ) × (mover : 
 abbrev pub ToPlayerNumber : List Token → Type 0
 ToPlayerNumber front = (name : List ℕ) × (front ≡ Bare (codes "p") ∷ Text name ∷ [])
 
--- the set's number too; its name is next, or the number of the outcome
+-- everything through the set's number; its name is next, or the number of the outcome
 abbrev pub BehindSetNumber : List Token → SetKey → Type 0
 BehindSetNumber front key = (to_set : List Token) × (number : List ℕ)
     × (front ≡ to_set ++ Bare number ∷ []) × ToSetNumber to_set key.player
     × IsPositive number key.number
 
--- the set's name too and, in braces, these actions; an action's label is next, or the closing brace
+-- everything through the set's name and, in braces, these actions; an action's label is next, or
+-- the closing brace
 abbrev pub InActions : List Token → SetKey → InformationSet → Type 0
 InActions front key set = (behind : List Token) × (inner : List Token)
     × (front ≡ behind ++ Text set.name ∷ Opening ∷ inner) × BehindSetNumber behind key
     × Each (IsAction key.player) inner set.actions
 
--- behind these actions of a set of chance another label; its probability is next
+-- after these actions of a set of chance, another label; its probability is next
 abbrev pub ToProbability : List Token → ℕ → InformationSet → Type 0
 ToProbability front number set = (actions : List Token) × (label : List ℕ)
     × (front ≡ actions ++ Text label ∷ []) × InActions actions (set_of 0 number) set
 
--- all that stands before the number of the outcome
+-- everything before the number of the outcome
 abbrev pub ToOutcomeNumber : List Token → Option (Use SetKey InformationSet) → Type 0
 ToOutcomeNumber front set = (letter : List ℕ) × (name : List ℕ) × (step : List Token)
     × (front ≡ Bare letter ∷ Text name ∷ step) × IsStep letter step set
 
--- the number of an outcome too, other than 0; its name is next, or what follows the node
+-- everything through the number of an outcome other than 0; its name is next, or what follows the
+-- node
 abbrev pub BehindOutcomeNumber : List Token → ℕ → Type 0
 BehindOutcomeNumber front number =
     (to_outcome : List Token) × (set : Option (Use SetKey InformationSet)) × (bytes : List ℕ)
     × (front ≡ to_outcome ++ Bare bytes ∷ []) × ToOutcomeNumber to_outcome set
     × IsPositive bytes number
 
--- the outcome's name too and, in braces, these payoffs; a payoff is next, or the closing brace
+-- everything through the outcome's name and, in braces, these payoffs; a payoff is next, or the
+-- closing brace
 abbrev pub InPayoffs : List Token → ℕ → Outcome → Type 0
 InPayoffs front number outcome = (behind : List Token) × (inner : List Token)
     × (front ≡ behind ++ Text outcome.name ∷ Opening ∷ inner) × BehindOutcomeNumber behind number
@@ -72,11 +75,11 @@ InPayoffs front number outcome = (behind : List Token) × (inner : List Token)
 
 -- ---- what is known
 
--- a whole description of the set stands in these nodes
+-- these nodes contain a whole description of the set
 abbrev pub KnowsSet : List FileNode → SetKey → InformationSet → Type 0
 KnowsSet nodes key set = Describes (filter_map (λ n. n.set) nodes) key set
 
--- none does
+-- these nodes contain none
 abbrev pub IsNewSet : List FileNode → SetKey → Type 0
 IsNewSet nodes key = (set : InformationSet) → ¬ (KnowsSet nodes key set)
 
@@ -86,7 +89,7 @@ KnowsOutcome nodes number outcome = Describes (filter_map (λ n. n.outcome) node
 abbrev pub IsNewOutcome : List FileNode → ℕ → Type 0
 IsNewOutcome nodes number = (outcome : Outcome) → ¬ (KnowsOutcome nodes number outcome)
 
--- the node describes its set, or these nodes do; a terminal node has none
+-- the node describes its set, or these nodes do; a terminal node has no set
 abbrev pub IsSetKnown : List FileNode → Option (Use SetKey InformationSet) → Type 0
 IsSetKnown nodes set = MatchOption set (Unit {0}) (λ u.
     ((d : InformationSet) × (u.description ≡ Some d))

@@ -14,7 +14,7 @@ pub record Node : Type 0 where
   pub outcome : Option ℕ
 
 -- `sets` and `outcomes` are the finite maps from the keys in the tree to their descriptions. Their
--- entries stand in order of first use, so that there is one list for each map.
+-- entries are in order of first use, so each map has only one list.
 pub record Game : Type 0 where
   pub title : List ℕ
   pub comment : List ℕ
@@ -36,13 +36,14 @@ set_at g key = description_at same_set g.sets key
 abbrev pub outcome_at : Game → ℕ → Option Outcome
 outcome_at g number = description_at nat_eq g.outcomes number
 
--- a terminal node has no children, and another as many as its set has actions
+-- a terminal node has no children, and any other node has as many as its set has actions
 abbrev pub HasChildren : Game → Entry Node → Type 0
 HasChildren g e = MatchOption e.node.set (e.children ≡ 0)
     (λ key. option_map (λ set. length set.actions) (set_at g key) ≡ Some e.children)
 
--- each key in the tree has one entry, and no other has one; the entries describe sets and outcomes;
--- and each node has its children. That a file can hold its labels and numbers, `IsSpellable` says.
+-- each key in the tree has one entry, and no other key has one; the entries describe sets and
+-- outcomes; and each node has its children. `IsSpellable` says that a file can hold its labels and
+-- numbers.
 pub record IsGame (g : Game) : Type 0 where
   pub one_entry_each_set : map (λ s. s.key) g.sets ≡ first_uses same_set (used_sets g.tree)
   pub one_entry_each_outcome : map (λ o. o.key) g.outcomes

@@ -1,4 +1,4 @@
--- Games as data: a tree is told by its flat list.
+-- Games as data: a tree is given by its flat list.
 use Rattle.std.specs.Prelude.{ℕ, ℤ, List, [], None, Option, refl}
 use Rattle.std.specs.Coded.{Coded, code_by, coded×, coded_ℕ, coded_ℤ, coded_list, coded_option}
 use Rattle.gf_fraction.specs.Ratio.{Ratio}
@@ -55,7 +55,7 @@ abbrev tree_code : Coded (Tree Node)
 tree_code = code_by (List (Entry Node)) (coded_list entry_code)
     flatten (λ es. root no_node (grow es)) (root_grows_again no_node)
 
--- what a game has beside its tree
+-- what a game has besides its tree
 abbrev Others : Type 0
 Others = List (Described SetKey InformationSet) × List (Described ℕ Outcome)
 

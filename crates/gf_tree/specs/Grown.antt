@@ -21,7 +21,7 @@ abbrev pub grow : {N : Type 0} → List (Entry N) → Trees N
 grow [] = none
 grow (e ∷ es) = more (branch e.node (first e.children (grow es))) (others e.children (grow es))
 
--- the first tree, or a node alone where there is none
+-- the first tree, or a single node if there is none
 abbrev pub root : {N : Type 0} → N → Trees N → Tree N
 root n none = branch n none
 root n (more t ts) = t

@@ -7,7 +7,7 @@ use Rattle.gf_tree.specs.Tree.Trees.{none, more}
 use Rattle.gf_tree.specs.PrefixOrder.{Entry, flatten, flatten_all}
 use Rattle.gf_tree.specs.Grown.{first, others, grow, root}
 
--- these trees, and those behind them
+-- these trees, and those after them
 abbrev pub join : {N : Type 0} → Trees N → Trees N → Trees N
 join none us = us
 join (more t ts) us = more t (join ts us)

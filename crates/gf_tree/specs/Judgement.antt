@@ -15,8 +15,8 @@ pub record IsRefusal (why : Why) (bytes : List ℕ) (span : Span) : Type 0 where
   pub place : IsOffendingPlace IsExtensiveFile bytes span
   pub reason : IsReason why (tokens_of place.before) (tokens_of place.after)
 
--- A refusal, by its reason. Memory is wanted only where there is nothing to refuse; three reasons
--- are of strategic files and of programs, and never of an extensive file.
+-- A refusal, by its reason. Memory is refused only at a place with nothing else to refuse; three
+-- reasons belong to strategic files and to programs, and never to an extensive file.
 abbrev pub IsJudged : Why → List ℕ → Span → Type 0
 IsJudged Memory bytes span = IsAcceptedThrough IsExtensiveFile bytes span
 IsJudged TooLong bytes span = ⊥
@@ -24,11 +24,11 @@ IsJudged UnknownOutcome bytes span = ⊥
 IsJudged TooManyProfiles bytes span = ⊥
 IsJudged why bytes span = IsRefusal why bytes span
 
--- a refusal for another cause than want of memory
+-- a refusal for another reason than lack of memory
 abbrev pub IsRefused : Why → List ℕ → Span → Type 0
 IsRefused why bytes span = ¬ (why ≡ Memory) × IsJudged why bytes span
 
--- this game, or want of memory
+-- this game, or out of memory
 abbrev pub IsReadAs : Result Game Fault → Game → Type 0
 IsReadAs (Ok read) g = read ≡ g
 IsReadAs (Err fault) g = fault.why ≡ Memory

@@ -13,7 +13,7 @@ use Rattle.gf_tree.specs.GameCode.{no_node}
 use Rattle.gf_tree.specs.declared.kept.Stored.{Stored}
 
 -- Its name, and the positions of its set and of its outcome among those that are known, from 1, or
--- 0 where it has none.
+-- 0 if it has none.
 pub record Kept : Type 0 where
   pub name : List ℕ
   pub set : ℕ
@@ -30,7 +30,7 @@ abbrev pub position_of : Option ℕ → ℕ
 position_of None = 0
 position_of (Some place) = suc place
 
--- how many children a node has whose set has this position
+-- how many children a node has if its set has this position
 abbrev pub actions_counted : Option (Described SetKey InformationSet) → ℕ
 actions_counted None = 0
 actions_counted (Some s) = length s.description.actions
@@ -67,7 +67,7 @@ abbrev pub tree_with
     : List (Described SetKey InformationSet) → List (Described ℕ Outcome) → List Kept → Tree Node
 tree_with sets outcomes nodes = root no_node (grow (entries_with sets outcomes nodes))
 
--- its set and its outcome are among so many
+-- its set and its outcome are among this many
 pub record IsPlaced (sets outcomes : ℕ) (n : Kept) : Type 0 where
   pub set : n.set ≤ sets
   pub outcome : n.outcome ≤ outcomes

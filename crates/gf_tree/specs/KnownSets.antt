@@ -22,7 +22,7 @@ number_among known place =
     option_map (λ s. length (known_of s.key.player (take (place + 1) known)))
     (slice_get known place)
 
--- with one action more of the set whose description is being read
+-- with one more action of the set whose description is being read
 abbrev pub with_action : KnownSets → List ℕ → Option Ratio → KnownSets
 with_action k label probability = record k {
   pending = k.pending ++ record { label = label; probability = probability } ∷ [];

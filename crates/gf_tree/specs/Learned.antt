@@ -10,7 +10,7 @@ use Rattle.gf_tree.specs.Game.{Game, HasChildren}
 use Rattle.gf_tree.specs.GameOf.{KeepsTree}
 
 -- From what is known already, the uses lead to what is known in the end. The use of a key that is
--- not known describes it; another has no description, or the one that is known.
+-- not known describes it; any other use has no description, or the known one.
 abbrev pub Learns : {K D : Type 0}
     → (K → K → Bool) → List (Described K D) → List (Use K D) → List (Described K D) → Type 0
 Learns same known [] end = end ≡ known

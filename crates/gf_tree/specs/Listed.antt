@@ -7,13 +7,13 @@ use Rattle.gf_tree.specs.FirstUse.{outcome_numbers, player_keys}
 use Rattle.gf_tree.specs.Game.{Game}
 use Rattle.gf_tree.specs.Renumbering.{Renumbering}
 
--- the number that stands where the key stands among the keys
+-- the number at the same place as the key among the keys
 abbrev pub number_listed : {K : Type 0} → (K → K → Bool) → List K → List ℕ → K → ℕ
 number_listed same [] ns key = 0
 number_listed same (k ∷ ks) [] key = 0
 number_listed same (k ∷ ks) (n ∷ ns) key = if same k key then n else number_listed same ks ns key
 
--- positive numbers, none of them twice
+-- positive numbers, none of them repeated
 abbrev pub AreNumbers : List ℕ → Type 0
 AreNumbers [] = Unit {0}
 AreNumbers (n ∷ ns) = (0 < n) × (Contains ns n → ⊥) × AreNumbers ns

@@ -5,8 +5,8 @@ use Rattle.gf_tree.specs.Description.{SetKey}
 use Rattle.gf_tree.specs.FirstUse.{player_keys}
 use Rattle.gf_tree.specs.Game.{Game}
 
--- the owner of the set, chance being player 0, and its position, from 1, among his sets in order of
--- first use; none where there is no set
+-- the owner of the set, where chance is player 0, and its position, from 1, among his sets in order
+-- of first use; none if there is no set
 abbrev pub IsMover : Game → Option SetKey → Option (ℕ × ℕ) → Type 0
 IsMover g set mover = MatchOption mover (set ≡ None) (λ m. (key : SetKey) × (set ≡ Some key)
     × (key.player ≡ m.0) × (at_position (player_keys g m.0) m.1 ≡ Some key))

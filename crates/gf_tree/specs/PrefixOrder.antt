@@ -18,7 +18,7 @@ abbrev mutual
   flatten_all none = []
   flatten_all (more t ts) = flatten t ++ flatten_all ts
 
--- where so many subtrees are due, the entries are those of these subtrees and no more
+-- if this many subtrees are due, the entries are those of these subtrees and no more
 abbrev pub Fills : {N : Type 0} → ℕ → List (Entry N) → Type 0
 Fills zero [] = Unit {0}
 Fills zero (e ∷ es) = ⊥

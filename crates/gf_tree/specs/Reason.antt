@@ -27,21 +27,21 @@ use Rattle.gf_tree.specs.Due.{ProbabilityIsDue, PayoffIsDue, IsDue}
 
 -- ---- numbers and indices
 
--- a payoff or a probability is due, and the bytes are no number for this cause
+-- a payoff or a probability is due, and the bytes are not a number, for this reason
 abbrev pub IsNoNumber : List Token → List ℕ → NumberFault → Type 0
 IsNoNumber before bytes fault =
     (ProbabilityIsDue before ⊎ PayoffIsDue before) × HasNumberFault bytes fault
 
--- the number of a player or a set is due, and the bytes are no index above 0; or that of an outcome
--- is, and they are no index
+-- the number of a player or a set is due, and the bytes are not an index above 0; or the number of
+-- an outcome is due, and they are not an index
 abbrev pub IsBadIndex : List Token → List ℕ → Type 0
 IsBadIndex before bytes =
     ((((count : ℕ) × PlayerIsDue before count) ⊎ SetIsDue before)
     × ((n : ℕ) → ¬ (IsPositive bytes n)))
     ⊎ (OutcomeIsDue before × ((n : ℕ) → ¬ (IsIndex bytes n)))
 
--- a player's number is due, and the bytes are one above the number of players; or a node is due,
--- and a player is to move where there are none
+-- a player's number is due, and the bytes are an index above the number of players; or a node is
+-- due, and a player is to move although there are none
 abbrev pub IsUnknownPlayer : List Token → List ℕ → Type 0
 IsUnknownPlayer before bytes =
     ((count : ℕ) × (n : ℕ) × PlayerIsDue before count × IsIndex bytes n × (count < n))
@@ -50,19 +50,19 @@ IsUnknownPlayer before bytes =
 
 -- ---- descriptions
 
--- the number of a set or an outcome stands before, in its first use
+-- the number of a set or an outcome comes before, in its first use
 abbrev pub EndsInFirstUse : List Token → Type 0
 EndsInFirstUse before = (players : List (List ℕ)) × (nodes : List FileNode) × (front : List Token)
     × EndsInNode before players nodes front
     × (((key : SetKey) × BehindSetNumber front key × IsNewSet nodes key)
     ⊎ ((number : ℕ) × BehindOutcomeNumber front number × IsNewOutcome nodes number))
 
--- behind these actions of a known set another one stands
+-- after these actions of a known set comes another one
 abbrev pub GoesOnWith : InformationSet → InformationSet → Action → Type 0
 GoesOnWith known seen next =
     (others : List Action) × (known.actions ≡ seen.actions ++ next ∷ others)
 
--- a known set has another name, another action or no more actions
+-- a known set has a different name, a different action, or no more actions
 abbrev pub DiffersFromSet : List FileNode → List Token → Token → Type 0
 DiffersFromSet nodes front (Text label) = (key : SetKey) × (known : InformationSet)
     × KnowsSet nodes key known
@@ -78,7 +78,7 @@ DiffersFromSet nodes front (Bare bytes) = (n : ℕ) × (known : InformationSet)
     × IsNumber bytes p × (next.probability ≢ Some p)
 DiffersFromSet nodes front _ = ⊥
 
--- a known outcome has another name or another payoff
+-- a known outcome has a different name or a different payoff
 abbrev pub DiffersFromOutcome : List FileNode → List Token → Token → Type 0
 DiffersFromOutcome nodes front (Text label) = (n : ℕ) × (known : Outcome)
     × KnowsOutcome nodes n known × BehindOutcomeNumber front n × (label ≢ known.name)
@@ -96,7 +96,7 @@ IsMismatch before token = (players : List (List ℕ)) × (nodes : List FileNode)
 
 -- ---- probabilities
 
--- the sum of probabilities in their order, each of whose sums fits
+-- the sum of probabilities in their order, if each sum on the way fits
 abbrev pub AddsUp : Ratio → List Ratio → Ratio → Type 0
 AddsUp sum [] total = sum ≡ total
 AddsUp sum (p ∷ ps) total =
@@ -108,14 +108,14 @@ HasSum set sum = (probabilities : List Ratio)
     × (map (λ a. a.probability) set.actions ≡ map Some probabilities)
     × AddsUp (whole (pos 0)) probabilities sum
 
--- The probability of another action of a new set of chance is due, behind actions of this sum.
+-- The probability of another action of a new set of chance is due, after actions of this sum.
 abbrev pub NewProbabilityIsDue : List Token → Ratio → Type 0
 NewProbabilityIsDue before sum =
     (players : List (List ℕ)) × (nodes : List FileNode) × (front : List Token)
     × (number : ℕ) × (set : InformationSet) × EndsInNode before players nodes front
     × ToProbability front number set × IsNewSet nodes (set_of 0 number) × HasSum set sum
 
--- what makes this probability wrong, behind probabilities of this sum
+-- what makes this probability wrong, after probabilities of this sum
 abbrev pub IsWrongBehind : Why → Ratio → Ratio → Type 0
 IsWrongBehind NegativeProbability sum p = p.num <ℤ pos 0
 IsWrongBehind SumAboveOne sum p =
@@ -137,7 +137,7 @@ ListsActions before key set = (players : List (List ℕ)) × (nodes : List FileN
     × (front : List Token) × EndsInNode before players nodes front × InActions front key set
     × IsNewSet nodes key
 
--- the list of a set of chance has actions, which add to less than one
+-- the list of a set of chance has actions, whose probabilities add up to less than one
 abbrev pub StaysBelowOne : List Token → Type 0
 StaysBelowOne before = (number : ℕ) × (set : InformationSet) × (sum : Ratio)
     × ListsActions before (set_of 0 number) set × (0 < length set.actions) × HasSum set sum
@@ -150,7 +150,8 @@ ListsNothing before = (key : SetKey) × (name : List ℕ)
 
 -- ---- the codes
 
--- where each code but E3 and E9 applies, by the tokens before a place and the one that stands there
+-- when each code except E3 and E9 applies, by the tokens before a place and the one that stands
+-- there
 abbrev pub Applies : Why → List Token → Token → Type 0
 Applies Unterminated before Broken = Unit {0}
 Applies NotANumber before (Bare bytes) = IsNoNumber before bytes number.NotANumber
@@ -172,7 +173,7 @@ abbrev pub IsNoText : List Token → Type 0
 IsNoText (Text label ∷ after) = ⊥
 IsNoText _ = Unit {0}
 
--- The same by the tokens before a place and those from there on. At the end a description may be
+-- The same, by the tokens before a place and those from there on. At the end, a description may be
 -- missing, and no other code applies.
 abbrev pub Holds : Why → List Token → List Token → Type 0
 Holds NotDescribed before after = EndsInFirstUse before × IsNoText after

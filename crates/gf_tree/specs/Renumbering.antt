@@ -5,20 +5,20 @@ use Rattle.gf_tree.specs.Tree.{map_tree}
 use Rattle.gf_tree.specs.Description.{SetKey, set_of}
 use Rattle.gf_tree.specs.Game.{Node, Game, used_sets, used_outcomes}
 
--- The new number of each player's set, chance being player 0, and that of each outcome. The null
--- outcome is no outcome of a node, and so it stays as it is.
+-- The new number of each player's set, where chance is player 0, and that of each outcome. The null
+-- outcome is not an outcome of a node, so it stays as it is.
 pub record Renumbering : Type 0 where
   pub set : ℕ → ℕ → ℕ
   pub outcome : ℕ → ℕ
 
--- the player has a set with this number, and the game an outcome
+-- the player has a set with this number, and the game has an outcome with it
 abbrev pub HasSet : Game → ℕ → ℕ → Type 0
 HasSet g player number = Contains (used_sets g.tree) (set_of player number)
 
 abbrev pub HasOutcome : Game → ℕ → Type 0
 HasOutcome g number = Contains (used_outcomes g.tree) number
 
--- The new numbers are positive, and no two sets of one player get the same number, nor do two
+-- The new numbers are positive, and no two sets of a player get the same number, nor do two
 -- outcomes. Only the game's own sets and outcomes count.
 pub record IsRenumbering (g : Game) (r : Renumbering) : Type 0 where
   pub positive_sets : (player number : ℕ) → HasSet g player number → 0 < r.set player number

@@ -19,22 +19,22 @@ abbrev pub ToTitle : List Token → Type 0
 ToTitle before = (letter : List ℕ) × ((letter ≡ codes "R") ⊎ (letter ≡ codes "D"))
     × (before ≡ Bare (codes "EFG") ∷ Bare (codes "2") ∷ Bare letter ∷ [])
 
--- the title too
+-- the same, and the title
 abbrev pub ToPlayers : List Token → Type 0
 ToPlayers before = (first : List Token) × (title : List ℕ) × ToTitle first
     × (before ≡ first ++ Text title ∷ [])
 
--- the opening brace too, and these players
+-- the same, the opening brace, and these players
 abbrev pub InPlayers : List Token → List (List ℕ) → Type 0
 InPlayers before players = (first : List Token) × ToPlayers first
     × (before ≡ first ++ Opening ∷ map Text players)
 
--- the closing brace too
+-- the same, and the closing brace
 abbrev pub BehindPlayers : List Token → List (List ℕ) → Type 0
 BehindPlayers before players = (first : List Token) × InPlayers first players
     × (before ≡ first ++ Closing ∷ [])
 
--- the comment too
+-- the same, and the comment
 abbrev pub BehindComment : List Token → List (List ℕ) → Type 0
 BehindComment before players = (first : List Token) × (comment : List ℕ)
     × BehindPlayers first players × (before ≡ first ++ Text comment ∷ [])
@@ -59,7 +59,7 @@ abbrev pub BehindSetName : List Token → SetKey → Type 0
 BehindSetName front key = (first : List Token) × (name : List ℕ) × BehindSetNumber first key
     × (front ≡ first ++ Text name ∷ [])
 
--- a node without a set, or behind the description of its set
+-- a node without a set, or after the description of its set
 abbrev pub BehindSet : List Token → Type 0
 BehindSet front = (set : Option (Use SetKey InformationSet)) × ToOutcomeNumber front set
     × MatchOption set (Unit {0}) (λ u. (d : InformationSet) × (u.description ≡ Some d))
@@ -82,7 +82,7 @@ abbrev pub BehindOpening : List Token → ℕ → Type 0
 BehindOpening front number = (first : List Token) × BehindOutcomeName first number
     × (front ≡ first ++ Opening ∷ [])
 
--- these payoffs, and no comma behind the last
+-- these payoffs, with no comma after the last
 abbrev pub BehindPayoff : List Token → ℕ → List Ratio → Type 0
 BehindPayoff front number payoffs = (first : List Token) × (seen : Outcome) × (bytes : List ℕ)
     × (p : Ratio) × InPayoffs first number seen × IsNumber bytes p
@@ -98,7 +98,7 @@ abbrev pub ToPayoff : List Token → ℕ → List Ratio → Type 0
 ToPayoff front number payoffs =
     (BehindOpening front number × (payoffs ≡ [])) ⊎ BehindComma front number payoffs
 
--- the description of an outcome, whole
+-- the whole description of an outcome
 abbrev pub BehindPayoffs : List Token → Type 0
 BehindPayoffs front = (first : List Token) × (number : ℕ) × (outcome : Outcome)
     × InPayoffs first number outcome × (front ≡ first ++ Closing ∷ [])

@@ -1,5 +1,5 @@
--- The table of positions of extensive files: what each of its rows accepts, and why it refuses all
--- else.
+-- The table of positions of extensive files: what each of its rows accepts, and why it refuses
+-- everything else.
 use Rattle.std.specs.Prelude.{◌≡◌, ◌≢◌, ◌↔◌, ℕ, ◌<◌, ◌≤◌, pos, ◌≤ℤ◌, ◌⊎◌, List, [], ◌∷◌}
 use Rattle.std.specs.Prelude.{codes, length}
 use Rattle.gf_fraction.specs.Ratio.{Ratio, whole}
@@ -22,8 +22,8 @@ use Rattle.gf_tree.specs.Front.{IsExtensiveFile}
 use Rattle.gf_tree.specs.Reason.{IsReason, IsWrongBehind}
 use Rattle.gf_tree.specs.Sentence.{IsPositive}
 
--- which tokens a row accepts, and whether the end; why it refuses other texts, other bare tokens and
--- another closing brace; and why all else, the end too
+-- which tokens a row accepts, and whether it accepts the end; why it refuses other texts, other
+-- bare tokens and another closing brace; and why it refuses everything else, the end included
 pub record Row : Type 1 where
   pub opening : Type 0
   pub closing : Type 0
@@ -60,8 +60,8 @@ abbrev pub Refuses : Row → List Token → Why → Type 0
 Refuses row [] why = why ≡ row.otherwise
 Refuses row (token ∷ after) why = RefusesFor row token why
 
--- Behind these tokens some file goes on with just what the row accepts, and all else is refused as
--- the row says.
+-- After these tokens, some file goes on with exactly what the row accepts, and everything else is
+-- refused as the row says.
 pub record Obeys (before : List Token) (row : Row) : Type 0 where
   pub accepts :
       (after : List Token) → IsAccepted IsExtensiveFile before after ↔ Accepts row after
@@ -99,7 +99,7 @@ a_text = record (none (Expected what.Text)) { text = λ label. Always }
 abbrev pub an_end : Row
 an_end = record (none (Expected what.End)) { end = Always }
 
--- this bare token alone
+-- only this bare token
 abbrev pub a_word : What → List ℕ → Row
 a_word w word = record (none (Expected w)) { bare = λ bytes. bytes ≡ word }
 
@@ -110,7 +110,7 @@ or_comma row = record row { comma = Always }
 abbrev pub or_text : Row → Row
 or_text row = record row { text = λ label. Always }
 
--- or this text; another one differs from the first description
+-- or this text; any other differs from the first description
 abbrev pub or_name : List ℕ → Row → Row
 or_name name row = record row { text = λ label. label ≡ name; other_text = Mismatch }
 
@@ -126,7 +126,7 @@ a_player_name = record a_text { closing = Always }
 
 -- ---- nodes, and numbers of players, sets and outcomes
 
--- the letter of a node, among so many players
+-- the letter of a node, among this many players
 abbrev pub IsNodeLetter : ℕ → List ℕ → Type 0
 IsNodeLetter players bytes =
     (bytes ≡ codes "c") ⊎ ((bytes ≡ codes "t") ⊎ ((bytes ≡ codes "p") × (0 < players)))
@@ -163,14 +163,14 @@ an_outcome = record (none (Expected what.Index)) {
 abbrev pub a_first_name : Row
 a_first_name = or_text (none NotDescribed)
 
--- in the list of a new set of a player, behind these actions
+-- in the list of a new set of a player, after these actions
 abbrev pub a_new_action : List Action → Row
 a_new_action actions = record a_text {
   closing = 0 < length actions;
   other_closing = λ why. why ≡ NoEntry;
 }
 
--- in that of a new set of chance, behind these actions, which have this sum
+-- in the list of a new set of chance, after these actions, which have this sum
 abbrev pub a_new_branch : List Action → Ratio → Row
 a_new_branch actions sum = record a_text {
   closing = (0 < length actions) × (sum ≡ whole (pos 1));
@@ -178,11 +178,11 @@ a_new_branch actions sum = record a_text {
       ⊎ ((why ≡ SumBelowOne) × (0 < length actions));
 }
 
--- the bytes are no number for this reason
+-- the bytes are not a number, for this reason
 abbrev pub IsNoNumber : List ℕ → Why → Type 0
 IsNoNumber bytes why = (fault : NumberFault) × (why ≡ why_of fault) × HasNumberFault bytes fault
 
--- a probability behind this sum
+-- a probability after this sum
 abbrev pub a_probability : Ratio → Row
 a_probability sum = record (none (Expected what.Number)) {
   bare = λ bytes. (p : Ratio) × (total : Ratio) × IsNumber bytes p × (pos 0 ≤ℤ p.num)
@@ -197,7 +197,7 @@ a_payoff = record (none (Expected what.Number)) {
   other_bare = IsNoNumber;
 }
 
--- a number of this value; one of another value differs from the first description
+-- a number of this value; one of any other value differs from the first description
 abbrev pub this_number : Ratio → Row
 this_number p = record (none (Expected what.Number)) {
   bare = λ bytes. IsNumber bytes p;
@@ -214,6 +214,6 @@ a_known_action =
 abbrev pub this_label : List ℕ → Row
 this_label label = or_name label a_known_action
 
--- behind its last action
+-- after its last action
 abbrev pub no_label : Row
 no_label = record a_closing { other_text = Mismatch }

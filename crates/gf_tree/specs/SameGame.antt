@@ -1,4 +1,4 @@
--- Which games are the same but for their numbers.
+-- Which games are the same except for their numbers.
 use Rattle.std.specs.Prelude.{◌≡◌, ℕ}
 use Rattle.gf_tree.specs.Tree.{map_tree}
 use Rattle.gf_tree.specs.Description.{SetKey}
@@ -7,7 +7,7 @@ use Rattle.gf_tree.specs.Renumbering.{Renumbering, IsRenumbering, HasSet}
 use Rattle.gf_tree.specs.Renumbering.{HasOutcome, renumbered_node, renumbered_set}
 
 -- Title, comment and players are equal. The tree of h is that of g, node by node, with the new
--- numbers in place of the old. A set of g has the description of the set of h by its new number,
+-- numbers in place of the old. A set of g has the description of the set of h with its new number,
 -- and so has an outcome.
 pub record Carries (r : Renumbering) (g h : Game) : Type 0 where
   pub renumbering : IsRenumbering g r

@@ -20,7 +20,7 @@ abbrev pub IsDescription : {D : Type 0} → (List Token → D → Type 0) → Li
 IsDescription P tokens None = tokens ≡ []
 IsDescription P tokens (Some d) = P tokens d
 
--- Text number, where chance moves, and Text, where a player does
+-- Text number if chance moves, and Text if a player moves
 abbrev pub IsAction : ℕ → List Token → Action → Type 0
 IsAction zero tokens a = (bytes : List ℕ) × (p : Ratio) × (tokens ≡ Text a.label ∷ Bare bytes ∷ [])
     × IsNumber bytes p × (a.probability ≡ Some p)
@@ -31,13 +31,13 @@ abbrev pub IsInformationSet : ℕ → List Token → InformationSet → Type 0
 IsInformationSet player tokens set = (inner : List Token) × (tokens ≡ Text set.name ∷ braced inner)
     × Each (IsAction player) inner set.actions
 
--- chance moves at `c`, and another player at `p`, which has his number behind the node's name
+-- chance moves at `c`, and another player at `p`, which has his number after the node's name
 abbrev pub IsMover : List ℕ → List Token → ℕ → Type 0
 IsMover letter tokens zero = (letter ≡ codes "c") × (tokens ≡ [])
 IsMover letter tokens (suc player) = (bytes : List ℕ) × (letter ≡ codes "p")
     × (tokens ≡ Bare bytes ∷ []) × IsIndex bytes (suc player)
 
--- nothing at `t`; else the player, and the number and the description of his set
+-- nothing at `t`; otherwise the player, and the number and the description of his set
 abbrev pub IsStep : List ℕ → List Token → Option (Use SetKey InformationSet) → Type 0
 IsStep letter tokens None = (letter ≡ codes "t") × (tokens ≡ [])
 IsStep letter tokens (Some u) =
@@ -52,7 +52,7 @@ IsOutcomeDescription players tokens outcome =
     (inner : List Token) × (tokens ≡ Text outcome.name ∷ braced inner)
     × Each IsPayoffInBraces inner outcome.payoffs × (length outcome.payoffs ≡ players)
 
--- the number 0 alone; else the number and the description of the outcome
+-- only the number 0; otherwise the number and the description of the outcome
 abbrev pub IsResult : ℕ → List Token → Option (Use ℕ Outcome) → Type 0
 IsResult players tokens None = (bytes : List ℕ) × (tokens ≡ Bare bytes ∷ []) × IsIndex bytes 0
 IsResult players tokens (Some u) =
@@ -69,7 +69,7 @@ pub record IsNode (players : ℕ) (tokens : List Token) (n : FileNode) : Type 0 
   pub is_step : IsStep letter step n.set
   pub is_result : IsResult players result n.outcome
 
--- `EFG` `2` letter Text players [Text] node*: a heading, and whole nodes one behind the other
+-- `EFG` `2` letter Text players [Text] node*: a heading, and whole nodes one after another
 pub record Says (title note : List ℕ) (players : List (List ℕ)) (said : List FileNode)
     (tokens : List Token) : Type 0 where
   pub letter : List ℕ

@@ -1,5 +1,5 @@
--- The rows of the table of positions of extensive files, by what stands before them: which one the
--- tokens at the front of a file stand before.
+-- The rows of the table of positions of extensive files, by what stands before them: before which
+-- row the first tokens of a file stand.
 use Rattle.std.specs.Prelude.{◌≡◌, ◌<◌, ◌⊎◌, ℕ, List, [], ◌∷◌, ◌++◌, codes, length, Some}
 use Rattle.gf_fraction.specs.Ratio.{Ratio}
 use Rattle.gf_token.specs.Token.{Token}

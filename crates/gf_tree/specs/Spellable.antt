@@ -22,8 +22,8 @@ pub record IsSpellableOutcome (o : Described ℕ Outcome) : Type 0 where
   pub name : IsLabel o.description.name
   pub payoffs : AllByRecursion IsFraction o.description.payoffs
 
--- its labels are spellings of labels, its probabilities and payoffs fractions, and its numbers
--- indices
+-- its labels are spellings of labels, its probabilities and payoffs are fractions, and its numbers
+-- are indices
 pub record IsSpellable (g : Game) : Type 0 where
   pub title : IsLabel g.title
   pub comment : IsLabel g.comment

@@ -1,4 +1,4 @@
--- What a reader tells of a file: its heading, then its nodes one behind the other in prefix order.
+-- What a reader tells of a file: its heading, and then its nodes one after another in prefix order.
 use Rattle.std.specs.Prelude.{ℕ, suc, ◌==◌, max, List, [], ◌∷◌, length, take, Some, None, Option}
 use Rattle.std.specs.Prelude.{option_map, if◌then◌else◌, map}
 use Rattle.gf_token.specs.Label.{label_of}
@@ -12,7 +12,7 @@ use Rattle.gf_tree.specs.KnownSets.{known_of}
 use Rattle.gf_tree.specs.declared.receive.ToldHeading.{ToldHeading}
 use Rattle.gf_tree.specs.declared.node_by_first_use.NodeByFirstUse.{NodeByFirstUse}
 
--- All that stands before the nodes. Labels are lists of bytes.
+-- Everything before the nodes. Labels are lists of bytes.
 pub record Heading : Type 0 where
   pub title : List ℕ
   pub comment : List ℕ
@@ -28,8 +28,8 @@ heading_of h = record {
 abbrev pub heading_in : Game → Heading
 heading_in g = record { title = g.title; comment = g.comment; players = g.players }
 
--- A node by first-use numbers, which describes a set and an outcome where it is their first use;
--- and the positions of its set and of its outcome in order of first use, or 0 where it has none.
+-- A node by first-use numbers, which describes a set or an outcome if it is its first use; and the
+-- positions of its set and of its outcome in order of first use, or 0 if it has none.
 pub record Told : Type 0 where
   pub node : FileNode
   pub set : ℕ
@@ -38,7 +38,7 @@ pub record Told : Type 0 where
 abbrev pub kept_as : Told → Kept
 kept_as t = record { name = t.node.name; set = t.set; outcome = t.outcome }
 
--- what is described where the position is the next one behind so many
+-- what is described if the position is the next one after this many
 abbrev pub if_next : {D : Type 0} → ℕ → ℕ → D → Option D
 if_next known position d = if position == suc known then Some d else None
 
@@ -57,7 +57,7 @@ told_outcome outcomes known position = option_map (λ o. record {
   description = if_next known position o.description;
 }) (at_position outcomes position)
 
--- where so many sets and outcomes were used before it
+-- if this many sets and outcomes were used before it
 abbrev pub told_node : List (Described SetKey InformationSet) → List (Described ℕ Outcome)
     → ℕ → ℕ → Kept → Told
 told_node sets outcomes known_sets known_outcomes n = record {
@@ -84,7 +84,7 @@ told_from sets outcomes known_sets known_outcomes (n ∷ ns) =
     told_node sets outcomes known_sets known_outcomes n
     ∷ told_from sets outcomes (max known_sets n.set) (max known_outcomes n.outcome) ns
 
--- so many positions are used at these nodes, as each is first used in its turn
+-- this many positions are used at these nodes, and each is first used in its turn
 abbrev pub used_sets_from : ℕ → List Kept → ℕ
 used_sets_from known [] = known
 used_sets_from known (n ∷ ns) = used_sets_from (max known n.set) ns

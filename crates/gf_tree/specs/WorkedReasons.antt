@@ -1,4 +1,4 @@
--- Fronts of files that are refused: where, and for which reason. WorkedTrees has whole
+-- The first tokens of files that are refused: where, and for which reason. WorkedTrees has whole
 -- files.
 use Rattle.std.specs.Prelude.{ℕ, List, ◌++◌, codes}
 use Rattle.gf_token.specs.declared.fault.Span.{Span}
@@ -12,11 +12,11 @@ span_of start end = record { start = start; end = end }
 abbrev pub lottery : List ℕ → List ℕ
 lottery more = codes "EFG 2 R \"c\" { } c \"\" 1 \"n\" { \"a\" " ++ more
 
--- two of them make 6/5
+-- two of them add up to 6/5
 abbrev pub above_one_front : List ℕ
 above_one_front = lottery (codes "0.6 \"b\" 0.6 } 0")
 
--- three thirds to six places make 999,999/1,000,000
+-- three thirds, to six places, add up to 999,999/1,000,000
 abbrev pub below_one_front : List ℕ
 below_one_front = lottery (codes "0.333333 \"b\" 0.333333 \"d\" 0.333333 } 0")
 
@@ -32,7 +32,7 @@ no_number_front = lottery (codes "x } 0")
 
 -- ---- what differs from a first description
 
--- a set of two actions, up to the second action where it is described again
+-- a set of two actions, up to the second action when it is described again
 abbrev pub repeated : List ℕ → List ℕ
 repeated more =
     codes
@@ -67,7 +67,7 @@ outcome_plus_one_front = codes "EFG 2 R \"m\" { \"A\" } t \"\" +1"
 abbrev pub no_denominator_front : List ℕ
 no_denominator_front = codes "EFG 2 R \"m\" { \"A\" } t \"\" 1 \"x\" { 1/0 }"
 
--- an outcome that pays 5, up to its number where it is used again
+-- an outcome that pays 5, up to its number when it is used again
 abbrev pub paid_again : List ℕ → List ℕ
 paid_again more =
     codes
@@ -80,7 +80,7 @@ other_name_front = paid_again (codes "\"y\" { 5 }")
 abbrev pub other_payoff_front : List ℕ
 other_payoff_front = paid_again (codes "\"x\" { 6 }")
 
--- a probability of 0 that is 1/2 where it is given again
+-- a probability of 0 that is 1/2 when it is repeated
 abbrev pub other_probability_front : List ℕ
 other_probability_front =
     codes "EFG 2 R \"m\" { } c \"\" 1 \"n\" { \"h\" 1 \"t\" 0 } 0 t \"\" 0 "

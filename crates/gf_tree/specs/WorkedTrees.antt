@@ -73,7 +73,7 @@ five = game (codes "five")
     ∷ described (set_of 1 3) (choice (codes "j") (codes "R" ∷ [])) ∷ [])
     (described 4 (paying (codes "w") (record { num = pos 1; den = 10 })) ∷ [])
 
--- the set of chance is described again with its probabilities in other spellings
+-- the set of chance is described again with different spellings of its probabilities
 abbrev pub five_file : List ℕ
 five_file =
     codes "EFG 2 R \"five\" { \"A\" }\nc \"\" 9 \"n\" { \"h\" 0.5 \"t\" 1/2 } 0\n"
@@ -121,7 +121,7 @@ forgetful_file =
     ++ codes " p \"\" 1 2 \"j\" { \"c\" \"d\" } 0 t \"\" 0 t \"\" 0 p \"\" 1 2 0 t \"\" 0"
     ++ codes " t \"\" 0"
 
--- ---- a comment, the letter `D`, a comma behind the last payoff, and an outcome that is described
+-- ---- a comment, the letter `D`, a comma after the last payoff, and an outcome that is described
 -- twice
 
 abbrev pub noted : Game
@@ -145,7 +145,7 @@ noted_file =
 abbrev pub undescribed_file : List ℕ
 undescribed_file = codes "EFG 2 R \"m\" { \"A\" } p \"\" 1 1 0 t \"\" 0"
 
--- a set that is described again with another action
+-- a set that is described again with a different action
 abbrev pub mismatched_file : List ℕ
 mismatched_file = codes
     "EFG 2 R \"m\" { \"A\" } p \"\" 1 1 \"i\" { \"L\" } 0 p \"\" 1 1 \"i\" { \"X\" } 0 t \"\" 0"
@@ -154,7 +154,7 @@ mismatched_file = codes
 abbrev pub unknown_player_file : List ℕ
 unknown_player_file = codes "EFG 2 R \"m\" { \"A\" } p \"\" 2 1 \"i\" { \"L\" } 0 t \"\" 0"
 
--- probabilities that add to more than one
+-- probabilities that add up to more than one
 abbrev pub too_likely_file : List ℕ
 too_likely_file =
     codes "EFG 2 R \"m\" { \"A\" } c \"\" 1 \"n\" { \"h\" 0.6 \"t\" 0.6 } 0 t \"\" 0 t \"\" 0"
@@ -179,11 +179,12 @@ more_actions_file =
 abbrev pub unpaid_file : List ℕ
 unpaid_file = codes "EFG 2 R \"\" { } t \"\" 5"
 
--- a player's move where there are no players
+-- a player's move although there are no players
 abbrev pub nobody_file : List ℕ
 nobody_file = codes "EFG 2 R \"\" { } p \"\" 1 1 \"i\" { \"L\" } 0 t \"\" 0"
 
--- a probability below zero, probabilities that add to less than one, and two whose sum does not fit
+-- a probability below zero, probabilities that add up to less than one, and two whose sum does not
+-- fit
 abbrev pub negative_file : List ℕ
 negative_file =
     codes "EFG 2 R \"m\" { \"A\" } c \"\" 1 \"n\" { \"h\" -1/2 \"t\" 3/2 } 0 t \"\" 0 t \"\" 0"

@@ -6,14 +6,14 @@ ghost use Rattle.gf_tree.specs.Actions.{action_of, actions_of};
 use gf_fraction::Fraction;
 use gf_token::Label;
 
-/// An action of an information set: its label, and where chance moves its probability.
+/// An action of an information set: its label, and its probability if chance moves.
 #[derive(Clone, Copy, PartialEq)]
 pub struct Action<'a> {
     pub label: Label<'a>,
     pub probability: Option<Fraction>,
 }
 
-/// Whether two probabilities are the same, or both are not there.
+/// Whether two probabilities are the same, or both are absent.
 #[inline(always)]
 fn same_probability(a: &Option<Fraction>, b: &Option<Fraction>) -> bool
     ensures { IsTrue result ↔ (a.now ≡ b.now) }

@@ -1,4 +1,4 @@
-//! Descriptions that are repeated: they are read against the first ones.
+//! Descriptions that are repeated: they are compared with the first ones while they are read.
 
 ghost use Rattle.std.specs.Prelude.{◌≡◌, ◌≤◌, ◌∷◌, [], ℕ, List, length, OnOk};
 ghost use Rattle.gf_fraction.specs.Ratio.{Ratio};
@@ -16,7 +16,7 @@ use crate::action::Action;
 use gf_fraction::Fraction;
 use gf_token::{Fault, Label, Tokens, What, Why};
 
-/// Reads a number that is to have this value.
+/// Reads a number that has to have this value.
 fn same_probability(tokens: &mut Tokens<'_>, probability: Fraction) -> Result<(), Fault>
     ensures machine { (c : Content) (b : Begun) (others : List spec_action)
         → Goes (heard (KnownProbability b probability others) c tokens.old) result
@@ -75,7 +75,7 @@ fn same_actions_end(tokens: &mut Tokens<'_>) -> Result<(), Fault>
     }
 }
 
-/// Reads the actions of a set that is known, behind its name.
+/// Reads the actions of a set that is known, after its name.
 #[inline(never)]
 fn same_actions<'a>(tokens: &mut Tokens<'a>, actions: &[Action<'a>]) -> Result<(), Fault>
     ensures machine { (c : Content) (b : Begun)
@@ -138,7 +138,7 @@ fn same_payoff(tokens: &mut Tokens<'_>, payoff: Fraction) -> Result<(), Fault>
     }
 }
 
-/// Reads the payoffs of an outcome that is known, behind its name.
+/// Reads the payoffs of an outcome that is known, after its name.
 fn same_payoffs(tokens: &mut Tokens<'_>, payoffs: &[Fraction]) -> Result<(), Fault>
     ensures machine { (c : Content)
         → Goes (heard (KnownOutcomeOpening payoffs.now) c tokens.old) result

@@ -62,7 +62,7 @@ impl<'g, 'a> Branch<'g, 'a> {
         game.child_count(self.at)
     }
 
-    /// The branch of a child, by its position from 1. `None` where there is no such child.
+    /// The branch of a child, by its position from 1. `None` if there is no such child.
     pub fn child(&self, i: usize) -> Option<Branch<'g, 'a>>
         ensures tree { option_map tree_of result ≡ at_position (child_trees (tree_of self.now)) i }
         ensures game { IfSome result (λ b. game_of b ≡ game_of self.now) }
@@ -86,8 +86,8 @@ impl<'g, 'a> Branch<'g, 'a> {
     }
 
     /// Who moves at its root: a player, counted from 1, or chance, which is player 0; and the
-    /// position of the set, from 1, among his sets in order of first use. `None` where the game
-    /// ends.
+    /// position of the set, from 1, among his sets in order of first use. `None` if the game ends
+    /// here.
     pub fn mover(&self) -> Option<(u32, u32)>
         ensures mover { IsMover (game_of self.now) (root_node (tree_of self.now)).set result }
         ensures is_game { IsGame (game_of self.now) }
@@ -96,7 +96,7 @@ impl<'g, 'a> Branch<'g, 'a> {
         game.mover(self.at)
     }
 
-    /// The actions at its root, from the first to the last; none where the game ends.
+    /// The actions at its root, from the first to the last; none if the game ends here.
     pub fn actions(&self) -> &'g [Action<'a>]
         ensures { MatchOption (root_node (tree_of self.now)).set (actions_of result.now ≡ [])
             (λ key. option_map (λ set. set.actions) (set_at (game_of self.now) key)
@@ -107,7 +107,7 @@ impl<'g, 'a> Branch<'g, 'a> {
     }
 
     /// The position of its root's outcome, from 1, among the outcomes in order of first use, or 0
-    /// where it has none.
+    /// if it has none.
     pub fn outcome_position(&self) -> u32
         ensures { result ≡ position_among (outcome_numbers (game_of self.now))
             (root_node (tree_of self.now)).outcome }

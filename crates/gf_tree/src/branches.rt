@@ -24,7 +24,7 @@ pub struct Branches<'g, 'a> {
 impl<'g, 'a> Branches<'g, 'a> {
     ghost use Rattle.gf_tree.specs.BranchesLeft.{branches_given, branches_left, game_of_branches};
 
-    /// Those below the node at this place.
+    /// The branches below the node at this place.
     pub(crate) fn below(game: &'g Game<'a>, at: usize) -> Branches<'g, 'a>
         requires { at < length (subtrees game.now.tree) }
         ensures game { game_of_branches result ≡ game.entry.now }

@@ -4,7 +4,7 @@ use crate::action::Action;
 use gf_fraction::Fraction;
 use gf_token::Label;
 
-/// A node as a file gives it: its name, the use of a set, or `None` where the game ends, and the
+/// A node as a file gives it: its name; the use of a set, or `None` if the game ends here; and the
 /// use of an outcome, or `None` for outcome 0.
 #[derive(Clone, Copy)]
 pub struct FileNode<'n, 'a> {
@@ -13,7 +13,7 @@ pub struct FileNode<'n, 'a> {
     pub outcome: Option<OutcomeUse<'n, 'a>>,
 }
 
-/// A use of a player's set, chance being player 0, with the description where the file gives it.
+/// A use of a player's set, where chance is player 0, with the description if the file gives it.
 #[derive(Clone, Copy)]
 pub struct SetUse<'n, 'a> {
     pub player: u32,
@@ -28,7 +28,7 @@ pub struct SetDescription<'n, 'a> {
     pub actions: &'n [Action<'a>],
 }
 
-/// A use of an outcome, with the description where the file gives it.
+/// A use of an outcome, with the description if the file gives it.
 #[derive(Clone, Copy)]
 pub struct OutcomeUse<'n, 'a> {
     pub number: u32,

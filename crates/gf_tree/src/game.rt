@@ -75,7 +75,7 @@ impl<'a> Model for Game<'a> {
 }
 
 impl<'a> Game<'a> {
-    /// The game of these parts. The caller sees to it that the nodes fill one tree.
+    /// The game of these parts. The caller has to ensure that the nodes fill one tree.
     pub(crate) fn new(
         title: Label<'a>,
         comment: Label<'a>,
@@ -111,7 +111,7 @@ impl<'a> Game<'a> {
         self.title
     }
 
-    /// The comment, which is empty where the file has none.
+    /// The comment, which is empty if the file has none.
     pub fn comment(&self) -> Label<'a>
         ensures { label_of result ≡ self.now.comment }
     {
@@ -120,8 +120,9 @@ impl<'a> Game<'a> {
 
     /// The names of the players, from the first to the last.
     ///
-    /// The other clauses hold of each game: each key in its tree has its description, and each node
-    /// as many children as its set has actions; and a file can hold its labels and numbers.
+    /// The other clauses hold for each game: each key in its tree has its description, and each
+    /// node has as many children as its set has actions; and a file can hold its labels and
+    /// numbers.
     pub fn players(&self) -> &[Label<'a>]
         ensures names { map label_of result.now ≡ self.now.players }
         ensures is_game { IsGame self.now }
@@ -132,7 +133,7 @@ impl<'a> Game<'a> {
 
     /// The title, the comment and the players.
     ///
-    /// The other clauses hold of each game, as those of `players` do.
+    /// The other clauses hold for each game, as those of `players` do.
     pub fn heading(&self) -> ToldHeading<'_, 'a>
         ensures heading { heading_of result ≡ heading_in self.now }
         ensures is_game { IsGame self.now }
@@ -145,7 +146,7 @@ impl<'a> Game<'a> {
         }
     }
 
-    /// The name and the actions of a player's set, chance being player 0. `None` where there is no
+    /// The name and the actions of a player's set, where chance is player 0. `None` if there is no
     /// such set.
     pub fn infoset(&self, player: u32, number: u32) -> Option<(Label<'a>, &[Action<'a>])>
         ensures { option_map (λ p. set_with (label_of p.0) (actions_of p.1.now)) result
@@ -157,8 +158,8 @@ impl<'a> Game<'a> {
         }
     }
 
-    /// The name of an outcome and its payoffs, one for each player. `None` where there is no such
-    /// outcome, and so at 0.
+    /// The name of an outcome and its payoffs, one for each player. `None` if there is no such
+    /// outcome, and for 0.
     pub fn outcome(&self, number: u32) -> Option<(Label<'a>, &[Fraction])>
         ensures { option_map (λ p. outcome_with (label_of p.0) p.1.now) result
             ≡ outcome_at self.now number }
@@ -169,7 +170,7 @@ impl<'a> Game<'a> {
         }
     }
 
-    /// How many sets a player has, chance being player 0; 0 where there is no such player.
+    /// How many sets a player has, where chance is player 0; 0 if there is no such player.
     pub fn set_count(&self, player: u32) -> usize
         ensures count { result ≡ length (player_keys self.now player) }
         ensures few { result < 2 ^ 32 }
@@ -180,7 +181,7 @@ impl<'a> Game<'a> {
     }
 
     /// The number of a player's set, by its position from 1 among his sets in order of first use.
-    /// `None` where there is no such set.
+    /// `None` if there is no such set.
     pub fn set_number(&self, player: u32, i: usize) -> Option<u32>
         ensures { result
             ≡ at_position (map (λ key. key.number) (player_keys self.now player)) i }
@@ -188,7 +189,7 @@ impl<'a> Game<'a> {
         self.sets.number(player, i)
     }
 
-    /// How many outcomes there are. 0 is none.
+    /// How many outcomes there are. Outcome 0 does not count.
     pub fn outcome_count(&self) -> usize
         ensures count { result ≡ length (outcome_numbers self.now) }
         ensures few { result < 2 ^ 32 }
@@ -197,7 +198,7 @@ impl<'a> Game<'a> {
     }
 
     /// The number of an outcome, by its position from 1 among the outcomes in order of first use.
-    /// `None` where there is no such outcome.
+    /// `None` if there is no such outcome.
     pub fn outcome_number(&self, i: usize) -> Option<u32>
         ensures { result ≡ at_position (outcome_numbers self.now) i }
     {
@@ -267,7 +268,7 @@ impl<'a> Game<'a> {
         at + 1
     }
 
-    /// The place behind the subtree of the node at this place.
+    /// The place after the subtree of the node at this place.
     pub(crate) fn place_behind(&self, at: usize) -> usize
         requires { at < length (subtrees self.now.tree) }
         ensures { result ≡ at + skipped 1 (drop at (subtree_sizes self.now.tree)) }
@@ -275,8 +276,8 @@ impl<'a> Game<'a> {
         skip(&self.nodes, at, 1)
     }
 
-    /// Who moves at the node at this place, chance being player 0, and the position of its set,
-    /// from 1, among his sets in order of first use. `None` where the game ends.
+    /// Who moves at the node at this place, where chance is player 0, and the position of its set,
+    /// from 1, among his sets in order of first use. `None` if the game ends here.
     pub(crate) fn mover(&self, at: usize) -> Option<(u32, u32)>
         requires { at < length (subtrees self.now.tree) }
         ensures mover { IsMover self.now (root_node (subtree_at self.now.tree at)).set result }
@@ -291,7 +292,7 @@ impl<'a> Game<'a> {
         Some((player, self.sets.first_use_number(place)))
     }
 
-    /// The actions at the node at this place; none where the game ends.
+    /// The actions at the node at this place; none if the game ends there.
     pub(crate) fn actions(&self, at: usize) -> &[Action<'a>]
         requires { at < length (subtrees self.now.tree) }
         ensures { MatchOption (root_node (subtree_at self.now.tree at)).set (actions_of result.now ≡ [])
@@ -306,7 +307,7 @@ impl<'a> Game<'a> {
     }
 
     /// The position of the outcome of the node at this place among the outcomes in order of first
-    /// use, from 1, or 0 where it has none.
+    /// use, from 1, or 0 if it has none.
     pub(crate) fn outcome_position(&self, at: usize) -> u32
         requires { at < length (subtrees self.now.tree) }
         ensures { result ≡ position_among (outcome_numbers self.now)

@@ -2,13 +2,13 @@
 
 use crate::seeded::Seeded;
 
-/// For how many bytes of the input there is room for one number in the tables, beside that for
-/// small numbers.
+/// For this many bytes of the input there is room for one number in the tables, in addition to the
+/// room for small numbers.
 const BYTES_FOR_NUMBER: usize = 8;
 
-/// What room the tables of an input's numbers have, and what makes the hashers of its maps.
+/// The room that the tables of an input's numbers have, and what makes the hashers of its maps.
 ///
-/// The input is hashed where the first map is made: most files need none.
+/// The input is hashed when the first map is made: most files need none.
 #[derive(Clone, Copy)]
 pub(crate) struct Indexing<'a> {
     input: &'a [u8],
@@ -26,7 +26,7 @@ impl<'a> Indexing<'a> {
         }
     }
 
-    /// Gives a table room for so many numbers, if as much is left.
+    /// Gives a table room for this many numbers, if that much is left.
     pub(crate) fn grant(&mut self, count: usize) -> bool {
         if count > self.room {
             return false;
@@ -45,7 +45,7 @@ impl<'a> Indexing<'a> {
         seeded
     }
 
-    /// Takes over what another of the same input has hashed, if it has.
+    /// Takes over what another one has hashed for the same input, if it has.
     pub(crate) fn adopt(&mut self, other: Indexing<'a>) {
         if self.seeded.is_none() {
             self.seeded = other.seeded;

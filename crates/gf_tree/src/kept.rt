@@ -31,15 +31,15 @@ use std::slice;
 #[derive(Clone, Copy)]
 pub(crate) struct Stored<'a> {
     pub(crate) name: Label<'a>,
-    /// How many nodes its subtree has, itself counted.
+    /// How many nodes its subtree has, including itself.
     pub(crate) size: usize,
-    /// The position of its set among those known, from 1, or 0 where it has none.
+    /// The position of its set among those known, from 1, or 0 if it has none.
     pub(crate) set: u32,
-    /// The position of its outcome among those known, from 1, or 0 where it has none.
+    /// The position of its outcome among those known, from 1, or 0 if it has none.
     pub(crate) outcome: u32,
 }
 
-/// How many children a node has whose set has this position.
+/// How many children a node has if its set has this position.
 pub(crate) fn child_count(sets: &Sets<'_>, set: u32) -> usize
     requires { set ≤ length sets.now.known }
     ensures { result ≡ child_count sets.now.known set }
@@ -51,7 +51,7 @@ pub(crate) fn child_count(sets: &Sets<'_>, set: u32) -> usize
     }
 }
 
-/// What happens at a node whose set has this position.
+/// What happens at a node if its set has this position.
 pub(crate) fn step(sets: &Sets<'_>, set: u32) -> Step
     requires { set ≤ length sets.now.known }
     ensures set { set_of_step result ≡ option_map (λ s. s.key) (at_position sets.now.known set) }
@@ -68,7 +68,7 @@ pub(crate) fn step(sets: &Sets<'_>, set: u32) -> Step
     }
 }
 
-/// The number of the outcome with this position, or 0 where there is none.
+/// The number of the outcome with this position, or 0 if there is none.
 pub(crate) fn outcome_number(outcomes: &Outcomes<'_>, outcome: u32) -> u32
     requires within { outcome ≤ length outcomes.now.known }
     requires positive { AllByRecursion (λ o. 0 < o.key) outcomes.now.known }
@@ -82,7 +82,7 @@ pub(crate) fn outcome_number(outcomes: &Outcomes<'_>, outcome: u32) -> u32
     }
 }
 
-/// The place behind so many subtrees, the first of which begins at `from`.
+/// The place after this many subtrees, the first of which begins at `from`.
 pub(crate) fn skip(nodes: &[Stored<'_>], from: usize, count: usize) -> usize
     requires within { from ≤ length nodes.now }
     requires trees { Begin count (drop from (sizes_of nodes.now)) }
@@ -120,7 +120,7 @@ fn fill_sizes(nodes: &mut [Stored<'_>], sets: &Sets<'_>)
     }
 }
 
-/// The position of a place, or 0 where there is none.
+/// The position of a place, or 0 if there is none.
 #[inline(always)]
 pub(crate) fn position(place: Option<u32>) -> u32
     requires { MatchOption place ⊤ (λ p. p < 4294967295) }
@@ -132,7 +132,7 @@ pub(crate) fn position(place: Option<u32>) -> u32
     }
 }
 
-/// The place of a position; `None` where there is none.
+/// The place of a position; `None` if there is none.
 pub(crate) fn place(position: u32) -> Option<u32>
     ensures is { position_of result ≡ position }
     ensures few { MatchOption result ⊤ (λ p. p < 4294967295) }
@@ -140,7 +140,7 @@ pub(crate) fn place(position: u32) -> Option<u32>
     position.checked_sub(1)
 }
 
-/// Nodes in prefix order, the sizes of whose subtrees are not known yet.
+/// Nodes in prefix order; the sizes of their subtrees are not known yet.
 #[derive(Drop)]
 pub(crate) struct NodeList<'a> {
     nodes: Vec<Stored<'a>>,
@@ -165,15 +165,15 @@ impl<'a> NodeList<'a> {
         }
     }
 
-    /// The nodes one behind the other.
+    /// The nodes one after another.
     pub(crate) fn iter(&self) -> slice::Iter<'_, Stored<'a>>
         ensures { map kept_of (iter_rest result) ≡ self.now }
     {
         self.nodes.iter()
     }
 
-    /// The nodes with the sizes of their subtrees. The caller sees to it that they are those of a
-    /// tree.
+    /// The nodes with the sizes of their subtrees. The caller has to ensure that they are those of
+    /// a tree.
     pub(crate) fn sized(self, sets: &Sets<'_>) -> Vec<Stored<'a>>
         requires placed { (outcomes : ℕ) × ArePlaced (length sets.now.known) outcomes self }
         requires tree { (t : Tree Node)

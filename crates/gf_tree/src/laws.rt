@@ -49,8 +49,8 @@ ghost use Rattle.gf_tree.specs.WorkedTrees.{more_actions_file, unpaid_file, nobo
 ghost use Rattle.gf_tree.specs.Game.{Game, IsGame, used_sets, used_outcomes};
 ghost use Rattle.gf_tree.specs.GameOf.{IsGameOf, MeansGame, SpellsGame};
 
-/// A tree and its flat list in prefix order stand for each other: the lists that fill one place are
-/// those of trees, no two trees have one list, and from its list a tree grows again.
+/// A tree and its flat list in prefix order determine each other: the lists that fill one place are
+/// those of trees, no two trees have the same list, and a tree grows again from its list.
 pub fn one_tree_each<N>()
     ensures of_lists { (es : List (Entry N)) → Fills 1 es → (t : Tree N) × (flatten t ≡ es) }
     ensures of_trees { (t : Tree N) → Fills 1 (flatten t) }
@@ -58,7 +58,7 @@ pub fn one_tree_each<N>()
     ensures grows { (t : Tree N) → grow (flatten t) ≡ more t none }
 {}
 
-/// Tokens say one consistent file tree at most, and so they mean one game at most, and so do bytes.
+/// Tokens say at most one consistent file tree, so they mean at most one game, and so do bytes.
 pub fn means_one_game()
     ensures of_trees { (tokens : List Token) (f g : FileTree)
         → Sentence tokens f → IsConsistent f → Sentence tokens g → IsConsistent g → f ≡ g }
@@ -68,8 +68,8 @@ pub fn means_one_game()
         → g ≡ h }
 {}
 
-/// Each list of bytes spells a game, or it is refused. None does both, and none is refused at two
-/// places or with two codes.
+/// Each list of bytes spells a game or is refused, never both; and none is refused at two places or
+/// with two codes.
 pub fn read_or_refused()
     ensures one_of_both { (bytes : List ℕ) → ((g : Game) × SpellsGame bytes g)
         ⊎ ((why : Why) × (span : Span) × IsRefused why bytes span) }
@@ -79,15 +79,16 @@ pub fn read_or_refused()
         → IsRefused other bytes place → (span ≡ place) × (code_of why ≡ code_of other) }
 {}
 
-/// A consistent file tree has one game, and the games are those that some consistent file tree has.
+/// A consistent file tree has exactly one game, and the games are those that some consistent file
+/// tree has.
 pub fn one_game_each()
     ensures of_trees { (f : FileTree) → IsConsistent f
         → (g : Game) × IsGameOf f g × ((h : Game) → IsGameOf f h → h ≡ g) }
     ensures are_games { (g : Game) → IsGame g ↔ ((f : FileTree) × IsConsistent f × IsGameOf f g) }
 {}
 
-/// Files mean the games with labels that can be spelled, with fractions and with numbers that are
-/// indices, all of them and no others.
+/// Files mean exactly the games whose labels can be spelled, whose probabilities and payoffs are
+/// fractions, and whose numbers are indices.
 pub fn games_of_files()
     ensures { (g : Game) → ((bytes : List ℕ) × SpellsGame bytes g) ↔ (IsGame g × IsSpellable g) }
 {}
@@ -109,7 +110,7 @@ pub fn keys_by_first_use()
 {}
 
 /// A game by its new numbers is a game. First-use numbers are new numbers of its sets and outcomes,
-/// and so are positive numbers that are listed for them in order of first use, none of them twice
+/// and so are positive numbers that are listed for them in order of first use, with none repeated
 /// in a list.
 pub fn new_numbers()
     ensures is_game { (g : Game) (r : Renumbering) → IsGame g → IsRenumbering g r
@@ -120,8 +121,8 @@ pub fn new_numbers()
 {}
 
 /// Uses are consistent exactly if their descriptions can be learned one use after another, each
-/// judged once against what is known by then; and what is known in the end is the finite map from
-/// the keys, in order of first use, to their descriptions.
+/// judged once against what is known by then; what is known in the end is the finite map from the
+/// keys, in order of first use, to their descriptions.
 pub fn learned_once<K, D>()
     ensures { (same : K → K → Bool) → ((a b : K) → Decides (same a b) (a ≡ b))
         → (uses : List (Use K D)) (end : List (Described K D)) → Learns same [] uses end
@@ -130,14 +131,14 @@ pub fn learned_once<K, D>()
 {}
 
 /// A game that is learned in the order of its file is the game of a consistent file tree, and each
-/// such game can be learned so.
+/// such game can be learned in this way.
 pub fn game_learned_once()
     ensures { (f : FileTree) (g : Game) → LearnsGame f g ↔ (IsConsistent f × IsGameOf f g) }
 {}
 
 /// Worked games and files that mean them: a set of chance met twice on a path with its description
 /// in two spellings, and an outcome used twice; an outcome at an inner node; a player who forgets
-/// what he chose; and a comment, the letter `D`, a comma behind the last payoff, and an outcome
+/// what he chose; and a comment, the letter `D`, a comma after the last payoff, and an outcome
 /// described twice.
 pub fn worked_games()
     ensures five { SpellsGame five_file five }
@@ -149,10 +150,10 @@ pub fn worked_games()
     ensures noted { SpellsGame noted_file noted }
 {}
 
-/// Worked files that mean no game: a first use without a description, of a set and of an outcome; a
-/// description that differs from the first, by another action, by fewer and by more; a player whom
-/// there is not, among some and none; and probabilities that add to more than one or less, one
-/// below zero, and two whose sum does not fit.
+/// Worked files that mean no game: a first use of a set, and of an outcome, without a description;
+/// a description that differs from the first by another action, by fewer and by more; an unknown
+/// player, in a game with players and in one without; and probabilities that add up to more than
+/// one or to less, one below zero, and two whose sum does not fit.
 pub fn worked_refusals()
     ensures undescribed { (g : Game) → ¬ (SpellsGame undescribed_file g) }
     ensures mismatched { (g : Game) → ¬ (SpellsGame mismatched_file g) }
@@ -168,13 +169,13 @@ pub fn worked_refusals()
     ensures nobody { (g : Game) → ¬ (SpellsGame nobody_file g) }
 {}
 
-/// Worked files and fronts of files, each with its offending place and the reason there. A version
-/// that is none. A probability that is no number, and a payoff without a denominator; a set numbered
-/// 0, and an outcome numbered `+1`; the second of one player, and a player where there are none; a
-/// set and an outcome without a description. A set described again with another action, without its
-/// last one, with one too many and with another probability, and an outcome with another name and
-/// another payoff. A negative probability; probabilities that add to more than one, to less, and to
-/// what does not fit; and sets without actions.
+/// Worked files and beginnings of files, each with its offending place and the reason there. A
+/// version that is not one. A probability that is not a number, and a payoff without a denominator;
+/// a set numbered 0, and an outcome numbered `+1`; the second of one player, and a player in a game
+/// without players; a set and an outcome without a description. A set described again with another
+/// action, without its last one, with one too many and with another probability, and an outcome
+/// with another name and another payoff. A negative probability; probabilities that add up to more
+/// than one, to less than one, and to a sum that does not fit; and sets without actions.
 pub fn worked_reasons()
     ensures no_version { IsRefusal (Expected Version) no_version_front (span_of 4 5) }
     ensures not_a_number { IsRefusal NotANumber no_number_front (span_of 33 34) }

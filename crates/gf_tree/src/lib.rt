@@ -1,6 +1,6 @@
-//! Extensive files of Gambit: the trees that they say, and the games that they mean.
+//! Gambit extensive files: the trees that they say, and the games that they mean.
 //!
-//! Tests of these calls stand in gamefile: a crate with tests is proved a second time for them.
+//! The tests of these calls are in gamefile: a crate with tests is proved a second time for them.
 #![tactic(auto)]
 
 mod action;

@@ -20,8 +20,8 @@ use crate::sets::Sets;
 use gf_token::Label;
 use std::marker::Model;
 
-/// A game whose nodes are gone through one behind the other, in prefix order. Where the subtree of a
-/// node ends is not known yet: `into_game` finds it for all of them.
+/// A game whose nodes can only be visited one after another, in prefix order. It is not known yet
+/// where the subtree of a node ends: `into_game` finds that out for all nodes.
 #[derive(Drop)]
 pub struct ListedGame<'a> {
     title: Label<'a>,
@@ -51,7 +51,7 @@ impl<'a> Model for ListedGame<'a> {
 }
 
 impl<'a> ListedGame<'a> {
-    /// The game of these parts. The caller sees to it that the nodes fill one tree.
+    /// The game of these parts. The caller has to ensure that the nodes fill one tree.
     pub(crate) fn new(
         title: Label<'a>,
         comment: Label<'a>,
@@ -81,7 +81,7 @@ impl<'a> ListedGame<'a> {
 
     /// The title, the comment and the players.
     ///
-    /// The other clauses hold of each game, as those of `Game::players` do.
+    /// The other clauses hold for each game, as those of `Game::players` do.
     pub fn heading(&self) -> ToldHeading<'_, 'a>
         ensures heading { heading_of result ≡ heading_in self.now }
         ensures is_game { IsGame self.now }

@@ -16,8 +16,8 @@ pub enum Step {
     Terminal,
 }
 
-/// A node: its name, what happens there, and the number of its outcome, or 0 where it has none. No
-/// step tells of a player 0: chance has a step of its own.
+/// A node: its name, what happens there, and the number of its outcome, or 0 if it has none. No
+/// step names a player 0: chance has a step of its own.
 #[derive(Clone, Copy, PartialEq, Eq)]
 pub struct Node<'a> {
     pub name: Label<'a>,

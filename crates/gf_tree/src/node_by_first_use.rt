@@ -9,7 +9,7 @@ use crate::sets::Sets;
 use crate::told::{outcome_use, set_use, undescribed_outcome_use, undescribed_set_use};
 use gf_token::Label;
 
-/// Whether this is the position behind so many.
+/// Whether this is the position after this many.
 #[inline(always)]
 fn is_next(position: u32, known: u32) -> bool
     ensures { result ≡ (position == suc known) }
@@ -18,8 +18,8 @@ fn is_next(position: u32, known: u32) -> bool
 }
 
 /// A node by first-use numbers: the number of a set is its position among the sets of its player,
-/// that of an outcome its position among the outcomes. Each set and each outcome is described where
-/// it is used first. They are looked up where the node is asked for.
+/// and the number of an outcome its position among the outcomes. Each set and each outcome is
+/// described at its first use. They are looked up when the node is asked for.
 #[derive(Clone, Copy)]
 pub struct NodeByFirstUse<'n, 'a> {
     pub(crate) sets: &'n Sets<'a>,
@@ -28,9 +28,10 @@ pub struct NodeByFirstUse<'n, 'a> {
     pub(crate) used_sets: u32,
     pub(crate) used_outcomes: u32,
     pub(crate) name: Label<'a>,
-    /// The position of its set, from 1, among all sets in order of first use; 0 where the game ends.
+    /// The position of its set, from 1, among all sets in order of first use; 0 if the game ends
+    /// here.
     pub(crate) set: u32,
-    /// The position of its outcome, from 1, among all outcomes in order of first use; 0 where it has
+    /// The position of its outcome, from 1, among all outcomes in order of first use; 0 if it has
     /// none.
     pub(crate) outcome: u32,
     ghost known_set: { set ≤ length sets.now.known },
@@ -62,7 +63,7 @@ impl<'n, 'a> NodeByFirstUse<'n, 'a> {
         !is_next(self.set, self.used_sets) && !is_next(self.outcome, self.used_outcomes)
     }
 
-    /// The node as a file gives it, but for what it describes.
+    /// The node as a file gives it, without what it describes.
     #[inline(always)]
     pub fn undescribed(&self) -> FileNode<'n, 'a>
         ensures { file_node_of result ≡ undescribed (told_of self.now).node }

@@ -15,7 +15,7 @@ use indexmap::IndexMap;
 use std::alloc::{AllocError, Global};
 use std::marker::Model;
 
-/// The place behind so many others. Places are below `u32::MAX`: room for more is refused.
+/// The place after this many others. Places are below `u32::MAX`: room for more is refused.
 pub(crate) fn next_place(len: usize) -> Result<u32, AllocError>
     ensures ok { IfOk result (λ place. (place ≡ len) × (place + 1 < 2 ^ 32)) }
     ensures err { OnErr result (2 ^ 32 ≤ len + 1) }
@@ -28,8 +28,8 @@ pub(crate) fn next_place(len: usize) -> Result<u32, AllocError>
 
 type Places = IndexMap<u32, u32, Seeded>;
 
-/// Numbers in order of first use. The first ones are small, and found by a table; those from the
-/// first other one on are found by a map, which few need.
+/// Numbers in order of first use. The first ones are small, and found by a table; from the first
+/// larger one on, they are found by a map, which few files need.
 #[derive(Drop)]
 struct Index {
     small: SmallNumbers,
@@ -116,7 +116,7 @@ impl Index {
         }
     }
 
-    /// Adds a number that is not there, and its place. On an `Err` nothing has changed.
+    /// Adds a number that is not there yet, and its place. After an `Err` nothing has changed.
     fn insert(
         &mut self,
         alloc: Global,
@@ -142,7 +142,7 @@ impl Index {
     }
 }
 
-/// How numbers are kept: one alone needs no memory of its own.
+/// How numbers are kept: a single one needs no memory of its own.
 #[derive(Drop)]
 enum Held {
     Nothing,
@@ -233,7 +233,7 @@ impl Numbers {
         }
     }
 
-    /// Adds a number that is not there, and its place. On an `Err` nothing has changed.
+    /// Adds a number that is not there yet, and its place. After an `Err` nothing has changed.
     #[inline(never)]
     pub(crate) fn insert(
         &mut self,
@@ -262,7 +262,7 @@ impl Numbers {
     }
 }
 
-/// Adds a number that is not there. On an `Err` nothing has changed.
+/// Adds a number that is not there yet. After an `Err` nothing has changed.
 #[tactic(auto, using(crate::proofs::Places::goes_last))]
 fn add(places: &mut Places, number: u32, place: u32) -> Result<(), AllocError>
     requires { get nat_eq places.old number ≡ None }

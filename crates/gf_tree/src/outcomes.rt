@@ -76,7 +76,7 @@ impl<'a> Outcomes<'a> {
         }
     }
 
-    /// No outcomes, to be found in the same way.
+    /// No outcomes, which will be found in the same way.
     pub(crate) fn emptied(&self, alloc: Global) -> Outcomes<'a>
         ensures { result ≡ record { known = []; pending = [] } }
     {
@@ -88,7 +88,7 @@ impl<'a> Outcomes<'a> {
         self.indexing
     }
 
-    /// Takes over what was hashed of the same input.
+    /// Takes over what was hashed for the same input.
     pub(crate) fn adopt(&mut self, indexing: Indexing<'a>)
         ensures { self.new ≡ self.old }
     {
@@ -154,7 +154,7 @@ impl<'a> Outcomes<'a> {
         self.from = self.payoffs.len();
     }
 
-    /// It has one payoff more. On an `Err` nothing has changed.
+    /// It has one more payoff. After an `Err` nothing has changed.
     pub(crate) fn push(&mut self, payoff: Fraction) -> Result<(), AllocError>
         ensures ok { OnOk result (self.new ≡ with_payoff self.old payoff) }
         ensures err { OnErr result (self.new ≡ self.old) }
@@ -172,8 +172,8 @@ impl<'a> Outcomes<'a> {
         &self.payoffs[self.from..]
     }
 
-    /// The description is complete, and this outcome, which was not known, has it. Answers the
-    /// outcome's place. On an `Err` nothing has changed.
+    /// The description is complete, and belongs to this outcome, which was not known. Returns the
+    /// outcome's place. After an `Err` nothing has changed.
     pub(crate) fn end(&mut self, number: u32, name: Label<'a>) -> Result<u32, AllocError>
         requires { position (nat_eq number) (map (λ o. o.key) self.old.known) ≡ None }
         ensures ok { OnOk result (self.new ≡ with_outcome self.old number (label_of name.entry)) }

@@ -1,4 +1,5 @@
-//! Extensive files as they are read from bytes: to a game, to a list of its nodes, or told to a receiver.
+//! Extensive files as they are read from bytes: into a game, into a list of its nodes, or told to a
+//! receiver.
 
 ghost use Rattle.std.specs.Prelude.{◌≡◌, IfErr, IfOk, OnOk};
 ghost use Rattle.gf_token.specs.declared.fault.Why.TheVariants.{Memory};
@@ -15,7 +16,8 @@ use crate::receive::Receive;
 use gf_token::Fault;
 use std::alloc::Global;
 
-/// Reads the game of an extensive file from its bytes, as `read_efg` does, to a list of its nodes.
+/// Reads the game of an extensive file from its bytes, as `read_efg` does, into a list of its
+/// nodes.
 pub fn list_efg<'a>(alloc: Global, input: &'a [u8]) -> Result<ListedGame<'a>, Fault>
     ensures spelled { IfOk result (λ g. SpellsGame input.entry.now g) }
     ensures only { (g : game) → SpellsGame input.entry.now g → IsReadAs result g }
@@ -31,8 +33,10 @@ pub fn list_efg<'a>(alloc: Global, input: &'a [u8]) -> Result<ListedGame<'a>, Fa
 /// Reads the game of an extensive file from its bytes (Gambit documentation, "Game representation
 /// formats").
 ///
+/// # Errors
+///
 /// A file is refused at the first token with which no consistent extensive file goes on, or at the
-/// end where more is due. Spans are in bytes of the input, from 0.
+/// end if more is due. Spans are in bytes of the input, from 0.
 pub fn read_efg<'a>(alloc: Global, input: &'a [u8]) -> Result<Game<'a>, Fault>
     ensures spelled { IfOk result (λ g. SpellsGame input.entry.now g) }
     ensures only { (g : game) → SpellsGame input.entry.now g → IsReadAs result g }
@@ -45,9 +49,12 @@ pub fn read_efg<'a>(alloc: Global, input: &'a [u8]) -> Result<Game<'a>, Fault>
 }
 
 /// Reads an extensive file from its bytes, and tells its heading and its nodes to a receiver: by
-/// first-use numbers, each set and each outcome described where it is first used. No game is built.
+/// first-use numbers, with each set and each outcome described at its first use. No game is built.
 ///
-/// Refused as `read_efg` refuses, also where the receiver wants memory; it has then been told a part.
+/// # Errors
+///
+/// Those of `read_efg`, also if the receiver is refused memory; the receiver has then been told a
+/// part of the file.
 pub fn tell_efg<'a, R: Receive<'a>>(alloc: Global, input: &'a [u8], to: &mut R) -> Result<(), Fault>
     requires untold { R.untold to.old }
     ensures told { OnOk result ((g : game) × SpellsGame input.entry.now g

@@ -1,8 +1,9 @@
 //! The reader of extensive files, which asks for the token that is due (Gambit documentation, "Game
 //! representation formats").
 //!
-//! A node without descriptions is one straight way, whose functions are `inline(always)`: wide
-//! values would otherwise pass through memory. Descriptions stand apart from it, `inline(never)`.
+//! A node without descriptions takes one straight path, whose functions are `inline(always)`: wide
+//! values would otherwise pass through memory. Descriptions are read by separate functions that are
+//! `inline(never)`.
 
 ghost use Rattle.std.specs.Prelude.{◌≡◌, ◌<◌, ◌≤◌, ◌∷◌, [], ℕ, List, Ok, length, IfOk, OnOk, MatchResult};
 ghost use Rattle.gf_token.specs.Remaining.{StandsBefore};
@@ -39,7 +40,7 @@ pub(crate) struct Reader<'a> {
     outcomes: Outcomes<'a>,
     /// How many nodes are still to come.
     due: u128,
-    /// How many sets and outcomes the nodes use that were told.
+    /// How many sets and outcomes are used by the nodes that were told.
     told_sets: u32,
     told_outcomes: u32,
 }
@@ -70,8 +71,7 @@ impl<'a> Reader<'a> {
         }
     }
 
-    /// Reads the heading: all that stands before the first node. Answers where its last token
-    /// stands.
+    /// Reads the heading: everything before the first node. Returns the place of its last token.
     pub(crate) fn begin(&mut self) -> Result<Span, Fault>
         requires due { self.old.due ≡ 1 }
         requires sound { IsSound self.old }
@@ -90,7 +90,7 @@ impl<'a> Reader<'a> {
         Ok(self.comment(brace))
     }
 
-    /// The game of the file, which was read to its end, and whose nodes these are.
+    /// The game of the file, which was read to its end and has these nodes.
     pub(crate) fn into_listed_game(self, nodes: NodeList<'a>) -> ListedGame<'a>
         requires placed { ArePlaced (length self.sets.known) (length self.outcomes.known) nodes }
         requires read { (bytes : List ℕ) × (tokens : List Lexeme) × Spells 0 bytes tokens

@@ -29,7 +29,7 @@ pub(crate) fn number(text: &[u8]) -> Result<Fraction, NumberFault>
     Fraction::read(text)
 }
 
-/// The sum of two fractions, where it fits.
+/// The sum of two fractions, if it fits.
 fn sum(left: Fraction, right: Fraction) -> Option<Fraction>
     requires left { IsFraction left }
     requires right { IsFraction right }
@@ -49,7 +49,7 @@ pub(crate) struct Share {
     pub(crate) sum: Fraction,
 }
 
-/// The probability that a bare token spells, behind probabilities of this sum.
+/// The probability that a bare token spells, after probabilities of this sum.
 pub(crate) fn next_share(before: Fraction, text: &[u8]) -> Result<Share, Why>
     requires { IsFraction before }
     ensures machine { shared result ≡ share_of before text.now }

@@ -1,11 +1,11 @@
-//! What becomes of what stands in a file: a reader tells it to a receiver, node by node.
+//! What becomes of the contents of a file: a reader tells them to a receiver, node by node.
 
 use crate::node_by_first_use::NodeByFirstUse;
 use gf_token::Label;
 use std::alloc::AllocError;
 
-/// What stands before the nodes of a file: its title, its comment, which is empty where there is
-/// none, and the names of the players.
+/// What comes before the nodes of a file: its title, its comment, which is empty if there is none,
+/// and the names of the players.
 #[derive(Clone, Copy)]
 pub struct ToldHeading<'n, 'a> {
     pub title: Label<'a>,
@@ -13,7 +13,7 @@ pub struct ToldHeading<'n, 'a> {
     pub players: &'n [Label<'a>],
 }
 
-/// Who is told the heading of a file, and then its nodes one behind the other in prefix order.
+/// What is told the heading of a file, and then its nodes one after another in prefix order.
 pub trait Receive<'a> {
     ghost use Rattle.std.specs.Prelude.{List, [], ◌∷◌, ◌++◌, OnOk};
     ghost use Rattle.gf_tree.specs.Told.{Heading, Told, heading_of, told_of};
@@ -21,8 +21,8 @@ pub trait Receive<'a> {
     /// It was told nothing.
     ghost untold: { Self → Type 0 };
 
-    /// What it has of the heading and the nodes that it was told. The first is what it was before it
-    /// was told anything.
+    /// What it holds of the heading and the nodes that it was told. The first argument is what it
+    /// was before it was told anything.
     ghost holds: { Self → Self → Heading → List Told → Type 0 };
 
     /// Takes the heading.

@@ -5,12 +5,12 @@ ghost use Rattle.gf_tree.specs.inner.Seeded.{start_for};
 
 use std::hash::{BuildHasher, DefaultHasher, FoldHasher, Hasher};
 
-/// Makes hashers whose start hangs on the whole input.
+/// Makes hashers whose start depends on the whole input.
 ///
-/// With a fixed start, whoever writes a file can choose set numbers whose hashes are all alike, and
-/// each look-up then tries thousands of them. Here each number that is chosen changes every hash.
-/// The input is hashed by SipHash: the kit's faster hasher can be brought to any state by bytes of
-/// the file. It takes the numbers, from a start that nobody chose.
+/// With a fixed start, the writer of a file could choose set numbers whose hashes collide, and each
+/// look-up would then try thousands of them. Here each number that is chosen changes every hash.
+/// The input is hashed by SipHash, since bytes of the file can bring the kit's faster hasher to any
+/// state. The faster hasher hashes the numbers, from a start that nobody chose.
 #[derive(Clone, Copy)]
 pub(crate) struct Seeded {
     start: FoldHasher,

@@ -43,7 +43,7 @@ impl<'a> Entry<'a> {
     }
 }
 
-/// The numbers of a player's sets, where he has had any.
+/// The numbers of a player's sets, if he has had any.
 #[inline(always)]
 fn numbers_of(players: &[Numbers], player: u32) -> Option<&Numbers>
     ensures { MatchOption result (get_or players.now player [] ≡ [])
@@ -52,7 +52,7 @@ fn numbers_of(players: &[Numbers], player: u32) -> Option<&Numbers>
     players.get(player as usize)
 }
 
-/// Makes places for numbers through a player's.
+/// Makes places for the numbers of all players up to this one.
 fn reach(players: &mut Vec<Numbers>, player: u32) -> Result<(), AllocError>
     ensures same { (any : ℕ) → get_or players.new.items any [] ≡ get_or players.old.items any [] }
     ensures ok { OnOk result (player < length players.new.items) }
@@ -65,7 +65,7 @@ fn reach(players: &mut Vec<Numbers>, player: u32) -> Result<(), AllocError>
     Ok(())
 }
 
-/// Adds a number to those of a player, and tells how many he has then.
+/// Adds a number to those of a player, and returns how many he then has.
 fn note(
     players: &mut Vec<Numbers>,
     alloc: Global,
@@ -92,7 +92,7 @@ fn note(
     Ok(before + 1)
 }
 
-/// The place of a player's last set, where he has any.
+/// The place of a player's last set, if he has any.
 fn last_place(players: &[Numbers], player: u32) -> Option<u32> {
     match numbers_of(players, player) {
         Some(numbers) => numbers.last_place(),
@@ -100,8 +100,8 @@ fn last_place(players: &[Numbers], player: u32) -> Option<u32> {
     }
 }
 
-/// Where the actions from here on begin, and how many there are: if they are the same as those of
-/// the set at a place, where these begin.
+/// Where the actions from here on begin, and how many there are. If they are the same as those of
+/// the set at a place, where those begin instead.
 fn stretch_like(
     entries: &[Entry<'_>],
     actions: &[Action<'_>],
@@ -128,16 +128,16 @@ fn stretch_like(
 /// actions so far of a set whose description is being read.
 ///
 /// A set has the place at which it became known, from 0. There are fewer than 2^32 sets, and none
-/// has as many actions: room for more is refused. The sets of a player often have the same actions, one after another: these are
-/// kept once.
+/// has as many actions: room for more is refused. Consecutive sets of a player often have the same
+/// actions: these are kept once.
 #[derive(Drop)]
 pub(crate) struct Sets<'a> {
     alloc: Global,
     indexing: Indexing<'a>,
     players: Vec<Numbers>,
     entries: Vec<Entry<'a>>,
-    /// How many actions each has, once more: this is asked for at each node, and all of it stays in
-    /// the cache.
+    /// How many actions each has, stored a second time: this is read at each node, and all of it
+    /// stays in the cache.
     counts: Vec<u32>,
     actions: Vec<Action<'a>>,
     from: usize,
@@ -172,7 +172,7 @@ impl<'a> Sets<'a> {
         }
     }
 
-    /// No sets, to be found in the same way.
+    /// No sets, which will be found in the same way.
     pub(crate) fn emptied(&self, alloc: Global) -> Sets<'a>
         ensures { result ≡ record { known = []; pending = [] } }
     {
@@ -184,7 +184,7 @@ impl<'a> Sets<'a> {
         self.indexing
     }
 
-    /// Takes over what was hashed of the same input.
+    /// Takes over what was hashed for the same input.
     pub(crate) fn adopt(&mut self, indexing: Indexing<'a>)
         ensures { self.new ≡ self.old }
     {
@@ -290,7 +290,7 @@ impl<'a> Sets<'a> {
         self.from = self.actions.len();
     }
 
-    /// It has one action more. On an `Err` nothing has changed.
+    /// It has one more action. After an `Err` nothing has changed.
     pub(crate) fn push(
         &mut self,
         label: Label<'a>,
@@ -313,8 +313,8 @@ impl<'a> Sets<'a> {
         &self.actions[self.from..]
     }
 
-    /// The description is complete, and this set, which was not known, has it. Answers the set's
-    /// place. On an `Err` nothing has changed.
+    /// The description is complete, and belongs to this set, which was not known. Returns the set's
+    /// place. After an `Err` nothing has changed.
     pub(crate) fn end(
         &mut self,
         player: u32,

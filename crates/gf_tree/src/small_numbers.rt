@@ -1,4 +1,4 @@
-//! Numbers that are small for how many there are, found by a table.
+//! Numbers that are small in proportion to how many there are, found by a table.
 
 ghost use Rattle.std.specs.Prelude.{◌≡◌, ◌<◌, ◌^◌, ◌++◌, ℕ, [], ◌∷◌, None, nat_eq, length};
 ghost use Rattle.std.specs.Prelude.{get_or, option_map, slice_get, OnOk, OnErr};
@@ -7,11 +7,11 @@ ghost use Rattle.std.specs.Map.{lookup};
 use std::alloc::{AllocError, Global};
 use std::marker::Model;
 
-/// How many times as large a number may be as how many there are: files often count the sets of all
-/// players in one sequence.
+/// A number may be this many times as large as the count of numbers: files often count the sets of
+/// all players in one sequence.
 const SPREAD: usize = 8;
 
-/// How many more are counted than there are, for the first ones.
+/// How many more are counted than there are, for the sake of the first ones.
 const AHEAD: usize = 2;
 
 /// A number, with the place of what it names.
@@ -23,11 +23,11 @@ pub(crate) struct Placed {
 
 /// Numbers in order of first use, each with its place.
 ///
-/// A table takes 4 bytes for each number up to the greatest, so that only small ones are added.
+/// A table takes 4 bytes for each number up to the greatest one, so only small ones are added.
 #[derive(Drop)]
 pub(crate) struct SmallNumbers {
     pairs: Vec<Placed>,
-    /// For each number the position of its place, from 1, or 0 where it has none.
+    /// For each number the position of its place, from 1, or 0 if it has none.
     positions: Vec<u32>,
 }
 
@@ -112,7 +112,7 @@ impl SmallNumbers {
         (number as usize + 1).saturating_sub(self.positions.len())
     }
 
-    /// Adds a number that is not there, and its place. On an `Err` nothing has changed.
+    /// Adds a number that is not there yet, and its place. After an `Err` nothing has changed.
     pub(crate) fn push(&mut self, number: u32, place: u32) -> Result<(), AllocError>
         requires absent { lookup (nat_eq number) self.old ≡ None }
         requires few { place < 4294967295 }

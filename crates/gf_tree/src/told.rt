@@ -1,4 +1,4 @@
-//! Uses of sets and outcomes by first-use numbers, described where they are first.
+//! Uses of sets and outcomes by first-use numbers, described at their first uses.
 
 ghost use Rattle.std.specs.Prelude.{◌≡◌, ◌<◌, ◌≤◌, ℕ, List, length, option_map, suc, MatchOption, Some, ⊤};
 ghost use Rattle.gf_tree.specs.Description.{Outcome};
@@ -12,7 +12,7 @@ use crate::file_node::{OutcomeDescription, OutcomeUse, SetDescription, SetUse};
 use crate::outcomes::Outcomes;
 use crate::sets::Sets;
 
-/// The use of the set with this place, where it is not described.
+/// The use of the set with this place, if it is not described.
 #[inline(always)]
 pub(crate) fn undescribed_set_use<'s, 'a>(sets: &'s Sets<'a>, place: u32) -> SetUse<'s, 'a>
     requires { place < length sets.now.known }
@@ -27,7 +27,7 @@ pub(crate) fn undescribed_set_use<'s, 'a>(sets: &'s Sets<'a>, place: u32) -> Set
     }
 }
 
-/// The use of the set with this place, where so many were used before.
+/// The use of the set with this place, if this many were used before.
 #[inline(always)]
 pub(crate) fn set_use<'s, 'a>(
     sets: &'s Sets<'a>,
@@ -48,7 +48,7 @@ pub(crate) fn set_use<'s, 'a>(
     Some(set_use)
 }
 
-/// The use of the outcome with this place, where so many were used before.
+/// The use of the outcome with this place, if this many were used before.
 #[inline(always)]
 pub(crate) fn outcome_use<'o, 'a>(
     outcomes: &'o Outcomes<'a>,
@@ -75,7 +75,7 @@ pub(crate) fn outcome_use<'o, 'a>(
     })
 }
 
-/// The use of the outcome with this position, where it is not described.
+/// The use of the outcome with this position, if it is not described.
 #[inline(always)]
 pub(crate) fn undescribed_outcome_use<'o, 'a>(position: u32) -> Option<OutcomeUse<'o, 'a>>
     ensures { (outcomes : List (Described ℕ Outcome)) (known : ℕ) → position ≤ length outcomes

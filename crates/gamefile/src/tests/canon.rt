@@ -6,7 +6,7 @@ use gf_run::{Counted, RunFault, Which, run_canon};
 use gf_token::{Fault, Span, Why};
 use std::alloc::Global;
 
-/// Two players, of three strategies and of two.
+/// Two players, one with three strategies and one with two.
 const SELTEN: &[u8] =
     b"NFG 1 R \"Selten\" { \"Player 1\" \"Player 2\" } { 3 2 } 1 1 0 2 0 2 1 1 0 3 2 0";
 

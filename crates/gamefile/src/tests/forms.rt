@@ -20,7 +20,7 @@ t \"\" 0
 t \"\" 3 \"y\" { 3 1 }
 ";
 
-/// The greatest number and one more behind the second action, above which one less is paid.
+/// The greatest number and one more after the second action, above which one less is paid.
 const OVERFLOWING: &[u8] = b"EFG 2 R \"o\" { \"A\" }
 p \"\" 1 1 \"i\" { \"a\" \"b\" } 1 \"x\" { -1 }
 t \"\" 0
@@ -28,7 +28,7 @@ p \"\" 1 2 \"j\" { \"c\" } 2 \"y\" { 170141183460469231731687303715884105727 }
 t \"\" 3 \"z\" { 1 }
 ";
 
-/// A payoff of 5 where chance never comes, and one more below it.
+/// A payoff of 5 where chance never leads, and one more below it.
 const UNLIKELY: &[u8] = b"EFG 2 R \"q\" { \"A\" }
 c \"\" 1 \"n\" { \"a\" 1 \"b\" 0 } 0
 t \"\" 1 \"x\" { 1 }

@@ -1,4 +1,4 @@
-//! Calls of the crates below that the program does not make, on their happy paths, and what no file
+//! Calls of the crates below that the program does not make, when they succeed, and what no file
 //! shows.
 
 mod due;

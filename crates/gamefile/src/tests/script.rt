@@ -1,4 +1,4 @@
-//! Readers and writers that answer by a list of steps, whose last repeats.
+//! Readers and writers that answer by a list of steps, the last of which repeats.
 
 use std::alloc::{AllocError, Global};
 use std::io;
@@ -7,7 +7,7 @@ use std::io::{ErrorKind, Read, Write};
 /// One answer.
 #[derive(Clone, Copy)]
 pub enum Step {
-    /// So many bytes, or fewer where there are no more or there is no room.
+    /// This many bytes, or fewer if there are no more or there is no room.
     Move(usize),
     /// An error of this kind.
     Fail(ErrorKind),
@@ -19,7 +19,7 @@ const INTERRUPTED: Step = Step::Fail(ErrorKind::Interrupted);
 /// An answer of as many bytes as there are.
 pub const ALL: Step = Step::Move(usize::MAX);
 
-/// `count` times fifteen interruptions before an answer of one byte.
+/// `count` times: fifteen interruptions before an answer of one byte.
 pub fn interrupted_steps(alloc: Global, count: usize) -> Result<Vec<Step>, AllocError> {
     let mut steps = Vec::new(alloc);
     for _ in 0..count {

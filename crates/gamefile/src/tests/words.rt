@@ -1,10 +1,10 @@
-//! Words of the command line: which job they ask for, and which are wrong.
+//! Command lines: which job they ask for, and which are wrong.
 
 use crate::words::parse_words;
 use gf_run::{Asked, WordsFault};
 use std::alloc::{AllocError, Global};
 
-/// What the words ask for, or the kind of answer that they have.
+/// What the arguments ask for, or the kind of answer that they have.
 fn asked(alloc: Global, words: &[&str]) -> Result<String, AllocError> {
     match parse_words(alloc, words) {
         Ok(

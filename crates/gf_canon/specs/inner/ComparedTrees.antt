@@ -1,4 +1,4 @@
--- What is found out of a tree that is told, beside a game.
+-- What is found out about a tree that is told, compared with a game.
 use Rattle.std.specs.Prelude.{◌≡◌, ◌↔◌, ◌++◌, Bool, IsTrue, List, map}
 use Rattle.gf_tree.specs.FileNodes.{file_nodes}
 use Rattle.gf_tree.specs.FileTree.{FileNode}
@@ -14,8 +14,8 @@ pub record AgreesWith (names : Names) (g : Game) (told : Heading) (given : List 
     pub heading : heading_by names (heading_in g) ≡ heading_by names told
     pub nodes : map (node_by names) (file_nodes (canonical_game g)) ≡ map (node_by names) given
 
--- With any nodes behind those that were told it is the same exactly if no difference was found, and
--- these are what is left of the game.
+-- With any nodes after those that were told, the tree is the same exactly if no difference was
+-- found and these nodes are what is left of the game.
 abbrev pub IsCompared : Names → Game → Bool → List FileNode → Heading → List Told → Type 0
 IsCompared names g same left heading told = (rest : List FileNode)
     → AgreesWith names g heading (map (λ t. t.node) told ++ rest)

@@ -1,4 +1,4 @@
--- What counts of the heading and the nodes of a game, with names or without.
+-- What counts of the heading and the nodes of a game, with names or without them.
 use Rattle.std.specs.Prelude.{ℕ, List, [], option_map}
 use Rattle.gf_tree.specs.Description.{InformationSet, Outcome}
 use Rattle.gf_tree.specs.FileTree.{FileNode, Use}
@@ -17,7 +17,7 @@ abbrev pub outcome_by : Names → Outcome → Outcome
 outcome_by names outcome =
     record { name = name_by names outcome.name; payoffs = outcome.payoffs }
 
--- f of the description, where there is one
+-- f of the description, if there is one
 abbrev pub use_by : {K D : Type 0} → (D → D) → Use K D → Use K D
 use_by f u = record { key = u.key; description = option_map f u.description }
 

@@ -1,4 +1,4 @@
--- What a map has after a key of one node was given the number of the key at another.
+-- What a map has after a key at one node was given the number of the key at another.
 use Rattle.std.specs.Prelude.{ℕ, Bool, Option, Some, if◌then◌else◌}
 
 -- had : what the map had; number : the number of a key

@@ -10,7 +10,7 @@ use Rattle.gf_canon.specs.GameText.{node_text}
 use Rattle.gf_canon.specs.inner.NamedBy.{name_by, node_by}
 use Rattle.gf_canon.specs.declared.sameness.Names.{Names}
 
--- each with a space behind it
+-- each followed by a space
 abbrev pub spaced_out : List (List ℕ) → List ℕ
 spaced_out items = flat_map (λ item. item ++ 32 ∷ []) items
 
@@ -32,12 +32,12 @@ abbrev pub player_letter : ℕ → ℕ
 player_letter zero = 99
 player_letter (suc _) = 112
 
--- `t` where the game ends, `c` where chance moves, and else `p`
+-- `t` if the game ends, `c` if chance moves, and otherwise `p`
 abbrev pub mover_letter : Option (Use SetKey InformationSet) → ℕ
 mover_letter None = 116
 mover_letter (Some set) = player_letter set.key.player
 
--- a number behind a space, and what follows
+-- a space, a number, and what follows
 abbrev pub number_then : ℕ → List ℕ → List ℕ
 number_then number rest = 32 ∷ (decimal number ++ rest)
 
@@ -46,7 +46,7 @@ abbrev pub player_then : ℕ → List ℕ → List ℕ
 player_then zero rest = rest
 player_then (suc player) rest = number_then (suc player) rest
 
--- what stands behind the name of a node that describes nothing
+-- what follows the name of a node that describes nothing
 abbrev pub tail_text : Option (Use SetKey InformationSet) → ℕ → List ℕ
 tail_text None outcome = number_then outcome (10 ∷ [])
 tail_text (Some set) outcome = player_then set.key.player

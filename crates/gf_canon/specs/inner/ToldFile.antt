@@ -10,7 +10,7 @@ use Rattle.gf_tree.specs.ToldGame.{HasToldGame}
 use Rattle.gf_canon.specs.declared.format.Format.{Format}
 use Rattle.gf_canon.specs.declared.format.Format.TheVariants.{Extensive, Strategic}
 
--- of a tree a receiver was told, and of a table nothing
+-- a receiver was told a tree, and nothing of a table
 abbrev pub IsToldFile : {T : Type 0} → (T → Heading → List Told → Type 0) → T → List ℕ → Format
     → Type 0
 IsToldFile holds to bytes Extensive = (g : Game) × SpellsGame bytes g × HasToldGame holds to g

@@ -1,9 +1,9 @@
--- Strategies that differ at the end alone, where nothing that they choose matters.
+-- Strategies that differ only at the end, where nothing that they choose matters.
 use Rattle.std.specs.Prelude.{◌≡◌, ◌≤◌, ◌<◌, ℕ, Bool, false, List, drop, get_or, length}
 use Rattle.gf_nfg.specs.Profiles.{product}
 
--- So many strategies agree with this one but at its last sets: it has the first action there, and
--- none of them is relevant under it. At a player's sets there are so many actions each.
+-- This many strategies agree with this one except at its last sets, where it has the first action,
+-- and which are not relevant under it. Each of a player's sets has this many actions.
 pub record AreAlike (counts : List ℕ) (relevant : List Bool) (strategy : List ℕ) (alike : ℕ) : Type 0
   where
     pub from : ℕ

@@ -1,4 +1,4 @@
--- What is left of the operations of a tree while they are told.
+-- What is left of the operations of a tree while a walk gives them.
 use Rattle.std.specs.Prelude.{ℕ, ◌+◌, List, [], ◌∷◌, ◌++◌, length, map, Option, Some, None}
 use Rattle.gf_fraction.specs.Ratio.{Ratio}
 use Rattle.gf_token.specs.Positions.{at_position}
@@ -20,11 +20,11 @@ use Rattle.gf_form.specs.declared.walk.Open.{Open}
 use Rattle.gf_form.specs.declared.walk.Open.TheVariants.{Chance, Payoffs}
 use Rattle.gf_form.specs.declared.walk.Walk.{Walk}
 
--- the operations of a branch, where these are the strategies
+-- the operations of a branch, if these are the strategies
 abbrev pub branch_code : List (List ℕ) → Branch → List Op
 branch_code all b = code (game_of b) (choices_by (game_of b) all) (tree_of b)
 
--- those that add each of these trees to a sum, the first of which has position k
+-- those that add each of these trees to a sum; the first one has position k
 abbrev pub list_code : Game → (SetKey → ℕ) → (ℕ → Ratio) → ℕ → List (Tree Node) → List Op
 list_code g choices chances k [] = []
 list_code g choices chances k (t ∷ ts) =
@@ -53,13 +53,13 @@ rest_code all node rest =
     (branch_chances node) (branches_given rest + 1) (branches_left rest)
     ++ Pay (paid_at_node (game_of node) (root_node (tree_of node))) ∷ []
 
--- what follows where the value of a child stands on the stack
+-- what follows once the value of a child is on the stack
 abbrev pub open_code : List (List ℕ) → Open → List Op
 open_code all (Chance node rest) =
     Weigh (branch_chances node (branches_given rest)) ∷ rest_code all node rest
 open_code all (Payoffs outcome) = Pay outcome ∷ []
 
--- of the nodes that are open, the last one goes first
+-- among the open nodes, the last one comes first
 abbrev pub opened : List (List ℕ) → List Open → List Op → List Op
 opened all [] ops = ops
 opened all (o ∷ os) ops = opened all os (open_code all o ++ ops)
@@ -80,7 +80,7 @@ code_behind w = opened (strategies_of_walk w) w.open.items []
 abbrev pub code_left : Walk → List Op
 code_left w = next_code (strategies_of_walk w) w.next ++ code_behind w
 
--- how many nodes the subtree has that comes next
+-- how many nodes the next subtree has
 abbrev pub next_size : Option Branch → ℕ
 next_size None = 0
 next_size (Some b) = length (flatten (tree_of b))

@@ -9,19 +9,19 @@ use Rattle.gf_tree.specs.Game.{Node}
 use Rattle.gf_form.specs.Reduced.{is_own_choice}
 
 abbrev mutual
-  -- the set stands in the tree, with all moves of its owner before it as he chooses
+  -- the set occurs in the tree, and all moves of its owner before it are as he chooses
   pub tree_comes : (SetKey → ℕ) → SetKey → Tree Node → Bool
   tree_comes choices key (branch n ts) =
       option_map_or (λ own. same_set key own || trees_come choices key n 1 ts) n.set false
 
-  -- it does so in one of these children of a node, the first of which has position k
+  -- it does so in one of these children of a node; the first one has position k
   pub trees_come : (SetKey → ℕ) → SetKey → Node → ℕ → Trees Node → Bool
   trees_come choices key n k none = false
   trees_come choices key n k (more t ts) =
       (is_own_choice choices key.player (record { node = n; taken = k })
       && tree_comes choices key t) || trees_come choices key n (k + 1) ts
 
--- it does so in one of these trees, where a tree counts if its position passes the test
+-- it does so in one of these trees; a tree counts if its position passes the test
 abbrev pub list_comes : (SetKey → ℕ) → SetKey → (ℕ → Bool) → ℕ → List (Tree Node) → Bool
 list_comes choices key counts k [] = false
 list_comes choices key counts k (t ∷ ts) =

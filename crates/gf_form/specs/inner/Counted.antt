@@ -5,7 +5,8 @@ use Rattle.gf_tree.specs.Game.{Game}
 use Rattle.gf_form.specs.Strategies.{action_counts, full_profiles, players_of, strategies}
 use Rattle.gf_form.specs.declared.counts.Counts.{Counts}
 
--- the numbers of actions at each player's sets, those of strategies, and that of profiles
+-- the numbers of actions at each player's sets, the numbers of strategies, and the number of
+-- profiles
 pub record AreCounts (g : Game) (c : Counts) : Type 0 where
   pub actions : map (λ own. own.items) c.actions.items ≡ map (action_counts g) (players_of g)
   pub strategies : c.strategies.items

@@ -1,11 +1,11 @@
 -- Demands on choices, as numbers in mixed radix: a digit for each set at which a player has several
--- actions, which is 0 where any action will do, and else the action's position. The slowest goes
--- first.
+-- actions; it is 0 if any action will do, and otherwise the action's position. The slowest digit
+-- comes first.
 use Rattle.std.specs.Prelude.{ℕ, ◌+◌, ◌-◌, ◌*◌, ◌&&◌, Bool, true, false, List, [], ◌∷◌, map}
 use Rattle.std.specs.Prelude.{nat_le, nat_lt, if◌then◌else◌}
 use Rattle.gf_nfg.specs.Profiles.{product}
 
--- how many values each digit has, where there are so many actions
+-- how many values each digit has, if there are this many actions
 abbrev pub spans : List ℕ → List ℕ
 spans actions = map (λ n. n + 1) actions
 
@@ -14,7 +14,7 @@ abbrev pub steps_of : List ℕ → List ℕ
 steps_of [] = []
 steps_of (n ∷ faster) = product (spans faster) ∷ steps_of faster
 
--- whether these choices, one for each digit, are such as a number demands
+-- whether these choices, one for each digit, meet the demands of a number
 abbrev pub meets : List ℕ → List ℕ → ℕ → Bool
 meets (step ∷ steps) (action ∷ actions) demands =
     if nat_lt demands step then meets steps actions demands

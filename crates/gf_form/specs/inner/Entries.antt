@@ -19,7 +19,7 @@ pub record Entry : Type 0 where
 abbrev pub number_at : ℕ → Entry → ℤ
 number_at k e = get_or e.row k (pos 0)
 
--- the terms of these heads, each with so many of the numbers
+-- the terms of these heads, each with this many of the numbers
 abbrev pub entries_of : ℕ → List Head → List ℤ → List Entry
 entries_of players [] numbers = []
 entries_of players (h ∷ hs) numbers =
@@ -28,7 +28,7 @@ entries_of players (h ∷ hs) numbers =
 abbrev pub entries : Terms → List Entry
 entries t = entries_of t.players t.heads.items t.numbers.items
 
--- each term has a number in bound for each player
+-- each term has a number within bounds for each player
 pub record IsShaped (t : Terms) : Type 0 where
   pub count : length t.numbers.items ≡ length t.heads.items * t.players
   pub within : AllByRecursion IsWithin t.numbers.items
@@ -40,13 +40,13 @@ AreOrdered t = IsNonDecreasingBy (λ (h : Head). h.demands) t.heads.items
 abbrev pub no_head : Head
 no_head = record { demands = 0; den = 0; size = 0 }
 
--- of heads in order of demands, so many come before a number
+-- among heads in order of demands, this many come before a number
 pub record CountsBelow (heads : List Head) (number count : ℕ) : Type 0 where
   pub bound : count ≤ length heads
   pub below : (k : ℕ) → k < count → (get_or heads k no_head).demands < number
   pub above : (k : ℕ) → count ≤ k → k < length heads → number ≤ (get_or heads k no_head).demands
 
--- the last of these, if any, demands no more
+-- the last of these, if there is one, demands no more
 abbrev pub EndsBelow : List Head → ℕ → Type 0
 EndsBelow heads n =
     (d : Head) → 0 < length heads → (get_or heads (length heads - 1) d).demands ≤ n
@@ -79,7 +79,7 @@ pub record IsScale (a b : Head) (s : Scale) : Type 0 where
   pub second : IsFactor b.den s.den s.second
   pub size : a.size * (s.den / a.den) + b.size * (s.den / b.den) ≤ s.size
 
--- a row more, of sums of numbers, each times its factor, if they are known to fit
+-- one more row, of sums of numbers, each times its factor, if they are known to fit
 pub record HasNumbers (first second : List ℤ) (by_first by_second : ℕ) (fits : Bool)
     (old new : List ℤ) : Type 0 where
   pub row : List ℤ
@@ -100,7 +100,7 @@ pub record IsSumOf (a b sum : Entry) : Type 0 where
   pub numbers : (k : ℕ) → number_at k sum ≡ number_at k a *ℤ pos (sum.head.den / a.head.den)
       +ℤ number_at k b *ℤ pos (sum.head.den / b.head.den)
 
--- a term more, with the demands of the first, that is the sum of two if it is known to fit
+-- one more term, with the demands of the first, which is the sum of two if it is known to fit
 pub record HasSum (a b : Entry) (old new : List Entry) : Type 0 where
   pub sum : Entry
   pub is : new ≡ old ++ sum ∷ []
@@ -117,7 +117,7 @@ IsExactAt den steps choices e =
 abbrev pub AreExactAt : ℕ → List ℕ → List ℕ → List Entry → Type 0
 AreExactAt den steps choices es = AllByRecursion (IsExactAt den steps choices) es
 
--- what the terms that are met come to, of the player at this place, from 0
+-- what the terms that are met come to for the player at this place, from 0
 abbrev pub sum_of_entries : ℕ → ℕ → List ℕ → List ℕ → List Entry → ℤ
 sum_of_entries k den steps choices [] = pos 0
 sum_of_entries k den steps choices (e ∷ es) =

@@ -1,5 +1,5 @@
 -- The first strategies of the players that reduce to each of their reduced strategies, and the
--- payoffs where they meet.
+-- payoffs at which they meet.
 use Rattle.std.specs.Prelude.{◌≡◌, ℕ, ◌<◌, List, [], get_or, length, map}
 use Rattle.std.specs.List.{AllByRecursion, AllZip, Contains}
 use Rattle.gf_fraction.specs.Ratio.{Ratio}

@@ -5,7 +5,7 @@ use Rattle.gf_fraction.specs.Ratio.{Ratio, IsFraction}
 use Rattle.gf_nfg.specs.Limit.{profile_limit}
 use Rattle.gf_nfg.specs.Profiles.{product}
 
--- labels of the strategies of so many players, and a row of payoffs for each profile
+-- labels for the strategies of this many players, and a row of payoffs for each profile
 pub record FitsTable (players : ℕ) (labels : List (List (List ℕ))) (payoffs : List Ratio)
     : Type 0 where
   pub one_list_each : length labels ≡ players

@@ -12,7 +12,7 @@ use Rattle.gf_form.specs.declared.digits.Digits.{Digits}
 abbrev pub actions_at : List Digit → List ℕ
 actions_at digits = map (λ d. d.actions) digits
 
--- each digit has the step that comes of the faster ones
+-- each digit has the step that the faster ones give it
 abbrev pub HaveSteps : List Digit → Type 0
 HaveSteps digits = map (λ d. d.step) digits ≡ steps_of (actions_at digits)
 
@@ -24,8 +24,8 @@ abbrev pub digit_steps : Digits → List ℕ
 digit_steps d = map (λ digit. digit.step) d.digits.items
 
 -- Each digit has its step, and all values of all digits are within 64 bits. There are as many
--- choices of an action at each digit as profiles, in the same order: those with the number of a
--- profile are the choices of its strategies.
+-- choices of an action at each digit as there are profiles, in the same order: the choices with the
+-- number of a profile are those of its strategies.
 pub record HasDigits (g : Game) (d : Digits) : Type 0 where
   pub steps : digit_steps d ≡ steps_of (digit_actions d)
   pub within : product (spans (digit_actions d)) < 2 ^ 64

@@ -12,6 +12,6 @@ use Rattle.gf_form.specs.declared.paths.Reached.{Reached}
 abbrev pub is_paid : List (List Ratio) → Reached → Bool
 is_paid rows r = nat_lt 0 (length (row_at rows r.outcome))
 
--- in prefix order, where each set has the step of its digit
+-- in prefix order, if each set has the step of its digit
 abbrev pub paid_reached : List (List Ratio) → Game → (SetKey → ℕ) → List Reached
 paid_reached rows g steps = filter (is_paid rows) (reached g steps root_path g.tree)

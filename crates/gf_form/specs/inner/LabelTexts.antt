@@ -6,6 +6,6 @@ use Rattle.std.specs.Option.{option_map_or}
 abbrev pub IsPlain : ℕ → Type 0
 IsPlain b = ((b == 34) ≡ false) × ((b == 92) ≡ false)
 
--- the choice at a set, `*` where there is none
+-- the choice at a set, or `*` if there is none
 abbrev pub choice_text : Option ℕ → List ℕ
 choice_text choice = option_map_or decimal choice (codes "*")

@@ -1,4 +1,4 @@
--- Which visits of a player are left behind his choices, level by level, and which of his sets are
+-- Which visits of a player are left after his choices, level by level, and which of his sets are
 -- known to be met.
 use Rattle.std.specs.Prelude.{◌≡◌, ◌≤◌, ◌<◌, ◌-◌, ◌==◌, ◌&&◌, ◌||◌, ◌⊎◌, not, nat_le, nat_lt, ℕ, suc}
 use Rattle.std.specs.Prelude.{Bool, true, false, List, [], Some, get_or, length, map, slice_get}
@@ -9,13 +9,13 @@ use Rattle.gf_form.specs.declared.levels.Levels.{Levels}
 use Rattle.gf_form.specs.declared.visits.Move.{Move}
 use Rattle.gf_form.specs.declared.visits.Visit.{Visit}
 
--- The levels of sets, by their positions, where there are so many levels. A set that is none of
--- these is on the first.
+-- The levels of sets, by their positions, if there are this many levels. A set that is not one of
+-- these is on the first level.
 pub record AreLevels (levels : List ℕ) (count : ℕ) : Type 0 where
   pub some : 1 ≤ count
   pub each : AllByRecursion (λ level. (1 ≤ level) × (level ≤ count)) levels
 
--- the highest levels of the moves before visits, by the numbers of these, from 1
+-- the highest levels of the moves before visits, by the numbers of the visits, from 1
 pub record AreHighest (visits : List Visit) (levels highest : List ℕ) : Type 0 where
   pub counted : length highest ≡ suc (length visits)
   pub visit : (k : ℕ) (v : Visit) → slice_get visits k ≡ Some v
@@ -79,13 +79,13 @@ pub record AreOpen (visits : List Visit) (levels highest : List ℕ) (level : �
   pub complete : AllByRecursion (λ number. get_or highest number 0 ≤ level
       → get_or known ((visit_at visits number).set - 1) false ≡ true) numbers
 
--- the same, or nothing that tells more
+-- the same, or nothing that says more
 abbrev pub IsLevel : ℕ → List Visit → List ℕ → List ℕ → ℕ → List ℕ → List ℕ → List Bool → Type 0
 IsLevel sets visits levels highest level strategy numbers known =
     ((numbers ≡ []) × TellsAll sets visits levels level strategy known)
     ⊎ AreOpen visits levels highest level strategy numbers known
 
--- what is left on so many levels, and what is known
+-- what is left on this many levels, and what is known
 abbrev pub left_to : Levels → ℕ → List ℕ
 left_to l level = get_or (map (λ list. list.items) l.lists.items) level []
 
@@ -96,7 +96,7 @@ known_to l level = get_or (map (λ known. known.items) l.known.items) level []
 abbrev pub last_known : Levels → List Bool
 last_known l = known_to l (length l.known.items - 1)
 
--- what is left of visits to so many sets, and what is known, on the levels that are reached
+-- what is left of the visits to this many sets, and what is known, on the levels that are reached
 pub record IsLevels (sets : ℕ) (visits : List Visit) (l : Levels) : Type 0 where
   pub levels : AreLevels l.of_sets.items l.count
   pub highest : AreHighest visits l.of_sets.items l.of_visits.items

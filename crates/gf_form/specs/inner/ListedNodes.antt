@@ -30,7 +30,7 @@ pub record IsTermOf (g : Game) (players : ℕ) (r : Reached) (e : Entry) : Type 
   pub demands : e.head.demands ≡ r.path.demands
   pub shares : 0 < e.head.den → (k : ℕ) → k < players → HasShare g r e k
 
--- the term of a node more, by these rows of payoffs
+-- the term of one more node, by these rows of payoffs
 pub record IsTermMore (rows : List (List Ratio)) (r : Reached) (old new : Terms) : Type 0 where
   pub term : Entry
   pub is : entries new ≡ entries old ++ term ∷ []

@@ -1,4 +1,4 @@
--- What is left of the nodes that choices can reach while they are told.
+-- What is left of the nodes that choices can reach while a walk gives them.
 use Rattle.std.specs.Prelude.{ℕ, suc, ◌+◌, ◌==◌, List, [], ◌∷◌, ◌++◌, length, map, Option, Some}
 use Rattle.std.specs.Prelude.{None, if◌then◌else◌}
 use Rattle.gf_fraction.specs.Ratio.{Ratio}
@@ -19,18 +19,18 @@ use Rattle.gf_form.specs.declared.paths.Path.{Path}
 use Rattle.gf_form.specs.declared.paths.Paths.{Paths}
 use Rattle.gf_form.specs.declared.paths.Reached.{Reached}
 
--- the nodes of a branch, where these are the steps of the digits of each player's sets
+-- the nodes of a branch, if these are the steps of the digits of each player's sets
 abbrev pub branch_nodes : List (List ℕ) → Path → Branch → List Reached
 branch_nodes all path b = reached (game_of b) (choices_by (game_of b) all) path (tree_of b)
 
--- those of these children of a node of chance, the first of which has position k
+-- those of these children of a node of chance; the first one has position k
 abbrev pub lot_nodes : Game → (SetKey → ℕ) → Path → (ℕ → Ratio) → ℕ → List (Tree Node)
     → List Reached
 lot_nodes g steps path chances k [] = []
 lot_nodes g steps path chances k (t ∷ ts) =
     reached g steps (by_chance path (chances k)) t ++ lot_nodes g steps path chances (k + 1) ts
 
--- those of these children of a player's node, the first of which has position k
+-- those of these children of a player's node; the first one has position k
 abbrev pub any_nodes : Game → (SetKey → ℕ) → Path → ℕ → ℕ → List (Tree Node) → List Reached
 any_nodes g steps path step k [] = []
 any_nodes g steps path step k (t ∷ ts) =
@@ -41,12 +41,12 @@ abbrev pub option_nodes : Game → (SetKey → ℕ) → Path → Option (Tree No
 option_nodes g steps path None = []
 option_nodes g steps path (Some t) = reached g steps path t
 
--- the action that is taken at a set whose digit has this step, where there are so many; 0 where any
--- will do
+-- the action that is taken at a set with this many actions whose digit has this step; 0 if any
+-- action will do
 abbrev pub taken : Path → ℕ → ℕ → ℕ
 taken path step actions = if step == 0 then 1 else demanded path.demands step actions
 
--- the nodes below a player's node, where this action is taken
+-- the nodes below a player's node, if this action is taken
 abbrev pub nodes_by : List (List ℕ) → Branch → Path → ℕ → ℕ → List Reached
 nodes_by all b path step action =
     if action == 0
@@ -63,7 +63,7 @@ open_nodes all (Choice rest path step) =
     any_nodes (game_of_branches rest) (choices_by (game_of_branches rest) all) path step
     (branches_given rest + 1) (branches_left rest)
 
--- of the nodes that are open, the last one goes first
+-- among the open nodes, the last one comes first
 abbrev pub below : List (List ℕ) → List Open → List Reached → List Reached
 below all [] rs = rs
 below all (o ∷ os) rs = below all os (open_nodes all o ++ rs)
@@ -84,7 +84,7 @@ nodes_behind p = below (steps_of_paths p) p.open.items []
 abbrev pub nodes_left : Paths → List Reached
 nodes_left p = next_nodes (steps_of_paths p) p.next ++ nodes_behind p
 
--- how many open nodes can still be closed before a node is told
+-- how many open nodes can still be closed before a node is given
 abbrev pub turns_before : Option (Branch × Path) → List Open → ℕ
 turns_before None os = suc (length os)
 turns_before (Some next) os = 0

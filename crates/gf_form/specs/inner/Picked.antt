@@ -1,4 +1,4 @@
--- Strategies that are picked for a table, of each player those with these numbers, from 0.
+-- Strategies that are picked for a table: for each player, those with these numbers, from 0.
 use Rattle.std.specs.Prelude.{◌≡◌, ℕ, ◌+◌, ◌-◌, ◌<◌, List, get_or, length, map, true, zip}
 use Rattle.std.specs.List.{AllByRecursion, AllZip}
 use Rattle.gf_nfg.specs.Profiles.{profiles}
@@ -23,7 +23,7 @@ full_at numbers profile = map (λ p. get_or p.0 (p.1 - 1) 0 + 1) (zip numbers pr
 abbrev pub picked_profiles : List (List ℕ) → List (List ℕ)
 picked_profiles numbers = map (full_at numbers) (profiles (map length numbers))
 
--- picked of a game, and counted
+-- picked from a game, and counted
 pub record IsPicked (g : Game) (picked : Picked) : Type 0 where
   pub numbers : AreNumbers g (numbers_in picked)
   pub profiles : picked.profiles.count ≡ length (picked_profiles (numbers_in picked))

@@ -32,7 +32,7 @@ abbrev mutual
       (λ key. if key.player == 0 then Begin ∷ chance_code g choices (chances_at g n) 1 ts
       else child_code g choices (choices key) ts)
 
-  -- those that add each of these children to the sum, the first of which has position k
+  -- those that add each of these children to the sum; the first one has position k
   pub chance_code : Game → (SetKey → ℕ) → (ℕ → Ratio) → ℕ → Trees Node → List Op
   chance_code g choices chances k none = []
   chance_code g choices chances k (more t ts) =
@@ -52,8 +52,8 @@ paid g player position = unwrap_or (option_and_then (λ number.
     option_and_then (λ outcome. at_position outcome.payoffs player) (outcome_at g number))
     (at_position (outcome_numbers g) position)) zero_ratio
 
--- the values of a player behind these operations, the last one first; none is left where an
--- operation lacks one
+-- the values of a player after these operations, the last one first; none is left if an operation
+-- lacks one
 abbrev pub run : Game → ℕ → List Op → List (Option Ratio) → List (Option Ratio)
 run g player [] values = values
 run g player (Push position ∷ ops) values =

@@ -1,4 +1,4 @@
--- How the visits of a player tell which of his sets are relevant.
+-- How the visits of a player show which of his sets are relevant.
 use Rattle.std.specs.Prelude.{◌≡◌, ℕ, Bool, List, Some, length}
 use Rattle.gf_token.specs.Positions.{at_position}
 use Rattle.gf_tree.specs.Description.{SetKey}
@@ -9,7 +9,7 @@ use Rattle.gf_form.specs.Strategies.{choice_at}
 use Rattle.gf_form.specs.inner.Visits.{AreOrdered, Reaches, chosen, is_met}
 use Rattle.gf_form.specs.declared.visits.Visit.{Visit}
 
--- a set is relevant under a strategy exactly where it is met on a visit that comes about by it
+-- a set is relevant under a strategy exactly if it is met on a visit that comes about by it
 pub record FindRelevance (g : Game) (player : ℕ) (visits : List Visit) : Type 0 where
   pub ordered : AreOrdered (length (player_keys g player)) 1 visits
   pub relevant : (strategy : List ℕ) (reached : ℕ → Bool) (position : ℕ) (key : SetKey)

@@ -13,16 +13,16 @@ use Rattle.gf_form.specs.inner.Values.{plus_of, times_of}
 abbrev pub at_place : List Ratio → ℕ → Ratio
 at_place row k = get_or row k zero_ratio
 
--- fractions, one for each of so many players, or none
+-- fractions, one for each of this many players, or none
 pub record IsRow (players : ℕ) (row : List Ratio) : Type 0 where
   pub one_each : 0 < length row → length row ≡ players
   pub fractions : AllByRecursion IsFraction row
 
--- the row at a position, from 1; at no position there is an empty one
+-- the row at a position, from 1; if there is no such position, an empty row
 abbrev pub row_at : List (List Ratio) → ℕ → List Ratio
 row_at rows position = unwrap_or (at_position rows position) []
 
--- a row of what each outcome of the game pays, by its position
+-- for each outcome of the game, by its position, a row of what it pays
 pub record ArePaid (g : Game) (rows : List (List Ratio)) : Type 0 where
   pub paid_is : (position k : ℕ) → at_place (row_at rows position) k ≡ paid g (suc k) position
   pub row : (position : ℕ) → IsRow (length g.players) (row_at rows position)

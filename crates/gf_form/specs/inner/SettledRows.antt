@@ -47,7 +47,7 @@ pub record SettlesAt (g : Game) (actions : List ℕ) (terms : Terms) (least numb
 
 -- ---- what is asked
 
--- of each profile of the strategies that are picked its number among all, from 0
+-- for each profile of the strategies that are picked, its number among all, from 0
 pub record AreFullNumbers (g : Game) (picked : Picked) (numbers : List ℕ) : Type 0 where
   pub as_many : length numbers ≡ length (picked_profiles (numbers_in picked))
   pub each : (i : ℕ) → i < length numbers → (get_or numbers i 0 < length (full_profiles g))
@@ -60,7 +60,7 @@ pub record IsAsked (asked : Asked) : Type 0 where
   pub picked : IsPicked asked.game.now asked.picked.now
   pub numbers : AreFullNumbers asked.game.now asked.picked.now asked.numbers.now
 
--- the first rows, so many
+-- this many of the first rows
 pub record AreWritten (asked : Asked) (count : ℕ) (written : Written) : Type 0 where
   pub rows : AreRowsAt (ArePayoffsAt asked.game.now)
       (take count (picked_profiles (numbers_in asked.picked.now))) written.rows.items
@@ -85,7 +85,7 @@ pub record IsRowOver (den : ℕ) (terms : Terms) : Type 0 where
       ≡ get_or terms.numbers.items k (pos 0)
   pub numbers : (k : ℕ) → IsWithin (get_or terms.numbers.items k (pos 0))
 
--- so many fractions more, that have these numbers over a denominator as their values
+-- this many more fractions, whose values are these numbers over a denominator
 pub record HasRowOver (den players : ℕ) (numbers : List ℤ) (old new : List Ratio) : Type 0 where
   pub row : List Ratio
   pub is : new ≡ old ++ row

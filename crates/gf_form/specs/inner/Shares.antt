@@ -15,7 +15,7 @@ use Rattle.gf_form.specs.declared.paths.Path.{Path}
 use Rattle.gf_form.specs.declared.paths.Reached.{Reached}
 use Rattle.gf_form.specs.declared.share.Share.{Share}
 
--- what is left of the common denominator behind a path
+-- what is left of the common denominator after a path
 abbrev pub scale : ℕ → Reached → ℕ
 scale den r = den / r.path.den
 
@@ -23,7 +23,7 @@ scale den r = den / r.path.den
 abbrev pub over : ℕ → Ratio → ℤ
 over den pay = pay.num *ℤ pos (den / pay.den)
 
--- what a path adds to a payoff over a common denominator, where nothing is left over
+-- what a path adds to a payoff over a common denominator, if there is no remainder
 pub record IsShare (path : Path) (pay : Ratio) (den : ℕ) (s : Share) : Type 0 where
   pub exact : pay.den ∣ den / path.den
   pub amount_is : s.amount ≡ pos path.weight *ℤ over (den / path.den) pay
@@ -60,14 +60,14 @@ met_bounds g player den steps choices (r ∷ rs) =
     (if meets steps choices r.path.demands then share_bound g player den r else 0)
     + met_bounds g player den steps choices rs
 
--- nothing is left over of its share, if these choices reach the node and it pays the player
+-- its share has no remainder, if these choices reach the node and it pays the player
 abbrev pub IsExactIfMet : Game → ℕ → ℕ → List ℕ → List ℕ → Reached → Type 0
 IsExactIfMet g player den steps choices r =
     meets steps choices r.path.demands ≡ true → ¬ (pay_at g player r ≡ zero_ratio)
     → IsExact g player den r
 
--- over this denominator no share of the player that these choices reach has a remainder, and all of
--- those together are in bound
+-- over this denominator, no share of the player that these choices reach has a remainder, and all
+-- of these together are within bounds
 pub record FitsAt (g : Game) (player den : ℕ) (steps choices : List ℕ) (rs : List Reached) : Type 0
   where
     pub den_above_zero : 0 < den
@@ -75,8 +75,8 @@ pub record FitsAt (g : Game) (player den : ℕ) (steps choices : List ℕ) (rs :
     pub exact : AllByRecursion (IsExactIfMet g player den steps choices) rs
     pub within : met_bounds g player den steps choices rs < 2 ^ 127
 
--- a set with one action alone has no digit, and its action is chosen; another has one, with a value
--- for each action, at which the choice is the same
+-- a set with only one action has no digit, and its action is chosen; any other set has one, with a
+-- value for each action, at which the choice is the same
 pub record IsDigitOf (actions choices : List ℕ) (step count choice : ℕ) : Type 0 where
   pub place : ℕ
   pub within : place < length actions
@@ -84,9 +84,9 @@ pub record IsDigitOf (actions choices : List ℕ) (step count choice : ℕ) : Ty
   pub actions_are : get_or actions place 0 ≡ count
   pub choice_is : get_or choices place 0 ≡ choice
 
--- These are the numbers of actions at the digits, from the slowest on, and the choices at them,
--- where each set of a player has the step of its digit, or 0 if it has one action alone. All values
--- of all digits are within 64 bits.
+-- These are the numbers of actions at the digits, from the slowest on, and the choices at them, if
+-- each set of a player has the step of its digit, or 0 if it has only one action. All values of all
+-- digits are within 64 bits.
 pub record AreDigits (g : Game) (steps choose : SetKey → ℕ) (actions choices : List ℕ) : Type 0
   where
     pub within : product (spans actions) < 2 ^ 64

@@ -1,4 +1,4 @@
--- A strategy by flags, which tell the sets that are relevant under it.
+-- A strategy with flags, which mark the sets that are relevant under it.
 use Rattle.std.specs.Prelude.{ℕ, ◌==◌, ◌&&◌, ◌||◌, Bool, true, List, [], ◌∷◌, map, Option}
 use Rattle.std.specs.Prelude.{Some, None, if◌then◌else◌}
 use Rattle.gf_tree.specs.FirstUse.{player_keys}
@@ -11,13 +11,13 @@ abbrev pub relevant_sets : Game → ℕ → List ℕ → List Bool
 relevant_sets g player strategy =
     map (is_relevant g (choice_at (player_keys g player) strategy)) (player_keys g player)
 
--- the choices where the flag is set
+-- the choices at which the flag is set
 abbrev pub shown : List Bool → List ℕ → List (Option ℕ)
 shown (flag ∷ flags) (action ∷ strategy) =
     (if flag then Some action else None) ∷ shown flags strategy
 shown _ _ = []
 
--- the first action is chosen where it is not
+-- the first action is chosen where the flag is not set
 abbrev pub chooses_first : List Bool → List ℕ → Bool
 chooses_first (flag ∷ flags) (action ∷ strategy) =
     (flag || action == 1) && chooses_first flags strategy

@@ -1,4 +1,4 @@
--- What a survey of a tree has found, and what it has still to find.
+-- What a survey of a tree has found, and what it has yet to find.
 use Rattle.std.specs.Prelude.{◌≡◌, ◌≤◌, ◌+◌, ◌*◌, ◌||◌, ℕ, Bool, List, [], ◌∷◌, length, Some}
 use Rattle.std.specs.Prelude.{if◌then◌else◌}
 use Rattle.std.specs.List.{AllByRecursion, list_any}
@@ -21,13 +21,13 @@ abbrev pub last_move : Open → ℕ → Move
 last_move o k =
     if o.is_own then record { visit = o.last.visit; set = o.last.set; action = k } else o.last
 
--- the set stands below the node, in a branch that is left
+-- the set occurs below the node, in a branch that is left
 abbrev pub open_comes : List ℕ → (ℕ → Bool) → (SetKey → ℕ) → SetKey → Open → Bool
 open_comes strategy reached choices key o =
     list_comes choices key (λ k. is_taken (chosen strategy) reached (last_move o k))
     (branches_given o.rest + 1) (branches_left o.rest)
 
--- it was met already, or stands below a node that is open
+-- it was met already, or occurs below an open node
 abbrev pub survey_comes : List ℕ → (ℕ → Bool) → (SetKey → ℕ) → ℕ → SetKey → Survey → Bool
 survey_comes strategy reached choices position key s =
     is_met reached position 1 (visits_of s.visits)
@@ -44,7 +44,7 @@ FindsMore g old new this = (strategy : List ℕ) (reached : ℕ → Bool) (posit
     ≡ (survey_comes strategy reached (choice_at (player_keys g old.player) strategy) position key old
     || this strategy reached (choice_at (player_keys g old.player) strategy) key))
 
--- its branches are those of the game, and its visits stand in order
+-- its branches are those of the game, and its visits are in order
 pub record IsSurvey (g : Game) (s : Survey) : Type 0 where
   pub games : AllByRecursion (λ o. game_of_branches o.rest ≡ g) s.nodes.items
   pub visited : AllByRecursion (λ o. o.last.visit ≤ length (visits_of s.visits)) s.nodes.items

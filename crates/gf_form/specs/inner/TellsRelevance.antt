@@ -1,4 +1,4 @@
--- What tells the relevant sets of a player under each of his strategies.
+-- What shows the relevant sets of a player under each of his strategies.
 use Rattle.std.specs.Prelude.{ℕ, length}
 use Rattle.gf_tree.specs.FirstUse.{player_keys}
 use Rattle.gf_tree.specs.Game.{Game}

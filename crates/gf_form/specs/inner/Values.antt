@@ -1,5 +1,5 @@
--- The bottom-up value, computed. No public contract cites it: that it is the value which the
--- relation has is proved in proofs/ValuesComputed.
+-- The bottom-up value, computed. No public contract cites it: proofs/ValuesComputed proves that it
+-- is the value of the relation.
 use Rattle.std.specs.Prelude.{ℕ, zero, suc, ◌+◌, ◌==◌, Option, Some, None, if◌then◌else◌}
 use Rattle.gf_fraction.specs.Ratio.{Ratio}
 use Rattle.gf_fraction.specs.Rational.{zero_ratio}
@@ -11,12 +11,12 @@ use Rattle.gf_tree.specs.Description.{SetKey}
 use Rattle.gf_tree.specs.Game.{Game, Node}
 use Rattle.gf_form.specs.Payoff.{payoff_at, probability}
 
--- the sum, where both are defined and it fits
+-- the sum, if both are defined and it fits
 abbrev pub plus_of : Option Ratio → Option Ratio → Option Ratio
 plus_of (Some x) (Some y) = sum_of x y
 plus_of _ _ = None
 
--- a multiple, where it is defined and fits
+-- a multiple, if it is defined and fits
 abbrev pub times_of : Ratio → Option Ratio → Option Ratio
 times_of p (Some x) = product_of p x
 times_of p None = None
@@ -25,7 +25,7 @@ times_of p None = None
 abbrev pub chances_at : Game → Node → ℕ → Ratio
 chances_at g n k = probability g (record { node = n; taken = k })
 
--- at a node of this set, what comes from below is added to its payoff; at a leaf nothing does
+-- at a node of this set, what comes from below is added to its payoff; at a leaf, nothing is
 abbrev pub value_over : Ratio → Option SetKey → (SetKey → Option Ratio) → Option Ratio
 value_over own None below = Some own
 value_over own (Some key) below = plus_of (Some own) (below key)
@@ -38,8 +38,8 @@ abbrev mutual
       then chance_value g choices player (chances_at g n) 1 (Some zero_ratio) ts
       else child_value g choices player (choices key) ts)
 
-  -- the sum so far, and probability times value of each of these children in turn, the first of
-  -- which has position k
+  -- the sum so far, plus probability times value of each of these children in turn; the first one
+  -- has position k
   pub chance_value : Game → (SetKey → ℕ) → ℕ → (ℕ → Ratio) → ℕ → Option Ratio → Trees Node
       → Option Ratio
   chance_value g choices player chances k sum none = sum

@@ -20,7 +20,7 @@ abbrev pub AreNumbers : List Visit → List ℕ → Type 0
 AreNumbers visits numbers =
     AllByRecursion (λ number. (1 ≤ number) × (number ≤ length visits)) numbers
 
--- what a strategy chooses at the set with this position, and 0 where there is none
+-- what a strategy chooses at the set with this position, and 0 if there is none
 abbrev pub chosen : List ℕ → ℕ → ℕ
 chosen strategy position = unwrap_or (at_position strategy position) 0
 
@@ -28,13 +28,13 @@ chosen strategy position = unwrap_or (at_position strategy position) 0
 abbrev pub is_taken : (ℕ → ℕ) → (ℕ → Bool) → Move → Bool
 is_taken choices reached last = reached last.visit && choices last.set == last.action
 
--- of visits, the first of which has this number: each comes about where its last move is taken
+-- for visits, the first of which has this number: each comes about if its last move is taken
 abbrev pub AreReached : (ℕ → ℕ) → (ℕ → Bool) → ℕ → List Visit → Type 0
 AreReached choices reached number [] = ⊤
 AreReached choices reached number (v ∷ vs) =
     (reached number ≡ is_taken choices reached v.last) × AreReached choices reached (number + 1) vs
 
--- which visits come about by these choices; before the first move is number 0
+-- which visits come about by these choices; number 0 is before the first move
 abbrev pub Reaches : (ℕ → ℕ) → (ℕ → Bool) → List Visit → Type 0
 Reaches choices reached visits = (reached 0 ≡ true) × AreReached choices reached 1 visits
 
@@ -44,7 +44,7 @@ is_met reached position number [] = false
 is_met reached position number (v ∷ vs) =
     (v.set == position && reached number) || is_met reached position (number + 1) vs
 
--- each comes behind an earlier one, and is to one of so many sets
+-- each comes after an earlier one, and is to one of this many sets
 abbrev pub AreOrdered : ℕ → ℕ → List Visit → Type 0
 AreOrdered sets number [] = ⊤
 AreOrdered sets number (v ∷ vs) =

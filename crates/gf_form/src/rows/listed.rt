@@ -27,7 +27,8 @@ use std::alloc::{AllocError, Global};
 /// The greatest denominator, and the greatest sum of sizes.
 const LARGEST: u128 = i128::MAX as u128;
 
-/// A multiple of a denominator: this one, if it is one, and else the denominator.
+/// A multiple of a denominator: this one, if it is a multiple, and otherwise the denominator
+/// itself.
 fn served(den: u128, common: u128) -> u128
     ensures { den ∣ result }
 {
@@ -38,7 +39,7 @@ fn served(den: u128, common: u128) -> u128
 }
 
 /// A denominator that serves what a path adds to each of these payoffs: this one, if it does, and
-/// else the least; 0 if that is too large.
+/// otherwise the least that does; 0 if that is too large.
 fn denominator(path: Path, row: &[Fraction], common: u128) -> u128
     ensures { path.den ∣ result }
 {
@@ -69,8 +70,8 @@ fn common_denominator(nodes: &[Reached], payoffs: &Payoffs<'_>) -> Option<u128> 
     Some(common)
 }
 
-/// What a path adds to a payoff over a denominator that serves the path; `None` if that is 0, or
-/// something is left over or too large.
+/// What a path adds to a payoff over a denominator that serves the path; `None` if that is 0, or if
+/// there is a remainder or something is too large.
 fn share_in(path: Path, payoff: Fraction, den: u128) -> Option<Share>
     requires { path.den ∣ den }
     ensures share { IfSome result (IsShareIn path payoff den) }
@@ -120,7 +121,7 @@ fn push_node(
 }
 
 impl Terms {
-    /// If the last two terms have the same demands, their sum takes the place of both. It is made in
+    /// If the last two terms have the same demands, replaces both by their sum, which is made in
     /// another list.
     fn join_last(&mut self, spare: &mut Terms) -> Result<(), AllocError>
         requires shaped { IsShaped self.old }
@@ -163,7 +164,7 @@ impl Terms {
     }
 }
 
-/// The terms of nodes that stand in order of demands, over this denominator where it serves.
+/// The terms of nodes in order of demands, over this denominator if it serves.
 fn listed_over(
     alloc: Global,
     nodes: &[Reached],
@@ -187,8 +188,8 @@ fn listed_over(
     Ok(terms)
 }
 
-/// The terms of nodes that stand in order of demands: over one denominator, if they fit together, so
-/// that they are quick to add.
+/// The terms of nodes in order of demands: over one denominator if they fit together, so that they
+/// are quick to add.
 fn listed(
     alloc: Global,
     nodes: &[Reached],

@@ -18,7 +18,7 @@ fn count_below(heads: &[Head], number: u64) -> usize
 }
 
 impl Terms {
-    /// What the terms of a list become takes the place of these, if this action is chosen at the slowest
+    /// Replaces these by what the terms of a list become if this action is chosen at the slowest
     /// digit, whose step is given.
     pub(crate) fn merge(&mut self, from: &Terms, step: u64, action: u32) -> Result<(), AllocError>
         requires players { self.old.players ≡ from.now.players }

@@ -7,7 +7,7 @@ ghost use Rattle.gf_form.specs.inner.Entries.{IsFactor, IsScale};
 use crate::rows::terms::Head;
 use gf_fraction::Fraction;
 
-/// How two terms come over one denominator.
+/// How two terms are brought over one denominator.
 #[derive(Clone, Copy)]
 pub(crate) struct Scale {
     pub den: u128,
@@ -18,14 +18,15 @@ pub(crate) struct Scale {
     pub second: u128,
 }
 
-/// The least denominator that serves both; `None` if it is too large. In lowest terms `a / b` has the
-/// denominator that `a` lacks of it.
+/// The least denominator that serves both; `None` if it is too large. The denominator of `a / b` in
+/// lowest terms is the factor by which `a` has to be multiplied for it.
 pub(crate) fn multiple(a: u128, b: u128) -> Option<u128> {
     let ratio = Fraction::new(i128::try_from(a).ok()?, b).ok()?;
     a.checked_mul(ratio.den())
 }
 
-/// What a denominator has to be multiplied by to become another; `None` if that is no whole number.
+/// What a denominator has to be multiplied by to become another; `None` if that is not a whole
+/// number.
 fn factor(den: u128, from: u128) -> Option<u128>
     ensures { IfSome result (IsFactor from den) }
 {
@@ -35,7 +36,7 @@ fn factor(den: u128, from: u128) -> Option<u128>
     Some(den / from)
 }
 
-/// How two terms come over one denominator; `None` if that does not fit.
+/// How two terms are brought over one denominator; `None` if that does not fit.
 #[inline]
 pub(crate) fn scale_of(a: Head, b: Head) -> Option<Scale>
     ensures { IfSome result (IsScale a b) }
@@ -88,7 +89,7 @@ fn weighted(a: i128, by_a: u128, b: i128, by_b: u128) -> Option<i128>
     Some(sum)
 }
 
-/// The sum of two numbers, each times its factor; `None` if it is not in bound.
+/// The sum of two numbers, each times its factor; `None` if it is out of bounds.
 #[inline]
 pub(crate) fn combined(a: i128, by_a: u128, b: i128, by_b: u128) -> Option<i128>
     ensures sum { IfSome result (λ sum. sum ≡ a *ℤ pos by_a +ℤ b *ℤ pos by_b) }

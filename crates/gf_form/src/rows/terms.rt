@@ -11,7 +11,7 @@ ghost use Rattle.gf_form.specs.inner.Entries.{HasNumbers, HasSum, IsShaped, entr
 use crate::rows::sums::{combined, scale_of};
 use std::alloc::{AllocError, Global};
 
-/// What a term demands, and what its numbers are over.
+/// What a term demands, and the denominator of its numbers.
 #[derive(Clone, Copy)]
 pub(crate) struct Head {
     /// The choices that it demands, by their digits.
@@ -87,7 +87,7 @@ impl Terms {
         &self.numbers[start..start + self.players]
     }
 
-    /// Appends the term of a list at this place, from 0, with demands that are lower by this.
+    /// Appends the term of a list at this place, from 0, with its demands lowered by this.
     #[inline]
     pub(crate) fn push(&mut self, from: &Terms, place: usize, less: u64) -> Result<(), AllocError>
         requires players { self.old.players ≡ from.now.players }
@@ -111,7 +111,8 @@ impl Terms {
         Ok(())
     }
 
-    /// Appends numbers that are sums of these, each times its factor; or says that some does not fit.
+    /// Appends numbers that are sums of these, each times its factor; or says that one of them does
+    /// not fit.
     #[inline]
     fn push_numbers(
         &mut self,

@@ -32,7 +32,7 @@ use std::alloc::{AllocError, Global};
 /// The greatest denominator, and the greatest size.
 const LARGEST: u128 = i128::MAX as u128;
 
-/// The profiles of the strategies that are picked, of a game.
+/// The profiles of the strategies that are picked from a game.
 #[derive(Drop)]
 pub(crate) struct Asked<'q, 'g, 'a> {
     pub game: &'q Game<'a>,
@@ -54,19 +54,19 @@ pub(crate) struct Run {
     pub to: u32,
 }
 
-/// The rows so far, and what serves those that are worked out by a walk.
+/// The rows so far, and what is kept for those that are worked out by a walk.
 #[derive(Drop)]
 pub(crate) struct Written {
     pub alloc: Global,
     pub rows: Vec<Fraction>,
-    /// Those of the last profile with a walk.
+    /// The strategies of the last profile with a walk.
     pub strategies: Vec<Vec<u32>>,
     pub values: Values,
-    /// Lists whose room serves others.
+    /// Lists whose room is used again.
     pub spare: Vec<Terms>,
 }
 
-/// The denominator of the row that terms come to which demand nothing; `None` if it is not known to
+/// The denominator of the row that terms which demand nothing come to; `None` if it is not known to
 /// fit.
 fn row_denominator(terms: &Terms) -> Option<u128>
     requires { IsShaped terms.now }
@@ -150,7 +150,7 @@ fn row_by_walk(
 }
 
 impl Written {
-    /// No rows yet, and room for those of so many profiles.
+    /// No rows yet, and room for those of this many profiles.
     pub(crate) fn new(
         alloc: Global,
         counts: &Counts,
@@ -171,7 +171,7 @@ impl Written {
         })
     }
 
-    /// Appends the row of the profile at this place, from 0, to which these terms come.
+    /// Appends the row of the profile at this place, from 0, which these terms come to.
     fn push_row(
         &mut self,
         asked: &Asked<'_, '_, '_>,
@@ -218,7 +218,8 @@ impl Written {
         }
     }
 
-    /// Appends the rows of the profiles from one place up to another, to each of which these terms come.
+    /// Appends the rows of the profiles from one place up to another, each of which these terms
+    /// come to.
     pub(crate) fn push_alike(
         &mut self,
         asked: &Asked<'_, '_, '_>,
@@ -303,8 +304,9 @@ impl Written {
 }
 
 impl Terms {
-    /// What terms come to at the choice of the first of these profiles at the slowest digit takes the
-    /// place of these. Answers those profiles, from the first on, at which the choice is the same.
+    /// Replaces these terms by what they come to at the choice of the first of these profiles at
+    /// the slowest digit. Returns those profiles, from the first on, at which the choice is the
+    /// same.
     fn choose(
         &mut self,
         asked: &Asked<'_, '_, '_>,
@@ -348,8 +350,8 @@ impl Terms {
     }
 }
 
-/// The place after the last number, from a place up to another, of those in turn that are at least
-/// `first`, by less than `count`.
+/// The place after the last number, between one place and another, in the run of numbers that are
+/// at least `first` and exceed it by less than `count`.
 fn run_end(numbers: &[u32], from: u32, to: u32, first: u32, count: u32) -> u32
     requires from { from ≤ to }
     requires to { to ≤ length numbers.now }

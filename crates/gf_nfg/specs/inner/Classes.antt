@@ -1,8 +1,8 @@
--- Places of rows in classes: each place has a parent in its class, and that of a root is itself.
+-- Places of rows in classes: each place has a parent in its class, and a root is its own parent.
 use Rattle.std.specs.Prelude.{◌≡◌, ◌<◌, ◌≤◌, ℕ, List, get_or, length}
 use Rattle.gf_fraction.specs.Ratio.{Ratio}
 
--- each parent is the place or stands before it
+-- each parent is the place itself or an earlier one
 abbrev pub LeadBack : List ℕ → Type 0
 LeadBack parents = (place : ℕ) → get_or parents place 0 ≤ place
 

@@ -1,5 +1,5 @@
--- What the machine answers to the tokens of an input, refusals with their places. It refuses here
--- also what its steps do not: a text without an end, and the profiles past their limit.
+-- What the machine answers to the tokens of an input, refusals with their places. Here it also
+-- refuses what its steps do not: an unterminated text, and profiles past their limit.
 use Rattle.std.specs.Prelude.{◌≡◌, ◌<◌, ℕ, Bool, false, nat_lt, List, [], ◌∷◌, length}
 use Rattle.std.specs.Prelude.{Result, Ok, Err, if◌then◌else◌}
 use Rattle.gf_token.specs.Next.{is_broken}
@@ -15,7 +15,7 @@ use Rattle.gf_nfg.specs.inner.Machine.{Content, State, finish, step}
 use Rattle.gf_nfg.specs.inner.Position.{Position}
 use Rattle.gf_nfg.specs.inner.Position.{Position as p}
 
--- the profiles pass their limit, where the strategies of one player more were read
+-- the profiles pass their limit, after the strategies of one more player were read
 abbrev pub is_past : Position → ℕ → Bool
 is_past p.Counts profiles = nat_lt profile_limit profiles
 is_past p.BeforeList profiles = nat_lt profile_limit profiles
@@ -43,7 +43,7 @@ abbrev pub at_end : ℕ → Result Content Why → Result Content Fault
 at_end end (Ok c) = Ok c
 at_end end (Err why) = refused end end why
 
--- the answer to the tokens to come, before the end of an input of so many bytes
+-- the answer to the tokens to come, before the end of an input of this many bytes
 abbrev pub read_on : ℕ → State → List Lexeme → Result Content Fault
 read_on end s [] = at_end end (finish s)
 read_on end s (l ∷ ls) =
@@ -64,13 +64,13 @@ abbrev pub HasPassed : Result Content Fault → ℕ → Type 0
 HasPassed (Ok content) start = Unit {0}
 HasPassed (Err fault) start = start < fault.span.start
 
--- memory is wanting at a token of the input that the machine has passed
+-- memory ran out at a token of the input that the machine has passed
 pub record HasPassedPlace (before : Answer) (span : Span) : Type 0 where
   pub place : IsPlaceIn before.input span
   pub some : span.start < span.end
   pub passed : HasPassed before.machine span.start
 
--- the code refuses as the machine does, or for want of memory where the machine goes on
+-- the code refuses as the machine does, or for lack of memory if the machine goes on
 pub data Fails (f : Fault) (before : Answer) : Type 0 where
   of_file : before.machine ≡ Err f → Fails f before
   of_memory : f.why ≡ Memory → HasPassedPlace before f.span → Fails f before

@@ -1,5 +1,5 @@
--- The reader of strategic files as a machine: one token at a time. What it means is said in
--- Sentence; no public contract cites this.
+-- The reader of strategic files as a machine: one token at a time. Sentence says what it means; no
+-- public contract cites this file.
 use Rattle.std.specs.Prelude.{ℕ, zero, suc, ◌+◌, ◌-◌, ◌*◌, ◌^◌, ◌||◌, min}
 use Rattle.std.specs.Prelude.{List, [], ◌∷◌, ◌++◌, length, codes, Option, Some, None}
 use Rattle.std.specs.Prelude.{Result, Ok, Err, nat_eq, nat_le, ◌==◌, if◌then◌else◌}
@@ -19,10 +19,10 @@ use Rattle.gf_token.specs.Indices.{count_of, index_of}
 use Rattle.gf_nfg.specs.inner.Position.{Position}
 use Rattle.gf_nfg.specs.inner.Position.{Position as p}
 
--- What was read so far. `counts` says how many strategies each player has, `profiles` is their
--- product, and `labels` has their labels, or none where the file gives counts alone. `payoffs` are
--- rows of the profiles or of the outcomes; `choices` has an outcome's number for each profile, or
--- none in the payoff version.
+-- What was read so far. `counts` says how many strategies each player has, `profiles` is the
+-- product of the counts, and `labels` has the labels, or none if the file gives only counts.
+-- `payoffs` are the rows of the profiles or of the outcomes; `choices` has an outcome's number for
+-- each profile, or none in payoff version.
 pub record Content : Type 0 where
   pub title : List ℕ
   pub comment : List ℕ
@@ -33,9 +33,9 @@ pub record Content : Type 0 where
   pub payoffs : List Ratio
   pub choices : List ℕ
 
--- Where the reader stands; how many counts, lists, payoffs or outcomes' numbers are still due; how
--- many labels stood before the list that is being read; the greatest number of an outcome; and what
--- was read.
+-- Where the reader is; how many counts, lists, payoffs or outcome numbers are still due; how many
+-- labels came before the list that is being read; the greatest number of an outcome; and what was
+-- read.
 pub record State : Type 0 where
   pub position : Position
   pub due : ℕ
@@ -74,7 +74,7 @@ with_players c players = record c { players = c.players ++ players }
 abbrev pub with_labels : Content → List (List ℕ) → Content
 with_labels c labels = record c { labels = c.labels ++ labels }
 
--- one player more has so many strategies
+-- one more player has this many strategies
 abbrev pub with_count : Content → ℕ → Content
 with_count c n = record c { counts = c.counts ++ n ∷ []; profiles = c.profiles * n }
 
@@ -124,11 +124,11 @@ abbrev pub at_before_strategies : State → Token → Result State Why
 at_before_strategies s Opening = Ok (to p.FirstStrategies s)
 at_before_strategies s _ = Err (Expected what.Opening)
 
--- a player has so many strategies
+-- a player has this many strategies
 abbrev pub settled : State → ℕ → Result State Why
 settled s n = Ok (at s.position s.due s.list_start s.outcomes (with_count s.content n))
 
--- a count was due, and bytes stood there
+-- a count was due, and these bytes stood there
 abbrev pub counted : State → Option ℕ → Result State Why
 counted s None = Err BadIndex
 counted s (Some n) = settled (at p.Counts (s.due - 1) s.list_start s.outcomes s.content) n
@@ -136,12 +136,12 @@ counted s (Some n) = settled (at p.Counts (s.due - 1) s.list_start s.outcomes s.
 abbrev pub opened : State → State
 opened s = at p.InList (s.due - 1) (length s.content.labels) s.outcomes s.content
 
--- a list with so many labels was closed
+-- a list with this many labels was closed
 abbrev pub listed : State → ℕ → Result State Why
 listed s zero = Err NoEntry
 listed s (suc n) = settled (at p.BeforeList s.due 0 s.outcomes s.content) (suc n)
 
--- behind the strategies, a payoff is due for each player at each profile
+-- after the strategies, a payoff is due for each player at each profile
 abbrev pub at_strategies_end : State → Token → Result State Why
 at_strategies_end s Closing = Ok (at p.AfterStrategies
     (length s.content.players * s.content.profiles) s.list_start s.outcomes s.content)
@@ -177,7 +177,7 @@ at_list s _ = Err (Expected what.Text)
 
 -- ---- the body
 
--- a payoff was due, and bytes stood there
+-- a payoff was due, and these bytes stood there
 abbrev pub paid : Position → State → Result Ratio NumberFault → Result State Why
 paid q s (Err fault) = Err (why_of fault)
 paid q s (Ok n) = Ok (at q (s.due - 1) s.list_start s.outcomes (with_payoffs s.content (n ∷ [])))
@@ -206,7 +206,7 @@ at_after_strategies s Comma = at_after_comment s Comma
 at_after_strategies s (Bare b) = at_after_comment s (Bare b)
 at_after_strategies s Broken = at_after_comment s Broken
 
--- behind the outcomes, an outcome's number is due for each profile
+-- after the outcomes, an outcome number is due for each profile
 abbrev pub at_outcomes : State → Token → Result State Why
 at_outcomes s Opening = Ok (to p.OutcomeName s)
 at_outcomes s Closing =
@@ -218,7 +218,7 @@ at_outcome_name s (Text label) =
     Ok (at p.BracedPayoff (length s.content.players) s.list_start s.outcomes s.content)
 at_outcome_name s _ = Err (Expected what.Text)
 
--- no index is greater than 2^32 - 1, so that no outcome behind it is asked for
+-- no index is greater than 2^32 - 1, so no outcome after that one is ever named
 abbrev pub next_outcome : ℕ → ℕ
 next_outcome n = min (n + 1) (2 ^ 32 - 1)
 
@@ -238,7 +238,7 @@ at_after_braced_payoff s (Text label) = at_braced_payoff s (Text label)
 at_after_braced_payoff s (Bare b) = at_braced_payoff s (Bare b)
 at_after_braced_payoff s Broken = at_braced_payoff s Broken
 
--- an outcome's number was due, and bytes stood there
+-- an outcome number was due, and these bytes stood there
 abbrev pub chosen : State → Option ℕ → Result State Why
 chosen s None = Err BadIndex
 chosen s (Some k) =
@@ -281,7 +281,7 @@ step_at p.OutcomeNumbers = at_outcome_numbers
 abbrev pub step : State → Token → Result State Why
 step s t = step_at s.position s t
 
--- what is expected where the tokens end, or none if they may end
+-- what is expected at the end of the tokens, or nothing if they may end
 abbrev pub due_at : Position → ℕ → Option What
 due_at p.Format due = Some what.Format
 due_at p.Version due = Some what.Version
@@ -303,7 +303,7 @@ due_at p.BracedPayoff due = if due == 0 then Some what.Closing else Some what.Nu
 due_at p.AfterBracedPayoff due = if due == 0 then Some what.Closing else Some what.Number
 due_at p.OutcomeNumbers due = if due == 0 then None else Some what.Index
 
--- the answer where the tokens end
+-- the answer at the end of the tokens
 abbrev pub ended : Content → Option What → Result Content Why
 ended c None = Ok c
 ended c (Some expected) = Err (Expected expected)

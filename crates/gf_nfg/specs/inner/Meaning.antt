@@ -9,8 +9,8 @@ use Rattle.gf_nfg.specs.Sentence.{counted_labels}
 use Rattle.gf_nfg.specs.TableParts.{Names, groups, numbers_of, row_of, table_with}
 use Rattle.gf_nfg.specs.inner.Machine.{Content}
 
--- of so many strategies for each player, and their labels in turn, or none where there are counts
--- alone
+-- for this many strategies of each player, and their labels in turn, or none if there are only
+-- counts
 abbrev pub strategies_of : List ℕ → List (List ℕ) → List (List (List ℕ))
 strategies_of counts [] = map counted_labels counts
 strategies_of counts (label ∷ labels) = groups counts (label ∷ labels)

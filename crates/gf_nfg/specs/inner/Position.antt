@@ -1,4 +1,4 @@
--- Where the reader of strategic files stands: what may come next.
+-- Where the reader of strategic files is: what may come next.
 pub data Position : Type 0 where
   -- the name of the format, `NFG`
   Format : Position

@@ -1,4 +1,4 @@
--- What a reader and what it has read stand for, without where they lie in memory.
+-- What a reader and what it has read stand for, regardless of where they are in memory.
 use Rattle.std.specs.Prelude.{◌≡◌, ℕ, ◌*◌, List, [], length, map, MatchResult, Result, Ok}
 use Rattle.gf_fraction.specs.Ratio.{Ratio}
 use Rattle.gf_token.specs.Label.{label_of}
@@ -42,16 +42,16 @@ content_of f = content_with f.heading f.kept.payoffs.items f.kept.numbers.items
 abbrev pub content_told : Told → Content
 content_told t = content_with t.heading t.payoffs t.numbers
 
--- what the machine answers to the tokens that a reader has still to come, from a position where so
--- many of something are due, after so many outcomes
+-- what the machine answers to the tokens that a reader has yet to read, from a position at which
+-- this many of something are due, after this many outcomes
 abbrev pub answer : Position → ℕ → ℕ → Reader → Answer
 answer q due outcomes r = heard (at q due 0 outcomes (content_in r.heading)) r.tokens
 
--- the same within a list of labels, before which there were so many
+-- the same within a list of labels, with this many labels before it
 abbrev pub list_answer : ℕ → ℕ → Reader → Answer
 list_answer due before r = heard (at p.InList due before 0 (content_in r.heading)) r.tokens
 
--- the same where a token tells that the next player has so many strategies
+-- the same if a token says that the next player has this many strategies
 abbrev pub settling : Position → ℕ → ℕ → Span → Reader → Answer
 settling q due strategies stands r = record {
   input = r.tokens.input;
@@ -62,11 +62,11 @@ settling q due strategies stands r = record {
 
 -- ---- the body
 
--- what the machine answers to the tokens to come, where so much was told
+-- what the machine answers to the tokens to come, after this was told
 abbrev pub told_answer : Position → ℕ → ℕ → Remaining → Told → Answer
 told_answer q due outcomes tokens t = heard (at q due 0 outcomes (content_told t)) tokens
 
--- where the body begins, what the machine answers to the tokens that a reader has still to come
+-- where the body begins, what the machine answers to the tokens that a reader has yet to read
 abbrev pub body_answer : Version → Reader → Answer
 body_answer version.Payoffs r =
     answer p.FlatPayoffs (length r.heading.players.items * r.heading.profiles.count) 0 r
@@ -85,7 +85,7 @@ abbrev pub GoesTelling : {A T X : Type 0} → (T → Told → Type 0) → (List 
 GoesTelling holds telling result before after to =
     MatchResult result (λ _. HasTold holds telling before after to) (λ f. Fails f before)
 
--- The receiver was told all of a file, to its end. In payoff version no numbers were told.
+-- The receiver was told the whole file, to its end. In payoff version no numbers were told.
 pub record HasToldAll {T : Type 0} (holds : T → Told → Type 0) (before : Answer) (heading : Heading)
     (to : T) : Type 0 where
   pub told : Told

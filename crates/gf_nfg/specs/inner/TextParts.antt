@@ -14,11 +14,11 @@ names_by named n = record n {
   comment = if named then n.comment else [];
 }
 
--- what stood in a vector is still at its front
+-- what was in a vector is still at its front
 abbrev pub Keeps : List ℕ → List ℕ → Type 0
 Keeps old new = take (length old) new ≡ old
 
--- each behind a space
+-- each after a space
 abbrev pub others_text : List (List ℕ) → List ℕ
 others_text [] = []
 others_text (item ∷ items) = 32 ∷ (item ++ others_text items)
@@ -45,6 +45,6 @@ heading_text names = lines_text
     ∷ []
     ∷ [])
 
--- the lines with these numbers, from 0, one behind the other
+-- the lines with these numbers, from 0, one after another
 abbrev pub lines_with : List (List ℕ) → List ℕ → List ℕ
 lines_with lines numbers = flat_map (λ number. get_or lines number []) numbers

@@ -24,10 +24,10 @@ paying t payoffs = record t { payoffs = payoffs }
 abbrev pub choosing : Told → List ℕ → Told
 choosing t numbers = record t { numbers = numbers }
 
--- with one payoff more
+-- with one more payoff
 abbrev pub with_payoff : Told → Ratio → Told
 with_payoff t payoff = paying t (t.payoffs ++ payoff ∷ [])
 
--- with one number more
+-- with one more number
 abbrev pub with_number : Told → ℕ → Told
 with_number t number = choosing t (t.numbers ++ number ∷ [])

@@ -12,12 +12,12 @@ use Rattle.gf_nfg.specs.declared.receive.Version.{Version}
 use Rattle.gf_nfg.specs.declared.receive.Version.TheVariants.{Outcomes, Payoffs}
 use Rattle.gf_nfg.specs.declared.text.Text.{Text}
 
--- payoffs, and a space behind each
+-- payoffs, each followed by a space
 abbrev pub begun_text : List Ratio → List ℕ
 begun_text payoffs = flat_map (λ payoff. number_text payoff ++ 32 ∷ []) payoffs
 
--- These bytes are the lines of full rows of the payoffs, one for each of so many players, and a row
--- behind them that wants so many more.
+-- These bytes are the lines of full rows of payoffs, one payoff for each of this many players, and
+-- then a row that lacks this many.
 pub record AreLaid (players left : ℕ) (bytes : List ℕ) (payoffs : List Ratio) : Type 0 where
   pub full : List (List Ratio)
   pub part : List Ratio
@@ -27,12 +27,12 @@ pub record AreLaid (players left : ℕ) (bytes : List ℕ) (payoffs : List Ratio
   pub some : 0 < left
   pub bytes_are : bytes ≡ lines_text (map row_text full) ++ begun_text part
 
--- The same where there may be nobody: then the one line is empty.
+-- The same if there may be no players: then the only line is empty.
 pub record AreLines (players left : ℕ) (bytes : List ℕ) (payoffs : List Ratio) : Type 0 where
   pub of_some : 0 < players → AreLaid players left bytes payoffs
   pub of_nobody : players ≡ 0 → payoffs ≡ [] → bytes ≡ 10 ∷ []
 
--- the bytes behind the heading: lines of the payoffs, or nothing where they are kept
+-- the bytes after the heading: the lines of the payoffs, or nothing if the payoffs are kept
 abbrev pub HasBody : Version → Text → Told → List ℕ → Type 0
 HasBody Payoffs t told bytes = AreLines t.width t.left bytes told.payoffs
 HasBody Outcomes t told bytes = (bytes ≡ []) × (t.kept.payoffs.items ≡ told.payoffs)

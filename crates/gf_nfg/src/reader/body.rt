@@ -1,7 +1,8 @@
 //! The body of a strategic file: the payoffs at each profile, or outcomes and the number of one at
 //! each profile.
 //!
-//! The numbers that end a file are most of what it holds, so that what reads one is `inline(always)`.
+//! The numbers at the end of a file are most of what it holds, so the functions that read one are
+//! `inline(always)`.
 
 ghost use Rattle.std.specs.Prelude.{◌≡◌, ◌<◌, ◌≤◌, ◌-◌, ℕ, Ok, length};
 ghost use Rattle.std.specs.Prelude.{IfErr, MatchResult, OnOk};
@@ -30,7 +31,7 @@ fn payoff<'a, R: Receive<'a>>(tokens: &mut Tokens<'a>, to: &mut R) -> Result<(),
         (told_answer AfterBracedPayoff (due - 1) outcomes tokens.new) to.new }
     ensures shorter { OnOk result (length tokens.new.ahead ≤ length tokens.old.ahead) }
 
-    // Memory is refused only where the receiver had no room.
+    // Memory is refused only if the receiver had no room.
     ensures full { IfErr result (λ f. f.why ≡ Memory → R.payoffs_full to.old) }
 {
     let Some((word, number)) = tokens.number() else {
@@ -47,7 +48,7 @@ fn payoff<'a, R: Receive<'a>>(tokens: &mut Tokens<'a>, to: &mut R) -> Result<(),
     }
 }
 
-/// Reads so many payoffs.
+/// Reads this many payoffs.
 pub(super) fn payoffs<'a, R: Receive<'a>>(
     tokens: &mut Tokens<'a>,
     mut due: u128,
@@ -76,7 +77,7 @@ fn comma(tokens: &mut Tokens<'_>)
     tokens.comma();
 }
 
-/// Reads so many payoffs in braces.
+/// Reads this many payoffs in braces.
 fn braced_payoffs<'a, R: Receive<'a>>(
     tokens: &mut Tokens<'a>,
     mut due: usize,
@@ -119,7 +120,7 @@ fn outcome<'a, R: Receive<'a>>(
     Ok(())
 }
 
-/// Reads the outcomes, after their opening brace. Answers how many there are, or `u32::MAX` where
+/// Reads the outcomes, after their opening brace. Returns how many there are, or `u32::MAX` if
 /// there are more: no index is greater.
 pub(super) fn outcomes<'a, R: Receive<'a>>(
     tokens: &mut Tokens<'a>,
@@ -144,7 +145,7 @@ pub(super) fn outcomes<'a, R: Receive<'a>>(
     Ok(outcomes)
 }
 
-/// Reads the number of an outcome, of which there are so many, and tells it.
+/// Reads the number of one of this many outcomes, and tells it.
 #[inline(always)]
 fn number<'a, R: Receive<'a>>(
     tokens: &mut Tokens<'a>,
@@ -156,7 +157,7 @@ fn number<'a, R: Receive<'a>>(
         (told_answer OutcomeNumbers due outcomes tokens.old told)
         (told_answer OutcomeNumbers (due - 1) outcomes tokens.new) to.new }
 
-    // Memory is refused only where the receiver had no room.
+    // Memory is refused only if the receiver had no room.
     ensures full { IfErr result (λ f. f.why ≡ Memory → R.numbers_full to.old) }
 {
     let Some((word, index)) = tokens.index() else {
@@ -174,7 +175,7 @@ fn number<'a, R: Receive<'a>>(
     Ok(())
 }
 
-/// Reads the numbers of outcomes, of which there are so many, at so many profiles.
+/// Reads the numbers of outcomes at this many profiles, for this many outcomes.
 pub(super) fn numbers<'a, R: Receive<'a>>(
     tokens: &mut Tokens<'a>,
     mut due: u32,

@@ -12,7 +12,7 @@ use crate::receive::Version;
 use gf_token::{Fault, Span, What, Why};
 
 impl<'a> Reader<'a> {
-    /// Reads all that stands before the players.
+    /// Reads everything before the players.
     pub(super) fn heading(&mut self) -> Result<(), Fault>
         ensures { Goes (answer Format 0 0 self.old) result (answer BeforePlayers 0 0 self.new) }
     {
@@ -43,7 +43,8 @@ impl<'a> Reader<'a> {
         Ok(())
     }
 
-    /// Reads the comment, if there is one, after the brace. Answers where the last of both stands.
+    /// Reads the comment, if there is one, after the brace. Returns the place of the last of these
+    /// tokens.
     pub(super) fn comment(&mut self, brace: Span) -> Span
         requires { StandsBefore self.old.tokens brace }
         ensures machine { (due : ℕ)
@@ -59,8 +60,8 @@ impl<'a> Reader<'a> {
         comment.span
     }
 
-    /// Takes the brace that opens the outcomes, if it stands next. Answers what follows, and where
-    /// the last token stands, which stood there before.
+    /// Takes the brace that opens the outcomes, if it comes next. Returns what follows, and the
+    /// place of the last token, which was given before.
     pub(super) fn version(&mut self, last: Span) -> (Version, Span)
         requires { StandsBefore self.old.tokens last }
         ensures machine { answer AfterComment

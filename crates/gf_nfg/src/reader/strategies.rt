@@ -16,7 +16,7 @@ use crate::readings;
 use gf_token::{Fault, Span, What, Why};
 
 impl<'a> Reader<'a> {
-    /// The next player has so many strategies, as the token tells that stands there.
+    /// The next player has this many strategies, as the token at this place says.
     fn settle(&mut self, strategies: usize, stands: Span) -> Result<(), Fault>
         requires some { 0 < strategies }
         requires place { StandsBefore self.old.tokens stands }
@@ -25,7 +25,7 @@ impl<'a> Reader<'a> {
         ensures lists { (due : ℕ) → Goes (settling BeforeList due strategies stands self.old) result
             (answer BeforeList due 0 self.new) }
 
-        // Memory is refused only where there was no room.
+        // Memory is refused only if there was no room.
         ensures full { IfErr result (λ f. f.why ≡ Memory
             → vec_capacity self.old.heading.counts ≤ vec_len self.old.heading.counts) }
     {
@@ -39,7 +39,7 @@ impl<'a> Reader<'a> {
         Ok(())
     }
 
-    /// Reads a count, where this is due.
+    /// Reads a count that is due.
     fn count(&mut self, due: What) -> Result<(), Fault>
         ensures first { (left : ℕ) → 0 < left → due ≡ what.Strategies
             → starts is_opening self.old.tokens.ahead ≡ false
@@ -78,7 +78,7 @@ impl<'a> Reader<'a> {
         self.settle(strategies, brace)
     }
 
-    /// Reads so many counts, as many as are still due.
+    /// Reads this many counts, as many as are still due.
     fn counts(&mut self, mut due: usize) -> Result<(), Fault>
         ensures { Goes (answer Counts due 0 self.old) result (answer Counts 0 0 self.new) }
     {
@@ -89,7 +89,7 @@ impl<'a> Reader<'a> {
         Ok(())
     }
 
-    /// Reads so many lists of labels, as many as are still due.
+    /// Reads this many lists of labels, as many as are still due.
     fn lists(&mut self, mut due: usize) -> Result<(), Fault>
         ensures { Goes (answer BeforeList due 0 self.old) result (answer BeforeList 0 0 self.new) }
     {
@@ -103,7 +103,7 @@ impl<'a> Reader<'a> {
         Ok(())
     }
 
-    /// Reads the strategies of the players, of which there are some.
+    /// Reads the strategies of the players, if there are players.
     fn counts_or_lists(&mut self) -> Result<(), Fault>
         ensures { Goes (answer FirstStrategies (length self.old.heading.players.items) 0 self.old) result
             (answer FirstStrategies 0 0 self.new) }
@@ -120,7 +120,7 @@ impl<'a> Reader<'a> {
         self.counts(players - 1)
     }
 
-    /// Reads the strategies of the players, in braces. Answers where the closing one stands.
+    /// Reads the strategies of the players, in braces. Returns the place of the closing brace.
     pub(super) fn strategies(&mut self) -> Result<Span, Fault>
         ensures machine { Goes (answer BeforeStrategies (length self.old.heading.players.items) 0
             self.old) result

@@ -8,7 +8,7 @@ use std::alloc::AllocError;
 /// The most bytes of a line that are shown.
 const WIDTH: usize = 80;
 
-/// How many of them, at most, stand before the place if as many come after it.
+/// How many of them, at most, come before the place if as many come after it.
 const HALF: usize = 40;
 
 /// What is shown of a line.
@@ -44,8 +44,8 @@ fn first_line(bytes: &[u8]) -> &[u8] {
     }
 }
 
-/// What is shown of the line in which a place of so many bytes begins, between what stands before it in
-/// the line and the rest of the line.
+/// What is shown of the line in which a place of this many bytes begins, given what comes before
+/// the place in the line, and the rest of the line.
 fn cut<'a>(before: &'a [u8], rest: &'a [u8], marked: usize) -> Excerpt<'a> {
     let most_before = WIDTH - rest.len().min(HALF);
     let kept_before = before.len().min(most_before);

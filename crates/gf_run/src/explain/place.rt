@@ -11,8 +11,8 @@ pub struct Place {
     pub column: usize,
 }
 
-/// The place after these bytes: the line after so many line feeds, and the column after so many bytes
-/// since the last of them.
+/// The place after these bytes: its line is 1 plus the number of line feeds, and its column is 1
+/// plus the number of bytes since the last of them.
 pub fn place_after(bytes: &[u8]) -> Place
     requires { length bytes.now ≤ limit }
     ensures { IsPlaceAfter bytes.now result }

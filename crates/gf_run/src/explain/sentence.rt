@@ -1,4 +1,4 @@
-//! What is wrong with a file, in a sentence, and how it may be mended. The sentences that name no token
+//! What is wrong with a file, in a sentence, and how to mend it. The sentences that name no token
 //! are those of library/gamefile.c.
 
 use crate::explain::shown::push_front;
@@ -52,7 +52,7 @@ fn about_number(why: Why) -> Sentence {
     }
 }
 
-/// The sentence of a fault in a file; of a number's as `about_number` has it.
+/// The sentence of a fault in a file; for a fault in a number, that of `about_number`.
 fn sentence_of(why: Why, found: &[u8]) -> Sentence {
     match why {
         Why::TooLong => Sentence::Plain(
@@ -97,7 +97,7 @@ fn sentence_of(why: Why, found: &[u8]) -> Sentence {
     }
 }
 
-/// Appends a token as a sentence names it. None stands at the end of the file.
+/// Appends a token as a sentence names it. At the end of the file there is none.
 fn push_token(text: &mut String, token: &[u8]) -> Result<(), AllocError> {
     if token.is_empty() {
         return text.push_str("the end of the file");
@@ -147,7 +147,7 @@ fn is_numeric(token: &[u8]) -> bool {
     }
 }
 
-/// A hint about a token in a place where something else is due.
+/// A hint about a token in the place of something else.
 fn hint_at(what: What, found: &[u8]) -> Option<&'static str> {
     match what {
         What::Format if found.starts_with(b"\xef\xbb\xbf") => {
@@ -168,7 +168,7 @@ fn hint_at(what: What, found: &[u8]) -> Option<&'static str> {
     }
 }
 
-/// How a file may be mended.
+/// How to mend a file.
 pub fn hint(why: Why, found: &[u8]) -> Option<&'static str> {
     match why {
         Why::Unterminated => Some(

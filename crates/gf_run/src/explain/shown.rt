@@ -32,7 +32,7 @@ pub fn push_marks(text: &mut String, bytes: &[u8], mark: char) -> Result<(), All
     Ok(())
 }
 
-/// Appends bytes as `push_shown` does, or a front of so many of them and `...`.
+/// Appends bytes as `push_shown` does, or only this many of them and `...`.
 pub fn push_front(text: &mut String, bytes: &[u8], most: usize) -> Result<(), AllocError> {
     push_shown(text, &bytes[..most.min(bytes.len())])?;
     if bytes.len() > most {

@@ -46,8 +46,8 @@ fn unplaced(alloc: Global, name: &str) -> Result<Vec<u8>, AllocError>
     Ok(text)
 }
 
-/// Where a refusal is: the name of the file, the line and the column. A file that is too long has its
-/// name alone.
+/// Where a refusal is: the name of the file, the line and the column. For a file that is too long,
+/// only its name.
 fn where_of(alloc: Global, fault: &Fault, name: &str, bytes: &[u8]) -> Result<Vec<u8>, AllocError>
     ensures { IfOk result (λ text. IsWhere fault.now name.now bytes.now text.items) }
 {
@@ -86,7 +86,7 @@ fn push_refusal(text: &mut String, fault: &Fault, bytes: &[u8]) -> Result<(), Al
     Ok(())
 }
 
-/// Appends what the system says of an error, if it is known.
+/// Appends what the system says about an error, if it is known.
 fn push_reason(
     alloc: Global,
     text: &mut String,
@@ -132,8 +132,8 @@ fn rest_of(
     Ok(text)
 }
 
-/// A fault in words: where a refusal is, today's line without its input, what is wrong, the line of
-/// the file with marks under the place, and a hint.
+/// A fault in words: where a refusal is, the line of the fault without its input, what is wrong,
+/// the line of the file with marks under the place, and a hint.
 pub fn explanation(
     alloc: Global,
     fault: &RunFault,

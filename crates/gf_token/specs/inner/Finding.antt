@@ -30,7 +30,7 @@ pub record ClosesText (bytes : List ℕ) (start end : ℕ) : Type 0 where
   pub found : lexed bytes start
       ≡ lexeme start (end + 1) (Text (slice_range bytes (start + 1) end)) ∷ lexed bytes (end + 1)
 
--- what stands at `start`
+-- what is at `start`
 abbrev pub Finds : List ℕ → ℕ → Result Token Fault → Type 0
 Finds bytes start (Ok t) = lexed bytes start ≡ lexeme_of t ∷ lexed bytes t.span.end
 Finds bytes start (Err f) =

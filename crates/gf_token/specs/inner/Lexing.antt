@@ -5,8 +5,8 @@ use Rattle.gf_token.specs.Byte.{is_bare}
 use Rattle.gf_token.specs.Token.{Lexeme, lexeme}
 use Rattle.gf_token.specs.Token.Token.{Opening, Closing, Comma, Text, Bare, Broken}
 
--- between tokens; in a text, where it begins, the byte before, and the bytes behind its quote so
--- far; in a bare token, where it begins, and its bytes so far
+-- between tokens; in a text: where it begins, the byte before, and the bytes after its quote so
+-- far; in a bare token: where it begins, and its bytes so far
 pub data Mode : Type 0 where
   Gap : Mode
   InText : ℕ → ℕ → List ℕ → Mode

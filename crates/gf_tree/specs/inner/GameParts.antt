@@ -23,7 +23,7 @@ game_with title comment players sets outcomes nodes = record {
   outcomes = outcomes;
 }
 
--- The nodes fill one tree, each has its set and its outcome, and beside it stands the size of its
+-- The nodes fill one tree, each has its set and its outcome, and its entry also has the size of its
 -- subtree.
 pub record AreNodes
     (sets : List (Described SetKey InformationSet)) (outcomes : List (Described ℕ Outcome))

@@ -9,7 +9,7 @@ pub record KnownOutcomes : Type 0 where
   pub known : List (Described ℕ Outcome)
   pub pending : List Ratio
 
--- with one payoff more of the outcome whose description is being read
+-- with one more payoff of the outcome whose description is being read
 abbrev pub with_payoff : KnownOutcomes → Ratio → KnownOutcomes
 with_payoff k payoff = record k { pending = k.pending ++ payoff ∷ [] }
 

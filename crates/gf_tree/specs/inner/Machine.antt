@@ -1,5 +1,5 @@
--- The reader of extensive files as a machine: one token at a time. What it means is said in
--- Sentence and Consistent; no public contract cites this.
+-- The reader of extensive files as a machine: one token at a time. Sentence and Consistent say what
+-- it means; no public contract cites this file.
 use Rattle.std.specs.Prelude.{ℕ, zero, suc, ◌+◌, ◌-◌, ◌==◌, ◌||◌, Bool, false}
 use Rattle.std.specs.Prelude.{List, [], ◌∷◌, ◌++◌, length, codes, Option, Some, None}
 use Rattle.std.specs.Prelude.{Result, Ok, Err, nat_eq, nat_le, pos, if◌then◌else◌}
@@ -52,20 +52,20 @@ pub data Position : Type 0 where
   InPlayers : Position
   -- the comment, or the first node
   AfterPlayers : Position
-  -- the letter of a node; behind the last node the end
+  -- the letter of a node; after the last node, the end
   NodeDue : Position
   ChanceName : Position
   PersonalName : Position
   TerminalName : Position
-  -- of a node with this name
+  -- for a node with this name
   PlayerNumber : List ℕ → Position
-  -- of this player
+  -- for this player
   SetNumber : List ℕ → ℕ → Position
   NewSetName : List ℕ → SetKey → Position
   NewSetOpening : List ℕ → SetKey → List ℕ → Position
-  -- an action, or the closing brace, behind these actions and this sum of probabilities
+  -- an action, or the closing brace, after these actions and this sum of probabilities
   NewAction : List ℕ → SetKey → InformationSet → Ratio → Position
-  -- of the action with this label
+  -- for the action with this label
   NewProbability : List ℕ → SetKey → InformationSet → Ratio → List ℕ → Position
   -- the name of a known set, or the number of the outcome
   KnownSetName : List ℕ → SetKey → InformationSet → Position
@@ -76,7 +76,7 @@ pub data Position : Type 0 where
   OutcomeNumber : Begun → Position
   NewOutcomeName : Begun → ℕ → Position
   NewOutcomeOpening : Begun → ℕ → List ℕ → Position
-  -- a payoff, behind these, of which so many are left; behind the last the closing brace
+  -- a payoff, after these, with this many left; after the last, the closing brace
   NewPayoff : Begun → ℕ → Outcome → ℕ → Position
   -- the same, or one comma
   AfterNewPayoff : Begun → ℕ → Outcome → ℕ → Position
@@ -100,7 +100,7 @@ nothing =
 
 -- ---- what a position looks at
 
--- which tokens it looks into; any other is refused for what is due
+-- which tokens it looks into; any other is refused, and the refusal names what is due
 abbrev pub looks_at : Position → Token → Bool
 looks_at BeforePlayers t = is_opening t
 looks_at (NewSetOpening _ _ _) t = is_opening t
@@ -129,12 +129,12 @@ looks_at (AfterKnownPayoff []) t = is_comma t || is_closing t
 looks_at (AfterKnownPayoff (_ ∷ _)) t = is_comma t || is_bare_token t
 looks_at _ t = is_bare_token t
 
--- what is due where a node or the end is
+-- what is due if a node or the end is
 abbrev pub node_or_end : ℕ → Why
 node_or_end zero = Expected what.End
 node_or_end (suc due) = Expected what.Node
 
--- why any other token is refused, where so many nodes are due
+-- why any other token is refused, if this many nodes are due
 abbrev pub due : Position → ℕ → Why
 due Format n = Expected what.Format
 due Version n = Expected what.Version
@@ -172,7 +172,7 @@ due (KnownPayoff (_ ∷ _)) n = Expected what.Number
 due (AfterKnownPayoff []) n = Expected what.Closing
 due (AfterKnownPayoff (_ ∷ _)) n = Expected what.Number
 
--- whether the file may end there, where so many nodes are due
+-- whether the file may end there, if this many nodes are due
 abbrev pub may_end : Position → ℕ → Bool
 may_end NodeDue n = n == 0
 may_end (KnownOutcomeName _) n = n == 0
@@ -200,15 +200,15 @@ with_node c b outcome = record c {
   due = b.children + (c.due - 1);
 }
 
--- a bare token that is to be this word
+-- a bare token that has to be this word
 abbrev pub word : List ℕ → List ℕ → State → Why → Result State Why
 word wanted found s why = if pointwise nat_eq found wanted then Ok s else Err why
 
--- a text that is to be this one
+-- a text that has to be this one
 abbrev pub same_text : List ℕ → List ℕ → State → Result State Why
 same_text wanted found s = if pointwise nat_eq found wanted then Ok s else Err Mismatch
 
--- a number that is to have this value
+-- a number that has to have this value
 abbrev pub same_number : Ratio → State → Result Ratio NumberFault → Result State Why
 same_number wanted s (Err fault) = Err (why_of fault)
 same_number wanted s (Ok found) = if same_ratio found wanted then Ok s else Err Mismatch
@@ -218,7 +218,7 @@ abbrev pub personal_node : Content → List (List ℕ) → Result State Why
 personal_node c [] = Err UnknownPlayer
 personal_node c (player ∷ players) = Ok (at PersonalName c)
 
--- the letter of a node, where one is due
+-- the letter of a node, if one is due
 abbrev pub node_letter : Content → List ℕ → Result State Why
 node_letter c b =
     if pointwise nat_eq b (codes "c") then Ok (at ChanceName c)
@@ -239,7 +239,7 @@ player_number c name (Some n) =
 abbrev pub begun : List ℕ → SetKey → InformationSet → Begun
 begun name key set = record { name = name; set = Some key; children = length set.actions }
 
--- behind the number of a set
+-- after the number of a set
 abbrev pub behind_set : List ℕ → SetKey → Option InformationSet → Position
 behind_set name key None = NewSetName name key
 behind_set name key (Some set) = KnownSetName name key set
@@ -253,7 +253,7 @@ abbrev pub with_action : InformationSet → List ℕ → Option Ratio → Inform
 with_action set label p =
     record set { actions = set.actions ++ record { label = label; probability = p } ∷ [] }
 
--- an action's label, which of chance a probability follows
+-- an action's label, followed by a probability if chance moves
 abbrev pub new_label : Content → List ℕ → ℕ → ℕ → InformationSet → Ratio → List ℕ → State
 new_label c name zero n set sum label =
     at (NewProbability name (set_of zero n) set sum label) c
@@ -269,7 +269,7 @@ shared c name key set label (Ok share) =
 abbrev pub set_known : Content → List ℕ → SetKey → InformationSet → State
 set_known c name key set = at (OutcomeNumber (begun name key set)) (with_set c key set)
 
--- the closing brace of a list of actions, which of chance add to one
+-- the closing brace of a list of actions, whose probabilities add up to one if chance moves
 abbrev pub set_ends : Content → List ℕ → ℕ → ℕ → InformationSet → Ratio → Result State Why
 set_ends c name zero n set sum =
     if is_one sum then Ok (set_known c name (set_of zero n) set) else Err SumBelowOne
@@ -280,12 +280,12 @@ abbrev pub new_set_ends : Content → List ℕ → SetKey → InformationSet →
 new_set_ends c name key set [] sum = Err NoEntry
 new_set_ends c name key set (action ∷ actions) sum = set_ends c name key.player key.number set sum
 
--- behind the label of a known action
+-- after the label of a known action
 abbrev pub behind_label : Begun → Option Ratio → List Action → Position
 behind_label b None actions = KnownAction b actions
 behind_label b (Some p) actions = KnownProbability b p actions
 
--- behind the number of an outcome
+-- after the number of an outcome
 abbrev pub behind_outcome : Content → Begun → ℕ → Option Outcome → State
 behind_outcome c b n None = at (NewOutcomeName b n) c
 behind_outcome c b n (Some outcome) = at (KnownOutcomeName outcome) (with_node c b (Some n))
@@ -306,7 +306,7 @@ paid c b n outcome due (Ok p) = Ok (at (AfterNewPayoff b n (with_payoff outcome 
 abbrev pub outcome_ends : Content → Begun → ℕ → Outcome → State
 outcome_ends c b n outcome = at NodeDue (with_node (with_outcome c n outcome) b (Some n))
 
--- what a token leads to that the position looks into
+-- what a token that the position looks into leads to
 abbrev pub taken : Position → Content → Token → Result State Why
 taken Format c (Bare b) = word (codes "EFG") b (at Version c) (Expected what.Format)
 taken Version c (Bare b) = word (codes "2") b (at Letter c) (Expected what.Version)
@@ -383,7 +383,7 @@ abbrev pub then_on : Lexeme → Result State Why → (State → Result Content F
 then_on l (Ok s) f = f s
 then_on l (Err why) f = refused l.start l.end why
 
--- the answer to the tokens to come, before the end of an input of so many bytes
+-- the answer to the tokens to come, before the end of an input of this many bytes
 abbrev pub run : ℕ → Position → Content → List Lexeme → Result Content Fault
 run end q c [] = if may_end q c.due then Ok c else refused end end (due q c.due)
 run end q c (l ∷ ls) = then_on l (step q c l.token) (λ s. run end s.position s.content ls)

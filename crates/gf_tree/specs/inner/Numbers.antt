@@ -12,17 +12,17 @@ abbrev pub entries_of : Option (Box (IndexMap ℕ ℕ Seeded)) → List (ℕ × 
 entries_of None = []
 entries_of (Some others) = others.value.entries
 
--- in order of first use: those found by the table, and after them those found by the map
+-- in order of first use: those found by the table, followed by those found by the map
 abbrev pub pairs_in : Index → List (ℕ × ℕ)
 pairs_in index = index.small ++ entries_of index.others
 
--- none, one alone, or those that have an index
+-- none, a single one, or those that have an index
 abbrev pub pairs_of : Held → List (ℕ × ℕ)
 pairs_of Nothing = []
 pairs_of (One placed) = placed_pairs (placed ∷ [])
 pairs_of (Many index) = pairs_in index.value
 
--- one alone has a place that a table can have too
+-- a single one has a place that a table can have too
 abbrev pub IsHeld : Held → Type 0
 IsHeld Nothing = ⊤
 IsHeld (One placed) = placed.place + 1 < 2 ^ 32

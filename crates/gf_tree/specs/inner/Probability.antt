@@ -32,6 +32,6 @@ share_by sum (Err fault) = Err (why_of fault)
 share_by sum (Ok p) =
     if int_lt p.num (pos 0) then Err NegativeProbability else up_to_one p (sum_of sum p)
 
--- the probability that the bytes are, behind probabilities of this sum
+-- the probability that the bytes are, after probabilities of this sum
 abbrev pub share_of : Ratio → List ℕ → Result Share Why
 share_of sum bytes = share_by sum (number_of bytes)

@@ -1,4 +1,5 @@
--- What the machine of the reader answers to tokens alone, and the game of what was read.
+-- What the machine of the reader answers to tokens regardless of their places, and the game of what
+-- was read.
 use Rattle.std.specs.Prelude.{List, [], ◌∷◌, Result, Ok, Err, if◌then◌else◌}
 use Rattle.gf_token.specs.Token.{Token}
 use Rattle.gf_token.specs.declared.fault.Why.{Why}

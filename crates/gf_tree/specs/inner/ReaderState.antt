@@ -1,5 +1,5 @@
--- What a reader stands for, without where it lies in memory. Of its nodes it keeps nothing: it
--- stands for a machine that begins where it is, and has read none.
+-- What a reader stands for, regardless of where it is in memory. It keeps nothing of its nodes: it
+-- stands for a machine that begins where the reader is, and has read none.
 use Rattle.std.specs.Prelude.{◌≡◌, ◌<◌, ◌^◌, ◌+◌, ◌*◌, ◌++◌, ℕ, List, max}
 use Rattle.std.specs.Prelude.{[], ◌∷◌, length, map, option_map, MatchResult, Result, Ok, Err}
 use Rattle.gf_token.specs.Label.{label_of}
@@ -40,7 +40,7 @@ content_of r = record {
 abbrev pub heading_read : Reader → Heading
 heading_read r = heading_in (game_of (content_of r))
 
--- with these nodes, of which it was told
+-- with these nodes, which it was told
 abbrev pub content_with : Reader → List Kept → Content
 content_with r nodes = record (content_of r) {
   nodes = entries_with r.sets.known r.outcomes.known nodes;
@@ -73,8 +73,8 @@ pub record IsSound (r : Reader) : Type 0 where
   pub sets : length r.sets.known < 2 ^ 32
   pub outcomes : length r.outcomes.known < 2 ^ 32
 
--- with so many tokens more to come than there are, all of them could be nodes with as many children
--- as a set can have actions
+-- if there were this many more tokens to come, all of them could be nodes with as many children as
+-- a set can have actions
 abbrev pub HasRoom : ℕ → Reader → Type 0
 HasRoom more r = r.due + (length r.tokens.ahead + more) * 18446744073709551616 < 2 ^ 128
 
@@ -91,12 +91,12 @@ with_nodes nodes (Err fault) = Err fault
 abbrev pub behind : List (Entry Node) → Answer → Answer
 behind nodes a = record { input = a.input; machine = with_nodes nodes a.machine }
 
--- one list is a front of the other
+-- one list is a prefix of the other
 pub record Grows {A : Type 0} (old new : List A) : Type 0 where
   pub more : List A
   pub parts : new ≡ old ++ more
 
--- This node was told, and the machine goes on as behind it; nothing else has changed.
+-- This node was told, and the machine goes on as after it; nothing else has changed.
 pub record TellsNode {T : Type 0} (holds : T → T → Heading → List Told → Type 0) (old new : Reader)
     (from to : T) (node : Kept) : Type 0 where
   pub goes : (q : Position) → heard q (with_node (content_of old)
@@ -114,7 +114,7 @@ pub record TellsNode {T : Type 0} (holds : T → T → Heading → List Told →
   pub told_sets : new.told_sets ≡ max old.told_sets node.set
   pub told_outcomes : new.told_outcomes ≡ max old.told_outcomes node.outcome
 
--- One node more was told, behind which the machine goes on.
+-- One more node was told, and the machine goes on after it.
 pub record Tells {T : Type 0} (holds : T → T → Heading → List Told → Type 0) (before : Answer)
     (old new : Reader) (from to : T) : Type 0 where
   pub node : Kept
@@ -153,22 +153,22 @@ pub record HasReadAll {T : Type 0} (holds : T → List Told → Type 0) (before 
 
 -- ---- refusals
 
--- memory is wanting at a place of the input that the machine has passed
+-- memory ran out at a place of the input that the machine has passed
 pub record HasPassedPlace (before : Answer) (span : Span) : Type 0 where
   pub place : IsPlaceIn before.input span
   pub passed : HasPassed before.machine span.start
 
--- the code refuses as the machine does, or for want of memory where the machine goes on
+-- the code refuses as the machine does, or for lack of memory if the machine goes on
 pub data Fails (f : Fault) (before : Answer) : Type 0 where
   of_file : before.machine ≡ Err f → Fails f before
   of_memory : f.why ≡ Memory → HasPassedPlace before f.span → Fails f before
 
--- the machine answers to the tokens before a call as to those behind it
+-- the machine answers to the tokens before a call as to those after it
 abbrev pub Goes : {A : Type 0} → Answer → Result A Fault → Answer → Type 0
 Goes before (Ok _) after = before ≡ after
 Goes before (Err f) after = Fails f before
 
--- the same of a call that tells a node
+-- the same for a call that tells a node
 abbrev pub GoesTelling : {A T : Type 0} → (T → T → Heading → List Told → Type 0) → Result A Fault → Answer
     → Reader → Reader → T → T → Type 0
 GoesTelling holds result before old new from to =

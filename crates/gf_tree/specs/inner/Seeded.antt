@@ -1,4 +1,4 @@
--- Hashers whose start hangs on an input.
+-- Hashers whose start depends on an input.
 use Rattle.std.specs.Prelude.{ℕ, List}
 use Rattle.std.specs.Hash as fed
 use Rattle.std.specs.Hash.DefaultHasher as sip

@@ -8,7 +8,7 @@ use Rattle.gf_tree.specs.FiniteMap.{Described}
 use Rattle.gf_tree.specs.inner.KnownOutcomes.{KnownOutcomes}
 use Rattle.gf_tree.specs.inner.Stretches.{AreStretches}
 
--- behind its payoffs
+-- after its payoffs
 abbrev pub end_of : Entry → ℕ
 end_of e = e.start + e.count
 
@@ -24,7 +24,7 @@ stored_outcomes entries payoffs from = record {
   pending = drop from payoffs;
 }
 
--- the numbers, each with its place, where the first entry has this place
+-- the numbers, each with its place, if the first entry has this place
 abbrev pub places_from : ℕ → List Entry → List (ℕ × ℕ)
 places_from place [] = []
 places_from place (e ∷ es) = (e.number, place) ∷ places_from (place + 1) es

@@ -11,7 +11,7 @@ use Rattle.gf_tree.specs.FiniteMap.{Described}
 use Rattle.gf_tree.specs.KnownSets.{KnownSets}
 use Rattle.gf_tree.specs.inner.Stretches.{AreStretches}
 
--- behind its actions
+-- after its actions
 abbrev pub end_of : Entry → ℕ
 end_of e = e.start + e.count
 
@@ -37,7 +37,7 @@ pub record HoldActions (actions : List Held) (from start end : ℕ) : Type 0 whe
   pub begun : from ≤ length actions
   pub same : actions_of (slice_range actions start end) ≡ actions_of (drop from actions)
 
--- the numbers of a player's sets, each with its place, where the first entry has this place
+-- the numbers of a player's sets, each with its place, if the first entry has this place
 abbrev pub places_from : ℕ → ℕ → List Entry → List (ℕ × ℕ)
 places_from place player [] = []
 places_from place player (e ∷ es) =

@@ -13,8 +13,8 @@ use crate::outcomes::Outcomes;
 use crate::sets::Sets;
 use std::marker::Model;
 
-/// The use of the set with this position, where so many are known: it is described where it is the
-/// next one.
+/// The use of the set with this position, if this many are known: it is described if it is the next
+/// one.
 fn set_use<'n, 'a>(sets: &'n Sets<'a>, known: u32, position: u32) -> Option<SetUse<'n, 'a>>
     requires { position ≤ length sets.now.known }
     ensures { option_map set_use_of result
@@ -40,8 +40,8 @@ fn set_use<'n, 'a>(sets: &'n Sets<'a>, known: u32, position: u32) -> Option<SetU
     })
 }
 
-/// The use of the outcome with this position, where so many are known: it is described where it is
-/// the next one.
+/// The use of the outcome with this position, if this many are known: it is described if it is the
+/// next one.
 fn outcome_use<'n, 'a>(
     outcomes: &'n Outcomes<'a>,
     known: u32,
@@ -77,8 +77,8 @@ struct Known {
 }
 
 impl<'a> Game<'a> {
-    /// The node at this place, from 0, as a file gives it, where so many sets and outcomes are used
-    /// before it, and how many are used through it.
+    /// The node at this place, from 0, as a file gives it, if this many sets and outcomes are used
+    /// before it; and how many are used through it.
     fn file_node(&self, at: usize, known: Known) -> (FileNode<'_, 'a>, Known)
         requires within { at < length (subtrees self.now.tree) }
         requires known { AreKnown self.now at known.sets known.outcomes }
@@ -98,8 +98,8 @@ impl<'a> Game<'a> {
         (node, known)
     }
 
-    /// The nodes in prefix order, as a file gives them: each set and each outcome is described
-    /// where it is used first, and nowhere else.
+    /// The nodes in prefix order, as a file gives them: each set and each outcome is described at
+    /// its first use, and nowhere else.
     pub fn file_nodes(&self) -> FileNodes<'_, 'a>
         ensures { result ≡ file_nodes self.now }
     {

@@ -18,9 +18,9 @@ use std::slice;
 
 impl<'a> Game<'a> {
     /// The nodes in prefix order, as a file gives them, but by first-use numbers: the number of a
-    /// set is its position among the sets of its player, that of an outcome its position among the
-    /// outcomes. Each set and each outcome is described where it is used first, and nowhere else.
-    /// Takes no memory.
+    /// set is its position among the sets of its player, and the number of an outcome its position
+    /// among the outcomes. Each set and each outcome is described at its first use, and nowhere
+    /// else. This takes no memory.
     pub fn nodes_by_first_use(&self) -> NodesByFirstUse<'_, 'a>
         ensures { result ≡ file_nodes (renumbered (first_use_numbers self.now) self.now) }
     {
@@ -58,7 +58,7 @@ impl<'g, 'a> Model for NodesByFirstUse<'g, 'a> {
 }
 
 impl<'g, 'a> NodesByFirstUse<'g, 'a> {
-    /// All of these nodes, whose sets and outcomes these are.
+    /// All of these nodes, with these sets and outcomes.
     pub(crate) fn new(
         sets: &'g Sets<'a>,
         outcomes: &'g Outcomes<'a>,

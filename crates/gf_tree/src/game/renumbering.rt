@@ -108,11 +108,13 @@ impl<'a> Game<'a> {
     /// The same game by other numbers of its sets and outcomes. The i-th set of each player, and
     /// the i-th outcome, in order of first use, gets the i-th number of its list.
     ///
-    /// The caller sees to it that there is one list for chance, then one for each player, each as
-    /// long as his sets, and that the list of outcomes is as long as the outcomes; and that in each
-    /// list the numbers are positive and none stands twice.
+    /// The caller has to ensure that there is one list for chance and then one for each player,
+    /// each with as many numbers as he has sets; that the list of outcomes has as many numbers as
+    /// there are outcomes; and that in each list the numbers are positive and none is repeated.
     ///
-    /// `AllocError` where memory is refused.
+    /// # Errors
+    ///
+    /// `AllocError` if memory is refused.
     pub fn with_numbers(
         &self,
         alloc: Global,

@@ -1,4 +1,4 @@
-//! What is due behind the front of an extensive file, told by the bare tokens that may follow.
+//! What is due after the front of an extensive file, as the bare tokens that may follow show it.
 
 ghost use Rattle.std.specs.Prelude.{◌≡◌, ℕ, List};
 ghost use Rattle.gf_token.specs.Token.{Token};
@@ -8,10 +8,10 @@ ghost use Rattle.gf_tree.specs.Due.{IsDue};
 ghost use Rattle.gf_tree.specs.DueRoles.{IsToldByRole, OnlySuitedFollow, Role, Suits, what_of};
 ghost use Rattle.gf_tree.specs.Front.{IsExtensiveFile};
 
-/// Behind tokens that some file begins with: if the format, the version, the letter, a number, an
-/// index or a node is due, that names a role, and just those bare tokens may follow that suit it
-/// (`follow`). And if just those may follow that suit a role, one at least, then what the role names
-/// is due (`stand`).
+/// After tokens that some file begins with: if the format, the version, the letter, a number, an
+/// index or a node is due, then some role names it, and exactly those bare tokens may follow that
+/// suit this role (`follow`). Conversely, if exactly those bare tokens may follow that suit a role,
+/// and there is at least one, then what the role names is due (`stand`).
 pub fn due_by_what_follows()
     ensures follow { (before : List Token) (w : What) → Begins IsExtensiveFile before
         → IsToldByRole w → IsDue before w

@@ -1,5 +1,5 @@
-//! The table of positions of extensive files, a law for each row: behind the tokens that stand before
-//! it, just what the row accepts may follow, and all else is refused as the row says.
+//! The table of positions of extensive files, a law for each row: after the tokens that stand
+//! before the row, exactly what it accepts may follow, and everything else is refused as it says.
 
 ghost use Rattle.std.specs.Prelude.{◌≡◌, ◌<◌, ◌⊎◌, List, [], ◌∷◌, ◌++◌, ℕ, codes, length, Some};
 ghost use Rattle.gf_fraction.specs.Ratio.{Ratio};
@@ -65,7 +65,7 @@ pub fn after_players()
         → Obeys before (or_text (a_node (length players))) }
 {}
 
-/// A node due: after the comment, and after a node while nodes are due.
+/// A node is due: after the comment, and after a node while more nodes are due.
 pub fn node_due()
     ensures after_comment { (before : List Token) (players : List (List ℕ))
         → BehindComment before players → Obeys before (a_node (length players)) }
@@ -119,7 +119,7 @@ pub fn new_action()
         → IsNewSet f.nodes key → 0 < key.player → Obeys f.before (a_new_action set.actions) }
 {}
 
-/// In a new list of a chance set, an action due.
+/// In a new list of a chance set, at an action.
 pub fn new_branch()
     ensures { (f : FileFront) (number : ℕ) (set : InformationSet) (sum : Ratio)
         → InActions f.front (set_of 0 number) set → IsNewSet f.nodes (set_of 0 number)
@@ -148,7 +148,7 @@ pub fn known_probability()
         → Obeys f.before (this_number p) }
 {}
 
-/// In a repeated list, none left.
+/// In a repeated list, no actions left.
 pub fn no_action_left()
     ensures { (f : FileFront) (key : SetKey) (known seen : InformationSet)
         → InActions f.front key seen → KnowsSet f.nodes key known → known.actions ≡ seen.actions
@@ -185,8 +185,8 @@ pub fn outcome_opening()
         → Obeys f.before an_opening }
 {}
 
-/// A payoff due, also behind a comma: any number in a new description, and in a repeated one the
-/// next of the first.
+/// A payoff, also after a comma: in a new description any number, and in a repeated one the next
+/// payoff of the first.
 pub fn braced_payoff()
     ensures new { (f : FileFront) (number : ℕ) (payoffs : List Ratio)
         → ToPayoff f.front number payoffs → IsNewOutcome f.nodes number
@@ -215,7 +215,7 @@ pub fn after_last_payoff()
         → Obeys f.before (or_comma a_closing) }
 {}
 
-/// After the last payoff and its comma, and where there are no players.
+/// After the last payoff and its comma, and in the braces if there are no players.
 pub fn no_payoff()
     ensures { (f : FileFront) (number : ℕ) (payoffs : List Ratio)
         → ToPayoff f.front number payoffs → length payoffs ≡ length f.players

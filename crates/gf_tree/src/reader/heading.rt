@@ -10,7 +10,7 @@ use super::Reader;
 use gf_token::{Fault, Span, What, Why};
 
 impl<'a> Reader<'a> {
-    /// Reads all that stands before the players.
+    /// Reads everything before the players.
     pub(super) fn heading(&mut self) -> Result<(), Fault>
         ensures machine { Goes (answer Format self.old) result (answer BeforePlayers self.new) }
         ensures kept { OnOk result (self.new
@@ -27,7 +27,7 @@ impl<'a> Reader<'a> {
         Ok(())
     }
 
-    /// Reads the players. Answers where their closing brace stands.
+    /// Reads the players. Returns the place of their closing brace.
     #[tactic(auto, using(std::proofs::lemmas::List::map_push))]
     pub(super) fn players(&mut self) -> Result<Span, Fault>
         ensures machine { Goes (answer BeforePlayers self.old) result
@@ -51,7 +51,8 @@ impl<'a> Reader<'a> {
         Ok(brace)
     }
 
-    /// Reads the comment, if there is one, behind the brace. Answers where the last of both stands.
+    /// Reads the comment, if there is one, after the brace. Returns the place of the last of these
+    /// tokens.
     pub(super) fn comment(&mut self, brace: Span) -> Span
         requires due { self.old.due ≡ 1 }
         requires place { StandsBefore self.old.tokens brace }

@@ -12,7 +12,7 @@ use crate::receive::Receive;
 use gf_token::{Fault, What, Why};
 
 impl<'a> Reader<'a> {
-    /// Reads a node of chance, behind its letter.
+    /// Reads a node of chance, after its letter.
     #[inline(always)]
     fn chance_node<R: Receive<'a>>(&mut self, to: &mut R) -> Result<(), Fault>
         requires sound { IsSound self.old }
@@ -53,7 +53,7 @@ impl<'a> Reader<'a> {
         Ok(number)
     }
 
-    /// Reads a node of a player, behind its letter.
+    /// Reads a node of a player, after its letter.
     #[inline(always)]
     fn personal_node<R: Receive<'a>>(&mut self, to: &mut R) -> Result<(), Fault>
         requires sound { IsSound self.old }
@@ -73,7 +73,7 @@ impl<'a> Reader<'a> {
         self.outcome(name.label, Some(place), to)
     }
 
-    /// Reads a terminal node, behind its letter.
+    /// Reads a terminal node, after its letter.
     #[inline(always)]
     fn terminal_node<R: Receive<'a>>(&mut self, to: &mut R) -> Result<(), Fault>
         requires sound { IsSound self.old }
@@ -121,7 +121,7 @@ impl<'a> Reader<'a> {
         Err(Fault::at(letter.span, Why::Expected(What::Node)))
     }
 
-    /// Reads the end, behind the last node.
+    /// Reads the end, after the last node.
     fn finish(&mut self) -> Result<(), Fault>
         requires { self.old.due ≡ 0 }
         ensures machine { MatchResult result

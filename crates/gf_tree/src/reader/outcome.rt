@@ -1,4 +1,4 @@
-//! The outcome of a node, with which the node is whole.
+//! The outcome of a node, which completes the node.
 
 ghost use Rattle.std.specs.Prelude.{◌≡◌, ◌<◌, ◌≤◌, suc, ℕ, List, Some, None, length};
 ghost use Rattle.std.specs.Prelude.{map, nat_eq, option_map, position, slice_get};
@@ -25,7 +25,7 @@ use crate::receive::Receive;
 use gf_token::{Fault, Label, Span, What, Why};
 use std::alloc::AllocError;
 
-/// The place of an outcome, where it is known.
+/// The place of an outcome, if it is known.
 #[inline(always)]
 fn found(outcomes: &Outcomes<'_>, number: u32) -> Option<u32>
     ensures absent { IfNone result (position (nat_eq number) (map (λ o. o.key) outcomes.now.known)
@@ -40,7 +40,7 @@ fn found(outcomes: &Outcomes<'_>, number: u32) -> Option<u32>
 }
 
 impl<'a> Reader<'a> {
-    /// The description of an outcome, which was not known, is complete. Answers its place.
+    /// The description of an outcome that was not known is complete. Returns its place.
     fn keep_outcome(&mut self, number: u32, name: Label<'a>) -> Result<u32, AllocError>
         requires absent { position (nat_eq number) (map (λ o. o.key) self.old.outcomes.known)
             ≡ None }
@@ -86,7 +86,7 @@ impl<'a> Reader<'a> {
         }
     }
 
-    /// Reads the closing brace of a new outcome, with which its node is whole.
+    /// Reads the closing brace of a new outcome, which completes its node.
     fn end_outcome<R: Receive<'a>>(
         &mut self,
         node: Label<'a>,
@@ -121,7 +121,7 @@ impl<'a> Reader<'a> {
         Ok(())
     }
 
-    /// Reads the first description of an outcome, which is not known, with which its node is whole.
+    /// Reads the first description of an outcome that is not known, which completes its node.
     #[inline(never)]
     fn new_outcome<R: Receive<'a>>(
         &mut self,
@@ -158,7 +158,7 @@ impl<'a> Reader<'a> {
         self.end_outcome(node, set, number, name.label, to)
     }
 
-    /// Reads the description of a known outcome, if there is one, behind its node.
+    /// Reads the description of a known outcome, if there is one, after its node.
     fn outcome_again(&mut self, place: u32) -> Result<(), Fault>
         requires place { place < length self.old.outcomes.known }
         ensures machine { (outcome : Outcome)
@@ -172,8 +172,8 @@ impl<'a> Reader<'a> {
         same_outcome(&mut self.tokens, name, payoffs)
     }
 
-    /// Reads the description of an outcome, behind the outcome's number, which stands there: the first
-    /// one, or one that is repeated. With it the node is whole.
+    /// Reads the description of an outcome, after the outcome's number at this place: the first
+    /// one, or one that is repeated. It completes the node.
     #[inline(never)]
     fn described_outcome<R: Receive<'a>>(
         &mut self,
@@ -209,7 +209,7 @@ impl<'a> Reader<'a> {
     }
 
     /// Reads the number of a node's outcome, or 0 for none, and the outcome's description, if there
-    /// is one. Whether there is one is asked first, as for sets. With it the node is whole.
+    /// is one. Whether there is one is checked first, as for sets. This completes the node.
     #[inline(always)]
     pub(super) fn outcome<R: Receive<'a>>(
         &mut self,

@@ -35,7 +35,7 @@ struct KnownSet<'s, 'a> {
     actions: &'s [Action<'a>],
 }
 
-/// The set with this key, where it is known.
+/// The set with this key, if it is known.
 #[inline(always)]
 fn described<'s, 'a>(sets: &'s Sets<'a>, player: u32, number: u32) -> Option<KnownSet<'s, 'a>>
     ensures absent { IfNone result (position (same_set (set_of player number))
@@ -53,7 +53,8 @@ fn described<'s, 'a>(sets: &'s Sets<'a>, player: u32, number: u32) -> Option<Kno
     })
 }
 
-/// Whether the actions of a set may end whose probabilities have this sum; a player's have none.
+/// Whether the actions of a set may end if their probabilities have this sum; a player's actions
+/// have none.
 fn adds_up(player: u32, sum: Fraction) -> bool
     ensures { result ≡ adds_up player sum }
 {
@@ -61,7 +62,7 @@ fn adds_up(player: u32, sum: Fraction) -> bool
 }
 
 impl<'a> Reader<'a> {
-    /// Reads the probability of an action, and answers the sum through it.
+    /// Reads the probability of an action, and returns the sum through it.
     fn probability(&mut self, label: Label<'a>, sum: Fraction) -> Result<Fraction, Fault>
         requires { IsFraction sum }
         ensures machine { (node : List ℕ) (number : ℕ) (name : List ℕ) → MatchResult result
@@ -89,8 +90,8 @@ impl<'a> Reader<'a> {
             Err(why) => Err(Fault::at(word.span, why)),
         }
     }
-    /// Reads what follows the label of an action of a new set, which of chance is a probability.
-    /// Answers the sum of the probabilities through this action.
+    /// Reads what follows the label of an action of a new set, which is a probability if chance
+    /// moves. Returns the sum of the probabilities through this action.
     fn action(
         &mut self,
         player: u32,
@@ -124,7 +125,7 @@ impl<'a> Reader<'a> {
         }
     }
 
-    /// The description of a set, which was not known, is complete. Answers the set's place.
+    /// The description of a set that was not known is complete. Returns the set's place.
     fn keep_set(&mut self, player: u32, number: u32, name: Label<'a>) -> Result<u32, AllocError>
         requires absent { position (same_set (set_of player number))
             (map (λ s. s.key) self.old.sets.known) ≡ None }
@@ -143,7 +144,7 @@ impl<'a> Reader<'a> {
         self.sets.end(player, number, name)
     }
 
-    /// Reads the closing brace of the actions of a set, which is not known, and answers the set's
+    /// Reads the closing brace of the actions of a set that is not known, and returns the set's
     /// place.
     #[tactic(auto, using(crate::proofs::ReaderSteps::set_ends_by))]
     fn end_set(
@@ -185,7 +186,7 @@ impl<'a> Reader<'a> {
         }
     }
 
-    /// Reads the first description of a set, which is not known, and answers the set's place.
+    /// Reads the first description of a set that is not known, and returns the set's place.
     #[inline(never)]
     fn new_set(&mut self, player: u32, number: u32) -> Result<u32, Fault>
         requires absent { position (same_set (set_of player number))
@@ -216,8 +217,8 @@ impl<'a> Reader<'a> {
         self.end_set(player, number, name.label, sum)
     }
 
-    /// Reads the description of a set, behind the set's number: the first one, or one that is repeated.
-    /// Answers the set's place.
+    /// Reads the description of a set, after the set's number: the first one, or one that is
+    /// repeated. Returns the set's place.
     #[inline(never)]
     fn described_set(&mut self, player: u32, number: u32) -> Result<u32, Fault>
         requires sound { IsSound self.old }
@@ -244,11 +245,11 @@ impl<'a> Reader<'a> {
         Ok(place)
     }
 
-    /// Reads the number of a player's set, chance being player 0, and its description, if there is
-    /// one. Answers the set's place.
+    /// Reads the number of a player's set, where chance is player 0, and its description, if there
+    /// is one. Returns the set's place.
     ///
-    /// Whether a description follows is asked first: it mostly does where the set is new, and mostly
-    /// does not where it is known, so that the way on does not wait for the set's place.
+    /// Whether a description follows is checked first: mostly it does if the set is new, and does
+    /// not if it is known, so what comes next does not wait for the set's place.
     #[inline(always)]
     pub(super) fn set(&mut self, player: u32) -> Result<u32, Fault>
         requires sound { IsSound self.old }
@@ -270,7 +271,8 @@ impl<'a> Reader<'a> {
             return Err(Fault::at(word.span, Why::BadIndex));
         };
         if self.tokens.is_quoted() {
-            // Handed on whole, a refusal would be copied, also where there is none.
+            // If the result were passed on as a whole, a refusal would be copied even if there is
+            // none.
             let place = self.described_set(player, number)?;
             return Ok(place);
         }

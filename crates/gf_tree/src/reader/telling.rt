@@ -17,7 +17,7 @@ use gf_token::{Fault, Label, Span, Why};
 use std::alloc::AllocError;
 
 impl<'a> Reader<'a> {
-    /// Tells the heading, whose last token stands there.
+    /// Tells the heading, whose last token is at this place.
     pub(crate) fn tell_heading<R: Receive<'a>>(&self, last: Span, to: &mut R) -> Result<(), Fault>
         requires untold { R.untold to.old }
         requires place { StandsBefore self.now.tokens last }
@@ -34,7 +34,7 @@ impl<'a> Reader<'a> {
         Ok(())
     }
 
-    /// How many children a node has whose set has this place, where it has one.
+    /// How many children a node has if its set, if it has one, has this place.
     #[inline(always)]
     fn children(&self, set: Option<u32>) -> usize
         requires { MatchOption set ⊤ (λ place. place < length self.now.sets.known) }
@@ -46,8 +46,8 @@ impl<'a> Reader<'a> {
         }
     }
 
-    /// Tells a node with the places of its set and of its outcome, where it has them. Its children
-    /// are due.
+    /// Tells a node with the places of its set and of its outcome, if it has them. Its children are
+    /// then due.
     #[inline(always)]
     pub(super) fn tell<R: Receive<'a>>(
         &mut self,

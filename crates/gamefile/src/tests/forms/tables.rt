@@ -8,7 +8,7 @@ use std::alloc::{AllocError, Global};
 use std::process::Abort;
 use std::test::Fail;
 
-/// A choice that does not matter behind an action that ends the play.
+/// A choice that does not matter, after an action that ends the play.
 const ENDING: &[u8] = b"EFG 2 R \"r\" { \"A\" }
 p \"\" 1 1 \"i\" { \"a\" \"b\" } 0
 t \"\" 1 \"x\" { 1 }
@@ -42,7 +42,7 @@ fn assert_text(
     Ok(())
 }
 
-/// Asserts that a game has neither table, for these causes.
+/// Asserts that a game has neither table, for these reasons.
 fn assert_refused(
     rt: &impl Abort,
     alloc: Global,

@@ -1,4 +1,4 @@
-//! What the refusals of files name as due, which no line of the program tells.
+//! What the refusals of files name as due, which no line of the program shows.
 
 use gf_nfg::read_nfg;
 use gf_token::What::{
@@ -125,7 +125,8 @@ fn assert_due(rt: &impl Abort, text: &[u8], what: What, fault: Option<Fault>) {
     assert!(rt; fault == Some(wanted), "of {text:?}");
 }
 
-/// Asserts what is due in files that begin so and go on with each row, as one reader refuses them.
+/// Asserts what is due in files that begin with this and go on with each row, as one reader refuses
+/// them.
 fn assert_rows(
     rt: &impl Abort,
     alloc: Global,
@@ -145,7 +146,7 @@ fn assert_rows(
     Ok(())
 }
 
-/// What files begin with, and the rows of those that begin so.
+/// What files begin with, and the rows of those that begin with it.
 const FILES: [(&[u8], &[Row]); 7] = [
     (b"", &HEADINGS),
     (b"EFG 2 R \"\" { } ", &TREES),

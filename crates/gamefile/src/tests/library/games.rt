@@ -5,7 +5,7 @@ use gf_fraction::Fraction;
 use gf_tree::{Branch, Game, Step, read_efg};
 use std::process::Abort;
 
-/// Asserts that a set of a player, 0 for chance, has a name and so many actions.
+/// Asserts that a set of a player, 0 for chance, has a name and this many actions.
 fn assert_set(rt: &impl Abort, game: &Game<'_>, key: (u32, u32), name: &[u8], count: usize) {
     let (label, actions) = game.infoset(key.0, key.1).expect(rt, "a set");
     assert!(rt; label.raw() == name && actions.len() == count);

@@ -20,7 +20,7 @@ p \"\" 1 8 \"j\" { \"R\" } 2 \"w\" { 1/10 }
 t \"\" 2
 ";
 
-/// The text of a game by its own numbers, behind another.
+/// The text of a game by its own numbers, after another text.
 fn text_of(alloc: Global, game: &Game<'_>) -> Result<Vec<u8>, AllocError> {
     let mut text = Vec::from_slice(alloc, b"; ")?;
     write_efg(game, &mut text)?;

@@ -71,7 +71,7 @@ fn keeps_what_it_is_made_of(rt: HostRuntime) -> Result<(), Fail> {
     Ok(())
 }
 
-/// The text of a table, behind another.
+/// The text of a table, after another text.
 fn text_of(alloc: Global, t: &Table) -> Result<Vec<u8>, AllocError> {
     let mut text = Vec::from_slice(alloc, b"# ")?;
     write_nfg(t, &mut text)?;

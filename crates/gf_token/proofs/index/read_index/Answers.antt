@@ -9,7 +9,7 @@ use Rattle.std.proofs.lemmas.Int.Digits.{digits_more, digits_value_more}
 use Rattle.gf_token.proofs.index.read_index.Goals as goal
 use Rattle.gf_token.proofs.index.read_index.Goals.{then-is_long, else-is_long}
 
--- a number behind which a further digit has room in 64 bits
+-- a number after which a further digit has room in 64 bits
 has_room : (i n value : ℕ) → i < n → (n ≤ 19 → value < 10 ^ i) → (19 < n → value ≤ 2 ^ 32)
     → value * 10 + 9 < 2 ^ 64
 has_room i n value h short long = elim (cases_lt 19 n) [
