@@ -319,8 +319,10 @@ fn fault_of(alloc: Global, error: &Error, words: &[&str]) -> Result<WordsFault, 
 /// What the arguments after the program's name ask for: `canon [--no-names] [FILE]`, `check
 /// [FILE]`, `table [--reduced] [FILE]` or `same [--map | --no-names] A B`, each with `--explain` or
 /// without; `hash [--no-names] [--quiet]` or `duplicates [--no-names] [--quiet]`, with
-/// `[FILE|FOLDER]..` or `--files-from FILE [--null]`; or none of these, which is `canon` of
-/// standard input.
+/// `[FILE|FOLDER]..` or `--files-from FILE [--null]`; or nothing, which means `canon` of standard
+/// input.
+///
+/// # Errors
 ///
 /// - `Help`: the arguments ask for help, as `--help` or `help` does, also after a command; or for
 ///   the version, as `--version` or `-V` does, but not after a command.

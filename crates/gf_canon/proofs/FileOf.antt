@@ -44,7 +44,7 @@ uses_keys same at before [] = refl
 uses_keys same at before (key ∷ keys) =
     ap (λ ks. key ∷ ks) (uses_keys same at (before ++ key ∷ []) keys)
 
--- a key that is none of these is none of these and another
+-- a key that is not among these, and differs from one more, is not among all of them
 still_new : {K : Type 0} (same : K → K → Bool) (before : List K) (key k : K)
     → list_any (same key) before ≡ false → same key k ≡ false
     → list_any (same key) (before ++ k ∷ []) ≡ false

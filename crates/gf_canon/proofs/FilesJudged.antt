@@ -22,7 +22,7 @@ use Rattle.gf_canon.specs.declared.sameness.Names.{Names}
 use Rattle.gf_canon.proofs.Files.{spells_one_file}
 use Rattle.gf_canon.proofs.Formats.{named_by_word, none_without_format, two_words}
 
--- ---- where memory runs out after the last token
+-- ---- if memory runs out after the last token
 
 abbrev pub wants_memory : List ℕ → Fault
 wants_memory bytes =

@@ -22,7 +22,7 @@ same_as_read names answer a b first second of_a of_b same x y of_x of_y =
     (subst (λ (z : GameFile). IsTrue answer ↔ SameBy names first z)
     (spells_one_file b second y of_b.spelled of_y.spelled) same)
 
--- files that both mean something are refused for lack of memory alone
+-- files that both mean something are refused only for lack of memory
 memory_alone : (a b : List ℕ) (fault : SameFault) (x y : GameFile) → SpellsWithin a x
     → SpellsWithin b y → AreRefusedWith a b fault → WantsMemory fault
 memory_alone a b (First fault) x y of_x of_y refused = refused.unless_memory x of_x

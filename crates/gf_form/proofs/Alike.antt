@@ -117,7 +117,7 @@ same_payoff g h c d player f tree a =
 -- ---- bottom-up values
 
 module _ (g h : Game) (c d : SetKey → ℕ) (player : ℕ) (f : Node → Node) where
-  -- the value at a node, where it moves by this set or by none
+  -- the value at a node that has this set or none
   abbrev ValueAt : Game → (SetKey → ℕ) → Node → Trees Node → Ratio → Option SetKey → Type 0
   ValueAt game choices n ts value o = MatchOption o
       (value ≡ payoff_at game player n)

@@ -45,7 +45,7 @@ all_first (c ∷ counts) (a ∷ s) h ones =
     (λ k le less. ones (suc k) (omega arith) (omega (arith, less))) in
     omega (arith, top, others)
 
--- there is room for all that differ from this place on alone
+-- there is room for all that differ only from this place on
 room : (counts : List ℕ) (from : ℕ) (s : List ℕ) → IsChoice counts s → FirstFrom counts from s
     → place counts s + product (drop from counts) ≤ product counts
 room counts zero s h ones = omega (arith, all_first counts s h ones)

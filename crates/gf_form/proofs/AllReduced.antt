@@ -71,7 +71,7 @@ module _ (g : Game) (game : IsGame g) where
         all_first players (ap (drop 1) e),
       )
 
-  -- where each player has as many first strategies as strategies, these are all, in order
+  -- if each player has as many first strategies as strategies, these are all of them, in order
   pub all_are_firsts : (c : Counts) → AreCounts g c → (firsts : List (List ℕ))
       → AreFirsts g firsts → map length firsts ≡ c.strategies.items
       → AreFirsts g (all_numbers (strategy_counts g))

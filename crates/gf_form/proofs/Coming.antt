@@ -37,7 +37,7 @@ module _ (g : Game) (game : IsGame g) (choices : SetKey → ℕ) (key : SetKey) 
       let same : length set.actions ≡ count ts = cc in
       subst (λ n. 0 < n) same (set_is g game own set e).some_action
 
-  -- where the node is of the set, each play through it comes there
+  -- if the node belongs to the set, each play through it comes there
   any_here : (n : Node) (k : ℕ) (t : Tree Node) → is_here n ≡ true
       → come (map (from_node n k) (plays t)) ≡ true
   any_here n k t here =

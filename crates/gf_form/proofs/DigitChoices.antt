@@ -125,7 +125,7 @@ choice_at_digits (own ∷ others) (choice ∷ choices) h =
     choice_joined (at_digits others others) (picked own own) (at_digits others choices)
     (picked own choice) (choice_at_digits others choices h.1) (choice_picked own choice h.0)
 
--- the place of such choices, where the first player's advance fastest
+-- the place of such choices, if the first player's advance fastest
 abbrev place_of : List (List ℕ) → List (List ℕ) → ℕ
 place_of (own ∷ others) (choice ∷ choices) =
     place_of others choices * product own + place own choice
@@ -145,7 +145,7 @@ place_at_digits (own ∷ others) (choice ∷ choices) p h =
 
 -- ---- the profile with a number
 
--- what is left of the number for the players behind
+-- what is left of the number for the players after him
 record Left (own : List ℕ) (others : List (List ℕ)) (number : ℕ) : Type 0 where
   here : number % product own < product own
   behind : number / product own < product (map product others)

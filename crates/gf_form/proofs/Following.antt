@@ -106,7 +106,7 @@ module _ (choices : SetKey → ℕ) where
   abbrev SameOrPart : Play → Play → Type 0
   SameOrPart p q = (p ≡ q) ⊎ PartAtChance p q
 
-  -- two different children are taken by chance alone
+  -- two different children are taken only by chance
   part_here : (n : Node) (key : SetKey) (j k : ℕ) (p q : Play)
       → n.set ≡ Some key → ¬ (j ≡ k) → Follows (from_node n j p) → Follows (from_node n k q)
       → PartAtChance (from_node n j p) (from_node n k q)

@@ -57,7 +57,7 @@ module _ (labels : ℕ → List (List ℕ)) (R : List ℕ → List Ratio → Typ
   as_players : length (players_of g) ≡ length t.players
   as_players = length-numbers_from 1 (length g.players) ∙ sym (ap length form.players)
 
-  -- a form is a table where each player has a strategy, and each entry a payoff for each player
+  -- a form is a table if each player has a strategy, and each entry a payoff for each player
   pub table_by : ((player : ℕ) → 0 < length (labels player))
       → ((e : Entry) → Has t.entries e → length e.payoffs ≡ length (players_of g)) → IsTable t
   table_by some each_row = record {

@@ -42,7 +42,7 @@ same_entries R (e ∷ es) (f ∷ fs) q one h k =
     let others = same_entries R es fs rest (λ p i. one p (inr i)) h.1 k.1 in
     λ i. record { profile = profile i; payoffs = payoffs i } ∷ others i
 
--- where at most one row of payoffs is right at each profile, there is one form at most
+-- if at most one row of payoffs is right at each profile, there is at most one form
 pub one_form_by : (labels : ℕ → List (List ℕ)) (R : List ℕ → List Ratio → Type 0) (g : Game)
     → ((profile : List ℕ)
     → Has (form_profiles labels g) profile → (a b : List Ratio) → R profile a → R profile b → a ≡ b)

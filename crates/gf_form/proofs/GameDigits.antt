@@ -32,7 +32,7 @@ use Rattle.gf_form.proofs.NumberedProfiles.{numbered, numbered_strategies}
 
 -- ---- a set among a player's
 
--- its place, where its number of actions and what is chosen there stand
+-- its place, which has its number of actions and what is chosen there
 record IsAmong (ss : List (Described SetKey InformationSet)) (key : SetKey) (set : InformationSet)
     : Type 0 where
   place : ℕ
@@ -104,7 +104,7 @@ same_digit actions more choices others step by count many choice taken a c s n t
 
 -- ---- the game
 
--- what is made of the numbers of actions at each player's sets
+-- what is made from the numbers of actions at each player's sets
 pub record AreMade (counts : List (List ℕ)) (d : Digits) : Type 0 where
   pub steps : map (λ own. own.items) d.steps.items ≡ all_steps 1 counts
   pub digit_steps_are : digit_steps d ≡ at_digits counts (all_steps 1 counts)

@@ -277,7 +277,7 @@ level_within levels count set are = by levels set are.each
     by (level ∷ levels) zero h = h.0
     by (level ∷ levels) (suc set) h = by levels set h.1
 
--- one more level is made where those before it and its own are
+-- one more level is made if those before it and its own are
 pub made_more : (levels : List ℕ) (level : ℕ) (choices : ℕ → ℕ) (m : Move) → 1 ≤ level
     → is_made_to levels level choices m
     ≡ (is_made_to levels (level - 1) choices m && is_made_at levels level choices m)

@@ -88,7 +88,7 @@ Flags = Vec (Vec Bool Global) Global
 
 module _ (sets : ℕ) (vs : List Visit) (old : Levels) (lists : Lists) (known : Flags)
     (h : IsLevels sets vs old) where
-  -- the levels on which the choices stay, where others are made
+  -- the levels on which the choices stay when others are made
   pub levels_kept : (strategy : Vec ℕ Global) (kept : ℕ) → kept < length old.lists.items
       → lists.items ≡ take (kept + 1) old.lists.items
       → known.items ≡ take (kept + 1) old.known.items

@@ -83,7 +83,7 @@ module _ (sets : ℕ) (vs : List Visit) (ordered : AreOrdered sets 1 vs) (levels
           (omega (arith, are.visit k v at, settled)) parts.0)
           (weak v.last (omega (arith, are.move k v at, settled)) parts.1)
 
-  -- what is met where all visits that are left are to sets that are known
+  -- what is met if all visits that are left are to known sets
   pub open_settles : (count : ℕ) → AreLevels levels count → (level : ℕ) (strategy numbers : List ℕ)
       (known : List Bool) → AreOpen vs levels highest level strategy numbers known
       → ((number : ℕ) → Has numbers number
@@ -293,7 +293,7 @@ module _ (sets : ℕ) (vs : List Visit) (ordered : AreOrdered sets 1 vs) (levels
 
 -- ---- choices that stay, and none
 
--- choices that agree on the levels so far leave and tell the same
+-- choices that agree on the levels so far leave the same visits and make the same sets known
 pub level_kept : (sets : ℕ) (vs : List Visit) (levels highest : List ℕ) (level : ℕ)
     (old new numbers : List ℕ) (known : List Bool)
     → ((set : ℕ) → get_or levels set 1 ≤ level → chosen old set ≡ chosen new set)

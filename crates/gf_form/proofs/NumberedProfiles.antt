@@ -12,8 +12,7 @@ use Rattle.gf_form.proofs.Choices.{length-all_choices}
 use Rattle.gf_form.proofs.PickedProfiles.{profiles_next}
 use Rattle.gf_form.proofs.StrategiesByNumber.{positive_parts}
 
--- the strategies of the profile with this number, where players have this many actions at their
--- sets
+-- the strategies of the profile with this number, if players have this many actions at their sets
 abbrev pub numbered : List (List ℕ) → ℕ → List (List ℕ)
 numbered [] number = []
 numbered (own ∷ others) number =

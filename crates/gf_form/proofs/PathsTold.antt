@@ -84,7 +84,7 @@ module _ (g : Game) (steps : SetKey → ℕ) (path : Path) where
       (eq-eqb key.player 0 chance)
       ∙ lot_list ts (chances_at g n) 1)
 
-  -- the nodes below a player's node, where this action is taken
+  -- the nodes below a player's node, if this action is taken
   abbrev pub below_by : ℕ → ℕ → List (Tree Node) → List Reached
   below_by step action ts =
       if action == 0 then any_nodes g steps path step 1 ts

@@ -67,8 +67,8 @@ some_factor (c ∷ counts) number zero h less = (positive_parts c (product count
 some_factor (c ∷ counts) number (suc i) h less =
     some_factor counts 0 i (positive_parts c (product counts) number h).1 (omega (arith, less))
 
--- The strategies of the profile with this number, where players have this many actions at their
--- sets, and strategies with these numbers.
+-- The strategies of the profile with this number, if players have this many actions at their sets,
+-- and strategies with these numbers.
 abbrev pub numbered : List (List ℕ) → List (List ℕ) → ℕ → List (List ℕ)
 numbered [] picked number = []
 numbered (own ∷ others) [] number = []
@@ -198,7 +198,7 @@ pub counted_profiles : (picked : List (List ℕ))
 counted_profiles picked =
     length-map (profiles (map length picked)) (full_at picked) ∙ length-profiles (map length picked)
 
--- ---- where all are picked
+-- ---- if all are picked
 
 abbrev pub all_numbers : List ℕ → List (List ℕ)
 all_numbers counts = map (numbers_from 0) counts

@@ -154,7 +154,7 @@ times_defined : (p : Ratio) (x : Option Ratio) → IsDefined (times_of p x) → 
 times_defined p (Some x) h = tt
 times_defined p None h = absurd h
 
--- where a value is left, all on the stack were defined
+-- if a value is left, all values on the stack were defined
 defined : (g : Game) (player : ℕ) (ops : List Op) (st : List (Option Ratio)) (r : Ratio)
     → run g player ops st ≡ Some r ∷ [] → AllByRecursion IsDefined st
 defined g player [] st r h = subst (AllByRecursion IsDefined) (sym h) (tt, tt)

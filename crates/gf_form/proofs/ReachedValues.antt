@@ -71,7 +71,7 @@ module _ (g : Game) (game : IsGame g) (spellable : IsSpellable g) (steps choose 
   Added o start path rs = IsAdded g player den den_above den_within (steps_of actions) choices o
       start path.weight path.bound path.den rs
 
-  -- where these nodes fit
+  -- if these nodes fit
   abbrev IfFits : Option Ratio → Path → List Reached → Type 0
   IfFits o path rs = AreExact rs → bounds rs < 2 ^ 127 → Valued o path rs
 

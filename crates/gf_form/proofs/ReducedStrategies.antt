@@ -35,7 +35,7 @@ there [] i d less = absurd (omega (arith, less))
 there (x ∷ xs) zero d less = inl refl
 there (x ∷ xs) (suc i) d less = inr (there xs i d (omega (arith, less)))
 
--- where nothing stands twice, what stands at two places stands at one
+-- if nothing occurs twice, what is at two places is at one place
 one_place : {A : Type 0} (xs : List A) (i j : ℕ) (d : A) → AreDistinct xs → i < length xs
     → j < length xs → get_or xs i d ≡ get_or xs j d → i ≡ j
 one_place [] i j d h hi hj e = absurd (omega (arith, hi))

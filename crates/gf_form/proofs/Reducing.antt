@@ -50,7 +50,7 @@ mapped_alike f h [] x e i = absurd i
 mapped_alike f h (y ∷ ys) x e (inl q) = subst (λ z. f z ≡ h z) q (ap (λ l. get_or l 0 None) e)
 mapped_alike f h (y ∷ ys) x e (inr i) = mapped_alike f h ys x (ap (drop 1) e) i
 
--- a set that is none of these has no choice
+-- a set that is not one of these has no choice
 in_or_none : (keys : List SetKey) (key : SetKey)
     → Has keys key ⊎ ((strategy : List ℕ) → choice_at keys strategy key ≡ 0)
 in_or_none [] key = inr (λ strategy. refl)

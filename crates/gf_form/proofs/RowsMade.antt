@@ -122,7 +122,7 @@ module _ (R : List ℕ → List Ratio → Type 0) where
       ∙ counted n h.rows (all_second R (λ row. length row ≡ n) ps h.rows each h.right)
       ∙ ap (λ (m : ℕ). m * n) (sym (as_many R ps h.rows h.right))
 
-  -- where all of each row are fractions
+  -- if all items of each row are fractions
   pub rows_fractions : ((p : List ℕ) (row : List Ratio) → R p row → AllByRecursion IsFraction row)
       → (ps : List (List ℕ)) (payoffs : List Ratio) → AreRowsAt R ps payoffs
       → AllByRecursion IsFraction payoffs

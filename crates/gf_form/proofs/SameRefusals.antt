@@ -44,7 +44,7 @@ module _ (g h : Game) (game : IsGame g) (game' : IsGame h) (same : SameGame g h)
       (players_of h)
       (subst (AllByRecursion (HasBottomUpValue g profile)) players_too all)
 
--- the same position is the first, where the same holds for the same profiles
+-- the same position is the first, if the same holds for the same profiles
 pub first_too : (P Q : List ℕ → Type 0) (ps qs : List (List ℕ)) (position : ℕ) → ps ≡ qs
     → ((profile : List ℕ) → P profile → Q profile) → ((profile : List ℕ) → Q profile → P profile)
     → IsFirstWithout P ps position → IsFirstWithout Q qs position

@@ -110,7 +110,7 @@ counted_on k (row ∷ rows) below =
 pub counted : (k : ℕ) (rows : List (List Ratio)) → length (column k rows) ≡ length rows
 counted k rows = let all = counted_on k rows [] in omega (arith, all)
 
--- ---- where there are no payoffs
+-- ---- if there are no payoffs
 
 abbrev IsSomeFraction : Option Ratio → Type 0
 IsSomeFraction value = (x : Ratio) × (value ≡ Some x) × IsFraction x

@@ -204,7 +204,7 @@ module _ (g : Game) (steps choose : SetKey → ℕ) (actions choices : List ℕ)
           action_unmet ts (suc position) path ds
           (all_parts (HasChildren g) (flatten t) (flatten_all ts) children).1 has missed
 
-      -- where none of these actions is chosen
+      -- if none of these actions is chosen
       pub any_unmet : (ts : Trees Node) (k : ℕ) (path : Path) (ds : List ℕ) (step m place : ℕ)
           → AllByRecursion (HasChildren g) (flatten_all ts) → HasDigits actions path ds
           → IsFree actions ds step m place → 1 ≤ k → k + count ts ≤ m + 1

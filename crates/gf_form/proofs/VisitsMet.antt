@@ -14,7 +14,8 @@ use Rattle.gf_form.specs.inner.Visits.{AreOrdered, AreReached, Meets, Reaches, i
 use Rattle.gf_form.specs.declared.visits.Visit.{Visit}
 
 module _ (choices : ℕ → ℕ) (reached : ℕ → Bool) where
-  -- of visits with one more, the earlier ones come about, and the last one where its move is taken
+  -- of visits with one more, the earlier ones come about as before, and the last one if its move is
+  -- taken
   reached_last : (vs : List Visit) (v : Visit) (number : ℕ)
       → AreReached choices reached number (vs ++ v ∷ [])
       → AreReached choices reached number vs
@@ -166,7 +167,7 @@ ordered_there sets (w ∷ vs) v (suc k) number h there =
 
 -- ---- what comes about, visit after visit
 
--- of this many visits from the first one on, each comes about where its last move is taken
+-- of this many visits from the first one on, each comes about if its last move is taken
 pub record ReachedTo (choices : ℕ → ℕ) (vs : List Visit) (flags : List Bool) (i : ℕ)
     : Type 0 where
   pub counted : length flags ≡ suc i

@@ -184,7 +184,7 @@ no_action held position some past =
     ∙ slice_get-map action_of held (position - 1)
     ∙ ap (option_map action_of) (slice_get_past held (position - 1) past)
 
--- ---- where a player has no strategy
+-- ---- if a player has no strategy
 
 pub no_strategy : (choices : List (Vec ℕ Global)) (player position : ℕ) → ¬ (player ≡ 0)
     → length choices ≤ player - 1

@@ -108,7 +108,7 @@ module _ (g : Game) (game : IsGame g) (spellable : IsSpellable g) (choices : Set
       h then back (subst (λ m. IsEqual one_ratio (total (map (q n) (numbers_from 1 m)))) set.2
       (chances_add g game spellable n key set.0 at (eqb-true _ _ chance) set.1))
 
-  -- ---- where each set has a choice of one of its actions
+  -- ---- if each set has a choice of one of its actions
 
   node_whole : (n : Node) (ts : Trees Node) → HasActions g choices
       → HasChildren g (record { node = n; children = count ts })

@@ -172,7 +172,7 @@ form_of_ending = record {
 
 -- ---- its reduced form
 
--- tells the reduced strategies of the one player apart
+-- tells the reduced strategies of the only player apart
 abbrev code : List (List (Option ℕ)) → ℕ
 code all = unwrap_or (get_or (get_or all 0 []) 0 None) 0 * 3
     + unwrap_or (get_or (get_or all 0 []) 1 None) 0

@@ -45,7 +45,7 @@ has_sign (c ∷ cs) = by_byte c cs (c == 43) (c == 45) refl refl
     by_byte c cs false false hp hm =
         record { sign = []; is_sign = subst (IsSign []) (sym hm) absent; spelled = rw (hp, hm) }
 
--- all of a text, where nothing follows its digits
+-- all of a text, if nothing follows its digits
 only_digits : (text : List ℕ) → has_digits text ≡ true → (length (behind text) == 0) ≡ true
     → (leading text ≡ text) × IsNumeral 10 text
 only_digits text some none =

@@ -80,7 +80,7 @@ signed-* false m n = refl
 signed-* true zero n = let e : 0 * n ≡ 0 = omega arith in rw e
 signed-* true (suc m) n = refl
 
--- the sign of a product is negative where the signs differ
+-- the sign of a product is negative if the signs differ
 pub signed-*ℤ : (s t : Bool) (m n : ℕ) → signed s m *ℤ signed t n ≡ signed (not (beq s t)) (m * n)
 signed-*ℤ false false m n = refl
 signed-*ℤ true false m n = signed-* true m n

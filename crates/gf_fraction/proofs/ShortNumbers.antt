@@ -45,7 +45,7 @@ some_digits text rest end some =
 kept : (v : ℕ) → v < 2 ^ 64 → capped v ≡ v
 kept v short = omega arith
 
--- digits alone
+-- only digits
 pub short_whole : (text rest : List ℕ) (v : ℕ) → leading_value 0 text ≡ leading_value v rest
     → behind text ≡ behind rest → v < 2 ^ 64 → rest ≡ [] → 0 < length text → IsShort text v 1
 short_whole text rest v value end short none some =
@@ -105,7 +105,7 @@ either : (m n : ℕ) → 0 < m + n → (nat_lt 0 m || nat_lt 0 n) ≡ true
 either zero n h = lt-ltb 0 n (omega arith)
 either (suc m) n h = ap (λ b. b || nat_lt 0 n) (lt-ltb 0 (suc m) (omega arith))
 
--- a point does not stand alone
+-- a point is not a number by itself
 some_side : (text more : List ℕ) → behind text ≡ 46 ∷ more → length (leading more) ≡ length more
     → 1 < length text → (has_digits text || has_digits more) ≡ true
 some_side text more end places some =
@@ -113,7 +113,7 @@ some_side text more end places some =
     let same : length (behind text) ≡ length (46 ∷ more) = ap length end in
     either (length (leading text)) (length (leading more)) (omega (arith, parts, same))
 
--- digits of value d with a point, which may stand first or last, but not alone
+-- digits of value d with a point, which may be first or last, but not both
 pub short_decimal : (text rest more after : List ℕ) (v d p : ℕ)
     → leading_value 0 text ≡ leading_value v rest → behind text ≡ behind rest → v < 2 ^ 64
     → rest ≡ 46 ∷ more → 1 < length text

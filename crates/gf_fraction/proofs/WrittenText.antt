@@ -32,7 +32,7 @@ pub number_parts : (z : ℤ) (d : ℕ)
 unfolding number_text
 number_parts z d = part (d == 1) (signed_decimal z) (decimal d)
 
--- a minus is stored before the digits, and kept where the number is below zero
+-- a minus is stored before the digits, and kept if the number is below zero
 pub with_minus : (z : ℤ) (at : ℕ) (text behind : List ℕ) → 1 ≤ at → at ≤ length text
     → drop at text ≡ decimal (unsigned_abs z) ++ behind
     → drop (at - from_bool (lt_z z (pos 0))) (set text (at - 1) 45) ≡ signed_decimal z ++ behind

@@ -80,7 +80,7 @@ names_in t = record {
   strategies = t.strategies;
 }
 
--- by what is kept of both tables, where the names are the same
+-- by what is kept of both tables, if the names are the same
 pub same_play_as_kept : (t u : Table) (m n : Names) (xs ys : List (List Ratio)) (answer : Bool)
     → IsTable t → IsTable u → m ≡ names_in t → n ≡ names_in u
     → (m.players ≡ n.players) × (m.strategies ≡ n.strategies) → xs ≡ rows t → ys ≡ rows u

@@ -95,7 +95,7 @@ no e = absurd cc
 
 -- ---- what bare tokens are answered
 
--- a word, where one of its spellings is tested
+-- a word, if one of its spellings is tested
 word_by : (row : Row) (role : Role) (s : State) (why : Why) (b : List ℕ) (test : Bool)
     → (test ≡ true → Suits role b) → (Suits role b → test ≡ true)
     → RefusesBare (Some role) row.expected b why
@@ -378,7 +378,7 @@ after_last_payoff from outcomes c Comma = refl
 after_last_payoff from outcomes c Closing = refl
 after_last_payoff from outcomes c _ = (no, refl)
 
--- after the comma of the last payoff, and where there are no players
+-- after the comma of the last payoff, and if there are no players
 pub no_payoff : (from outcomes : ℕ) (c : Content)
     → Law (at p.BracedPayoff 0 from outcomes c) a_closing
 no_payoff from outcomes c Closing = refl

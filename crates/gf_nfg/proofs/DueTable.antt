@@ -46,8 +46,8 @@ EndsAs expected s = finish s ≡ Err (Expected expected)
 abbrev pub two_texts : List Token
 two_texts = Text [] ∷ Text [] ∷ []
 
--- The row of a state. Where its brace would leave a list empty, labels may follow; elsewhere, where
--- it has no brace, no two labels may.
+-- The row of a state. If its brace would leave a list empty, any labels may follow; otherwise, if
+-- it has no brace, no two labels may follow.
 pub record Stands (s : State) : Type 0 where
   pub row : Row
   pub law : Law s row

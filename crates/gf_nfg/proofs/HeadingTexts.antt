@@ -96,7 +96,7 @@ group_written counts labels own i start end out out1 out2 total more within is o
 abbrev pub all_text : List (List (List ℕ)) → List ℕ
 all_text strategies = list_text (map (λ own. list_text (map quoted own)) strategies)
 
--- by counts alone
+-- only by counts
 pub counted_text : (counts : List ℕ) (labels : List (List ℕ)) → length labels ≡ 0
     → list_text (map (λ n. list_text (map quoted (counted_labels n))) counts)
     ≡ all_text (strategies_of counts labels)

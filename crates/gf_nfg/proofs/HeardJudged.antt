@@ -165,7 +165,7 @@ passed_on end from start less s (l ∷ ls) h =
     by (Ok after) later = later after
     by (Err why) later = let near = h.0 in omega (arith, less, near)
 
--- so where the machine goes on after a token, it has passed the token
+-- so if the machine goes on after a token, it has passed the token
 passed_before : (t : Remaining) (span : Span) → StandsBefore t span
     → (s : State) → HasPassed (read_on (length t.input) s t.ahead) span.start
 passed_before t span h s = passed_on (length t.input) span.end span.start h.some s t.ahead h.order
@@ -182,7 +182,7 @@ wants_memory {f} {span} {t} {a} stands is s goes =
       passed = passed_before t span stands s;
     })) goes)
 
--- ---- where it has passed a token, memory may run out
+-- ---- at a token that it has passed, memory may run out
 
 module _ (bytes : List ℕ) (all : List Lexeme) (spelled : Spells 0 bytes all) where
   -- a token after others begins after them

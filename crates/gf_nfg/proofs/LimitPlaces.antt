@@ -14,7 +14,7 @@ use Rattle.gf_nfg.specs.LimitPlace.{IsLimitPlace}
 use Rattle.gf_nfg.specs.LimitByFiles.{BeginsPastLimit, IsBareOrClosing, StaysWithinLimit}
 use Rattle.gf_nfg.proofs.LimitCounts.{limit_by_files}
 
--- where the profiles pass their limit, those that go on do not stay within it
+-- where the profiles pass their limit, files that go on do not stay within it
 overrun : (before after longer vs : List Lexeme) (l : Lexeme)
     → BeginsPastLimit (tokens_of before ++ l.token ∷ []) → IsBareOrClosing l.token
     → PartsBefore before (l ∷ after) longer vs → StaysWithinLimit (tokens_of longer) → ⊥

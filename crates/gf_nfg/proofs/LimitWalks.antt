@@ -73,7 +73,7 @@ opening_leads letter title players h =
 
 -- ---- a player's group of tokens
 
--- where it leads: its last token alone makes the profiles more
+-- where it leads: only its last token increases the number of profiles
 pub record Taken (Takes : Position → Type 0) (s : State) (group : List Token) (due count : ℕ)
     : Type 0 where
   pub front : List Token
@@ -94,7 +94,7 @@ AreTaken P Takes = (s : State) (due : ℕ) (group : List Token) (labels : List (
     → Takes s.position → s.due ≡ suc due → P group labels → 0 < length labels
     → Taken Takes s group due (length labels)
 
--- where as many are due as this
+-- if this many are due
 abbrev due_in : State → ℕ → State
 due_in s due = at s.position due s.list_start s.outcomes s.content
 

@@ -32,7 +32,7 @@ use Rattle.gf_nfg.proofs.RunsSentence.{sentence_found, sentence_again}
 use Rattle.gf_nfg.proofs.RunsEnds.{IsSettled, settled_ends}
 use Rattle.gf_nfg.proofs.PlacesWalk.{Leads, walk, walk_split, walk_step, leads_more, leads_run}
 
--- the profiles are no fewer where a count or a list was read, and as many elsewhere
+-- there are no fewer profiles after a count or a list was read, and as many as before otherwise
 abbrev GrownAt : Position → ℕ → ℕ → Type 0
 GrownAt p.Counts m n = m ≤ n
 GrownAt p.BeforeList m n = m ≤ n
@@ -236,7 +236,7 @@ settled_by s after (Bare b) h k = h.1
 settled_by s after Closing h k = h.1
 settled_by s after _ h k = absurd k
 
--- the profiles pass their limit where a count or a list was read, or nowhere
+-- the profiles pass their limit at a count or a list that was read, or nowhere
 bounded_at : (q : Position) (m n : ℕ) → GrownAt q m n → m ≤ profile_limit → is_past q n ≡ false
     → n ≤ profile_limit
 bounded_at p.Counts m n h within e = not_past n e
@@ -262,7 +262,7 @@ past p.Counts n e = grind (arith, nat_tests)
 past p.BeforeList n e = grind (arith, nat_tests)
 past _ n e = absurd cc
 
--- where it makes them more, it is one of these
+-- if it increases their number, it is one of these
 pub makes_more : (s after : State) (t : Token)
     → step s t ≡ Ok after → s.content.profiles < after.content.profiles → IsBareOrClosing t
 makes_more s after t e more = more_by s after t (grows s after t e) more

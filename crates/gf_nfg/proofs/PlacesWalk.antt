@@ -92,7 +92,7 @@ pub follows : (ts : List Token) (t : Token) (s after : State) → Leads ts s →
     → MayFollow IsStrategicFile ts t
 follows ts t s after h e = begins (ts ++ t ∷ []) after (leads_more ts t s after h e)
 
--- where the machine refuses some tokens, no file begins with them
+-- if the machine refuses some tokens, no file begins with them
 pub stops : (ts us : List Token) (s : State) (why : Why) → Leads ts s → walk s us ≡ Err why
     → ¬ (Begins IsStrategicFile (ts ++ us))
 stops ts us s why h e = λ b.

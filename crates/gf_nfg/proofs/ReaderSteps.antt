@@ -65,7 +65,7 @@ listed_settled : (s : State) (n : ℕ) → 0 < n
 listed_settled s zero some = absurd (omega (arith, some))
 listed_settled s (suc n) some = refl
 
--- the closing brace of a list tells how many labels stand in it
+-- the closing brace of a list shows how many labels it has
 pub list_closes : (due before n : ℕ) (c : Content) (t new : Remaining) (s : Span)
     → 0 < n → n ≡ length c.labels - before
     → t.ahead ≡ lexeme s.start s.end Closing ∷ new.ahead → new.input ≡ t.input

@@ -141,12 +141,12 @@ lowest_broken : (ts : List Token) → Lowest Unterminated ts Broken
 lowest_broken ts Unterminated g = omega arith
 lowest_broken ts _ g = absurd g
 
--- ---- where none applies
+-- ---- if none applies
 
 abbrev NoneApplies : List Token → Token → Type 0
 NoneApplies ts t = (why : Why) → ¬ (Applies why ts t)
 
--- where neither 0 nor 2 may follow
+-- if neither 0 nor 2 may follow
 none_of_bare : (ts : List Token) (b : List ℕ) → ¬ (MayFollow IsStrategicFile ts (Bare zero_text))
     → ¬ (MayFollow IsStrategicFile ts (Bare two_text)) → NoneApplies ts (Bare b)
 none_of_bare ts b z t NotANumber g = z ((g.0 zero_text).1 zero_suits_payoff)
@@ -184,7 +184,7 @@ no_letter : (bytes : List ℕ) → ¬ (bytes ≡ codes "R") → ¬ (bytes ≡ co
 no_letter bytes r d (inl e) = r e
 no_letter bytes r d (inr e) = d e
 
--- what was read and where it stands
+-- what was read, and its position
 record Place (ts : List Token) (s : State) : Type 0 where
   leads : Leads ts s
   stands : Stands s
@@ -203,7 +203,7 @@ expected_reason : (ts after : List Token) (t : Token) (s : State) (h : Place ts 
 expected_reason ts after t s h why e none = subst (λ (x : Why). IsReason x ts (t ∷ after)) (sym e)
     (expected_is_due ts s h.stands h.leads, none)
 
--- in a row that wants no number
+-- in a row that expects no number
 word_reason : (ts after : List Token) (b : List ℕ) (s : State)
     (h : Place ts s) (why : Why) (o : Option Role)
     → h.stands.row.bare ≡ o → ¬ (AcceptsBare o zero_text) → ¬ (AcceptsBare o two_text)

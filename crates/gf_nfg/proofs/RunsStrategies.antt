@@ -123,7 +123,7 @@ counts_found (_ ∷ ts) (suc due) from outcomes c r e = let f = rw not_zero at e
 
 -- ---- lists
 
--- Text* Closing, where these labels of the list are read already
+-- Text* Closing, if these labels of the list are read already
 record List1 (ts : List Token) (due outcomes : ℕ) (c r : Content) (before : List (List ℕ)) : Type
     0 where
   labels : List (List ℕ)

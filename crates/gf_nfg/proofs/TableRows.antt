@@ -233,7 +233,7 @@ pub product_above : (strategies : List (List (List ℕ)))
 product_above [] h = omega arith
 product_above (own ∷ others) h = one-le-mul h.0 (product_above others h.1)
 
--- where each has a strategy, nobody has more than there are profiles
+-- if each player has a strategy, nobody has more strategies than there are profiles
 pub count_at_most : (strategies : List (List (List ℕ))) (k : ℕ) (own : List (List ℕ))
     → AllByRecursion (λ own. 0 < length own) strategies → slice_get strategies k ≡ Some own
     → length own ≤ product (map length strategies)
@@ -248,7 +248,7 @@ count_at_most (first ∷ others) (suc k) own h e =
     let more = mul-le-mul_right (product (map length others)) h.0 in
     omega (arith, below, more)
 
--- ---- a table made of its parts
+-- ---- a table made from its parts
 
 pub counts_of_lists : {A B Z : Type 0} (f : A → B) (lists : List (Vec A Z))
     → map length (map (λ own. map f own.items) lists) ≡ map vec_len lists

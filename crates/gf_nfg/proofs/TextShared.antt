@@ -27,7 +27,7 @@ pub rows_kept : (players size : ℕ) → 0 < players → (number : ℕ) → numb
     → number * players ≤ size
 rows_kept players size some number h = (le-div_iff_mul-le some).0 (omega (arith, h))
 
--- a row is kept with its number if that of zeros is kept where a number is 0
+-- a row is kept with its number, if the row of zeros is kept when a number is 0
 pub kept_rows_are : (players : ℕ) (payoffs zeros : List Ratio) (numbers : List ℕ)
     → AllByRecursion (λ number. number ≡ 0 → zeros ≡ row_of players payoffs 0) numbers
     → map (row_of players payoffs) numbers ≡ map (kept_row players payoffs zeros) numbers

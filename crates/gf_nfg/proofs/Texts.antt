@@ -56,7 +56,7 @@ kept_past old out new kept h =
     ap (λ (bs : List ℕ). bs ++ rest) (sym h) ∙ take-append-drop (length out) new in
     subst (Keeps old) whole (kept_more old out rest kept)
 
--- what stood before is kept where more was written and then no more could be
+-- what was there before is kept if more was written and then nothing more could be
 pub kept_behind : (old out1 out2 new x y : List ℕ)
     → out1 ≡ old ++ x → out2 ≡ out1 ++ y → Keeps out2 new → Keeps old new
 kept_behind old out1 out2 new x y e1 e2 h = kept_past old out2 new

@@ -24,7 +24,7 @@ found_there xs zero x there = absurd cc
 found_there xs (suc k) x there = subst (Contains xs) (get_or_from_slice_get xs k x x there)
     (Contains-get_or xs k x (slice_get_within xs k x there))
 
--- where it holds at each profile, there is no first one without
+-- if it holds at each profile, there is no first profile at which it does not
 none_without : (Holds : List ℕ → Type 0) (profiles : List (List ℕ))
     → ((profile : List ℕ) → Contains profiles profile → Holds profile) → (position : ℕ)
     → ¬ (IsFirstWithout Holds profiles position)

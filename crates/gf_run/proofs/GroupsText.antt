@@ -54,7 +54,7 @@ one_more groups group (inr some) =
     ∙ ap (λ (gs : List (List (List ℕ))).
     groups_text gs ++ empty_line (groups_text gs) ++ name_lines group) (sym some.3)
 
--- of groups that are gone through, the text of those so far
+-- while groups are visited: the text of those so far
 module _ (groups : List (List (List ℕ))) (at : ℕ) (group : List (List ℕ)) (within : at < length groups)
     (is : group ≡ get_or groups at group) (text : List ℕ)
     (now : text ≡ groups_text (filter has_two (take at groups))) where
@@ -81,7 +81,7 @@ module _ (groups : List (List (List ℕ))) (at : ℕ) (group : List (List ℕ)) 
       (sym (taken ∙ ap (λ (gs : List (List (List ℕ))). filter has_two (take at groups) ++ gs) kept
       ∙ append-nil (filter has_two (take at groups))))
 
--- the same of the vectors that keep the groups
+-- the same for the vectors that keep the groups
 module _ {V : Type 0} (F : V → List (List ℕ)) (items : List V) (names : List (List (List ℕ)))
     (are : names ≡ map F items) (at : ℕ) (item : V) (within : at < length items)
     (is : item ≡ get_or items at item) (text : List ℕ)

@@ -6,7 +6,8 @@ use Rattle.std.proofs.KnownBytes.{Keeps-refl, Keeps-trans}
 use Rattle.gf_run.specs.Failures.{HasRisen, next_count}
 use Rattle.gf_run.specs.Turns.{Interruptions, IsInterrupted}
 
--- of a reader or a writer: the bytes that it tells, its count of failures, and what a request gives
+-- for a reader or a writer: the bytes that it reports, its count of failures, and what a request
+-- gives
 module _ {S : Type 0} (known : S → Option (List ℕ)) (count : S → ℕ)
     (gives : S → List ℕ → Result ℕ Error → S → Type 0) where
   -- n requests in a row were interrupted: the known bytes stay, and each interruption was counted

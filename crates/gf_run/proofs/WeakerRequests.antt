@@ -5,11 +5,11 @@ use Rattle.std.specs.declared.io.ErrorKind.{ErrorKind}
 use Rattle.gf_run.specs.Output.{Stops}
 use Rattle.gf_run.specs.Turns.{GivesUp, Interruptions, IsError, Moves}
 
--- where P holds, Q does
+-- if P holds, so does Q
 abbrev IsWeaker : (List ℕ → Type 0) → (List ℕ → Type 0) → Type 0
 IsWeaker P Q = (bytes : List ℕ) → P bytes → Q bytes
 
--- of a reader or a writer: what a request gives
+-- for a reader or a writer: what a request gives
 module _ {S : Type 0} (gives : S → List ℕ → Result ℕ Error → S → Type 0) where
   IsError-weaker : (P Q : List ℕ → Type 0) → IsWeaker P Q → (Kind : ErrorKind → Type 0)
       → (old new : S) → IsError gives P Kind old new → IsError gives Q Kind old new

@@ -91,7 +91,13 @@ fn room_behind(len: usize) -> usize
     (LIMIT - len + 1).min(CHUNK)
 }
 
-/// Reads an input whole. No more than one byte past the limit is taken.
+/// Reads an input whole, and takes no more than one byte past the limit.
+///
+/// # Errors
+///
+/// - `Refused` with E1: the input has a byte past the limit.
+/// - `Read`: the reader failed, or was interrupted sixteen times in a row.
+/// - `Memory`: memory ran out.
 pub fn load<R: Source>(alloc: Global, input: &mut R, which: Which) -> Result<Vec<u8>, RunFault>
     ensures whole { IfOk result (λ bytes.
         IsReadWhole R.remaining R.pull_gives input.old input.new bytes.items) }

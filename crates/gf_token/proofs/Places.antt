@@ -62,7 +62,7 @@ module _ (IsFile : List Token → Type 0) where
   begins_front ts us b =
       (us ++ b.0, subst (λ (x : List Token). IsFile x) (append_assoc ts us b.0) b.1)
 
-  -- no file is where one is refused
+  -- where tokens are refused, there is no file
   pub no_file : (before after : List Token) → ¬ (IsAccepted IsFile before after)
       → ¬ (IsFile (before ++ after))
   no_file before [] h = λ k. h (subst (λ (x : List Token). IsFile x) (append-nil before) k)
@@ -72,7 +72,7 @@ module _ (IsFile : List Token → Type 0) where
         subst (λ (x : List Token). IsFile x) (sym (append_assoc before (token ∷ []) after)) k,
       )
 
-  -- where tokens are refused, none begin a file that go on
+  -- if tokens are refused, no tokens that go on from them begin a file
   pub overtaken : (before after longer vs : List Lexeme)
       → ¬ (IsAccepted IsFile (tokens_of before) (tokens_of after))
       → PartsBefore before after longer vs → ¬ (Begins IsFile (tokens_of longer))

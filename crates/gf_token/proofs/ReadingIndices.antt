@@ -45,7 +45,7 @@ index_again bs n h =
     let small : nat_lt (digits_value 10 bs) (2 ^ 32) ≡ true = grind (arith, nat_tests, h.1, h.2) in
     rw (numeral_of bs h.0, small, h.1) refl
 
--- what is none is not read
+-- what is not an index is not read
 pub index_none : (bs : List ℕ) (fault : IndexFault) → IsNoIndex bs fault → index_of bs ≡ None
 unfolding index_of
 index_none bs NotDigits h = rw (no_numeral bs (is_numeral bs) refl h) refl

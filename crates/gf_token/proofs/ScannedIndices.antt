@@ -79,7 +79,7 @@ has_room bytes start at value from within few all is =
     let most : 10 ^ length (slice_range bytes start at) ≤ 10 ^ 18 = pow-le-pow_right (lit< tt) less in
     omega (arith, most, below, is)
 
--- what digits alone are read as
+-- what digits by themselves are read as
 pub scanned : (bytes : List ℕ) (start at value : ℕ) → start < at → at ≤ length bytes
     → AllDigits 10 (slice_range bytes start at)
     → value ≡ digits_value 10 (slice_range bytes start at)

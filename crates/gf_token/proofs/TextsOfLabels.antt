@@ -30,7 +30,7 @@ record Quotes (bytes : List ℕ) (start : ℕ) (label : List ℕ) : Type 0 where
 
 -- ---- they are the text
 
--- this many bytes from a place on, where they are these, and a quote after them
+-- this many bytes from a place on, if they are these, and a quote after them
 parted : (bytes label : List ℕ) (from : ℕ) → from + length label < length bytes
     → slice_range bytes from (from + length label) ≡ label
     → get_or bytes (from + length label) 0 ≡ 34

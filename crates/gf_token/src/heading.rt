@@ -14,7 +14,11 @@ use crate::tokens::Tokens;
 
 impl<'a> Tokens<'a> {
     /// Takes the word that is due: the name of a format, or its version (Gambit documentation,
-    /// "Game representation formats"). Any other token, or the end, is refused.
+    /// "Game representation formats").
+    ///
+    /// # Errors
+    ///
+    /// Any other token, or the end, is refused.
     #[tactic(auto, using(crate::proofs::TokensAhead::taken_token))]
     pub fn word(&mut self, word: &[u8], due: What) -> Result<(), Fault>
         ensures { MatchResult result (λ _. Takes (is_word word.now) self.old self.new)

@@ -42,7 +42,7 @@ pub image_lookup : {K D : Type 0} (same : K → K → Bool)
 image_lookup same tells f us es k apart q i = lookup_image same same f es k
     (λ x j. same_tests same same tells tells f x k (apart x k (of_keys same us es x q j) i))
 
--- where each key and its image have the same description, the one map is the other at the images
+-- if each key and its image have the same description, one map is the other at the images
 pub carried_map : {K D : Type 0} (same : K → K → Bool)
     → IsEquality same → (f : K → K) (us : List K) (es fs : List (Described K D)) → AreApart f us
     → keys es ≡ first_uses same us → keys fs ≡ first_uses same (map f us)

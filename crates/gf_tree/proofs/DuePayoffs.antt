@@ -323,7 +323,7 @@ after_last_payoff f n payoffs h = none_left f n payoffs true (seen_behind f.fron
 
 -- ---- after a description
 
--- a new outcome ends where no payoff is left
+-- a new outcome ends if no payoff is left
 new_ended : (may : Bool) (b : Begun) (n : ℕ) (outcome : Outcome) (left : ℕ) (c r : Content)
     (more us : List Token) → Reads (new_at may b n outcome left) c (Closing ∷ more) r
     → run_tokens (new_at may b n outcome left) c (Closing ∷ us)

@@ -43,8 +43,7 @@ abbrev pub StandsFor : List Token → Position → Content → Type 0
 StandsFor before q c =
     (us : List Token) → run_tokens Format nothing (before ++ us) ≡ run_tokens q c us
 
--- some file begins with these tokens, and the machine stands for them where it answers as the row
--- says
+-- some file begins with these tokens, and the machine stands for them if it answers as the row says
 pub record Stands (before : List Token) (row : Row) : Type 0 where
   pub begins : Begins IsExtensiveFile before
   pub position : Position

@@ -96,7 +96,7 @@ two_indices = refl
 two_index : (n : ℕ) → IsIndex (codes "2") n → IsIndex (codes "02") n
 two_index n is = index_is (codes "02") n (two_indices ∙ index_again (codes "2") n is)
 
--- ---- what some bytes tell
+-- ---- what some bytes show
 
 other : (b word : List ℕ) → pointwise nat_eq b word ≡ false → b ≢ word
 other = other_word
@@ -143,7 +143,7 @@ node_only (Probability sum) s = absurd (no_t s.0 s.2)
 node_only Payoff s = absurd (no_t s.0 s.1)
 node_only (KnownNumber p) s = absurd (no_t p s)
 
--- "2" alone of its spellings
+-- only "2" among its spellings
 version_only : (r : Role) → Suits r (codes "2") → ¬ (Suits r (codes "02"))
     → what_of r ≡ what.Version
 version_only Format s lacks = absurd (other (codes "2") (codes "EFG") refl s)
@@ -180,7 +180,7 @@ index_only (KnownNumber p) s lacks = absurd (lacks (one_again p s))
 
 -- ---- one name
 
--- numbers alone suit the role, each in all its spellings
+-- only numbers suit the role, each in all its spellings
 abbrev TakesNumbers : Role → Type 0
 TakesNumbers q = (x : List ℕ) → Suits q x
     → (p : Ratio) × IsNumber x p × ((y : List ℕ) → IsNumber y p → Suits q y)

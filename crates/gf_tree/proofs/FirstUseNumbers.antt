@@ -13,7 +13,7 @@ use Rattle.gf_tree.proofs.Members.{filter_of_map, filter_last}
 use Rattle.gf_tree.proofs.FirstUses.{was_used, first_uses_distinct, AreDistinct}
 use Rattle.gf_tree.proofs.Uses.{Has, IsEquality, has_place}
 
--- tests of keys and of their images answer alike where the images are equal for equal keys alone
+-- tests of keys and of their images answer alike if the images are equal only for equal keys
 pub same_tests : {K L : Type 0} (same : K → K → Bool) (same' : L → L → Bool) → IsEquality same
     → IsEquality same' → (f : K → L) (a b : K) → (f a ≡ f b → a ≡ b) → same' (f a) (f b) ≡ same a b
 same_tests same same' t t' f a b apart = same_from_decides (same' (f a) (f b)) (same a b)
@@ -147,7 +147,7 @@ number_at_most same tells ks key i =
 
 -- ---- the number at a place
 
--- where the keys are distinct, one stands in one place
+-- if the keys are distinct, each is at only one place
 one_place : {K : Type 0} (before before' after after' : List K) (key : K)
     → AreDistinct (before ++ key ∷ after) → before ++ key ∷ after ≡ before' ++ key ∷ after'
     → length before ≡ length before'

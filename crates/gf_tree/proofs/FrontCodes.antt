@@ -167,7 +167,7 @@ first_of (t ∷ ts) = t ∷ []
 
 -- ---- a known set
 
--- in the braces of a known set the machine asks for what is left of it
+-- in the braces of a known set, the machine expects what is left of it
 pub record KnownLeft (before front : List Token) (known seen : InformationSet) : Type 0 where
   pub content : Content
   pub b : Begun

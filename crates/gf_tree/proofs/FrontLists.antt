@@ -121,7 +121,7 @@ to_probability front number set c h g =
 
 -- ---- the number of an outcome
 
--- where the set of a node is described, or there is none
+-- if the set of a node is described, or there is none
 pub record AtTold (c : Content) (front : List Token) : Type 0 where
   pub b : Begun
   pub content : Content
@@ -130,7 +130,7 @@ pub record AtTold (c : Content) (front : List Token) : Type 0 where
   pub answers : (us : List Token) → run_tokens NodeDue c (front ++ us)
       ≡ run_tokens (OutcomeNumber b) content us
 
--- where a bare token stands next
+-- if a bare token comes next
 pub record AtOutcome (c : Content) (front : List Token) : Type 0 where
   pub b : Begun
   pub content : Content
@@ -266,7 +266,7 @@ told_outcome c front h = record {
   answers = λ t us. h.answers (Bare t ∷ us);
 }
 
--- after a set without a description stands a bare token only where it is known
+-- after a set without a description, a bare token comes only if the set is known
 known_by : (name : List ℕ) (key : SetKey) (o : Option InformationSet) (c r : Content) (t : List ℕ)
     (us : List Token) → description_at same_set c.sets key ≡ o
     → Reads (behind_set name key o) c (Bare t ∷ us) r

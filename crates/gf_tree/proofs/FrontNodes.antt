@@ -69,7 +69,7 @@ none_walked c tokens e sets outcomes = record {
   answers = λ us plain. ap (λ (ts : List Token). run_tokens NodeDue c (ts ++ us)) e;
 }
 
--- where nodes are read stands no text
+-- no text comes where nodes are read
 pub node_due_text : (ts : List Token) (c r : Content) → Reads NodeDue c ts r → NoText ts
 node_due_text ts c r e l others is =
     let f : Reads NodeDue c (Text l ∷ others) r =
@@ -169,8 +169,8 @@ walked_nodes (n ∷ nodes) tokens rest c r each plain sets outcomes reads =
 
 -- ---- the heading, and whole nodes
 
--- after these tokens the machine answers as after the front alone, from a content in which the
--- nodes were learned
+-- after these tokens the machine answers as after only the front, from a content in which the nodes
+-- were learned
 pub record Parted (players : List (List ℕ)) (nodes : List FileNode)
     (before front : List Token) : Type 0 where
   pub content : Content

@@ -27,7 +27,7 @@ use Rattle.gf_tree.proofs.FrontLists.{BehindOutcome, behind_outcome_number}
 
 -- ---- payoffs
 
--- whether a number stands last in braces, where one does or not before these tokens
+-- whether a number comes last in braces, given whether one does before these tokens
 abbrev pub ends_number : Bool → List Token → Bool
 ends_number may [] = may
 ends_number may (t ∷ ts) = ends_number (not (is_comma t)) ts
@@ -42,7 +42,7 @@ record NewPaid (may : Bool) (b : Begun) (n : ℕ) (outcome : Outcome) (payoffs :
       → run_tokens (new_at may b n outcome left) c (inner ++ us)
       ≡ run_tokens (new_at behind b n (with_payoffs outcome payoffs) rest) c us
 
--- a number stands only where one is left
+-- a number comes only if one is left
 pub some_left : (may : Bool) (b : Begun) (n : ℕ) (outcome : Outcome) (left : ℕ) (t : List ℕ)
     (us : List Token) (c r : Content) → Reads (new_at may b n outcome left) c (Bare t ∷ us) r
     → (k : ℕ) × (left ≡ suc k)

@@ -61,7 +61,7 @@ pub has_sum : (set : InformationSet) (sum : Ratio)
     → HaveSumFrom 0 (whole (pos 0)) set.actions sum → HasSum set sum
 has_sum set sum h = (h.0, h.1, adds_up (whole (pos 0)) h.0 sum h.2)
 
--- the machine asks for a probability after this sum
+-- the machine expects a probability after this sum
 record AsksShare (before : List Token) (sum : Ratio) : Type 0 where
   content : Content
   name : List ℕ

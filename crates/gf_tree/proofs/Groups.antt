@@ -85,7 +85,7 @@ pub numbers_once : (bytes bytes' : List ℕ) (x y : Ratio)
 numbers_once bytes bytes' x y e h k =
     let same = one_answer bytes' (Ok x) (Ok y) (subst (λ b. IsNumber b x) e h) k in cc
 
--- a description or none, where no text follows
+-- a description, or none if no text follows
 pub descriptions_once : {D : Type 0} (P : List Token → D → Type 0) → Agree P → BeginsText P
     → (x y : Option D) (first first' rest rest' : List Token)
     → IsDescription P first x → IsDescription P first' y → NoText rest → NoText rest'
@@ -119,7 +119,7 @@ comma_gone comma comma' rest rest' (inr a) (inl b) n m e =
 comma_gone comma comma' rest rest' (inr a) (inr b) n m e =
     ap (drop 1) (in_front comma comma' rest rest' (Comma ∷ []) (Comma ∷ []) a b e)
 
--- where a payoff or the closing brace is due stands no comma
+-- no comma comes where a payoff or the closing brace is due
 no_comma : (xs : List Ratio) (inner rest : List Token) → Each IsPayoffInBraces inner xs
     → NoComma (inner ++ Closing ∷ rest)
 no_comma [] inner rest h = λ others e. let whole : Closing ∷ rest ≡ Comma ∷ others =

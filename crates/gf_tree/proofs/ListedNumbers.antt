@@ -30,7 +30,7 @@ positive [] n h i = absurd i
 positive (m ∷ ns) n h (inl e) = subst (λ k. 0 < k) e h.0
 positive (m ∷ ns) n h (inr i) = positive ns n h.2 i
 
--- ---- the number where a key stands
+-- ---- the number at the place of a key
 
 module _ {K : Type 0} (same : K → K → Bool) (tells : IsEquality same) where
   later : (k : K) (ks : List K) (key : K) → Has (k ∷ ks) key → same k key ≡ false → Has ks key

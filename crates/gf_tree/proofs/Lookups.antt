@@ -33,7 +33,7 @@ lookup_image same same' f (e ∷ es) key h =
     (find (λ d. same d.key key) es) (find (λ d. same' d.key (f key)) (at_images f es))
     (lookup_image same same' f es key (λ k i. h k (inr i))))
 
--- where keys stand once each, a map is told by its keys and by what it gives at each of them
+-- if each key occurs once, a map is determined by its keys and by what it gives at each of them
 pub same_map : {K D : Type 0} (same : K → K → Bool)
     → IsEquality same → (es fs : List (Described K D)) → keys es ≡ keys fs → AreDistinct (keys es)
     → ((k : K) → Has (keys es) k → description_at same es k ≡ description_at same fs k) → es ≡ fs

@@ -99,7 +99,7 @@ next_child {N} t at before place h i e =
 
 -- ---- what stands at a node
 
--- what the position of a set tells
+-- what the position of a set shows
 pub mover_there : (known : List (Described SetKey InformationSet)) (place player number n : ℕ)
     → place < length known
     → option_map (λ s. s.key) (slice_get known place) ≡ Some (set_of player number)

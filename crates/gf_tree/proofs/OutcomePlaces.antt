@@ -34,7 +34,7 @@ numbers_from payoffs [] place = refl
 numbers_from payoffs (e ∷ es) place =
     ap (λ (ns : List ℕ). e.number ∷ ns) (numbers_from payoffs es (place + 1))
 
--- an entry behind has the last place
+-- an entry after them has the last place
 places_behind : (entries : List Entry) (new : Entry) (place : ℕ)
     → places_from place (entries ++ new ∷ [])
     ≡ places_from place entries ++ (new.number, place + length entries) ∷ []

@@ -135,7 +135,7 @@ not_memory bytes ls fault spelled e = λ h.
     subst LiesInFile h
     (refusal_lies fault.why bytes fault.span (refuses bytes ls fault spelled e))
 
--- where memory runs out at a place that it has passed
+-- if memory runs out at a place that it has passed
 pub memory_judged : (bytes : List ℕ) (before after : List Lexeme) (span : Span)
     → Spells 0 bytes (before ++ after) → IsSpanOf after (length bytes) span
     → HasPassed (run (length bytes) Format nothing (before ++ after)) span.start

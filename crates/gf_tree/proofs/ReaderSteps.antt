@@ -378,7 +378,7 @@ goes_on (Err g) a b f e h = subst (Fails g) (sym e) h
 pub carried : {f : Fault} {a b : Answer} → Fails f b → a ≡ b → Fails f a
 carried {f} {a} {b} h e = subst (Fails f) (sym e) h
 
--- where a call has failed
+-- if a call has failed
 module _ {A : Type 0} {r : Result A Fault} {f : Fault} {a : Answer} where
   pub goes_back : (b : Answer) → r ≡ Err f → Fails f a → Goes a r b
   goes_back b e h = subst (λ x. Goes a x b) (sym e) h
@@ -423,7 +423,7 @@ pub heard_begun : (r : Reader) (bytes : List ℕ) → r.tokens.input ≡ bytes �
 heard_begun r bytes input none =
     λ i. heard Format (sym none i) (record { input = sym input i; ahead = r.tokens.ahead })
 
--- where the file is refused
+-- if the file is refused
 pub refused_only : (f : Fault) (g : Game) (result : Result Game Fault) → result ≡ Err f
     → f.why ≡ Memory → IsReadAs result g
 refused_only f g result e h = subst (λ r. IsReadAs r g) (sym e) h
@@ -432,7 +432,7 @@ pub refused_why : {A : Type 0} (f : Fault) (P : Fault → Type 0) (result : Resu
     → result ≡ Err f → P f → IfErr result P
 refused_why f P result e h = subst (λ r. IfErr r P) (sym e) h
 
--- ---- memory that is wanting
+-- ---- memory that runs out
 
 -- at a token after which the machine goes on
 pub wants_memory : {f : Fault} {span : Span} {t : Remaining} {a : Answer} → StandsBefore t span

@@ -139,7 +139,7 @@ module _ (before : List Token) (row : Row) (r : Role)
   pub told_by : (b : List ℕ) → row.bare b → IsTold before
   told_by b h = (r, of_row before row r s same, due)
 
--- the letter of a node: there is no player where one is to move
+-- the letter of a node: there is no player, although one is to move
 module _ (before : List Token) (players : List (List ℕ))
     (ends : length players ≡ 0 → (whole : List FileNode) × EndsInNode before players whole [])
     (due : NodeIsDue before) where
@@ -230,7 +230,7 @@ module _ (before : List Token) where
       reasons before row (λ after plain. due) other (λ b why after n e. as_own before why (Expected what.End) (Bare b ∷ after) due e) (λ why after n e. as_own before why (Expected what.End) (Closing ∷ after) due e) s
       (λ b h. absurd h)
 
-  -- a number, of which some bytes are none and others another one
+  -- a number: some bytes are not one, and others are a different one
   module _ (r : Role) (is : IsDue before what.Number) (row : Row) (s : Stands before row) where
     pub number_named : row.otherwise ≡ Expected what.Number → row.other_text ≡ Expected what.Number
         → ((b : List ℕ) (why : Why) (after : List Token) → ¬ (row.bare b) → row.other_bare b why

@@ -129,7 +129,7 @@ closed : (name : List ℕ) (player n : ℕ) (set : InformationSet) (sum : Ratio)
 closed name zero n set sum c one = ap (set_ends c name 0 n set) one
 closed name (suc player) n set sum c one = refl
 
--- after an action, where the probabilities add up to one
+-- after an action, if the probabilities add up to one
 actions_end : (name : List ℕ) (key : SetKey) (set : InformationSet)
     (actions : List Action) (sum : Ratio) (c : Content)
     → set.actions ≡ actions → 0 < length actions

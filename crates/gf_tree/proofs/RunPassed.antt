@@ -64,7 +64,7 @@ refused_in end from q c ls fault h e =
     let s = stopped end q c ls fault e in
     place_in end from s.before s.after fault.span (subst (AreInOrder end from) s.parts h) s.place
 
--- so where it goes on after a token, it has passed the token
+-- so if it goes on after a token, it has passed the token
 pub passed_before : (t : Remaining) (span : Span) → StandsBefore t span
     → (q : Position) (c : Content) → HasPassed (run (length t.input) q c t.ahead) span.start
 passed_before t span h q c = by (run (length t.input) q c t.ahead) refl

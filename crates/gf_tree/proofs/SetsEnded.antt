@@ -47,7 +47,7 @@ places_fit player (e ∷ es) place = by (e.player == player) refl (places_fit pl
 abbrev place_of : ℕ → Entry → ℕ → List (ℕ × ℕ)
 place_of player e place = if e.player == player then (e.number, place) ∷ [] else []
 
--- an entry behind has the last place, among its player's
+-- an entry after them has the last place among its player's
 places_behind : (player : ℕ) (entries : List Entry) (new : Entry) (place : ℕ)
     → places_from place player (entries ++ new ∷ [])
     ≡ places_from place player entries ++ place_of player new (place + length entries)
@@ -165,7 +165,7 @@ module _ (players : List (List (ℕ × ℕ))) (entries : List Entry) (actions : 
         few = omega (arith, room, length-append entries (new ∷ []));
       }
 
-    -- the same, by what the calls tell
+    -- the same, by what the calls say
     pub are_stored : (after : List (List (ℕ × ℕ))) (stored : List Entry) (kept : List Held)
         (place : ℕ) → stored ≡ entries ++ new ∷ [] → kept ≡ take last actions
         → place ≡ length entries

@@ -8,7 +8,7 @@ use Rattle.std.proofs.lemmas.List.{get_or-set_same, get_or-set_other, map-append
 use Rattle.gf_tree.specs.declared.small_numbers.Placed.{Placed}
 use Rattle.gf_tree.specs.inner.SmallNumbers.{AreFound, place_at, placed_pairs}
 
--- what is found among the first pairs is found, and else what is found after them
+-- what is found among the first pairs is found, and otherwise what is found after them
 pub found_before : (test : ℕ → Bool) (pairs more : List (ℕ × ℕ)) (place : ℕ)
     → lookup test pairs ≡ Some place → lookup test (pairs ++ more) ≡ Some place
 found_before test [] more place is = absurd cc

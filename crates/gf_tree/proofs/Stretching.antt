@@ -29,7 +29,7 @@ one_behind P [] e all one = (one, tt)
 one_behind P (x ∷ xs) e all one = (all.0, one_behind P xs e all.1 one)
 
 module _ {E T : Type 0} (start end : E → ℕ) where
-  -- what is made of the entries' stretches
+  -- what is made from the entries' stretches
   abbrev pub made : {D : Type 0} → (E → List T → D) → List T → E → D
   made make items e = make e (slice_range items (start e) (end e))
 
@@ -44,7 +44,7 @@ module _ {E T : Type 0} (start end : E → ℕ) where
       let those = same_made make es items more from all.1 within in
       λ i. make e (this i) ∷ those i
 
-  -- items behind change nothing of it
+  -- items after them change nothing in it
   pub items_behind : {D : Type 0} (make : E → List T
       → D) (entries : List E) (items more : List T) (from : ℕ)
       → AreStretches start end entries items from

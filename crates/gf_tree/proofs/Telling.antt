@@ -150,7 +150,7 @@ grows_length {A} {xs} {ys} h =
 
 -- ---- a node that is told
 
--- the machine, where this node has just become whole
+-- the machine, when this node has just become whole
 pub told_goes : (old new : Reader) (node : Kept)
     → content_of new ≡ record (content_of old) {
       due = child_count old.sets.known node.set + (old.due - 1);
@@ -206,7 +206,7 @@ module _ {T : Type 0} {holds : T → T → Heading → List Told → Type 0} {be
         outcomes = subst (λ (k : KnownOutcomes). Grows old.outcomes.known k.known) (sym o) outcomes;
       }
 
-  -- the same where a description that is repeated comes after it
+  -- the same if a description that is repeated comes after it
   pub tells_again : {A : Type 0} (q : Position) (old r m new : Reader) (node : Kept)
       (result : Result A Fault) → r.told_sets ≡ old.told_sets
       → r.told_outcomes ≡ old.told_outcomes → Grows old.sets.known r.sets.known

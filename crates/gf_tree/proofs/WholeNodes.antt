@@ -126,7 +126,7 @@ few_payoffs f first rest n outcome h e =
           omega (arith, is, whole, sizes, players)
     ]
 
--- where nobody plays
+-- if there are no players
 pub whole_node : (f : FileFront) → BehindNode f.front → length f.players ≡ 0
     → (nodes : List FileNode) × EndsInNode f.before f.players nodes []
 whole_node f (inl h) none =

@@ -12,7 +12,7 @@ through_first_use same key [] = []
 through_first_use same key (used ∷ uses) =
     used ∷ (if same used key then [] else through_first_use same key uses)
 
--- how many different keys are used until then
+-- how many different keys are used up to and including its first use
 abbrev pub first_use_number : {K : Type 0} → (K → K → Bool) → List K → K → ℕ
 first_use_number same uses key = length (first_uses same (through_first_use same key uses))
 
