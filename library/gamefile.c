@@ -1,7 +1,7 @@
 /* The border between gamefile.h and the proved calls of crates/gamefile_c.
  *
  * A proved call takes no null pointer and returns no pointer. So this file gives it a place for each
- * answer that its caller does not want, and an empty byte string for NULL; and it holds the texts. */
+ * answer that its caller does not need, and an empty byte string for NULL; and it holds the texts. */
 #include "gamefile.h"
 
 #include <string.h>
@@ -20,7 +20,7 @@ uint32_t gamefile_c_renumbering(const uint8_t *a, size_t an, const uint8_t *b, s
                                 gamefile_pair *out, size_t cap, size_t *needed, gamefile_fault *fault,
                                 uint32_t *which);
 
-/* No object is longer. */
+/* No object is longer than this. */
 static int is_bytes(const void *at, size_t n)
 {
     return n <= PTRDIFF_MAX && (at != NULL || n == 0);
