@@ -7,19 +7,19 @@ pub const VERSION: &str = "1.0.0";
 pub const HEAD: &str = "gamefile 1.0.0";
 
 pub const ABOUT: &str = "\
-Read game files of Gambit: write each game in one spelling or as a table, and
+Read Gambit game files: write each game in one spelling or as a table, and
 compare games";
 
 pub const AFTER: &str = "\
 A game file is extensive (.efg) and holds a tree, or strategic (.nfg) and holds
 a table; its first word tells which. Without a command, the canonical text of
-standard input is written; 'gamefile help canon' tells more about it. '-' is a
-file of that name, and /dev/stdin names standard input.
+standard input is written: see 'gamefile help canon'. '-' is an ordinary file
+name; to name standard input, use /dev/stdin.
 
 Exit status:
   0  done; for same: the files are the same
   1  for same: the files are different; for duplicates: some are the same
-  2  a file is refused, and standard error has a code and a place, as in
+  2  a file is refused, and standard error has a code and a place, such as
      E4 at 40..43; or a tree has no table, and standard error says why
   3  wrong usage
   4  a file cannot be opened or read (E20), or the output cannot be
@@ -31,13 +31,13 @@ Example:
 
 pub const FILE: &str = "The game file; standard input if none is named";
 
-pub const EXPLAIN: &str = "If it fails, say in words what is wrong, and where";
+pub const EXPLAIN: &str = "If it fails, explain what is wrong, and where";
 
 pub const CANON: &str = "Write the canonical text of a game file";
 
 pub const AFTER_CANON: &str = "\
-Writes the game as a game file in one spelling, so that two files of one game
-become the same bytes. The layout is fixed, numbers are exact and in lowest
+Writes the game as a game file in one spelling, so that two files of the same
+game become the same bytes. The layout is fixed, numbers are exact and in lowest
 terms, and the information sets and outcomes of a tree are numbered 1, 2 and so
 on in order of first use.
 
@@ -46,17 +46,17 @@ sets and outcomes are written empty. So two files that 'same --no-names' finds
 the same become the same bytes.
 
 A file that breaks the format is refused: nothing is written, and standard error
-has one line, as in E4 at 40..43, with a code and the place in bytes from 0. The
-status is 0, or 2 if the file is refused.
+has one line, such as E4 at 40..43, with a code and the place in bytes from 0.
+The status is 0, or 2 if the file is refused.
 
 Example:
   gamefile canon game.efg > canonical.efg";
 
-pub const CHECK: &str = "Say whether a game file is right, and what it holds";
+pub const CHECK: &str = "Say whether a game file is valid, and what it holds";
 
 pub const AFTER_CHECK: &str = "\
 Reads the whole file, and writes tree or table. A file that breaks the format is
-refused: nothing is written, and standard error has one line, as in
+refused: nothing is written, and standard error has one line, such as
 E4 at 40..43, with a code and the place in bytes from 0. The status is 0, or 2
 if the file is refused.
 
@@ -74,18 +74,20 @@ pub const REDUCED: &str = "Leave out the choices that cannot matter";
 
 pub const AFTER_TABLE: &str = "\
 Writes a tree as a strategic file in canonical text. A strategy is an action at
-each information set of its player, in order of first use, as in 1-2. Each
+each information set of its player, in order of first use, such as 1-2. Each
 profile of strategies has its exact expected payoffs. A strategic file is
-written as by canon, and a file that breaks the format is refused as by canon.
+written as canon writes it, and a file that breaks the format is refused as by
+canon.
 
-A tree with more than 1048576 profiles has no table: standard error says 'too
-many profiles'. Nor has one with an expected payoff past the bounds of numbers:
-standard error names the first such profile, as in 'overflow at profile 2'.
-Nothing is written then, and the status is 2.
+A tree with more than 1048576 profiles has no table, and standard error says
+'too many profiles'. Nor has a tree with an expected payoff beyond the bounds of
+numbers; standard error names the first such profile, as in
+'overflow at profile 2'. Nothing is written then, and the status is 2.
 
 With --reduced, a strategy has * in place of an action at each information set
-that the player's own earlier choices keep out of reach, as in 1-*. Strategies
-that are then equal are one. The limit of profiles still counts all strategies.
+that the player's own earlier choices keep out of reach, such as 1-*. Strategies
+that are then equal become one. The limit of profiles still counts all
+strategies.
 
 Example:
   gamefile table game.efg > game.nfg";
@@ -100,22 +102,22 @@ pub const FILES: &str = "Game files and folders; standard input if none is named
 
 pub const FILES_FROM: &str = "Read the names of files and folders from FILE";
 
-pub const NULL: &str = "Names there end with a zero byte, as of find -print0";
+pub const NULL: &str = "Names end with a zero byte, as from find -print0";
 
-pub const QUIET: &str = "Do not show on a terminal how many files are done";
+pub const QUIET: &str = "Do not show on the terminal how many files are done";
 
 pub const HASH: &str = "Write a hash of each game file";
 
 pub const AFTER_HASH: &str = "\
-Writes one line for each file, as sha256sum does: SHA-256 of its canonical text,
-two spaces, and its name. So files of one game have one hash. Standard input has
-the name '-'. Of a folder, all files below it are taken whose names end in .efg
-or .nfg, in letters of either case, in order of their names by bytes. No folder
-is gone through twice.
+Writes one line for each file, as sha256sum does: the SHA-256 digest of its
+canonical text, two spaces, and its name. So files of the same game have the
+same hash. Standard input has the name '-'. For a folder, all files below it are
+read whose names end in .efg or .nfg, in upper or lower case, ordered by the
+bytes of their names. No folder is visited twice.
 
 A file that is refused or cannot be read has no line. Standard error has one for
-it, as in game.efg: E4 at 40..43, and the other files go on. The status is the
-worst one of all files: 0, 2, 4 or 5.
+it, such as game.efg: E4 at 40..43, and the run goes on. The status is the worst
+of all files: 0, 2, 4 or 5.
 
 With --no-names, the hash is that of the text that 'canon --no-names' writes.
 With --files-from, FILE has a name on each line, and '-' is standard input.
@@ -128,15 +130,15 @@ pub const DUPLICATES: &str = "Say which game files are the same game";
 
 pub const AFTER_DUPLICATES: &str = "\
 Writes the groups of two or more files that are the same game: a name on each
-line, and an empty line between two groups. Two files are in one group if 'hash'
-writes one hash of both, which is so if 'same' finds them the same. Files and
-folders are gone through as by hash, and groups come in the order of their first
-files.
+line, and an empty line between two groups. Two files are in the same group if
+'hash' writes the same hash for both, as it does if 'same' finds them the same.
+Files and folders are visited as by hash, and groups come in the order of their
+first files.
 
 A file that is refused or cannot be read is in no group. Standard error has a
-line for it, as in game.efg: E4 at 40..43, and the other files go on. The status
-is 0 if no two files are the same, 1 if some are, and above that the worst one
-of all files: 2, 4 or 5.
+line for it, such as game.efg: E4 at 40..43, and the run goes on. The status is
+0 if no two files are the same, 1 if some are, and above that the worst of all
+files: 2, 4 or 5.
 
 With --no-names, files are the same if 'same --no-names' finds them so.
 
@@ -145,15 +147,15 @@ Example:
 
 pub const MAP: &str = "If two trees are the same, also write what corresponds";
 
-pub const NO_NAMES: &str = "Leave out names and texts that do not touch the play";
+pub const NO_NAMES: &str = "Leave out names and texts that do not affect play";
 
 pub const AFTER_SAME: &str = "\
 Writes same, with status 0, or different, with status 1. Two trees are the same
-if one becomes the other by new numbers for its information sets and outcomes.
-Two tables are the same if their titles, comments, players, strategy labels and
-the payoffs at each profile agree. A tree and a table are never the same. If a
-file is refused or cannot be read, its line on standard error begins with A: or
-B: and the status is 2 or 4.
+if new numbers for the information sets and outcomes of one turn it into the
+other. Two tables are the same if their titles, comments, players, strategy
+labels and the payoffs at each profile agree. A tree and a table are never the
+same. If a file is refused or cannot be read, its line on standard error begins
+with A: or B: and the status is 2 or 4.
 
 With --map, a line 'set P X Y' follows for each information set of player P (0
 is chance): X is its number in A, and Y its number in B. A line 'outcome X Y'
