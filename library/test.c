@@ -94,7 +94,7 @@ static void list_folder(const char *folder)
     closedir(d);
 }
 
-/* Whether a fault is the one of a line as `E4 at 40..43`. */
+/* Whether a fault is that of a line such as `E4 at 40..43`. */
 static int is_fault(const gamefile_fault *fault, bytes line)
 {
     char text[128];

@@ -1,4 +1,4 @@
-"""Tests the package gamefile beside the program: test_gamefile.py PROGRAM TESTS-FOLDER
+"""Tests the package gamefile against the program: test_gamefile.py PROGRAM TESTS-FOLDER
 
 Each file of corpus/ and forms/, each row of refusals.txt, and each pair of same.txt goes through the
 package and has to give what the program writes: the same bytes, codes and places. The last line is
@@ -43,13 +43,13 @@ def same_games():
 
 
 def by_program(words, data):
-    """Gives what the program writes of a file, in bytes, or as the line of its failure."""
+    """Gives what the program writes for a file, in bytes, or as the line of its failure."""
     ran = subprocess.run([PROGRAM, *words], input=data, capture_output=True, timeout=60)
     return ran.stdout if ran.returncode == 0 else ran.stderr.decode()
 
 
 def by_package(call, data, **options):
-    """Gives what a function answers of a file, or its exception as the program writes it."""
+    """Gives what a function answers for a file, or its exception as the program writes it."""
     try:
         return call(data, **options)
     except gamefile.GameFileError as error:
@@ -91,7 +91,7 @@ def judge_file(data):
 
 
 def judge_pair(pair):
-    """Gives what is wrong where two files are compared: each way has to agree with canonical texts."""
+    """Gives what is wrong when two files are compared: each way has to agree with canonical texts."""
     a, b = pair
     failed = []
     for names in (True, False):

@@ -66,7 +66,7 @@ def one_large_number():
 
 
 def marks_alone(mark, line):
-    """One mark and nothing else behind the title, or as the title."""
+    """One mark and nothing else after the title, or as the title."""
     return refused('NFG 1 R ""' + mark * fitting(10, mark), line)
 
 
@@ -180,7 +180,7 @@ def large_fractions():
 
 
 def golden_fractions():
-    """Fractions of 127 bits over which Euclid's way takes the most steps."""
+    """Fractions of 127 bits for which Euclid's algorithm takes the most steps."""
     fibonacci = [1, 1]
     while fibonacci[-1] + fibonacci[-2] <= LARGEST:
         fibonacci.append(fibonacci[-1] + fibonacci[-2])

@@ -34,7 +34,7 @@ class Answer(NamedTuple):
     status: int = 0
 
     def is_given_by(self, found):
-        """Whether a run that wrote so and ended so gave this answer."""
+        """Whether a run that wrote this and ended in this way gave this answer."""
         fits = self.output.fit if isinstance(self.output, Rows) else self.output.__eq__
         return fits(found.output) and self[1:] == found[1:]
 
@@ -50,7 +50,7 @@ class Game(NamedTuple):
 
 
 def fitting(used, *units):
-    """How many times the units fit into a file together, behind the bytes that are used."""
+    """How many times the units fit into a file together, after the bytes that are used."""
     return (LIMIT - 1 - used) // sum(map(len, units))
 
 

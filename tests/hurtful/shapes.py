@@ -193,7 +193,7 @@ def tosses_that_pay_nobody(sets, deep):
 
 
 def payoff_that_never_comes(sets, *payoffs):
-    """Behind a side that never comes a payoff, or a move with two."""
+    """After a side that never comes up, a payoff, or a move with two."""
     tree = Tree(1)
     tree.toss(1, [1, 0])
     paid_sets(tree, sets)
@@ -307,7 +307,7 @@ def too_much(tree):
 
 
 def deep_payoff(sets):
-    """A payoff below so many tosses that no denominator fits that the numbers on its way have in common."""
+    """A payoff below so many tosses that no common denominator of the numbers on its way fits."""
     tree = Tree(1)
     tree.toss(1, ["1/2", "1/2"])
     paid_sets(tree, sets)
@@ -371,7 +371,7 @@ def wide_tree(width, depth, sets, **kept):
 
 
 def mixed_tree(depth, sets):
-    """A full tree of moves at sets that differ from path to path, behind a toss over all of them."""
+    """A full tree of moves at sets that differ from path to path, after a toss over all of them."""
     rng, tree = random.Random(SEED), Tree(1)
     tree.toss(1, ["1/2", "1/2"])
     for number in range(1, sets + 1):
@@ -403,7 +403,7 @@ def moves_of_one_action(sets, count):
 
 
 def sets_in_conflict(sets):
-    """The first nodes of late sets are out of reach, and others are behind choices that exclude each other."""
+    """The first nodes of late sets are out of reach, and others come after choices that exclude each other."""
     tree = Tree(1)
     tree.move(1, 1)
     tree.move(1, 2)
