@@ -1,4 +1,4 @@
--- The limit place is where the files that begin so are all past the limit.
+-- The limit place is where all files that begin with the tokens through it are above the limit.
 use Rattle.std.proofs.Common.{◌≡◌, ℕ, ◌<◌, List, [], ◌∷◌, ◌++◌, length, map}
 use Rattle.std.proofs.Common.{refl, sym, ap, subst, ◌∙◌, append_assoc, arith, inl, inr}
 use Rattle.std.specs.Prelude.{codes, ◌↔◌}

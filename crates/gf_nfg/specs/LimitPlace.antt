@@ -17,7 +17,8 @@ abbrev pub IsWithinLimit : Table → Type 0
 IsWithinLimit t = length t.entries ≤ profile_limit
 
 -- `NFG` `1` letter Text players Opening, and then a count for each of the first players, or a whole
--- list of labels for each of them: these players have so many strategies, and each has at least one
+-- list of labels for each of them: these players have this many strategies, and each has at least
+-- one
 pub record GivesCounts (tokens : List Token) (counts : List ℕ) : Type 0 where
   pub letter : List ℕ
   pub title : List ℕ

@@ -156,7 +156,7 @@ one_number o p q e h = cc
 not_both : {A : Type 0} (o : Result A Why) (x : A) (why : Why) → o ≡ Ok x → o ≡ Err why → ⊥
 not_both o x why e h = cc
 
--- why the bytes are no probability after this sum
+-- why the bytes are not a probability after this sum
 abbrev IsNoShare : Ratio → List ℕ → Why → Type 0
 IsNoShare sum b why = IsNoNumber b why ⊎ ((p : Ratio) × IsNumber b p × IsWrongBehind why sum p)
 
