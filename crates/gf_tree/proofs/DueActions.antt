@@ -14,6 +14,7 @@ use Rattle.gf_fraction.proofs.ComputedAnswers.{number_again, number_is}
 use Rattle.gf_fraction.proofs.ComputedArithmetic.{sum_is_computed}
 use Rattle.gf_fraction.proofs.LowestTerms.{one_fraction}
 use Rattle.gf_fraction.proofs.WholeNumbers.{whole_fraction}
+use Rattle.gf_token.specs.Token.{Token}
 use Rattle.gf_token.specs.Token.Token.{Closing, Text, Bare}
 use Rattle.gf_token.specs.declared.fault.Why.{Why}
 use Rattle.gf_token.specs.declared.fault.Why.TheVariants.{Mismatch, NegativeProbability}
@@ -22,25 +23,25 @@ use Rattle.gf_tree.specs.Description.{Action, InformationSet, SetKey, same_set, 
 use Rattle.gf_tree.specs.FiniteMap.{description_at}
 use Rattle.gf_tree.specs.Front.{InActions, IsNewSet, KnowsSet, ToProbability}
 use Rattle.gf_tree.specs.inner.Machine.{Begun, Content, State, at, new_set_ends, same_number}
-use Rattle.gf_tree.specs.inner.Machine.{set_known, shared}
+use Rattle.gf_tree.specs.inner.Machine.{set_known, shared, step}
 use Rattle.gf_tree.specs.inner.Machine.Position.{NewAction, NewProbability, KnownAction}
 use Rattle.gf_tree.specs.inner.Machine.Position.{KnownProbability}
 use Rattle.gf_tree.specs.inner.Probability.{Share, is_one, same_ratio, share_by, share_of, up_to_one}
 use Rattle.gf_tree.specs.inner.ReadGame.{run_tokens}
 use Rattle.gf_tree.specs.Reason.{GoesOnWith, HasSum, IsWrongBehind}
 use Rattle.gf_tree.specs.RowPlaces.{FileFront}
-use Rattle.gf_tree.specs.Rows.{IsNoNumber, a_new_action, a_new_branch, a_probability}
+use Rattle.gf_tree.specs.Rows.{IsNoNumber, Row, a_new_action, a_new_branch, a_probability}
 use Rattle.gf_tree.specs.Rows.{a_known_action, no_label, this_label, this_number}
 use Rattle.gf_tree.proofs.Cuts.{first_is, others_are}
 use Rattle.gf_tree.proofs.DueLaws.{spells_fault}
 use Rattle.gf_tree.proofs.DueNodes.{name_by, stands_in, parts, reads_on}
-use Rattle.gf_tree.proofs.DueRows.{Stands, Answers, Law, stands_by}
+use Rattle.gf_tree.proofs.DueRows.{Stands, StandsFor, Answers, Law, stands_by}
 use Rattle.gf_tree.proofs.FrontCodes.{begins_actions, begins_probability, none_or_some}
 use Rattle.gf_tree.proofs.FrontCodes.{one_description}
 use Rattle.gf_tree.proofs.FrontLists.{to_probability}
 use Rattle.gf_tree.proofs.FrontCodes.{known_left}
 use Rattle.gf_tree.proofs.FrontRuns.{in_actions}
-use Rattle.gf_tree.proofs.FrontShares.{same_sum}
+use Rattle.gf_tree.proofs.ListedSums.{same_sum}
 use Rattle.gf_tree.proofs.RunShares.{share_again, share_found}
 use Rattle.gf_tree.proofs.RunTokens.{ratio_is, ratio_same}
 
@@ -156,24 +157,29 @@ one_number o p q e h = cc
 not_both : {A : Type 0} (o : Result A Why) (x : A) (why : Why) → o ≡ Ok x → o ≡ Err why → ⊥
 not_both o x why e h = cc
 
--- why the bytes are not a probability after this sum
-abbrev IsNoShare : Ratio → List ℕ → Why → Type 0
-IsNoShare sum b why = IsNoNumber b why ⊎ ((p : Ratio) × IsNumber b p × IsWrongBehind why sum p)
+-- why the bytes are not a probability after this sum; the sign is looked at before the sum
+abbrev pub IsNoShare : Ratio → List ℕ → Why → Type 0
+IsNoShare sum b why = IsNoNumber b why ⊎ ((p : Ratio) × IsNumber b p × IsWrongBehind why sum p
+    × ((why ≡ NegativeProbability) ⊎ (pos 0 ≤ℤ p.num)))
+
+-- the row of a probability, with that order
+abbrev pub a_share : Ratio → Row
+a_share sum = record (a_probability sum) { other_bare = IsNoShare sum }
 
 abbrev WrongShare : Ratio → List ℕ → Result Share Why → Type 0
 WrongShare sum b (Ok share) = Unit {0}
 WrongShare sum b (Err why) = IsNoShare sum b why
 
-wrong_sum : (sum p : Ratio) (b : List ℕ) (o : Option Ratio) → IsNumber b p
+wrong_sum : (sum p : Ratio) (b : List ℕ) (o : Option Ratio) → IsNumber b p → pos 0 ≤ℤ p.num
     → MatchOption o (¬ (SumFits sum p)) (λ r. SumFits sum p × IsFraction r × IsSum r sum p)
     → WrongShare sum b (up_to_one p o)
-wrong_sum sum p b None is h = inr (p, is, h)
-wrong_sum sum p b (Some total) is h = by (int_lt (pos total.den) total.num) refl
+wrong_sum sum p b None is low h = inr (p, is, h, inr low)
+wrong_sum sum p b (Some total) is low h = by (int_lt (pos total.den) total.num) refl
   where
     by : (t : Bool) → int_lt (pos total.den) total.num ≡ t
         → WrongShare sum b (cond t (Err SumAboveOne)
         (Ok (record { probability = p; sum = total })))
-    by true e = inr (p, is, (h.0, (total, h.1, h.2, grind (arith, ints, e))))
+    by true e = inr (p, is, (h.0, (total, h.1, h.2, grind (arith, ints, e))), inr low)
     by false e = tt
 
 wrong_share : (sum : Ratio) (b : List ℕ) (o : Result Ratio NumberFault) → IsFraction sum
@@ -186,13 +192,14 @@ wrong_share sum b (Ok p) fraction e = by (int_lt p.num (pos 0)) refl
 
     by : (t : Bool) → int_lt p.num (pos 0) ≡ t
         → WrongShare sum b (cond t (Err NegativeProbability) (up_to_one p (sum_of sum p)))
-    by true h = inr (p, is, grind (arith, ints, h))
-    by false h = wrong_sum sum p b (sum_of sum p) is (sum_is_computed sum p fraction is.fraction)
+    by true h = inr (p, is, grind (arith, ints, h), inl refl)
+    by false h = wrong_sum sum p b (sum_of sum p) is (grind (arith, ints, h))
+        (sum_is_computed sum p fraction is.fraction)
 
 share_answers : (c : Content) (name : List ℕ) (key : SetKey) (set : InformationSet)
     (label : List ℕ) (sum : Ratio) (b : List ℕ) (o : Result Share Why) → IsFraction sum
     → share_of sum b ≡ o → WrongShare sum b o
-    → Answers (a_probability sum) (Bare b) (shared c name key set label o)
+    → Answers (a_share sum) (Bare b) (shared c name key set label o)
 share_answers c name key set label sum b (Ok share) fraction e wrong =
     let h = share_found sum b share fraction e in
     (share.probability, share.sum, h.number, h.not_below, h.adds, h.not_above)
@@ -202,31 +209,73 @@ share_answers c name key set label sum b (Err why) fraction e wrong = (
   wrong,
 )
 
-probability_law : (c : Content) (name : List ℕ) (key : SetKey) (set : InformationSet) (sum : Ratio)
+share_law : (c : Content) (name : List ℕ) (key : SetKey) (set : InformationSet) (sum : Ratio)
     (label : List ℕ) → IsFraction sum
-    → Law (NewProbability name key set sum label) c (a_probability sum)
-probability_law c name key set sum label fraction (Bare b) =
+    → Law (NewProbability name key set sum label) c (a_share sum)
+share_law c name key set sum label fraction (Bare b) =
     share_answers c name key set label sum b (share_of sum b) fraction refl
     (wrong_share sum b (number_of b) fraction refl)
-probability_law c name key set sum label fraction _ = (λ a. a, refl)
+share_law c name key set sum label fraction _ = (λ a. a, refl)
 
-pub new_probability : (f : FileFront) (n : ℕ) (set : InformationSet) (sum : Ratio)
+without_order : (sum : Ratio) (t : Token) (o : Result State Why) → Answers (a_share sum) t o
+    → Answers (a_probability sum) t o
+without_order sum (Bare b) (Err why) h =
+    (h.0, elim h.1 [ inl k ↦ inl k | inr k ↦ inr (k.0, k.1, k.2) ])
+without_order sum _ (Err why) h = h
+without_order sum _ (Ok s) h = h
+
+-- the machine expects a probability after this sum
+record AsksShare (before : List Token) (sum : Ratio) : Type 0 where
+  content : Content
+  name : List ℕ
+  key : SetKey
+  set : InformationSet
+  label : List ℕ
+  fraction : IsFraction sum
+  answers : StandsFor before (NewProbability name key set sum label) content
+
+asks_share : (f : FileFront) (n : ℕ) (set : InformationSet) (sum : Ratio)
     → ToProbability f.front n set → IsNewSet f.nodes (set_of 0 n) → HasSum set sum
-    → Stands f.before (a_probability sum)
-new_probability f n set sum h new has =
+    → AsksShare f.before sum
+asks_share f n set sum h new has =
     let key = set_of 0 n in
     let s = parts f (begins_probability f.front n set h) in
     let c = s.content in
     elim (to_probability f.front n set c h s.goes_on) [
       | inl k ↦
           let same = same_sum set sum k.sum has k.have_sum in
-          stands_in f s (NewProbability k.name key set sum k.label) c (a_probability sum)
-          (λ us. k.answers us
-          ∙ ap (λ (x : Ratio). run_tokens (NewProbability k.name key set x k.label) c us) same)
-          (probability_law c k.name key set sum k.label (subst IsFraction same k.fraction))
-          (λ a. a, refl)
+          record {
+            content = c;
+            name = k.name;
+            key = key;
+            set = set;
+            label = k.label;
+            fraction = subst IsFraction same k.fraction;
+            answers = λ us. s.answers us ∙ k.answers us
+                ∙ ap (λ (x : Ratio). run_tokens (NewProbability k.name key set x k.label) c us)
+                same;
+          }
       | inr k ↦ absurd (new k.known ((s.sets key k.known).1 k.is_known))
     ]
+
+pub new_share : (f : FileFront) (n : ℕ) (set : InformationSet) (sum : Ratio)
+    → ToProbability f.front n set → IsNewSet f.nodes (set_of 0 n) → HasSum set sum
+    → Stands f.before (a_share sum)
+new_share f n set sum h new has =
+    let k = asks_share f n set sum h new has in
+    stands_by f.before (NewProbability k.name k.key k.set sum k.label) k.content (a_share sum)
+    f.begins k.answers (share_law k.content k.name k.key k.set sum k.label k.fraction)
+    (λ a. a, refl)
+
+pub new_probability : (f : FileFront) (n : ℕ) (set : InformationSet) (sum : Ratio)
+    → ToProbability f.front n set → IsNewSet f.nodes (set_of 0 n) → HasSum set sum
+    → Stands f.before (a_probability sum)
+new_probability f n set sum h new has =
+    let k = asks_share f n set sum h new has in
+    let q = NewProbability k.name k.key k.set sum k.label in
+    stands_by f.before q k.content (a_probability sum) f.begins k.answers
+    (λ t. without_order sum t (step q k.content t)
+    (share_law k.content k.name k.key k.set sum k.label k.fraction t)) (λ a. a, refl)
 
 -- ---- a known set
 

@@ -37,7 +37,7 @@ use Rattle.gf_tree.proofs.DueSuited.{node_only, one_name}
 use Rattle.gf_tree.proofs.FrontCodes.{begins_payoffs, begins_probability, known_outcome, none_or_some}
 use Rattle.gf_tree.proofs.FrontLists.{to_probability}
 use Rattle.gf_tree.proofs.FrontPayoffs.{AtKnownPayoff, in_payoffs}
-use Rattle.gf_tree.proofs.FrontShares.{has_sum}
+use Rattle.gf_tree.proofs.ListedSums.{has_sum}
 use Rattle.gf_tree.proofs.NodeReasons.{told_somewhere}
 use Rattle.gf_tree.proofs.RowReasons.{IsOfRole, of_row}
 

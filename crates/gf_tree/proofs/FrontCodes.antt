@@ -160,11 +160,6 @@ no_player before t reads h =
     ∙ ap (λ (d : ℕ). then_run (after_node c d (codes "p")) (run_on [])) due.1
     ∙ ap (λ (ps : List (List ℕ)). then_run (personal_node c ps) (run_on [])) p.same_players
 
--- the tokens that are looked at: none, or the first
-abbrev pub first_of : List Token → List Token
-first_of [] = []
-first_of (t ∷ ts) = t ∷ []
-
 -- ---- a known set
 
 -- in the braces of a known set, the machine expects what is left of it

@@ -1,7 +1,8 @@
 -- The machine of the reader refuses for the reason at the place.
-use Rattle.std.proofs.Common.{◌≡◌, ℕ, ◌≤◌, Bool, cond, List, [], ◌∷◌, ◌++◌, length, Result, Ok, Err}
+use Rattle.std.proofs.Common.{◌≡◌, ℕ, zero, suc, ◌≤◌, List, [], ◌∷◌, ◌++◌, length, Result, Ok, Err}
 use Rattle.std.proofs.Common.{sym, ap, subst, ◌∙◌, arith, inl, inr, refl, append-nil}
-use Rattle.std.specs.Prelude.{◌⊎◌}
+use Rattle.std.specs.Prelude.{codes, pos, ◌⊎◌, ◌<ℤ◌, ◌≤ℤ◌}
+use Rattle.std.proofs.lemmas.Int.{ints}
 use Rattle.gf_token.specs.Token.{Token, Lexeme}
 use Rattle.gf_token.specs.Token.Token.{Opening, Closing, Comma, Text, Bare, Broken}
 use Rattle.gf_token.specs.TokenSpelling.{Spells}
@@ -16,35 +17,38 @@ use Rattle.gf_token.specs.declared.fault.Why.TheVariants.{NegativeProbability, S
 use Rattle.gf_token.specs.declared.fault.Why.TheVariants.{SumBelowOne, SumOverflow, NoEntry}
 use Rattle.gf_tree.specs.Judgement.{IsRefusal}
 use Rattle.gf_tree.specs.Reason.{StaysBelowOne}
-use Rattle.gf_tree.specs.Rows.{a_new_branch}
-use Rattle.gf_tree.proofs.DueActions.{new_branch}
-use Rattle.gf_tree.specs.inner.Machine.{Content, State, due, nothing, run, step}
+use Rattle.gf_tree.specs.Rows.{a_new_action, a_new_branch}
+use Rattle.gf_tree.specs.inner.Machine.{Content, State, nothing, run, step}
 use Rattle.gf_tree.specs.inner.Machine.Position.{Format}
 use Rattle.gf_tree.specs.inner.ReadGame.{run_tokens, then_run}
 use Rattle.gf_tree.specs.Reason.{Holds, IsReason, DiffersFromOutcome, DiffersFromSet, IsBadIndex}
-use Rattle.gf_tree.specs.Reason.{EndsInFirstUse, IsMismatch, IsNoText}
+use Rattle.gf_tree.specs.Reason.{EndsInFirstUse, IsMismatch, IsNoText, IsWrongBehind}
+use Rattle.gf_tree.specs.Reason.{IsWrongProbability, ListsActions}
 use Rattle.gf_tree.specs.Rows.{Obeys, Row, IsNoNumber, Refuses, a_first_name, a_node, an_end}
 use Rattle.gf_tree.specs.Rows.{an_outcome, no_label, or_comma, or_name, this_label, this_number}
 use Rattle.gf_tree.proofs.DueRows.{Stands, accepted, answers_at, leads, refused_by}
-use Rattle.gf_tree.proofs.FrontCodes.{IsUpTo, ReadsOn, refused, first_of, no_player, known_left}
-use Rattle.gf_tree.proofs.FrontShares.{above, lists_nothing, negative, overflows}
+use Rattle.gf_tree.proofs.FrontCodes.{IsUpTo, ReadsOn, refused, no_player, known_left}
 use Rattle.gf_tree.proofs.NodeReasons.{reasoned}
 use Rattle.gf_tree.proofs.RowReasons.{Own}
 use Rattle.gf_tree.proofs.RunEnds.{ends}
 use Rattle.gf_tree.proofs.RunPlaces.{Leads, begins, leads_fine, walk_run}
 use Rattle.gf_tree.proofs.RunStops.{StopsAt, not_accepted, stopped}
 use Rattle.gf_tree.proofs.RunTokens.{run_on}
-use Rattle.gf_fraction.specs.Ratio.{Ratio}
+use Rattle.gf_fraction.specs.Ratio.{Ratio, whole}
+use Rattle.gf_fraction.specs.Computed.{number_of}
+use Rattle.gf_fraction.specs.Fits.{SumFits}
 use Rattle.gf_fraction.specs.NumberSpelling.{HasNumberFault, IsNumber}
 use Rattle.gf_fraction.specs.declared.fraction.NumberFault.{NumberFault}
 use Rattle.gf_fraction.proofs.ComputedAnswers.{answer_is, number_again}
 use Rattle.gf_token.specs.NumberWhy.{why_of}
-use Rattle.gf_tree.specs.Description.{Action, InformationSet, SetKey}
-use Rattle.gf_tree.specs.Due.{PayoffIsDue, PlayerIsDue, ProbabilityIsDue}
-use Rattle.gf_tree.specs.Front.{InActions, IsExtensiveFile, KnowsSet}
+use Rattle.gf_tree.specs.Description.{Action, InformationSet, SetKey, set_of}
+use Rattle.gf_tree.specs.Due.{NodeIsDue, PayoffIsDue, PlayerIsDue, ProbabilityIsDue}
+use Rattle.gf_tree.specs.FileTree.{FileNode}
+use Rattle.gf_tree.specs.Front.{EndsInNode, InActions, IsExtensiveFile, KnowsSet}
 use Rattle.gf_tree.specs.RowPlaces.{FileFront}
 use Rattle.gf_tree.proofs.CutPlaces.{payoff_place}
-use Rattle.gf_tree.proofs.DueActions.{known_action, known_share, no_action_left}
+use Rattle.gf_tree.proofs.DueActions.{a_share, known_action, known_share, new_action, new_branch}
+use Rattle.gf_tree.proofs.DueActions.{new_share, no_action_left}
 use Rattle.gf_tree.proofs.DueByShapes.{asks_number, asks_outcome, asks_player, asks_set, front_of}
 use Rattle.gf_tree.proofs.DueNodes.{known_set, new_set, reads_on}
 use Rattle.gf_tree.proofs.DueOutcomes.{known_outcome, new_outcome}
@@ -226,7 +230,74 @@ below_one before after s why l h k =
       | inr e ↦ e.0
     ]
 
--- ---- no lower code applies
+-- the list has no action
+no_entry : (before after : List Token) (s : State) (why : Why) → Leads before s
+    → StopsAt s (Closing ∷ after) why → (player n : ℕ) (name : List ℕ)
+    → ListsActions before (set_of player n) (record { name = name; actions = [] }) → why ≡ NoEntry
+no_entry before after s why l h zero n name k =
+    let f = front_of before (begins before s l) k.0 k.1 k.2 k.3 in
+    elim (row_refuses before (Closing ∷ after) s why l h (a_new_branch [] (whole (pos 0)))
+    (new_branch f n (record { name = name; actions = [] }) (whole (pos 0)) k.4 k.5
+    ([], refl, refl))) [
+      | inl e ↦ e.0
+      | inr e ↦ let some = e.1 in absurd (omega (arith, some))
+    ]
+no_entry before after s why l h (suc player) n name k =
+    let f = front_of before (begins before s l) k.0 k.1 k.2 k.3 in
+    row_refuses before (Closing ∷ after) s why l h (a_new_action [])
+    (new_action f (set_of (suc player) n) (record { name = name; actions = [] }) k.4 k.5
+    (omega arith))
+
+-- ---- a wrong probability
+
+one_number : (o : Result Ratio NumberFault) (p q : Ratio) → o ≡ Ok p → o ≡ Ok q → p ≡ q
+one_number o p q e h = cc
+
+-- the reason is that of this number after this sum, and first of its sign
+abbrev IsOrdered : Ratio → Ratio → Why → Type 0
+IsOrdered sum p why =
+    IsWrongBehind why sum p × ((why ≡ NegativeProbability) ⊎ (pos 0 ≤ℤ p.num))
+
+wrong_share : (before after : List Token) (b : List ℕ) (s : State) (why other : Why)
+    → Leads before s → StopsAt s (Bare b ∷ after) why → (k : IsWrongProbability other before b)
+    → IsOrdered k.0 k.1 why
+wrong_share before after b s why other l h k =
+    let d = k.2 in
+    let f = front_of before (begins before s l) d.0 d.1 d.2 d.5 in
+    elim (says before b after s why l h (a_share k.0) (new_share f d.3 d.4 k.0 d.6 d.7 d.8)) [
+      | inl n ↦ absurd (no_fault b k.1 n.0 k.3 n.2)
+      | inr w ↦ subst (λ (p : Ratio). IsOrdered k.0 p why)
+          (one_number (number_of b) w.0 k.1 (number_again b w.0 w.1) (number_again b k.1 k.3))
+          (w.2, w.3)
+    ]
+
+same_code : (why other : Why) (bound : ℕ) → why ≡ other → IsUpTo other bound → IsUpTo why bound
+same_code why other bound e low = subst (λ (w : Why). IsUpTo w bound) (sym e) low
+
+up_to_negative : (sum p : Ratio) (why : Why) → p.num <ℤ pos 0 → IsOrdered sum p why
+    → IsUpTo why 11
+up_to_negative sum p why below (wrong, inl e) =
+    same_code why NegativeProbability 11 e (omega arith)
+up_to_negative sum p why below (wrong, inr low) = absurd (omega (arith, ints, below, low))
+
+up_to_above : (sum p : Ratio) (why : Why) → SumFits sum p → IsWrongBehind why sum p
+    → IsUpTo why 12
+up_to_above sum p NegativeProbability fits wrong = omega arith
+up_to_above sum p SumAboveOne fits wrong = omega arith
+up_to_above sum p SumOverflow fits wrong = absurd (wrong fits)
+up_to_above sum p _ fits wrong = absurd wrong
+
+up_to_overflow : (sum p : Ratio) (why : Why) → IsWrongBehind why sum p → IsUpTo why 14
+up_to_overflow sum p NegativeProbability wrong = omega arith
+up_to_overflow sum p SumAboveOne wrong = omega arith
+up_to_overflow sum p SumOverflow wrong = omega arith
+up_to_overflow sum p _ wrong = absurd wrong
+
+-- ---- no players
+
+one_refusal : (o : Result Content Why) (why other : Why) → o ≡ refused why → o ≡ refused other
+    → why ≡ other
+one_refusal o why other h k = cc
 
 -- some tokens follow those that lead to a state
 reads_there : (before : List Token) (s : State) → Leads before s → ReadsOn before
@@ -234,44 +305,19 @@ reads_there before s h =
     let e = ends s.position s.content (leads_fine before s h) in
     record { more = e.0; read = e.1; reads = walk_run before e.0 Format nothing s h ∙ e.2 }
 
--- what the machine answers to the first token there, or to the end
-machine_refuses : (before after : List Token) (s : State) (why : Why) → Leads before s
-    → StopsAt s after why → run_tokens Format nothing (before ++ first_of after) ≡ refused why
-machine_refuses before [] s why l h = walk_run before [] Format nothing s l
-    ∙ ap (λ (b : Bool). cond b (Ok s.content) (Err (due s.position s.content.due))) h.0
-    ∙ ap refused h.1
-machine_refuses before (t ∷ after) s why l h =
-    walk_run before (t ∷ []) Format nothing s l ∙ ap (λ o. then_run o (run_on [])) h
+no_players : (before after : List Token) (b : List ℕ) (s : State) (why : Why) → Leads before s
+    → StopsAt s (Bare b ∷ after) why
+    → ((nodes : List FileNode) × EndsInNode before [] nodes [] × NodeIsDue before
+    × (b ≡ codes "p")) → why ≡ UnknownPlayer
+no_players before after b s why l h k =
+    one_refusal (run_tokens Format nothing (before ++ Bare b ∷ [])) why UnknownPlayer
+    (walk_run before (Bare b ∷ []) Format nothing s l ∙ ap (λ o. then_run o (run_on [])) h)
+    (no_player before b (reads_there before s l) k)
 
-one_refusal : (o : Result Content Why) (why other : Why) → o ≡ refused why → o ≡ refused other
-    → why ≡ other
-one_refusal o why other h k = cc
-
-module _ (before after : List Token) (s : State) (why : Why) (l : Leads before s)
-    (h : StopsAt s after why) where
-  reads : ReadsOn before
-  reads = reads_there before s l
-
-  low_as : (other : Why) (bound : ℕ) → run_tokens Format nothing (before ++ first_of after)
-      ≡ refused other → IsUpTo other bound → IsUpTo why bound
-  low_as other bound e low = subst (λ (w : Why). IsUpTo w bound)
-      (one_refusal (run_tokens Format nothing (before ++ first_of after)) other why e
-      (machine_refuses before after s why l h)) low
-
-  low_as_either : (other lower named : Why) (bound : ℕ)
-      → run_tokens Format nothing (before ++ first_of after) ≡ refused other
-      → ((other ≡ lower) ⊎ (other ≡ named)) → IsUpTo lower bound → IsUpTo named bound
-      → IsUpTo why bound
-  low_as_either other lower named bound e (inl q) low high =
-      low_as lower bound (e ∙ ap refused q) low
-  low_as_either other lower named bound e (inr q) low high =
-      low_as named bound (e ∙ ap refused q) high
+-- ---- no lower code applies
 
 abbrev Lower : List Token → List Token → Why → Type 0
 Lower before after why = (other : Why) → Holds other before after → IsUpTo why (code_of other)
-
-same_code : (why other : Why) (bound : ℕ) → why ≡ other → IsUpTo other bound → IsUpTo why bound
-same_code why other bound e low = subst (λ (w : Why). IsUpTo w bound) (sym e) low
 
 module _ (before after : List Token) (s : State) (why : Why) (l : Leads before s) where
   lower_bare : (b : List ℕ) → StopsAt s (Bare b ∷ after) why → Lower before (Bare b ∷ after) why
@@ -284,21 +330,17 @@ module _ (before after : List Token) (s : State) (why : Why) (l : Leads before s
   lower_bare b h BadIndex k =
       same_code why BadIndex 7 (bad_index before b after s why l h k) (omega arith)
   lower_bare b h UnknownPlayer (inl k) = no_such_player before b after s why l h k.0 k.2
-  lower_bare b h UnknownPlayer (inr k) = low_as before (Bare b ∷ after) s why l h UnknownPlayer 8
-      (no_player before b (reads_there before s l) k) (omega arith)
+  lower_bare b h UnknownPlayer (inr k) = same_code why UnknownPlayer 8
+      (no_players before after b s why l h k) (omega arith)
   lower_bare b h NotDescribed k = undescribed before (Bare b ∷ after) s why l h k.0 k.1
   lower_bare b h Mismatch k =
       same_code why Mismatch 10 (mismatch before after (Bare b) s why l h k) (omega arith)
-  lower_bare b h NegativeProbability k = low_as before (Bare b ∷ after) s why l h NegativeProbability 11
-      (negative before b (reads_there before s l) k) (omega arith)
-  lower_bare b h SumAboveOne k =
-      let r = above before b (reads_there before s l) k in
-      low_as_either before (Bare b ∷ after) s why l h r.0 NegativeProbability SumAboveOne 12 r.1 r.2
-      (omega arith) (omega arith)
+  lower_bare b h NegativeProbability k = up_to_negative k.0 k.1 why k.4
+      (wrong_share before after b s why NegativeProbability l h k)
+  lower_bare b h SumAboveOne k = let wrong = k.4 in
+      up_to_above k.0 k.1 why wrong.0 (wrong_share before after b s why SumAboveOne l h k).0
   lower_bare b h SumOverflow k =
-      let r = overflows before b (reads_there before s l) k in
-      low_as_either before (Bare b ∷ after) s why l h r.0 NegativeProbability SumOverflow 14 r.1 r.2
-      (omega arith) (omega arith)
+      up_to_overflow k.0 k.1 why (wrong_share before after b s why SumOverflow l h k).0
   lower_bare b h _ k = absurd k
 
   lower_closing : StopsAt s (Closing ∷ after) why → Lower before (Closing ∷ after) why
@@ -307,8 +349,8 @@ module _ (before after : List Token) (s : State) (why : Why) (l : Leads before s
       (mismatch before after Closing s why l h k) (omega arith)
   lower_closing h SumBelowOne k =
       same_code why SumBelowOne 13 (below_one before after s why l h k) (omega arith)
-  lower_closing h NoEntry k = low_as before (Closing ∷ after) s why l h NoEntry 15
-      (lists_nothing before (reads_there before s l) k) (omega arith)
+  lower_closing h NoEntry k = same_code why NoEntry 15
+      (no_entry before after s why l h k.0.player k.0.number k.1 k.2) (omega arith)
   lower_closing h _ k = absurd k
 
   lower_text : (label : List ℕ) → StopsAt s (Text label ∷ after) why

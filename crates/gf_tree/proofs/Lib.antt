@@ -63,8 +63,6 @@ pub mod TreesOnce
 pub mod Uses
 pub mod Worked
 pub mod WorkedGames
-pub mod WorkedNone
-pub mod WorkedReasons
 pub mod WrittenGames
 pub mod WrittenNodes
 pub mod WrittenTokens
@@ -74,7 +72,7 @@ pub mod FrontRuns
 pub mod FrontLists
 pub mod FrontPayoffs
 pub mod FrontCodes
-pub mod FrontShares
+pub mod ListedSums
 pub mod FrontJudged
 pub mod DueRows
 pub mod DueLaws

@@ -31,13 +31,20 @@ use Rattle.gf_tree.specs.Subtrees.{subtrees, subtrees_all}
 use Rattle.gf_tree.specs.declared.kept.Stored.{Stored}
 use Rattle.gf_tree.proofs.FirstUses.{AreDistinct, first_uses_distinct}
 use Rattle.gf_tree.proofs.GameNodes.{IsTreeOf, as_many, child_is_there, node_there, placed_there}
-use Rattle.gf_tree.proofs.GivenNodes.{from_there}
 use Rattle.gf_tree.proofs.Lookups.{entry_at}
 use Rattle.gf_tree.proofs.Places.{at_index}
 use Rattle.gf_tree.proofs.RenumberedStores.{has_place, is_among, some_same, there}
 use Rattle.gf_tree.proofs.SubtreeSizes.{begin_first, stands, subtrees_counted}
 use Rattle.gf_tree.proofs.TreesOnce.{same_set_equality}
 use Rattle.gf_tree.proofs.Uses.{Has}
+
+from_there : {A : Type 0} (xs : List A) (k : ℕ) (x : A) → slice_get xs k ≡ Some x
+    → drop k xs ≡ x ∷ drop (k + 1) xs
+from_there [] zero x h = absurd cc
+from_there [] (suc k) x h = absurd cc
+from_there (y ∷ xs) zero x h = let e : y ≡ x = cc in ap (λ z. z ∷ xs) e
+from_there (y ∷ xs) (suc k) x h =
+    let e : suc k + 1 ≡ suc (k + 1) = omega arith in rw e (from_there xs k x h)
 
 -- ---- places after subtrees
 

@@ -43,7 +43,7 @@ use Rattle.gf_token.specs.Token.{Lexeme, lexeme}
 use Rattle.gf_token.specs.Token.Token.{Bare, Closing}
 use Rattle.gf_token.specs.declared.fault.Why.TheVariants.{Memory, SumBelowOne}
 use Rattle.gf_tree.specs.inner.FoundSet.{FoundOutcome, FoundSet}
-use Rattle.gf_tree.specs.inner.ReaderState.{Answer, Fails, Goes, Grows, IsSound, answer}
+use Rattle.gf_tree.specs.inner.ReaderState.{Answer, Fails, Goes, Grows, answer}
 use Rattle.gf_tree.specs.inner.ReaderState.{begun_with}
 use Rattle.gf_tree.specs.inner.ReaderState.{behind_label, content_of, heard}
 use Rattle.gf_tree.specs.inner.ReaderState.Fails.{of_memory}
@@ -217,20 +217,6 @@ module _ {E : Type 0} (r : Reader) (sets : KnownSets) (key : SetKey) (name : Lis
       ∙ new_begun r.sets.known (record { key = key; description = set_with name r.sets.pending })
       node
 
-  pub kept_sound : (result : Result ℕ E) → IsSound r → OnOk result (sets ≡ one_more r.sets key name)
-      → IfOk result (λ place. place ≡ length r.sets.known)
-      → IfOk result (λ place. place + 1 < 2 ^ 32)
-      → OnOk result (IsSound (record r { sets = sets }))
-  kept_sound (Err e) sound h is few = tt
-  kept_sound (Ok place) sound h is few =
-      let new : Described SetKey InformationSet =
-      record { key = key; description = set_with name r.sets.pending } in
-      let size = length-append r.sets.known (new ∷ []) in
-      subst (λ (k : KnownSets). IsSound (record r { sets = k })) (sym h) (record {
-        sets = omega (arith, size, is, few);
-        outcomes = sound.outcomes;
-      })
-
 -- ---- an outcome that is kept
 
 -- the outcomes with one more, which was pending
@@ -270,21 +256,6 @@ module _ {E : Type 0} (r : Reader) (outcomes : KnownOutcomes) (number : ℕ) (na
       is
       ∙ ap (option_map (λ o. o.key)) (get_next r.outcomes.known
       (record { key = number; description = outcome_with name r.outcomes.pending }))
-
-  pub kept_outcome_sound : (result : Result ℕ E) → IsSound r
-      → OnOk result (outcomes ≡ one_outcome_more r.outcomes number name)
-      → IfOk result (λ place. place ≡ length r.outcomes.known)
-      → IfOk result (λ place. place + 1 < 2 ^ 32)
-      → OnOk result (IsSound (record r { outcomes = outcomes }))
-  kept_outcome_sound (Err e) sound h is few = tt
-  kept_outcome_sound (Ok place) sound h is few =
-      let new : Described ℕ Outcome =
-      record { key = number; description = outcome_with name r.outcomes.pending } in
-      let size = length-append r.outcomes.known (new ∷ []) in
-      subst (λ (k : KnownOutcomes). IsSound (record r { outcomes = k })) (sym h) (record {
-        sets = sound.sets;
-        outcomes = omega (arith, size, is, few);
-      })
 
 pub if_none : {A : Type 0} {P : Type 0} (o : Option A) → P → IfNone o P
 if_none None p = p

@@ -1,4 +1,4 @@
--- Worked games, each computed: the machine of the reader reads their files to them.
+-- Worked files: what the machine of the reader answers to them is computed.
 use Rattle.std.proofs.Common.{◌≡◌, ℕ, List, length, Result, Ok, Err, refl}
 use Rattle.std.specs.Fmt.{digits}
 use Rattle.gf_fraction.specs.Computed.{gcd_within, lowest_of, number_of, sum_of}
@@ -6,14 +6,17 @@ use Rattle.gf_token.specs.Indices.{index_of}
 use Rattle.gf_token.specs.inner.Lexing.{lex}
 use Rattle.gf_token.specs.inner.Lexing.Mode.{Gap}
 use Rattle.gf_token.specs.declared.fault.Fault.{Fault}
+use Rattle.gf_token.specs.declared.fault.Span.{Span}
+use Rattle.gf_token.specs.declared.fault.Why.{Why}
 use Rattle.gf_token.proofs.Spelled.{found}
 use Rattle.gf_tree.specs.Game.{Game}
 use Rattle.gf_tree.specs.GameOf.{SpellsGame}
+use Rattle.gf_tree.specs.Judgement.{IsRefusal}
 use Rattle.gf_tree.specs.inner.Machine.{Content, nothing, run}
 use Rattle.gf_tree.specs.inner.Machine.Position.{Format}
 use Rattle.gf_tree.specs.inner.ReadGame.{game_of}
-use Rattle.gf_tree.specs.WorkedTrees.{bonus, bonus_file, five, five_file, forgetful, forgetful_file}
-use Rattle.gf_tree.specs.WorkedTrees.{noted, noted_file}
+use Rattle.gf_tree.specs.WorkedTrees.{five, five_file}
+use Rattle.gf_tree.proofs.FrontJudged.{refuses}
 use Rattle.gf_tree.proofs.RunStops.{machine_spells}
 
 abbrev pub game_read : Result Content Fault → Result Game Fault
@@ -45,14 +48,9 @@ pub five_is_meant : SpellsGame five_file five
 unfolding lex digits index_of number_of sum_of lowest_of gcd_within
 five_is_meant = meant five_file five refl
 
-pub bonus_is_meant : SpellsGame bonus_file bonus
-unfolding lex digits index_of number_of sum_of lowest_of gcd_within
-bonus_is_meant = meant bonus_file bonus refl
-
-pub forgetful_is_meant : SpellsGame forgetful_file forgetful
-unfolding lex digits index_of number_of sum_of lowest_of gcd_within
-forgetful_is_meant = meant forgetful_file forgetful refl
-
-pub noted_is_meant : SpellsGame noted_file noted
-unfolding lex digits index_of number_of sum_of lowest_of gcd_within
-noted_is_meant = meant noted_file noted refl
+-- the reason if the machine refuses a front or a file
+pub is_refused : (why : Why) (bytes : List ℕ) (span : Span)
+    → run (length bytes) Format nothing (lex Gap 0 bytes) ≡ Err (record { span = span; why = why })
+    → IsRefusal why bytes span
+is_refused why bytes span e =
+    refuses bytes (lex Gap 0 bytes) (record { span = span; why = why }) (found bytes 0) e

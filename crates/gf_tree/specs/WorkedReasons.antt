@@ -1,5 +1,4 @@
--- The first tokens of files that are refused: where, and for which reason. WorkedTrees has whole
--- files.
+-- Fronts of files that are refused. WorkedTrees has whole files.
 use Rattle.std.specs.Prelude.{ℕ, List, ◌++◌, codes}
 use Rattle.gf_token.specs.declared.fault.Span.{Span}
 
@@ -12,41 +11,12 @@ span_of start end = record { start = start; end = end }
 abbrev pub lottery : List ℕ → List ℕ
 lottery more = codes "EFG 2 R \"c\" { } c \"\" 1 \"n\" { \"a\" " ++ more
 
--- two of them add up to 6/5
-abbrev pub above_one_front : List ℕ
-above_one_front = lottery (codes "0.6 \"b\" 0.6 } 0")
-
 -- three thirds, to six places, add up to 999,999/1,000,000
 abbrev pub below_one_front : List ℕ
 below_one_front = lottery (codes "0.333333 \"b\" 0.333333 \"d\" 0.333333 } 0")
 
-abbrev pub negative_front : List ℕ
-negative_front = lottery (codes "-1/2 \"b\" 3/2 } 0")
-
--- with M = 2^127 - 1, the common denominator of 1/M and 1/2 is 2M
-abbrev pub overflowing_front : List ℕ
-overflowing_front = lottery (codes "1/170141183460469231731687303715884105727 \"b\" 1/2 } 0")
-
 abbrev pub no_number_front : List ℕ
 no_number_front = lottery (codes "x } 0")
-
--- ---- what differs from a first description
-
--- a set of two actions, up to the second action when it is described again
-abbrev pub repeated : List ℕ → List ℕ
-repeated more =
-    codes
-    "EFG 2 R \"m\" { \"A\" } p \"\" 1 1 \"i\" { \"L\" \"R\" } 0 t \"\" 0 p \"\" 1 1 \"i\" { \"L\" "
-    ++ more
-
-abbrev pub other_action_front : List ℕ
-other_action_front = repeated (codes "\"X\" } 0")
-
-abbrev pub action_missing_front : List ℕ
-action_missing_front = repeated (codes "} 0")
-
-abbrev pub action_too_many_front : List ℕ
-action_too_many_front = repeated (codes "\"R\" \"S\" } 0")
 
 -- ---- indices and empty lists
 

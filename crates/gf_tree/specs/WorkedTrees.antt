@@ -183,8 +183,7 @@ unpaid_file = codes "EFG 2 R \"\" { } t \"\" 5"
 abbrev pub nobody_file : List ℕ
 nobody_file = codes "EFG 2 R \"\" { } p \"\" 1 1 \"i\" { \"L\" } 0 t \"\" 0"
 
--- a probability below zero, probabilities that add up to less than one, and two whose sum does not
--- fit
+-- a probability below zero, and probabilities that add to less than one
 abbrev pub negative_file : List ℕ
 negative_file =
     codes "EFG 2 R \"m\" { \"A\" } c \"\" 1 \"n\" { \"h\" -1/2 \"t\" 3/2 } 0 t \"\" 0 t \"\" 0"
@@ -193,6 +192,7 @@ abbrev pub too_unlikely_file : List ℕ
 too_unlikely_file =
     codes "EFG 2 R \"m\" { \"A\" } c \"\" 1 \"n\" { \"h\" 1/2 \"t\" 1/4 } 0 t \"\" 0 t \"\" 0"
 
+-- with M = 2^127 - 1, the common denominator of 1/M and 1/2 is 2M
 abbrev pub unfitting_file : List ℕ
 unfitting_file =
     codes

@@ -31,14 +31,11 @@ ghost use Rattle.gf_tree.specs.Renumbering.{IsRenumbering, Renumbering, renumber
 ghost use Rattle.gf_tree.specs.Spellable.{IsSpellable};
 ghost use Rattle.gf_tree.specs.Learned.{Learns, LearnsGame};
 ghost use Rattle.gf_tree.specs.Judgement.{IsRefusal, IsRefused};
-ghost use Rattle.gf_tree.specs.WorkedReasons.{span_of};
-ghost use Rattle.gf_tree.specs.WorkedReasons.{outcome_plus_one_front, no_denominator_front};
-ghost use Rattle.gf_tree.specs.WorkedReasons.{other_name_front, other_payoff_front};
-ghost use Rattle.gf_tree.specs.WorkedReasons.{other_probability_front, no_version_front};
-ghost use Rattle.gf_tree.specs.WorkedReasons.{above_one_front, below_one_front, negative_front};
-ghost use Rattle.gf_tree.specs.WorkedReasons.{overflowing_front, no_number_front};
-ghost use Rattle.gf_tree.specs.WorkedReasons.{other_action_front, action_missing_front};
-ghost use Rattle.gf_tree.specs.WorkedReasons.{action_too_many_front, set_zero_front};
+ghost use Rattle.gf_tree.specs.WorkedReasons.{span_of, outcome_plus_one_front};
+ghost use Rattle.gf_tree.specs.WorkedReasons.{no_denominator_front, other_name_front};
+ghost use Rattle.gf_tree.specs.WorkedReasons.{other_payoff_front, other_probability_front};
+ghost use Rattle.gf_tree.specs.WorkedReasons.{no_version_front, below_one_front};
+ghost use Rattle.gf_tree.specs.WorkedReasons.{no_number_front, set_zero_front};
 ghost use Rattle.gf_tree.specs.WorkedReasons.{no_action_front, no_lottery_front};
 ghost use Rattle.gf_tree.specs.WorkedTrees.{five, five_file, bonus, bonus_file, forgetful};
 ghost use Rattle.gf_tree.specs.WorkedTrees.{forgetful_file, noted, noted_file, undescribed_file};
@@ -150,32 +147,14 @@ pub fn worked_games()
     ensures noted { SpellsGame noted_file noted }
 {}
 
-/// Worked files that mean no game: a first use of a set, and of an outcome, without a description;
-/// a description that differs from the first by another action, by fewer and by more; an unknown
-/// player, in a game with players and in one without; and probabilities that add up to more than
-/// one or to less, one below zero, and two whose sum does not fit.
-pub fn worked_refusals()
-    ensures undescribed { (g : Game) → ¬ (SpellsGame undescribed_file g) }
-    ensures mismatched { (g : Game) → ¬ (SpellsGame mismatched_file g) }
-    ensures unknown_player { (g : Game) → ¬ (SpellsGame unknown_player_file g) }
-    ensures too_likely { (g : Game) → ¬ (SpellsGame too_likely_file g) }
-    ensures too_unlikely { (g : Game) → ¬ (SpellsGame too_unlikely_file g) }
-    ensures negative { (g : Game) → ¬ (SpellsGame negative_file g) }
-    ensures unfitting { (g : Game) → ¬ (SpellsGame unfitting_file g) }
-    ensures other_action { (g : Game) → ¬ (SpellsGame other_action_file g) }
-    ensures fewer_actions { (g : Game) → ¬ (SpellsGame fewer_actions_file g) }
-    ensures more_actions { (g : Game) → ¬ (SpellsGame more_actions_file g) }
-    ensures unpaid { (g : Game) → ¬ (SpellsGame unpaid_file g) }
-    ensures nobody { (g : Game) → ¬ (SpellsGame nobody_file g) }
-{}
-
-/// Worked files and beginnings of files, each with its offending place and the reason there. A
-/// version that is not one. A probability that is not a number, and a payoff without a denominator;
-/// a set numbered 0, and an outcome numbered `+1`; the second of one player, and a player in a game
-/// without players; a set and an outcome without a description. A set described again with another
-/// action, without its last one, with one too many and with another probability, and an outcome
-/// with another name and another payoff. A negative probability; probabilities that add up to more
-/// than one, to less than one, and to a sum that does not fit; and sets without actions.
+/// Worked files and beginnings of files, each with its offending place and the reason there; so
+/// they mean no game. A version that is not one. A probability that is not a number, and a payoff
+/// without a denominator; a set numbered 0, and an outcome numbered `+1`; the second of one player,
+/// and a player if there are none; a set and an outcome without a description. A set described
+/// again with another action, the only one or the last one, without its last one, with one too many
+/// and with another probability, and an outcome with another name and another payoff. A negative
+/// probability; probabilities that add up to more than one, to less than one, and to a sum that
+/// does not fit; and sets without actions.
 pub fn worked_reasons()
     ensures no_version { IsRefusal (Expected Version) no_version_front (span_of 4 5) }
     ensures not_a_number { IsRefusal NotANumber no_number_front (span_of 33 34) }
@@ -186,16 +165,18 @@ pub fn worked_reasons()
     ensures no_players { IsRefusal UnknownPlayer nobody_file (span_of 15 16) }
     ensures undescribed_set { IsRefusal NotDescribed undescribed_file (span_of 29 30) }
     ensures undescribed_outcome { IsRefusal NotDescribed unpaid_file (span_of 21 21) }
-    ensures other_action { IsRefusal Mismatch other_action_front (span_of 73 76) }
-    ensures action_missing { IsRefusal Mismatch action_missing_front (span_of 73 74) }
-    ensures action_too_many { IsRefusal Mismatch action_too_many_front (span_of 77 80) }
+    ensures other_only_action { IsRefusal Mismatch mismatched_file (span_of 58 61) }
+    ensures other_action { IsRefusal Mismatch other_action_file (span_of 73 76) }
+    ensures action_missing { IsRefusal Mismatch fewer_actions_file (span_of 73 74) }
+    ensures action_too_many { IsRefusal Mismatch more_actions_file (span_of 77 80) }
     ensures other_probability { IsRefusal Mismatch other_probability_front (span_of 75 78) }
     ensures other_name { IsRefusal Mismatch other_name_front (span_of 71 74) }
     ensures other_payoff { IsRefusal Mismatch other_payoff_front (span_of 77 78) }
-    ensures negative { IsRefusal NegativeProbability negative_front (span_of 33 37) }
-    ensures above_one { IsRefusal SumAboveOne above_one_front (span_of 41 44) }
+    ensures negative { IsRefusal NegativeProbability negative_file (span_of 37 41) }
+    ensures above_one { IsRefusal SumAboveOne too_likely_file (span_of 45 48) }
     ensures below_one { IsRefusal SumBelowOne below_one_front (span_of 68 69) }
-    ensures overflowing { IsRefusal SumOverflow overflowing_front (span_of 79 82) }
+    ensures half_and_quarter { IsRefusal SumBelowOne too_unlikely_file (span_of 49 50) }
+    ensures overflowing { IsRefusal SumOverflow unfitting_file (span_of 83 86) }
     ensures no_lottery { IsRefusal NoEntry no_lottery_front (span_of 33 34) }
     ensures no_action { IsRefusal NoEntry no_action_front (span_of 35 36) }
 {}

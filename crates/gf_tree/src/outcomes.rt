@@ -178,7 +178,6 @@ impl<'a> Outcomes<'a> {
         requires { position (nat_eq number) (map (λ o. o.key) self.old.known) ≡ None }
         ensures ok { OnOk result (self.new ≡ with_outcome self.old number (label_of name.entry)) }
         ensures place { IfOk result (λ place. place ≡ length self.old.known) }
-        ensures few { IfOk result (λ place. place + 1 < 2 ^ 32) }
         ensures err { OnErr result (self.new ≡ self.old) }
     {
         let end = self.payoffs.len();

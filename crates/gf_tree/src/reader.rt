@@ -13,7 +13,7 @@ ghost use Rattle.gf_tree.specs.inner.Machine.{nothing, run};
 ghost use Rattle.gf_tree.specs.inner.Machine.Position.{Format, NodeDue};
 ghost use Rattle.gf_tree.specs.inner.ReadGame.{game_of};
 ghost use Rattle.gf_tree.specs.KeptNodes.{ArePlaced};
-ghost use Rattle.gf_tree.specs.inner.ReaderState.{answer, content_of, content_with, Goes, HasRoom, IsSound};
+ghost use Rattle.gf_tree.specs.inner.ReaderState.{answer, content_of, content_with, Goes, HasRoom};
 
 mod heading;
 mod nodes;
@@ -51,7 +51,6 @@ impl<'a> Reader<'a> {
         ensures content { content_of result ≡ nothing }
         ensures input { result.tokens.input ≡ input.entry.now }
         ensures spelled { Spells 0 input.entry.now result.tokens.ahead }
-        ensures sound { IsSound result }
         ensures due { result.due ≡ 1 }
         ensures room { HasRoom 0 result }
         ensures untold { (result.told_sets ≡ 0) × (result.told_outcomes ≡ 0) }
@@ -74,10 +73,8 @@ impl<'a> Reader<'a> {
     /// Reads the heading: everything before the first node. Returns the place of its last token.
     pub(crate) fn begin(&mut self) -> Result<Span, Fault>
         requires due { self.old.due ≡ 1 }
-        requires sound { IsSound self.old }
         requires room { HasRoom 0 self.old }
         ensures machine { Goes (answer Format self.old) result (answer NodeDue self.new) }
-        ensures sound { OnOk result (IsSound self.new) }
         ensures room { OnOk result (HasRoom 0 self.new) }
         ensures untold { OnOk result ((self.new.told_sets ≡ self.old.told_sets)
             × (self.new.told_outcomes ≡ self.old.told_outcomes)) }

@@ -326,7 +326,6 @@ impl<'a> Sets<'a> {
         ensures ok { OnOk result (self.new
             ≡ with_set self.old (set_of player number) (label_of name.entry)) }
         ensures place { IfOk result (λ place. place ≡ length self.old.known) }
-        ensures few { IfOk result (λ place. place + 1 < 2 ^ 32) }
         ensures err { OnErr result (self.new ≡ self.old) }
     {
         let place = next_place(self.entries.len())?;

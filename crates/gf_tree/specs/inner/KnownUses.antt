@@ -1,12 +1,11 @@
--- Which sets and outcomes of a game are known at a place among its nodes, and what a use says there.
-use Rattle.std.specs.Prelude.{◌≡◌, ℕ, suc, nat_eq, ◌==◌, length, take, Some, None}
+-- The nodes of a game as they are kept, as a file gives them one after another.
+use Rattle.std.specs.Prelude.{ℕ, suc, ◌==◌, max, List, [], ◌∷◌, Some, None, option_map}
 use Rattle.std.specs.Prelude.{if◌then◌else◌}
-use Rattle.std.specs.List.{filter_map}
-use Rattle.gf_tree.specs.PrefixOrder.{flatten}
-use Rattle.gf_tree.specs.Description.{same_set}
-use Rattle.gf_tree.specs.FiniteMap.{Described, first_uses}
-use Rattle.gf_tree.specs.FileTree.{Use}
-use Rattle.gf_tree.specs.Game.{Game}
+use Rattle.gf_token.specs.Positions.{at_position}
+use Rattle.gf_tree.specs.Description.{InformationSet, Outcome, SetKey}
+use Rattle.gf_tree.specs.FiniteMap.{Described}
+use Rattle.gf_tree.specs.FileTree.{FileNode, Use}
+use Rattle.gf_tree.specs.KeptNodes.{Kept}
 
 -- a use of the item at this position in order of first use, if this many keys are known: it is
 -- described if it is the next one
@@ -16,9 +15,18 @@ use_at known position d = record {
   description = if position == suc known then Some d.description else None;
 }
 
--- this many different sets, and this many outcomes, are used at the nodes before this place
-pub record AreKnown (g : Game) (at known_sets known_outcomes : ℕ) : Type 0 where
-  pub sets : known_sets
-      ≡ length (first_uses same_set (filter_map (λ e. e.node.set) (take at (flatten g.tree))))
-  pub outcomes : known_outcomes
-      ≡ length (first_uses nat_eq (filter_map (λ e. e.node.outcome) (take at (flatten g.tree))))
+-- a node if this many sets and outcomes were used before it
+abbrev pub node_given : List (Described SetKey InformationSet) → List (Described ℕ Outcome)
+    → ℕ → ℕ → Kept → FileNode
+node_given sets outcomes known_sets known_outcomes n = record {
+  name = n.name;
+  set = option_map (use_at known_sets n.set) (at_position sets n.set);
+  outcome = option_map (use_at known_outcomes n.outcome) (at_position outcomes n.outcome);
+}
+
+abbrev pub nodes_given : List (Described SetKey InformationSet) → List (Described ℕ Outcome)
+    → ℕ → ℕ → List Kept → List FileNode
+nodes_given sets outcomes known_sets known_outcomes [] = []
+nodes_given sets outcomes known_sets known_outcomes (n ∷ ns) =
+    node_given sets outcomes known_sets known_outcomes n
+    ∷ nodes_given sets outcomes (max known_sets n.set) (max known_outcomes n.outcome) ns

@@ -68,11 +68,6 @@ begun_with sets name position = record {
   children = child_count sets position;
 }
 
--- there are no more sets and outcomes than there are numbers for them
-pub record IsSound (r : Reader) : Type 0 where
-  pub sets : length r.sets.known < 2 ^ 32
-  pub outcomes : length r.outcomes.known < 2 ^ 32
-
 -- if there were this many more tokens to come, all of them could be nodes with as many children as
 -- a set can have actions
 abbrev pub HasRoom : ℕ → Reader → Type 0

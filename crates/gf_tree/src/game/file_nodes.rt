@@ -1,17 +1,18 @@
 //! The nodes of a game as a file gives them.
 
-ghost use Rattle.std.specs.Prelude.{◌≡◌, ◌+◌, ◌<◌, ◌≤◌, Some, length, option_map, slice_get};
+ghost use Rattle.std.specs.Prelude.{◌≡◌, ◌≤◌, length, option_map};
 ghost use Rattle.gf_token.specs.Positions.{at_position};
 ghost use Rattle.gf_tree.specs.FileNodeOf.{file_node_of, outcome_use_of, set_use_of};
 ghost use Rattle.gf_tree.specs.FileNodes.{file_nodes};
-ghost use Rattle.gf_tree.specs.inner.KnownUses.{AreKnown, use_at};
-ghost use Rattle.gf_tree.specs.Subtrees.{subtrees};
+ghost use Rattle.gf_tree.specs.inner.KnownUses.{use_at};
 
 use crate::file_node::{FileNode, OutcomeDescription, OutcomeUse, SetDescription, SetUse};
 use crate::game::Game;
+use crate::kept::Stored;
 use crate::outcomes::Outcomes;
 use crate::sets::Sets;
 use std::marker::Model;
+use std::slice;
 
 /// The use of the set with this position, if this many are known: it is described if it is the next
 /// one.
@@ -69,47 +70,18 @@ fn outcome_use<'n, 'a>(
     })
 }
 
-/// How many sets and outcomes are known.
-#[derive(Clone, Copy)]
-struct Known {
-    sets: u32,
-    outcomes: u32,
-}
-
 impl<'a> Game<'a> {
-    /// The node at this place, from 0, as a file gives it, if this many sets and outcomes are used
-    /// before it; and how many are used through it.
-    fn file_node(&self, at: usize, known: Known) -> (FileNode<'_, 'a>, Known)
-        requires within { at < length (subtrees self.now.tree) }
-        requires known { AreKnown self.now at known.sets known.outcomes }
-        ensures node { slice_get (file_nodes self.now) at ≡ Some (file_node_of result.0) }
-        ensures known { AreKnown self.now (at + 1) result.1.sets result.1.outcomes }
-    {
-        let stored = self.nodes[at];
-        let node = FileNode {
-            name: stored.name,
-            set: set_use(&self.sets, known.sets, stored.set),
-            outcome: outcome_use(&self.outcomes, known.outcomes, stored.outcome),
-        };
-        let known = Known {
-            sets: known.sets.max(stored.set),
-            outcomes: known.outcomes.max(stored.outcome),
-        };
-        (node, known)
-    }
-
     /// The nodes in prefix order, as a file gives them: each set and each outcome is described at
     /// its first use, and nowhere else.
     pub fn file_nodes(&self) -> FileNodes<'_, 'a>
         ensures { result ≡ file_nodes self.now }
     {
         FileNodes {
-            game: self,
-            next_place: 0,
-            known: Known {
-                sets: 0,
-                outcomes: 0,
-            },
+            sets: &self.sets,
+            outcomes: &self.outcomes,
+            nodes: self.nodes.iter(),
+            used_sets: 0,
+            used_outcomes: 0,
         }
     }
 }
@@ -117,23 +89,29 @@ impl<'a> Game<'a> {
 /// An iterator over the nodes of a game in prefix order, as a file gives them.
 #[derive(Drop)]
 pub struct FileNodes<'g, 'a> {
-    game: &'g Game<'a>,
-    /// The place of the node that comes next.
-    next_place: usize,
-    known: Known,
+    sets: &'g Sets<'a>,
+    outcomes: &'g Outcomes<'a>,
+    /// The nodes that come next.
+    nodes: slice::Iter<'g, Stored<'a>>,
+    /// How many sets and outcomes are used before them.
+    used_sets: u32,
+    used_outcomes: u32,
 }
 
 impl<'g, 'a> Model for FileNodes<'g, 'a> {
-    ghost use Rattle.std.specs.Prelude.{List, drop};
+    ghost use Rattle.std.specs.Prelude.{List, length, map};
+    ghost use Rattle.std.specs.Slice.Iter.{iter_rest};
     ghost use Rattle.gf_tree.specs.FileTree.{FileNode};
-    ghost use Rattle.gf_tree.specs.FileNodes.{file_nodes};
-    ghost use Rattle.gf_tree.specs.inner.KnownUses.{AreKnown};
+    ghost use Rattle.gf_tree.specs.KeptNodes.{ArePlaced, kept_of};
+    ghost use Rattle.gf_tree.specs.inner.KnownUses.{nodes_given};
 
     ghost Value = { List FileNode };
 
-    ghost view = { λ n. drop n.next_place (file_nodes n.game.now) };
+    ghost view = { λ n. nodes_given n.sets.now.known n.outcomes.now.known n.used_sets
+        n.used_outcomes (map kept_of (iter_rest n.nodes)) };
 
-    ghost invariant = { λ n. AreKnown n.game.now n.next_place n.known.sets n.known.outcomes };
+    ghost invariant = { λ n. ArePlaced (length n.sets.now.known) (length n.outcomes.now.known)
+        (map kept_of (iter_rest n.nodes)) };
 }
 
 impl<'g, 'a> Iterator for FileNodes<'g, 'a> {
@@ -146,13 +124,14 @@ impl<'g, 'a> Iterator for FileNodes<'g, 'a> {
     ghost remaining = { item_count (λ left. left) };
 
     fn next(&mut self) -> Option<FileNode<'g, 'a>> {
-        let game = self.game;
-        if self.next_place >= game.len() {
-            return None;
-        }
-        let (node, known) = game.file_node(self.next_place, self.known);
-        self.next_place += 1;
-        self.known = known;
+        let stored = self.nodes.next()?;
+        let node = FileNode {
+            name: stored.name,
+            set: set_use(self.sets, self.used_sets, stored.set),
+            outcome: outcome_use(self.outcomes, self.used_outcomes, stored.outcome),
+        };
+        self.used_sets = self.used_sets.max(stored.set);
+        self.used_outcomes = self.used_outcomes.max(stored.outcome);
         Some(node)
     }
 }

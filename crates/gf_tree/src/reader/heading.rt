@@ -4,7 +4,7 @@ ghost use Rattle.std.specs.Prelude.{◌≡◌, ◌≤◌, ◌∷◌, length, IfO
 ghost use Rattle.gf_token.specs.Remaining.{StandsBefore};
 ghost use Rattle.gf_tree.specs.inner.Machine.Position.{AfterPlayers, BeforePlayers, Format};
 ghost use Rattle.gf_tree.specs.inner.Machine.Position.{NodeDue};
-ghost use Rattle.gf_tree.specs.inner.ReaderState.{answer, Goes, IsSound};
+ghost use Rattle.gf_tree.specs.inner.ReaderState.{answer, Goes};
 
 use super::Reader;
 use gf_token::{Fault, Span, What, Why};

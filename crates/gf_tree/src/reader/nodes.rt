@@ -4,7 +4,7 @@ ghost use Rattle.std.specs.Prelude.{◌≡◌, ◌<◌, ◌≤◌, ℕ, List, []
 ghost use Rattle.gf_tree.specs.inner.Machine.Position.{ChanceName, NodeDue, PersonalName};
 ghost use Rattle.gf_tree.specs.inner.Machine.Position.{PlayerNumber, SetNumber, TerminalName};
 ghost use Rattle.gf_tree.specs.inner.ReaderState.{answer, content_of, Fails, Goes, GoesTelling};
-ghost use Rattle.gf_tree.specs.inner.ReaderState.{HasReadAll, HasRoom, IsSound, heading_read};
+ghost use Rattle.gf_tree.specs.inner.ReaderState.{HasReadAll, HasRoom, heading_read};
 
 use super::Reader;
 use crate::readings;
@@ -15,12 +15,10 @@ impl<'a> Reader<'a> {
     /// Reads a node of chance, after its letter.
     #[inline(always)]
     fn chance_node<R: Receive<'a>>(&mut self, to: &mut R) -> Result<(), Fault>
-        requires sound { IsSound self.old }
         requires due { 0 < self.old.due }
         requires room { HasRoom 1 self.old }
         ensures machine { GoesTelling R.holds result (answer ChanceName self.old) self.old self.new
             to.old to.new }
-        ensures sound { OnOk result (IsSound self.new) }
         ensures room { OnOk result (HasRoom 0 self.new) }
         ensures shorter { OnOk result (length self.new.tokens.ahead ≤ length self.old.tokens.ahead) }
     {
@@ -56,12 +54,10 @@ impl<'a> Reader<'a> {
     /// Reads a node of a player, after its letter.
     #[inline(always)]
     fn personal_node<R: Receive<'a>>(&mut self, to: &mut R) -> Result<(), Fault>
-        requires sound { IsSound self.old }
         requires due { 0 < self.old.due }
         requires room { HasRoom 1 self.old }
         ensures machine { GoesTelling R.holds result (answer PersonalName self.old) self.old self.new
             to.old to.new }
-        ensures sound { OnOk result (IsSound self.new) }
         ensures room { OnOk result (HasRoom 0 self.new) }
         ensures shorter { OnOk result (length self.new.tokens.ahead ≤ length self.old.tokens.ahead) }
     {
@@ -76,12 +72,10 @@ impl<'a> Reader<'a> {
     /// Reads a terminal node, after its letter.
     #[inline(always)]
     fn terminal_node<R: Receive<'a>>(&mut self, to: &mut R) -> Result<(), Fault>
-        requires sound { IsSound self.old }
         requires due { 0 < self.old.due }
         requires room { HasRoom 1 self.old }
         ensures machine { GoesTelling R.holds result (answer TerminalName self.old) self.old self.new
             to.old to.new }
-        ensures sound { OnOk result (IsSound self.new) }
         ensures room { OnOk result (HasRoom 0 self.new) }
         ensures shorter { OnOk result (length self.new.tokens.ahead ≤ length self.old.tokens.ahead) }
     {
@@ -94,12 +88,10 @@ impl<'a> Reader<'a> {
     /// Reads a node, which is due.
     #[inline(always)]
     fn node<R: Receive<'a>>(&mut self, to: &mut R) -> Result<(), Fault>
-        requires sound { IsSound self.old }
         requires due { 0 < self.old.due }
         requires room { HasRoom 0 self.old }
         ensures machine { GoesTelling R.holds result (answer NodeDue self.old) self.old self.new
             to.old to.new }
-        ensures sound { OnOk result (IsSound self.new) }
         ensures room { OnOk result (HasRoom 0 self.new) }
         ensures shorter { OnOk result (length self.new.tokens.ahead < length self.old.tokens.ahead) }
     {
@@ -138,7 +130,6 @@ impl<'a> Reader<'a> {
 
     /// Reads the nodes, to the end, and tells each.
     pub(crate) fn nodes<R: Receive<'a>>(&mut self, to: &mut R) -> Result<(), Fault>
-        requires sound { IsSound self.old }
         requires room { HasRoom 0 self.old }
         requires untold { (self.old.told_sets ≡ 0) × (self.old.told_outcomes ≡ 0) }
         ensures machine { (untold : R) → R.holds untold to.old (heading_read self.old) []

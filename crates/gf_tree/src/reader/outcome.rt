@@ -16,7 +16,6 @@ ghost use Rattle.gf_tree.specs.inner.Machine.Position.{KnownOutcomeName, NewOutc
 ghost use Rattle.gf_tree.specs.inner.Machine.Position.{NewPayoff, NodeDue, OutcomeNumber};
 ghost use Rattle.gf_tree.specs.inner.ReaderState.{answer, begun_with, content_of};
 ghost use Rattle.gf_tree.specs.inner.ReaderState.{Goes, GoesTelling, Grows, HasRoom, heard_from};
-ghost use Rattle.gf_tree.specs.inner.ReaderState.{IsSound};
 
 use super::Reader;
 use crate::again::same_outcome;
@@ -44,14 +43,12 @@ impl<'a> Reader<'a> {
     fn keep_outcome(&mut self, number: u32, name: Label<'a>) -> Result<u32, AllocError>
         requires absent { position (nat_eq number) (map (λ o. o.key) self.old.outcomes.known)
             ≡ None }
-        requires sound { IsSound self.old }
         ensures content { OnOk result (content_of self.new ≡ with_outcome (content_of self.old)
             number (outcome_with (label_of name.entry) self.old.outcomes.pending)) }
         ensures kept { self.new ≡ record self.old { outcomes = self.new.outcomes } }
         ensures grows { OnOk result (Grows self.old.outcomes.known self.new.outcomes.known) }
         ensures key { IfOk result (λ place. option_map (λ o. o.key)
             (at_position self.new.outcomes.known (suc place)) ≡ Some number) }
-        ensures sound { OnOk result (IsSound self.new) }
         ensures place { IfOk result (λ place. place < length self.new.outcomes.known) }
     {
         self.outcomes.adopt(self.sets.indexing());
@@ -97,7 +94,6 @@ impl<'a> Reader<'a> {
     ) -> Result<(), Fault>
         requires absent { position (nat_eq number) (map (λ o. o.key) self.old.outcomes.known)
             ≡ None }
-        requires sound { IsSound self.old }
         requires due { 0 < self.old.due }
         requires room { HasRoom 1 self.old }
         requires set { MatchOption set ⊤ (λ place. place < length self.old.sets.known) }
@@ -105,7 +101,6 @@ impl<'a> Reader<'a> {
             (NewPayoff (begun_with self.old.sets.known (label_of node.entry) (position_of set))
             number (outcome_with (label_of name.entry) self.old.outcomes.pending) 0) self.old)
             self.old self.new to.old to.new }
-        ensures sound { OnOk result (IsSound self.new) }
         ensures room { OnOk result (HasRoom 0 self.new) }
         ensures shorter { OnOk result (length self.new.tokens.ahead ≤ length self.old.tokens.ahead) }
     {
@@ -132,14 +127,12 @@ impl<'a> Reader<'a> {
     ) -> Result<(), Fault>
         requires absent { position (nat_eq number) (map (λ o. o.key) self.old.outcomes.known)
             ≡ None }
-        requires sound { IsSound self.old }
         requires due { 0 < self.old.due }
         requires room { HasRoom 1 self.old }
         requires set { MatchOption set ⊤ (λ place. place < length self.old.sets.known) }
         ensures machine { GoesTelling R.holds result (answer (NewOutcomeName
             (begun_with self.old.sets.known (label_of node.entry) (position_of set)) number)
             self.old) self.old self.new to.old to.new }
-        ensures sound { OnOk result (IsSound self.new) }
         ensures room { OnOk result (HasRoom 0 self.new) }
         ensures shorter { OnOk result (length self.new.tokens.ahead ≤ length self.old.tokens.ahead) }
     {
@@ -184,7 +177,6 @@ impl<'a> Reader<'a> {
         to: &mut R,
     ) -> Result<(), Fault>
         requires positive { 0 < number }
-        requires sound { IsSound self.old }
         requires due { 0 < self.old.due }
         requires room { HasRoom 1 self.old }
         requires set { MatchOption set ⊤ (λ place. place < length self.old.sets.known) }
@@ -194,7 +186,6 @@ impl<'a> Reader<'a> {
             (begun_with self.old.sets.known (label_of node.entry) (position_of set)) number
             (description_at nat_eq self.old.outcomes.known number)) self.old.tokens)
             self.old self.new to.old to.new }
-        ensures sound { OnOk result (IsSound self.new) }
         ensures room { OnOk result (HasRoom 0 self.new) }
         ensures shorter { OnOk result (length self.new.tokens.ahead ≤ length self.old.tokens.ahead) }
     {
@@ -217,14 +208,12 @@ impl<'a> Reader<'a> {
         set: Option<u32>,
         to: &mut R,
     ) -> Result<(), Fault>
-        requires sound { IsSound self.old }
         requires due { 0 < self.old.due }
         requires room { HasRoom 1 self.old }
         requires set { MatchOption set ⊤ (λ place. place < length self.old.sets.known) }
         ensures machine { GoesTelling R.holds result (answer (OutcomeNumber
             (begun_with self.old.sets.known (label_of node.entry) (position_of set))) self.old)
             self.old self.new to.old to.new }
-        ensures sound { OnOk result (IsSound self.new) }
         ensures room { OnOk result (HasRoom 0 self.new) }
         ensures shorter { OnOk result (length self.new.tokens.ahead ≤ length self.old.tokens.ahead) }
     {

@@ -16,7 +16,7 @@ ghost use Rattle.gf_tree.specs.inner.Machine.{begun, behind_set, with_set};
 ghost use Rattle.gf_tree.specs.inner.Machine.Position.{NewAction, NewProbability};
 ghost use Rattle.gf_tree.specs.inner.Machine.Position.{NewSetName, OutcomeNumber, SetNumber};
 ghost use Rattle.gf_tree.specs.inner.ReaderState.{answer, begun_with, behind_label, content_of};
-ghost use Rattle.gf_tree.specs.inner.ReaderState.{Fails, Grows, heard, IsSound};
+ghost use Rattle.gf_tree.specs.inner.ReaderState.{Fails, Grows, heard};
 
 use super::Reader;
 use crate::action::Action;
@@ -129,7 +129,6 @@ impl<'a> Reader<'a> {
     fn keep_set(&mut self, player: u32, number: u32, name: Label<'a>) -> Result<u32, AllocError>
         requires absent { position (same_set (set_of player number))
             (map (λ s. s.key) self.old.sets.known) ≡ None }
-        requires sound { IsSound self.old }
         ensures content { OnOk result (content_of self.new ≡ with_set (content_of self.old)
             (set_of player number) (set_with (label_of name.entry) self.old.sets.pending)) }
         ensures kept { self.new ≡ record self.old { sets = self.new.sets } }
@@ -137,7 +136,6 @@ impl<'a> Reader<'a> {
         ensures begins { (node : List ℕ) → IfOk result (λ place.
             begun_with self.new.sets.known node (suc place) ≡ begun node (set_of player number)
             (set_with (label_of name.entry) self.old.sets.pending)) }
-        ensures sound { OnOk result (IsSound self.new) }
         ensures place { IfOk result (λ place. place < length self.new.sets.known) }
     {
         self.sets.adopt(self.outcomes.indexing());
@@ -156,7 +154,6 @@ impl<'a> Reader<'a> {
     ) -> Result<u32, Fault>
         requires absent { position (same_set (set_of player number))
             (map (λ s. s.key) self.old.sets.known) ≡ None }
-        requires sound { IsSound self.old }
         requires behind { starts is_text_token self.old.tokens.ahead ≡ false }
         ensures machine { (node : List ℕ) → MatchResult result
             (λ place. answer (NewAction node (set_of player number)
@@ -164,7 +161,6 @@ impl<'a> Reader<'a> {
             ≡ answer (OutcomeNumber (begun_with self.new.sets.known node (suc place))) self.new)
             (λ f. Fails f (answer (NewAction node (set_of player number)
             (set_with (label_of name.entry) self.old.sets.pending) sum) self.old)) }
-        ensures sound { OnOk result (IsSound self.new) }
         ensures kept { OnOk result (self.new
             ≡ record self.old { tokens = self.new.tokens; sets = self.new.sets }) }
         ensures grows { OnOk result (Grows self.old.sets.known self.new.sets.known) }
@@ -191,12 +187,10 @@ impl<'a> Reader<'a> {
     fn new_set(&mut self, player: u32, number: u32) -> Result<u32, Fault>
         requires absent { position (same_set (set_of player number))
             (map (λ s. s.key) self.old.sets.known) ≡ None }
-        requires sound { IsSound self.old }
         ensures machine { (node : List ℕ) → MatchResult result
             (λ place. answer (NewSetName node (set_of player number)) self.old
             ≡ answer (OutcomeNumber (begun_with self.new.sets.known node (suc place))) self.new)
             (λ f. Fails f (answer (NewSetName node (set_of player number)) self.old)) }
-        ensures sound { OnOk result (IsSound self.new) }
         ensures kept { OnOk result (self.new
             ≡ record self.old { tokens = self.new.tokens; sets = self.new.sets }) }
         ensures grows { OnOk result (Grows self.old.sets.known self.new.sets.known) }
@@ -221,14 +215,12 @@ impl<'a> Reader<'a> {
     /// repeated. Returns the set's place.
     #[inline(never)]
     fn described_set(&mut self, player: u32, number: u32) -> Result<u32, Fault>
-        requires sound { IsSound self.old }
         ensures machine { (node : List ℕ) → MatchResult result
             (λ place. answer (behind_set node (set_of player number)
             (description_at same_set self.old.sets.known (set_of player number))) self.old
             ≡ answer (OutcomeNumber (begun_with self.new.sets.known node (suc place))) self.new)
             (λ f. Fails f (answer (behind_set node (set_of player number)
             (description_at same_set self.old.sets.known (set_of player number))) self.old)) }
-        ensures sound { OnOk result (IsSound self.new) }
         ensures kept { OnOk result (self.new
             ≡ record self.old { tokens = self.new.tokens; sets = self.new.sets }) }
         ensures grows { OnOk result (Grows self.old.sets.known self.new.sets.known) }
@@ -252,12 +244,10 @@ impl<'a> Reader<'a> {
     /// not if it is known, so what comes next does not wait for the set's place.
     #[inline(always)]
     pub(super) fn set(&mut self, player: u32) -> Result<u32, Fault>
-        requires sound { IsSound self.old }
         ensures machine { (node : List ℕ) → MatchResult result
             (λ place. answer (SetNumber node player) self.old
             ≡ answer (OutcomeNumber (begun_with self.new.sets.known node (suc place))) self.new)
             (λ f. Fails f (answer (SetNumber node player) self.old)) }
-        ensures sound { OnOk result (IsSound self.new) }
         ensures kept { OnOk result (self.new
             ≡ record self.old { tokens = self.new.tokens; sets = self.new.sets }) }
         ensures grows { OnOk result (Grows self.old.sets.known self.new.sets.known) }

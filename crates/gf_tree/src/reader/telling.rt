@@ -6,7 +6,7 @@ ghost use Rattle.gf_token.specs.Label.{label_of};
 ghost use Rattle.gf_token.specs.Remaining.{StandsBefore};
 ghost use Rattle.gf_tree.specs.KeptNodes.{child_count, position_of};
 ghost use Rattle.gf_tree.specs.inner.Machine.Position.{NodeDue};
-ghost use Rattle.gf_tree.specs.inner.ReaderState.{Fails, HasRoom, IsSound, TellsNode, answer};
+ghost use Rattle.gf_tree.specs.inner.ReaderState.{Fails, HasRoom, TellsNode, answer};
 ghost use Rattle.gf_tree.specs.inner.ReaderState.{heading_read};
 
 use super::Reader;
@@ -56,7 +56,6 @@ impl<'a> Reader<'a> {
         outcome: Option<u32>,
         to: &mut R,
     ) -> Result<(), AllocError>
-        requires sound { IsSound self.old }
         requires due { 0 < self.old.due }
         requires room { HasRoom 1 self.old }
         requires set { MatchOption set ⊤ (λ place. place < length self.old.sets.known) }
@@ -68,6 +67,8 @@ impl<'a> Reader<'a> {
         })) }
         ensures room { OnOk result (HasRoom 0 self.new) }
     {
+        // How many are known fits in 32 bits, and so does each position.
+        let _known = (self.sets.len(), self.outcomes.len());
         let children = self.children(set);
         let (set, outcome) = (position(set), position(outcome));
         to.node(NodeByFirstUse {

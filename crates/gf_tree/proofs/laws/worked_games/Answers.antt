@@ -1,6 +1,9 @@
 use Rattle.std.proofs.Common.{refl}
-use Rattle.gf_tree.proofs.WorkedGames.{five_is_meant, bonus_is_meant}
-use Rattle.gf_tree.proofs.WorkedGames.{forgetful_is_meant, noted_is_meant}
+use Rattle.std.specs.Fmt.{digits}
+use Rattle.gf_fraction.specs.Computed.{gcd_within, lowest_of, number_of, sum_of}
+use Rattle.gf_token.specs.Indices.{index_of}
+use Rattle.gf_token.specs.inner.Lexing.{lex}
+use Rattle.gf_tree.proofs.WorkedGames.{five_is_meant, meant}
 use Rattle.gf_tree.proofs.laws.worked_games.Goals as goal
 
 pub returns-clause-five : goal.returns-clause-five
@@ -10,10 +13,13 @@ pub returns-clause-five_uses : goal.returns-clause-five_uses
 returns-clause-five_uses c = (refl, refl)
 
 pub returns-clause-bonus : goal.returns-clause-bonus
-returns-clause-bonus c = bonus_is_meant
+unfolding lex digits index_of number_of sum_of lowest_of gcd_within
+returns-clause-bonus c = meant _ _ refl
 
 pub returns-clause-forgetful : goal.returns-clause-forgetful
-returns-clause-forgetful c = forgetful_is_meant
+unfolding lex digits index_of number_of sum_of lowest_of gcd_within
+returns-clause-forgetful c = meant _ _ refl
 
 pub returns-clause-noted : goal.returns-clause-noted
-returns-clause-noted c = noted_is_meant
+unfolding lex digits index_of number_of sum_of lowest_of gcd_within
+returns-clause-noted c = meant _ _ refl

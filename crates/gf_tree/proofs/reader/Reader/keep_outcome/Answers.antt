@@ -1,6 +1,5 @@
 use Rattle.gf_token.specs.Label.{label_of}
 use Rattle.gf_tree.proofs.ReaderSteps.{kept_outcome_content, kept_outcome_grows, kept_outcome_key}
-use Rattle.gf_tree.proofs.ReaderSteps.{kept_outcome_sound}
 use Rattle.gf_tree.proofs.reader.Reader.keep_outcome.Goals as goal
 
 pub returns-clause-content : goal.returns-clause-content
@@ -13,13 +12,6 @@ returns-clause-key c =
     let ok = rw c.adopt.ensures at c.end.ensures.ok in
     let place = rw c.adopt.ensures at c.end.ensures.place in
     kept_outcome_key c.args.self.now _ c.args.number (label_of c.args.name) c.end.result ok place
-
-pub returns-clause-sound : goal.returns-clause-sound
-returns-clause-sound c =
-    let ok = rw c.adopt.ensures at c.end.ensures.ok in
-    let place = rw c.adopt.ensures at c.end.ensures.place in
-    kept_outcome_sound c.args.self.now _ c.args.number (label_of c.args.name) c.end.result
-    c.requires.sound ok place c.end.ensures.few
 
 pub returns-clause-grows : goal.returns-clause-grows
 returns-clause-grows c =

@@ -1,6 +1,6 @@
 use Rattle.gf_token.specs.Label.{label_of}
 use Rattle.gf_tree.specs.Description.{set_of}
-use Rattle.gf_tree.proofs.ReaderSteps.{kept_begun, kept_content, kept_grows, kept_sound}
+use Rattle.gf_tree.proofs.ReaderSteps.{kept_begun, kept_content, kept_grows}
 use Rattle.gf_tree.proofs.reader.Reader.keep_set.Goals as goal
 
 pub returns-clause-content : goal.returns-clause-content
@@ -15,13 +15,6 @@ returns-clause-begins c = λ node.
     let place = rw c.adopt.ensures at c.end.ensures.place in
     kept_begun c.args.self.now _ (set_of c.args.player c.args.number)
     (label_of c.args.name) node c.end.result ok place
-
-pub returns-clause-sound : goal.returns-clause-sound
-returns-clause-sound c =
-    let ok = rw c.adopt.ensures at c.end.ensures.ok in
-    let place = rw c.adopt.ensures at c.end.ensures.place in
-    kept_sound c.args.self.now _ (set_of c.args.player c.args.number) (label_of c.args.name)
-    c.end.result c.requires.sound ok place c.end.ensures.few
 
 pub returns-clause-grows : goal.returns-clause-grows
 returns-clause-grows c =

@@ -6,6 +6,5 @@ pub loop-self-preserved : goal.loop-self-preserved
 loop-self-preserved g c = record {
   read = λ untold begun. read_one_more g.R.Receive.holds untold (heading_read c.args.self.now)
       (c.loop-self.invariant.read untold begun) c.in_ok-node.ensures.machine;
-  sound = c.in_ok-node.ensures.sound;
   room = c.in_ok-node.ensures.room;
 }

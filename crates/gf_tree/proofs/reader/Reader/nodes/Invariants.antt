@@ -1,6 +1,6 @@
 use Rattle.std.proofs.Common.{[], length}
 use Rattle.gf_tree.specs.inner.Machine.Position.{NodeDue}
-use Rattle.gf_tree.specs.inner.ReaderState.{answer, HasRead, HasRoom, IsSound, heading_read}
+use Rattle.gf_tree.specs.inner.ReaderState.{answer, HasRead, HasRoom, heading_read}
 use Rattle.gf_tree.proofs.reader.Reader.nodes.Given as goal
 
 abbrev pub invariant-loop-self : goal.invariant-loop-self
@@ -8,7 +8,6 @@ invariant-loop-self g l = record {
   read : (untold : g.row.R.Denot) → g.R.Receive.holds untold l.fn.to (heading_read l.fn.self) []
       → HasRead (λ r told. g.R.Receive.holds untold r (heading_read l.fn.self) told)
       (answer NodeDue l.fn.self) NodeDue l.self l.to;
-  sound : IsSound l.self;
   room : HasRoom 0 l.self;
 }
 

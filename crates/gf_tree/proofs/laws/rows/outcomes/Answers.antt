@@ -1,0 +1,26 @@
+use Rattle.gf_tree.proofs.DueOutcomes.{outcome_number_due, after_zero, new_outcome, known_outcome}
+use Rattle.gf_tree.proofs.DueOutcomes.{outcome_opening}
+use Rattle.gf_tree.proofs.FrontJudged.{obeys}
+use Rattle.std.proofs.Common.{inl, inr}
+use Rattle.gf_tree.proofs.laws.rows.outcomes.Goals as goal
+
+pub returns-clause-outcome_number : goal.returns-clause-outcome_number
+returns-clause-outcome_number c = λ f h. obeys (outcome_number_due f h)
+
+pub returns-clause-after_outcome_zero : goal.returns-clause-after_outcome_zero
+returns-clause-after_outcome_zero c =
+    λ f h. elim (after_zero f h) [ inl s ↦ inl (obeys s) | inr s ↦ inr (obeys s) ]
+
+pub returns-clause-new_outcome : goal.returns-clause-new_outcome
+returns-clause-new_outcome c = λ f n h new. obeys (new_outcome f n h new)
+
+pub returns-clause-known_outcome : goal.returns-clause-known_outcome
+returns-clause-known_outcome c =
+    λ f n outcome h knows. elim (known_outcome f n outcome h knows) [
+      | inl s ↦ inl (obeys s)
+      | inr s
+          ↦ inr (obeys s)
+    ]
+
+pub returns-clause-outcome_opening : goal.returns-clause-outcome_opening
+returns-clause-outcome_opening c = λ f n h. obeys (outcome_opening f n h)
