@@ -67,8 +67,13 @@ module _ (names : Names) (g h : Game) (bytes : List ℕ) (game : IsGame g) (spel
             is.1 (no_more.0, none_left (node_by names) left no_more.1),
       )
 
--- a game is not a table
+-- a game is no table, and a table no game
 pub no_table : (names : Names) (g : Game) (t : Table)
     → IsTrue false ↔ SameBy names (extensive g) (strategic t)
 no_table Kept g t = (λ h. absurd cc, λ s. absurd s)
 no_table Aside g t = (λ h. absurd cc, λ s. absurd s)
+
+pub no_game : (names : Names) (t : Table) (g : Game)
+    → IsTrue false ↔ SameBy names (strategic t) (extensive g)
+no_game Kept t g = (λ h. absurd cc, λ s. absurd s)
+no_game Aside t g = (λ h. absurd cc, λ s. absurd s)

@@ -13,7 +13,7 @@ use std::alloc::{AllocError, Global};
 
 /// A receiver that keeps nothing.
 #[derive(Drop)]
-struct Unkept;
+pub(crate) struct Unkept;
 
 impl<'a> Receive<'a> for Unkept {
     ghost use Rattle.std.specs.Prelude.{⊤};

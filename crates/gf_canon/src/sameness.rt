@@ -1,6 +1,11 @@
 //! Whether two files mean the same.
 
 ghost use Rattle.std.specs.Prelude.{◌≡◌, ◌↔◌, ℕ, List, IsTrue, IfErr, IfOk, MatchResult, OnOk};
+ghost use Rattle.gf_token.specs.declared.fault.Why.TheVariants.{Memory};
+ghost use Rattle.gf_nfg.specs.Judgement.{IsJudged as IsStrategicJudged};
+ghost use Rattle.gf_nfg.specs.LimitPlace.{IsWithinLimit};
+ghost use Rattle.gf_nfg.specs.Table.{Table as table};
+ghost use Rattle.gf_nfg.specs.TableText.{SpellsTable};
 ghost use Rattle.gf_tree.specs.Game.{IsGame};
 ghost use Rattle.gf_tree.specs.Spellable.{IsSpellable};
 ghost use Rattle.gf_canon.specs.GameFile.{GameFile, SameFile};
@@ -10,15 +15,15 @@ ghost use Rattle.gf_canon.specs.MeaningOf.{file_of, file_of_listed};
 ghost use Rattle.gf_canon.specs.SameBy.{SameBy};
 ghost use Rattle.gf_canon.specs.Sameness.{AreRefusedWith, WantsMemory};
 
-use crate::checking::{check, tell_file};
+use crate::checking::{Unkept, check, tell_file};
 use crate::compare::same_name;
 use crate::comparison::Comparison;
-use crate::format::Format;
+use crate::format::{Format, format_of};
 use crate::meaning::{Listed, Meaning, list_file};
 use crate::walk::same_games;
-use gf_nfg::Table;
+use gf_nfg::{Table, compare_nfg};
 use gf_token::Fault;
-use gf_tree::ListedGame;
+use gf_tree::{ListedGame, tell_efg};
 use std::alloc::{AllocError, Global};
 
 /// Why two files are not compared.
@@ -91,36 +96,47 @@ fn same_as_tree(alloc: Global, g: &ListedGame<'_>, b: &[u8], names: Names) -> Re
     }
 }
 
-/// Whether a file that was read means the same as a table.
-///
-/// `Memory`: memory to compare two tables is refused.
-fn is_same_table(alloc: Global, t: &Table, b: &Listed<'_>, names: Names) -> Result<bool, SameFault>
-    ensures same { IfOk result (λ answer.
-        IsTrue answer ↔ SameBy names (strategic t.now) (file_of_listed b.now)) }
-    ensures memory { IfErr result (λ fault. fault ≡ SameFault.Memory) }
+/// Whether a strategic file means the same as a table, with which it is compared while it is read.
+/// `AllocError` if it is accepted, and memory to compare it is refused.
+fn same_as_told_table(
+    alloc: Global,
+    t: &Table,
+    b: &[u8],
+    names: Names,
+) -> Result<Result<bool, AllocError>, Fault>
+    ensures same { IfOk result (λ compared. (u : table) × SpellsTable b.now u × IsWithinLimit u
+        × IfOk compared (λ answer. IsTrue answer ↔ SameBy names (strategic t.now) (strategic u))) }
+    ensures judged { IfErr result (λ fault. IsStrategicJudged fault.why b.now fault.span) }
+    ensures memory { IfErr result (λ fault. (u : table) → SpellsTable b.now u → IsWithinLimit u
+        → fault.why ≡ Memory) }
 {
-    match b {
-        Listed::Tree(_) => Ok(false),
-        Listed::Table(u) => match same_tables(alloc, t, u, names) {
-            Ok(same) => Ok(same),
-            Err(_) => Err(SameFault::Memory),
-        },
+    match names {
+        Names::Kept => compare_nfg(alloc, t, b, true),
+        Names::Aside => compare_nfg(alloc, t, b, false),
     }
 }
 
-/// Whether a file means the same as a table.
-///
-/// - `Second`: the file is refused.
-/// - `Memory`: it is accepted, and memory to compare two tables is refused.
-fn same_as_table(alloc: Global, t: &Table, b: &[u8], names: Names) -> Result<bool, SameFault>
-    ensures same { IfOk result (λ answer. (y : GameFile) × SpellsWithin b.now y
-        × (IsTrue answer ↔ SameBy names (strategic t.now) y)) }
-    ensures refused { IfErr result (λ fault.
-        (a : List ℕ) → MeansFile a → AreRefusedWith a b.now fault) }
+/// Whether a file means the same as a table. `AllocError` if it is accepted, and memory to compare it
+/// is refused.
+fn same_as_table(
+    alloc: Global,
+    t: &Table,
+    b: &[u8],
+    names: Names,
+) -> Result<Result<bool, AllocError>, Fault>
+    ensures same { IfOk result (λ compared. (y : GameFile) × SpellsWithin b.now y
+        × IfOk compared (λ answer. IsTrue answer ↔ SameBy names (strategic t.now) y)) }
+    ensures refused { IfErr result (IsRefusedWith b.now) }
 {
-    match list_file(alloc, b) {
-        Ok(second) => is_same_table(alloc, t, &second, names),
-        Err(refused) => Err(SameFault::Second(refused)),
+    match format_of(b)? {
+        Format::Extensive => match tell_efg(alloc, b, &mut Unkept) {
+            Ok(()) => Ok(Ok(false)),
+            Err(fault) => Err(fault),
+        },
+        Format::Strategic => match same_as_told_table(alloc, t, b, names) {
+            Ok(compared) => Ok(compared),
+            Err(fault) => Err(fault),
+        },
     }
 }
 
@@ -140,7 +156,11 @@ fn same_as(alloc: Global, first: &Listed<'_>, b: &[u8], names: Names) -> Result<
             Ok(answer) => Ok(answer),
             Err(fault) => Err(SameFault::Second(fault)),
         },
-        Listed::Table(table) => same_as_table(alloc, table, b, names),
+        Listed::Table(table) => match same_as_table(alloc, table, b, names) {
+            Ok(Ok(same)) => Ok(same),
+            Ok(Err(_)) => Err(SameFault::Memory),
+            Err(refused) => Err(SameFault::Second(refused)),
+        },
     }
 }
 

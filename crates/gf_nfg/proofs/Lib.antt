@@ -15,6 +15,7 @@ pub mod BackSame
 pub mod BackTables
 pub mod BackWorked
 pub mod ClassesJoined
+pub mod ComparedTables
 pub mod DueRows
 pub mod DueTable
 pub mod HeardJudged

@@ -1,22 +1,25 @@
 -- The places of profiles.
 use Rattle.std.proofs.Common.{◌≡◌, ℕ, zero, suc, ◌+◌, ◌-◌, ◌*◌, ◌<◌, ◌≤◌, Bool, true, false, nat_eq}
 use Rattle.std.proofs.Common.{nat_lt, List, [], ◌∷◌, ◌++◌, length, map, drop, get_or, Option, Some}
-use Rattle.std.proofs.Common.{None, slice_get, option_map, refl, sym, ap, ◌∙◌, arith, inl, inr}
+use Rattle.std.proofs.Common.{None, slice_get, option_map, refl, sym, ap, subst, ◌∙◌, arith, inl, inr}
 use Rattle.std.specs.Prelude.{◌⊎◌, cond, option_and_then}
 use Rattle.std.specs.List.{AllByRecursion, flat_map}
 use Rattle.std.specs.Cmp.Lexicographic.{pointwise}
-use Rattle.std.proofs.lemmas.List.{length-map, drop_more}
+use Rattle.std.proofs.lemmas.List.{length-map, drop_more, get_or_default}
 use Rattle.std.proofs.lemmas.Option.{slice_get-map, slice_get_within, get_or_from_slice_get}
-use Rattle.std.proofs.lemmas.Bool.Decides.{nat_tests}
-use Rattle.std.proofs.Math.Nat.{mul-le-mul_right}
+use Rattle.std.proofs.lemmas.Bool.Decides.{Decides-eqb, nat_tests}
+use Rattle.std.proofs.lemmas.Slice.Eq.{slice_eq-Decides}
+use Rattle.std.proofs.Math.Nat.{mul_comm, mul-le-mul_right}
 use Rattle.gf_fraction.specs.Ratio.{Ratio}
 use Rattle.gf_fraction.proofs.AllElements.{all_images}
 use Rattle.gf_nfg.specs.Limit.{profile_limit}
-use Rattle.gf_nfg.specs.Profiles.{numbers_from, positions, product, profiles}
+use Rattle.gf_nfg.specs.ProfilePlaces.{IsProfile, place}
+use Rattle.gf_nfg.specs.Profiles.{product, profiles}
 use Rattle.gf_nfg.specs.Table.{Table, rows}
 use Rattle.gf_nfg.specs.TableAccess.{payoffs_at}
 use Rattle.gf_nfg.specs.TableParts.{Names, entries_of, place_of, table_with}
-use Rattle.gf_nfg.proofs.NumbersInTurn.{length-numbers_from}
+use Rattle.gf_nfg.proofs.BackProfiles.{every_profile, place_at as stands_at}
+use Rattle.gf_nfg.proofs.RunsCommon.{same_bytes}
 use Rattle.gf_nfg.proofs.TableRows.{matched}
 
 -- where a profile is first found
@@ -47,15 +50,6 @@ payoffs_at_position profile (p ∷ ps) (r ∷ rs) h =
 
 -- ---- where a profile is found among all
 
-plus_none : (o : Option ℕ) → o ≡ option_map (λ k. 0 + k) o
-plus_none None = refl
-plus_none (Some k) = let e : k ≡ 0 + k = omega arith in ap Some e
-
-plus_more : (n : ℕ) (o : Option ℕ)
-    → option_map suc (option_map (λ k. n + k) o) ≡ option_map (λ k. suc n + k) o
-plus_more n None = refl
-plus_more n (Some k) = let e : suc (n + k) ≡ suc n + k = omega arith in ap Some e
-
 no_later : (o : Option ℕ) → option_map suc o ≡ None → o ≡ None
 no_later None h = refl
 no_later (Some k) h = absurd (cc)
@@ -65,125 +59,83 @@ some_later : (o : Option ℕ) (k : ℕ) → option_map suc o ≡ Some k
 some_later None k h = absurd (cc)
 some_later (Some j) k h = let e : suc j ≡ k = cc in (j, refl, e)
 
-found_left : (profile : List ℕ) (xs ys : List (List ℕ)) (k : ℕ) → position_of profile xs ≡ Some k
-    → position_of profile (xs ++ ys) ≡ Some k
-found_left profile [] ys k h = absurd (cc)
-found_left profile (x ∷ xs) ys k h =
-    elim (true_or_false (pointwise nat_eq x profile)) [
-      | inl e ↦ rw e (rw e at h)
-      | inr e ↦ rw e (let later = some_later (position_of profile xs) k (rw e at h) in
-          ap (λ (o : Option ℕ). option_map suc o) (found_left profile xs ys later.0 later.1)
-          ∙ ap Some later.2)
+position_at : (profile : List ℕ) (ps : List (List ℕ)) (k : ℕ) → position_of profile ps ≡ Some k
+    → (k < length ps) × (get_or ps k [] ≡ profile)
+position_at profile [] k e = absurd (cc)
+position_at profile (p ∷ ps) k e =
+    elim (true_or_false (pointwise nat_eq p profile)) [
+      | inl t ↦
+          let first : Some 0 ≡ Some k = rw t at e in
+          let zeroth : 0 ≡ k = cc in
+          subst (λ n. (n < suc (length ps)) × (get_or (p ∷ ps) n [] ≡ profile)) zeroth
+          (omega arith, same_bytes p profile t)
+      | inr t ↦
+          let later = some_later (position_of profile ps) k (rw t at e) in
+          let there = position_at profile ps later.0 later.1 in
+          subst (λ n. (n < suc (length ps)) × (get_or (p ∷ ps) n [] ≡ profile)) later.2
+          (omega (arith, there.0), there.1)
     ]
 
-found_right : (profile : List ℕ) (xs ys : List (List ℕ)) → position_of profile xs ≡ None
-    → position_of profile (xs ++ ys) ≡ option_map (λ k. length xs + k) (position_of profile ys)
-found_right profile [] ys h = plus_none (position_of profile ys)
-found_right profile (x ∷ xs) ys h =
-    elim (true_or_false (pointwise nat_eq x profile)) [
-      | inl e ↦ let some : Some 0 ≡ None = rw e at h in absurd (cc)
-      | inr e ↦ rw e (let none = no_later (position_of profile xs) (rw e at h) in
-          ap (λ (o : Option ℕ). option_map suc o) (found_right profile xs ys none)
-          ∙ plus_more (length xs) (position_of profile ys))
+not_found : (profile : List ℕ) (ps : List (List ℕ)) (i : ℕ) (d : List ℕ) → i < length ps
+    → get_or ps i d ≡ profile → position_of profile ps ≡ None → ⊥
+not_found profile [] i d h e none = absurd (omega (arith, h))
+not_found profile (p ∷ ps) zero d h e none =
+    let same : pointwise nat_eq p profile ≡ true =
+    (slice_eq-Decides Decides-eqb p profile (pointwise nat_eq p profile) refl).1 e in
+    let some : Some 0 ≡ None = rw same at none in absurd (cc)
+not_found profile (p ∷ ps) (suc i) d h e none =
+    elim (true_or_false (pointwise nat_eq p profile)) [
+      | inl t ↦ let some : Some 0 ≡ None = rw t at none in absurd (cc)
+      | inr t ↦ not_found profile ps i d (omega (arith, h)) e
+          (no_later (position_of profile ps) (rw t at none))
     ]
 
--- those that agree on the others' strategies, from this one of the first player's on
-abbrev block : List ℕ → ℕ → ℕ → List (List ℕ)
-block others first n = map (λ s. s ∷ others) (numbers_from first n)
+-- a profile has a place, and nothing else has one
+abbrev IsPlacedIn : List ℕ → List ℕ → Type 0
+IsPlacedIn counts profile =
+    (IsProfile counts profile × (place_of counts profile ≡ Some (place counts profile)))
+    ⊎ (¬ (IsProfile counts profile) × (place_of counts profile ≡ None))
 
-other_block : (others ts : List ℕ) (t first n : ℕ) → pointwise nat_eq others ts ≡ false
-    → position_of (t ∷ ts) (block others first n) ≡ None
-other_block others ts t first zero h = refl
-other_block others ts t first (suc n) h =
-    let other : pointwise nat_eq (first ∷ others) (t ∷ ts) ≡ false =
-    elim (true_or_false (nat_eq first t)) [ inl e ↦ rw (e, h) refl | inr e ↦ rw e refl ] in
-    rw (other, other_block others ts t (first + 1) n h) refl
-
-own_block : (others ts : List ℕ) (t first n k : ℕ) → pointwise nat_eq others ts ≡ true → k < n
-    → t ≡ first + k → position_of (t ∷ ts) (block others first n) ≡ Some k
-own_block others ts t first zero k h l is = absurd (omega (arith, l))
-own_block others ts t first (suc n) zero h l is =
-    let same : nat_eq first t ≡ true = grind (arith, nat_tests, is) in
-    rw (same, h) refl
-own_block others ts t first (suc n) (suc k) h l is =
-    let other : nat_eq first t ≡ false = grind (arith, nat_tests, is) in
-    rw (other, own_block others ts t (first + 1) n k h (omega (arith, l)) (omega (arith, is))) refl
-
-beyond_block : (others ts : List ℕ) (t first n : ℕ) → ((k : ℕ) → k < n → first + k ≡ t → ⊥)
-    → position_of (t ∷ ts) (block others first n) ≡ None
-beyond_block others ts t first zero out = refl
-beyond_block others ts t first (suc n) out =
-    let here : first ≡ t → ⊥ = λ e. out 0 (omega arith) (omega (arith, e)) in
-    let other : nat_eq first t ≡ false = grind (arith, nat_tests, here) in
-    rw (
-      other,
-      beyond_block others ts t (first + 1) n
-          (λ k l e. out (suc k) (omega (arith, l)) (omega (arith, e))),
-    ) refl
-
-abbrev blocks : ℕ → List (List ℕ) → List (List ℕ)
-blocks n tails = flat_map (λ others. map (λ s. s ∷ others) (positions n)) tails
-
-next_block : (n k size : ℕ) (o : Option ℕ) → size ≡ n
-    → option_map (λ j. size + j) (option_map (λ m. m * n + k) o)
-    ≡ option_map (λ m. m * n + k) (option_map suc o)
-next_block n k size None h = refl
-next_block n k size (Some m) h =
-    let e : size + (m * n + k) ≡ suc m * n + k = omega (arith, h) in ap Some e
-
-in_blocks : (n k : ℕ) (ts : List ℕ) (tails : List (List ℕ)) → k < n
-    → position_of (suc k ∷ ts) (blocks n tails) ≡ option_map (λ m. m * n + k) (position_of ts tails)
-in_blocks n k ts [] l = refl
-in_blocks n k ts (others ∷ tails) l =
-    elim (true_or_false (pointwise nat_eq others ts)) [
+placed : (counts profile : List ℕ) → IsPlacedIn counts profile
+placed [] [] = inl (tt, refl)
+placed [] (s ∷ ss) = inr (λ p. p, refl)
+placed (n ∷ counts) [] = inr (λ p. p, refl)
+placed (n ∷ counts) (zero ∷ ss) = inr (λ p. let low = p.0.0 in omega (arith, low), refl)
+placed (n ∷ counts) (suc k ∷ ss) =
+    elim (true_or_false (nat_lt k n)) [
       | inl e ↦
-          let here : position_of (suc k ∷ ts) (block others 1 n) ≡ Some k =
-          own_block others ts (suc k) 1 n k e l (omega arith) in
-          let first : k ≡ 0 * n + k = omega arith in
-          rw e (found_left (suc k ∷ ts) (block others 1 n) (blocks n tails) k here ∙ ap Some first)
-      | inr e ↦ rw e (found_right (suc k ∷ ts) (block others 1 n) (blocks n tails)
-          (other_block others ts (suc k) 1 n e)
-          ∙ ap (λ (o : Option ℕ). option_map (λ j. length (block others 1 n) + j) o)
-          (in_blocks n k ts tails l)
-          ∙ next_block n k (length (block others 1 n)) (position_of ts tails)
-          (length-map (numbers_from 1 n) (λ s. s ∷ others) ∙ length-numbers_from 1 n))
+          let l : k < n = grind (arith, nat_tests, e) in
+          elim (placed counts ss) [
+            | inl h ↦
+                let order : place counts ss * n + k ≡ suc k - 1 + n * place counts ss =
+                omega (arith, mul_comm n (place counts ss)) in
+                inl (((omega arith, omega (arith, l)), h.0), rw (e, h.1) (ap Some order))
+            | inr h ↦ inr (λ p. h.0 p.1, rw (e, h.1) refl)
+          ]
+      | inr e ↦
+          let l : n ≤ k = grind (arith, nat_tests, e) in
+          inr (λ p. let high = p.0.1 in omega (arith, high, l), rw e refl)
     ]
-
-out_blocks : (n t : ℕ) (ts : List ℕ) (tails : List (List ℕ)) → ((k : ℕ) → k < n → 1 + k ≡ t → ⊥)
-    → position_of (t ∷ ts) (blocks n tails) ≡ None
-out_blocks n t ts [] out = refl
-out_blocks n t ts (others ∷ tails) out =
-    found_right (t ∷ ts) (block others 1 n) (blocks n tails) (beyond_block others ts t 1 n out)
-    ∙ ap (λ (o : Option ℕ). option_map (λ j. length (block others 1 n) + j) o)
-    (out_blocks n t ts tails out)
-
-no_block : (others : List ℕ) (first n : ℕ) → position_of [] (block others first n) ≡ None
-no_block others first zero = refl
-no_block others first (suc n) = rw (no_block others (first + 1) n) refl
-
-no_blocks : (n : ℕ) (tails : List (List ℕ)) → position_of [] (blocks n tails) ≡ None
-no_blocks n [] = refl
-no_blocks n (others ∷ tails) =
-    found_right [] (block others 1 n) (blocks n tails) (no_block others 1 n)
-    ∙ ap (λ (o : Option ℕ). option_map (λ j. length (block others 1 n) + j) o) (no_blocks n tails)
 
 -- each profile is found at its place
 pub position_of-profiles : (profile counts : List ℕ)
     → position_of profile (profiles counts) ≡ place_of counts profile
-position_of-profiles [] [] = refl
-position_of-profiles (s ∷ ss) [] = refl
-position_of-profiles [] (n ∷ counts) = no_blocks n (profiles counts)
-position_of-profiles (zero ∷ ss) (n ∷ counts) =
-    out_blocks n 0 ss (profiles counts) (λ k l e. omega (arith, e))
-position_of-profiles (suc k ∷ ss) (n ∷ counts) =
-    elim (true_or_false (nat_lt k n)) [
-      | inl e ↦ let l : k < n = grind (arith, nat_tests, e) in
-          rw e (in_blocks n k ss (profiles counts) l
-          ∙ ap (λ (o : Option ℕ). option_map (λ m. m * n + k) o) (position_of-profiles ss counts))
-      | inr e ↦
-          let l : n ≤ k = grind (arith, nat_tests, e) in
-          rw e (out_blocks n (suc k) ss (profiles counts) (λ j m f. omega (arith, l, m, f)))
-    ]
+position_of-profiles profile counts =
+    by (position_of profile (profiles counts)) (placed counts profile) refl
+  where
+    by : (o : Option ℕ) → IsPlacedIn counts profile → position_of profile (profiles counts) ≡ o
+        → position_of profile (profiles counts) ≡ place_of counts profile
+    by (Some j) (inl h) e =
+        let there = position_at profile (profiles counts) j e in
+        e ∙ ap Some (sym (stands_at counts j [] there.0) ∙ ap (place counts) there.1) ∙ sym h.1
+    by (Some j) (inr h) e =
+        let there = position_at profile (profiles counts) j e in
+        let is = get_or_default (profiles counts) j profile [] there.0 ∙ there.1 in
+        absurd (h.0 ((every_profile counts profile).0 (j, there.0, is)))
+    by None (inl h) e =
+        let c = (every_profile counts profile).1 h.0 in
+        absurd (not_found profile (profiles counts) c.0 profile c.1 c.2 e)
+    by None (inr h) e = e ∙ sym h.1
 
 -- ---- the code's steps, from the last player to the first
 

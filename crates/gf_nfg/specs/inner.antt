@@ -1,5 +1,6 @@
 -- Definitions that only proofs and private contracts use.
 pub mod Classes
+pub mod ComparedTable
 pub mod Heard
 pub mod Machine
 pub mod Meaning

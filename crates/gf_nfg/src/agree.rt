@@ -1,14 +1,17 @@
 //! Whether two tables are the same to play.
 
-ghost use Rattle.std.specs.Prelude.{◌≡◌, ◌<◌, ◌↔◌, IfOk, IsTrue, length};
+ghost use Rattle.std.specs.Prelude.{◌≡◌, ◌<◌, ◌↔◌, [], IfOk, IsTrue, if◌then◌else◌, length};
+ghost use Rattle.gf_token.specs.Label.{label_of};
 ghost use Rattle.gf_nfg.specs.SameTable.{SamePlay};
 ghost use Rattle.gf_nfg.specs.TableParts.{own_of};
+ghost use Rattle.gf_nfg.specs.inner.TextParts.{names_by};
 
 use crate::classes::Classes;
 use crate::names::Names;
 use crate::rows::Rows;
 use crate::table::Table;
 use gf_fraction::Fraction;
+use gf_token::Label;
 use std::alloc::{AllocError, Global};
 
 /// Whether the player at this place has the same strategies in both.
@@ -66,6 +69,23 @@ fn same_names(a: &Names, b: &Names) -> bool
     same_players(a, b) && same_strategies(a, b)
 }
 
+/// Whether two labels are the same, if they count.
+fn same_label(a: Label<'_>, b: Label<'_>, counts: bool) -> bool
+    ensures { IsTrue result ↔ ((if counts then label_of a.entry else [])
+        ≡ (if counts then label_of b.entry else [])) }
+{
+    !counts || a.raw() == b.raw()
+}
+
+/// Whether both are the same; title and comment count if it is `named`.
+pub(crate) fn same_heading(a: &Names, b: &Names, named: bool) -> bool
+    ensures { IsTrue result ↔ (names_by named a.now ≡ names_by named b.now) }
+{
+    same_label(a.title(), b.title(), named)
+        && same_label(a.comment(), b.comment(), named)
+        && same_names(a, b)
+}
+
 /// Whether both rows are the same.
 fn same_row(a: &[Fraction], b: &[Fraction]) -> bool
     ensures { IsTrue result ↔ (a.now ≡ b.now) }
@@ -90,7 +110,7 @@ fn same_rows(a: &Rows, b: &Rows) -> bool
 
 /// Whether both have the same rows. If profiles share rows in both, rows that were found to be the
 /// same are in one class from then on, so there are fewer comparisons than the two have rows.
-fn same_kept_rows(alloc: Global, a: &Rows, b: &Rows) -> Result<bool, AllocError>
+pub(crate) fn same_kept_rows(alloc: Global, a: &Rows, b: &Rows) -> Result<bool, AllocError>
     ensures { IfOk result (λ answer. IsTrue answer ↔ (a.now ≡ b.now)) }
 {
     let (Some(left), Some(right)) = (a.shared(), b.shared()) else {

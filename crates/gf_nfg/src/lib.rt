@@ -6,6 +6,7 @@
 mod agree;
 mod canonical;
 mod classes;
+mod comparison;
 mod heading;
 mod labels;
 pub mod laws;
@@ -13,6 +14,7 @@ mod limit;
 mod lines;
 mod names;
 mod parts;
+mod payoffs_in_turn;
 mod pieces;
 mod profile;
 mod read;
@@ -26,6 +28,7 @@ mod write;
 mod write_heading;
 
 pub use canonical::canonical_nfg;
+pub use comparison::compare_nfg;
 pub use labels::Labels;
 pub use limit::ProfileCount;
 pub use read::{check_nfg, read_nfg};

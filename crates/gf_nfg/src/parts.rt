@@ -1,12 +1,11 @@
 //! What a strategic file holds, as it was read, and the table that it means.
 
 ghost use Rattle.std.specs.Prelude.{◌≡◌, IfOk};
-ghost use Rattle.gf_nfg.specs.inner.Meaning.{IsComplete, names_in, rows_by, table_of};
+ghost use Rattle.gf_nfg.specs.inner.Meaning.{IsComplete, rows_by, table_of};
 ghost use Rattle.gf_nfg.specs.inner.ReaderState.{content_of};
 ghost use Rattle.gf_nfg.specs.Table.{IsSpellable};
 
 use crate::heading::Heading;
-use crate::names::Names;
 use crate::receive::Kept;
 use crate::rows::Rows;
 use crate::table::Table;
@@ -23,32 +22,6 @@ pub struct Parts<'a> {
 }
 
 impl<'a> Parts<'a> {
-    /// Everything of the table except its payoffs.
-    fn names(&self, alloc: Global) -> Result<Names, AllocError>
-        requires { IsComplete (content_of self.now) }
-        ensures { IfOk result (λ names. names ≡ names_in (content_of self.now)) }
-    {
-        let heading = &self.heading;
-        if heading.labels.is_empty() {
-            Names::counted(
-                alloc,
-                heading.title,
-                heading.comment,
-                &heading.players,
-                &heading.counts,
-            )
-        } else {
-            Names::grouped(
-                alloc,
-                heading.title,
-                heading.comment,
-                &heading.players,
-                &heading.counts,
-                &heading.labels,
-            )
-        }
-    }
-
     /// A row for each profile. The payoffs are not copied.
     pub(crate) fn rows(self, alloc: Global) -> Result<Rows, AllocError>
         requires { IsComplete (content_of self) }
@@ -70,7 +43,7 @@ impl<'a> Parts<'a> {
         requires spellable { IsSpellable (table_of (content_of self)) }
         ensures { IfOk result (λ t. t ≡ table_of (content_of self.entry)) }
     {
-        let names = self.names(alloc)?;
+        let names = self.heading.names(alloc)?;
         let rows = self.rows(alloc)?;
         Ok(Table::of_parts(names, rows))
     }

@@ -1,0 +1,33 @@
+use Rattle.std.proofs.Common.{◌≡◌, ◌∙◌, rules}
+use Rattle.std.specs.Prelude.{◌↔◌, IsTrue}
+use Rattle.gf_nfg.specs.inner.ReaderState.{content_told}
+use Rattle.gf_nfg.specs.inner.Meaning.{table_of}
+use Rattle.gf_nfg.specs.SameTable.{SameTable}
+use Rattle.gf_nfg.specs.TableText.{named_by}
+use Rattle.gf_nfg.specs.declared.receive.Version.TheVariants.{Payoffs}
+use Rattle.gf_nfg.proofs.ComparedTables.{if_ok, payoffs_compared, rows_compared, rows_kept}
+use Rattle.gf_nfg.proofs.comparison.Comparison.is_same.Goals as goal
+
+pub returns-then-eq : goal.returns-then-eq
+returns-then-eq c = λ bytes h.
+    payoffs_compared c.args.named c.args.t.now c.names-2.result.now c.in_ok-names.names bytes
+    c.args.heading c.args.self h c.names-2.ensures.is_table c.names-2.ensures.names
+    c.in_ok-names.ensures c.has_ended.result (search rules)
+    (c.same_heading.ensures.0 c.if-not-same_heading.false) c.has_ended.ensures
+
+pub returns : goal.returns
+returns c = λ bytes h.
+    let not : ¬ (c.args.self.version ≡ Payoffs) = search rules in
+    let qs = c.in_ok-rows.ensures
+    ∙ rows_kept c.args.named c.args.t.now c.names-2.result.now c.in_ok-names.names bytes
+    c.args.heading c.args.self h c.names-2.ensures.is_table c.names-2.ensures.names
+    c.in_ok-names.ensures not in
+    if_ok (λ answer. IsTrue answer ↔ (c.rows-2.result.now ≡ c.in_ok-rows.rows))
+    (λ answer. IsTrue answer ↔ SameTable (named_by c.args.named c.args.t.now)
+    (named_by c.args.named (table_of (content_told h.told)))) c.same_kept_rows.result
+    c.same_kept_rows.ensures
+    (λ answer same.
+    rows_compared c.args.named c.args.t.now c.names-2.result.now c.in_ok-names.names bytes
+    c.args.heading c.args.self h c.names-2.ensures.is_table c.names-2.ensures.names
+    c.in_ok-names.ensures c.rows-2.result.now c.in_ok-rows.rows answer
+    (c.same_heading.ensures.0 c.if-not-same_heading.false) c.rows-2.ensures qs same)

@@ -1,0 +1,27 @@
+use Rattle.std.proofs.Common.{List, subst}
+use Rattle.gf_fraction.specs.Ratio.{Ratio}
+use Rattle.gf_nfg.specs.inner.ComparedTable.{IsCompared}
+use Rattle.gf_nfg.specs.inner.Meaning.{table_of}
+use Rattle.gf_nfg.specs.inner.ReaderState.{content_told}
+use Rattle.gf_nfg.specs.inner.ToldTable.{HasToldTable}
+use Rattle.gf_nfg.proofs.MeaningTables.{within_limit}
+use Rattle.gf_nfg.proofs.comparison.compare_nfg.Goals as goal
+
+pub is_same-requires : goal.is_same-requires
+is_same-requires c = (
+  c.args.input.now,
+  subst (λ (all : List Ratio). HasToldTable (IsCompared all) c.args.input.now
+      c.in_ok-heading.heading c.tell_nfg.new.to)
+      c.new-comparison.ensures.left c.in_ok-heading.ensures.told,
+)
+
+pub returns-clause-same : goal.returns-clause-same
+returns-clause-same c =
+    let h = subst (λ (all : List Ratio). HasToldTable (IsCompared all) c.args.input.now
+    c.in_ok-heading.heading c.tell_nfg.new.to)
+    c.new-comparison.ensures.left c.in_ok-heading.ensures.told in (
+      table_of (content_told h.told),
+      h.spelled,
+      within_limit (content_told h.told) h.complete h.told.heading.profiles.within,
+      c.is_same.ensures c.args.input.now h,
+    )

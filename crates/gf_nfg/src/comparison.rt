@@ -1,0 +1,162 @@
+//! A strategic file that is compared with a table while it is read.
+
+ghost use Rattle.std.specs.Prelude.{◌≡◌, ◌↔◌, [], ℕ, List, IfErr, IfOk, IsTrue};
+ghost use Rattle.std.specs.List.{flat_map};
+ghost use Rattle.gf_token.specs.declared.fault.Why.TheVariants.{Memory};
+ghost use Rattle.gf_nfg.specs.inner.ComparedTable.{IsCompared};
+ghost use Rattle.gf_nfg.specs.Judgement.{IsJudged};
+ghost use Rattle.gf_nfg.specs.LimitPlace.{IsWithinLimit};
+ghost use Rattle.gf_nfg.specs.inner.Meaning.{table_of};
+ghost use Rattle.gf_nfg.specs.inner.ReaderState.{content_told};
+ghost use Rattle.gf_nfg.specs.SameTable.{SameTable};
+ghost use Rattle.gf_nfg.specs.Table.{Table as table, rows};
+ghost use Rattle.gf_nfg.specs.TableText.{SpellsTable, named_by};
+ghost use Rattle.gf_nfg.specs.inner.ToldTable.{HasToldTable};
+
+use crate::agree::{same_heading, same_kept_rows};
+use crate::heading::Heading;
+use crate::parts::Parts;
+use crate::payoffs_in_turn::PayoffsInTurn;
+use crate::read::tell_nfg;
+use crate::receive::{Kept, Receive, Version};
+use crate::table::Table;
+use gf_fraction::Fraction;
+use gf_token::Fault;
+use std::alloc::{AllocError, Global};
+
+/// A comparison of a table with a file that is told.
+#[derive(Drop)]
+pub(crate) struct Comparison<'t> {
+    /// What is left of the table's payoffs. After a difference it stands still.
+    left: PayoffsInTurn<'t>,
+    /// No difference was found.
+    same: bool,
+    version: Version,
+    /// In outcome version payoffs and numbers, which are compared at the end.
+    kept: Kept,
+}
+
+impl<'t, 'a> Receive<'a> for Comparison<'t> {
+    ghost use Rattle.std.specs.Prelude.{◌≡◌, ◌≤◌, [], IsTrue, vec_capacity, vec_len};
+    ghost use Rattle.gf_nfg.specs.inner.ComparedTable.{IsCompared};
+
+    ghost untold = { λ c. IsTrue c.same
+        × (c.kept.payoffs.items ≡ []) × (c.kept.numbers.items ≡ []) };
+
+    ghost holds = { λ untold c told. IsCompared untold.left c told };
+
+    ghost payoffs_full = { λ c. vec_capacity c.kept.payoffs ≤ vec_len c.kept.payoffs };
+
+    ghost numbers_full = { λ c. vec_capacity c.kept.numbers ≤ vec_len c.kept.numbers };
+
+    fn heading(
+        &mut self,
+        _heading: &Heading<'a>,
+        version: Version,
+        expected: usize,
+    ) -> Result<(), AllocError> {
+        self.version = version;
+        if version == Version::Outcomes {
+            self.kept.numbers.reserve(expected)?;
+        }
+        Ok(())
+    }
+
+    #[inline(always)]
+    fn payoff(&mut self, payoff: Fraction) -> Result<(), AllocError> {
+        if self.version == Version::Outcomes {
+            self.kept.payoffs.push(payoff)?;
+            return Ok(());
+        }
+        if self.same {
+            self.same = match self.left.next() {
+                Some(other) => other == payoff,
+                None => false,
+            };
+        }
+        Ok(())
+    }
+
+    #[inline(always)]
+    fn number(&mut self, number: u32) -> Result<(), AllocError> {
+        self.kept.numbers.push(number)?;
+        Ok(())
+    }
+}
+
+impl<'t> Comparison<'t> {
+    /// Nothing was told.
+    fn new(alloc: Global, t: &'t Table) -> Comparison<'t>
+        ensures left { result.left ≡ flat_map (λ row. row) (rows t.entry.now) }
+        ensures same { IsTrue result.same }
+        ensures kept { (result.kept.payoffs.items ≡ []) × (result.kept.numbers.items ≡ []) }
+    {
+        Comparison {
+            left: PayoffsInTurn::new(t.rows()),
+            same: true,
+            version: Version::Payoffs,
+            kept: Kept::new(alloc),
+        }
+    }
+
+    /// Whether no difference was found, if nothing more is told.
+    fn has_ended(&mut self) -> bool
+        ensures { IsTrue result ↔ (IsTrue self.old.same × (self.old.left ≡ [])) }
+    {
+        self.same && self.left.next().is_none()
+    }
+
+    /// Whether the table is the same as that which was told with this heading; title and comment
+    /// count if it is `named`.
+    fn is_same(
+        mut self,
+        alloc: Global,
+        t: &Table,
+        heading: Heading<'_>,
+        named: bool,
+    ) -> Result<bool, AllocError>
+        requires { (bytes : List ℕ) × HasToldTable
+            (IsCompared (flat_map (λ row. row) (rows t.now))) bytes heading self }
+        ensures { (bytes : List ℕ) → (h : HasToldTable
+            (IsCompared (flat_map (λ row. row) (rows t.now))) bytes heading.entry self.entry)
+            → IfOk result (λ answer. IsTrue answer ↔ SameTable (named_by named t.now)
+            (named_by named (table_of (content_told h.told)))) }
+    {
+        let names = heading.names(alloc)?;
+        if !same_heading(t.names(), &names, named) {
+            return Ok(false);
+        }
+        if self.version == Version::Payoffs {
+            return Ok(self.has_ended());
+        }
+        let rows = (Parts {
+            heading,
+            kept: self.kept,
+        })
+        .rows(alloc)?;
+        same_kept_rows(alloc, t.rows(), &rows)
+    }
+}
+
+/// Whether a strategic file means the same table as this one, with which it is compared while it is
+/// read; title and comment count if it is `named`. `AllocError` if it is accepted, and memory to
+/// compare it is refused.
+///
+/// Refused as `read_nfg` refuses.
+pub fn compare_nfg(
+    alloc: Global,
+    t: &Table,
+    input: &[u8],
+    named: bool,
+) -> Result<Result<bool, AllocError>, Fault>
+    ensures same { IfOk result (λ compared. (u : table) × SpellsTable input.now u × IsWithinLimit u
+        × IfOk compared (λ answer.
+        IsTrue answer ↔ SameTable (named_by named t.now) (named_by named u))) }
+    ensures only { IfErr result (λ fault. (u : table) → SpellsTable input.now u → IsWithinLimit u
+        → fault.why ≡ Memory) }
+    ensures judged { IfErr result (λ fault. IsJudged fault.why input.now fault.span) }
+{
+    let mut comparison = Comparison::new(alloc, t);
+    let heading = tell_nfg(alloc, input, &mut comparison)?;
+    Ok(comparison.is_same(alloc, t, heading, named))
+}
