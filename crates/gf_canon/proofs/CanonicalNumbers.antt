@@ -87,12 +87,6 @@ list_more g at lists more own before is e =
     ∙ ap (λ (k : ℕ). map (own_list g) (numbers_from 0 (at + 1) ++ k ∷ [])) (sym next)
     ∙ ap (map (own_list g)) (numbers_joined 0 (at + 1) 1)
 
-pub lists_done : (g : Game) (at players : ℕ) → at ≡ players → players ≡ length g.players
-    → lists_through g at ≡ lists_in_order g
-lists_done g at players e f =
-    let all : at + 1 ≡ suc (length g.players) = omega (arith, e, f) in
-    ap (λ (n : ℕ). map (own_list g) (numbers_from 0 n)) all
-
 own_there : (g : Game) (player : ℕ) → player ≤ length g.players
     → get_or (lists_in_order g) player [] ≡ own_list g player
 own_there g player h =

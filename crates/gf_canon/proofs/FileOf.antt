@@ -229,11 +229,6 @@ nodes_are g before (e ∷ es) =
 pub file_nodes_are : (g : Game) → file_nodes g ≡ map (λ e. e.node) (file_entries g)
 file_nodes_are g = nodes_are g [] (flatten g.tree)
 
-same_keys : {K D : Type 0} (use_of : K → Use K D) → ((k : K) → (use_of k).key ≡ k) → (o : Option K)
-    → option_map (λ u. u.key) (option_map use_of o) ≡ o
-same_keys use_of h None = refl
-same_keys use_of h (Some k) = ap Some (h k)
-
 option_keys : {K D : Type 0} (use_of : K → Use K D) → ((k : K) → (use_of k).key ≡ k)
     → (o : Option K) → option_map (λ u. u.key) (option_map use_of o) ≡ o
 option_keys use_of h None = refl

@@ -28,18 +28,6 @@ abbrev pub wants_memory : List ℕ → Fault
 wants_memory bytes =
     record { span = record { start = length bytes; end = length bytes }; why = Memory }
 
-pub game_accepted : (bytes : List ℕ) (g : Game) (fault : Fault) → SpellsGame bytes g
-    → fault ≡ wants_memory bytes → extensive_file.IsJudged fault.why bytes fault.span
-game_accepted bytes g fault h is =
-    let accepted : extensive_file.IsJudged Memory bytes (wants_memory bytes).span = record {
-      before = h.0;
-      after = [];
-      spelled = subst (λ (ls : List Lexeme). Spells 0 bytes ls) (sym (append-nil h.0)) h.1;
-      place = (refl, refl);
-      accepted = (h.2.0, h.2.1, h.2.2);
-    } in
-    subst (λ (f : Fault). extensive_file.IsJudged f.why bytes f.span) (sym is) accepted
-
 pub table_accepted : (bytes : List ℕ) (t : Table) (fault : Fault) → SpellsTable bytes t
     → IsWithinLimit t → fault ≡ wants_memory bytes
     → strategic_file.IsJudged fault.why bytes fault.span

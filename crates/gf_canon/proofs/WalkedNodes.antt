@@ -113,23 +113,3 @@ module _ {P : Type 0} {A B : Type 0} (f : A → B) {us vs : List A}
         ap (map f) (sym at_u) ∙ left.0 p ∙ ap (map f) at_v in cc,
     λ rest. left.1 (ap (map f) at_u ∙ (λ i. e i ∷ rest i) ∙ sym (ap (map f) at_v)),
   )
-
-  pub differs : {us' vs' : List A} {u v : A} → us ≡ u ∷ us' → vs ≡ v ∷ vs' → ¬ (f u ≡ f v) → ¬ P
-  differs {us'} {vs'} {u} {v} at_u at_v apart p =
-      let same : f u ∷ map f us' ≡ f v ∷ map f vs' =
-      ap (map f) (sym at_u) ∙ left.0 p ∙ ap (map f) at_v in
-      let first : f u ≡ f v = cc in
-      apart first
-
-  pub is_shorter : {us' : List A} {u : A} → us ≡ u ∷ us' → vs ≡ [] → ¬ P
-  is_shorter {us'} {u} at_u at_v p =
-      let same : f u ∷ map f us' ≡ [] = ap (map f) (sym at_u) ∙ left.0 p ∙ ap (map f) at_v in
-      absurd cc
-
-  pub is_longer : {vs' : List A} {v : A} → us ≡ [] → vs ≡ v ∷ vs' → ¬ P
-  is_longer {vs'} {v} at_u at_v p =
-      let same : [] ≡ f v ∷ map f vs' = ap (map f) (sym at_u) ∙ left.0 p ∙ ap (map f) at_v in
-      absurd cc
-
-  pub both_end : us ≡ [] → vs ≡ [] → P
-  both_end at_u at_v = left.1 (ap (map f) (at_u ∙ sym at_v))

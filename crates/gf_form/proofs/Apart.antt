@@ -4,7 +4,7 @@ use Rattle.std.proofs.Common.{Some, None, length, map, refl, sym, ap, ◌∙◌,
 use Rattle.std.specs.Prelude.{◌==◌, ◌||◌, ◌&&◌, not, if◌then◌else◌}
 use Rattle.std.specs.List.{AllByRecursion, Contains, list_all, list_any}
 use Rattle.std.specs.Option.{option_map_or}
-use Rattle.std.proofs.lemmas.Bool.{and_parts, and_from, cases_Bool}
+use Rattle.std.proofs.lemmas.Bool.{and_from, and_parts, cases_Bool, or_left, or_right}
 use Rattle.std.proofs.lemmas.Bool.{eqb-true, eq-eqb, ne_eqb, false≢true}
 use Rattle.gf_fraction.proofs.AllElements.{all_parts}
 use Rattle.gf_tree.specs.Tree.{Tree, Trees}
@@ -25,7 +25,7 @@ use Rattle.gf_form.proofs.Chosen.{his_actions}
 use Rattle.gf_form.proofs.Following.{IsPlayOf, play_of, taken_child}
 use Rattle.gf_form.proofs.Lotteries.{actions_at}
 use Rattle.gf_form.proofs.Whole.{some_play_in}
-use Rattle.gf_form.proofs.Reducing.{or_left, or_right, any_has}
+use Rattle.gf_form.proofs.Reducing.{any_has}
 use Rattle.gf_form.proofs.KnownSets.{own_set}
 
 -- the steps go through a node of this set, and this child is taken there

@@ -9,7 +9,7 @@ use Rattle.std.proofs.Math.Seq.{get_or-append_seam}
 use Rattle.std.proofs.lemmas.Bool.{cases_lt}
 use Rattle.std.proofs.lemmas.List.{get_or_append_left, length-take-le}
 use Rattle.std.proofs.lemmas.Nat.Gcd.{dvd_refl}
-use Rattle.std.proofs.lemmas.List.{append-nil, append_assoc, get_or_default, drop-append-le, drop-drop, take-append-drop, length-append, length-drop}
+use Rattle.std.proofs.lemmas.List.{append_assoc, get_or_default, drop-append-le, drop-drop, take-append-drop, length-append, length-drop}
 use Rattle.std.proofs.lemmas.List.{take-append-le}
 use Rattle.gf_fraction.specs.Ratio.{IsWithin}
 use Rattle.gf_fraction.proofs.AllElements.{all_both, all_parts}
@@ -186,16 +186,6 @@ pub record Adding (first second : List ℤ) (by_first by_second : ℕ) (place : 
   pub within : AllByRecursion IsWithin row
   pub sums : fits ≡ true → (k : ℕ) → k < place → get_or row k (pos 0)
       ≡ get_or first k (pos 0) *ℤ pos by_first +ℤ get_or second k (pos 0) *ℤ pos by_second
-
-pub nothing_added : (first second : List ℤ) (by_first by_second : ℕ) (old : List ℤ)
-    → Adding first second by_first by_second 0 true old old
-nothing_added first second by_first by_second old = record {
-  row = [];
-  is = sym (append-nil old);
-  one_each = refl;
-  within = tt;
-  sums = λ fits k less. absurd (omega (arith, less));
-}
 
 module _ (first second : List ℤ) (by_first by_second : ℕ) (place : ℕ) (old new after : List ℤ)
     (number : ℤ) (small : IsWithin number) (pushed : after ≡ new ++ number ∷ []) where

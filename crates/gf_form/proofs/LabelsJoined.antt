@@ -95,12 +95,6 @@ AreJoined firsts others labels i j = (xs ys : List ℕ) → 0 < length xs → 0 
     → firsts ≡ map strategy_label (all_choices xs) → others ≡ map strategy_label (all_choices ys)
     → labels ≡ map strategy_label (take (i * product ys + j) (all_choices (xs ++ ys)))
 
-pub none_joined : (firsts others labels : List (List ℕ)) → labels ≡ []
-    → AreJoined firsts others labels 0 0
-none_joined firsts others labels none xs ys hx hy f o =
-    let zero_is : 0 * product ys + 0 ≡ 0 = omega arith in
-    none ∙ ap (λ (n : ℕ). map strategy_label (take n (all_choices (xs ++ ys)))) (sym zero_is)
-
 counted : (labels : List (List ℕ)) (counts : List ℕ)
     → labels ≡ map strategy_label (all_choices counts) → length labels ≡ product counts
 counted labels counts is =

@@ -1,6 +1,6 @@
 -- The numbers of the visits that are left after a player's choices, level by level.
 use Rattle.std.proofs.Common.{◌≡◌, ℕ, zero, suc, ◌+◌, ◌-◌, ◌<◌, ◌≤◌, Bool, true, false, cond, List}
-use Rattle.std.proofs.Common.{[], ◌∷◌, ◌++◌, Some, length, map, get_or, set, slice_get, take, refl}
+use Rattle.std.proofs.Common.{[], ◌∷◌, ◌++◌, Some, length, get_or, set, slice_get, take, refl}
 use Rattle.std.proofs.Common.{sym, ap, subst, ◌∙◌, arith, inl, inr}
 use Rattle.std.specs.Prelude.{◌==◌, ◌||◌, ◌&&◌, ◌⊎◌, filter, nat_lt, not}
 use Rattle.std.specs.List.{AllByRecursion, list_any}
@@ -9,7 +9,8 @@ use Rattle.std.proofs.lemmas.Bool.{and_parts, cases_lt, eq-eqb, false≢true, le
 use Rattle.std.proofs.lemmas.Grind.{get_or-set_at}
 use Rattle.std.proofs.lemmas.List.{get_or-set_other, length-set, take_more}
 use Rattle.std.proofs.lemmas.List.Elements.{filter_more}
-use Rattle.std.proofs.lemmas.Option.{slice_get-get_or}
+use Rattle.std.proofs.lemmas.Option.{slice_get-get_or, slice_get_within}
+use Rattle.std.proofs.Math.Bool.{and-false, and-true}
 use Rattle.gf_nfg.specs.Profiles.{numbers_from}
 use Rattle.gf_tree.proofs.FirstUses.{in_filter, of_filter}
 use Rattle.gf_tree.proofs.RenumberedStores.{some_same}
@@ -19,7 +20,8 @@ use Rattle.gf_form.specs.inner.Visits.{AreNumbers, AreOrdered, chosen, is_met, v
 use Rattle.gf_form.specs.declared.visits.Move.{Move}
 use Rattle.gf_form.specs.declared.visits.Visit.{Visit}
 use Rattle.gf_form.proofs.Following.{in_either}
-use Rattle.gf_form.proofs.VisitsMet.{ordered_there, slice_within}
+use Rattle.gf_form.proofs.VisitsMet.{ordered_there}
+use Rattle.gf_form.proofs.StrategiesByNumber.{all_at}
 
 -- ---- lists
 
@@ -117,7 +119,7 @@ visit_is vs k v at =
     let before : suc k - 1 ≡ k = omega arith in
     let none : Visit = record { last = record { visit = 0; set = 0; action = 0 }; set = 0 } in
     let same : Some (get_or vs k none) ≡ Some v =
-    sym (slice_get-get_or vs k none (slice_within vs k v at)) ∙ at in
+    sym (slice_get-get_or vs k none (slice_get_within vs k v at)) ∙ at in
     ap (λ (n : ℕ). get_or vs n none) before ∙ some_same (get_or vs k none) v same
 
 -- the visit before comes earlier
@@ -131,6 +133,17 @@ comes_earlier sets vs number ordered above within =
     (omega (arith, above, within)) in
     let o = ordered_there sets vs (visit_at vs number) (number - 1) 1 ordered there in
     (omega (arith, o.0, above), o.1, o.2)
+
+-- the visit with a number of a list
+pub number_at : (sets : ℕ) (vs : List Visit) (numbers : List ℕ) (i : ℕ) → AreOrdered sets 1 vs
+    → AreNumbers vs numbers → i < length numbers → (1 ≤ get_or numbers i 0)
+    × (get_or numbers i 0 ≤ length vs)
+    × ((visit_at vs (get_or numbers i 0)).last.visit < get_or numbers i 0)
+    × (1 ≤ (visit_at vs (get_or numbers i 0)).set) × ((visit_at vs (get_or numbers i 0)).set ≤ sets)
+number_at sets vs numbers i ordered within less =
+    let there = all_at (λ (n : ℕ). (1 ≤ n) × (n ≤ length vs)) numbers i 0 within less in
+    let at = comes_earlier sets vs (get_or numbers i 0) ordered there.0 there.1 in
+    (there.0, there.1, at.0, at.1, at.2)
 
 -- ---- one more level
 
@@ -248,7 +261,7 @@ module _ (sets : ℕ) (vs : List Visit) (ordered : AreOrdered sets 1 vs) (test m
           let found : Has (take (length numbers) numbers) (suc k) =
           subst (λ (ns : List ℕ). Has ns (suc k)) (sym (whole ∙ before.are))
           (in_filter before.left (numbers_from 1 (length vs)) (suc k)
-          (has_number 1 (length vs) (suc k) (omega arith) (omega (arith, slice_within vs k v at))) e) in
+          (has_number 1 (length vs) (suc k) (omega arith) (omega (arith, slice_get_within vs k v at))) e) in
           let is : visit_at vs (suc k) ≡ v = visit_is vs k v at in
           (λ i. e i && h.flagged (suc k) found i)
           ∙ (λ i. sym parts.0 i && (get_or flags (is i).last.visit false && made (is i).last))
@@ -297,11 +310,7 @@ made_more levels level choices m above = by (choices m.set == m.action) (cases_l
         let one = le-ltb level x q in
         let two = le-ltb (level - 1) x (omega (arith, earlier)) in
         let other : (x == level) ≡ false = ne_eqb x level (λ e. omega (arith, e, earlier)) in
-        (λ i. one i || b) ∙ twice b ∙ sym (λ i. (two i || b) && (not (other i) || b))
-      where
-        twice : (b : Bool) → b ≡ (b && true)
-        twice true = refl
-        twice false = refl
+        (λ i. one i || b) ∙ sym (and-true b) ∙ sym (λ i. (two i || b) && (not (other i) || b))
     by b (inr q) (inr r) =
         let one = le-ltb level x q in
         let two = lt-ltb (level - 1) x (omega (arith, r, above)) in
@@ -328,14 +337,6 @@ met_left left position at first (v ∷ vs) h =
         let none : first ≡ first + 0 = omega arith in
         ap at none ∙ h 0 v refl
 
-    and_true : (a : Bool) → a ≡ (a && true)
-    and_true true = refl
-    and_true false = refl
-
-    and_false : (a b : Bool) → b ≡ ((a && false) || b)
-    and_false true b = refl
-    and_false false b = refl
-
     later : List ℕ
     later = filter left (numbers_from (first + 1) (length vs))
 
@@ -344,8 +345,10 @@ met_left left position at first (v ∷ vs) h =
         → list_any (λ n. (at n).set == position) (cond b (first ∷ later) later)
         ≡ ((v.set == position && b) || is_met left position (first + 1) vs)
     by true others =
-        λ i. (ap (λ (w : Visit). w.set == position) here ∙ and_true (v.set == position)) i || others i
-    by false others = others ∙ and_false (v.set == position) (is_met left position (first + 1) vs)
+        λ i. (ap (λ (w : Visit). w.set == position) here ∙ sym (and-true (v.set == position))) i || others i
+    by false others =
+        others ∙ ap (λ b. b || is_met left position (first + 1) vs)
+        (sym (and-false (v.set == position)))
 
 -- ---- what a level gives
 

@@ -1,6 +1,6 @@
 -- What is known about the levels when choices change, and when one more level is reached.
 use Rattle.std.proofs.Common.{◌≡◌, ℕ, zero, suc, ◌+◌, ◌-◌, ◌<◌, ◌≤◌, Bool, true, false, List, Vec, Global, []}
-use Rattle.std.proofs.Common.{◌∷◌, ◌++◌, Some, length, map, get_or, slice_get, take, refl, sym, ap, subst}
+use Rattle.std.proofs.Common.{◌∷◌, ◌++◌, length, map, get_or, take, refl, sym, ap, subst}
 use Rattle.std.proofs.Common.{◌∙◌, arith, append-nil, inl, inr}
 use Rattle.std.specs.Prelude.{◌⊎◌}
 use Rattle.std.specs.List.{AllByRecursion}
@@ -8,6 +8,8 @@ use Rattle.std.specs.Vec.{with_items}
 use Rattle.std.proofs.Math.ListN.{drop_of_length-le, get_or-eq_default}
 use Rattle.std.proofs.lemmas.Bool.{cases_lt}
 use Rattle.std.proofs.lemmas.List.{get_or-map, get_or-take, length-append, length-map, length-take-le, map-append, take_all}
+use Rattle.std.proofs.lemmas.List.{get_or_append_left, take-map}
+use Rattle.std.proofs.Math.Seq.{get_or-append_seam}
 use Rattle.gf_fraction.proofs.AllElements.{all_both}
 use Rattle.gf_nfg.specs.Profiles.{numbers_from}
 use Rattle.gf_form.specs.inner.Levels.{AreHighest, AreLevels, IsLevel, IsLevels, TellsMet, known_to, last_known, left_to}
@@ -17,11 +19,6 @@ use Rattle.gf_form.specs.declared.visits.Visit.{Visit}
 use Rattle.gf_form.proofs.MetSets.{level_kept, level_tells, none_chosen}
 
 -- ---- lists
-
-map_take : {A B : Type 0} (f : A → B) (n : ℕ) (xs : List A) → map f (take n xs) ≡ take n (map f xs)
-map_take f zero xs = refl
-map_take f (suc n) [] = refl
-map_take f (suc n) (x ∷ xs) = ap (λ ys. f x ∷ ys) (map_take f n xs)
 
 -- what is read of a list of lists
 module _ {A : Type 0} (lists : Vec (Vec A Global) Global) where
@@ -39,19 +36,8 @@ module _ {A : Type 0} (lists : Vec (Vec A Global) Global) where
   list_kept more n i is less =
       ap (λ (ls : List (Vec A Global)). get_or (map (λ (list : Vec A Global). list.items) ls) i []) is
       ∙ ap (λ (ls : List (List A)). get_or ls i [])
-      (map_take (λ (list : Vec A Global). list.items) n lists.items)
+      (sym (take-map (λ (list : Vec A Global). list.items) n lists.items))
       ∙ get_or-take n items_in i [] less
-
-got_last : {A : Type 0} (xs : List A) (x d : A) (k : ℕ) → k ≡ length xs → get_or (xs ++ x ∷ []) k d ≡ x
-got_last [] x d k e = ap (λ (n : ℕ). get_or (x ∷ []) n d) e
-got_last (y ∷ xs) x d zero e = absurd (omega (arith, e))
-got_last (y ∷ xs) x d (suc k) e = got_last xs x d k (omega (arith, e))
-
-got_before : {A : Type 0} (xs : List A) (x d : A) (k : ℕ) → k < length xs
-    → get_or (xs ++ x ∷ []) k d ≡ get_or xs k d
-got_before [] x d k less = absurd (omega (arith, less))
-got_before (y ∷ xs) x d zero less = refl
-got_before (y ∷ xs) x d (suc k) less = got_before xs x d k (omega (arith, less))
 
 module _ {A : Type 0} (lists more : Vec (Vec A Global) Global) (list : Vec A Global)
     (is : more.items ≡ lists.items ++ list ∷ []) where
@@ -62,14 +48,16 @@ module _ {A : Type 0} (lists more : Vec (Vec A Global) Global) (list : Vec A Glo
   pushed_before : (i : ℕ) → i < length lists.items → get_or (items_in more) i [] ≡ get_or (items_in lists) i []
   pushed_before i less =
       ap (λ (ls : List (List A)). get_or ls i []) all_items
-      ∙ got_before (items_in lists) list.items [] i
+      ∙ get_or_append_left (items_in lists) (list.items ∷ []) [] i
       (omega (arith, less, length-map lists.items (λ (list : Vec A Global). list.items)))
 
   pushed_last : (i : ℕ) → i ≡ length lists.items → get_or (items_in more) i [] ≡ list.items
   pushed_last i e =
-      ap (λ (ls : List (List A)). get_or ls i []) all_items
-      ∙ got_last (items_in lists) list.items [] i
-      (omega (arith, e, length-map lists.items (λ (list : Vec A Global). list.items)))
+      (λ j. get_or (all_items j) (end j) [])
+      ∙ get_or-append_seam (items_in lists) list.items [] []
+    where
+      end : i ≡ length (items_in lists)
+      end = omega (arith, e, length-map lists.items (λ (list : Vec A Global). list.items))
 
 pub refilled : (v : Vec Bool Global) (flags : List Bool) → length flags ≡ length v.items
     → (with_items v flags).items ≡ flags

@@ -1,7 +1,6 @@
 pub mod ActionCounts
 pub mod Alike
 pub mod AlikeStrategies
-pub mod AllReduced
 pub mod Apart
 pub mod BottomUp
 pub mod ChanceSigns
@@ -27,6 +26,7 @@ pub mod Forms
 pub mod FullNumbers
 pub mod GameDigits
 pub mod GameRows
+pub mod HighestLevels
 pub mod JoinedTerms
 pub mod JoinedTexts
 pub mod KeptShares

@@ -149,10 +149,6 @@ module _ (g : Game) (players : ℕ) (r : Reached) (e : Entry) (is : IsTermOf g p
 
 -- ---- lists of them
 
-pub no_nodes : (g : Game) (players : ℕ) → AreTermsOf g players [] []
-no_nodes g players k less den steps choices exact =
-    record { exact = tt; sums = refl; bounds = omega arith }
-
 pub one_node_more : (g : Game) (players : ℕ) (rs : List Reached) (es : List Entry) (r : Reached)
     (e : Entry) → IsTermOf g players r e → AreTermsOf g players rs es
     → AreTermsOf g players (rs ++ r ∷ []) (es ++ e ∷ [])

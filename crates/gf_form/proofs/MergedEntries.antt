@@ -275,9 +275,6 @@ module _ (step action : ℕ) (steps choices : List ℕ) where
       rw (far, past, and_false (nat_le (action * step) e.head.demands)) refl
 
   module _ (den : ℕ) where
-    abbrev exact_in : List Entry → Type 0
-    exact_in es = AreExactAt den (step ∷ steps) (action ∷ choices) es
-
     free_exact : (es : List Entry) → AllByRecursion (IsFree step) es
         → AreExactAt den steps choices es
         → AreExactAt den (step ∷ steps) (action ∷ choices) es

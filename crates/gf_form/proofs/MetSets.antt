@@ -1,28 +1,27 @@
 -- The sets that are met by choices, known before all choices are made.
-use Rattle.std.proofs.Common.{◌≡◌, ℕ, zero, suc, ◌+◌, ◌-◌, ◌<◌, ◌≤◌, Bool, true, false, List, []}
-use Rattle.std.proofs.Common.{◌∷◌, ◌++◌, Some, length, get_or, set, slice_get, take, refl, sym, ap, subst}
+use Rattle.std.proofs.Common.{◌≡◌, ℕ, zero, suc, ◌+◌, ◌-◌, ◌<◌, ◌≤◌, Bool, true, false, cond, List, []}
+use Rattle.std.proofs.Common.{◌∷◌, Some, length, get_or, set, slice_get, take, refl, sym, ap, subst}
 use Rattle.std.proofs.Common.{◌∙◌, arith, inl, inr}
 use Rattle.std.specs.Prelude.{◌==◌, ◌||◌, ◌&&◌, ◌⊎◌, filter, nat_le, nat_lt, not}
-use Rattle.std.specs.List.{AllByRecursion, list_any}
+use Rattle.std.specs.List.{list_any}
 use Rattle.std.proofs.lemmas.Bool.{and_from, and_parts, cases_lt, eq-eqb, eqb-true, false≢true}
-use Rattle.std.proofs.Math.Bool.{or_assoc}
+use Rattle.std.proofs.Math.Bool.{or-false, or-true, or_assoc}
 use Rattle.std.proofs.lemmas.Bool.{le-leb, le-ltb, leb-true, lt-leb, lt-ltb}
-use Rattle.std.proofs.lemmas.List.{length-append, length-set}
+use Rattle.std.proofs.lemmas.List.{length-set}
 use Rattle.std.proofs.lemmas.Option.{slice_get-get_or}
 use Rattle.gf_nfg.specs.Profiles.{numbers_from}
 use Rattle.gf_tree.proofs.FirstUses.{in_filter, of_filter}
-use Rattle.gf_tree.proofs.RenumberedStores.{some_same}
 use Rattle.gf_tree.proofs.Uses.{Has, all_of_each, each}
 use Rattle.gf_form.specs.inner.Levels.{AreHighest, AreLeft, AreLevels, AreOpen, IsLevel, IsSettled}
 use Rattle.gf_form.specs.inner.Levels.{TellsAll, TellsMet, is_made_to, is_settled_at, is_unknown}
-use Rattle.gf_form.specs.inner.Visits.{AreOrdered, Reaches, chosen, is_met, is_taken, visit_at}
+use Rattle.gf_form.specs.inner.Visits.{AreOrdered, chosen, is_met, is_taken, visit_at}
 use Rattle.gf_form.specs.declared.visits.Move.{Move}
 use Rattle.gf_form.specs.declared.visits.Visit.{Visit}
 use Rattle.gf_form.proofs.LeftVisits.{comes_earlier, filter_none, has_number, left_within, level_within}
 use Rattle.gf_form.proofs.LeftVisits.{number_within}
 use Rattle.gf_form.proofs.LeftVisits.{met_left, visit_is}
 use Rattle.gf_form.proofs.Reducing.{any_has, same_answer}
-use Rattle.gf_form.proofs.VisitsMet.{any_more, flag_on, ordered_there, reached_there, slice_within}
+use Rattle.gf_form.proofs.VisitsMet.{any_more, flag_on, ordered_there, reached_there}
 
 -- ---- lists
 
@@ -40,10 +39,6 @@ any_from test (x ∷ xs) e = by (test x) refl e (any_from test xs)
 either : (a b : Bool) → (a || b) ≡ true → (a ≡ true) ⊎ (b ≡ true)
 either true b e = inl refl
 either false b e = inr e
-
-or_true : (a : Bool) → (a || true) ≡ true
-or_true true = refl
-or_true false = refl
 
 -- ---- what is left is left
 
@@ -183,12 +178,8 @@ module _ (sets : ℕ) (vs : List Visit) (ordered : AreOrdered sets 1 vs) (levels
         is_known place
         ∙ ap (λ (ns : List ℕ). get_or before place false
         || list_any (is_settled_at vs highest level place) ns) none
-        ∙ nothing (get_or before place false)
+        ∙ or-false (get_or before place false)
         ∙ h later (λ set upto. agree set (omega (arith, upto, above))) reached reaches place less
-      where
-        nothing : (b : Bool) → (b || false) ≡ b
-        nothing true = refl
-        nothing false = refl
 
     open_more : AreOpen vs levels highest (level - 1) strategy numbers before
         → AreLeft vs (is_made_to levels level (chosen strategy)) list
@@ -244,7 +235,7 @@ module _ (sets : ℕ) (vs : List Visit) (ordered : AreOrdered sets 1 vs) (levels
           (le-leb (get_or highest number 0) level settled)
           (eq-eqb (visit_at vs number).set (suc ((visit_at vs number).set - 1))
           (omega (arith, some.1)))))
-          ∙ or_true (get_or before ((visit_at vs number).set - 1) false));
+          ∙ or-true (get_or before ((visit_at vs number).set - 1) false));
     }
 
     -- nothing is left that is not known
@@ -258,37 +249,33 @@ module _ (sets : ℕ) (vs : List Visit) (ordered : AreOrdered sets 1 vs) (levels
         by false is = absurd (false≢true (sym e
             ∙ any_has (is_unknown vs known) list number has (ap not is)))
 
+    gone : (rest : List ℕ) (some : Bool) → rest ≡ cond some list []
+        → TellsAll sets vs levels (level - 1) strategy before → list ≡ []
+        → IsLevel sets vs levels highest level strategy rest known
+    gone rest some is told none = inl (is ∙ empty some, none_more told none)
+      where
+        empty : (b : Bool) → cond b list [] ≡ []
+        empty true = none
+        empty false = refl
+
     pub next_level : IsLevel sets vs levels highest (level - 1) strategy numbers before
         → (numbers ≡ [] → list ≡ [])
         → (numbers ≡ []) ⊎ AreLeft vs (is_made_to levels level (chosen strategy)) list
         → (rest : List ℕ) (some : Bool) → some ≡ list_any (is_unknown vs known) list
-        → ((some ≡ true) × (rest ≡ list)) ⊎ ((some ≡ false) × (rest ≡ []))
-        → IsLevel sets vs levels highest level strategy rest known
-    next_level (inl old) none left rest some is kept =
-        inl (empty kept, none_more old.1 (none old.0))
-      where
-        empty : ((some ≡ true) × (rest ≡ list)) ⊎ ((some ≡ false) × (rest ≡ [])) → rest ≡ []
-        empty (inl k) = k.1 ∙ none old.0
-        empty (inr k) = k.1
+        → rest ≡ cond some list [] → IsLevel sets vs levels highest level strategy rest known
+    next_level (inl old) none left rest some is kept = gone rest some kept old.1 (none old.0)
     next_level (inr old) none (inl nothing) rest some is kept =
-        inl (
-          empty kept,
-          none_more (open_settles count counted (level - 1) strategy numbers before old
-              (λ number has. absurd (subst (λ (ns : List ℕ). Has ns number) nothing has)))
-              (none nothing),
-        )
-      where
-        empty : ((some ≡ true) × (rest ≡ list)) ⊎ ((some ≡ false) × (rest ≡ [])) → rest ≡ []
-        empty (inl k) = k.1 ∙ none nothing
-        empty (inr k) = k.1
-    next_level (inr old) none (inr left) rest some is (inl k) =
-        inr (subst (λ (ns : List ℕ). AreOpen vs levels highest level strategy ns known) (sym k.1)
+        gone rest some kept (open_settles count counted (level - 1) strategy numbers before old
+        (λ number has. absurd (subst (λ (ns : List ℕ). Has ns number) nothing has)))
+        (none nothing)
+    next_level (inr old) none (inr left) rest true is kept =
+        inr (subst (λ (ns : List ℕ). AreOpen vs levels highest level strategy ns known) (sym kept)
         (open_more old left))
-    next_level (inr old) none (inr left) rest some is (inr k) =
+    next_level (inr old) none (inr left) rest false is kept =
         inl (
-          k.1,
+          kept,
           open_settles count counted level strategy list known (open_more old left)
-              (all_known (sym is ∙ k.0)),
+              (all_known (sym is)),
         )
 
 -- ---- choices that stay, and none
@@ -391,124 +378,9 @@ module _ (vs : List Visit) (highest : List ℕ) (level : ℕ) (numbers : List �
     known = λ place.
         h.known place
         ∙ ap (λ b. get_or before place false || b)
-        (nothing (list_any (is_settled_at vs highest level place) (take i numbers))
+        (sym (or-false (list_any (is_settled_at vs highest level place) (take i numbers)))
         ∙ ap (λ b. list_any (is_settled_at vs highest level place) (take i numbers)
         || (b && (visit_at vs (get_or numbers i 0)).set == suc place))
         (sym (lt-leb (get_or highest (get_or numbers i 0) 0) level later))
         ∙ sym (any_more (is_settled_at vs highest level place) numbers i less));
   }
-    where
-      nothing : (b : Bool) → b ≡ (b || false)
-      nothing true = refl
-      nothing false = refl
-
--- ---- the highest levels, visit after visit
-
-pub record HighestTo (vs : List Visit) (levels highest : List ℕ) (i : ℕ) : Type 0 where
-  pub counted : length highest ≡ suc i
-  pub visit : (k : ℕ) (v : Visit) → k < i → slice_get vs k ≡ Some v
-      → get_or highest v.last.visit 0 ≤ get_or highest (suc k) 0
-  pub move : (k : ℕ) (v : Visit) → k < i → slice_get vs k ≡ Some v
-      → get_or levels v.last.set 1 ≤ get_or highest (suc k) 0
-  pub within : (count : ℕ) → AreLevels levels count → (number : ℕ) → get_or highest number 0 ≤ count
-
-got_more : (xs : List ℕ) (x k : ℕ) → k < length xs → get_or (xs ++ x ∷ []) k 0 ≡ get_or xs k 0
-got_more [] x k less = absurd (omega (arith, less))
-got_more (y ∷ xs) x zero less = refl
-got_more (y ∷ xs) x (suc k) less = got_more xs x k (omega (arith, less))
-
-got_new : (xs : List ℕ) (x : ℕ) → get_or (xs ++ x ∷ []) (length xs) 0 ≡ x
-got_new [] x = refl
-got_new (y ∷ xs) x = got_new xs x
-
-got_within : (xs : List ℕ) (x upto k : ℕ) → ((k : ℕ) → get_or xs k 0 ≤ upto) → x ≤ upto
-    → get_or (xs ++ x ∷ []) k 0 ≤ upto
-got_within [] x upto zero h within = within
-got_within [] x upto (suc k) h within = omega arith
-got_within (y ∷ xs) x upto zero h within = h 0
-got_within (y ∷ xs) x upto (suc k) h within = got_within xs x upto k (λ j. h (suc j)) within
-
-pub highest_more : (sets : ℕ) (vs : List Visit) (levels highest next : List ℕ) (i : ℕ) (v : Visit)
-    (new : ℕ) → AreOrdered sets 1 vs → HighestTo vs levels highest i → slice_get vs i ≡ Some v
-    → next ≡ highest ++ new ∷ [] → get_or highest v.last.visit 0 ≤ new
-    → get_or levels v.last.set 1 ≤ new
-    → ((new ≡ get_or highest v.last.visit 0) ⊎ (new ≡ get_or levels v.last.set 1))
-    → HighestTo vs levels next (i + 1)
-highest_more sets vs levels highest next i v new ordered h at is upto above one =
-    subst (λ (hs : List ℕ). HighestTo vs levels hs (i + 1)) (sym is) (record {
-      counted = omega (arith, length-append highest (new ∷ []), h.counted);
-      visit = λ k w less there. by k w there (cases_lt k i) less;
-      move = λ k w less there. to k w there (cases_lt k i) less;
-      within = λ count counted number. got_within highest new count number (h.within count counted)
-          (elim one [
-            | inl e ↦ omega (arith, e, h.within count counted v.last.visit)
-            | inr e ↦ omega (arith, e, (level_within levels count v.last.set counted).1)
-          ]);
-    })
-  where
-    here : get_or (highest ++ new ∷ []) (suc i) 0 ≡ new
-    here = ap (λ (n : ℕ). get_or (highest ++ new ∷ []) n 0) (sym h.counted) ∙ got_new highest new
-
-    same : (k : ℕ) (w : Visit) → k ≡ i → slice_get vs k ≡ Some w → v ≡ w
-    same k w e there = some_same v w (sym at ∙ ap (slice_get vs) (sym e) ∙ there)
-
-    by : (k : ℕ) (w : Visit) → slice_get vs k ≡ Some w → (k < i) ⊎ (i ≤ k) → k < i + 1
-        → get_or (highest ++ new ∷ []) w.last.visit 0 ≤ get_or (highest ++ new ∷ []) (suc k) 0
-    by k w there (inl earlier) less =
-        let parent = (ordered_there sets vs w k 1 ordered there).0 in
-        omega (
-          arith,
-          h.visit k w earlier there,
-          got_more highest new w.last.visit (omega (arith, parent, earlier, h.counted)),
-          got_more highest new (suc k) (omega (arith, earlier, h.counted)),
-        )
-    by k w there (inr past) less =
-        let last : k ≡ i = omega (arith, past, less) in
-        subst (λ (n : ℕ). get_or (highest ++ new ∷ []) w.last.visit 0
-        ≤ get_or (highest ++ new ∷ []) (suc n) 0) (sym last)
-        (subst (λ (w : Visit). get_or (highest ++ new ∷ []) w.last.visit 0
-        ≤ get_or (highest ++ new ∷ []) (suc i) 0) (same k w last there)
-        (let parent = (ordered_there sets vs v i 1 ordered at).0 in
-        omega (
-          arith,
-          upto,
-          here,
-          got_more highest new v.last.visit (omega (arith, parent, h.counted)),
-        )))
-
-    to : (k : ℕ) (w : Visit) → slice_get vs k ≡ Some w → (k < i) ⊎ (i ≤ k) → k < i + 1
-        → get_or levels w.last.set 1 ≤ get_or (highest ++ new ∷ []) (suc k) 0
-    to k w there (inl earlier) less =
-        omega (
-          arith,
-          h.move k w earlier there,
-          got_more highest new (suc k) (omega (arith, earlier, h.counted)),
-        )
-    to k w there (inr past) less =
-        let last : k ≡ i = omega (arith, past, less) in
-        subst (λ (n : ℕ). get_or levels w.last.set 1 ≤ get_or (highest ++ new ∷ []) (suc n) 0)
-        (sym last)
-        (subst (λ (w : Visit). get_or levels w.last.set 1 ≤ get_or (highest ++ new ∷ []) (suc i) 0)
-        (same k w last there) (omega (arith, above, here)))
-
-pub highest_all : (vs : List Visit) (levels highest : List ℕ)
-    → HighestTo vs levels highest (length vs) → AreHighest vs levels highest
-highest_all vs levels highest h = record {
-  counted = h.counted;
-  visit = λ k v at. h.visit k v (slice_within vs k v at) at;
-  move = λ k v at. h.move k v (slice_within vs k v at) at;
-  within = h.within;
-}
-
-pub highest_none : (vs : List Visit) (levels highest : List ℕ) → highest ≡ 0 ∷ []
-    → HighestTo vs levels highest 0
-highest_none vs levels highest is = subst (λ (hs : List ℕ). HighestTo vs levels hs 0) (sym is) (record {
-  counted = refl;
-  visit = λ k v less at. absurd (omega (arith, less));
-  move = λ k v less at. absurd (omega (arith, less));
-  within = λ count counted number. none count number;
-})
-  where
-    none : (count number : ℕ) → get_or (0 ∷ []) number 0 ≤ count
-    none count zero = omega arith
-    none count (suc k) = omega arith

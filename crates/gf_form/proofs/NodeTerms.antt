@@ -7,7 +7,7 @@ use Rattle.std.specs.List.{AllByRecursion}
 use Rattle.std.specs.Prelude.{unsigned_abs}
 use Rattle.std.proofs.Math.Seq.{get_or-append_seam}
 use Rattle.std.proofs.lemmas.Bool.{cases_lt}
-use Rattle.std.proofs.lemmas.List.{append-nil, append_assoc, get_or_append_left, length-append}
+use Rattle.std.proofs.lemmas.List.{append_assoc, get_or_append_left, length-append}
 use Rattle.gf_fraction.proofs.AllElements.{all_both}
 use Rattle.std.proofs.Math.Nat.{one-dvd}
 use Rattle.gf_fraction.specs.Ratio.{IsWithin, Ratio, whole}
@@ -59,16 +59,6 @@ pub record Filling (path : Path) (pays : ℕ → Ratio) (den size place : ℕ) (
   pub within : AllByRecursion IsWithin row
   pub numbers : fits ≡ true → (k : ℕ) → k < place
       → IsNumber path (pays k) den size (get_or row k (pos 0))
-
-pub none_filled : (path : Path) (pays : ℕ → Ratio) (den : ℕ) (old : List ℤ)
-    → Filling path pays den 0 0 true old old
-none_filled path pays den old = record {
-  row = [];
-  is = sym (append-nil old);
-  one_each = refl;
-  within = tt;
-  numbers = λ fits k less. absurd (omega (arith, less));
-}
 
 module _ (path : Path) (pays : ℕ → Ratio) (den size place : ℕ) (fits : Bool)
     (old new after : List ℤ) (number : ℤ) (small : IsWithin number)

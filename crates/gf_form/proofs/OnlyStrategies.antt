@@ -5,7 +5,7 @@ use Rattle.std.proofs.Common.{refl, sym, ap, subst, ◌∙◌, arith, inl, inr}
 use Rattle.std.specs.Prelude.{◌==◌, ◌||◌, ◌&&◌, codes, decimal, filter, find, not, option_map, unwrap_or}
 use Rattle.std.specs.List.{AllByRecursion, Contains, cons_option, filter_map, join_with_byte}
 use Rattle.std.specs.Option.{option_map_or}
-use Rattle.std.proofs.lemmas.Bool.{eq-eqb, eqb-true}
+use Rattle.std.proofs.lemmas.Bool.{eq-eqb, eqb-true, or_left, or_right}
 use Rattle.std.proofs.lemmas.List.{get_or_default, length-map}
 use Rattle.std.proofs.lemmas.Option.{none-some}
 use Rattle.gf_fraction.proofs.AllElements.{all_parts}
@@ -35,7 +35,6 @@ use Rattle.gf_form.proofs.FirstStrategies.{flags_fit, is_first, reduced_shown_at
 use Rattle.gf_form.proofs.FirstStrategies.{reduced_strategies_are}
 use Rattle.gf_form.proofs.Following.{in_either}
 use Rattle.gf_form.proofs.KnownSets.{own_set}
-use Rattle.gf_form.proofs.Reducing.{or_left, or_right}
 
 -- ---- one action at each set
 

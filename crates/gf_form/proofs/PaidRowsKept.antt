@@ -58,11 +58,6 @@ pub paid_nobody : (g : Game) (position k : ℕ) → at_position (outcome_numbers
     → zero_ratio ≡ paid g (suc k) position
 paid_nobody g position k e = sym (rw e refl)
 
-pub paid_undescribed : (g : Game) (position number k : ℕ)
-    → at_position (outcome_numbers g) position ≡ Some number → outcome_at g number ≡ None
-    → zero_ratio ≡ paid g (suc k) position
-paid_undescribed g position number k e f = sym (rw (e, f) refl)
-
 pub row_of_outcome : (g : Game) → IsGame g → IsSpellable g → (number : ℕ) (outcome : Outcome)
     → outcome_at g number ≡ Some outcome → IsRow (length g.players) outcome.payoffs
 row_of_outcome g game spellable number outcome e = record {
@@ -114,16 +109,6 @@ empty_at (suc k) = refl
 
 pub empty_is_row : (players : ℕ) → IsRow players []
 empty_is_row players = record { one_each = λ h. absurd (omega (arith, h)); fractions = tt }
-
-pub no_rows : (g : Game) → ArePaidTo g [] 0
-no_rows g = record {
-  counted = refl;
-  each = λ position h. by position h;
-}
-  where
-    by : (position : ℕ) → position ≤ 0 → IsPaidAt g (row_at [] position) position
-    by zero h = record { paid_is = empty_at; row_is = empty_is_row (length g.players) }
-    by (suc k) h = absurd (omega (arith, h))
 
 pub one_row : (g : Game) (rows : List (List Ratio)) (row : List Ratio) (count : ℕ)
     → ArePaidTo g rows count → IsPaidAt g row (count + 1)

@@ -56,19 +56,10 @@ module _ (g : Game) (steps : SetKey → ℕ) (path : Path) where
   action_list (more t ts) (suc zero) = refl
   action_list (more t ts) (suc (suc position)) = action_list ts (suc position)
 
-  over_none : (o : Option SetKey) (nodes : SetKey → List Reached) → o ≡ None
-      → over_set o nodes ≡ []
-  over_none None nodes is = refl
-  over_none (Some key) nodes is = absurd cc
-
   over_some : (o : Option SetKey) (nodes : SetKey → List Reached) (key : SetKey) → o ≡ Some key
       → over_set o nodes ≡ nodes key
   over_some None nodes key is = absurd cc
   over_some (Some k) nodes key is = let same : k ≡ key = cc in ap nodes same
-
-  pub leaf_reached : (t : Tree Node) → (root_node t).set ≡ None
-      → reached g steps path t ≡ told g path t ∷ []
-  leaf_reached (branch n ts) is = ap (λ rs. told g path (branch n ts) ∷ rs) (over_none n.set _ is)
 
   pub lot_reached : (t : Tree Node) (key : SetKey) → (root_node t).set ≡ Some key → key.player ≡ 0
       → reached g steps path t ≡ told g path t

@@ -1,15 +1,13 @@
 -- The strategies of a profile with a number, if some of each player are picked: those of one player
 -- after another, each by what is left of the number.
 use Rattle.std.proofs.Common.{◌≡◌, ℕ, zero, suc, ◌+◌, ◌-◌, ◌*◌, ◌/◌, ◌%◌, ◌<◌, ◌≤◌, List, [], ◌∷◌}
-use Rattle.std.proofs.Common.{◌++◌, length, map, get_or, drop, refl, sym, ap, subst, ◌∙◌}
-use Rattle.std.proofs.Common.{append_assoc, add-one, arith, Vec, Global}
+use Rattle.std.proofs.Common.{length, map, get_or, refl, sym, ap, subst, ◌∙◌}
+use Rattle.std.proofs.Common.{arith, Vec, Global}
 use Rattle.std.specs.List.{AllByRecursion, AllZip, Contains}
-use Rattle.std.specs.Prelude.{vec_len, zip}
+use Rattle.std.specs.Prelude.{vec_len}
 use Rattle.std.proofs.Math.Nat.{div-lt_iff_lt-mul, mod-add-div, mod-lt, mul_comm}
-use Rattle.std.proofs.Math.Seq.{drop-cons}
 use Rattle.std.proofs.lemmas.Grind.{get_or_default_zero}
 use Rattle.std.proofs.lemmas.List.{get_or_default, get_or-map, length-map}
-use Rattle.std.proofs.lemmas.Option.{unwrap_or-slice_get}
 use Rattle.gf_nfg.specs.Profiles.{numbers_from, product, profiles}
 use Rattle.gf_nfg.specs.ProfilePlaces.{IsProfile, place}
 use Rattle.gf_nfg.proofs.BackProfiles.{are_profiles, every_profile, length-profiles, place_at}
@@ -17,14 +15,14 @@ use Rattle.gf_nfg.proofs.NumbersInTurn.{get_or-numbers_from, length-numbers_from
 use Rattle.gf_tree.specs.Game.{Game}
 use Rattle.gf_form.specs.inner.Counted.{AreCounts}
 use Rattle.gf_form.specs.inner.Picked.{AreNumbers, IsPicked, full_at, numbers_in, picked_profiles}
-use Rattle.gf_form.specs.Strategies.{AreStrategies, action_counts, all_choices, full_profiles}
-use Rattle.gf_form.specs.Strategies.{players_of, strategies, strategies_at, strategy_at}
+use Rattle.gf_form.specs.Strategies.{AreStrategies, action_counts, full_profiles}
+use Rattle.gf_form.specs.Strategies.{players_of, strategies, strategies_at}
 use Rattle.gf_form.specs.declared.counts.Counts.{Counts}
 use Rattle.gf_form.specs.declared.picked.Picked.{Picked}
 use Rattle.gf_form.proofs.Choices.{IsChoice, every_choice}
 use Rattle.gf_form.proofs.Chosen.{profile_strategies}
 use Rattle.gf_form.proofs.CountedActions.{strategy_counts}
-use Rattle.gf_form.proofs.CountsGiven.{actions_in, all_counted}
+use Rattle.gf_form.proofs.CountsGiven.{all_counted}
 use Rattle.gf_form.proofs.FormTables.{as_many}
 use Rattle.gf_form.proofs.StrategiesByNumber.{all_at, positive_parts}
 
@@ -67,64 +65,6 @@ some_factor (c ∷ counts) number zero h less = (positive_parts c (product count
 some_factor (c ∷ counts) number (suc i) h less =
     some_factor counts 0 i (positive_parts c (product counts) number h).1 (omega (arith, less))
 
--- The strategies of the profile with this number, if players have this many actions at their sets,
--- and strategies with these numbers.
-abbrev pub numbered : List (List ℕ) → List (List ℕ) → ℕ → List (List ℕ)
-numbered [] picked number = []
-numbered (own ∷ others) [] number = []
-numbered (own ∷ others) (numbers ∷ picked) number =
-    get_or (all_choices own) (get_or numbers (number % length numbers) 0) []
-    ∷ numbered others picked (number / length numbers)
-
-numbered_strategies : (g : Game) (players : List ℕ) (picked : List (List ℕ)) (number : ℕ)
-    → length picked ≡ length players → number < product (map length picked)
-    → numbered (map (action_counts g) players) picked number
-    ≡ map (λ p. strategy_at (strategies g p.0) p.1)
-    (zip players (full_at picked (get_or (profiles (map length picked)) number [])))
-numbered_strategies g [] picked number e less = refl
-numbered_strategies g (player ∷ players) [] number e less = absurd (omega (arith, e))
-numbered_strategies g (player ∷ players) (own ∷ picked) number e less =
-    let n = length own in
-    let counts = map length picked in
-    let all = strategies g player in
-    let parts = positive_parts n (product counts) number less in
-    let swapped : number < product counts * n =
-    subst (λ (m : ℕ). number < m) (mul_comm n (product counts)) less in
-    let later : number / n < product counts = (div-lt_iff_lt-mul parts.0).1 swapped in
-    let back : number % n + 1 - 1 ≡ number % n = omega arith in
-    let first : get_or all (get_or own (number % n) 0) []
-    ≡ strategy_at all (get_or own (number % n + 1 - 1) 0 + 1) =
-    sym (ap (λ (k : ℕ). strategy_at all (get_or own k 0 + 1)) back
-    ∙ ap (strategy_at all) (add-one (get_or own (number % n) 0))
-    ∙ unwrap_or-slice_get all (get_or own (number % n) 0) []) in
-    (λ i. first i ∷ numbered_strategies g players picked (number / n) (omega (arith, e)) later i)
-    ∙ ap (λ (profile : List ℕ). map (λ p. strategy_at (strategies g p.0) p.1)
-    (zip (player ∷ players) (full_at (own ∷ picked) profile)))
-    (sym (profiles_next n counts number parts.0 less))
-
-pub one_strategy_more : (actions picked : List (List ℕ)) (number i rest count : ℕ)
-    (all next : List (List ℕ)) (own numbers : List ℕ) → i < length actions → i < length picked
-    → numbers ≡ get_or picked i [] → count ≡ length numbers
-    → own ≡ get_or (all_choices (get_or actions i [])) (get_or numbers (rest % count) 0) []
-    → all ++ numbered (drop i actions) (drop i picked) rest ≡ numbered actions picked number
-    → next ≡ all ++ own ∷ []
-    → next ++ numbered (drop (i + 1) actions) (drop (i + 1) picked) (rest / count)
-    ≡ numbered actions picked number
-one_strategy_more actions picked number i rest count all next own numbers less within is counted
-    own_is so_far next_is =
-    let left = numbered (drop (suc i) actions) (drop (suc i) picked) in
-    let choices = all_choices (get_or actions i []) in
-    (λ j. next_is j
-    ++ numbered (drop (add-one i j) actions) (drop (add-one i j) picked) (rest / counted j))
-    ∙ append_assoc all (own ∷ []) (left (rest / length numbers))
-    ∙ (λ j. all ++ own_is j ∷ left (rest / length numbers))
-    ∙ (λ j. all ++ get_or choices (get_or numbers (rest % counted j) 0) []
-    ∷ left (rest / length numbers))
-    ∙ (λ j. all ++ numbered (sym (drop-cons actions i [] less) j)
-    (sym (drop-cons picked i [] within ∙ ap (λ (ns : List ℕ). ns ∷ drop (suc i) picked) (sym is)) j)
-    rest)
-    ∙ so_far
-
 -- the profile with a number
 pub number_at : (picked : List (List ℕ)) (number : ℕ) → number < product (map length picked)
     → get_or (picked_profiles picked) number []
@@ -132,16 +72,6 @@ pub number_at : (picked : List (List ℕ)) (number : ℕ) → number < product (
 number_at picked number less =
     get_or-map (full_at picked) (profiles (map length picked)) number [] []
     (omega (arith, less, length-profiles (map length picked)))
-
--- the strategies of the profile
-pub numbered_are : (g : Game) (c : Counts) (picked : List (List ℕ)) → AreCounts g c
-    → length picked ≡ length (players_of g) → (number : ℕ) → number < product (map length picked)
-    → numbered (actions_in c) picked number
-    ≡ strategies_at g (get_or (picked_profiles picked) number [])
-numbered_are g c picked counts one_each number within =
-    ap (λ (lists : List (List ℕ)). numbered lists picked number) counts.actions
-    ∙ numbered_strategies g (players_of g) picked number one_each within
-    ∙ ap (strategies_at g) (sym (number_at picked number within))
 
 -- ---- full profiles
 
@@ -288,30 +218,6 @@ one_length numbers given i n own are less own_is is =
 
 -- ---- what is read of the player at a place
 
-numbers_of_one : (g : Game) (k n : ℕ) (picked : List (List ℕ))
-    → AllZip (λ own player. AllByRecursion (λ number. number < length (strategies g player)) own)
-    picked (numbers_from k n)
-    → (i : ℕ) → i < length picked
-    → AllByRecursion (λ number. number < length (strategies g (k + i))) (get_or picked i [])
-numbers_of_one g k zero [] h i less = absurd (omega (arith, less))
-numbers_of_one g k zero (own ∷ picked) h i less = absurd h
-numbers_of_one g k (suc n) [] h i less = absurd h
-numbers_of_one g k (suc n) (own ∷ picked) h zero less =
-    let here : k ≡ k + 0 = omega arith in
-    subst (λ (player : ℕ). AllByRecursion (λ number. number < length (strategies g player)) own) here
-    h.0
-numbers_of_one g k (suc n) (own ∷ picked) h (suc i) less =
-    let next : k + 1 + i ≡ k + suc i = omega arith in
-    subst (λ (player : ℕ). AllByRecursion (λ number. number < length (strategies g player))
-    (get_or picked i [])) next (numbers_of_one g (k + 1) n picked h.1 i (omega (arith, less)))
-
-numbers_at : (g : Game) (picked : List (List ℕ)) → AreNumbers g picked → (i : ℕ) → i < length picked
-    → AllByRecursion (λ number. number < length (strategies g (i + 1))) (get_or picked i [])
-numbers_at g picked h i less =
-    let next : 1 + i ≡ i + 1 = omega arith in
-    subst (λ (player : ℕ). AllByRecursion (λ number. number < length (strategies g player))
-    (get_or picked i [])) next (numbers_of_one g 1 (length g.players) picked h i less)
-
 -- his numbers, and how many they are
 pub record ReadNumbers (p : Picked) (i : ℕ) (own : Vec ℕ Global) (count : ℕ) : Type 0 where
   pub own_is : own ≡ get_or p.numbers.items i own
@@ -357,20 +263,3 @@ module _ (g : Game) (c : Counts) (p : Picked) (counts : AreCounts g c) (picked :
             number_read =
                 number_is
                 ∙ get_or_default_zero own.items (rest % count) number (rest_within rest)
-
-            pub number_within : (whole : ℕ) → whole ≡ length (strategies g (i + 1))
-                → number < whole
-            number_within whole is =
-                let below =
-                all_at (λ number. number < length (strategies g (i + 1))) own.items (rest % count) 0
-                (subst (AllByRecursion (λ number. number < length (strategies g (i + 1))))
-                (sym are_read) (numbers_at g (numbers_in p) picked.numbers i numbers_within))
-                (rest_within rest) in
-                omega (arith, below, number_read, is)
-
--- games that are counted alike have as many players
-pub one_each_in : (g h : Game) (c : Counts) (p : Picked) → AreCounts g c → AreCounts h c
-    → IsPicked h p → length (numbers_in p) ≡ length (players_of g)
-one_each_in g h c p counts others picked =
-    one_each h c p others picked ∙ sym (all_counted h c others) ∙ all_counted g c counts
-    ∙ sym (length-numbers_from 1 (length g.players))

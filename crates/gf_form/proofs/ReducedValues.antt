@@ -6,7 +6,7 @@ use Rattle.std.specs.Prelude.{◌↔◌, ◌==◌, ◌||◌, ◌&&◌}
 use Rattle.std.specs.Bool.{MatchBool}
 use Rattle.std.specs.List.{Contains, list_all}
 use Rattle.std.specs.Option.{option_map_or}
-use Rattle.std.proofs.lemmas.Bool.{and_parts, and_from, eq-eqb, eqb-false}
+use Rattle.std.proofs.lemmas.Bool.{and_from, and_parts, eq-eqb, eqb-false, or_left, or_right}
 use Rattle.gf_fraction.specs.Ratio.{Ratio}
 use Rattle.gf_fraction.specs.Rational.{zero_ratio}
 use Rattle.gf_tree.specs.Tree.{Tree, Trees}
@@ -23,7 +23,7 @@ use Rattle.gf_form.specs.Plays.{Play, Step, from_node, is_chosen, plays, plays_f
 use Rattle.gf_form.specs.Reduced.{comes_to, is_own_choice, reduced_by}
 use Rattle.gf_form.specs.Strategies.{choices_by, full_profiles, strategies_at, strategy_at}
 use Rattle.gf_form.proofs.ReducedPays.{AreReducedAlike, all_own, his, his_steps, reduced_alike}
-use Rattle.gf_form.proofs.Reducing.{any_has, or_left, or_right, same_where_relevant}
+use Rattle.gf_form.proofs.Reducing.{any_has, same_where_relevant}
 
 -- ---- lists and plays
 

@@ -4,7 +4,7 @@ use Rattle.std.proofs.Common.{map, get_or, drop, refl, sym, ap, ◌∙◌, subst
 use Rattle.std.specs.Prelude.{◌⊎◌, ◌==◌, ◌||◌, ◌&&◌, not, unwrap_or, if◌then◌else◌}
 use Rattle.std.specs.List.{Contains, list_all, list_any}
 use Rattle.std.specs.Option.{option_map_or}
-use Rattle.std.proofs.lemmas.Bool.{and_parts, and_from, eqb-true, false≢true}
+use Rattle.std.proofs.lemmas.Bool.{and_from, and_parts, eqb-true, false≢true, or_left, or_right}
 use Rattle.std.proofs.lemmas.Option.{none-some}
 use Rattle.gf_tree.specs.Description.{SetKey, same_set}
 use Rattle.gf_tree.specs.Game.{Game}
@@ -16,14 +16,6 @@ use Rattle.gf_form.specs.Plays.{Step, Play, plays}
 use Rattle.gf_form.specs.Reduced.{is_own_choice, agrees, comes_to, is_relevant, reduced}
 
 -- ---- tests
-
-pub or_left : (a b : Bool) → a ≡ true → (a || b) ≡ true
-or_left true b h = refl
-or_left false b h = absurd (false≢true h)
-
-pub or_right : (a b : Bool) → b ≡ true → (a || b) ≡ true
-or_right true b h = refl
-or_right false b h = h
 
 pub same_answer : (a b : Bool) → (a ≡ true → b ≡ true) → (b ≡ true → a ≡ true) → a ≡ b
 same_answer true b to from = sym (to refl)

@@ -1,13 +1,13 @@
 -- The relevant sets of a player by the flags of those that are met.
 use Rattle.std.proofs.Common.{◌≡◌, ℕ, suc, ◌<◌, Bool, false, List, [], ◌∷◌, Some, get_or, length}
 use Rattle.std.proofs.Common.{map, slice_get, refl, sym, ◌∙◌, arith}
+use Rattle.std.proofs.lemmas.Option.{slice_get_within}
 use Rattle.gf_tree.specs.FirstUse.{player_keys}
 use Rattle.gf_tree.specs.Game.{Game}
 use Rattle.gf_form.specs.inner.Relevance.{FindRelevance}
 use Rattle.gf_form.specs.inner.Shown.{relevant_sets}
 use Rattle.gf_form.specs.inner.Visits.{Reaches, chosen, is_met}
 use Rattle.gf_form.specs.declared.visits.Visit.{Visit}
-use Rattle.gf_form.proofs.VisitsMet.{slice_within}
 
 -- flags that are each that of the item there
 flags_are : {A : Type 0} (test : A → Bool) (xs : List A) (flags : List Bool)
@@ -28,5 +28,5 @@ pub relevant_met : (g : Game) (player : ℕ) (strategy : List ℕ) (visits : Lis
     → flags ≡ relevant_sets g player strategy
 relevant_met g player strategy visits reached flags find reaches counted met =
     flags_are _ (player_keys g player) flags counted
-    (λ k key at. met k (slice_within (player_keys g player) k key at)
+    (λ k key at. met k (slice_get_within (player_keys g player) k key at)
     ∙ sym (find.relevant strategy reached (suc k) key reaches at))

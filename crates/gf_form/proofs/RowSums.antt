@@ -1,5 +1,5 @@
 -- Rows that are added up, number by number.
-use Rattle.std.proofs.Common.{◌≡◌, ℕ, zero, suc, ◌+◌, ◌<◌, ◌≤◌, List, [], ◌∷◌, ◌++◌, Option, Some}
+use Rattle.std.proofs.Common.{◌≡◌, ℕ, zero, suc, ◌+◌, ◌<◌, ◌≤◌, List, [], ◌∷◌, Option, Some}
 use Rattle.std.proofs.Common.{None, length, get_or, refl, sym, ap, subst, ◌∙◌, arith}
 use Rattle.std.specs.List.{AllByRecursion}
 use Rattle.std.proofs.Common.{◌⊎◌, inl, inr}
@@ -29,23 +29,6 @@ fraction_at [] (suc k) h = zero_fraction
 fraction_at (x ∷ row) zero h = h.0
 fraction_at (x ∷ row) (suc k) h = fraction_at row k h.1
 
-pub zero_everywhere : (row : List Ratio)
-    → ((k : ℕ) → k < length row → at_place row k ≡ zero_ratio)
-    → (k : ℕ) → at_place row k ≡ zero_ratio
-zero_everywhere [] h zero = refl
-zero_everywhere [] h (suc k) = refl
-zero_everywhere (x ∷ row) h zero = h 0 (omega arith)
-zero_everywhere (x ∷ row) h (suc k) =
-    zero_everywhere row (λ k less. h (suc k) (omega (arith, less))) k
-
-pub zero_pushed : (row : List Ratio) → ((k : ℕ) → at_place row k ≡ zero_ratio)
-    → (k : ℕ) → at_place (row ++ zero_ratio ∷ []) k ≡ zero_ratio
-zero_pushed [] h zero = refl
-zero_pushed [] h (suc zero) = refl
-zero_pushed [] h (suc (suc k)) = refl
-zero_pushed (x ∷ row) h zero = h 0
-zero_pushed (x ∷ row) h (suc k) = zero_pushed row (λ k. h (suc k)) k
-
 all_set : (row : List Ratio) (i : ℕ) (x : Ratio) → AllByRecursion IsFraction row → IsFraction x
     → AllByRecursion IsFraction (set row i x)
 all_set [] zero x h f = tt
@@ -64,15 +47,6 @@ pub record Added (step : Ratio → Ratio → Option Ratio) (old new row : List R
   pub kept : (k : ℕ) → i ≤ k → at_place new k ≡ at_place old k
 
 module _ (step : Ratio → Ratio → Option Ratio) (old new row : List Ratio) where
-  pub none_added : length new ≡ length row → AllByRecursion IsFraction new
-      → ((k : ℕ) → at_place new k ≡ at_place old k) → Added step old new row 0
-  none_added counted fractions same = record {
-    counted = counted;
-    fractions = fractions;
-    done = λ k h. absurd (omega (arith, h));
-    kept = λ k h. same k;
-  }
-
   pub one_added : (i : ℕ) (x : Ratio) → Added step old new row i → i < length row
       → step (at_place new i) (at_place row i) ≡ Some x → IsFraction x
       → Added step old (set new i x) row (i + 1)

@@ -89,9 +89,6 @@ first_without Holds ps i less before fails = record {
     first (suc k) other h is = before_it Holds ps i k other before (omega (arith, h)) is
 
 module _ (R : List ℕ → List Ratio → Type 0) where
-  pub no_rows : AreRowsAt R [] []
-  no_rows = record { rows = []; joined = refl; right = tt }
-
   pub one_row_more : (ps : List (List ℕ)) (i : ℕ) (payoffs next row : List Ratio) → i < length ps
       → AreRowsAt R (take i ps) payoffs → R (get_or ps i []) row → next ≡ payoffs ++ row
       → AreRowsAt R (take (i + 1) ps) next

@@ -12,7 +12,6 @@ use Rattle.std.proofs.lemmas.Grind.{flat_map-append}
 use Rattle.gf_token.specs.LabelSpelling.{is_spelling_after, IsLabel}
 use Rattle.std.proofs.Math.Nat.{div-add-mod, div-le_self, div-lt_iff_lt-mul, mod-lt}
 use Rattle.std.proofs.Math.Nat.{mul-div_cancel_left, mul_comm}
-use Rattle.std.proofs.Math.ListN.{drop_of_length-le}
 use Rattle.std.proofs.Math.Seq.{drop-cons, take-append_seam, take-nil, take-suc}
 use Rattle.std.proofs.lemmas.List.{append-nil, get_or_default, length-append, map-append}
 use Rattle.gf_nfg.specs.Profiles.{product}
@@ -107,22 +106,6 @@ goes_on counts number i stride rest count strategy h less is =
             ∙ h.choice;
       };
     }
-
-pub goes_first : (counts : List ℕ) (number whole : ℕ) → whole ≡ product counts → number < whole
-    → Goes counts number 0 whole number []
-goes_first counts number whole is less = record { stride_is = is; below = less; choice = refl }
-
-pub goes_last : (counts : List ℕ) (number i stride rest : ℕ) (strategy : List ℕ)
-    → Goes counts number i stride rest strategy → length counts ≤ i
-    → strategy ≡ get_or (all_choices counts) number []
-goes_last counts number i stride rest strategy h past =
-    let end : drop i counts ≡ [] = drop_of_length-le counts past in
-    let one : rest ≡ 0 =
-    let whole : stride ≡ 1 = h.stride_is ∙ ap product end in omega (arith, whole, h.below) in
-    sym (append-nil strategy)
-    ∙ ap (λ (xs : List ℕ). strategy ++ xs)
-    (sym (λ j. get_or (all_choices (end j)) (one j) []))
-    ∙ h.choice
 
 -- ---- labels
 

@@ -1,14 +1,15 @@
 -- A survey of a tree: what is found when it goes into a branch.
 use Rattle.std.proofs.Common.{◌≡◌, ℕ, zero, suc, ◌+◌, ◌≤◌, Bool, true, false, List, []}
-use Rattle.std.proofs.Common.{◌∷◌, ◌++◌, Some, None, length, refl, sym, ap}
+use Rattle.std.proofs.Common.{◌∷◌, ◌++◌, Some, length, refl, sym, ap}
 use Rattle.std.proofs.Common.{◌∙◌, subst, arith}
 use Rattle.std.specs.Prelude.{◌==◌, ◌||◌, ◌&&◌, if◌then◌else◌, not}
 use Rattle.std.specs.List.{AllByRecursion, list_any}
 use Rattle.std.specs.Option.{option_map_or}
-use Rattle.std.proofs.Math.Bool.{and_assoc, and-or_distrib_left}
+use Rattle.std.proofs.Math.Bool.{and-false, and-or_distrib_left, and-true, and_assoc, and_comm, or-false}
 use Rattle.std.proofs.lemmas.Bool.{eq-eqb, eqb-true, false≢true, false_from_ne_true, ne_eqb}
 use Rattle.std.proofs.lemmas.List.Folds.{list_any-append}
 use Rattle.std.proofs.lemmas.List.{length-append}
+use Rattle.std.proofs.lemmas.Option.{slice_get_within}
 use Rattle.gf_token.specs.Positions.{at_position}
 use Rattle.gf_fraction.proofs.AllElements.{all_both}
 use Rattle.gf_tree.specs.BranchesLeft.{branches_given, branches_left, game_of_branches}
@@ -38,7 +39,7 @@ use Rattle.gf_form.specs.declared.visits.Move.{Move}
 use Rattle.gf_form.specs.declared.visits.Visit.{Visit}
 use Rattle.gf_form.proofs.Coming.{relevant_is}
 use Rattle.gf_form.proofs.KnownSets.{own_set}
-use Rattle.gf_form.proofs.VisitsMet.{met, slice_within}
+use Rattle.gf_form.proofs.VisitsMet.{met}
 use Rattle.gf_form.proofs.Walks.{choice_there}
 
 -- ---- a player's keys
@@ -98,20 +99,12 @@ module _ (choices : SetKey → ℕ) (key : SetKey) where
   behind : (a : Bool) (own test : ℕ → Bool) (k : ℕ) (ts : List (Tree Node))
       → ((j : ℕ) → (a && own j) ≡ test j)
       → (a && list_comes choices key own k ts) ≡ list_comes choices key test k ts
-  behind a own test k [] h = nothing a
-    where
-      nothing : (a : Bool) → (a && false) ≡ false
-      nothing true = refl
-      nothing false = refl
+  behind a own test k [] h = and-false a
   behind a own test k (t ∷ ts) h =
       let comes = tree_comes choices key t in
       and-or_distrib_left a (own k && comes) (list_comes choices key own (k + 1) ts)
       ∙ (λ i. (sym (and_assoc a (own k) comes) ∙ ap (λ b. b && comes) (h k)) i
       || behind a own test (k + 1) ts h i)
-
-  at_leaf : (t : Tree Node) → (root_node t).set ≡ None → tree_comes choices key t ≡ false
-  at_leaf (branch n ts) at =
-      ap (λ o. option_map_or (λ own. same_set key own || trees_come choices key n 1 ts) o false) at
 
   at_own : (t : Tree Node) (own : SetKey) (a here : Bool) (test : ℕ → Bool)
       → (root_node t).set ≡ Some own → same_set key own ≡ here
@@ -127,15 +120,9 @@ module _ (choices : SetKey → ℕ) (key : SetKey) where
       at
       ∙ ap (λ b. a && (b || trees_come choices key n 1 ts)) is
       ∙ and-or_distrib_left a here (trees_come choices key n 1 ts)
-      ∙ (λ i. swapped a here i || (ap (λ b. a && b) (trees_list n 1 ts)
+      ∙ (λ i. and_comm a here i || (ap (λ b. a && b) (trees_list n 1 ts)
       ∙ behind a (λ j. is_own_choice choices key.player (record { node = n; taken = j })) test 1
       (list_of ts) (λ k. ap (λ b. a && b) (move k) ∙ h k)) i)
-    where
-      swapped : (a b : Bool) → (a && b) ≡ (b && a)
-      swapped true true = refl
-      swapped true false = refl
-      swapped false true = refl
-      swapped false false = refl
 
 -- ---- what is found
 
@@ -163,25 +150,7 @@ found_next false false true false = refl
 found_next false false false true = refl
 found_next false false false false = refl
 
-found_nothing : (found a b : Bool) → b ≡ false → found ≡ (found || (a && b))
-found_nothing true a b e = refl
-found_nothing false true b e = sym e
-found_nothing false false b e = refl
-
 module _ (g : Game) (game : IsGame g) where
-  -- nobody moves
-  pub entered_leaf : (old : Survey) (last : Move) (t : Tree Node) → (root_node t).set ≡ None
-      → FindsMore g old old
-      (λ strategy reached choices key. is_taken (chosen strategy) reached last
-      && tree_comes choices key t)
-  entered_leaf old last t at strategy reached position key there reaches =
-      let choices = choice_at (player_keys g old.player) strategy in (
-        reaches,
-        found_nothing (survey_comes strategy reached choices position key old)
-            (is_taken (chosen strategy) reached last) (tree_comes choices key t)
-            (at_leaf choices key t at),
-      )
-
   -- another player moves, or chance does
   pub entered_other : (old new : Survey) (last : Move) (t : Tree Node) (own : SetKey) (o : Open)
       → visits_of new.visits ≡ visits_of old.visits → new.nodes.items ≡ old.nodes.items ++ o ∷ []
@@ -203,7 +172,7 @@ module _ (g : Game) (game : IsGame g) where
       let below : (taken && tree_comes choices key t) ≡ comes o =
       at_own choices key t own taken false (λ k. is_taken (chosen strategy) reached (last_move o k))
       at here
-      (λ k. ap (λ b. taken && (not b || choices own == k)) apart ∙ and_true taken
+      (λ k. ap (λ b. taken && (not b || choices own == k)) apart ∙ and-true taken
       ∙ ap (is_taken (chosen strategy) reached) (sym (other_move o k last is_own last_is)))
       ∙ (λ i. list_comes choices key (λ k. is_taken (chosen strategy) reached (last_move o k))
       (first given i) (sym left i)) in (
@@ -216,10 +185,6 @@ module _ (g : Game) (game : IsGame g) where
             ∙ ap (λ b. survey_comes strategy reached choices position key old || b) (sym below),
       )
     where
-      and_true : (b : Bool) → (b && true) ≡ b
-      and_true true = refl
-      and_true false = refl
-
       first : {n : ℕ} → n ≡ 0 → 1 ≡ n + 1
       first e = ap (λ (m : ℕ). m + 1) (sym e)
 
@@ -328,22 +293,6 @@ found_child g old between new node later t player visits opened left given last 
           ∙ ap (λ b. survey_comes strategy reached choices position key old || b) (sym parts),
     )
 
-pub found_no_child : (g : Game) (old : Survey) (node : Open) → branches_left node.rest ≡ []
-    → FindsMore g old old
-    (λ strategy reached choices key. open_comes strategy reached choices key node)
-found_no_child g old node left strategy reached position key there reaches = (
-  reaches,
-  or_false (survey_comes strategy reached (choice_at (player_keys g old.player) strategy) position
-      key old) (open_comes strategy reached (choice_at (player_keys g old.player) strategy) key node)
-      (λ i. list_comes (choice_at (player_keys g old.player) strategy) key
-      (λ k. is_taken (chosen strategy) reached (last_move node k)) (branches_given node.rest + 1)
-      (left i)),
-)
-  where
-    or_false : (a b : Bool) → b ≡ false → a ≡ (a || b)
-    or_false true b e = refl
-    or_false false b e = sym e
-
 -- ---- sizes
 
 flattened : (ts : Trees Node) → length (flatten_all ts) ≡ sizes (list_of ts)
@@ -387,7 +336,7 @@ survey_kept g old new o is grown ordered opened game visited = record {
 pub position_within : {A : Type 0} (xs : List A) (position : ℕ) (x : A)
     → at_position xs position ≡ Some x → (1 ≤ position) × (position ≤ length xs)
 position_within xs zero x h = absurd cc
-position_within xs (suc k) x h = (omega arith, omega (arith, slice_within xs k x h))
+position_within xs (suc k) x h = (omega arith, omega (arith, slice_get_within xs k x h))
 
 -- ---- the whole survey
 
@@ -474,9 +423,5 @@ finds_relevance g game s nodes is finds = record {
       ∙ sym (finds strategy reached position key there reaches)
       ∙ ap (λ os. is_met reached position 1 (visits_of s.visits)
       || list_any (open_comes strategy reached choices key) os) nodes
-      ∙ or_false (is_met reached position 1 (visits_of s.visits));
+      ∙ or-false (is_met reached position 1 (visits_of s.visits));
 }
-  where
-    or_false : (b : Bool) → (b || false) ≡ b
-    or_false true = refl
-    or_false false = refl

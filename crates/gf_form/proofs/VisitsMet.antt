@@ -3,14 +3,15 @@ use Rattle.std.proofs.Common.{◌≡◌, ℕ, zero, suc, ◌+◌, ◌<◌, ◌�
 use Rattle.std.proofs.Common.{◌∷◌, ◌++◌, Some, length, refl, sym, ap, ◌∙◌, subst, arith, inl, inr}
 use Rattle.std.proofs.Common.{add-one, get_or, set, slice_get, take}
 use Rattle.std.specs.Prelude.{◌==◌, ◌||◌, ◌&&◌, ◌⊎◌}
-use Rattle.std.proofs.Math.Bool.{or_assoc}
+use Rattle.std.proofs.Math.Bool.{or-false, or-true, or_assoc}
+use Rattle.std.proofs.Math.Seq.{get_or-append_seam}
 use Rattle.std.proofs.lemmas.Bool.{eq-eqb, eqb-false, eqb-true, ne_eqb}
 use Rattle.std.proofs.lemmas.Grind.{get_or-set_at}
-use Rattle.std.proofs.lemmas.Option.{slice_get-get_or}
-use Rattle.std.proofs.lemmas.List.{get_or-set_other, length-append, length-set, take_more}
+use Rattle.std.proofs.lemmas.Option.{slice_get-get_or, slice_get_within}
+use Rattle.std.proofs.lemmas.List.{get_or-set_other, get_or_append_left, length-append, take_more}
 use Rattle.std.proofs.lemmas.List.Folds.{list_any-append}
 use Rattle.std.specs.List.{list_any}
-use Rattle.gf_form.specs.inner.Visits.{AreOrdered, AreReached, Meets, Reaches, is_met, is_taken, visit_at}
+use Rattle.gf_form.specs.inner.Visits.{AreOrdered, AreReached, Meets, Reaches, is_met, is_taken}
 use Rattle.gf_form.specs.declared.visits.Visit.{Visit}
 
 module _ (choices : ℕ → ℕ) (reached : ℕ → Bool) where
@@ -45,12 +46,8 @@ module _ (choices : ℕ → ℕ) (reached : ℕ → Bool) where
       || (v.set == position && reached (number + length vs)))
   met_last [] v position number =
       let here : number + 0 ≡ number = omega arith in
-      or_false ((v.set == position) && reached number)
+      or-false ((v.set == position) && reached number)
       ∙ ap (λ (n : ℕ). v.set == position && reached n) (sym here)
-    where
-      or_false : (b : Bool) → (b || false) ≡ b
-      or_false true = refl
-      or_false false = refl
   met_last (w ∷ vs) v position number =
       let next : number + 1 + length vs ≡ number + suc (length vs) = omega arith in
       let here = (w.set == position) && reached number in
@@ -126,15 +123,10 @@ ordered_last sets [] v number h less above within = (omega (arith, less), above,
 ordered_last sets (w ∷ vs) v number h less above within =
     (h.0, h.1, h.2, ordered_last sets vs v (number + 1) h.3 (omega (arith, less)) above within)
 
-pub slice_within : {A : Type 0} (xs : List A) (k : ℕ) (x : A) → slice_get xs k ≡ Some x → k < length xs
-slice_within [] k x h = absurd cc
-slice_within (y ∷ xs) zero x h = omega arith
-slice_within (y ∷ xs) (suc k) x h = omega (arith, slice_within xs k x h)
-
 pub met_within : (old : List Visit) (visit : Visit) (new : List Visit) (number : ℕ)
     → Meets old visit new number → number ≤ length new
 met_within old visit new zero m = omega arith
-met_within old visit new (suc k) m = omega (arith, slice_within new k visit m.there)
+met_within old visit new (suc k) m = omega (arith, slice_get_within new k visit m.there)
 
 pub met_more : (old : List Visit) (visit : Visit) (new : List Visit) (number : ℕ)
     → Meets old visit new number → length old ≤ length new
@@ -175,18 +167,6 @@ pub record ReachedTo (choices : ℕ → ℕ) (vs : List Visit) (flags : List Boo
   pub reached : (k : ℕ) (v : Visit) → k < i → slice_get vs k ≡ Some v
       → get_or flags (suc k) false ≡ is_taken choices (λ number. get_or flags number false) v.last
 
--- one more flag leaves the earlier ones
-flag_kept : (flags : List Bool) (flag : Bool) (k : ℕ) → k < length flags
-    → get_or (flags ++ flag ∷ []) k false ≡ get_or flags k false
-flag_kept [] flag k h = absurd (omega (arith, h))
-flag_kept (f ∷ flags) flag zero h = refl
-flag_kept (f ∷ flags) flag (suc k) h = flag_kept flags flag k (omega (arith, h))
-
-flag_last : (flags : List Bool) (flag : Bool)
-    → get_or (flags ++ flag ∷ []) (length flags) false ≡ flag
-flag_last [] flag = refl
-flag_last (f ∷ flags) flag = flag_last flags flag
-
 some_same : {x y : Visit} → Some x ≡ Some y → x ≡ y
 some_same e = cc
 
@@ -198,7 +178,7 @@ pub reached_more : (choices : ℕ → ℕ) (sets : ℕ) (vs : List Visit) (flags
 reached_more choices sets vs flags next i v flag ordered h there is flag_is =
     subst (λ flags. ReachedTo choices vs flags (i + 1)) (sym is) (record {
       counted = omega (arith, length-append flags (flag ∷ []), h.counted);
-      first = flag_kept flags flag 0 (omega (arith, h.counted)) ∙ h.first;
+      first = get_or_append_left flags (flag ∷ []) false 0 (omega (arith, h.counted)) ∙ h.first;
       reached = λ k w less at. by k w at (k == i) refl less;
     })
   where
@@ -207,7 +187,8 @@ reached_more choices sets vs flags next i v flag ordered h there is flag_is =
         ≡ is_taken choices (λ number. get_or (flags ++ flag ∷ []) number false) w.last
     kept k w within at =
         let o = ordered_there sets vs w k 1 ordered at in
-        λ i. sym (flag_kept flags flag w.last.visit (omega (arith, o.0, within, h.counted))) i
+        λ i. sym (get_or_append_left flags (flag ∷ []) false w.last.visit
+        (omega (arith, o.0, within, h.counted))) i
         && choices w.last.set == w.last.action
 
     by : (k : ℕ) (w : Visit) → slice_get vs k ≡ Some w → (b : Bool) → (k == i) ≡ b → k < i + 1
@@ -215,14 +196,14 @@ reached_more choices sets vs flags next i v flag ordered h there is flag_is =
         ≡ is_taken choices (λ number. get_or (flags ++ flag ∷ []) number false) w.last
     by k w at false e less =
         let earlier : k < i = omega (arith, eqb-false k i e, less) in
-        flag_kept flags flag (suc k) (omega (arith, earlier, h.counted))
+        get_or_append_left flags (flag ∷ []) false (suc k) (omega (arith, earlier, h.counted))
         ∙ h.reached k w earlier at ∙ kept k w (omega (arith, earlier)) at
     by k w at true e less =
         let last = eqb-true k i e in
         let same : v ≡ w = some_same (sym there ∙ ap (slice_get vs) (sym last) ∙ at) in
         let end : suc k ≡ length flags = omega (arith, last, h.counted) in
         ap (λ (n : ℕ). get_or (flags ++ flag ∷ []) n false) end
-        ∙ flag_last flags flag ∙ flag_is
+        ∙ get_or-append_seam flags flag [] false ∙ flag_is
         ∙ ap (λ (v : Visit). is_taken choices (λ number. get_or flags number false) v.last) same
         ∙ kept k w (omega (arith, last)) at
 
@@ -246,7 +227,7 @@ reached_all choices vs flags h = (
   h.first,
   all_reached choices (λ number. get_or flags number false) vs 1 (λ k v at.
       let next : 1 + k ≡ suc k = omega arith in
-      ap (λ (n : ℕ). get_or flags n false) next ∙ h.reached k v (slice_within vs k v at) at),
+      ap (λ (n : ℕ). get_or flags n false) next ∙ h.reached k v (slice_get_within vs k v at) at),
 )
 
 -- for all choices some visits come about
@@ -285,26 +266,18 @@ pub flag_on : (flags : List Bool) (at position before : ℕ) → at < length fla
     ≡ (get_or flags before false || position == suc before)
 flag_on flags at position before inside is = by (before == at) refl
   where
-    or_true : (b : Bool) → (b || true) ≡ true
-    or_true true = refl
-    or_true false = refl
-
-    or_false : (b : Bool) → b ≡ (b || false)
-    or_false true = refl
-    or_false false = refl
-
     by : (b : Bool) → (before == at) ≡ b → get_or (set flags at true) before false
         ≡ (get_or flags before false || position == suc before)
     by true e =
         let same : before ≡ at = eqb-true before at e in
         get_or-set_at flags at before true false same inside
-        ∙ sym (or_true (get_or flags before false))
+        ∙ sym (or-true (get_or flags before false))
         ∙ ap (λ b. get_or flags before false || b)
         (sym (eq-eqb position (suc before) (omega (arith, same, is))))
     by false e =
         let differs = eqb-false before at e in
         get_or-set_other flags at before true false differs
-        ∙ or_false (get_or flags before false)
+        ∙ sym (or-false (get_or flags before false))
         ∙ ap (λ b. get_or flags before false || b)
         (sym (ne_eqb position (suc before) (λ q. differs (omega (arith, q, is)))))
 
@@ -313,8 +286,4 @@ pub any_more : (test : ℕ → Bool) (xs : List ℕ) (i : ℕ) → i < length xs
 any_more test xs i less =
     ap (list_any test) (take_more xs i 0 less)
     ∙ list_any-append test (take i xs) (get_or xs i 0 ∷ [])
-    ∙ ap (λ b. list_any test (take i xs) || b) (or_nothing (test (get_or xs i 0)))
-  where
-    or_nothing : (b : Bool) → (b || false) ≡ b
-    or_nothing true = refl
-    or_nothing false = refl
+    ∙ ap (λ b. list_any test (take i xs) || b) (or-false (test (get_or xs i 0)))

@@ -31,7 +31,7 @@ use Rattle.gf_form.specs.inner.Program.{chance_code, child_code, code, code_over
 use Rattle.gf_form.specs.Strategies.{choice_at, choices_by, strategy_at}
 use Rattle.gf_form.specs.inner.Values.{chances_at}
 use Rattle.gf_form.specs.declared.op.Op.{Op}
-use Rattle.gf_form.specs.declared.op.Op.TheVariants.{Push, Begin, Nothing, Weigh, Pay}
+use Rattle.gf_form.specs.declared.op.Op.TheVariants.{Begin, Nothing, Weigh, Pay}
 use Rattle.gf_form.specs.declared.walk.Open.{Open}
 
 -- ---- the operations of a tree by the list of its children
@@ -51,20 +51,11 @@ module _ (g : Game) (choices : SetKey → ℕ) where
   child_list (more t ts) (suc zero) = refl
   child_list (more t ts) (suc (suc position)) = child_list ts (suc position)
 
-  over_none : (own : ℕ) (o : Option SetKey) (below : SetKey → List Op) → o ≡ None
-      → code_over own o below ≡ Push own ∷ []
-  over_none own None below is = refl
-  over_none own (Some key) below is = absurd cc
-
   over_some : (own : ℕ) (o : Option SetKey) (below : SetKey → List Op) (key : SetKey)
       → o ≡ Some key → code_over own o below ≡ below key ++ Pay own ∷ []
   over_some own None below key is = absurd cc
   over_some own (Some k) below key is =
       let same : k ≡ key = cc in ap (λ (k : SetKey). below k ++ Pay own ∷ []) same
-
-  pub code_of_leaf : (t : Tree Node) → (root_node t).set ≡ None
-      → code g choices t ≡ Push (paid_at_node g (root_node t)) ∷ []
-  code_of_leaf (branch n ts) is = over_none (paid_at_node g n) n.set _ is
 
   pub code_of_chance : (t : Tree Node) (key : SetKey) → (root_node t).set ≡ Some key
       → key.player ≡ 0

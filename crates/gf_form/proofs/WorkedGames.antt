@@ -1,338 +1,85 @@
--- The worked games are games, and files can hold them.
-use Rattle.std.proofs.Common.{ℕ, pos, ◌-◌, ◌^◌, ◌<◌, [], ◌∷◌, refl, arith}
-use Rattle.std.specs.Prelude.{codes, neg_ℤ}
+-- The worked games are games, and files can hold them: for each a file, which the machine of the
+-- reader reads to it.
+use Rattle.std.proofs.Common.{◌≡◌, ℕ, List, [], ◌∷◌, ◌++◌, length, refl}
+use Rattle.std.specs.Prelude.{codes}
+use Rattle.std.specs.Fmt.{digits}
 use Rattle.std.specs.List.{AllByRecursion}
-use Rattle.std.proofs.lemmas.Nat.Gcd.{dvd_refl}
-use Rattle.gf_fraction.specs.Ratio.{IsFraction, whole}
-use Rattle.gf_fraction.specs.Fits.{AddsTo, SumFits}
-use Rattle.gf_fraction.specs.Computed.{lowest_of, gcd_within}
-use Rattle.gf_fraction.proofs.ComputedArithmetic.{lowest_of-fraction}
-use Rattle.gf_fraction.proofs.WholeNumbers.{whole_fraction, part_fraction}
-use Rattle.gf_tree.specs.Description.{AddToOne, IsSet, set_of}
-use Rattle.gf_tree.specs.Game.{IsGame}
+use Rattle.gf_fraction.specs.Computed.{gcd_within, lowest_of, number_of, sum_of}
+use Rattle.gf_token.specs.Indices.{index_of}
+use Rattle.gf_token.specs.inner.Lexing.{lex}
+use Rattle.gf_token.specs.inner.Lexing.Mode.{Gap}
+use Rattle.gf_tree.specs.Game.{Game, IsGame}
+use Rattle.gf_tree.specs.inner.Machine.{nothing, run}
+use Rattle.gf_tree.specs.inner.Machine.Position.{Format}
 use Rattle.gf_tree.specs.Spellable.{IsSpellable}
-use Rattle.gf_tree.proofs.Worked.{choice_is_set, toss_is_set}
-use Rattle.gf_form.specs.WorkedForms.{greatest, sure, never, overflowing}
-use Rattle.gf_form.specs.WorkedForms.{unlikely, balancing, ending, contradicted}
+use Rattle.gf_tree.proofs.SpelledGames.{spelled_is_spellable}
+use Rattle.gf_tree.proofs.WorkedGames.{game_read, meant, ok_game}
+use Rattle.gf_form.specs.WorkedForms.{balancing, contradicted, ending, overflowing, unlikely}
 
-minus_one : IsFraction (whole (neg_ℤ (pos 1)))
-unfolding lowest_of gcd_within
-minus_one = lowest_of-fraction (neg_ℤ (pos 1)) 1 (omega arith) (omega arith) (omega arith)
+abbrev IsHeld : Game → Type 0
+IsHeld g = IsGame g × IsSpellable g
 
-far_below : IsFraction (whole (neg_ℤ (pos (2 ^ 126 - 1))))
-unfolding lowest_of gcd_within
-far_below =
-    lowest_of-fraction (neg_ℤ (pos (2 ^ 126 - 1))) 1 (omega arith) (omega arith) (omega arith)
+held : (bytes : List ℕ) (g : Game)
+    → game_read (run (length bytes) Format nothing (lex Gap 0 bytes)) ≡ ok_game g → IsHeld g
+held bytes g e = spelled_is_spellable bytes g (meant bytes g e)
 
-greatest_is : IsFraction greatest
-greatest_is = whole_fraction (2 ^ 127 - 1) (omega arith)
+abbrev overflowing_file : List ℕ
+overflowing_file =
+    codes "EFG 2 R \"o\" { \"A\" } "
+    ++ codes "p \"\" 1 1 \"i\" { \"a\" \"b\" } 1 \"x\" { -1 } t \"\" 0 p \"\" 1 2 \"j\" { \"c\" } "
+    ++ codes "2 \"y\" { 170141183460469231731687303715884105727 } t \"\" 3 \"z\" { 1 }"
 
--- ---- the sure action
+overflowing_is_held : IsHeld overflowing
+unfolding lex digits index_of number_of sum_of lowest_of gcd_within
+overflowing_is_held = held overflowing_file overflowing refl
 
-whole_fits : (m n : ℕ) → m < 2 → n < 2 → SumFits (whole (pos m)) (whole (pos n))
-whole_fits m n hm hn = record {
-  den = 1;
-  least = record { left = dvd_refl 1; right = dvd_refl 1; least = λ k p q. p };
-  den_within = omega arith;
-  left_within = omega arith;
-  right_within = omega arith;
-  sum_within = omega arith;
-}
+abbrev unlikely_file : List ℕ
+unlikely_file =
+    codes "EFG 2 R \"q\" { \"A\" } "
+    ++ codes "c \"\" 1 \"n\" { \"a\" 1 \"b\" 0 } 0 t \"\" 1 \"x\" { 1 } c \"\" 2 \"k\" { \"e\" 1 } "
+    ++ codes "2 \"y\" { 170141183460469231731687303715884105727 } t \"\" 1"
 
-sure_adds : AddToOne (whole (pos 0)) (whole (pos 1) ∷ whole (pos 0) ∷ [])
-sure_adds =
-    let first : AddsTo (whole (pos 0)) (whole (pos 1)) (whole (pos 1)) =
-    (whole_fits 0 1 (omega arith) (omega arith), whole_fraction 1 (omega arith), refl) in
-    let second : AddsTo (whole (pos 1)) (whole (pos 0)) (whole (pos 1)) =
-    (whole_fits 1 0 (omega arith) (omega arith), whole_fraction 1 (omega arith), refl) in
-    (omega arith, (whole (pos 1), first, (omega arith, (whole (pos 1), second, refl))))
+unlikely_is_held : IsHeld unlikely
+unfolding lex digits index_of number_of sum_of lowest_of gcd_within
+unlikely_is_held = held unlikely_file unlikely refl
 
-sure_is_set : IsSet 1 (set_of 0 1)
-    (record { name = codes "n"; actions = sure (codes "a") ∷ never (codes "b") ∷ [] })
-sure_is_set = record {
-  player = omega arith;
-  number = omega arith;
-  some_action = omega arith;
-  actions = (whole (pos 1) ∷ whole (pos 0) ∷ [], refl, sure_adds);
-}
+abbrev balancing_file : List ℕ
+balancing_file =
+    codes "EFG 2 R \"b\" { \"A\" } "
+    ++ codes "c \"\" 1 \"n\" { \"h\" 1/2 \"t\" 1/2 } 1 "
+    ++ codes "\"x\" { -85070591730234615865843651857942052863 } "
+    ++ codes "t \"\" 2 \"y\" { 170141183460469231731687303715884105727 } "
+    ++ codes "t \"\" 3 \"z\" { 170141183460469231731687303715884105725 }"
 
-alone_adds : AddToOne (whole (pos 0)) (whole (pos 1) ∷ [])
-alone_adds =
-    let first : AddsTo (whole (pos 0)) (whole (pos 1)) (whole (pos 1)) =
-    (whole_fits 0 1 (omega arith) (omega arith), whole_fraction 1 (omega arith), refl) in
-    (omega arith, (whole (pos 1), first, refl))
+balancing_is_held : IsHeld balancing
+unfolding lex digits index_of number_of sum_of lowest_of gcd_within
+balancing_is_held = held balancing_file balancing refl
 
-alone_is_set : IsSet 1 (set_of 0 2) (record { name = codes "k"; actions = sure (codes "e") ∷ [] })
-alone_is_set = record {
-  player = omega arith;
-  number = omega arith;
-  some_action = omega arith;
-  actions = (whole (pos 1) ∷ [], refl, alone_adds);
-}
+abbrev ending_file : List ℕ
+ending_file =
+    codes "EFG 2 R \"r\" { \"A\" } "
+    ++ codes "p \"\" 1 1 \"i\" { \"a\" \"b\" } 0 t \"\" 1 \"x\" { 1 } "
+    ++ codes "p \"\" 1 2 \"j\" { \"c\" \"d\" } 0 "
+    ++ codes "t \"\" 2 \"y\" { 2 } t \"\" 3 \"z\" { 3 }"
 
--- ---- games
+ending_is_held : IsHeld ending
+unfolding lex digits index_of number_of sum_of lowest_of gcd_within
+ending_is_held = held ending_file ending refl
 
-overflowing_is_game : IsGame overflowing
-overflowing_is_game = record {
-  one_entry_each_set = refl;
-  one_entry_each_outcome = refl;
-  each_set = (
-    choice_is_set 1 0 1 (codes "i") (codes "a") (codes "b" ∷ []) (omega arith) (omega arith),
-    (choice_is_set 1 0 2 (codes "j") (codes "c") [] (omega arith) (omega arith), tt),
-  );
-  each_outcome = (
-    record { number_from_one = omega arith; one_payoff_each = refl },
-    (
-      record { number_from_one = omega arith; one_payoff_each = refl },
-      (record { number_from_one = omega arith; one_payoff_each = refl }, tt),
-    ),
-  );
-  children = (refl, (refl, (refl, (refl, tt))));
-}
+abbrev contradicted_file : List ℕ
+contradicted_file =
+    codes "EFG 2 R \"\" { \"A\" } "
+    ++ codes "p \"\" 1 1 \"\" { \"\" \"\" } 0 p \"\" 1 1 0 t \"\" 0 "
+    ++ codes "p \"\" 1 2 \"\" { \"\" \"\" } 0 t \"\" 0 "
+    ++ codes "t \"\" 0 t \"\" 0"
 
-unlikely_is_game : IsGame unlikely
-unlikely_is_game = record {
-  one_entry_each_set = refl;
-  one_entry_each_outcome = refl;
-  each_set = (sure_is_set, (alone_is_set, tt));
-  each_outcome = (
-    record { number_from_one = omega arith; one_payoff_each = refl },
-    (record { number_from_one = omega arith; one_payoff_each = refl }, tt),
-  );
-  children = (refl, (refl, (refl, (refl, tt))));
-}
+contradicted_is_held : IsHeld contradicted
+unfolding lex digits index_of number_of sum_of lowest_of gcd_within
+contradicted_is_held = held contradicted_file contradicted refl
 
-balancing_is_game : IsGame balancing
-balancing_is_game = record {
-  one_entry_each_set = refl;
-  one_entry_each_outcome = refl;
-  each_set = (toss_is_set 1 1 (codes "n") (omega arith), tt);
-  each_outcome = (
-    record { number_from_one = omega arith; one_payoff_each = refl },
-    (
-      record { number_from_one = omega arith; one_payoff_each = refl },
-      (record { number_from_one = omega arith; one_payoff_each = refl }, tt),
-    ),
-  );
-  children = (refl, (refl, (refl, tt)));
-}
-
-ending_is_game : IsGame ending
-ending_is_game = record {
-  one_entry_each_set = refl;
-  one_entry_each_outcome = refl;
-  each_set = (
-    choice_is_set 1 0 1 (codes "i") (codes "a") (codes "b" ∷ []) (omega arith) (omega arith),
-    (choice_is_set 1 0 2 (codes "j") (codes "c") (codes "d" ∷ []) (omega arith) (omega arith), tt),
-  );
-  each_outcome = (
-    record { number_from_one = omega arith; one_payoff_each = refl },
-    (
-      record { number_from_one = omega arith; one_payoff_each = refl },
-      (record { number_from_one = omega arith; one_payoff_each = refl }, tt),
-    ),
-  );
-  children = (refl, (refl, (refl, (refl, (refl, tt)))));
-}
-
-contradicted_is_game : IsGame contradicted
-contradicted_is_game = record {
-  one_entry_each_set = refl;
-  one_entry_each_outcome = refl;
-  each_set = (
-    choice_is_set 1 0 1 [] [] ([] ∷ []) (omega arith) (omega arith),
-    (choice_is_set 1 0 2 [] [] ([] ∷ []) (omega arith) (omega arith), tt),
-  );
-  each_outcome = tt;
-  children = (refl, (refl, (refl, (refl, (refl, (refl, (refl, tt)))))));
-}
-
--- ---- files
-
-overflowing_is_spellable : IsSpellable overflowing
-overflowing_is_spellable = record {
-  title = refl;
-  comment = refl;
-  players = (refl, tt);
-  nodes = (refl, (refl, (refl, (refl, tt))));
-  sets = (
-    record {
-      player = omega arith;
-      number = omega arith;
-      name = refl;
-      actions = ((refl, tt), ((refl, tt), tt));
-    },
-    (
-      record {
-        player = omega arith;
-        number = omega arith;
-        name = refl;
-        actions = ((refl, tt), tt);
-      },
-      tt,
-    ),
-  );
-  outcomes = (
-    record { number = omega arith; name = refl; payoffs = (minus_one, tt) },
-    (
-      record { number = omega arith; name = refl; payoffs = (greatest_is, tt) },
-      (
-        record {
-          number = omega arith;
-          name = refl;
-          payoffs = (whole_fraction 1 (omega arith), tt);
-        },
-        tt,
-      ),
-    ),
-  );
-}
-
-unlikely_is_spellable : IsSpellable unlikely
-unlikely_is_spellable = record {
-  title = refl;
-  comment = refl;
-  players = (refl, tt);
-  nodes = (refl, (refl, (refl, (refl, tt))));
-  sets = (
-    record {
-      player = omega arith;
-      number = omega arith;
-      name = refl;
-      actions =
-          ((refl, whole_fraction 1 (omega arith)), ((refl, whole_fraction 0 (omega arith)), tt));
-    },
-    (
-      record {
-        player = omega arith;
-        number = omega arith;
-        name = refl;
-        actions = ((refl, whole_fraction 1 (omega arith)), tt);
-      },
-      tt,
-    ),
-  );
-  outcomes = (
-    record { number = omega arith; name = refl; payoffs = (whole_fraction 1 (omega arith), tt) },
-    (record { number = omega arith; name = refl; payoffs = (greatest_is, tt) }, tt),
-  );
-}
-
-balancing_is_spellable : IsSpellable balancing
-balancing_is_spellable = record {
-  title = refl;
-  comment = refl;
-  players = (refl, tt);
-  nodes = (refl, (refl, (refl, tt)));
-  sets = (
-    record {
-      player = omega arith;
-      number = omega arith;
-      name = refl;
-      actions = (
-        (refl, part_fraction 2 (omega arith) (omega arith)),
-        ((refl, part_fraction 2 (omega arith) (omega arith)), tt),
-      );
-    },
-    tt,
-  );
-  outcomes = (
-    record { number = omega arith; name = refl; payoffs = (far_below, tt) },
-    (
-      record { number = omega arith; name = refl; payoffs = (greatest_is, tt) },
-      (
-        record {
-          number = omega arith;
-          name = refl;
-          payoffs = (whole_fraction (2 ^ 127 - 3) (omega arith), tt);
-        },
-        tt,
-      ),
-    ),
-  );
-}
-
-ending_is_spellable : IsSpellable ending
-ending_is_spellable = record {
-  title = refl;
-  comment = refl;
-  players = (refl, tt);
-  nodes = (refl, (refl, (refl, (refl, (refl, tt)))));
-  sets = (
-    record {
-      player = omega arith;
-      number = omega arith;
-      name = refl;
-      actions = ((refl, tt), ((refl, tt), tt));
-    },
-    (
-      record {
-        player = omega arith;
-        number = omega arith;
-        name = refl;
-        actions = ((refl, tt), ((refl, tt), tt));
-      },
-      tt,
-    ),
-  );
-  outcomes = (
-    record { number = omega arith; name = refl; payoffs = (whole_fraction 1 (omega arith), tt) },
-    (
-      record {
-        number = omega arith;
-        name = refl;
-        payoffs = (whole_fraction 2 (omega arith), tt);
-      },
-      (
-        record {
-          number = omega arith;
-          name = refl;
-          payoffs = (whole_fraction 3 (omega arith), tt);
-        },
-        tt,
-      ),
-    ),
-  );
-}
-
-contradicted_is_spellable : IsSpellable contradicted
-contradicted_is_spellable = record {
-  title = refl;
-  comment = refl;
-  players = (refl, tt);
-  nodes = (refl, (refl, (refl, (refl, (refl, (refl, (refl, tt)))))));
-  sets = (
-    record {
-      player = omega arith;
-      number = omega arith;
-      name = refl;
-      actions = ((refl, tt), ((refl, tt), tt));
-    },
-    (
-      record {
-        player = omega arith;
-        number = omega arith;
-        name = refl;
-        actions = ((refl, tt), ((refl, tt), tt));
-      },
-      tt,
-    ),
-  );
-  outcomes = tt;
-}
-
-pub worked_games : AllByRecursion (λ g. IsGame g × IsSpellable g)
+pub worked_games : AllByRecursion IsHeld
     (overflowing ∷ unlikely ∷ balancing ∷ ending ∷ contradicted ∷ [])
 worked_games = (
-  (overflowing_is_game, overflowing_is_spellable),
-  (
-    (unlikely_is_game, unlikely_is_spellable),
-    (
-      (balancing_is_game, balancing_is_spellable),
-      (
-        (ending_is_game, ending_is_spellable),
-        ((contradicted_is_game, contradicted_is_spellable), tt),
-      ),
-    ),
-  ),
+  overflowing_is_held,
+  (unlikely_is_held, (balancing_is_held, (ending_is_held, (contradicted_is_held, tt)))),
 )

@@ -7,7 +7,7 @@ ghost use Rattle.gf_form.specs.inner.Picked.{IsPicked, numbers_in, picked_profil
 ghost use Rattle.gf_form.specs.Strategies.{strategies_at};
 
 use crate::counts::Counts;
-use crate::picked::Picked;
+use crate::picked::{Picked, full_number_of};
 use crate::strategies::write_strategy;
 use std::alloc::{AllocError, Global};
 
@@ -37,15 +37,14 @@ pub(crate) fn write_strategies(
         → map (λ own. own.items) all.new.items
         ≡ strategies_at g (get_or (picked_profiles (numbers_in picked.now)) profile [])) }
 {
-    let mut rest = profile as usize;
+    let full = full_number_of(counts, picked, profile);
+    let mut rest = full;
     for place in 0..counts.actions.len() {
-        let numbers = &picked.numbers[place];
-        let count = numbers.len();
-        let number = numbers[rest % count];
         let whole = counts.strategies[place];
+        let number = rest % whole;
         let own = &mut all[place];
         write_strategy(&counts.actions[place], whole, number, own)?;
-        rest /= count;
+        rest /= whole;
     }
     Ok(())
 }

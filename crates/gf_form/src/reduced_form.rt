@@ -1,6 +1,6 @@
 //! The reduced form of a game.
 
-ghost use Rattle.std.specs.Prelude.{◌≡◌, ◌≤◌, ℕ, List, IfOk, IsErrOf, IsTrue, OnOk, length, map};
+ghost use Rattle.std.specs.Prelude.{◌≡◌, ◌≤◌, ℕ, List, IfOk, IsErrOf, OnOk, length, map};
 ghost use Rattle.std.specs.List.{AllByRecursion, Contains};
 ghost use Rattle.gf_nfg.specs.Limit.{profile_limit};
 ghost use Rattle.gf_form.specs.inner.Counted.{AreCounts};
@@ -12,7 +12,6 @@ ghost use Rattle.gf_form.specs.Strategies.{full_profiles, players_of};
 
 use crate::counts::Counts;
 use crate::fault::FormFault;
-use crate::full_rows::full_rows;
 use crate::picked::Picked;
 use crate::profile_rows::profile_rows;
 use crate::reduced::all_reduced;
@@ -22,25 +21,8 @@ use gf_nfg::{Labels, Table};
 use gf_tree::Game;
 use std::alloc::{AllocError, Global};
 
-/// Whether each player has a number here for each of his strategies.
-fn have_all(counts: &Counts, firsts: &[Vec<u32>]) -> bool
-    ensures { IsTrue result → map length (map (λ own. own.items) firsts.now)
-        ≡ counts.now.strategies.items }
-{
-    if firsts.len() != counts.strategies.len() {
-        return false;
-    }
-    for place in 0..counts.strategies.len() {
-        if firsts[place].len() != counts.strategies[place] as usize {
-            return false;
-        }
-    }
-    true
-}
-
-/// What each player is paid at each profile of the reduced form, given the numbers of the first
-/// strategies of each player. If all strategies are first ones, the profiles are those of the
-/// strategic form, in its order.
+/// What each player is paid at each profile of the reduced form, where these are the numbers of the
+/// first strategies of each player.
 fn reduced_rows(
     alloc: Global,
     game: &Game<'_>,
@@ -59,9 +41,6 @@ fn reduced_rows(
         → ReducedOverflowsAt game.now position }
 {
     let _players = game.players();
-    if have_all(counts, &firsts) {
-        return full_rows(alloc, game, counts);
-    }
     let Some(picked) = Picked::of_numbers(firsts) else {
         return Err(FormFault::TooManyProfiles);
     };

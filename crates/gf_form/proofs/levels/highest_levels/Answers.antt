@@ -1,9 +1,9 @@
-use Rattle.std.proofs.Common.{◌≡◌, ◌≤◌, ◌<◌, ◌∙◌, ◌++◌, ℕ, List, ap, arith, get_or, inl, inr, length, slice_get, Some}
+use Rattle.std.proofs.Common.{◌≡◌, ◌∙◌, arith, get_or, inl, inr, length}
 use Rattle.std.proofs.Common.{subst, sym}
 use Rattle.std.proofs.lemmas.List.{get_or_default}
 use Rattle.std.proofs.lemmas.Option.{slice_get-get_or}
 use Rattle.gf_form.specs.declared.visits.Visit.{Visit}
-use Rattle.gf_form.proofs.MetSets.{HighestTo, highest_all, highest_more}
+use Rattle.gf_form.proofs.HighestLevels.{HighestTo, highest_all, highest_more}
 use Rattle.gf_form.proofs.VisitsMet.{ordered_there}
 use Rattle.gf_form.proofs.levels.highest_levels.Goals as goal
 use Rattle.gf_form.proofs.levels.highest_levels.Goals.{then-before-level, else-before-level}

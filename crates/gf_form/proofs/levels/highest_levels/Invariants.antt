@@ -1,4 +1,4 @@
-use Rattle.gf_form.proofs.MetSets.{HighestTo}
+use Rattle.gf_form.proofs.HighestLevels.{HighestTo}
 use Rattle.gf_form.proofs.levels.highest_levels.Given as goal
 
 abbrev pub invariant-loop-visit : goal.invariant-loop-visit

@@ -1,48 +1,40 @@
-use Rattle.std.proofs.Common.{◌≡◌, ◌≤◌, ◌<◌, ◌-◌, ◌+◌, ◌∙◌, ◌++◌, ℕ, Bool, List, Vec, Global, ap, arith, false, get_or}
+use Rattle.std.proofs.Common.{◌≡◌, ◌-◌, ◌+◌, ◌∙◌, ℕ, Bool, List, Vec, Global, ap, arith, false, get_or}
 use Rattle.std.proofs.Common.{length, subst, sym, take}
 use Rattle.std.proofs.Math.Seq.{take-length}
 use Rattle.std.specs.Prelude.{◌||◌}
 use Rattle.std.specs.List.{list_any}
 use Rattle.gf_form.specs.inner.Levels.{is_settled_at}
 use Rattle.gf_form.specs.inner.Visits.{visit_at}
-use Rattle.gf_form.proofs.LeftVisits.{comes_earlier}
+use Rattle.gf_form.proofs.LeftVisits.{number_at}
 use Rattle.gf_form.proofs.MetSets.{KnownTo, known_more, known_still}
-use Rattle.gf_form.proofs.StrategiesByNumber.{all_at}
 use Rattle.gf_form.proofs.levels.known_on.Goals as goal
 use Rattle.gf_form.proofs.levels.known_on.Goals.{then-highest-number, else-highest-number}
 
 pub overflow_sub-visits : goal.overflow_sub-visits
 overflow_sub-visits c =
-    let vs = c.args.visits.now in
-    let number = get_or c.args.numbers.now c.loop-number.number-index 0 in
-    let there = all_at (λ (n : ℕ). (1 ≤ n) × (n ≤ length vs)) c.args.numbers.now
-    c.loop-number.number-index 0 c.requires.within c.loop-number-test.true in
-    let set = comes_earlier (length c.args.before.now) vs number c.requires.ordered there.0 there.1 in
-    set.1
+    let at = number_at (length c.args.before.now) c.args.visits.now c.args.numbers.now
+    c.loop-number.number-index c.requires.ordered c.requires.within c.loop-number-test.true in
+    at.3
 
 pub index_mut-requires : goal.index_mut-requires
 index_mut-requires c =
-    let vs = c.args.visits.now in
-    let number = get_or c.args.numbers.now c.loop-number.number-index 0 in
-    let there = all_at (λ (n : ℕ). (1 ≤ n) × (n ≤ length vs)) c.args.numbers.now
-    c.loop-number.number-index 0 c.requires.within c.loop-number-test.true in
-    let set = comes_earlier (length c.args.before.now) vs number c.requires.ordered there.0 there.1 in
-    omega (arith, set.1, set.2, c.loop-number.invariant.counted)
+    let at = number_at (length c.args.before.now) c.args.visits.now c.args.numbers.now
+    c.loop-number.number-index c.requires.ordered c.requires.within c.loop-number-test.true in
+    omega (arith, at.3, at.4, c.loop-number.invariant.counted)
 
 pub loop-number-preserved : goal.loop-number-preserved
 loop-number-preserved c =
+    let at = number_at (length c.args.before.now) c.args.visits.now c.args.numbers.now
+    c.loop-number.number-index c.requires.ordered c.requires.within c.loop-number-test.true in
     let vs = c.args.visits.now in
     let number = get_or c.args.numbers.now c.loop-number.number-index 0 in
-    let there = all_at (λ (n : ℕ). (1 ≤ n) × (n ≤ length vs)) c.args.numbers.now
-    c.loop-number.number-index 0 c.requires.within c.loop-number-test.true in
-    let set = comes_earlier (length c.args.before.now) vs number c.requires.ordered there.0 there.1 in
     let i = c.loop-number.number-index in
     elim c.if-highest-number.branch [
       | then-highest-number w ↦
           known_more vs c.args.highest.now c.args.level c.args.numbers.now c.args.before.now
           c.loop-number.known.items i c.loop-number.invariant c.loop-number-test.true
           c.if-highest-number.known.items ((visit_at vs number).set - 1) w.if-highest-number.true
-          (omega (arith, set.1, set.2)) (omega (arith, set.1))
+          (omega (arith, at.3, at.4)) (omega (arith, at.3))
           (ap (λ (v : Vec Bool Global). v.items) w.known-is)
       | else-highest-number w ↦
           subst (λ (v : Vec Bool Global). KnownTo vs c.args.highest.now c.args.level c.args.numbers.now

@@ -1,27 +1,23 @@
-use Rattle.std.proofs.Common.{◌≡◌, ◌≤◌, ◌<◌, ◌-◌, ◌∙◌, ◌++◌, ◌∷◌, [], ◌&&◌, ◌⊎◌, ℕ, List, Vec, Global, ap, append-nil}
+use Rattle.std.proofs.Common.{◌≡◌, ◌-◌, ◌∙◌, ◌++◌, ◌∷◌, [], ◌&&◌, ℕ, List, Vec, Global, ap, append-nil}
 use Rattle.std.proofs.Common.{arith, cond, false, filter, get_or, inl, inr, length, refl, subst, sym, take}
 use Rattle.std.proofs.Math.Seq.{take-nil}
-use Rattle.gf_form.specs.inner.Levels.{AreLeft, is_made_at, is_made_to}
+use Rattle.gf_form.specs.inner.Levels.{is_made_at, is_made_to}
 use Rattle.gf_form.specs.inner.Visits.{chosen, visit_at}
-use Rattle.gf_form.proofs.LeftVisits.{PassedTo, comes_earlier, made_more, passed_all, passed_more}
-use Rattle.gf_form.proofs.StrategiesByNumber.{all_at}
+use Rattle.gf_form.proofs.LeftVisits.{PassedTo, made_more, number_at, passed_all, passed_more}
 use Rattle.gf_form.proofs.levels.left_on.Goals as goal
 use Rattle.gf_form.proofs.levels.left_on.Goals.{then-left-last, else-left-last, then-is_left+in_ok-push, else-is_left}
 
 pub bounds-left-last : goal.bounds-left-last
 bounds-left-last c =
-    let vs = c.args.visits.now in
-    let number = get_or c.args.numbers.now c.loop-number.number-index 0 in
-    let there = all_at (λ (n : ℕ). (1 ≤ n) × (n ≤ length vs)) c.args.numbers.now
-    c.loop-number.number-index 0 c.requires.within c.loop-number-test.true in
-    let earlier = comes_earlier c.requires.ordered.0 vs number c.requires.ordered.1 there.0 there.1 in
-    omega (arith, earlier.0, there.1, c.loop-number.invariant.counted)
+    let at = number_at c.requires.ordered.0 c.args.visits.now c.args.numbers.now
+    c.loop-number.number-index c.requires.ordered.1 c.requires.within c.loop-number-test.true in
+    omega (arith, at.1, at.2, c.loop-number.invariant.counted)
 
 pub bounds-left-number : goal.bounds-left-number
 bounds-left-number c =
-    let there = all_at (λ (n : ℕ). (1 ≤ n) × (n ≤ length c.args.visits.now)) c.args.numbers.now
-    c.loop-number.number-index 0 c.requires.within c.loop-number-test.true in
-    omega (arith, there.1, c.loop-number.invariant.counted)
+    let at = number_at c.requires.ordered.0 c.args.visits.now c.args.numbers.now
+    c.loop-number.number-index c.requires.ordered.1 c.requires.within c.loop-number-test.true in
+    omega (arith, at.1, c.loop-number.invariant.counted)
 
 pub loop-number-preserved : goal.loop-number-preserved
 loop-number-preserved c =

@@ -1,9 +1,8 @@
 use Rattle.std.proofs.Common.{map}
-use Rattle.gf_form.specs.inner.Picked.{numbers_in}
 use Rattle.gf_form.proofs.CountsGiven.{actions_in}
 use Rattle.gf_form.proofs.WrittenStrategies.{Written}
 use Rattle.gf_form.proofs.profile_strategies.write_strategies.Given as goal
 
 abbrev pub invariant-loop-place : goal.invariant-loop-place
-invariant-loop-place l = Written (actions_in l.counts) (numbers_in l.picked) l.profile l.place
-    l.rest (map (λ own. own.items) l.all.items)
+invariant-loop-place l = Written (actions_in l.counts) l.full l.place l.rest
+    (map (λ own. own.items) l.all.items)

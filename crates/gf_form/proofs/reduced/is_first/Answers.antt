@@ -1,7 +1,7 @@
 use Rattle.std.proofs.Common.{◌∙◌, ◌==◌, arith, false, get_or}
 use Rattle.std.proofs.lemmas.Bool.{eq-eqb}
 use Rattle.gf_form.proofs.FirstNumbers.{chooses_on}
-use Rattle.gf_form.proofs.Reducing.{or_left, or_right}
+use Rattle.std.proofs.lemmas.Bool.{or_left, or_right}
 use Rattle.gf_form.proofs.reduced.is_first.Goals as goal
 use Rattle.gf_form.proofs.reduced.is_first.Goals.{else-not-relevant-before-via-then-not-relevant-before+else-strategy-before-ne1, else-not-relevant-before-via-else-not-relevant-before}
 

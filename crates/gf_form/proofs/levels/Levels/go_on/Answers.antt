@@ -1,5 +1,5 @@
-use Rattle.std.proofs.Common.{◌≡◌, ◌≤◌, ◌<◌, ◌-◌, ◌+◌, ◌++◌, ◌∙◌, ◌⊎◌, [], suc, ℕ, Bool, List, Vec, Global, ap}
-use Rattle.std.proofs.Common.{arith, false, get_or, inl, inr, length, refl, subst, sym, true}
+use Rattle.std.proofs.Common.{◌≡◌, ◌<◌, ◌-◌, ◌∙◌, ◌⊎◌, [], ℕ, Bool, List, Vec, Global, ap}
+use Rattle.std.proofs.Common.{arith, cond, false, get_or, length, subst, sym}
 use Rattle.std.specs.Prelude.{◌||◌}
 use Rattle.std.specs.List.{list_any}
 use Rattle.std.specs.Vec.{with_items}
@@ -103,17 +103,14 @@ returns-clause-levels c = λ sets ordered h.
     let some : c.any_unknown.result ≡ list_any (is_unknown vs known.items) list =
     c.any_unknown.ensures
     ∙ (λ i. list_any (is_unknown vs (c.deref-8.ensures.value i)) (c.deref-7.ensures.value i)) in
-    let kept : ((c.any_unknown.result ≡ true) × (rest.items ≡ list))
-    ⊎ ((c.any_unknown.result ≡ false) × (rest.items ≡ [])) =
+    let kept : rest.items ≡ cond c.any_unknown.result list [] =
     elim c.if-not-any_unknown.branch [
       | then-not-any_unknown w ↦
-          inr (
-            w.if-not-any_unknown.true,
-            ap (λ (v : Vec ℕ Global). v.items) w.list-is
-                ∙ w.clear.ensures.items,
-          )
+          ap (λ (v : Vec ℕ Global). v.items) w.list-is ∙ w.clear.ensures.items
+          ∙ (λ i. cond (sym w.if-not-any_unknown.true i) list [])
       | else-not-any_unknown w ↦
-          inl (w.if-not-any_unknown.false, ap (λ (v : Vec ℕ Global). v.items) w.list-is)
+          ap (λ (v : Vec ℕ Global). v.items) w.list-is
+          ∙ (λ i. cond (sym w.if-not-any_unknown.false i) list [])
     ] in
     let made = subst (λ (levels : List ℕ). (c.deref-3.result.now ≡ []) ⊎ AreLeft vs
     (is_made_to levels c.len-level.result (chosen c.deref-2.result.now)) list) c.deref.ensures.value

@@ -1,4 +1,4 @@
-use Rattle.std.proofs.Common.{◌∙◌, ◌++◌, ◌∷◌, [], Bool, List, Vec, Global, ℕ, ap, length, subst, sym}
+use Rattle.std.proofs.Common.{◌∙◌, ◌++◌, ◌∷◌, [], Bool, List, Vec, Global, ℕ, ap, length, subst}
 use Rattle.gf_form.specs.inner.Levels.{AreHighest}
 use Rattle.gf_form.proofs.LevelsKept.{none_reached}
 use Rattle.gf_form.proofs.levels.Levels.new.Goals as goal
