@@ -61,7 +61,6 @@ pub mod Stretching
 pub mod SubtreeSizes
 pub mod TreesOnce
 pub mod Uses
-pub mod Worked
 pub mod WorkedGames
 pub mod WrittenGames
 pub mod WrittenNodes
