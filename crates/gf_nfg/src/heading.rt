@@ -48,13 +48,7 @@ impl<'a> Heading<'a> {
         ensures { IfOk result (λ names. names ≡ names_in (content_in self.now)) }
     {
         if self.labels.is_empty() {
-            Names::counted(
-                alloc,
-                self.title,
-                self.comment,
-                &self.players,
-                &self.counts,
-            )
+            Names::counted(alloc, self.title, self.comment, &self.players, &self.counts)
         } else {
             Names::grouped(
                 alloc,
