@@ -86,8 +86,14 @@ def payoffs_with_commas():
 
 def many_players(count, strategy, payoff):
     """The canonical text of a table of many players with empty names and one strategy each."""
-    row = " ".join([payoff] * count)
-    return table_text("", [""] * count, [[strategy]] * count, f"{row}\n")
+    strategies = f'{{ "{strategy}" }} ' * count
+    row = f"{payoff} " * count
+    return f'NFG 1 R "" {unnamed(count)}\n{{ {strategies}}}\n""\n\n{row[:-1]}\n'
+
+
+def unnamed(count):
+    """A list of so many players with empty names, as it is written."""
+    return "{ " + '"" ' * count + "}"
 
 
 def outcomes_of_nobody():
@@ -155,21 +161,27 @@ def short_fractions():
     numbers = []
     for _ in range(2**19):
         size, under, decimal = rng.randint(-99_999, 99_999), rng.randint(1, 9_999), rng.randint(10_000, 99_999)
-        numbers.append((Fraction(size, under), f"{size}/{under}"))
-        numbers.append((Fraction(decimal, 10**8), f"0.000{decimal}"))
+        numbers.append((lowest(size, under), f"{size}/{under}"))
+        numbers.append((lowest(decimal, 10**8), f"0.000{decimal}"))
     return payoffs_of(numbers)
+
+
+def lowest(size, under):
+    """A fraction in lowest terms, as it is written: by Fraction this takes three times as long."""
+    common = gcd(size, under)
+    return f"{size // common}/{under // common}" if under != common else str(size // common)
 
 
 def long_decimals():
     """Decimals of 38 digits."""
     rng = random.Random(SEED)
     digits = [rng.randrange(10**37, 10**38) for _ in range(400_000)]
-    return payoffs_of([(Fraction(number, 10**38), f".{number}") for number in digits])
+    return payoffs_of([(lowest(number, 10**38), f".{number}") for number in digits])
 
 
 def quotients(pairs):
     """Fractions of these parts."""
-    return payoffs_of([(Fraction(size, den), f"{size}/{den}") for size, den in pairs])
+    return payoffs_of([(lowest(size, den), f"{size}/{den}") for size, den in pairs])
 
 
 def large_fractions():
@@ -252,7 +264,7 @@ def nested_moves():
 def tree_players(count=4_000_000):
     """Millions of players without a set."""
     file = f'EFG 2 R ""{{{chr(34) * 2 * count}}}t""0'
-    text = tree_text("", [""] * count, 't "" 0\n')
+    text = f'EFG 2 R "" {unnamed(count)}\n""\n\nt "" 0\n'
     return accepted("tree", file, text, form=many_players(count, "", "0"))
 
 
@@ -276,12 +288,13 @@ def sets_of_one():
     return tree_of(file, text, only("-".join("1" * len(numbers)), 0), own_lines(1, numbers))
 
 
-def collides(number):
-    """Whether the kit's fast hasher puts a number among the first buckets of a map, from its fixed start."""
-    start, multiplier, word = 0x243F_6A88_85A3_08D3, 0x9E37_79B9_7F4A_7C15, 2**64
-    product = (start ^ (number | number << 32)) * (multiplier ^ 8)
-    folded = (product ^ product // word) % word
-    return (folded ^ folded >> 32) & 0xFFFF < 0x200
+def colliding(numbers):
+    """Those that the kit's fast hasher puts among the first buckets of a map, from its fixed start."""
+    start, multiplier = 0x243F_6A88_85A3_08D3, 0x9E37_79B9_7F4A_7C15 ^ 8
+    for number in numbers:
+        product = (start ^ number * 0x1_0000_0001) * multiplier
+        if (product ^ product >> 32 ^ product >> 64 ^ product >> 96) & 0xFFFF < 0x200:
+            yield number
 
 
 def sets_met_again(numbers):
@@ -304,8 +317,7 @@ MET_AGAIN = 40_000
 
 def colliding_sets():
     """Numbers whose hashes would be alike if the hasher had a fixed start."""
-    found = (number for number in itertools.count(10**9) if collides(number))
-    return sets_met_again(list(itertools.islice(found, MET_AGAIN)))
+    return sets_met_again(list(itertools.islice(colliding(itertools.count(10**9)), MET_AGAIN)))
 
 
 def scattered_sets():

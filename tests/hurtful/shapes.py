@@ -18,6 +18,23 @@ MANY = 5_000
 SAMPLE = 40
 
 
+class Product:
+    """The lists of one number from 1 to each of these, in the order of itertools.product, one at a time."""
+
+    def __init__(self, counts):
+        self.counts = counts
+
+    def __len__(self):
+        return prod(self.counts)
+
+    def __getitem__(self, place):
+        found = []
+        for count in reversed(self.counts):
+            place, number = divmod(place, count)
+            found.append(number + 1)
+        return found[::-1]
+
+
 class Tree:
     """A tree as its nodes are added in prefix order; a set or an outcome is described by its first use."""
 
@@ -122,10 +139,13 @@ class Tree:
         """The actions of each strategy of a player, at his sets in order of first use."""
         return itertools.product(*(range(1, len(self.sets[key]) + 1) for key in self.owned[player][1]))
 
-    def strategies(self, player, reduced):
-        """The strategies of a player by their labels, each with the actions that it chooses."""
-        if not reduced:
-            return {"-".join(map(str, actions)): actions for actions in self.actions(player)}
+    def labels(self, player):
+        """The labels of a player's strategies."""
+        numbers = ([str(action) for action in range(1, len(self.sets[key]) + 1)] for key in self.owned[player][1])
+        return map("-".join, itertools.product(*numbers))
+
+    def reduced(self, player):
+        """The reduced strategies of a player by their labels, each with the actions of one that it stands for."""
         owned, found = self.owned[player][1], {}
         for actions in self.actions(player):
             seen = self.relevant(dict(zip(owned, actions)))
@@ -135,9 +155,14 @@ class Tree:
 
     def form(self, reduced=False):
         """The form, or the reduced one, with all of its rows or with some."""
-        strategies = [self.strategies(player, reduced) for player in range(1, len(self.players) + 1)]
+        players = range(1, len(self.players) + 1)
+        if reduced:
+            strategies = [self.reduced(player) for player in players]
+            choices = [list(actions.values()) for actions in strategies]
+        else:
+            strategies = map(self.labels, players)
+            choices = [Product([len(self.sets[key]) for key in self.owned[player][1]]) for player in players]
         head = table_text("s", self.players, strategies, "")
-        choices = [list(actions.values()) for actions in strategies]
         count = prod(map(len, choices))
         if count <= MANY:
             places = range(count)
@@ -343,7 +368,8 @@ def full_tree(depth):
         else:
             tree.move(1, level + 1)
             due += [level + 1] * 2
-    return tree.game()
+    # Whatever is chosen before, play comes to each level.
+    return tree.game(relevant=True)
 
 
 def sets_below(tree, player_of, sets):

@@ -10,9 +10,11 @@ use script::{ALL, ScriptReader, ScriptWriter, Step, interrupted_steps};
 use std::alloc::Global;
 use std::test::Fail;
 
+mod again;
 mod canon;
 mod forms;
 mod hash;
+mod jobs;
 mod library;
 mod same;
 mod script;

@@ -1,8 +1,9 @@
-//! What the players are paid at worked games, and which choices have no payoffs.
+//! What the players are paid at worked games, and which choices have no payoffs. A call that is out of
+//! memory is made again.
 
+use super::again::read_tree;
 use gf_form::{EvalFault, are_strategies, expected};
 use gf_fraction::Fraction;
-use gf_tree::read_efg;
 use std::alloc::{AllocError, Global};
 use std::process::Abort;
 use std::test::Fail;
@@ -53,13 +54,16 @@ fn paid(
     file: &[u8],
     choices: &[&[u32]],
 ) -> Result<Result<Vec<Fraction>, EvalFault>, AllocError> {
-    let game = read_efg(alloc, file).expect(rt, "a file");
+    let game = read_tree(rt, alloc, file);
     let mut own = Vec::new(alloc);
     for strategy in choices {
         own.push(Vec::from_slice(alloc, strategy)?)?;
     }
     assert!(rt; are_strategies(&game, &own), "{choices:?}");
-    Ok(expected(alloc, &game, &own))
+    Ok(match expected(alloc, &game, &own) {
+        Err(EvalFault::Memory) => expected(alloc, &game, &own),
+        payoffs => payoffs,
+    })
 }
 
 /// Fractions by their parts.

@@ -6,3 +6,4 @@ mod games;
 mod parts;
 mod renumbered;
 mod strategic;
+mod texts;

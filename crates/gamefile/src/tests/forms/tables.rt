@@ -1,9 +1,9 @@
 //! Strategic forms of games, and games that have none. Tables of other games are files.
 
 use super::{BONUS, OVERFLOWING};
+use crate::tests::again::read_tree;
 use gf_form::{FormFault, table, table_reduced};
 use gf_nfg::{Table, write_nfg};
-use gf_tree::read_efg;
 use std::alloc::{AllocError, Global};
 use std::process::Abort;
 use std::test::Fail;
@@ -23,9 +23,17 @@ fn tables(
     alloc: Global,
     file: &[u8],
 ) -> (Result<Table, FormFault>, Result<Table, FormFault>) {
-    let game = read_efg(alloc, file).expect(rt, "a file");
+    let game = read_tree(rt, alloc, file);
     assert!(rt; game.players().len() < 100);
-    (table(alloc, &game), table_reduced(alloc, &game))
+    let full = match table(alloc, &game) {
+        Err(FormFault::Memory) => table(alloc, &game),
+        form => form,
+    };
+    let reduced = match table_reduced(alloc, &game) {
+        Err(FormFault::Memory) => table_reduced(alloc, &game),
+        form => form,
+    };
+    (full, reduced)
 }
 
 /// Asserts that a table has this canonical text.

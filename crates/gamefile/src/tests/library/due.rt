@@ -125,6 +125,15 @@ fn assert_due(rt: &impl Abort, text: &[u8], what: What, fault: Option<Fault>) {
     assert!(rt; fault == Some(wanted), "of {text:?}");
 }
 
+/// How a file is refused.
+fn refusal(alloc: Global, text: &[u8]) -> Option<Fault> {
+    if text.starts_with(b"E") {
+        read_efg(alloc, text).err()
+    } else {
+        read_nfg(alloc, text).err()
+    }
+}
+
 /// Asserts what is due in files that begin with this and go on with each row, as one reader refuses
 /// them.
 fn assert_rows(
@@ -136,10 +145,14 @@ fn assert_rows(
     for (behind, what) in rows {
         let mut text = Vec::from_slice(alloc, before)?;
         text.extend_from_slice(behind)?;
-        let fault = if text.starts_with(b"E") {
-            read_efg(alloc, &text).err()
-        } else {
-            read_nfg(alloc, &text).err()
+        let fault = match refusal(alloc, &text) {
+            Some(
+                Fault {
+                    why: Why::Memory,
+                    ..
+                },
+            ) => refusal(alloc, &text),
+            fault => fault,
         };
         assert_due(rt, &text, *what, fault);
     }

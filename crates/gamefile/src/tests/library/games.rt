@@ -1,8 +1,9 @@
 //! Games that were read: their sets, outcomes and nodes.
 
+use crate::tests::again::read_tree;
 use crate::tests::trees::FIVE;
 use gf_fraction::Fraction;
-use gf_tree::{Branch, Game, Step, read_efg};
+use gf_tree::{Branch, Game, Step};
 use std::process::Abort;
 
 /// Asserts that a set of a player, 0 for chance, has a name and this many actions.
@@ -27,7 +28,7 @@ fn assert_outcome(rt: &impl Abort, game: &Game<'_>) {
 
 #[test]
 fn describes_sets_and_outcomes(rt: HostRuntime) {
-    let game = read_efg(rt.alloc(), FIVE).expect(&rt, "an extensive file");
+    let game = read_tree(&rt, rt.alloc(), FIVE);
     assert_sets(&rt, &game);
     assert_outcome(&rt, &game);
 }
@@ -54,7 +55,7 @@ fn assert_nodes(rt: &impl Abort, game: &Game<'_>, wanted: &[(Step, u32)]) {
 
 #[test]
 fn gives_nodes_in_prefix_order(rt: HostRuntime) {
-    let game = read_efg(rt.alloc(), FIVE).expect(&rt, "an extensive file");
+    let game = read_tree(&rt, rt.alloc(), FIVE);
     assert_nodes(&rt, &game, &NODES);
 }
 
@@ -82,6 +83,6 @@ fn assert_branches(rt: &impl Abort, game: &Game<'_>) {
 
 #[test]
 fn gives_branches(rt: HostRuntime) {
-    let game = read_efg(rt.alloc(), FIVE).expect(&rt, "an extensive file");
+    let game = read_tree(&rt, rt.alloc(), FIVE);
     assert_branches(&rt, &game);
 }

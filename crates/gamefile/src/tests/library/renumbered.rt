@@ -1,8 +1,10 @@
-//! Games by other numbers, and the renumbering between two games.
+//! Games by other numbers, and the renumbering between two games. A call that is out of memory is made
+//! again.
 
+use crate::tests::again::read_tree;
 use crate::tests::trees::{FIVE, FIVE_TEXT};
 use gf_canon::{Renumbering, renumber, renumbering, write_efg};
-use gf_tree::{Game, read_efg};
+use gf_tree::Game;
 use std::alloc::{AllocError, Global};
 use std::process::Abort;
 use std::test::Fail;
@@ -20,10 +22,13 @@ p \"\" 1 8 \"j\" { \"R\" } 2 \"w\" { 1/10 }
 t \"\" 2
 ";
 
-/// The text of a game by its own numbers, after another text.
-fn text_of(alloc: Global, game: &Game<'_>) -> Result<Vec<u8>, AllocError> {
+/// The text of a game by its own numbers, after another.
+fn text_of(rt: &impl Abort, alloc: Global, game: &Game<'_>) -> Result<Vec<u8>, AllocError> {
     let mut text = Vec::from_slice(alloc, b"; ")?;
-    write_efg(game, &mut text)?;
+    if write_efg(game, &mut text).is_err() {
+        assert!(rt; text.as_slice() == b"; ".as_slice());
+        write_efg(game, &mut text)?;
+    }
     Ok(text)
 }
 
@@ -39,22 +44,30 @@ fn renumbered<'a>(alloc: Global, game: &Game<'a>) -> Result<Option<Game<'a>>, Al
         Vec::from_slice(alloc, &[2])?,
         Vec::from_slice(alloc, &[3, 8])?,
     ];
-    Ok(Some(game.with_numbers(alloc, &sets, &[2])?))
+    let copy = match game.with_numbers(alloc, &sets, &[2]) {
+        Err(AllocError) => game.with_numbers(alloc, &sets, &[2]),
+        copy => copy,
+    };
+    Ok(Some(copy?))
 }
 
 #[test]
 fn writes_the_numbers_that_a_game_has(rt: HostRuntime) -> Result<(), Fail> {
-    let game = read_efg(rt.alloc(), FIVE).expect(&rt, "an extensive file");
+    let game = read_tree(&rt, rt.alloc(), FIVE);
     let copy = renumbered(rt.alloc(), &game)?.expect(&rt, "a game by these numbers");
-    let text = text_of(rt.alloc(), &copy)?;
+    let text = text_of(&rt, rt.alloc(), &copy)?;
     assert!(rt; text.strip_prefix(b"; ".as_slice()) == Some(COPY_TEXT));
     Ok(())
 }
 
 #[test]
 fn numbers_a_game_by_first_use(rt: HostRuntime) -> Result<(), Fail> {
-    let copy = read_efg(rt.alloc(), COPY_TEXT).expect(&rt, "an extensive file");
-    let text = text_of(rt.alloc(), &renumber(rt.alloc(), &copy)?)?;
+    let copy = read_tree(&rt, rt.alloc(), COPY_TEXT);
+    let game = match renumber(rt.alloc(), &copy) {
+        Err(AllocError) => renumber(rt.alloc(), &copy),
+        game => game,
+    };
+    let text = text_of(&rt, rt.alloc(), &game?)?;
     assert!(rt; text.strip_prefix(b"; ".as_slice()) == Some(FIVE_TEXT));
     Ok(())
 }
@@ -66,9 +79,11 @@ fn found(
     first: &[u8],
     second: &[u8],
 ) -> Result<Option<Renumbering>, AllocError> {
-    let g = read_efg(alloc, first).expect(rt, "an extensive file");
-    let h = read_efg(alloc, second).expect(rt, "an extensive file");
-    renumbering(alloc, &g, &h)
+    let (g, h) = (read_tree(rt, alloc, first), read_tree(rt, alloc, second));
+    match renumbering(alloc, &g, &h) {
+        Err(AllocError) => renumbering(alloc, &g, &h),
+        found => found,
+    }
 }
 
 /// Asserts that these are the new numbers of `FIVE` in its copy.

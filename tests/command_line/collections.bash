@@ -1,0 +1,279 @@
+# shellcheck shell=bash disable=SC2034,SC2154
+# `hash` and `duplicates`, over files, folders and lists, and what a terminal is told meanwhile.
+
+# The line that is wanted of a file's hash.
+hash_of() { # FILE NAME OPTION..
+    printf '%s  %s\n' "$(launch canon "${@:3}" <"$1" | sha256sum | cut -d ' ' -f 1)" "$2"
+}
+
+# Files by their names, refused ones and missing ones among them, and standard input.
+check_hash_files() {
+    local five=$scratch/five.efg copy=$scratch/copy.efg missing=$scratch/missing.efg
+    run hash <"$five"
+    hash_of "$five" - >"$scratch/lines"
+    judge "hash of standard input" "$scratch/lines" "$nothing" 0
+    run hash <"$scratch/refused.nfg"
+    judge_refusal "hash of a refused standard input" "-: E4 at 26..29" 2
+    run hash "$five" "$scratch/refused.nfg" "$copy"
+    { hash_of "$five" "$five" && hash_of "$five" "$copy"; } >"$scratch/lines"
+    echo "$scratch/refused.nfg: E4 at 26..29" >"$scratch/wanted"
+    judge "hash of three files" "$scratch/lines" "$scratch/wanted" 2
+    run hash "$missing" "$scratch/refused.nfg" "$five"
+    hash_of "$five" "$five" >"$scratch/lines"
+    printf '%s: E20\n%s: E4 at 26..29\n' "$missing" "$scratch/refused.nfg" >"$scratch/wanted"
+    judge "hash of a missing file" "$scratch/lines" "$scratch/wanted" 4
+    run hash --no-names "$scratch/prize.efg" "$scratch/names.efg"
+    { hash_of "$scratch/names.efg" "$scratch/prize.efg" --no-names &&
+        hash_of "$scratch/prize.efg" "$scratch/names.efg" --no-names; } >"$scratch/lines"
+    judge "hash --no-names" "$scratch/lines" "$nothing" 0
+    launch hash "$five" "$copy" >/dev/full 2>"$scratch/err"
+    : >"$scratch/out"
+    judge_refusal "hash: standard output full" "E21" 4
+}
+
+# A folder with all below it: names in letters of either case, in order of bytes; a link to its own
+# folder, a folder that has the name of a game file, a name that is not UTF-8, and files of other kinds.
+check_hash_folders() {
+    local folder=$scratch/games
+    mkdir -p "$folder/b/deep" "$folder/empty" "$folder/c.efg"
+    cp "$scratch/five.efg" "$folder/b/deep/z.EFG"
+    cp "$scratch/five.efg" "$folder/b/deep/A.efg"
+    cp "$scratch/table.nfg" "$folder/a.Nfg"
+    cp "$scratch/table.nfg" "$folder/b.nfg"
+    cp "$scratch/table.nfg" "$folder/c.efg/d.nfg"
+    echo other >"$folder/readme.txt"
+    ln -s ../../games "$folder/b/deep/loop"
+    ln -s ../b.nfg "$folder/b/linked.nfg"
+    {
+        hash_of "$scratch/table.nfg" "$folder/a.Nfg"
+        hash_of "$scratch/five.efg" "$folder/b/deep/A.efg"
+        hash_of "$scratch/five.efg" "$folder/b/deep/z.EFG"
+        hash_of "$scratch/table.nfg" "$folder/b/linked.nfg"
+        hash_of "$scratch/table.nfg" "$folder/b.nfg"
+        hash_of "$scratch/table.nfg" "$folder/c.efg/d.nfg"
+    } >"$scratch/lines"
+    run hash "$folder"
+    judge "hash of a folder" "$scratch/lines" "$nothing" 0
+    run hash "$folder/empty"
+    judge "hash of an empty folder" "$nothing" "$nothing" 0
+    cp "$scratch/five.efg" "$folder/"$'d-\xff.efg'
+    run hash "$folder/"
+    echo "$folder/"$'d-\ufffd.efg: E20' >"$scratch/wanted"
+    judge "hash of a folder with a name that is not UTF-8" "$scratch/lines" "$scratch/wanted" 4
+    rm "$folder/"$'d-\xff.efg'
+    mkdir "$folder/"$'c\xff'
+    run hash "$folder"
+    echo "$folder/"$'c\ufffd: E20' >"$scratch/wanted"
+    judge "hash of a folder with a folder whose name is not UTF-8" "$scratch/lines" "$scratch/wanted" 4
+    rmdir "$folder/"$'c\xff'
+    ln -s nowhere "$folder/e.efg"
+    run hash "$folder"
+    echo "$folder/e.efg: E20" >"$scratch/wanted"
+    judge "hash of a folder with a link to nothing" "$scratch/lines" "$scratch/wanted" 4
+    rm "$folder/e.efg"
+    check_unreadable "$folder"
+    check_vanishing "$folder"
+}
+
+# A file and a folder that may not be read, in a folder that has the hashes in 'lines'.
+check_unreadable() { # FOLDER
+    chmod -R a+rX "$scratch"
+    cp "$scratch/five.efg" "$1/closed.efg"
+    mkdir "$1/closed"
+    chmod a= "$1/closed.efg" "$1/closed"
+    run_as_nobody hash "$1"
+    printf '%s: E20\n%s: E20\n' "$1/closed" "$1/closed.efg" >"$scratch/wanted"
+    judge "hash of a folder with what cannot be read" "$scratch/lines" "$scratch/wanted" 4
+    chmod 755 "$1/closed"
+    rm -r "$1/closed" "$1/closed.efg"
+}
+
+# A file that goes while those before it are read: the first one is a pipe, which is opened once all
+# names are known.
+check_vanishing() { # FOLDER
+    local reader
+    mkfifo "$1/A.efg"
+    cp "$scratch/five.efg" "$1/z.efg"
+    { hash_of "$scratch/five.efg" "$1/A.efg" && cat "$scratch/lines"; } >"$scratch/more"
+    timeout 60 "$program" hash "$1" >"$scratch/out" 2>"$scratch/err" &
+    reader=$!
+    {
+        rm "$1/z.efg"
+        cat "$scratch/five.efg"
+    } >"$1/A.efg"
+    status=0
+    wait "$reader" || status=$?
+    echo "$1/z.efg: E20" >"$scratch/wanted"
+    judge "hash of a folder with a file that goes" "$scratch/more" "$scratch/wanted" 4
+    rm "$1/A.efg"
+}
+
+# Files that a list names: in lines, ended by zero bytes, and of standard input.
+check_hash_list() {
+    local list=$scratch/list five=$scratch/five.efg odd=$scratch/$'a\nb.efg' games=$scratch/games
+    cp "$five" "$odd"
+    run hash "$five" "$games" "$scratch/table.nfg"
+    cp "$scratch/out" "$scratch/lines"
+    printf '%s\n' "$five" "$games" "$scratch/table.nfg" >"$list"
+    run hash --files-from "$list" <"$nothing"
+    judge "hash of a list" "$scratch/lines" "$nothing" 0
+    head -c -1 "$list" >"$scratch/cut"
+    run hash --files-from - <"$scratch/cut"
+    judge "hash of a list without its last line feed" "$scratch/lines" "$nothing" 0
+    tr '\n' '\0' <"$list" >"$scratch/null"
+    run hash --files-from="$scratch/null" -0
+    judge "hash of a list with zero bytes" "$scratch/lines" "$nothing" 0
+    run hash -0 --files-from - < <(find "$scratch" -name "a*b.efg" -print0)
+    hash_of "$five" "$odd" >"$scratch/lines"
+    judge "hash of a name with a line feed" "$scratch/lines" "$nothing" 0
+    run hash --files-from "$nothing" <"$accepted.nfg"
+    judge "hash of an empty list" "$nothing" "$nothing" 0
+    run hash --files-from - < <(printf '%s\n\n%s\n' "$scratch/missing.efg" $'d-\xff.efg')
+    printf '%s: E20\n: E20\nd-\ufffd.efg: E20\n' "$scratch/missing.efg" >"$scratch/wanted"
+    judge "hash of a list of what cannot be opened" "$nothing" "$scratch/wanted" 4
+    run hash --files-from "$scratch/missing"
+    judge_refusal "hash of a missing list" "$scratch/missing: E20" 4
+    run hash --files-from "$games"
+    judge_refusal "hash of a list that is a folder" "$games: E20" 4
+    run duplicates --files-from - < <(printf '%s\n' "$five" "$scratch/copy.efg")
+    judge_lines "duplicates of a list" 1 "$five" "$scratch/copy.efg"
+}
+
+# Runs the program with standard error at a terminal, and standard output there or in a pipe. The first
+# file is a pipe whose text comes late.
+run_at_terminal() { # OUTPUT WORD..
+    mkfifo "$scratch/late.efg"
+    python3 - "$scratch" "$1" "$program" "${@:2}" <<'END'
+import os, pty, subprocess, sys, time
+scratch, to, *words = sys.argv[1:]
+ours, theirs = pty.openpty()
+output = theirs if to == "there" else subprocess.PIPE
+child = subprocess.Popen(words, stdin=subprocess.DEVNULL, stdout=output, stderr=theirs)
+os.close(theirs)
+with open(scratch + "/late.efg", "wb") as late:
+    time.sleep(0.5)
+    late.write(open(scratch + "/five.efg", "rb").read())
+output = child.stdout.read() if child.stdout else b""
+told = b""
+try:
+    while more := os.read(ours, 4096):
+        told += more
+except OSError:
+    pass
+open(scratch + "/out", "wb").write(output)
+open(scratch + "/err", "wb").write(told.replace(b"\r\n", b"\n"))
+sys.exit(child.wait())
+END
+    status=$?
+    rm "$scratch/late.efg"
+}
+
+# A terminal is told how many files are done, and keeps the lines of faults alone.
+check_progress() {
+    local files=("$scratch/late.efg" "$scratch/refused.nfg" "$scratch/five.efg") erase=$'\r\e[K'
+    {
+        hash_of "$scratch/five.efg" "$scratch/late.efg"
+        hash_of "$scratch/five.efg" "$scratch/five.efg"
+    } >"$scratch/lines"
+    run_at_terminal piped hash "${files[@]}"
+    printf '%s1 of 3 files%s%s: E4 at 26..29\n%s' "$erase" "$erase" "$scratch/refused.nfg" "$erase" >"$scratch/wanted"
+    judge "progress at a terminal" "$scratch/lines" "$scratch/wanted" 2
+    run_at_terminal piped hash --quiet "${files[@]}"
+    echo "$scratch/refused.nfg: E4 at 26..29" >"$scratch/wanted"
+    judge "progress with --quiet" "$scratch/lines" "$scratch/wanted" 2
+    run_at_terminal there hash "${files[0]}" "${files[2]}"
+    {
+        printf '%s' "$erase" && head -n 1 "$scratch/lines"
+        printf '%s1 of 2 files%s' "$erase" "$erase" && tail -n 1 "$scratch/lines" && printf '%s' "$erase"
+    } >"$scratch/wanted"
+    judge "progress at a terminal that has the output" "$nothing" "$scratch/wanted" 0
+    run_at_terminal piped duplicates "${files[@]}"
+    printf '%s\n' "$scratch/late.efg" "$scratch/five.efg" >"$scratch/lines"
+    printf '%s1 of 3 files%s%s: E4 at 26..29\n%s' "$erase" "$erase" "$scratch/refused.nfg" "$erase" >"$scratch/wanted"
+    judge "progress of duplicates" "$scratch/lines" "$scratch/wanted" 2
+}
+
+# Groups of two or more files, in order of their first files, whatever else is refused or missing.
+check_duplicates() {
+    local folder=$scratch/-games names
+    mkdir "$folder"
+    run duplicates -- "$folder"
+    judge "duplicates: an empty folder" "$nothing" "$nothing" 0
+    run duplicates <"$accepted.nfg"
+    judge "duplicates: standard input" "$nothing" "$nothing" 0
+    cp "$scratch/five.efg" "$scratch/prize.efg" "$folder"
+    cp "$accepted.nfg" "$folder/selten.NFG"
+    run duplicates -- "$folder"
+    judge "duplicates: other games" "$nothing" "$nothing" 0
+    cp "$scratch/copy.efg" "$folder"
+    cp "$accepted.out" "$folder/a b.nfg"
+    names=("$folder/a b.nfg" "$folder/selten.NFG" "" "$folder/copy.efg" "$folder/five.efg")
+    run duplicates -- "$folder"
+    judge_lines "duplicates: two games twice" 1 "${names[@]}"
+    run duplicates "$scratch/five.efg" "$accepted.nfg" "$scratch/copy.efg" "$scratch/five.efg"
+    judge_lines "duplicates: a file twice" 1 "$scratch/five.efg" "$scratch/copy.efg" "$scratch/five.efg"
+    run duplicates "$scratch/prize.efg" "$scratch/names.efg"
+    judge "duplicates: other names" "$nothing" "$nothing" 0
+    run duplicates --no-names "$scratch/prize.efg" "$scratch/names.efg"
+    judge_lines "duplicates --no-names" 1 "$scratch/prize.efg" "$scratch/names.efg"
+    cp "$scratch/refused.nfg" "$folder"
+    run duplicates -- "$folder"
+    printf '%s\n' "${names[@]}" >"$scratch/lines"
+    echo "$folder/refused.nfg: E4 at 26..29" >"$scratch/wanted"
+    judge "duplicates: a refused file" "$scratch/lines" "$scratch/wanted" 2
+    run duplicates "$scratch/missing.efg" -- "$folder"
+    printf '%s: E20\n%s: E4 at 26..29\n' "$scratch/missing.efg" "$folder/refused.nfg" >"$scratch/wanted"
+    judge "duplicates: a missing file" "$scratch/lines" "$scratch/wanted" 4
+    launch duplicates -- "$folder" >/dev/full 2>"$scratch/err"
+    : >"$scratch/out"
+    printf '%s: E4 at 26..29\nE21\n' "$folder/refused.nfg" >"$scratch/wanted"
+    judge "duplicates: standard output full" "$nothing" "$scratch/wanted" 4
+}
+
+# A hundred thousand small files take at most twice the processor time that `sha256sum` of them takes,
+# each at its best of three.
+check_many() {
+    local ratio
+    ratio=$(python3 - "$scratch/many" "$program" <<'END'
+import os, resource, subprocess, sys
+folder, program = sys.argv[1:]
+for number in range(100000):
+    if number % 1000 == 0:
+        os.makedirs(f"{folder}/{number // 1000:02}")
+    with open(f"{folder}/{number // 1000:02}/{number}.efg", "w") as game:
+        game.write(f'EFG 2 R "{number}" {{ "A" }}\nt "" 1 "" {{ {number} }}\n')
+def best(command):
+    spent = []
+    for _ in range(3):
+        before = resource.getrusage(resource.RUSAGE_CHILDREN)
+        ran = subprocess.run(["bash", "-c", command], stdout=subprocess.PIPE, check=True)
+        after = resource.getrusage(resource.RUSAGE_CHILDREN)
+        assert ran.stdout.count(b"\n") == 100000
+        spent.append(after.ru_utime + after.ru_stime - before.ru_utime - before.ru_stime)
+    return min(spent)
+ours = best(f"'{program}' hash '{folder}'")
+print(round(ours / best(f"find '{folder}' -type f -print0 | xargs -0 sha256sum"), 2))
+END
+    )
+    rm -r "$scratch/many"
+    if [[ -n $ratio ]] && awk "BEGIN { exit !($ratio <= 2) }"; then
+        passed=$((passed + 1))
+    else
+        fail "hash of 100,000 files: it took ${ratio:-?} times as long as sha256sum"
+    fi
+}
+
+# GNU parallel gives files to several processes. If there is none, this is not run.
+check_parallel() {
+    if ! command -v parallel >/dev/null; then
+        echo "NOT RUN docs/COLLECTIONS.md: there is no parallel"
+        return
+    fi
+    run hash "$root/examples"
+    sort "$scratch/out" >"$scratch/lines"
+    find "$root/examples" -name '*.[en]fg' -print0 |
+        parallel -0 -X "$program" hash 2>"$scratch/err" | sort >"$scratch/out"
+    status=0
+    echo "$root/examples/refused/three-doors.efg: E13 at 94..95" >"$scratch/wanted"
+    judge "hash by parallel" "$scratch/lines" "$scratch/wanted" 0
+}

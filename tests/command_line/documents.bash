@@ -1,0 +1,65 @@
+# shellcheck shell=bash disable=SC2034,SC2154
+# The page for `man`, its place after an install, and the commands that documents show.
+
+# The commands and the options that help names, a line each.
+named_by_help() {
+    local command commands
+    commands=$("$program" --help | sed -n '/^Commands:$/,/^$/s/^  \([a-z]*\) .*/\1/p')
+    printf '%s\n' "$commands"
+    "$program" --help | sed -n 's/^ .*\(--[a-z-]*\) .*/\1/p'
+    for command in $commands; do
+        "$program" help "$command" | sed -n 's/^ .*\(--[a-z-]*\) .*/\1/p'
+    done
+}
+
+# Those that the page for `man` has entries of.
+named_by_page() {
+    sed 's/\\-/-/g' "$root/docs/gamefile.1" |
+        sed -n '/^\.SH COMMANDS/,/^\.SH EXIT/{
+            s/^\.BR \([a-z]*\) " .*/\1/p
+            s/^\.B \(--[a-z-]*\)$/\1/p
+            s/^\.BI \(--[a-z-]*\) .*$/\1/p
+            s/^\.BR -[hV0] .*\(--[a-z-]*\)$/\1/p
+        }'
+}
+
+# The page is laid out without a warning. Where there is no groff, this is not run.
+check_layout() {
+    if ! command -v groff >/dev/null; then
+        echo "NOT RUN docs/gamefile.1: there is no groff"
+    elif groff -ww -man -Tutf8 "$root/docs/gamefile.1" 2>"$scratch/err" >/dev/null && [[ ! -s $scratch/err ]]; then
+        passed=$((passed + 1))
+    else
+        fail "docs/gamefile.1: groff warns: $(head -n 1 "$scratch/err")"
+    fi
+}
+
+# `make install` puts the program and its page in place, and the page names what help names.
+check_page() {
+    if diff <(named_by_help | sort -u) <(named_by_page | sort -u) >"$scratch/differs"; then
+        passed=$((passed + 1))
+    else
+        fail "docs/gamefile.1 and help name other commands or options: $(tr '\n' ' ' <"$scratch/differs")"
+    fi
+    check_layout
+    if make -s -C "$root" install PREFIX="$scratch/usr" &&
+        cmp -s "$program" "$scratch/usr/bin/gamefile" &&
+        cmp -s "$root/docs/gamefile.1" "$scratch/usr/share/man/man1/gamefile.1"; then
+        passed=$((passed + 1))
+    else
+        fail "make install: the program or its page is not in place"
+    fi
+}
+
+# The commands that documents show write what stands there.
+check_documents() {
+    local summary
+    summary=$("$root/tests/transcripts" README.md examples/README.md docs/COLLECTIONS.md CONTRIBUTING.md)
+    printf '%s\n' "$summary" | grep -v '^transcripts: '
+    if [[ $summary =~ transcripts:\ ([0-9]+)\ passed,\ ([0-9]+)\ failed$ ]]; then
+        passed=$((passed + BASH_REMATCH[1]))
+        failed=$((failed + BASH_REMATCH[2]))
+    else
+        fail "tests/transcripts: it has no last line"
+    fi
+}

@@ -1,0 +1,97 @@
+# shellcheck shell=bash disable=SC2034,SC2154
+# Too little memory: a page more at a time until there is enough, and a text that no memory holds.
+
+# The heading of a game file: the first player has so many strategies, and each other one.
+heading() { # PLAYERS STRATEGIES
+    echo 'NFG 1 R "" {'
+    yes '"a player"' | head -n "$1"
+    echo "} { $2"
+    yes 1 | head -n $(($1 - 1))
+    echo '}'
+}
+
+payoff_file() { # PLAYERS STRATEGIES
+    heading "$1" "$2"
+    yes 1/2 | head -n $(($1 * $2))
+}
+
+# All profiles have the same outcome.
+outcome_file() { # PLAYERS STRATEGIES
+    heading "$1" "$2"
+    echo '{ { "an outcome"'
+    yes 1/2 | head -n "$1"
+    echo '} }'
+    yes 1 | head -n "$2"
+}
+
+# Runs the program, as `run` does, with so much address space. By this setting the C library gives
+# each vector pages of its own, so that the growth of each can be refused.
+run_within() { # KIBIBYTES WORD..
+    export GLIBC_TUNABLES=glibc.malloc.mmap_threshold=1
+    launch_by prlimit --as=$(($1 * 1024)) -- "$program" "${@:2}" >"$scratch/out" 2>"$scratch/err"
+    unset GLIBC_TUNABLES
+}
+
+# Whether the last run ended for want of memory, with one line on standard error and nothing else.
+wants_memory() {
+    [[ $status == 5 && ! -s $scratch/out && $(wc -l <"$scratch/err") == 1 ]] &&
+        grep -Eqx '([AB]: )?E19( at [0-9]+\.\.[0-9]+)?' "$scratch/err"
+}
+
+# Runs the program on a file with one page more at a time, until there are enough for its answer. Each
+# run before has to end for want of memory, and they do so at many places.
+check_page_by_page() { # NAME GAME-FILE LEAST-KIBIBYTES WORD..
+    local name=$1 file=$2 least=$3 pages=0 places
+    shift 3
+    run "$@" <"$file"
+    cp "$scratch/out" "$scratch/text"
+    : >"$scratch/refusals"
+    while run_within $((least + 4 * pages)) "$@" <"$file" && wants_memory && ((pages < 1024)); do
+        cat "$scratch/err" >>"$scratch/refusals"
+        pages=$((pages + 1))
+    done
+    judge "$name, with $pages pages more than the least" "$scratch/text" "$nothing" 0
+    places=$(sort -u "$scratch/refusals" | wc -l)
+    if ((places >= 6)); then
+        passed=$((passed + 1))
+    else
+        fail "$name: memory was refused at no more than $places places"
+    fi
+}
+
+# The text has four gigabytes. The shell has the limit too, and would tell here of a signal.
+check_giant_text() {
+    outcome_file 1000 1048576 >"$scratch/giant.nfg"
+    status=0
+    (
+        ulimit -t 60
+        ulimit -v 400000
+        "$program"
+        exit "$?"
+    ) <"$scratch/giant.nfg" >"$scratch/out" 2>"$scratch/err" || status=$?
+    if wants_memory; then
+        passed=$((passed + 1))
+    else
+        judge_refusal "a giant text" "E19" 5
+    fi
+}
+
+check_memory() {
+    local least=1024
+    # An empty file takes no memory beyond that of the words. With less the program doesn't get there.
+    while run_within "$least" <"$nothing" && [[ $status != 2 ]] && ((least < 16384)); do
+        least=$((least + 4))
+    done
+    payoff_file 3000 4 >"$scratch/payoffs.nfg"
+    outcome_file 6000 4 >"$scratch/outcomes.nfg"
+    check_page_by_page "payoff version" "$scratch/payoffs.nfg" "$least"
+    check_page_by_page "outcome version" "$scratch/outcomes.nfg" "$least"
+    tree_file 3000 >"$scratch/tree.efg"
+    check_page_by_page "extensive file" "$scratch/tree.efg" "$least"
+    check_page_by_page "check" "$scratch/tree.efg" "$least" check
+    check_page_by_page "table" "$scratch/tree.efg" "$least" table
+    check_page_by_page "table --reduced" "$scratch/tree.efg" "$least" table --reduced
+    tree_file 600 >"$scratch/path.efg"
+    check_page_by_page "same --map" "$nothing" "$least" same --map "$scratch/path.efg" "$scratch/path.efg"
+    check_giant_text
+}

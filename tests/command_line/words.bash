@@ -1,0 +1,81 @@
+# shellcheck shell=bash disable=SC2034,SC2154
+# What the words of the command line ask for, and which are wrong.
+
+# Wrong usage has no output, and a text on standard error.
+check_usage() { # WORD..
+    run "$@" <"$accepted.nfg"
+    if [[ $status == 3 && ! -s $scratch/out ]] && grep -q '^error: ' "$scratch/err"; then
+        passed=$((passed + 1))
+    else
+        fail "words '$*': wrong usage is wanted, and status is $status"
+    fi
+}
+
+# Help begins with the version, and no line of it is longer than a terminal's.
+check_help() { # WORD..
+    run "$@" <"$nothing"
+    if [[ $status == 0 && ! -s $scratch/err && $(head -n 1 "$scratch/out") == "gamefile "[0-9]* ]] &&
+        ! grep -Eq '.{81}' "$scratch/out"; then
+        passed=$((passed + 1))
+    else
+        fail "words '$*': help of at most 80 columns is wanted, and status is $status"
+    fi
+}
+
+check_words() {
+    local words
+    run canon <"$accepted.nfg"
+    judge "canon of standard input" "$accepted.out" "$nothing" 0
+    run check <"$accepted.nfg"
+    judge_lines "check of standard input" 0 table
+    for words in same "same a" "same a b c" "same --map --no-names a b" "same --map --map a b" \
+        "same --map a" "canon a b" "canon --no-names --no-names" "canon --map a" "canon --reduced a" \
+        "hash --map a" "hash --no-names --no-names" "duplicates --map a" "check -x" "check --no-names" \
+        "hash --explain a" "hash -0 a" "hash --files-from" "hash --files-from a b" "check --files-from a" \
+        "canon --quiet a" "check --explain --explain" --explain \
+        "check --reduced" "table a b" "table --reduced --reduced" tree Canon can - "-- canon" --canon \
+        a.efg "canon --version" "same -V a b"; do
+        # shellcheck disable=SC2086
+        check_usage $words
+    done
+    check_usage ""
+    check_usage canon $'\xff.efg'
+    for words in --help -h help "canon --help" "check -h" "table --help" "same --help" "help canon" \
+        "help check" "help table" "help same" "help hash" "hash --help" "help duplicates" "same a --help"; do
+        # shellcheck disable=SC2086
+        check_help $words
+    done
+    for words in --version -V; do
+        run $words <"$nothing"
+        judge_lines "words '$words'" 0 "gamefile 1.0.0"
+    done
+    check_hint
+    check_own_name
+}
+
+# A file where a command is due has the hint of a command behind the usage, and no other word has.
+check_hint() {
+    local word wanted
+    for word in a.efg folder/a.nfg tree a.txt $'a\tb.efg' .efg.; do
+        wanted=0
+        case $word in
+        a.efg | folder/a.nfg) wanted=1 ;;
+        esac
+        run "$word" <"$nothing"
+        if [[ $status == 3 && ! -s $scratch/out ]] && grep -q '^Usage: ' "$scratch/err" &&
+            [[ $(tail -n 1 "$scratch/err" | grep -c "gamefile canon $word\$") == "$wanted" ]]; then
+            passed=$((passed + 1))
+        else
+            fail "word '$word': $wanted hints are wanted"
+        fi
+    done
+}
+
+# The program's own name is no word that it was given, and may be any bytes.
+check_own_name() {
+    local folder=$scratch/$'folder-\xff'
+    mkdir "$folder"
+    cp "$program" "$folder/gamefile"
+    launch_by "$folder/gamefile" check "$accepted.nfg" >"$scratch/out" 2>"$scratch/err"
+    judge_lines "a program whose name is not UTF-8" 0 table
+}
