@@ -1,3 +1,1 @@
-mod CarriedPairs
-mod PairsInTurn
 mod TableAnswers

@@ -5,7 +5,7 @@ use Rattle.gf_canon.specs.GameFile.{GameFile}
 use Rattle.gf_canon.specs.Judgement.{SpellsWithin}
 use Rattle.gf_calls.specs.Tabled.{IsMadeText, made, not_made, IsTableOf, IsTabled, written, out_of_memory}
 use Rattle.gf_calls.specs.declared.fault.FaultNumbers.{FaultNumbers}
-use Rattle.gf_calls.specs.declared.form.Strategies.{Strategies}
+use Rattle.gf_form.specs.declared.forms.Strategies.{Strategies}
 use Rattle.gf_calls.specs.declared.status.Status.{Status}
 
 -- the text of the table of a file answers the call

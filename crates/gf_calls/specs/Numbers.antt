@@ -11,8 +11,8 @@ use Rattle.gf_canon.specs.declared.format.Format.TheVariants as format
 use Rattle.gf_canon.specs.declared.sameness.Names.{Names}
 use Rattle.gf_canon.specs.declared.sameness.Names.TheVariants as names
 use Rattle.gf_calls.specs.declared.fault.FaultNumbers.{FaultNumbers}
-use Rattle.gf_calls.specs.declared.form.Strategies.{Strategies}
-use Rattle.gf_calls.specs.declared.form.Strategies.TheVariants as strategies
+use Rattle.gf_form.specs.declared.forms.Strategies.{Strategies}
+use Rattle.gf_form.specs.declared.forms.Strategies.TheVariants as strategies
 use Rattle.gf_calls.specs.declared.status.Status.{Status}
 use Rattle.gf_calls.specs.declared.status.Status.TheVariants as status
 

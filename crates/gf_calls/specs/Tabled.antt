@@ -1,60 +1,21 @@
 -- What a call answers that writes a file as a table.
-use Rattle.std.specs.Prelude.{◌≡◌, ◌≤◌, ℕ, List, Option, Some, None, length}
-use Rattle.std.specs.List.{Contains}
+use Rattle.std.specs.Prelude.{◌≡◌, ℕ, List, Option, Some, None}
 use Rattle.gf_nfg.specs.Table.{Table}
 use Rattle.gf_nfg.specs.TableText.{table_text}
 use Rattle.gf_tree.specs.Game.{Game}
 use Rattle.gf_canon.specs.GameFile.{GameFile}
 use Rattle.gf_canon.specs.GameFile.GameFile.{extensive, strategic}
 use Rattle.gf_canon.specs.Judgement.{MeansFile, SpellsWithin}
-use Rattle.gf_form.specs.Reduced.{IsReducedForm, reduced_profiles}
-use Rattle.gf_form.specs.Refusal.{HasReducedValues, HasTooManyProfiles, HasValues}
-use Rattle.gf_form.specs.Refusal.{OverflowsAt, ReducedOverflowsAt}
-use Rattle.gf_form.specs.StrategicForm.{IsStrategicForm}
-use Rattle.gf_form.specs.Strategies.{full_profiles}
+use Rattle.gf_form.specs.Forms.{HasFewPlayers, IsFormOf, IsWithoutForm}
 use Rattle.gf_form.specs.declared.fault.FormFault.{FormFault}
 use Rattle.gf_form.specs.declared.fault.FormFault.TheVariants as form
+use Rattle.gf_form.specs.declared.forms.Strategies.{Strategies}
 use Rattle.gf_calls.specs.Handed.{IsHandedOut}
 use Rattle.gf_calls.specs.Refused.{IsRefusedAs}
 use Rattle.gf_calls.specs.declared.fault.FaultNumbers.{FaultNumbers}
-use Rattle.gf_calls.specs.declared.form.Strategies.{Strategies}
-use Rattle.gf_calls.specs.declared.form.Strategies.TheVariants.{Pure, Reduced}
 use Rattle.gf_calls.specs.declared.status.Status.{Status}
 use Rattle.gf_calls.specs.declared.status.Status.TheVariants.{Misuse, OutOfMemory}
 use Rattle.gf_calls.specs.declared.status.Status.TheVariants.{Overflow, TooManyProfiles}
-
--- no more players than a table can have
-abbrev pub HasFewPlayers : Game → Type 0
-HasFewPlayers g = length g.players ≤ 4294967295
-
--- the form of a game by its pure or by its reduced strategies
-abbrev pub IsFormBy : Strategies → Game → Table → Type 0
-IsFormBy Pure g t = IsStrategicForm g t
-IsFormBy Reduced g t = IsReducedForm g t
-
--- each player has a bottom-up value at each profile
-abbrev pub HasValuesBy : Strategies → Game → Type 0
-HasValuesBy Pure g = (profile : List ℕ) → Contains (full_profiles g) profile → HasValues g profile
-HasValuesBy Reduced g =
-    (profile : List ℕ) → Contains (reduced_profiles g) profile → HasReducedValues g profile
-
--- the first profile of these at which not each player has one
-abbrev pub OverflowsBy : Strategies → Game → ℕ → Type 0
-OverflowsBy Pure g profile = OverflowsAt g profile
-OverflowsBy Reduced g profile = ReducedOverflowsAt g profile
-
--- the form of a game, and nothing rules it out
-pub record IsFormOf (strategies : Strategies) (g : Game) (t : Table) : Type 0 where
-  pub form : IsFormBy strategies g t
-  pub few : ¬ (HasTooManyProfiles g)
-  pub values : HasValuesBy strategies g
-
--- why a game has no table
-abbrev pub IsWithoutForm : Strategies → Game → FormFault → Type 0
-IsWithoutForm strategies g form.TooManyProfiles = HasTooManyProfiles g
-IsWithoutForm strategies g (form.Overflow profile) =
-    ¬ (HasTooManyProfiles g) × OverflowsBy strategies g profile
-IsWithoutForm strategies g form.Memory = Unit {0}
 
 -- the table of a file: for a game its form, and for a table the table itself
 abbrev pub IsTableOf : Strategies → GameFile → Table → Type 0

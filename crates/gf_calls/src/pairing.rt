@@ -9,9 +9,9 @@ ghost use Rattle.gf_calls.specs.Pairs.{ArePairs};
 
 use crate::fault::{FaultNumbers, tell};
 use crate::handing::hand_out;
-use crate::pair::{Pair, push_pairs};
+use crate::pair::{Pair, told_pairs};
 use crate::status::Status;
-use gf_canon::{Meaning, Names, read_file, same_meaning};
+use gf_canon::{Meaning, pairs_between, read_file};
 use std::alloc::{AllocError, Global};
 
 /// The pairs of two files that mean the same. `None` if these do not.
@@ -24,14 +24,10 @@ fn pairs_of(
         (λ pairs. SameFile (file_of a.now) (file_of b.now)
         × ArePairs (file_of a.now) (file_of b.now) pairs.items)) }
 {
-    if !same_meaning(alloc, a, b, Names::Kept)? {
-        return Ok(None);
+    match pairs_between(alloc, a, b)? {
+        Some(pairs) => Ok(Some(told_pairs(alloc, &pairs)?)),
+        None => Ok(None),
     }
-    let mut pairs = Vec::new(alloc);
-    if let (Meaning::Tree(g), Meaning::Tree(h)) = (a, b) {
-        push_pairs(g, h, &mut pairs)?;
-    }
-    Ok(Some(pairs))
 }
 
 /// Hands out the pairs of two files that were read.

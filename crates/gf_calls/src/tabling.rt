@@ -11,11 +11,11 @@ ghost use Rattle.gf_calls.specs.Tabled.{IsTabledBy, form_status};
 
 use crate::fault::{FaultNumbers, tell};
 use crate::flags::strategies_by;
-use crate::form::{Strategies, form_of};
 use crate::handing::hand_out;
 use crate::status::Status;
 use gf_canon::{Meaning, read_file};
 use gf_form::FormFault;
+use gf_form::forms::{Strategies, form_by};
 use gf_nfg::{Table, write_nfg};
 use gf_tree::Game;
 use std::alloc::{AllocError, Global};
@@ -71,7 +71,7 @@ fn write_form(
     if game.players().len() > MOST_PLAYERS {
         return Status::Misuse;
     }
-    match form_of(alloc, game, strategies) {
+    match form_by(alloc, game, strategies) {
         Ok(table) => write_made(alloc, &table, out, needed),
         Err(fault) => tell_form(fault, profile),
     }

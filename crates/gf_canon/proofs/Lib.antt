@@ -1,4 +1,5 @@
 pub mod CanonicalNumbers
+pub mod CarriedPairs
 pub mod Compared
 pub mod ComparedTrees
 pub mod EitherFormat
@@ -11,6 +12,7 @@ pub mod NodesNamed
 pub mod NumbersInOrder
 pub mod NumbersNoted
 pub mod OneFile
+pub mod PairsInTurn
 pub mod Pieces
 pub mod PlainLines
 pub mod ReadsBack

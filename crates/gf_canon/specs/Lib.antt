@@ -7,6 +7,7 @@ pub mod MeanSame
 pub mod MeaningOf
 pub mod NamesAside
 pub mod NewNumbers
+pub mod Pairs
 pub mod SameBy
 pub mod Sameness
 pub mod WorkedGames

@@ -1,4 +1,5 @@
 pub mod BottomUp
+pub mod Forms
 pub mod Payoff
 pub mod Plays
 pub mod Reduced

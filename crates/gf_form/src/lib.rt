@@ -8,6 +8,7 @@ mod evaluate;
 mod expectation;
 mod fault;
 mod form_labels;
+pub mod forms;
 mod full_rows;
 pub mod laws;
 mod levels;

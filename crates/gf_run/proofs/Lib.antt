@@ -1,4 +1,3 @@
-pub mod CarriedLines
 pub mod Errors
 pub mod FaultLines
 pub mod FewPlayers
@@ -9,7 +8,6 @@ pub mod GroupsText
 pub mod Hashed
 pub mod Interruptions
 pub mod JobFaults
-pub mod LinesInTurn
 pub mod MoreRead
 pub mod MoreWritten
 pub mod OneGroup

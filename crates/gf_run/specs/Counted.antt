@@ -1,6 +1,6 @@
 -- What a counted reader or writer shows.
 use Rattle.std.specs.Prelude.{ℕ}
-use Rattle.gf_run.specs.declared.counted.Counted.{Counted}
+use Rattle.gf_run.specs.declared.streams.counted.Counted.{Counted}
 
 -- the reader or writer that it wraps
 abbrev pub inner_of : {T : Type 0} → Counted T → T

@@ -5,8 +5,8 @@ use Rattle.gf_canon.specs.GameFile.{GameFile}
 use Rattle.gf_canon.specs.Judgement.{SpellsWithin}
 use Rattle.gf_canon.specs.declared.format.Format.{Format}
 use Rattle.gf_canon.specs.declared.format.Format.TheVariants.{Extensive, Strategic}
-use Rattle.gf_run.specs.declared.check.FileKind.{FileKind}
-use Rattle.gf_run.specs.declared.check.FileKind.TheVariants as kind
+use Rattle.gf_run.specs.declared.jobs.check.FileKind.{FileKind}
+use Rattle.gf_run.specs.declared.jobs.check.FileKind.TheVariants as kind
 
 -- for a file in this format
 abbrev pub kind_in : Format → FileKind

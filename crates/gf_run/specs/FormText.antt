@@ -1,51 +1,35 @@
 -- What is written for a file as a table: the strategic form of a tree, or its reduced form, and a
 -- table as it is.
-use Rattle.std.specs.Prelude.{◌≡◌, ◌≤◌, ℕ, List, length, Option, Result}
+use Rattle.std.specs.Prelude.{◌≡◌, ℕ, List, Option, Result}
 use Rattle.std.specs.declared.io.Error.{Error}
 use Rattle.gf_nfg.specs.Table.{Table}
 use Rattle.gf_nfg.specs.TableText.{table_text}
-use Rattle.gf_tree.specs.Game.{Game}
 use Rattle.gf_canon.specs.GameFile.{GameFile}
 use Rattle.gf_canon.specs.GameFile.GameFile.{extensive, strategic}
 use Rattle.gf_canon.specs.Judgement.{IsRefusedWith, SpellsWithin}
-use Rattle.gf_form.specs.Reduced.{IsReducedForm}
-use Rattle.gf_form.specs.Refusal.{HasTooManyProfiles, OverflowsAt, ReducedOverflowsAt}
-use Rattle.gf_form.specs.StrategicForm.{IsStrategicForm}
+use Rattle.gf_form.specs.Forms as forms
 use Rattle.gf_form.specs.declared.fault.FormFault.{FormFault}
 use Rattle.gf_form.specs.declared.fault.FormFault.TheVariants as form
+use Rattle.gf_form.specs.declared.forms.Strategies.{Strategies}
 use Rattle.gf_run.specs.declared.fault.RunFault.{RunFault}
 use Rattle.gf_run.specs.declared.fault.RunFault.TheVariants.{Refused, Write, Form, Memory}
 use Rattle.gf_run.specs.declared.fault.Which.TheVariants.{Only}
-use Rattle.gf_run.specs.declared.table.Strategies.{Strategies}
-use Rattle.gf_run.specs.declared.table.Strategies.TheVariants.{Pure, Reduced}
 use Rattle.gf_run.specs.Input.{IsNotRead, IsReadWhole}
-
--- the form of a game by its pure or by its reduced strategies
-abbrev pub IsFormBy : Strategies → Game → Table → Type 0
-IsFormBy Pure g t = IsStrategicForm g t
-IsFormBy Reduced g t = IsReducedForm g t
-
--- the first profile of these at which not each player has a bottom-up value
-abbrev pub OverflowsBy : Strategies → Game → ℕ → Type 0
-OverflowsBy Pure g profile = OverflowsAt g profile
-OverflowsBy Reduced g profile = ReducedOverflowsAt g profile
 
 -- why a file has no table; a file that is a table always has one
 abbrev pub IsWithoutForm : Strategies → GameFile → FormFault → Type 0
-IsWithoutForm strategies (extensive g) form.TooManyProfiles = HasTooManyProfiles g
-IsWithoutForm strategies (extensive g) (form.Overflow profile) =
-    ¬ (HasTooManyProfiles g) × OverflowsBy strategies g profile
-IsWithoutForm strategies _ _ = ⊥
+IsWithoutForm strategies (extensive g) form.Memory = ⊥
+IsWithoutForm strategies (extensive g) fault = forms.IsWithoutForm strategies g fault
+IsWithoutForm strategies (strategic t) fault = ⊥
 
 -- the form of a game, if nothing rules it out; for a table, the table itself
 abbrev pub IsFormOf : Strategies → GameFile → Table → Type 0
-IsFormOf strategies (extensive g) t = IsFormBy strategies g t
-    × ((fault : FormFault) → ¬ (IsWithoutForm strategies (extensive g) fault))
+IsFormOf strategies (extensive g) t = forms.IsFormOf strategies g t
 IsFormOf strategies (strategic s) t = t ≡ s
 
 -- at most as many players as can be counted in a table
 abbrev pub HasFewPlayers : GameFile → Type 0
-HasFewPlayers (extensive g) = length g.players ≤ 4294967295
+HasFewPlayers (extensive g) = forms.HasFewPlayers g
 HasFewPlayers (strategic t) = Unit {0}
 
 -- the bytes mean a file within the limit, and this is the canonical text of its table

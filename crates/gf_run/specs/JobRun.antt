@@ -5,6 +5,8 @@ use Rattle.gf_canon.specs.GameFile.{SameFile}
 use Rattle.gf_canon.specs.Judgement.{IsRefusedWith, IsTextBy}
 use Rattle.gf_canon.specs.SameBy.{SameBy}
 use Rattle.gf_canon.specs.declared.sameness.Names.{Names}
+use Rattle.gf_form.specs.declared.forms.Strategies.{Strategies}
+use Rattle.gf_form.specs.declared.forms.Strategies.TheVariants.{Pure, Reduced}
 use Rattle.gf_run.specs.FaultStatus.{answer_status}
 use Rattle.gf_run.specs.FileKinds.{IsKindLine}
 use Rattle.gf_run.specs.FormText.{IsFormText, ReadsFormUntil}
@@ -13,13 +15,11 @@ use Rattle.gf_run.specs.Opening.{IsNotOpened, IsOpened, RunsOver, RunsOverTwo}
 use Rattle.gf_run.specs.Run.{Answers, ReadsUntil}
 use Rattle.gf_run.specs.RunOfTwo.{AnswersTwo, ReadsTwoUntil}
 use Rattle.gf_run.specs.SameText.{IsAnswer, IsLine, IsLineAndMap}
-use Rattle.gf_run.specs.declared.check.FileKind.{FileKind}
+use Rattle.gf_run.specs.declared.jobs.check.FileKind.{FileKind}
 use Rattle.gf_run.specs.declared.fault.RunFault.{RunFault}
 use Rattle.gf_run.specs.declared.fault.RunFault.TheVariants.{Read, Write}
 use Rattle.gf_run.specs.declared.fault.Which.{Which}
 use Rattle.gf_run.specs.declared.fault.Which.TheVariants.{Only, First, Second}
-use Rattle.gf_run.specs.declared.table.Strategies.{Strategies}
-use Rattle.gf_run.specs.declared.table.Strategies.TheVariants.{Pure, Reduced}
 use Rattle.gf_run.specs.declared.asked.Input.{Input}
 use Rattle.gf_run.specs.declared.asked.Input.TheVariants.{File}
 use Rattle.gf_run.specs.declared.asked.Job.{Job}

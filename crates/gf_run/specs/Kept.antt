@@ -1,8 +1,8 @@
 -- What is behind an input that is noted.
 use Rattle.std.specs.Prelude.{ℕ, Result, Ok, Err}
 use Rattle.std.specs.declared.io.Error.{Error}
-use Rattle.gf_run.specs.declared.kept.Kept.{Kept}
-use Rattle.gf_run.specs.declared.kept.KeptInput.{KeptInput}
+use Rattle.gf_run.specs.declared.opening.kept.Kept.{Kept}
+use Rattle.gf_run.specs.declared.opening.kept.KeptInput.{KeptInput}
 
 abbrev pub input_of : {R : Type 0} → KeptInput R → R
 input_of kept = kept.inner

@@ -1,7 +1,7 @@
 -- What an open input shows.
 use Rattle.std.specs.Prelude.{ℕ, List, Option}
-use Rattle.gf_run.specs.declared.opened.Opened.{Opened}
-use Rattle.gf_run.specs.declared.opened.Opened.TheVariants.{Standard, File}
+use Rattle.gf_run.specs.declared.opening.opened.Opened.{Opened}
+use Rattle.gf_run.specs.declared.opening.opened.Opened.TheVariants.{Standard, File}
 
 -- the bytes that it has left, if what it reads reports them
 abbrev pub remaining_of : {S F : Type 0} → (S → Option (List ℕ)) → (F → Option (List ℕ))

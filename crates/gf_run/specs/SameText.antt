@@ -1,14 +1,14 @@
 -- What is written about two files that are compared.
-use Rattle.std.specs.Prelude.{◌≡◌, ◌↔◌, ℕ, suc, Bool, true, false, IsTrue, List, ◌++◌, length, map}
-use Rattle.std.specs.Prelude.{codes, decimal}
+use Rattle.std.specs.Prelude.{◌≡◌, ◌↔◌, ℕ, Bool, true, false, IsTrue, List, ◌++◌, codes, decimal}
 use Rattle.std.specs.List.{flat_map}
-use Rattle.gf_nfg.specs.Profiles.{numbers_from}
-use Rattle.gf_tree.specs.FirstUse.{outcome_numbers, player_keys}
 use Rattle.gf_tree.specs.Game.{Game}
 use Rattle.gf_tree.specs.Renumbering.{Renumbering}
 use Rattle.gf_canon.specs.GameFile.{GameFile}
 use Rattle.gf_canon.specs.GameFile.GameFile.{extensive}
 use Rattle.gf_canon.specs.Judgement.{SpellsWithin}
+use Rattle.gf_canon.specs.Pairs.{renumbering_pairs}
+use Rattle.gf_canon.specs.declared.pairs.NumberPair.{NumberPair}
+use Rattle.gf_canon.specs.declared.pairs.NumberPair.TheVariants.{Set, Outcome}
 use Rattle.gf_tree.specs.SameGame.{Carries, SameGame}
 
 -- ---- the line of an answer
@@ -29,24 +29,14 @@ abbrev pub outcome_line : ℕ → ℕ → List ℕ
 outcome_line number new_number =
     codes "outcome " ++ decimal number ++ codes " " ++ decimal new_number ++ codes "\n"
 
--- the numbers of a player's sets, in order of first use
-abbrev pub set_numbers : Game → ℕ → List ℕ
-set_numbers g player = map (λ key. key.number) (player_keys g player)
+-- of either
+abbrev pub pair_line : NumberPair → List ℕ
+pair_line (Set player number new_number) = set_line player number new_number
+pair_line (Outcome number new_number) = outcome_line number new_number
 
--- a line for each of them
-abbrev pub set_lines : Renumbering → Game → ℕ → List ℕ
-set_lines r g player =
-    flat_map (λ number. set_line player number (r.set player number)) (set_numbers g player)
-
--- a line for each outcome, in order of first use
-abbrev pub outcome_lines : Renumbering → Game → List ℕ
-outcome_lines r g =
-    flat_map (λ number. outcome_line number (r.outcome number)) (outcome_numbers g)
-
--- the sets of chance, which is player 0, then those of each player in turn, and then the outcomes
+-- a line for each set, and then one for each outcome
 abbrev pub renumbering_lines : Renumbering → Game → List ℕ
-renumbering_lines r g =
-    flat_map (set_lines r g) (numbers_from 0 (suc (length g.players))) ++ outcome_lines r g
+renumbering_lines r g = flat_map pair_line (renumbering_pairs r g)
 
 -- ---- the answer about two files
 

@@ -13,7 +13,7 @@ use std::alloc::AllocError;
 use thiserror::Error;
 
 /// The input that a fault is about.
-#[derive(Clone, Copy, Debug, PartialEq, Eq, Hash)]
+#[derive(Clone, Copy, Debug, PartialEq, Eq)]
 pub enum Which {
     /// The one input of a run.
     Only,
@@ -24,7 +24,7 @@ pub enum Which {
 }
 
 /// Why a run ended without its answer.
-#[derive(Clone, Copy, Debug, PartialEq, Eq, Hash, Error)]
+#[derive(Clone, Copy, Debug, PartialEq, Eq, Error)]
 pub enum RunFault {
     /// An input is refused.
     #[error("refused: E{} at {}..{}", .fault.why.code(), .fault.span.start, .fault.span.end)]
@@ -81,7 +81,7 @@ impl From<FormFault> for RunFault {
 }
 
 /// The writer failed.
-#[derive(Clone, Copy, Debug, PartialEq, Eq, Hash, Error)]
+#[derive(Clone, Copy, Debug, PartialEq, Eq, Error)]
 #[error("the text could not be written")]
 pub struct WriteFault;
 

@@ -12,7 +12,7 @@ const WIDTH: usize = 80;
 const HALF: usize = 40;
 
 /// What is shown of a line.
-#[derive(Clone, Copy, Debug)]
+#[derive(Clone, Copy)]
 struct Excerpt<'a> {
     before: &'a [u8],
     marked: &'a [u8],

@@ -5,7 +5,7 @@ ghost use Rattle.gf_run.specs.Input.{limit};
 ghost use Rattle.gf_run.specs.Place.{IsPlaceAfter};
 
 /// A line and a column, both from 1. Columns are counted in bytes.
-#[derive(Clone, Copy, Debug, PartialEq, Eq)]
+#[derive(Clone, Copy)]
 pub struct Place {
     pub line: usize,
     pub column: usize,

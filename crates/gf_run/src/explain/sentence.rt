@@ -11,7 +11,7 @@ use std::alloc::AllocError;
 const MOST: usize = 40;
 
 /// A sentence.
-#[derive(Clone, Copy, Debug)]
+#[derive(Clone, Copy)]
 enum Sentence {
     Plain(&'static str),
     /// What stands before and after the token.

@@ -1,6 +1,6 @@
 use Rattle.std.proofs.Common.{◌∙◌, Option, subst, sym}
 use Rattle.gf_calls.specs.Tabled.{IsTabledBy}
-use Rattle.gf_calls.specs.declared.form.Strategies.{Strategies}
+use Rattle.gf_form.specs.declared.forms.Strategies.{Strategies}
 use Rattle.gf_calls.proofs.tabling.write_table.Goals as goal
 
 pub returns-in-Some : goal.returns-in-Some

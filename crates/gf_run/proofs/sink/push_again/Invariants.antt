@@ -1,8 +1,0 @@
-use Rattle.gf_run.specs.Output.{IsOffer}
-use Rattle.gf_run.proofs.Interruptions.{IsAskedAgain}
-use Rattle.gf_run.proofs.sink.push_again.Given as goal
-
--- each push so far was interrupted
-abbrev pub invariant-loop-turn : goal.invariant-loop-turn
-invariant-loop-turn g l = IsAskedAgain g.W.Write.contents g.W.Sink.count g.W.Sink.push_gives
-    (IsOffer l.from) l._turn l.fn.output l.output

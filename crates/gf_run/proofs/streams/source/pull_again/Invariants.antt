@@ -1,0 +1,9 @@
+use Rattle.std.proofs.Common.{length}
+use Rattle.gf_run.specs.Input.{HasLength}
+use Rattle.gf_run.proofs.Interruptions.{IsAskedAgain}
+use Rattle.gf_run.proofs.streams.source.pull_again.Given as goal
+
+-- each pull so far was interrupted
+abbrev pub invariant-loop-turn : goal.invariant-loop-turn
+invariant-loop-turn g l = IsAskedAgain g.R.Read.remaining g.R.Source.count g.R.Source.pull_gives
+    (HasLength (length l.fn.to)) l._turn l.fn.input l.input

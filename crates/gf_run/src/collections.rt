@@ -1,0 +1,9 @@
+//! The runs over many files: which files, their hashes, and which of them are one game.
+
+pub mod duplicates;
+pub mod folders;
+pub mod groups;
+pub mod hash;
+pub mod hashes;
+pub mod paths;
+pub mod progress;

@@ -1,0 +1,101 @@
+//! The hash of a file's canonical text, and the run that writes it.
+
+ghost use Rattle.std.specs.Prelude.{◌≡◌, ◌≢◌, ℕ, List, IfErr, IfOk, OnOk};
+ghost use Rattle.std.specs.String.{string_bytes};
+ghost use Rattle.gf_run.specs.HashText.{IsFaultOfFile, IsHashLine, IsHashOf, ReadsFileUntil, hash_line};
+ghost use Rattle.gf_run.specs.Input.{IsReadWhole};
+ghost use Rattle.gf_run.specs.Output.{IsWriteFault, IsWritten};
+ghost use Rattle.gf_run.specs.Run.{Answers};
+
+use crate::fault::{RunFault, Which};
+use crate::streams::sink::{Sink, push_all};
+use crate::streams::source::{Source, load};
+use gf_canon::{Names, canonical_by};
+use sha2::{Digest, Sha256};
+use std::alloc::{AllocError, Global};
+
+/// The hash of these bytes' canonical text: SHA-256 (FIPS 180-4).
+fn hash_of(alloc: Global, bytes: &[u8], names: Names) -> Result<[u8; 32], RunFault>
+    ensures hash { IfOk result (λ hash. IsHashOf names bytes.now hash) }
+    ensures refused { IfErr result (IsFaultOfFile bytes.now) }
+    ensures before_writing { IfErr result (λ fault. fault ≢ RunFault.Write) }
+{
+    let text = canonical_by(alloc, bytes, names).map_err(|fault| RunFault::Refused {
+        which: Which::Only,
+        fault,
+    })?;
+    Ok(Sha256::digest(text.as_slice()))
+}
+
+/// Reads a file whole, and returns the hash of its canonical text, with names or without.
+///
+/// - `Refused`, `Read`: as `run_canon` has them.
+/// - `Memory`: memory ran out while the input was read.
+pub fn read_hash<R: Source>(
+    alloc: Global,
+    input: &mut R,
+    names: Names,
+) -> Result<[u8; 32], RunFault>
+    ensures hash { IfOk result (λ hash. (bytes : List ℕ) × IsHashOf names bytes hash
+        × IsReadWhole R.remaining R.pull_gives input.old input.new bytes) }
+    ensures refused { IfErr result (λ fault.
+        ReadsFileUntil R.remaining R.count R.pull_gives fault input.old input.new) }
+    ensures before_writing { IfErr result (λ fault. fault ≢ RunFault.Write) }
+{
+    let bytes = load(alloc, input, Which::Only)?;
+    hash_of(alloc, &bytes, names)
+}
+
+/// The line of a hash: in hexadecimal, two spaces and the name of the file, as `sha256sum` writes it.
+fn hash_line(alloc: Global, name: &str, hash: [u8; 32]) -> Result<String, AllocError>
+    ensures { IfOk result (λ line. string_bytes line ≡ hash_line name.now hash) }
+{
+    let mut line = hex::encode(alloc, hash)?;
+    line.push_str("  ")?;
+    line.push_str(name)?;
+    line.push_str("\n")?;
+    Ok(line)
+}
+
+/// The line of the hash of these bytes' canonical text.
+fn line_of(alloc: Global, name: &str, bytes: &[u8], names: Names) -> Result<String, RunFault>
+    ensures line { IfOk result (λ line. IsHashLine names name.now bytes.now (string_bytes line)) }
+    ensures refused { IfErr result (IsFaultOfFile bytes.now) }
+    ensures before_writing { IfErr result (λ fault. fault ≢ RunFault.Write) }
+{
+    let hash = hash_of(alloc, bytes, names)?;
+    Ok(hash_line(alloc, name, hash)?)
+}
+
+/// Writes the hash of the canonical text of the file that it reads, with names or without, and the
+/// name: `HEX  NAME` and a line feed.
+///
+/// The input is read whole before it is judged. Before any fault except `Write`, nothing is asked
+/// of the output.
+///
+/// # Errors
+///
+/// - `Refused`, `Read`, `Write`: as `run_canon` has them.
+/// - `Memory`: memory ran out while the input was read, or for the line of a valid file.
+pub fn run_hash<R: Source, W: Sink>(
+    alloc: Global,
+    input: &mut R,
+    name: &str,
+    names: Names,
+    output: &mut W,
+) -> Result<(), RunFault>
+    ensures done { OnOk result (Answers (IsHashLine names name.now)
+        (IsReadWhole R.remaining R.pull_gives input.old input.new)
+        (IsWritten W.contents W.push_gives output.old output.new)) }
+    ensures refused { IfErr result (λ fault.
+        ReadsFileUntil R.remaining R.count R.pull_gives fault input.old input.new) }
+    ensures untouched { IfErr result (λ fault. fault ≢ RunFault.Write → output.new ≡ output.old) }
+    ensures cut_off { result ≡ Err RunFault.Write → Answers (IsHashLine names name.now)
+        (IsReadWhole R.remaining R.pull_gives input.old input.new)
+        (IsWriteFault W.contents W.count W.push_gives output.old output.new) }
+{
+    let bytes = load(alloc, input, Which::Only)?;
+    let line = line_of(alloc, name, &bytes, names)?;
+    push_all(output, line.as_bytes())?;
+    Ok(())
+}

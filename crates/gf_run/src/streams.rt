@@ -1,0 +1,6 @@
+//! Readers and writers: what is asked of them, again after an interruption, and what they count.
+
+pub mod counted;
+pub mod sink;
+pub mod source;
+pub mod turns;

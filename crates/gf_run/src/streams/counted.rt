@@ -1,0 +1,95 @@
+//! A reader or a writer with a count of its failures.
+
+ghost use Rattle.std.specs.Prelude.{◌≡◌};
+ghost use Rattle.gf_run.specs.Counted.{failures_of, inner_of};
+ghost use Rattle.gf_run.specs.Failures.{CountsPull, CountsPush};
+
+use crate::streams::sink::Sink;
+use crate::streams::source::Source;
+use std::io;
+use std::io::{Read, Write};
+
+/// A reader or a writer with a count of its failures: a `Source` over a `Read`, a `Sink` over a
+/// `Write`.
+#[derive(Drop)]
+pub struct Counted<T> {
+    inner: T,
+    failures: u64,
+    last_error: Option<io::Error>,
+}
+
+impl<T> Counted<T> {
+    pub fn new(inner: T) -> Counted<T>
+        ensures inner { inner_of result ≡ inner }
+        ensures failures { failures_of result ≡ 0 }
+    {
+        Counted {
+            inner,
+            failures: 0,
+            last_error: None,
+        }
+    }
+}
+
+impl<R: Read> Read for Counted<R> {
+    ghost remaining = { λ c. R.remaining (inner_of c) };
+
+    fn read(&mut self, buf: &mut [u8]) -> io::Result<usize> {
+        self.inner.read(buf)
+    }
+}
+
+impl<W: Write> Write for Counted<W> {
+    ghost contents = { λ c. W.contents (inner_of c) };
+
+    fn write(&mut self, buf: &[u8]) -> io::Result<usize> {
+        self.inner.write(buf)
+    }
+
+    fn flush(&mut self) -> io::Result<()> {
+        self.inner.flush()
+    }
+}
+
+impl<R: Read> Source for Counted<R> {
+    ghost count = { failures_of };
+
+    ghost pull_gives = { λ old _ given new. CountsPull (failures_of old) given (failures_of new) };
+
+    fn pull(&mut self, to: &mut [u8]) -> Result<usize, io::Error> {
+        let answer = self.inner.read(to);
+        if answer.is_err() {
+            self.failures = self.failures.saturating_add(1);
+        }
+        answer
+    }
+
+    fn failures(&self) -> u64 {
+        self.failures
+    }
+}
+
+impl<W: Write> Sink for Counted<W> {
+    ghost count = { failures_of };
+
+    ghost push_gives = { λ old _ given new. CountsPush (failures_of old) given (failures_of new) };
+
+    fn push(&mut self, from: &[u8]) -> Result<usize, io::Error> {
+        let answer = self.inner.write(from);
+        if !matches!(&answer, Ok(count) if *count > 0) {
+            self.failures = self.failures.saturating_add(1);
+        }
+        if let Err(error) = &answer {
+            self.last_error = Some(*error);
+        }
+        answer
+    }
+
+    fn failures(&self) -> u64 {
+        self.failures
+    }
+
+    fn last_error(&self) -> Option<io::Error> {
+        self.last_error
+    }
+}

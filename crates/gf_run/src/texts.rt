@@ -1,0 +1,7 @@
+//! What is written in addition to the texts of files: answers about two files, and the lines of
+//! faults.
+
+pub mod comparison;
+pub mod line;
+pub mod renumbering;
+pub mod report;

@@ -1,0 +1,103 @@
+//! What is written about two files that are compared.
+
+ghost use Rattle.std.specs.Prelude.{◌≡◌, ◌↔◌, ◌++◌, ℕ, IfErr, IfOk, IsTrue, List, true};
+ghost use Rattle.std.specs.List.{flat_map};
+ghost use Rattle.gf_canon.specs.GameFile.{SameFile};
+ghost use Rattle.gf_canon.specs.Judgement.{SpellsWithin};
+ghost use Rattle.gf_canon.specs.MeaningOf.{file_of};
+ghost use Rattle.gf_canon.specs.Sameness.{AreRefusedWith};
+ghost use Rattle.gf_run.specs.SameText.{IsAnswer, IsLineAndMap, answer_line, pair_line};
+
+use crate::texts::renumbering::push_lines;
+use gf_canon::{Meaning, NumberPair, SameFault, pairs_between, read_file};
+use std::alloc::{AllocError, Global};
+
+/// Whether two files are the same, and what is written about it.
+#[derive(Drop)]
+pub struct Answer {
+    pub same: bool,
+    pub text: Vec<u8>,
+}
+
+/// The line of an answer.
+pub fn answer_line(same: bool) -> &'static [u8]
+    ensures { result.now ≡ answer_line same }
+{
+    if same { b"same\n" } else { b"different\n" }
+}
+
+/// An answer of one line.
+fn line(alloc: Global, same: bool) -> Result<Answer, AllocError>
+    ensures same { IfOk result (λ answer. answer.same ≡ same) }
+    ensures text { IfOk result (λ answer. answer.text.items ≡ answer_line same) }
+{
+    let mut text = Vec::new(alloc);
+    text.extend_from_slice(answer_line(same))?;
+    Ok(Answer { same, text })
+}
+
+/// The answer that two files are the same, with a line for each pair of their numbers.
+fn with_lines(alloc: Global, pairs: &[NumberPair]) -> Result<Answer, AllocError>
+    ensures same { IfOk result (λ answer. answer.same ≡ true) }
+    ensures text { IfOk result (λ answer.
+        answer.text.items ≡ answer_line true ++ flat_map pair_line pairs.now) }
+{
+    let mut answer = line(alloc, true)?;
+    push_lines(pairs, &mut answer.text)?;
+    Ok(answer)
+}
+
+/// The answer about two files that were read.
+fn answer_of(alloc: Global, a: &Meaning<'_>, b: &Meaning<'_>) -> Result<Answer, AllocError>
+    ensures same { IfOk result (λ answer.
+        IsTrue answer.same ↔ SameFile (file_of a.now) (file_of b.now)) }
+    ensures text { IfOk result (λ answer.
+        IsLineAndMap (file_of a.now) (file_of b.now) answer.same answer.text.items) }
+{
+    match pairs_between(alloc, a, b)? {
+        Some(pairs) => Ok(with_lines(alloc, &pairs)?),
+        None => Ok(line(alloc, false)?),
+    }
+}
+
+/// The answer about two files that were read; the second is not needed any more.
+fn answer_at_end(alloc: Global, a: &Meaning<'_>, b: Meaning<'_>) -> Result<Answer, AllocError>
+    ensures same { IfOk result (λ answer.
+        IsTrue answer.same ↔ SameFile (file_of a.now) (file_of b.entry)) }
+    ensures text { IfOk result (λ answer.
+        IsLineAndMap (file_of a.now) (file_of b.entry) answer.same answer.text.items) }
+{
+    answer_of(alloc, a, &b)
+}
+
+/// The answer about bytes whose meaning was read, and those of the second file.
+fn answer_beside(alloc: Global, first: &Meaning<'_>, b: &[u8]) -> Result<Answer, SameFault>
+    ensures answer { IfOk result (λ answer. (a : List ℕ) → SpellsWithin a (file_of first.now)
+        → IsAnswer SameFile IsLineAndMap answer.same a b.now answer.text.items) }
+    ensures refused { IfErr result (λ fault. (a : List ℕ) → SpellsWithin a (file_of first.now)
+        → AreRefusedWith a b.now fault) }
+{
+    let second = match read_file(alloc, b) {
+        Ok(second) => second,
+        Err(fault) => return Err(SameFault::Second(fault)),
+    };
+    match answer_at_end(alloc, first, second) {
+        Ok(answer) => Ok(answer),
+        Err(_) => Err(SameFault::Memory),
+    }
+}
+
+/// Whether two files are the same; and, if they are trees, the lines of the only renumbering that
+/// carries the first to the second.
+///
+/// Refused as by `same`.
+pub fn answer_with_map(alloc: Global, a: &[u8], b: &[u8]) -> Result<Answer, SameFault>
+    ensures answer { IfOk result (λ answer.
+        IsAnswer SameFile IsLineAndMap answer.same a.now b.now answer.text.items) }
+    ensures refused { IfErr result (AreRefusedWith a.now b.now) }
+{
+    match read_file(alloc, a) {
+        Ok(first) => answer_beside(alloc, &first, b),
+        Err(fault) => Err(SameFault::First(fault)),
+    }
+}

@@ -1,0 +1,85 @@
+//! What is written about a fault: its line on standard error.
+
+ghost use Rattle.std.specs.Prelude.{◌≡◌, ◌≤◌, length, OnOk, OnErr};
+ghost use Rattle.gf_run.specs.FaultLine.{fault_label, fault_line, label_of, short_line};
+ghost use Rattle.gf_run.specs.Output.{IsWriteFault, IsWritten};
+
+use crate::fault::{RunFault, Which, WriteFault};
+use crate::streams::sink::{Sink, push_all};
+use crate::texts::line::Line;
+use gf_form::FormFault;
+
+/// What a line about an input begins with.
+fn label(which: Which) -> &'static [u8]
+    ensures text { result.now ≡ label_of which }
+    ensures short { length result.now ≤ 3 }
+{
+    match which {
+        Which::Only => b"",
+        Which::First => b"A: ",
+        Which::Second => b"B: ",
+    }
+}
+
+/// What the line of a fault begins with.
+fn label_of(fault: &RunFault) -> &'static [u8]
+    ensures text { result.now ≡ fault_label fault.now }
+    ensures short { length result.now ≤ 3 }
+{
+    match fault {
+        RunFault::Refused { which, .. } | RunFault::Read(which) => label(*which),
+        RunFault::Write | RunFault::Form(_) | RunFault::Memory => b"",
+    }
+}
+
+/// The line of a fault, without its input and without its line feed.
+pub(crate) fn short_line_of(fault: &RunFault) -> Line
+    ensures text { result ≡ short_line fault.now }
+    ensures short { length result ≤ 70 }
+{
+    let mut line = Line::new();
+    match fault {
+        RunFault::Refused { fault, .. } => {
+            line.push(b"E");
+            line.push_number(usize::from(fault.why.code()));
+            line.push(b" at ");
+            line.push_number(fault.span.start);
+            line.push(b"..");
+            line.push_number(fault.span.end);
+        }
+        RunFault::Read(_) => line.push(b"E20"),
+        RunFault::Write => line.push(b"E21"),
+        RunFault::Form(FormFault::TooManyProfiles) => line.push(b"too many profiles"),
+        RunFault::Form(FormFault::Overflow { profile }) => {
+            line.push(b"overflow at profile ");
+            line.push_number(*profile as usize);
+        }
+        RunFault::Form(FormFault::Memory) | RunFault::Memory => line.push(b"E19"),
+    }
+    line
+}
+
+/// The line of a fault.
+#[tactic(auto, using(crate::proofs::FaultLines::line_parts))]
+pub(crate) fn line_of(fault: &RunFault) -> Line
+    ensures { result ≡ fault_line fault.now }
+{
+    let mut line = Line::new();
+    line.push(label_of(fault));
+    line.push(short_line_of(fault).as_slice());
+    line.push(b"\n");
+    line
+}
+
+/// Writes the line of a fault: its code and the place of a refusal in bytes, after `A: ` or `B: `
+/// if it is about one of two inputs; or why a game has no table. This takes no memory.
+///
+/// If the writer fails, a prefix of the line has been written.
+pub fn write_fault<W: Sink>(fault: &RunFault, output: &mut W) -> Result<(), WriteFault>
+    ensures all { OnOk result
+        (IsWritten W.contents W.push_gives output.old output.new (fault_line fault.now)) }
+    ensures part { OnErr result (IsWriteFault W.contents W.count W.push_gives
+        output.old output.new (fault_line fault.now)) }
+{
+    push_all(output, line_of(fault).as_slice())
+}
