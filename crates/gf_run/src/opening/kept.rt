@@ -138,6 +138,9 @@ impl<'a, I: Inputs> Inputs for Kept<'a, I> {
 
     fn standard(&self) -> KeptInput<'a, I::Opened> {
         let note = self.notes.next();
+        if let Ok(mut noted) = note.try_borrow_mut() {
+            noted.is_open = true;
+        }
         KeptInput {
             inner: self.inputs.standard(),
             note,
