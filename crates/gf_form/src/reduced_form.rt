@@ -3,19 +3,19 @@
 ghost use Rattle.std.specs.Prelude.{◌≡◌, ◌≤◌, ℕ, List, IfOk, IsErrOf, OnOk, length, map};
 ghost use Rattle.std.specs.List.{AllByRecursion, Contains};
 ghost use Rattle.gf_nfg.specs.Limit.{profile_limit};
-ghost use Rattle.gf_form.specs.inner.Counted.{AreCounts};
-ghost use Rattle.gf_form.specs.inner.Firsts.{AreFirsts, IsPaidAt};
-ghost use Rattle.gf_form.specs.inner.ProfileRows.{AreRowsAt};
+ghost use Rattle.gf_form.specs.inner.strategies.Counted.{AreCounts};
+ghost use Rattle.gf_form.specs.inner.reduced.Firsts.{AreFirsts, IsPaidAt};
+ghost use Rattle.gf_form.specs.inner.rows.ProfileRows.{AreRowsAt};
 ghost use Rattle.gf_form.specs.Reduced.{IsReducedForm, reduced_labels, reduced_profiles};
 ghost use Rattle.gf_form.specs.Refusal.{HasReducedValues, HasTooManyProfiles, ReducedOverflowsAt};
 ghost use Rattle.gf_form.specs.Strategies.{full_profiles, players_of};
 
-use crate::counts::Counts;
 use crate::fault::FormFault;
-use crate::picked::Picked;
-use crate::profile_rows::profile_rows;
-use crate::reduced::all_reduced;
+use crate::reduced::first::all_reduced;
+use crate::rows::profile::profile_rows;
 use crate::strategic_form::table_with;
+use crate::strategies::counts::Counts;
+use crate::strategies::picked::Picked;
 use gf_fraction::Fraction;
 use gf_nfg::{Labels, Table};
 use gf_tree::Game;

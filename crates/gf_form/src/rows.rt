@@ -2,15 +2,21 @@
 
 ghost use Rattle.std.specs.Prelude.{◌≡◌, ◌<◌, ◌≤◌, ℕ, None, Some, OnOk, IsErrOf, length};
 ghost use Rattle.gf_fraction.specs.Ratio.{IsFraction};
-ghost use Rattle.gf_form.specs.inner.Rows.{IsRow, at_place};
-ghost use Rattle.gf_form.specs.inner.Values.{plus_of, times_of};
+ghost use Rattle.gf_form.specs.inner.values.Rows.{IsRow, at_place};
+ghost use Rattle.gf_form.specs.inner.values.Values.{plus_of, times_of};
 
 use crate::fault::EvalFault;
 use gf_fraction::Fraction;
 use std::alloc::AllocError;
 
+pub(crate) mod digits;
+pub(crate) mod full;
 pub(crate) mod listed;
 pub(crate) mod merge;
+pub(crate) mod paths;
+pub(crate) mod profile;
+pub(crate) mod share;
+pub(crate) mod shares;
 pub(crate) mod sums;
 pub(crate) mod terms;
 pub(crate) mod written;

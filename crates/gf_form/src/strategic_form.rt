@@ -3,17 +3,17 @@
 ghost use Rattle.std.specs.Prelude.{◌≡◌, ◌≤◌, ℕ, List, IfOk, IsErrOf, OnOk, length};
 ghost use Rattle.std.specs.List.{Contains};
 ghost use Rattle.gf_nfg.specs.TableAccess.{IsTableOf};
-ghost use Rattle.gf_form.specs.inner.Counted.{AreCounts};
-ghost use Rattle.gf_form.specs.inner.FitsTable.{FitsTable};
-ghost use Rattle.gf_form.specs.inner.ProfileRows.{AreRowsAt};
+ghost use Rattle.gf_form.specs.inner.strategies.Counted.{AreCounts};
+ghost use Rattle.gf_form.specs.inner.rows.FitsTable.{FitsTable};
+ghost use Rattle.gf_form.specs.inner.rows.ProfileRows.{AreRowsAt};
 ghost use Rattle.gf_form.specs.Refusal.{HasTooManyProfiles, HasValues, OverflowsAt};
 ghost use Rattle.gf_form.specs.StrategicForm.{ArePayoffsAt, IsStrategicForm};
 ghost use Rattle.gf_form.specs.Strategies.{full_profiles};
 
-use crate::counts::Counts;
 use crate::fault::FormFault;
-use crate::form_labels::all_labels;
-use crate::full_rows::full_rows;
+use crate::rows::full::full_rows;
+use crate::strategies::counts::Counts;
+use crate::strategies::labels::all_labels;
 use gf_fraction::Fraction;
 use gf_nfg::{Labels, Table};
 use gf_tree::Game;

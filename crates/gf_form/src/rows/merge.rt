@@ -4,7 +4,8 @@
 ghost use Rattle.std.specs.Prelude.{◌≡◌, ◌+◌, ◌*◌, ◌<◌, ◌≤◌, ◌^◌, ℕ, OnOk};
 ghost use Rattle.std.specs.List.Sorted.{IsNonDecreasingBy};
 ghost use Rattle.gf_form.specs.declared.rows.terms.Head.{Head};
-ghost use Rattle.gf_form.specs.inner.Entries.{AreMerged, AreOrdered, CountsBelow, IsShaped, entries};
+ghost use Rattle.gf_form.specs.inner.rows.Entries.{AreMerged, AreOrdered, CountsBelow, IsShaped};
+ghost use Rattle.gf_form.specs.inner.rows.Entries.{entries};
 
 use crate::rows::terms::{Head, Terms};
 use std::alloc::AllocError;

@@ -2,7 +2,7 @@
 
 ghost use Rattle.std.specs.Prelude.{◌≡◌, ◌*ℤ◌, ◌+ℤ◌, IfSome, pos};
 ghost use Rattle.gf_fraction.specs.Ratio.{IsWithin};
-ghost use Rattle.gf_form.specs.inner.Entries.{IsFactor, IsScale};
+ghost use Rattle.gf_form.specs.inner.rows.Entries.{IsFactor, IsScale};
 
 use crate::rows::terms::Head;
 use gf_fraction::Fraction;

@@ -6,7 +6,8 @@ ghost use Rattle.std.specs.Prelude.{IfOk, IsTrue, List, OnOk, get_or, length, po
 ghost use Rattle.std.specs.List.{AllByRecursion};
 ghost use Rattle.gf_fraction.specs.Ratio.{IsWithin};
 ghost use Rattle.gf_form.specs.declared.rows.terms.Head.{Head};
-ghost use Rattle.gf_form.specs.inner.Entries.{HasNumbers, HasSum, IsShaped, entries, entry_at, lowered};
+ghost use Rattle.gf_form.specs.inner.rows.Entries.{HasNumbers, HasSum, IsShaped, entries, entry_at};
+ghost use Rattle.gf_form.specs.inner.rows.Entries.{lowered};
 
 use crate::rows::sums::{combined, scale_of};
 use std::alloc::{AllocError, Global};

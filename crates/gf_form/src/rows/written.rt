@@ -1,30 +1,31 @@
 //! The payoffs at the profiles of a table, from the terms of which they are sums.
 
-ghost use Rattle.std.specs.Prelude.{◌≡◌, ◌+◌, ◌*◌, ◌<◌, ◌≤◌, ◌^◌, [], ◌∷◌, ℕ, IfOk, IfSome, IsErrOf, OnOk};
+ghost use Rattle.std.specs.Prelude.{◌≡◌, ◌+◌, ◌*◌, ◌<◌, ◌≤◌, ◌^◌, [], ◌∷◌, ℕ, IfOk, IfSome};
+ghost use Rattle.std.specs.Prelude.{IsErrOf, OnOk};
 ghost use Rattle.std.specs.Prelude.{get_or, length, map, pos};
 ghost use Rattle.gf_fraction.specs.Ratio.{HasValue, IsFraction, IsWithin};
 ghost use Rattle.gf_nfg.specs.Profiles.{product};
-ghost use Rattle.gf_form.specs.inner.Demands.{spans};
-ghost use Rattle.gf_form.specs.inner.Entries.{AreOrdered, IsShaped, entries};
-ghost use Rattle.gf_form.specs.inner.PaidRows.{rows_of};
-ghost use Rattle.gf_form.specs.inner.Picked.{IsPicked, numbers_in, picked_profiles};
+ghost use Rattle.gf_form.specs.inner.rows.Demands.{spans};
+ghost use Rattle.gf_form.specs.inner.rows.Entries.{AreOrdered, IsShaped, entries};
+ghost use Rattle.gf_form.specs.inner.values.PaidRows.{rows_of};
+ghost use Rattle.gf_form.specs.inner.strategies.Picked.{IsPicked, numbers_in, picked_profiles};
 ghost use Rattle.gf_form.specs.Refusal.{HasValues, IsFirstWithout};
-ghost use Rattle.gf_form.specs.inner.Rows.{ArePaid};
-ghost use Rattle.gf_form.specs.inner.SettledRows.{AreWritten, HasRowOver, IsAsked, IsRowOver};
-ghost use Rattle.gf_form.specs.inner.SettledRows.{SettleRows, Settles};
+ghost use Rattle.gf_form.specs.inner.values.Rows.{ArePaid};
+ghost use Rattle.gf_form.specs.inner.rows.SettledRows.{AreWritten, HasRowOver, IsAsked, IsRowOver};
+ghost use Rattle.gf_form.specs.inner.rows.SettledRows.{SettleRows, Settles};
 ghost use Rattle.gf_form.specs.StrategicForm.{ArePayoffsAt};
 ghost use Rattle.gf_form.specs.Strategies.{strategies_at};
-ghost use Rattle.gf_form.specs.inner.GameDigits.{HaveSteps, actions_at};
+ghost use Rattle.gf_form.specs.inner.rows.GameDigits.{HaveSteps, actions_at};
 
-use crate::counts::Counts;
-use crate::digits::Digit;
-use crate::expectation::expected_with;
 use crate::fault::{EvalFault, FormFault};
-use crate::payoffs::Payoffs;
-use crate::picked::Picked;
-use crate::profile_strategies::{no_actions, write_strategies};
+use crate::rows::digits::Digit;
 use crate::rows::terms::Terms;
-use crate::values::Values;
+use crate::strategies::counts::Counts;
+use crate::strategies::picked::Picked;
+use crate::strategies::profile::{no_actions, write_strategies};
+use crate::values::expectation::expected_with;
+use crate::values::payoffs::Payoffs;
+use crate::values::stack::Values;
 use gf_fraction::Fraction;
 use gf_tree::Game;
 use std::alloc::{AllocError, Global};

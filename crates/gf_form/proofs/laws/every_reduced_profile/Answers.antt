@@ -1,4 +1,5 @@
-use Rattle.gf_form.proofs.ReducedStrategies.{all_reduced_to, each_reduced_to, one_profile}
+use Rattle.gf_form.proofs.lemmas.reduced.ReducedStrategies.{all_reduced_to, each_reduced_to}
+use Rattle.gf_form.proofs.lemmas.reduced.ReducedStrategies.{one_profile}
 use Rattle.gf_form.proofs.laws.every_reduced_profile.Goals as goal
 
 pub returns-clause-each_comes : goal.returns-clause-each_comes

@@ -1,4 +1,4 @@
-use Rattle.gf_form.proofs.ReducedStrategies.{each_comes, each_once, labels_differ}
+use Rattle.gf_form.proofs.lemmas.reduced.ReducedStrategies.{each_comes, each_once, labels_differ}
 use Rattle.gf_form.proofs.laws.every_reduced_strategy.Goals as goal
 
 pub returns-clause-each_comes : goal.returns-clause-each_comes

@@ -1,7 +1,8 @@
 use Rattle.std.proofs.Common.{[]}
 use Rattle.gf_form.specs.Strategies.{action_counts}
-use Rattle.gf_form.proofs.Choices.{every_choice, length-all_choices, choices_distinct}
-use Rattle.gf_form.proofs.StrategyLabels.{labels_differ}
+use Rattle.gf_form.proofs.lemmas.strategies.Choices.{every_choice, length-all_choices}
+use Rattle.gf_form.proofs.lemmas.strategies.Choices.{choices_distinct}
+use Rattle.gf_form.proofs.lemmas.strategies.StrategyLabels.{labels_differ}
 use Rattle.gf_form.proofs.laws.every_strategy.Goals as goal
 
 pub returns-clause-each_choice : goal.returns-clause-each_choice

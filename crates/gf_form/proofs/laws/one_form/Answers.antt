@@ -1,5 +1,5 @@
-use Rattle.gf_form.proofs.Forms.{one_strategic_form, strategic_form_exists}
-use Rattle.gf_form.proofs.ReducedForms.{one_reduced_form, reduced_form_exists}
+use Rattle.gf_form.proofs.lemmas.form.Forms.{one_strategic_form, strategic_form_exists}
+use Rattle.gf_form.proofs.lemmas.reduced.ReducedForms.{one_reduced_form, reduced_form_exists}
 use Rattle.gf_form.proofs.laws.one_form.Goals as goal
 
 pub returns-clause-strategic : goal.returns-clause-strategic

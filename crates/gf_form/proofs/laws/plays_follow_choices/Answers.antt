@@ -1,7 +1,7 @@
 use Rattle.gf_tree.proofs.Uses.{has}
 use Rattle.gf_form.specs.Plays.{plays}
-use Rattle.gf_form.proofs.Following.{follows_moves, same_or_part}
-use Rattle.gf_form.proofs.Whole.{some_play, whole}
+use Rattle.gf_form.proofs.lemmas.values.Following.{follows_moves, same_or_part}
+use Rattle.gf_form.proofs.lemmas.values.Whole.{some_play, whole}
 use Rattle.gf_form.proofs.laws.plays_follow_choices.Goals as goal
 
 pub returns-clause-by_moves : goal.returns-clause-by_moves

@@ -1,5 +1,5 @@
-use Rattle.gf_form.proofs.Apart.{agree_reduced}
-use Rattle.gf_form.proofs.Reducing.{reduced_agree}
+use Rattle.gf_form.proofs.lemmas.reduced.Apart.{agree_reduced}
+use Rattle.gf_form.proofs.lemmas.reduced.Reducing.{reduced_agree}
 use Rattle.gf_form.proofs.laws.reduced_strategies_agree.Goals as goal
 
 pub returns : goal.returns

@@ -1,4 +1,4 @@
-use Rattle.gf_form.proofs.Chosen.{have_actions, profile_strategies}
+use Rattle.gf_form.proofs.lemmas.strategies.Chosen.{have_actions, profile_strategies}
 use Rattle.gf_form.proofs.laws.strategies_have_actions.Goals as goal
 
 pub returns-clause-one_each : goal.returns-clause-one_each

@@ -1,4 +1,4 @@
-use Rattle.gf_form.proofs.BottomUp.{one_value, value_is_payoff}
+use Rattle.gf_form.proofs.lemmas.values.BottomUp.{one_value, value_is_payoff}
 use Rattle.gf_form.proofs.laws.value_is_payoff.Goals as goal
 
 pub returns-clause-one_value : goal.returns-clause-one_value

@@ -1,8 +1,9 @@
-use Rattle.gf_form.proofs.Worked.{plays_of_bonus, form_of_bonus, greatest_payoff, no_value}
-use Rattle.gf_form.proofs.Worked.{unlikely_payoff, no_value_either, balanced_payoff}
-use Rattle.gf_form.proofs.Worked.{no_balanced_value, form_of_ending, reduced_of_ending}
-use Rattle.gf_form.proofs.Worked.{both_strategies, contradicted_strategies}
-use Rattle.gf_form.proofs.WorkedGames.{worked_games}
+use Rattle.gf_form.proofs.lemmas.form.Worked.{plays_of_bonus, form_of_bonus, greatest_payoff}
+use Rattle.gf_form.proofs.lemmas.form.Worked.{no_value}
+use Rattle.gf_form.proofs.lemmas.form.Worked.{unlikely_payoff, no_value_either, balanced_payoff}
+use Rattle.gf_form.proofs.lemmas.form.Worked.{no_balanced_value, form_of_ending, reduced_of_ending}
+use Rattle.gf_form.proofs.lemmas.form.Worked.{both_strategies, contradicted_strategies}
+use Rattle.gf_form.proofs.lemmas.form.WorkedGames.{worked_games}
 use Rattle.gf_form.proofs.laws.worked_forms.Goals as goal
 
 pub returns-clause-plays : goal.returns-clause-plays

@@ -1,11 +1,12 @@
 use Rattle.std.proofs.Common.{◌∙◌, ℕ, Vec, Global, arith, map, subst, sym}
 use Rattle.std.proofs.lemmas.Bool.{false≢true}
 use Rattle.std.proofs.lemmas.Result.{IfOk-weaker, on_ok_weaker}
-use Rattle.gf_form.specs.inner.Firsts.{AreFirsts}
-use Rattle.gf_form.specs.inner.Picked.{numbers_in}
-use Rattle.gf_form.proofs.FirstsPicked.{are_numbers, few_firsts, reduced_overflow, reduced_rows}
-use Rattle.gf_form.proofs.FirstsPicked.{reduced_values, some_first_each}
-use Rattle.gf_form.proofs.PickedProfiles.{counted_profiles}
+use Rattle.gf_form.specs.inner.reduced.Firsts.{AreFirsts}
+use Rattle.gf_form.specs.inner.strategies.Picked.{numbers_in}
+use Rattle.gf_form.proofs.lemmas.reduced.FirstsPicked.{are_numbers, few_firsts, reduced_overflow}
+use Rattle.gf_form.proofs.lemmas.reduced.FirstsPicked.{reduced_rows}
+use Rattle.gf_form.proofs.lemmas.reduced.FirstsPicked.{reduced_values, some_first_each}
+use Rattle.gf_form.proofs.lemmas.strategies.PickedProfiles.{counted_profiles}
 use Rattle.gf_form.proofs.reduced_form.reduced_rows.Goals as goal
 
 pub of_numbers-requires : goal.of_numbers-requires

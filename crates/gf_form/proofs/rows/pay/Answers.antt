@@ -1,11 +1,11 @@
 use Rattle.std.proofs.Common.{◌≡◌, ◌∙◌, Option, Some, arith, subst, sym, length}
 use Rattle.gf_fraction.specs.Ratio.{Ratio}
 use Rattle.gf_fraction.specs.Rational.{zero_ratio}
-use Rattle.gf_form.specs.inner.Values.{plus_of}
-use Rattle.gf_form.proofs.RowSums.{Added, all_added, is_paid, not_paid, nothing_paid}
-use Rattle.gf_form.proofs.RowSums.{one_added}
-use Rattle.gf_form.proofs.ValuesComputed.{zero_fraction}
-use Rattle.gf_form.proofs.Zeros.{plus_zero}
+use Rattle.gf_form.specs.inner.values.Values.{plus_of}
+use Rattle.gf_form.proofs.lemmas.values.RowSums.{Added, all_added, is_paid, not_paid, nothing_paid}
+use Rattle.gf_form.proofs.lemmas.values.RowSums.{one_added}
+use Rattle.gf_form.proofs.lemmas.values.ValuesComputed.{zero_fraction}
+use Rattle.gf_form.proofs.lemmas.values.Zeros.{plus_zero}
 use Rattle.gf_form.proofs.rows.pay.Goals as goal
 
 pub returns-then-is_empty-clause-added : goal.returns-then-is_empty-clause-added

@@ -3,11 +3,12 @@ use Rattle.std.proofs.Common.{ℤ, of_z, to_z}
 use Rattle.std.specs.Int.{w128}
 use Rattle.std.proofs.lemmas.Int.{to_z-of_z, fits_signed_from_abs}
 use Rattle.gf_fraction.specs.Ratio.{Ratio}
-use Rattle.gf_form.specs.inner.Values.{plus_of, times_of}
-use Rattle.gf_form.proofs.RowSums.{Added, all_added, empty_row, not_multiplied}
-use Rattle.gf_form.specs.inner.Rows.{at_place}
-use Rattle.gf_form.proofs.RowSums.{read_again}
-use Rattle.gf_form.proofs.RowSums.{not_weighed, nothing_weighed, one_added, weighed, zeros_weighed}
+use Rattle.gf_form.specs.inner.values.Values.{plus_of, times_of}
+use Rattle.gf_form.proofs.lemmas.values.RowSums.{Added, all_added, empty_row, not_multiplied}
+use Rattle.gf_form.specs.inner.values.Rows.{at_place}
+use Rattle.gf_form.proofs.lemmas.values.RowSums.{read_again}
+use Rattle.gf_form.proofs.lemmas.values.RowSums.{not_weighed, nothing_weighed, one_added, weighed}
+use Rattle.gf_form.proofs.lemmas.values.RowSums.{zeros_weighed}
 use Rattle.gf_form.proofs.rows.weigh.Goals as goal
 use Rattle.gf_form.proofs.rows.weigh.Goals.{then-num-eq0-via-then-num-eq0}
 use Rattle.gf_form.proofs.rows.weigh.Goals.{then-num-eq0-via-else-num-eq0+then-is_empty}

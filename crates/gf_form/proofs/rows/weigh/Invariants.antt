@@ -1,6 +1,6 @@
 use Rattle.std.proofs.Common.{Some}
-use Rattle.gf_form.specs.inner.Values.{plus_of, times_of}
-use Rattle.gf_form.proofs.RowSums.{Added}
+use Rattle.gf_form.specs.inner.values.Values.{plus_of, times_of}
+use Rattle.gf_form.proofs.lemmas.values.RowSums.{Added}
 use Rattle.gf_form.proofs.rows.weigh.Given as goal
 
 abbrev pub invariant-loop-i : goal.invariant-loop-i

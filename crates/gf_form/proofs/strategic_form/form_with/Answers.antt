@@ -2,12 +2,12 @@ use Rattle.std.proofs.Common.{◌<◌, ◌≤◌, ℕ, List, length, subst, sym}
 use Rattle.std.proofs.lemmas.List.{length-map}
 use Rattle.std.proofs.lemmas.Result.{IfOk-weaker}
 use Rattle.gf_nfg.specs.Limit.{profile_limit}
-use Rattle.gf_form.specs.inner.ProfileRows.{AreRowsAt}
+use Rattle.gf_form.specs.inner.rows.ProfileRows.{AreRowsAt}
 use Rattle.gf_form.specs.StrategicForm.{ArePayoffsAt, strategy_labels}
 use Rattle.gf_form.specs.Strategies.{strategies, strategy_label}
-use Rattle.gf_form.proofs.FormMade.{fits_table, form_made, full_row, row_fractions}
-use Rattle.gf_form.proofs.FormTables.{some_strategy}
-use Rattle.gf_form.proofs.Forms.{all_profiles}
+use Rattle.gf_form.proofs.lemmas.form.FormMade.{fits_table, form_made, full_row, row_fractions}
+use Rattle.gf_form.proofs.lemmas.form.FormTables.{some_strategy}
+use Rattle.gf_form.proofs.lemmas.form.Forms.{all_profiles}
 use Rattle.gf_form.proofs.strategic_form.form_with.Goals as goal
 
 pub table_with-requires-clause-fits : goal.table_with-requires-clause-fits

@@ -5,15 +5,15 @@ use Rattle.std.proofs.lemmas.List.Sorted.{IsNonDecreasingBy-from_sort_by_key}
 use Rattle.std.proofs.lemmas.Result.{IfOk-weaker}
 use Rattle.gf_token.specs.Label.{label_of}
 use Rattle.gf_tree.specs.Game.{Game}
-use Rattle.gf_form.specs.inner.Entries.{entries}
-use Rattle.gf_form.specs.inner.KeptNodes.{paid_reached}
-use Rattle.gf_form.specs.inner.ListedNodes.{AreTermsOf}
-use Rattle.gf_form.specs.inner.PaidRows.{rows_of}
-use Rattle.gf_form.specs.inner.Rows.{ArePaid}
+use Rattle.gf_form.specs.inner.rows.Entries.{entries}
+use Rattle.gf_form.specs.inner.rows.KeptNodes.{paid_reached}
+use Rattle.gf_form.specs.inner.rows.ListedNodes.{AreTermsOf}
+use Rattle.gf_form.specs.inner.values.PaidRows.{rows_of}
+use Rattle.gf_form.specs.inner.values.Rows.{ArePaid}
 use Rattle.gf_form.specs.Strategies.{choices_by}
-use Rattle.gf_form.specs.declared.paths.Reached.{Reached}
+use Rattle.gf_form.specs.declared.rows.paths.Reached.{Reached}
 use Rattle.gf_form.specs.declared.rows.terms.Terms.{Terms}
-use Rattle.gf_form.proofs.ListedEntries.{terms_permuted}
+use Rattle.gf_form.proofs.lemmas.rows.ListedEntries.{terms_permuted}
 use Rattle.gf_form.proofs.rows.listed.game_terms.Goals as goal
 
 pub listed-requires : goal.listed-requires

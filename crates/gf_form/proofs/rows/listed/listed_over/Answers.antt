@@ -1,11 +1,11 @@
 use Rattle.std.proofs.Common.{◌≡◌, ◌∙◌, List, ap, arith, length, subst, take}
 use Rattle.std.proofs.Math.Seq.{take-length}
 use Rattle.std.proofs.lemmas.List.{get_or_default}
-use Rattle.gf_form.specs.inner.Entries.{entries}
-use Rattle.gf_form.specs.inner.ListedNodes.{AreTermsOf}
-use Rattle.gf_form.specs.inner.PaidRows.{rows_of}
-use Rattle.gf_form.specs.declared.paths.Reached.{Reached}
-use Rattle.gf_form.proofs.ListedEntries.{no_node, node_at, node_listed}
+use Rattle.gf_form.specs.inner.rows.Entries.{entries}
+use Rattle.gf_form.specs.inner.rows.ListedNodes.{AreTermsOf}
+use Rattle.gf_form.specs.inner.values.PaidRows.{rows_of}
+use Rattle.gf_form.specs.declared.rows.paths.Reached.{Reached}
+use Rattle.gf_form.proofs.lemmas.rows.ListedEntries.{no_node, node_at, node_listed}
 use Rattle.gf_form.proofs.rows.listed.listed_over.Goals as goal
 
 pub loop-node-preserved : goal.loop-node-preserved

@@ -1,6 +1,6 @@
 use Rattle.std.proofs.Common.{◌≡◌}
-use Rattle.gf_form.specs.inner.PaidRows.{rows_of}
-use Rattle.gf_form.proofs.ListedEntries.{Listing}
+use Rattle.gf_form.specs.inner.values.PaidRows.{rows_of}
+use Rattle.gf_form.proofs.lemmas.rows.ListedEntries.{Listing}
 use Rattle.gf_form.proofs.rows.listed.listed_over.Given as goal
 
 abbrev pub invariant-loop-node : goal.invariant-loop-node

@@ -1,14 +1,16 @@
-use Rattle.std.proofs.Common.{◌≡◌, ◌∙◌, ◌*◌, ◌<◌, ◌∷◌, ◌++◌, [], ℕ, ℤ, ap, arith, get_or, length, refl}
+use Rattle.std.proofs.Common.{◌≡◌, ◌∙◌, ◌*◌, ◌<◌, ◌∷◌, ◌++◌, [], ℕ, ℤ, ap, arith, get_or, length}
+use Rattle.std.proofs.Common.{refl}
 use Rattle.std.proofs.Common.{lit<, of_z, pos, sym, to_z, Vec, Global}
 use Rattle.std.specs.Int.{w128}
 use Rattle.std.proofs.lemmas.Int.{fits_signed_from_abs, to_z-of_z}
 use Rattle.gf_fraction.specs.Ratio.{IsWithin}
-use Rattle.gf_form.specs.inner.Entries.{entries_of}
-use Rattle.gf_form.specs.inner.PaidRows.{rows_of}
-use Rattle.gf_form.specs.inner.Rows.{at_place, row_at}
+use Rattle.gf_form.specs.inner.rows.Entries.{entries_of}
+use Rattle.gf_form.specs.inner.values.PaidRows.{rows_of}
+use Rattle.gf_form.specs.inner.values.Rows.{at_place, row_at}
 use Rattle.gf_form.specs.declared.rows.terms.Head.{Head}
-use Rattle.gf_form.proofs.FlatRows.{is_pushed}
-use Rattle.gf_form.proofs.NodeTerms.{IsNumber, is_number, is_term, none_known, one_filled}
+use Rattle.gf_form.proofs.lemmas.rows.FlatRows.{is_pushed}
+use Rattle.gf_form.proofs.lemmas.rows.NodeTerms.{IsNumber, is_number, is_term, none_known}
+use Rattle.gf_form.proofs.lemmas.rows.NodeTerms.{one_filled}
 use Rattle.gf_form.proofs.rows.listed.push_node.Goals as goal
 use Rattle.gf_form.proofs.rows.listed.push_node.Goals.{in-Some+in_ok-push, then-share-size}
 use Rattle.gf_form.proofs.rows.listed.push_node.Goals.{else-share-size, in_default+in_ok-push-2}

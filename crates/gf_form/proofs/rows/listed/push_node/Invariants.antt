@@ -1,7 +1,7 @@
 use Rattle.std.proofs.Common.{◌≡◌, ℕ}
-use Rattle.gf_form.specs.inner.PaidRows.{rows_of}
-use Rattle.gf_form.specs.inner.Rows.{at_place, row_at}
-use Rattle.gf_form.proofs.NodeTerms.{Filling}
+use Rattle.gf_form.specs.inner.values.PaidRows.{rows_of}
+use Rattle.gf_form.specs.inner.values.Rows.{at_place, row_at}
+use Rattle.gf_form.proofs.lemmas.rows.NodeTerms.{Filling}
 use Rattle.gf_form.proofs.rows.listed.push_node.Given as goal
 
 abbrev pub invariant-loop-place : goal.invariant-loop-place

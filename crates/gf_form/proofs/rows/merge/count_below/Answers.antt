@@ -1,6 +1,6 @@
 use Rattle.std.proofs.Common.{ltb, ltb-true, ltb-false, arith, rules}
 use Rattle.std.proofs.lemmas.List.Sorted.{IsPartitionPoint-from_clause, IsPartitionedBy-ltb}
-use Rattle.gf_form.specs.inner.Entries.{no_head}
+use Rattle.gf_form.specs.inner.rows.Entries.{no_head}
 use Rattle.gf_form.specs.declared.rows.terms.Head.{Head}
 use Rattle.gf_form.proofs.rows.merge.count_below.Goals as goal
 

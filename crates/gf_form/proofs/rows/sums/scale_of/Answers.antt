@@ -1,5 +1,5 @@
 use Rattle.std.proofs.Common.{arith}
-use Rattle.gf_form.proofs.FlatRows.{same_scale}
+use Rattle.gf_form.proofs.lemmas.rows.FlatRows.{same_scale}
 use Rattle.gf_form.proofs.rows.sums.scale_of.Goals as goal
 
 pub returns-then-a-gt0 : goal.returns-then-a-gt0

@@ -2,7 +2,7 @@ use Rattle.std.proofs.Common.{◌≡◌, ◌∙◌, ℤ, of_z, subst, sym, to_z}
 use Rattle.std.specs.Int.{w128}
 use Rattle.std.proofs.lemmas.Int.{fits_signed_from_abs, to_z-of_z}
 use Rattle.gf_fraction.specs.Ratio.{HasValue, IsWithin}
-use Rattle.gf_form.proofs.SettledRows.{no_row, one_more_over}
+use Rattle.gf_form.proofs.lemmas.rows.SettledRows.{no_row, one_more_over}
 use Rattle.gf_form.proofs.rows.written.push_row_over.Goals as goal
 
 in_bits : (z : ℤ) → IsWithin z → to_z w128 (of_z w128 z) ≡ z

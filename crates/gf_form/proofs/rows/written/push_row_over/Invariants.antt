@@ -1,4 +1,4 @@
-use Rattle.gf_form.specs.inner.SettledRows.{HasRowOver}
+use Rattle.gf_form.specs.inner.rows.SettledRows.{HasRowOver}
 use Rattle.gf_form.proofs.rows.written.push_row_over.Given as goal
 
 abbrev pub invariant-loop-place : goal.invariant-loop-place

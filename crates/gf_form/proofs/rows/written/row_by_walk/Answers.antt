@@ -1,10 +1,10 @@
 use Rattle.std.proofs.Common.{List, ℕ, arith, subst, sym}
 use Rattle.std.specs.Prelude.{IfOk, OnOk}
-use Rattle.gf_form.specs.inner.Picked.{numbers_in}
+use Rattle.gf_form.specs.inner.strategies.Picked.{numbers_in}
 use Rattle.gf_form.specs.Refusal.{HasValuesBy}
 use Rattle.gf_form.specs.StrategicForm.{ArePayoffs}
 use Rattle.gf_form.specs.Strategies.{AreStrategies, choices_by}
-use Rattle.gf_form.proofs.PickedProfiles.{are_strategies, counted_profiles}
+use Rattle.gf_form.proofs.lemmas.strategies.PickedProfiles.{are_strategies, counted_profiles}
 use Rattle.gf_form.proofs.rows.written.row_by_walk.Goals as goal
 
 pub expected_with-requires-clause-strategies : goal.expected_with-requires-clause-strategies

@@ -1,6 +1,6 @@
 use Rattle.std.proofs.Common.{◌≡◌, ◌<◌, arith, length, refl}
-use Rattle.gf_form.proofs.FlatRows.{head_read}
-use Rattle.gf_form.proofs.SettledRows.{row_over}
+use Rattle.gf_form.proofs.lemmas.rows.FlatRows.{head_read}
+use Rattle.gf_form.proofs.lemmas.rows.SettledRows.{row_over}
 use Rattle.gf_form.proofs.rows.written.row_denominator.Goals as goal
 
 pub returns : goal.returns

@@ -1,5 +1,5 @@
-use Rattle.gf_form.specs.inner.GameDigits.{actions_at}
-use Rattle.gf_form.proofs.SettledRows.{settled_next, step_within, stride_is}
+use Rattle.gf_form.specs.inner.rows.GameDigits.{actions_at}
+use Rattle.gf_form.proofs.lemmas.rows.SettledRows.{settled_next, step_within, stride_is}
 use Rattle.gf_form.proofs.rows.terms.Terms.choose.Goals as goal
 
 pub merge-requires-clause-within : goal.merge-requires-clause-within

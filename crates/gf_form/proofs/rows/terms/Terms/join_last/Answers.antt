@@ -1,8 +1,8 @@
 use Rattle.std.proofs.Common.{◌≡◌, ◌∙◌, ◌+◌, ◌-◌, ◌≤◌, ◌∷◌, ◌++◌, [], List, ap, arith, length, sym}
-use Rattle.gf_form.specs.inner.Entries.{entries_of, entry_at, lowered}
+use Rattle.gf_form.specs.inner.rows.Entries.{entries_of, entry_at, lowered}
 use Rattle.gf_form.specs.declared.rows.terms.Head.{Head}
-use Rattle.gf_form.proofs.FlatRows.{head_at, head_read}
-use Rattle.gf_form.proofs.JoinedTerms.{joined_last, joined_ordered, joined_terms}
+use Rattle.gf_form.proofs.lemmas.rows.FlatRows.{head_at, head_read}
+use Rattle.gf_form.proofs.lemmas.rows.JoinedTerms.{joined_last, joined_ordered, joined_terms}
 use Rattle.gf_form.proofs.rows.terms.Terms.join_last.Goals as goal
 
 pub returns-clause-terms : goal.returns-clause-terms

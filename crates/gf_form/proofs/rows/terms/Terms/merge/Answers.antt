@@ -1,8 +1,8 @@
 use Rattle.std.proofs.Common.{◌+◌, ◌*◌, ◌∙◌, List, ap, arith, subst}
-use Rattle.gf_form.specs.inner.Entries.{CountsBelow}
+use Rattle.gf_form.specs.inner.rows.Entries.{CountsBelow}
 use Rattle.gf_form.specs.declared.rows.terms.Head.{Head}
-use Rattle.gf_form.proofs.FlatRows.{entry_head, head_read}
-use Rattle.gf_form.proofs.Merges.{both_go, first_merge, free_goes, last_merge, own_goes}
+use Rattle.gf_form.proofs.lemmas.rows.FlatRows.{entry_head, head_read}
+use Rattle.gf_form.proofs.lemmas.rows.Merges.{both_go, first_merge, free_goes, last_merge, own_goes}
 use Rattle.gf_form.proofs.rows.terms.Terms.merge.Goals as goal
 
 pub loop-free-init : goal.loop-free-init

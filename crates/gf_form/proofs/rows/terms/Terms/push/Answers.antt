@@ -1,8 +1,9 @@
 use Rattle.std.proofs.Common.{◌≡◌, ◌∙◌, subst, ap, arith, length, ◌++◌, ◌∷◌, [], sym}
-use Rattle.gf_form.specs.inner.Entries.{Entry, entries}
+use Rattle.gf_form.specs.inner.rows.Entries.{Entry, entries}
 use Rattle.gf_form.specs.declared.rows.terms.Head.{Head}
-use Rattle.gf_form.proofs.FlatRows.{entry_head, head_read, is_pushed, less_head, lowered_is, row_in_bound}
-use Rattle.gf_form.proofs.FlatRows.{row_length}
+use Rattle.gf_form.proofs.lemmas.rows.FlatRows.{entry_head, head_read, is_pushed, less_head}
+use Rattle.gf_form.proofs.lemmas.rows.FlatRows.{lowered_is, row_in_bound}
+use Rattle.gf_form.proofs.lemmas.rows.FlatRows.{row_length}
 use Rattle.gf_fraction.specs.Ratio.{IsWithin}
 use Rattle.std.specs.List.{AllByRecursion}
 use Rattle.gf_form.proofs.rows.terms.Terms.push.Goals as goal

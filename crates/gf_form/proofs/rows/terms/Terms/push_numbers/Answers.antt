@@ -1,12 +1,14 @@
-use Rattle.std.proofs.Common.{◌≡◌, ◌∙◌, ◌<◌, ◌+ℤ◌, ◌*ℤ◌, ◌++◌, ◌∷◌, [], ℤ, List, get_or, length, lit<, pos, ap, arith, of_z, to_z}
-use Rattle.gf_form.proofs.FlatRows.{all_added, none_added, one_added}
+use Rattle.std.proofs.Common.{◌≡◌, ◌∙◌, ◌<◌, ◌+ℤ◌, ◌*ℤ◌, ◌++◌, ◌∷◌, [], ℤ, List, get_or, length}
+use Rattle.std.proofs.Common.{lit<, pos, ap, arith, of_z, to_z}
+use Rattle.gf_form.proofs.lemmas.rows.FlatRows.{all_added, none_added, one_added}
 use Rattle.std.specs.Int.{w128}
 use Rattle.std.specs.List.{AllByRecursion}
 use Rattle.std.proofs.lemmas.Int.{fits_signed_from_abs, to_z-of_z}
 use Rattle.gf_fraction.specs.Ratio.{IsWithin}
-use Rattle.gf_form.proofs.StrategiesByNumber.{all_at}
+use Rattle.gf_form.proofs.lemmas.strategies.StrategiesByNumber.{all_at}
 use Rattle.gf_form.proofs.rows.terms.Terms.push_numbers.Goals as goal
-use Rattle.gf_form.proofs.rows.terms.Terms.push_numbers.Goals.{in-Some+in_ok-push-in-Some, in-None+in_ok-push-in-None}
+use Rattle.gf_form.proofs.rows.terms.Terms.push_numbers.Goals.{in-Some+in_ok-push-in-Some}
+use Rattle.gf_form.proofs.rows.terms.Terms.push_numbers.Goals.{in-None+in_ok-push-in-None}
 
 in_bits : (z : ℤ) → IsWithin z → to_z w128 (of_z w128 z) ≡ z
 in_bits z small = to_z-of_z w128 z (fits_signed_from_abs w128 z small)

@@ -1,5 +1,5 @@
 use Rattle.std.proofs.Common.{◌≡◌}
-use Rattle.gf_form.proofs.FlatRows.{Adding}
+use Rattle.gf_form.proofs.lemmas.rows.FlatRows.{Adding}
 use Rattle.gf_form.proofs.rows.terms.Terms.push_numbers.Given as goal
 
 abbrev pub invariant-loop-place : goal.invariant-loop-place

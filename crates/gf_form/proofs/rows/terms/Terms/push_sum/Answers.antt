@@ -1,9 +1,11 @@
-use Rattle.std.proofs.Common.{◌≡◌, ◌∙◌, ◌<◌, ◌*◌, ◌++◌, ◌∷◌, [], ◌+ℤ◌, ◌*ℤ◌, arith, ap, get_or, length, pos, ℕ}
+use Rattle.std.proofs.Common.{◌≡◌, ◌∙◌, ◌<◌, ◌*◌, ◌++◌, ◌∷◌, [], ◌+ℤ◌, ◌*ℤ◌, arith, ap, get_or}
+use Rattle.std.proofs.Common.{length, pos, ℕ}
 use Rattle.std.proofs.Common.{sym, true, subst, Vec, Global}
-use Rattle.gf_form.specs.inner.Entries.{HasSum, IsScale, entries, entries_of, entry_at}
+use Rattle.gf_form.specs.inner.rows.Entries.{HasSum, IsScale, entries, entries_of, entry_at}
 use Rattle.gf_form.specs.declared.rows.terms.Head.{Head}
-use Rattle.gf_form.proofs.FlatRows.{entry_head, has_sum, head_read, is_pushed, row_in_bound, row_length}
-use Rattle.gf_form.proofs.FlatRows.{sum_made}
+use Rattle.gf_form.proofs.lemmas.rows.FlatRows.{entry_head, has_sum, head_read, is_pushed}
+use Rattle.gf_form.proofs.lemmas.rows.FlatRows.{row_in_bound, row_length}
+use Rattle.gf_form.proofs.lemmas.rows.FlatRows.{sum_made}
 use Rattle.gf_fraction.specs.Ratio.{IsWithin}
 use Rattle.std.specs.List.{AllByRecursion}
 use Rattle.gf_form.proofs.rows.terms.Terms.push_sum.Goals as goal

@@ -1,6 +1,6 @@
 use Rattle.std.proofs.Common.{◌≡◌, ◌+◌, ◌-◌, ◌*◌, ◌∙◌, ap, arith, drop, sym, take}
-use Rattle.gf_form.specs.inner.Entries.{Entry, no_head}
-use Rattle.gf_form.proofs.FlatRows.{entry_is}
+use Rattle.gf_form.specs.inner.rows.Entries.{Entry, no_head}
+use Rattle.gf_form.proofs.lemmas.rows.FlatRows.{entry_is}
 use Rattle.gf_form.proofs.rows.terms.Terms.row.Goals as goal
 
 pub returns : goal.returns

@@ -1,5 +1,5 @@
 use Rattle.std.proofs.Common.{get_or}
-use Rattle.gf_form.proofs.SettledRows.{none_left}
+use Rattle.gf_form.proofs.lemmas.rows.SettledRows.{none_left}
 use Rattle.gf_form.proofs.rows.written.Written.+push_rows.Goals as goal
 
 pub push_alike-requires-clause-settles : goal.push_alike-requires-clause-settles

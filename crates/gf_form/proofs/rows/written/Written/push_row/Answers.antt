@@ -1,12 +1,12 @@
 use Rattle.std.proofs.Common.{◌≡◌, ◌+◌, ◌<◌, ◌∙◌, ◌++◌, [], Err, List, ℤ, ap, arith, get_or, length}
 use Rattle.std.proofs.Common.{subst}
 use Rattle.gf_fraction.specs.Ratio.{Ratio}
-use Rattle.gf_form.specs.inner.Picked.{numbers_in, picked_profiles}
+use Rattle.gf_form.specs.inner.strategies.Picked.{numbers_in, picked_profiles}
 use Rattle.gf_form.specs.Refusal.{HasValues, IsFirstWithout}
-use Rattle.gf_form.specs.inner.SettledRows.{HasRowOver}
+use Rattle.gf_form.specs.inner.rows.SettledRows.{HasRowOver}
 use Rattle.gf_form.specs.StrategicForm.{ArePayoffsAt}
-use Rattle.gf_form.proofs.RowsMade.{all_more, first_without, one_row_more}
-use Rattle.gf_form.proofs.SettledRows.{row_settled}
+use Rattle.gf_form.proofs.lemmas.rows.RowsMade.{all_more, first_without, one_row_more}
+use Rattle.gf_form.proofs.lemmas.rows.SettledRows.{row_settled}
 use Rattle.gf_form.proofs.rows.written.Written.push_row.Goals as goal
 
 pub returns-in-Some-clause-written : goal.returns-in-Some-clause-written

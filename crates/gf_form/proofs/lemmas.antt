@@ -1,0 +1,5 @@
+pub mod form
+pub mod reduced
+pub mod rows
+pub mod strategies
+pub mod values

@@ -1,0 +1,79 @@
+-- A form of a game is a table; the strategic form.
+use Rattle.std.proofs.Common.{◌≡◌, ℕ, suc, ◌<◌, Bool, true, false, List, [], ◌∷◌}
+use Rattle.std.proofs.Common.{cond, length, map, refl, sym, ap, ◌∙◌, subst, arith}
+use Rattle.std.specs.Prelude.{◌==◌, filter}
+use Rattle.std.specs.List.{AllByRecursion, AllZip}
+use Rattle.std.proofs.lemmas.List.{length-map}
+use Rattle.gf_fraction.specs.Ratio.{Ratio}
+use Rattle.gf_fraction.proofs.AllElements.{all_images}
+use Rattle.gf_fraction.proofs.Products.{mul_above}
+use Rattle.gf_nfg.specs.Profiles.{product}
+use Rattle.gf_nfg.specs.Table.{Entry, Table, IsTable}
+use Rattle.gf_nfg.proofs.NumbersInTurn.{length-numbers_from}
+use Rattle.gf_tree.specs.Description.{SetKey, InformationSet, IsSet}
+use Rattle.gf_tree.specs.FiniteMap.{Described}
+use Rattle.gf_tree.specs.Game.{Game, IsGame}
+use Rattle.gf_tree.proofs.Uses.{Has, all_of_each, each}
+use Rattle.gf_form.specs.Strategies.{action_counts, strategies, strategy_label}
+use Rattle.gf_form.specs.Strategies.{players_of}
+use Rattle.gf_form.specs.StrategicForm.{ArePayoffsAt, IsFormBy, IsStrategicForm, strategy_labels}
+use Rattle.gf_form.proofs.lemmas.strategies.Choices.{length-all_choices}
+
+pub as_many : {A B : Type 0} (R : A → B → Type 0) (xs : List A) (ys : List B) → AllZip R xs ys
+    → length xs ≡ length ys
+as_many R [] [] h = refl
+as_many R [] (y ∷ ys) h = absurd h
+as_many R (x ∷ xs) [] h = absurd h
+as_many R (x ∷ xs) (y ∷ ys) h = ap suc (as_many R xs ys h.1)
+
+pub product_above : (players player : ℕ) (ss : List (Described SetKey InformationSet))
+    → AllByRecursion (λ s. IsSet players s.key s.description) ss
+    → 0
+    < product (map (λ s. length s.description.actions) (filter (λ s. s.key.player == player) ss))
+product_above players player [] h = omega arith
+product_above players player (s ∷ ss) h =
+    by_owner (s.key.player == player) (product_above players player ss h.1)
+  where
+    by_owner : (b : Bool) → 0 < product
+        (map (λ s. length s.description.actions) (filter (λ s. s.key.player == player) ss))
+        → 0 < product (map (λ s. length s.description.actions) (cond b
+        (s ∷ filter (λ s. s.key.player == player) ss) (filter (λ s. s.key.player == player) ss)))
+    by_owner true others = mul_above _ _ h.0.some_action others
+    by_owner false others = others
+
+-- a player has a strategy
+pub some_strategy : (g : Game) → IsGame g → (player : ℕ) → 0 < length (strategies g player)
+some_strategy g game player =
+    subst (λ n. 0 < n) (sym (length-all_choices (action_counts g player)))
+    (product_above (length g.players) player g.sets game.each_set)
+
+pub some_labels : (labels : ℕ → List (List ℕ)) → ((player : ℕ) → 0 < length (labels player))
+    → (players : List ℕ) → AllByRecursion (λ own. 0 < length own) (map labels players)
+some_labels labels some [] = tt
+some_labels labels some (player ∷ players) = (some player, some_labels labels some players)
+
+module _ (labels : ℕ → List (List ℕ)) (R : List ℕ → List Ratio → Type 0) (g : Game) (t : Table)
+    (form : IsFormBy labels R g t) where
+  as_players : length (players_of g) ≡ length t.players
+  as_players = length-numbers_from 1 (length g.players) ∙ sym (ap length form.players)
+
+  -- a form is a table if each player has a strategy, and each entry a payoff for each player
+  pub table_by : ((player : ℕ) → 0 < length (labels player))
+      → ((e : Entry) → Has t.entries e → length e.payoffs ≡ length (players_of g)) → IsTable t
+  table_by some each_row = record {
+    one_list_each = ap length form.strategies ∙ length-map (players_of g) labels ∙ as_players;
+    some_strategy = subst (AllByRecursion (λ own. 0 < length own)) (sym form.strategies)
+        (some_labels labels some (players_of g));
+    one_entry_each = form.profiles;
+    one_payoff_each = all_images (λ row. length row ≡ length t.players) (λ e. e.payoffs) t.entries
+        (all_of_each (λ e. length e.payoffs ≡ length t.players) t.entries
+        (λ e i. each_row e i ∙ as_players));
+  }
+
+pub form_is_table : (g : Game) → IsGame g → (t : Table) → IsStrategicForm g t → IsTable t
+form_is_table g game t form =
+    table_by (strategy_labels g) (ArePayoffsAt g) g t form
+    (λ player. subst (λ n. 0 < n) (sym (length-map (strategies g player) strategy_label))
+    (some_strategy g game player))
+    (λ e i. as_many _ e.payoffs (players_of g)
+    (each (λ (d : Entry). ArePayoffsAt g d.profile d.payoffs) t.entries e form.payoffs i))

@@ -1,0 +1,263 @@
+-- Games that a renumbering carries to each other have the same payoffs, bottom-up values and
+-- strategic form.
+use Rattle.std.proofs.Common.{◌≡◌, ℕ, true, List, [], ◌∷◌, Option, Some, None}
+use Rattle.std.proofs.Common.{MatchOption, length, map, refl, sym, ap, ◌∙◌, subst, inl, inr}
+use Rattle.std.specs.Prelude.{◌↔◌, ◌==◌, ◌||◌, zip, option_map}
+use Rattle.std.specs.Prelude.{option_and_then, unwrap_or, if◌then◌else◌}
+use Rattle.std.specs.List.{AllZip}
+use Rattle.std.specs.Option.{option_map_or}
+use Rattle.gf_fraction.specs.Ratio.{Ratio, IsFraction}
+use Rattle.gf_fraction.specs.Rational.{IsEqual, zero_ratio, one_ratio}
+use Rattle.gf_fraction.proofs.AllElements.{all_weaker}
+use Rattle.gf_token.specs.Positions.{at_position}
+use Rattle.gf_nfg.specs.Table.{Table}
+use Rattle.gf_tree.specs.PrefixOrder.{Entry, flatten}
+use Rattle.gf_tree.specs.Description.{SetKey, InformationSet, same_set}
+use Rattle.gf_tree.specs.FiniteMap.{Described}
+use Rattle.gf_tree.specs.Game.{Node, Game, IsGame, used_sets, set_at, outcome_at}
+use Rattle.gf_tree.specs.Renumbering.{Renumbering, IsRenumbering, renumbered_set}
+use Rattle.gf_tree.specs.Renumbering.{renumbered_node, renumbered}
+use Rattle.gf_tree.specs.FirstUse.{player_sets, player_keys}
+use Rattle.gf_tree.proofs.TreesOnce.{same_set_equality}
+use Rattle.gf_tree.proofs.Uses.{Has, all_of_each}
+use Rattle.gf_tree.proofs.Members.{filter_of_map, map_twice}
+use Rattle.gf_tree.proofs.FirstUseNumbers.{same_tests}
+use Rattle.gf_tree.proofs.Carried.{entry_used}
+use Rattle.gf_tree.proofs.MappedTrees.{held}
+use Rattle.gf_tree.proofs.Renumberings.{sets_apart}
+use Rattle.gf_tree.proofs.RenumberedGames.{set_at_image, outcome_at_image}
+use Rattle.gf_tree.specs.SameGame.{SameGame}
+use Rattle.gf_tree.proofs.SameGames.{same_back}
+use Rattle.gf_tree.proofs.CanonicalGames.{carried_is_renumbered}
+use Rattle.gf_form.specs.Strategies.{action_counts, strategies, all_choices, strategy_label}
+use Rattle.gf_form.specs.Strategies.{players_of, choice_at, choices_by, strategies_at, strategy_at}
+use Rattle.gf_form.specs.Payoff.{payoff}
+use Rattle.gf_form.specs.BottomUp.{IsValue}
+use Rattle.gf_form.specs.StrategicForm.{ArePayoffs, IsStrategicForm}
+use Rattle.gf_form.proofs.lemmas.values.Alike.{IsAlike, AreAlike, same_payoff, same_value}
+use Rattle.gf_form.proofs.lemmas.strategies.KnownSets.{own_set}
+
+-- what a strategy chooses at a set, by the new numbers
+choice_carried : (f : SetKey → SetKey) (keys : List SetKey) (strategy : List ℕ) (key : SetKey)
+    → ((k : SetKey) → Has keys k → same_set (f k) (f key) ≡ same_set k key)
+    → choice_at (map f keys) strategy (f key) ≡ choice_at keys strategy key
+choice_carried f [] strategy key h = refl
+choice_carried f (k ∷ keys) [] key h = refl
+choice_carried f (k ∷ keys) (action ∷ others) key h = λ i.
+    if h k (inl refl) i then action else choice_carried f keys others key (λ x j. h x (inr j)) i
+
+module _ (g : Game) (r : Renumbering) (game : IsGame g) (is : IsRenumbering g r) where
+  abbrev h : Game
+  h = renumbered r g
+
+  abbrev image : Described SetKey InformationSet → Described SetKey InformationSet
+  image s = record { key = renumbered_set r s.key; description = s.description }
+
+  sets_carried : (player : ℕ) → player_sets h player ≡ map image (player_sets g player)
+  sets_carried player = filter_of_map (λ s. s.key.player == player) (λ s. s.key.player == player)
+      image g.sets (λ s i. refl)
+
+  pub keys_carried : (player : ℕ) → player_keys h player ≡ map (renumbered_set r) (player_keys g player)
+  keys_carried player =
+      ap (map (λ s. s.key)) (sets_carried player)
+      ∙ map_twice (λ (s : Described SetKey InformationSet). s.key) image (player_sets g player)
+      ∙ sym (map_twice (renumbered_set r) (λ (s : Described SetKey InformationSet). s.key)
+      (player_sets g player))
+
+  pub key_used : (player : ℕ) (key : SetKey) → Has (player_keys g player) key
+      → Has (used_sets g.tree) key
+  key_used player key i =
+      let own = own_set g player key i in
+      subst (Has (used_sets g.tree)) own.2
+      (entry_used same_set (used_sets g.tree) g.sets own.0 game.one_entry_each_set own.1)
+
+  counts_carried : (player : ℕ) → action_counts h player ≡ action_counts g player
+  counts_carried player = ap (map (λ s. length s.description.actions)) (sets_carried player)
+      ∙ map_twice (λ (s : Described SetKey InformationSet). length s.description.actions) image
+      (player_sets g player)
+
+  -- what a player's strategy chooses at a set
+  pub strategy_carried : (player : ℕ) (strategy : List ℕ) (key : SetKey)
+      → Has (used_sets g.tree) key
+      → choice_at (player_keys h player) strategy (renumbered_set r key)
+      ≡ choice_at (player_keys g player) strategy key
+  strategy_carried player strategy key used =
+      ap (λ keys. choice_at keys strategy (renumbered_set r key)) (keys_carried player)
+      ∙ choice_carried (renumbered_set r) (player_keys g player) strategy key
+      (λ k i. same_tests same_set same_set same_set_equality same_set_equality (renumbered_set r) k
+      key (sets_apart g r is k key (key_used player k i) used))
+
+  choices_carried : (all : List (List ℕ)) (key : SetKey) → Has (used_sets g.tree) key
+      → choices_by h all (renumbered_set r key) ≡ choices_by g all key
+  choices_carried all key used =
+      strategy_carried key.player (strategy_at all key.player) key used
+
+  -- ---- nodes
+
+  chosen_carried : (c d : SetKey → ℕ) (k : ℕ) (o : Option SetKey)
+      → ((key : SetKey) → o ≡ Some key → d (renumbered_set r key) ≡ c key)
+      → option_map_or (λ key. key.player == 0 || d key == k) (option_map (renumbered_set r) o) true
+      ≡ option_map_or (λ key. key.player == 0 || c key == k) o true
+  chosen_carried c d k None same = refl
+  chosen_carried c d k (Some key) same = λ i. key.player == 0 || same key refl i == k
+
+  chance_carried : (k : ℕ) (o : Option SetKey)
+      → ((key : SetKey) → o ≡ Some key → set_at h (renumbered_set r key) ≡ set_at g key)
+      → unwrap_or (option_and_then (λ a. a.probability)
+      (option_and_then (λ key. option_and_then (λ set. at_position set.actions k) (set_at h key))
+      (option_map (renumbered_set r) o))) one_ratio
+      ≡ unwrap_or (option_and_then (λ a. a.probability) (option_and_then
+      (λ key. option_and_then (λ set. at_position set.actions k) (set_at g key)) o))
+      one_ratio
+  chance_carried k None same = refl
+  chance_carried k (Some key) same = ap (λ o. unwrap_or
+      (option_and_then (λ a. a.probability) (option_and_then (λ set. at_position set.actions k) o))
+      one_ratio) (same key refl)
+
+  pays_carried : (player : ℕ) (o : Option ℕ)
+      → ((number : ℕ) → o ≡ Some number → outcome_at h (r.outcome number) ≡ outcome_at g number)
+      → unwrap_or (option_and_then (λ number.
+      option_and_then (λ outcome. at_position outcome.payoffs player) (outcome_at h number))
+      (option_map r.outcome o)) zero_ratio
+      ≡ unwrap_or (option_and_then (λ number.
+      option_and_then (λ outcome. at_position outcome.payoffs player) (outcome_at g number)) o)
+      zero_ratio
+  pays_carried player None same = refl
+  pays_carried player (Some number) same = ap (λ o.
+      unwrap_or (option_and_then (λ outcome. at_position outcome.payoffs player) o) zero_ratio)
+      (same number refl)
+
+  moves_carried : (c d : SetKey → ℕ) (o : Option SetKey)
+      → ((key : SetKey) → o ≡ Some key → d (renumbered_set r key) ≡ c key)
+      → MatchOption o (option_map (renumbered_set r) o ≡ None)
+      (λ key. (other : SetKey) × (option_map (renumbered_set r) o ≡ Some other)
+      × ((other.player == 0) ≡ (key.player == 0)) × (d other ≡ c key))
+  moves_carried c d None same = refl
+  moves_carried c d (Some key) same = (renumbered_set r key, refl, refl, same key refl)
+
+  node_alike : (all : List (List ℕ)) (player : ℕ) (e : Entry Node) → Has (flatten g.tree) e
+      → IsAlike g h (choices_by g all) (choices_by h all) player (renumbered_node r) e.node
+  node_alike all player e i =
+      let used : (key : SetKey) → e.node.set ≡ Some key → Has (used_sets g.tree) key =
+      λ key q. held (λ n. n.set) (flatten g.tree) e key i q in
+      let choice : (key : SetKey) → e.node.set ≡ Some key
+      → choices_by h all (renumbered_set r key) ≡ choices_by g all key =
+      λ key q. choices_carried all key (used key q) in
+      record {
+        chosen = λ k. chosen_carried (choices_by g all) (choices_by h all) k e.node.set choice;
+        chance =
+            λ k. chance_carried k e.node.set (λ key q. set_at_image g r game is key (used key q));
+        pays = pays_carried player e.node.outcome (λ number q. outcome_at_image g r game is number
+            (held (λ n. n.outcome) (flatten g.tree) e number i q));
+        moves = moves_carried (choices_by g all) (choices_by h all) e.node.set choice;
+      }
+
+  alike : (all : List (List ℕ)) (player : ℕ) → AreAlike g h (choices_by g all) (choices_by h all)
+      player (renumbered_node r) (flatten g.tree)
+  alike all player = all_of_each
+      (λ e. IsAlike g h (choices_by g all) (choices_by h all) player (renumbered_node r) e.node)
+      (flatten g.tree) (node_alike all player)
+
+  payoff_carried : (all : List (List ℕ)) (player : ℕ)
+      → payoff h (choices_by h all) player ≡ payoff g (choices_by g all) player
+  payoff_carried all player = same_payoff g h (choices_by g all) (choices_by h all) player
+      (renumbered_node r) refl (alike all player)
+
+  value_carried : (all : List (List ℕ)) (player : ℕ) (value : Ratio)
+      → IsValue g (choices_by g all) player g.tree value
+      → IsValue h (choices_by h all) player h.tree value
+  value_carried all player value = same_value g h (choices_by g all) (choices_by h all) player
+      (renumbered_node r) value refl (alike all player)
+
+  -- ---- the form
+
+  pub strategies_carried : (player : ℕ) → strategies h player ≡ strategies g player
+  strategies_carried player = ap all_choices (counts_carried player)
+
+  strategies_at_carried : (profile : List ℕ) → strategies_at h profile ≡ strategies_at g profile
+  strategies_at_carried profile =
+      λ i. map (λ p. strategy_at (strategies_carried p.0 i) p.1) (zip (players_of g) profile)
+
+  payoffs_carried : (profile : List ℕ) (payoffs : List Ratio) (players : List ℕ)
+      → AllZip (λ paid player.
+      IsFraction paid × IsEqual paid (payoff g (choices_by g (strategies_at g profile)) player))
+      payoffs players
+      → AllZip (λ paid player.
+      IsFraction paid × IsEqual paid (payoff h (choices_by h (strategies_at h profile)) player))
+      payoffs players
+  payoffs_carried profile [] [] all = tt
+  payoffs_carried profile [] (player ∷ players) all = absurd all
+  payoffs_carried profile (paid ∷ payoffs) [] all = absurd all
+  payoffs_carried profile (paid ∷ payoffs) (player ∷ players) all =
+      let same : payoff g (choices_by g (strategies_at g profile)) player
+      ≡ payoff h (choices_by h (strategies_at h profile)) player =
+      sym (payoff_carried (strategies_at g profile) player)
+      ∙ ap (λ chosen. payoff h (choices_by h chosen) player)
+      (sym (strategies_at_carried profile)) in
+      ((all.0.0, subst (IsEqual paid) same all.0.1), payoffs_carried profile payoffs players all.1)
+
+  form_carried : (t : Table) → IsStrategicForm g t → IsStrategicForm h t
+  form_carried t form = record {
+    title = form.title;
+    comment = form.comment;
+    players = form.players;
+    strategies = form.strategies ∙ (λ i.
+        map (λ player. map strategy_label (sym (strategies_carried player) i)) (players_of g));
+    profiles = form.profiles;
+    payoffs = all_weaker (λ e. ArePayoffs g (choices_by g (strategies_at g e.profile)) e.payoffs)
+        (λ e. ArePayoffs h (choices_by h (strategies_at h e.profile)) e.payoffs)
+        (λ e all. payoffs_carried e.profile e.payoffs (players_of g) all) t.entries form.payoffs;
+  }
+
+-- ---- games that are the same
+
+pub same_payoffs : (g h : Game)
+    → IsGame g → IsGame h → SameGame g h → (all : List (List ℕ)) (player : ℕ)
+    → payoff g (choices_by g all) player ≡ payoff h (choices_by h all) player
+same_payoffs g h game game' same all player =
+    subst (λ k. payoff g (choices_by g all) player ≡ payoff k (choices_by k all) player)
+    (carried_is_renumbered same.0 g h game game' same.1)
+    (sym (payoff_carried g same.0 game same.1.renumbering all player))
+
+value_on : (g h : Game)
+    → IsGame g → IsGame h → SameGame g h → (all : List (List ℕ)) (player : ℕ) (value : Ratio)
+    → IsValue g (choices_by g all) player g.tree value
+    → IsValue h (choices_by h all) player h.tree value
+value_on g h game game' same all player value v =
+    subst (λ k. IsValue k (choices_by k all) player k.tree value)
+    (carried_is_renumbered same.0 g h game game' same.1)
+    (value_carried g same.0 game same.1.renumbering all player value v)
+
+form_on : (g h : Game) → IsGame g → IsGame h → SameGame g h → (t : Table) → IsStrategicForm g t
+    → IsStrategicForm h t
+form_on g h game game' same t form =
+    subst (λ k. IsStrategicForm k t) (carried_is_renumbered same.0 g h game game' same.1)
+    (form_carried g same.0 game same.1.renumbering t form)
+
+pub same_strategies : (g h : Game) → IsGame g → IsGame h → SameGame g h → (player : ℕ)
+    → strategies g player ≡ strategies h player
+same_strategies g h game game' same player =
+    subst (λ k. strategies g player ≡ strategies k player)
+    (carried_is_renumbered same.0 g h game game' same.1)
+    (sym (strategies_carried g same.0 game same.1.renumbering player))
+
+pub same_strategies_at : (g h : Game) → IsGame g → IsGame h → SameGame g h → (profile : List ℕ)
+    → strategies_at g profile ≡ strategies_at h profile
+same_strategies_at g h game game' same profile =
+    subst (λ k. strategies_at g profile ≡ strategies_at k profile)
+    (carried_is_renumbered same.0 g h game game' same.1)
+    (sym (strategies_at_carried g same.0 game same.1.renumbering profile))
+
+pub same_values : (g h : Game)
+    → IsGame g → IsGame h → SameGame g h → (all : List (List ℕ)) (player : ℕ) (value : Ratio)
+    → IsValue g (choices_by g all) player g.tree value
+    ↔ IsValue h (choices_by h all) player h.tree value
+same_values g h game game' same all player value = (
+  value_on g h game game' same all player value,
+  value_on h g game' game (same_back g h game same) all player value,
+)
+
+pub same_forms : (g h : Game) → IsGame g → IsGame h → SameGame g h → (t : Table)
+    → IsStrategicForm g t ↔ IsStrategicForm h t
+same_forms g h game game' same t =
+    (form_on g h game game' same t, form_on h g game' game (same_back g h game same) t)

@@ -1,0 +1,79 @@
+-- Games that are the same have the same profiles, and no table for the same reason.
+use Rattle.std.proofs.Common.{◌≡◌, ℕ, ◌<◌, List, length, map, sym, ap, ◌∙◌, subst}
+use Rattle.std.specs.Prelude.{◌↔◌}
+use Rattle.std.specs.List.{AllByRecursion}
+use Rattle.gf_fraction.proofs.AllElements.{all_weaker}
+use Rattle.gf_token.specs.Positions.{at_position}
+use Rattle.gf_nfg.specs.Limit.{profile_limit}
+use Rattle.gf_nfg.specs.Profiles.{positions, profiles}
+use Rattle.gf_tree.specs.Game.{Game, IsGame}
+use Rattle.gf_tree.proofs.Members.{map_same}
+use Rattle.gf_tree.specs.SameGame.{SameGame}
+use Rattle.gf_tree.proofs.SameGames.{same_back}
+use Rattle.gf_form.specs.BottomUp.{IsValue}
+use Rattle.gf_form.specs.Refusal.{HasBottomUpValue, HasTooManyProfiles, HasValues}
+use Rattle.gf_form.specs.Refusal.{IsFirstWithout, OverflowsAt}
+use Rattle.gf_form.specs.Strategies.{choices_by, full_profiles, players_of}
+use Rattle.gf_form.specs.Strategies.{strategies, strategies_at}
+use Rattle.gf_form.proofs.lemmas.form.SameForms.{same_strategies, same_strategies_at, same_values}
+
+module _ (g h : Game) (game : IsGame g) (game' : IsGame h) (same : SameGame g h) where
+  pub players_too : players_of g ≡ players_of h
+  players_too = ap (λ players. positions (length players)) same.1.players
+
+  pub same_profiles : full_profiles g ≡ full_profiles h
+  same_profiles =
+      ap profiles
+      (map_same (λ player. length (strategies g player)) (λ player. length (strategies h player))
+      (players_of g)
+      (λ player i. ap length (same_strategies g h game game' same player))
+      ∙ ap (map (λ player. length (strategies h player))) players_too)
+
+  value_too : (profile : List ℕ) (player : ℕ) → HasBottomUpValue g profile player
+      → HasBottomUpValue h profile player
+  value_too profile player has = (
+    has.0,
+    subst (λ all. IsValue h (choices_by h all) player h.tree has.0)
+        (same_strategies_at g h game game' same profile)
+        ((same_values g h game game' same (strategies_at g profile) player has.0).0 has.1),
+  )
+
+  pub values_too : (profile : List ℕ) → HasValues g profile → HasValues h profile
+  values_too profile all =
+      all_weaker (HasBottomUpValue g profile) (HasBottomUpValue h profile) (value_too profile)
+      (players_of h)
+      (subst (AllByRecursion (HasBottomUpValue g profile)) players_too all)
+
+-- the same position is the first, if the same holds for the same profiles
+pub first_too : (P Q : List ℕ → Type 0) (ps qs : List (List ℕ)) (position : ℕ) → ps ≡ qs
+    → ((profile : List ℕ) → P profile → Q profile) → ((profile : List ℕ) → Q profile → P profile)
+    → IsFirstWithout P ps position → IsFirstWithout Q qs position
+first_too P Q ps qs position same to from o = record {
+  profile = o.profile;
+  there = ap (λ all. at_position all position) (sym same) ∙ o.there;
+  overflows = λ holds. o.overflows (from o.profile holds);
+  first = λ earlier other before is.
+      to other (o.first earlier other before (ap (λ all. at_position all earlier) same ∙ is));
+}
+
+overflow_on : (g h : Game) → IsGame g → IsGame h → SameGame g h → (position : ℕ)
+    → OverflowsAt g position → OverflowsAt h position
+overflow_on g h game game' same position =
+    first_too (HasValues g) (HasValues h) (full_profiles g) (full_profiles h) position
+    (same_profiles g h game game' same) (values_too g h game game' same)
+    (values_too h g game' game (same_back g h game same))
+
+pub same_overflow : (g h : Game) → IsGame g → IsGame h → SameGame g h → (position : ℕ)
+    → OverflowsAt g position ↔ OverflowsAt h position
+same_overflow g h game game' same position = (
+  overflow_on g h game game' same position,
+  overflow_on h g game' game (same_back g h game same) position,
+)
+
+pub same_count : (g h : Game) → IsGame g → IsGame h → SameGame g h
+    → HasTooManyProfiles g ↔ HasTooManyProfiles h
+same_count g h game game' same =
+    let profiles_too = same_profiles g h game game' same in (
+      subst (λ ps. profile_limit < length ps) profiles_too,
+      subst (λ ps. profile_limit < length ps) (sym profiles_too),
+    )

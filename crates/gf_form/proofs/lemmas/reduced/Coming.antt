@@ -1,0 +1,114 @@
+-- A set is relevant exactly if the choices come to it in the tree.
+use Rattle.std.proofs.Common.{◌≡◌, ℕ, ◌+◌, ◌<◌, Bool, true, false, List, [], ◌∷◌, Option}
+use Rattle.std.proofs.Common.{Some, None, MatchOption, length, map, refl, sym, ap, ◌∙◌, arith}
+use Rattle.std.proofs.Common.{subst}
+use Rattle.std.specs.Prelude.{◌||◌, ◌&&◌, option_map}
+use Rattle.std.specs.List.{AllByRecursion, list_any}
+use Rattle.std.specs.Option.{option_map_or}
+use Rattle.std.proofs.Math.Bool.{and-or_distrib_left}
+use Rattle.std.proofs.lemmas.List.Folds.{list_any-append}
+use Rattle.gf_fraction.proofs.AllElements.{all_parts}
+use Rattle.gf_tree.specs.Tree.{Tree, Trees, count}
+use Rattle.gf_tree.specs.Tree.Tree.{branch}
+use Rattle.gf_tree.specs.Tree.Trees.{none, more}
+use Rattle.gf_tree.specs.Description.{InformationSet, SetKey, same_set}
+use Rattle.gf_tree.specs.Game.{Node, Game, IsGame, HasChildren, set_at}
+use Rattle.gf_tree.specs.PrefixOrder.{flatten, flatten_all}
+use Rattle.gf_tree.proofs.Uses.{has_map}
+use Rattle.gf_form.specs.inner.reduced.Comes.{tree_comes, trees_come}
+use Rattle.gf_form.specs.Plays.{Play, from_node, plays, plays_from}
+use Rattle.gf_form.specs.Reduced.{comes_to, is_own_choice, is_relevant}
+use Rattle.gf_form.proofs.lemmas.strategies.KnownSets.{set_is}
+use Rattle.gf_form.proofs.lemmas.reduced.ReducedValues.{first_play}
+use Rattle.gf_form.proofs.lemmas.reduced.Reducing.{any_has}
+
+module _ (g : Game) (game : IsGame g) (choices : SetKey → ℕ) (key : SetKey) where
+  -- some of these plays comes to the set so
+  abbrev come : List Play → Bool
+  come ps = list_any (λ p. comes_to choices key p.steps) ps
+
+  abbrev is_here : Node → Bool
+  is_here n = option_map_or (same_set key) n.set false
+
+  some_child : (own : SetKey) (ts : Trees Node) (o : Option InformationSet) → set_at g own ≡ o
+      → option_map (λ set. length set.actions) o ≡ Some (count ts) → 0 < count ts
+  some_child own ts None e c = absurd cc
+  some_child own ts (Some set) e c =
+      let same : length set.actions ≡ count ts = cc in
+      subst (λ n. 0 < n) same (set_is g game own set e).some_action
+
+  -- if the node belongs to the set, each play through it comes there
+  any_here : (n : Node) (k : ℕ) (t : Tree Node) → is_here n ≡ true
+      → come (map (from_node n k) (plays t)) ≡ true
+  any_here n k t here =
+      let p = first_play t in
+      any_has (λ p. comes_to choices key p.steps) (map (from_node n k) (plays t))
+      (from_node n k p.0) (has_map (from_node n k) (plays t) p.0 p.1)
+      (λ i. here i || (is_own_choice choices key.player (record { node = n; taken = k })
+      && comes_to choices key p.0.steps))
+
+  -- and elsewhere those that go on as its owner chooses
+  any_below : (n : Node) (k : ℕ) (ps : List Play) → is_here n ≡ false
+      → come (map (from_node n k) ps)
+      ≡ (is_own_choice choices key.player (record { node = n; taken = k })
+      && come ps)
+  any_below n k [] other = none_chosen (is_own_choice choices key.player (record { node = n; taken = k }))
+    where
+      none_chosen : (b : Bool) → false ≡ (b && false)
+      none_chosen true = refl
+      none_chosen false = refl
+  any_below n k (p ∷ ps) other =
+      let move = is_own_choice choices key.player (record { node = n; taken = k }) in
+      (λ i. (other i || (move && comes_to choices key p.steps)) || any_below n k ps other i)
+      ∙ sym (and-or_distrib_left move (comes_to choices key p.steps)
+      (come ps))
+
+  mutual
+    comes_in : (t : Tree Node) → AllByRecursion (HasChildren g) (flatten t)
+        → come (plays t) ≡ tree_comes choices key t
+    comes_in (branch n ts) children =
+        at_set n.set refl children.0 (λ other. come_in ts n 1 children.1 other)
+      where
+        IsBelow : Trees Node → Type 0
+        IsBelow ts = is_here n ≡ false → come (plays_from n 1 ts) ≡ trees_come choices key n 1 ts
+
+        no_child : (ts : Trees Node) → count ts ≡ 0
+            → come (plays (branch n ts)) ≡ false
+        no_child none e = refl
+        no_child (more t ts) e = absurd (omega arith)
+
+        some_children : (ts : Trees Node) → 0 < count ts → IsBelow ts → (b : Bool) → is_here n ≡ b
+            → come (plays (branch n ts))
+            ≡ (b || trees_come choices key n 1 ts)
+        some_children none some below b e = absurd (omega arith)
+        some_children (more t ts) some below true here =
+            list_any-append (λ p. comes_to choices key p.steps) (map (from_node n 1) (plays t))
+            (plays_from n 2 ts)
+            ∙ (λ i. any_here n 1 t here i
+            || come (plays_from n 2 ts))
+        some_children (more t ts) some below false other = below other
+
+        at_set : (o : Option SetKey) → n.set ≡ o → MatchOption o (count ts ≡ 0)
+            (λ key. option_map (λ set. length set.actions) (set_at g key) ≡ Some (count ts)) → IsBelow ts
+            → come (plays (branch n ts))
+            ≡ option_map_or (λ own. same_set key own || trees_come choices key n 1 ts) o false
+        at_set None at c below = no_child ts c
+        at_set (Some own) at c below =
+            some_children ts (some_child own ts (set_at g own) refl c) below (same_set key own)
+            (ap (λ o. option_map_or (same_set key) o false) at)
+
+    come_in : (ts : Trees Node) (n : Node) (k : ℕ) → AllByRecursion (HasChildren g) (flatten_all ts)
+        → is_here n ≡ false
+        → come (plays_from n k ts)
+        ≡ trees_come choices key n k ts
+    come_in none n k children other = refl
+    come_in (more t ts) n k children other =
+        let both = all_parts (HasChildren g) (flatten t) (flatten_all ts) children in
+        let move = is_own_choice choices key.player (record { node = n; taken = k }) in
+        list_any-append (λ p. comes_to choices key p.steps) (map (from_node n k) (plays t))
+        (plays_from n (k + 1) ts)
+        ∙ (λ i. (any_below n k (plays t) other ∙ ap (λ b. move && b) (comes_in t both.0)) i
+        || come_in ts n (k + 1) both.1 other i)
+
+  pub relevant_is : is_relevant g choices key ≡ tree_comes choices key g.tree
+  relevant_is = comes_in g.tree game.children

@@ -1,0 +1,329 @@
+-- The first of the strategies that reduce to the same one: it has the first action wherever no
+-- choice matters.
+use Rattle.std.proofs.Common.{◌≡◌, ℕ, zero, suc, ◌+◌, ◌-◌, ◌*◌, ◌<◌, ◌≤◌, Bool, true, false}
+use Rattle.std.proofs.Common.{List, [], ◌∷◌, ◌++◌, Some, None, length, map, get_or, drop}
+use Rattle.std.proofs.Common.{refl, sym, ap, subst, ◌∙◌, append-nil, append_assoc, arith, cond, inl}
+use Rattle.std.proofs.Common.{inr}
+use Rattle.std.specs.Prelude.{◌==◌, ◌||◌, filter, if◌then◌else◌, unwrap_or}
+use Rattle.std.specs.List.{list_any}
+use Rattle.std.specs.Cmp.Lexicographic.{pointwise}
+use Rattle.std.proofs.lemmas.Bool.{and_parts, eqb-true, false≢true}
+use Rattle.std.proofs.lemmas.Bool.{false_from_ne_true}
+use Rattle.std.proofs.lemmas.List.{length-map, map-append}
+use Rattle.std.proofs.lemmas.List.Elements.{filter-append}
+use Rattle.gf_nfg.specs.Profiles.{numbers_from, product}
+use Rattle.gf_tree.specs.Description.{SetKey, same_set}
+use Rattle.gf_tree.specs.FiniteMap.{first_uses}
+use Rattle.gf_tree.specs.FirstUse.{player_keys, player_sets}
+use Rattle.gf_tree.specs.Game.{Game, IsGame}
+use Rattle.gf_tree.proofs.FirstUses.{AreDistinct}
+use Rattle.gf_tree.proofs.KnownKeys.{known_more, more_known, used_before}
+use Rattle.gf_tree.proofs.Members.{in_left, in_right, map_same}
+use Rattle.gf_tree.proofs.TreesOnce.{same_set_equality}
+use Rattle.gf_tree.proofs.Uses.{Has, IsEquality, each, has, has_map, mapped_from}
+use Rattle.gf_form.specs.Reduced.{is_relevant, reduced, reduced_strategies, same_choice}
+use Rattle.gf_form.specs.inner.reduced.Shown.{chooses_first, relevant_sets, shown}
+use Rattle.gf_form.specs.Strategies.{action_counts, all_choices, choice_at, strategies}
+use Rattle.gf_form.proofs.lemmas.strategies.Choices.{IsChoice, are_choices, every_choice, place}
+use Rattle.gf_form.proofs.lemmas.strategies.Choices.{places_are}
+use Rattle.gf_form.proofs.lemmas.values.Following.{in_either}
+use Rattle.gf_form.proofs.lemmas.strategies.KnownSets.{own_set}
+use Rattle.gf_form.proofs.lemmas.reduced.ReducedForms.{choices_equality}
+use Rattle.gf_form.proofs.lemmas.reduced.Reducing.{any_has, relevance_same}
+use Rattle.gf_form.proofs.lemmas.strategies.StrategiesByNumber.{all_at}
+use Rattle.gf_form.proofs.lemmas.reduced.Surveys.{keys_distinct}
+
+-- ---- the first of those that have one image
+
+module _ {A B : Type 0} (same : B → B → Bool) (tells : IsEquality same) (f : A → B)
+    (is_first : A → Bool) (rank : A → ℕ) (all : List A)
+    (one : (x : A) → Has all x
+    → (y : A) × Has all y × (is_first y ≡ true) × (f y ≡ f x) × (rank y ≤ rank x))
+    (only : (x y : A) → Has all x → Has all y → is_first x ≡ true → is_first y ≡ true → f x ≡ f y
+    → x ≡ y) where
+  ranked : (xs : List A) (k m : ℕ) (x : A) → map rank xs ≡ numbers_from k m → Has xs x → k ≤ rank x
+  ranked [] k m x e i = absurd i
+  ranked (y ∷ xs) k zero x e i = absurd cc
+  ranked (y ∷ xs) k (suc m) x e (inl q) =
+      let first : rank y ≡ k = ap (λ l. get_or l 0 0) e in
+      omega (arith, first, ap rank q)
+  ranked (y ∷ xs) k (suc m) x e (inr i) = omega (arith, ranked xs (k + 1) m x (ap (drop 1) e) i)
+
+  -- one more
+  grown : (before rest : List A) (y : A) → before ++ y ∷ rest ≡ all
+      → ((x : A) → Has before x → rank x < rank y) → ((x : A) → Has rest x → rank y < rank x)
+      → first_uses same (map f before) ≡ map f (filter is_first before)
+      → first_uses same (map f (before ++ y ∷ [])) ≡ map f (filter is_first (before ++ y ∷ []))
+  grown before rest y is below above h =
+      ap (first_uses same) (map-append f before (y ∷ []))
+      ∙ known_more same tells (map f before) (f y)
+      ∙ by (is_first y) refl
+      ∙ sym (ap (map f) (filter-append is_first before (y ∷ []))
+      ∙ map-append f (filter is_first before) (filter is_first (y ∷ [])))
+    where
+      in_all : (x : A) → Has (before ++ y ∷ rest) x → Has all x
+      in_all x i = subst (λ xs. Has xs x) is i
+
+      there : Has all y
+      there = in_all y (in_right before (y ∷ rest) y (inl refl))
+
+      used : is_first y ≡ false → list_any (same (f y)) (map f before) ≡ true
+      used later =
+          let z = one y there in
+          elim (in_either before (y ∷ rest) z.0 (subst (λ xs. Has xs z.0) (sym is) z.1)) [
+            | inl i ↦
+                any_has (same (f y)) (map f before) (f z.0) (has_map f before z.0 i)
+                ((tells (f y) (f z.0)).1 (sym z.3))
+            | inr i ↦ absurd (not_behind z.0 z.2 z.4 i)
+          ]
+        where
+          not_behind : (z : A) → is_first z ≡ true → rank z ≤ rank y → Has (y ∷ rest) z → ⊥
+          not_behind z first least (inl q) = false≢true (sym later ∙ ap is_first q ∙ first)
+          not_behind z first least (inr i) = omega (arith, least, above z i)
+
+      unused : is_first y ≡ true → list_any (same (f y)) (map f before) ≡ false
+      unused first = false_from_ne_true (list_any (same (f y)) (map f before)) (λ t.
+          let m = mapped_from f before (f y) (used_before same tells (map f before) (f y) t) in
+          let z = one m.0 (in_all m.0 (in_left before (y ∷ rest) m.0 m.1)) in
+          let again : z.0 ≡ y = only z.0 y z.1 there z.2 first (z.3 ∙ m.2) in
+          omega (arith, z.4, below m.0 m.1, ap rank again))
+
+      by : (b : Bool) → is_first y ≡ b
+          → more_known same tells (list_any (same (f y)) (map f before))
+          (first_uses same (map f before)) (f y)
+          ≡ map f (filter is_first before) ++ map f (filter is_first (y ∷ []))
+      by true e = rw (unused e, e, h) refl
+      by false e = rw (used e, e, h) (sym (append-nil (map f (filter is_first before))))
+
+  first_images : (before rest : List A) (k m : ℕ) → before ++ rest ≡ all
+      → map rank rest ≡ numbers_from k m → ((x : A) → Has before x → rank x < k)
+      → first_uses same (map f before) ≡ map f (filter is_first before)
+      → first_uses same (map f all) ≡ map f (filter is_first all)
+  first_images before [] k m is ranks below h =
+      subst (λ xs. first_uses same (map f xs) ≡ map f (filter is_first xs))
+      (sym (append-nil before) ∙ is) h
+  first_images before (y ∷ rest) k zero is ranks below h = absurd cc
+  first_images before (y ∷ rest) k (suc m) is ranks below h =
+      let first : rank y ≡ k = ap (λ l. get_or l 0 0) ranks in
+      let others : map rank rest ≡ numbers_from (k + 1) m = ap (drop 1) ranks in
+      first_images (before ++ y ∷ []) rest (k + 1) m (append_assoc before (y ∷ []) rest ∙ is) others
+      (λ x i. elim (in_either before (y ∷ []) x i) [
+        | inl j ↦ omega (arith, below x j)
+        | inr (inl q) ↦ omega (arith, ap rank q, first)
+        | inr (inr j) ↦ absurd j
+      ])
+      (grown before rest y is (λ x i. omega (arith, below x i, first))
+      (λ x i. omega (arith, ranked rest (k + 1) m x others i, first)) h)
+
+  pub first_of_each : (n : ℕ) → map rank all ≡ numbers_from 0 n
+      → first_uses same (map f all) ≡ map f (filter is_first all)
+  first_of_each n ranks = first_images [] all 0 n refl ranks (λ x i. absurd i) refl
+
+-- ---- strategies by flags
+
+-- the first action where the flag is not set
+abbrev first_of : List Bool → List ℕ → List ℕ
+first_of (flag ∷ flags) (action ∷ strategy) =
+    (if flag then action else 1) ∷ first_of flags strategy
+first_of _ _ = []
+
+shown_first : (flags : List Bool) (s : List ℕ) → shown flags (first_of flags s) ≡ shown flags s
+shown_first [] s = refl
+shown_first (flag ∷ flags) [] = refl
+shown_first (true ∷ flags) (a ∷ s) = ap (λ l. Some a ∷ l) (shown_first flags s)
+shown_first (false ∷ flags) (a ∷ s) = ap (λ l. None ∷ l) (shown_first flags s)
+
+first_chooses : (flags : List Bool) (s : List ℕ)
+    → chooses_first flags (first_of flags s) ≡ true
+first_chooses [] s = refl
+first_chooses (flag ∷ flags) [] = refl
+first_chooses (true ∷ flags) (a ∷ s) = first_chooses flags s
+first_chooses (false ∷ flags) (a ∷ s) = first_chooses flags s
+
+first_choice : (counts : List ℕ) (flags : List Bool) (s : List ℕ) → length flags ≡ length counts
+    → IsChoice counts s
+    → IsChoice counts (first_of flags s) × (place counts (first_of flags s) ≤ place counts s)
+first_choice [] [] [] e h = (tt, omega arith)
+first_choice [] (flag ∷ flags) s e h = absurd (omega (arith, e))
+first_choice [] [] (a ∷ s) e h = absurd h
+first_choice (n ∷ counts) [] s e h = absurd (omega (arith, e))
+first_choice (n ∷ counts) (flag ∷ flags) [] e h = absurd h
+first_choice (n ∷ counts) (true ∷ flags) (a ∷ s) e h =
+    let others = first_choice counts flags s (omega (arith, e)) h.1 in
+    ((h.0, others.0), omega (arith, others.1))
+first_choice (n ∷ counts) (false ∷ flags) (a ∷ s) e h =
+    let others = first_choice counts flags s (omega (arith, e)) h.1 in
+    let none : (1 - 1) * product counts ≡ 0 = omega arith in (
+      ((omega arith, omega (arith, h.0.0, h.0.1)), others.0),
+      omega (arith, others.1, none),
+    )
+
+-- two such strategies that are shown alike are one
+one_shown : (counts : List ℕ) (fs gs : List Bool) (s t : List ℕ) → length fs ≡ length counts
+    → length gs ≡ length counts → IsChoice counts s → IsChoice counts t
+    → chooses_first fs s ≡ true → chooses_first gs t ≡ true → shown fs s ≡ shown gs t → s ≡ t
+one_shown [] fs gs [] [] ef eg hs ht cs ct e = refl
+one_shown [] fs gs (a ∷ s) t ef eg hs ht cs ct e = absurd hs
+one_shown [] fs gs [] (b ∷ t) ef eg hs ht cs ct e = absurd ht
+one_shown (n ∷ counts) [] gs s t ef eg hs ht cs ct e = absurd (omega (arith, ef))
+one_shown (n ∷ counts) (f ∷ fs) [] s t ef eg hs ht cs ct e = absurd (omega (arith, eg))
+one_shown (n ∷ counts) (f ∷ fs) (g ∷ gs) [] t ef eg hs ht cs ct e = absurd hs
+one_shown (n ∷ counts) (f ∷ fs) (g ∷ gs) (a ∷ s) [] ef eg hs ht cs ct e = absurd ht
+one_shown (n ∷ counts) (f ∷ fs) (g ∷ gs) (a ∷ s) (b ∷ t) ef eg hs ht cs ct e =
+    let ps = and_parts (f || a == 1) (chooses_first fs s) cs in
+    let pt = and_parts (g || b == 1) (chooses_first gs t) ct in
+    let others = one_shown counts fs gs s t (omega (arith, ef)) (omega (arith, eg)) hs.1 ht.1 ps.1
+    pt.1 (ap (drop 1) e) in
+    λ i. here f g ps.0 pt.0 (ap (λ l. get_or l 0 None) e) i ∷ others i
+  where
+    here : (f g : Bool) → (f || a == 1) ≡ true → (g || b == 1) ≡ true
+        → (if f then Some a else None) ≡ (if g then Some b else None) → a ≡ b
+    here true true p q e = ap (λ o. unwrap_or o a) e
+    here true false p q e = absurd cc
+    here false true p q e = absurd cc
+    here false false p q e = eqb-true a 1 p ∙ sym (eqb-true b 1 q)
+
+-- ---- flags by keys
+
+choice_first : (relevant : SetKey → Bool) (keys : List SetKey) (s : List ℕ) (key : SetKey)
+    → relevant key ≡ true
+    → choice_at keys (first_of (map relevant keys) s) key ≡ choice_at keys s key
+choice_first relevant [] s key h = refl
+choice_first relevant (k ∷ keys) [] key h = refl
+choice_first relevant (k ∷ keys) (a ∷ s) key h =
+    by (same_set k key) refl (choice_first relevant keys s key h)
+  where
+    by : (b : Bool) → same_set k key ≡ b
+        → choice_at keys (first_of (map relevant keys) s) key ≡ choice_at keys s key
+        → (if same_set k key then (if relevant k then a else 1)
+        else choice_at keys (first_of (map relevant keys) s) key)
+        ≡ (if same_set k key then a else choice_at keys s key)
+    by true e others =
+        let here : relevant k ≡ true = ap relevant ((same_set_equality k key).0 e) ∙ h in
+        rw (e, here) refl
+    by false e others = rw e others
+
+-- what is shown, by keys
+shown_by : (relevant : SetKey → Bool) (keys : List SetKey) (s : List ℕ) → AreDistinct keys
+    → length keys ≡ length s
+    → map (λ key. if relevant key then Some (choice_at keys s key) else None) keys
+    ≡ shown (map relevant keys) s
+shown_by relevant [] s d e = refl
+shown_by relevant (k ∷ keys) [] d e = absurd (omega (arith, e))
+shown_by relevant (k ∷ keys) (a ∷ s) d e =
+    let here : (if same_set k k then a else choice_at keys s k) ≡ a =
+    ap (λ b. if b then a else choice_at keys s k) ((same_set_equality k k).1 refl) in
+    λ i. (if relevant k then Some (here i) else None)
+    ∷ (map_same
+    (λ key. if relevant key then Some (choice_at (k ∷ keys) (a ∷ s) key) else None)
+    (λ key. if relevant key then Some (choice_at keys s key) else None) keys
+    (λ key m.
+    let other : same_set k key ≡ false = false_from_ne_true (same_set k key)
+    (λ t. d.0 (subst (Has keys) (sym ((same_set_equality k key).0 t)) m)) in
+    ap (λ b. if relevant key then Some (if b then a else choice_at keys s key) else None) other)
+    ∙ shown_by relevant keys s d.1 (omega (arith, e))) i
+
+-- ---- the strategies of a player
+
+pub choice_length : (counts s : List ℕ) → IsChoice counts s → length s ≡ length counts
+choice_length [] [] h = refl
+choice_length [] (a ∷ s) h = absurd h
+choice_length (n ∷ counts) [] h = absurd h
+choice_length (n ∷ counts) (a ∷ s) h = ap suc (choice_length counts s h.1)
+
+pub filter_fewer : {A : Type 0} (test : A → Bool) (xs : List A)
+    → length (filter test xs) ≤ length xs
+filter_fewer test [] = omega arith
+filter_fewer test (x ∷ xs) = by_test (test x) (filter_fewer test xs)
+  where
+    by_test : (b : Bool) → length (filter test xs) ≤ length xs
+        → length (cond b (x ∷ filter test xs) (filter test xs)) ≤ suc (length xs)
+    by_test true h = omega (arith, h)
+    by_test false h = omega (arith, h)
+
+-- the strategy chooses the first action wherever no choice matters
+abbrev pub is_first : Game → ℕ → List ℕ → Bool
+is_first g player s = chooses_first (relevant_sets g player s) s
+
+module _ (g : Game) (game : IsGame g) (player : ℕ) where
+  abbrev keys : List SetKey
+  keys = player_keys g player
+
+  abbrev counts : List ℕ
+  counts = action_counts g player
+
+  pub keys_counted : length keys ≡ length counts
+  keys_counted = length-map (player_sets g player) (λ s. s.key)
+      ∙ sym (length-map (player_sets g player) (λ s. length s.description.actions))
+
+  pub flags_counted : (s : List ℕ) → length (relevant_sets g player s) ≡ length counts
+  flags_counted s = length-map keys (is_relevant g (choice_at keys s)) ∙ keys_counted
+
+  pub reduced_shown : (s : List ℕ) → IsChoice counts s
+      → reduced g player s ≡ shown (relevant_sets g player s) s
+  reduced_shown s h = shown_by (is_relevant g (choice_at keys s)) keys s (keys_distinct g game player)
+      (keys_counted ∙ sym (choice_length counts s h))
+
+  is_choice : (s : List ℕ) → Has (strategies g player) s → IsChoice counts s
+  is_choice s i = each (IsChoice counts) (all_choices counts) s (are_choices counts) i
+
+  -- each strategy has one that reduces alike, and comes no later
+  one_first : (s : List ℕ) → Has (strategies g player) s
+      → (t : List ℕ) × Has (strategies g player) t × (is_first g player t ≡ true)
+      × (reduced g player t ≡ reduced g player s) × (place counts t ≤ place counts s)
+  one_first s i =
+      let relevant = is_relevant g (choice_at keys s) in
+      let flags = relevant_sets g player s in
+      let t = first_of flags s in
+      let choice = is_choice s i in
+      let first = first_choice counts flags s (flags_counted s) choice in
+      let alike : relevant_sets g player t ≡ flags =
+      map_same (is_relevant g (choice_at keys t)) relevant keys
+      (λ key m. sym (relevance_same g player (choice_at keys s) (choice_at keys t)
+      (λ k h. sym (choice_first relevant keys s k h)) key (own_set g player key m).3)) in (
+        t,
+        has (strategies g player) t ((every_choice counts t).1 first.0),
+        ap (λ flags. chooses_first flags t) alike ∙ first_chooses flags s,
+        reduced_shown t first.0 ∙ ap (λ flags. shown flags t) alike ∙ shown_first flags s
+            ∙ sym (reduced_shown s choice),
+        first.1,
+      )
+
+  only_first : (s t : List ℕ) → Has (strategies g player) s → Has (strategies g player) t
+      → is_first g player s ≡ true → is_first g player t ≡ true → reduced g player s ≡ reduced g player t → s ≡ t
+  only_first s t i j hs ht e =
+      one_shown counts (relevant_sets g player s) (relevant_sets g player t) s t (flags_counted s)
+      (flags_counted t) (is_choice s i) (is_choice t j) hs ht
+      (sym (reduced_shown s (is_choice s i)) ∙ e ∙ reduced_shown t (is_choice t j))
+
+  pub reduced_strategies_are : reduced_strategies g player
+      ≡ map (reduced g player) (filter (is_first g player) (strategies g player))
+  reduced_strategies_are =
+      first_of_each (pointwise same_choice) choices_equality (reduced g player)
+      (is_first g player) (place counts) (strategies g player) one_first only_first (product counts) (places_are counts)
+
+  -- no more than all strategies
+  pub fewer_reduced : length (reduced_strategies g player) ≤ length (strategies g player)
+  fewer_reduced =
+      let firsts = filter (is_first g player) (strategies g player) in
+      let counted = ap length reduced_strategies_are ∙ length-map firsts (reduced g player) in
+      omega (arith, counted, filter_fewer (is_first g player) (strategies g player))
+
+  -- what the strategy with a number, from 0, reduces to
+  pub reduced_shown_at : (number : ℕ) → number < length (strategies g player)
+      → reduced g player (get_or (strategies g player) number [])
+      ≡ shown (relevant_sets g player (get_or (strategies g player) number []))
+      (get_or (strategies g player) number [])
+  reduced_shown_at number less =
+      reduced_shown (get_or (strategies g player) number [])
+      (all_at (IsChoice counts) (strategies g player) number [] (are_choices counts) less)
+
+  -- the strategy with a number, from 0, has an action for each flag
+  pub flags_fit : (number : ℕ) → number < length (strategies g player)
+      → length (relevant_sets g player (get_or (strategies g player) number []))
+      ≡ length (get_or (strategies g player) number [])
+  flags_fit number less =
+      let s = get_or (strategies g player) number [] in
+      flags_counted s
+      ∙ sym (choice_length counts s (all_at (IsChoice counts) (strategies g player) number []
+      (are_choices counts) less))

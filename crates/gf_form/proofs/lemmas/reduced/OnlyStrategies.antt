@@ -1,0 +1,261 @@
+-- A player with one strategy: he has one action at each set, so all his sets are relevant.
+use Rattle.std.proofs.Common.{◌≡◌, ℕ, zero, suc, ◌+◌, ◌*◌, ◌<◌, ◌≤◌, Bool, true, false, cond, List}
+use Rattle.std.proofs.Common.{[], ◌∷◌, Option, Some, None, MatchOption, length, map, get_or}
+use Rattle.std.proofs.Common.{refl, sym, ap, subst, ◌∙◌, arith, inl, inr}
+use Rattle.std.specs.Prelude.{◌==◌, ◌||◌, ◌&&◌, codes, decimal, filter, find, not, option_map}
+use Rattle.std.specs.Prelude.{unwrap_or}
+use Rattle.std.specs.List.{AllByRecursion, Contains, cons_option, filter_map, join_with_byte}
+use Rattle.std.specs.Option.{option_map_or}
+use Rattle.std.proofs.lemmas.Bool.{eq-eqb, eqb-true, or_left, or_right}
+use Rattle.std.proofs.lemmas.List.{get_or_default, length-map}
+use Rattle.std.proofs.lemmas.Option.{none-some}
+use Rattle.gf_fraction.proofs.AllElements.{all_parts}
+use Rattle.gf_nfg.specs.Profiles.{product}
+use Rattle.gf_tree.specs.Description.{SetKey, InformationSet, same_set}
+use Rattle.gf_tree.specs.FiniteMap.{Described, description_at}
+use Rattle.gf_tree.specs.FirstUse.{player_keys, player_sets}
+use Rattle.gf_tree.specs.Game.{Game, HasChildren, IsGame, Node, set_at, used_sets}
+use Rattle.gf_tree.specs.PrefixOrder.{Entry, flatten, flatten_all}
+use Rattle.gf_tree.specs.Tree.{Tree, Trees, count}
+use Rattle.gf_tree.specs.Tree.Tree.{branch}
+use Rattle.gf_tree.specs.Tree.Trees.{none, more}
+use Rattle.gf_tree.proofs.FirstUses.{was_used}
+use Rattle.gf_tree.proofs.Members.{map_same, map_twice}
+use Rattle.gf_tree.proofs.TreesOnce.{same_set_equality}
+use Rattle.gf_tree.proofs.Uses.{Has, has_map}
+use Rattle.gf_form.specs.inner.reduced.Comes.{tree_comes, trees_come}
+use Rattle.gf_form.specs.inner.reduced.Firsts.{AreFirstsOf}
+use Rattle.gf_form.specs.Reduced.{is_own_choice, is_relevant, reduced, reduced_label}
+use Rattle.gf_form.specs.Reduced.{reduced_labels}
+use Rattle.gf_form.specs.Reduced.{reduced_strategies}
+use Rattle.gf_form.specs.inner.reduced.Shown.{chooses_first, relevant_sets, shown}
+use Rattle.gf_form.specs.Strategies.{action_counts, all_choices, choice_at, strategies}
+use Rattle.gf_form.specs.Strategies.{strategy_label}
+use Rattle.gf_form.proofs.lemmas.strategies.Choices.{length-all_choices}
+use Rattle.gf_form.proofs.lemmas.strategies.Chosen.{among_his, his_actions}
+use Rattle.gf_form.proofs.lemmas.reduced.Coming.{relevant_is}
+use Rattle.gf_form.proofs.lemmas.reduced.FirstStrategies.{flags_fit, is_first, reduced_shown_at}
+use Rattle.gf_form.proofs.lemmas.reduced.FirstStrategies.{reduced_strategies_are}
+use Rattle.gf_form.proofs.lemmas.values.Following.{in_either}
+use Rattle.gf_form.proofs.lemmas.strategies.KnownSets.{own_set}
+
+-- ---- one action at each set
+
+both_one : (a b : ℕ) → a * b ≡ 1 → (a ≡ 1) × (b ≡ 1)
+both_one zero b e = absurd (omega (arith, e))
+both_one (suc zero) b e =
+    let same : suc zero * b ≡ b = omega arith in (refl, omega (arith, e, same))
+both_one (suc (suc a)) zero e =
+    let same : suc (suc a) * zero ≡ 0 = omega arith in absurd (omega (arith, e, same))
+both_one (suc (suc a)) (suc b) e =
+    let large : suc (suc a) * suc b ≡ suc (suc b) + a * suc b + b = omega arith in
+    absurd (omega (arith, e, large))
+
+one_action : (key : SetKey) (ss : List (Described SetKey InformationSet)) (set : InformationSet)
+    → product (map (λ s. length s.description.actions) ss) ≡ 1
+    → description_at same_set ss key ≡ Some set → length set.actions ≡ 1
+one_action key [] set h is = absurd (none-some set is)
+one_action key (s ∷ ss) set h is =
+    let parts = both_one (length s.description.actions)
+    (product (map (λ s. length s.description.actions) ss)) h in
+    by (same_set s.key key) parts.0 (one_action key ss set parts.1) is
+  where
+    by : (b : Bool) → length s.description.actions ≡ 1
+        → (description_at same_set ss key ≡ Some set → length set.actions ≡ 1)
+        → option_map (λ e. e.description) (cond b (Some s) (find (λ e. same_set e.key key) ss))
+        ≡ Some set
+        → length set.actions ≡ 1
+    by true one others is = sym (ap (λ o. length (unwrap_or o s.description).actions) is) ∙ one
+    by false one others is = others is
+
+-- ---- the nodes of a set
+
+from_filter_map : {X Y : Type 0} (f : X → Option Y) (xs : List X) (y : Y) → Has (filter_map f xs) y
+    → (x : X) × Has xs x × (f x ≡ Some y)
+from_filter_map f [] y h = absurd h
+from_filter_map {X} {Y} f (x ∷ xs) y h = by (f x) refl h (from_filter_map f xs y)
+  where
+    by : (o : Option Y) → f x ≡ o → Has (cons_option o (filter_map f xs)) y
+        → (Has (filter_map f xs) y → (z : X) × Has xs z × (f z ≡ Some y))
+        → (z : X) × Has (x ∷ xs) z × (f z ≡ Some y)
+    by None e h others = let z = others h in (z.0, inr z.1, z.2)
+    by (Some w) e (inl q) others = (x, inl refl, e ∙ ap Some q)
+    by (Some w) e (inr h) others = let z = others h in (z.0, inr z.1, z.2)
+
+node_of : (g : Game) → IsGame g → (player : ℕ) (key : SetKey) → Has (player_keys g player) key
+    → (e : Entry Node) × Has (flatten g.tree) e × (e.node.set ≡ Some key)
+node_of g game player key i =
+    let s = own_set g player key i in
+    let known : Has (map (λ (s : Described SetKey InformationSet). s.key) g.sets) key =
+    subst (Has (map (λ (s : Described SetKey InformationSet). s.key) g.sets)) s.2
+    (has_map (λ (s : Described SetKey InformationSet). s.key) g.sets s.0 s.1) in
+    from_filter_map (λ (e : Entry Node). e.node.set) (flatten g.tree) key
+    (was_used same_set (used_sets g.tree) key
+    (subst (λ keys. Has keys key) game.one_entry_each_set known))
+
+-- ---- choices come to each set whose owner has one action at each of his
+
+module _ (g : Game) (choices : SetKey → ℕ) (key : SetKey)
+    (one : (own : SetKey) (set : InformationSet) → own.player ≡ key.player → set_at g own ≡ Some set
+    → (length set.actions ≡ 1) × (choices own ≡ 1)) where
+  abbrev IsChosen : Node → ℕ → Type 0
+  IsChosen n k = is_own_choice choices key.player (record { node = n; taken = k }) ≡ true
+
+  chosen_child : (n : Node) (own : SetKey) (m : ℕ) → n.set ≡ Some own
+      → option_map (λ set. length set.actions) (set_at g own) ≡ Some m
+      → (k : ℕ) → 1 ≤ k → k ≤ m → IsChosen n k
+  chosen_child n own m at known k above within =
+      ap (λ o. option_map_or (λ key'. not (key'.player == key.player) || choices key' == k) o true) at
+      ∙ by_owner (own.player == key.player) refl
+    where
+      by_set : own.player ≡ key.player → (o : Option InformationSet) → set_at g own ≡ o
+          → option_map (λ set. length set.actions) o ≡ Some m → choices own ≡ k
+      by_set his None e c = absurd cc
+      by_set his (Some set) e c =
+          let same : length set.actions ≡ m = cc in
+          let o = one own set his e in
+          omega (arith, o.0, o.1, same, above, within)
+
+      by_owner : (b : Bool) → (own.player == key.player) ≡ b
+          → (not (own.player == key.player) || choices own == k) ≡ true
+      by_owner false e = ap (λ b. not b || choices own == k) e
+      by_owner true e =
+          or_right (not (own.player == key.player)) (choices own == k)
+          (eq-eqb (choices own) k (by_set (eqb-true own.player key.player e) (set_at g own) refl known))
+
+  mutual
+    comes_there : (t : Tree Node) → AllByRecursion (HasChildren g) (flatten t) → (e : Entry Node)
+        → Has (flatten t) e → e.node.set ≡ Some key → tree_comes choices key t ≡ true
+    comes_there (branch n ts) children e i is =
+        by_set n.set refl children.0 i
+        (λ chosen j. come_there ts n 1 chosen children.1 e j is)
+      where
+        IsBelow : Type 0
+        IsBelow = ((k : ℕ) → 1 ≤ k → k < 1 + count ts → IsChosen n k) → Has (flatten_all ts) e
+            → trees_come choices key n 1 ts ≡ true
+
+        no_child : (ts : Trees Node) → count ts ≡ 0 → Has (flatten_all ts) e → ⊥
+        no_child none c j = j
+        no_child (more t ts) c j = omega (arith, c)
+
+        by_set : (o : Option SetKey) → n.set ≡ o → MatchOption o (count ts ≡ 0)
+            (λ own. option_map (λ set. length set.actions) (set_at g own) ≡ Some (count ts))
+            → Has (flatten (branch n ts)) e → IsBelow
+            → option_map_or (λ own. same_set key own || trees_come choices key n 1 ts) o false
+            ≡ true
+        by_set None at c (inl q) below =
+            absurd (none-some key (sym at ∙ ap (λ (e : Entry Node). e.node.set) q ∙ is))
+        by_set None at c (inr j) below = absurd (no_child ts c j)
+        by_set (Some own) at c (inl q) below =
+            let same : Some own ≡ Some key =
+            sym at ∙ ap (λ (e : Entry Node). e.node.set) q ∙ is in
+            or_left (same_set key own) (trees_come choices key n 1 ts)
+            ((same_set_equality key own).1 (sym (ap (λ o. unwrap_or o own) same)))
+        by_set (Some own) at c (inr j) below =
+            or_right (same_set key own) (trees_come choices key n 1 ts)
+            (below
+            (λ k above less. chosen_child n own (count ts) at c k above (omega (arith, less))) j)
+
+    come_there : (ts : Trees Node) (n : Node) (k : ℕ)
+        → ((j : ℕ) → k ≤ j → j < k + count ts → IsChosen n j)
+        → AllByRecursion (HasChildren g) (flatten_all ts) → (e : Entry Node)
+        → Has (flatten_all ts) e → e.node.set ≡ Some key → trees_come choices key n k ts ≡ true
+    come_there none n k chosen children e i is = absurd i
+    come_there (more t ts) n k chosen children e i is =
+        let both = all_parts (HasChildren g) (flatten t) (flatten_all ts) children in
+        let move = is_own_choice choices key.player (record { node = n; taken = k }) in
+        elim (in_either (flatten t) (flatten_all ts) e i) [
+          | inl j ↦
+              or_left (move && tree_comes choices key t) (trees_come choices key n (k + 1) ts)
+              (λ l. chosen k (omega arith) (omega arith) l && comes_there t both.0 e j is l)
+          | inr j ↦
+              or_right (move && tree_comes choices key t) (trees_come choices key n (k + 1) ts)
+              (come_there ts n (k + 1)
+              (λ m above less. chosen m (omega (arith, above)) (omega (arith, less))) both.1 e j is)
+        ]
+
+-- ---- the strategy
+
+all_shown : {A : Type 0} (xs : List A) (s : List ℕ) → length xs ≡ length s
+    → shown (map (λ x. true) xs) s ≡ map Some s
+all_shown [] [] e = refl
+all_shown [] (a ∷ s) e = absurd (omega (arith, e))
+all_shown (x ∷ xs) [] e = absurd (omega (arith, e))
+all_shown (x ∷ xs) (a ∷ s) e = ap (λ (l : List (Option ℕ)). Some a ∷ l) (all_shown xs s (omega (arith, e)))
+
+all_chosen : {A : Type 0} (xs : List A) (s : List ℕ) → chooses_first (map (λ x. true) xs) s ≡ true
+all_chosen [] s = refl
+all_chosen (x ∷ xs) [] = refl
+all_chosen (x ∷ xs) (a ∷ s) = all_chosen xs s
+
+one_alone : {A : Type 0} (xs : List A) (d : A) → length xs ≡ 1 → xs ≡ get_or xs 0 d ∷ []
+one_alone [] d e = absurd (omega (arith, e))
+one_alone (x ∷ []) d e = refl
+one_alone (x ∷ y ∷ xs) d e = absurd (omega (arith, e))
+
+module _ (g : Game) (game : IsGame g) (player : ℕ) (one : product (action_counts g player) ≡ 1) where
+  abbrev only : List ℕ
+  only = get_or (all_choices (action_counts g player)) 0 []
+
+  counted : length (strategies g player) ≡ 1
+  counted = length-all_choices (action_counts g player) ∙ one
+
+  only_there : Contains (strategies g player) only
+  only_there = (
+    0,
+    omega (arith, counted),
+    get_or_default (strategies g player) 0 only [] (omega (arith, counted)),
+  )
+
+  all_relevant : (key : SetKey) → Has (player_keys g player) key
+      → is_relevant g (choice_at (player_keys g player) only) key ≡ true
+  all_relevant key i =
+      let his = (own_set g player key i).3 in
+      let choices = choice_at (player_keys g player) only in
+      let node = node_of g game player key i in
+      relevant_is g game choices key
+      ∙ comes_there g choices key (λ own set same known.
+      let owner : player ≡ own.player = sym (same ∙ his) in
+      let actions = one_action own (player_sets g own.player) set
+      (subst (λ p. product (action_counts g p) ≡ 1) owner one) (among_his g own ∙ known) in
+      let choice = his_actions g game only own set
+      (subst (λ p. Contains (strategies g p) only) owner only_there) known in (
+        actions,
+        subst (λ p. choice_at (player_keys g p) only own ≡ 1) (sym owner)
+            (omega (arith, choice.0, choice.1, actions)),
+      ))
+      g.tree game.children node.0 node.1 node.2
+
+  all_flags : relevant_sets g player only ≡ map (λ key. true) (player_keys g player)
+  all_flags = map_same (is_relevant g (choice_at (player_keys g player) only)) (λ key. true)
+      (player_keys g player) all_relevant
+
+  only_shown : reduced g player only ≡ map Some only
+  only_shown =
+      let less : 0 < length (strategies g player) = omega (arith, counted) in
+      let flags = length-map (player_keys g player) (λ key. true) in
+      let fit = ap length (sym all_flags) ∙ flags_fit g game player 0 less in
+      reduced_shown_at g game player 0 less
+      ∙ ap (λ (flags : List Bool). shown flags only) all_flags
+      ∙ all_shown (player_keys g player) only (sym flags ∙ fit)
+
+  only_reduced : reduced_strategies g player ≡ reduced g player only ∷ []
+  only_reduced =
+      let first : is_first g player only ≡ true =
+      ap (λ (flags : List Bool). chooses_first flags only) all_flags
+      ∙ all_chosen (player_keys g player) only in
+      reduced_strategies_are g game player
+      ∙ ap (λ (all : List (List ℕ)). map (reduced g player) (filter (is_first g player) all))
+      (one_alone (strategies g player) [] counted)
+      ∙ ap (λ b. map (reduced g player) (cond b (only ∷ []) [])) first
+
+  pub only_first : AreFirstsOf g (0 ∷ []) player
+  only_first = (sym only_reduced, (omega (arith, counted), tt))
+
+  pub only_label : map strategy_label (all_choices (action_counts g player)) ≡ reduced_labels g player
+  only_label =
+      ap (map strategy_label) (one_alone (strategies g player) [] counted)
+      ∙ ap (λ (bs : List ℕ). bs ∷ []) (sym (ap reduced_label only_shown
+      ∙ ap (join_with_byte 45)
+      (map_twice (λ (choice : Option ℕ). option_map_or decimal choice (codes "*")) Some only)))
+      ∙ sym (ap (map reduced_label) only_reduced)

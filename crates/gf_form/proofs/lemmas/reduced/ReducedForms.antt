@@ -1,0 +1,207 @@
+-- The reduced form of a game: some full profile reduces to each of its profiles, and each full
+-- profile reduces to one.
+use Rattle.std.proofs.Common.{◌≡◌, ℕ, zero, suc, ◌≤◌, List, [], ◌∷◌, Option, Some, None}
+use Rattle.std.proofs.Common.{length, map, refl, sym, ap, ◌∙◌, subst, arith, inl, inr}
+use Rattle.std.specs.Prelude.{◌↔◌, unwrap_or, zip}
+use Rattle.std.specs.Bool.{Decides}
+use Rattle.std.specs.List.{AllZip, Contains}
+use Rattle.std.specs.Cmp.Lexicographic.{pointwise}
+use Rattle.std.proofs.lemmas.Bool.{eqb-true, eq-eqb, false≢true}
+use Rattle.std.proofs.lemmas.List.{length-map}
+use Rattle.std.proofs.lemmas.Slice.Eq.{slice_eq-Decides}
+use Rattle.gf_fraction.specs.Ratio.{Ratio, IsFraction}
+use Rattle.gf_fraction.specs.Rational.{IsEqual}
+use Rattle.gf_nfg.specs.ProfilePlaces.{IsProfile}
+use Rattle.gf_nfg.specs.Profiles.{profiles}
+use Rattle.gf_nfg.specs.Table.{Table}
+use Rattle.gf_nfg.proofs.BackProfiles.{every_profile}
+use Rattle.gf_tree.specs.Game.{Game}
+use Rattle.gf_tree.proofs.FirstUses.{is_used, was_used}
+use Rattle.gf_tree.proofs.Members.{map_same, map_twice}
+use Rattle.gf_tree.proofs.Uses.{Has, contains, has, has_map, mapped_from}
+use Rattle.gf_form.specs.Payoff.{payoff}
+use Rattle.gf_form.specs.Reduced.{AreReducedPayoffsAt, IsReducedForm, reduced}
+use Rattle.gf_form.specs.Reduced.{reduced_at, reduced_by, reduced_label}
+use Rattle.gf_form.specs.Reduced.{reduced_labels, reduced_strategies, same_choice}
+use Rattle.gf_form.specs.StrategicForm.{ArePayoffsAt, PaysFractions}
+use Rattle.gf_form.specs.Strategies.{choices_by, full_profiles, players_of}
+use Rattle.gf_form.specs.Strategies.{strategies, strategies_at, strategy_at}
+use Rattle.gf_form.proofs.lemmas.form.Forms.{form_profiles, of_row, one_form_by, one_row}
+use Rattle.gf_form.proofs.lemmas.form.Forms.{row_of, rows_of_form, some_form_by}
+use Rattle.gf_form.proofs.lemmas.reduced.ReducedPays.{reduced_pay}
+
+-- ---- positions
+
+-- what stands in a list has a position
+position_in : {A : Type 0} (xs : List (List A)) (x : List A) → Has xs x
+    → (s : ℕ) × (1 ≤ s) × (s ≤ length xs) × (strategy_at xs s ≡ x)
+position_in [] x h = absurd h
+position_in (y ∷ xs) x (inl e) = (1, omega arith, omega arith, e)
+position_in {A} (y ∷ xs) x (inr h) = further (position_in xs x h)
+  where
+    further : (s : ℕ) × (1 ≤ s) × (s ≤ length xs) × (strategy_at xs s ≡ x)
+        → (s : ℕ) × (1 ≤ s) × (s ≤ suc (length xs)) × (strategy_at (y ∷ xs) s ≡ x)
+    further (zero, above, within, e) = absurd (omega (arith, above))
+    further (suc k, above, within, e) = (suc (suc k), omega arith, omega (arith, within), e)
+
+-- and what has a position stands there
+in_position : {A : Type 0} (xs : List (List A)) (s : ℕ) → 1 ≤ s → s ≤ length xs
+    → Has xs (strategy_at xs s)
+in_position xs zero above within = absurd (omega arith)
+in_position [] (suc k) above within = absurd (omega arith)
+in_position (x ∷ xs) (suc zero) above within = inl refl
+in_position (x ∷ xs) (suc (suc k)) above within =
+    inr (in_position xs (suc k) (omega arith) (omega arith))
+
+-- ---- a strategy reduces to one, and each is reduced to
+
+choice_equality : (a b : Option ℕ) → Decides (same_choice a b) (a ≡ b)
+choice_equality None None = (λ h. refl, λ e. refl)
+choice_equality None (Some b) = (λ h. absurd (false≢true h), λ e. absurd cc)
+choice_equality (Some a) None = (λ h. absurd (false≢true h), λ e. absurd cc)
+choice_equality (Some a) (Some b) =
+    (λ h. ap Some (eqb-true a b h), λ e. eq-eqb a b (ap (λ o. unwrap_or o a) e))
+
+pub choices_equality : (a b : List (Option ℕ)) → Decides (pointwise same_choice a b) (a ≡ b)
+choices_equality a b =
+    slice_eq-Decides {E = same_choice} choice_equality a b (pointwise same_choice a b) refl
+
+module _ (g : Game) where
+  -- a strategy at one position and a reduced strategy at the other, to which it reduces
+  abbrev ReducesTo : ℕ → ℕ → ℕ → Type 0
+  ReducesTo player k s = reduced g player (strategy_at (strategies g player) k)
+      ≡ strategy_at (reduced_strategies g player) s
+
+  full_of : (player s : ℕ) → 1 ≤ s → s ≤ length (reduced_strategies g player)
+      → (k : ℕ) × (1 ≤ k) × (k ≤ length (strategies g player)) × ReducesTo player k s
+  full_of player s above within =
+      let there = was_used (pointwise same_choice) (map (reduced g player) (strategies g player))
+      (strategy_at (reduced_strategies g player) s)
+      (in_position (reduced_strategies g player) s above within) in
+      let one = mapped_from (reduced g player) (strategies g player)
+      (strategy_at (reduced_strategies g player) s) there in
+      let k = position_in (strategies g player) one.0 one.1 in
+      (k.0, k.1, k.2, ap (reduced g player) k.3 ∙ one.2)
+
+  reduced_of : (player k : ℕ) → 1 ≤ k → k ≤ length (strategies g player)
+      → (s : ℕ) × (1 ≤ s) × (s ≤ length (reduced_strategies g player)) × ReducesTo player k s
+  reduced_of player k above within =
+      let strategy = strategy_at (strategies g player) k in
+      let there =
+      is_used (pointwise same_choice) choices_equality
+      (map (reduced g player) (strategies g player)) (reduced g player strategy)
+      (has_map (reduced g player) (strategies g player) strategy
+      (in_position (strategies g player) k above within)) in
+      let s = position_in (reduced_strategies g player) (reduced g player strategy) there in
+      (s.0, s.1, s.2, sym s.3)
+
+  -- ---- and so for profiles
+
+  abbrev full_counts : List ℕ → List ℕ
+  full_counts players = map (λ player. length (strategies g player)) players
+
+  abbrev reduced_counts : List ℕ → List ℕ
+  reduced_counts players = map (λ player. length (reduced_strategies g player)) players
+
+  abbrev AllReduce : List ℕ → List ℕ → List ℕ → Type 0
+  AllReduce players full profile =
+      map (λ p. reduced g p.0 p.1)
+      (zip players (map (λ p. strategy_at (strategies g p.0) p.1) (zip players full)))
+      ≡ map (λ p. strategy_at (reduced_strategies g p.0) p.1) (zip players profile)
+
+  full_of_all : (players profile : List ℕ) → IsProfile (reduced_counts players) profile
+      → (full : List ℕ) × IsProfile (full_counts players) full × AllReduce players full profile
+  full_of_all [] [] h = ([], tt, refl)
+  full_of_all [] (s ∷ profile) h = absurd h
+  full_of_all (player ∷ players) [] h = absurd h
+  full_of_all (player ∷ players) (s ∷ profile) h =
+      let k = full_of player s h.0.0 h.0.1 in
+      let others = full_of_all players profile h.1 in
+      (k.0 ∷ others.0, ((k.1, k.2), others.1), λ i. k.3 i ∷ others.2 i)
+
+  reduced_of_all : (players full : List ℕ) → IsProfile (full_counts players) full
+      → (profile : List ℕ) × IsProfile (reduced_counts players) profile
+      × AllReduce players full profile
+  reduced_of_all [] [] h = ([], tt, refl)
+  reduced_of_all [] (k ∷ full) h = absurd h
+  reduced_of_all (player ∷ players) [] h = absurd h
+  reduced_of_all (player ∷ players) (k ∷ full) h =
+      let s = reduced_of player k h.0.0 h.0.1 in
+      let others = reduced_of_all players full h.1 in
+      (s.0 ∷ others.0, ((s.1, s.2), others.1), λ i. s.3 i ∷ others.2 i)
+
+  pub counts_are : (players : List ℕ)
+      → map length (map (reduced_labels g) players) ≡ reduced_counts players
+  counts_are players =
+      map_twice length (reduced_labels g) players
+      ∙ map_same (λ player. length (reduced_labels g player))
+      (λ player. length (reduced_strategies g player)) players
+      (λ player i. length-map (reduced_strategies g player) reduced_label)
+
+  -- a full profile that reduces to a profile of the reduced form
+  pub some_full : (profile : List ℕ) → Has (form_profiles (reduced_labels g) g) profile
+      → (full : List ℕ) × Contains (full_profiles g) full
+      × (reduced_by g full ≡ reduced_at g profile)
+  some_full profile i =
+      let there = contains (form_profiles (reduced_labels g) g) profile i in
+      let is : IsProfile (reduced_counts (players_of g)) profile =
+      subst (λ counts. IsProfile counts profile) (counts_are (players_of g))
+      ((every_profile (map length (map (reduced_labels g) (players_of g))) profile).0 there) in
+      let one = full_of_all (players_of g) profile is in
+      (one.0, (every_profile (full_counts (players_of g)) one.0).1 one.1, one.2)
+
+  -- and the one to which a full profile reduces
+  pub some_reduced : (full : List ℕ) → Contains (full_profiles g) full
+      → (profile : List ℕ) × Has (form_profiles (reduced_labels g) g) profile
+      × (reduced_by g full ≡ reduced_at g profile)
+  some_reduced full i =
+      let one =
+      reduced_of_all (players_of g) full ((every_profile (full_counts (players_of g)) full).0 i) in
+      let counts = map length (map (reduced_labels g) (players_of g)) in
+      let is : IsProfile counts one.0 =
+      subst (λ counts. IsProfile counts one.0) (sym (counts_are (players_of g))) one.1 in
+      (one.0, has (profiles counts) one.0 ((every_profile counts one.0).1 is), one.2)
+
+  -- ---- the form
+
+  pub one_reduced_form : (t u : Table) → IsReducedForm g t → IsReducedForm g u → t ≡ u
+  one_reduced_form =
+      one_form_by (reduced_labels g) (AreReducedPayoffsAt g) g (λ profile i a b h k.
+      let one = some_full profile i in
+      one_row g (choices_by g (strategies_at g one.0)) a b (players_of g) (h one.0 one.1 one.2)
+      (k one.0 one.1 one.2))
+
+  -- payoffs at one full profile are those at another that reduces alike
+  pub same_row : (p q : List ℕ) → Contains (full_profiles g) p → Contains (full_profiles g) q
+      → reduced_by g p ≡ reduced_by g q → (row : List Ratio) → ArePayoffsAt g p row
+      → ArePayoffsAt g q row
+  same_row p q hp hq e row = go row (players_of g)
+    where
+      go : (row : List Ratio) (players : List ℕ)
+          → AllZip (λ paid player.
+          IsFraction paid × IsEqual paid (payoff g (choices_by g (strategies_at g p)) player))
+          row players
+          → AllZip (λ paid player.
+          IsFraction paid × IsEqual paid (payoff g (choices_by g (strategies_at g q)) player))
+          row players
+      go [] [] h = tt
+      go (paid ∷ row) [] h = absurd h
+      go [] (player ∷ players) h = absurd h
+      go (paid ∷ row) (player ∷ players) h = (
+        (h.0.0, subst (IsEqual paid) (reduced_pay g player p q hp hq e) h.0.1),
+        go row players h.1,
+      )
+
+  pub reduced_form_exists : ((t : Table) × IsReducedForm g t) ↔ PaysFractions g
+  reduced_form_exists = (
+    λ form full i.
+        let one = some_reduced full i in
+        let row =
+        rows_of_form (reduced_labels g) (AreReducedPayoffsAt g) g form.0 form.1 one.0 one.1 in
+        of_row g (choices_by g (strategies_at g full)) row.0 (players_of g) (row.1 full i one.2),
+    λ pays. some_form_by (reduced_labels g) (AreReducedPayoffsAt g) g (λ profile i.
+        let one = some_full profile i in
+        let row =
+        row_of g (choices_by g (strategies_at g one.0)) (players_of g) (pays one.0 one.1) in
+        (row.0, λ full j e. same_row one.0 full one.1 j (one.2 ∙ sym e) row.0 row.1)),
+  )

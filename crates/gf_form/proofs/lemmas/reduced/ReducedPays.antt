@@ -1,0 +1,175 @@
+-- Full profiles that reduce to the same one have the same payoffs.
+use Rattle.std.proofs.Common.{◌≡◌, ℕ, zero, suc, ◌+◌, ◌-◌, ◌<◌, Bool, true, false}
+use Rattle.std.proofs.Common.{cond, List, [], ◌∷◌, Option, Some, None, length, map}
+use Rattle.std.proofs.Common.{get_or, drop, refl, sym, ap, ◌∙◌, subst, arith, inl, inr}
+use Rattle.std.specs.Prelude.{◌==◌, ◌||◌, ◌&&◌, not, zip, filter}
+use Rattle.std.specs.List.{Contains, list_all}
+use Rattle.std.specs.Option.{option_map_or}
+use Rattle.std.proofs.lemmas.Bool.{and_parts, and_from, eqb-true, eqb-false, eq-eqb, ne_eqb}
+use Rattle.gf_fraction.specs.Rational.{times, total}
+use Rattle.gf_nfg.specs.Profiles.{numbers_from}
+use Rattle.gf_nfg.proofs.NumbersInTurn.{length-numbers_from}
+use Rattle.gf_tree.specs.Description.{SetKey}
+use Rattle.gf_tree.specs.Game.{Game}
+use Rattle.gf_tree.specs.FirstUse.{player_keys}
+use Rattle.gf_tree.proofs.Uses.{Has, contains}
+use Rattle.gf_form.specs.Strategies.{choice_at, choices_by, players_of, strategies}
+use Rattle.gf_form.specs.Strategies.{strategies_at, strategy_at, full_profiles}
+use Rattle.gf_form.specs.Plays.{Step, Play, plays, is_chosen, follows}
+use Rattle.gf_form.specs.Payoff.{payoff, play_probability, play_payoff}
+use Rattle.gf_form.specs.Reduced.{is_own_choice, reduced, reduced_by}
+use Rattle.gf_form.proofs.lemmas.form.FormTables.{as_many}
+use Rattle.gf_form.proofs.lemmas.strategies.Lookups.{strategy_before}
+use Rattle.gf_form.proofs.lemmas.strategies.Chosen.{profile_strategies}
+use Rattle.gf_form.proofs.lemmas.reduced.Reducing.{reduced_agree, same_answer}
+
+-- ---- choices of all players are those of each
+
+own_of_chosen : (c : SetKey → ℕ) (p : ℕ) (o : Option SetKey) (k : ℕ)
+    → 0 < p → option_map_or (λ key. key.player == 0 || c key == k) o true ≡ true
+    → option_map_or (λ key. not (key.player == p) || c key == k) o true ≡ true
+own_of_chosen c p None k above h = refl
+own_of_chosen c p (Some key) k above h = by_owner (key.player == p) refl
+  where
+    by_owner : (b : Bool) → (key.player == p) ≡ b → (not (key.player == p) || c key == k) ≡ true
+    by_owner false e = λ i. not (e i) || c key == k
+    by_owner true e =
+        let own = eqb-true key.player p e in
+        let personal : (key.player == 0) ≡ false = ne_eqb key.player 0 (λ z. omega arith) in
+        let taken : (c key == k) ≡ true = subst (λ b. (b || c key == k) ≡ true) personal h in
+        (λ i. not (e i) || c key == k) ∙ taken
+
+chosen_of_own : (c : SetKey → ℕ) (o : Option SetKey) (k : ℕ)
+    → ((p : ℕ) → 0 < p → option_map_or (λ key. not (key.player == p) || c key == k) o true ≡ true)
+    → option_map_or (λ key. key.player == 0 || c key == k) o true ≡ true
+chosen_of_own c None k h = refl
+chosen_of_own c (Some key) k h = by_owner (key.player == 0) refl
+  where
+    by_owner : (b : Bool) → (key.player == 0) ≡ b → (key.player == 0 || c key == k) ≡ true
+    by_owner true e = λ i. e i || c key == k
+    by_owner false e =
+        let personal = eqb-false key.player 0 e in
+        let taken : (c key == k) ≡ true = subst (λ b. (not b || c key == k) ≡ true)
+        (eq-eqb key.player key.player refl) (h key.player (omega (arith, personal))) in
+        (λ i. e i || c key == k) ∙ taken
+
+pub all_own : (c : SetKey → ℕ) (p : ℕ) (steps : List Step)
+    → 0 < p → list_all (is_chosen c) steps ≡ true → list_all (is_own_choice c p) steps ≡ true
+all_own c p [] above h = refl
+all_own c p (s ∷ steps) above h =
+    let both = and_parts (is_chosen c s) (list_all (is_chosen c) steps) h in
+    and_from _ _ (own_of_chosen c p s.node.set s.taken above both.0)
+    (all_own c p steps above both.1)
+
+all_chosen : (c : SetKey → ℕ) (steps : List Step)
+    → ((p : ℕ) → 0 < p → list_all (is_own_choice c p) steps ≡ true)
+    → list_all (is_chosen c) steps ≡ true
+all_chosen c [] h = refl
+all_chosen c (s ∷ steps) h =
+    let both = λ (p : ℕ) (above : 0 < p).
+    and_parts (is_own_choice c p s) (list_all (is_own_choice c p) steps) (h p above) in
+    and_from _ _ (chosen_of_own c s.node.set s.taken (λ p above. (both p above).0))
+    (all_chosen c steps (λ p above. (both p above).1))
+
+-- what a player chooses is by his own strategy
+module _ (g : Game) (all : List (List ℕ)) (p : ℕ) where
+  abbrev pub his : SetKey → ℕ
+  his key = choice_at (player_keys g p) (strategy_at all p) key
+
+  his_step : (o : Option SetKey) (k : ℕ)
+      → option_map_or (λ key. not (key.player == p) || choices_by g all key == k) o true
+      ≡ option_map_or (λ key. not (key.player == p) || his key == k) o true
+  his_step None k = refl
+  his_step (Some key) k = by_owner (key.player == p) refl
+    where
+      by_owner : (b : Bool) → (key.player == p) ≡ b
+          → (not (key.player == p) || choices_by g all key == k)
+          ≡ (not (key.player == p) || his key == k)
+      by_owner false e =
+          (λ i. not (e i) || choices_by g all key == k) ∙ sym (λ i. not (e i) || his key == k)
+      by_owner true e =
+          λ i. not (key.player == p) || choice_at (player_keys g (eqb-true key.player p e i))
+          (strategy_at all (eqb-true key.player p e i)) key == k
+
+  pub his_steps : (steps : List Step)
+      → list_all (is_own_choice (choices_by g all) p) steps ≡ list_all (is_own_choice his p) steps
+  his_steps [] = refl
+  his_steps (s ∷ steps) = λ i. his_step s.node.set s.taken i && his_steps steps i
+
+-- ---- profiles that reduce to the same one
+
+module _ (g : Game) where
+  abbrev pub AreReducedAlike : List (List ℕ) → List (List ℕ) → Type 0
+  AreReducedAlike all others =
+      (p : ℕ) → 0 < p → reduced g p (strategy_at all p) ≡ reduced g p (strategy_at others p)
+
+  follows_too : (all others : List (List ℕ)) → AreReducedAlike all others
+      → (play : Play) → Has (plays g.tree) play → follows (choices_by g all) play ≡ true
+      → follows (choices_by g others) play ≡ true
+  follows_too all others alike play i h =
+      all_chosen (choices_by g others) play.steps
+      (λ p above. his_steps g others p play.steps ∙ sym (reduced_agree g p (strategy_at all p)
+      (strategy_at others p) play (alike p above) (contains (plays g.tree) play i))
+      ∙ sym (his_steps g all p play.steps) ∙ all_own (choices_by g all) p play.steps above h)
+
+  filter_same : (p q : Play → Bool) (ps : List Play) → ((x : Play) → Has ps x → p x ≡ q x)
+      → filter p ps ≡ filter q ps
+  filter_same p q [] h = refl
+  filter_same p q (x ∷ ps) h = λ i. cond (h x (inl refl) i)
+      (x ∷ filter_same p q ps (λ y j. h y (inr j)) i) (filter_same p q ps (λ y j. h y (inr j)) i)
+
+  same_plays : (all others : List (List ℕ)) → AreReducedAlike all others
+      → filter (follows (choices_by g all)) (plays g.tree)
+      ≡ filter (follows (choices_by g others)) (plays g.tree)
+  same_plays all others alike =
+      filter_same (follows (choices_by g all)) (follows (choices_by g others)) (plays g.tree)
+      (λ play i. same_answer (follows (choices_by g all) play)
+      (follows (choices_by g others) play) (follows_too all others alike play i)
+      (follows_too others all (λ p above. sym (alike p above)) play i))
+
+  -- what the players' strategies reduce to
+  abbrev reduce_all : List ℕ → List (List ℕ) → List (List (Option ℕ))
+  reduce_all players all = map (λ p. reduced g p.0 p.1) (zip players all)
+
+  each_alike : (k n : ℕ) (all others : List (List ℕ)) → length all ≡ n → length others ≡ n
+      → reduce_all (numbers_from k n) all ≡ reduce_all (numbers_from k n) others → (i : ℕ)
+      → reduced g (k + i) (get_or all i []) ≡ reduced g (k + i) (get_or others i [])
+  each_alike k zero [] [] m n e i = refl
+  each_alike k zero [] (t ∷ others) m n e i = absurd (omega arith)
+  each_alike k zero (s ∷ all) others m n e i = absurd (omega arith)
+  each_alike k (suc c) [] others m n e i = absurd (omega arith)
+  each_alike k (suc c) (s ∷ all) [] m n e i = absurd (omega arith)
+  each_alike k (suc c) (s ∷ all) (t ∷ others) m n e zero =
+      let here : k ≡ k + 0 = omega arith in
+      subst (λ p. reduced g p s ≡ reduced g p t) here (ap (λ l. get_or l 0 []) e)
+  each_alike k (suc c) (s ∷ all) (t ∷ others) m n e (suc i) =
+      let next : k + 1 + i ≡ k + suc i = omega arith in
+      subst (λ p. reduced g p (get_or all i []) ≡ reduced g p (get_or others i [])) next
+      (each_alike (k + 1) c all others (omega arith) (omega arith) (ap (drop 1) e) i)
+
+  one_each : (profile : List ℕ) → Contains (full_profiles g) profile
+      → length (strategies_at g profile) ≡ length g.players
+  one_each profile h = as_many (λ strategy player. Contains (strategies g player) strategy)
+      (strategies_at g profile) (players_of g) (profile_strategies g profile h)
+      ∙ length-numbers_from 1 (length g.players)
+
+  pub reduced_alike : (p q : List ℕ) → Contains (full_profiles g) p → Contains (full_profiles g) q
+      → reduced_by g p ≡ reduced_by g q → AreReducedAlike (strategies_at g p) (strategies_at g q)
+  reduced_alike p q hp hq e k above =
+      let place : 1 + (k - 1) ≡ k = omega arith in
+      ap (reduced g k) (strategy_before (strategies_at g p) k above)
+      ∙ subst (λ m. reduced g m (get_or (strategies_at g p) (k - 1) [])
+      ≡ reduced g m (get_or (strategies_at g q) (k - 1) []))
+      place
+      (each_alike 1 (length g.players) (strategies_at g p) (strategies_at g q) (one_each p hp)
+      (one_each q hq) e (k - 1))
+      ∙ ap (reduced g k) (sym (strategy_before (strategies_at g q) k above))
+
+  pub reduced_pay : (player : ℕ) (p q : List ℕ) → Contains (full_profiles g) p
+      → Contains (full_profiles g) q → reduced_by g p ≡ reduced_by g q
+      → payoff g (choices_by g (strategies_at g p)) player
+      ≡ payoff g (choices_by g (strategies_at g q)) player
+  reduced_pay player p q hp hq e =
+      ap
+      (λ ps. total (map (λ play. times (play_probability g play) (play_payoff g player play)) ps))
+      (same_plays (strategies_at g p) (strategies_at g q) (reduced_alike p q hp hq e))

@@ -1,0 +1,208 @@
+-- The reduced strategies of a player: what his strategies reduce to, each once, with labels that
+-- differ; and the profiles of the reduced form, to each of which some full profile reduces.
+use Rattle.std.proofs.Common.{◌≡◌, ℕ, zero, suc, ◌-◌, ◌^◌, ◌<◌, Bool, true, false}
+use Rattle.std.proofs.Common.{List, [], ◌∷◌, Option, Some, None, MatchOption, length, map, get_or}
+use Rattle.std.proofs.Common.{drop, refl, sym, ap, subst, ◌∙◌, arith, inl, inr}
+use Rattle.std.specs.Prelude.{◌↔◌, ⊤, codes, decimal, if◌then◌else◌, zip}
+use Rattle.std.specs.List.{AllByRecursion, Contains}
+use Rattle.std.specs.Cmp.Lexicographic.{pointwise}
+use Rattle.std.proofs.lemmas.Fmt.{decimal_injective}
+use Rattle.std.proofs.lemmas.List.{length-map}
+use Rattle.gf_nfg.specs.ProfilePlaces.{IsProfile}
+use Rattle.gf_nfg.proofs.BackProfiles.{every_profile}
+use Rattle.gf_tree.specs.Description.{SetKey, same_set}
+use Rattle.gf_tree.specs.FirstUse.{player_keys}
+use Rattle.gf_tree.specs.Game.{Game}
+use Rattle.gf_tree.proofs.FirstUses.{AreDistinct, first_uses_distinct, is_used, was_used}
+use Rattle.gf_tree.proofs.Uses.{Has, contains, has, has_map, mapped_from}
+use Rattle.gf_form.specs.inner.strategies.LabelTexts.{choice_text}
+use Rattle.gf_form.specs.Reduced.{is_relevant, reduced, reduced_at, reduced_by, reduced_label}
+use Rattle.gf_form.specs.Reduced.{reduced_profiles, reduced_strategies, same_choice}
+use Rattle.gf_form.specs.Strategies.{action_counts, choice_at, full_profiles, players_of}
+use Rattle.gf_form.specs.Strategies.{strategies, strategy_at}
+use Rattle.gf_form.proofs.lemmas.strategies.Choices.{every_choice}
+use Rattle.gf_form.proofs.lemmas.reduced.FirstsPicked.{reduced_form_profiles}
+use Rattle.gf_form.proofs.lemmas.strategies.JoinedTexts.{AreDigits, AreUndashed, digits_of}
+use Rattle.gf_form.proofs.lemmas.strategies.JoinedTexts.{same_joined}
+use Rattle.gf_form.proofs.lemmas.strategies.JoinedTexts.{undashed_number}
+use Rattle.gf_form.proofs.lemmas.strategies.Lookups.{strategy_before}
+use Rattle.gf_form.proofs.lemmas.reduced.ReducedForms.{choices_equality, some_full, some_reduced}
+use Rattle.gf_form.proofs.lemmas.strategies.StrategyLabels.{AreSmall, small_choice}
+
+-- ---- places
+
+there : {A : Type 0} (xs : List A) (i : ℕ) (d : A) → i < length xs → Has xs (get_or xs i d)
+there [] i d less = absurd (omega (arith, less))
+there (x ∷ xs) zero d less = inl refl
+there (x ∷ xs) (suc i) d less = inr (there xs i d (omega (arith, less)))
+
+-- if nothing occurs twice, what is at two places is at one place
+one_place : {A : Type 0} (xs : List A) (i j : ℕ) (d : A) → AreDistinct xs → i < length xs
+    → j < length xs → get_or xs i d ≡ get_or xs j d → i ≡ j
+one_place [] i j d h hi hj e = absurd (omega (arith, hi))
+one_place (x ∷ xs) zero zero d h hi hj e = refl
+one_place (x ∷ xs) zero (suc j) d h hi hj e =
+    absurd (h.0 (subst (Has xs) (sym e) (there xs j d (omega (arith, hj)))))
+one_place (x ∷ xs) (suc i) zero d h hi hj e =
+    absurd (h.0 (subst (Has xs) e (there xs i d (omega (arith, hi)))))
+one_place (x ∷ xs) (suc i) (suc j) d h hi hj e =
+    ap suc (one_place xs i j d h.1 (omega (arith, hi)) (omega (arith, hj)) e)
+
+-- ---- choices
+
+abbrev IsSmallChoice : Option ℕ → Type 0
+IsSmallChoice choice = MatchOption choice ⊤ (λ n. n < 2 ^ 64)
+
+undashed_choice : (choice : Option ℕ) → IsSmallChoice choice → AreUndashed (choice_text choice)
+undashed_choice None small = (λ e. omega (arith, e), tt)
+undashed_choice (Some n) small = undashed_number n small
+
+no_star : (n : ℕ) → n < 2 ^ 64 → codes "*" ≡ decimal n → ⊥
+no_star n small e = let digit = subst AreDigits (sym e) (digits_of n small) in omega (arith, digit.0)
+
+one_choice : (a b : Option ℕ) → IsSmallChoice a → IsSmallChoice b → choice_text a ≡ choice_text b
+    → a ≡ b
+one_choice None None ha hb e = refl
+one_choice None (Some b) ha hb e = absurd (no_star b hb e)
+one_choice (Some a) None ha hb e = absurd (no_star a ha (sym e))
+one_choice (Some a) (Some b) ha hb e = ap Some (decimal_injective a b ha hb e)
+
+small_at : (keys : List SetKey) (s : List ℕ) → AreSmall s → (key : SetKey)
+    → choice_at keys s key < 2 ^ 64
+small_at [] s small key = omega arith
+small_at (k ∷ keys) [] small key = omega arith
+small_at (k ∷ keys) (a ∷ s) small key = by (same_set k key) (small_at keys s small.1 key)
+  where
+    by : (b : Bool) → choice_at keys s key < 2 ^ 64
+        → (if b then a else choice_at keys s key) < 2 ^ 64
+    by true others = small.0
+    by false others = others
+
+small_choices : (relevant : SetKey → Bool) (choice : SetKey → ℕ)
+    → ((key : SetKey) → choice key < 2 ^ 64) → (keys : List SetKey)
+    → AllByRecursion IsSmallChoice
+    (map (λ key. if relevant key then Some (choice key) else None) keys)
+small_choices relevant choice small [] = tt
+small_choices relevant choice small (k ∷ keys) =
+    (by (relevant k), small_choices relevant choice small keys)
+  where
+    by : (b : Bool) → IsSmallChoice (if b then Some (choice k) else None)
+    by true = small k
+    by false = tt
+
+-- ---- reduced strategies
+
+module _ (g : Game) (player : ℕ) where
+  abbrev all : List (List (Option ℕ))
+  all = reduced_strategies g player
+
+  -- what a strategy reduces to
+  abbrev IsReducedTo : List (Option ℕ) → Type 0
+  IsReducedTo strategy =
+      (full : List ℕ) × Contains (strategies g player) full × (reduced g player full ≡ strategy)
+
+  comes_from : (strategy : List (Option ℕ)) → Has all strategy → IsReducedTo strategy
+  comes_from strategy h =
+      let from = mapped_from (reduced g player) (strategies g player) strategy
+      (was_used (pointwise same_choice) (map (reduced g player) (strategies g player)) strategy h) in
+      (from.0, contains (strategies g player) from.0 from.1, from.2)
+
+  pub each_comes : (strategy : List (Option ℕ)) → Contains all strategy ↔ IsReducedTo strategy
+  each_comes strategy = (
+    λ h. comes_from strategy (has all strategy h),
+    λ from. contains all strategy (is_used (pointwise same_choice) choices_equality
+        (map (reduced g player) (strategies g player)) strategy
+        (subst (Has (map (reduced g player) (strategies g player))) from.2
+        (has_map (reduced g player) (strategies g player) from.0
+        (has (strategies g player) from.0 from.1)))),
+  )
+
+  pub each_once : (i j : ℕ) → i < length all → j < length all → get_or all i [] ≡ get_or all j []
+      → i ≡ j
+  each_once i j hi hj e = one_place all i j []
+      (first_uses_distinct (pointwise same_choice) choices_equality
+      (map (reduced g player) (strategies g player))) hi hj e
+
+  -- ---- labels
+
+  -- a choice for each set, and none that is large
+  small_strategy : AreSmall (action_counts g player) → (strategy : List (Option ℕ))
+      → Has all strategy
+      → AllByRecursion IsSmallChoice strategy
+      × (length strategy ≡ length (player_keys g player))
+  small_strategy small strategy h =
+      let from = comes_from strategy h in
+      let keys = player_keys g player in
+      let choice = choice_at keys from.0 in
+      let few = small_choice (action_counts g player) from.0 small
+      ((every_choice (action_counts g player) from.0).0 from.1) in
+      subst (λ (s : List (Option ℕ)). AllByRecursion IsSmallChoice s × (length s ≡ length keys))
+      from.2 (
+        small_choices (is_relevant g choice) choice (small_at keys from.0 few.0) keys,
+        length-map keys (λ key. if is_relevant g choice key then Some (choice key) else None),
+      )
+
+  pub labels_differ : (i j : ℕ) → AreSmall (action_counts g player) → i < length all
+      → j < length all
+      → reduced_label (get_or all i []) ≡ reduced_label (get_or all j []) → i ≡ j
+  labels_differ i j small hi hj e =
+      let s = get_or all i [] in
+      let t = get_or all j [] in
+      let hs = small_strategy small s (there all i [] hi) in
+      let ht = small_strategy small t (there all j [] hj) in
+      each_once i j hi hj
+      (same_joined choice_text IsSmallChoice undashed_choice one_choice s t (hs.1 ∙ sym ht.1) hs.0
+      ht.0 e)
+
+-- ---- profiles
+
+module _ (g : Game) where
+  abbrev counts : List ℕ → List ℕ
+  counts players = map (λ player. length (reduced_strategies g player)) players
+
+  one_profile_of : (players p q : List ℕ) → IsProfile (counts players) p
+      → IsProfile (counts players) q
+      → map (λ r. strategy_at (reduced_strategies g r.0) r.1) (zip players p)
+      ≡ map (λ r. strategy_at (reduced_strategies g r.0) r.1) (zip players q)
+      → p ≡ q
+  one_profile_of [] [] [] hp hq e = refl
+  one_profile_of [] [] (t ∷ q) hp hq e = absurd hq
+  one_profile_of [] (s ∷ p) q hp hq e = absurd hp
+  one_profile_of (player ∷ players) [] q hp hq e = absurd hp
+  one_profile_of (player ∷ players) (s ∷ p) [] hp hq e = absurd hq
+  one_profile_of (player ∷ players) (s ∷ p) (t ∷ q) hp hq e =
+      let all = reduced_strategies g player in
+      let same : get_or all (s - 1) [] ≡ get_or all (t - 1) [] =
+      sym (strategy_before all s hp.0.0)
+      ∙ ap (λ (ss : List (List (Option ℕ))). get_or ss 0 []) e
+      ∙ strategy_before all t hq.0.0 in
+      let places = each_once g player (s - 1) (t - 1) (omega (arith, hp.0)) (omega (arith, hq.0))
+      same in
+      let first : s ≡ t = omega (arith, places, hp.0.0, hq.0.0) in
+      let others = one_profile_of players p q hp.1 hq.1 (ap (drop 1) e) in
+      λ i. first i ∷ others i
+
+  pub one_profile : (p q : List ℕ) → Contains (reduced_profiles g) p
+      → Contains (reduced_profiles g) q → reduced_at g p ≡ reduced_at g q → p ≡ q
+  one_profile p q hp hq e = one_profile_of (players_of g) p q
+      ((every_profile (counts (players_of g)) p).0 hp)
+      ((every_profile (counts (players_of g)) q).0 hq) e
+
+  -- a full profile, or one of the reduced form, that the other reduces to
+  pub each_reduced_to : (profile : List ℕ) → Contains (reduced_profiles g) profile
+      → (full : List ℕ) × Contains (full_profiles g) full
+      × (reduced_by g full ≡ reduced_at g profile)
+  each_reduced_to profile h =
+      some_full g profile (subst (λ (ps : List (List ℕ)). Has ps profile)
+      (sym (reduced_form_profiles g)) (has (reduced_profiles g) profile h))
+
+  pub all_reduced_to : (full : List ℕ) → Contains (full_profiles g) full
+      → (profile : List ℕ) × Contains (reduced_profiles g) profile
+      × (reduced_by g full ≡ reduced_at g profile)
+  all_reduced_to full h =
+      let one = some_reduced g full h in (
+        one.0,
+        contains (reduced_profiles g) one.0
+            (subst (λ (ps : List (List ℕ)). Has ps one.0) (reduced_form_profiles g) one.1),
+        one.2,
+      )

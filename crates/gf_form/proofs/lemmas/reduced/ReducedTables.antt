@@ -1,0 +1,49 @@
+-- The reduced form of a game is a table.
+use Rattle.std.proofs.Common.{◌≡◌, ℕ, ◌<◌, Bool, List, [], ◌∷◌}
+use Rattle.std.proofs.Common.{length, map, sym, ap, ◌∙◌, subst, arith}
+use Rattle.std.specs.Cmp.Lexicographic.{pointwise}
+use Rattle.std.proofs.lemmas.List.{length-map}
+use Rattle.gf_nfg.specs.Profiles.{profiles}
+use Rattle.gf_nfg.specs.Table.{Entry, IsTable, Table}
+use Rattle.gf_tree.specs.FiniteMap.{first_uses}
+use Rattle.gf_tree.specs.Game.{Game, IsGame}
+use Rattle.gf_tree.proofs.Uses.{Has, each, has_map}
+use Rattle.gf_form.specs.Reduced.{AreReducedPayoffsAt, IsReducedForm, reduced, reduced_label}
+use Rattle.gf_form.specs.Reduced.{reduced_labels, reduced_strategies, same_choice}
+use Rattle.gf_form.specs.Strategies.{players_of, strategies}
+use Rattle.gf_form.proofs.lemmas.form.Forms.{form_profiles}
+use Rattle.gf_form.proofs.lemmas.form.FormTables.{as_many, some_strategy, table_by}
+use Rattle.gf_form.proofs.lemmas.reduced.ReducedForms.{some_full}
+
+some_first : {K : Type 0} (same : K → K → Bool) (ks : List K) → 0 < length ks
+    → 0 < length (first_uses same ks)
+some_first same [] h = absurd (omega arith)
+some_first same (k ∷ ks) h = omega arith
+
+pub some_reduced_strategy : (g : Game) → IsGame g → (player : ℕ)
+    → 0 < length (reduced_strategies g player)
+some_reduced_strategy g game player =
+    let all = map (reduced g player) (strategies g player) in
+    let image : 0 < length all = subst (λ n. 0 < n)
+    (sym (length-map (strategies g player) (reduced g player))) (some_strategy g game player) in
+    some_first (pointwise same_choice) all image
+
+module _ (g : Game) (game : IsGame g) (t : Table) (form : IsReducedForm g t) where
+  listed : map (λ e. e.profile) t.entries ≡ form_profiles (reduced_labels g) g
+  listed = form.profiles ∙ ap (λ s. profiles (map length s)) form.strategies
+
+  one_each : (e : Entry) → Has t.entries e → length e.payoffs ≡ length (players_of g)
+  one_each e i =
+      let there =
+      subst (λ ps. Has ps e.profile) listed (has_map (λ (d : Entry). d.profile) t.entries e i) in
+      let full = some_full g e.profile there in
+      let right =
+      each (λ (d : Entry). AreReducedPayoffsAt g d.profile d.payoffs) t.entries e form.payoffs i in
+      as_many _ e.payoffs (players_of g) (right full.0 full.1 full.2)
+
+  pub reduced_is_table : IsTable t
+  reduced_is_table =
+      table_by (reduced_labels g) (AreReducedPayoffsAt g) g t form
+      (λ player. subst (λ n. 0 < n) (sym (length-map (reduced_strategies g player) reduced_label))
+      (some_reduced_strategy g game player))
+      one_each

@@ -1,0 +1,243 @@
+-- Full profiles that reduce to the same one have the same bottom-up values.
+use Rattle.std.proofs.Common.{◌≡◌, ℕ, zero, suc, ◌+◌, ◌<◌, Bool, true, false, List, []}
+use Rattle.std.proofs.Common.{◌∷◌, ◌++◌, Option, Some, None, MatchOption, map, refl}
+use Rattle.std.proofs.Common.{sym, ap, ◌∙◌, subst, arith, inl, append_assoc}
+use Rattle.std.specs.Prelude.{◌↔◌, ◌==◌, ◌||◌, ◌&&◌}
+use Rattle.std.specs.Bool.{MatchBool}
+use Rattle.std.specs.List.{Contains, list_all}
+use Rattle.std.specs.Option.{option_map_or}
+use Rattle.std.proofs.lemmas.Bool.{and_from, and_parts, eq-eqb, eqb-false, or_left, or_right}
+use Rattle.gf_fraction.specs.Ratio.{Ratio}
+use Rattle.gf_fraction.specs.Rational.{zero_ratio}
+use Rattle.gf_tree.specs.Tree.{Tree, Trees}
+use Rattle.gf_tree.specs.Tree.Tree.{branch}
+use Rattle.gf_tree.specs.Tree.Trees.{none, more}
+use Rattle.gf_tree.specs.Description.{SetKey, same_set}
+use Rattle.gf_tree.specs.Game.{Node, Game}
+use Rattle.gf_tree.proofs.Members.{in_left, in_right}
+use Rattle.gf_tree.proofs.TreesOnce.{same_set_equality}
+use Rattle.gf_tree.proofs.Uses.{Has, has_map}
+use Rattle.gf_form.specs.BottomUp.{IsChanceValue, IsMoveValue}
+use Rattle.gf_form.specs.BottomUp.{IsTerminalValue, IsValue, IsChildValue}
+use Rattle.gf_form.specs.Plays.{Play, Step, from_node, is_chosen, plays, plays_from}
+use Rattle.gf_form.specs.Reduced.{comes_to, is_own_choice, reduced_by}
+use Rattle.gf_form.specs.Strategies.{choices_by, full_profiles, strategies_at, strategy_at}
+use Rattle.gf_form.proofs.lemmas.reduced.ReducedPays.{AreReducedAlike, all_own, his, his_steps}
+use Rattle.gf_form.proofs.lemmas.reduced.ReducedPays.{reduced_alike}
+use Rattle.gf_form.proofs.lemmas.reduced.Reducing.{any_has, same_where_relevant}
+
+-- ---- lists and plays
+
+all_last : (test : Step → Bool) (before : List Step) (s : Step)
+    → list_all test before ≡ true → test s ≡ true → list_all test (before ++ s ∷ []) ≡ true
+all_last test [] s h e = and_from (test s) true e refl
+all_last test (b ∷ before) s h e =
+    let both = and_parts (test b) (list_all test before) h in
+    and_from (test b) (list_all test (before ++ s ∷ [])) both.0 (all_last test before s both.1 e)
+
+-- every tree has a play
+pub first_play : (t : Tree Node) → (p : Play) × Has (plays t) p
+first_play (branch n none) = (record { steps = []; leaf = n }, inl refl)
+first_play (branch n (more t ts)) =
+    let p = first_play t in (
+      from_node n 1 p.0,
+      in_left (map (from_node n 1) (plays t)) (plays_from n 2 ts)
+          (from_node n 1 p.0) (has_map (from_node n 1) (plays t) p.0 p.1),
+    )
+
+-- these steps, and then the play
+abbrev joined : List Step → Play → Play
+joined before p = record { steps = before ++ p.steps; leaf = p.leaf }
+
+-- ---- values by choices that are equal at the sets that come
+
+-- equal at each set to which these choices come
+abbrev AgreeWhereChosen : Game → (SetKey → ℕ) → (SetKey → ℕ) → Type 0
+AgreeWhereChosen g c d = (before rest : List Step) (n : Node) (k : ℕ) (leaf : Node) (key : SetKey)
+    → Has (plays g.tree)
+    (record { steps = before ++ record { node = n; taken = k } ∷ rest; leaf = leaf })
+    → list_all (is_chosen c) before ≡ true → n.set ≡ Some key → 0 < key.player → c key ≡ d key
+
+module _ (g : Game) (c d : SetKey → ℕ) (player : ℕ) (agree : AgreeWhereChosen g c d) where
+  -- the plays of a tree go on from these steps
+  abbrev GoOn : List Step → List Play → Type 0
+  GoOn before ps = (p : Play) → Has ps p → Has (plays g.tree) (joined before p)
+
+  abbrev IsChosen : Node → ℕ → Type 0
+  IsChosen n k = is_chosen c (record { node = n; taken = k }) ≡ true
+
+  abbrev ValueAt : (SetKey → ℕ) → Node → Trees Node → Ratio → Option SetKey → Type 0
+  ValueAt choices n ts value o = MatchOption o (IsTerminalValue g player n value)
+      (λ key.
+      IsMoveValue g player n key (λ below. IsChanceValue g choices player n 1 zero_ratio ts below)
+      (λ below. IsChildValue g choices player (choices key) ts below) value)
+
+  abbrev ChanceToo : Node → Trees Node → Type 0
+  ChanceToo n ts =
+      (value : Ratio) → ((k : ℕ) → IsChosen n k) → IsChanceValue g c player n 1 zero_ratio ts value
+      → IsChanceValue g d player n 1 zero_ratio ts value
+
+  abbrev ChildToo : Node → Trees Node → Type 0
+  ChildToo n ts = (position : ℕ) (value : Ratio) → IsChosen n position
+      → IsChildValue g c player position ts value → IsChildValue g d player position ts value
+
+  at_chance : (n : Node) (key : SetKey) → n.set ≡ Some key → (key.player == 0) ≡ true → (k : ℕ)
+      → IsChosen n k
+  at_chance n key at e k =
+      ap (λ o. option_map_or (λ key. key.player == 0 || c key == k) o true) at
+      ∙ or_left (key.player == 0) (c key == k) e
+
+  at_choice : (n : Node) (key : SetKey) → n.set ≡ Some key → IsChosen n (c key)
+  at_choice n key at =
+      ap (λ o. option_map_or (λ own. own.player == 0 || c own == c key) o true) at
+      ∙ or_right (key.player == 0) (c key == c key) (eq-eqb (c key) (c key) refl)
+
+  -- a node with a child stands on a play
+  choice_too : (n : Node) (ts : Trees Node) (before : List Step)
+      (key : SetKey) (position : ℕ) (value : Ratio)
+      → GoOn before (plays (branch n ts)) → list_all (is_chosen c) before ≡ true
+      → n.set ≡ Some key → 0 < key.player → IsChildValue g c player position ts value
+      → c key ≡ d key
+  choice_too n none before key position value on chosen at above v = absurd v
+  choice_too n (more t ts) before key position value on chosen at above v =
+      let p = first_play t in
+      let there = on (from_node n 1 p.0) (in_left (map (from_node n 1) (plays t))
+      (plays_from n 2 ts) (from_node n 1 p.0) (has_map (from_node n 1) (plays t) p.0 p.1)) in
+      agree before p.0.steps n 1 p.0.leaf key there chosen at above
+
+  below_too : (n : Node) (ts : Trees Node) (before : List Step) (key : SetKey) (below : Ratio)
+      → GoOn before (plays (branch n ts)) → list_all (is_chosen c) before ≡ true → n.set ≡ Some key
+      → ChanceToo n ts → ChildToo n ts → (b : Bool) → (key.player == 0) ≡ b
+      → MatchBool b (IsChanceValue g c player n 1 zero_ratio ts below)
+      (IsChildValue g c player (c key) ts below)
+      → MatchBool b (IsChanceValue g d player n 1 zero_ratio ts below)
+      (IsChildValue g d player (d key) ts below)
+  below_too n ts before key below on chosen at chance child true e v =
+      chance below (at_chance n key at e) v
+  below_too n ts before key below on chosen at chance child false e v =
+      let personal = eqb-false key.player 0 e in
+      let same =
+      choice_too n ts before key (c key) below on chosen at (omega (arith, personal)) v in
+      subst (λ position. IsChildValue g d player position ts below) same
+      (child (c key) below (at_choice n key at) v)
+
+  node_too : (n : Node) (ts : Trees Node) (value : Ratio) (before : List Step)
+      → GoOn before (plays (branch n ts)) → list_all (is_chosen c) before ≡ true → ChanceToo n ts
+      → ChildToo n ts
+      → (o : Option SetKey) → n.set ≡ o → ValueAt c n ts value o → ValueAt d n ts value o
+  node_too n ts value before on chosen chance child None at v = v
+  node_too n ts value before on chosen chance child (Some key) at v =
+      (v.0, below_too n ts before key v.0 on chosen at chance child (key.player == 0) refl v.1, v.2)
+
+  from_first : (n : Node) (k : ℕ) (t : Tree Node) (ts : Trees Node) (before : List Step)
+      → GoOn before (plays_from n k (more t ts))
+      → GoOn (before ++ record { node = n; taken = k } ∷ []) (plays t)
+  from_first n k t ts before on p i =
+      let there = on (from_node n k p) (in_left (map (from_node n k) (plays t))
+      (plays_from n (k + 1) ts) (from_node n k p) (has_map (from_node n k) (plays t) p i)) in
+      subst (λ steps. Has (plays g.tree) (record { steps = steps; leaf = p.leaf }))
+      (sym (append_assoc before (record { node = n; taken = k } ∷ []) p.steps)) there
+
+  from_others : (n : Node) (k : ℕ) (t : Tree Node) (ts : Trees Node) (before : List Step)
+      → GoOn before (plays_from n k (more t ts)) → GoOn before (plays_from n (k + 1) ts)
+  from_others n k t ts before on p i =
+      on p (in_right (map (from_node n k) (plays t)) (plays_from n (k + 1) ts) p i)
+
+  all_of : (n : Node) (ts : Trees Node) (before : List Step) → GoOn before (plays (branch n ts))
+      → GoOn before (plays_from n 1 ts)
+  all_of n none before on p i = absurd i
+  all_of n (more t ts) before on p i = on p i
+
+  mutual
+    value_too : (t : Tree Node) (value : Ratio) (before : List Step)
+        → GoOn before (plays t) → list_all (is_chosen c) before ≡ true → IsValue g c player t value
+        → IsValue g d player t value
+    value_too (branch n ts) value before on chosen v =
+        node_too n ts value before on chosen
+        (λ below every is.
+        chance_too ts n 1 zero_ratio below before (all_of n ts before on) chosen every is)
+        (λ position below there is. child_too ts n 1 position position below before
+        (all_of n ts before on) chosen there (omega arith) is)
+        n.set refl v
+
+    chance_too : (ts : Trees Node) (n : Node) (k : ℕ) (sum value : Ratio) (before : List Step)
+        → GoOn before (plays_from n k ts) → list_all (is_chosen c) before ≡ true
+        → ((j : ℕ) → IsChosen n j)
+        → IsChanceValue g c player n k sum ts value → IsChanceValue g d player n k sum ts value
+    chance_too none n k sum value before on chosen every v = v
+    chance_too (more t ts) n k sum value before on chosen every v =
+        let step : Step = record { node = n; taken = k } in (
+          v.0,
+          v.1,
+          v.2,
+          value_too t v.0 (before ++ step ∷ []) (from_first n k t ts before on)
+              (all_last (is_chosen c) before step chosen (every k)) v.3,
+          v.4,
+          v.5,
+          chance_too ts n (k + 1) v.2 value before (from_others n k t ts before on) chosen every
+              v.6,
+        )
+
+    -- the child at this position is taken, which is the one of these at that position
+    child_too : (ts : Trees Node) (n : Node) (k taken position : ℕ)
+        (value : Ratio) (before : List Step)
+        → GoOn before (plays_from n k ts) → list_all (is_chosen c) before ≡ true → IsChosen n taken
+        → suc taken ≡ position + k → IsChildValue g c player position ts value
+        → IsChildValue g d player position ts value
+    child_too none n k taken position value before on chosen there e v = absurd v
+    child_too (more t ts) n k taken zero value before on chosen there e v = absurd v
+    child_too (more t ts) n k taken (suc zero) value before on chosen there e v =
+        let step : Step = record { node = n; taken = k } in
+        let same : taken ≡ k = omega (arith, e) in
+        value_too t value (before ++ step ∷ []) (from_first n k t ts before on)
+        (all_last (is_chosen c) before step chosen (subst (λ j. IsChosen n j) same there)) v
+    child_too (more t ts) n k taken (suc (suc position)) value before on chosen there e v =
+        child_too ts n (k + 1) taken (suc position) value before (from_others n k t ts before on)
+        chosen there (omega (arith, e)) v
+
+-- ---- profiles that reduce to the same one
+
+comes_here : (choices : SetKey → ℕ) (key : SetKey) (n : Node) (k : ℕ) (rest before : List Step)
+    → n.set ≡ Some key → list_all (is_own_choice choices key.player) before ≡ true
+    → comes_to choices key (before ++ record { node = n; taken = k } ∷ rest) ≡ true
+comes_here choices key n k rest [] at h =
+    or_left (option_map_or (same_set key) n.set false)
+    (is_own_choice choices key.player (record { node = n; taken = k }) && comes_to choices key rest)
+    (ap (λ o. option_map_or (same_set key) o false) at ∙ (same_set_equality key key).1 refl)
+comes_here choices key n k rest (s ∷ before) at h =
+    let both = and_parts (is_own_choice choices key.player s)
+    (list_all (is_own_choice choices key.player) before) h in
+    let on = before ++ record { node = n; taken = k } ∷ rest in
+    or_right (option_map_or (same_set key) s.node.set false)
+    (is_own_choice choices key.player s && comes_to choices key on)
+    (and_from (is_own_choice choices key.player s) (comes_to choices key on) both.0
+    (comes_here choices key n k rest before at both.1))
+
+module _ (g : Game) (all others : List (List ℕ)) (alike : AreReducedAlike g all others) where
+  agree_where_chosen : AgreeWhereChosen g (choices_by g all) (choices_by g others)
+  agree_where_chosen before rest n k leaf key there chosen at above =
+      let own : list_all (is_own_choice (his g all key.player) key.player) before ≡ true =
+      sym (his_steps g all key.player before)
+      ∙ all_own (choices_by g all) key.player before above chosen in
+      let play : Play =
+      record { steps = before ++ record { node = n; taken = k } ∷ rest; leaf = leaf } in
+      let relevant = any_has (λ p. comes_to (his g all key.player) key p.steps) (plays g.tree) play
+      there (comes_here (his g all key.player) key n k rest before at own) in
+      same_where_relevant g key.player (strategy_at all key.player) (strategy_at others key.player)
+      (alike key.player above) key relevant
+
+  pub alike_value : (player : ℕ) (value : Ratio) → IsValue g (choices_by g all) player g.tree value
+      → IsValue g (choices_by g others) player g.tree value
+  alike_value player value v =
+      value_too g (choices_by g all) (choices_by g others) player agree_where_chosen g.tree value []
+      (λ p i. i) refl v
+
+pub reduced_value : (g : Game) (player : ℕ) (p q : List ℕ) (value : Ratio)
+    → Contains (full_profiles g) p → Contains (full_profiles g) q → reduced_by g p ≡ reduced_by g q
+    → IsValue g (choices_by g (strategies_at g p)) player g.tree value
+    ↔ IsValue g (choices_by g (strategies_at g q)) player g.tree value
+reduced_value g player p q value hp hq e = (
+  alike_value g (strategies_at g p) (strategies_at g q) (reduced_alike g p q hp hq e) player value,
+  alike_value g (strategies_at g q) (strategies_at g p) (reduced_alike g q p hq hp (sym e)) player
+      value,
+)

@@ -1,0 +1,296 @@
+-- Games that are the same have the same plays except for their numbers, and so the same reduced
+-- strategies and the same reduced form.
+use Rattle.std.proofs.Common.{◌≡◌, ℕ, ◌+◌, Bool, true, false, List, [], ◌∷◌, ◌++◌}
+use Rattle.std.proofs.Common.{Option, Some, None, length, map, refl, sym, ap, ◌∙◌, subst}
+use Rattle.std.specs.Prelude.{◌↔◌, ◌==◌, ◌&&◌, ◌||◌, not, option_map, zip, if◌then◌else◌}
+use Rattle.std.specs.List.{AllByRecursion, AllZip, Contains, list_any}
+use Rattle.std.specs.Option.{option_map_or}
+use Rattle.std.specs.Cmp.Lexicographic.{pointwise}
+use Rattle.std.proofs.lemmas.List.{map-append}
+use Rattle.gf_fraction.specs.Ratio.{Ratio, IsFraction}
+use Rattle.gf_fraction.specs.Rational.{IsEqual}
+use Rattle.gf_fraction.proofs.AllElements.{all_both, all_images, all_parts, all_weaker}
+use Rattle.gf_nfg.specs.Profiles.{profiles}
+use Rattle.gf_nfg.specs.Table.{Table}
+use Rattle.gf_tree.specs.Tree.{Tree, Trees, map_tree, map_trees}
+use Rattle.gf_tree.specs.Tree.Tree.{branch}
+use Rattle.gf_tree.specs.Tree.Trees.{none, more}
+use Rattle.gf_tree.specs.PrefixOrder.{Entry, flatten, flatten_all}
+use Rattle.gf_tree.specs.Description.{SetKey, same_set}
+use Rattle.gf_tree.specs.FiniteMap.{first_uses}
+use Rattle.gf_tree.specs.FirstUse.{player_keys}
+use Rattle.gf_tree.specs.Game.{Node, Game, IsGame, used_sets}
+use Rattle.gf_tree.specs.Renumbering.{Renumbering, IsRenumbering, renumbered_set}
+use Rattle.gf_tree.specs.Renumbering.{renumbered_node, renumbered}
+use Rattle.gf_tree.specs.SameGame.{SameGame}
+use Rattle.gf_tree.proofs.CanonicalGames.{carried_is_renumbered}
+use Rattle.gf_tree.proofs.FirstUseNumbers.{same_tests}
+use Rattle.gf_tree.proofs.MappedTrees.{held}
+use Rattle.gf_tree.proofs.Members.{map_same, map_twice}
+use Rattle.gf_tree.proofs.Renumberings.{sets_apart}
+use Rattle.gf_tree.proofs.SameGames.{same_back}
+use Rattle.gf_tree.proofs.TreesOnce.{same_set_equality}
+use Rattle.gf_tree.proofs.Uses.{Has, all_of_each}
+use Rattle.gf_form.specs.Payoff.{payoff}
+use Rattle.gf_form.specs.Plays.{Step, Play, from_node, plays, plays_from}
+use Rattle.gf_form.specs.Reduced.{AreReducedPayoffsAt, comes_to, IsReducedForm, is_relevant}
+use Rattle.gf_form.specs.Reduced.{reduced, reduced_at, reduced_by, reduced_label}
+use Rattle.gf_form.specs.Reduced.{reduced_profiles, reduced_strategies, same_choice}
+use Rattle.gf_form.specs.Refusal.{HasReducedValues, ReducedOverflowsAt}
+use Rattle.gf_form.specs.StrategicForm.{ArePayoffsAt}
+use Rattle.gf_form.specs.Strategies.{choice_at, choices_by, full_profiles, players_of}
+use Rattle.gf_form.specs.Strategies.{strategies, strategies_at, strategy_at}
+use Rattle.gf_form.proofs.lemmas.form.SameForms.{key_used, keys_carried, same_payoffs}
+use Rattle.gf_form.proofs.lemmas.form.SameForms.{same_strategies_at}
+use Rattle.gf_form.proofs.lemmas.form.SameForms.{strategies_carried, strategy_carried}
+use Rattle.gf_form.proofs.lemmas.form.SameRefusals.{first_too, players_too, same_profiles}
+use Rattle.gf_form.proofs.lemmas.form.SameRefusals.{values_too}
+
+-- ---- plays
+
+-- the same steps, by other nodes
+abbrev carried_step : (Node → Node) → Step → Step
+carried_step f s = record { node = f s.node; taken = s.taken }
+
+abbrev carried_play : (Node → Node) → Play → Play
+carried_play f p = record { steps = map (carried_step f) p.steps; leaf = f p.leaf }
+
+mutual
+  plays_carried : (f : Node → Node) (t : Tree Node)
+      → plays (map_tree f t) ≡ map (carried_play f) (plays t)
+  plays_carried f (branch n none) = refl
+  plays_carried f (branch n (more t ts)) = children_carried f n 1 (more t ts)
+
+  children_carried : (f : Node → Node) (n : Node) (k : ℕ) (ts : Trees Node)
+      → plays_from (f n) k (map_trees f ts) ≡ map (carried_play f) (plays_from n k ts)
+  children_carried f n k none = refl
+  children_carried f n k (more t ts) =
+      let first : map (from_node (f n) k) (plays (map_tree f t))
+      ≡ map (carried_play f) (map (from_node n k) (plays t)) =
+      ap (map (from_node (f n) k)) (plays_carried f t)
+      ∙ map_twice (from_node (f n) k) (carried_play f) (plays t)
+      ∙ sym (map_twice (carried_play f) (from_node n k) (plays t)) in
+      (λ i. first i ++ children_carried f n (k + 1) ts i)
+      ∙ sym (map-append (carried_play f) (map (from_node n k) (plays t))
+      (plays_from n (k + 1) ts))
+
+-- what holds for the nodes of a tree holds for those on its plays
+module _ (P : Node → Type 0) where
+  abbrev OnSteps : List Step → Type 0
+  OnSteps steps = AllByRecursion (λ s. P s.node) steps
+
+  abbrev OnPlay : Play → Type 0
+  OnPlay p = OnSteps p.steps
+
+  mutual
+    on_plays : (t : Tree Node) → AllByRecursion (λ e. P e.node) (flatten t)
+        → AllByRecursion OnPlay (plays t)
+    on_plays (branch n none) h = (tt, tt)
+    on_plays (branch n (more t ts)) h = on_children (more t ts) n 1 h.0 h.1
+
+    on_children : (ts : Trees Node) (n : Node) (k : ℕ) → P n
+        → AllByRecursion (λ e. P e.node) (flatten_all ts)
+        → AllByRecursion OnPlay (plays_from n k ts)
+    on_children none n k here h = tt
+    on_children (more t ts) n k here h =
+        let both = all_parts (λ (e : Entry Node). P e.node) (flatten t) (flatten_all ts) h in
+        all_both OnPlay (map (from_node n k) (plays t)) (plays_from n (k + 1) ts)
+        (all_images OnPlay (from_node n k) (plays t)
+        (all_weaker OnPlay (λ p. OnPlay (from_node n k p)) (λ p steps. (here, steps)) (plays t)
+        (on_plays t both.0)))
+        (on_children ts n (k + 1) here both.1)
+
+any_carried : {X Y : Type 0} (f : X → Y) (p : Y → Bool) (q : X → Bool) (P : X → Type 0)
+    → ((x : X) → P x → p (f x) ≡ q x) → (xs : List X) → AllByRecursion P xs
+    → list_any p (map f xs) ≡ list_any q xs
+any_carried f p q P same [] h = refl
+any_carried f p q P same (x ∷ xs) h =
+    λ i. same x h.0 i || any_carried f p q P same xs h.1 i
+
+-- ---- relevant sets
+
+module _ (g : Game) (r : Renumbering) (game : IsGame g) (is : IsRenumbering g r) (player : ℕ) where
+  abbrev h : Game
+  h = renumbered r g
+
+  -- its set is one of the game's
+  abbrev HasUsed : Node → Type 0
+  HasUsed n = (key : SetKey) → n.set ≡ Some key → Has (used_sets g.tree) key
+
+  all_used : AllByRecursion (OnPlay HasUsed) (plays g.tree)
+  all_used = on_plays HasUsed g.tree
+      (all_of_each (λ (e : Entry Node). HasUsed e.node) (flatten g.tree)
+      (λ e i key at. held (λ (n : Node). n.set) (flatten g.tree) e key i at))
+
+  module _ (strategy : List ℕ) where
+    abbrev c : SetKey → ℕ
+    c key = choice_at (player_keys g player) strategy key
+
+    abbrev d : SetKey → ℕ
+    d key = choice_at (player_keys h player) strategy key
+
+    meets_carried : (key : SetKey) → Has (used_sets g.tree) key → (o : Option SetKey)
+        → ((k : SetKey) → o ≡ Some k → Has (used_sets g.tree) k)
+        → option_map_or (same_set (renumbered_set r key)) (option_map (renumbered_set r) o) false
+        ≡ option_map_or (same_set key) o false
+    meets_carried key used None all = refl
+    meets_carried key used (Some k) all =
+        same_tests same_set same_set same_set_equality same_set_equality (renumbered_set r) key k
+        (sets_apart g r is key k used (all k refl))
+
+    own_carried : (owner taken : ℕ) (o : Option SetKey)
+        → ((k : SetKey) → o ≡ Some k → Has (used_sets g.tree) k)
+        → option_map_or (λ k. not (k.player == owner) || d k == taken)
+        (option_map (renumbered_set r) o) true
+        ≡ option_map_or (λ k. not (k.player == owner) || c k == taken) o true
+    own_carried owner taken None all = refl
+    own_carried owner taken (Some k) all = λ i. not (k.player == owner)
+        || strategy_carried g r game is player strategy k (all k refl) i == taken
+
+    comes_carried : (key : SetKey) → Has (used_sets g.tree) key → (steps : List Step)
+        → OnSteps HasUsed steps
+        → comes_to d (renumbered_set r key) (map (carried_step (renumbered_node r)) steps)
+        ≡ comes_to c key steps
+    comes_carried key used [] all = refl
+    comes_carried key used (s ∷ steps) all =
+        λ i. meets_carried key used s.node.set all.0 i
+        || (own_carried key.player s.taken s.node.set all.0 i
+        && comes_carried key used steps all.1 i)
+
+    relevant_carried : (key : SetKey) → Has (used_sets g.tree) key
+        → is_relevant h d (renumbered_set r key) ≡ is_relevant g c key
+    relevant_carried key used =
+        ap (list_any (λ play. comes_to d (renumbered_set r key) play.steps))
+        (plays_carried (renumbered_node r) g.tree)
+        ∙ any_carried (carried_play (renumbered_node r))
+        (λ play. comes_to d (renumbered_set r key) play.steps)
+        (λ play. comes_to c key play.steps) (OnPlay HasUsed)
+        (λ play all. comes_carried key used play.steps all) (plays g.tree) all_used
+
+    -- ---- reduced strategies
+
+    shown_carried : (key : SetKey) → Has (player_keys g player) key
+        → (if is_relevant h d (renumbered_set r key) then Some (d (renumbered_set r key)) else None)
+        ≡ (if is_relevant g c key then Some (c key) else None)
+    shown_carried key i =
+        let used = key_used g r game is player key i in
+        λ j. if relevant_carried key used j
+        then Some (strategy_carried g r game is player strategy key used j) else None
+
+    reduced_carried : reduced h player strategy ≡ reduced g player strategy
+    reduced_carried =
+        let shown_by = λ (key : SetKey). if is_relevant h d key then Some (d key) else None in
+        ap (map shown_by) (keys_carried g r game is player)
+        ∙ map_twice shown_by (renumbered_set r) (player_keys g player)
+        ∙ map_same (λ key. shown_by (renumbered_set r key))
+        (λ key. if is_relevant g c key then Some (c key) else None) (player_keys g player)
+        shown_carried
+
+  reduced_strategies_carried : reduced_strategies h player ≡ reduced_strategies g player
+  reduced_strategies_carried =
+      ap (first_uses (pointwise same_choice))
+      (ap (map (reduced h player)) (strategies_carried g r game is player)
+      ∙ map_same (reduced h player) (reduced g player) (strategies g player)
+      (λ strategy i. reduced_carried strategy))
+
+-- ---- games that are the same
+
+module _ (g h : Game) (game : IsGame g) (game' : IsGame h) (same : SameGame g h) where
+  pub same_reduced : (player : ℕ) (strategy : List ℕ)
+      → reduced g player strategy ≡ reduced h player strategy
+  same_reduced player strategy = subst (λ k. reduced g player strategy ≡ reduced k player strategy)
+      (carried_is_renumbered same.0 g h game game' same.1)
+      (sym (reduced_carried g same.0 game same.1.renumbering player strategy))
+
+  pub same_reduced_strategies : (player : ℕ)
+      → reduced_strategies g player ≡ reduced_strategies h player
+  same_reduced_strategies player =
+      subst (λ k. reduced_strategies g player ≡ reduced_strategies k player)
+      (carried_is_renumbered same.0 g h game game' same.1)
+      (sym (reduced_strategies_carried g same.0 game same.1.renumbering player))
+
+  pub same_reduced_by : (profile : List ℕ) → reduced_by g profile ≡ reduced_by h profile
+  same_reduced_by profile = λ i. map (λ p. same_reduced p.0 p.1 i)
+      (zip (players_too g h game game' same i) (same_strategies_at g h game game' same profile i))
+
+  same_reduced_at : (profile : List ℕ) → reduced_at g profile ≡ reduced_at h profile
+  same_reduced_at profile = λ i. map (λ p. strategy_at (same_reduced_strategies p.0 i) p.1)
+      (zip (players_too g h game game' same i) profile)
+
+  same_reduced_profiles : reduced_profiles g ≡ reduced_profiles h
+  same_reduced_profiles =
+      λ i. profiles (map (λ player. length (same_reduced_strategies player i))
+      (players_too g h game game' same i))
+
+  -- what holds at the full profiles that reduce to a profile
+  at_full : (profile full : List ℕ) → Contains (full_profiles h) full
+      → reduced_by h full ≡ reduced_at h profile
+      → Contains (full_profiles g) full × (reduced_by g full ≡ reduced_at g profile)
+  at_full profile full there e = (
+    subst (λ ps. Contains ps full) (sym (same_profiles g h game game' same)) there,
+    same_reduced_by full ∙ e ∙ sym (same_reduced_at profile),
+  )
+
+  reduced_values_too : (profile : List ℕ) → HasReducedValues g profile → HasReducedValues h profile
+  reduced_values_too profile values full there e =
+      let at = at_full profile full there e in
+      values_too g h game game' same full (values full at.0 at.1)
+
+  paid_too : (full : List ℕ) (player : ℕ)
+      → payoff g (choices_by g (strategies_at g full)) player
+      ≡ payoff h (choices_by h (strategies_at h full)) player
+  paid_too full player =
+      same_payoffs g h game game' same (strategies_at g full) player
+      ∙ ap (λ all. payoff h (choices_by h all) player)
+      (same_strategies_at g h game game' same full)
+
+  payoffs_too : (full : List ℕ) (payoffs : List Ratio) → ArePayoffsAt g full payoffs
+      → ArePayoffsAt h full payoffs
+  payoffs_too full payoffs right =
+      subst (λ (pays : ℕ → Ratio).
+      AllZip (λ paid player. IsFraction paid × IsEqual paid (pays player)) payoffs (players_of h))
+      (λ i player. paid_too full player i)
+      (subst (λ (players : List ℕ). AllZip (λ paid player. IsFraction paid
+      × IsEqual paid (payoff g (choices_by g (strategies_at g full)) player)) payoffs players)
+      (players_too g h game game' same) right)
+
+  reduced_payoffs_too : (profile : List ℕ) (payoffs : List Ratio)
+      → AreReducedPayoffsAt g profile payoffs → AreReducedPayoffsAt h profile payoffs
+  reduced_payoffs_too profile payoffs right full there e =
+      let at = at_full profile full there e in
+      payoffs_too full payoffs (right full at.0 at.1)
+
+  reduced_form_on : (t : Table) → IsReducedForm g t → IsReducedForm h t
+  reduced_form_on t form = record {
+    title = form.title ∙ same.1.title;
+    comment = form.comment ∙ same.1.comment;
+    players = form.players ∙ same.1.players;
+    strategies = form.strategies ∙ (λ i. map
+        (λ player. map reduced_label (same_reduced_strategies player i))
+        (players_too g h game game' same i));
+    profiles = form.profiles;
+    payoffs = all_weaker (λ e. AreReducedPayoffsAt g e.profile e.payoffs)
+        (λ e. AreReducedPayoffsAt h e.profile e.payoffs)
+        (λ e right. reduced_payoffs_too e.profile e.payoffs right) t.entries form.payoffs;
+  }
+
+pub same_reduced_forms : (g h : Game) → IsGame g → IsGame h → SameGame g h → (t : Table)
+    → IsReducedForm g t ↔ IsReducedForm h t
+same_reduced_forms g h game game' same t = (
+  reduced_form_on g h game game' same t,
+  reduced_form_on h g game' game (same_back g h game same) t,
+)
+
+reduced_overflow_on : (g h : Game) → IsGame g → IsGame h → SameGame g h → (position : ℕ)
+    → ReducedOverflowsAt g position → ReducedOverflowsAt h position
+reduced_overflow_on g h game game' same position =
+    first_too (HasReducedValues g) (HasReducedValues h) (reduced_profiles g) (reduced_profiles h)
+    position (same_reduced_profiles g h game game' same) (reduced_values_too g h game game' same)
+    (reduced_values_too h g game' game (same_back g h game same))
+
+pub same_reduced_overflow : (g h : Game) → IsGame g → IsGame h → SameGame g h → (position : ℕ)
+    → ReducedOverflowsAt g position ↔ ReducedOverflowsAt h position
+same_reduced_overflow g h game game' same position = (
+  reduced_overflow_on g h game game' same position,
+  reduced_overflow_on h g game' game (same_back g h game same) position,
+)

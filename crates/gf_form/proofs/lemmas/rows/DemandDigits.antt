@@ -1,0 +1,241 @@
+-- Demands by their digits, the slowest first: which digit a demand has at a set, what another action
+-- there changes, and which choices meet it.
+use Rattle.std.proofs.Common.{◌≡◌, ℕ, zero, suc, ◌+◌, ◌-◌, ◌*◌, ◌/◌, ◌%◌, ◌<◌, ◌≤◌, Bool, true}
+use Rattle.std.proofs.Common.{false, List, [], ◌∷◌, length, get_or, set, map, arith, refl, ap, sym}
+use Rattle.std.proofs.Common.{◌∙◌, subst, inl, inr, ◌⊎◌}
+use Rattle.std.specs.Prelude.{◌==◌, ◌&&◌, ◌||◌, nat_le, nat_lt, if◌then◌else◌, ⊤}
+use Rattle.std.specs.Int.{◌∣◌}
+use Rattle.std.proofs.lemmas.Bool.{and_parts, cases_lt, eq-eqb, eqb-true, le-leb, le-ltb, lt-leb}
+use Rattle.std.proofs.lemmas.Bool.{lt-ltb, ne_eqb}
+use Rattle.std.proofs.lemmas.Nat.{div-mul-add}
+use Rattle.std.proofs.Math.Nat.{add-mul-mod_self_right, div-mul_cancel, dvd-mul_left}
+use Rattle.std.proofs.Math.Nat.{dvd-mul_left_of_dvd, mod-eq_of_lt, mul-add-div, mul-le-mul_right}
+use Rattle.gf_fraction.proofs.Products.{mul_above}
+use Rattle.gf_nfg.specs.Profiles.{product}
+use Rattle.gf_form.specs.inner.rows.Demands.{meets, spans, steps_of}
+use Rattle.gf_form.specs.inner.rows.ReachedNodes.{demanded}
+
+-- ---- numbers by their digits
+
+-- a digit for each set, which is 0 or one of this many actions
+abbrev pub AreWithin : List ℕ → List ℕ → Type 0
+AreWithin [] [] = ⊤
+AreWithin (n ∷ ns) (d ∷ ds) = (d ≤ n) × AreWithin ns ds
+AreWithin [] (d ∷ ds) = ⊥
+AreWithin (n ∷ ns) [] = ⊥
+
+-- the number that has these digits
+abbrev pub pack : List ℕ → List ℕ → ℕ
+pack (n ∷ faster) (d ∷ ds) = d * product (spans faster) + pack faster ds
+pack _ _ = 0
+
+spans_above : (actions : List ℕ) → 0 < product (spans actions)
+spans_above [] = omega arith
+spans_above (n ∷ faster) =
+    mul_above (n + 1) (product (spans faster)) (omega arith) (spans_above faster)
+
+below_next : (d n p r : ℕ) → d ≤ n → r < p → d * p + r < (n + 1) * p
+below_next d n p r h k = omega (arith, mul-le-mul_right p h, k)
+
+pub pack_below : (actions ds : List ℕ) → AreWithin actions ds → pack actions ds < product (spans actions)
+pack_below [] [] h = omega arith
+pack_below (n ∷ faster) (d ∷ ds) h =
+    below_next d n (product (spans faster)) (pack faster ds) h.0 (pack_below faster ds h.1)
+pack_below [] (d ∷ ds) h = absurd h
+pack_below (n ∷ faster) [] h = absurd h
+
+pub within_length : (actions ds : List ℕ) → AreWithin actions ds → length ds ≡ length actions
+within_length [] [] h = refl
+within_length (n ∷ faster) (d ∷ ds) h = ap suc (within_length faster ds h.1)
+within_length [] (d ∷ ds) h = absurd h
+within_length (n ∷ faster) [] h = absurd h
+
+-- ---- the digit at a place
+
+first_digit : (d n p r : ℕ) → d ≤ n → r < p → demanded (d * p + r) p n ≡ d
+first_digit d n p r h k =
+    ap (λ q. q % (n + 1)) (div-mul-add d p r k) ∙ mod-eq_of_lt (omega (arith, h))
+
+-- a slower digit counts for nothing
+faster_digit : (d p r s m : ℕ) → 0 < s → s * (m + 1) ∣ p → demanded (d * p + r) s m ≡ demanded r s m
+faster_digit d p r s m above h =
+    let q = p / (s * (m + 1)) in
+    let whole : q * (s * (m + 1)) ≡ p = div-mul_cancel (s * (m + 1)) h in
+    let grouped : d * p + r ≡ s * (d * q * (m + 1)) + r = omega (arith, ap (λ k. d * k) whole) in
+    let turned : d * q * (m + 1) + r / s ≡ r / s + d * q * (m + 1) = omega arith in
+    ap (λ k. k / s % (m + 1)) grouped
+    ∙ ap (λ k. k % (m + 1)) (mul-add-div above (d * q * (m + 1)) r ∙ turned)
+    ∙ add-mul-mod_self_right (r / s) (d * q) (m + 1)
+
+step_above : (actions : List ℕ) (place : ℕ) → place < length actions
+    → 0 < get_or (steps_of actions) place 0
+step_above [] place h = absurd (omega arith)
+step_above (n ∷ faster) zero h = spans_above faster
+step_above (n ∷ faster) (suc place) h = step_above faster place (omega (arith, h))
+
+step_divides : (actions : List ℕ) (place : ℕ) → place < length actions
+    → get_or (steps_of actions) place 0 * (get_or actions place 0 + 1) ∣ product (spans actions)
+step_divides [] place h = absurd (omega arith)
+step_divides (n ∷ faster) zero h =
+    let p = product (spans faster) in
+    let turn : 1 * (p * (n + 1)) ≡ (n + 1) * p = omega arith in
+    subst (λ k. p * (n + 1) ∣ k) turn (dvd-mul_left (p * (n + 1)) 1)
+step_divides (n ∷ faster) (suc place) h =
+    dvd-mul_left_of_dvd _ (step_divides faster place (omega (arith, h))) (n + 1)
+
+pub digit_is : (actions ds : List ℕ) (place : ℕ) → AreWithin actions ds → place < length actions
+    → demanded (pack actions ds) (get_or (steps_of actions) place 0) (get_or actions place 0)
+    ≡ get_or ds place 0
+digit_is [] [] place h within = absurd (omega arith)
+digit_is (n ∷ faster) (d ∷ ds) zero h within =
+    first_digit d n (product (spans faster)) (pack faster ds) h.0 (pack_below faster ds h.1)
+digit_is (n ∷ faster) (d ∷ ds) (suc place) h within =
+    let there : place < length faster = omega (arith, within) in
+    faster_digit d (product (spans faster)) (pack faster ds) (get_or (steps_of faster) place 0)
+    (get_or faster place 0) (step_above faster place there) (step_divides faster place there)
+    ∙ digit_is faster ds place h.1 there
+digit_is [] (d ∷ ds) place h within = absurd h
+digit_is (n ∷ faster) [] place h within = absurd h
+
+-- ---- another digit
+
+pub set_within : (actions ds : List ℕ) (place k : ℕ) → AreWithin actions ds
+    → k ≤ get_or actions place 0 → AreWithin actions (set ds place k)
+set_within [] [] place k h le = tt
+set_within (n ∷ faster) (d ∷ ds) zero k h le = (le, h.1)
+set_within (n ∷ faster) (d ∷ ds) (suc place) k h le = (h.0, set_within faster ds place k h.1 le)
+set_within [] (d ∷ ds) place k h le = absurd h
+set_within (n ∷ faster) [] place k h le = absurd h
+
+pub set_pack : (actions ds : List ℕ) (place k : ℕ) → AreWithin actions ds → place < length actions
+    → get_or ds place 0 ≡ 0
+    → pack actions ds + k * get_or (steps_of actions) place 0 ≡ pack actions (set ds place k)
+set_pack [] [] place k h within free = absurd (omega arith)
+set_pack (n ∷ faster) (d ∷ ds) zero k h within free =
+    omega (arith, ap (λ (e : ℕ). e * product (spans faster)) free)
+set_pack (n ∷ faster) (d ∷ ds) (suc place) k h within free =
+    omega (arith, set_pack faster ds place k h.1 (omega (arith, within)) free)
+set_pack [] (d ∷ ds) place k h within free = absurd h
+set_pack (n ∷ faster) [] place k h within free = absurd h
+
+-- ---- which choices meet the demands
+
+and_turned : (a b : Bool) → (a && b) ≡ (b && a)
+and_turned true true = refl
+and_turned true false = refl
+and_turned false true = refl
+and_turned false false = refl
+
+and_grouped : (a b c : Bool) → (a && (b && c)) ≡ ((a && b) && c)
+and_grouped true b c = refl
+and_grouped false b c = refl
+
+abbrev pub met : List ℕ → List ℕ → Bool
+met (c ∷ cs) (d ∷ ds) = (d == 0 || d == c) && met cs ds
+met _ _ = true
+
+meets_first : (p r c d : ℕ) (steps cs : List ℕ) → r < p
+    → meets (p ∷ steps) (c ∷ cs) (d * p + r) ≡ ((d == 0 || d == c) && meets steps cs r)
+meets_first p r c zero steps cs h =
+    let less : nat_lt (0 * p + r) p ≡ true = lt-ltb (0 * p + r) p (omega (arith, h)) in
+    let rest : 0 * p + r ≡ r = omega arith in
+    ap (λ b. if b then meets steps cs (0 * p + r)
+    else if nat_le (c * p) (0 * p + r) && nat_lt (0 * p + r) (c * p + p)
+    then meets steps cs (0 * p + r - c * p) else false) less
+    ∙ ap (meets steps cs) rest
+meets_first p r c (suc d) steps cs h =
+    let first : nat_lt n p ≡ false = le-ltb n p (omega arith) in
+    rw first (by (cases_lt c (suc d)) (cases_lt (suc d) c))
+  where
+    n : ℕ
+    n = suc d * p + r
+
+    any : (suc d == 0) ≡ false
+    any = ne_eqb (suc d) 0 (λ z. omega (arith, z))
+
+    by : (c < suc d) ⊎ (suc d ≤ c) → (suc d < c) ⊎ (c ≤ suc d)
+        → (if nat_le (c * p) (suc d * p + r) && nat_lt (suc d * p + r) (c * p + p)
+        then meets steps cs (suc d * p + r - c * p) else false)
+        ≡ ((suc d == 0 || suc d == c) && meets steps cs r)
+    by (inl less) other =
+        let more : nat_lt (suc d * p + r) (c * p + p) ≡ false =
+        le-ltb (suc d * p + r) (c * p + p)
+        (omega (arith, mul-le-mul_right p (let le : c ≤ d = omega (arith, less) in le))) in
+        let apart : (suc d == c) ≡ false = ne_eqb (suc d) c (λ e. omega (arith, less, e)) in
+        rw (more, any, apart, and_turned (nat_le (c * p) (suc d * p + r)) false) refl
+    by (inr le) (inl less) =
+        let past : nat_le (c * p) (suc d * p + r) ≡ false =
+        lt-leb (c * p) (suc d * p + r)
+        (omega (arith, h, mul-le-mul_right p (let up : suc (suc d) ≤ c = omega (arith, less) in up))) in
+        let apart : (suc d == c) ≡ false = ne_eqb (suc d) c (λ e. omega (arith, less, e)) in
+        rw (past, any, apart) refl
+    by (inr le) (inr ge) =
+        let same : c ≡ suc d = omega (arith, le, ge) in
+        let times : c * p ≡ suc d * p = ap (λ k. k * p) same in
+        let up : nat_le (c * p) (suc d * p + r) ≡ true =
+        le-leb (c * p) (suc d * p + r) (omega (arith, times)) in
+        let less : nat_lt (suc d * p + r) (c * p + p) ≡ true =
+        lt-ltb (suc d * p + r) (c * p + p) (omega (arith, times, h)) in
+        let rest : suc d * p + r - c * p ≡ r = omega (arith, times) in
+        rw (up, less, rest, any, eq-eqb (suc d) c (sym same)) refl
+
+pub meets_is : (actions choices ds : List ℕ) → length choices ≡ length actions
+    → AreWithin actions ds → meets (steps_of actions) choices (pack actions ds) ≡ met choices ds
+meets_is [] [] [] e h = refl
+meets_is (n ∷ faster) (c ∷ cs) (d ∷ ds) e h =
+    meets_first (product (spans faster)) (pack faster ds) c d (steps_of faster) cs
+    (pack_below faster ds h.1)
+    ∙ ap (λ b. (d == 0 || d == c) && b) (meets_is faster cs ds (omega (arith, e)) h.1)
+meets_is [] (c ∷ cs) ds e h = absurd (omega arith)
+meets_is (n ∷ faster) [] ds e h = absurd (omega arith)
+meets_is [] [] (d ∷ ds) e h = absurd h
+meets_is (n ∷ faster) (c ∷ cs) [] e h = absurd h
+
+-- an action is demanded where any would do
+pub met_set : (choices ds : List ℕ) (place k : ℕ) → length choices ≡ length ds → place < length ds
+    → get_or ds place 0 ≡ 0 → 1 ≤ k
+    → met choices (set ds place k) ≡ (met choices ds && k == get_or choices place 0)
+met_set [] [] place k e within free some = absurd (omega arith)
+met_set (c ∷ cs) (d ∷ ds) zero k e within free some =
+    let there : (k == 0) ≡ false = ne_eqb k 0 (λ z. omega (arith, some, z)) in
+    let any : (d == 0) ≡ true = eq-eqb d 0 free in
+    rw (there, any) (and_turned (k == c) (met cs ds))
+met_set (c ∷ cs) (d ∷ ds) (suc place) k e within free some =
+    ap (λ b. (d == 0 || d == c) && b)
+    (met_set cs ds place k (omega (arith, e)) (omega (arith, within)) free some)
+    ∙ and_grouped (d == 0 || d == c) (met cs ds) (k == get_or cs place 0)
+met_set [] (d ∷ ds) place k e within free some = absurd (omega arith)
+met_set (c ∷ cs) [] place k e within free some = absurd (omega arith)
+
+-- a demand that is met is the choice
+pub met_digit : (choices ds : List ℕ) (place : ℕ) → length choices ≡ length ds → place < length ds
+    → met choices ds ≡ true → ¬ (get_or ds place 0 ≡ 0) → get_or choices place 0 ≡ get_or ds place 0
+met_digit [] [] place e within is some = absurd (omega arith)
+met_digit (c ∷ cs) (d ∷ ds) zero e within is some =
+    let both = and_parts (d == 0 || d == c) (met cs ds) is in
+    let not_any : (d == 0) ≡ false = ne_eqb d 0 some in
+    sym (eqb-true d c (rw not_any at both.0))
+met_digit (c ∷ cs) (d ∷ ds) (suc place) e within is some =
+    met_digit cs ds place (omega (arith, e)) (omega (arith, within))
+    (and_parts (d == 0 || d == c) (met cs ds) is).1 some
+met_digit [] (d ∷ ds) place e within is some = absurd (omega arith)
+met_digit (c ∷ cs) [] place e within is some = absurd (omega arith)
+
+-- ---- no demand
+
+abbrev pub no_demands : List ℕ → List ℕ
+no_demands actions = map (λ _. 0) actions
+
+pub none_within : (actions : List ℕ) → AreWithin actions (no_demands actions)
+none_within [] = tt
+none_within (n ∷ faster) = (omega arith, none_within faster)
+
+pub none_pack : (actions : List ℕ) → pack actions (no_demands actions) ≡ 0
+none_pack [] = refl
+none_pack (n ∷ faster) =
+    let none : 0 * product (spans faster) ≡ 0 = omega arith in omega (arith, none, none_pack faster)
+
+pub none_met : (choices actions : List ℕ) → met choices (no_demands actions) ≡ true
+none_met [] actions = refl
+none_met (c ∷ cs) [] = refl
+none_met (c ∷ cs) (n ∷ faster) = none_met cs faster

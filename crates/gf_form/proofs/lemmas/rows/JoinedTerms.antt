@@ -1,0 +1,121 @@
+-- Terms, when the last two become their sum.
+use Rattle.std.proofs.Common.{◌≡◌, ℕ, ℤ, zero, suc, ◌+◌, ◌-◌, ◌*◌, List, [], ◌∷◌, ◌++◌}
+use Rattle.std.proofs.Common.{ap, arith, drop, get_or, length, refl, subst, sym, take, ◌∙◌}
+use Rattle.std.proofs.lemmas.List.{drop-take, get_or-take, get_or_default, length-take}
+use Rattle.std.proofs.lemmas.List.Sorted.{IsNonDecreasingBy-take}
+use Rattle.gf_tree.specs.Game.{Game}
+use Rattle.gf_form.specs.inner.rows.Entries.{AreOrdered, EndsBelow, Entry, HasSum, entries}
+use Rattle.gf_form.specs.inner.rows.Entries.{entries_of}
+use Rattle.gf_form.specs.inner.rows.Entries.{entry_at, lowered, no_entry, no_head}
+use Rattle.gf_form.specs.inner.rows.ListedNodes.{AreTermsOf}
+use Rattle.gf_form.specs.declared.rows.paths.Reached.{Reached}
+use Rattle.gf_form.specs.declared.rows.terms.Head.{Head}
+use Rattle.gf_form.specs.declared.rows.terms.Terms.{Terms}
+use Rattle.gf_form.proofs.lemmas.rows.FlatRows.{entries_count, entry_head, head_at}
+use Rattle.gf_form.proofs.lemmas.rows.ListedEntries.{one_term_less}
+use Rattle.gf_form.proofs.lemmas.rows.Merges.{below_more, lowered_none, ordered_more}
+
+-- ---- the first ones of a list
+
+take_less : (m n : ℕ) (xs : List ℤ) → take m (take (m + n) xs) ≡ take m xs
+take_less zero n xs = refl
+take_less (suc m) n [] =
+    let e : suc m + n ≡ suc (m + n) = omega arith in
+    ap (λ (k : ℕ). take (suc m) (take {A = ℤ} k [])) e
+take_less (suc m) n (x ∷ xs) =
+    let e : suc m + n ≡ suc (m + n) = omega arith in
+    ap (λ (k : ℕ). take (suc m) (take k (x ∷ xs))) e ∙ ap (λ (r : List ℤ). x ∷ r) (take_less m n xs)
+
+entries_cut : (p : ℕ) (hs : List Head) (ns : List ℤ) (n : ℕ)
+    → entries_of p (take n hs) (take (n * p) ns) ≡ take n (entries_of p hs ns)
+entries_cut p hs ns zero = refl
+entries_cut p [] ns (suc n) = refl
+entries_cut p (h ∷ hs) ns (suc n) =
+    let e : suc n * p ≡ p + n * p = omega arith in
+    ap (λ (k : ℕ). entries_of p (h ∷ take n hs) (take k ns)) e
+    ∙ (λ i. record { head = h; row = take_less p (n * p) ns i }
+    ∷ entries_of p (take n hs) (drop-take p (n * p) ns i))
+    ∙ ap (λ (es : List Entry). record { head = h; row = take p ns } ∷ es)
+    (entries_cut p hs (drop p ns) n)
+
+last_two : {X : Type 0} (xs : List X) (n : ℕ) (d : X) → length xs ≡ n + 2
+    → xs ≡ take n xs ++ get_or xs n d ∷ get_or xs (n + 1) d ∷ []
+last_two [] n d two = absurd (omega (arith, two))
+last_two (x ∷ []) n d two = absurd (omega (arith, two))
+last_two (x ∷ y ∷ []) zero d two = refl
+last_two (x ∷ y ∷ z ∷ xs) zero d two = absurd (omega (arith, two))
+last_two (x ∷ y ∷ xs) (suc n) d two =
+    let e : suc n + 1 ≡ suc (n + 1) = omega arith in
+    ap (λ (more : List _). x ∷ more) (last_two (y ∷ xs) n d (omega (arith, two)))
+    ∙ ap (λ (k : ℕ). x ∷ take n (y ∷ xs) ++ get_or (y ∷ xs) n d ∷ get_or (x ∷ y ∷ xs) k d ∷ []) (sym e)
+
+-- ---- the sum of the last two
+
+module _ (old spare sums after : Terms) (n last : ℕ) (two : length old.heads.items ≡ n + 2)
+    (next : last ≡ n + 1)
+    (same : (head_at old n).demands ≡ (head_at old last).demands)
+    (none : spare.heads.items ≡ [])
+    (has : HasSum (entry_at old n) (entry_at old last) (entries spare) (entries sums))
+    (is : entries after ≡ entries_of old.players (take n old.heads.items)
+    (take (n * old.players) old.numbers.items) ++ lowered 0 (entry_at sums 0) ∷ [])
+    (heads : after.heads.items
+    ≡ take n old.heads.items ++ (lowered 0 (entry_at sums 0)).head ∷ []) where
+  sum_is : lowered 0 (entry_at sums 0) ≡ has.sum
+  sum_is =
+      lowered_none (entry_at sums 0)
+      ∙ ap (λ (es : List Entry). get_or es 0 no_entry) (has.is
+      ∙ ap (λ (hs : List Head). entries_of spare.players hs spare.numbers.items
+      ++ has.sum ∷ []) none)
+
+  all_are : entries after ≡ take n (entries old) ++ has.sum ∷ []
+  all_are =
+      is ∙ (λ i. entries_cut old.players old.heads.items old.numbers.items n i ++ sum_is i ∷ [])
+
+  heads_are : after.heads.items ≡ take n old.heads.items ++ has.sum.head ∷ []
+  heads_are = heads ∙ ap (λ (e : Entry). take n old.heads.items ++ e.head ∷ []) sum_is
+
+  first : has.sum.head.demands ≡ (head_at old n).demands
+  first = has.demands ∙ ap (λ (h : Head). h.demands) (entry_head old n (omega (arith, two)))
+
+  pub joined_terms : (g : Game) (players : ℕ) (nodes : List Reached)
+      → AreTermsOf g players nodes (entries old) → AreTermsOf g players nodes (entries after)
+  joined_terms g players nodes before =
+      subst (AreTermsOf g players nodes) (sym all_are)
+      (one_term_less g players nodes (take n (entries old)) (entry_at old n)
+      (entry_at old last) has.sum has.demands
+      (first ∙ same
+      ∙ sym (ap (λ (h : Head). h.demands) (entry_head old last (omega (arith, two, next)))))
+      has.adds
+      (subst (AreTermsOf g players nodes)
+      (last_two (entries old) n no_entry
+      (entries_count old.players old.heads.items old.numbers.items ∙ two)
+      ∙ ap (λ (k : ℕ). take n (entries old) ++ entry_at old n ∷ entry_at old k ∷ []) (sym next))
+      before))
+
+  pub joined_ordered : AreOrdered old → AreOrdered after
+  joined_ordered sorted =
+      ordered_more (take n old.heads.items) after.heads.items has.sum.head heads_are
+      (IsNonDecreasingBy-take (λ (h : Head). h.demands) n old.heads.items sorted) below
+    where
+      below : EndsBelow (take n old.heads.items) has.sum.head.demands
+      below d some =
+          let count : length (take n old.heads.items) ≡ n =
+          length-take n old.heads.items ∙ omega (arith, two) in
+          let there = ap (λ (h : Head). h.demands)
+          (ap (λ (k : ℕ). get_or (take n old.heads.items) (k - 1) d) count
+          ∙ get_or-take n old.heads.items (n - 1) d (omega (arith, some, count))) in
+          let up = sorted (n - 1) n no_head (omega arith) (omega (arith, two)) in
+          let other : get_or old.heads.items (n - 1) d ≡ get_or old.heads.items (n - 1) no_head =
+          get_or_default old.heads.items (n - 1) d no_head (omega (arith, two)) in
+          omega (arith, there, ap (λ (h : Head). h.demands) other, up, first)
+
+  pub joined_last : (demands : ℕ) → EndsBelow old.heads.items demands
+      → EndsBelow after.heads.items demands
+  joined_last demands ends =
+      let least = ends no_head (omega (arith, two)) in
+      let place : length old.heads.items - 1 ≡ last = omega (arith, two, next) in
+      let there : (get_or old.heads.items (length old.heads.items - 1) no_head).demands
+      ≡ (head_at old last).demands =
+      ap (λ (k : ℕ). (get_or old.heads.items k no_head).demands) place in
+      below_more (take n old.heads.items) after.heads.items has.sum.head demands heads_are
+      (omega (arith, first, same, there, least))

@@ -1,0 +1,276 @@
+-- The terms of nodes say what the nodes add.
+use Rattle.std.proofs.Common.{◌≡◌, ℕ, ℤ, pos, suc, ◌+◌, ◌*◌, ◌/◌, ◌<◌, ◌≤◌, ◌*ℤ◌}
+use Rattle.std.proofs.Common.{Bool, true, false, List, [], ◌∷◌, ◌++◌, refl, ap, sym, subst, ◌∙◌}
+use Rattle.std.proofs.Common.{arith}
+use Rattle.std.specs.Prelude.{if◌then◌else◌, unsigned_abs}
+use Rattle.std.specs.Int.{◌∣◌}
+use Rattle.std.proofs.Math.Nat.{dvd-mul_right, mul-le-mul_right, mul-div_cancel}
+use Rattle.std.proofs.Math.Nat.{pos_of_dvd_of_pos}
+use Rattle.std.proofs.lemmas.Int.{ints, unsigned_abs-mul}
+use Rattle.std.proofs.lemmas.Nat.Gcd.{dvd_trans}
+use Rattle.gf_fraction.proofs.AllElements.{all_both, all_parts}
+use Rattle.gf_fraction.proofs.Integers.{*ℤ_assoc}
+use Rattle.gf_fraction.specs.Ratio.{Ratio}
+use Rattle.gf_tree.specs.Game.{Game}
+use Rattle.gf_form.specs.inner.rows.Demands.{meets}
+use Rattle.gf_form.specs.inner.rows.Entries.{Entry, IsExactAt, IsSumOf, number_at}
+use Rattle.gf_form.specs.inner.rows.ListedNodes.{AreTermsOf, HasShare, IsTermMore, IsTermOf}
+use Rattle.gf_form.specs.inner.rows.Entries.{AreOrdered, EndsBelow, IsShaped, entries}
+use Rattle.gf_form.specs.inner.values.Rows.{ArePaid}
+use Rattle.gf_form.specs.declared.rows.terms.Terms.{Terms}
+use Rattle.gf_form.proofs.lemmas.rows.Merges.{below_more, ordered_more}
+use Rattle.std.proofs.Common.{get_or, length, take}
+use Rattle.std.specs.List.Sorted.{IsNonDecreasingBy}
+use Rattle.std.proofs.lemmas.List.{get_or_default, take_more}
+use Rattle.gf_form.specs.inner.rows.Shares.{IsExact, IsExactIfMet, over, pay_at, scale, share}
+use Rattle.gf_form.specs.inner.rows.Shares.{share_bound}
+use Rattle.gf_form.specs.declared.rows.paths.Reached.{Reached}
+use Rattle.gf_form.proofs.lemmas.rows.MergedEntries.{both_size, both_sum, exact_first, exact_second}
+use Rattle.gf_form.proofs.lemmas.rows.MergedEntries.{size_append, sum_append}
+use Rattle.gf_form.proofs.lemmas.rows.OverOneDenominator.{quotient_above, quotient_through}
+use Rattle.std.proofs.lemmas.List.Elements.{All-from_recursion, recursion_from_All}
+use Rattle.std.specs.List.Sorted.{IsPermutation}
+use Rattle.std.proofs.lemmas.List.Sorted.{All-permutation, IsPermutation-sym}
+use Rattle.gf_form.proofs.lemmas.rows.OrderedShares.{bounds_permuted, shares_permuted}
+use Rattle.gf_form.proofs.lemmas.rows.ShareSums.{bounds_append, shares_append}
+
+-- ---- shares over a multiple of a denominator
+
+module _ (d m den : ℕ) (above : 0 < m) (first : d ∣ m) (second : m ∣ den) where
+  some : 0 < d
+  some = pos_of_dvd_of_pos first above
+
+  -- what is left of a multiple
+  left_over : den / d ≡ m / d * (den / m)
+  left_over = quotient_through d m den some first second (dvd_trans d first second)
+
+  module _ (c : ℕ) (third : c ∣ m / d) where
+    rest_above : 0 < m / d
+    rest_above = quotient_above d m above first
+
+    rest_divides : m / d ∣ den / d
+    rest_divides =
+        subst (λ (n : ℕ). m / d ∣ n) (sym left_over) (dvd-mul_right (m / d) (den / m))
+
+    rest_times : den / d / (m / d) ≡ den / m
+    rest_times =
+        ap (λ (n : ℕ). n / (m / d)) (left_over ∙ (let turn : m / d * (den / m) ≡ den / m * (m / d) = omega arith in turn))
+        ∙ mul-div_cancel (den / m) rest_above
+
+    c_divides : c ∣ den / d
+    c_divides = dvd_trans c third rest_divides
+
+    over_more : den / d / c ≡ m / d / c * (den / m)
+    over_more =
+        quotient_through c (m / d) (den / d) (pos_of_dvd_of_pos third rest_above) third
+        rest_divides c_divides
+        ∙ ap (λ (n : ℕ). m / d / c * n) rest_times
+
+module _ (g : Game) (player m den : ℕ) (r : Reached) (above : 0 < m) (second : m ∣ den)
+    (exact : IsExact g player m r) where
+  pub exact_more : IsExact g player den r
+  exact_more = record {
+    path = dvd_trans r.path.den exact.path second;
+    pay = c_divides r.path.den m den above exact.path second (pay_at g player r).den exact.pay;
+  }
+
+  over_is : over (scale den r) (pay_at g player r)
+      ≡ over (scale m r) (pay_at g player r) *ℤ pos (den / m)
+  over_is =
+      let pay = pay_at g player r in
+      ap (λ (n : ℕ). pay.num *ℤ pos n)
+      (over_more r.path.den m den above exact.path second pay.den exact.pay)
+      ∙ sym (*ℤ_assoc pay.num (pos (scale m r / pay.den)) (pos (den / m)))
+
+  pub share_more : share g player den r ≡ share g player m r *ℤ pos (den / m)
+  share_more =
+      ap (λ (z : ℤ). pos r.path.weight *ℤ z) over_is
+      ∙ sym (*ℤ_assoc (pos r.path.weight) (over (scale m r) (pay_at g player r)) (pos (den / m)))
+
+  pub bound_more : share_bound g player den r ≡ share_bound g player m r * (den / m)
+  bound_more =
+      let size = unsigned_abs (over (scale m r) (pay_at g player r)) in
+      let whole : unsigned_abs (over (scale den r) (pay_at g player r)) ≡ size * (den / m) =
+      ap unsigned_abs over_is
+      ∙ unsigned_abs-mul (over (scale m r) (pay_at g player r)) (pos (den / m)) in
+      let grouped : r.path.bound * (size * (den / m)) ≡ r.path.bound * size * (den / m) = omega arith in
+      ap (λ (n : ℕ). r.path.bound * n) whole ∙ grouped
+
+-- ---- a node, and its term
+
+met_number : (met : Bool) (x y : ℤ) → (met ≡ true → x ≡ y)
+    → (if met then x else pos 0) ≡ (if met then y else pos 0)
+met_number true x y h = h refl
+met_number false x y h = refl
+
+met_size : (met : Bool) (x y : ℕ) → (met ≡ true → x ≤ y)
+    → (if met then x else 0) ≤ (if met then y else 0)
+met_size true x y h = h refl
+met_size false x y h = omega arith
+
+module _ (g : Game) (players : ℕ) (r : Reached) (e : Entry) (is : IsTermOf g players r e) (k : ℕ)
+    (less : k < players) (den : ℕ) (steps choices : List ℕ)
+    (exact : IsExactAt den steps choices e) where
+  same_met : meets steps choices r.path.demands ≡ meets steps choices e.head.demands
+  same_met = ap (meets steps choices) (sym is.demands)
+
+  has : meets steps choices r.path.demands ≡ true
+      → HasShare g r e k × (0 < e.head.den) × (e.head.den ∣ den)
+  has met =
+      let known = exact (sym same_met ∙ met) in (is.shares known.0 k less, known.0, known.1)
+
+  node_exact : IsExactIfMet g (suc k) den steps choices r
+  node_exact met pays =
+      let h = has met in exact_more g (suc k) e.head.den den r h.1 h.2 h.0.exact
+
+  node_sum : (if meets steps choices r.path.demands then share g (suc k) den r else pos 0)
+      ≡ (if meets steps choices e.head.demands
+      then number_at k e *ℤ pos (den / e.head.den) else pos 0)
+  node_sum =
+      met_number (meets steps choices r.path.demands) (share g (suc k) den r)
+      (number_at k e *ℤ pos (den / e.head.den))
+      (λ met. let h = has met in
+      share_more g (suc k) e.head.den den r h.1 h.2 h.0.exact
+      ∙ ap (λ (z : ℤ). z *ℤ pos (den / e.head.den)) (sym h.0.number))
+      ∙ ap (λ (b : Bool). if b then number_at k e *ℤ pos (den / e.head.den) else pos 0) same_met
+
+  node_bound : (if meets steps choices r.path.demands then share_bound g (suc k) den r else 0)
+      ≤ (if meets steps choices e.head.demands then e.head.size * (den / e.head.den) else 0)
+  node_bound =
+      let whole = e.head.size * (den / e.head.den) in
+      let le = met_size (meets steps choices r.path.demands) (share_bound g (suc k) den r) whole
+      (λ met. let h = has met in
+      let more = bound_more g (suc k) e.head.den den r h.1 h.2 h.0.exact in
+      let most = mul-le-mul_right (den / e.head.den) h.0.bound in
+      omega (arith, more, most)) in
+      let same : (if meets steps choices r.path.demands then whole else 0)
+      ≡ (if meets steps choices e.head.demands then whole else 0) =
+      ap (λ (b : Bool). if b then whole else 0) same_met in
+      omega (arith, le, same)
+
+-- ---- lists of them
+
+pub one_node_more : (g : Game) (players : ℕ) (rs : List Reached) (es : List Entry) (r : Reached)
+    (e : Entry) → IsTermOf g players r e → AreTermsOf g players rs es
+    → AreTermsOf g players (rs ++ r ∷ []) (es ++ e ∷ [])
+one_node_more g players rs es r e is before k less den steps choices exact =
+    let both = all_parts (IsExactAt den steps choices) es (e ∷ []) exact in
+    let told = before k less den steps choices both.0 in record {
+      exact = all_both (IsExactIfMet g (suc k) den steps choices) rs (r ∷ []) told.exact
+          (node_exact g players r e is k less den steps choices both.1.0, tt);
+      sums = omega (
+        arith,
+        ints,
+        told.sums,
+        shares_append g (suc k) den steps choices rs (r ∷ []),
+        sum_append den steps choices k es (e ∷ []),
+        node_sum g players r e is k less den steps choices both.1.0,
+      );
+      bounds = omega (
+        arith,
+        told.bounds,
+        bounds_append g (suc k) den steps choices rs (r ∷ []),
+        size_append den steps choices es (e ∷ []),
+        node_bound g players r e is k less den steps choices both.1.0,
+      );
+    }
+
+-- what the code reads at a place
+abbrev pub no_node : Reached
+no_node = record { path = record { weight = 0; bound = 0; den = 0; demands = 0 }; outcome = 0 }
+
+abbrev pub node_at : List Reached → ℕ → Reached
+node_at nodes place = get_or nodes place no_node
+
+-- the terms of this many of the first nodes, and the next node demands no less
+pub record Listing (rows : List (List Ratio)) (players : ℕ) (rs : List Reached) (at : ℕ)
+    (terms : Terms) : Type 0 where
+  pub told : (g : Game) → ArePaid g rows → AreTermsOf g players (take at rs) (entries terms)
+  pub ordered : AreOrdered terms
+  pub next : (d : Reached) → at < length rs
+      → EndsBelow terms.heads.items (get_or rs at d).path.demands
+  pub shaped : IsShaped terms
+  pub players_are : terms.players ≡ players
+
+module _ (rows : List (List Ratio)) (players : ℕ) (rs : List Reached)
+    (sorted : IsNonDecreasingBy (λ (r : Reached). r.path.demands) rs) (at : ℕ)
+    (less : at < length rs) (r : Reached) (is : r ≡ get_or rs at r) (old new after : Terms)
+    (before : Listing rows players rs at old) (more : IsTermMore rows r old new) where
+  pub node_listed : IsShaped after → after.players ≡ new.players → new.players ≡ old.players
+      → ((g : Game) (players : ℕ) (nodes : List Reached) → AreTermsOf g players nodes (entries new)
+      → AreTermsOf g players nodes (entries after))
+      → (AreOrdered new → AreOrdered after)
+      → ((demands : ℕ) → EndsBelow new.heads.items demands → EndsBelow after.heads.items demands)
+      → Listing rows players rs (at + 1) after
+  node_listed shaped same_after same_new told ordered last = record {
+    told = λ g are. told g players (take (at + 1) rs)
+        (subst (AreTermsOf g players (take (at + 1) rs)) (sym more.is)
+        (subst (λ (ns : List Reached). AreTermsOf g players ns (entries old ++ more.term ∷ []))
+        (sym (take_more rs at r less ∙ ap (λ (n : Reached). take at rs ++ n ∷ []) (sym is)))
+        (one_node_more g players (take at rs) (entries old) r more.term
+        (subst (λ (n : ℕ). IsTermOf g n r more.term) before.players_are (more.says g are))
+        (before.told g are))));
+    ordered = ordered (ordered_more old.heads.items new.heads.items more.term.head more.heads
+        before.ordered ends);
+    next = λ d there. last (get_or rs (at + 1) d).path.demands
+        (below_more old.heads.items new.heads.items more.term.head
+        (get_or rs (at + 1) d).path.demands more.heads (up d there));
+    shaped = shaped;
+    players_are = same_after ∙ same_new ∙ before.players_are;
+  }
+    where
+      ends : EndsBelow old.heads.items more.term.head.demands
+      ends = subst (EndsBelow old.heads.items)
+          (ap (λ (n : Reached). n.path.demands) (sym is) ∙ sym more.demands)
+          (before.next r less)
+
+      up : (d : Reached) → at + 1 < length rs
+          → more.term.head.demands ≤ (get_or rs (at + 1) d).path.demands
+      up d there =
+          let le = sorted at (at + 1) d (omega arith) there in
+          let same : get_or rs at d ≡ r = get_or_default rs at d r less ∙ sym is in
+          omega (arith, le, ap (λ (n : Reached). n.path.demands) same, more.demands)
+
+-- the sum of two terms in place of both
+pub one_term_less : (g : Game) (players : ℕ) (rs : List Reached) (es : List Entry)
+    (a b sum : Entry) → sum.head.demands ≡ a.head.demands → sum.head.demands ≡ b.head.demands
+    → (0 < sum.head.den → IsSumOf a b sum) → AreTermsOf g players rs (es ++ a ∷ b ∷ [])
+    → AreTermsOf g players rs (es ++ sum ∷ [])
+one_term_less g players rs es a b sum first second adds before k less den steps choices exact =
+    let both = all_parts (IsExactAt den steps choices) es (sum ∷ []) exact in
+    let known : IsExactAt den steps choices sum = both.1.0 in
+    let told = before k less den steps choices
+    (all_both (IsExactAt den steps choices) es (a ∷ b ∷ []) both.0 (
+      exact_first den steps choices a b sum first second adds known,
+      (exact_second den steps choices a b sum first second adds known, tt),
+    )) in record {
+      exact = told.exact;
+      sums = omega (
+        arith,
+        ints,
+        told.sums,
+        sum_append den steps choices k es (a ∷ b ∷ []),
+        sum_append den steps choices k es (sum ∷ []),
+        both_sum den steps choices a b sum first second adds known k,
+      );
+      bounds = omega (
+        arith,
+        told.bounds,
+        size_append den steps choices es (a ∷ b ∷ []),
+        size_append den steps choices es (sum ∷ []),
+        both_size den steps choices a b sum first second adds known,
+      );
+    }
+
+-- the order of the nodes does not matter
+pub terms_permuted : (g : Game) (players : ℕ) (rs ss : List Reached) (es : List Entry)
+    → IsPermutation rs ss → AreTermsOf g players ss es → AreTermsOf g players rs es
+terms_permuted g players rs ss es order told k less den steps choices exact =
+    let h = told k less den steps choices exact in
+    let P = IsExactIfMet g (suc k) den steps choices in record {
+      exact = recursion_from_All P rs (All-permutation P ss rs (IsPermutation-sym rs ss order)
+          (All-from_recursion P ss h.exact));
+      sums = sym (shares_permuted g (suc k) den steps choices rs ss order) ∙ h.sums;
+      bounds = let same = bounds_permuted g (suc k) den steps choices rs ss order in
+          let most = h.bounds in omega (arith, same, most);
+    }

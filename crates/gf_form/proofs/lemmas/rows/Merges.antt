@@ -1,0 +1,383 @@
+-- Two ranges of terms while they are merged by the code.
+use Rattle.std.proofs.Common.{◌≡◌, ℕ, zero, suc, ◌+◌, ◌-◌, ◌*◌, ◌<◌, ◌≤◌, List, [], ◌∷◌, ◌++◌}
+use Rattle.std.proofs.Common.{length, get_or, take, drop, map, refl, ap, sym, subst, ◌∙◌, arith}
+use Rattle.std.proofs.Common.{add-one}
+use Rattle.std.proofs.Common.{inl, inr}
+use Rattle.std.specs.List.{AllByRecursion}
+use Rattle.std.specs.List.Sorted.{IsNonDecreasingBy}
+use Rattle.std.proofs.Math.Nat.{mul-le-mul_right}
+use Rattle.std.proofs.Math.Seq.{drop-cons, get_or-append_seam}
+use Rattle.std.proofs.lemmas.List.{drop-drop, length-append, take-append-drop}
+use Rattle.std.proofs.lemmas.List.{take_rest}
+use Rattle.std.proofs.lemmas.List.Sorted.{IsNonDecreasingBy-push, IsNonDecreasingBy-short}
+use Rattle.gf_fraction.specs.Ratio.{IsWithin}
+use Rattle.gf_form.specs.inner.rows.Entries.{AreMerged, AreOrdered, Entry, HasSum, IsShaped}
+use Rattle.gf_form.specs.inner.rows.Entries.{entries, entry_at}
+use Rattle.gf_form.specs.inner.rows.Entries.{CountsBelow, EndsBelow, entries_of, lowered, no_entry}
+use Rattle.gf_form.specs.inner.rows.Entries.{no_head}
+use Rattle.gf_form.specs.declared.rows.terms.Head.{Head}
+use Rattle.gf_form.specs.declared.rows.terms.Terms.{Terms}
+use Rattle.gf_form.proofs.lemmas.rows.FlatRows.{entries_count, entry_head, head_at}
+use Rattle.gf_form.proofs.lemmas.rows.MergedEntries.{IsFree, IsOther, IsOwn, Merging, Ranges}
+use Rattle.gf_form.proofs.lemmas.rows.MergedEntries.{all_merged}
+use Rattle.gf_form.proofs.lemmas.rows.MergedEntries.{first_parts, take_both, take_free, take_own}
+
+-- ---- ranges of a list
+
+-- those from one place up to another
+abbrev pub part : ℕ → ℕ → List Entry → List Entry
+part i end es = take (end - i) (drop i es)
+
+part_next : (es : List Entry) (i end : ℕ) → i < end → end ≤ length es
+    → part i end es ≡ get_or es i no_entry ∷ part (i + 1) end es
+part_next es i end less within =
+    let n : end - i ≡ suc (end - (i + 1)) = omega arith in
+    let d : drop i es ≡ get_or es i no_entry ∷ drop (i + 1) es =
+    rw (add-one) (drop-cons es i no_entry (omega (arith, less, within))) in
+    λ k. take (n k) (d k)
+
+take_none : (es : List Entry) → take 0 es ≡ []
+take_none [] = refl
+take_none (e ∷ es) = refl
+
+part_past : (es : List Entry) (i end : ℕ) → end ≤ i → part i end es ≡ []
+part_past es i end past =
+    let none : end - i ≡ 0 = omega arith in
+    ap (λ (n : ℕ). take n (drop i es)) none ∙ take_none (drop i es)
+
+-- all of a range, by the places of all
+all_in : (P : Entry → Type 0) (es : List Entry) (n i : ℕ) → i + n ≤ length es
+    → ((k : ℕ) → i ≤ k → k < i + n → P (get_or es k no_entry))
+    → AllByRecursion P (take n (drop i es))
+all_in P es zero i within each = subst (AllByRecursion P) (sym (take_none (drop i es))) tt
+all_in P es (suc n) i within each =
+    let d : drop i es ≡ get_or es i no_entry ∷ drop (suc i) es =
+    drop-cons es i no_entry (omega (arith, within)) in
+    subst (λ (xs : List Entry). AllByRecursion P (take (suc n) xs)) (sym d) (
+      each i (omega arith) (omega arith),
+      all_in P es n (suc i) (omega (arith, within))
+          (λ k from to. each k (omega (arith, from)) (omega (arith, to))),
+    )
+
+cut : (es : List Entry) (i j : ℕ) → i ≤ j → drop i es ≡ part i j es ++ drop j es
+cut es i j le =
+    let on : i + (j - i) ≡ j = omega arith in
+    sym (take-append-drop (j - i) (drop i es))
+    ∙ ap (λ (xs : List Entry). part i j es ++ xs)
+    (drop-drop (j - i) i es ∙ ap (λ (n : ℕ). drop n es) on)
+
+-- ---- the ranges by demands
+
+before_it : (heads : List Head) (low high m n : ℕ) → low ≤ high → CountsBelow heads low m
+    → CountsBelow heads high n → ¬ (n < m)
+before_it heads low high m n le first second less =
+    let up = second.above n (omega arith) (omega (arith, less, first.bound)) in
+    let down = first.below n less in omega (arith, le, up, down)
+
+module _ (from : Terms) (step action : ℕ) (some : 1 ≤ action) (free start end : ℕ)
+    (frees : CountsBelow from.heads.items step free)
+    (starts : CountsBelow from.heads.items (action * step) start)
+    (ends : CountsBelow from.heads.items (action * step + step) end) where
+  abbrev es : List Entry
+  es = entries from
+
+  count : length (entries from) ≡ length from.heads.items
+  count = entries_count from.players from.heads.items from.numbers.items
+
+  least : 1 * step ≤ action * step
+  least = mul-le-mul_right step some
+
+  free_le : free ≤ start
+  free_le =
+      let no = before_it from.heads.items step (action * step) free start
+      (omega (arith, least)) frees starts in omega (arith, no)
+
+  start_le : start ≤ end
+  start_le =
+      let no = before_it from.heads.items (action * step) (action * step + step) start end
+      (omega arith) starts ends in omega (arith, no)
+
+  by_head : (P : Entry → Type 0) (Q : ℕ → Type 0) → ((e : Entry) → Q e.head.demands → P e)
+      → (k : ℕ) → k < length from.heads.items → Q (head_at from k).demands → P (entry_at from k)
+  by_head P Q f k less q =
+      f (entry_at from k) (subst (λ (h : Head). Q h.demands) (sym (entry_head from k less)) q)
+
+  ranges : Ranges step action (entries from) (take free (entries from))
+      (part free start (entries from)) (part start end (entries from)) (drop end (entries from))
+  ranges = record {
+    joined = sym (take-append-drop free (entries from))
+        ∙ ap (λ (xs : List Entry). take free (entries from) ++ xs)
+        (cut (entries from) free start free_le
+        ∙ ap (λ (xs : List Entry). part free start (entries from) ++ xs)
+        (cut (entries from) start end start_le));
+    are_free = all_in (IsFree step) (entries from) free 0 (omega (arith, count, frees.bound))
+        (λ k at less. by_head (IsFree step) (λ n. n < step) (λ e q. q) k
+        (omega (arith, less, frees.bound)) (frees.below k (omega (arith, less))));
+    are_between = all_in (IsOther step action) (entries from) (start - free) free
+        (omega (arith, count, starts.bound, free_le))
+        (λ k at less. by_head (IsOther step action)
+        (λ n. (step ≤ n) × (n < action * step)) (λ e q. (q.0, inl q.1)) k
+        (omega (arith, less, starts.bound, free_le)) (
+          frees.above k at (omega (arith, less, starts.bound, free_le)),
+          starts.below k (omega (arith, less, free_le)),
+        ));
+    are_own = all_in (IsOwn step action) (entries from) (end - start) start
+        (omega (arith, count, ends.bound, start_le))
+        (λ k at less. by_head (IsOwn step action)
+        (λ n. (action * step ≤ n) × (n < action * step + step)) (λ e q. q) k
+        (omega (arith, less, ends.bound, start_le)) (
+          starts.above k at (omega (arith, less, ends.bound, start_le)),
+          ends.below k (omega (arith, less, start_le)),
+        ));
+    are_rest = subst (AllByRecursion (IsOther step action)) rest_is
+        (all_in (IsOther step action) (entries from) (length (entries from) - end) end
+        (omega (arith, count, ends.bound))
+        (λ k at less. by_head (IsOther step action)
+        (λ n. (step ≤ n) × (action * step + step ≤ n)) (λ e q. (q.0, inr q.1)) k
+        (omega (arith, less, count, ends.bound)) (
+          frees.above k (omega (arith, at, free_le, start_le)) (omega (arith, less, count, ends.bound)),
+          ends.above k at (omega (arith, less, count, ends.bound)),
+        )));
+  }
+    where
+      rest_is : take (length (entries from) - end) (drop end (entries from))
+          ≡ drop end (entries from)
+      rest_is = take_rest (entries from) end
+
+-- ---- while they are merged
+
+pub record Merges (from : Terms) (step action lowest free_end own_end : ℕ) (free own : ℕ)
+    (to : Terms) : Type 0 where
+  pub merging : Merging step action (entries from) (entries to)
+      (part free free_end (entries from))
+      (map (lowered lowest) (part own own_end (entries from)))
+  pub shaped : IsShaped to
+  pub players : to.players ≡ from.players
+  pub ordered : AreOrdered to
+  pub free_next : free < free_end → EndsBelow to.heads.items (head_at from free).demands
+  pub own_next : own < own_end → EndsBelow to.heads.items ((head_at from own).demands - lowest)
+  pub own_least : (k : ℕ) → own ≤ k → k < own_end → lowest ≤ (head_at from k).demands
+  pub free_within : free_end ≤ length from.heads.items
+  pub own_within : own_end ≤ length from.heads.items
+
+pub first_merge : (from : Terms) (step action lowest : ℕ) → 1 ≤ action → lowest ≡ action * step
+    → (free start end : ℕ) → CountsBelow from.heads.items step free
+    → CountsBelow from.heads.items lowest start
+    → CountsBelow from.heads.items (lowest + step) end
+    → (to : Terms) → to.heads.items ≡ [] → to.numbers.items ≡ [] → to.players ≡ from.players
+    → Merges from step action lowest free end 0 start to
+first_merge from step action lowest some is free start end frees starts ends to none no_numbers players =
+    let all : free - 0 ≡ free = omega arith in
+    let starts_at = subst (λ (n : ℕ). CountsBelow from.heads.items n start) is starts in
+    let ends_at = subst (λ (n : ℕ). CountsBelow from.heads.items (n + step) end) is ends in
+    let nothing : entries to ≡ [] = ap (λ (hs : List Head). entries_of to.players hs to.numbers.items) none in
+    let parts = first_parts step action (entries from) (take free (entries from))
+    (part free start (entries from)) (part start end (entries from)) (drop end (entries from)) some
+    (ranges from step action some free start end frees starts_at ends_at) in
+    record {
+      merging = subst (λ (left : List Entry). Merging step action (entries from) left
+          (part 0 free (entries from)) (map (lowered lowest) (part start end (entries from))))
+          (sym nothing)
+          (subst (λ (n : ℕ). Merging step action (entries from) []
+          (part 0 free (entries from)) (map (lowered n) (part start end (entries from)))) (sym is)
+          (subst (λ (n : ℕ). Merging step action (entries from) [] (take n (entries from))
+          (map (lowered (action * step)) (part start end (entries from)))) (sym all) parts));
+      shaped = record {
+        count = ap length no_numbers ∙ sym (ap (λ (hs : List Head). length hs * to.players) none
+            ∙ (let zero_rows : 0 * to.players ≡ 0 = omega arith in zero_rows));
+        within = subst (AllByRecursion IsWithin) (sym no_numbers) tt;
+      };
+      players = players;
+      ordered = IsNonDecreasingBy-short (λ (h : Head). h.demands) to.heads.items
+          (let l : length to.heads.items ≡ 0 = ap length none in omega (arith, l));
+      free_next = λ less d some. absurd (let l : length to.heads.items ≡ 0 = ap length none in omega (arith, l, some));
+      own_next = λ less d some. absurd (let l : length to.heads.items ≡ 0 = ap length none in omega (arith, l, some));
+      own_least = λ k at less. starts.above k at (omega (arith, less, ends.bound));
+      free_within = frees.bound;
+      own_within = ends.bound;
+    }
+
+pub below_more : (heads new : List Head) (h : Head) (n : ℕ) → new ≡ heads ++ h ∷ []
+    → h.demands ≤ n → EndsBelow new n
+below_more heads new h n is le d some =
+    let size : length new ≡ length heads + 1 = ap length is ∙ length-append heads (h ∷ []) in
+    let last : length new - 1 ≡ length heads = omega (arith, size) in
+    let at : get_or new (length new - 1) d ≡ h =
+    (λ i. get_or (is i) (last i) d) ∙ get_or-append_seam heads h [] d in
+    subst (λ (g : Head). g.demands ≤ n) (sym at) le
+
+pub ordered_more : (heads new : List Head) (h : Head) → new ≡ heads ++ h ∷ []
+    → IsNonDecreasingBy (λ (g : Head). g.demands) heads → EndsBelow heads h.demands
+    → IsNonDecreasingBy (λ (g : Head). g.demands) new
+ordered_more heads new h is ordered below =
+    subst (IsNonDecreasingBy (λ (g : Head). g.demands)) (sym is)
+    (IsNonDecreasingBy-push (λ (g : Head). g.demands) heads h ordered below)
+
+pub lowered_none : (e : Entry) → lowered 0 e ≡ e
+lowered_none e =
+    let same : e.head.demands - 0 ≡ e.head.demands = omega arith in
+    λ i. record {
+      head = record { demands = same i; den = e.head.den; size = e.head.size };
+      row = e.row;
+    }
+
+module _ (from : Terms) (step action lowest free_end own_end free own : ℕ) (to after : Terms)
+    (sorted : AreOrdered from)
+    (before : Merges from step action lowest free_end own_end free own to)
+    (players : after.players ≡ to.players) (shaped : IsShaped after) where
+  count_from : length (entries from) ≡ length from.heads.items
+  count_from = entries_count from.players from.heads.items from.numbers.items
+
+  rises : (k n : ℕ) → k ≤ n → n < length from.heads.items
+      → (head_at from k).demands ≤ (head_at from n).demands
+  rises k n le less = sorted k n no_head le less
+
+  pub free_goes : free < free_end
+      → (own < own_end → (head_at from free).demands ≤ (head_at from own).demands - lowest)
+      → entries after ≡ entries to ++ lowered 0 (entry_at from free) ∷ []
+      → after.heads.items ≡ to.heads.items ++ (lowered 0 (entry_at from free)).head ∷ []
+      → Merges from step action lowest free_end own_end (free + 1) own after
+  free_goes less first is heads =
+      let t = entry_at from free in
+      let there : free < length from.heads.items = omega (arith, less, before.free_within) in
+      let h : t.head ≡ head_at from free = entry_head from free there in
+      let low : (lowered 0 t).head ≡ head_at from free =
+      ap (λ (e : Entry). e.head) (lowered_none t) ∙ h in
+      let demands : (lowered 0 t).head.demands ≡ (head_at from free).demands =
+      ap (λ (g : Head). g.demands) low in
+      record {
+        merging = subst (λ (left : List Entry). Merging step action (entries from) left
+            (part (free + 1) free_end (entries from))
+            (map (lowered lowest) (part own own_end (entries from))))
+            (sym (is ∙ ap (λ (e : Entry). entries to ++ e ∷ []) (lowered_none t)))
+            (take_free step action (entries from) (entries to)
+            (part (free + 1) free_end (entries from))
+            (map (lowered lowest) (part own own_end (entries from))) t
+            (subst (λ (more : List Entry). Merging step action (entries from) (entries to) more
+            (map (lowered lowest) (part own own_end (entries from))))
+            (part_next (entries from) free free_end less
+            (omega (arith, count_from, before.free_within))) before.merging));
+        shaped = shaped;
+        players = players ∙ before.players;
+        ordered = ordered_more to.heads.items after.heads.items (lowered 0 t).head heads
+            before.ordered
+            (λ d some. let le = before.free_next less d some in omega (arith, le, demands));
+        free_next = λ next. below_more to.heads.items after.heads.items (lowered 0 t).head
+            (head_at from (free + 1)).demands heads
+            (let le = rises free (free + 1) (omega arith)
+            (omega (arith, next, before.free_within)) in omega (arith, le, demands));
+        own_next = λ next. below_more to.heads.items after.heads.items (lowered 0 t).head
+            ((head_at from own).demands - lowest) heads
+            (let le = first next in omega (arith, le, demands));
+        own_least = before.own_least;
+        free_within = before.free_within;
+        own_within = before.own_within;
+      }
+
+  pub own_goes : own < own_end
+      → (free < free_end → (head_at from own).demands - lowest ≤ (head_at from free).demands)
+      → entries after ≡ entries to ++ lowered lowest (entry_at from own) ∷ []
+      → after.heads.items ≡ to.heads.items ++ (lowered lowest (entry_at from own)).head ∷ []
+      → Merges from step action lowest free_end own_end free (own + 1) after
+  own_goes less first is heads =
+      let t = entry_at from own in
+      let there : own < length from.heads.items = omega (arith, less, before.own_within) in
+      let h : t.head ≡ head_at from own = entry_head from own there in
+      let demands : (lowered lowest t).head.demands ≡ (head_at from own).demands - lowest =
+      ap (λ (g : Head). g.demands - lowest) h in
+      record {
+        merging = subst (λ (left : List Entry). Merging step action (entries from) left
+            (part free free_end (entries from))
+            (map (lowered lowest) (part (own + 1) own_end (entries from)))) (sym is)
+            (take_own step action (entries from) (entries to)
+            (part free free_end (entries from))
+            (map (lowered lowest) (part (own + 1) own_end (entries from))) (lowered lowest t)
+            (subst (λ (others : List Entry). Merging step action (entries from) (entries to)
+            (part free free_end (entries from)) (map (lowered lowest) others))
+            (part_next (entries from) own own_end less
+            (omega (arith, count_from, before.own_within))) before.merging));
+        shaped = shaped;
+        players = players ∙ before.players;
+        ordered = ordered_more to.heads.items after.heads.items (lowered lowest t).head heads
+            before.ordered
+            (λ d some. let le = before.own_next less d some in omega (arith, le, demands));
+        free_next = λ next. below_more to.heads.items after.heads.items (lowered lowest t).head
+            (head_at from free).demands heads
+            (let le = first next in omega (arith, le, demands));
+        own_next = λ next. below_more to.heads.items after.heads.items (lowered lowest t).head
+            ((head_at from (own + 1)).demands - lowest) heads
+            (let le = rises own (own + 1) (omega arith)
+            (omega (arith, next, before.own_within)) in omega (arith, le, demands));
+        own_least = λ k at. before.own_least k (omega (arith, at));
+        free_within = before.free_within;
+        own_within = before.own_within;
+      }
+
+  pub both_go : free < free_end → own < own_end
+      → (head_at from free).demands ≡ (head_at from own).demands - lowest
+      → HasSum (entry_at from free) (entry_at from own) (entries to) (entries after)
+      → (h : Head) → after.heads.items ≡ to.heads.items ++ h ∷ []
+      → h.demands ≡ (entry_at from free).head.demands
+      → Merges from step action lowest free_end own_end (free + 1) (own + 1) after
+  both_go free_less own_less same has h heads demands_are =
+      let t = entry_at from free in
+      let u = entry_at from own in
+      let there : free < length from.heads.items = omega (arith, free_less, before.free_within) in
+      let other : own < length from.heads.items = omega (arith, own_less, before.own_within) in
+      let first : t.head ≡ head_at from free = entry_head from free there in
+      let second : u.head ≡ head_at from own = entry_head from own other in
+      let demands : h.demands ≡ (head_at from free).demands =
+      demands_are ∙ ap (λ (g : Head). g.demands) first in
+      record {
+        merging = subst (λ (left : List Entry). Merging step action (entries from) left
+            (part (free + 1) free_end (entries from))
+            (map (lowered lowest) (part (own + 1) own_end (entries from)))) (sym has.is)
+            (take_both step action (entries from) (entries to)
+            (part (free + 1) free_end (entries from))
+            (map (lowered lowest) (part (own + 1) own_end (entries from))) t (lowered lowest u)
+            has.sum has.demands
+            (has.demands ∙ ap (λ (g : Head). g.demands) first ∙ same
+            ∙ sym (ap (λ (g : Head). g.demands - lowest) second))
+            (λ above. let s = has.adds above in record {
+              first = s.first;
+              first_divides = s.first_divides;
+              second = s.second;
+              second_divides = s.second_divides;
+              size = s.size;
+              numbers = s.numbers;
+            })
+            (subst (λ (more : List Entry). Merging step action (entries from) (entries to) more
+            (map (lowered lowest) (get_or (entries from) own no_entry ∷ part (own + 1) own_end (entries from))))
+            (part_next (entries from) free free_end free_less
+            (omega (arith, count_from, before.free_within)))
+            (subst (λ (others : List Entry). Merging step action (entries from) (entries to)
+            (part free free_end (entries from)) (map (lowered lowest) others))
+            (part_next (entries from) own own_end own_less
+            (omega (arith, count_from, before.own_within))) before.merging)));
+        shaped = shaped;
+        players = players ∙ before.players;
+        ordered = ordered_more to.heads.items after.heads.items h heads before.ordered
+            (λ d some. let le = before.free_next free_less d some in omega (arith, le, demands));
+        free_next = λ next. below_more to.heads.items after.heads.items h
+            (head_at from (free + 1)).demands heads
+            (let le = rises free (free + 1) (omega arith)
+            (omega (arith, next, before.free_within)) in omega (arith, le, demands));
+        own_next = λ next. below_more to.heads.items after.heads.items h
+            ((head_at from (own + 1)).demands - lowest) heads
+            (let le = rises own (own + 1) (omega arith)
+            (omega (arith, next, before.own_within)) in omega (arith, le, demands, same));
+        own_least = λ k at. before.own_least k (omega (arith, at));
+        free_within = before.free_within;
+        own_within = before.own_within;
+      }
+
+pub last_merge : (from : Terms) (step action lowest free_end own_end free own : ℕ) (to : Terms)
+    → Merges from step action lowest free_end own_end free own to → free_end ≤ free
+    → own_end ≤ own → AreMerged step action (entries from) (entries to)
+last_merge from step action lowest free_end own_end free own to done free_past own_past =
+    all_merged step action (entries from) (entries to)
+    (subst (λ (more : List Entry). Merging step action (entries from) (entries to) more [])
+    (part_past (entries from) free free_end free_past)
+    (subst (λ (others : List Entry). Merging step action (entries from) (entries to)
+    (part free free_end (entries from)) (map (lowered lowest) others))
+    (part_past (entries from) own own_end own_past) done.merging))

@@ -1,0 +1,155 @@
+-- The term of a node, number by number.
+use Rattle.std.proofs.Common.{◌≡◌, ℕ, ℤ, pos, ◌+◌, ◌<◌, ◌≤◌, ◌⊎◌, inl, inr, List, [], ◌∷◌, ◌++◌}
+use Rattle.std.proofs.Common.{Bool, true, false, get_or, length, refl, ap, sym, subst, ◌∙◌, arith}
+use Rattle.std.proofs.Common.{◌*◌, ◌/◌, ◌*ℤ◌, suc}
+use Rattle.std.specs.Int.{◌∣◌}
+use Rattle.std.specs.List.{AllByRecursion}
+use Rattle.std.specs.Prelude.{unsigned_abs}
+use Rattle.std.proofs.Math.Seq.{get_or-append_seam}
+use Rattle.std.proofs.lemmas.Bool.{cases_lt}
+use Rattle.std.proofs.lemmas.List.{append_assoc, get_or_append_left, length-append}
+use Rattle.gf_fraction.proofs.AllElements.{all_both}
+use Rattle.std.proofs.Math.Nat.{one-dvd}
+use Rattle.gf_fraction.specs.Ratio.{IsWithin, Ratio, whole}
+use Rattle.gf_tree.specs.Game.{Game}
+use Rattle.gf_form.specs.inner.rows.Entries.{Entry}
+use Rattle.gf_form.specs.inner.rows.ListedNodes.{HasShare, IsShareIn, IsTermOf}
+use Rattle.gf_form.specs.inner.values.Rows.{ArePaid, at_place, row_at}
+use Rattle.gf_form.specs.inner.rows.Shares.{IsShare, over, share_bound}
+use Rattle.gf_form.specs.declared.rows.share.Share.{Share}
+use Rattle.gf_form.specs.declared.rows.paths.Path.{Path}
+use Rattle.gf_form.specs.declared.rows.paths.Reached.{Reached}
+
+-- nothing is added to a payoff of zero
+pub zero_share : (path : Path) (pay : Ratio) (den : ℕ) (s : Share) → pay ≡ whole (pos 0)
+    → s.amount ≡ pos 0 → s.bound ≡ 0 → IsShare path pay den s
+zero_share path pay den s nothing amount_is bound_is =
+    let scale = den / path.den in
+    let none : 0 * (scale / 1) ≡ 0 = omega arith in
+    let weighed : 0 ≡ path.weight * (0 * (scale / 1)) = omega (arith, none) in
+    let bounded : 0 ≡ path.bound * (0 * (scale / 1)) = omega (arith, none) in
+    subst (λ (pay : Ratio). IsShare path pay den s) (sym nothing) (record {
+      exact = one-dvd scale;
+      amount_is = amount_is ∙ ap pos weighed;
+      bound_is = bound_is ∙ bounded;
+    })
+
+-- what a path adds to a payoff is this number, and its bound is at most so much
+pub record IsNumber (path : Path) (pay : Ratio) (den size : ℕ) (number : ℤ) : Type 0 where
+  pub share : Share
+  pub is : IsShareIn path pay den share
+  pub amount : share.amount ≡ number
+  pub bound : share.bound ≤ size
+
+pub is_number : (path : Path) (pay other : Ratio) (den size : ℕ) (s : Share) → pay ≡ other
+    → IsShareIn path pay den s → s.bound ≤ size → IsNumber path other den size s.amount
+is_number path pay other den size s same is most = record {
+  share = s;
+  is = subst (λ (p : Ratio). IsShareIn path p den s) same is;
+  amount = refl;
+  bound = most;
+}
+
+-- this many more numbers of a row
+pub record Filling (path : Path) (pays : ℕ → Ratio) (den size place : ℕ) (fits : Bool)
+    (old new : List ℤ) : Type 0 where
+  pub row : List ℤ
+  pub is : new ≡ old ++ row
+  pub one_each : length row ≡ place
+  pub within : AllByRecursion IsWithin row
+  pub numbers : fits ≡ true → (k : ℕ) → k < place
+      → IsNumber path (pays k) den size (get_or row k (pos 0))
+
+module _ (path : Path) (pays : ℕ → Ratio) (den size place : ℕ) (fits : Bool)
+    (old new after : List ℤ) (number : ℤ) (small : IsWithin number)
+    (is : after ≡ new ++ number ∷ [])
+    (before : Filling path pays den size place fits old new) where
+  abbrev more : List ℤ
+  more = before.row ++ number ∷ []
+
+  more_is : after ≡ old ++ more
+  more_is =
+      is ∙ ap (λ (r : List ℤ). r ++ number ∷ []) before.is
+      ∙ append_assoc old before.row (number ∷ [])
+
+  more_each : length more ≡ place + 1
+  more_each = length-append before.row (number ∷ []) ∙ omega (arith, before.one_each)
+
+  more_within : AllByRecursion IsWithin more
+  more_within = all_both IsWithin before.row (number ∷ []) before.within (small, tt)
+
+  pub one_filled : (next : ℕ) → size ≤ next → IsNumber path (pays place) den next number
+      → Filling path pays den next (place + 1) fits old after
+  one_filled next up here = record {
+    row = more;
+    is = more_is;
+    one_each = more_each;
+    within = more_within;
+    numbers = λ known k less. at known k less (cases_lt k place);
+  }
+    where
+      at : fits ≡ true → (k : ℕ) → k < place + 1 → (k < place) ⊎ (place ≤ k)
+          → IsNumber path (pays k) den next (get_or more k (pos 0))
+      at known k less (inl h) =
+          let n = before.numbers known k h in record {
+            share = n.share;
+            is = n.is;
+            amount = n.amount
+                ∙ sym (get_or_append_left before.row (number ∷ []) (pos 0) k
+                (omega (arith, h, before.one_each)));
+            bound = let b = n.bound in omega (arith, b, up);
+          }
+      at known k less (inr h) =
+          let last : k ≡ length before.row = omega (arith, h, less, before.one_each) in
+          let there : k ≡ place = omega (arith, h, less) in
+          subst (λ (n : ℕ). IsNumber path (pays n) den next (get_or more k (pos 0))) (sym there)
+          (subst (IsNumber path (pays place) den next)
+          (sym (ap (λ (n : ℕ). get_or more n (pos 0)) last
+          ∙ get_or-append_seam before.row number [] (pos 0))) here)
+
+  pub none_known : (next : ℕ) → Filling path pays den next (place + 1) false old after
+  none_known next = record {
+    row = more;
+    is = more_is;
+    one_each = more_each;
+    within = more_within;
+    numbers = λ known k less. absurd (let no : false ≡ true = known in cc);
+  }
+
+-- ---- the term
+
+module _ (g : Game) (rows : List (List Ratio)) (are : ArePaid g rows) (r : Reached)
+    (den size : ℕ) (row : List ℤ) (divides : r.path.den ∣ den) where
+  abbrev term : ℕ → Entry
+  term d = record {
+    head = record { demands = r.path.demands; den = d; size = size };
+    row = row;
+  }
+
+  has_share : (k : ℕ)
+      → IsNumber r.path (at_place (row_at rows r.outcome) k) den size (get_or row k (pos 0))
+      → HasShare g r (term den) k
+  has_share k n =
+      let paid = are.paid_is r.outcome k in
+      let is = n.is.is in
+      let bound : n.share.bound ≡ share_bound g (suc k) den r =
+      is.bound_is
+      ∙ ap (λ (p : Ratio). r.path.bound * unsigned_abs (over (den / r.path.den) p)) paid in record {
+        exact = record {
+          path = divides;
+          pay = subst (λ (p : Ratio). p.den ∣ den / r.path.den) paid is.exact;
+        };
+        number = sym n.amount ∙ is.amount_is
+            ∙ ap (λ (p : Ratio). pos r.path.weight *ℤ over (den / r.path.den) p) paid;
+        bound = let most = n.bound in omega (arith, most, bound);
+      }
+
+  pub is_term : (players known : ℕ)
+      → (0 < known → (known ≡ den) × ((k : ℕ) → k < players
+      → IsNumber r.path (at_place (row_at rows r.outcome) k) den size (get_or row k (pos 0))))
+      → IsTermOf g players r (term known)
+  is_term players known all = record {
+    demands = refl;
+    shares = λ above k less. let told = all above in
+        subst (λ (d : ℕ). HasShare g r (term d) k) (sym told.0) (has_share k (told.1 k less));
+  }

@@ -1,0 +1,166 @@
+-- The nodes that choices can reach, given by a walk through branches.
+use Rattle.std.proofs.Common.{◌≡◌, ℕ, zero, suc, ◌+◌, false, true, List, [], ◌∷◌}
+use Rattle.std.proofs.Common.{◌++◌, length, Option, Some, None, refl, sym, ap, ◌∙◌}
+use Rattle.std.proofs.Common.{append_assoc, Bool}
+use Rattle.std.specs.Prelude.{◌==◌, if◌then◌else◌}
+use Rattle.std.proofs.lemmas.Bool.{eqb-true, eq-eqb, false_from_ne_true}
+use Rattle.gf_fraction.specs.Ratio.{Ratio}
+use Rattle.gf_token.specs.Positions.{at_position}
+use Rattle.gf_tree.specs.Tree.{Tree, Trees, count}
+use Rattle.gf_tree.specs.Tree.Tree.{branch}
+use Rattle.gf_tree.specs.Tree.Trees.{none, more}
+use Rattle.gf_tree.specs.Description.{SetKey}
+use Rattle.gf_tree.specs.Game.{Game, Node}
+use Rattle.gf_tree.specs.Subtrees.{child_trees, list_of, root_node}
+use Rattle.gf_tree.specs.declared.branch.Branch.{Branch}
+use Rattle.gf_form.specs.inner.rows.PathsLeft.{any_nodes, below, lot_nodes, next_nodes, open_nodes}
+use Rattle.gf_form.specs.inner.rows.PathsLeft.{option_nodes}
+use Rattle.gf_form.specs.inner.rows.PathsLeft.{taken}
+use Rattle.gf_form.specs.inner.values.Program.{paid_at_node}
+use Rattle.gf_form.specs.inner.rows.ReachedNodes.{by_action, by_any, by_chance, by_choice, by_lot}
+use Rattle.gf_form.specs.inner.rows.ReachedNodes.{demanded}
+use Rattle.gf_form.specs.inner.rows.ReachedNodes.{over_set, reached}
+use Rattle.gf_form.specs.Strategies.{choices_by}
+use Rattle.gf_form.specs.inner.values.Values.{chances_at}
+use Rattle.gf_form.specs.declared.rows.paths.Open.{Open}
+use Rattle.gf_form.specs.declared.rows.paths.Path.{Path}
+use Rattle.gf_form.specs.declared.rows.paths.Reached.{Reached}
+
+-- ---- the nodes below a node by the list of its children
+
+length-list_of : {N : Type 0} (ts : Trees N) → length (list_of ts) ≡ count ts
+length-list_of none = refl
+length-list_of (more t ts) = ap suc (length-list_of ts)
+
+-- the node itself
+abbrev pub told : Game → Path → Tree Node → Reached
+told g path t = record { path = path; outcome = paid_at_node g (root_node t) }
+
+module _ (g : Game) (steps : SetKey → ℕ) (path : Path) where
+  lot_list : (ts : Trees Node) (chances : ℕ → Ratio) (k : ℕ)
+      → by_lot g steps path chances k ts ≡ lot_nodes g steps path chances k (list_of ts)
+  lot_list none chances k = refl
+  lot_list (more t ts) chances k =
+      ap (λ rs. reached g steps (by_chance path (chances k)) t ++ rs) (lot_list ts chances (k + 1))
+
+  any_list : (ts : Trees Node) (step k : ℕ)
+      → by_any g steps path step k ts ≡ any_nodes g steps path step k (list_of ts)
+  any_list none step k = refl
+  any_list (more t ts) step k =
+      ap (λ rs. reached g steps (by_choice path step k) t ++ rs) (any_list ts step (k + 1))
+
+  action_list : (ts : Trees Node) (position : ℕ)
+      → by_action g steps path position ts
+      ≡ option_nodes g steps path (at_position (list_of ts) position)
+  action_list none zero = refl
+  action_list none (suc position) = refl
+  action_list (more t ts) zero = refl
+  action_list (more t ts) (suc zero) = refl
+  action_list (more t ts) (suc (suc position)) = action_list ts (suc position)
+
+  over_some : (o : Option SetKey) (nodes : SetKey → List Reached) (key : SetKey) → o ≡ Some key
+      → over_set o nodes ≡ nodes key
+  over_some None nodes key is = absurd cc
+  over_some (Some k) nodes key is = let same : k ≡ key = cc in ap nodes same
+
+  pub lot_reached : (t : Tree Node) (key : SetKey) → (root_node t).set ≡ Some key → key.player ≡ 0
+      → reached g steps path t ≡ told g path t
+      ∷ lot_nodes g steps path (chances_at g (root_node t)) 1 (child_trees t)
+  lot_reached (branch n ts) key is chance =
+      ap (λ rs. told g path (branch n ts) ∷ rs)
+      (over_some n.set _ key is
+      ∙ ap (λ b. if b then by_lot g steps path (chances_at g n) 1 ts
+      else if steps key == 0 then by_action g steps path 1 ts
+      else if demanded path.demands (steps key) (count ts) == 0
+      then by_any g steps path (steps key) 1 ts
+      else by_action g steps path (demanded path.demands (steps key) (count ts)) ts)
+      (eq-eqb key.player 0 chance)
+      ∙ lot_list ts (chances_at g n) 1)
+
+  -- the nodes below a player's node, if this action is taken
+  abbrev pub below_by : ℕ → ℕ → List (Tree Node) → List Reached
+  below_by step action ts =
+      if action == 0 then any_nodes g steps path step 1 ts
+      else option_nodes g steps path (at_position ts action)
+
+  by_taken : (ts : Trees Node) (step actions : ℕ) → actions ≡ count ts
+      → (if step == 0 then by_action g steps path 1 ts
+      else if demanded path.demands step (count ts) == 0 then by_any g steps path step 1 ts
+      else by_action g steps path (demanded path.demands step (count ts)) ts)
+      ≡ below_by step (taken path step actions) (list_of ts)
+  by_taken ts step actions is = rw is (at (step == 0))
+    where
+      free : (b : Bool) (action : ℕ)
+          → (if b then by_any g steps path step 1 ts else by_action g steps path action ts)
+          ≡ (if b then any_nodes g steps path step 1 (list_of ts)
+          else option_nodes g steps path (at_position (list_of ts) action))
+      free true action = any_list ts step 1
+      free false action = action_list ts action
+
+      at : (b : Bool) → (if b then by_action g steps path 1 ts
+          else if demanded path.demands step (count ts) == 0 then by_any g steps path step 1 ts
+          else by_action g steps path (demanded path.demands step (count ts)) ts)
+          ≡ below_by step (if b then 1 else demanded path.demands step (count ts)) (list_of ts)
+      at true = action_list ts 1
+      at false = free (demanded path.demands step (count ts) == 0)
+          (demanded path.demands step (count ts))
+
+  pub choice_reached : (t : Tree Node) (key : SetKey) (step : ℕ) → (root_node t).set ≡ Some key
+      → ¬ (key.player ≡ 0) → steps key ≡ step
+      → reached g steps path t ≡ told g path t
+      ∷ below_by step (taken path step (length (child_trees t))) (child_trees t)
+  choice_reached (branch n ts) key step is personal here =
+      ap (λ rs. told g path (branch n ts) ∷ rs)
+      (over_some n.set _ key is
+      ∙ ap (λ b. if b then by_lot g steps path (chances_at g n) 1 ts
+      else if steps key == 0 then by_action g steps path 1 ts
+      else if demanded path.demands (steps key) (count ts) == 0
+      then by_any g steps path (steps key) 1 ts
+      else by_action g steps path (demanded path.demands (steps key) (count ts)) ts)
+      (false_from_ne_true (key.player == 0) (λ t. personal (eqb-true key.player 0 t)))
+      ∙ by_taken ts (steps key) (length (list_of ts)) (length-list_of ts)
+      ∙ ap (λ (s : ℕ). below_by s (taken path s (length (list_of ts))) (list_of ts)) here)
+
+-- ---- what is open
+
+pub below_last : (all : List (List ℕ)) (os : List Open) (o : Open) (rs : List Reached)
+    → below all (os ++ o ∷ []) rs ≡ open_nodes all o ++ below all os rs
+below_last all [] o rs = refl
+below_last all (p ∷ os) o rs = below_last all os o (open_nodes all p ++ rs)
+
+-- ---- the children that are left
+
+pub next_drawn : (all : List (List ℕ)) (g g' h : Game) (chances : ℕ → Ratio) (path : Path)
+    (k k' : ℕ) (ts ts' : List (Tree Node)) (t : Tree Node) (behind : List Reached)
+    → ts ≡ t ∷ ts' → g' ≡ g → h ≡ g → k' ≡ k + 1
+    → lot_nodes g (choices_by g all) path chances (k + 1) ts ++ behind
+    ≡ reached h (choices_by h all) (by_chance path (chances k')) t
+    ++ (lot_nodes g' (choices_by g' all) path chances (k' + 1) ts' ++ behind)
+next_drawn all g g' h chances path k k' ts ts' t behind e f i j =
+    rw (e, f, i, j) (simp append_assoc)
+
+pub next_chosen : (all : List (List ℕ)) (g g' h : Game) (path : Path) (step k k' : ℕ)
+    (ts ts' : List (Tree Node)) (t : Tree Node) (behind : List Reached)
+    → ts ≡ t ∷ ts' → g' ≡ g → h ≡ g → k' ≡ k + 1
+    → any_nodes g (choices_by g all) path step (k + 1) ts ++ behind
+    ≡ reached h (choices_by h all) (by_choice path step k') t
+    ++ (any_nodes g' (choices_by g' all) path step (k' + 1) ts' ++ behind)
+next_chosen all g g' h path step k k' ts ts' t behind e f i j =
+    rw (e, f, i, j) (simp append_assoc)
+
+pub first_drawn : (all : List (List ℕ)) (g g' : Game) (chances : ℕ → Ratio) (path : Path) (k : ℕ)
+    (ts ts' : List (Tree Node)) → g' ≡ g → ts' ≡ ts → k ≡ 0
+    → lot_nodes g (choices_by g all) path chances 1 ts
+    ≡ lot_nodes g' (choices_by g' all) path chances (k + 1) ts'
+first_drawn all g g' chances path k ts ts' e f h = rw (e, f, h) refl
+
+pub first_chosen : (all : List (List ℕ)) (g g' : Game) (path : Path) (step k : ℕ)
+    (ts ts' : List (Tree Node)) → g' ≡ g → ts' ≡ ts → k ≡ 0
+    → any_nodes g (choices_by g all) path step 1 ts
+    ≡ any_nodes g' (choices_by g' all) path step (k + 1) ts'
+first_chosen all g g' path step k ts ts' e f h = rw (e, f, h) refl
+
+pub last_pushed : (all : List (List ℕ)) (next : Option (Branch × Path)) (os items : List Open)
+    (o : Open) → next ≡ None → items ≡ os ++ o ∷ []
+    → open_nodes all o ++ below all os [] ≡ next_nodes all next ++ below all items []
+last_pushed all next os items o nothing are = rw (nothing, are) (sym (below_last all os o []))

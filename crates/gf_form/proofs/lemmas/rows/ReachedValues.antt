@@ -1,0 +1,386 @@
+-- The value of a tree is the sum of the shares of the nodes that choices reach.
+use Rattle.std.proofs.Common.{◌≡◌, ℕ, ℤ, zero, suc, pos, ◌+◌, ◌*◌, ◌/◌, ◌^◌, ◌<◌, ◌≤◌, Bool, true}
+use Rattle.std.proofs.Common.{false, List, ◌∷◌, ◌++◌, Option, Some, None, MatchOption, length}
+use Rattle.std.proofs.Common.{get_or, set, refl, sym, subst, ◌∙◌, arith, inr}
+use Rattle.std.specs.Prelude.{◌*ℤ◌, ◌+ℤ◌, ◌==◌, ◌&&◌, unsigned_abs, option_map, if◌then◌else◌}
+use Rattle.std.specs.List.{AllByRecursion}
+use Rattle.std.proofs.lemmas.Bool.{and_from, eq-eqb, eqb-false, eqb-true, ne_eqb}
+use Rattle.std.proofs.Math.IntN.{*ℤ_comm}
+use Rattle.std.proofs.Math.Nat.{le-mul_of_pos_right}
+use Rattle.gf_fraction.proofs.AllElements.{all_parts}
+use Rattle.gf_fraction.proofs.Integers.{*ℤ-one}
+use Rattle.gf_fraction.specs.Ratio.{HasValue, IsFraction, Ratio}
+use Rattle.gf_fraction.specs.Rational.{zero_ratio}
+use Rattle.gf_tree.specs.Tree.{Tree, Trees, count}
+use Rattle.gf_tree.specs.Tree.Tree.{branch}
+use Rattle.gf_tree.specs.Tree.Trees.{none, more}
+use Rattle.gf_tree.specs.PrefixOrder.{flatten, flatten_all}
+use Rattle.gf_tree.specs.Description.{SetKey}
+use Rattle.gf_tree.specs.Game.{Game, HasChildren, IsGame, Node, set_at}
+use Rattle.gf_tree.specs.Spellable.{IsSpellable}
+use Rattle.gf_form.specs.inner.rows.Demands.{meets, steps_of}
+use Rattle.gf_form.specs.Payoff.{payoff_at}
+use Rattle.gf_form.specs.inner.values.Program.{paid_at_node}
+use Rattle.gf_form.specs.inner.rows.ReachedNodes.{at_least_one, by_action, by_any, by_chance}
+use Rattle.gf_form.specs.inner.rows.ReachedNodes.{by_choice}
+use Rattle.gf_form.specs.inner.rows.ReachedNodes.{by_lot, demanded, has_room, over_set, reached}
+use Rattle.gf_form.specs.inner.rows.ReachedNodes.{root_path}
+use Rattle.gf_form.specs.inner.rows.Shares.{AreDigits, FitsAt, IsExactIfMet, met_bounds}
+use Rattle.gf_form.specs.inner.rows.Shares.{sum_of_shares}
+use Rattle.gf_form.specs.inner.values.Values.{chance_value, chances_at, child_value, value}
+use Rattle.gf_form.specs.inner.values.Values.{value_over}
+use Rattle.gf_form.specs.declared.rows.paths.Path.{Path}
+use Rattle.gf_form.specs.declared.rows.paths.Reached.{Reached}
+use Rattle.gf_form.proofs.lemmas.values.ChanceSigns.{chance_size}
+use Rattle.gf_form.proofs.lemmas.rows.DemandDigits.{met, met_digit, no_demands, none_met, none_pack}
+use Rattle.gf_form.proofs.lemmas.rows.DemandDigits.{none_within}
+use Rattle.gf_form.proofs.lemmas.rows.DemandDigits.{within_length}
+use Rattle.gf_form.proofs.lemmas.values.Denominators.{payoff_fraction, probability_fraction}
+use Rattle.gf_form.proofs.lemmas.values.ProgramRuns.{paid_is}
+use Rattle.gf_form.proofs.lemmas.rows.ShareSums.{bounds_append}
+use Rattle.gf_form.proofs.lemmas.rows.UnmetShares.{HasDigits, IsFree, any_unmet, chosen_digits}
+use Rattle.gf_form.proofs.lemmas.rows.UnmetShares.{digit_of}
+use Rattle.gf_form.proofs.lemmas.rows.UnmetShares.{digit_there, meets_digits, met_with, set_there}
+use Rattle.gf_form.proofs.lemmas.rows.UnmetShares.{unmet}
+use Rattle.gf_form.proofs.lemmas.rows.ValuedNodes.{IsAdded, IsPart, IsValued, at_least, child_added}
+use Rattle.gf_form.proofs.lemmas.rows.ValuedNodes.{from_nothing, leaf_valued, move_valued}
+use Rattle.gf_form.proofs.lemmas.rows.ValuedNodes.{next_limit}
+use Rattle.gf_form.proofs.lemmas.rows.ValuedNodes.{next_sum, no_child, part_value, valued_before}
+use Rattle.gf_form.proofs.lemmas.rows.ValuedNodes.{valued_behind}
+use Rattle.gf_form.proofs.lemmas.rows.ValuedNodes.{valued_known}
+use Rattle.gf_form.proofs.lemmas.values.ValuesComputed.{zero_fraction}
+
+product_above : (m n : ℕ) → 1 ≤ m → 1 ≤ n → 1 ≤ m * n
+product_above m n h k = omega (arith, h, le-mul_of_pos_right m k)
+
+bound_above : (path : Path) (c : Ratio) → 1 ≤ path.bound → 1 ≤ (by_chance path c).bound
+bound_above path c some = by (has_room path c)
+  where
+    by : (room : Bool)
+        → 1 ≤ (if room then path.bound * at_least_one (unsigned_abs c.num) else 1)
+    by true = product_above path.bound (at_least_one (unsigned_abs c.num)) some
+        (at_least (unsigned_abs c.num)).1
+    by false = omega arith
+
+module _ (g : Game) (game : IsGame g) (spellable : IsSpellable g) (steps choose : SetKey → ℕ)
+    (actions choices : List ℕ) (digits : AreDigits g steps choose actions choices)
+    (player den : ℕ) (den_above : 0 < den) (den_within : den < 2 ^ 127) where
+  abbrev AreExact : List Reached → Type 0
+  AreExact rs = AllByRecursion (IsExactIfMet g player den (steps_of actions) choices) rs
+
+  abbrev bounds : List Reached → ℕ
+  bounds rs = met_bounds g player den (steps_of actions) choices rs
+
+  abbrev Valued : Option Ratio → Path → List Reached → Type 0
+  Valued o path rs = IsValued g player den den_above den_within (steps_of actions) choices o
+      path.weight path.bound path.den rs
+
+  abbrev Added : Option Ratio → ℤ → Path → List Reached → Type 0
+  Added o start path rs = IsAdded g player den den_above den_within (steps_of actions) choices o
+      start path.weight path.bound path.den rs
+
+  -- if these nodes fit
+  abbrev IfFits : Option Ratio → Path → List Reached → Type 0
+  IfFits o path rs = AreExact rs → bounds rs < 2 ^ 127 → Valued o path rs
+
+  -- the choices meet the demands of the path, which have these digits
+  pub record IsMet (path : Path) (ds : List ℕ) : Type 0 where
+    pub has : HasDigits actions path ds
+    pub met : met choices ds ≡ true
+    pub bound_above : 1 ≤ path.bound
+
+  demands_met : (path : Path) (ds : List ℕ) → IsMet path ds
+      → meets (steps_of actions) choices path.demands ≡ true
+  demands_met path ds is =
+      meets_digits g steps choose actions choices digits path ds is.has ∙ is.met
+
+  parts : (xs ys : List Reached) → AreExact (xs ++ ys) → AreExact xs × AreExact ys
+  parts xs ys h =
+      all_parts (IsExactIfMet g player den (steps_of actions) choices) xs ys h
+
+  -- ---- a node
+
+  own_fraction : (n : Node) → IsFraction (payoff_at g player n)
+  own_fraction n = payoff_fraction g spellable player n
+
+  chance_fraction : (n : Node) (k : ℕ) → IsFraction (chances_at g n k)
+  chance_fraction n k = probability_fraction g spellable (record { node = n; taken = k })
+
+  -- below a player's node
+  personal_valued : (n : Node) (ts : Trees Node) (path : Path) (ds : List ℕ) (key : SetKey)
+      → IsMet path ds → ¬ (key.player ≡ 0)
+      → option_map (λ set. length set.actions) (set_at g key) ≡ Some (count ts)
+      → ((position : ℕ) → 1 ≤ position → position ≤ count ts
+      → IfFits (child_value g choose player position ts) path
+      (by_action g steps path position ts))
+      → ((step place : ℕ) → IsFree actions ds step (count ts) place
+      → get_or choices place 0 ≡ choose key
+      → IfFits (child_value g choose player (choose key) ts) path (by_any g steps path step 1 ts))
+      → IfFits (child_value g choose player (choose key) ts) path
+      (if steps key == 0 then by_action g steps path 1 ts
+      else if demanded path.demands (steps key) (count ts) == 0
+      then by_any g steps path (steps key) 1 ts
+      else by_action g steps path (demanded path.demands (steps key) (count ts)) ts)
+  personal_valued n ts path ds key is personal h action any = by_digit (steps key == 0) refl
+    where
+      chosen : (1 ≤ choose key) × (choose key ≤ count ts)
+      chosen =
+          let set = set_there g key (count ts) h in
+          let both = digits.chosen key set.0 set.1 personal in
+          (both.0, omega (arith, both.1, set.2))
+
+      by_demand : ¬ (steps key ≡ 0) → (b : Bool)
+          → (demanded path.demands (steps key) (count ts) == 0) ≡ b
+          → IfFits (child_value g choose player (choose key) ts) path
+          (if b then by_any g steps path (steps key) 1 ts
+          else by_action g steps path (demanded path.demands (steps key) (count ts)) ts)
+      by_demand several true free =
+          let d = digit_of g steps choose actions choices digits key (count ts) personal several h in
+          any (steps key) d.place (record {
+            within = d.within;
+            step_is = d.step_is;
+            actions_are = d.actions_are;
+            free = sym (digit_there actions choices ds path (steps key) (count ts) (choose key)
+                is.has d) ∙ eqb-true (demanded path.demands (steps key) (count ts)) 0 free;
+          }) d.choice_is
+      by_demand several false taken =
+          let d = digit_of g steps choose actions choices digits key (count ts) personal several h in
+          let there = digit_there actions choices ds path (steps key) (count ts) (choose key)
+          is.has d in
+          let some : ¬ (get_or ds d.place 0 ≡ 0) =
+          λ e. eqb-false (demanded path.demands (steps key) (count ts)) 0 taken (there ∙ e) in
+          let size = within_length actions ds is.has.1 in
+          let same : choose key ≡ demanded path.demands (steps key) (count ts) =
+          sym d.choice_is
+          ∙ met_digit choices ds d.place (digits.one_each ∙ sym size)
+          (omega (arith, size, d.within)) is.met some
+          ∙ sym there in
+          subst (λ k. IfFits (child_value g choose player (choose key) ts) path
+          (by_action g steps path k ts)) same (action (choose key) chosen.0 chosen.1)
+
+      by_digit : (b : Bool) → (steps key == 0) ≡ b
+          → IfFits (child_value g choose player (choose key) ts) path
+          (if b then by_action g steps path 1 ts
+          else if demanded path.demands (steps key) (count ts) == 0
+          then by_any g steps path (steps key) 1 ts
+          else by_action g steps path (demanded path.demands (steps key) (count ts)) ts)
+      by_digit true one =
+          let set = set_there g key (count ts) h in
+          let alone = digits.alone key set.0 set.1 personal (eqb-true (steps key) 0 one) in
+          let same : choose key ≡ 1 = omega (arith, chosen.0, chosen.1, set.2, alone) in
+          subst (λ k. IfFits (child_value g choose player (choose key) ts) path
+          (by_action g steps path k ts)) same (action (choose key) chosen.0 chosen.1)
+      by_digit false several =
+          by_demand (eqb-false (steps key) 0 several)
+          (demanded path.demands (steps key) (count ts) == 0) refl
+
+  -- a node of this set, with what is below it
+  node_valued : (n : Node) (ts : Trees Node) (path : Path) (ds : List ℕ) → IsMet path ds
+      → ((key : SetKey) → n.set ≡ Some key → key.player ≡ 0
+      → IfFits (chance_value g choose player (chances_at g n) 1 (Some zero_ratio) ts) path
+      (by_lot g steps path (chances_at g n) 1 ts))
+      → ((position : ℕ) → 1 ≤ position → position ≤ count ts
+      → IfFits (child_value g choose player position ts) path
+      (by_action g steps path position ts))
+      → ((step place choice : ℕ) → IsFree actions ds step (count ts) place
+      → get_or choices place 0 ≡ choice → 1 ≤ choice → choice ≤ count ts
+      → IfFits (child_value g choose player choice ts) path (by_any g steps path step 1 ts))
+      → (o : Option SetKey) → n.set ≡ o → MatchOption o (count ts ≡ 0)
+      (λ key. option_map (λ set. length set.actions) (set_at g key) ≡ Some (count ts))
+      → IfFits (value_over (payoff_at g player n) o (λ key. if key.player == 0
+      then chance_value g choose player (chances_at g n) 1 (Some zero_ratio) ts
+      else child_value g choose player (choose key) ts)) path
+      (record { path = path; outcome = paid_at_node g n } ∷ over_set o
+      (λ key. if key.player == 0 then by_lot g steps path (chances_at g n) 1 ts
+      else if steps key == 0 then by_action g steps path 1 ts
+      else if demanded path.demands (steps key) (count ts) == 0
+      then by_any g steps path (steps key) 1 ts
+      else by_action g steps path (demanded path.demands (steps key) (count ts)) ts))
+  node_valued n ts path ds is lot action any None at h exact limit =
+      leaf_valued g player den den_above den_within (steps_of actions) choices
+      (record { path = path; outcome = paid_at_node g n }) (payoff_at g player n)
+      (paid_is g player n) (own_fraction n) (exact.0 (demands_met path ds is)) (demands_met path ds is)
+  node_valued n ts path ds is lot action any (Some key) at h exact limit =
+      move_valued g player den den_above den_within (steps_of actions) choices
+      (record { path = path; outcome = paid_at_node g n }) (payoff_at g player n)
+      (paid_is g player n) (own_fraction n) (exact.0 (demands_met path ds is)) (demands_met path ds is)
+      _ _ is.bound_above limit
+      (by (key.player == 0) refl exact.1 (omega (arith, limit)))
+    where
+      by : (b : Bool) → (key.player == 0) ≡ b
+          → IfFits (if b
+          then chance_value g choose player (chances_at g n) 1 (Some zero_ratio) ts
+          else child_value g choose player (choose key) ts) path
+          (if b then by_lot g steps path (chances_at g n) 1 ts
+          else if steps key == 0 then by_action g steps path 1 ts
+          else if demanded path.demands (steps key) (count ts) == 0
+          then by_any g steps path (steps key) 1 ts
+          else by_action g steps path (demanded path.demands (steps key) (count ts)) ts)
+      by true chance = lot key at (eqb-true key.player 0 chance)
+      by false other =
+          let personal = eqb-false key.player 0 other in
+          let set = set_there g key (count ts) h in
+          let chosen = digits.chosen key set.0 set.1 personal in
+          personal_valued n ts path ds key is personal h action
+          (λ step place free choice.
+          any step place (choose key) free choice chosen.0 (omega (arith, chosen.1, set.2)))
+
+  -- another action than the one that is chosen
+  not_chosen : (path : Path) (ds : List ℕ) (step m place j : ℕ) → IsMet path ds
+      → IsFree actions ds step m place → 1 ≤ j → ¬ (j ≡ get_or choices place 0)
+      → met choices (set ds place j) ≡ false
+  not_chosen path ds step m place j is free some other =
+      met_with g steps choose actions choices digits ds step m place j is.has.1 free some
+      ∙ (λ i. is.met i && ne_eqb j (get_or choices place 0) other i)
+
+  -- ---- the tree
+
+  mutual
+    valued : (t : Tree Node) (path : Path) (ds : List ℕ)
+        → AllByRecursion (HasChildren g) (flatten t) → IsMet path ds
+        → IfFits (value g choose player t) path (reached g steps path t)
+    valued (branch n ts) path ds children is =
+        node_valued n ts path ds is
+        (λ key at chance exact limit.
+        from_nothing g player den den_above den_within (steps_of actions) choices _ path.weight
+        path.bound path.den _
+        (lot_valued ts n key 1 zero_ratio (pos 0) path ds at chance children.1 is zero_fraction
+        (inr (refl, refl)) exact (omega (arith, limit))))
+        (λ position some fits. action_valued ts position path ds some fits children.1 is)
+        (λ step place choice free chosen some fits.
+        any_valued ts 1 choice path ds step (count ts) place choice some fits chosen
+        (omega arith) (omega arith) (omega arith) free children.1 is)
+        n.set refl children.0
+
+    lot_valued : (ts : Trees Node) (n : Node) (key : SetKey) (k : ℕ) (sum : Ratio) (start : ℤ)
+        (path : Path) (ds : List ℕ)
+        → n.set ≡ Some key → key.player ≡ 0 → AllByRecursion (HasChildren g) (flatten_all ts)
+        → IsMet path ds → IsFraction sum → IsPart den den_above den_within path.den sum start
+        → AreExact (by_lot g steps path (chances_at g n) k ts)
+        → unsigned_abs start * path.bound + bounds (by_lot g steps path (chances_at g n) k ts)
+        < 2 ^ 127
+        → Added (chance_value g choose player (chances_at g n) k (Some sum) ts) start path
+        (by_lot g steps path (chances_at g n) k ts)
+    lot_valued none n key k sum start path ds at chance children is f starts exact limit =
+        no_child g player den den_above den_within (steps_of actions) choices sum start path.weight
+        path.bound path.den f starts
+    lot_valued (more t ts) n key k sum start path ds at chance children is f starts exact limit =
+        let c = chances_at g n k in
+        let on = by_chance path c in
+        let xs = reached g steps on t in
+        let ys = by_lot g steps path (chances_at g n) (k + 1) ts in
+        let both = all_parts (HasChildren g) (flatten t) (flatten_all ts) children in
+        let exacts = parts xs ys exact in
+        let lists = bounds_append g player den (steps_of actions) choices xs ys in
+        let child = valued_known g player den den_above den_within (steps_of actions) choices
+        (has_room path c) (value g choose player t) (path.weight * unsigned_abs c.num)
+        (path.bound * at_least_one (unsigned_abs c.num)) (path.den * c.den) xs
+        (valued t on ds both.0 (record {
+          has = is.has;
+          met = is.met;
+          bound_above = bound_above path c is.bound_above;
+        }) exacts.0 (omega (arith, limit, lists))) in
+        let fc = chance_fraction n k in
+        let sign = chance_size g game n key k at chance in
+        let next = next_sum g player den den_above den_within (steps_of actions) choices c fc sign
+        sum start f path.weight path.bound path.den starts is.bound_above (value g choose player t)
+        xs ys child limit in
+        let rest = next_limit g player den den_above den_within (steps_of actions) choices c fc sign
+        sum start f path.weight path.bound path.den starts is.bound_above (value g choose player t)
+        xs ys child limit in
+        let later = lot_valued ts n key (k + 1) next.0 (start +ℤ c.num *ℤ child.amount) path ds at
+        chance both.1 is next.2 next.3 exacts.1 rest in
+        child_added g player den den_above den_within (steps_of actions) choices c fc sign sum start
+        f path.weight path.bound path.den starts is.bound_above (value g choose player t) xs ys child
+        limit _ (rw next.1 later)
+
+    action_valued : (ts : Trees Node) (position : ℕ) (path : Path) (ds : List ℕ) → 1 ≤ position
+        → position ≤ count ts → AllByRecursion (HasChildren g) (flatten_all ts) → IsMet path ds
+        → IfFits (child_value g choose player position ts) path
+        (by_action g steps path position ts)
+    action_valued none position path ds some fits children is exact limit = absurd (omega arith)
+    action_valued (more t ts) zero path ds some fits children is exact limit = absurd (omega arith)
+    action_valued (more t ts) (suc zero) path ds some fits children is exact limit =
+        valued t path ds (all_parts (HasChildren g) (flatten t) (flatten_all ts) children).0 is exact
+        limit
+    action_valued (more t ts) (suc (suc position)) path ds some fits children is exact limit =
+        action_valued ts (suc position) path ds (omega arith) (omega (arith, fits))
+        (all_parts (HasChildren g) (flatten t) (flatten_all ts) children).1 is exact limit
+
+    -- of children, the first of which has position k, the one that is chosen
+    any_valued : (ts : Trees Node) (k position : ℕ) (path : Path) (ds : List ℕ)
+        (step m place choice : ℕ)
+        → 1 ≤ position → position ≤ count ts → get_or choices place 0 ≡ choice
+        → choice + 1 ≡ k + position → 1 ≤ k → k + count ts ≤ m + 1
+        → IsFree actions ds step m place → AllByRecursion (HasChildren g) (flatten_all ts)
+        → IsMet path ds
+        → IfFits (child_value g choose player position ts) path (by_any g steps path step k ts)
+    any_valued none k position path ds step m place choice some fits chosen at above all free
+        children is exact limit = absurd (omega arith)
+    any_valued (more t ts) k zero path ds step m place choice some fits chosen at above all free
+        children is exact limit = absurd (omega arith)
+    any_valued (more t ts) k (suc zero) path ds step m place choice some fits chosen at above all free
+        children is exact limit =
+        let on = by_choice path step k in
+        let xs = reached g steps on t in
+        let ys = by_any g steps path step (k + 1) ts in
+        let both = all_parts (HasChildren g) (flatten t) (flatten_all ts) children in
+        let exacts = parts xs ys exact in
+        let lists = bounds_append g player den (steps_of actions) choices xs ys in
+        let same : k ≡ get_or choices place 0 = omega (arith, at, chosen) in
+        let with = met_with g steps choose actions choices digits ds step m place k is.has.1 free
+        above in
+        let child = valued t on (set ds place k) both.0 (record {
+          has = chosen_digits actions ds path step m place k digits.within is.has free (omega (arith, all));
+          met = with ∙ and_from (met choices ds) (k == get_or choices place 0) is.met
+              (eq-eqb k (get_or choices place 0) same);
+          bound_above = is.bound_above;
+        }) exacts.0 (omega (arith, limit, lists)) in
+        valued_before g player den den_above den_within (steps_of actions) choices _ path.weight
+        path.bound path.den xs ys child
+        (any_unmet g steps choose actions choices digits player den ts (k + 1) path ds step m place
+        both.1 is.has free (omega arith) (omega (arith, all))
+        (λ j from. not_chosen path ds step m place j is free (omega (arith, from))
+        (λ e. omega (arith, from, e, same))))
+    any_valued (more t ts) k (suc (suc position)) path ds step m place choice some fits chosen at
+        above all free children is exact limit =
+        let on = by_choice path step k in
+        let xs = reached g steps on t in
+        let ys = by_any g steps path step (k + 1) ts in
+        let both = all_parts (HasChildren g) (flatten t) (flatten_all ts) children in
+        let exacts = parts xs ys exact in
+        let lists = bounds_append g player den (steps_of actions) choices xs ys in
+        valued_behind g player den den_above den_within (steps_of actions) choices _ path.weight
+        path.bound path.den xs ys
+        (unmet g steps choose actions choices digits player den t on (set ds place k) both.0
+        (chosen_digits actions ds path step m place k digits.within is.has free (omega (arith, all)))
+        (not_chosen path ds step m place k is free above (λ e. omega (arith, e, at, chosen))))
+        (any_valued ts (k + 1) (suc position) path ds step m place choice (omega arith)
+        (omega (arith, fits)) chosen (omega (arith, at)) (omega arith) (omega (arith, all)) free
+        both.1 is exacts.1 (omega (arith, limit, lists)))
+
+-- the player counts from 1
+pub reached_value : (g : Game) → IsGame g → IsSpellable g → (steps choose : SetKey → ℕ)
+    (actions choices : List ℕ) → AreDigits g steps choose actions choices → (player den : ℕ)
+    → FitsAt g player den (steps_of actions) choices (reached g steps root_path g.tree)
+    → (v : Ratio) × (value g choose player g.tree ≡ Some v) × IsFraction v
+    × HasValue v (sum_of_shares g player den (steps_of actions) choices
+    (reached g steps root_path g.tree)) den
+reached_value g game spellable steps choose actions choices digits player den fits =
+    let whole = valued g game spellable steps choose actions choices digits player den
+    fits.den_above_zero fits.den_within g.tree root_path (no_demands actions) game.children (record {
+      has = (sym (none_pack actions), none_within actions);
+      met = none_met choices actions;
+      bound_above = omega arith;
+    }) fits.exact fits.within in
+    let sum : whole.amount
+    ≡ sum_of_shares g player den (steps_of actions) choices (reached g steps root_path g.tree) =
+    sym (whole.shares_are ∙ *ℤ_comm (pos 1) whole.amount ∙ *ℤ-one whole.amount) in
+    let over : den / 1 ≡ den = omega arith in (
+      whole.ratio,
+      whole.value_is,
+      whole.fraction,
+      subst (λ n. HasValue whole.ratio n den) sum
+          (subst (HasValue whole.ratio whole.amount) over (part_value den fits.den_above_zero
+          fits.den_within 1 whole.ratio whole.amount whole.amount_is)),
+    )

@@ -1,0 +1,160 @@
+-- Rows of payoffs at profiles in turn, and the table that they make.
+use Rattle.std.proofs.Common.{◌≡◌, ℕ, ◌+◌, ◌*◌, ◌<◌, List, [], ◌∷◌, ◌++◌, length, map}
+use Rattle.std.proofs.Common.{get_or, take, refl, sym, ap, subst, ◌∙◌, add-one, arith, zero, suc}
+use Rattle.std.proofs.Common.{Some, slice_get}
+use Rattle.std.proofs.lemmas.Option.{slice_get-get_or}
+use Rattle.std.specs.List.{AllByRecursion, AllZip, flat_map}
+use Rattle.std.proofs.Math.Nat.{suc-mul}
+use Rattle.std.proofs.Math.Seq.{take-append_seam, take-suc}
+use Rattle.std.proofs.lemmas.Grind.{flat_map-append}
+use Rattle.std.proofs.lemmas.List.{append-nil, append_cancel_left, length-append, length-map}
+use Rattle.gf_fraction.specs.Ratio.{Ratio, IsFraction}
+use Rattle.gf_fraction.proofs.AllElements.{all_both, all_joined}
+use Rattle.gf_nfg.specs.Profiles.{profiles}
+use Rattle.gf_nfg.specs.Table.{Table, rows}
+use Rattle.gf_nfg.specs.TableAccess.{IsTableOf}
+use Rattle.gf_tree.specs.Game.{Game}
+use Rattle.gf_token.specs.Positions.{at_position}
+use Rattle.gf_form.specs.inner.rows.ProfileRows.{AreRowsAt}
+use Rattle.gf_form.specs.Refusal.{IsFirstWithout}
+use Rattle.gf_form.specs.StrategicForm.{IsFormBy}
+use Rattle.gf_form.specs.Strategies.{players_of}
+use Rattle.gf_form.proofs.lemmas.form.FormTables.{as_many}
+use Rattle.gf_form.proofs.lemmas.form.Forms.{form_profiles}
+
+pub zip_more : {A B : Type 0} (R : A → B → Type 0) (xs : List A) (ys : List B) (x : A) (y : B)
+    → AllZip R xs ys → R x y → AllZip R (xs ++ x ∷ []) (ys ++ y ∷ [])
+zip_more R [] [] x y h k = (k, tt)
+zip_more R [] (b ∷ ys) x y h k = absurd h
+zip_more R (a ∷ xs) [] x y h k = absurd h
+zip_more R (a ∷ xs) (b ∷ ys) x y h k = (h.0, zip_more R xs ys x y h.1 k)
+
+all_second : {A B : Type 0} (R : A → B → Type 0) (P : B → Type 0) (xs : List A) (ys : List B)
+    → ((x : A) (y : B) → R x y → P y) → AllZip R xs ys → AllByRecursion P ys
+all_second R P [] [] each h = tt
+all_second R P [] (b ∷ ys) each h = absurd h
+all_second R P (a ∷ xs) [] each h = absurd h
+all_second R P (a ∷ xs) (b ∷ ys) each h = (each a b h.0, all_second R P xs ys each h.1)
+
+zip_of_one : {A B C : Type 0} (R : A → B → Type 0) (f : C → A) (g : C → B) (zs : List C)
+    → AllZip R (map f zs) (map g zs) → AllByRecursion (λ z. R (f z) (g z)) zs
+zip_of_one R f g [] h = tt
+zip_of_one R f g (z ∷ zs) h = (h.0, zip_of_one R f g zs h.1)
+
+-- rows of one length are known by what they make together
+same_rows : {A : Type 0} (n : ℕ) (xs ys : List (List A)) → AllByRecursion (λ row. length row ≡ n) xs
+    → AllByRecursion (λ row. length row ≡ n) ys → length xs ≡ length ys
+    → flat_map (λ row. row) xs ≡ flat_map (λ row. row) ys → xs ≡ ys
+same_rows n [] [] h k counted same = refl
+same_rows n [] (y ∷ ys) h k counted same = absurd (omega (arith, counted))
+same_rows n (x ∷ xs) [] h k counted same = absurd (omega (arith, counted))
+same_rows n (x ∷ xs) (y ∷ ys) h k counted same =
+    let others = λ (rows : List (List _)). flat_map (λ row. row) rows in
+    let first : x ≡ y =
+    sym (take-append_seam x (others xs)) ∙ (λ i. take ((h.0 ∙ sym k.0) i) (same i))
+    ∙ take-append_seam y (others ys) in
+    let rest : others xs ≡ others ys =
+    append_cancel_left x (others xs) (others ys)
+    (same ∙ ap (λ (row : List _). row ++ others ys) (sym first)) in
+    λ i. first i ∷ same_rows n xs ys h.1 k.1 (omega (arith, counted)) rest i
+
+pub all_more : {A : Type 0} (P : A → Type 0) (xs : List A) (i : ℕ) (d : A) → i < length xs
+    → AllByRecursion P (take i xs) → P (get_or xs i d) → AllByRecursion P (take (i + 1) xs)
+all_more P xs i d less h k =
+    subst (AllByRecursion P) (sym (take-suc xs i d less) ∙ ap (λ (n : ℕ). take n xs) (sym (add-one i)))
+    (all_both P (take i xs) (get_or xs i d ∷ []) h (k, tt))
+
+before_it : {A : Type 0} (P : A → Type 0) (xs : List A) (i k : ℕ) (x : A)
+    → AllByRecursion P (take i xs) → k < i → slice_get xs k ≡ Some x → P x
+before_it P [] i k x h less is = absurd cc
+before_it P (y ∷ ys) zero k x h less is = absurd (omega (arith, less))
+before_it P (y ∷ ys) (suc i) zero x h less is = let same : y ≡ x = cc in subst P same h.0
+before_it P (y ∷ ys) (suc i) (suc k) x h less is =
+    before_it P ys i k x h.1 (omega (arith, less)) is
+
+-- all before it hold, and it does not
+pub first_without : (Holds : List ℕ → Type 0) (ps : List (List ℕ)) (i : ℕ) → i < length ps
+    → AllByRecursion Holds (take i ps) → ¬ (Holds (get_or ps i []))
+    → IsFirstWithout Holds ps (i + 1)
+first_without Holds ps i less before fails = record {
+  profile = get_or ps i [];
+  there = ap (at_position ps) (add-one i) ∙ slice_get-get_or ps i [] less;
+  overflows = fails;
+  first = first;
+}
+  where
+    first : (earlier : ℕ) (other : List ℕ) → earlier < i + 1
+        → at_position ps earlier ≡ Some other → Holds other
+    first zero other h is = absurd cc
+    first (suc k) other h is = before_it Holds ps i k other before (omega (arith, h)) is
+
+module _ (R : List ℕ → List Ratio → Type 0) where
+  pub one_row_more : (ps : List (List ℕ)) (i : ℕ) (payoffs next row : List Ratio) → i < length ps
+      → AreRowsAt R (take i ps) payoffs → R (get_or ps i []) row → next ≡ payoffs ++ row
+      → AreRowsAt R (take (i + 1) ps) next
+  one_row_more ps i payoffs next row less h right next_is =
+      let all = λ (rows : List (List Ratio)). flat_map (λ row. row) rows in record {
+        rows = h.rows ++ row ∷ [];
+        joined = next_is
+            ∙ (λ j. h.joined j ++ sym (append-nil row) j)
+            ∙ sym (flat_map-append (λ (row : List Ratio). row) h.rows (row ∷ []));
+        right = subst (λ (qs : List (List ℕ)). AllZip R qs (h.rows ++ row ∷ []))
+            (sym (take-suc ps i [] less) ∙ ap (λ (n : ℕ). take n ps) (sym (add-one i)))
+            (zip_more R (take i ps) h.rows (get_or ps i []) row h.right right);
+      }
+
+  counted : (n : ℕ) (rows : List (List Ratio)) → AllByRecursion (λ row. length row ≡ n) rows
+      → length (flat_map (λ row. row) rows) ≡ length rows * n
+  counted n [] h = omega arith
+  counted n (row ∷ rows) h =
+      let both = length-append row (flat_map (λ row. row) rows) in
+      omega (arith, both, h.0, counted n rows h.1, suc-mul (length rows) n)
+
+  -- if each row has this many
+  pub rows_counted : (n : ℕ) → ((p : List ℕ) (row : List Ratio) → R p row → length row ≡ n)
+      → (ps : List (List ℕ)) (payoffs : List Ratio) → AreRowsAt R ps payoffs
+      → length payoffs ≡ length ps * n
+  rows_counted n each ps payoffs h =
+      ap length h.joined
+      ∙ counted n h.rows (all_second R (λ row. length row ≡ n) ps h.rows each h.right)
+      ∙ ap (λ (m : ℕ). m * n) (sym (as_many R ps h.rows h.right))
+
+  -- if all items of each row are fractions
+  pub rows_fractions : ((p : List ℕ) (row : List Ratio) → R p row → AllByRecursion IsFraction row)
+      → (ps : List (List ℕ)) (payoffs : List Ratio) → AreRowsAt R ps payoffs
+      → AllByRecursion IsFraction payoffs
+  rows_fractions each ps payoffs h =
+      subst (AllByRecursion IsFraction) (sym h.joined)
+      (all_joined IsFraction h.rows
+      (all_second R (AllByRecursion IsFraction) ps h.rows each h.right))
+
+  -- the table of rows that are right is a form
+  pub form_by_rows : (labels : ℕ → List (List ℕ)) (g : Game) (t : Table) (payoffs : List Ratio)
+      → ((p : List ℕ) (row : List Ratio) → R p row → length row ≡ length g.players)
+      → IsTableOf t g.title g.comment g.players (map labels (players_of g)) payoffs
+      → AreRowsAt R (form_profiles labels g) payoffs → IsFormBy labels R g t
+  form_by_rows labels g t payoffs each made h =
+      let n = length g.players in
+      let ps = form_profiles labels g in
+      let listed : map (λ e. e.profile) t.entries ≡ ps =
+      made.is_table.one_entry_each
+      ∙ ap (λ (own : List (List (List ℕ))). profiles (map length own)) made.strategies_are in
+      let as_rows : length (rows t) ≡ length h.rows =
+      length-map t.entries (λ e. e.payoffs) ∙ sym (length-map t.entries (λ e. e.profile))
+      ∙ ap length listed ∙ as_many R ps h.rows h.right in
+      let same : rows t ≡ h.rows =
+      same_rows n (rows t) h.rows
+      (subst (λ (players : List (List ℕ)). AllByRecursion (λ row. length row ≡ length players)
+      (rows t)) made.players_are made.is_table.one_payoff_each)
+      (all_second R (λ row. length row ≡ n) ps h.rows each h.right) as_rows
+      (made.payoffs_are ∙ h.joined) in
+      record {
+        title = made.title_is;
+        comment = made.comment_is;
+        players = made.players_are;
+        strategies = made.strategies_are;
+        profiles = made.is_table.one_entry_each;
+        payoffs = zip_of_one R (λ e. e.profile) (λ e. e.payoffs) t.entries
+            (subst (λ (qs : List (List ℕ)). AllZip R qs (rows t)) (sym listed)
+            (subst (λ (rs : List (List Ratio)). AllZip R ps rs) (sym same) h.right));
+      }

@@ -1,0 +1,382 @@
+-- A value over the common denominator, with the shares that it is the sum of: at a leaf, at a move,
+-- and as the children of a chance move are added.
+use Rattle.std.proofs.Common.{◌≡◌, ◌⊎◌, inl, inr, ℕ, ℤ, zero, suc, pos, ◌+◌, ◌*◌, ◌/◌, ◌^◌, ◌<◌}
+use Rattle.std.proofs.Common.{◌≤◌, Bool, true, false, List, [], ◌∷◌, ◌++◌, Option, Some, arith}
+use Rattle.std.proofs.Common.{refl, ap, sym, subst, ◌∙◌}
+use Rattle.std.specs.Bool.{Decides}
+use Rattle.std.specs.Int.{◌∣◌}
+use Rattle.std.specs.Ordering.{int_eq}
+use Rattle.std.specs.Prelude.{◌+ℤ◌, ◌*ℤ◌, ◌&&◌, nat_eq, unsigned_abs, if◌then◌else◌}
+use Rattle.std.proofs.lemmas.Bool.{ne_eqb}
+use Rattle.std.proofs.lemmas.Int.{unsigned_abs-mul}
+use Rattle.std.proofs.Math.IntN.{*ℤ_comm, *ℤ-zero, zero-*ℤ, +ℤ_assoc, +ℤ_comm, +ℤ_idl}
+use Rattle.std.proofs.Math.Nat.{dvd-mul_right, eq-zero_of_zero-dvd, le-mul_of_pos_right}
+use Rattle.std.proofs.Math.Nat.{mul-le-mul_right}
+use Rattle.std.proofs.lemmas.Nat.Gcd.{dvd_trans}
+use Rattle.gf_fraction.specs.Ratio.{HasValue, IsFraction, IsWithin, Ratio}
+use Rattle.gf_fraction.specs.Rational.{zero_ratio}
+use Rattle.gf_fraction.specs.Computed.{product_of, sum_of}
+use Rattle.gf_fraction.proofs.EqualRatios.{Decides-ratio}
+use Rattle.gf_fraction.proofs.Integers.{*ℤ_assoc, add-*ℤ}
+use Rattle.gf_tree.specs.Game.{Game}
+use Rattle.gf_form.specs.inner.rows.Demands.{meets}
+use Rattle.gf_form.specs.inner.rows.ReachedNodes.{at_least_one}
+use Rattle.gf_form.specs.inner.rows.Shares.{IsExact, met_bounds, over, pay_at, share, share_bound}
+use Rattle.gf_form.specs.inner.rows.Shares.{sum_of_shares}
+use Rattle.gf_form.specs.inner.values.Values.{plus_of, times_of}
+use Rattle.gf_form.specs.declared.rows.paths.Reached.{Reached}
+use Rattle.gf_form.proofs.lemmas.rows.OverOneDenominator.{over_value, product_over, quotient_above}
+use Rattle.gf_form.proofs.lemmas.rows.OverOneDenominator.{quotient_le}
+use Rattle.gf_form.proofs.lemmas.rows.OverOneDenominator.{quotient_of_product, sum_over, sum_size}
+use Rattle.gf_form.proofs.lemmas.rows.ShareSums.{bound_first, bounds_append, met_first}
+use Rattle.gf_form.proofs.lemmas.rows.ShareSums.{shares_append}
+use Rattle.gf_form.proofs.lemmas.values.ValuesComputed.{zero_fraction}
+use Rattle.gf_form.proofs.lemmas.values.Zeros.{plus_zero, times_zero, zero_plus}
+
+-- ---- integers
+
+mul-plus : (a b c : ℤ) → a *ℤ (b +ℤ c) ≡ a *ℤ b +ℤ a *ℤ c
+mul-plus a b c = *ℤ_comm a (b +ℤ c) ∙ add-*ℤ b c a ∙ (λ i. *ℤ_comm b a i +ℤ *ℤ_comm c a i)
+
+pub at_least : (a : ℕ) → (a ≤ at_least_one a) × (1 ≤ at_least_one a)
+at_least zero = (omega arith, omega arith)
+at_least (suc a) =
+    let e : at_least_one (suc a) ≡ suc a =
+    ap (λ b. if b then 1 else suc a) (ne_eqb (suc a) 0 (λ z. omega (arith, z))) in
+    (omega (arith, e), omega (arith, e))
+
+-- a size times a number above zero
+size_below : (m b limit : ℕ) → 1 ≤ b → m * b < limit → m < limit
+size_below m b limit some h = omega (arith, h, le-mul_of_pos_right m some)
+
+sum_below : (x y : ℤ) (b : ℕ)
+    → unsigned_abs (x +ℤ y) * b ≤ unsigned_abs x * b + unsigned_abs y * b
+sum_below x y b = omega (arith, mul-le-mul_right b (sum_size x y))
+
+-- a share of chance, in size
+chance_below : (a b : ℕ) (x : ℤ)
+    → unsigned_abs (pos a *ℤ x) * b ≤ unsigned_abs x * (b * at_least_one a)
+chance_below a b x =
+    let size : unsigned_abs (pos a *ℤ x) ≡ a * unsigned_abs x = unsigned_abs-mul (pos a) x in
+    let times = ap (λ k. k * b) size in
+    let le = mul-le-mul_right (unsigned_abs x * b) (at_least a).0 in
+    omega (arith, times, le)
+
+-- ---- parts of the common denominator
+
+right_zero : (z : ℤ) → z +ℤ pos 0 ≡ z
+right_zero z = +ℤ_comm z (pos 0) ∙ +ℤ_idl z
+
+module _ (den : ℕ) (den_above : 0 < den) (den_within : den < 2 ^ 127) where
+  -- over what is left of the denominator after a path that has so much of it, or zero, which
+  -- demands nothing of the denominators
+  abbrev pub IsPart : ℕ → Ratio → ℤ → Type 0
+  IsPart by r n = ((by ∣ den) × HasValue r n (den / by)) ⊎ ((r ≡ zero_ratio) × (n ≡ pos 0))
+
+  pub part_value : (by : ℕ) (r : Ratio) (n : ℤ) → IsPart by r n → HasValue r n (den / by)
+  part_value by r n (inl part) = part.1
+  part_value by r n (inr none) =
+      let nothing : 0 * (den / by) ≡ 0 = omega arith in rw (none.0, none.1) (ap pos nothing)
+
+  left_within : (by : ℕ) → by ∣ den → den / by < 2 ^ 127
+  left_within by divides = omega (arith, den_within, quotient_le by den den_above divides)
+
+  sum_part : (by : ℕ) (x y : Ratio) (m n : ℤ) → IsFraction x → IsFraction y → IsPart by x m
+      → IsPart by y n → IsWithin m → IsWithin n → IsWithin (m +ℤ n)
+      → (r : Ratio) × (sum_of x y ≡ Some r) × IsFraction r × IsPart by r (m +ℤ n)
+  sum_part by x y m n fx fy (inl px) (inl py) hm hn hs =
+      let sum = sum_over x y m n (den / by) fx fy (quotient_above by den den_above px.0)
+      (left_within by px.0) px.1 py.1 hm hn hs in
+      (sum.0, sum.1, sum.2, inl (px.0, sum.3))
+  sum_part by x y m n fx fy (inr px) py hm hn hs = (
+    y,
+    ap (λ (r : Ratio). sum_of r y) px.0 ∙ zero_plus y fy,
+    fy,
+    subst (IsPart by y) (sym (+ℤ_idl n) ∙ ap (λ (z : ℤ). z +ℤ n) (sym px.1)) py,
+  )
+  sum_part by x y m n fx fy (inl px) (inr py) hm hn hs = (
+    x,
+    ap (sum_of x) py.0 ∙ plus_zero x fx,
+    fx,
+    subst (IsPart by x) (sym (right_zero m) ∙ ap (λ (z : ℤ). m +ℤ z) (sym py.1)) (inl px),
+  )
+
+  product_part : (by : ℕ) (p y : Ratio) (n : ℤ) → IsFraction p → IsFraction y
+      → IsPart (by * p.den) y n → IsWithin (p.num *ℤ n)
+      → (r : Ratio) × (product_of p y ≡ Some r) × IsFraction r × IsPart by r (p.num *ℤ n)
+  product_part by p y n fp fy (inl py) hn =
+      let part : by ∣ den = dvd_trans by (dvd-mul_right by p.den) py.0 in
+      let product = product_over p y n (den / by) (den / (by * p.den)) fp fy
+      (quotient_of_product by p.den den den_above py.0) (quotient_above by den den_above part)
+      (left_within by part) py.1 hn in
+      (product.0, product.1, product.2, inl (part, product.3))
+  product_part by p y n fp fy (inr py) hn = (
+    zero_ratio,
+    ap (product_of p) py.0 ∙ times_zero p fp,
+    zero_fraction,
+    inr (refl, ap (λ (z : ℤ). p.num *ℤ z) py.1 ∙ *ℤ-zero p.num),
+  )
+
+-- ---- values
+
+module _ (g : Game) (player den : ℕ) (den_above : 0 < den) (den_within : den < 2 ^ 127)
+    (steps choices : List ℕ) where
+  abbrev shares : List Reached → ℤ
+  shares rs = sum_of_shares g player den steps choices rs
+
+  abbrev bounds : List Reached → ℕ
+  bounds rs = met_bounds g player den steps choices rs
+
+  abbrev IsOver : ℕ → Ratio → ℤ → Type 0
+  IsOver by r n = IsPart den den_above den_within by r n
+
+  -- The value is that of an amount over what is left of the denominator; the shares of these nodes,
+  -- which come after a path, are the path's weight times the amount.
+  pub record IsValued (value : Option Ratio) (weight bound by : ℕ) (rs : List Reached)
+      : Type 0 where
+    pub ratio : Ratio
+    pub value_is : value ≡ Some ratio
+    pub fraction : IsFraction ratio
+    pub amount : ℤ
+    pub amount_is : IsOver by ratio amount
+    pub shares_are : shares rs ≡ pos weight *ℤ amount
+    pub size : unsigned_abs amount * bound ≤ bounds rs
+
+  -- the same of a sum that goes on from an amount
+  pub record IsAdded (value : Option Ratio) (start : ℤ) (weight bound by : ℕ)
+      (rs : List Reached) : Type 0 where
+    pub ratio : Ratio
+    pub value_is : value ≡ Some ratio
+    pub fraction : IsFraction ratio
+    pub amount : ℤ
+    pub amount_is : IsOver by ratio (start +ℤ amount)
+    pub shares_are : shares rs ≡ pos weight *ℤ amount
+    pub size : unsigned_abs amount * bound ≤ bounds rs
+
+  pub from_nothing : (value : Option Ratio) (weight bound by : ℕ) (rs : List Reached)
+      → IsAdded value (pos 0) weight bound by rs → IsValued value weight bound by rs
+  from_nothing value weight bound by rs h = record {
+    ratio = h.ratio;
+    value_is = h.value_is;
+    fraction = h.fraction;
+    amount = h.amount;
+    amount_is = subst (IsOver by h.ratio) (+ℤ_idl h.amount) h.amount_is;
+    shares_are = h.shares_are;
+    size = h.size;
+  }
+
+  -- numbers of a path that are not known stand for any, since the value is zero there
+  pub valued_known : (room : Bool) (value : Option Ratio) (weight bound by : ℕ) (rs : List Reached)
+      → IsValued value (if room then weight else 0) (if room then bound else 1)
+      (if room then by else 0) rs → IsValued value weight bound by rs
+  valued_known true value weight bound by rs h = h
+  valued_known false value weight bound by rs h = nothing h.amount_is
+    where
+      nothing : IsOver 0 h.ratio h.amount → IsValued value weight bound by rs
+      nothing (inl over) = absurd (omega (arith, den_above, eq-zero_of_zero-dvd over.0))
+      nothing (inr none) =
+          let small : 0 * bound ≡ 0 = omega arith in
+          record {
+            ratio = h.ratio;
+            value_is = h.value_is;
+            fraction = h.fraction;
+            amount = h.amount;
+            amount_is = inr none;
+            shares_are = h.shares_are ∙ zero-*ℤ h.amount ∙ sym (*ℤ-zero (pos weight))
+                ∙ ap (λ (z : ℤ). pos weight *ℤ z) (sym none.1);
+            size = omega (arith, ap (λ (z : ℤ). unsigned_abs z * bound) none.1, small);
+          }
+
+  -- further nodes that the choices do not reach
+  pub valued_before : (value : Option Ratio) (weight bound by : ℕ) (xs ys : List Reached)
+      → IsValued value weight bound by xs → shares ys ≡ pos 0
+      → IsValued value weight bound by (xs ++ ys)
+  valued_before value weight bound by xs ys h none = record {
+    ratio = h.ratio;
+    value_is = h.value_is;
+    fraction = h.fraction;
+    amount = h.amount;
+    amount_is = h.amount_is;
+    shares_are = shares_append g player den steps choices xs ys
+        ∙ (λ i. h.shares_are i +ℤ none i)
+        ∙ right_zero (pos weight *ℤ h.amount);
+    size = omega (arith, h.size, bounds_append g player den steps choices xs ys);
+  }
+
+  pub valued_behind : (value : Option Ratio) (weight bound by : ℕ) (xs ys : List Reached)
+      → shares xs ≡ pos 0 → IsValued value weight bound by ys
+      → IsValued value weight bound by (xs ++ ys)
+  valued_behind value weight bound by xs ys none h = record {
+    ratio = h.ratio;
+    value_is = h.value_is;
+    fraction = h.fraction;
+    amount = h.amount;
+    amount_is = h.amount_is;
+    shares_are = shares_append g player den steps choices xs ys
+        ∙ (λ i. none i +ℤ h.shares_are i)
+        ∙ +ℤ_idl (pos weight *ℤ h.amount);
+    size = omega (arith, h.size, bounds_append g player den steps choices xs ys);
+  }
+
+  -- ---- a node's own payoff
+
+  module _ (own : Reached) (pay : Ratio) (pays : pay_at g player own ≡ pay) (f : IsFraction pay)
+      (exact : ¬ (pay_at g player own ≡ zero_ratio) → IsExact g player den own)
+      (met : meets steps choices own.path.demands ≡ true) where
+    abbrev left : ℕ
+    left = den / own.path.den
+
+    abbrev amount : ℤ
+    amount = over left (pay_at g player own)
+
+    abbrev size : ℕ
+    size = unsigned_abs amount * own.path.bound
+
+    amount_is : IsOver own.path.den pay amount
+    amount_is =
+        subst (λ (r : Ratio). IsOver own.path.den r amount) pays
+        (by _ refl (Decides-ratio (pay_at g player own) zero_ratio))
+      where
+        by : (b : Bool) → (int_eq (pay_at g player own).num (pos 0)
+            && nat_eq (pay_at g player own).den 1) ≡ b
+            → Decides b (pay_at g player own ≡ zero_ratio)
+            → IsOver own.path.den (pay_at g player own) amount
+        by true is decides =
+            let none : pay_at g player own ≡ zero_ratio = decides.0 refl in
+            inr (none, ap (over left) none ∙ zero-*ℤ (pos (left / 1)))
+        by false is decides =
+            let whole = exact (λ none. let e : false ≡ true = decides.1 none in absurd cc) in
+            inl (whole.path, over_value (pay_at g player own) left whole.pay)
+
+    bound_is : size ≡ share_bound g player den own
+    bound_is = omega arith
+
+    pub leaf_valued :
+        IsValued (Some pay) own.path.weight own.path.bound own.path.den (own ∷ [])
+    leaf_valued = record {
+      ratio = pay;
+      value_is = refl;
+      fraction = f;
+      amount = amount;
+      amount_is = amount_is;
+      shares_are = met_first g player den steps choices own [] met
+          ∙ right_zero (share g player den own);
+      size = omega (arith, bound_is, bound_first g player den steps choices own [] met);
+    }
+
+    pub move_valued : (below : Option Ratio) (rs : List Reached) → 1 ≤ own.path.bound
+        → bounds (own ∷ rs) < 2 ^ 127
+        → IsValued below own.path.weight own.path.bound own.path.den rs
+        → IsValued (plus_of (Some pay) below) own.path.weight own.path.bound own.path.den
+        (own ∷ rs)
+    move_valued below rs some limit h =
+        let both = sum_below amount h.amount own.path.bound in
+        let all = bound_first g player den steps choices own rs met in
+        let first : IsWithin amount =
+        size_below (unsigned_abs amount) own.path.bound (2 ^ 127) some
+        (omega (arith, bound_is, all, limit)) in
+        let second : IsWithin h.amount =
+        size_below (unsigned_abs h.amount) own.path.bound (2 ^ 127) some
+        (omega (arith, h.size, all, limit)) in
+        let whole : IsWithin (amount +ℤ h.amount) =
+        size_below (unsigned_abs (amount +ℤ h.amount)) own.path.bound (2 ^ 127) some
+        (omega (arith, both, bound_is, h.size, all, limit)) in
+        let sum = sum_part den den_above den_within own.path.den pay h.ratio amount h.amount f
+        h.fraction amount_is h.amount_is first second whole in
+        record {
+          ratio = sum.0;
+          value_is = ap (plus_of (Some pay)) h.value_is ∙ sum.1;
+          fraction = sum.2;
+          amount = amount +ℤ h.amount;
+          amount_is = sum.3;
+          shares_are = met_first g player den steps choices own rs met
+              ∙ ap (λ z. share g player den own +ℤ z) h.shares_are
+              ∙ sym (mul-plus (pos own.path.weight) amount h.amount);
+          size = omega (arith, both, bound_is, h.size, all);
+        }
+
+  -- ---- the children of a chance move
+
+  pub no_child : (sum : Ratio) (start : ℤ) (weight bound by : ℕ) → IsFraction sum
+      → IsOver by sum start → IsAdded (Some sum) start weight bound by []
+  no_child sum start weight bound by f is = record {
+    ratio = sum;
+    value_is = refl;
+    fraction = f;
+    amount = pos 0;
+    amount_is = subst (IsOver by sum) (sym (right_zero start)) is;
+    shares_are = sym (*ℤ-zero (pos weight));
+    size = omega arith;
+  }
+
+  module _ (chance : Ratio) (fc : IsFraction chance)
+      (sign : chance.num ≡ pos (unsigned_abs chance.num)) (sum : Ratio) (start : ℤ)
+      (fs : IsFraction sum) (weight bound by : ℕ) (starts : IsOver by sum start)
+      (some : 1 ≤ bound) (value : Option Ratio) (xs ys : List Reached)
+      (h : IsValued value (weight * unsigned_abs chance.num)
+      (bound * at_least_one (unsigned_abs chance.num)) (by * chance.den) xs)
+      (limit : unsigned_abs start * bound + bounds (xs ++ ys) < 2 ^ 127) where
+    abbrev a : ℕ
+    a = unsigned_abs chance.num
+
+    abbrev part : ℤ
+    part = chance.num *ℤ h.amount
+
+    part_below : unsigned_abs part * bound ≤ bounds xs
+    part_below =
+        let signed = ap (λ z. unsigned_abs (z *ℤ h.amount) * bound) sign in
+        omega (arith, signed, chance_below a bound h.amount, h.size)
+
+    both_below : unsigned_abs (start +ℤ part) * bound ≤ unsigned_abs start * bound + bounds xs
+    both_below = omega (arith, sum_below start part bound, part_below)
+
+    lists : bounds (xs ++ ys) ≡ bounds xs + bounds ys
+    lists = bounds_append g player den steps choices xs ys
+
+    part_within : IsWithin part
+    part_within = size_below (unsigned_abs part) bound (2 ^ 127) some
+        (omega (arith, part_below, lists, limit))
+
+    start_within : IsWithin start
+    start_within = size_below (unsigned_abs start) bound (2 ^ 127) some (omega (arith, limit))
+
+    next_within : IsWithin (start +ℤ part)
+    next_within = size_below (unsigned_abs (start +ℤ part)) bound (2 ^ 127) some
+        (omega (arith, both_below, lists, limit))
+
+    -- the sum so far
+    pub next_sum : (next : Ratio) × (plus_of (Some sum) (times_of chance value) ≡ Some next)
+        × IsFraction next × IsOver by next (start +ℤ chance.num *ℤ h.amount)
+    next_sum =
+        let times = product_part den den_above den_within by chance h.ratio h.amount fc h.fraction
+        h.amount_is part_within in
+        let sums = sum_part den den_above den_within by sum times.0 start part fs times.2 starts
+        times.3 start_within part_within next_within in (
+          sums.0,
+          ap (λ o. plus_of (Some sum) (times_of chance o)) h.value_is
+              ∙ ap (plus_of (Some sum)) times.1
+              ∙ sums.1,
+          sums.2,
+          sums.3,
+        )
+
+    pub next_limit :
+        unsigned_abs (start +ℤ chance.num *ℤ h.amount) * bound + bounds ys < 2 ^ 127
+    next_limit = omega (arith, both_below, lists, limit)
+
+    pub child_added : (total : Option Ratio)
+        → IsAdded total (start +ℤ chance.num *ℤ h.amount) weight bound by ys
+        → IsAdded total start weight bound by (xs ++ ys)
+    child_added total later = record {
+      ratio = later.ratio;
+      value_is = later.value_is;
+      fraction = later.fraction;
+      amount = part +ℤ later.amount;
+      amount_is = subst (IsOver by later.ratio) (+ℤ_assoc start part later.amount)
+          later.amount_is;
+      shares_are = shares_append g player den steps choices xs ys
+          ∙ (λ i. (h.shares_are ∙ *ℤ_assoc (pos weight) (pos a) h.amount
+          ∙ ap (λ z. pos weight *ℤ (z *ℤ h.amount)) (sym sign)) i +ℤ later.shares_are i)
+          ∙ sym (mul-plus (pos weight) part later.amount);
+      size = omega (arith, sum_below part later.amount bound, part_below, later.size, lists);
+    }

@@ -1,0 +1,135 @@
+-- The strategies of a profile choose an action at each set.
+use Rattle.std.proofs.Common.{◌≡◌, ℕ, zero, suc, ◌+◌, ◌-◌, ◌<◌, ◌≤◌, Bool, true}
+use Rattle.std.proofs.Common.{false, cond, List, [], ◌∷◌, Some, length, map}
+use Rattle.std.proofs.Common.{get_or, refl, sym, ap, ◌∙◌, subst, arith, true≢false}
+use Rattle.std.specs.Prelude.{◌==◌, option_map, unwrap_or, zip, filter, find, if◌then◌else◌}
+use Rattle.std.specs.List.{AllZip, Contains}
+use Rattle.std.proofs.lemmas.Bool.{and_parts}
+use Rattle.std.proofs.lemmas.List.{get_or_default}
+use Rattle.std.proofs.lemmas.Option.{none-some}
+use Rattle.gf_nfg.specs.Profiles.{numbers_from}
+use Rattle.gf_nfg.specs.ProfilePlaces.{IsProfile}
+use Rattle.gf_nfg.proofs.BackProfiles.{every_profile}
+use Rattle.gf_tree.specs.Description.{SetKey, InformationSet, same_set}
+use Rattle.gf_tree.specs.FiniteMap.{Described, description_at}
+use Rattle.gf_tree.specs.Game.{Game, IsGame, set_at}
+use Rattle.gf_tree.specs.FirstUse.{player_keys, player_sets}
+use Rattle.gf_form.specs.Strategies.{action_counts, strategies, players_of, strategies_at}
+use Rattle.gf_form.specs.Strategies.{strategy_at, choice_at, choices_by, full_profiles}
+use Rattle.gf_form.specs.Plays.{HasActions}
+use Rattle.gf_form.proofs.lemmas.strategies.Choices.{IsChoice, every_choice}
+use Rattle.gf_form.proofs.lemmas.strategies.Lookups.{strategy_before}
+use Rattle.gf_form.proofs.lemmas.strategies.KnownSets.{set_is}
+
+-- ---- a choice at each set of a list
+
+within : (key : SetKey) (s : Described SetKey InformationSet)
+    (ss : List (Described SetKey InformationSet)) (action : ℕ) (others : List ℕ)
+    (set : InformationSet) (b : Bool)
+    → (1 ≤ action) × (action ≤ length s.description.actions)
+    → (option_map (λ e. e.description) (find (λ e. same_set e.key key) ss) ≡ Some set
+    → (1 ≤ choice_at (map (λ e. e.key) ss) others key)
+    × (choice_at (map (λ e. e.key) ss) others key ≤ length set.actions))
+    → option_map (λ e. e.description) (cond b (Some s) (find (λ e. same_set e.key key) ss))
+    ≡ Some set
+    → (1 ≤ (if b then action else choice_at (map (λ e. e.key) ss) others key))
+    × ((if b then action else choice_at (map (λ e. e.key) ss) others key) ≤ length set.actions)
+within key s ss action others set true here later is =
+    let same : length s.description.actions ≡ length set.actions =
+    ap (λ o. length (unwrap_or o s.description).actions) is in
+    (here.0, omega (arith, here.1, same))
+within key s ss action others set false here later is = later is
+
+choice_within : (key : SetKey) (ss : List (Described SetKey InformationSet))
+    (strategy : List ℕ) (set : InformationSet)
+    → IsChoice (map (λ s. length s.description.actions) ss) strategy
+    → description_at same_set ss key ≡ Some set
+    → (1 ≤ choice_at (map (λ s. s.key) ss) strategy key)
+    × (choice_at (map (λ s. s.key) ss) strategy key ≤ length set.actions)
+choice_within key [] strategy set h is = absurd (none-some set is)
+choice_within key (s ∷ ss) [] set h is = absurd h
+choice_within key (s ∷ ss) (action ∷ others) set h is = within key s ss action others set
+    (same_set s.key key) h.0 (choice_within key ss others set h.1) is
+
+-- a set is found among its owner's
+find_kept : {X : Type 0} (own test : X → Bool) → ((x : X) → test x ≡ true → own x ≡ true)
+    → (xs : List X) → find test (filter own xs) ≡ find test xs
+find_kept own test owned [] = refl
+find_kept {X} own test owned (x ∷ xs) =
+    by_tests (own x) (test x) (owned x) refl (find_kept own test owned xs)
+  where
+    by_tests : (a b : Bool)
+        → (b ≡ true → a ≡ true) → test x ≡ b → find test (filter own xs) ≡ find test xs
+        → find test (cond a (x ∷ filter own xs) (filter own xs)) ≡ cond b (Some x) (find test xs)
+    by_tests true true h e others = ap (λ t. cond t (Some x) (find test (filter own xs))) e
+    by_tests true false h e others =
+        ap (λ t. cond t (Some x) (find test (filter own xs))) e ∙ others
+    by_tests false true h e others = absurd (true≢false (sym (h refl)))
+    by_tests false false h e others = others
+
+pub among_his : (g : Game) (key : SetKey)
+    → description_at same_set (player_sets g key.player) key ≡ set_at g key
+among_his g key = ap (option_map (λ e. e.description))
+    (find_kept (λ (s : Described SetKey InformationSet). s.key.player == key.player)
+    (λ s. same_set s.key key)
+    (λ s e. (and_parts (s.key.player == key.player) (s.key.number == key.number) e).0) g.sets)
+
+-- ---- a strategy for each player
+
+abbrev AreStrategies : Game → List (List ℕ) → List ℕ → Type 0
+AreStrategies g all players =
+    AllZip (λ strategy player. Contains (strategies g player) strategy) all players
+
+strategy_of : (g : Game) (all : List (List ℕ)) (k n i : ℕ) → AreStrategies g all (numbers_from k n)
+    → i < n → Contains (strategies g (k + i)) (get_or all i [])
+strategy_of g all k zero i h less = absurd (omega arith)
+strategy_of g [] k (suc n) i h less = absurd h
+strategy_of g (strategy ∷ all) k (suc n) zero h less =
+    let e : k ≡ k + 0 = omega arith in subst (λ p. Contains (strategies g p) strategy) e h.0
+strategy_of g (strategy ∷ all) k (suc n) (suc i) h less =
+    let e : k + 1 + i ≡ k + suc i = omega arith in
+    subst (λ p. Contains (strategies g p) (get_or all i [])) e
+    (strategy_of g all (k + 1) n i h.1 (omega arith))
+
+module _ (g : Game) (game : IsGame g) where
+  pub his_actions : (strategy : List ℕ) (key : SetKey) (set : InformationSet)
+      → Contains (strategies g key.player) strategy → set_at g key ≡ Some set
+      → (1 ≤ choice_at (player_keys g key.player) strategy key)
+      × (choice_at (player_keys g key.player) strategy key ≤ length set.actions)
+  his_actions strategy key set his is =
+      choice_within key (player_sets g key.player) strategy set
+      ((every_choice (action_counts g key.player) strategy).0 his) (among_his g key ∙ is)
+
+  pub have_actions : (all : List (List ℕ)) → AreStrategies g all (players_of g)
+      → HasActions g (choices_by g all)
+  have_actions all h key set is above =
+      let known = (set_is g game key set is).player in
+      let player : 1 + (key.player - 1) ≡ key.player = omega arith in
+      let his : Contains (strategies g key.player) (strategy_at all key.player) =
+      subst (Contains (strategies g key.player)) (sym (strategy_before all key.player above))
+      (subst (λ p. Contains (strategies g p) (get_or all (key.player - 1) [])) player
+      (strategy_of g all 1 (length g.players) (key.player - 1) h (omega arith))) in
+      his_actions (strategy_at all key.player) key set his is
+
+-- ---- the strategies of a profile
+
+got : (xs : List (List ℕ)) (s : ℕ) → 1 ≤ s → s ≤ length xs → Contains xs (strategy_at xs s)
+got xs s above within =
+    let less : s - 1 < length xs = omega arith in
+    subst (Contains xs) (sym (strategy_before xs s above))
+    (s - 1, less, get_or_default xs (s - 1) (get_or xs (s - 1) []) [] less)
+
+are_strategies : (g : Game) (players profile : List ℕ)
+    → IsProfile (map (λ player. length (strategies g player)) players) profile
+    → AreStrategies g (map (λ p. strategy_at (strategies g p.0) p.1) (zip players profile)) players
+are_strategies g [] [] h = tt
+are_strategies g [] (s ∷ profile) h = absurd h
+are_strategies g (player ∷ players) [] h = absurd h
+are_strategies g (player ∷ players) (s ∷ profile) h =
+    (got (strategies g player) s h.0.0 h.0.1, are_strategies g players profile h.1)
+
+pub profile_strategies : (g : Game) (profile : List ℕ) → Contains (full_profiles g) profile
+    → AllZip (λ strategy player. Contains (strategies g player) strategy) (strategies_at g profile)
+    (players_of g)
+profile_strategies g profile h = are_strategies g (players_of g) profile
+    ((every_profile (map (λ player. length (strategies g player)) (players_of g)) profile).0 h)

@@ -1,0 +1,67 @@
+-- What is counted for each player, by his place from 0.
+use Rattle.std.proofs.Common.{◌≡◌, ◌+◌, ◌<◌, ℕ, List, [], Vec, Global, length, map, get_or}
+use Rattle.std.proofs.Common.{sym, ap, ◌∙◌, arith}
+use Rattle.std.proofs.lemmas.Grind.{get_or_default_zero}
+use Rattle.std.proofs.lemmas.List.{get_or-map, length-map}
+use Rattle.gf_nfg.specs.Profiles.{product}
+use Rattle.gf_tree.specs.Game.{Game}
+use Rattle.gf_form.specs.inner.strategies.Counted.{AreCounts}
+use Rattle.gf_form.specs.Strategies.{action_counts, strategies}
+use Rattle.gf_form.specs.declared.strategies.counts.Counts.{Counts}
+use Rattle.gf_form.proofs.lemmas.strategies.Choices.{length-all_choices}
+use Rattle.gf_form.proofs.lemmas.strategies.CountedActions.{as_many_players, of_player}
+
+-- the numbers of actions of each player
+abbrev pub actions_in : Counts → List (List ℕ)
+actions_in c = map (λ own. own.items) c.actions.items
+
+module _ (g : Game) (c : Counts) (counts : AreCounts g c) where
+  pub all_counted : length c.actions.items ≡ length g.players
+  all_counted =
+      sym (length-map c.actions.items (λ own. own.items)) ∙ ap length counts.actions
+      ∙ as_many_players g (action_counts g)
+
+  pub strategies_counted : length c.strategies.items ≡ length g.players
+  strategies_counted =
+      ap length counts.strategies ∙ as_many_players g (λ player. length (strategies g player))
+
+  pub actions_of : (i : ℕ) → i < length c.actions.items
+      → get_or (actions_in c) i [] ≡ action_counts g (i + 1)
+  actions_of i less =
+      ap (λ (all : List (List ℕ)). get_or all i []) counts.actions
+      ∙ of_player g (action_counts g) i [] (omega (arith, less, all_counted))
+
+  count_of : (i : ℕ) → i < length c.actions.items
+      → get_or c.strategies.items i 0 ≡ length (strategies g (i + 1))
+  count_of i less =
+      ap (λ (all : List ℕ). get_or all i 0) counts.strategies
+      ∙ of_player g (λ player. length (strategies g player)) i 0
+      (omega (arith, less, all_counted))
+
+-- what is read of the player at a place: how many strategies he has, and how many actions at each
+-- of his sets
+pub record Read (c : Counts) (i whole : ℕ) (own : Vec ℕ Global) (actions : List ℕ) : Type 0 where
+  pub within : i < length c.actions.items
+  pub whole_is : whole ≡ get_or c.strategies.items i whole
+  pub own_is : own ≡ get_or c.actions.items i own
+  pub actions_are : actions ≡ own.items
+
+module _ (g : Game) (c : Counts) (counts : AreCounts g c) (i whole : ℕ) (own : Vec ℕ Global)
+    (actions : List ℕ) (read : Read c i whole own actions) where
+  pub read_actions : actions ≡ get_or (actions_in c) i []
+  read_actions =
+      read.actions_are ∙ ap (λ (own : Vec ℕ Global). own.items) read.own_is
+      ∙ sym (get_or-map (λ own. own.items) c.actions.items i own [] read.within)
+
+  pub read_count : whole ≡ length (strategies g (i + 1))
+  read_count =
+      read.whole_is
+      ∙ get_or_default_zero c.strategies.items i whole
+      (omega (arith, read.within, all_counted g c counts, strategies_counted g c counts))
+      ∙ count_of g c counts i read.within
+
+  -- as many strategies as choices of actions
+  pub read_whole : whole ≡ product actions
+  read_whole =
+      read_count ∙ length-all_choices (action_counts g (i + 1))
+      ∙ ap product (sym (actions_of g c counts i read.within) ∙ sym read_actions)

@@ -1,0 +1,41 @@
+-- The information sets of a game by their keys: what holds for each, and whose they are.
+use Rattle.std.proofs.Common.{◌≡◌, ℕ, true, Some, length, subst}
+use Rattle.std.specs.Prelude.{◌==◌, find}
+use Rattle.std.proofs.lemmas.Bool.{eqb-true}
+use Rattle.gf_tree.specs.Description.{SetKey, InformationSet, same_set, IsSet}
+use Rattle.gf_tree.specs.FiniteMap.{Described}
+use Rattle.gf_tree.specs.Game.{Game, IsGame, set_at}
+use Rattle.gf_tree.specs.FirstUse.{player_keys, player_sets}
+use Rattle.gf_tree.proofs.TreesOnce.{same_set_equality}
+use Rattle.gf_tree.proofs.Uses.{Has, mapped_from}
+use Rattle.gf_tree.proofs.FirstUses.{of_filter}
+use Rattle.gf_form.proofs.lemmas.strategies.Lookups.{Each, each_found, each_mapped, each_weaker}
+
+pub each_set : (g : Game) → IsGame g → (key : SetKey)
+    → Each (IsSet (length g.players) key) (set_at g key)
+each_set g game key =
+    let P = λ (s : Described SetKey InformationSet). IsSet (length g.players) s.key s.description in
+    let test = λ (s : Described SetKey InformationSet). same_set s.key key in
+    each_mapped (IsSet (length g.players) key) (λ s. s.description) (find test g.sets)
+    (each_weaker (λ s. P s × (test s ≡ true)) (λ s. IsSet (length g.players) key s.description)
+    (find test g.sets)
+    (λ s h.
+    subst (λ k. IsSet (length g.players) k s.description) ((same_set_equality s.key key).0 h.1) h.0)
+    (each_found P test g.sets game.each_set))
+
+pub set_is : (g : Game) → IsGame g → (key : SetKey) (set : InformationSet) → set_at g key ≡ Some set
+    → IsSet (length g.players) key set
+set_is g game key set e = subst (Each (IsSet (length g.players) key)) e (each_set g game key)
+
+-- a player's key is that of one of the game's sets, which is his
+pub own_set : (g : Game) (player : ℕ) (key : SetKey) → Has (player_keys g player) key
+    → (s : Described SetKey InformationSet) × Has g.sets s × (s.key ≡ key) × (key.player ≡ player)
+own_set g player key i =
+    let m =
+    mapped_from (λ (s : Described SetKey InformationSet). s.key) (player_sets g player) key i in
+    let there = of_filter (λ s. s.key.player == player) g.sets m.0 m.1 in (
+      m.0,
+      there.0,
+      m.2,
+      subst (λ (k : SetKey). k.player ≡ player) m.2 (eqb-true m.0.key.player player there.1),
+    )

@@ -1,0 +1,162 @@
+-- Labels of strategies, made from labels at the first sets and at the others.
+use Rattle.std.proofs.Common.{◌≡◌, ◌∙◌, ℕ, zero, suc, ◌+◌, ◌-◌, ◌*◌, ◌<◌}
+use Rattle.std.proofs.Common.{List, [], ◌∷◌, ◌++◌, Some, map, length, get_or, take, refl, ap}
+use Rattle.std.proofs.Common.{sym, subst, add-one, arith, append_assoc}
+use Rattle.std.specs.Prelude.{decimal, slice_get, unwrap_or}
+use Rattle.std.proofs.lemmas.List.{get_or_default, length-map}
+use Rattle.std.proofs.Math.Seq.{take-suc}
+use Rattle.std.proofs.Math.Nat.{mul_assoc}
+use Rattle.gf_nfg.specs.Profiles.{product}
+use Rattle.gf_form.specs.Strategies.{all_choices, strategy_label}
+use Rattle.gf_form.proofs.lemmas.strategies.Choices.{IsChoice, are_choices, every_choice}
+use Rattle.gf_form.proofs.lemmas.strategies.Choices.{length-all_choices, place}
+use Rattle.gf_form.proofs.lemmas.strategies.Choices.{place_at}
+use Rattle.gf_form.proofs.lemmas.strategies.CountedActions.{take_past}
+use Rattle.gf_form.proofs.lemmas.rows.DigitPlaces.{product_joined}
+use Rattle.gf_form.proofs.lemmas.reduced.FirstStrategies.{choice_length}
+use Rattle.gf_form.proofs.lemmas.strategies.StrategiesByNumber.{all_at, one_label_more}
+
+-- ---- texts
+
+label_of_both : (f b : List ℕ) → 0 < length f → 0 < length b
+    → strategy_label (f ++ b) ≡ strategy_label f ++ 45 ∷ strategy_label b
+label_of_both [] b hf hb = absurd (omega (arith, hf))
+label_of_both (a ∷ f) [] hf hb = absurd (omega (arith, hb))
+label_of_both (a ∷ []) (c ∷ b) hf hb = refl
+label_of_both (a ∷ e ∷ f) (c ∷ b) hf hb =
+    ap (λ (bs : List ℕ). decimal a ++ 45 ∷ bs) (label_of_both (e ∷ f) (c ∷ b) (omega arith) hb)
+    ∙ sym (append_assoc (decimal a) (45 ∷ strategy_label (e ∷ f)) (45 ∷ strategy_label (c ∷ b)))
+
+-- ---- numbers
+
+both_choices : (xs ys f b : List ℕ) → IsChoice xs f → IsChoice ys b
+    → IsChoice (xs ++ ys) (f ++ b)
+    × (place (xs ++ ys) (f ++ b) ≡ place xs f * product ys + place ys b)
+both_choices [] ys [] b hf hb = (hb, omega arith)
+both_choices [] ys (a ∷ f) b hf hb = absurd hf
+both_choices (c ∷ xs) ys [] b hf hb = absurd hf
+both_choices (c ∷ xs) ys (a ∷ f) b hf hb =
+    let others = both_choices xs ys f b hf.1 hb in
+    let top : (a - 1) * product (xs ++ ys) ≡ (a - 1) * product xs * product ys =
+    ap (λ (n : ℕ). (a - 1) * n) (product_joined xs ys)
+    ∙ sym (mul_assoc (a - 1) (product xs) (product ys)) in
+    let sums : ((a - 1) * product xs + place xs f) * product ys
+    ≡ (a - 1) * product xs * product ys + place xs f * product ys = omega arith in
+    ((hf.0, others.0), omega (arith, top, others.1, sums))
+
+at_its_place : (counts s : List ℕ) → IsChoice counts s
+    → (place counts s < product counts) × (get_or (all_choices counts) (place counts s) [] ≡ s)
+at_its_place counts s h =
+    let there = (every_choice counts s).1 h in
+    let place_is : place counts s ≡ there.0 =
+    ap (place counts) (sym there.2) ∙ place_at counts there.0 s there.1 in (
+      omega (arith, place_is, there.1, length-all_choices counts),
+      ap (λ (n : ℕ). get_or (all_choices counts) n []) place_is
+          ∙ get_or_default (all_choices counts) there.0 [] s there.1 ∙ there.2,
+    )
+
+-- the strategy with this number
+pub joined_at : (xs ys : List ℕ) (i j : ℕ) → i < product xs → j < product ys
+    → (i * product ys + j < product (xs ++ ys))
+    × (get_or (all_choices (xs ++ ys)) (i * product ys + j) []
+    ≡ get_or (all_choices xs) i [] ++ get_or (all_choices ys) j [])
+joined_at xs ys i j hi hj =
+    let f = get_or (all_choices xs) i [] in
+    let b = get_or (all_choices ys) j [] in
+    let in_xs : i < length (all_choices xs) = omega (arith, hi, length-all_choices xs) in
+    let in_ys : j < length (all_choices ys) = omega (arith, hj, length-all_choices ys) in
+    let both = both_choices xs ys f b
+    (all_at (IsChoice xs) (all_choices xs) i [] (are_choices xs) in_xs)
+    (all_at (IsChoice ys) (all_choices ys) j [] (are_choices ys) in_ys) in
+    let number : place (xs ++ ys) (f ++ b) ≡ i * product ys + j =
+    both.1 ∙ (λ k. place_at xs i [] in_xs k * product ys + place_at ys j [] in_ys k) in
+    let at = at_its_place (xs ++ ys) (f ++ b) both.0 in (
+      omega (arith, at.0, number),
+      ap (λ (n : ℕ). get_or (all_choices (xs ++ ys)) n []) (sym number) ∙ at.1,
+    )
+
+got : (xs : List (List ℕ)) (i : ℕ) (v : List ℕ)
+    → slice_get (map strategy_label xs) i ≡ Some v → i < length xs
+    → v ≡ strategy_label (get_or xs i [])
+got [] i v e less = absurd (omega (arith, less))
+got (x ∷ xs) zero v e less = sym (ap (λ o. unwrap_or o v) e)
+got (x ∷ xs) (suc i) v e less = got xs i v e (omega (arith, less))
+
+long : (counts : List ℕ) (n : ℕ) → n < product counts
+    → length (get_or (all_choices counts) n []) ≡ length counts
+long counts n less =
+    choice_length counts (get_or (all_choices counts) n [])
+    (all_at (IsChoice counts) (all_choices counts) n [] (are_choices counts)
+    (omega (arith, less, length-all_choices counts)))
+
+-- labels of strategies, made from this many first ones with all others, and from one more with this
+-- many
+abbrev pub AreJoined : List (List ℕ) → List (List ℕ) → List (List ℕ) → ℕ → ℕ → Type 0
+AreJoined firsts others labels i j = (xs ys : List ℕ) → 0 < length xs → 0 < length ys
+    → firsts ≡ map strategy_label (all_choices xs) → others ≡ map strategy_label (all_choices ys)
+    → labels ≡ map strategy_label (take (i * product ys + j) (all_choices (xs ++ ys)))
+
+counted : (labels : List (List ℕ)) (counts : List ℕ)
+    → labels ≡ map strategy_label (all_choices counts) → length labels ≡ product counts
+counted labels counts is =
+    ap length is ∙ length-map (all_choices counts) strategy_label ∙ length-all_choices counts
+
+pub one_joined_more : (firsts others labels next : List (List ℕ)) (i j : ℕ)
+    (first other label : List ℕ) → i < length firsts → j < length others
+    → slice_get firsts i ≡ Some first → slice_get others j ≡ Some other
+    → label ≡ first ++ 45 ∷ other → next ≡ labels ++ label ∷ []
+    → AreJoined firsts others labels i j → AreJoined firsts others next i (j + 1)
+one_joined_more firsts others labels next i j first other label hi hj at_i at_j is more h xs ys hx hy
+    f o =
+    let less_i : i < product xs = omega (arith, hi, counted firsts xs f) in
+    let less_j : j < product ys = omega (arith, hj, counted others ys o) in
+    let front = get_or (all_choices xs) i [] in
+    let back = get_or (all_choices ys) j [] in
+    let first_is = got (all_choices xs) i first
+    (subst (λ (l : List (List ℕ)). slice_get l i ≡ Some first) f at_i)
+    (omega (arith, less_i, length-all_choices xs)) in
+    let other_is = got (all_choices ys) j other
+    (subst (λ (l : List (List ℕ)). slice_get l j ≡ Some other) o at_j)
+    (omega (arith, less_j, length-all_choices ys)) in
+    let at = joined_at xs ys i j less_i less_j in
+    let label_is : label ≡ strategy_label (front ++ back) =
+    is ∙ (λ k. first_is k ++ 45 ∷ other_is k)
+    ∙ sym (label_of_both front back (omega (arith, hx, long xs i less_i))
+    (omega (arith, hy, long ys j less_j))) in
+    let next_number : i * product ys + j + 1 ≡ i * product ys + (j + 1) = omega arith in
+    one_label_more (xs ++ ys) labels next (i * product ys + j) label (front ++ back) at.0 (sym at.1)
+    label_is (h xs ys hx hy f o) more
+    ∙ ap (λ (n : ℕ). map strategy_label (take n (all_choices (xs ++ ys)))) next_number
+
+pub row_joined : (firsts others labels : List (List ℕ)) (i j : ℕ) → j ≡ length others
+    → AreJoined firsts others labels i j → AreJoined firsts others labels (i + 1) 0
+row_joined firsts others labels i j end h xs ys hx hy f o =
+    let next : i * product ys + product ys ≡ (i + 1) * product ys + 0 = omega arith in
+    h xs ys hx hy f o
+    ∙ ap (λ (n : ℕ). map strategy_label (take (i * product ys + n) (all_choices (xs ++ ys))))
+    (end ∙ counted others ys o)
+    ∙ ap (λ (n : ℕ). map strategy_label (take n (all_choices (xs ++ ys)))) next
+
+pub all_joined : (firsts others labels : List (List ℕ)) (i : ℕ) → i ≡ length firsts
+    → AreJoined firsts others labels i 0 → (xs ys : List ℕ) → 0 < length xs → 0 < length ys
+    → firsts ≡ map strategy_label (all_choices xs) → others ≡ map strategy_label (all_choices ys)
+    → labels ≡ map strategy_label (all_choices (xs ++ ys))
+all_joined firsts others labels i end h xs ys hx hy f o =
+    let all = all_choices (xs ++ ys) in
+    let whole : i * product ys ≡ product (xs ++ ys) =
+    ap (λ (n : ℕ). n * product ys) (end ∙ counted firsts xs f) ∙ sym (product_joined xs ys) in
+    h xs ys hx hy f o
+    ∙ ap (map strategy_label) (take_past (i * product ys + 0) all
+    (omega (arith, whole, length-all_choices (xs ++ ys))))
+
+-- ---- how many
+
+pub one_count_more : (counts : List ℕ) (i whole more : ℕ) → i < length counts
+    → whole ≡ product (take i counts) → more ≡ whole * get_or counts i 0
+    → more ≡ product (take (i + 1) counts)
+one_count_more counts i whole more less h is =
+    let one : product (get_or counts i 0 ∷ []) ≡ get_or counts i 0 = omega arith in
+    is ∙ (λ k. h k * sym one k)
+    ∙ sym (product_joined (take i counts) (get_or counts i 0 ∷ []))
+    ∙ sym (ap product (take-suc counts i 0 less))
+    ∙ ap (λ (n : ℕ). product (take n counts)) (sym (add-one i))

@@ -1,0 +1,43 @@
+-- The strategies of the profile with a number: those of one player after another, each by what is left
+-- of the number.
+use Rattle.std.proofs.Common.{◌≡◌, ℕ, ◌+◌, ◌*◌, ◌/◌, ◌%◌, ◌<◌, List, [], ◌∷◌, length, map, get_or}
+use Rattle.std.proofs.Common.{refl, sym, ap, subst, ◌∙◌, add-one}
+use Rattle.std.specs.Prelude.{zip}
+use Rattle.std.proofs.Math.Nat.{div-lt_iff_lt-mul, mul_comm}
+use Rattle.std.proofs.lemmas.Option.{unwrap_or-slice_get}
+use Rattle.gf_nfg.specs.Profiles.{product, profiles}
+use Rattle.gf_tree.specs.Game.{Game}
+use Rattle.gf_form.specs.Strategies.{action_counts, all_choices, strategies, strategy_at}
+use Rattle.gf_form.proofs.lemmas.strategies.Choices.{length-all_choices}
+use Rattle.gf_form.proofs.lemmas.strategies.PickedProfiles.{profiles_next}
+use Rattle.gf_form.proofs.lemmas.strategies.StrategiesByNumber.{positive_parts}
+
+-- the strategies of the profile with this number, if players have this many actions at their sets
+abbrev pub numbered : List (List ℕ) → ℕ → List (List ℕ)
+numbered [] number = []
+numbered (own ∷ others) number =
+    get_or (all_choices own) (number % product own) [] ∷ numbered others (number / product own)
+
+pub numbered_strategies : (g : Game) (players : List ℕ) (number : ℕ)
+    → number < product (map (λ player. length (strategies g player)) players)
+    → numbered (map (action_counts g) players) number
+    ≡ map (λ p. strategy_at (strategies g p.0) p.1) (zip players
+    (get_or (profiles (map (λ player. length (strategies g player)) players)) number []))
+numbered_strategies g [] number less = refl
+numbered_strategies g (player ∷ players) number less =
+    let own = action_counts g player in
+    let all = strategies g player in
+    let counts = map (λ player. length (strategies g player)) players in
+    let is : product own ≡ length all = sym (length-all_choices own) in
+    let parts = positive_parts (length all) (product counts) number less in
+    let swapped : number < product counts * length all =
+    subst (λ (n : ℕ). number < n) (mul_comm (length all) (product counts)) less in
+    let later : number / length all < product counts = (div-lt_iff_lt-mul parts.0).1 swapped in
+    let first : get_or all (number % length all) [] ≡ strategy_at all (number % length all + 1) =
+    sym (ap (strategy_at all) (add-one (number % length all))
+    ∙ unwrap_or-slice_get all (number % length all) []) in
+    (λ i. get_or all (number % is i) [] ∷ numbered (map (action_counts g) players) (number / is i))
+    ∙ (λ i. first i ∷ numbered_strategies g players (number / length all) later i)
+    ∙ ap (λ (profile : List ℕ). map (λ p. strategy_at (strategies g p.0) p.1)
+    (zip (player ∷ players) profile))
+    (sym (profiles_next (length all) counts number parts.0 less))

@@ -1,0 +1,194 @@
+-- The strategy with a number: one action after another, each by what is left of the number.
+use Rattle.std.proofs.Common.{◌≡◌, ℕ, zero, suc, ◌+◌, ◌-◌, ◌*◌, ◌/◌, ◌%◌, ◌<◌, ◌≤◌, List, [], ◌∷◌}
+use Rattle.std.proofs.Common.{◌++◌, length, map, get_or, take, drop, refl, sym, ap, subst, ◌∙◌}
+use Rattle.std.proofs.Common.{append_assoc, add-one, arith}
+use Rattle.std.proofs.Common.{true, false, ◌^◌}
+use Rattle.std.specs.Prelude.{decimal, ◌==◌}
+use Rattle.std.specs.List.{AllByRecursion, flat_map}
+use Rattle.std.specs.Str.Parse.{AllDigits}
+use Rattle.std.proofs.lemmas.Bool.Decides.{nat_tests}
+use Rattle.std.proofs.lemmas.Fmt.{decimal_is_IsNumeral_wide}
+use Rattle.std.proofs.lemmas.Grind.{flat_map-append}
+use Rattle.gf_token.specs.LabelSpelling.{is_spelling_after, IsLabel}
+use Rattle.std.proofs.Math.Nat.{div-add-mod, div-le_self, div-lt_iff_lt-mul, mod-lt}
+use Rattle.std.proofs.Math.Nat.{mul-div_cancel_left, mul_comm}
+use Rattle.std.proofs.Math.Seq.{drop-cons, take-append_seam, take-nil, take-suc}
+use Rattle.std.proofs.lemmas.List.{append-nil, get_or_default, length-append, map-append}
+use Rattle.gf_nfg.specs.Profiles.{product}
+use Rattle.gf_form.specs.inner.strategies.LabelTexts.{IsPlain}
+use Rattle.gf_form.specs.Strategies.{all_choices, strategy_label}
+use Rattle.gf_form.proofs.lemmas.strategies.Choices.{IsChoice, are_choices, every_choice}
+use Rattle.gf_form.proofs.lemmas.strategies.Choices.{length-all_choices}
+use Rattle.gf_form.proofs.lemmas.strategies.Choices.{place, place_at}
+
+pub all_at : {A : Type 0} (P : A → Type 0) (xs : List A) (i : ℕ) (d : A) → AllByRecursion P xs
+    → i < length xs → P (get_or xs i d)
+all_at P [] i d h less = absurd (omega (arith, less))
+all_at P (x ∷ xs) zero d h less = h.0
+all_at P (x ∷ xs) (suc i) d h less = all_at P xs i d h.1 (omega (arith, less))
+
+choices_next : (count : ℕ) (counts : List ℕ) (rest : ℕ) → 0 < product counts
+    → rest < count * product counts
+    → get_or (all_choices (count ∷ counts)) rest []
+    ≡ (rest / product counts + 1) ∷ get_or (all_choices counts) (rest % product counts) []
+choices_next count counts rest some below =
+    let p = product counts in
+    let all = all_choices (count ∷ counts) in
+    let others = get_or (all_choices counts) (rest % p) [] in
+    let choice = (rest / p + 1) ∷ others in
+    let inside : rest % p < length (all_choices counts) =
+    omega (arith, mod-lt rest some, length-all_choices counts) in
+    let first : rest / p < count = (div-lt_iff_lt-mul some).1 below in
+    let above : 1 ≤ rest / p + 1 = omega arith in
+    let upto : rest / p + 1 ≤ count = omega (arith, first) in
+    let there = (every_choice (count ∷ counts) choice).1 (
+      (above, upto),
+      all_at (IsChoice counts) (all_choices counts) (rest % p) []
+          (are_choices counts) inside,
+    ) in
+    let less : rest / p + 1 - 1 ≡ rest / p = omega arith in
+    let placed : place (count ∷ counts) choice ≡ rest =
+    (λ i. less i * p + place_at counts (rest % p) [] inside i)
+    ∙ (let swap : rest / p * p + rest % p ≡ p * (rest / p) + rest % p =
+    ap (λ (n : ℕ). n + rest % p) (mul_comm (rest / p) p) in swap) ∙ div-add-mod rest p in
+    let at : there.0 ≡ rest =
+    sym (place_at (count ∷ counts) there.0 choice there.1) ∙ ap (place (count ∷ counts)) there.2
+    ∙ placed in
+    ap (λ (n : ℕ). get_or all n []) (sym at)
+    ∙ get_or_default all there.0 [] choice there.1 ∙ there.2
+
+-- what is written, and what is left to be
+pub record Goes (counts : List ℕ) (number i stride rest : ℕ) (strategy : List ℕ) : Type 0 where
+  pub stride_is : stride ≡ product (drop i counts)
+  pub below : rest < stride
+  pub choice : strategy ++ get_or (all_choices (drop i counts)) rest []
+      ≡ get_or (all_choices counts) number []
+
+pub record GoesOn (counts : List ℕ) (number i stride rest count : ℕ) (strategy : List ℕ)
+    : Type 0 where
+  pub some_action : 0 < count
+  pub some_stride : 0 < stride / count
+  pub small : rest / (stride / count) ≤ rest
+  pub goes : Goes counts number (i + 1) (stride / count) (rest % (stride / count))
+      (strategy ++ (rest / (stride / count) + 1) ∷ [])
+
+pub positive_parts : (m n k : ℕ) → k < m * n → (0 < m) × (0 < n)
+positive_parts zero n k h = absurd (omega (arith, h))
+positive_parts (suc m) zero k h = absurd (omega (arith, h))
+positive_parts (suc m) (suc n) k h = (omega arith, omega arith)
+
+pub goes_on : (counts : List ℕ) (number i stride rest count : ℕ) (strategy : List ℕ)
+    → Goes counts number i stride rest strategy → i < length counts
+    → count ≡ get_or counts i 0 → GoesOn counts number i stride rest count strategy
+goes_on counts number i stride rest count strategy h less is =
+    let others = drop (suc i) counts in
+    let next : drop i counts ≡ count ∷ others =
+    drop-cons counts i 0 less ∙ ap (λ (c : ℕ). c ∷ others) (sym is) in
+    let whole : stride ≡ count * product others = h.stride_is ∙ ap product next in
+    let below : rest < count * product others = subst (λ (n : ℕ). rest < n) whole h.below in
+    let parts = positive_parts count (product others) rest below in
+    let divided : stride / count ≡ product others =
+    ap (λ (n : ℕ). n / count) whole ∙ mul-div_cancel_left (product others) parts.0 in
+    let some : 0 < stride / count = subst (λ (n : ℕ). 0 < n) (sym divided) parts.1 in
+    record {
+      some_action = parts.0;
+      some_stride = some;
+      small = div-le_self rest (stride / count);
+      goes = record {
+        stride_is = divided ∙ ap (λ (n : ℕ). product (drop n counts)) (sym (add-one i));
+        below = mod-lt rest some;
+        choice = append_assoc strategy ((rest / (stride / count) + 1) ∷ [])
+            (get_or (all_choices (drop (i + 1) counts)) (rest % (stride / count)) [])
+            ∙ (λ j. strategy ++ (rest / divided j + 1)
+            ∷ get_or (all_choices (drop (add-one i j) counts)) (rest % divided j) [])
+            ∙ ap (λ (xs : List ℕ). strategy ++ xs)
+            (sym (ap (λ (cs : List ℕ). get_or (all_choices cs) rest []) next
+            ∙ choices_next count others rest parts.1 below))
+            ∙ h.choice;
+      };
+    }
+
+-- ---- labels
+
+-- each action with a dash after it
+abbrev pub dashed : List ℕ → List ℕ
+dashed strategy = flat_map (λ action. decimal action ++ 45 ∷ []) strategy
+
+pub dashed_more : (strategy : List ℕ) (i action : ℕ) → i < length strategy
+    → action ≡ get_or strategy i 0
+    → (dashed (take i strategy) ++ decimal action) ++ 45 ∷ [] ≡ dashed (take (i + 1) strategy)
+dashed_more strategy i action less is =
+    append_assoc (dashed (take i strategy)) (decimal action) (45 ∷ [])
+    ∙ ap (λ (bs : List ℕ). dashed (take i strategy) ++ bs)
+    (sym (append-nil (decimal action ++ 45 ∷ [])))
+    ∙ sym (flat_map-append (λ (action : ℕ). decimal action ++ 45 ∷ []) (take i strategy)
+    (action ∷ []))
+    ∙ ap dashed (ap (λ (a : ℕ). take i strategy ++ a ∷ []) is
+    ∙ sym (take-suc strategy i 0 less)
+    ∙ ap (λ (n : ℕ). take n strategy) (sym (add-one i)))
+
+-- after the last action stands one dash too many
+pub dash_last : (action : ℕ) (strategy : List ℕ)
+    → dashed (action ∷ strategy) ≡ strategy_label (action ∷ strategy) ++ 45 ∷ []
+dash_last action [] = append-nil (decimal action ++ 45 ∷ [])
+dash_last action (next ∷ strategy) =
+    ap (λ (bs : List ℕ). (decimal action ++ 45 ∷ []) ++ bs) (dash_last next strategy)
+    ∙ simp append_assoc
+
+-- without that dash it is the label
+pub dash_removed : (strategy bytes new : List ℕ) (n : ℕ) → bytes ≡ dashed strategy
+    → n ≡ length bytes → new ≡ take (n - 1) bytes → new ≡ strategy_label strategy
+dash_removed [] bytes new n is counted rest =
+    rest ∙ ap (take (n - 1)) is ∙ take-nil (n - 1)
+dash_removed (action ∷ strategy) bytes new n is counted rest =
+    let label = strategy_label (action ∷ strategy) in
+    let whole : bytes ≡ label ++ 45 ∷ [] = is ∙ dash_last action strategy in
+    let front : n - 1 ≡ length label =
+    omega (arith, counted, ap length whole, length-append label (45 ∷ [])) in
+    rest ∙ (λ i. take (front i) (whole i)) ∙ take-append_seam label (45 ∷ [])
+
+pub all_taken : {A : Type 0} (P : A → Type 0) (n : ℕ) (xs : List A) → AllByRecursion P xs
+    → AllByRecursion P (take n xs)
+all_taken P zero xs h = tt
+all_taken P (suc n) [] h = tt
+all_taken P (suc n) (x ∷ xs) h = (h.0, all_taken P n xs h.1)
+
+-- ---- the labels so far
+
+pub one_label_more : (counts : List ℕ) (labels next : List (List ℕ)) (number : ℕ)
+    (label strategy : List ℕ) → number < product counts
+    → strategy ≡ get_or (all_choices counts) number [] → label ≡ strategy_label strategy
+    → labels ≡ map strategy_label (take number (all_choices counts))
+    → next ≡ labels ++ label ∷ []
+    → next ≡ map strategy_label (take (number + 1) (all_choices counts))
+one_label_more counts labels next number label strategy less is label_is labels_are next_is =
+    let all = all_choices counts in
+    next_is
+    ∙ (λ i. labels_are i ++ (label_is ∙ ap strategy_label is) i ∷ [])
+    ∙ sym (map-append strategy_label (take number all) (get_or all number [] ∷ []))
+    ∙ ap (map strategy_label) (sym (take-suc all number []
+    (omega (arith, less, length-all_choices counts)))
+    ∙ ap (λ (n : ℕ). take n all) (sym (add-one number)))
+
+-- ---- spellings
+
+pub plain_digits : (bytes : List ℕ) → AllDigits 10 bytes → AllByRecursion IsPlain bytes
+plain_digits [] h = tt
+plain_digits (b ∷ bytes) h =
+    let no_quote : (b == 34) ≡ false = let d = h.0 in grind (arith, nat_tests) in
+    let no_backslash : (b == 92) ≡ false = let d = h.0 in grind (arith, nat_tests) in
+    ((no_quote, no_backslash), plain_digits bytes h.1)
+
+pub plain_number : (n : ℕ) → n < 2 ^ 32 → AllByRecursion IsPlain (decimal n)
+plain_number n h =
+    let wide : 2 ^ 32 ≤ 10 ^ 64 = omega arith in
+    plain_digits (decimal n) (decimal_is_IsNumeral_wide n (omega (arith, h, wide))).0.1
+
+plain_behind : (before : ℕ) (bytes : List ℕ) → (before == 92) ≡ false
+    → AllByRecursion IsPlain bytes → is_spelling_after before bytes ≡ true
+plain_behind before [] e h = rw e refl
+plain_behind before (b ∷ bytes) e h =
+    let no_quote = h.0.0 in rw no_quote (plain_behind b bytes h.0.1 h.1)
+
+pub plain_label : (bytes : List ℕ) → AllByRecursion IsPlain bytes → IsLabel bytes
+plain_label bytes h = plain_behind 34 bytes refl h

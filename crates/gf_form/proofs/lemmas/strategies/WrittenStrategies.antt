@@ -1,0 +1,72 @@
+-- The strategies of the profile with a number, written one player's after another's.
+use Rattle.std.proofs.Common.{◌≡◌, ℕ, suc, ◌+◌, ◌/◌, ◌%◌, ◌<◌, ◌≤◌, List, [], ◌∷◌, ◌++◌}
+use Rattle.std.proofs.Common.{add-one, ap, append_assoc, arith, drop, get_or, length, refl, subst}
+use Rattle.std.proofs.Common.{sym}
+use Rattle.std.proofs.Common.{take, ◌∙◌}
+use Rattle.std.proofs.Math.ListN.{drop_of_length-le, set}
+use Rattle.std.proofs.Math.Seq.{drop-cons}
+use Rattle.std.proofs.lemmas.Grind.{get_or_default_zero}
+use Rattle.std.proofs.lemmas.List.{append-nil, length-set, take_more_set}
+use Rattle.gf_nfg.specs.Profiles.{product}
+use Rattle.gf_nfg.proofs.BackProfiles.{length-profiles}
+use Rattle.gf_tree.specs.Game.{Game}
+use Rattle.gf_form.specs.inner.strategies.Counted.{AreCounts}
+use Rattle.gf_form.specs.Strategies.{all_choices, full_profiles}
+use Rattle.gf_form.specs.declared.strategies.counts.Counts.{Counts}
+use Rattle.gf_form.proofs.lemmas.strategies.CountedActions.{strategy_counts, take_past}
+use Rattle.gf_form.proofs.lemmas.strategies.CountsGiven.{all_counted, strategies_counted}
+use Rattle.gf_form.proofs.lemmas.strategies.NumberedProfiles.{numbered}
+use Rattle.gf_form.proofs.lemmas.strategies.PickedProfiles.{some_factor}
+
+-- those of the players so far are written
+pub record Written (actions : List (List ℕ)) (number i rest : ℕ) (all : List (List ℕ)) : Type 0 where
+  pub as_long : length all ≡ length actions
+  pub wanted : take i all ++ numbered (drop i actions) rest ≡ numbered actions number
+
+pub first_written : (actions : List (List ℕ)) (number : ℕ) (all : List (List ℕ))
+    → length all ≡ length actions → Written actions number 0 number all
+first_written actions number all as_long = record { as_long = as_long; wanted = refl }
+
+pub one_written : (actions : List (List ℕ)) (number i rest whole : ℕ) (all next : List (List ℕ))
+    (own : List ℕ) → i < length actions → whole ≡ product (get_or actions i [])
+    → own ≡ get_or (all_choices (get_or actions i [])) (rest % whole) [] → next ≡ set all i own
+    → Written actions number i rest all → Written actions number (i + 1) (rest / whole) next
+one_written actions number i rest whole all next own less whole_is own_is next_is h = record {
+  as_long = ap length next_is ∙ length-set all i own ∙ h.as_long;
+  wanted = (λ j. more j ++ numbered (drop (add-one i j) actions) (rest / whole_is j))
+      ∙ append_assoc (take i all) (own ∷ []) left
+      ∙ (λ j. take i all ++ own_is j ∷ left)
+      ∙ (λ j. take i all ++ get_or (all_choices here) (rest % whole_is j) [] ∷ left)
+      ∙ (λ j. take i all ++ numbered (sym (drop-cons actions i [] less) j) rest)
+      ∙ h.wanted;
+}
+  where
+    here : List ℕ
+    here = get_or actions i []
+
+    left : List (List ℕ)
+    left = numbered (drop (suc i) actions) (rest / product here)
+
+    more : take (i + 1) next ≡ take i all ++ own ∷ []
+    more = ap (take (i + 1)) next_is ∙ take_more_set all i own (omega (arith, less, h.as_long))
+
+pub last_written : (actions : List (List ℕ)) (number i rest : ℕ) (all : List (List ℕ))
+    → Written actions number i rest all → length actions ≤ i → all ≡ numbered actions number
+last_written actions number i rest all h past =
+    sym (take_past i all (omega (arith, h.as_long, past))) ∙ sym (append-nil (take i all))
+    ∙ ap (λ (lists : List (List ℕ)). take i all ++ numbered lists rest)
+    (sym (drop_of_length-le actions past))
+    ∙ h.wanted
+
+-- each player has a strategy, if there is a profile
+pub some_strategy : (g : Game) (c : Counts) → AreCounts g c → (number i whole : ℕ)
+    → number < length (full_profiles g) → i < length c.actions.items
+    → whole ≡ get_or c.strategies.items i whole → 0 < whole
+some_strategy g c counts number i whole less within is =
+    subst (λ (n : ℕ). 0 < n)
+    (sym (is ∙ get_or_default_zero c.strategies.items i whole inside))
+    (some_factor c.strategies.items number i
+    (omega (arith, less, ap product counts.strategies, length-profiles (strategy_counts g))) inside)
+  where
+    inside : i < length c.strategies.items
+    inside = omega (arith, within, all_counted g c counts, strategies_counted g c counts)

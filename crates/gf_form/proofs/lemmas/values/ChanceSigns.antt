@@ -1,0 +1,68 @@
+-- No probability of a chance move is negative.
+use Rattle.std.proofs.Common.{◌≡◌, ℕ, ℤ, suc, pos, List, [], ◌∷◌, length, map, Option}
+use Rattle.std.proofs.Common.{Some, None, ap, drop, get_or, sym, subst, arith}
+use Rattle.std.specs.Prelude.{◌≤ℤ◌, option_and_then, unsigned_abs}
+use Rattle.std.specs.List.{AllByRecursion}
+use Rattle.std.proofs.lemmas.Int.{ints}
+use Rattle.gf_fraction.specs.Ratio.{Ratio}
+use Rattle.gf_fraction.specs.Rational.{one_ratio}
+use Rattle.gf_token.specs.Positions.{at_position}
+use Rattle.gf_tree.specs.Description.{Action, AddToOne, AreActions, IsLottery, IsSet}
+use Rattle.gf_tree.specs.Description.{SetKey}
+use Rattle.gf_tree.specs.Game.{Game, IsGame, Node, set_at}
+use Rattle.gf_form.specs.Payoff.{action_at}
+use Rattle.gf_form.specs.inner.values.Values.{chances_at}
+use Rattle.gf_form.proofs.lemmas.strategies.KnownSets.{each_set}
+use Rattle.gf_form.proofs.lemmas.strategies.Lookups.{Each, each_at, each_or, each_then, each_weaker}
+
+abbrev IsNotNegative : Ratio → Type 0
+IsNotNegative r = pos 0 ≤ℤ r.num
+
+abbrev HasSign : Action → Type 0
+HasSign a = Each IsNotNegative a.probability
+
+lottery_signs : (actions : List Action) (ps : List Ratio) (sum : Ratio)
+    → map (λ a. a.probability) actions ≡ map Some ps → AddToOne sum ps
+    → AllByRecursion HasSign actions
+lottery_signs [] ps sum e adds = tt
+lottery_signs (a ∷ actions) [] sum e adds =
+    let f : suc (length (map (λ a. a.probability) actions)) ≡ 0 = ap length e in
+    absurd (omega arith)
+lottery_signs (a ∷ actions) (p ∷ ps) sum e adds =
+    let here : a.probability ≡ Some p = ap (λ o. get_or o 0 None) e in (
+      subst (Each IsNotNegative) (sym here) adds.0,
+      lottery_signs actions ps adds.1.0 (ap (drop 1) e) adds.1.2,
+    )
+
+size_is : (z : ℤ) → pos 0 ≤ℤ z → z ≡ pos (unsigned_abs z)
+size_is z h = omega (arith, ints, h)
+
+pub chance_size : (g : Game) → IsGame g → (n : Node) (key : SetKey) (k : ℕ)
+    → n.set ≡ Some key → key.player ≡ 0
+    → (chances_at g n k).num ≡ pos (unsigned_abs (chances_at g n k).num)
+chance_size g game n key k at chance =
+    size_is (chances_at g n k).num
+    (each_or IsNotNegative (option_and_then (λ a. a.probability) taken) one_ratio
+    (omega (arith, ints))
+    (each_then HasSign IsNotNegative (λ a. a.probability) taken (λ a h. h) signs))
+  where
+    taken : Option Action
+    taken = action_at g (record { node = n; taken = k })
+
+    sets : Each (λ set. AllByRecursion HasSign set.actions) (set_at g key)
+    sets =
+        each_weaker (IsSet (length g.players) key) (λ set. AllByRecursion HasSign set.actions)
+        (set_at g key)
+        (λ set is.
+        let lottery : IsLottery set.actions =
+        subst (λ p. AreActions p set.actions) chance is.actions in
+        lottery_signs set.actions lottery.0 _ lottery.1 lottery.2)
+        (each_set g game key)
+
+    signs : Each HasSign taken
+    signs =
+        subst (λ o. Each HasSign (option_and_then
+        (λ key. option_and_then (λ set. at_position set.actions k) (set_at g key)) o)) (sym at)
+        (each_then (λ set. AllByRecursion HasSign set.actions) HasSign
+        (λ set. at_position set.actions k) (set_at g key)
+        (λ set h. each_at HasSign set.actions k h) sets)

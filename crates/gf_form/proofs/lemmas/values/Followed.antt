@@ -1,0 +1,81 @@
+-- The plays that follow choices, child by child.
+use Rattle.std.proofs.Common.{◌≡◌, ℕ, ◌+◌, ◌<◌, Bool, true, false, List, []}
+use Rattle.std.proofs.Common.{◌++◌, Some, map, refl, ap, ◌∙◌, arith, append-nil}
+use Rattle.std.specs.Prelude.{◌==◌, ◌||◌, filter}
+use Rattle.std.specs.Option.{option_map_or}
+use Rattle.std.proofs.lemmas.Bool.{eq-eqb, ne_eqb}
+use Rattle.std.proofs.lemmas.List.Elements.{filter-append}
+use Rattle.gf_tree.specs.Tree.{Tree, Trees, count}
+use Rattle.gf_tree.specs.Tree.Tree.{branch}
+use Rattle.gf_tree.specs.Tree.Trees.{none, more}
+use Rattle.gf_tree.specs.Description.{SetKey}
+use Rattle.gf_tree.specs.Game.{Node}
+use Rattle.gf_form.specs.Plays.{Play, from_node, is_chosen, follows, plays, plays_from}
+use Rattle.gf_form.proofs.lemmas.values.PlaySums.{followed_chosen, followed_other}
+
+module _ (choices : SetKey → ℕ) where
+  abbrev pub followed_in : Tree Node → List Play
+  followed_in t = filter (follows choices) (plays t)
+
+  -- by one of these children of a node, the first of which has position k
+  abbrev pub followed : Node → ℕ → Trees Node → List Play
+  followed n k ts = filter (follows choices) (plays_from n k ts)
+
+  pub in_children : (n : Node) (ts : Trees Node) → 0 < count ts
+      → followed_in (branch n ts) ≡ followed n 1 ts
+  in_children n none some = absurd (omega arith)
+  in_children n (more t ts) some = refl
+
+  -- whether this step is chosen, at a node of this set
+  chosen_at : (n : Node) (k : ℕ) (key : SetKey) (b : Bool)
+      → n.set ≡ Some key → (key.player == 0 || choices key == k) ≡ b
+      → is_chosen choices (record { node = n; taken = k }) ≡ b
+  chosen_at n k key b at h =
+      ap (λ o. option_map_or (λ key. key.player == 0 || choices key == k) o true) at ∙ h
+
+  -- the plays of the children are those of the first and those of the others
+  parts : (n : Node) (k : ℕ) (t : Tree Node) (ts : Trees Node) → followed n k (more t ts)
+      ≡ filter (follows choices) (map (from_node n k) (plays t)) ++ followed n (k + 1) ts
+  parts n k t ts =
+      filter-append (follows choices) (map (from_node n k) (plays t)) (plays_from n (k + 1) ts)
+
+  -- chance moves
+
+  pub each_chosen : (n : Node) (key : SetKey) → n.set ≡ Some key → (key.player == 0) ≡ true
+      → (k : ℕ) → is_chosen choices (record { node = n; taken = k }) ≡ true
+  each_chosen n key at chance k = chosen_at n k key true at (λ i. chance i || choices key == k)
+
+  pub first_chosen : (n : Node) (k : ℕ) (t : Tree Node) (ts : Trees Node)
+      → is_chosen choices (record { node = n; taken = k }) ≡ true
+      → followed n k (more t ts) ≡ map (from_node n k) (followed_in t) ++ followed n (k + 1) ts
+  first_chosen n k t ts chosen = parts n k t ts
+      ∙ ap (λ l. l ++ followed n (k + 1) ts) (followed_chosen choices n k chosen (plays t))
+
+  -- a player moves
+
+  module _ (n : Node) (key : SetKey) (at : n.set ≡ Some key)
+      (personal : (key.player == 0) ≡ false) where
+    is_other : (k : ℕ) → ¬ (choices key ≡ k)
+        → is_chosen choices (record { node = n; taken = k }) ≡ false
+    is_other k differs =
+        chosen_at n k key false at (λ i. personal i || ne_eqb (choices key) k differs i)
+
+    none_later : (k : ℕ) (ts : Trees Node) → choices key < k → followed n k ts ≡ []
+    none_later k none less = refl
+    none_later k (more t ts) less =
+        let differs : ¬ (choices key ≡ k) = λ same. omega arith in
+        parts n k t ts ∙ (λ i. followed_other choices n k (is_other k differs) (plays t) i
+        ++ none_later (k + 1) ts (omega arith) i)
+
+    pub only_this : (k : ℕ) (t : Tree Node) (ts : Trees Node) → choices key ≡ k
+        → followed n k (more t ts) ≡ map (from_node n k) (followed_in t)
+    only_this k t ts same =
+        let chosen = chosen_at n k key true at (λ i. personal i || eq-eqb (choices key) k same i) in
+        first_chosen n k t ts chosen
+        ∙ ap (λ l. map (from_node n k) (followed_in t) ++ l) (none_later (k + 1) ts (omega arith))
+        ∙ append-nil (map (from_node n k) (followed_in t))
+
+    pub not_this : (k : ℕ) (t : Tree Node) (ts : Trees Node) → ¬ (choices key ≡ k)
+        → followed n k (more t ts) ≡ followed n (k + 1) ts
+    not_this k t ts differs = parts n k t ts ∙ ap (λ l. l ++ followed n (k + 1) ts)
+        (followed_other choices n k (is_other k differs) (plays t))

@@ -1,0 +1,166 @@
+-- The rows of payoffs that are kept, each at its position.
+use Rattle.std.proofs.Common.{◌≡◌, ℕ, zero, suc, ◌+◌, ◌-◌, ◌<◌, ◌≤◌, true, List, [], ◌∷◌}
+use Rattle.std.proofs.Common.{◌++◌, length, map, get_or, slice_get, inl, inr, subst}
+use Rattle.std.proofs.Common.{Some, None, option_map, Bor, refl, sym, ap, ◌∙◌, arith}
+use Rattle.std.specs.Prelude.{◌==◌, unwrap_or}
+use Rattle.std.specs.List.{AllByRecursion, find}
+use Rattle.std.proofs.lemmas.Bool.{cases_lt}
+use Rattle.std.proofs.lemmas.List.{length-append, length-map}
+use Rattle.std.proofs.lemmas.Option.{slice_get-get_or, slice_get-map, slice_get_past}
+use Rattle.std.proofs.lemmas.Option.{unwrap_or-slice_get}
+use Rattle.gf_fraction.specs.Ratio.{Ratio, IsFraction}
+use Rattle.gf_fraction.specs.Rational.{zero_ratio}
+use Rattle.gf_token.specs.Positions.{at_position}
+use Rattle.gf_tree.specs.Description.{Outcome, IsOutcome}
+use Rattle.gf_tree.specs.FiniteMap.{Described}
+use Rattle.gf_tree.specs.FirstUse.{outcome_numbers}
+use Rattle.gf_tree.specs.Game.{Game, IsGame, outcome_at}
+use Rattle.gf_tree.specs.Spellable.{IsSpellable}
+use Rattle.gf_tree.proofs.Places.{at_index}
+use Rattle.gf_form.specs.inner.values.Program.{paid}
+use Rattle.gf_form.specs.inner.values.Rows.{ArePaid, IsRow, at_place, row_at}
+use Rattle.gf_form.proofs.lemmas.values.Denominators.{payoffs_of}
+use Rattle.gf_form.proofs.lemmas.strategies.Lookups.{Each, each_found, each_mapped, each_weaker}
+
+pub row_there : (rows held : List (Bor (List Ratio))) (position : ℕ) (row : Bor (List Ratio))
+    → held ≡ rows → ¬ (position ≡ 0) → position - 1 < length held
+    → row ≡ get_or held (position - 1) row
+    → row.now ≡ row_at (map (λ row. row.now) rows) position
+row_there rows held position row same some within is =
+    sym (ap (λ (rs : List (Bor (List Ratio))). row_at (map (λ row. row.now) rs) position) (sym same)
+    ∙ ap (λ o. unwrap_or o [])
+    (at_index (map (λ row. row.now) held) position (omega (arith, some))
+    ∙ slice_get-map (λ (row : Bor (List Ratio)). row.now) held (position - 1)
+    ∙ ap (option_map (λ (row : Bor (List Ratio)). row.now))
+    (slice_get-get_or held (position - 1) row within))
+    ∙ ap (λ (row : Bor (List Ratio)). row.now) (sym is))
+
+pub no_row : (rows held : List (Bor (List Ratio))) (position : ℕ)
+    → held ≡ rows → ¬ (position ≡ 0) → length held ≤ position - 1
+    → [] ≡ row_at (map (λ row. row.now) rows) position
+no_row rows held position same some past =
+    sym (ap (λ (rs : List (Bor (List Ratio))). row_at (map (λ row. row.now) rs) position) (sym same)
+    ∙ ap (λ o. unwrap_or o [])
+    (at_index (map (λ row. row.now) held) position (omega (arith, some))
+    ∙ slice_get_past (map (λ row. row.now) held) (position - 1)
+    (omega (arith, past, length-map held (λ (row : Bor (List Ratio)). row.now)))))
+
+-- ---- what an outcome pays
+
+pub paid_some : (g : Game) (position number : ℕ) (outcome : Outcome) (k : ℕ)
+    → at_position (outcome_numbers g) position ≡ Some number
+    → outcome_at g number ≡ Some outcome
+    → at_place outcome.payoffs k ≡ paid g (suc k) position
+paid_some g position number outcome k e f =
+    sym (rw (e, f) (unwrap_or-slice_get outcome.payoffs k zero_ratio))
+
+pub paid_nobody : (g : Game) (position k : ℕ) → at_position (outcome_numbers g) position ≡ None
+    → zero_ratio ≡ paid g (suc k) position
+paid_nobody g position k e = sym (rw e refl)
+
+pub row_of_outcome : (g : Game) → IsGame g → IsSpellable g → (number : ℕ) (outcome : Outcome)
+    → outcome_at g number ≡ Some outcome → IsRow (length g.players) outcome.payoffs
+row_of_outcome g game spellable number outcome e = record {
+  one_each = λ _. subst (Each (λ outcome. length outcome.payoffs ≡ length g.players)) e counted;
+  fractions = subst (Each (λ outcome. AllByRecursion IsFraction outcome.payoffs)) e
+      (payoffs_of g spellable number);
+}
+  where
+    counted : Each (λ outcome. length outcome.payoffs ≡ length g.players) (outcome_at g number)
+    counted =
+        each_mapped (λ outcome. length outcome.payoffs ≡ length g.players) (λ o. o.description)
+        (find (λ (o : Described ℕ Outcome). o.key == number) g.outcomes)
+        (each_weaker (λ (o : Described ℕ Outcome). IsOutcome (length g.players) o.key o.description
+        × ((o.key == number) ≡ true)) (λ o. length o.description.payoffs ≡ length g.players)
+        (find (λ (o : Described ℕ Outcome). o.key == number) g.outcomes)
+        (λ o h. h.0.one_payoff_each)
+        (each_found (λ (o : Described ℕ Outcome).
+        IsOutcome (length g.players) o.key o.description) (λ o. o.key == number) g.outcomes
+        game.each_outcome))
+
+-- ---- rows that are kept one after another
+
+snoc_before : {A : Type 0} (xs : List A) (x : A) (k : ℕ) → k < length xs
+    → slice_get (xs ++ x ∷ []) k ≡ slice_get xs k
+snoc_before [] x k h = absurd (omega (arith, h))
+snoc_before (y ∷ xs) x zero h = refl
+snoc_before (y ∷ xs) x (suc k) h = snoc_before xs x k (omega (arith, h))
+
+snoc_last : {A : Type 0} (xs : List A) (x : A) (k : ℕ) → k ≡ length xs
+    → slice_get (xs ++ x ∷ []) k ≡ Some x
+snoc_last [] x zero h = refl
+snoc_last [] x (suc k) h = absurd (omega (arith, h))
+snoc_last (y ∷ xs) x zero h = absurd (omega (arith, h))
+snoc_last (y ∷ xs) x (suc k) h = snoc_last xs x k (omega (arith, h))
+
+-- the row at a position is that of the outcome there
+pub record IsPaidAt (g : Game) (row : List Ratio) (position : ℕ) : Type 0 where
+  pub paid_is : (k : ℕ) → at_place row k ≡ paid g (suc k) position
+  pub row_is : IsRow (length g.players) row
+
+-- those of this many of the first outcomes
+pub record ArePaidTo (g : Game) (rows : List (List Ratio)) (count : ℕ) : Type 0 where
+  pub counted : length rows ≡ count
+  pub each : (position : ℕ) → position ≤ count → IsPaidAt g (row_at rows position) position
+
+pub empty_at : (k : ℕ) → at_place [] k ≡ zero_ratio
+empty_at zero = refl
+empty_at (suc k) = refl
+
+pub empty_is_row : (players : ℕ) → IsRow players []
+empty_is_row players = record { one_each = λ h. absurd (omega (arith, h)); fractions = tt }
+
+pub one_row : (g : Game) (rows : List (List Ratio)) (row : List Ratio) (count : ℕ)
+    → ArePaidTo g rows count → IsPaidAt g row (count + 1)
+    → ArePaidTo g (rows ++ row ∷ []) (count + 1)
+one_row g rows row count are is = record {
+  counted =
+      let counted = are.counted in
+      omega (arith, counted, length-append rows (row ∷ []));
+  each = λ position h. by position h;
+}
+  where
+    by : (position : ℕ) → position ≤ count + 1
+        → IsPaidAt g (row_at (rows ++ row ∷ []) position) position
+    by zero h = are.each 0 (omega arith)
+    by (suc k) h = elim (cases_lt k count) [
+      | inl less ↦
+          let counted = are.counted in
+          subst (λ o. IsPaidAt g (unwrap_or o []) (suc k))
+          (sym (snoc_before rows row k (omega (arith, counted, less))))
+          (are.each (suc k) (omega (arith, less)))
+      | inr more ↦
+          let counted = are.counted in
+          let last : k ≡ length rows = omega (arith, counted, more, h) in
+          let next : count + 1 ≡ suc k = omega (arith, counted, last) in
+          subst (λ o. IsPaidAt g (unwrap_or o []) (suc k)) (sym (snoc_last rows row k last))
+          (subst (IsPaidAt g row) next is)
+    ]
+
+pub all_rows : (g : Game) (rows : List (List Ratio)) → ArePaidTo g rows (length (outcome_numbers g))
+    → ArePaid g rows
+all_rows g rows are = record {
+  paid_is = λ position k. (at position).paid_is k;
+  row = λ position. (at position).row_is;
+}
+  where
+    past : (position : ℕ) → length (outcome_numbers g) < position
+        → IsPaidAt g (row_at rows position) position
+    past zero h = absurd (omega (arith, h))
+    past (suc k) h =
+        let counted = are.counted in
+        let none : slice_get rows k ≡ None =
+        slice_get_past rows k (omega (arith, counted, h)) in
+        let nobody : slice_get (outcome_numbers g) k ≡ None =
+        slice_get_past (outcome_numbers g) k (omega (arith, h)) in
+        subst (λ o. IsPaidAt g (unwrap_or o []) (suc k)) (sym none)
+        (record {
+          paid_is = λ j. empty_at j ∙ paid_nobody g (suc k) j nobody;
+          row_is = empty_is_row (length g.players);
+        })
+
+    at : (position : ℕ) → IsPaidAt g (row_at rows position) position
+    at position = elim (cases_lt (length (outcome_numbers g)) position) [
+      | inl more ↦ past position more
+      | inr within ↦ are.each position within
+    ]

@@ -1,0 +1,141 @@
+-- Sums over lists of plays: of their probabilities, and of probability times payoff.
+use Rattle.std.proofs.Common.{◌≡◌, ℕ, Bool, true, false, cond, List, []}
+use Rattle.std.proofs.Common.{◌∷◌, ◌++◌, map, refl, ap, arith, true≢false}
+use Rattle.std.proofs.lemmas.Bool.{false≢true}
+use Rattle.std.specs.Prelude.{◌&&◌, filter}
+use Rattle.gf_fraction.specs.Ratio.{Ratio}
+use Rattle.gf_fraction.specs.Rational.{IsEqual, zero_ratio, plus, times, total}
+use Rattle.gf_fraction.proofs.Rationals.{plus_zero, plus_assoc, times_comm, times_assoc, times_plus}
+use Rattle.gf_fraction.proofs.Rationals.{times_zero, IsAbove, plus_above, times_above, total_above}
+use Rattle.gf_fraction.proofs.Chains.{◌then◌, back, plus_left, plus_right, times_right, plus_across}
+use Rattle.gf_tree.specs.Description.{SetKey}
+use Rattle.gf_tree.specs.Game.{Node, Game}
+use Rattle.gf_tree.specs.Spellable.{IsSpellable}
+use Rattle.gf_form.specs.Plays.{Play, from_node, is_chosen, follows}
+use Rattle.gf_form.specs.Payoff.{probability, payoff_at, play_probability, play_payoff}
+use Rattle.gf_form.proofs.lemmas.values.Denominators.{probability_above, payoff_above}
+use Rattle.gf_form.proofs.lemmas.values.Denominators.{play_probability_above, play_payoff_above}
+use Rattle.gf_form.proofs.lemmas.values.Denominators.{worth_above}
+
+pub sum_joined : {A : Type 0} (f : A → Ratio) → ((x : A) → IsAbove (f x)) → (xs ys : List A)
+    → IsEqual (total (map f (xs ++ ys))) (plus (total (map f xs)) (total (map f ys)))
+sum_joined f above [] ys = back (plus_zero (total (map f ys)) (total_above f above ys))
+sum_joined f above (x ∷ xs) ys =
+    plus_right (f x) (above x) (sum_joined f above xs ys)
+    then back (plus_assoc (f x) (total (map f xs)) (total (map f ys)) (above x)
+    (total_above f above xs) (total_above f above ys))
+
+-- the plays from a parent on that follow choices: those of the child that do, if it is chosen
+module _ (choices : SetKey → ℕ) (n : Node) (k : ℕ) where
+  kept : (a b : Bool) (p : Play) (ps qs : List Play) → a ≡ true → ps ≡ map (from_node n k) qs
+      → cond (a && b) (from_node n k p ∷ ps) ps ≡ map (from_node n k) (cond b (p ∷ qs) qs)
+  kept true true p ps qs e h = ap (λ (rest : List Play). from_node n k p ∷ rest) h
+  kept true false p ps qs e h = h
+  kept false b p ps qs e h = absurd (false≢true e)
+
+  dropped : (a b : Bool) (p : Play) (ps : List Play) → a ≡ false → ps ≡ []
+      → cond (a && b) (p ∷ ps) ps ≡ []
+  dropped true b p ps e h = absurd (true≢false e)
+  dropped false b p ps e h = h
+
+  pub followed_chosen : is_chosen choices (record { node = n; taken = k }) ≡ true → (ps : List Play)
+      → filter (follows choices) (map (from_node n k) ps)
+      ≡ map (from_node n k) (filter (follows choices) ps)
+  followed_chosen e [] = refl
+  followed_chosen e (p ∷ ps) = kept (is_chosen choices (record { node = n; taken = k }))
+      (follows choices p) p (filter (follows choices) (map (from_node n k) ps))
+      (filter (follows choices) ps) e (followed_chosen e ps)
+
+  pub followed_other : is_chosen choices (record { node = n; taken = k }) ≡ false → (ps : List Play)
+      → filter (follows choices) (map (from_node n k) ps) ≡ []
+  followed_other e [] = refl
+  followed_other e (p ∷ ps) =
+      dropped (is_chosen choices (record { node = n; taken = k })) (follows choices p)
+      (from_node n k p) (filter (follows choices) (map (from_node n k) ps)) e (followed_other e ps)
+
+module _ (g : Game) (spellable : IsSpellable g) where
+  abbrev pub weight : List Play → Ratio
+  weight ps = total (map (play_probability g) ps)
+
+  pub weight_above : (ps : List Play) → IsAbove (weight ps)
+  weight_above ps = total_above (play_probability g) (play_probability_above g spellable) ps
+
+  module _ (n : Node) (k : ℕ) where
+    abbrev q : Ratio
+    q = probability g (record { node = n; taken = k })
+
+    q_above : IsAbove q
+    q_above = probability_above g spellable (record { node = n; taken = k })
+
+    pub weight_after : (ps : List Play)
+        → IsEqual (weight (map (from_node n k) ps)) (times q (weight ps))
+    weight_after [] = back (times_zero q q_above)
+    weight_after (p ∷ ps) =
+        plus_right (times q (play_probability g p))
+        (times_above q (play_probability g p) q_above (play_probability_above g spellable p))
+        (weight_after ps)
+        then back (times_plus q (play_probability g p) (weight ps) q_above
+        (play_probability_above g spellable p) (weight_above ps))
+
+module _ (g : Game) (spellable : IsSpellable g) (player : ℕ) where
+  abbrev pub worth : List Play → Ratio
+  worth ps = total (map (λ play. times (play_probability g play) (play_payoff g player play)) ps)
+
+  pub all_worth_above : (ps : List Play) → IsAbove (worth ps)
+  all_worth_above ps =
+      total_above (λ play. times (play_probability g play) (play_payoff g player play))
+      (worth_above g spellable player) ps
+
+  module _ (n : Node) (k : ℕ) where
+    abbrev r : Ratio
+    r = probability g (record { node = n; taken = k })
+
+    r_above : IsAbove r
+    r_above = probability_above g spellable (record { node = n; taken = k })
+
+    abbrev own : Ratio
+    own = payoff_at g player n
+
+    own_above : IsAbove own
+    own_above = payoff_above g spellable player n
+
+    pub worth_after : (ps : List Play) → IsEqual (worth (map (from_node n k) ps))
+        (times r (plus (times own (weight g spellable ps)) (worth ps)))
+    worth_after [] =
+        back (times_right r r_above (plus_left zero_ratio (omega arith) (times_zero own own_above)
+        then plus_zero zero_ratio (omega arith)) then times_zero r r_above)
+    worth_after (p ∷ ps) =
+        let chance = play_probability g p in
+        let pay = play_payoff g player p in
+        let chance_above = play_probability_above g spellable p in
+        let pay_above = play_payoff_above g spellable player p in
+        let w = weight g spellable ps in
+        let e = worth ps in
+        let w_above = weight_above g spellable ps in
+        let e_above = all_worth_above ps in
+        let first = times chance (plus own pay) in
+        let first_above =
+        times_above chance (plus own pay) chance_above (plus_above own pay own_above pay_above) in
+        let others = plus (times own w) e in
+        let others_above =
+        plus_above (times own w) e (times_above own w own_above w_above) e_above in
+        let split : IsEqual first (plus (times own chance) (times chance pay)) =
+        times_plus chance own pay chance_above own_above pay_above
+        then plus_left (times chance pay) (times_above chance pay chance_above pay_above)
+        (times_comm chance own chance_above own_above) in
+        let sum : IsEqual (plus first others)
+        (plus (times own (plus chance w)) (plus (times chance pay) e)) =
+        plus_left others others_above split
+        then plus_across (times own chance) (times chance pay)
+        (times own w) e (times_above own chance own_above chance_above)
+        (times_above chance pay chance_above pay_above) (times_above own w own_above w_above)
+        e_above
+        then plus_left (plus (times chance pay) e)
+        (plus_above (times chance pay) e (times_above chance pay chance_above pay_above) e_above)
+        (back (times_plus own chance w own_above chance_above w_above)) in
+        plus_left (worth (map (from_node n k) ps)) (all_worth_above (map (from_node n k) ps))
+        (times_assoc r chance (plus own pay) r_above chance_above
+        (plus_above own pay own_above pay_above))
+        then plus_right (times r first) (times_above r first r_above first_above) (worth_after ps)
+        then back (times_plus r first others r_above first_above others_above)
+        then times_right r r_above sum

@@ -1,0 +1,182 @@
+-- The operations of a tree leave its value on the stack.
+use Rattle.std.proofs.Common.{◌≡◌, ℕ, zero, suc, ◌+◌, Bool, true, false, List, [], ◌∷◌, ◌++◌}
+use Rattle.std.proofs.Common.{Option, Some, None, refl, sym, ap, subst, ◌∙◌, append_assoc, arith}
+use Rattle.std.specs.Prelude.{◌==◌, nat_eq, position, slice_get, option_and_then, unwrap_or}
+use Rattle.std.specs.Prelude.{if◌then◌else◌}
+use Rattle.std.specs.List.{AllByRecursion}
+use Rattle.gf_fraction.specs.Ratio.{Ratio}
+use Rattle.gf_fraction.specs.Rational.{zero_ratio}
+use Rattle.gf_tree.specs.Tree.{Tree, Trees}
+use Rattle.gf_tree.specs.Tree.Tree.{branch}
+use Rattle.gf_tree.specs.Tree.Trees.{none, more}
+use Rattle.gf_tree.specs.Description.{SetKey, Outcome}
+use Rattle.gf_tree.specs.FirstUse.{outcome_numbers}
+use Rattle.gf_tree.specs.Game.{Game, Node, outcome_at}
+use Rattle.gf_form.specs.Payoff.{payoff_at}
+use Rattle.gf_form.specs.inner.values.Values.{chance_value, chances_at, child_value, plus_of}
+use Rattle.gf_form.specs.inner.values.Values.{times_of, value}
+use Rattle.gf_form.specs.inner.values.Values.{value_over}
+use Rattle.gf_form.specs.inner.values.Program.{chance_code, child_code, code, code_over, paid}
+use Rattle.gf_form.specs.inner.values.Program.{paid_at_node}
+use Rattle.gf_form.specs.inner.values.Program.{run}
+use Rattle.gf_form.specs.declared.values.op.Op.{Op}
+use Rattle.gf_form.specs.declared.values.op.Op.TheVariants.{Push, Begin, Nothing, Weigh, Pay}
+use Rattle.gf_tree.proofs.FoundKeys.{not_described}
+use Rattle.std.proofs.Common.{cond}
+use Rattle.std.specs.List.{position_from}
+use Rattle.std.proofs.lemmas.Bool.{eqb-true}
+use Rattle.std.proofs.lemmas.Iterator.Adapters.{position_from-zero}
+use Rattle.std.proofs.lemmas.Bool.Decides.{Decides-eqb}
+use Rattle.gf_token.specs.Positions.{at_position}
+use Rattle.gf_tree.specs.OutcomePositions.{position_among, position_at}
+
+-- ---- the payoffs of an outcome, by its position
+
+place_is : (n : ℕ) (ns : List ℕ) (start place : ℕ)
+    → position_from (nat_eq n) start ns ≡ Some place
+    → (k : ℕ) × (start + k ≡ place) × (slice_get ns k ≡ Some n)
+place_is n [] start place h = absurd cc
+place_is n (m ∷ ns) start place h = by (nat_eq n m) refl (place_is n ns (start + 1) place) h
+  where
+    by : (b : Bool) → nat_eq n m ≡ b
+        → (position_from (nat_eq n) (start + 1) ns ≡ Some place
+        → (k : ℕ) × (start + 1 + k ≡ place) × (slice_get ns k ≡ Some n))
+        → cond b (Some start) (position_from (nat_eq n) (start + 1) ns) ≡ Some place
+        → (k : ℕ) × (start + k ≡ place) × (slice_get (m ∷ ns) k ≡ Some n)
+    by true is later e =
+        let same : start ≡ place = cc in
+        (0, omega (arith, same), ap Some (sym (eqb-true n m is)))
+    by false is later e = let r = later e in (suc r.0, omega (arith, r.1), r.2)
+
+paid_of_number : (g : Game) (player number : ℕ)
+    → paid g player (position_among (outcome_numbers g) (Some number))
+    ≡ unwrap_or (option_and_then (λ outcome. at_position outcome.payoffs player)
+    (outcome_at g number)) zero_ratio
+paid_of_number g player number = by (position (nat_eq number) (outcome_numbers g)) refl
+  where
+    by : (o : Option ℕ) → position (nat_eq number) (outcome_numbers g) ≡ o
+        → unwrap_or (option_and_then (λ number.
+        option_and_then (λ outcome. at_position outcome.payoffs player) (outcome_at g number))
+        (at_position (outcome_numbers g) (position_at o))) zero_ratio
+        ≡ unwrap_or (option_and_then (λ outcome. at_position outcome.payoffs player)
+        (outcome_at g number)) zero_ratio
+    by None is =
+        sym (ap (λ o. unwrap_or
+        (option_and_then (λ (outcome : Outcome). at_position outcome.payoffs player) o) zero_ratio)
+        (not_described nat_eq Decides-eqb number g.outcomes is))
+    by (Some place) is =
+        let r = place_is number (outcome_numbers g) 0 place
+        (sym (position_from-zero (nat_eq number) (outcome_numbers g)) ∙ is) in
+        let there : slice_get (outcome_numbers g) place ≡ Some number =
+        ap (slice_get (outcome_numbers g)) (omega (arith, r.1)) ∙ r.2 in
+        rw there refl
+
+pub paid_is : (g : Game) (player : ℕ) (n : Node)
+    → paid g player (paid_at_node g n) ≡ payoff_at g player n
+paid_is g player n = by n.outcome
+  where
+    by : (o : Option ℕ) → paid g player (position_among (outcome_numbers g) o)
+        ≡ unwrap_or (option_and_then (λ number. option_and_then
+        (λ outcome. at_position outcome.payoffs player) (outcome_at g number)) o) zero_ratio
+    by None = refl
+    by (Some number) = paid_of_number g player number
+
+-- ---- the operations of a tree
+
+module _ (g : Game) (choices : SetKey → ℕ) (player : ℕ) where
+  abbrev below_value : Node → Trees Node → SetKey → Option Ratio
+  below_value n ts key = if key.player == 0
+      then chance_value g choices player (chances_at g n) 1 (Some zero_ratio) ts
+      else child_value g choices player (choices key) ts
+
+  abbrev below_code : Node → Trees Node → SetKey → List Op
+  below_code n ts key = if key.player == 0
+      then Begin ∷ chance_code g choices (chances_at g n) 1 ts
+      else child_code g choices (choices key) ts
+
+  abbrev Leaves : List Op → Option Ratio → Type 0
+  Leaves ops v = (rest : List Op) (st : List (Option Ratio))
+      → run g player (ops ++ rest) st ≡ run g player rest (v ∷ st)
+
+  over_runs : (own : ℕ) (pays : Ratio) (o : Option SetKey) (c : SetKey → List Op)
+      (v : SetKey → Option Ratio) → paid g player own ≡ pays
+      → ((key : SetKey) → Leaves (c key) (v key)) → Leaves (code_over own o c) (value_over pays o v)
+  over_runs own pays None c v is below rest st = ap (λ r. run g player rest (Some r ∷ st)) is
+  over_runs own pays (Some key) c v is below rest st =
+      rw append_assoc (below key (Pay own ∷ rest) st
+      ∙ ap (λ r. run g player rest (plus_of (Some r) (v key) ∷ st)) is)
+
+  by_mover : (n : Node) (ts : Trees Node) (key : SetKey) (b : Bool) → (key.player == 0) ≡ b
+      → ((sum : Option Ratio) (rest : List Op) (st : List (Option Ratio))
+      → run g player (chance_code g choices (chances_at g n) 1 ts ++ rest) (sum ∷ st)
+      ≡ run g player rest (chance_value g choices player (chances_at g n) 1 sum ts ∷ st))
+      → Leaves (child_code g choices (choices key) ts)
+      (child_value g choices player (choices key) ts)
+      → Leaves (below_code n ts key) (below_value n ts key)
+  by_mover n ts key true is chance child rest st = rw is (chance (Some zero_ratio) rest st)
+  by_mover n ts key false is chance child rest st = rw is (child rest st)
+
+  mutual
+    pub code_runs : (t : Tree Node) → Leaves (code g choices t) (value g choices player t)
+    code_runs (branch n ts) =
+        over_runs (paid_at_node g n) (payoff_at g player n) n.set (below_code n ts)
+        (below_value n ts) (paid_is g player n)
+        (λ key. by_mover n ts key (key.player == 0) refl (chance_runs ts (chances_at g n) 1)
+        (child_runs ts (choices key)))
+
+    chance_runs : (ts : Trees Node) (chances : ℕ → Ratio) (k : ℕ) (sum : Option Ratio)
+        (rest : List Op) (st : List (Option Ratio))
+        → run g player (chance_code g choices chances k ts ++ rest) (sum ∷ st)
+        ≡ run g player rest (chance_value g choices player chances k sum ts ∷ st)
+    chance_runs none chances k sum rest st = refl
+    chance_runs (more t ts) chances k sum rest st =
+        rw append_assoc (code_runs t
+        (Weigh (chances k) ∷ (chance_code g choices chances (k + 1) ts ++ rest)) (sum ∷ st)
+        ∙ chance_runs ts chances (k + 1)
+        (plus_of sum (times_of (chances k) (value g choices player t))) rest st)
+
+    child_runs : (ts : Trees Node) (position : ℕ)
+        → Leaves (child_code g choices position ts) (child_value g choices player position ts)
+    child_runs none position rest st = refl
+    child_runs (more t ts) zero rest st = refl
+    child_runs (more t ts) (suc zero) rest st = code_runs t rest st
+    child_runs (more t ts) (suc (suc position)) rest st = child_runs ts (suc position) rest st
+
+-- ---- a value that is not defined stays so
+
+abbrev pub IsDefined : Option Ratio → Type 0
+IsDefined None = ⊥
+IsDefined (Some r) = Unit {0}
+
+plus_defined : (x y : Option Ratio) → IsDefined (plus_of x y) → IsDefined x × IsDefined y
+plus_defined (Some x) (Some y) h = (tt, tt)
+plus_defined (Some x) None h = absurd h
+plus_defined None y h = absurd h
+
+times_defined : (p : Ratio) (x : Option Ratio) → IsDefined (times_of p x) → IsDefined x
+times_defined p (Some x) h = tt
+times_defined p None h = absurd h
+
+-- if a value is left, all values on the stack were defined
+defined : (g : Game) (player : ℕ) (ops : List Op) (st : List (Option Ratio)) (r : Ratio)
+    → run g player ops st ≡ Some r ∷ [] → AllByRecursion IsDefined st
+defined g player [] st r h = subst (AllByRecursion IsDefined) (sym h) (tt, tt)
+defined g player (Push position ∷ ops) st r h =
+    (defined g player ops (Some (paid g player position) ∷ st) r h).1
+defined g player (Begin ∷ ops) st r h = (defined g player ops (Some zero_ratio ∷ st) r h).1
+defined g player (Nothing ∷ ops) st r h = (defined g player ops (None ∷ st) r h).1
+defined g player (Weigh p ∷ ops) [] r h = absurd cc
+defined g player (Weigh p ∷ ops) (x ∷ []) r h = absurd cc
+defined g player (Weigh p ∷ ops) (x ∷ sum ∷ st) r h =
+    let later = defined g player ops (plus_of sum (times_of p x) ∷ st) r h in
+    let both = plus_defined sum (times_of p x) later.0 in
+    (times_defined p x both.1, (both.0, later.1))
+defined g player (Pay position ∷ ops) [] r h = absurd cc
+defined g player (Pay position ∷ ops) (x ∷ st) r h =
+    let later = defined g player ops (plus_of (Some (paid g player position)) x ∷ st) r h in
+    ((plus_defined (Some (paid g player position)) x later.0).1, later.1)
+
+pub stays_undefined : (g : Game) (player : ℕ) (ops : List Op) (st : List (Option Ratio))
+    (v : Option Ratio) → run g player ops (None ∷ st) ≡ v ∷ [] → v ≡ None
+stays_undefined g player ops st None h = refl
+stays_undefined g player ops st (Some r) h = absurd (defined g player ops (None ∷ st) r h).0

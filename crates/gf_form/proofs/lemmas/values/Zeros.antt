@@ -1,0 +1,98 @@
+-- Zero added to a fraction, and its multiples.
+use Rattle.std.proofs.Common.{◌≡◌, ℕ, pos, ◌*◌, ◌/◌, sym, ap, subst, ◌∙◌, arith, Some}
+use Rattle.std.specs.Prelude.{ℤ, ◌*ℤ◌, ◌+ℤ◌}
+use Rattle.std.proofs.Math.IntN.{*ℤ_comm, *ℤ-zero, +ℤ_comm, +ℤ_idl}
+use Rattle.std.proofs.Math.Nat.{div_self}
+use Rattle.gf_fraction.specs.Ratio.{Ratio, IsFraction, IsWithin}
+use Rattle.gf_fraction.specs.Rational.{zero_ratio}
+use Rattle.gf_fraction.specs.Fits.{IsLcm, IsSum, SumFits, scaled_num}
+use Rattle.gf_fraction.specs.Computed.{product_of, sum_of}
+use Rattle.gf_fraction.proofs.ComputedArithmetic.{product_of-some, sum_of-some}
+use Rattle.gf_fraction.proofs.Divisors.{IsGcd-one_right}
+use Rattle.gf_fraction.proofs.Integers.{*ℤ-one}
+use Rattle.gf_fraction.proofs.Sums.{IsLcm-from_gcd}
+use Rattle.gf_form.proofs.lemmas.values.ValuesComputed.{zero_fraction}
+
+zero_by : (z : ℤ) → pos 0 *ℤ z ≡ pos 0
+zero_by z = *ℤ_comm (pos 0) z ∙ *ℤ-zero z
+
+right_zero : (z : ℤ) → z +ℤ pos 0 ≡ z
+right_zero z = +ℤ_comm z (pos 0) ∙ +ℤ_idl z
+
+-- a numerator over its own denominator
+own_scale : (x : Ratio) → IsFraction x → scaled_num x x.den ≡ x.num
+own_scale x f =
+    ap (λ k. x.num *ℤ pos k) (div_self f.den_above_zero) ∙ *ℤ-one x.num
+
+zero_scale : (m : ℕ) → scaled_num zero_ratio m ≡ pos 0
+zero_scale m = zero_by (pos (m / 1))
+
+zero_within : IsWithin (pos 0)
+zero_within = omega arith
+
+module _ (x : Ratio) (f : IsFraction x) where
+  lcm_right : IsLcm x.den 1 x.den
+  lcm_right =
+      let e : x.den * (1 / 1) ≡ x.den = omega arith in
+      subst (IsLcm x.den 1) e (IsLcm-from_gcd x.den 1 1 (omega arith) (IsGcd-one_right x.den))
+
+  lcm_left : IsLcm 1 x.den x.den
+  lcm_left = record {
+    left = lcm_right.right;
+    right = lcm_right.left;
+    least = λ k a b. lcm_right.least k b a;
+  }
+
+  fits_right : SumFits x zero_ratio
+  fits_right = record {
+    den = x.den;
+    least = lcm_right;
+    den_within = f.den_within;
+    left_within = subst IsWithin (sym (own_scale x f)) f.num_within;
+    right_within = subst IsWithin (sym (zero_scale x.den)) zero_within;
+    sum_within = subst IsWithin
+        (sym ((λ i. own_scale x f i +ℤ zero_scale x.den i) ∙ right_zero x.num)) f.num_within;
+  }
+
+  fits_left : SumFits zero_ratio x
+  fits_left = record {
+    den = x.den;
+    least = lcm_left;
+    den_within = f.den_within;
+    left_within = subst IsWithin (sym (zero_scale x.den)) zero_within;
+    right_within = subst IsWithin (sym (own_scale x f)) f.num_within;
+    sum_within = subst IsWithin
+        (sym ((λ i. zero_scale x.den i +ℤ own_scale x f i) ∙ +ℤ_idl x.num)) f.num_within;
+  }
+
+  sum_right : IsSum x x zero_ratio
+  sum_right =
+      let num : x.num *ℤ pos 1 +ℤ pos 0 *ℤ pos x.den ≡ x.num =
+      (λ i. *ℤ-one x.num i +ℤ zero_by (pos x.den) i) ∙ right_zero x.num in
+      let den : x.den * 1 ≡ x.den = omega arith in
+      (λ i. x.num *ℤ pos (den i)) ∙ (λ i. sym num i *ℤ pos x.den)
+
+  sum_left : IsSum x zero_ratio x
+  sum_left =
+      let num : pos 0 *ℤ pos x.den +ℤ x.num *ℤ pos 1 ≡ x.num =
+      (λ i. zero_by (pos x.den) i +ℤ *ℤ-one x.num i) ∙ +ℤ_idl x.num in
+      let den : 1 * x.den ≡ x.den = omega arith in
+      (λ i. x.num *ℤ pos (den i)) ∙ (λ i. sym num i *ℤ pos x.den)
+
+  pub plus_zero : sum_of x zero_ratio ≡ Some x
+  plus_zero = sum_of-some x zero_ratio f zero_fraction x fits_right f sum_right
+
+  pub zero_plus : sum_of zero_ratio x ≡ Some x
+  zero_plus = sum_of-some zero_ratio x zero_fraction f x fits_left f sum_left
+
+  -- no numerator, no product
+  pub none_times : x.num ≡ pos 0 → (y : Ratio) → IsFraction y → product_of x y ≡ Some zero_ratio
+  none_times none y g =
+      let num : x.num *ℤ y.num ≡ pos 0 = ap (λ z. z *ℤ y.num) none ∙ zero_by y.num in
+      product_of-some x y f g zero_ratio zero_fraction
+      (zero_by (pos (x.den * y.den)) ∙ sym (ap (λ z. z *ℤ pos 1) num))
+
+  pub times_zero : product_of x zero_ratio ≡ Some zero_ratio
+  times_zero =
+      product_of-some x zero_ratio f zero_fraction zero_ratio zero_fraction
+      (zero_by (pos (x.den * 1)) ∙ sym (ap (λ z. z *ℤ pos 1) (*ℤ-zero x.num)))

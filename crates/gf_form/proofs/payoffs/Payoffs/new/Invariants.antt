@@ -1,6 +1,0 @@
-use Rattle.std.proofs.Common.{map}
-use Rattle.gf_form.proofs.PaidRowsKept.{ArePaidTo}
-use Rattle.gf_form.proofs.payoffs.Payoffs.new.Given as goal
-
-abbrev pub invariant-loop-before : goal.invariant-loop-before
-invariant-loop-before l = ArePaidTo l.game (map (λ row. row.now) l.rows.items) l.before

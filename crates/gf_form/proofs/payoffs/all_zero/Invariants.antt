@@ -1,7 +1,0 @@
-use Rattle.std.proofs.Common.{◌≡◌, ◌<◌, ℕ}
-use Rattle.gf_fraction.specs.Rational.{zero_ratio}
-use Rattle.gf_form.specs.inner.Rows.{at_place}
-use Rattle.gf_form.proofs.payoffs.all_zero.Given as goal
-
-abbrev pub invariant-loop-payoff : goal.invariant-loop-payoff
-invariant-loop-payoff l = (k : ℕ) → k < l.payoff-index → at_place l.row k ≡ zero_ratio

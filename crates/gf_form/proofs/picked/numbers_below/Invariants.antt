@@ -1,6 +1,0 @@
-use Rattle.std.proofs.Common.{◌≡◌}
-use Rattle.gf_nfg.specs.Profiles.{numbers_from}
-use Rattle.gf_form.proofs.picked.numbers_below.Given as goal
-
-abbrev pub invariant-loop-number : goal.invariant-loop-number
-invariant-loop-number l = l.numbers.items ≡ numbers_from 0 l.number

@@ -1,0 +1,104 @@
+use Rattle.std.proofs.Common.{◌<◌, ◌∷◌, ◌∙◌, [], ℕ, List, Vec, Global, ap, arith, length, map}
+use Rattle.std.proofs.Common.{subst, sym}
+use Rattle.std.specs.List.{AllZip}
+use Rattle.std.proofs.lemmas.List.{map-append}
+use Rattle.gf_nfg.proofs.NumbersInTurn.{length-numbers_from}
+use Rattle.gf_form.specs.inner.reduced.Firsts.{AreFirstsOf}
+use Rattle.gf_form.specs.Reduced.{reduced_labels}
+use Rattle.gf_form.specs.Strategies.{players_of}
+use Rattle.gf_form.proofs.lemmas.strategies.CountedActions.{as_many_players, of_player}
+use Rattle.gf_form.proofs.lemmas.strategies.CountedActions.{one_item_more, take_past}
+use Rattle.gf_form.proofs.lemmas.strategies.CountsGiven.{actions_of, all_counted, read_actions}
+use Rattle.gf_form.proofs.lemmas.strategies.CountsGiven.{read_whole}
+use Rattle.gf_form.proofs.lemmas.reduced.FirstsPicked.{one_player_more}
+use Rattle.gf_form.proofs.reduced.first.all_reduced.Goals as goal
+
+pub overflow_cast-player : goal.overflow_cast-player
+overflow_cast-player c =
+    omega (
+      arith,
+      c.loop-place-test.true,
+      c.requires.players,
+      all_counted c.args.game.now c.args.counts.now c.requires.counts,
+    )
+
+pub overflow_add-player : goal.overflow_add-player
+overflow_add-player c =
+    omega (
+      arith,
+      c.loop-place-test.true,
+      c.requires.players,
+      all_counted c.args.game.now c.args.counts.now c.requires.counts,
+    )
+
+pub own_strategies-requires-clause-counts : goal.own_strategies-requires-clause-counts
+own_strategies-requires-clause-counts c =
+    let g = c.args.game.now in
+    let counts = c.args.counts.now in
+    let place = c.loop-place.place in
+    read_actions g counts c.requires.counts place c.index-whole.result.now
+    c.index.result.now c.deref.result.now
+    (record {
+      within = omega (arith, c.loop-place-test.true);
+      whole_is = c.index-whole.ensures;
+      own_is = c.index.ensures;
+      actions_are = c.deref.ensures.value;
+    })
+    ∙ actions_of g counts c.requires.counts place (omega (arith, c.loop-place-test.true))
+
+pub own_strategies-requires-clause-whole : goal.own_strategies-requires-clause-whole
+own_strategies-requires-clause-whole c =
+    read_whole c.args.game.now c.args.counts.now c.requires.counts c.loop-place.place
+    c.index-whole.result.now c.index.result.now c.deref.result.now
+    (record {
+      within = omega (arith, c.loop-place-test.true);
+      whole_is = c.index-whole.ensures;
+      own_is = c.index.ensures;
+      actions_are = c.deref.ensures.value;
+    })
+
+pub loop-place-preserved : goal.loop-place-preserved
+loop-place-preserved c =
+    let g = c.args.game.now in
+    let place = c.loop-place.place in
+    let less : place < length g.players =
+    omega (arith, c.loop-place-test.true, all_counted g c.args.counts.now c.requires.counts) in (
+      one_player_more g (map (λ (own : Vec ℕ Global). own.items) c.loop-place.firsts.items)
+          (map (λ (own : Vec ℕ Global). own.items) c.push.new.self.items)
+          c.in_ok-own.own.items place less c.loop-place.invariant.0
+          c.in_ok-own.ensures.firsts
+          (ap (map (λ (own : Vec ℕ Global). own.items)) c.in_ok-push.ensures.items
+          ∙ map-append (λ (own : Vec ℕ Global). own.items) c.loop-place.firsts.items
+          (c.in_ok-own.own ∷ [])),
+      one_item_more (map (reduced_labels g) (players_of g)) c.loop-place.labels.items
+          c.push-in-loop-place.new.self.items place c.in_ok-own.names []
+          (omega (arith, less, as_many_players g (reduced_labels g)))
+          (c.in_ok-own.ensures.labels ∙ sym (of_player g (reduced_labels g) place [] less))
+          c.loop-place.invariant.1 c.in_ok-push-2.ensures.items,
+    )
+
+pub returns-clause-firsts : goal.returns-clause-firsts
+returns-clause-firsts c =
+    let g = c.args.game.now in
+    subst (λ (players : List ℕ).
+    AllZip (AreFirstsOf g) (map (λ (own : Vec ℕ Global). own.items) c.loop-place.firsts.items) players)
+    (take_past c.loop-place.place (players_of g)
+    (omega (
+      arith,
+      c.loop-place-test.false,
+      all_counted g c.args.counts.now c.requires.counts,
+      length-numbers_from 1 (length g.players),
+    )))
+    c.loop-place.invariant.0
+
+pub returns-clause-labels : goal.returns-clause-labels
+returns-clause-labels c =
+    let g = c.args.game.now in
+    c.loop-place.invariant.1
+    ∙ take_past c.loop-place.place (map (reduced_labels g) (players_of g))
+    (omega (
+      arith,
+      c.loop-place-test.false,
+      all_counted g c.args.counts.now c.requires.counts,
+      as_many_players g (reduced_labels g),
+    ))

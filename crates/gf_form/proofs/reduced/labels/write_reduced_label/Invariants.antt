@@ -1,0 +1,11 @@
+use Rattle.std.proofs.Common.{◌≡◌, take}
+use Rattle.std.specs.List.{AllByRecursion}
+use Rattle.gf_form.specs.inner.strategies.LabelTexts.{IsPlain}
+use Rattle.gf_form.specs.inner.reduced.Shown.{shown}
+use Rattle.gf_form.proofs.lemmas.reduced.ReducedText.{marked}
+use Rattle.gf_form.proofs.reduced.labels.write_reduced_label.Given as goal
+
+abbrev pub invariant-loop-before : goal.invariant-loop-before
+invariant-loop-before l =
+    (l.text.items ≡ marked (take l.before (shown l.relevant l.strategy)))
+    × AllByRecursion IsPlain l.text.items

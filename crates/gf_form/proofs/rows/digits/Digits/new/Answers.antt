@@ -1,0 +1,147 @@
+use Rattle.std.proofs.Common.{◌≡◌, ◌+◌, ◌-◌, ◌<◌, ◌≤◌, ◌^◌, ◌∙◌, ℕ, List, []}
+use Rattle.std.proofs.Common.{Option, Some, Vec, Global, ap, arith, drop, get_or, length, map}
+use Rattle.std.proofs.Common.{subst, sym}
+use Rattle.std.specs.Prelude.{IfSome}
+use Rattle.std.proofs.lemmas.List.{get_or-map, length-map}
+use Rattle.gf_nfg.specs.Profiles.{product}
+use Rattle.gf_form.specs.inner.rows.DigitSteps.{all_steps, at_digits, width}
+use Rattle.gf_form.specs.declared.strategies.counts.Counts.{Counts}
+use Rattle.gf_form.specs.declared.rows.digits.Digit.{Digit}
+use Rattle.gf_form.specs.declared.rows.digits.Digits.{Digits}
+use Rattle.gf_form.proofs.lemmas.strategies.CountsGiven.{actions_in}
+use Rattle.gf_form.proofs.lemmas.rows.DigitPlaces.{steps_have_shape}
+use Rattle.gf_form.proofs.lemmas.rows.DigitsMade.{as_many_steps, digits_more, no_digits, shape_at}
+use Rattle.gf_form.proofs.lemmas.rows.GameDigits.{AreMade, has_digits}
+use Rattle.gf_form.proofs.rows.digits.Digits.new.Goals as goal
+
+abbrev Steps : Type 0
+Steps = Vec (Vec ℕ Global) Global
+
+abbrev steps_in : Steps → List (List ℕ)
+steps_in steps = map (λ own. own.items) steps.items
+
+abbrev AllSteps : List (List ℕ) → Steps → Type 0
+AllSteps counts steps =
+    (steps_in steps ≡ all_steps 1 counts) × (product (map width counts) < 2 ^ 64)
+
+made : (counts : List (List ℕ)) (o : Option Steps) (steps : Steps)
+    → IfSome o (AllSteps counts) → o ≡ Some steps → AllSteps counts steps
+made counts o steps h is = subst (λ o. IfSome o (AllSteps counts)) is h
+
+as_many : (counts : Counts) (steps : Steps) → AllSteps (actions_in counts) steps
+    → length steps.items ≡ length counts.actions.items
+as_many counts steps h =
+    sym (length-map steps.items (λ (own : Vec ℕ Global). own.items)) ∙ ap length h.0
+    ∙ as_many_steps (actions_in counts) 1
+    ∙ length-map counts.actions.items (λ (own : Vec ℕ Global). own.items)
+
+-- what is read at a place
+at : (all : List (Vec ℕ Global)) (i : ℕ) (own : Vec ℕ Global) (held : List ℕ) → i < length all
+    → own ≡ get_or all i own → held ≡ own.items
+    → held ≡ get_or (map (λ own. own.items) all) i []
+at all i own held less is held_is =
+    held_is ∙ ap (λ (own : Vec ℕ Global). own.items) is
+    ∙ sym (get_or-map (λ (own : Vec ℕ Global). own.items) all i own [] less)
+
+pub loop-place-init : goal.loop-place-init
+loop-place-init c =
+    let counts = c.args.counts.now in
+    let past : length (actions_in counts) ≤ c.len-place.result =
+    omega (
+      arith,
+      c.len-place.ensures,
+      length-map counts.actions.items (λ (own : Vec ℕ Global). own.items),
+    ) in (
+      ap (map (λ (digit : Digit). digit.step)) c.new-digits.ensures.items
+          ∙ no_digits (actions_in counts) (steps_in c.in-Some.steps) c.len-place.result past,
+      ap (map (λ (digit : Digit). digit.actions)) c.new-digits.ensures.items
+          ∙ no_digits (actions_in counts) (actions_in counts) c.len-place.result past,
+    )
+
+pub index-requires-in-loop-place : goal.index-requires-in-loop-place
+index-requires-in-loop-place c =
+    let counts = c.args.counts.now in
+    let h = made (actions_in counts) c.in_ok-steps.field-0 c.in-Some.steps c.in_ok-steps.ensures
+    c.in-Some.is in
+    omega (
+      arith,
+      c.loop-place.auto.place,
+      c.loop-place-test.true,
+      c.len-place.ensures,
+      as_many counts c.in-Some.steps h,
+    )
+
+pub push_digits-requires : goal.push_digits-requires
+push_digits-requires c =
+    let counts = c.args.counts.now in
+    let steps = c.in-Some.steps in
+    let i = c.loop-place.place - 1 in
+    let h = made (actions_in counts) c.in_ok-steps.field-0 steps c.in_ok-steps.ensures
+    c.in-Some.is in
+    let less : i < length counts.actions.items =
+    omega (arith, c.loop-place.auto.place, c.loop-place-test.true, c.len-place.ensures) in
+    let inside : i < length steps.items = omega (arith, less, as_many counts steps h) in
+    let within : i < length (actions_in counts) =
+    omega (arith, less, length-map counts.actions.items (λ (own : Vec ℕ Global). own.items)) in
+    ap length (at steps.items i c.index-in-loop-place.result.now c.deref-in-loop-place.result.now
+    inside c.index-in-loop-place.ensures c.deref-in-loop-place.ensures.value)
+    ∙ ap (λ (all : List (List ℕ)). length (get_or all i [])) h.0
+    ∙ shape_at (actions_in counts) (all_steps 1 (actions_in counts))
+    (steps_have_shape (actions_in counts) 1) i within
+    ∙ sym (ap length (at counts.actions.items i c.index.result.now c.deref.result.now less
+    c.index.ensures c.deref.ensures.value))
+
+pub loop-place-preserved : goal.loop-place-preserved
+loop-place-preserved c =
+    let counts = c.args.counts.now in
+    let steps = c.in-Some.steps in
+    let place = c.loop-place.place in
+    let i = place - 1 in
+    let own = c.deref.result.now in
+    let x = c.deref-in-loop-place.result.now in
+    let old = c.loop-place.digits.items in
+    let new = c.push_digits.new.digits.items in
+    let h = made (actions_in counts) c.in_ok-steps.field-0 steps c.in_ok-steps.ensures
+    c.in-Some.is in
+    let less : i < length counts.actions.items =
+    omega (arith, c.loop-place.auto.place, c.loop-place-test.true, c.len-place.ensures) in
+    let inside : i < length steps.items = omega (arith, less, as_many counts steps h) in
+    let within : i < length (actions_in counts) =
+    omega (arith, less, length-map counts.actions.items (λ (own : Vec ℕ Global). own.items)) in
+    let behind : i < length (steps_in steps) =
+    omega (arith, inside, length-map steps.items (λ (own : Vec ℕ Global). own.items)) in
+    let is = at counts.actions.items i c.index.result.now own less c.index.ensures
+    c.deref.ensures.value in
+    let there = at steps.items i c.index-in-loop-place.result.now x inside
+    c.index-in-loop-place.ensures c.deref-in-loop-place.ensures.value in
+    let next : place ≡ i + 1 = omega (arith, c.loop-place-test.true) in (
+      digits_more (actions_in counts) (steps_in steps) i own x
+          (map (λ (digit : Digit). digit.step) old) (map (λ (digit : Digit). digit.step) new)
+          within behind is there c.in_ok-push_digits.ensures.steps
+          (c.loop-place.invariant.0
+          ∙ ap (λ (n : ℕ). at_digits (drop n (actions_in counts)) (drop n (steps_in steps))) next),
+      digits_more (actions_in counts) (actions_in counts) i own own
+          (map (λ (digit : Digit). digit.actions) old)
+          (map (λ (digit : Digit). digit.actions) new) within within is is
+          c.in_ok-push_digits.ensures.actions
+          (c.loop-place.invariant.1
+          ∙ ap (λ (n : ℕ). at_digits (drop n (actions_in counts)) (drop n (actions_in counts))) next),
+    )
+
+pub returns : goal.returns
+returns c g game are =
+    let counts = actions_in c.args.counts.now in
+    let steps = c.in-Some.steps in
+    let h = made counts c.in_ok-steps.field-0 steps c.in_ok-steps.ensures c.in-Some.is in
+    let d : Digits = record { steps = steps; digits = c.loop-place.digits } in
+    let first : c.loop-place.place ≡ 0 = omega (arith, c.loop-place-test.false) in
+    let all : AreMade counts d = record {
+      steps = h.0;
+      digit_steps_are = c.loop-place.invariant.0
+          ∙ ap (λ (n : ℕ). at_digits (drop n counts) (drop n (steps_in steps))) first
+          ∙ ap (at_digits counts) h.0;
+      digit_actions_are = c.loop-place.invariant.1
+          ∙ ap (λ (n : ℕ). at_digits (drop n counts) (drop n counts)) first;
+      values = h.1;
+    } in
+    has_digits g game d (subst (λ (all : List (List ℕ)). AreMade all d) are.actions all)

@@ -1,0 +1,31 @@
+use Rattle.std.proofs.Common.{List, ℕ, arith, get_or, subst, sym}
+use Rattle.std.specs.Prelude.{IfSome}
+use Rattle.gf_tree.specs.Game.{Game, IsGame}
+use Rattle.gf_form.specs.inner.strategies.Counted.{AreCounts}
+use Rattle.gf_form.specs.inner.rows.GameDigits.{HasDigits, digit_actions}
+use Rattle.gf_form.specs.inner.values.PaidRows.{rows_of}
+use Rattle.gf_form.specs.inner.rows.SettledRows.{SettlesAt}
+use Rattle.gf_form.specs.inner.rows.GameDigits.{actions_at}
+use Rattle.gf_form.specs.declared.rows.digits.Digit.{Digit}
+use Rattle.gf_form.proofs.lemmas.rows.GameRows.{settle_all}
+use Rattle.gf_form.proofs.rows.profile.profile_rows.Goals as goal
+
+pub push_rows-requires-clause-settles : goal.push_rows-requires-clause-settles
+push_rows-requires-clause-settles c =
+    let g = c.args.game.now in
+    let picked = c.args.picked.now in
+    let d = c.in-Some.digits in
+    let terms = c.in_ok-terms.terms in
+    let is_game = c.players-players.ensures.is_game in
+    let full = c.in_ok-numbers.ensures g c.requires.counts c.requires.picked in
+    let digits = subst (λ o. IfSome o (λ d. (h : Game) → IsGame h → AreCounts h c.args.counts.now
+    → HasDigits h d)) c.in-Some.is c.in_ok-digits.ensures g is_game c.requires.counts in
+    λ i from less.
+    subst (λ (ds : List Digit). SettlesAt g (actions_at ds) terms 0
+    (get_or c.deref.result.now i 0)) (sym c.deref-2.ensures.value)
+    (subst (λ (ns : List ℕ). SettlesAt g (digit_actions d) terms 0 (get_or ns i 0))
+    (sym c.deref.ensures.value)
+    (settle_all g is_game c.players-players.ensures.spellable
+    (rows_of c.in_ok-payoffs.payoffs) c.in_ok-payoffs.ensures picked
+    c.in_ok-numbers.numbers.items full d digits terms c.in_ok-terms.ensures.terms i
+    (omega (arith, less, full.as_many, c.requires.picked.profiles))))

@@ -1,6 +1,0 @@
-use Rattle.std.proofs.Common.{◌≡◌, map, take}
-use Rattle.gf_form.specs.Strategies.{all_choices, strategy_label}
-use Rattle.gf_form.proofs.strategies.labels_in_turn.Given as goal
-
-abbrev pub invariant-loop-number : goal.invariant-loop-number
-invariant-loop-number l = l.labels ≡ map strategy_label (take l.number (all_choices l.counts))

@@ -1,9 +1,0 @@
-use Rattle.std.proofs.Common.{◌≡◌, take}
-use Rattle.std.specs.List.{AllByRecursion}
-use Rattle.gf_form.specs.inner.LabelTexts.{IsPlain}
-use Rattle.gf_form.proofs.StrategiesByNumber.{dashed}
-use Rattle.gf_form.proofs.strategies.write_label.Given as goal
-
-abbrev pub invariant-loop-action : goal.invariant-loop-action
-invariant-loop-action l = (l.text.items ≡ dashed (take l.action-index l.strategy))
-    × AllByRecursion IsPlain l.text.items

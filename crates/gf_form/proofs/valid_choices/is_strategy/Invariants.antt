@@ -1,8 +1,0 @@
-use Rattle.std.proofs.Common.{ℕ, ◌<◌, ◌≤◌, get_or}
-use Rattle.gf_form.specs.Strategies.{action_counts}
-use Rattle.gf_form.proofs.valid_choices.is_strategy.Given as goal
-
-abbrev pub invariant-loop-before : goal.invariant-loop-before
-invariant-loop-before l = (k : ℕ) → k < l.before
-    → (1 ≤ get_or l.strategy k 0)
-    × (get_or l.strategy k 0 ≤ get_or (action_counts l.game l.player) k 0)

@@ -1,0 +1,12 @@
+pub mod Demands
+pub mod DigitSteps
+pub mod Entries
+pub mod FitsTable
+pub mod GameDigits
+pub mod KeptNodes
+pub mod ListedNodes
+pub mod PathsLeft
+pub mod ProfileRows
+pub mod ReachedNodes
+pub mod SettledRows
+pub mod Shares

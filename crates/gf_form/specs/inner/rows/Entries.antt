@@ -1,0 +1,147 @@
+-- Terms of the sums that the players are paid, each with a number for each player.
+use Rattle.std.specs.Prelude.{◌≡◌, ℕ, ℤ, pos, ◌+◌, ◌-◌, ◌*◌, ◌/◌, ◌<◌, ◌≤◌, ◌+ℤ◌, ◌*ℤ◌, Bool, true}
+use Rattle.std.specs.Prelude.{List, [], ◌∷◌, ◌++◌, drop, get_or, length, take, if◌then◌else◌}
+use Rattle.std.specs.Int.{◌∣◌}
+use Rattle.std.specs.List.{AllByRecursion}
+use Rattle.std.specs.List.Sorted.{IsNonDecreasingBy}
+use Rattle.gf_fraction.specs.Ratio.{IsWithin}
+use Rattle.gf_form.specs.inner.rows.Demands.{meets}
+use Rattle.gf_form.specs.declared.rows.terms.Head.{Head}
+use Rattle.gf_form.specs.declared.rows.terms.Terms.{Terms}
+use Rattle.gf_form.specs.declared.rows.sums.Scale.{Scale}
+
+-- a term
+pub record Entry : Type 0 where
+  pub head : Head
+  pub row : List ℤ
+
+-- the player's number, by his place from 0
+abbrev pub number_at : ℕ → Entry → ℤ
+number_at k e = get_or e.row k (pos 0)
+
+-- the terms of these heads, each with this many of the numbers
+abbrev pub entries_of : ℕ → List Head → List ℤ → List Entry
+entries_of players [] numbers = []
+entries_of players (h ∷ hs) numbers =
+    record { head = h; row = take players numbers } ∷ entries_of players hs (drop players numbers)
+
+abbrev pub entries : Terms → List Entry
+entries t = entries_of t.players t.heads.items t.numbers.items
+
+-- each term has a number within bounds for each player
+pub record IsShaped (t : Terms) : Type 0 where
+  pub count : length t.numbers.items ≡ length t.heads.items * t.players
+  pub within : AllByRecursion IsWithin t.numbers.items
+
+-- no term demands less than the one before it
+abbrev pub AreOrdered : Terms → Type 0
+AreOrdered t = IsNonDecreasingBy (λ (h : Head). h.demands) t.heads.items
+
+abbrev pub no_head : Head
+no_head = record { demands = 0; den = 0; size = 0 }
+
+-- among heads in order of demands, this many come before a number
+pub record CountsBelow (heads : List Head) (number count : ℕ) : Type 0 where
+  pub bound : count ≤ length heads
+  pub below : (k : ℕ) → k < count → (get_or heads k no_head).demands < number
+  pub above : (k : ℕ) → count ≤ k → k < length heads → number ≤ (get_or heads k no_head).demands
+
+-- the last of these, if there is one, demands no more
+abbrev pub EndsBelow : List Head → ℕ → Type 0
+EndsBelow heads n =
+    (d : Head) → 0 < length heads → (get_or heads (length heads - 1) d).demands ≤ n
+
+abbrev pub no_entry : Entry
+no_entry = record { head = no_head; row = [] }
+
+-- the term at a place, from 0
+abbrev pub entry_at : Terms → ℕ → Entry
+entry_at t place = get_or (entries t) place no_entry
+
+-- the same with lower demands
+abbrev pub lowered : ℕ → Entry → Entry
+lowered less e = record {
+  head = record { demands = e.head.demands - less; den = e.head.den; size = e.head.size };
+  row = e.row;
+}
+
+-- ---- sums of two terms
+
+-- the first denominator times this is the second
+pub record IsFactor (from den factor : ℕ) : Type 0 where
+  pub above : 0 < from
+  pub divides : from ∣ den
+  pub factor_is : factor ≡ den / from
+
+-- over this denominator, with these factors
+pub record IsScale (a b : Head) (s : Scale) : Type 0 where
+  pub first : IsFactor a.den s.den s.first
+  pub second : IsFactor b.den s.den s.second
+  pub size : a.size * (s.den / a.den) + b.size * (s.den / b.den) ≤ s.size
+
+-- one more row, of sums of numbers, each times its factor, if they are known to fit
+pub record HasNumbers (first second : List ℤ) (by_first by_second : ℕ) (fits : Bool)
+    (old new : List ℤ) : Type 0 where
+  pub row : List ℤ
+  pub is : new ≡ old ++ row
+  pub one_each : length row ≡ length first
+  pub within : AllByRecursion IsWithin row
+  pub sums : fits ≡ true → (k : ℕ) → get_or row k (pos 0)
+      ≡ get_or first k (pos 0) *ℤ pos by_first +ℤ get_or second k (pos 0) *ℤ pos by_second
+
+-- the term is the sum of two others
+pub record IsSumOf (a b sum : Entry) : Type 0 where
+  pub first : 0 < a.head.den
+  pub first_divides : a.head.den ∣ sum.head.den
+  pub second : 0 < b.head.den
+  pub second_divides : b.head.den ∣ sum.head.den
+  pub size : a.head.size * (sum.head.den / a.head.den) + b.head.size * (sum.head.den / b.head.den)
+      ≤ sum.head.size
+  pub numbers : (k : ℕ) → number_at k sum ≡ number_at k a *ℤ pos (sum.head.den / a.head.den)
+      +ℤ number_at k b *ℤ pos (sum.head.den / b.head.den)
+
+-- one more term, with the demands of the first, which is the sum of two if it is known to fit
+pub record HasSum (a b : Entry) (old new : List Entry) : Type 0 where
+  pub sum : Entry
+  pub is : new ≡ old ++ sum ∷ []
+  pub demands : sum.head.demands ≡ a.head.demands
+  pub adds : 0 < sum.head.den → IsSumOf a b sum
+
+-- ---- what the terms come to, over one denominator, at choices for each digit
+
+abbrev pub IsExactAt : ℕ → List ℕ → List ℕ → Entry → Type 0
+IsExactAt den steps choices e =
+    meets steps choices e.head.demands ≡ true → (0 < e.head.den) × (e.head.den ∣ den)
+
+-- the denominators of those that are met are known, and divide this one
+abbrev pub AreExactAt : ℕ → List ℕ → List ℕ → List Entry → Type 0
+AreExactAt den steps choices es = AllByRecursion (IsExactAt den steps choices) es
+
+-- what the terms that are met come to for the player at this place, from 0
+abbrev pub sum_of_entries : ℕ → ℕ → List ℕ → List ℕ → List Entry → ℤ
+sum_of_entries k den steps choices [] = pos 0
+sum_of_entries k den steps choices (e ∷ es) =
+    (if meets steps choices e.head.demands then number_at k e *ℤ pos (den / e.head.den) else pos 0)
+    +ℤ sum_of_entries k den steps choices es
+
+-- what their sizes come to
+abbrev pub size_of_entries : ℕ → List ℕ → List ℕ → List Entry → ℕ
+size_of_entries den steps choices [] = 0
+size_of_entries den steps choices (e ∷ es) =
+    (if meets steps choices e.head.demands then e.head.size * (den / e.head.den) else 0)
+    + size_of_entries den steps choices es
+
+-- these terms, at choices for their digits, come to what others come to
+pub record ComeTo (den : ℕ) (steps choices : List ℕ) (es : List Entry) (others_steps others_choices
+    : List ℕ) (others : List Entry) : Type 0 where
+  pub exact : AreExactAt den steps choices es
+  pub sums : (k : ℕ) → sum_of_entries k den steps choices es
+      ≡ sum_of_entries k den others_steps others_choices others
+  pub sizes : size_of_entries den steps choices es
+      ≤ size_of_entries den others_steps others_choices others
+
+-- what is left of terms if this action is chosen at the slowest digit
+abbrev pub AreMerged : ℕ → ℕ → List Entry → List Entry → Type 0
+AreMerged step action es left = (den : ℕ) (steps choices : List ℕ)
+    → AreExactAt den steps choices left
+    → ComeTo den (step ∷ steps) (action ∷ choices) es steps choices left

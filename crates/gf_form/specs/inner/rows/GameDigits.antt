@@ -1,0 +1,36 @@
+-- The digits of a game: one for each set at which a player has two or more actions.
+use Rattle.std.specs.Prelude.{◌≡◌, ℕ, ◌<◌, ◌^◌, List, [], length, map, get_or}
+use Rattle.gf_nfg.specs.Profiles.{product}
+use Rattle.gf_tree.specs.Game.{Game}
+use Rattle.gf_form.specs.inner.rows.Demands.{spans, steps_of}
+use Rattle.gf_form.specs.inner.rows.Shares.{AreDigits}
+use Rattle.gf_form.specs.Strategies.{all_choices, choices_by, full_profiles, strategies_at}
+use Rattle.gf_form.specs.declared.rows.digits.Digit.{Digit}
+use Rattle.gf_form.specs.declared.rows.digits.Digits.{Digits}
+
+-- how many actions there are at each digit
+abbrev pub actions_at : List Digit → List ℕ
+actions_at digits = map (λ d. d.actions) digits
+
+-- each digit has the step that the faster ones give it
+abbrev pub HaveSteps : List Digit → Type 0
+HaveSteps digits = map (λ d. d.step) digits ≡ steps_of (actions_at digits)
+
+-- how many actions there are at each digit, from the slowest on
+abbrev pub digit_actions : Digits → List ℕ
+digit_actions d = map (λ digit. digit.actions) d.digits.items
+
+abbrev pub digit_steps : Digits → List ℕ
+digit_steps d = map (λ digit. digit.step) d.digits.items
+
+-- Each digit has its step, and all values of all digits are within 64 bits. There are as many
+-- choices of an action at each digit as there are profiles, in the same order: the choices with the
+-- number of a profile are those of its strategies.
+pub record HasDigits (g : Game) (d : Digits) : Type 0 where
+  pub steps : digit_steps d ≡ steps_of (digit_actions d)
+  pub within : product (spans (digit_actions d)) < 2 ^ 64
+  pub as_many : product (digit_actions d) ≡ length (full_profiles g)
+  pub choices : (number : ℕ) → number < length (full_profiles g)
+      → AreDigits g (choices_by g (map (λ own. own.items) d.steps.items))
+      (choices_by g (strategies_at g (get_or (full_profiles g) number []))) (digit_actions d)
+      (get_or (all_choices (digit_actions d)) number [])

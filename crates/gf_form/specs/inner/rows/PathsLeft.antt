@@ -1,0 +1,93 @@
+-- What is left of the nodes that choices can reach while a walk gives them.
+use Rattle.std.specs.Prelude.{ℕ, suc, ◌+◌, ◌==◌, List, [], ◌∷◌, ◌++◌, length, map, Option, Some}
+use Rattle.std.specs.Prelude.{None, if◌then◌else◌}
+use Rattle.gf_fraction.specs.Ratio.{Ratio}
+use Rattle.gf_token.specs.Positions.{at_position}
+use Rattle.gf_tree.specs.Branches.{game_of, tree_of}
+use Rattle.gf_tree.specs.BranchesLeft.{branches_given, branches_left, game_of_branches}
+use Rattle.gf_tree.specs.Description.{SetKey}
+use Rattle.gf_tree.specs.Game.{Game, Node}
+use Rattle.gf_tree.specs.Subtrees.{child_trees}
+use Rattle.gf_tree.specs.Tree.{Tree}
+use Rattle.gf_tree.specs.declared.branch.Branch.{Branch}
+use Rattle.gf_form.specs.inner.values.CodeLeft.{branch_chances}
+use Rattle.gf_form.specs.inner.rows.ReachedNodes.{by_chance, by_choice, demanded, reached}
+use Rattle.gf_form.specs.Strategies.{choices_by}
+use Rattle.gf_form.specs.declared.rows.paths.Open.{Open}
+use Rattle.gf_form.specs.declared.rows.paths.Open.TheVariants.{Chance, Choice}
+use Rattle.gf_form.specs.declared.rows.paths.Path.{Path}
+use Rattle.gf_form.specs.declared.rows.paths.Paths.{Paths}
+use Rattle.gf_form.specs.declared.rows.paths.Reached.{Reached}
+
+-- the nodes of a branch, if these are the steps of the digits of each player's sets
+abbrev pub branch_nodes : List (List ℕ) → Path → Branch → List Reached
+branch_nodes all path b = reached (game_of b) (choices_by (game_of b) all) path (tree_of b)
+
+-- those of these children of a node of chance; the first one has position k
+abbrev pub lot_nodes : Game → (SetKey → ℕ) → Path → (ℕ → Ratio) → ℕ → List (Tree Node)
+    → List Reached
+lot_nodes g steps path chances k [] = []
+lot_nodes g steps path chances k (t ∷ ts) =
+    reached g steps (by_chance path (chances k)) t ++ lot_nodes g steps path chances (k + 1) ts
+
+-- those of these children of a player's node; the first one has position k
+abbrev pub any_nodes : Game → (SetKey → ℕ) → Path → ℕ → ℕ → List (Tree Node) → List Reached
+any_nodes g steps path step k [] = []
+any_nodes g steps path step k (t ∷ ts) =
+    reached g steps (by_choice path step k) t ++ any_nodes g steps path step (k + 1) ts
+
+-- those of this tree, if there is one
+abbrev pub option_nodes : Game → (SetKey → ℕ) → Path → Option (Tree Node) → List Reached
+option_nodes g steps path None = []
+option_nodes g steps path (Some t) = reached g steps path t
+
+-- the action that is taken at a set with this many actions whose digit has this step; 0 if any
+-- action will do
+abbrev pub taken : Path → ℕ → ℕ → ℕ
+taken path step actions = if step == 0 then 1 else demanded path.demands step actions
+
+-- the nodes below a player's node, if this action is taken
+abbrev pub nodes_by : List (List ℕ) → Branch → Path → ℕ → ℕ → List Reached
+nodes_by all b path step action =
+    if action == 0
+    then any_nodes (game_of b) (choices_by (game_of b) all) path step 1 (child_trees (tree_of b))
+    else option_nodes (game_of b) (choices_by (game_of b) all) path
+    (at_position (child_trees (tree_of b)) action)
+
+-- those below the children that are left at an open node
+abbrev pub open_nodes : List (List ℕ) → Open → List Reached
+open_nodes all (Chance node rest path) =
+    lot_nodes (game_of_branches rest) (choices_by (game_of_branches rest) all) path
+    (branch_chances node) (branches_given rest + 1) (branches_left rest)
+open_nodes all (Choice rest path step) =
+    any_nodes (game_of_branches rest) (choices_by (game_of_branches rest) all) path step
+    (branches_given rest + 1) (branches_left rest)
+
+-- among the open nodes, the last one comes first
+abbrev pub below : List (List ℕ) → List Open → List Reached → List Reached
+below all [] rs = rs
+below all (o ∷ os) rs = below all os (open_nodes all o ++ rs)
+
+abbrev pub next_nodes : List (List ℕ) → Option (Branch × Path) → List Reached
+next_nodes all None = []
+next_nodes all (Some next) = branch_nodes all next.1 next.0
+
+-- the steps of the digits that a walk goes by
+abbrev pub steps_of_paths : Paths → List (List ℕ)
+steps_of_paths p = map (λ own. own.items) p.digits.now.steps.items
+
+-- what its open nodes are followed by
+abbrev pub nodes_behind : Paths → List Reached
+nodes_behind p = below (steps_of_paths p) p.open.items []
+
+-- all that is left
+abbrev pub nodes_left : Paths → List Reached
+nodes_left p = next_nodes (steps_of_paths p) p.next ++ nodes_behind p
+
+-- how many open nodes can still be closed before a node is given
+abbrev pub turns_before : Option (Branch × Path) → List Open → ℕ
+turns_before None os = suc (length os)
+turns_before (Some next) os = 0
+
+abbrev pub turns_left : Paths → ℕ
+turns_left p = turns_before p.next p.open.items

@@ -1,0 +1,89 @@
+-- The nodes of a tree that choices can reach, in prefix order, each with what the path to it
+-- demands. At a set that is met again below itself, play goes on with the action that is demanded
+-- there.
+use Rattle.std.specs.Prelude.{ℕ, suc, zero, ◌+◌, ◌*◌, ◌/◌, ◌%◌, ◌^◌, ◌==◌, ◌&&◌, Bool, List, []}
+use Rattle.std.specs.Prelude.{◌∷◌}
+use Rattle.std.specs.Prelude.{◌++◌, Option, Some, None, nat_lt, unsigned_abs, if◌then◌else◌}
+use Rattle.gf_fraction.specs.Ratio.{Ratio}
+use Rattle.gf_tree.specs.Tree.{Tree, Trees, count}
+use Rattle.gf_tree.specs.Tree.Tree.{branch}
+use Rattle.gf_tree.specs.Tree.Trees.{none, more}
+use Rattle.gf_tree.specs.Description.{SetKey}
+use Rattle.gf_tree.specs.Game.{Game, Node}
+use Rattle.gf_form.specs.inner.values.Program.{paid_at_node}
+use Rattle.gf_form.specs.inner.values.Values.{chances_at}
+use Rattle.gf_form.specs.declared.rows.paths.Path.{Path}
+use Rattle.gf_form.specs.declared.rows.paths.Reached.{Reached}
+
+abbrev pub at_least_one : ℕ → ℕ
+at_least_one n = if n == 0 then 1 else n
+
+-- whether the numbers of a path still fit after an action of this probability
+abbrev pub has_room : Path → Ratio → Bool
+has_room path chance =
+    nat_lt (path.weight * unsigned_abs chance.num) (2 ^ 128)
+    && nat_lt (path.bound * at_least_one (unsigned_abs chance.num)) (2 ^ 128)
+    && nat_lt (path.den * chance.den) (2 ^ 128)
+
+-- one step further, by an action of this probability; if the numbers do not fit, they are not
+-- known, and no denominator is a multiple of that of the path
+abbrev pub by_chance : Path → Ratio → Path
+by_chance path chance = record {
+  weight = if has_room path chance then path.weight * unsigned_abs chance.num else 0;
+  bound = if has_room path chance then path.bound * at_least_one (unsigned_abs chance.num) else 1;
+  den = if has_room path chance then path.den * chance.den else 0;
+  demands = path.demands;
+}
+
+-- one step further, by the action at this position, at a set whose digit has this step, in 64 bits
+abbrev pub by_choice : Path → ℕ → ℕ → Path
+by_choice path step position = record {
+  weight = path.weight;
+  bound = path.bound;
+  den = path.den;
+  demands = (path.demands + position * step) % 2 ^ 64;
+}
+
+-- the action that is demanded at the digit with this step, if there are this many actions; 0 if any
+-- will do
+abbrev pub demanded : ℕ → ℕ → ℕ → ℕ
+demanded demands step actions = demands / step % (actions + 1)
+
+-- the path on which nobody has chosen
+abbrev pub root_path : Path
+root_path = record { weight = 1; bound = 1; den = 1; demands = 0 }
+
+abbrev pub over_set : Option SetKey → (SetKey → List Reached) → List Reached
+over_set None below = []
+over_set (Some key) below = below key
+
+abbrev mutual
+  -- Each set has the step of its digit, or 0 if it has only one action.
+  pub reached : Game → (SetKey → ℕ) → Path → Tree Node → List Reached
+  reached g steps path (branch n ts) =
+      record { path = path; outcome = paid_at_node g n } ∷ over_set n.set
+      (λ key. if key.player == 0 then by_lot g steps path (chances_at g n) 1 ts
+      else if steps key == 0 then by_action g steps path 1 ts
+      else if demanded path.demands (steps key) (count ts) == 0
+      then by_any g steps path (steps key) 1 ts
+      else by_action g steps path (demanded path.demands (steps key) (count ts)) ts)
+
+  -- below these children of a node of chance; the first one has position k
+  pub by_lot : Game → (SetKey → ℕ) → Path → (ℕ → Ratio) → ℕ → Trees Node → List Reached
+  by_lot g steps path chances k none = []
+  by_lot g steps path chances k (more t ts) =
+      reached g steps (by_chance path (chances k)) t ++ by_lot g steps path chances (k + 1) ts
+
+  -- below these children of a player's node; the first one has position k
+  pub by_any : Game → (SetKey → ℕ) → Path → ℕ → ℕ → Trees Node → List Reached
+  by_any g steps path step k none = []
+  by_any g steps path step k (more t ts) =
+      reached g steps (by_choice path step k) t ++ by_any g steps path step (k + 1) ts
+
+  -- below the child at this position, from 1
+  pub by_action : Game → (SetKey → ℕ) → Path → ℕ → Trees Node → List Reached
+  by_action g steps path position none = []
+  by_action g steps path zero (more t ts) = []
+  by_action g steps path (suc zero) (more t ts) = reached g steps path t
+  by_action g steps path (suc (suc position)) (more t ts) =
+      by_action g steps path (suc position) ts

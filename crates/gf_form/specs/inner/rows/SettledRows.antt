@@ -1,0 +1,95 @@
+-- Payoffs at profiles, by the terms of which they are sums.
+use Rattle.std.specs.Prelude.{◌≡◌, ℕ, ℤ, suc, pos, ◌-◌, ◌<◌, ◌≤◌, ◌^◌, List, [], ◌++◌}
+use Rattle.std.specs.Prelude.{Some, get_or, length, take}
+use Rattle.std.specs.List.{AllByRecursion}
+use Rattle.gf_fraction.specs.Ratio.{HasValue, IsFraction, IsWithin, Ratio}
+use Rattle.gf_nfg.specs.Profiles.{product}
+use Rattle.gf_tree.specs.Game.{Game}
+use Rattle.gf_form.specs.inner.strategies.Counted.{AreCounts}
+use Rattle.gf_form.specs.inner.rows.Demands.{steps_of}
+use Rattle.gf_form.specs.inner.rows.Entries.{AreExactAt, Entry, entries, size_of_entries}
+use Rattle.gf_form.specs.inner.rows.Entries.{sum_of_entries}
+use Rattle.gf_form.specs.inner.values.PaidRows.{rows_of}
+use Rattle.gf_form.specs.inner.strategies.Picked.{IsPicked, numbers_in, picked_profiles}
+use Rattle.gf_form.specs.inner.rows.ProfileRows.{AreRowsAt}
+use Rattle.gf_form.specs.Refusal.{HasValues}
+use Rattle.gf_form.specs.inner.values.Rows.{ArePaid, at_place}
+use Rattle.gf_form.specs.StrategicForm.{ArePayoffsAt}
+use Rattle.gf_form.specs.Strategies.{all_choices, choices_by, full_profiles, strategies_at}
+use Rattle.gf_form.specs.inner.values.Values.{value}
+use Rattle.gf_form.specs.declared.strategies.picked.Picked.{Picked}
+use Rattle.gf_form.specs.declared.rows.terms.Terms.{Terms}
+use Rattle.gf_form.specs.declared.rows.written.Asked.{Asked}
+use Rattle.gf_form.specs.declared.rows.written.Run.{Run}
+use Rattle.gf_form.specs.declared.rows.written.Written.{Written}
+
+-- the player, by his place from 0, has this number over this denominator as his value at the profile
+-- with this number, from 0, among all
+pub record PaysOver (g : Game) (number k den : ℕ) (whole : ℤ) : Type 0 where
+  pub payoff : Ratio
+  pub fraction : IsFraction payoff
+  pub is_value : value g (choices_by g (strategies_at g (get_or (full_profiles g) number [])))
+      (suc k) g.tree ≡ Some payoff
+  pub over : HasValue payoff whole den
+
+-- what terms come to at these choices is what is paid at a profile, if it is known to fit
+abbrev pub Settles : Game → ℕ → List ℕ → List ℕ → List Entry → Type 0
+Settles g number steps choices es = (k : ℕ) → k < length g.players → (den : ℕ) → 0 < den
+    → den < 2 ^ 127 → AreExactAt den steps choices es
+    → size_of_entries den steps choices es < 2 ^ 127
+    → PaysOver g number k den (sum_of_entries k den steps choices es)
+
+-- the choices at these digits have the number of the profile, less that of the first choices
+pub record SettlesAt (g : Game) (actions : List ℕ) (terms : Terms) (least number : ℕ) : Type 0 where
+  pub from : least ≤ number
+  pub to : number - least < product actions
+  pub settles : Settles g number (steps_of actions)
+      (get_or (all_choices actions) (number - least) []) (entries terms)
+
+-- ---- what is asked
+
+-- for each profile of the strategies that are picked, its number among all, from 0
+pub record AreFullNumbers (g : Game) (picked : Picked) (numbers : List ℕ) : Type 0 where
+  pub as_many : length numbers ≡ length (picked_profiles (numbers_in picked))
+  pub each : (i : ℕ) → i < length numbers → (get_or numbers i 0 < length (full_profiles g))
+      × (get_or (full_profiles g) (get_or numbers i 0) []
+      ≡ get_or (picked_profiles (numbers_in picked)) i [])
+
+pub record IsAsked (asked : Asked) : Type 0 where
+  pub counts : AreCounts asked.game.now asked.counts.now
+  pub payoffs : ArePaid asked.game.now (rows_of asked.payoffs.now)
+  pub picked : IsPicked asked.game.now asked.picked.now
+  pub numbers : AreFullNumbers asked.game.now asked.picked.now asked.numbers.now
+
+-- this many of the first rows
+pub record AreWritten (asked : Asked) (count : ℕ) (written : Written) : Type 0 where
+  pub rows : AreRowsAt (ArePayoffsAt asked.game.now)
+      (take count (picked_profiles (numbers_in asked.picked.now))) written.rows.items
+  pub values : AllByRecursion (HasValues asked.game.now)
+      (take count (picked_profiles (numbers_in asked.picked.now)))
+  pub as_long : length written.strategies.items ≡ length asked.counts.now.actions.items
+
+-- the terms settle the rows of these profiles
+abbrev pub SettleRows : Asked → List ℕ → Terms → Run → Type 0
+SettleRows asked actions terms run = (i : ℕ) → run.from ≤ i → i < run.to
+    → SettlesAt asked.game.now actions terms run.first (get_or asked.numbers.now i 0)
+
+-- ---- one row
+
+-- the terms, for no digits, come to a row over this denominator
+pub record IsRowOver (den : ℕ) (terms : Terms) : Type 0 where
+  pub above : 0 < den
+  pub within : den < 2 ^ 127
+  pub exact : AreExactAt den [] [] (entries terms)
+  pub size : size_of_entries den [] [] (entries terms) < 2 ^ 127
+  pub sums : (k : ℕ) → sum_of_entries k den [] [] (entries terms)
+      ≡ get_or terms.numbers.items k (pos 0)
+  pub numbers : (k : ℕ) → IsWithin (get_or terms.numbers.items k (pos 0))
+
+-- this many more fractions, whose values are these numbers over a denominator
+pub record HasRowOver (den players : ℕ) (numbers : List ℤ) (old new : List Ratio) : Type 0 where
+  pub row : List Ratio
+  pub is : new ≡ old ++ row
+  pub one_each : length row ≡ players
+  pub fractions : AllByRecursion IsFraction row
+  pub values : (k : ℕ) → k < players → HasValue (at_place row k) (get_or numbers k (pos 0)) den

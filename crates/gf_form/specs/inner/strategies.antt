@@ -1,0 +1,4 @@
+pub mod Counted
+pub mod FullNumbers
+pub mod LabelTexts
+pub mod Picked

@@ -1,0 +1,57 @@
+//! What a node adds to a player's payoff, over a denominator.
+
+ghost use Rattle.std.specs.Prelude.{◌≡◌, ◌<◌, IfSome};
+ghost use Rattle.gf_form.specs.inner.values.PaidRows.{rows_of};
+ghost use Rattle.gf_form.specs.inner.values.Rows.{at_place, row_at};
+ghost use Rattle.gf_form.specs.inner.rows.Shares.{IsShare};
+
+use crate::rows::paths::Path;
+use crate::values::payoffs::Payoffs;
+use gf_fraction::Fraction;
+
+/// What a node adds to a player's payoff, over a common denominator.
+#[derive(Clone, Copy)]
+pub(crate) struct Share {
+    pub amount: i128,
+    /// A bound for its size, which does not depend on whether probabilities are zero.
+    pub bound: u128,
+}
+
+/// What an outcome pays the player at this place, from 0.
+pub(crate) fn payoff_at(payoffs: &Payoffs<'_>, outcome: u32, place: usize) -> Fraction
+    ensures { result ≡ at_place (row_at (rows_of payoffs.now) outcome) place }
+{
+    match payoffs.at(outcome).get(place) {
+        Some(payoff) => *payoff,
+        None => Fraction::zero(),
+    }
+}
+
+/// What a path adds to a payoff over a common denominator; `None` if that is not a whole number, or
+/// is too large.
+pub(crate) fn share_of(path: Path, payoff: Fraction, den: u128) -> Option<Share>
+    requires { 0 < path.den }
+    ensures { IfSome result (IsShare path payoff den) }
+{
+    if payoff == Fraction::zero() {
+        return Some(Share {
+            amount: 0,
+            bound: 0,
+        });
+    }
+    let scale = den / path.den;
+    if scale % payoff.den() != 0 {
+        return None;
+    }
+    let Ok(factor) = i128::try_from(scale / payoff.den()) else {
+        return None;
+    };
+    let over = payoff.num().checked_mul(factor)?;
+    let Ok(weight) = i128::try_from(path.weight) else {
+        return None;
+    };
+    Some(Share {
+        amount: weight.checked_mul(over)?,
+        bound: path.bound.checked_mul(over.unsigned_abs())?,
+    })
+}

@@ -1,0 +1,80 @@
+//! The payoffs if the players choose these actions.
+
+ghost use Rattle.std.specs.Prelude.{◌≤◌, IfOk, IsErrOf, OnOk, map};
+ghost use Rattle.std.specs.List.{AllZip};
+ghost use Rattle.gf_form.specs.inner.values.PaidRows.{rows_of};
+ghost use Rattle.gf_form.specs.Refusal.{HasValuesBy};
+ghost use Rattle.gf_form.specs.inner.values.Rows.{ArePaid};
+ghost use Rattle.gf_form.specs.StrategicForm.{ArePayoffs};
+ghost use Rattle.gf_form.specs.Strategies.{AreStrategies, choices_by};
+
+use crate::fault::EvalFault;
+use crate::rows::write_out;
+use crate::values::evaluate::evaluate;
+use crate::values::payoffs::Payoffs;
+use crate::values::stack::Values;
+use gf_fraction::Fraction;
+use gf_tree::Game;
+use std::alloc::Global;
+
+/// What `expected` returns, given the payoffs of the outcomes. The row uses the room of one of
+/// these values.
+pub(crate) fn expected_with(
+    alloc: Global,
+    game: &Game<'_>,
+    payoffs: &Payoffs<'_>,
+    choices: &[Vec<u32>],
+    values: &mut Values,
+) -> Result<Vec<Fraction>, EvalFault>
+    requires strategies { AreStrategies game.now (map (λ own. own.items) choices.now) }
+    requires payoffs { ArePaid game.now (rows_of payoffs.now) }
+    ensures payoffs { IfOk result (λ payoffs. ArePayoffs game.now
+        (choices_by game.now (map (λ own. own.items) choices.now)) payoffs.items) }
+    ensures values { OnOk result (HasValuesBy game.now
+        (choices_by game.now (map (λ own. own.items) choices.now))) }
+    ensures overflow { IsErrOf result EvalFault.Overflow → ¬ (HasValuesBy game.now
+        (choices_by game.now (map (λ own. own.items) choices.now))) }
+{
+    let players = game.players().len();
+    if players == 0 {
+        return Ok(Vec::new(alloc));
+    }
+    let mut row = match evaluate(alloc, game, payoffs, choices, values) {
+        Ok(row) => row,
+        Err(fault) => return Err(fault),
+    };
+    write_out(&mut row, players)?;
+    Ok(row)
+}
+
+/// What each player is paid, in their order, if the players choose these actions: the sum, over the
+/// plays that follow the choices, of the probability of the play times the payoffs of its outcomes.
+///
+/// The caller has to ensure that there is one list for each player, with the position of an action,
+/// from 1, for each of his sets in order of first use.
+///
+/// # Errors
+///
+/// `Overflow` if the bottom-up value of some player is not defined. The value at a leaf is its
+/// payoff; at a node of a player, its payoff plus the value of the child that is chosen; and at a
+/// node of chance, its payoff plus the sum of the children's values times their probabilities,
+/// added in their order from 0. It is not defined if a sum or a product on the way does not fit
+/// (this project's profile). `Memory` if memory is refused.
+pub fn expected(
+    alloc: Global,
+    game: &Game<'_>,
+    choices: &[Vec<u32>],
+) -> Result<Vec<Fraction>, EvalFault>
+    requires { AreStrategies game.now (map (λ own. own.items) choices.now) }
+    ensures payoffs { IfOk result (λ payoffs. ArePayoffs game.now
+        (choices_by game.now (map (λ own. own.items) choices.now)) payoffs.items) }
+    ensures values { OnOk result (HasValuesBy game.now
+        (choices_by game.now (map (λ own. own.items) choices.now))) }
+    ensures overflow { IsErrOf result EvalFault.Overflow → ¬ (HasValuesBy game.now
+        (choices_by game.now (map (λ own. own.items) choices.now))) }
+{
+    let _players = game.players();
+    let payoffs = Payoffs::new(alloc, game)?;
+    let mut values = Values::new(alloc);
+    expected_with(alloc, game, &payoffs, choices, &mut values)
+}
