@@ -4,7 +4,7 @@ ghost use Rattle.std.specs.Prelude.{◌≡◌};
 ghost use Rattle.gf_calls.specs.Numbers.{names_by, strategies_by};
 
 use gf_canon::Names;
-use gf_form::forms::Strategies;
+use gf_form::Strategies;
 
 /// The names that count. `None` if the call has no such flags.
 pub fn names_by(flags: u32) -> Option<Names>

@@ -13,6 +13,7 @@ mod strategies;
 mod values;
 
 pub use crate::fault::{EvalFault, FormFault};
+pub use crate::forms::{Strategies, form_by};
 pub use crate::reduced_form::table_reduced;
 pub use crate::strategic_form::table;
 pub use crate::strategies::valid::are_strategies;

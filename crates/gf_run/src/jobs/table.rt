@@ -13,7 +13,7 @@ use crate::fault::{RunFault, Which};
 use crate::streams::sink::{Sink, push_all};
 use crate::streams::source::{Source, load};
 use gf_canon::{Meaning, read_file};
-use gf_form::forms::{Strategies, form_by};
+use gf_form::{Strategies, form_by};
 use gf_nfg::{Table, write_nfg};
 use std::alloc::{AllocError, Global};
 
