@@ -2,8 +2,8 @@
 use Rattle.std.specs.Prelude.{◌≡◌, ℕ, List, map}
 use Rattle.gf_canon.specs.GameFile.{GameFile}
 use Rattle.gf_canon.specs.Pairs as numbers
-use Rattle.gf_canon.specs.declared.pairs.NumberPair.{NumberPair}
-use Rattle.gf_canon.specs.declared.pairs.NumberPair.TheVariants.{Set, Outcome}
+use Rattle.gf_canon.specs.declared.numbering.pairs.NumberPair.{NumberPair}
+use Rattle.gf_canon.specs.declared.numbering.pairs.NumberPair.TheVariants.{Set, Outcome}
 use Rattle.gf_calls.specs.declared.pair.Pair.{Pair}
 
 -- the number of a player's set, or of an outcome, and its new number

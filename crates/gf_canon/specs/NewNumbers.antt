@@ -8,7 +8,7 @@ use Rattle.gf_tree.specs.Game.{Game}
 use Rattle.gf_tree.specs.Renumbering as numbers
 use Rattle.gf_tree.specs.Renumbering.{HasSet, HasOutcome}
 use Rattle.gf_tree.specs.SameGame.{Carries}
-use Rattle.gf_canon.specs.declared.new_numbers.Renumbering.{Renumbering}
+use Rattle.gf_canon.specs.declared.numbering.new_numbers.Renumbering.{Renumbering}
 
 -- by player and number
 abbrev pub set_order : ℕ × ℕ → ℕ × ℕ → Ordering

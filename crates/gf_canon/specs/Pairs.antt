@@ -8,8 +8,8 @@ use Rattle.gf_tree.specs.Renumbering.{Renumbering}
 use Rattle.gf_tree.specs.SameGame.{Carries}
 use Rattle.gf_canon.specs.GameFile.{GameFile}
 use Rattle.gf_canon.specs.GameFile.GameFile.{extensive}
-use Rattle.gf_canon.specs.declared.pairs.NumberPair.{NumberPair}
-use Rattle.gf_canon.specs.declared.pairs.NumberPair.TheVariants.{Set, Outcome}
+use Rattle.gf_canon.specs.declared.numbering.pairs.NumberPair.{NumberPair}
+use Rattle.gf_canon.specs.declared.numbering.pairs.NumberPair.TheVariants.{Set, Outcome}
 
 -- the numbers of a player's sets, in order of first use
 abbrev pub set_numbers : Game → ℕ → List ℕ

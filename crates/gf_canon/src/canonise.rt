@@ -15,8 +15,8 @@ ghost use Rattle.gf_canon.specs.Judgement.{SpellsWithin};
 ghost use Rattle.gf_canon.specs.NamesAside.{file_by};
 
 use crate::format::{Format, format_of};
-use crate::lines::Lines;
 use crate::sameness::Names;
+use crate::text::lines::Lines;
 use gf_nfg::canonical_nfg;
 use gf_token::Fault;
 use gf_tree::tell_efg;

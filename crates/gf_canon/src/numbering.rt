@@ -11,6 +11,10 @@ ghost use Rattle.gf_canon.specs.inner.ListedInOrder.{lists_in_order};
 use gf_tree::Game;
 use std::alloc::{AllocError, Global};
 
+pub(crate) mod carry;
+pub(crate) mod new_numbers;
+pub(crate) mod pairs;
+
 /// The numbers from 1 to `count`.
 fn numbers_to(alloc: Global, count: usize) -> Result<Vec<u32>, AllocError>
     requires { count < 2 ^ 32 }

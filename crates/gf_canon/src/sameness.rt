@@ -16,15 +16,20 @@ ghost use Rattle.gf_canon.specs.SameBy.{SameBy};
 ghost use Rattle.gf_canon.specs.Sameness.{AreRefusedWith, WantsMemory};
 
 use crate::checking::{Unkept, check, tell_file};
-use crate::compare::same_name;
-use crate::comparison::Comparison;
 use crate::format::{Format, format_of};
 use crate::meaning::{Listed, Meaning, list_file};
-use crate::walk::same_games;
+use crate::sameness::compare::same_name;
+use crate::sameness::comparison::Comparison;
+use crate::sameness::walk::same_games;
 use gf_nfg::{Table, compare_nfg};
 use gf_token::Fault;
 use gf_tree::{ListedGame, tell_efg};
 use std::alloc::{AllocError, Global};
+
+pub(crate) mod compare;
+pub(crate) mod comparison;
+pub(crate) mod named;
+pub(crate) mod walk;
 
 /// Why two files are not compared.
 #[derive(Clone, Copy, PartialEq, Eq)]

@@ -13,13 +13,13 @@ ghost use Rattle.gf_nfg.specs.Table.{Table as table, rows};
 ghost use Rattle.gf_nfg.specs.TableText.{SpellsTable, named_by};
 ghost use Rattle.gf_nfg.specs.inner.ToldTable.{HasToldTable};
 
-use crate::agree::{same_heading, same_kept_rows};
-use crate::heading::Heading;
-use crate::parts::Parts;
-use crate::payoffs_in_turn::PayoffsInTurn;
 use crate::read::tell_nfg;
-use crate::receive::{Kept, Receive, Version};
+use crate::reader::receive::{Kept, Receive, Version};
 use crate::table::Table;
+use crate::table::agree::{same_heading, same_kept_rows};
+use crate::table::heading::Heading;
+use crate::table::parts::Parts;
+use crate::table::payoffs_in_turn::PayoffsInTurn;
 use gf_fraction::Fraction;
 use gf_token::Fault;
 use std::alloc::{AllocError, Global};

@@ -7,11 +7,11 @@ ghost use Rattle.gf_nfg.specs.inner.ToldTable.{HasToldTable};
 ghost use Rattle.gf_nfg.specs.LimitPlace.{IsWithinLimit};
 ghost use Rattle.gf_nfg.specs.Judgement.{IsJudged, IsReadAs};
 
-use crate::heading::Heading;
-use crate::parts::Parts;
 use crate::reader::Reader;
-use crate::receive::{Kept, Receive, Unkept};
+use crate::reader::receive::{Kept, Receive, Unkept};
 use crate::table::Table;
+use crate::table::heading::Heading;
+use crate::table::parts::Parts;
 use gf_token::Fault;
 use std::alloc::Global;
 

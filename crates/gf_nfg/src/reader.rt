@@ -13,14 +13,16 @@ ghost use Rattle.gf_nfg.specs.inner.Position.Position.{Format};
 ghost use Rattle.gf_nfg.specs.inner.ReaderState.{HasToldAll, answer, body_answer, content_in};
 ghost use Rattle.gf_nfg.specs.inner.ReaderState.{labels_of};
 ghost use Rattle.gf_nfg.specs.inner.Told.{told_heading};
-ghost use Rattle.gf_nfg.specs.declared.receive.Version.TheVariants as version;
+ghost use Rattle.gf_nfg.specs.declared.reader.receive.Version.TheVariants as version;
 
 mod body;
 mod heading;
+pub(crate) mod readings;
+pub(crate) mod receive;
 mod strategies;
 
-use crate::heading::Heading;
-use crate::receive::{Receive, Version};
+use crate::reader::receive::{Receive, Version};
+use crate::table::heading::Heading;
 use gf_token::{Fault, Label, Span, TextToken, Tokens, Why};
 use std::alloc::Global;
 

@@ -12,14 +12,25 @@ ghost use Rattle.gf_nfg.specs.Table.{IsSpellable, IsTable, rows};
 ghost use Rattle.gf_nfg.specs.TableAccess.{IsTableOf, at_position, payoffs_at};
 ghost use Rattle.gf_nfg.specs.TableParts.{AreParts, IsHeld, table_with};
 
-use crate::labels::Labels;
-use crate::names::Names;
-use crate::profile::place_of;
-use crate::rows::Rows;
+use crate::table::labels::Labels;
+use crate::table::names::Names;
+use crate::table::profile::place_of;
+use crate::table::rows::Rows;
 use gf_fraction::Fraction;
 use gf_token::Label;
 use std::alloc::{AllocError, Global};
 use std::marker::Model;
+
+pub(crate) mod agree;
+pub(crate) mod classes;
+pub(crate) mod heading;
+pub(crate) mod labels;
+pub(crate) mod names;
+pub(crate) mod parts;
+pub(crate) mod payoffs_in_turn;
+pub(crate) mod pieces;
+pub(crate) mod profile;
+pub(crate) mod rows;
 
 /// A table: a title, a comment, players with at least one strategy each, and the payoffs at each
 /// profile of strategies. It has at most 1,048,576 profiles. Players and strategies are counted

@@ -3,11 +3,16 @@
 ghost use Rattle.std.specs.Prelude.{◌≡◌, [], OnErr, OnOk, ◌++◌, ◌∷◌};
 ghost use Rattle.gf_fraction.specs.NumberText.{number_text};
 
-use crate::heading::Heading;
-use crate::receive::{Kept, Receive, Version};
-use crate::write_heading::write_heading;
+use crate::reader::receive::{Kept, Receive, Version};
+use crate::table::heading::Heading;
+use crate::text::write_heading::write_heading;
 use gf_fraction::Fraction;
 use std::alloc::{AllocError, Global};
+
+pub(crate) mod canonical;
+pub(crate) mod lines;
+pub(crate) mod write;
+pub(crate) mod write_heading;
 
 /// The text of a file that is being told.
 #[derive(Drop)]

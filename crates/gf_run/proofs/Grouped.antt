@@ -1,6 +1,8 @@
 -- How a file is put into the group of its hash.
-use Rattle.std.proofs.Common.{◌≡◌, ℕ, suc, ◌+◌, ◌<◌, ◌≤◌, Bool, true, false, not, cond, List, [], ◌∷◌}
-use Rattle.std.proofs.Common.{◌++◌, length, map, get_or, set, filter, refl, sym, ap, subst, ◌∙◌, arith}
+use Rattle.std.proofs.Common.{◌≡◌, ℕ, suc, ◌+◌, ◌<◌, ◌≤◌, Bool, true, false, not, cond, List, []}
+use Rattle.std.proofs.Common.{◌∷◌}
+use Rattle.std.proofs.Common.{◌++◌, length, map, get_or, set, filter, refl, sym, ap, subst, ◌∙◌}
+use Rattle.std.proofs.Common.{arith}
 use Rattle.std.proofs.Common.{inl, inr}
 use Rattle.std.proofs.lemmas.Bool.Decides.{Decides-eqb}
 use Rattle.std.proofs.lemmas.List.{append-nil, get_or-map, length-map, map-append, map-set}
@@ -9,8 +11,8 @@ use Rattle.std.proofs.lemmas.Slice.Eq.{slice_eq-Decides}
 use Rattle.std.specs.List.{list_any, position_or_len}
 use Rattle.std.specs.Prelude.{◌⊎◌}
 use Rattle.gf_tree.specs.FiniteMap.{first_uses}
-use Rattle.gf_tree.proofs.FirstUses.{AreDistinct, first_uses_distinct, is_used}
-use Rattle.gf_tree.proofs.Uses.{Has, IsEquality}
+use Rattle.gf_tree.proofs.lemmas.games.FirstUses.{AreDistinct, first_uses_distinct, is_used}
+use Rattle.gf_tree.proofs.lemmas.games.Uses.{Has, IsEquality}
 use Rattle.indexmap.specs.IndexSet.{insert_key}
 use Rattle.gf_run.specs.Duplicates.{HashedFile, IsKeptOf, KeptNames, hashes_of, having, names_of}
 use Rattle.gf_run.specs.Duplicates.{same_hash}

@@ -1,9 +1,10 @@
 -- Two files are in one group exactly if their hashes are equal.
 use Rattle.std.proofs.Common.{◌≡◌, ◌↔◌, ◌∙◌, ℕ, List, map, refl, sym, subst}
 use Rattle.std.specs.List.{Contains}
-use Rattle.gf_tree.proofs.FirstUses.{in_filter, is_used, of_filter}
-use Rattle.gf_tree.proofs.Uses.{Has, contains, has, has_map, mapped_from}
-use Rattle.gf_run.specs.Duplicates.{AreInOneGroup, HashedFile, groups_of, hashes_of, having, same_hash}
+use Rattle.gf_tree.proofs.lemmas.games.FirstUses.{in_filter, is_used, of_filter}
+use Rattle.gf_tree.proofs.lemmas.games.Uses.{Has, contains, has, has_map, mapped_from}
+use Rattle.gf_run.specs.Duplicates.{AreInOneGroup, HashedFile, groups_of, hashes_of, having}
+use Rattle.gf_run.specs.Duplicates.{same_hash}
 use Rattle.gf_run.proofs.Grouped.{same_hash_equality}
 
 -- a file of the group of a hash has this hash

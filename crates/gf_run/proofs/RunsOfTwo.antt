@@ -1,5 +1,6 @@
 -- What a run over two inputs answers, and why it has no answer.
-use Rattle.std.proofs.Common.{◌≡◌, ℕ, Bool, true, false, List, ◌++◌, Result, Ok, Err, IfOk, IsErrAnd}
+use Rattle.std.proofs.Common.{◌≡◌, ℕ, Bool, true, false, List, ◌++◌, Result, Ok, Err, IfOk}
+use Rattle.std.proofs.Common.{IsErrAnd}
 use Rattle.std.proofs.Common.{Option, Some, None, sym, ap, subst, ◌∙◌}
 use Rattle.std.specs.Prelude.{◌↔◌, IsTrue, MatchOption}
 use Rattle.gf_tree.specs.Game.{Game}
@@ -9,7 +10,7 @@ use Rattle.gf_canon.specs.Judgement.{MeansFile, SpellsWithin}
 use Rattle.gf_canon.specs.NewNumbers.{IsOnlyRenumbering, new_numbers}
 use Rattle.gf_tree.specs.SameGame.{SameGame}
 use Rattle.gf_canon.specs.Sameness.{AreRefusedWith}
-use Rattle.gf_canon.specs.declared.new_numbers.Renumbering.{Renumbering}
+use Rattle.gf_canon.specs.declared.numbering.new_numbers.Renumbering.{Renumbering}
 use Rattle.gf_canon.specs.declared.sameness.SameFault.{SameFault}
 use Rattle.gf_canon.specs.declared.sameness.SameFault.TheVariants as same_fault
 use Rattle.gf_run.specs.declared.fault.RunFault.{RunFault}

@@ -7,8 +7,8 @@ use Rattle.gf_canon.specs.GameFile.{GameFile}
 use Rattle.gf_canon.specs.GameFile.GameFile.{extensive}
 use Rattle.gf_canon.specs.Judgement.{SpellsWithin}
 use Rattle.gf_canon.specs.Pairs.{renumbering_pairs}
-use Rattle.gf_canon.specs.declared.pairs.NumberPair.{NumberPair}
-use Rattle.gf_canon.specs.declared.pairs.NumberPair.TheVariants.{Set, Outcome}
+use Rattle.gf_canon.specs.declared.numbering.pairs.NumberPair.{NumberPair}
+use Rattle.gf_canon.specs.declared.numbering.pairs.NumberPair.TheVariants.{Set, Outcome}
 use Rattle.gf_tree.specs.SameGame.{Carries, SameGame}
 
 -- ---- the line of an answer

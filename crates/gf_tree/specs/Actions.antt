@@ -1,7 +1,7 @@
 -- What an action is, to its callers.
 use Rattle.std.specs.Prelude.{List, map}
 use Rattle.gf_token.specs.Label.{label_of}
-use Rattle.gf_tree.specs.declared.action.Action.{Action as Held}
+use Rattle.gf_tree.specs.declared.game.action.Action.{Action as Held}
 use Rattle.gf_tree.specs.Description.{Action}
 
 abbrev pub action_of : Held → Action

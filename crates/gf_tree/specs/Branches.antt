@@ -2,7 +2,7 @@
 use Rattle.gf_tree.specs.Tree.{Tree}
 use Rattle.gf_tree.specs.Game.{Node, Game}
 use Rattle.gf_tree.specs.Subtrees.{subtree_at}
-use Rattle.gf_tree.specs.declared.branch.Branch.{Branch}
+use Rattle.gf_tree.specs.declared.game.branch.Branch.{Branch}
 
 -- the game whose branch it is
 abbrev pub game_of : Branch → Game

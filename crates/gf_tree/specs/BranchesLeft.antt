@@ -5,8 +5,8 @@ use Rattle.gf_tree.specs.Tree.{Tree}
 use Rattle.gf_tree.specs.Game.{Game, Node}
 use Rattle.gf_tree.specs.Subtrees.{child_trees, subtree_at}
 use Rattle.gf_tree.specs.Branches.{game_of, tree_of}
-use Rattle.gf_tree.specs.declared.branch.Branch.{Branch}
-use Rattle.gf_tree.specs.declared.branches.Branches.{Branches}
+use Rattle.gf_tree.specs.declared.game.branch.Branch.{Branch}
+use Rattle.gf_tree.specs.declared.game.branches.Branches.{Branches}
 
 -- the game whose branches they are
 abbrev pub game_of_branches : Branches → Game

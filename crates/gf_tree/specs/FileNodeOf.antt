@@ -5,11 +5,11 @@ use Rattle.gf_tree.specs.Actions.{actions_of}
 use Rattle.gf_tree.specs.Description.{SetKey, InformationSet, Outcome, set_of}
 use Rattle.gf_tree.specs.FileTree as file
 use Rattle.gf_tree.specs.FileTree.{Use}
-use Rattle.gf_tree.specs.declared.file_node.FileNode.{FileNode}
-use Rattle.gf_tree.specs.declared.file_node.SetUse.{SetUse}
-use Rattle.gf_tree.specs.declared.file_node.SetDescription.{SetDescription}
-use Rattle.gf_tree.specs.declared.file_node.OutcomeUse.{OutcomeUse}
-use Rattle.gf_tree.specs.declared.file_node.OutcomeDescription.{OutcomeDescription}
+use Rattle.gf_tree.specs.declared.game.file_node.FileNode.{FileNode}
+use Rattle.gf_tree.specs.declared.game.file_node.SetUse.{SetUse}
+use Rattle.gf_tree.specs.declared.game.file_node.SetDescription.{SetDescription}
+use Rattle.gf_tree.specs.declared.game.file_node.OutcomeUse.{OutcomeUse}
+use Rattle.gf_tree.specs.declared.game.file_node.OutcomeDescription.{OutcomeDescription}
 
 abbrev pub described_set : SetDescription → InformationSet
 described_set d = record { name = label_of d.name; actions = actions_of d.actions.now }

@@ -10,7 +10,7 @@ use Rattle.gf_tree.specs.Description.{SetKey, InformationSet, Outcome}
 use Rattle.gf_tree.specs.FiniteMap.{Described}
 use Rattle.gf_tree.specs.Game.{Node}
 use Rattle.gf_tree.specs.GameCode.{no_node}
-use Rattle.gf_tree.specs.declared.kept.Stored.{Stored}
+use Rattle.gf_tree.specs.declared.game.kept.Stored.{Stored}
 
 -- Its name, and the positions of its set and of its outcome among those that are known, from 1, or
 -- 0 if it has none.

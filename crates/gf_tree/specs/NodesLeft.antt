@@ -2,7 +2,7 @@
 use Rattle.std.specs.Prelude.{List, drop, map}
 use Rattle.gf_tree.specs.PrefixOrder.{flatten}
 use Rattle.gf_tree.specs.Game.{Node}
-use Rattle.gf_tree.specs.declared.nodes.Nodes.{Nodes}
+use Rattle.gf_tree.specs.declared.game.nodes.Nodes.{Nodes}
 
 -- the nodes that it can still give, in prefix order
 abbrev pub nodes_left : Nodes → List Node

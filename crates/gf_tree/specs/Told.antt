@@ -9,8 +9,8 @@ use Rattle.gf_tree.specs.FiniteMap.{Described}
 use Rattle.gf_tree.specs.Game.{Game}
 use Rattle.gf_tree.specs.KeptNodes.{Kept}
 use Rattle.gf_tree.specs.KnownSets.{known_of}
-use Rattle.gf_tree.specs.declared.receive.ToldHeading.{ToldHeading}
-use Rattle.gf_tree.specs.declared.node_by_first_use.NodeByFirstUse.{NodeByFirstUse}
+use Rattle.gf_tree.specs.declared.reader.receive.ToldHeading.{ToldHeading}
+use Rattle.gf_tree.specs.declared.game.node_by_first_use.NodeByFirstUse.{NodeByFirstUse}
 
 -- Everything before the nodes. Labels are lists of bytes.
 pub record Heading : Type 0 where

@@ -1,6 +1,7 @@
 //! Games in memory.
 
-ghost use Rattle.std.specs.Prelude.{◌≡◌, ◌+◌, ◌<◌, ◌≤◌, ◌^◌, ℕ, [], Some, MatchOption, drop, length};
+ghost use Rattle.std.specs.Prelude.{◌≡◌, ◌+◌, ◌<◌, ◌≤◌, ◌^◌, ℕ, [], Some, MatchOption, drop};
+ghost use Rattle.std.specs.Prelude.{length};
 ghost use Rattle.std.specs.Prelude.{map, option_map, slice_get};
 ghost use Rattle.gf_token.specs.Label.{label_of};
 ghost use Rattle.gf_token.specs.Positions.{at_position};
@@ -23,21 +24,32 @@ ghost use Rattle.gf_tree.specs.Subtrees.{child_trees, root_node, subtree_at, sub
 ghost use Rattle.gf_tree.specs.Subtrees.{subtrees};
 ghost use Rattle.gf_tree.specs.Told.{heading_in, heading_of};
 
-use crate::action::Action;
-use crate::branch::Branch;
-use crate::kept::{NodeList, Stored, child_count, outcome_number, skip, step};
-use crate::node::Node;
-use crate::nodes::Nodes;
-use crate::outcomes::Outcomes;
-use crate::receive::ToldHeading;
-use crate::sets::Sets;
+use crate::game::action::Action;
+use crate::game::branch::Branch;
+use crate::game::kept::{NodeList, Stored, child_count, outcome_number, skip, step};
+use crate::game::node::Node;
+use crate::game::nodes::Nodes;
+use crate::game::outcomes::Outcomes;
+use crate::game::sets::Sets;
+use crate::reader::receive::ToldHeading;
 use gf_fraction::Fraction;
 use gf_token::Label;
 use std::marker::Model;
 
+pub(crate) mod action;
+pub(crate) mod branch;
+pub(crate) mod branches;
+pub(crate) mod file_node;
 mod file_nodes;
+pub(crate) mod kept;
+pub(crate) mod listed_game;
+pub(crate) mod node;
+pub(crate) mod node_by_first_use;
+pub(crate) mod nodes;
 mod nodes_by_first_use;
+pub(crate) mod outcomes;
 mod renumbering;
+pub(crate) mod sets;
 
 pub use file_nodes::FileNodes;
 pub use nodes_by_first_use::NodesByFirstUse;

@@ -8,12 +8,16 @@ ghost use Rattle.gf_token.specs.Positions.{at_position};
 ghost use Rattle.gf_tree.specs.inner.Numbers.{pairs_in};
 ghost use Rattle.gf_tree.specs.inner.SmallNumbers.{placed_pairs};
 
-use crate::indexing::Indexing;
-use crate::seeded::Seeded;
-use crate::small_numbers::{Placed, SmallNumbers};
+use crate::numbers::indexing::Indexing;
+use crate::numbers::seeded::Seeded;
+use crate::numbers::small_numbers::{Placed, SmallNumbers};
 use indexmap::IndexMap;
 use std::alloc::{AllocError, Global};
 use std::marker::Model;
+
+pub(crate) mod indexing;
+pub(crate) mod seeded;
+pub(crate) mod small_numbers;
 
 /// The place after this many others. Places are below `u32::MAX`: room for more is refused.
 pub(crate) fn next_place(len: usize) -> Result<u32, AllocError>
@@ -210,7 +214,7 @@ impl Numbers {
     }
 
     /// The number at a position, from 1.
-    #[tactic(auto, using(crate::proofs::Places::number_at_index))]
+    #[tactic(auto, using(crate::proofs::lemmas::stores::Places::number_at_index))]
     pub(crate) fn number(&self, i: usize) -> Option<u32>
         ensures { result ≡ at_position (map (λ p. p.0) self.now) i }
     {
@@ -263,7 +267,7 @@ impl Numbers {
 }
 
 /// Adds a number that is not there yet. After an `Err` nothing has changed.
-#[tactic(auto, using(crate::proofs::Places::goes_last))]
+#[tactic(auto, using(crate::proofs::lemmas::stores::Places::goes_last))]
 fn add(places: &mut Places, number: u32, place: u32) -> Result<(), AllocError>
     requires { get nat_eq places.old number ≡ None }
     ensures ok { OnOk result (places.new.entries ≡ places.old.entries ++ (number, place) ∷ []) }

@@ -9,10 +9,10 @@ ghost use Rattle.gf_tree.specs.Judgement.{IsJudged, IsReadAs};
 ghost use Rattle.gf_tree.specs.ToldGame.{HasToldGame};
 
 use crate::game::Game;
-use crate::kept::NodeList;
-use crate::listed_game::ListedGame;
+use crate::game::kept::NodeList;
+use crate::game::listed_game::ListedGame;
 use crate::reader::Reader;
-use crate::receive::Receive;
+use crate::reader::receive::Receive;
 use gf_token::Fault;
 use std::alloc::Global;
 

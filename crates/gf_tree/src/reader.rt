@@ -5,7 +5,8 @@
 //! values would otherwise pass through memory. Descriptions are read by separate functions that are
 //! `inline(never)`.
 
-ghost use Rattle.std.specs.Prelude.{◌≡◌, ◌<◌, ◌≤◌, ◌∷◌, [], ℕ, List, Ok, length, IfOk, OnOk, MatchResult};
+ghost use Rattle.std.specs.Prelude.{◌≡◌, ◌<◌, ◌≤◌, ◌∷◌, [], ℕ, List, Ok, length, IfOk, OnOk};
+ghost use Rattle.std.specs.Prelude.{MatchResult};
 ghost use Rattle.gf_token.specs.Remaining.{StandsBefore};
 ghost use Rattle.gf_token.specs.TokenSpelling.{Spells};
 ghost use Rattle.gf_token.specs.Token.{Lexeme};
@@ -15,17 +16,21 @@ ghost use Rattle.gf_tree.specs.inner.ReadGame.{game_of};
 ghost use Rattle.gf_tree.specs.KeptNodes.{ArePlaced};
 ghost use Rattle.gf_tree.specs.inner.ReaderState.{answer, content_of, content_with, Goes, HasRoom};
 
+pub(crate) mod again;
 mod heading;
 mod nodes;
 mod outcome;
+pub(crate) mod readings;
+pub(crate) mod receive;
 mod set;
 mod telling;
+pub(crate) mod told;
 
-use crate::indexing::Indexing;
-use crate::kept::NodeList;
-use crate::listed_game::ListedGame;
-use crate::outcomes::Outcomes;
-use crate::sets::Sets;
+use crate::game::kept::NodeList;
+use crate::game::listed_game::ListedGame;
+use crate::game::outcomes::Outcomes;
+use crate::game::sets::Sets;
+use crate::numbers::indexing::Indexing;
 use gf_token::{Fault, Label, Span, Tokens};
 use std::alloc::Global;
 

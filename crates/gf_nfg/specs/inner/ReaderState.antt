@@ -11,11 +11,11 @@ use Rattle.gf_nfg.specs.inner.Machine.{Content, at, settled}
 use Rattle.gf_nfg.specs.inner.Position.{Position}
 use Rattle.gf_nfg.specs.inner.Position.{Position as p}
 use Rattle.gf_nfg.specs.inner.Told.{Told}
-use Rattle.gf_nfg.specs.declared.heading.Heading.{Heading}
-use Rattle.gf_nfg.specs.declared.parts.Parts.{Parts}
+use Rattle.gf_nfg.specs.declared.table.heading.Heading.{Heading}
+use Rattle.gf_nfg.specs.declared.table.parts.Parts.{Parts}
 use Rattle.gf_nfg.specs.declared.reader.Reader.{Reader}
-use Rattle.gf_nfg.specs.declared.receive.Version.{Version}
-use Rattle.gf_nfg.specs.declared.receive.Version.TheVariants as version
+use Rattle.gf_nfg.specs.declared.reader.receive.Version.{Version}
+use Rattle.gf_nfg.specs.declared.reader.receive.Version.TheVariants as version
 
 abbrev pub labels_of : List Label → List (List ℕ)
 labels_of labels = map label_of labels

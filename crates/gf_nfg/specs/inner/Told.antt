@@ -1,8 +1,8 @@
 -- What a reader tells of a file: its heading, and then payoffs and numbers of outcomes.
 use Rattle.std.specs.Prelude.{ℕ, List, [], ◌∷◌, ◌++◌}
 use Rattle.gf_fraction.specs.Ratio.{Ratio}
-use Rattle.gf_nfg.specs.declared.heading.Heading.{Heading}
-use Rattle.gf_nfg.specs.declared.receive.Version.{Version}
+use Rattle.gf_nfg.specs.declared.table.heading.Heading.{Heading}
+use Rattle.gf_nfg.specs.declared.reader.receive.Version.{Version}
 
 -- the payoffs are those of the profiles or those of the outcomes, in turn; the numbers are those of the
 -- outcomes at the profiles, in turn

@@ -4,8 +4,8 @@ use Rattle.gf_nfg.specs.inner.Meaning.{IsComplete, table_of}
 use Rattle.gf_nfg.specs.inner.ReaderState.{content_told}
 use Rattle.gf_nfg.specs.TableText.{SpellsTable}
 use Rattle.gf_nfg.specs.inner.Told.{Told}
-use Rattle.gf_nfg.specs.declared.heading.Heading.{Heading}
-use Rattle.gf_nfg.specs.declared.receive.Version.TheVariants.{Payoffs}
+use Rattle.gf_nfg.specs.declared.table.heading.Heading.{Heading}
+use Rattle.gf_nfg.specs.declared.reader.receive.Version.TheVariants.{Payoffs}
 
 -- It was told this heading and a body, and they mean a table that the bytes spell. In payoff version no
 -- numbers were told.

@@ -8,8 +8,8 @@ use Rattle.gf_nfg.specs.inner.ReaderState.{content_in}
 use Rattle.gf_nfg.specs.TableText.{lines_text}
 use Rattle.gf_nfg.specs.inner.TextParts.{heading_text, names_by, row_text}
 use Rattle.gf_nfg.specs.inner.Told.{Told}
-use Rattle.gf_nfg.specs.declared.receive.Version.{Version}
-use Rattle.gf_nfg.specs.declared.receive.Version.TheVariants.{Outcomes, Payoffs}
+use Rattle.gf_nfg.specs.declared.reader.receive.Version.{Version}
+use Rattle.gf_nfg.specs.declared.reader.receive.Version.TheVariants.{Outcomes, Payoffs}
 use Rattle.gf_nfg.specs.declared.text.Text.{Text}
 
 -- payoffs, each followed by a space

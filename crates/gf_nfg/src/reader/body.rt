@@ -9,12 +9,13 @@ ghost use Rattle.std.specs.Prelude.{IfErr, MatchResult, OnOk};
 ghost use Rattle.gf_token.specs.declared.fault.Why.TheVariants.{Memory};
 ghost use Rattle.gf_nfg.specs.inner.Heard.{Fails, heard};
 ghost use Rattle.gf_nfg.specs.inner.Machine.{Content, at, next_outcome};
-ghost use Rattle.gf_nfg.specs.inner.Position.Position.{AfterBracedPayoff, BracedPayoff, FlatPayoffs};
+ghost use Rattle.gf_nfg.specs.inner.Position.Position.{AfterBracedPayoff, BracedPayoff};
+ghost use Rattle.gf_nfg.specs.inner.Position.Position.{FlatPayoffs};
 ghost use Rattle.gf_nfg.specs.inner.Position.Position.{InOutcomes, OutcomeName, OutcomeNumbers};
 ghost use Rattle.gf_nfg.specs.inner.ReaderState.{GoesTelling, HasTold, content_told, told_answer};
 ghost use Rattle.gf_nfg.specs.inner.Told.{Told, choosing, paying};
 
-use crate::receive::Receive;
+use crate::reader::receive::Receive;
 use gf_token::{Fault, Tokens, What, Why};
 
 /// Reads a payoff, and tells it.

@@ -3,12 +3,13 @@
 ghost use Rattle.std.specs.Prelude.{◌≡◌, ◌≤◌, ◌*◌, ℕ, length};
 ghost use Rattle.gf_token.specs.Remaining.{StandsBefore};
 ghost use Rattle.gf_nfg.specs.inner.Heard.{Goes};
-ghost use Rattle.gf_nfg.specs.inner.Position.Position.{AfterComment, AfterStrategies, BeforePlayers};
+ghost use Rattle.gf_nfg.specs.inner.Position.Position.{AfterComment, AfterStrategies};
+ghost use Rattle.gf_nfg.specs.inner.Position.Position.{BeforePlayers};
 ghost use Rattle.gf_nfg.specs.inner.Position.Position.{BeforeStrategies, Format};
 ghost use Rattle.gf_nfg.specs.inner.ReaderState.{answer, body_answer};
 
 use super::{Reader, keep};
-use crate::receive::Version;
+use crate::reader::receive::Version;
 use gf_token::{Fault, Span, What, Why};
 
 impl<'a> Reader<'a> {

@@ -7,12 +7,13 @@ ghost use Rattle.gf_token.specs.Remaining.{StandsBefore};
 ghost use Rattle.gf_token.specs.declared.fault.What.TheVariants as what;
 ghost use Rattle.gf_token.specs.declared.fault.Why.TheVariants.{Memory};
 ghost use Rattle.gf_nfg.specs.inner.Heard.{Goes};
-ghost use Rattle.gf_nfg.specs.inner.Position.Position.{AfterStrategies, BeforeList, BeforeStrategies};
+ghost use Rattle.gf_nfg.specs.inner.Position.Position.{AfterStrategies, BeforeList};
+ghost use Rattle.gf_nfg.specs.inner.Position.Position.{BeforeStrategies};
 ghost use Rattle.gf_nfg.specs.inner.Position.Position.{Counts, FirstStrategies};
 ghost use Rattle.gf_nfg.specs.inner.ReaderState.{answer, labels_of, list_answer, settling};
 
 use super::{Reader, keep};
-use crate::readings;
+use crate::reader::readings;
 use gf_token::{Fault, Span, What, Why};
 
 impl<'a> Reader<'a> {

@@ -8,7 +8,7 @@ use Rattle.gf_tree.specs.Game.{Game, IsGame}
 use Rattle.gf_tree.specs.Spellable.{IsSpellable}
 use Rattle.gf_tree.specs.Subtrees.{subtree_sizes}
 use Rattle.gf_tree.specs.KeptNodes.{Kept, ArePlaced, entries_with, kept_of, sizes_of, tree_with}
-use Rattle.gf_tree.specs.declared.kept.Stored.{Stored}
+use Rattle.gf_tree.specs.declared.game.kept.Stored.{Stored}
 
 -- the game of these parts
 abbrev pub game_with

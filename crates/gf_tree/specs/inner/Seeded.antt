@@ -5,7 +5,7 @@ use Rattle.std.specs.Hash.DefaultHasher as sip
 use Rattle.std.specs.Hash.FoldHasher as folding
 use Rattle.std.specs.List.{fold}
 use Rattle.std.specs.declared.hash.FoldHasher.{FoldHasher}
-use Rattle.gf_tree.specs.declared.seeded.Seeded.{Seeded}
+use Rattle.gf_tree.specs.declared.numbers.seeded.Seeded.{Seeded}
 
 -- the fast hasher, fed with the SipHash of the input
 abbrev pub start_for : List ℕ → FoldHasher

@@ -1,7 +1,7 @@
 -- How numbers that are found by a table are stored.
 use Rattle.std.specs.Prelude.{◌≡◌, ℕ, zero, suc, List, map, nat_eq, get_or, Option, Some, None}
 use Rattle.std.specs.Map.{lookup}
-use Rattle.gf_tree.specs.declared.small_numbers.Placed.{Placed}
+use Rattle.gf_tree.specs.declared.numbers.small_numbers.Placed.{Placed}
 
 abbrev pub placed_pairs : List Placed → List (ℕ × ℕ)
 placed_pairs pairs = map (λ p. (p.number, p.place)) pairs

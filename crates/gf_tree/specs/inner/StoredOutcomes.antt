@@ -2,7 +2,7 @@
 use Rattle.std.specs.Prelude.{◌≡◌, ℕ, ◌+◌, ◌<◌, ◌^◌, List, [], ◌∷◌, length, map, drop, slice_range}
 use Rattle.gf_fraction.specs.Ratio.{Ratio}
 use Rattle.gf_token.specs.Label.{label_of}
-use Rattle.gf_tree.specs.declared.outcomes.Entry.{Entry}
+use Rattle.gf_tree.specs.declared.game.outcomes.Entry.{Entry}
 use Rattle.gf_tree.specs.Description.{Outcome}
 use Rattle.gf_tree.specs.FiniteMap.{Described}
 use Rattle.gf_tree.specs.inner.KnownOutcomes.{KnownOutcomes}

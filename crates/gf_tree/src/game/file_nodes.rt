@@ -6,11 +6,11 @@ ghost use Rattle.gf_tree.specs.FileNodeOf.{file_node_of, outcome_use_of, set_use
 ghost use Rattle.gf_tree.specs.FileNodes.{file_nodes};
 ghost use Rattle.gf_tree.specs.inner.KnownUses.{use_at};
 
-use crate::file_node::{FileNode, OutcomeDescription, OutcomeUse, SetDescription, SetUse};
 use crate::game::Game;
-use crate::kept::Stored;
-use crate::outcomes::Outcomes;
-use crate::sets::Sets;
+use crate::game::file_node::{FileNode, OutcomeDescription, OutcomeUse, SetDescription, SetUse};
+use crate::game::kept::Stored;
+use crate::game::outcomes::Outcomes;
+use crate::game::sets::Sets;
 use std::marker::Model;
 use std::slice;
 

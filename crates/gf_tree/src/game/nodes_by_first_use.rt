@@ -9,10 +9,10 @@ ghost use Rattle.gf_tree.specs.Renumbering.{renumbered};
 ghost use Rattle.gf_tree.specs.Told.{told_from};
 
 use crate::game::Game;
-use crate::kept::Stored;
-use crate::node_by_first_use::NodeByFirstUse;
-use crate::outcomes::Outcomes;
-use crate::sets::Sets;
+use crate::game::kept::Stored;
+use crate::game::node_by_first_use::NodeByFirstUse;
+use crate::game::outcomes::Outcomes;
+use crate::game::sets::Sets;
 use std::marker::Model;
 use std::slice;
 

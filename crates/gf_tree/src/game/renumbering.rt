@@ -8,8 +8,8 @@ ghost use Rattle.gf_tree.specs.Listed.{AreListed, listed_numbers};
 ghost use Rattle.gf_tree.specs.Renumbering.{renumbered};
 
 use crate::game::Game;
-use crate::outcomes::Outcomes;
-use crate::sets::Sets;
+use crate::game::outcomes::Outcomes;
+use crate::game::sets::Sets;
 use std::alloc::{AllocError, Global};
 
 /// Adds the set at this place, by another number.

@@ -7,8 +7,8 @@ ghost use Rattle.gf_tree.specs.inner.ReaderState.{answer, content_of, Fails, Goe
 ghost use Rattle.gf_tree.specs.inner.ReaderState.{HasReadAll, HasRoom, heading_read};
 
 use super::Reader;
-use crate::readings;
-use crate::receive::Receive;
+use crate::reader::readings;
+use crate::reader::receive::Receive;
 use gf_token::{Fault, What, Why};
 
 impl<'a> Reader<'a> {

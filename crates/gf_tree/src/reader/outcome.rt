@@ -18,9 +18,9 @@ ghost use Rattle.gf_tree.specs.inner.ReaderState.{answer, begun_with, content_of
 ghost use Rattle.gf_tree.specs.inner.ReaderState.{Goes, GoesTelling, Grows, HasRoom, heard_from};
 
 use super::Reader;
-use crate::again::same_outcome;
-use crate::outcomes::Outcomes;
-use crate::receive::Receive;
+use crate::game::outcomes::Outcomes;
+use crate::reader::again::same_outcome;
+use crate::reader::receive::Receive;
 use gf_token::{Fault, Label, Span, What, Why};
 use std::alloc::AllocError;
 

@@ -19,10 +19,10 @@ ghost use Rattle.gf_tree.specs.inner.ReaderState.{answer, begun_with, behind_lab
 ghost use Rattle.gf_tree.specs.inner.ReaderState.{Fails, Grows, heard};
 
 use super::Reader;
-use crate::action::Action;
-use crate::again::same_set;
-use crate::readings;
-use crate::sets::Sets;
+use crate::game::action::Action;
+use crate::game::sets::Sets;
+use crate::reader::again::same_set;
+use crate::reader::readings;
 use gf_fraction::Fraction;
 use gf_token::{Fault, Label, TextToken, What, Why};
 use std::alloc::AllocError;
@@ -144,7 +144,7 @@ impl<'a> Reader<'a> {
 
     /// Reads the closing brace of the actions of a set that is not known, and returns the set's
     /// place.
-    #[tactic(auto, using(crate::proofs::ReaderSteps::set_ends_by))]
+    #[tactic(auto, using(crate::proofs::lemmas::reader::Steps::set_ends_by))]
     fn end_set(
         &mut self,
         player: u32,

@@ -10,9 +10,9 @@ ghost use Rattle.gf_tree.specs.inner.ReaderState.{Fails, HasRoom, TellsNode, ans
 ghost use Rattle.gf_tree.specs.inner.ReaderState.{heading_read};
 
 use super::Reader;
-use crate::kept::position;
-use crate::node_by_first_use::NodeByFirstUse;
-use crate::receive::{Receive, ToldHeading};
+use crate::game::kept::position;
+use crate::game::node_by_first_use::NodeByFirstUse;
+use crate::reader::receive::{Receive, ToldHeading};
 use gf_token::{Fault, Label, Span, Why};
 use std::alloc::AllocError;
 

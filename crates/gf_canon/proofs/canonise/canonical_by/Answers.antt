@@ -2,8 +2,8 @@ use Rattle.std.proofs.Common.{subst}
 use Rattle.gf_canon.specs.inner.FormatWord.{word_of}
 use Rattle.gf_canon.specs.Judgement.{BeginsWithWord}
 use Rattle.gf_canon.specs.declared.format.Format.{Format}
-use Rattle.gf_canon.proofs.EitherFormat.{game_placed, table_placed}
-use Rattle.gf_canon.proofs.FilesJudged.{only_game, only_table, only_without_format}
+use Rattle.gf_canon.proofs.lemmas.files.EitherFormat.{game_placed, table_placed}
+use Rattle.gf_canon.proofs.lemmas.files.Judged.{only_game, only_table, only_without_format}
 use Rattle.gf_canon.proofs.canonise.canonical_by.Goals as goal
 
 pub returns-in_err-format_of-clause-only : goal.returns-in_err-format_of-clause-only

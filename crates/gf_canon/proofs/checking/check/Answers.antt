@@ -1,5 +1,5 @@
 use Rattle.std.specs.Prelude.{⊤}
-use Rattle.gf_canon.proofs.ToldFiles.{told_format}
+use Rattle.gf_canon.proofs.lemmas.texts.ToldFiles.{told_format}
 use Rattle.gf_canon.proofs.checking.check.Goals as goal
 
 pub returns-clause-format : goal.returns-clause-format

@@ -9,7 +9,7 @@ use Rattle.gf_token.specs.declared.fault.Fault.{Fault}
 use Rattle.gf_token.specs.declared.fault.What.TheVariants.{Format}
 use Rattle.gf_token.specs.declared.fault.Why.TheVariants.{Expected}
 use Rattle.gf_canon.specs.Judgement.{IsWithoutFormat}
-use Rattle.gf_canon.proofs.Formats.{IsNoFormat, no_bare, other_word, without_format}
+use Rattle.gf_canon.proofs.lemmas.files.Formats.{IsNoFormat, no_bare, other_word, without_format}
 use Rattle.gf_canon.proofs.format.format_of.Goals as goal
 
 abbrev refusal_of : Remaining → Fault

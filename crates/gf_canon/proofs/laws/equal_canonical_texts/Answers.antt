@@ -1,4 +1,5 @@
-use Rattle.gf_canon.proofs.Files.{equal_canonical_texts, canonical_reads_back, canonical_again}
+use Rattle.gf_canon.proofs.lemmas.files.Texts.{equal_canonical_texts, canonical_reads_back}
+use Rattle.gf_canon.proofs.lemmas.files.Texts.{canonical_again}
 use Rattle.gf_canon.proofs.laws.equal_canonical_texts.Goals as goal
 
 pub returns-clause-equal : goal.returns-clause-equal

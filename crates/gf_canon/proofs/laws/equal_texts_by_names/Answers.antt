@@ -1,4 +1,4 @@
-use Rattle.gf_canon.proofs.TextsByNames.{equal_texts_by}
+use Rattle.gf_canon.proofs.lemmas.texts.ByNames.{equal_texts_by}
 use Rattle.gf_canon.proofs.laws.equal_texts_by_names.Goals as goal
 
 pub returns : goal.returns

@@ -1,5 +1,5 @@
-use Rattle.gf_canon.proofs.FileOf.{file_of_game}
-use Rattle.gf_canon.proofs.OneFile.{one_file}
+use Rattle.gf_canon.proofs.lemmas.texts.FileOf.{file_of_game}
+use Rattle.gf_canon.proofs.lemmas.texts.OneFile.{one_file}
 use Rattle.gf_canon.proofs.laws.file_of_each_game.Goals as goal
 
 pub returns-clause-some : goal.returns-clause-some

@@ -1,4 +1,4 @@
-use Rattle.gf_tree.proofs.CanonicalGames.{set_number_kept, outcome_number_kept}
+use Rattle.gf_tree.proofs.lemmas.games.Canonical.{set_number_kept, outcome_number_kept}
 use Rattle.gf_canon.proofs.laws.first_use_numbers_stay.Goals as goal
 
 pub returns-clause-sets : goal.returns-clause-sets

@@ -1,6 +1,6 @@
-use Rattle.gf_canon.proofs.Headline.{equal_exactly, never_both, one_text, own_text}
-use Rattle.gf_canon.proofs.Headline.{refused_with, same_exactly, text_or_refusal}
-use Rattle.gf_canon.proofs.RefusedOnce.{refused_once}
+use Rattle.gf_canon.proofs.lemmas.files.Headline.{equal_exactly, never_both, one_text, own_text}
+use Rattle.gf_canon.proofs.lemmas.files.Headline.{refused_with, same_exactly, text_or_refusal}
+use Rattle.gf_canon.proofs.lemmas.files.RefusedOnce.{refused_once}
 use Rattle.gf_canon.proofs.laws.headline.Goals as goal
 
 pub returns-clause-text_or_refusal : goal.returns-clause-text_or_refusal

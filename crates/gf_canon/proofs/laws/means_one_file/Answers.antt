@@ -1,4 +1,4 @@
-use Rattle.gf_canon.proofs.Files.{spells_one_file}
+use Rattle.gf_canon.proofs.lemmas.files.Texts.{spells_one_file}
 use Rattle.gf_canon.proofs.laws.means_one_file.Goals as goal
 
 pub returns : goal.returns

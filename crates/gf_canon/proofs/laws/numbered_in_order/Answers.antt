@@ -1,4 +1,5 @@
-use Rattle.gf_canon.proofs.NumbersInOrder.{numbered_in_order, outcomes_in_order, sets_in_order}
+use Rattle.gf_canon.proofs.lemmas.numbers.InOrder.{numbered_in_order, outcomes_in_order}
+use Rattle.gf_canon.proofs.lemmas.numbers.InOrder.{sets_in_order}
 use Rattle.gf_canon.proofs.laws.numbered_in_order.Goals as goal
 
 pub returns-clause-keys : goal.returns-clause-keys

@@ -1,4 +1,5 @@
-use Rattle.gf_canon.proofs.Unnamed.{same_is_so_aside, equal_texts_aside, tables_aside}
+use Rattle.gf_canon.proofs.lemmas.sameness.Unnamed.{same_is_so_aside, equal_texts_aside}
+use Rattle.gf_canon.proofs.lemmas.sameness.Unnamed.{tables_aside}
 use Rattle.gf_canon.proofs.laws.same_aside_names.Goals as goal
 
 pub returns-clause-aside : goal.returns-clause-aside

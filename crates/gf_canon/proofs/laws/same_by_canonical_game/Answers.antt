@@ -1,5 +1,5 @@
-use Rattle.gf_tree.proofs.CanonicalGames.{same_by_canonical}
-use Rattle.gf_canon.proofs.Files.{same_by_canonical_file}
+use Rattle.gf_tree.proofs.lemmas.games.Canonical.{same_by_canonical}
+use Rattle.gf_canon.proofs.lemmas.files.Texts.{same_by_canonical_file}
 use Rattle.gf_canon.proofs.laws.same_by_canonical_game.Goals as goal
 
 pub returns-clause-games : goal.returns-clause-games

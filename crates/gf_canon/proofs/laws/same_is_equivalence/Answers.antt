@@ -1,4 +1,4 @@
-use Rattle.gf_canon.proofs.SameFiles.{reflexive, symmetric, transitive}
+use Rattle.gf_canon.proofs.lemmas.sameness.Files.{reflexive, symmetric, transitive}
 use Rattle.gf_canon.proofs.laws.same_is_equivalence.Goals as goal
 
 pub returns-clause-reflexive : goal.returns-clause-reflexive

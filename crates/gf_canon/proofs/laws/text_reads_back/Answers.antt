@@ -1,6 +1,6 @@
-use Rattle.gf_canon.proofs.ReadsBack.{text_reads_back}
-use Rattle.gf_canon.proofs.Spellables.{canonical_is_spellable}
-use Rattle.gf_canon.proofs.Files.{equal_game_texts}
+use Rattle.gf_canon.proofs.lemmas.texts.ReadsBack.{text_reads_back}
+use Rattle.gf_canon.proofs.lemmas.texts.Spellables.{canonical_is_spellable}
+use Rattle.gf_canon.proofs.lemmas.files.Texts.{equal_game_texts}
 use Rattle.gf_canon.proofs.laws.text_reads_back.Goals as goal
 
 pub returns-clause-reads_back : goal.returns-clause-reads_back

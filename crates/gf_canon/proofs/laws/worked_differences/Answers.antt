@@ -1,5 +1,5 @@
-use Rattle.gf_canon.proofs.WorkedPairs.{unseen_seen, seen_unseen, one_two_prizes}
-use Rattle.gf_canon.proofs.WorkedPairs.{two_one_prizes, null_zero, zero_null}
+use Rattle.gf_canon.proofs.lemmas.sameness.WorkedPairs.{unseen_seen, seen_unseen, one_two_prizes}
+use Rattle.gf_canon.proofs.lemmas.sameness.WorkedPairs.{two_one_prizes, null_zero, zero_null}
 use Rattle.gf_canon.proofs.laws.worked_differences.Goals as goal
 
 pub returns-clause-sets : goal.returns-clause-sets

@@ -1,4 +1,4 @@
-use Rattle.gf_canon.proofs.Worked.{text_of_five, text_of_bonus, text_of_nobody}
+use Rattle.gf_canon.proofs.lemmas.sameness.Worked.{text_of_five, text_of_bonus, text_of_nobody}
 use Rattle.gf_canon.proofs.laws.worked_texts.Goals as goal
 
 pub returns-clause-five : goal.returns-clause-five

@@ -1,4 +1,4 @@
-use Rattle.gf_canon.proofs.CanonicalNumbers.{number_more}
+use Rattle.gf_canon.proofs.lemmas.numbers.Canonical.{number_more}
 use Rattle.gf_canon.proofs.numbering.numbers_to.Goals as goal
 
 pub loop-before-preserved : goal.loop-before-preserved

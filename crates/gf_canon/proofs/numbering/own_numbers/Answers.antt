@@ -1,5 +1,5 @@
 use Rattle.std.proofs.Common.{◌∙◌, arith}
-use Rattle.gf_canon.proofs.CanonicalNumbers.{no_numbers}
+use Rattle.gf_canon.proofs.lemmas.numbers.Canonical.{no_numbers}
 use Rattle.gf_canon.proofs.numbering.own_numbers.Goals as goal
 
 pub returns-in-Err : goal.returns-in-Err

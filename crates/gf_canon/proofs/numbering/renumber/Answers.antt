@@ -2,7 +2,7 @@ use Rattle.std.proofs.Common.{◌≡◌, ◌∙◌, IfOk, ap, map, subst}
 use Rattle.std.proofs.Common.{Vec, Global, ℕ}
 use Rattle.gf_nfg.specs.Profiles.{positions}
 use Rattle.gf_tree.specs.Game.{Game}
-use Rattle.gf_canon.proofs.CanonicalNumbers.{canonical_by, listed_by}
+use Rattle.gf_canon.proofs.lemmas.numbers.Canonical.{canonical_by, listed_by}
 use Rattle.gf_canon.proofs.numbering.renumber.Goals as goal
 
 pub with_numbers-requires : goal.with_numbers-requires

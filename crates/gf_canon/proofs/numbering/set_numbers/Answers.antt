@@ -1,4 +1,4 @@
-use Rattle.gf_canon.proofs.CanonicalNumbers.{list_more}
+use Rattle.gf_canon.proofs.lemmas.numbers.Canonical.{list_more}
 use Rattle.gf_canon.proofs.numbering.set_numbers.Goals as goal
 
 pub loop-at-preserved : goal.loop-at-preserved

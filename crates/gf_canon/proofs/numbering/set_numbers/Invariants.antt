@@ -1,5 +1,5 @@
 use Rattle.std.proofs.Common.{◌≡◌, map}
-use Rattle.gf_canon.proofs.CanonicalNumbers.{lists_through}
+use Rattle.gf_canon.proofs.lemmas.numbers.Canonical.{lists_through}
 use Rattle.gf_canon.proofs.numbering.set_numbers.Given as goal
 
 abbrev pub invariant-loop-at : goal.invariant-loop-at

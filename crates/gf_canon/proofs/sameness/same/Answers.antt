@@ -1,4 +1,4 @@
-use Rattle.gf_canon.proofs.TextsCompared.{same_as_texts}
+use Rattle.gf_canon.proofs.lemmas.texts.Compared.{same_as_texts}
 use Rattle.gf_canon.proofs.sameness.same.Goals as goal
 
 pub returns-clause-texts : goal.returns-clause-texts

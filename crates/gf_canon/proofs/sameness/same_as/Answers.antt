@@ -1,4 +1,4 @@
-use Rattle.gf_canon.proofs.ComparedTrees.{tree_is_held}
+use Rattle.gf_canon.proofs.lemmas.sameness.ComparedTrees.{tree_is_held}
 use Rattle.gf_canon.proofs.sameness.same_as.Goals as goal
 
 pub same_as_tree-requires-clause-game : goal.same_as_tree-requires-clause-game

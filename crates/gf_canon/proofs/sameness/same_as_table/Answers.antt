@@ -3,9 +3,9 @@ use Rattle.gf_canon.specs.inner.FormatWord.{word_of}
 use Rattle.gf_canon.specs.GameFile.GameFile.{extensive, strategic}
 use Rattle.gf_canon.specs.Judgement.{BeginsWithWord, IsRefusedWith}
 use Rattle.gf_canon.specs.declared.format.Format.{Format}
-use Rattle.gf_canon.proofs.ComparedTrees.{no_game}
-use Rattle.gf_canon.proofs.FilesJudged.{refused_with}
-use Rattle.gf_canon.proofs.RefusedFiles.{refused_at_first, refused_game, refused_table}
+use Rattle.gf_canon.proofs.lemmas.sameness.ComparedTrees.{no_game}
+use Rattle.gf_canon.proofs.lemmas.files.Judged.{refused_with}
+use Rattle.gf_canon.proofs.lemmas.files.Refused.{refused_at_first, refused_game, refused_table}
 use Rattle.gf_canon.proofs.sameness.same_as_table.Goals as goal
 
 pub returns-in_err-format_of-clause-refused : goal.returns-in_err-format_of-clause-refused

@@ -1,5 +1,5 @@
 use Rattle.gf_canon.specs.GameFile.GameFile.{extensive, strategic}
-use Rattle.gf_canon.proofs.ComparedTrees.{no_table, same_as_told}
+use Rattle.gf_canon.proofs.lemmas.sameness.ComparedTrees.{no_table, same_as_told}
 use Rattle.gf_canon.proofs.sameness.same_as_tree.Goals as goal
 
 pub returns-in-Ok-Extensive-clause-same : goal.returns-in-Ok-Extensive-clause-same

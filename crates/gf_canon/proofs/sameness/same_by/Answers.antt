@@ -1,6 +1,6 @@
 use Rattle.std.proofs.Common.{refl, rules}
 use Rattle.gf_canon.specs.MeaningOf.{file_of_listed}
-use Rattle.gf_canon.proofs.TextsCompared.{same_as_first, same_as_itself}
+use Rattle.gf_canon.proofs.lemmas.texts.Compared.{same_as_first, same_as_itself}
 use Rattle.gf_canon.proofs.sameness.same_by.Goals as goal
 
 pub returns-in-Ok-clause-same : goal.returns-in-Ok-clause-same

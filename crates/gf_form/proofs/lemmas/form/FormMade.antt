@@ -7,8 +7,8 @@ use Rattle.gf_nfg.specs.Limit.{profile_limit}
 use Rattle.gf_nfg.specs.Profiles.{product}
 use Rattle.gf_nfg.specs.Table.{Table}
 use Rattle.gf_nfg.specs.TableAccess.{IsTableOf}
-use Rattle.gf_nfg.proofs.BackProfiles.{length-profiles}
-use Rattle.gf_nfg.proofs.NumbersInTurn.{length-numbers_from}
+use Rattle.gf_nfg.proofs.lemmas.tables.Profiles.{length-profiles}
+use Rattle.gf_nfg.proofs.lemmas.tables.NumbersInTurn.{length-numbers_from}
 use Rattle.gf_tree.specs.Game.{Game}
 use Rattle.gf_form.specs.inner.rows.FitsTable.{FitsTable}
 use Rattle.gf_form.specs.inner.rows.ProfileRows.{AreRowsAt}

@@ -9,11 +9,11 @@ use Rattle.gf_fraction.proofs.AllElements.{all_images}
 use Rattle.gf_fraction.proofs.Products.{mul_above}
 use Rattle.gf_nfg.specs.Profiles.{product}
 use Rattle.gf_nfg.specs.Table.{Entry, Table, IsTable}
-use Rattle.gf_nfg.proofs.NumbersInTurn.{length-numbers_from}
+use Rattle.gf_nfg.proofs.lemmas.tables.NumbersInTurn.{length-numbers_from}
 use Rattle.gf_tree.specs.Description.{SetKey, InformationSet, IsSet}
 use Rattle.gf_tree.specs.FiniteMap.{Described}
 use Rattle.gf_tree.specs.Game.{Game, IsGame}
-use Rattle.gf_tree.proofs.Uses.{Has, all_of_each, each}
+use Rattle.gf_tree.proofs.lemmas.games.Uses.{Has, all_of_each, each}
 use Rattle.gf_form.specs.Strategies.{action_counts, strategies, strategy_label}
 use Rattle.gf_form.specs.Strategies.{players_of}
 use Rattle.gf_form.specs.StrategicForm.{ArePayoffsAt, IsFormBy, IsStrategicForm, strategy_labels}

@@ -11,8 +11,8 @@ use Rattle.gf_nfg.specs.Profiles.{profiles}
 use Rattle.gf_nfg.specs.Table.{Entry, Table}
 use Rattle.gf_tree.specs.Description.{SetKey}
 use Rattle.gf_tree.specs.Game.{Game}
-use Rattle.gf_tree.proofs.Members.{map_same, map_twice}
-use Rattle.gf_tree.proofs.Uses.{Has, contains, has, each, mapped_from}
+use Rattle.gf_tree.proofs.lemmas.games.Members.{map_same, map_twice}
+use Rattle.gf_tree.proofs.lemmas.games.Uses.{Has, contains, has, each, mapped_from}
 use Rattle.gf_form.specs.Payoff.{payoff}
 use Rattle.gf_form.specs.StrategicForm.{ArePayoffsAt, IsFormBy, IsStrategicForm}
 use Rattle.gf_form.specs.StrategicForm.{PaysFraction, PaysFractions, strategy_labels}

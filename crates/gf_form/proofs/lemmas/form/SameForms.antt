@@ -18,17 +18,17 @@ use Rattle.gf_tree.specs.Game.{Node, Game, IsGame, used_sets, set_at, outcome_at
 use Rattle.gf_tree.specs.Renumbering.{Renumbering, IsRenumbering, renumbered_set}
 use Rattle.gf_tree.specs.Renumbering.{renumbered_node, renumbered}
 use Rattle.gf_tree.specs.FirstUse.{player_sets, player_keys}
-use Rattle.gf_tree.proofs.TreesOnce.{same_set_equality}
-use Rattle.gf_tree.proofs.Uses.{Has, all_of_each}
-use Rattle.gf_tree.proofs.Members.{filter_of_map, map_twice}
-use Rattle.gf_tree.proofs.FirstUseNumbers.{same_tests}
-use Rattle.gf_tree.proofs.Carried.{entry_used}
-use Rattle.gf_tree.proofs.MappedTrees.{held}
-use Rattle.gf_tree.proofs.Renumberings.{sets_apart}
-use Rattle.gf_tree.proofs.RenumberedGames.{set_at_image, outcome_at_image}
+use Rattle.gf_tree.proofs.lemmas.games.TreesOnce.{same_set_equality}
+use Rattle.gf_tree.proofs.lemmas.games.Uses.{Has, all_of_each}
+use Rattle.gf_tree.proofs.lemmas.games.Members.{filter_of_map, map_twice}
+use Rattle.gf_tree.proofs.lemmas.games.FirstUseNumbers.{same_tests}
+use Rattle.gf_tree.proofs.lemmas.games.Carried.{entry_used}
+use Rattle.gf_tree.proofs.lemmas.games.MappedTrees.{held}
+use Rattle.gf_tree.proofs.lemmas.games.Renumberings.{sets_apart}
+use Rattle.gf_tree.proofs.lemmas.games.Renumbered.{set_at_image, outcome_at_image}
 use Rattle.gf_tree.specs.SameGame.{SameGame}
-use Rattle.gf_tree.proofs.SameGames.{same_back}
-use Rattle.gf_tree.proofs.CanonicalGames.{carried_is_renumbered}
+use Rattle.gf_tree.proofs.lemmas.games.Same.{same_back}
+use Rattle.gf_tree.proofs.lemmas.games.Canonical.{carried_is_renumbered}
 use Rattle.gf_form.specs.Strategies.{action_counts, strategies, all_choices, strategy_label}
 use Rattle.gf_form.specs.Strategies.{players_of, choice_at, choices_by, strategies_at, strategy_at}
 use Rattle.gf_form.specs.Payoff.{payoff}

@@ -7,9 +7,9 @@ use Rattle.gf_token.specs.Positions.{at_position}
 use Rattle.gf_nfg.specs.Limit.{profile_limit}
 use Rattle.gf_nfg.specs.Profiles.{positions, profiles}
 use Rattle.gf_tree.specs.Game.{Game, IsGame}
-use Rattle.gf_tree.proofs.Members.{map_same}
+use Rattle.gf_tree.proofs.lemmas.games.Members.{map_same}
 use Rattle.gf_tree.specs.SameGame.{SameGame}
-use Rattle.gf_tree.proofs.SameGames.{same_back}
+use Rattle.gf_tree.proofs.lemmas.games.Same.{same_back}
 use Rattle.gf_form.specs.BottomUp.{IsValue}
 use Rattle.gf_form.specs.Refusal.{HasBottomUpValue, HasTooManyProfiles, HasValues}
 use Rattle.gf_form.specs.Refusal.{IsFirstWithout, OverflowsAt}

@@ -12,8 +12,8 @@ use Rattle.gf_tree.specs.Game.{Game, IsGame}
 use Rattle.gf_tree.specs.inner.Machine.{nothing, run}
 use Rattle.gf_tree.specs.inner.Machine.Position.{Format}
 use Rattle.gf_tree.specs.Spellable.{IsSpellable}
-use Rattle.gf_tree.proofs.SpelledGames.{spelled_is_spellable}
-use Rattle.gf_tree.proofs.WorkedGames.{game_read, meant, ok_game}
+use Rattle.gf_tree.proofs.lemmas.games.Spelled.{spelled_is_spellable}
+use Rattle.gf_tree.proofs.lemmas.games.Worked.{game_read, meant, ok_game}
 use Rattle.gf_form.specs.WorkedForms.{balancing, contradicted, ending, overflowing, unlikely}
 
 abbrev IsHeld : Game → Type 0

@@ -13,8 +13,8 @@ use Rattle.gf_nfg.specs.Profiles.{product}
 use Rattle.gf_tree.specs.Description.{SetKey, same_set}
 use Rattle.gf_tree.specs.FirstUse.{player_keys}
 use Rattle.gf_tree.specs.Game.{Game, IsGame}
-use Rattle.gf_tree.proofs.Members.{map_same}
-use Rattle.gf_tree.proofs.TreesOnce.{same_set_equality}
+use Rattle.gf_tree.proofs.lemmas.games.Members.{map_same}
+use Rattle.gf_tree.proofs.lemmas.games.TreesOnce.{same_set_equality}
 use Rattle.gf_form.specs.inner.reduced.AlikeStrategies.{AreAlike}
 use Rattle.gf_form.specs.Reduced.{is_relevant}
 use Rattle.gf_form.specs.inner.reduced.Shown.{chooses_first, relevant_sets}

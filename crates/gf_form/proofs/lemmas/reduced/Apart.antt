@@ -15,9 +15,9 @@ use Rattle.gf_tree.specs.Description.{SetKey, same_set}
 use Rattle.gf_tree.specs.Game.{Node, Game, IsGame, HasChildren}
 use Rattle.gf_tree.specs.Spellable.{IsSpellable}
 use Rattle.gf_tree.specs.FirstUse.{player_keys}
-use Rattle.gf_tree.proofs.TreesOnce.{same_set_equality}
-use Rattle.gf_tree.proofs.Uses.{Has, contains, has_map}
-use Rattle.gf_tree.proofs.Members.{map_same, in_left, in_right}
+use Rattle.gf_tree.proofs.lemmas.games.TreesOnce.{same_set_equality}
+use Rattle.gf_tree.proofs.lemmas.games.Uses.{Has, contains, has_map}
+use Rattle.gf_tree.proofs.lemmas.games.Members.{map_same, in_left, in_right}
 use Rattle.gf_form.specs.Strategies.{choice_at, strategies}
 use Rattle.gf_form.specs.Plays.{Step, Play, from_node, is_chosen, plays, plays_from, HasActions}
 use Rattle.gf_form.specs.Reduced.{is_own_choice, agrees, comes_to, is_relevant, reduced}

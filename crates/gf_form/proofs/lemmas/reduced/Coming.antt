@@ -14,7 +14,7 @@ use Rattle.gf_tree.specs.Tree.Trees.{none, more}
 use Rattle.gf_tree.specs.Description.{InformationSet, SetKey, same_set}
 use Rattle.gf_tree.specs.Game.{Node, Game, IsGame, HasChildren, set_at}
 use Rattle.gf_tree.specs.PrefixOrder.{flatten, flatten_all}
-use Rattle.gf_tree.proofs.Uses.{has_map}
+use Rattle.gf_tree.proofs.lemmas.games.Uses.{has_map}
 use Rattle.gf_form.specs.inner.reduced.Comes.{tree_comes, trees_come}
 use Rattle.gf_form.specs.Plays.{Play, from_node, plays, plays_from}
 use Rattle.gf_form.specs.Reduced.{comes_to, is_own_choice, is_relevant}

@@ -16,11 +16,11 @@ use Rattle.gf_tree.specs.Description.{SetKey, same_set}
 use Rattle.gf_tree.specs.FiniteMap.{first_uses}
 use Rattle.gf_tree.specs.FirstUse.{player_keys, player_sets}
 use Rattle.gf_tree.specs.Game.{Game, IsGame}
-use Rattle.gf_tree.proofs.FirstUses.{AreDistinct}
-use Rattle.gf_tree.proofs.KnownKeys.{known_more, more_known, used_before}
-use Rattle.gf_tree.proofs.Members.{in_left, in_right, map_same}
-use Rattle.gf_tree.proofs.TreesOnce.{same_set_equality}
-use Rattle.gf_tree.proofs.Uses.{Has, IsEquality, each, has, has_map, mapped_from}
+use Rattle.gf_tree.proofs.lemmas.games.FirstUses.{AreDistinct}
+use Rattle.gf_tree.proofs.lemmas.stores.KnownKeys.{known_more, more_known, used_before}
+use Rattle.gf_tree.proofs.lemmas.games.Members.{in_left, in_right, map_same}
+use Rattle.gf_tree.proofs.lemmas.games.TreesOnce.{same_set_equality}
+use Rattle.gf_tree.proofs.lemmas.games.Uses.{Has, IsEquality, each, has, has_map, mapped_from}
 use Rattle.gf_form.specs.Reduced.{is_relevant, reduced, reduced_strategies, same_choice}
 use Rattle.gf_form.specs.inner.reduced.Shown.{chooses_first, relevant_sets, shown}
 use Rattle.gf_form.specs.Strategies.{action_counts, all_choices, choice_at, strategies}

@@ -16,10 +16,10 @@ use Rattle.gf_nfg.specs.Limit.{profile_limit}
 use Rattle.gf_nfg.specs.ProfilePlaces.{IsProfile}
 use Rattle.gf_nfg.specs.Profiles.{product, profiles}
 use Rattle.gf_nfg.specs.Table.{Entry, Table}
-use Rattle.gf_nfg.proofs.BackProfiles.{every_profile, length-profiles}
-use Rattle.gf_nfg.proofs.NumbersInTurn.{get_or-numbers_from, length-numbers_from}
+use Rattle.gf_nfg.proofs.lemmas.tables.Profiles.{every_profile, length-profiles}
+use Rattle.gf_nfg.proofs.lemmas.tables.NumbersInTurn.{get_or-numbers_from, length-numbers_from}
 use Rattle.gf_tree.specs.Game.{Game, IsGame}
-use Rattle.gf_tree.proofs.Uses.{Has, all_of_each, contains, each, has_map}
+use Rattle.gf_tree.proofs.lemmas.games.Uses.{Has, all_of_each, contains, each, has_map}
 use Rattle.gf_form.specs.inner.reduced.Firsts.{AreFirsts, AreFirstsOf, IsPaidAt}
 use Rattle.gf_form.specs.inner.strategies.Picked.{AreNumbers, full_at, picked_profiles}
 use Rattle.gf_form.specs.inner.rows.ProfileRows.{AreRowsAt}

@@ -7,7 +7,7 @@ use Rattle.std.proofs.lemmas.Bool.{cases_lt}
 use Rattle.std.proofs.lemmas.List.{get_or_append_left, length-append}
 use Rattle.std.proofs.lemmas.Option.{slice_get_within}
 use Rattle.std.proofs.Math.Seq.{get_or-append_seam}
-use Rattle.gf_tree.proofs.RenumberedStores.{some_same}
+use Rattle.gf_tree.proofs.lemmas.stores.RenumberedStores.{some_same}
 use Rattle.gf_form.specs.inner.reduced.Levels.{AreHighest, AreLevels}
 use Rattle.gf_form.specs.inner.reduced.Visits.{AreOrdered}
 use Rattle.gf_form.specs.declared.reduced.visits.Visit.{Visit}

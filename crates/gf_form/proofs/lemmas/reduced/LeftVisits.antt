@@ -12,9 +12,9 @@ use Rattle.std.proofs.lemmas.List.Elements.{filter_more}
 use Rattle.std.proofs.lemmas.Option.{slice_get-get_or, slice_get_within}
 use Rattle.std.proofs.Math.Bool.{and-false, and-true}
 use Rattle.gf_nfg.specs.Profiles.{numbers_from}
-use Rattle.gf_tree.proofs.FirstUses.{in_filter, of_filter}
-use Rattle.gf_tree.proofs.RenumberedStores.{some_same}
-use Rattle.gf_tree.proofs.Uses.{Has, all_of_each}
+use Rattle.gf_tree.proofs.lemmas.games.FirstUses.{in_filter, of_filter}
+use Rattle.gf_tree.proofs.lemmas.stores.RenumberedStores.{some_same}
+use Rattle.gf_tree.proofs.lemmas.games.Uses.{Has, all_of_each}
 use Rattle.gf_form.specs.inner.reduced.Levels.{AreLeft, AreLevels, IsLevel, is_made_at, is_made_to}
 use Rattle.gf_form.specs.inner.reduced.Visits.{AreNumbers, AreOrdered, chosen, is_met, visit_at}
 use Rattle.gf_form.specs.declared.reduced.visits.Move.{Move}

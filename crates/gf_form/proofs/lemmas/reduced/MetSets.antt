@@ -11,8 +11,8 @@ use Rattle.std.proofs.lemmas.Bool.{le-leb, le-ltb, leb-true, lt-leb, lt-ltb}
 use Rattle.std.proofs.lemmas.List.{length-set}
 use Rattle.std.proofs.lemmas.Option.{slice_get-get_or}
 use Rattle.gf_nfg.specs.Profiles.{numbers_from}
-use Rattle.gf_tree.proofs.FirstUses.{in_filter, of_filter}
-use Rattle.gf_tree.proofs.Uses.{Has, all_of_each, each}
+use Rattle.gf_tree.proofs.lemmas.games.FirstUses.{in_filter, of_filter}
+use Rattle.gf_tree.proofs.lemmas.games.Uses.{Has, all_of_each, each}
 use Rattle.gf_form.specs.inner.reduced.Levels.{AreHighest, AreLeft, AreLevels, AreOpen, IsLevel}
 use Rattle.gf_form.specs.inner.reduced.Levels.{IsSettled}
 use Rattle.gf_form.specs.inner.reduced.Levels.{TellsAll, TellsMet, is_made_to, is_settled_at}

@@ -19,10 +19,10 @@ use Rattle.gf_tree.specs.PrefixOrder.{Entry, flatten, flatten_all}
 use Rattle.gf_tree.specs.Tree.{Tree, Trees, count}
 use Rattle.gf_tree.specs.Tree.Tree.{branch}
 use Rattle.gf_tree.specs.Tree.Trees.{none, more}
-use Rattle.gf_tree.proofs.FirstUses.{was_used}
-use Rattle.gf_tree.proofs.Members.{map_same, map_twice}
-use Rattle.gf_tree.proofs.TreesOnce.{same_set_equality}
-use Rattle.gf_tree.proofs.Uses.{Has, has_map}
+use Rattle.gf_tree.proofs.lemmas.games.FirstUses.{was_used}
+use Rattle.gf_tree.proofs.lemmas.games.Members.{map_same, map_twice}
+use Rattle.gf_tree.proofs.lemmas.games.TreesOnce.{same_set_equality}
+use Rattle.gf_tree.proofs.lemmas.games.Uses.{Has, has_map}
 use Rattle.gf_form.specs.inner.reduced.Comes.{tree_comes, trees_come}
 use Rattle.gf_form.specs.inner.reduced.Firsts.{AreFirstsOf}
 use Rattle.gf_form.specs.Reduced.{is_own_choice, is_relevant, reduced, reduced_label}

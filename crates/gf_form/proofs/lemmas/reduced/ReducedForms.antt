@@ -14,11 +14,11 @@ use Rattle.gf_fraction.specs.Rational.{IsEqual}
 use Rattle.gf_nfg.specs.ProfilePlaces.{IsProfile}
 use Rattle.gf_nfg.specs.Profiles.{profiles}
 use Rattle.gf_nfg.specs.Table.{Table}
-use Rattle.gf_nfg.proofs.BackProfiles.{every_profile}
+use Rattle.gf_nfg.proofs.lemmas.tables.Profiles.{every_profile}
 use Rattle.gf_tree.specs.Game.{Game}
-use Rattle.gf_tree.proofs.FirstUses.{is_used, was_used}
-use Rattle.gf_tree.proofs.Members.{map_same, map_twice}
-use Rattle.gf_tree.proofs.Uses.{Has, contains, has, has_map, mapped_from}
+use Rattle.gf_tree.proofs.lemmas.games.FirstUses.{is_used, was_used}
+use Rattle.gf_tree.proofs.lemmas.games.Members.{map_same, map_twice}
+use Rattle.gf_tree.proofs.lemmas.games.Uses.{Has, contains, has, has_map, mapped_from}
 use Rattle.gf_form.specs.Payoff.{payoff}
 use Rattle.gf_form.specs.Reduced.{AreReducedPayoffsAt, IsReducedForm, reduced}
 use Rattle.gf_form.specs.Reduced.{reduced_at, reduced_by, reduced_label}

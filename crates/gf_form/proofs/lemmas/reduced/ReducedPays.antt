@@ -8,11 +8,11 @@ use Rattle.std.specs.Option.{option_map_or}
 use Rattle.std.proofs.lemmas.Bool.{and_parts, and_from, eqb-true, eqb-false, eq-eqb, ne_eqb}
 use Rattle.gf_fraction.specs.Rational.{times, total}
 use Rattle.gf_nfg.specs.Profiles.{numbers_from}
-use Rattle.gf_nfg.proofs.NumbersInTurn.{length-numbers_from}
+use Rattle.gf_nfg.proofs.lemmas.tables.NumbersInTurn.{length-numbers_from}
 use Rattle.gf_tree.specs.Description.{SetKey}
 use Rattle.gf_tree.specs.Game.{Game}
 use Rattle.gf_tree.specs.FirstUse.{player_keys}
-use Rattle.gf_tree.proofs.Uses.{Has, contains}
+use Rattle.gf_tree.proofs.lemmas.games.Uses.{Has, contains}
 use Rattle.gf_form.specs.Strategies.{choice_at, choices_by, players_of, strategies}
 use Rattle.gf_form.specs.Strategies.{strategies_at, strategy_at, full_profiles}
 use Rattle.gf_form.specs.Plays.{Step, Play, plays, is_chosen, follows}

@@ -9,12 +9,13 @@ use Rattle.std.specs.Cmp.Lexicographic.{pointwise}
 use Rattle.std.proofs.lemmas.Fmt.{decimal_injective}
 use Rattle.std.proofs.lemmas.List.{length-map}
 use Rattle.gf_nfg.specs.ProfilePlaces.{IsProfile}
-use Rattle.gf_nfg.proofs.BackProfiles.{every_profile}
+use Rattle.gf_nfg.proofs.lemmas.tables.Profiles.{every_profile}
 use Rattle.gf_tree.specs.Description.{SetKey, same_set}
 use Rattle.gf_tree.specs.FirstUse.{player_keys}
 use Rattle.gf_tree.specs.Game.{Game}
-use Rattle.gf_tree.proofs.FirstUses.{AreDistinct, first_uses_distinct, is_used, was_used}
-use Rattle.gf_tree.proofs.Uses.{Has, contains, has, has_map, mapped_from}
+use Rattle.gf_tree.proofs.lemmas.games.FirstUses.{AreDistinct, first_uses_distinct, is_used}
+use Rattle.gf_tree.proofs.lemmas.games.FirstUses.{was_used}
+use Rattle.gf_tree.proofs.lemmas.games.Uses.{Has, contains, has, has_map, mapped_from}
 use Rattle.gf_form.specs.inner.strategies.LabelTexts.{choice_text}
 use Rattle.gf_form.specs.Reduced.{is_relevant, reduced, reduced_at, reduced_by, reduced_label}
 use Rattle.gf_form.specs.Reduced.{reduced_profiles, reduced_strategies, same_choice}

@@ -7,7 +7,7 @@ use Rattle.gf_nfg.specs.Profiles.{profiles}
 use Rattle.gf_nfg.specs.Table.{Entry, IsTable, Table}
 use Rattle.gf_tree.specs.FiniteMap.{first_uses}
 use Rattle.gf_tree.specs.Game.{Game, IsGame}
-use Rattle.gf_tree.proofs.Uses.{Has, each, has_map}
+use Rattle.gf_tree.proofs.lemmas.games.Uses.{Has, each, has_map}
 use Rattle.gf_form.specs.Reduced.{AreReducedPayoffsAt, IsReducedForm, reduced, reduced_label}
 use Rattle.gf_form.specs.Reduced.{reduced_labels, reduced_strategies, same_choice}
 use Rattle.gf_form.specs.Strategies.{players_of, strategies}

@@ -14,9 +14,9 @@ use Rattle.gf_tree.specs.Tree.Tree.{branch}
 use Rattle.gf_tree.specs.Tree.Trees.{none, more}
 use Rattle.gf_tree.specs.Description.{SetKey, same_set}
 use Rattle.gf_tree.specs.Game.{Node, Game}
-use Rattle.gf_tree.proofs.Members.{in_left, in_right}
-use Rattle.gf_tree.proofs.TreesOnce.{same_set_equality}
-use Rattle.gf_tree.proofs.Uses.{Has, has_map}
+use Rattle.gf_tree.proofs.lemmas.games.Members.{in_left, in_right}
+use Rattle.gf_tree.proofs.lemmas.games.TreesOnce.{same_set_equality}
+use Rattle.gf_tree.proofs.lemmas.games.Uses.{Has, has_map}
 use Rattle.gf_form.specs.BottomUp.{IsChanceValue, IsMoveValue}
 use Rattle.gf_form.specs.BottomUp.{IsTerminalValue, IsValue, IsChildValue}
 use Rattle.gf_form.specs.Plays.{Play, Step, from_node, is_chosen, plays, plays_from}

@@ -9,8 +9,8 @@ use Rattle.std.proofs.lemmas.Option.{none-some}
 use Rattle.gf_tree.specs.Description.{SetKey, same_set}
 use Rattle.gf_tree.specs.Game.{Game}
 use Rattle.gf_tree.specs.FirstUse.{player_keys}
-use Rattle.gf_tree.proofs.TreesOnce.{same_set_equality}
-use Rattle.gf_tree.proofs.Uses.{Has, has}
+use Rattle.gf_tree.proofs.lemmas.games.TreesOnce.{same_set_equality}
+use Rattle.gf_tree.proofs.lemmas.games.Uses.{Has, has}
 use Rattle.gf_form.specs.Strategies.{choice_at}
 use Rattle.gf_form.specs.Plays.{Step, Play, plays}
 use Rattle.gf_form.specs.Reduced.{is_own_choice, agrees, comes_to, is_relevant, reduced}

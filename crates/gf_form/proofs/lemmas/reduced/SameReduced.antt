@@ -23,14 +23,14 @@ use Rattle.gf_tree.specs.Game.{Node, Game, IsGame, used_sets}
 use Rattle.gf_tree.specs.Renumbering.{Renumbering, IsRenumbering, renumbered_set}
 use Rattle.gf_tree.specs.Renumbering.{renumbered_node, renumbered}
 use Rattle.gf_tree.specs.SameGame.{SameGame}
-use Rattle.gf_tree.proofs.CanonicalGames.{carried_is_renumbered}
-use Rattle.gf_tree.proofs.FirstUseNumbers.{same_tests}
-use Rattle.gf_tree.proofs.MappedTrees.{held}
-use Rattle.gf_tree.proofs.Members.{map_same, map_twice}
-use Rattle.gf_tree.proofs.Renumberings.{sets_apart}
-use Rattle.gf_tree.proofs.SameGames.{same_back}
-use Rattle.gf_tree.proofs.TreesOnce.{same_set_equality}
-use Rattle.gf_tree.proofs.Uses.{Has, all_of_each}
+use Rattle.gf_tree.proofs.lemmas.games.Canonical.{carried_is_renumbered}
+use Rattle.gf_tree.proofs.lemmas.games.FirstUseNumbers.{same_tests}
+use Rattle.gf_tree.proofs.lemmas.games.MappedTrees.{held}
+use Rattle.gf_tree.proofs.lemmas.games.Members.{map_same, map_twice}
+use Rattle.gf_tree.proofs.lemmas.games.Renumberings.{sets_apart}
+use Rattle.gf_tree.proofs.lemmas.games.Same.{same_back}
+use Rattle.gf_tree.proofs.lemmas.games.TreesOnce.{same_set_equality}
+use Rattle.gf_tree.proofs.lemmas.games.Uses.{Has, all_of_each}
 use Rattle.gf_form.specs.Payoff.{payoff}
 use Rattle.gf_form.specs.Plays.{Step, Play, from_node, plays, plays_from}
 use Rattle.gf_form.specs.Reduced.{AreReducedPayoffsAt, comes_to, IsReducedForm, is_relevant}

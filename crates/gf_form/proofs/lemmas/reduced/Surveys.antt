@@ -22,11 +22,11 @@ use Rattle.gf_tree.specs.Subtrees.{child_trees, list_of, root_node}
 use Rattle.gf_tree.specs.Tree.{Tree, Trees}
 use Rattle.gf_tree.specs.Tree.Tree.{branch}
 use Rattle.gf_tree.specs.Tree.Trees.{none, more}
-use Rattle.gf_tree.proofs.FirstUses.{AreDistinct, first_uses_distinct}
-use Rattle.gf_tree.proofs.PlayerSets.{sets_by_first_use}
-use Rattle.gf_tree.proofs.RenumberedStores.{has_place}
-use Rattle.gf_tree.proofs.TreesOnce.{same_set_equality}
-use Rattle.gf_tree.proofs.Uses.{Has}
+use Rattle.gf_tree.proofs.lemmas.games.FirstUses.{AreDistinct, first_uses_distinct}
+use Rattle.gf_tree.proofs.lemmas.games.PlayerSets.{sets_by_first_use}
+use Rattle.gf_tree.proofs.lemmas.stores.RenumberedStores.{has_place}
+use Rattle.gf_tree.proofs.lemmas.games.TreesOnce.{same_set_equality}
+use Rattle.gf_tree.proofs.lemmas.games.Uses.{Has}
 use Rattle.gf_form.specs.inner.reduced.Comes.{list_comes, tree_comes, trees_come}
 use Rattle.gf_form.specs.Reduced.{is_own_choice}
 use Rattle.gf_form.specs.inner.reduced.Relevance.{FindRelevance}

@@ -12,7 +12,7 @@ use Rattle.gf_tree.specs.Tree.Trees.{none, more}
 use Rattle.gf_tree.specs.Description.{SetKey}
 use Rattle.gf_tree.specs.Game.{Game, Node}
 use Rattle.gf_tree.specs.Subtrees.{child_trees, list_of, root_node}
-use Rattle.gf_tree.specs.declared.branch.Branch.{Branch}
+use Rattle.gf_tree.specs.declared.game.branch.Branch.{Branch}
 use Rattle.gf_form.specs.inner.rows.PathsLeft.{any_nodes, below, lot_nodes, next_nodes, open_nodes}
 use Rattle.gf_form.specs.inner.rows.PathsLeft.{option_nodes}
 use Rattle.gf_form.specs.inner.rows.PathsLeft.{taken}

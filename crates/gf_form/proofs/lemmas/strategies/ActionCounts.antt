@@ -4,7 +4,7 @@ use Rattle.std.proofs.Common.{Option, Some, None, refl, sym, ap, subst, ◌∙�
 use Rattle.std.specs.Prelude.{◌==◌, option_map, slice_get}
 use Rattle.std.specs.List.{AllZip}
 use Rattle.std.proofs.lemmas.Slice.Zip.{AllZip-long}
-use Rattle.gf_nfg.proofs.NumbersInTurn.{get_or-numbers_from, length-numbers_from}
+use Rattle.gf_nfg.proofs.lemmas.tables.NumbersInTurn.{get_or-numbers_from, length-numbers_from}
 use Rattle.gf_nfg.specs.Profiles.{positions}
 use Rattle.std.proofs.lemmas.Bool.{eqb-true}
 use Rattle.std.proofs.lemmas.Option.{slice_get-map}
@@ -13,10 +13,10 @@ use Rattle.gf_tree.specs.Description.{SetKey, InformationSet, same_set, set_of}
 use Rattle.gf_tree.specs.FiniteMap.{Described}
 use Rattle.gf_tree.specs.FirstUse.{player_keys, player_sets}
 use Rattle.gf_tree.specs.Game.{Game, IsGame, set_at, used_sets}
-use Rattle.gf_tree.proofs.FirstUses.{AreDistinct, first_uses_distinct, of_filter}
-use Rattle.gf_tree.proofs.Lookups.{entry_at}
-use Rattle.gf_tree.proofs.RenumberedStores.{has_place}
-use Rattle.gf_tree.proofs.TreesOnce.{same_set_equality}
+use Rattle.gf_tree.proofs.lemmas.games.FirstUses.{AreDistinct, first_uses_distinct, of_filter}
+use Rattle.gf_tree.proofs.lemmas.games.Lookups.{entry_at}
+use Rattle.gf_tree.proofs.lemmas.stores.RenumberedStores.{has_place}
+use Rattle.gf_tree.proofs.lemmas.games.TreesOnce.{same_set_equality}
 use Rattle.gf_form.specs.Strategies.{action_counts}
 
 abbrev Known : Type 0

@@ -8,9 +8,10 @@ use Rattle.std.proofs.lemmas.List.{length-map, map-append, get_or-map}
 use Rattle.std.proofs.lemmas.List.Elements.{All-contains, All-from_recursion}
 use Rattle.gf_fraction.proofs.AllElements.{all_both}
 use Rattle.gf_nfg.specs.Profiles.{numbers_from, product}
-use Rattle.gf_nfg.proofs.NumbersInTurn.{numbers_joined, length-numbers_from}
-use Rattle.gf_nfg.proofs.NumbersInTurn.{get_or-numbers_from, IsIn, number_in, contains_in}
-use Rattle.gf_tree.proofs.Members.{map_twice}
+use Rattle.gf_nfg.proofs.lemmas.tables.NumbersInTurn.{numbers_joined, length-numbers_from}
+use Rattle.gf_nfg.proofs.lemmas.tables.NumbersInTurn.{get_or-numbers_from, IsIn, number_in}
+use Rattle.gf_nfg.proofs.lemmas.tables.NumbersInTurn.{contains_in}
+use Rattle.gf_tree.proofs.lemmas.games.Members.{map_twice}
 use Rattle.gf_form.specs.Strategies.{all_choices}
 
 -- the choices that begin with this action

@@ -9,7 +9,7 @@ use Rattle.std.proofs.lemmas.List.{get_or_default}
 use Rattle.std.proofs.lemmas.Option.{none-some}
 use Rattle.gf_nfg.specs.Profiles.{numbers_from}
 use Rattle.gf_nfg.specs.ProfilePlaces.{IsProfile}
-use Rattle.gf_nfg.proofs.BackProfiles.{every_profile}
+use Rattle.gf_nfg.proofs.lemmas.tables.Profiles.{every_profile}
 use Rattle.gf_tree.specs.Description.{SetKey, InformationSet, same_set}
 use Rattle.gf_tree.specs.FiniteMap.{Described, description_at}
 use Rattle.gf_tree.specs.Game.{Game, IsGame, set_at}

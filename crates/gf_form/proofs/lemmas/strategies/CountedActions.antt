@@ -14,8 +14,8 @@ use Rattle.gf_token.specs.Positions.{at_position}
 use Rattle.gf_nfg.specs.Limit.{profile_limit}
 use Rattle.gf_nfg.specs.Profiles.{product}
 use Rattle.gf_nfg.specs.declared.limit.ProfileCount.{ProfileCount}
-use Rattle.gf_nfg.proofs.BackProfiles.{length-profiles}
-use Rattle.gf_nfg.proofs.NumbersInTurn.{get_or-numbers_from, length-numbers_from}
+use Rattle.gf_nfg.proofs.lemmas.tables.Profiles.{length-profiles}
+use Rattle.gf_nfg.proofs.lemmas.tables.NumbersInTurn.{get_or-numbers_from, length-numbers_from}
 use Rattle.gf_tree.specs.Description.{SetKey, InformationSet, IsSet}
 use Rattle.gf_tree.specs.FiniteMap.{Described}
 use Rattle.gf_tree.specs.FirstUse.{player_keys, player_sets}

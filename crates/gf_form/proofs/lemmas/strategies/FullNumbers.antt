@@ -9,7 +9,7 @@ use Rattle.std.proofs.Math.Seq.{drop-cons}
 use Rattle.std.proofs.lemmas.List.{get_or_default, length-map}
 use Rattle.gf_nfg.specs.Profiles.{product, profiles}
 use Rattle.gf_nfg.specs.ProfilePlaces.{place}
-use Rattle.gf_nfg.proofs.BackProfiles.{length-profiles, place_at}
+use Rattle.gf_nfg.proofs.lemmas.tables.Profiles.{length-profiles, place_at}
 use Rattle.gf_tree.specs.Game.{Game}
 use Rattle.gf_form.specs.inner.strategies.FullNumbers.{full_number}
 use Rattle.gf_form.specs.inner.strategies.Counted.{AreCounts}

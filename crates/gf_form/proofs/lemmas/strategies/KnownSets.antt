@@ -6,9 +6,9 @@ use Rattle.gf_tree.specs.Description.{SetKey, InformationSet, same_set, IsSet}
 use Rattle.gf_tree.specs.FiniteMap.{Described}
 use Rattle.gf_tree.specs.Game.{Game, IsGame, set_at}
 use Rattle.gf_tree.specs.FirstUse.{player_keys, player_sets}
-use Rattle.gf_tree.proofs.TreesOnce.{same_set_equality}
-use Rattle.gf_tree.proofs.Uses.{Has, mapped_from}
-use Rattle.gf_tree.proofs.FirstUses.{of_filter}
+use Rattle.gf_tree.proofs.lemmas.games.TreesOnce.{same_set_equality}
+use Rattle.gf_tree.proofs.lemmas.games.Uses.{Has, mapped_from}
+use Rattle.gf_tree.proofs.lemmas.games.FirstUses.{of_filter}
 use Rattle.gf_form.proofs.lemmas.strategies.Lookups.{Each, each_found, each_mapped, each_weaker}
 
 pub each_set : (g : Game) → IsGame g → (key : SetKey)

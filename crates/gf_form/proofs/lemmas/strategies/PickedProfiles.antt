@@ -10,8 +10,9 @@ use Rattle.std.proofs.lemmas.Grind.{get_or_default_zero}
 use Rattle.std.proofs.lemmas.List.{get_or_default, get_or-map, length-map}
 use Rattle.gf_nfg.specs.Profiles.{numbers_from, product, profiles}
 use Rattle.gf_nfg.specs.ProfilePlaces.{IsProfile, place}
-use Rattle.gf_nfg.proofs.BackProfiles.{are_profiles, every_profile, length-profiles, place_at}
-use Rattle.gf_nfg.proofs.NumbersInTurn.{get_or-numbers_from, length-numbers_from}
+use Rattle.gf_nfg.proofs.lemmas.tables.Profiles.{are_profiles, every_profile, length-profiles}
+use Rattle.gf_nfg.proofs.lemmas.tables.Profiles.{place_at}
+use Rattle.gf_nfg.proofs.lemmas.tables.NumbersInTurn.{get_or-numbers_from, length-numbers_from}
 use Rattle.gf_tree.specs.Game.{Game}
 use Rattle.gf_form.specs.inner.strategies.Counted.{AreCounts}
 use Rattle.gf_form.specs.inner.strategies.Picked.{AreNumbers, IsPicked, full_at, numbers_in}

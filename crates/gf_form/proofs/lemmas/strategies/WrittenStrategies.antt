@@ -8,7 +8,7 @@ use Rattle.std.proofs.Math.Seq.{drop-cons}
 use Rattle.std.proofs.lemmas.Grind.{get_or_default_zero}
 use Rattle.std.proofs.lemmas.List.{append-nil, length-set, take_more_set}
 use Rattle.gf_nfg.specs.Profiles.{product}
-use Rattle.gf_nfg.proofs.BackProfiles.{length-profiles}
+use Rattle.gf_nfg.proofs.lemmas.tables.Profiles.{length-profiles}
 use Rattle.gf_tree.specs.Game.{Game}
 use Rattle.gf_form.specs.inner.strategies.Counted.{AreCounts}
 use Rattle.gf_form.specs.Strategies.{all_choices, full_profiles}

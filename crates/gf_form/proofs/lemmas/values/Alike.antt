@@ -16,7 +16,7 @@ use Rattle.gf_tree.specs.Tree.Trees.{none, more}
 use Rattle.gf_tree.specs.PrefixOrder.{Entry, flatten, flatten_all}
 use Rattle.gf_tree.specs.Description.{SetKey}
 use Rattle.gf_tree.specs.Game.{Node, Game}
-use Rattle.gf_tree.proofs.Members.{map_twice, filter_of_map}
+use Rattle.gf_tree.proofs.lemmas.games.Members.{map_twice, filter_of_map}
 use Rattle.gf_form.specs.Plays.{Step, Play, from_node, plays, plays_from, is_chosen, follows}
 use Rattle.gf_form.specs.Payoff.{probability, payoff_at, play_probability, play_payoff, payoff}
 use Rattle.gf_form.specs.BottomUp.{IsValue, IsChanceValue, IsChildValue}

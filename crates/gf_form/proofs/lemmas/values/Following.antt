@@ -14,7 +14,7 @@ use Rattle.gf_tree.specs.Tree.Trees.{none, more}
 use Rattle.gf_tree.specs.PrefixOrder.{flatten, flatten_all}
 use Rattle.gf_tree.specs.Description.{SetKey}
 use Rattle.gf_tree.specs.Game.{Node, Game, HasChildren, set_at}
-use Rattle.gf_tree.proofs.Uses.{Has, mapped_from}
+use Rattle.gf_tree.proofs.lemmas.games.Uses.{Has, mapped_from}
 use Rattle.gf_form.specs.Plays.{Step, Play, from_node, plays, plays_from}
 use Rattle.gf_form.specs.Plays.{is_chosen, follows, PartAtChance}
 

@@ -16,7 +16,7 @@ use Rattle.gf_tree.specs.FiniteMap.{Described}
 use Rattle.gf_tree.specs.FirstUse.{outcome_numbers}
 use Rattle.gf_tree.specs.Game.{Game, IsGame, outcome_at}
 use Rattle.gf_tree.specs.Spellable.{IsSpellable}
-use Rattle.gf_tree.proofs.Places.{at_index}
+use Rattle.gf_tree.proofs.lemmas.stores.Places.{at_index}
 use Rattle.gf_form.specs.inner.values.Program.{paid}
 use Rattle.gf_form.specs.inner.values.Rows.{ArePaid, IsRow, at_place, row_at}
 use Rattle.gf_form.proofs.lemmas.values.Denominators.{payoffs_of}

@@ -21,7 +21,7 @@ use Rattle.gf_form.specs.inner.values.Program.{paid_at_node}
 use Rattle.gf_form.specs.inner.values.Program.{run}
 use Rattle.gf_form.specs.declared.values.op.Op.{Op}
 use Rattle.gf_form.specs.declared.values.op.Op.TheVariants.{Push, Begin, Nothing, Weigh, Pay}
-use Rattle.gf_tree.proofs.FoundKeys.{not_described}
+use Rattle.gf_tree.proofs.lemmas.stores.FoundKeys.{not_described}
 use Rattle.std.proofs.Common.{cond}
 use Rattle.std.specs.List.{position_from}
 use Rattle.std.proofs.lemmas.Bool.{eqb-true}

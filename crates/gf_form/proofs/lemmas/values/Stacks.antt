@@ -7,7 +7,7 @@ use Rattle.std.proofs.lemmas.List.{map-append}
 use Rattle.gf_fraction.specs.Ratio.{IsFraction, Ratio}
 use Rattle.gf_fraction.specs.Rational.{zero_ratio}
 use Rattle.gf_fraction.proofs.AllElements.{all_parts}
-use Rattle.gf_tree.proofs.RenumberedStores.{all_and_one}
+use Rattle.gf_tree.proofs.lemmas.stores.RenumberedStores.{all_and_one}
 use Rattle.std.proofs.Common.{◌+◌, ◌≤◌, suc}
 use Rattle.gf_tree.specs.Game.{Game}
 use Rattle.gf_form.proofs.lemmas.values.PaidRowsKept.{empty_at}

@@ -8,8 +8,8 @@ use Rattle.std.proofs.Common.{◌≤◌, get_or, Vec, Global}
 use Rattle.std.proofs.lemmas.List.{length-append, length-map}
 use Rattle.std.proofs.lemmas.Option.{slice_get-get_or, slice_get-map, slice_get_past}
 use Rattle.gf_tree.specs.Actions.{action_of, actions_of}
-use Rattle.gf_tree.specs.declared.action.Action.{Action as Held}
-use Rattle.gf_tree.proofs.Places.{at_index}
+use Rattle.gf_tree.specs.declared.game.action.Action.{Action as Held}
+use Rattle.gf_tree.proofs.lemmas.stores.Places.{at_index}
 use Rattle.gf_fraction.specs.Ratio.{Ratio}
 use Rattle.gf_fraction.specs.Rational.{one_ratio}
 use Rattle.gf_token.specs.Positions.{at_position}
@@ -21,11 +21,11 @@ use Rattle.gf_tree.specs.FirstUse.{player_keys, sets_of}
 use Rattle.gf_tree.specs.Game.{Game, IsGame, Node, set_at, used_sets}
 use Rattle.gf_tree.specs.PrefixOrder.{flatten, flatten_all}
 use Rattle.gf_tree.specs.Subtrees.{child_trees, list_of, root_node}
-use Rattle.gf_tree.proofs.FirstUses.{AreDistinct, first_uses_distinct}
-use Rattle.gf_tree.proofs.PlayerSets.{sets_by_first_use}
-use Rattle.gf_tree.proofs.RenumberedStores.{has_place}
-use Rattle.gf_tree.proofs.TreesOnce.{same_set_equality}
-use Rattle.gf_tree.proofs.Uses.{Has}
+use Rattle.gf_tree.proofs.lemmas.games.FirstUses.{AreDistinct, first_uses_distinct}
+use Rattle.gf_tree.proofs.lemmas.games.PlayerSets.{sets_by_first_use}
+use Rattle.gf_tree.proofs.lemmas.stores.RenumberedStores.{has_place}
+use Rattle.gf_tree.proofs.lemmas.games.TreesOnce.{same_set_equality}
+use Rattle.gf_tree.proofs.lemmas.games.Uses.{Has}
 use Rattle.gf_form.specs.inner.values.CodeLeft.{list_code, open_code, opened, option_code}
 use Rattle.gf_form.specs.inner.values.Program.{chance_code, child_code, code, code_over}
 use Rattle.gf_form.specs.inner.values.Program.{paid_at_node}

@@ -20,8 +20,8 @@ use Rattle.gf_tree.specs.PrefixOrder.{flatten, flatten_all}
 use Rattle.gf_tree.specs.Description.{SetKey, InformationSet}
 use Rattle.gf_tree.specs.Game.{Node, Game, IsGame, HasChildren, set_at}
 use Rattle.gf_tree.specs.Spellable.{IsSpellable}
-use Rattle.gf_tree.proofs.Uses.{Has, contains}
-use Rattle.gf_tree.proofs.FirstUses.{of_filter}
+use Rattle.gf_tree.proofs.lemmas.games.Uses.{Has, contains}
+use Rattle.gf_tree.proofs.lemmas.games.FirstUses.{of_filter}
 use Rattle.gf_form.specs.Plays.{Play, from_node, is_chosen, follows, plays, HasActions}
 use Rattle.gf_form.specs.Payoff.{probability, play_probability}
 use Rattle.gf_form.proofs.lemmas.values.Denominators.{probability_above, play_probability_above}

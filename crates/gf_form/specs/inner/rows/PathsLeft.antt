@@ -9,7 +9,7 @@ use Rattle.gf_tree.specs.Description.{SetKey}
 use Rattle.gf_tree.specs.Game.{Game, Node}
 use Rattle.gf_tree.specs.Subtrees.{child_trees}
 use Rattle.gf_tree.specs.Tree.{Tree}
-use Rattle.gf_tree.specs.declared.branch.Branch.{Branch}
+use Rattle.gf_tree.specs.declared.game.branch.Branch.{Branch}
 use Rattle.gf_form.specs.inner.values.CodeLeft.{branch_chances}
 use Rattle.gf_form.specs.inner.rows.ReachedNodes.{by_chance, by_choice, demanded, reached}
 use Rattle.gf_form.specs.Strategies.{choices_by}

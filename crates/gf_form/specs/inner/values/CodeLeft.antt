@@ -9,8 +9,8 @@ use Rattle.gf_tree.specs.Game.{Game, Node}
 use Rattle.gf_tree.specs.PrefixOrder.{flatten}
 use Rattle.gf_tree.specs.Subtrees.{child_trees, root_node}
 use Rattle.gf_tree.specs.Tree.{Tree}
-use Rattle.gf_tree.specs.declared.branch.Branch.{Branch}
-use Rattle.gf_tree.specs.declared.branches.Branches.{Branches}
+use Rattle.gf_tree.specs.declared.game.branch.Branch.{Branch}
+use Rattle.gf_tree.specs.declared.game.branches.Branches.{Branches}
 use Rattle.gf_form.specs.inner.values.Program.{code, paid_at_node}
 use Rattle.gf_form.specs.Strategies.{choices_by}
 use Rattle.gf_form.specs.inner.values.Values.{chances_at}

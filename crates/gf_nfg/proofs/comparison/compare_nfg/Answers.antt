@@ -4,7 +4,7 @@ use Rattle.gf_nfg.specs.inner.ComparedTable.{IsCompared}
 use Rattle.gf_nfg.specs.inner.Meaning.{table_of}
 use Rattle.gf_nfg.specs.inner.ReaderState.{content_told}
 use Rattle.gf_nfg.specs.inner.ToldTable.{HasToldTable}
-use Rattle.gf_nfg.proofs.MeaningTables.{within_limit}
+use Rattle.gf_nfg.proofs.lemmas.tables.Meaning.{within_limit}
 use Rattle.gf_nfg.proofs.comparison.compare_nfg.Goals as goal
 
 pub is_same-requires : goal.is_same-requires

@@ -1,4 +1,4 @@
-use Rattle.gf_nfg.proofs.BackTables.{equal_texts, equal_texts_of_files}
+use Rattle.gf_nfg.proofs.lemmas.texts.OneTable.{equal_texts, equal_texts_of_files}
 use Rattle.gf_nfg.proofs.laws.equal_texts.Goals as goal
 
 pub returns-clause-of_tables : goal.returns-clause-of_tables

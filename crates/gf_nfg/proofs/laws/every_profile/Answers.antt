@@ -1,4 +1,4 @@
-use Rattle.gf_nfg.proofs.BackProfiles.{every_profile, profiles_in_order}
+use Rattle.gf_nfg.proofs.lemmas.tables.Profiles.{every_profile, profiles_in_order}
 use Rattle.gf_nfg.proofs.laws.every_profile.Goals as goal
 
 pub returns-clause-each_choice : goal.returns-clause-each_choice

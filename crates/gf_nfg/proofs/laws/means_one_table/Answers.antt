@@ -1,5 +1,5 @@
-use Rattle.gf_nfg.proofs.PlacesLed.{spells_one_table}
-use Rattle.gf_nfg.proofs.RunsSentence.{one_table}
+use Rattle.gf_nfg.proofs.lemmas.places.Led.{spells_one_table}
+use Rattle.gf_nfg.proofs.lemmas.runs.Sentence.{one_table}
 use Rattle.gf_nfg.proofs.laws.means_one_table.Goals as goal
 
 pub returns-clause-of_tokens : goal.returns-clause-of_tokens

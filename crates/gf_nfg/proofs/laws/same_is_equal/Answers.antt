@@ -1,4 +1,4 @@
-use Rattle.gf_nfg.proofs.BackSame.{same_is_equal, same_play_by_rows}
+use Rattle.gf_nfg.proofs.lemmas.tables.Same.{same_is_equal, same_play_by_rows}
 use Rattle.gf_nfg.proofs.laws.same_is_equal.Goals as goal
 
 pub returns-clause-tables : goal.returns-clause-tables

@@ -1,4 +1,4 @@
-use Rattle.gf_nfg.proofs.BackTables.{text_reads_back, text_again}
+use Rattle.gf_nfg.proofs.lemmas.texts.OneTable.{text_reads_back, text_again}
 use Rattle.gf_nfg.proofs.laws.text_reads_back.Goals as goal
 
 pub returns-clause-reads_back : goal.returns-clause-reads_back

@@ -1,4 +1,5 @@
-use Rattle.gf_nfg.proofs.BackWorked.{by_counts, by_outcomes, text_of_selten, text_of_no_players}
+use Rattle.gf_nfg.proofs.lemmas.tables.Worked.{by_counts, by_outcomes, text_of_selten}
+use Rattle.gf_nfg.proofs.lemmas.tables.Worked.{text_of_no_players}
 use Rattle.gf_nfg.proofs.laws.worked_tables.Goals as goal
 
 pub returns-clause-by_counts : goal.returns-clause-by_counts

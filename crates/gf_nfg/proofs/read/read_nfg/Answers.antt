@@ -1,10 +1,10 @@
 use Rattle.std.proofs.Common.{◌∙◌}
 use Rattle.gf_nfg.specs.inner.Meaning.{table_of}
 use Rattle.gf_nfg.specs.inner.ReaderState.{content_of}
-use Rattle.gf_nfg.proofs.PlacesJudged.{memory_at_end}
-use Rattle.gf_nfg.proofs.PlacesLed.{spells_one_table}
-use Rattle.gf_nfg.proofs.SpelledTables.{spelled_is_spellable}
-use Rattle.gf_nfg.proofs.ToldTables.{kept_means}
+use Rattle.gf_nfg.proofs.lemmas.places.Judged.{memory_at_end}
+use Rattle.gf_nfg.proofs.lemmas.places.Led.{spells_one_table}
+use Rattle.gf_nfg.proofs.lemmas.tables.Spelled.{spelled_is_spellable}
+use Rattle.gf_nfg.proofs.lemmas.tables.Told.{kept_means}
 use Rattle.gf_nfg.proofs.read.read_nfg.Goals as goal
 
 pub into_table-requires-clause-complete : goal.into_table-requires-clause-complete

@@ -1,9 +1,9 @@
 use Rattle.std.proofs.Common.{rules, ◌∙◌, ap, sym}
 use Rattle.gf_nfg.specs.inner.Heard.{Answer}
 use Rattle.gf_nfg.specs.inner.ReaderState.{content_told}
-use Rattle.gf_nfg.proofs.HeardJudged.{answer_judged, answer_read, carried, heard_begun}
-use Rattle.gf_nfg.proofs.HeardJudged.{refused_why}
-use Rattle.gf_nfg.proofs.PlacesJudged.{only_memory}
+use Rattle.gf_nfg.proofs.lemmas.places.Heard.{answer_judged, answer_read, carried, heard_begun}
+use Rattle.gf_nfg.proofs.lemmas.places.Heard.{refused_why}
+use Rattle.gf_nfg.proofs.lemmas.places.Judged.{only_memory}
 use Rattle.gf_nfg.proofs.read.tell_nfg.Goals as goal
 
 pub returns-in_err-tell-clause-only : goal.returns-in_err-tell-clause-only

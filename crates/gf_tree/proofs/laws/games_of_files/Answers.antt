@@ -1,4 +1,4 @@
-use Rattle.gf_tree.proofs.WrittenGames.{games_of_files}
+use Rattle.gf_tree.proofs.lemmas.written.Games.{games_of_files}
 use Rattle.gf_tree.proofs.laws.games_of_files.Goals as goal
 
 pub returns : goal.returns

@@ -1,4 +1,4 @@
-use Rattle.gf_tree.proofs.PlayerSets.{sets_by_first_use}
+use Rattle.gf_tree.proofs.lemmas.games.PlayerSets.{sets_by_first_use}
 use Rattle.gf_tree.proofs.laws.keys_by_first_use.Goals as goal
 
 pub returns-clause-sets : goal.returns-clause-sets

@@ -1,4 +1,4 @@
-use Rattle.gf_tree.proofs.Games.{sets_in_order, outcomes_in_order}
+use Rattle.gf_tree.proofs.lemmas.games.Consistent.{sets_in_order, outcomes_in_order}
 use Rattle.gf_tree.proofs.laws.keys_in_order.Goals as goal
 
 pub returns-clause-of_sets : goal.returns-clause-of_sets

@@ -1,4 +1,4 @@
-use Rattle.gf_tree.proofs.Learning.{learned_once}
+use Rattle.gf_tree.proofs.lemmas.games.Learning.{learned_once}
 use Rattle.gf_tree.proofs.laws.learned_once.Goals as goal
 
 pub returns : goal.returns

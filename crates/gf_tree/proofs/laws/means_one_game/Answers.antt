@@ -1,4 +1,4 @@
-use Rattle.gf_tree.proofs.TreesOnce.{one_file_tree, means_one_game, spells_one_game}
+use Rattle.gf_tree.proofs.lemmas.games.TreesOnce.{one_file_tree, means_one_game, spells_one_game}
 use Rattle.gf_tree.proofs.laws.means_one_game.Goals as goal
 
 pub returns-clause-of_trees : goal.returns-clause-of_trees

@@ -1,5 +1,5 @@
-use Rattle.gf_tree.proofs.ListedNumbers.{listed_is_renumbering}
-use Rattle.gf_tree.proofs.RenumberedGames.{renumbered_is_game, first_use_is_renumbering}
+use Rattle.gf_tree.proofs.lemmas.games.ListedNumbers.{listed_is_renumbering}
+use Rattle.gf_tree.proofs.lemmas.games.Renumbered.{renumbered_is_game, first_use_is_renumbering}
 use Rattle.gf_tree.proofs.laws.new_numbers.Goals as goal
 
 pub returns-clause-is_game : goal.returns-clause-is_game

@@ -1,4 +1,4 @@
-use Rattle.gf_tree.proofs.FilesOfGames.{one_game_of, are_games}
+use Rattle.gf_tree.proofs.lemmas.games.Files.{one_game_of, are_games}
 use Rattle.gf_tree.proofs.laws.one_game_each.Goals as goal
 
 pub returns-clause-of_trees : goal.returns-clause-of_trees

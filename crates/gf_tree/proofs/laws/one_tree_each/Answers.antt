@@ -1,4 +1,4 @@
-use Rattle.gf_tree.proofs.Prefix.{one_tree, fills_one, flatten_once, grows_again}
+use Rattle.gf_tree.proofs.lemmas.games.Prefix.{one_tree, fills_one, flatten_once, grows_again}
 use Rattle.gf_tree.proofs.laws.one_tree_each.Goals as goal
 
 pub returns-clause-of_lists : goal.returns-clause-of_lists

@@ -1,4 +1,4 @@
-use Rattle.gf_tree.proofs.RefusedOnce.{answered, not_both, refused_once}
+use Rattle.gf_tree.proofs.lemmas.reasons.RefusedOnce.{answered, not_both, refused_once}
 use Rattle.gf_tree.proofs.laws.read_or_refused.Goals as goal
 
 pub returns-clause-one_of_both : goal.returns-clause-one_of_both

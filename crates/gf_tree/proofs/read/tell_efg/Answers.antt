@@ -2,9 +2,9 @@ use Rattle.std.proofs.Common.{◌∙◌, ap, rules}
 use Rattle.gf_tree.specs.inner.KnownOutcomes.{KnownOutcomes}
 use Rattle.gf_tree.specs.KnownSets.{KnownSets}
 use Rattle.gf_tree.specs.inner.Machine.{Content}
-use Rattle.gf_tree.proofs.ReadGames.{answer_judged, answer_only}
-use Rattle.gf_tree.proofs.ReaderSteps.{carried, heard_begun, refused_why}
-use Rattle.gf_tree.proofs.ToldGames.{if_err, on_ok, told_game}
+use Rattle.gf_tree.proofs.lemmas.reader.Games.{answer_judged, answer_only}
+use Rattle.gf_tree.proofs.lemmas.reader.Steps.{carried, heard_begun, refused_why}
+use Rattle.gf_tree.proofs.lemmas.reader.ToldGames.{if_err, on_ok, told_game}
 use Rattle.gf_tree.proofs.read.tell_efg.Goals as goal
 
 pub returns-in_err-last-clause-only : goal.returns-in_err-last-clause-only

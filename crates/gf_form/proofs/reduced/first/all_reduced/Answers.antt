@@ -2,7 +2,7 @@ use Rattle.std.proofs.Common.{◌<◌, ◌∷◌, ◌∙◌, [], ℕ, List, Vec,
 use Rattle.std.proofs.Common.{subst, sym}
 use Rattle.std.specs.List.{AllZip}
 use Rattle.std.proofs.lemmas.List.{map-append}
-use Rattle.gf_nfg.proofs.NumbersInTurn.{length-numbers_from}
+use Rattle.gf_nfg.proofs.lemmas.tables.NumbersInTurn.{length-numbers_from}
 use Rattle.gf_form.specs.inner.reduced.Firsts.{AreFirstsOf}
 use Rattle.gf_form.specs.Reduced.{reduced_labels}
 use Rattle.gf_form.specs.Strategies.{players_of}

@@ -5,7 +5,7 @@ use Rattle.std.specs.List.{AllByRecursion}
 use Rattle.gf_token.specs.Label.{label_of}
 use Rattle.gf_token.specs.LabelSpelling.{IsLabel}
 use Rattle.gf_nfg.specs.Profiles.{product}
-use Rattle.gf_tree.proofs.Members.{map_twice}
+use Rattle.gf_tree.proofs.lemmas.games.Members.{map_twice}
 use Rattle.gf_form.specs.Reduced.{reduced, reduced_label}
 use Rattle.gf_form.specs.inner.reduced.Shown.{chooses_first, relevant_sets, shown}
 use Rattle.gf_form.specs.Strategies.{action_counts, all_choices, strategies}

@@ -1,5 +1,5 @@
 use Rattle.std.proofs.Common.{◌≡◌, ◌+◌, ◌++◌, ◌∷◌, ◌∙◌, [], arith}
-use Rattle.gf_nfg.proofs.NumbersInTurn.{numbers_joined}
+use Rattle.gf_nfg.proofs.lemmas.tables.NumbersInTurn.{numbers_joined}
 use Rattle.gf_form.proofs.reduced.levels.all_numbers.Goals as goal
 
 pub loop-before-preserved : goal.loop-before-preserved

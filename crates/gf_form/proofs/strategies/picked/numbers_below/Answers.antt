@@ -1,6 +1,6 @@
 use Rattle.std.proofs.Common.{◌≡◌, ◌+◌, ◌++◌, ◌∷◌, ◌∙◌, [], ℕ, List, ap, arith}
 use Rattle.gf_nfg.specs.Profiles.{numbers_from}
-use Rattle.gf_nfg.proofs.NumbersInTurn.{numbers_joined}
+use Rattle.gf_nfg.proofs.lemmas.tables.NumbersInTurn.{numbers_joined}
 use Rattle.gf_form.proofs.strategies.picked.numbers_below.Goals as goal
 
 pub loop-number-preserved : goal.loop-number-preserved

@@ -3,7 +3,7 @@ use Rattle.std.proofs.Common.{ap, arith, get_or, length, map, slice_set, sym}
 use Rattle.std.proofs.Math.Nat.{mod-lt}
 use Rattle.std.proofs.lemmas.List.{length-map, map-set}
 use Rattle.gf_nfg.specs.Profiles.{product, profiles}
-use Rattle.gf_nfg.proofs.BackProfiles.{length-profiles}
+use Rattle.gf_nfg.proofs.lemmas.tables.Profiles.{length-profiles}
 use Rattle.gf_form.specs.Strategies.{all_choices, full_profiles, players_of, strategies_at}
 use Rattle.gf_form.proofs.lemmas.strategies.CountedActions.{strategy_counts}
 use Rattle.gf_form.proofs.lemmas.strategies.CountsGiven.{Read, actions_in, read_actions, read_whole}

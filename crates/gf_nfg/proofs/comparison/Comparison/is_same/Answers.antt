@@ -4,8 +4,8 @@ use Rattle.gf_nfg.specs.inner.ReaderState.{content_told}
 use Rattle.gf_nfg.specs.inner.Meaning.{table_of}
 use Rattle.gf_nfg.specs.SameTable.{SameTable}
 use Rattle.gf_nfg.specs.TableText.{named_by}
-use Rattle.gf_nfg.specs.declared.receive.Version.TheVariants.{Payoffs}
-use Rattle.gf_nfg.proofs.ComparedTables.{if_ok, payoffs_compared, rows_compared, rows_kept}
+use Rattle.gf_nfg.specs.declared.reader.receive.Version.TheVariants.{Payoffs}
+use Rattle.gf_nfg.proofs.lemmas.tables.Compared.{if_ok, payoffs_compared, rows_compared, rows_kept}
 use Rattle.gf_nfg.proofs.comparison.Comparison.is_same.Goals as goal
 
 pub returns-then-eq : goal.returns-then-eq

@@ -5,8 +5,9 @@ use Rattle.gf_nfg.specs.inner.Heard.{heard}
 use Rattle.gf_nfg.specs.inner.Machine.{at}
 use Rattle.gf_nfg.specs.inner.Position.Position.{FirstStrategies}
 use Rattle.gf_nfg.specs.inner.ReaderState.{answer, content_in}
-use Rattle.gf_nfg.proofs.HeardJudged.{carried}
-use Rattle.gf_nfg.proofs.ReaderSteps.{counts_end, first_opens, goes_back, goes_from, goes_to, lists_end}
+use Rattle.gf_nfg.proofs.lemmas.places.Heard.{carried}
+use Rattle.gf_nfg.proofs.lemmas.runs.ReaderSteps.{counts_end, first_opens, goes_back, goes_from}
+use Rattle.gf_nfg.proofs.lemmas.runs.ReaderSteps.{goes_to, lists_end}
 use Rattle.gf_nfg.proofs.reader.Reader.counts_or_lists.Goals as goal
 
 pub returns-in_err-list : goal.returns-in_err-list

@@ -1,7 +1,7 @@
 use Rattle.std.proofs.Common.{rules, ◌-◌, ◌∙◌}
 use Rattle.gf_nfg.specs.inner.ReaderState.{content_in}
-use Rattle.gf_nfg.proofs.HeardJudged.{carried}
-use Rattle.gf_nfg.proofs.ReaderSteps.{goes_back, later_opens}
+use Rattle.gf_nfg.proofs.lemmas.places.Heard.{carried}
+use Rattle.gf_nfg.proofs.lemmas.runs.ReaderSteps.{goes_back, later_opens}
 use Rattle.gf_nfg.proofs.reader.Reader.lists.Goals as goal
 
 pub returns-in_err-list : goal.returns-in_err-list

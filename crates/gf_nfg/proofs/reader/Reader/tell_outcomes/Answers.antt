@@ -3,9 +3,9 @@ use Rattle.std.proofs.lemmas.List.{length-map}
 use Rattle.gf_token.specs.Label.{label_of}
 use Rattle.gf_nfg.specs.inner.ReaderState.{content_told}
 use Rattle.gf_nfg.specs.inner.Told.{choosing, paying, told_heading}
-use Rattle.gf_nfg.specs.declared.receive.Version.TheVariants.{Outcomes}
-use Rattle.gf_nfg.proofs.HeardJudged.{carried}
-use Rattle.gf_nfg.proofs.ReaderSteps.{all_told, ends_back, no_payoffs}
+use Rattle.gf_nfg.specs.declared.reader.receive.Version.TheVariants.{Outcomes}
+use Rattle.gf_nfg.proofs.lemmas.places.Heard.{carried}
+use Rattle.gf_nfg.proofs.lemmas.runs.ReaderSteps.{all_told, ends_back, no_payoffs}
 use Rattle.gf_nfg.proofs.reader.Reader.tell_outcomes.Goals as goal
 
 pub returns-in_err-outcomes : goal.returns-in_err-outcomes

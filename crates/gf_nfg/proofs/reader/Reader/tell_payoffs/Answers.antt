@@ -2,9 +2,9 @@ use Rattle.std.proofs.Common.{◌∙◌, ap, refl, rules, sym}
 use Rattle.gf_nfg.specs.inner.Position.Position.{FlatPayoffs}
 use Rattle.gf_nfg.specs.inner.ReaderState.{content_told, told_answer}
 use Rattle.gf_nfg.specs.inner.Told.{paying, told_heading}
-use Rattle.gf_nfg.specs.declared.receive.Version.TheVariants.{Payoffs}
-use Rattle.gf_nfg.proofs.HeardJudged.{carried}
-use Rattle.gf_nfg.proofs.ReaderSteps.{all_told, ends_back}
+use Rattle.gf_nfg.specs.declared.reader.receive.Version.TheVariants.{Payoffs}
+use Rattle.gf_nfg.proofs.lemmas.places.Heard.{carried}
+use Rattle.gf_nfg.proofs.lemmas.runs.ReaderSteps.{all_told, ends_back}
 use Rattle.gf_nfg.proofs.reader.Reader.tell_payoffs.Goals as goal
 
 pub returns-in_err-payoffs : goal.returns-in_err-payoffs

@@ -3,7 +3,7 @@ use Rattle.gf_nfg.specs.inner.Machine.{at}
 use Rattle.gf_nfg.specs.inner.Position.Position.{OutcomeNumbers}
 use Rattle.gf_nfg.specs.inner.ReaderState.{content_told}
 use Rattle.gf_nfg.specs.inner.Told.{with_number}
-use Rattle.gf_nfg.proofs.HeardJudged.{wants_memory}
+use Rattle.gf_nfg.proofs.lemmas.places.Heard.{wants_memory}
 use Rattle.gf_nfg.proofs.reader.body.number.Goals as goal
 
 pub returns-clause-told : goal.returns-clause-told

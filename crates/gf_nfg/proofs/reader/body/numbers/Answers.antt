@@ -2,8 +2,8 @@ use Rattle.std.proofs.Common.{◌≡◌, ◌∙◌, ap, arith, refl, rules}
 use Rattle.gf_nfg.specs.inner.Position.Position.{OutcomeNumbers}
 use Rattle.gf_nfg.specs.inner.ReaderState.{told_answer}
 use Rattle.gf_nfg.specs.inner.Told.{choosing}
-use Rattle.gf_nfg.proofs.ReaderSteps.{ends_back}
-use Rattle.gf_nfg.proofs.HeardJudged.{carried}
+use Rattle.gf_nfg.proofs.lemmas.runs.ReaderSteps.{ends_back}
+use Rattle.gf_nfg.proofs.lemmas.places.Heard.{carried}
 use Rattle.gf_nfg.proofs.reader.body.numbers.Goals as goal
 
 pub loop-due-init : goal.loop-due-init

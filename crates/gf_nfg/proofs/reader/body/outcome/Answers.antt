@@ -5,8 +5,8 @@ use Rattle.gf_nfg.specs.inner.Machine.{next_outcome}
 use Rattle.gf_nfg.specs.inner.Position.Position.{BracedPayoff, InOutcomes}
 use Rattle.gf_nfg.specs.inner.ReaderState.{told_answer}
 use Rattle.gf_nfg.specs.inner.Told.{paying}
-use Rattle.gf_nfg.proofs.HeardJudged.{carried}
-use Rattle.gf_nfg.proofs.ReaderSteps.{ends_back, outcome_named}
+use Rattle.gf_nfg.proofs.lemmas.places.Heard.{carried}
+use Rattle.gf_nfg.proofs.lemmas.runs.ReaderSteps.{ends_back, outcome_named}
 use Rattle.gf_nfg.proofs.reader.body.outcome.Goals as goal
 
 pub returns-in_err-braced_payoffs-clause-told : goal.returns-in_err-braced_payoffs-clause-told

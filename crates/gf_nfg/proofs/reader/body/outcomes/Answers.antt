@@ -3,8 +3,8 @@ use Rattle.gf_nfg.specs.inner.Machine.{next_outcome}
 use Rattle.gf_nfg.specs.inner.Position.Position.{InOutcomes, OutcomeName}
 use Rattle.gf_nfg.specs.inner.ReaderState.{told_answer}
 use Rattle.gf_nfg.specs.inner.Told.{paying}
-use Rattle.gf_nfg.proofs.HeardJudged.{carried}
-use Rattle.gf_nfg.proofs.ReaderSteps.{ends_back}
+use Rattle.gf_nfg.proofs.lemmas.places.Heard.{carried}
+use Rattle.gf_nfg.proofs.lemmas.runs.ReaderSteps.{ends_back}
 use Rattle.gf_nfg.proofs.reader.body.outcomes.Goals as goal
 
 pub loop-tokens-init : goal.loop-tokens-init

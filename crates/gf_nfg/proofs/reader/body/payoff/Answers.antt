@@ -3,7 +3,7 @@ use Rattle.gf_nfg.specs.inner.Machine.{at}
 use Rattle.gf_nfg.specs.inner.Position.Position.{AfterBracedPayoff, FlatPayoffs}
 use Rattle.gf_nfg.specs.inner.ReaderState.{content_told}
 use Rattle.gf_nfg.specs.inner.Told.{with_payoff}
-use Rattle.gf_nfg.proofs.HeardJudged.{wants_memory}
+use Rattle.gf_nfg.proofs.lemmas.places.Heard.{wants_memory}
 use Rattle.gf_nfg.proofs.reader.body.payoff.Goals as goal
 
 pub returns-in-Ok-payoff-clause-flat : goal.returns-in-Ok-payoff-clause-flat

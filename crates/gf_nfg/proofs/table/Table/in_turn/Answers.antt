@@ -1,5 +1,5 @@
 use Rattle.std.proofs.Common.{◌∙◌, arith}
-use Rattle.gf_nfg.proofs.TableMade.{IsMade, made_counted, made_held, made_is, made_whole}
+use Rattle.gf_nfg.proofs.lemmas.tables.Made.{IsMade, made_counted, made_held, made_is, made_whole}
 use Rattle.gf_nfg.proofs.table.Table.in_turn.Goals as goal
 
 made : (c : goal.After-unwrap_or-profiles) → IsMade c.args.names c.args.rows.items

@@ -1,6 +1,6 @@
 use Rattle.std.proofs.Common.{subst}
 use Rattle.gf_nfg.specs.Table.{IsSpellable}
-use Rattle.gf_nfg.proofs.TableRows.{is_table}
+use Rattle.gf_nfg.proofs.lemmas.tables.Rows.{is_table}
 use Rattle.gf_nfg.proofs.table.Table.names.Goals as goal
 
 pub returns-clause-is_table : goal.returns-clause-is_table

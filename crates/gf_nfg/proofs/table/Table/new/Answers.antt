@@ -2,7 +2,7 @@ use Rattle.std.proofs.Common.{◌∙◌, List, ap, length, subst}
 use Rattle.gf_fraction.specs.Ratio.{Ratio}
 use Rattle.gf_nfg.specs.TableAccess.{IsTableOf}
 use Rattle.gf_nfg.specs.TableParts.{Names}
-use Rattle.gf_nfg.proofs.TableMade.{clones_are, parts_of_lists}
+use Rattle.gf_nfg.proofs.lemmas.tables.Made.{clones_are, parts_of_lists}
 use Rattle.gf_nfg.proofs.table.Table.new.Goals as goal
 
 pub in_turn-requires : goal.in_turn-requires

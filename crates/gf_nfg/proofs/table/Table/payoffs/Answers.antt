@@ -1,6 +1,6 @@
 use Rattle.std.proofs.Common.{◌∙◌, sym, ap, arith, length, map, ℕ, Option, slice_get}
 use Rattle.std.specs.Prelude.{option_and_then}
-use Rattle.gf_nfg.proofs.TablePlaces.{payoffs_found, place_below}
+use Rattle.gf_nfg.proofs.lemmas.tables.Places.{payoffs_found, place_below}
 use Rattle.gf_nfg.proofs.table.Table.payoffs.Goals as goal
 
 pub row-requires : goal.row-requires

@@ -1,4 +1,4 @@
-use Rattle.gf_nfg.proofs.BackSame.{same_play_as_kept}
+use Rattle.gf_nfg.proofs.lemmas.tables.Same.{same_play_as_kept}
 use Rattle.gf_nfg.proofs.table.Table.play_agrees.Goals as goal
 
 pub returns-then-same_names : goal.returns-then-same_names

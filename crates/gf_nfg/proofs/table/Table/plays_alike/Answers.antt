@@ -1,4 +1,4 @@
-use Rattle.gf_nfg.proofs.BackSame.{same_play_as_kept}
+use Rattle.gf_nfg.proofs.lemmas.tables.Same.{same_play_as_kept}
 use Rattle.gf_nfg.proofs.table.Table.plays_alike.Goals as goal
 
 pub returns-in_ok-same_kept_rows : goal.returns-in_ok-same_kept_rows

@@ -1,6 +1,6 @@
 use Rattle.std.proofs.Common.{◌∙◌, sym, ap, subst, arith, length}
 use Rattle.gf_nfg.specs.Table.{IsSpellable}
-use Rattle.gf_nfg.proofs.TableRows.{is_table, length-entries}
+use Rattle.gf_nfg.proofs.lemmas.tables.Rows.{is_table, length-entries}
 use Rattle.gf_nfg.proofs.table.Table.profiles.Goals as goal
 
 pub returns-clause-number : goal.returns-clause-number

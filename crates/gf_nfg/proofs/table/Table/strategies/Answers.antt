@@ -1,5 +1,5 @@
 use Rattle.std.proofs.Common.{arith}
-use Rattle.gf_nfg.proofs.TableRows.{own_count_within}
+use Rattle.gf_nfg.proofs.lemmas.tables.Rows.{own_count_within}
 use Rattle.gf_nfg.proofs.table.Table.strategies.Goals as goal
 
 pub overflow_cast-result : goal.overflow_cast-result

@@ -1,7 +1,7 @@
 use Rattle.std.proofs.Common.{subst}
 use Rattle.gf_nfg.specs.TableAccess.{IsTableOf}
 use Rattle.gf_nfg.specs.TableParts.{Names}
-use Rattle.gf_nfg.proofs.TableMade.{parts_of_labels}
+use Rattle.gf_nfg.proofs.lemmas.tables.Made.{parts_of_labels}
 use Rattle.gf_nfg.proofs.table.Table.with_labels.Goals as goal
 
 pub in_turn-requires : goal.in_turn-requires

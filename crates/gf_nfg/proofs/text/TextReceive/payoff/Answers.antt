@@ -5,8 +5,8 @@ use Rattle.gf_nfg.specs.inner.ReaderState.{content_in}
 use Rattle.gf_nfg.specs.inner.TextParts.{heading_text, names_by}
 use Rattle.gf_nfg.specs.inner.Told.{with_payoff}
 use Rattle.gf_nfg.specs.inner.ToldText.{HasBody}
-use Rattle.gf_nfg.specs.declared.receive.Version.TheVariants.{Outcomes}
-use Rattle.gf_nfg.proofs.ToldTexts.{is_payoffs, line_ends, longer, one_more}
+use Rattle.gf_nfg.specs.declared.reader.receive.Version.TheVariants.{Outcomes}
+use Rattle.gf_nfg.proofs.lemmas.texts.Told.{is_payoffs, line_ends, longer, one_more}
 use Rattle.gf_nfg.proofs.text.TextReceive.payoff.Goals as goal
 
 pub returns-in_ok-write_payoff-clause-told : goal.returns-in_ok-write_payoff-clause-told

@@ -1,7 +1,7 @@
 use Rattle.std.proofs.Common.{ap}
 use Rattle.gf_tree.specs.Game.{Game}
-use Rattle.gf_tree.proofs.GameMade.{its_game}
-use Rattle.gf_tree.proofs.NodeParts.{are_actions, kept_there, no_actions, set_below}
+use Rattle.gf_tree.proofs.lemmas.games.Made.{its_game}
+use Rattle.gf_tree.proofs.lemmas.stores.NodeParts.{are_actions, kept_there, no_actions, set_below}
 use Rattle.gf_tree.proofs.game.Game.actions.Goals as goal
 
 pub returns-then-set-eq0 : goal.returns-then-set-eq0

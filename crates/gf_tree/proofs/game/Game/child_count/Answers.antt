@@ -1,8 +1,8 @@
 use Rattle.std.proofs.Common.{◌∙◌, ap, arith, sym}
 use Rattle.gf_tree.specs.Game.{Game}
 use Rattle.gf_tree.specs.KeptNodes.{child_count}
-use Rattle.gf_tree.specs.declared.kept.Stored.{Stored}
-use Rattle.gf_tree.proofs.GameNodes.{IsTreeOf, as_many, children_there, placed_there}
+use Rattle.gf_tree.specs.declared.game.kept.Stored.{Stored}
+use Rattle.gf_tree.proofs.lemmas.stores.GameNodes.{IsTreeOf, as_many, children_there, placed_there}
 use Rattle.gf_tree.proofs.game.Game.child_count.Goals as goal
 
 pub child_count-requires : goal.child_count-requires

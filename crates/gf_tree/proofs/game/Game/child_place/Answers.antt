@@ -3,8 +3,8 @@ use Rattle.gf_tree.specs.KeptNodes.{sizes_of}
 use Rattle.gf_tree.specs.inner.Skipped.{skipped}
 use Rattle.gf_tree.specs.Subtrees.{subtrees}
 use Rattle.gf_tree.specs.Game.{Game}
-use Rattle.gf_tree.specs.declared.kept.Stored.{Stored}
-use Rattle.gf_tree.proofs.GameNodes.{child_there}
+use Rattle.gf_tree.specs.declared.game.kept.Stored.{Stored}
+use Rattle.gf_tree.proofs.lemmas.stores.GameNodes.{child_there}
 use Rattle.gf_tree.proofs.game.Game.child_place.Goals as goal
 
 pub skip-requires-clause-trees : goal.skip-requires-clause-trees

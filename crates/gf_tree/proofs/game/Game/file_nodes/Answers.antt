@@ -3,9 +3,9 @@ use Rattle.gf_tree.specs.FileNodes.{file_nodes}
 use Rattle.gf_tree.specs.GameCode.{no_node}
 use Rattle.gf_tree.specs.KeptNodes.{entries_with, kept_of}
 use Rattle.gf_tree.specs.inner.KnownUses.{nodes_given}
-use Rattle.gf_tree.specs.declared.kept.Stored.{Stored}
-use Rattle.gf_tree.proofs.GameNodes.{flatten_grown}
-use Rattle.gf_tree.proofs.GivenNodes.{nodes_are_given}
+use Rattle.gf_tree.specs.declared.game.kept.Stored.{Stored}
+use Rattle.gf_tree.proofs.lemmas.stores.GameNodes.{flatten_grown}
+use Rattle.gf_tree.proofs.lemmas.stores.GivenNodes.{nodes_are_given}
 use Rattle.gf_tree.proofs.game.Game.file_nodes.Goals as goal
 
 pub returns : goal.returns

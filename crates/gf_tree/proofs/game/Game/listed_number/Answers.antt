@@ -2,8 +2,8 @@ use Rattle.std.proofs.Common.{ℕ, ap, arith, map}
 use Rattle.std.proofs.Common.{Vec, Global}
 use Rattle.std.proofs.lemmas.List.{length-map}
 use Rattle.gf_tree.specs.Game.{Game, IsGame}
-use Rattle.gf_tree.proofs.GameMade.{its_game}
-use Rattle.gf_tree.proofs.RenumberedStores.{IsFound, found_in, own_items}
+use Rattle.gf_tree.proofs.lemmas.games.Made.{its_game}
+use Rattle.gf_tree.proofs.lemmas.stores.RenumberedStores.{IsFound, found_in, own_items}
 use Rattle.gf_tree.proofs.game.Game.listed_number.Goals as goal
 
 found : (c : goal.After-first_use_number)

@@ -1,6 +1,6 @@
 use Rattle.std.proofs.Common.{ap}
 use Rattle.gf_tree.specs.Game.{Game}
-use Rattle.gf_tree.proofs.NodeParts.{no_set, set_below, is_mover, kept_there}
+use Rattle.gf_tree.proofs.lemmas.stores.NodeParts.{no_set, set_below, is_mover, kept_there}
 use Rattle.gf_tree.proofs.game.Game.mover.Goals as goal
 
 pub returns-then-set-eq0-clause-mover : goal.returns-then-set-eq0-clause-mover

@@ -1,5 +1,5 @@
 use Rattle.gf_tree.specs.KeptNodes.{tree_with}
-use Rattle.gf_tree.proofs.GameNodes.{made_held, shaped}
+use Rattle.gf_tree.proofs.lemmas.stores.GameNodes.{made_held, shaped}
 use Rattle.gf_tree.proofs.game.Game.new.Goals as goal
 
 pub sized-nodes-requires-clause-tree : goal.sized-nodes-requires-clause-tree

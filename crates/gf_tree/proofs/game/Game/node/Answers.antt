@@ -4,9 +4,9 @@ use Rattle.gf_token.specs.Positions.{at_position}
 use Rattle.gf_tree.specs.Description.{Outcome, IsOutcome}
 use Rattle.gf_tree.specs.FiniteMap.{Described}
 use Rattle.gf_tree.specs.Game.{Game}
-use Rattle.gf_tree.specs.declared.kept.Stored.{Stored}
-use Rattle.gf_tree.proofs.GameNodes.{IsTreeOf, as_many, node_there, placed_there}
-use Rattle.gf_tree.proofs.Uses.{all_of_each, each}
+use Rattle.gf_tree.specs.declared.game.kept.Stored.{Stored}
+use Rattle.gf_tree.proofs.lemmas.stores.GameNodes.{IsTreeOf, as_many, node_there, placed_there}
+use Rattle.gf_tree.proofs.lemmas.games.Uses.{all_of_each, each}
 use Rattle.gf_tree.proofs.game.Game.node.Goals as goal
 
 pub step-requires : goal.step-requires

@@ -6,9 +6,9 @@ use Rattle.gf_tree.specs.GameCode.{no_node}
 use Rattle.gf_tree.specs.KeptNodes.{entries_with, kept_of}
 use Rattle.gf_tree.specs.Renumbering.{renumbered}
 use Rattle.gf_tree.specs.Told.{told_from}
-use Rattle.gf_tree.specs.declared.kept.Stored.{Stored}
-use Rattle.gf_tree.proofs.GameNodes.{flatten_grown}
-use Rattle.gf_tree.proofs.ToldNodes.{told_are_given}
+use Rattle.gf_tree.specs.declared.game.kept.Stored.{Stored}
+use Rattle.gf_tree.proofs.lemmas.stores.GameNodes.{flatten_grown}
+use Rattle.gf_tree.proofs.lemmas.reader.ToldNodes.{told_are_given}
 use Rattle.gf_tree.proofs.game.Game.nodes_by_first_use.Goals as goal
 
 pub returns : goal.returns

@@ -2,7 +2,7 @@ use Rattle.std.proofs.Common.{◌∙◌, ap, sym, slice_get}
 use Rattle.std.specs.Prelude.{nat_eq}
 use Rattle.std.proofs.lemmas.Bool.Decides.{Decides-eqb}
 use Rattle.gf_tree.specs.Game.{Game, outcome_at}
-use Rattle.gf_tree.proofs.FoundKeys.{described_at, not_described, outcome_in_parts}
+use Rattle.gf_tree.proofs.lemmas.stores.FoundKeys.{described_at, not_described, outcome_in_parts}
 use Rattle.gf_tree.proofs.game.Game.outcome.Goals as goal
 
 pub returns-in-Some : goal.returns-in-Some

@@ -1,7 +1,7 @@
 use Rattle.std.proofs.Common.{ap}
 use Rattle.gf_tree.specs.Game.{Game}
-use Rattle.gf_tree.proofs.GameMade.{its_game}
-use Rattle.gf_tree.proofs.NodeParts.{kept_there, outcome_position}
+use Rattle.gf_tree.proofs.lemmas.games.Made.{its_game}
+use Rattle.gf_tree.proofs.lemmas.stores.NodeParts.{kept_there, outcome_position}
 use Rattle.gf_tree.proofs.game.Game.outcome_position.Goals as goal
 
 pub returns : goal.returns

@@ -1,8 +1,8 @@
 use Rattle.std.proofs.Common.{ap, arith, get_or, length}
 use Rattle.std.proofs.lemmas.Option.{slice_get-get_or}
 use Rattle.gf_tree.specs.Game.{Game}
-use Rattle.gf_tree.proofs.GameMade.{its_game, listed_outcomes_counted}
-use Rattle.gf_tree.proofs.RenumberedStores.{outcome_absent, outcome_added}
+use Rattle.gf_tree.proofs.lemmas.games.Made.{its_game, listed_outcomes_counted}
+use Rattle.gf_tree.proofs.lemmas.stores.RenumberedStores.{outcome_absent, outcome_added}
 use Rattle.gf_tree.proofs.game.Game.renumbered_outcomes.Goals as goal
 
 pub add_outcome-requires-clause-absent : goal.add_outcome-requires-clause-absent

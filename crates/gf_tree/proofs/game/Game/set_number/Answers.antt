@@ -5,7 +5,7 @@ use Rattle.gf_tree.specs.FiniteMap.{Described}
 use Rattle.gf_tree.specs.FirstUse.{player_keys}
 use Rattle.gf_tree.specs.Game.{Game}
 use Rattle.gf_tree.specs.KnownSets.{known_of}
-use Rattle.gf_tree.proofs.Members.{map_twice}
+use Rattle.gf_tree.proofs.lemmas.games.Members.{map_twice}
 use Rattle.gf_tree.proofs.game.Game.set_number.Goals as goal
 
 pub returns : goal.returns

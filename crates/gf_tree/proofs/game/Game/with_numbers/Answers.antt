@@ -8,9 +8,9 @@ use Rattle.gf_tree.specs.inner.GameParts.{game_with}
 use Rattle.gf_tree.specs.KeptNodes.{kept_of}
 use Rattle.gf_tree.specs.Listed.{listed_numbers}
 use Rattle.gf_tree.specs.Renumbering.{IsRenumbering, renumbered}
-use Rattle.gf_tree.proofs.GameMade.{its_game, renumbered_held}
-use Rattle.gf_tree.proofs.ListedNumbers.{listed_is_renumbering}
-use Rattle.gf_tree.proofs.RenumberedKept.{game_mapped, outcome_image, set_image}
+use Rattle.gf_tree.proofs.lemmas.games.Made.{its_game, renumbered_held}
+use Rattle.gf_tree.proofs.lemmas.games.ListedNumbers.{listed_is_renumbering}
+use Rattle.gf_tree.proofs.lemmas.stores.RenumberedKept.{game_mapped, outcome_image, set_image}
 use Rattle.gf_tree.proofs.game.Game.with_numbers.Goals as goal
 
 pub invariant_of-result : goal.invariant_of-result

@@ -1,4 +1,4 @@
-use Rattle.gf_tree.proofs.DueByShapes.{follow, stand}
+use Rattle.gf_tree.proofs.lemmas.due.ByShapes.{follow, stand}
 use Rattle.gf_tree.proofs.laws.due.due_by_what_follows.Goals as goal
 
 pub returns-clause-follow : goal.returns-clause-follow

@@ -1,6 +1,6 @@
-use Rattle.gf_tree.proofs.DuePayoffs.{new_payoff, known_payoff, after_new_payoff}
-use Rattle.gf_tree.proofs.DuePayoffs.{after_known_payoff, after_last_payoff, no_payoff}
-use Rattle.gf_tree.proofs.FrontJudged.{obeys}
+use Rattle.gf_tree.proofs.lemmas.due.Payoffs.{new_payoff, known_payoff, after_new_payoff}
+use Rattle.gf_tree.proofs.lemmas.due.Payoffs.{after_known_payoff, after_last_payoff, no_payoff}
+use Rattle.gf_tree.proofs.lemmas.fronts.Judged.{obeys}
 use Rattle.gf_tree.proofs.laws.rows.payoffs.Goals as goal
 
 pub returns-clause-braced_payoff : goal.returns-clause-braced_payoff

@@ -1,7 +1,7 @@
-use Rattle.gf_tree.proofs.DueActions.{new_action, new_branch, new_probability, known_action}
-use Rattle.gf_tree.proofs.DueActions.{known_probability, no_action_left}
-use Rattle.gf_tree.proofs.DueNodes.{set_number_due, new_set, known_set, set_opening}
-use Rattle.gf_tree.proofs.FrontJudged.{obeys}
+use Rattle.gf_tree.proofs.lemmas.due.Actions.{new_action, new_branch, new_probability, known_action}
+use Rattle.gf_tree.proofs.lemmas.due.Actions.{known_probability, no_action_left}
+use Rattle.gf_tree.proofs.lemmas.due.Nodes.{set_number_due, new_set, known_set, set_opening}
+use Rattle.gf_tree.proofs.lemmas.fronts.Judged.{obeys}
 use Rattle.gf_tree.proofs.laws.rows.sets.Goals as goal
 
 pub returns-clause-set_number : goal.returns-clause-set_number

@@ -1,6 +1,6 @@
 use Rattle.gf_tree.specs.Description.{set_with}
 use Rattle.gf_tree.specs.inner.ReaderState.{content_of}
-use Rattle.gf_tree.proofs.ReaderSteps.{labelled, wants_memory}
+use Rattle.gf_tree.proofs.lemmas.reader.Steps.{labelled, wants_memory}
 use Rattle.gf_tree.proofs.reader.Reader.action.Goals as goal
 
 pub returns-in-Err-clause-machine : goal.returns-in-Err-clause-machine

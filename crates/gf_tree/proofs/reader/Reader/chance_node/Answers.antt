@@ -1,6 +1,6 @@
 use Rattle.std.proofs.Common.{rules}
 use Rattle.gf_token.specs.Label.{label_of}
-use Rattle.gf_tree.proofs.ReaderSteps.{carried, fails_back}
+use Rattle.gf_tree.proofs.lemmas.reader.Steps.{carried, fails_back}
 use Rattle.gf_tree.proofs.reader.Reader.chance_node.Goals as goal
 
 pub returns-in_err-place-clause-machine : goal.returns-in_err-place-clause-machine

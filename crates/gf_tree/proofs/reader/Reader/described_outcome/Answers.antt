@@ -4,8 +4,8 @@ use Rattle.gf_tree.specs.KeptNodes.{position_of}
 use Rattle.gf_tree.specs.inner.Machine.{with_node}
 use Rattle.gf_tree.specs.inner.Machine.Position.{KnownOutcomeName}
 use Rattle.gf_tree.specs.inner.ReaderState.{begun_with, content_of}
-use Rattle.gf_tree.proofs.ReaderSteps.{wants_memory}
-use Rattle.gf_tree.proofs.Telling.{grows_none, placed_at, tells_again}
+use Rattle.gf_tree.proofs.lemmas.reader.Steps.{wants_memory}
+use Rattle.gf_tree.proofs.lemmas.reader.Telling.{grows_none, placed_at, tells_again}
 use Rattle.gf_tree.proofs.reader.Reader.described_outcome.Goals as goal
 
 pub returns-in_default-tell-clause-machine : goal.returns-in_default-tell-clause-machine

@@ -1,6 +1,6 @@
 use Rattle.gf_tree.specs.Description.{set_of}
 use Rattle.gf_tree.specs.inner.ReaderState.{content_of}
-use Rattle.gf_tree.proofs.ReaderSteps.{set_known_again}
+use Rattle.gf_tree.proofs.lemmas.reader.Steps.{set_known_again}
 use Rattle.gf_tree.proofs.reader.Reader.described_set.Goals as goal
 
 pub returns-in_ok-same_set-in-Some-clause-machine : goal.returns-in_ok-same_set-in-Some-clause-machine

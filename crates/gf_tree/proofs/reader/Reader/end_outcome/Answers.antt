@@ -6,8 +6,8 @@ use Rattle.gf_tree.specs.inner.Machine.{with_node, with_outcome}
 use Rattle.gf_tree.specs.inner.Machine.Position.{NodeDue}
 use Rattle.gf_tree.specs.inner.ReaderState.{begun_with, content_of}
 use Rattle.gf_tree.specs.declared.reader.Reader.{Reader}
-use Rattle.gf_tree.proofs.ReaderSteps.{wants_memory}
-use Rattle.gf_tree.proofs.Telling.{grows_same, placed_at, tells}
+use Rattle.gf_tree.proofs.lemmas.reader.Steps.{wants_memory}
+use Rattle.gf_tree.proofs.lemmas.reader.Telling.{grows_same, placed_at, tells}
 use Rattle.gf_tree.proofs.reader.Reader.end_outcome.Goals as goal
 
 pub returns-in_default-keep_outcome-clause-machine : goal.returns-in_default-keep_outcome-clause-machine

@@ -1,6 +1,6 @@
 use Rattle.std.proofs.Common.{refl}
 use Rattle.gf_tree.specs.inner.ReaderState.{content_with}
-use Rattle.gf_tree.proofs.ReadGames.{whole}
+use Rattle.gf_tree.proofs.lemmas.reader.Games.{whole}
 use Rattle.gf_tree.proofs.reader.Reader.into_listed_game.Goals as goal
 
 pub new-requires-clause-fills : goal.new-requires-clause-fills

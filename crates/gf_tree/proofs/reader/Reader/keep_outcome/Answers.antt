@@ -1,5 +1,6 @@
 use Rattle.gf_token.specs.Label.{label_of}
-use Rattle.gf_tree.proofs.ReaderSteps.{kept_outcome_content, kept_outcome_grows, kept_outcome_key}
+use Rattle.gf_tree.proofs.lemmas.reader.Steps.{kept_outcome_content, kept_outcome_grows}
+use Rattle.gf_tree.proofs.lemmas.reader.Steps.{kept_outcome_key}
 use Rattle.gf_tree.proofs.reader.Reader.keep_outcome.Goals as goal
 
 pub returns-clause-content : goal.returns-clause-content

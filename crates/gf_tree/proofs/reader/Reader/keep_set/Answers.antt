@@ -1,6 +1,6 @@
 use Rattle.gf_token.specs.Label.{label_of}
 use Rattle.gf_tree.specs.Description.{set_of}
-use Rattle.gf_tree.proofs.ReaderSteps.{kept_begun, kept_content, kept_grows}
+use Rattle.gf_tree.proofs.lemmas.reader.Steps.{kept_begun, kept_content, kept_grows}
 use Rattle.gf_tree.proofs.reader.Reader.keep_set.Goals as goal
 
 pub returns-clause-content : goal.returns-clause-content

@@ -4,7 +4,7 @@ use Rattle.gf_tree.specs.Description.{outcome_with}
 use Rattle.gf_tree.specs.KeptNodes.{position_of}
 use Rattle.gf_tree.specs.inner.Machine.Position.{NewPayoff}
 use Rattle.gf_tree.specs.inner.ReaderState.{answer, begun_with}
-use Rattle.gf_tree.proofs.ReaderSteps.{carried, fails_back}
+use Rattle.gf_tree.proofs.lemmas.reader.Steps.{carried, fails_back}
 use Rattle.gf_tree.proofs.reader.Reader.new_outcome.Goals as goal
 
 pub returns-in_err-payoff-clause-machine : goal.returns-in_err-payoff-clause-machine

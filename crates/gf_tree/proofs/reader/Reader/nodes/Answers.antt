@@ -1,5 +1,5 @@
 use Rattle.gf_tree.specs.inner.ReaderState.{heading_read}
-use Rattle.gf_tree.proofs.Telling.{read_one_more}
+use Rattle.gf_tree.proofs.lemmas.reader.Telling.{read_one_more}
 use Rattle.gf_tree.proofs.reader.Reader.nodes.Goals as goal
 
 pub loop-self-preserved : goal.loop-self-preserved

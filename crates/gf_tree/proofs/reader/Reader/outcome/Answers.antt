@@ -4,9 +4,9 @@ use Rattle.gf_tree.specs.KeptNodes.{position_of}
 use Rattle.gf_tree.specs.inner.Machine.{with_node}
 use Rattle.gf_tree.specs.inner.Machine.Position.{KnownOutcomeName, NodeDue}
 use Rattle.gf_tree.specs.inner.ReaderState.{begun_with, content_of}
-use Rattle.gf_tree.proofs.ReaderSteps.{wants_memory}
-use Rattle.gf_tree.proofs.PassedBy.{outcome_passed_by}
-use Rattle.gf_tree.proofs.Telling.{grows_none, placed_at, tells}
+use Rattle.gf_tree.proofs.lemmas.reader.Steps.{wants_memory}
+use Rattle.gf_tree.proofs.lemmas.stores.PassedBy.{outcome_passed_by}
+use Rattle.gf_tree.proofs.lemmas.reader.Telling.{grows_none, placed_at, tells}
 use Rattle.gf_tree.specs.declared.reader.Reader.{Reader}
 use Rattle.gf_token.specs.Next.{is_quoted, starts}
 use Rattle.gf_token.specs.Remaining.{Remaining}

@@ -2,7 +2,7 @@ use Rattle.std.proofs.Common.{◌++◌, [], ◌∷◌, rules}
 use Rattle.gf_tree.specs.Description.{outcome_with}
 use Rattle.gf_tree.specs.inner.Machine.Position.{AfterNewPayoff}
 use Rattle.gf_tree.specs.inner.ReaderState.{content_of}
-use Rattle.gf_tree.proofs.ReaderSteps.{wants_memory}
+use Rattle.gf_tree.proofs.lemmas.reader.Steps.{wants_memory}
 use Rattle.gf_tree.proofs.reader.Reader.payoff.Goals as goal
 
 pub returns-in_default-push-clause-machine : goal.returns-in_default-push-clause-machine

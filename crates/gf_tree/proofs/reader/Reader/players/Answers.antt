@@ -3,7 +3,7 @@ use Rattle.gf_token.specs.Label.{label_of}
 use Rattle.gf_tree.specs.inner.Machine.{with_player}
 use Rattle.gf_tree.specs.inner.Machine.Position.{InPlayers}
 use Rattle.gf_tree.specs.inner.ReaderState.{content_of}
-use Rattle.gf_tree.proofs.ReaderSteps.{wants_memory}
+use Rattle.gf_tree.proofs.lemmas.reader.Steps.{wants_memory}
 use Rattle.gf_tree.proofs.reader.Reader.players.Goals as goal
 
 pub returns-in_default-push-clause-machine : goal.returns-in_default-push-clause-machine

@@ -5,7 +5,7 @@ use Rattle.gf_tree.specs.Description.{set_with}
 use Rattle.gf_tree.specs.inner.Machine.{with_action}
 use Rattle.gf_tree.specs.inner.Machine.Position.{NewAction}
 use Rattle.gf_tree.specs.inner.ReaderState.{content_of}
-use Rattle.gf_tree.proofs.ReaderSteps.{wants_memory}
+use Rattle.gf_tree.proofs.lemmas.reader.Steps.{wants_memory}
 use Rattle.gf_tree.proofs.reader.Reader.probability.Goals as goal
 
 pub returns-in-Err-push-clause-machine : goal.returns-in-Err-push-clause-machine

@@ -2,8 +2,8 @@ use Rattle.std.proofs.Common.{◌∙◌, ap, rules}
 use Rattle.gf_token.specs.Indices.{positive}
 use Rattle.gf_tree.specs.Description.{set_of}
 use Rattle.gf_tree.specs.inner.ReaderState.{content_of}
-use Rattle.gf_tree.proofs.PassedBy.{set_passed_by}
-use Rattle.gf_tree.proofs.ReaderSteps.{set_again, set_known_again, taken}
+use Rattle.gf_tree.proofs.lemmas.stores.PassedBy.{set_passed_by}
+use Rattle.gf_tree.proofs.lemmas.reader.Steps.{set_again, set_known_again, taken}
 use Rattle.gf_tree.proofs.reader.Reader.set.Goals as goal
 
 pub returns-in-Some-described-clause-machine : goal.returns-in-Some-described-clause-machine

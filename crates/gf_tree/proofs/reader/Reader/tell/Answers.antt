@@ -3,7 +3,7 @@ use Rattle.gf_token.specs.Label.{label_of}
 use Rattle.gf_tree.specs.KeptNodes.{Kept, child_count, position_of}
 use Rattle.gf_tree.specs.inner.ReaderState.{content_of}
 use Rattle.gf_tree.specs.Told.{told_node}
-use Rattle.gf_tree.proofs.Telling.{told_goes}
+use Rattle.gf_tree.proofs.lemmas.reader.Telling.{told_goes}
 use Rattle.gf_tree.proofs.reader.Reader.tell.Goals as goal
 
 pub returns-clause-told : goal.returns-clause-told

@@ -3,7 +3,7 @@ use Rattle.std.proofs.Common.{length, map, sym}
 use Rattle.std.proofs.lemmas.List.{length-map, map-append}
 use Rattle.gf_token.specs.Label.{label_of}
 use Rattle.gf_nfg.specs.Profiles.{product}
-use Rattle.gf_nfg.proofs.BackProfiles.{length-profiles}
+use Rattle.gf_nfg.proofs.lemmas.tables.Profiles.{length-profiles}
 use Rattle.gf_form.specs.Strategies.{action_counts, players_of, strategies}
 use Rattle.gf_form.proofs.lemmas.strategies.CountedActions.{as_many_players, no_counts, of_player}
 use Rattle.gf_form.proofs.lemmas.strategies.CountedActions.{one_item_more}

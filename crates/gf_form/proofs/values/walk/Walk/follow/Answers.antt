@@ -2,7 +2,7 @@ use Rattle.std.proofs.Common.{◌∙◌, ◌++◌, [], ◌∷◌, List, ap, sym,
 use Rattle.gf_token.specs.Positions.{at_position}
 use Rattle.gf_tree.specs.Branches.{game_of, tree_of}
 use Rattle.gf_tree.specs.Subtrees.{child_trees, root_node}
-use Rattle.gf_tree.specs.declared.branch.Branch.{Branch}
+use Rattle.gf_tree.specs.declared.game.branch.Branch.{Branch}
 use Rattle.gf_form.specs.inner.values.CodeLeft.{branch_code, code_behind, next_code, opened}
 use Rattle.gf_form.specs.inner.values.CodeLeft.{strategies_of_walk}
 use Rattle.gf_form.specs.inner.values.Program.{paid_at_node}

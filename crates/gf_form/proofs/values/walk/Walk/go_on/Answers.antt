@@ -4,7 +4,7 @@ use Rattle.gf_tree.specs.BranchesLeft.{branches_given, branches_left, game_of_br
 use Rattle.gf_tree.specs.Subtrees.{root_node}
 use Rattle.gf_tree.specs.Tree.{Tree}
 use Rattle.gf_tree.specs.Game.{Node}
-use Rattle.gf_tree.specs.declared.branch.Branch.{Branch}
+use Rattle.gf_tree.specs.declared.game.branch.Branch.{Branch}
 use Rattle.std.specs.Prelude.{◌+◌, Option, ℕ}
 use Rattle.gf_form.specs.inner.values.CodeLeft.{branch_chances, branch_code, code_behind, list_code}
 use Rattle.gf_form.specs.inner.values.CodeLeft.{next_code}

@@ -1,7 +1,7 @@
 use Rattle.std.proofs.Common.{◌∙◌, ◌++◌, [], ◌∷◌, List, ap, sym}
 use Rattle.std.specs.Prelude.{Option}
 use Rattle.gf_fraction.specs.Ratio.{Ratio}
-use Rattle.gf_tree.specs.declared.branch.Branch.{Branch}
+use Rattle.gf_tree.specs.declared.game.branch.Branch.{Branch}
 use Rattle.gf_form.specs.inner.values.CodeLeft.{branch_chances, next_code, opened, rest_code}
 use Rattle.gf_form.specs.inner.values.CodeLeft.{strategies_of_walk}
 use Rattle.gf_form.specs.declared.values.op.Op.{Op}

@@ -1,0 +1,4 @@
+pub mod files
+pub mod numbers
+pub mod sameness
+pub mod texts

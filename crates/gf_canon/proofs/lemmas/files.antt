@@ -1,0 +1,7 @@
+pub mod EitherFormat
+pub mod Formats
+pub mod Headline
+pub mod Judged
+pub mod Refused
+pub mod RefusedOnce
+pub mod Texts

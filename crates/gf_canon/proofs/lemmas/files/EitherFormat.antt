@@ -1,0 +1,135 @@
+-- If a file is refused in its format, it is refused in the language of both: the first token tells
+-- them apart.
+use Rattle.std.proofs.Common.{◌≡◌, ℕ, List, [], ◌∷◌, ◌++◌, Result, Ok, Err, IfErr}
+use Rattle.std.proofs.Common.{refl, sym, ap, ◌∙◌, inl, inr}
+use Rattle.std.specs.Prelude.{codes}
+use Rattle.std.proofs.lemmas.List.{map-append, append-nil}
+use Rattle.gf_token.specs.Place.{tokens_of, IsAccepted, IsAcceptedThrough}
+use Rattle.gf_token.specs.Place.{IsOffendingPlace}
+use Rattle.gf_token.specs.Token.{Token, Lexeme}
+use Rattle.gf_token.specs.TokenSpelling.{Spells}
+use Rattle.gf_token.specs.declared.fault.Fault.{Fault}
+use Rattle.gf_token.specs.declared.fault.Span.{Span}
+use Rattle.gf_token.specs.declared.fault.Why.{Why}
+use Rattle.gf_token.specs.declared.fault.Why.TheVariants.{TooLong}
+use Rattle.gf_token.specs.declared.fault.Why.TheVariants.{UnknownOutcome, TooManyProfiles, Memory}
+use Rattle.gf_nfg.specs.Judgement as strategic_file
+use Rattle.gf_nfg.specs.Sentence.{IsStrategicFile}
+use Rattle.gf_tree.specs.Front.{IsExtensiveFile}
+use Rattle.gf_tree.specs.Judgement as extensive_file
+use Rattle.gf_canon.specs.Judgement.{BeginsWithWord, IsInEitherFormat, IsPlaced}
+use Rattle.gf_canon.proofs.lemmas.files.Formats.{begun_word, extensive_word, first_word}
+use Rattle.gf_canon.proofs.lemmas.files.Formats.{strategic_word}
+use Rattle.gf_canon.proofs.lemmas.files.Formats.{two_words}
+
+-- ---- one language within both
+
+-- a file in this language is one of both, and one of both that begins with this word is one of it
+record IsWithin (word : List ℕ) (IsFile : List Token → Type 0) : Type 1 where
+  pub into : (tokens : List Token) → IsFile tokens → IsInEitherFormat tokens
+  pub back : (tokens : List Token) → first_word tokens ≡ word → IsInEitherFormat tokens
+      → IsFile tokens
+
+extensive_within : IsWithin (codes "EFG") IsExtensiveFile
+extensive_within = record {
+  into = λ tokens file. inl file;
+  back = λ tokens word file. elim file [
+    | inl e ↦ e
+    | inr s ↦ absurd (two_words (sym word ∙ strategic_word tokens s))
+  ];
+}
+
+strategic_within : IsWithin (codes "NFG") IsStrategicFile
+strategic_within = record {
+  into = λ tokens file. inr file;
+  back = λ tokens word file. elim file [
+    | inl e ↦ absurd (two_words (sym (extensive_word tokens e) ∙ word))
+    | inr s ↦ s
+  ];
+}
+
+module _ (word : List ℕ) (IsFile : List Token → Type 0) (within : IsWithin word IsFile) where
+  accepted_into : (before after : List Token) → IsAccepted IsFile before after
+      → IsAccepted IsInEitherFormat before after
+  accepted_into before [] h = within.into before h
+  accepted_into before (token ∷ after) h =
+      (h.0, within.into ((before ++ token ∷ []) ++ h.0) h.1)
+
+  same_front : (before after more : List Token) (token : Token)
+      → first_word ((before ++ token ∷ []) ++ more) ≡ first_word (before ++ token ∷ after)
+  same_front [] after more token = refl
+  same_front (t ∷ before) after more token = refl
+
+  accepted_back : (before after : List Token) → first_word (before ++ after) ≡ word
+      → IsAccepted IsInEitherFormat before after → IsAccepted IsFile before after
+  accepted_back before [] named h =
+      within.back before (ap first_word (sym (append-nil before)) ∙ named) h
+  accepted_back before (token ∷ after) named h =
+      let front = same_front before after h.0 token in
+      (h.0, within.back ((before ++ token ∷ []) ++ h.0) (front ∙ named) h.1)
+
+  named_front : (bytes : List ℕ) (before after : List Lexeme) → BeginsWithWord word bytes
+      → Spells 0 bytes (before ++ after)
+      → first_word (tokens_of before ++ tokens_of after) ≡ word
+  named_front bytes before after named spelled =
+      ap first_word (sym (map-append (λ (l : Lexeme). l.token) before after))
+      ∙ begun_word word bytes (before ++ after) named spelled
+
+  offending : (bytes : List ℕ) (span : Span) → BeginsWithWord word bytes
+      → IsOffendingPlace IsFile bytes span → IsOffendingPlace IsInEitherFormat bytes span
+  offending bytes span named h = record {
+    before = h.before;
+    after = h.after;
+    spelled = h.spelled;
+    place = h.place;
+    begins = (h.begins.0, within.into (tokens_of h.before ++ h.begins.0) h.begins.1);
+    refused = λ accepted. h.refused (accepted_back (tokens_of h.before) (tokens_of h.after)
+        (named_front bytes h.before h.after named h.spelled) accepted);
+  }
+
+  accepted : (bytes : List ℕ) (span : Span)
+      → IsAcceptedThrough IsFile bytes span → IsAcceptedThrough IsInEitherFormat bytes span
+  accepted bytes span h = record {
+    before = h.before;
+    after = h.after;
+    spelled = h.spelled;
+    place = h.place;
+    accepted = accepted_into (tokens_of h.before) (tokens_of h.after) h.accepted;
+  }
+
+-- ---- the place of a refusal
+
+pub extensive_placed : (why : Why) (bytes : List ℕ) (span : Span) → BeginsWithWord (codes "EFG") bytes
+    → extensive_file.IsJudged why bytes span → IsPlaced why bytes span
+extensive_placed Memory bytes span named h =
+    accepted (codes "EFG") IsExtensiveFile extensive_within bytes span h
+extensive_placed TooLong bytes span named h = absurd h
+extensive_placed UnknownOutcome bytes span named h = absurd h
+extensive_placed TooManyProfiles bytes span named h = absurd h
+extensive_placed _ bytes span named h =
+    offending (codes "EFG") IsExtensiveFile extensive_within bytes span named h.place
+
+pub strategic_placed : (why : Why) (bytes : List ℕ) (span : Span) → BeginsWithWord (codes "NFG") bytes
+    → strategic_file.IsJudged why bytes span → IsPlaced why bytes span
+strategic_placed Memory bytes span named h =
+    accepted (codes "NFG") IsStrategicFile strategic_within bytes span h.place
+strategic_placed TooLong bytes span named h = absurd h
+strategic_placed TooManyProfiles bytes span named h = h
+strategic_placed _ bytes span named h =
+    offending (codes "NFG") IsStrategicFile strategic_within bytes span named h.place
+
+-- of an answer
+
+pub game_placed : {A : Type 0} (bytes : List ℕ) (r : Result A Fault)
+    → BeginsWithWord (codes "EFG") bytes
+    → IfErr r (λ fault. extensive_file.IsJudged fault.why bytes fault.span)
+    → IfErr r (λ fault. IsPlaced fault.why bytes fault.span)
+game_placed bytes (Ok a) named h = tt
+game_placed bytes (Err fault) named h = extensive_placed fault.why bytes fault.span named h
+
+pub table_placed : {A : Type 0} (bytes : List ℕ) (r : Result A Fault)
+    → BeginsWithWord (codes "NFG") bytes
+    → IfErr r (λ fault. strategic_file.IsJudged fault.why bytes fault.span)
+    → IfErr r (λ fault. IsPlaced fault.why bytes fault.span)
+table_placed bytes (Ok a) named h = tt
+table_placed bytes (Err fault) named h = strategic_placed fault.why bytes fault.span named h

@@ -1,0 +1,190 @@
+-- The first token of a game file names its format, and no file begins with another.
+use Rattle.std.proofs.Common.{◌≡◌, ◌≢◌, ℕ, true, false, List, [], ◌∷◌, ◌++◌, length}
+use Rattle.std.proofs.Common.{get_or, nat_eq, refl, sym, ap, subst, ◌∙◌, inl, inr, arith}
+use Rattle.std.specs.Prelude.{codes, if◌then◌else◌}
+use Rattle.std.specs.Cmp.Lexicographic.{pointwise}
+use Rattle.std.proofs.lemmas.Slice.Eq.{slice_eq-Decides}
+use Rattle.std.proofs.lemmas.Bool.Decides.{Decides-eqb}
+use Rattle.std.proofs.lemmas.List.{map-append}
+use Rattle.gf_token.specs.Next.{is_bare_token, is_broken, starts}
+use Rattle.gf_token.specs.Place.{tokens_of, Begins, IsAccepted}
+use Rattle.gf_token.specs.Remaining.{refusal}
+use Rattle.gf_token.specs.Token.{Token, Lexeme}
+use Rattle.gf_token.specs.Token.Token.{Opening, Closing, Comma, Text, Bare, Broken}
+use Rattle.gf_token.specs.TokenSpelling.{Spells}
+use Rattle.gf_token.specs.declared.fault.Span.{Span}
+use Rattle.gf_token.specs.declared.fault.What.TheVariants.{Format}
+use Rattle.gf_token.specs.declared.fault.Why.{Why}
+use Rattle.gf_token.specs.declared.fault.Why.TheVariants.{Unterminated, Expected}
+use Rattle.gf_token.proofs.Places.{no_file}
+use Rattle.gf_token.proofs.Spelled.{same_tokens}
+use Rattle.gf_nfg.specs.inner.Machine.{start}
+use Rattle.gf_nfg.specs.Sentence.{IsStrategicFile}
+use Rattle.gf_nfg.proofs.lemmas.places.Walk.{begins as strategic_begins}
+use Rattle.gf_tree.specs.Front.{IsExtensiveFile}
+use Rattle.gf_canon.specs.GameFile.{GameFile, SpellsFile}
+use Rattle.gf_canon.specs.GameFile.GameFile.{extensive, strategic}
+use Rattle.gf_canon.specs.Judgement.{BeginsWithWord, IsFormatReason, IsInEitherFormat}
+use Rattle.gf_canon.specs.Judgement.{IsWithoutFormat}
+
+-- ---- the word that a file begins with
+
+abbrev pub word_at : Token → List ℕ
+word_at (Bare bytes) = bytes
+word_at _ = []
+
+abbrev pub first_word : List Token → List ℕ
+first_word [] = []
+first_word (t ∷ ts) = word_at t
+
+pub two_words : codes "EFG" ≡ codes "NFG" → ⊥
+two_words e =
+    let letters : 69 ≡ 78 = ap (λ bs. get_or bs 0 0) e in
+    omega (arith, letters)
+
+pub extensive_word : (tokens : List Token) → IsExtensiveFile tokens
+    → first_word tokens ≡ codes "EFG"
+extensive_word tokens h = ap first_word h.1.parts
+
+pub strategic_word : (tokens : List Token) → IsStrategicFile tokens
+    → first_word tokens ≡ codes "NFG"
+strategic_word tokens h = ap first_word h.1.parts
+
+-- the tokens that bytes begin with
+pub begun_word : (word bytes : List ℕ) (ls : List Lexeme) → BeginsWithWord word bytes
+    → Spells 0 bytes ls → first_word (tokens_of ls) ≡ word
+begun_word word bytes ls h spelled =
+    let same = same_tokens bytes ls (h.first ∷ h.others) spelled h.spelled in
+    ap (λ (x : List Lexeme). first_word (tokens_of x)) same ∙ ap word_at h.is_word
+
+-- ---- what no file begins with
+
+pub record IsNoFormat (tokens : List Token) : Type 0 where
+  pub not_extensive : first_word tokens ≢ codes "EFG"
+  pub not_strategic : first_word tokens ≢ codes "NFG"
+
+-- no bare token
+pub no_bare : (ls : List Lexeme) → starts is_bare_token ls ≡ false → IsNoFormat (tokens_of ls)
+no_bare [] e = record { not_extensive = λ h. absurd cc; not_strategic = λ h. absurd cc }
+no_bare (l ∷ ls) e = no_bare_at l.token (tokens_of ls) e
+  where
+    no_bare_at : (t : Token) (ts : List Token) → is_bare_token t ≡ false → IsNoFormat (t ∷ ts)
+    no_bare_at (Bare bytes) ts e = absurd cc
+    no_bare_at _ ts e = record { not_extensive = λ h. absurd cc; not_strategic = λ h. absurd cc }
+
+-- a bare token that is neither word
+pub other_word : (bytes : List ℕ) (ts : List Token) → pointwise nat_eq bytes (codes "EFG") ≡ false
+    → pointwise nat_eq bytes (codes "NFG") ≡ false → IsNoFormat (Bare bytes ∷ ts)
+other_word bytes ts e n = record {
+  not_extensive = differs bytes (codes "EFG") e;
+  not_strategic = differs bytes (codes "NFG") n;
+}
+  where
+    differs : (a b : List ℕ) → pointwise nat_eq a b ≡ false → a ≢ b
+    differs a b e = λ same.
+        let equal : pointwise nat_eq a b ≡ true =
+        (slice_eq-Decides Decides-eqb a b (pointwise nat_eq a b) refl).1 same in
+        absurd cc
+
+none_begins : (tokens : List Token) → IsNoFormat tokens → ¬ (IsInEitherFormat tokens)
+none_begins tokens h = λ file. elim file [
+  | inl e ↦ h.not_extensive (extensive_word tokens e)
+  | inr s ↦ h.not_strategic (strategic_word tokens s)
+]
+
+not_accepted : (tokens : List Token) → IsNoFormat tokens
+    → ¬ (IsAccepted IsInEitherFormat [] tokens)
+not_accepted [] h = none_begins [] h
+not_accepted (t ∷ ts) h = λ file. none_begins (t ∷ file.0)
+    (record { not_extensive = h.not_extensive; not_strategic = h.not_strategic }) file.1
+
+-- some file begins
+some_file : Begins IsInEitherFormat []
+some_file =
+    let b = strategic_begins [] start refl in
+    (b.0, inr b.1)
+
+format_reason : (t : Token) (ts : List Token)
+    → IsFormatReason (if is_broken t then Unterminated else Expected Format) (t ∷ ts)
+format_reason Opening ts = refl
+format_reason Closing ts = refl
+format_reason Comma ts = refl
+format_reason (Text label) ts = refl
+format_reason (Bare bytes) ts = refl
+format_reason Broken ts = refl
+
+pub without_format : (bytes : List ℕ) (ls : List Lexeme) → Spells 0 bytes ls
+    → IsNoFormat (tokens_of ls)
+    → IsWithoutFormat (refusal (length bytes) (Expected Format) ls).why bytes
+    (refusal (length bytes) (Expected Format) ls).span
+without_format bytes [] spelled h = record {
+  place = record {
+    before = [];
+    after = [];
+    spelled = spelled;
+    place = (refl, refl);
+    begins = some_file;
+    refused = not_accepted [] h;
+  };
+  at_first = refl;
+  reason = refl;
+}
+without_format bytes (l ∷ ls) spelled h = record {
+  place = record {
+    before = [];
+    after = l ∷ ls;
+    spelled = spelled;
+    place = (refl, refl);
+    begins = some_file;
+    refused = not_accepted (tokens_of (l ∷ ls)) h;
+  };
+  at_first = refl;
+  reason = format_reason l.token (tokens_of ls);
+}
+
+-- ---- files that bytes spell
+
+abbrev pub file_word : GameFile → List ℕ
+file_word (extensive g) = codes "EFG"
+file_word (strategic t) = codes "NFG"
+
+-- their tokens are in one of both formats
+pub record HasTokens (bytes : List ℕ) (x : GameFile) : Type 0 where
+  pub lexemes : List Lexeme
+  pub spelled : Spells 0 bytes lexemes
+  pub file : IsInEitherFormat (tokens_of lexemes)
+  pub word : first_word (tokens_of lexemes) ≡ file_word x
+
+pub tokens_in : (bytes : List ℕ) (x : GameFile) → SpellsFile bytes x → HasTokens bytes x
+tokens_in bytes (extensive g) h =
+    let file : IsExtensiveFile (tokens_of h.0) = (h.2.0, h.2.1, h.2.2) in
+    record {
+      lexemes = h.0;
+      spelled = h.1;
+      file = inl file;
+      word = extensive_word (tokens_of h.0) file;
+    }
+tokens_in bytes (strategic t) h = record {
+  lexemes = h.0;
+  spelled = h.1;
+  file = inr (t, h.2);
+  word = strategic_word (tokens_of h.0) (t, h.2);
+}
+
+pub named_by_word : (word bytes : List ℕ) (x : GameFile) → BeginsWithWord word bytes
+    → SpellsFile bytes x → word ≡ file_word x
+named_by_word word bytes x h spells =
+    let k = tokens_in bytes x spells in
+    sym (begun_word word bytes k.lexemes h k.spelled) ∙ k.word
+
+-- what is refused for its format is not a file
+pub none_without_format : (why : Why) (bytes : List ℕ) (span : Span) (x : GameFile)
+    → IsWithoutFormat why bytes span → SpellsFile bytes x → ⊥
+none_without_format why bytes span x h spells =
+    let k = tokens_in bytes x spells in
+    let p = h.place in
+    let same = same_tokens bytes k.lexemes (p.before ++ p.after) k.spelled p.spelled in
+    let file = subst (λ (ls : List Lexeme). IsInEitherFormat (tokens_of ls)) same k.file in
+    no_file IsInEitherFormat (tokens_of p.before) (tokens_of p.after) p.refused
+    (subst (λ (ts : List Token). IsInEitherFormat ts)
+    (map-append (λ (l : Lexeme). l.token) p.before p.after) file)

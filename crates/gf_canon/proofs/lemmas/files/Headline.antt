@@ -1,0 +1,92 @@
+-- Bytes have one canonical text or one refusal, and equal texts exactly if they mean the same.
+use Rattle.std.proofs.Common.{◌≡◌, ℕ, List, refl, sym, ap, subst, ◌∙◌, inl, inr}
+use Rattle.std.specs.Prelude.{◌↔◌, ◌⊎◌}
+use Rattle.gf_token.specs.declared.fault.Span.{Span}
+use Rattle.gf_token.specs.declared.fault.Why.{Why}
+use Rattle.gf_canon.specs.GameFile.{GameFile, SameFile, SpellsFile, canonical_file, canonical_text}
+use Rattle.gf_canon.specs.GameFile.{file_text}
+use Rattle.gf_canon.specs.GameFile.GameFile.{extensive, strategic}
+use Rattle.gf_canon.specs.Judgement.{IsCanonicalText, IsFileWithinLimit, IsRefused, IsRefusedWith}
+use Rattle.gf_canon.specs.Judgement.{SpellsWithin}
+use Rattle.gf_canon.specs.MeanSame.{MeanSame}
+use Rattle.gf_canon.proofs.lemmas.files.Texts.{canonical_reads_back, equal_canonical_texts}
+use Rattle.gf_canon.proofs.lemmas.files.Texts.{file_twice}
+use Rattle.gf_canon.proofs.lemmas.files.Texts.{is_game_file, spells_one_file}
+use Rattle.gf_canon.proofs.lemmas.files.RefusedOnce.{answered, not_both, placed}
+
+-- ---- a text or a refusal
+
+pub text_or_refusal : (bytes : List ℕ) → ((text : List ℕ) × IsCanonicalText bytes text)
+    ⊎ ((why : Why) × (span : Span) × IsRefused why bytes span)
+text_or_refusal bytes = elim (answered bytes) [
+  | inl means ↦ inl (
+    canonical_text means.0,
+    record { file = means.0; spelled = means.1; is_text = refl },
+  )
+  | inr refused ↦ inr refused
+]
+
+pub never_both : (bytes text : List ℕ) (why : Why) (span : Span) → IsCanonicalText bytes text
+    → ¬ (IsRefused why bytes span)
+never_both bytes text why span p = not_both bytes p.file why span p.spelled
+
+pub refused_with : (bytes : List ℕ) (why : Why) (span : Span) → IsRefused why bytes span
+    → IsRefusedWith bytes (record { span = span; why = why })
+refused_with bytes why span h = record {
+  judged = h.1;
+  placed = placed bytes why span h;
+  unless_memory = λ x spells. absurd (not_both bytes x why span spells h);
+}
+
+-- ---- texts
+
+pub one_text : (bytes text other : List ℕ) → IsCanonicalText bytes text
+    → IsCanonicalText bytes other → text ≡ other
+one_text bytes text other p q =
+    p.is_text
+    ∙ ap canonical_text
+    (spells_one_file bytes p.file q.file p.spelled.spelled q.spelled.spelled)
+    ∙ sym q.is_text
+
+limit_kept : (x : GameFile) → IsFileWithinLimit x → IsFileWithinLimit (canonical_file x)
+limit_kept (extensive g) within = within
+limit_kept (strategic t) within = within
+
+pub own_text : (bytes text : List ℕ) → IsCanonicalText bytes text → IsCanonicalText text text
+own_text bytes text p = record {
+  file = canonical_file p.file;
+  spelled = record {
+    spelled = subst (λ (ts : List ℕ). SpellsFile ts (canonical_file p.file)) (sym p.is_text)
+        (canonical_reads_back bytes p.file p.spelled.spelled);
+    within = limit_kept p.file p.spelled.within;
+  };
+  is_text = p.is_text
+      ∙ ap file_text (sym (file_twice p.file (is_game_file bytes p.file p.spelled.spelled)));
+}
+
+-- ---- the same meaning
+
+pub same_exactly : (a b : List ℕ) (x y : GameFile) → SpellsWithin a x → SpellsWithin b y
+    → MeanSame a b ↔ SameFile x y
+same_exactly a b x y of_x of_y = (
+  λ m. subst (λ (z : GameFile). SameFile x z)
+      (spells_one_file b m.second y m.second_spelled.spelled of_y.spelled)
+      (subst (λ (z : GameFile). SameFile z m.second)
+      (spells_one_file a m.first x m.first_spelled.spelled of_x.spelled) m.same),
+  λ same. record {
+    first = x;
+    second = y;
+    first_spelled = of_x;
+    second_spelled = of_y;
+    same = same;
+  },
+)
+
+pub equal_exactly : (a b s t : List ℕ) → IsCanonicalText a s → IsCanonicalText b t
+    → (s ≡ t) ↔ MeanSame a b
+equal_exactly a b s t p q =
+    let texts = equal_canonical_texts a b p.file q.file p.spelled.spelled q.spelled.spelled in
+    let means = same_exactly a b p.file q.file p.spelled q.spelled in (
+      λ e. means.1 (texts.0 (sym p.is_text ∙ e ∙ q.is_text)),
+      λ m. p.is_text ∙ texts.1 (means.0 m) ∙ sym q.is_text,
+    )

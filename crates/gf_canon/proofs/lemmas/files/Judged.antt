@@ -1,0 +1,78 @@
+-- What the bytes of a file are answered with: its canonical text, or out of memory.
+use Rattle.std.proofs.Common.{◌≡◌, ℕ, List, [], length, Result, Ok, Err, IfOk, IfErr, IsErrAnd}
+use Rattle.std.proofs.Common.{MatchResult, refl, sym, ap, subst, ◌∙◌, append-nil}
+use Rattle.std.specs.Prelude.{codes}
+use Rattle.gf_token.specs.Token.{Lexeme}
+use Rattle.gf_token.specs.TokenSpelling.{Spells}
+use Rattle.gf_token.specs.declared.fault.Fault.{Fault}
+use Rattle.gf_token.specs.declared.fault.Why.TheVariants.{Memory}
+use Rattle.gf_nfg.specs.LimitPlace.{IsWithinLimit}
+use Rattle.gf_nfg.specs.Table.{Table}
+use Rattle.gf_nfg.specs.TableText.{SpellsTable}
+use Rattle.gf_nfg.specs.Judgement as strategic_file
+use Rattle.gf_nfg.proofs.lemmas.places.Judged.{memory_at_end}
+use Rattle.gf_tree.specs.Game.{Game}
+use Rattle.gf_tree.specs.GameOf.{SpellsGame}
+use Rattle.gf_tree.specs.Judgement as extensive_file
+use Rattle.gf_canon.specs.GameFile.{GameFile, SpellsFile, canonical_text}
+use Rattle.gf_canon.specs.GameFile.GameFile.{extensive, strategic}
+use Rattle.gf_canon.specs.Judgement.{BeginsWithWord, IsTextBy, IsWithoutFormat, SpellsWithin}
+use Rattle.gf_canon.specs.NamesAside.{file_by}
+use Rattle.gf_canon.specs.declared.sameness.Names.{Names}
+use Rattle.gf_canon.proofs.lemmas.files.Texts.{spells_one_file}
+use Rattle.gf_canon.proofs.lemmas.files.Formats.{named_by_word, none_without_format, two_words}
+
+-- ---- if memory runs out after the last token
+
+abbrev pub wants_memory : List ℕ → Fault
+wants_memory bytes =
+    record { span = record { start = length bytes; end = length bytes }; why = Memory }
+
+pub table_accepted : (bytes : List ℕ) (t : Table) (fault : Fault) → SpellsTable bytes t
+    → IsWithinLimit t → fault ≡ wants_memory bytes
+    → strategic_file.IsJudged fault.why bytes fault.span
+table_accepted bytes t fault h within is = memory_at_end bytes t fault Memory h within is refl
+
+-- ---- what is answered
+
+pub refused_with : {A : Type 0} (P : Fault → Type 0) (r : Result A Fault) (fault : Fault)
+    → IsErrAnd r (λ e. e ≡ fault) → P fault → IfErr r P
+refused_with P (Ok a) fault is h = absurd is
+refused_with P (Err e) fault is h = subst P (sym is) h
+
+-- items : what the text of an answer has
+module _ {A : Type 0} (items : A → List ℕ) (names : Names) where
+  abbrev pub IsTextOf : Result A Fault → GameFile → Type 0
+  IsTextOf r x =
+      MatchResult r (λ a. items a ≡ canonical_text (file_by names x)) (λ fault. fault.why ≡ Memory)
+
+  one_text : (bytes text : List ℕ) (x : GameFile) → IsTextBy names bytes text
+      → SpellsFile bytes x → text ≡ canonical_text (file_by names x)
+  one_text bytes text x h spells =
+      h.is_text
+      ∙ ap (λ y. canonical_text (file_by names y))
+      (spells_one_file bytes h.file x h.spelled.spelled spells)
+
+  pub only_game : (bytes : List ℕ) (r : Result A Fault) (x : GameFile)
+      → BeginsWithWord (codes "EFG") bytes → IfOk r (λ a. IsTextBy names bytes (items a))
+      → IfErr r (λ fault. (g : Game) → SpellsGame bytes g → fault.why ≡ Memory)
+      → SpellsWithin bytes x → IsTextOf r x
+  only_game bytes (Ok a) x named text memory h = one_text bytes (items a) x text h.spelled
+  only_game bytes (Err fault) (extensive g) named text memory h = memory g h.spelled
+  only_game bytes (Err fault) (strategic t) named text memory h =
+      absurd (two_words (named_by_word (codes "EFG") bytes (strategic t) named h.spelled))
+
+  pub only_table : (bytes : List ℕ) (r : Result A Fault) (x : GameFile)
+      → BeginsWithWord (codes "NFG") bytes → IfOk r (λ a. IsTextBy names bytes (items a))
+      → IfErr r (λ fault. (t : Table) → SpellsTable bytes t → IsWithinLimit t
+      → fault.why ≡ Memory)
+      → SpellsWithin bytes x → IsTextOf r x
+  only_table bytes (Ok a) x named text memory h = one_text bytes (items a) x text h.spelled
+  only_table bytes (Err fault) (strategic t) named text memory h = memory t h.spelled h.within
+  only_table bytes (Err fault) (extensive g) named text memory h =
+      absurd (two_words (sym (named_by_word (codes "NFG") bytes (extensive g) named h.spelled)))
+
+  pub only_without_format : (bytes : List ℕ) (r : Result A Fault) (fault : Fault) (x : GameFile)
+      → IsWithoutFormat fault.why bytes fault.span → SpellsWithin bytes x → IsTextOf r x
+  only_without_format bytes r fault x h spells =
+      absurd (none_without_format fault.why bytes fault.span x h spells.spelled)

@@ -1,0 +1,72 @@
+-- How a file is refused, by the refusal of its format.
+use Rattle.std.proofs.Common.{◌≡◌, ℕ, List, ◌∷◌, Err, subst, sym, ◌⊎◌, inl, inr}
+use Rattle.std.specs.Prelude.{codes}
+use Rattle.gf_token.specs.Place.{tokens_of}
+use Rattle.gf_token.specs.Token.{Token}
+use Rattle.gf_token.specs.Token.Token.{Broken}
+use Rattle.gf_token.specs.declared.fault.Fault.{Fault}
+use Rattle.gf_token.specs.declared.fault.Span.{Span}
+use Rattle.gf_token.specs.declared.fault.What.TheVariants.{Format}
+use Rattle.gf_token.specs.declared.fault.Why.{Why}
+use Rattle.gf_token.specs.declared.fault.Why.TheVariants.{Expected, Memory, Unterminated}
+use Rattle.gf_nfg.specs.Judgement as strategic_file
+use Rattle.gf_nfg.specs.LimitPlace.{IsWithinLimit}
+use Rattle.gf_nfg.specs.Table.{Table}
+use Rattle.gf_nfg.specs.TableText.{SpellsTable}
+use Rattle.gf_tree.specs.Game.{Game}
+use Rattle.gf_tree.specs.GameOf.{SpellsGame}
+use Rattle.gf_tree.specs.Judgement as extensive_file
+use Rattle.gf_canon.specs.Judgement.{BeginsWithWord, IsFormatReason, IsPlaced, IsRefusedWith}
+use Rattle.gf_canon.specs.Judgement.{IsWithoutFormat}
+use Rattle.gf_canon.specs.Judgement.IsJudged.{of_extensive, of_neither, of_strategic}
+use Rattle.gf_canon.specs.declared.sameness.Names.TheVariants.{Kept}
+use Rattle.gf_canon.proofs.lemmas.files.EitherFormat.{extensive_placed, strategic_placed}
+use Rattle.gf_canon.proofs.lemmas.files.Judged.{only_game, only_table}
+use Rattle.gf_canon.proofs.lemmas.files.Formats.{none_without_format}
+
+-- for its format
+
+pub reason_at_first : (why : Why) (ts : List Token) → IsFormatReason why ts
+    → (why ≡ Unterminated) ⊎ (why ≡ Expected Format)
+reason_at_first why (Broken ∷ after) e = inl e
+reason_at_first why _ e = inr e
+
+pub placed_at_first : (why : Why) (bytes : List ℕ) (span : Span) → IsWithoutFormat why bytes span
+    → IsPlaced why bytes span
+placed_at_first why bytes span h = by (reason_at_first why (tokens_of h.place.after) h.reason)
+  where
+    by : (why ≡ Unterminated) ⊎ (why ≡ Expected Format) → IsPlaced why bytes span
+    by (inl e) = subst (λ (w : Why). IsPlaced w bytes span) (sym e) h.place
+    by (inr e) = subst (λ (w : Why). IsPlaced w bytes span) (sym e) h.place
+
+pub refused_at_first : (bytes : List ℕ) (fault : Fault)
+    → IsWithoutFormat fault.why bytes fault.span → IsRefusedWith bytes fault
+refused_at_first bytes fault h = record {
+  judged = of_neither h;
+  placed = placed_at_first fault.why bytes fault.span h;
+  unless_memory = λ x spells.
+      absurd (none_without_format fault.why bytes fault.span x h spells.spelled);
+}
+
+-- in its format
+
+pub refused_game : (bytes : List ℕ) (fault : Fault) → BeginsWithWord (codes "EFG") bytes
+    → extensive_file.IsJudged fault.why bytes fault.span
+    → ((g : Game) → SpellsGame bytes g → fault.why ≡ Memory) → IsRefusedWith bytes fault
+refused_game bytes fault named judged memory = record {
+  judged = of_extensive named judged;
+  placed = extensive_placed fault.why bytes fault.span named judged;
+  unless_memory = λ x spells.
+      only_game {A = List ℕ} (λ text. text) Kept bytes (Err fault) x named tt memory spells;
+}
+
+pub refused_table : (bytes : List ℕ) (fault : Fault) → BeginsWithWord (codes "NFG") bytes
+    → strategic_file.IsJudged fault.why bytes fault.span
+    → ((t : Table) → SpellsTable bytes t → IsWithinLimit t → fault.why ≡ Memory)
+    → IsRefusedWith bytes fault
+refused_table bytes fault named judged memory = record {
+  judged = of_strategic named judged;
+  placed = strategic_placed fault.why bytes fault.span named judged;
+  unless_memory = λ x spells.
+      only_table {A = List ℕ} (λ text. text) Kept bytes (Err fault) x named tt memory spells;
+}

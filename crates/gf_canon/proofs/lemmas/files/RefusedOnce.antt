@@ -1,0 +1,214 @@
+-- Each list of bytes means a file of one format, or is refused at one place with one code.
+use Rattle.std.proofs.Common.{◌≡◌, ℕ, Bool, true, false, List, [], ◌∷◌, ◌++◌, length, refl, sym, ap}
+use Rattle.std.proofs.Common.{subst, ◌∙◌, inl, inr, nat_eq}
+use Rattle.std.specs.Prelude.{◌⊎◌, codes}
+use Rattle.std.specs.Cmp.Lexicographic.{pointwise}
+use Rattle.gf_token.specs.Code.{code_of}
+use Rattle.gf_token.specs.Next.{is_bare_token}
+use Rattle.gf_token.specs.Place.{tokens_of, IsAccepted, IsSpanOf, MayFollow}
+use Rattle.gf_token.specs.Remaining.{refusal}
+use Rattle.gf_token.specs.Token.{Token, Lexeme}
+use Rattle.gf_token.specs.Token.Token.{Bare, Broken}
+use Rattle.gf_token.specs.TokenSpelling.{Spells}
+use Rattle.gf_token.specs.declared.fault.Span.{Span}
+use Rattle.gf_token.specs.declared.fault.What.TheVariants.{Format}
+use Rattle.gf_token.specs.declared.fault.Why.{Why}
+use Rattle.gf_token.specs.declared.fault.Why.TheVariants.{Expected, Memory}
+use Rattle.gf_token.proofs.Places.{one_offending_place, one_span}
+use Rattle.gf_token.proofs.Spelled.{same_tokens, spelled_once}
+use Rattle.gf_nfg.specs.inner.Machine.{start}
+use Rattle.gf_nfg.proofs.lemmas.places.AllBytes.{answered as table_answered}
+use Rattle.gf_nfg.proofs.lemmas.places.Once.{not_both as not_table_and_refused}
+use Rattle.gf_nfg.proofs.lemmas.places.Once.{refused_once as table_refused_once}
+use Rattle.gf_nfg.proofs.lemmas.places.Walk.{follows as strategic_follows}
+use Rattle.gf_tree.specs.inner.Machine.{at, nothing}
+use Rattle.gf_tree.specs.inner.Machine.Position.{Format as AtFormat}
+use Rattle.gf_tree.proofs.lemmas.reasons.RefusedOnce.{answered as game_answered}
+use Rattle.gf_tree.proofs.lemmas.reasons.RefusedOnce.{not_both as not_game_and_refused}
+use Rattle.gf_tree.proofs.lemmas.reasons.RefusedOnce.{refused_once as game_refused_once}
+use Rattle.gf_tree.proofs.lemmas.runs.Places.{follows as extensive_follows}
+use Rattle.gf_tree.proofs.lemmas.runs.Tokens.{same_bytes}
+use Rattle.gf_canon.specs.GameFile.{GameFile}
+use Rattle.gf_canon.specs.GameFile.GameFile.{extensive, strategic}
+use Rattle.gf_canon.specs.Judgement.{BeginsWithWord, IsFormatReason, IsInEitherFormat, IsJudged}
+use Rattle.gf_canon.specs.Judgement.{IsPlaced, IsRefused, IsWithoutFormat, MeansFile, SpellsWithin}
+use Rattle.gf_canon.specs.Judgement.IsJudged.{of_extensive, of_neither, of_strategic}
+use Rattle.gf_canon.proofs.lemmas.files.EitherFormat.{extensive_placed, strategic_placed}
+use Rattle.gf_canon.proofs.lemmas.files.Formats.{IsNoFormat, begun_word, named_by_word, no_bare}
+use Rattle.gf_canon.proofs.lemmas.files.Formats.{none_without_format, other_word, two_words}
+use Rattle.gf_canon.proofs.lemmas.files.Formats.{without_format}
+use Rattle.gf_canon.proofs.lemmas.files.Formats.{word_at}
+use Rattle.gf_canon.proofs.lemmas.files.Refused.{placed_at_first, reason_at_first}
+
+-- ---- an answer to all bytes
+
+abbrev Answered : List ℕ → Type 0
+Answered bytes = MeansFile bytes ⊎ ((why : Why) × (span : Span) × IsRefused why bytes span)
+
+game_or_refused : (bytes : List ℕ) → BeginsWithWord (codes "EFG") bytes → Answered bytes
+game_or_refused bytes named = elim (game_answered bytes) [
+  | inl game ↦ inl (extensive game.0, record { spelled = game.1; within = tt })
+  | inr refused ↦
+      inr (refused.0, refused.1, (refused.2.0, of_extensive named refused.2.1))
+]
+
+table_or_refused : (bytes : List ℕ) → BeginsWithWord (codes "NFG") bytes → Answered bytes
+table_or_refused bytes named = elim (table_answered bytes) [
+  | inl table ↦ inl (strategic table.0, record { spelled = table.1; within = table.2 })
+  | inr refused ↦
+      inr (refused.0, refused.1, (refused.2.0, of_strategic named refused.2.1))
+]
+
+not_memory : (why : Why) (bytes : List ℕ) (span : Span) → IsWithoutFormat why bytes span
+    → ¬ (why ≡ Memory)
+not_memory why bytes span h =
+    λ e. elim (reason_at_first why (tokens_of h.place.after) h.reason) [
+      | inl broken ↦ cc
+      | inr expected ↦ cc
+    ]
+
+refused_at_first : (bytes : List ℕ) (ls : List Lexeme) → Spells 0 bytes ls
+    → IsNoFormat (tokens_of ls) → Answered bytes
+refused_at_first bytes ls spelled h =
+    let fault = refusal (length bytes) (Expected Format) ls in
+    let without = without_format bytes ls spelled h in
+    inr (
+      fault.why,
+      fault.span,
+      (not_memory fault.why bytes fault.span without, of_neither without),
+    )
+
+by_word : (bytes : List ℕ) (l : Lexeme) (ls : List Lexeme) (word : List ℕ) (is_tree is_table : Bool)
+    → Spells 0 bytes (l ∷ ls) → l.token ≡ Bare word → pointwise nat_eq word (codes "EFG") ≡ is_tree
+    → pointwise nat_eq word (codes "NFG") ≡ is_table → Answered bytes
+by_word bytes l ls word true is_table spelled is tree table = game_or_refused bytes (record {
+  first = l;
+  others = ls;
+  spelled = spelled;
+  is_word = is ∙ ap Bare (same_bytes word (codes "EFG") tree);
+})
+by_word bytes l ls word false true spelled is tree table = table_or_refused bytes (record {
+  first = l;
+  others = ls;
+  spelled = spelled;
+  is_word = is ∙ ap Bare (same_bytes word (codes "NFG") table);
+})
+by_word bytes l ls word false false spelled is tree table = refused_at_first bytes (l ∷ ls) spelled
+    (subst (λ (t : Token). IsNoFormat (t ∷ tokens_of ls)) (sym is)
+    (other_word word (tokens_of ls) tree table))
+
+by_token : (bytes : List ℕ) (l : Lexeme) (ls : List Lexeme) (t : Token) → Spells 0 bytes (l ∷ ls)
+    → l.token ≡ t → Answered bytes
+by_token bytes l ls (Bare word) spelled is =
+    by_word bytes l ls word (pointwise nat_eq word (codes "EFG"))
+    (pointwise nat_eq word (codes "NFG")) spelled is refl refl
+by_token bytes l ls _ spelled is =
+    refused_at_first bytes (l ∷ ls) spelled (no_bare (l ∷ ls) (ap is_bare_token is))
+
+by_first : (bytes : List ℕ) (ls : List Lexeme) → Spells 0 bytes ls → Answered bytes
+by_first bytes [] spelled = refused_at_first bytes [] spelled (no_bare [] refl)
+by_first bytes (l ∷ ls) spelled = by_token bytes l ls l.token spelled refl
+
+pub answered : (bytes : List ℕ) → Answered bytes
+answered bytes = let spelled = spelled_once bytes in by_first bytes spelled.0 spelled.1
+
+-- ---- no two answers
+
+two_formats : (bytes : List ℕ) → BeginsWithWord (codes "EFG") bytes
+    → BeginsWithWord (codes "NFG") bytes → ⊥
+two_formats bytes h k =
+    two_words (sym (begun_word (codes "EFG") bytes (k.first ∷ k.others) h k.spelled)
+    ∙ ap word_at k.is_word)
+
+-- some file begins with a word that names a format
+named_format : (word bytes : List ℕ) (why : Why) (span : Span)
+    → MayFollow IsInEitherFormat [] (Bare word) → BeginsWithWord word bytes
+    → IsWithoutFormat why bytes span → ⊥
+named_format word bytes why span begins named h =
+    let place = h.place in
+    let first : place.after ≡ named.first ∷ named.others =
+    ap (λ (ls : List Lexeme). ls ++ place.after) (sym h.at_first)
+    ∙ same_tokens bytes (place.before ++ place.after) (named.first ∷ named.others) place.spelled
+    named.spelled in
+    let at_first : ¬ (IsAccepted IsInEitherFormat [] (tokens_of place.after)) =
+    subst (λ (ls : List Lexeme).
+    ¬ (IsAccepted IsInEitherFormat (tokens_of ls) (tokens_of place.after))) h.at_first place.refused in
+    let refused : ¬ (MayFollow IsInEitherFormat [] named.first.token) =
+    subst (λ (ls : List Lexeme). ¬ (IsAccepted IsInEitherFormat [] (tokens_of ls))) first at_first in
+    refused (subst (λ (t : Token). MayFollow IsInEitherFormat [] t) (sym named.is_word) begins)
+
+extensive_format : (bytes : List ℕ) (why : Why) (span : Span) → BeginsWithWord (codes "EFG") bytes
+    → IsWithoutFormat why bytes span → ⊥
+extensive_format bytes why span =
+    let file = extensive_follows [] (Bare (codes "EFG")) (at AtFormat nothing) _ refl
+    refl in
+    named_format (codes "EFG") bytes why span (file.0, inl file.1)
+
+strategic_format : (bytes : List ℕ) (why : Why) (span : Span) → BeginsWithWord (codes "NFG") bytes
+    → IsWithoutFormat why bytes span → ⊥
+strategic_format bytes why span =
+    let file = strategic_follows [] (Bare (codes "NFG")) start _ refl refl in
+    named_format (codes "NFG") bytes why span (file.0, inr file.1)
+
+one_reason : (why other : Why) (ts : List Token) → IsFormatReason why ts → IsFormatReason other ts
+    → why ≡ other
+one_reason why other (Broken ∷ after) h k = h ∙ sym k
+one_reason why other _ h k = h ∙ sym k
+
+without_format_once : (bytes : List ℕ) (why other : Why) (span place : Span)
+    → IsWithoutFormat why bytes span → IsWithoutFormat other bytes place
+    → (span ≡ place) × (code_of why ≡ code_of other)
+without_format_once bytes why other span place h k =
+    let same = one_offending_place IsInEitherFormat bytes span place h.place k.place in (
+      one_span h.place.after (length bytes) span place h.place.place
+          (subst (λ (ls : List Lexeme). IsSpanOf ls (length bytes) place) (sym same.1)
+          k.place.place),
+      ap code_of (one_reason why other (tokens_of h.place.after) h.reason
+          (subst (λ (ls : List Lexeme). IsFormatReason other (tokens_of ls)) (sym same.1)
+          k.reason)),
+    )
+
+pub refused_once : (bytes : List ℕ) (why other : Why) (span place : Span)
+    → IsRefused why bytes span → IsRefused other bytes place
+    → (span ≡ place) × (code_of why ≡ code_of other)
+refused_once bytes why other span place h k = by h.1 k.1
+  where
+    by : IsJudged why bytes span → IsJudged other bytes place
+        → (span ≡ place) × (code_of why ≡ code_of other)
+    by (of_extensive n a) (of_extensive m b) =
+        game_refused_once bytes why other span place (h.0, a) (k.0, b)
+    by (of_strategic n a) (of_strategic m b) =
+        table_refused_once bytes why other span place (h.0, a) (k.0, b)
+    by (of_neither a) (of_neither b) = without_format_once bytes why other span place a b
+    by (of_extensive n a) (of_strategic m b) = absurd (two_formats bytes n m)
+    by (of_strategic n a) (of_extensive m b) = absurd (two_formats bytes m n)
+    by (of_extensive n a) (of_neither b) = absurd (extensive_format bytes other place n b)
+    by (of_neither a) (of_extensive m b) = absurd (extensive_format bytes why span m a)
+    by (of_strategic n a) (of_neither b) = absurd (strategic_format bytes other place n b)
+    by (of_neither a) (of_strategic m b) = absurd (strategic_format bytes why span m a)
+
+pub not_both : (bytes : List ℕ) (x : GameFile) (why : Why) (span : Span) → SpellsWithin bytes x
+    → ¬ (IsRefused why bytes span)
+not_both bytes x why span spells h = by x spells h.1
+  where
+    by : (x : GameFile) → SpellsWithin bytes x → IsJudged why bytes span → ⊥
+    by (extensive g) spells (of_extensive named judged) =
+        not_game_and_refused bytes g why span spells.spelled (h.0, judged)
+    by (strategic t) spells (of_strategic named judged) =
+        not_table_and_refused bytes t why span spells.spelled spells.within (h.0, judged)
+    by (strategic t) spells (of_extensive named judged) =
+        two_words (named_by_word (codes "EFG") bytes (strategic t) named spells.spelled)
+    by (extensive g) spells (of_strategic named judged) =
+        two_words (sym (named_by_word (codes "NFG") bytes (extensive g) named spells.spelled))
+    by x spells (of_neither judged) = none_without_format why bytes span x judged spells.spelled
+
+-- ---- the place, in the language of both formats
+
+pub placed : (bytes : List ℕ) (why : Why) (span : Span) → IsRefused why bytes span
+    → IsPlaced why bytes span
+placed bytes why span h = by h.1
+  where
+    by : IsJudged why bytes span → IsPlaced why bytes span
+    by (of_extensive named judged) = extensive_placed why bytes span named judged
+    by (of_strategic named judged) = strategic_placed why bytes span named judged
+    by (of_neither without) = placed_at_first why bytes span without

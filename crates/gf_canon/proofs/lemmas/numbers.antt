@@ -1,0 +1,5 @@
+pub mod Canonical
+pub mod CarriedPairs
+pub mod InOrder
+pub mod Noted
+pub mod PairsInTurn

@@ -1,0 +1,177 @@
+-- The canonical numbers as lists.
+use Rattle.std.proofs.Common.{◌≡◌, ℕ, zero, suc, ◌+◌, ◌<◌, ◌≤◌, ◌^◌, Bool, true, false, List, []}
+use Rattle.std.proofs.Common.{◌∷◌, ◌++◌, length, map, get_or, filter, nat_eq, Vec, Global, inl, inr}
+use Rattle.std.proofs.Common.{refl, sym, ap, ◌∙◌, arith}
+use Rattle.std.specs.Prelude.{◌==◌}
+use Rattle.std.specs.List.{AllByRecursion}
+use Rattle.std.proofs.lemmas.Bool.{both_ways, ne_eqb}
+use Rattle.std.proofs.lemmas.Bool.Decides.{Decides-eqb}
+use Rattle.std.proofs.lemmas.List.{get_or-map, length-map, map-append}
+use Rattle.gf_nfg.specs.Profiles.{numbers_from, positions}
+use Rattle.gf_nfg.proofs.lemmas.tables.NumbersInTurn.{get_or-numbers_from, length-numbers_from}
+use Rattle.gf_nfg.proofs.lemmas.tables.NumbersInTurn.{numbers_joined}
+use Rattle.gf_tree.specs.Description.{InformationSet, SetKey, same_set}
+use Rattle.gf_tree.specs.FiniteMap.{Described}
+use Rattle.gf_tree.specs.FirstUse.{first_use_numbers, outcome_numbers, player_keys}
+use Rattle.gf_tree.specs.Game.{Game, IsGame, used_outcomes}
+use Rattle.gf_tree.specs.Listed.{AreListed, AreNumbers, listed_numbers, number_listed}
+use Rattle.gf_tree.specs.Renumbering.{renumbered}
+use Rattle.gf_tree.specs.Spellable.{IsSpellable, IsSpellableSet}
+use Rattle.gf_tree.proofs.lemmas.games.Carried.{in_keys}
+use Rattle.gf_tree.proofs.lemmas.games.ListedNumbers.{own_key, some_player}
+use Rattle.gf_tree.proofs.lemmas.games.Renumberings.{Agree, agreed_games}
+use Rattle.gf_tree.proofs.lemmas.games.TreesOnce.{same_set_equality}
+use Rattle.gf_tree.proofs.lemmas.games.Uses.{Has, IsEquality, has}
+use Rattle.gf_tree.specs.CanonicalGame.{canonical_game}
+use Rattle.gf_canon.specs.inner.ListedInOrder.{lists_in_order}
+use Rattle.gf_canon.proofs.lemmas.numbers.InOrder.{outcomes_in_order, sets_in_order}
+
+-- ---- numbers in order
+
+-- one more number
+pub number_more : (n : ℕ) (numbers more : List ℕ) → numbers ≡ positions n
+    → more ≡ numbers ++ (n + 1) ∷ [] → more ≡ positions (n + 1)
+number_more n numbers more is e =
+    let next : 1 + n ≡ n + 1 = omega arith in
+    e ∙ ap (λ (ns : List ℕ). ns ++ (n + 1) ∷ []) is
+    ∙ ap (λ (k : ℕ). positions n ++ k ∷ []) (sym next)
+    ∙ numbers_joined 1 n 1
+
+no_less : (first n x : ℕ) → Has (numbers_from first n) x → first ≤ x
+no_less first zero x h = absurd h
+no_less first (suc n) x (inl e) = omega (arith, e)
+no_less first (suc n) x (inr h) = omega (arith, no_less (first + 1) n x h)
+
+are_numbers : (first n : ℕ) → 0 < first → AreNumbers (numbers_from first n)
+are_numbers first zero h = tt
+are_numbers first (suc n) h = (
+  h,
+  λ c. omega (arith, no_less (first + 1) n first (has (numbers_from (first + 1) n) first c)),
+  are_numbers (first + 1) n (omega arith),
+)
+
+-- ---- a player past the last number has no sets
+
+none_of_him : (player : ℕ) (sets : List (Described SetKey InformationSet)) → 2 ^ 32 ≤ player
+    → AllByRecursion IsSpellableSet sets → filter (λ s. s.key.player == player) sets ≡ []
+none_of_him player [] past h = refl
+none_of_him player (s ∷ sets) past h =
+    let other : (s.key.player == player) ≡ false =
+    ne_eqb s.key.player player (λ e. omega (arith, past, h.0.player, e)) in
+    rw other (none_of_him player sets past h.1)
+
+pub no_numbers : (g : Game) (player : ℕ) → 2 ^ 32 ≤ player → IsSpellable g
+    → [] ≡ positions (length (player_keys g player))
+no_numbers g player past can =
+    ap (λ (ss : List (Described SetKey InformationSet)). positions (length (map (λ s. s.key) ss)))
+    (sym (none_of_him player g.sets past can.sets))
+
+-- ---- the lists of the players
+
+abbrev pub own_list : Game → ℕ → List ℕ
+own_list g player = positions (length (player_keys g player))
+
+-- those of chance and of this many players
+abbrev pub lists_through : Game → ℕ → List (List ℕ)
+lists_through g players = map (own_list g) (numbers_from 0 (players + 1))
+
+pub list_more : (g : Game) (at : ℕ) (lists more : List (Vec ℕ Global)) (own : Vec ℕ Global)
+    → map (λ own. own.items) lists ≡ lists_through g at → own.items ≡ own_list g (at + 1)
+    → more ≡ lists ++ own ∷ [] → map (λ own. own.items) more ≡ lists_through g (at + 1)
+list_more g at lists more own before is e =
+    let items : Vec ℕ Global → List ℕ = λ own. own.items in
+    let next : 0 + (at + 1) ≡ at + 1 = omega arith in
+    ap (map items) e
+    ∙ map-append items lists (own ∷ [])
+    ∙ (λ i. before i ++ is i ∷ [])
+    ∙ sym (map-append (own_list g) (numbers_from 0 (at + 1)) ((at + 1) ∷ []))
+    ∙ ap (λ (k : ℕ). map (own_list g) (numbers_from 0 (at + 1) ++ k ∷ [])) (sym next)
+    ∙ ap (map (own_list g)) (numbers_joined 0 (at + 1) 1)
+
+own_there : (g : Game) (player : ℕ) → player ≤ length g.players
+    → get_or (lists_in_order g) player [] ≡ own_list g player
+own_there g player h =
+    let players = numbers_from 0 (suc (length g.players)) in
+    let size = length-numbers_from 0 (suc (length g.players)) in
+    get_or-map (own_list g) players player 0 [] (omega (arith, size, h))
+    ∙ ap (own_list g)
+    (get_or-numbers_from 0 (suc (length g.players)) player 0 (omega (arith, h)) ∙ omega arith)
+
+all_numbers : (g : Game) (players : List ℕ) → AllByRecursion AreNumbers (map (own_list g) players)
+all_numbers g [] = tt
+all_numbers g (player ∷ players) =
+    (are_numbers 1 (length (player_keys g player)) (omega arith), all_numbers g players)
+
+listed_in_order : (g : Game)
+    → AreListed g (lists_in_order g) (positions (length (outcome_numbers g)))
+listed_in_order g =
+    let players = numbers_from 0 (suc (length g.players)) in
+    record {
+      one_list_each = length-map players (own_list g)
+          ∙ length-numbers_from 0 (suc (length g.players));
+      each_set = λ player h. ap length (own_there g player h)
+          ∙ length-numbers_from 1 (length (player_keys g player));
+      set_numbers = all_numbers g players;
+      each_outcome = length-numbers_from 1 (length (outcome_numbers g));
+      outcome_numbers = are_numbers 1 (length (outcome_numbers g)) (omega arith);
+    }
+
+-- ---- listed numbers are first-use numbers
+
+number_of_map : {K : Type 0} (same : K → K → Bool) → IsEquality same → (f : K → ℕ) (ks : List K)
+    (key : K) → Has ks key → number_listed same ks (map f ks) key ≡ f key
+number_of_map same tells f [] key h = absurd h
+number_of_map {K} same tells f (k ∷ ks) key h =
+    by (same k key) refl h (number_of_map same tells f ks key)
+  where
+    by : (b : Bool) → same k key ≡ b → Has (k ∷ ks) key
+        → (Has ks key → number_listed same ks (map f ks) key ≡ f key)
+        → number_listed same (k ∷ ks) (map f (k ∷ ks)) key ≡ f key
+    by true e h more = rw e (ap f ((tells k key).0 e))
+    by false e (inl q) more = absurd (both_ways (same k key) e ((tells k key).1 q))
+    by false e (inr m) more = rw e (more m)
+
+listed_agree : (g : Game) → IsGame g
+    → Agree (listed_numbers g (lists_in_order g) (positions (length (outcome_numbers g))))
+    (first_use_numbers g) g.tree
+listed_agree g game =
+    let listed = listed_in_order g in
+    let outcomes = positions (length (outcome_numbers g)) in
+    record {
+      sets = λ key i.
+          let keys = player_keys g key.player in
+          let number : SetKey → ℕ = λ k. (first_use_numbers g).set key.player k.number in
+          let player = some_player g game (lists_in_order g) outcomes listed key i in
+          let is : number_listed same_set keys (get_or (lists_in_order g) key.player []) key
+          ≡ number key =
+          ap (λ (ns : List ℕ). number_listed same_set keys ns key)
+          (own_there g key.player player ∙ sym (sets_in_order g key.player game))
+          ∙ number_of_map same_set same_set_equality number keys key
+          (own_key g game (lists_in_order g) outcomes listed key i) in
+          λ j. record { player = key.player; number = is j };
+      outcomes = λ number i.
+          ap (λ (ns : List ℕ). number_listed nat_eq (outcome_numbers g) ns number)
+          (sym (outcomes_in_order g game))
+          ∙ number_of_map nat_eq Decides-eqb (first_use_numbers g).outcome (outcome_numbers g)
+          number (in_keys nat_eq Decides-eqb (used_outcomes g.tree) g.outcomes number
+          game.one_entry_each_outcome i);
+    }
+
+canonical_by_lists : (g : Game) → IsGame g
+    → renumbered (listed_numbers g (lists_in_order g) (positions (length (outcome_numbers g)))) g
+    ≡ canonical_game g
+canonical_by_lists g game =
+    agreed_games (listed_numbers g (lists_in_order g) (positions (length (outcome_numbers g))))
+    (first_use_numbers g) g game (listed_agree g game)
+
+-- ---- as vectors
+
+pub listed_by : (g : Game) (lists : List (List ℕ)) (outcomes : List ℕ) → lists ≡ lists_in_order g
+    → outcomes ≡ positions (length (outcome_numbers g)) → AreListed g lists outcomes
+listed_by g lists outcomes e f = rw (e, f) (listed_in_order g)
+
+pub canonical_by : (g : Game) (lists : List (List ℕ)) (outcomes : List ℕ) → IsGame g
+    → lists ≡ lists_in_order g → outcomes ≡ positions (length (outcome_numbers g))
+    → renumbered (listed_numbers g lists outcomes) g ≡ canonical_game g
+canonical_by g lists outcomes game e f =
+    (λ i. renumbered (listed_numbers g (e i) (f i)) g) ∙ canonical_by_lists g game

@@ -1,0 +1,55 @@
+-- Pairs of what a renumbering carries: it has the same position in both games.
+use Rattle.std.proofs.Common.{◌≡◌, ℕ, zero, suc, List, ◌++◌, ◌∷◌, [], map, Option, Some, None, refl}
+use Rattle.std.proofs.Common.{ap, sym, ◌∙◌}
+use Rattle.std.specs.Prelude.{option_map}
+use Rattle.std.specs.Option.{option_to_list}
+use Rattle.std.proofs.lemmas.List.{append-nil}
+use Rattle.std.proofs.lemmas.Option.{slice_get-map}
+use Rattle.gf_token.specs.Positions.{at_position}
+use Rattle.gf_tree.specs.Description.{SetKey}
+use Rattle.gf_tree.specs.FirstUse.{outcome_numbers, player_keys}
+use Rattle.gf_tree.specs.Game.{Game, IsGame}
+use Rattle.gf_tree.specs.Renumbering.{Renumbering}
+use Rattle.gf_tree.proofs.lemmas.games.Members.{map_twice}
+use Rattle.gf_tree.specs.SameGame.{Carries}
+use Rattle.gf_tree.proofs.lemmas.games.Canonical.{outcome_numbers_carried, set_numbers_carried}
+use Rattle.gf_canon.specs.Pairs.{set_numbers}
+use Rattle.gf_canon.specs.declared.numbering.pairs.NumberPair.{NumberPair}
+
+image_at : {A B : Type 0} (f : A → B) (xs : List A) (i : ℕ)
+    → at_position (map f xs) i ≡ option_map f (at_position xs i)
+image_at f xs zero = refl
+image_at f xs (suc k) = slice_get-map f xs k
+
+-- f : the new number; own, other : the numbers at this position; pair : what is told of them
+module _ (f : ℕ → ℕ) (pair : ℕ → ℕ → NumberPair) where
+  pub pair_of : (own other : Option ℕ) → other ≡ option_map f own → (n m : ℕ) → own ≡ Some n
+      → other ≡ Some m → (pairs : List NumberPair)
+      → pairs ++ pair n m ∷ [] ≡ pairs ++ map (λ k. pair k (f k)) (option_to_list own)
+  pair_of None other image n m is there pairs = absurd cc
+  pair_of (Some k) other image n m is there pairs =
+      let same : k ≡ n = cc in
+      let new : f k ≡ m = cc in
+      λ i. pairs ++ pair (sym same i) (sym new i) ∷ []
+
+  -- one of both is not there
+  pub no_pair_of : (own other : Option ℕ) → other ≡ option_map f own
+      → ((n m : ℕ) → own ≡ Some n → other ≡ Some m → ⊥) → (pairs : List NumberPair)
+      → pairs ≡ pairs ++ map (λ k. pair k (f k)) (option_to_list own)
+  no_pair_of None other image none pairs = sym (append-nil pairs)
+  no_pair_of (Some k) other image none pairs = absurd (none k (f k) refl image)
+
+module _ (r : Renumbering) (g h : Game) (games : IsGame g × IsGame h) (c : Carries r g h) where
+  pub set_carried : (player i : ℕ) → at_position (set_numbers h player) i
+      ≡ option_map (r.set player) (at_position (set_numbers g player) i)
+  set_carried player i =
+      ap (λ (ns : List ℕ). at_position ns i)
+      (set_numbers_carried r g h games.0 games.1 c player
+      ∙ sym (map_twice (r.set player) (λ (key : SetKey). key.number) (player_keys g player)))
+      ∙ image_at (r.set player) (set_numbers g player) i
+
+  pub outcome_carried : (i : ℕ) → at_position (outcome_numbers h) i
+      ≡ option_map r.outcome (at_position (outcome_numbers g) i)
+  outcome_carried i =
+      ap (λ (ns : List ℕ). at_position ns i) (outcome_numbers_carried r g h games.0 games.1 c)
+      ∙ image_at r.outcome (outcome_numbers g) i

@@ -1,0 +1,67 @@
+-- Keys in order of first use have the numbers 1, 2 and so on, and so do a player's sets and the
+-- outcomes of a game.
+use Rattle.std.proofs.Common.{◌≡◌, ◌+◌, ℕ, Bool, List, [], ◌∷◌, ◌++◌, length, map, refl}
+use Rattle.std.proofs.Common.{sym, ap, ◌∙◌, arith, append_assoc, length-append, subst}
+use Rattle.std.specs.Prelude.{nat_eq}
+use Rattle.std.proofs.lemmas.Bool.{eqb-true}
+use Rattle.std.proofs.lemmas.Bool.Decides.{Decides-eqb}
+use Rattle.gf_nfg.specs.Profiles.{numbers_from, positions}
+use Rattle.gf_tree.specs.Description.{SetKey, same_set}
+use Rattle.gf_tree.specs.FiniteMap.{first_uses}
+use Rattle.gf_tree.specs.FirstUse.{first_use_number, first_use_numbers}
+use Rattle.gf_tree.specs.FirstUse.{outcome_numbers, player_keys, sets_of}
+use Rattle.gf_tree.specs.Game.{Game, IsGame, used_outcomes, used_sets}
+use Rattle.gf_tree.proofs.lemmas.games.FirstUseNumbers.{number_at}
+use Rattle.gf_tree.proofs.lemmas.games.FirstUses.{of_filter, was_used}
+use Rattle.gf_tree.proofs.lemmas.games.Members.{map_same}
+use Rattle.gf_tree.proofs.lemmas.games.PlayerSets.{sets_by_first_use}
+use Rattle.gf_tree.proofs.lemmas.games.TreesOnce.{same_set_equality}
+use Rattle.gf_tree.proofs.lemmas.games.Uses.{Has, IsEquality}
+
+numbers_on : {K : Type 0} (same : K → K → Bool)
+    → IsEquality same → (ks before after : List K) → first_uses same ks ≡ before ++ after
+    → map (first_use_number same ks) after ≡ numbers_from (length before + 1) (length after)
+numbers_on same tells ks before [] e = refl
+numbers_on same tells ks before (key ∷ after) e =
+    let rest = numbers_on same tells ks (before ++ key ∷ []) after
+    (e ∙ sym (append_assoc before (key ∷ []) after)) in
+    let size : length (before ++ key ∷ []) + 1 ≡ length before + 1 + 1 =
+    omega (arith, length-append before (key ∷ [])) in
+    λ i. number_at same tells ks before after key e i
+    ∷ (rest ∙ ap (λ n. numbers_from n (length after)) size) i
+
+pub numbered_in_order : {K : Type 0} (same : K → K → Bool) → IsEquality same → (ks : List K)
+    → map (first_use_number same ks) (first_uses same ks)
+    ≡ numbers_from 1 (length (first_uses same ks))
+numbered_in_order same tells ks = numbers_on same tells ks [] (first_uses same ks) refl
+
+-- ---- the sets of a player, and the outcomes
+
+pub sets_in_order : (g : Game) (player : ℕ) → IsGame g
+    → map (λ key. (first_use_numbers g).set player key.number) (player_keys g player)
+    ≡ positions (length (player_keys g player))
+sets_in_order g player game =
+    subst (λ keys.
+    map (λ key. (first_use_numbers g).set player key.number) keys ≡ positions (length keys))
+    (sym (sets_by_first_use g player game))
+    (map_same (λ key. (first_use_numbers g).set player key.number) (first_use_number same_set own)
+    (first_uses same_set own) number
+    ∙ numbered_in_order same_set same_set_equality own)
+  where
+    own : List SetKey
+    own = sets_of player (used_sets g.tree)
+
+    number : (key : SetKey) → Has (first_uses same_set own) key
+        → (first_use_numbers g).set player key.number ≡ first_use_number same_set own key
+    number key i =
+        let mine = of_filter (λ (k : SetKey). nat_eq k.player player) (used_sets g.tree) key
+        (was_used same_set own key i) in
+        let is : player ≡ key.player = sym (eqb-true key.player player mine.1) in
+        ap (λ p. first_use_number same_set own (record { player = p; number = key.number })) is
+
+pub outcomes_in_order : (g : Game) → IsGame g
+    → map (first_use_numbers g).outcome (outcome_numbers g) ≡ positions (length (outcome_numbers g))
+outcomes_in_order g game =
+    subst (λ numbers. map (first_use_numbers g).outcome numbers ≡ positions (length numbers))
+    (sym game.one_entry_each_outcome)
+    (numbered_in_order nat_eq Decides-eqb (used_outcomes g.tree))

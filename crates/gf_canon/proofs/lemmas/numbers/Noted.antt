@@ -1,0 +1,315 @@
+-- The new numbers that are noted node by node are those of the renumbering that carries one game to
+-- the other.
+use Rattle.std.proofs.Common.{◌≡◌, ℕ, zero, suc, ◌<◌, Bool, true, false, cond, List, [], ◌∷◌, map}
+use Rattle.std.proofs.Common.{Option, None, Some, refl, sym, ap, subst, ◌∙◌, inl, inr, ◌⊎◌, arith}
+use Rattle.std.specs.Prelude.{◌↔◌, IsSome, is_some, nat_eq, option_map, unwrap_or}
+use Rattle.std.specs.List.{filter_map, cons_option}
+use Rattle.std.specs.BTreeMap.{BTreeMap, get}
+use Rattle.std.specs.Ordering.{is_eq, nat_cmp}
+use Rattle.std.proofs.lemmas.Bool.Decides.{Decides-eqb, nat_tests}
+use Rattle.gf_tree.specs.Description.{SetKey, same_set, set_of}
+use Rattle.gf_tree.specs.Game.{Game, IsGame, Node, outcome_at, set_at, used_outcomes, used_sets}
+use Rattle.gf_tree.specs.PrefixOrder.{Entry, flatten}
+use Rattle.gf_tree.specs.Renumbering as numbers
+use Rattle.gf_tree.specs.Renumbering.{HasOutcome, HasSet, renumbered_node, renumbered_set}
+use Rattle.gf_tree.proofs.lemmas.games.Consistent.{flatten_map, map_entry}
+use Rattle.gf_tree.proofs.lemmas.games.Members.{map_twice}
+use Rattle.gf_tree.proofs.lemmas.games.Renumberings.{Agree, agreed_trees, outcome_number_positive}
+use Rattle.gf_tree.proofs.lemmas.games.TreesOnce.{same_set_equality}
+use Rattle.gf_tree.proofs.lemmas.games.Uses.{Has, IsEquality, contains, has}
+use Rattle.gf_canon.specs.NewNumbers.{IsOnlyRenumbering, new_numbers, new_outcome_number}
+use Rattle.gf_canon.specs.NewNumbers.{new_set_number, number_of_set, set_order}
+use Rattle.gf_canon.specs.inner.Noted.{noted}
+use Rattle.gf_tree.specs.SameGame.{Carries, SameGame}
+use Rattle.gf_canon.specs.declared.numbering.new_numbers.Renumbering.{Renumbering}
+use Rattle.gf_tree.proofs.lemmas.games.Same.{only_outcomes, only_sets}
+
+-- ---- one set
+
+-- two pairs compare equal exactly if they are
+same_pair : (a b : ℕ × ℕ) → is_eq (set_order a b) ≡ same_set (set_of a.0 a.1) (set_of b.0 b.1)
+same_pair a b = grind (arith, nat_tests)
+
+pub set_noted : (had now : SetKey → Option ℕ) (k m : ℕ × ℕ) (old new : Option SetKey)
+    → Some (set_of k.0 k.1) ≡ old → Some (set_of m.0 m.1) ≡ new → (key : SetKey)
+    → now key ≡ cond (is_eq (set_order k (key.player, key.number))) (Some m.1) (had key)
+    → now key ≡ noted same_set (λ s. s.number) old new had key
+set_noted had now k m old new is_old is_new key e =
+    e ∙ ap (λ b. cond b (Some m.1) (had key)) (same_pair k (key.player, key.number))
+    ∙ (λ i. noted same_set (λ s. s.number) (is_old i) (is_new i) had key)
+
+-- ---- keys one after another
+
+-- Each key that has a number is one of all, and has the number that f gives it. Each of all has a
+-- number or is left.
+pub record AreNoted {K : Type 0} (f : K → ℕ) (had : K → Option ℕ) (all left : List K) : Type 0 where
+  pub sound : (k : K) (n : ℕ) → had k ≡ Some n → Has all k × (n ≡ f k)
+  pub complete : (k : K) → Has all k → IsSome (had k) ⊎ Has left k
+  pub part : (k : K) → Has left k → Has all k
+
+pub none_noted : {K : Type 0} (f : K → ℕ) (had : K → Option ℕ) (all : List K)
+    → ((k : K) → had k ≡ None) → AreNoted f had all all
+none_noted f had all none = record {
+  sound = λ k n e. absurd (cc (none k));
+  complete = λ k h. inr h;
+  part = λ k h. h;
+}
+
+module _ {K : Type 0} (same : K → K → Bool) (tells : IsEquality same) (f number : K → ℕ)
+    (had now : K → Option ℕ) (all : List K) where
+  pub one_noted : (old new : Option K) (left : List K) → AreNoted f had all (cons_option old left)
+      → option_map number new ≡ option_map f old
+      → ((k : K) → now k ≡ noted same number old new had k) → AreNoted f now all left
+  one_noted None new left h image is = record {
+    sound = λ k n e. h.sound k n (sym (is k) ∙ e);
+    complete = λ k i. subst (λ o. IsSome o ⊎ Has left k) (sym (is k)) (h.complete k i);
+    part = h.part;
+  }
+  one_noted (Some old) None left h image is = absurd cc
+  one_noted (Some old) (Some new) left h image is = record {
+    sound = λ k n e. sound k n (same old k) refl (sym (is k) ∙ e);
+    complete = λ k i. subst (λ o. IsSome o ⊎ Has left k) (sym (is k))
+        (complete k (same old k) refl (h.complete k i));
+    part = λ k i. h.part k (inr i);
+  }
+    where
+      value : number new ≡ f old
+      value = cc
+
+      sound : (k : K) (n : ℕ) (b : Bool) → same old k ≡ b
+          → cond (same old k) (Some (number new)) (had k) ≡ Some n → Has all k × (n ≡ f k)
+      sound k n true at e =
+          let is_old : old ≡ k = (tells old k).0 at in
+          let value_at : Some (number new) ≡ Some n =
+          ap (λ b. cond b (Some (number new)) (had k)) (sym at) ∙ e in
+          let given : number new ≡ n = cc in
+          (subst (Has all) is_old (h.part old (inl refl)), sym given ∙ value ∙ ap f is_old)
+      sound k n false at e =
+          h.sound k n (ap (λ b. cond b (Some (number new)) (had k)) (sym at) ∙ e)
+
+      complete : (k : K) (b : Bool) → same old k ≡ b → IsSome (had k) ⊎ Has (old ∷ left) k
+          → IsSome (cond (same old k) (Some (number new)) (had k)) ⊎ Has left k
+      complete k true at i = rw at (inl refl)
+      complete k false at (inl some) = rw at (inl some)
+      complete k false at (inr (inl e)) =
+          let yes : same old k ≡ true = (tells old k).1 e in absurd cc
+      complete k false at (inr (inr i)) = inr i
+
+-- at the end
+module _ {K : Type 0} (f : K → ℕ) (had : K → Option ℕ) (all : List K)
+    (noted_all : AreNoted f had all []) where
+  number_is : (k : K) → Has all k → had k ≡ Some (f k)
+  number_is k i = by (had k) refl (noted_all.complete k i)
+    where
+      by : (o : Option ℕ) → had k ≡ o → IsSome (had k) ⊎ Has [] k → had k ≡ Some (f k)
+      by (Some n) e h = e ∙ ap Some (noted_all.sound k n e).1
+      by None e (inl some) = absurd (cc (ap is_some e, some))
+      by None e (inr i) = absurd i
+
+  one_of_all : (k : K) → IsSome (had k) → Has all k
+  one_of_all k some = by (had k) refl
+    where
+      by : (o : Option ℕ) → had k ≡ o → Has all k
+      by (Some n) e = (noted_all.sound k n e).0
+      by None e = absurd (cc (ap is_some e, some))
+
+-- ---- nodes one after another
+
+pub record AreWalked (r : numbers.Renumbering) (g : Game) (sets : SetKey → Option ℕ)
+    (outcomes : ℕ → Option ℕ) (left others : List Node) : Type 0 where
+  pub images : others ≡ map (renumbered_node r) left
+  pub sets_noted : AreNoted (λ k. r.set k.player k.number) sets (used_sets g.tree)
+      (filter_map (λ n. n.set) left)
+  pub outcomes_noted : AreNoted r.outcome outcomes (used_outcomes g.tree)
+      (filter_map (λ n. n.outcome) left)
+
+filter_of_nodes : {K : Type 0} (f : Node → Option K) (es : List (Entry Node))
+    → filter_map (λ e. f e.node) es ≡ filter_map f (map (λ e. e.node) es)
+filter_of_nodes f [] = refl
+filter_of_nodes f (e ∷ es) = ap (cons_option (f e.node)) (filter_of_nodes f es)
+
+nodes_of_image : (r : numbers.Renumbering) (es : List (Entry Node))
+    → map (λ e. e.node) (map (map_entry (renumbered_node r)) es)
+    ≡ map (renumbered_node r) (map (λ e. e.node) es)
+nodes_of_image r es = map_twice (λ (e : Entry Node). e.node) (map_entry (renumbered_node r)) es
+    ∙ sym (map_twice (renumbered_node r) (λ (e : Entry Node). e.node) es)
+
+pub walk_begins : (r : numbers.Renumbering) (g h : Game) (sets : SetKey → Option ℕ)
+    (outcomes : ℕ → Option ℕ) (left others : List Node) → Carries r g h
+    → ((k : SetKey) → sets k ≡ None) → ((n : ℕ) → outcomes n ≡ None)
+    → left ≡ map (λ e. e.node) (flatten g.tree) → others ≡ map (λ e. e.node) (flatten h.tree)
+    → AreWalked r g sets outcomes left others
+walk_begins r g h sets outcomes left others c no_set no_outcome of_g of_h = record {
+  images = of_h
+      ∙ ap (λ t. map (λ (e : Entry Node). e.node) (flatten t)) (sym c.tree)
+      ∙ ap (map (λ (e : Entry Node). e.node)) (flatten_map (renumbered_node r) g.tree)
+      ∙ nodes_of_image r (flatten g.tree)
+      ∙ ap (map (renumbered_node r)) (sym of_g);
+  sets_noted = subst (AreNoted (λ k. r.set k.player k.number) sets (used_sets g.tree))
+      (filter_of_nodes (λ n. n.set) (flatten g.tree) ∙ ap (filter_map (λ n. n.set)) (sym of_g))
+      (none_noted (λ k. r.set k.player k.number) sets (used_sets g.tree) no_set);
+  outcomes_noted = subst (AreNoted r.outcome outcomes (used_outcomes g.tree))
+      (filter_of_nodes (λ n. n.outcome) (flatten g.tree)
+      ∙ ap (filter_map (λ n. n.outcome)) (sym of_g))
+      (none_noted r.outcome outcomes (used_outcomes g.tree) no_outcome);
+}
+
+image_number : {K : Type 0} (f number : K → ℕ) (image : K → K) → ((k : K) → number (image k) ≡ f k)
+    → (old new : Option K) → new ≡ option_map image old → option_map number new ≡ option_map f old
+image_number f number image is None new e = ap (option_map number) e
+image_number f number image is (Some k) new e = ap (option_map number) e ∙ ap Some (is k)
+
+module _ (r : numbers.Renumbering) (g : Game) (sets sets' : SetKey → Option ℕ)
+    (outcomes outcomes' : ℕ → Option ℕ) where
+  pub walk_goes : (left others left' others' : List Node) (n m : Node)
+      → AreWalked r g sets outcomes left others → left ≡ n ∷ left' → others ≡ m ∷ others'
+      → ((k : SetKey) → sets' k ≡ noted same_set (λ s. s.number) n.set m.set sets k)
+      → ((k : ℕ) → outcomes' k ≡ noted nat_eq (λ i. i) n.outcome m.outcome outcomes k)
+      → AreWalked r g sets' outcomes' left' others'
+  walk_goes left others left' others' n m h at_n at_m of_sets of_outcomes =
+      let both : m ∷ others' ≡ renumbered_node r n ∷ map (renumbered_node r) left' =
+      sym at_m ∙ h.images ∙ ap (map (renumbered_node r)) at_n in
+      let image : m ≡ renumbered_node r n = cc in
+      let rest : others' ≡ map (renumbered_node r) left' = cc in
+      record {
+        images = rest;
+        sets_noted = one_noted same_set same_set_equality (λ k. r.set k.player k.number)
+            (λ s. s.number) sets sets' (used_sets g.tree) n.set m.set
+            (filter_map (λ n. n.set) left')
+            (subst (AreNoted (λ k. r.set k.player k.number) sets (used_sets g.tree))
+            (ap (filter_map (λ n. n.set)) at_n) h.sets_noted)
+            (image_number (λ k. r.set k.player k.number) (λ s. s.number) (renumbered_set r)
+            (λ k. refl) n.set m.set (ap (λ (x : Node). x.set) image))
+            of_sets;
+        outcomes_noted = one_noted nat_eq Decides-eqb r.outcome (λ i. i) outcomes outcomes'
+            (used_outcomes g.tree) n.outcome m.outcome (filter_map (λ n. n.outcome) left')
+            (subst (AreNoted r.outcome outcomes (used_outcomes g.tree))
+            (ap (filter_map (λ n. n.outcome)) at_n) h.outcomes_noted)
+            (image_number r.outcome (λ i. i) r.outcome (λ k. refl) n.outcome m.outcome
+            (ap (λ (x : Node). x.outcome) image))
+            of_outcomes;
+      }
+
+  -- no node is left over
+  pub walk_is_even : (left others left' : List Node) (n : Node)
+      → AreWalked r g sets outcomes left others → left ≡ n ∷ left' → others ≡ [] → ⊥
+  walk_is_even left others left' n h at_n none =
+      let both : [] ≡ renumbered_node r n ∷ map (renumbered_node r) left' =
+      sym none ∙ h.images ∙ ap (map (renumbered_node r)) at_n in
+      cc
+
+-- ---- all nodes
+
+module _ (found : Renumbering) (g h : Game) (game : IsGame g) (r : numbers.Renumbering)
+    (c : Carries r g h)
+    (sets : AreNoted (λ k. r.set k.player k.number) (number_of_set found.sets) (used_sets g.tree) [])
+    (outcomes : AreNoted r.outcome (get nat_cmp found.outcomes) (used_outcomes g.tree) []) where
+  new_set : (player number : ℕ) → HasSet g player number
+      → new_set_number found player number ≡ Some (r.set player number)
+  new_set player number i = number_is (λ k. r.set k.player k.number) (number_of_set found.sets)
+      (used_sets g.tree) sets (set_of player number)
+      (has (used_sets g.tree) (set_of player number) i)
+
+  new_outcome : (number : ℕ) → HasOutcome g number
+      → new_outcome_number found number ≡ Some (r.outcome number)
+  new_outcome zero i = absurd (omega (
+    arith,
+    outcome_number_positive g game 0 (has (used_outcomes g.tree) 0 i),
+  ))
+  new_outcome (suc n) i = number_is r.outcome (get nat_cmp found.outcomes) (used_outcomes g.tree)
+      outcomes (suc n) (has (used_outcomes g.tree) (suc n) i)
+
+  has_new_set : (player number : ℕ)
+      → IsSome (new_set_number found player number) ↔ HasSet g player number
+  has_new_set player number = (
+    λ some. contains (used_sets g.tree) (set_of player number)
+        (one_of_all (λ k. r.set k.player k.number) (number_of_set found.sets) (used_sets g.tree)
+        sets (set_of player number) some),
+    λ i. subst IsSome (sym (new_set player number i)) refl,
+  )
+
+  has_new_outcome : (number : ℕ) → IsSome (new_outcome_number found number)
+      ↔ ((number ≡ 0) ⊎ HasOutcome g number)
+  has_new_outcome zero = (λ some. inl refl, λ h. refl)
+  has_new_outcome (suc n) = (
+    λ some. inr (contains (used_outcomes g.tree) (suc n) (one_of_all r.outcome
+        (get nat_cmp found.outcomes) (used_outcomes g.tree) outcomes (suc n) some)),
+    λ h. elim h [
+      | inl e ↦ absurd cc
+      | inr i ↦ subst IsSome (sym (new_outcome (suc n) i)) refl
+    ],
+  )
+
+  set_agrees : (player number : ℕ) → HasSet g player number
+      → (new_numbers found).set player number ≡ r.set player number
+  set_agrees player number i = ap (λ o. unwrap_or o 0) (new_set player number i)
+
+  outcome_agrees : (number : ℕ) → HasOutcome g number
+      → (new_numbers found).outcome number ≡ r.outcome number
+  outcome_agrees number i = ap (λ o. unwrap_or o 0) (new_outcome number i)
+
+  agree : Agree (new_numbers found) r g.tree
+  agree = record {
+    sets = λ key i j. record {
+      player = key.player;
+      number = set_agrees key.player key.number (contains (used_sets g.tree) key i) j;
+    };
+    outcomes = λ number i. outcome_agrees number (contains (used_outcomes g.tree) number i);
+  }
+
+  found_is_renumbering : numbers.IsRenumbering g (new_numbers found)
+  found_is_renumbering = record {
+    positive_sets = λ player number i. subst (λ n. 0 < n) (sym (set_agrees player number i))
+        (c.renumbering.positive_sets player number i);
+    positive_outcomes = λ number i. subst (λ n. 0 < n) (sym (outcome_agrees number i))
+        (c.renumbering.positive_outcomes number i);
+    sets_apart = λ player a b i j e. c.renumbering.sets_apart player a b i j
+        (sym (set_agrees player a i) ∙ e ∙ set_agrees player b j);
+    outcomes_apart = λ a b i j e. c.renumbering.outcomes_apart a b i j
+        (sym (outcome_agrees a i) ∙ e ∙ outcome_agrees b j);
+  }
+
+  found_carries : Carries (new_numbers found) g h
+  found_carries = record {
+    renumbering = found_is_renumbering;
+    title = c.title;
+    comment = c.comment;
+    players = c.players;
+    tree = agreed_trees (new_numbers found) r g.tree agree ∙ c.tree;
+    sets = λ key i. c.sets key i
+        ∙ ap (set_at h) (sym (agree.sets key (has (used_sets g.tree) key i)));
+    outcomes = λ number i. c.outcomes number i
+        ∙ ap (outcome_at h) (sym (outcome_agrees number i));
+  }
+
+  only_renumbering : IsOnlyRenumbering found g h
+  only_renumbering = record {
+    sets = has_new_set;
+    outcomes = has_new_outcome;
+    carries = found_carries;
+    only_sets = λ s d player number i. new_set player number i
+        ∙ ap Some (only_sets r s g h c d player number i);
+    only_outcomes = λ s d number i. new_outcome number i
+        ∙ ap Some (only_outcomes r s g h c d number i);
+  }
+
+pub walk_ends : (found : Renumbering) (g h : Game) (left others : List Node) → IsGame g
+    → SameGame g h
+    → ((r : numbers.Renumbering) → Carries r g h → AreWalked r g (number_of_set found.sets)
+    (get nat_cmp found.outcomes) left others)
+    → left ≡ [] → IsOnlyRenumbering found g h
+walk_ends found g h left others game (r, c) walked none =
+    let w = walked r c in
+    only_renumbering found g h game r c
+    (subst (AreNoted (λ k. r.set k.player k.number) (number_of_set found.sets) (used_sets g.tree))
+    (ap (filter_map (λ n. n.set)) none) w.sets_noted)
+    (subst (AreNoted r.outcome (get nat_cmp found.outcomes) (used_outcomes g.tree))
+    (ap (filter_map (λ n. n.outcome)) none) w.outcomes_noted)
+
+-- ---- empty maps
+
+pub empty_sets : (m : BTreeMap (ℕ × ℕ) ℕ) → m.entries ≡ [] → (k : SetKey) → number_of_set m k ≡ None
+empty_sets m e k = rw e refl
+
+pub empty_outcomes : (m : BTreeMap ℕ ℕ) → m.entries ≡ [] → (n : ℕ) → get nat_cmp m n ≡ None
+empty_outcomes m e n = rw e refl

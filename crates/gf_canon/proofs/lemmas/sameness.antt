@@ -1,0 +1,8 @@
+pub mod ComparedTrees
+pub mod Files
+pub mod Lists
+pub mod NodesNamed
+pub mod Unnamed
+pub mod WalkedNodes
+pub mod Worked
+pub mod WorkedPairs

@@ -1,0 +1,116 @@
+-- Worked games that are not the same, and some that are the same aside from names.
+use Rattle.std.proofs.Common.{◌≡◌, ℕ, List, [], ◌∷◌, length, map, get_or, Option}
+use Rattle.std.proofs.Common.{Some, None, refl, sym, ap, subst, ◌∙◌, arith, inl}
+use Rattle.std.specs.List.{flat_map}
+use Rattle.gf_tree.specs.Description.{SetKey, InformationSet, set_of}
+use Rattle.gf_tree.specs.Game.{Game, IsGame, used_sets, set_at}
+use Rattle.gf_tree.specs.Renumbering.{renumbered_set}
+use Rattle.gf_tree.proofs.lemmas.games.Uses.{Has, contains}
+use Rattle.gf_tree.specs.SameGame.{SameGame}
+use Rattle.gf_canon.specs.GameFile.GameFile.{extensive}
+use Rattle.gf_canon.specs.NamesAside.{SameAsideNames, unnamed_game}
+use Rattle.gf_canon.specs.WorkedGames.{seen, unseen, plain_prize, renamed_prize}
+use Rattle.gf_canon.specs.WorkedGames.{lower_case_prize, two_prizes, no_outcome, zero_outcome}
+use Rattle.gf_tree.proofs.lemmas.games.Same.{same_itself, carried_sets, carried_outcomes}
+
+-- ---- what a player sees
+
+pub unseen_seen : ¬ (SameGame unseen seen)
+unseen_seen (r, c) =
+    let sets = carried_sets r unseen seen c in
+    let first : 1 ≡ r.set 1 1 = ap (λ (ks : List SetKey). (get_or ks 1 (set_of 0 0)).number) sets in
+    let other : 2 ≡ r.set 1 1 = ap (λ (ks : List SetKey). (get_or ks 2 (set_of 0 0)).number) sets in
+    omega (arith, first, other)
+
+pub seen_unseen : ¬ (SameGame seen unseen)
+seen_unseen (r, c) =
+    let sets = carried_sets r seen unseen c in
+    let first : 1 ≡ r.set 1 1 = ap (λ (ks : List SetKey). (get_or ks 1 (set_of 0 0)).number) sets in
+    let other : 1 ≡ r.set 1 2 = ap (λ (ks : List SetKey). (get_or ks 2 (set_of 0 0)).number) sets in
+    let one : 1 ≡ 2 = c.renumbering.sets_apart 1 1 2 (1, omega arith, refl) (2, omega arith, refl)
+    (sym first ∙ other) in
+    omega (arith, one)
+
+-- ---- outcomes
+
+pub one_two_prizes : ¬ (SameGame plain_prize two_prizes)
+one_two_prizes (r, c) =
+    let outcomes = carried_outcomes r plain_prize two_prizes c in
+    let first : 1 ≡ r.outcome 1 = ap (λ ns. get_or ns 0 0) outcomes in
+    let other : 2 ≡ r.outcome 1 = ap (λ ns. get_or ns 1 0) outcomes in
+    omega (arith, first, other)
+
+pub two_one_prizes : ¬ (SameGame two_prizes plain_prize)
+two_one_prizes (r, c) =
+    let outcomes = carried_outcomes r two_prizes plain_prize c in
+    let first : 1 ≡ r.outcome 1 = ap (λ ns. get_or ns 0 0) outcomes in
+    let other : 1 ≡ r.outcome 2 = ap (λ ns. get_or ns 1 0) outcomes in
+    let one : 1 ≡ 2 = c.renumbering.outcomes_apart 1 2 (0, omega arith, refl) (1, omega arith, refl)
+    (sym first ∙ other) in
+    omega (arith, one)
+
+pub null_zero : ¬ (SameGame no_outcome zero_outcome)
+null_zero (r, c) =
+    let e = carried_outcomes r no_outcome zero_outcome c in
+    let n : 1 ≡ 0 = ap length e in omega (arith, n)
+
+pub zero_null : ¬ (SameGame zero_outcome no_outcome)
+zero_null (r, c) =
+    let e = carried_outcomes r zero_outcome no_outcome c in
+    let n : 0 ≡ 1 = ap length e in omega (arith, n)
+
+-- ---- names
+
+unnamed_prize_is_game : IsGame (unnamed_game plain_prize)
+unnamed_prize_is_game = record {
+  one_entry_each_set = refl;
+  one_entry_each_outcome = refl;
+  each_set = (
+    record {
+      player = omega arith;
+      number = omega arith;
+      some_action = omega arith;
+      actions = (refl, (refl, tt));
+    },
+    tt,
+  );
+  each_outcome = (record { number_from_one = omega arith; one_payoff_each = refl }, tt);
+  children = (refl, (refl, (refl, tt)));
+}
+
+pub same_names_aside : SameAsideNames (extensive plain_prize) (extensive renamed_prize)
+same_names_aside = same_itself (unnamed_game plain_prize) unnamed_prize_is_game
+
+pub other_names : ¬ (SameGame plain_prize renamed_prize)
+other_names (r, c) = let n : 115 ≡ 113 = ap (λ bs. get_or bs 0 0) c.title in omega (arith, n)
+
+abbrev key : SetKey
+key = set_of 1 1
+
+-- a game whose only set has these numbers is the same as another only if that set is
+only_set : (g h : Game) → used_sets g.tree ≡ key ∷ [] → used_sets h.tree ≡ key ∷ [] → SameGame g h
+    → set_at g key ≡ set_at h key
+only_set g h e f (r, c) =
+    let images : key ∷ [] ≡ renumbered_set r key ∷ [] =
+    sym f ∙ carried_sets r g h c ∙ ap (map (renumbered_set r)) e in
+    let image : key ≡ renumbered_set r key = ap (λ ks. get_or ks 0 key) images in
+    c.sets key (contains (used_sets g.tree) key (subst (λ ks. Has ks key) (sym e) (inl refl)))
+    ∙ ap (set_at h) (sym image)
+
+-- the labels of a set's actions
+abbrev labels : Option InformationSet → List ℕ
+labels None = []
+labels (Some set) = flat_map (λ a. a.label) set.actions
+
+pub other_label : ¬ (SameGame plain_prize lower_case_prize)
+other_label same =
+    let n : 76 ≡ 108 =
+    ap (λ set. get_or (labels set) 0 0) (only_set plain_prize lower_case_prize refl refl same) in
+    omega (arith, n)
+
+pub other_label_names_aside : ¬ (SameAsideNames (extensive plain_prize)
+    (extensive lower_case_prize))
+other_label_names_aside same =
+    let n : 76 ≡ 108 = ap (λ set. get_or (labels set) 0 0)
+    (only_set (unnamed_game plain_prize) (unnamed_game lower_case_prize) refl refl same) in
+    omega (arith, n)

@@ -1,0 +1,69 @@
+-- The answer of a comparison speaks of whatever the two files mean, and of their canonical texts.
+use Rattle.std.proofs.Common.{◌≡◌, ap, ℕ, Bool, List, Result, Ok, Err, IfErr, IfOk, MatchResult}
+use Rattle.std.proofs.Common.{sym, subst, ◌∙◌}
+use Rattle.std.specs.Prelude.{◌↔◌, IsTrue}
+use Rattle.gf_canon.specs.GameFile.{GameFile, SameFile, SpellsFile, canonical_text}
+use Rattle.gf_canon.specs.Judgement.{IsCanonicalText, MeansFile, SpellsWithin}
+use Rattle.gf_canon.specs.SameBy.{SameBy}
+use Rattle.gf_canon.specs.Sameness.{AreRefusedWith, WantsMemory}
+use Rattle.gf_canon.specs.declared.sameness.Names.{Names}
+use Rattle.gf_canon.specs.declared.sameness.Names.TheVariants.{Kept, Aside}
+use Rattle.gf_canon.specs.declared.sameness.SameFault.{SameFault}
+use Rattle.gf_canon.specs.declared.sameness.SameFault.TheVariants.{First, Second, Memory}
+use Rattle.gf_canon.proofs.lemmas.files.Texts.{equal_canonical_texts, spells_one_file}
+use Rattle.gf_canon.proofs.lemmas.sameness.Unnamed.{same_is_so_aside}
+
+pub same_as_read : (names : Names) (answer : Bool) (a b : List ℕ) (first second : GameFile)
+    → SpellsWithin a first → SpellsWithin b second → IsTrue answer ↔ SameBy names first second
+    → (x y : GameFile) → SpellsWithin a x → SpellsWithin b y → IsTrue answer ↔ SameBy names x y
+same_as_read names answer a b first second of_a of_b same x y of_x of_y =
+    subst (λ (z : GameFile). IsTrue answer ↔ SameBy names z y)
+    (spells_one_file a first x of_a.spelled of_x.spelled)
+    (subst (λ (z : GameFile). IsTrue answer ↔ SameBy names first z)
+    (spells_one_file b second y of_b.spelled of_y.spelled) same)
+
+-- files that both mean something are refused only for lack of memory
+memory_alone : (a b : List ℕ) (fault : SameFault) (x y : GameFile) → SpellsWithin a x
+    → SpellsWithin b y → AreRefusedWith a b fault → WantsMemory fault
+memory_alone a b (First fault) x y of_x of_y refused = refused.unless_memory x of_x
+memory_alone a b (Second fault) x y of_x of_y refused = refused.1.unless_memory y of_y
+memory_alone a b Memory x y of_x of_y refused = tt
+
+-- the first was read
+pub same_as_first : (names : Names) (result : Result Bool SameFault) (a b : List ℕ)
+    (first : GameFile) → SpellsWithin a first
+    → IfOk result (λ answer. (y : GameFile) × SpellsWithin b y
+    × (IsTrue answer ↔ SameBy names first y))
+    → IfErr result (λ fault. (bytes : List ℕ) → MeansFile bytes → AreRefusedWith bytes b fault)
+    → (x y : GameFile) → SpellsWithin a x → SpellsWithin b y
+    → MatchResult result (λ answer. IsTrue answer ↔ SameBy names x y) WantsMemory
+same_as_first names (Ok answer) a b first of_first same refused x y of_x of_y =
+    same_as_read names answer a b first same.0 of_first same.1 same.2 x y of_x of_y
+same_as_first names (Err fault) a b first of_first same refused x y of_x of_y =
+    memory_alone a b fault x y of_x of_y (refused a (first, of_first))
+
+-- files of equal bytes mean the same
+one_meaning : (a b : List ℕ) → a ≡ b → (x y : GameFile) → SpellsWithin a x → SpellsWithin b y
+    → SameFile x y
+one_meaning a b equal x y of_x of_y =
+    let one : x ≡ y =
+    spells_one_file b x y (subst (λ (bytes : List ℕ). SpellsFile bytes x) equal of_x.spelled)
+    of_y.spelled in
+    (equal_canonical_texts a b x y of_x.spelled of_y.spelled).0 (ap canonical_text one)
+
+pub same_as_itself : (names : Names) (a b : List ℕ) → a ≡ b → (x y : GameFile) → SpellsWithin a x
+    → SpellsWithin b y → SameBy names x y
+same_as_itself Kept a b equal x y of_x of_y = one_meaning a b equal x y of_x of_y
+same_as_itself Aside a b equal x y of_x of_y =
+    same_is_so_aside x y (one_meaning a b equal x y of_x of_y)
+
+pub same_as_texts : (result : Result Bool SameFault) (a b s t : List ℕ)
+    → (p : IsCanonicalText a s) → (q : IsCanonicalText b t)
+    → MatchResult result (λ answer. IsTrue answer ↔ SameFile p.file q.file) WantsMemory
+    → IfOk result (λ answer. IsTrue answer ↔ (s ≡ t))
+same_as_texts (Ok answer) a b s t p q same =
+    let texts = equal_canonical_texts a b p.file q.file p.spelled.spelled q.spelled.spelled in (
+      λ yes. p.is_text ∙ texts.1 (same.0 yes) ∙ sym q.is_text,
+      λ e. same.1 (texts.0 (sym p.is_text ∙ e ∙ q.is_text)),
+    )
+same_as_texts (Err fault) a b s t p q same = tt

@@ -1,0 +1,10 @@
+use Rattle.std.proofs.Common.{◌≡◌, ◌++◌, drop}
+use Rattle.gf_nfg.specs.inner.TextParts.{Keeps}
+use Rattle.gf_canon.proofs.lemmas.texts.TextPieces.{labels_left}
+use Rattle.gf_canon.proofs.text.braces.write_labels.Given as goal
+
+abbrev pub invariant-loop-label : goal.invariant-loop-label
+invariant-loop-label l =
+    (l.out.items ++ labels_left (drop l.label-index l.labels)
+    ≡ l.initial.out.items ++ labels_left l.labels)
+    × Keeps l.fn.out.items l.out.items

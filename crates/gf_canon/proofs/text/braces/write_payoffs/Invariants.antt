@@ -1,0 +1,10 @@
+use Rattle.std.proofs.Common.{◌≡◌, ◌++◌, drop}
+use Rattle.gf_nfg.specs.inner.TextParts.{Keeps}
+use Rattle.gf_canon.proofs.lemmas.texts.TextPieces.{payoffs_left}
+use Rattle.gf_canon.proofs.text.braces.write_payoffs.Given as goal
+
+abbrev pub invariant-loop-payoff : goal.invariant-loop-payoff
+invariant-loop-payoff l =
+    (l.out.items ++ payoffs_left (drop l.payoff-index l.payoffs)
+    ≡ l.initial.out.items ++ payoffs_left l.payoffs)
+    × Keeps l.fn.out.items l.out.items

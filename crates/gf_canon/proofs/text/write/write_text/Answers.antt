@@ -1,0 +1,12 @@
+use Rattle.std.proofs.Common.{map}
+use Rattle.gf_token.specs.Label.{label_of}
+use Rattle.gf_canon.proofs.lemmas.texts.TextPieces.{text_done}
+use Rattle.gf_canon.proofs.text.write.write_text.Goals as goal
+
+pub returns-clause-text : goal.returns-clause-text
+returns-clause-text c =
+    text_done c.args.g.now (label_of c.title.result) (label_of c.comment.result)
+    (map label_of c.players.result.now) c.loop-node.node-iterator c.args.out.now.items
+    c.write_heading.new.out.items c.loop-node.out.items c.title.ensures c.comment.ensures
+    c.players.ensures.names c.in_ok-write_heading.ensures.text c.in-None.ensures.steps.0
+    c.loop-node.invariant.0

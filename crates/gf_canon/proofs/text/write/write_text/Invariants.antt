@@ -1,0 +1,10 @@
+use Rattle.std.proofs.Common.{◌≡◌, ◌++◌}
+use Rattle.gf_nfg.specs.inner.TextParts.{Keeps}
+use Rattle.gf_tree.specs.FileNodes.{file_nodes}
+use Rattle.gf_canon.proofs.lemmas.texts.TextPieces.{node_lines}
+use Rattle.gf_canon.proofs.text.write.write_text.Given as goal
+
+abbrev pub invariant-loop-node : goal.invariant-loop-node
+invariant-loop-node l =
+    (l.out.items ++ node_lines l.node-iterator ≡ l.initial.out.items ++ node_lines (file_nodes l.g))
+    × Keeps l.fn.out.items l.out.items

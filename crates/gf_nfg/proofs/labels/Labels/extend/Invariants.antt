@@ -1,6 +1,0 @@
-use Rattle.std.proofs.Common.{◌≡◌, ◌++◌, map, take}
-use Rattle.gf_token.specs.Label.{label_of}
-use Rattle.gf_nfg.proofs.labels.Labels.extend.Given as goal
-
-abbrev pub invariant-loop-label : goal.invariant-loop-label
-invariant-loop-label l = l.self ≡ l.initial.self ++ map label_of (take l.label-index l.labels)

@@ -1,0 +1,5 @@
+pub mod limit
+pub mod places
+pub mod runs
+pub mod tables
+pub mod texts

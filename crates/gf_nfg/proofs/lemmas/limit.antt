@@ -1,0 +1,7 @@
+pub mod Counts
+pub mod Passed
+pub mod Products
+pub mod Stays
+pub mod Tokens
+pub mod Walks
+pub mod Worked

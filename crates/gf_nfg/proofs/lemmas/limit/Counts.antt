@@ -1,0 +1,164 @@
+-- The limit place is where all files that begin with the tokens through it are above the limit.
+use Rattle.std.proofs.Common.{◌≡◌, ℕ, ◌<◌, List, [], ◌∷◌, ◌++◌, length, map}
+use Rattle.std.proofs.Common.{refl, sym, ap, subst, ◌∙◌, append_assoc, arith, inl, inr}
+use Rattle.std.specs.Prelude.{codes, ◌↔◌}
+use Rattle.std.proofs.lemmas.List.{length-append, length-map}
+use Rattle.gf_token.specs.Token.{Token}
+use Rattle.gf_token.specs.Token.Token.{Opening, Closing, Text, Bare}
+use Rattle.gf_token.specs.Grammar.{braced}
+use Rattle.gf_token.specs.declared.fault.Span.{Span}
+use Rattle.gf_nfg.specs.Limit.{profile_limit}
+use Rattle.gf_nfg.specs.Table.{Table}
+use Rattle.gf_nfg.specs.Sentence.{Sentence, IsCount, IsLabelList}
+use Rattle.gf_token.specs.Place.{tokens_of}
+use Rattle.gf_nfg.specs.LimitByFiles.{StaysWithinLimit, IsLimitByFiles}
+use Rattle.gf_nfg.specs.LimitPlace.{GivesCounts, IsLimitPlace}
+use Rattle.gf_nfg.proofs.lemmas.limit.Products.{Strategies, PassesAtLast, by_counts}
+use Rattle.gf_nfg.proofs.lemmas.limit.Products.{entries_counted, past}
+use Rattle.gf_nfg.proofs.lemmas.limit.Walks.{headed, headed_on}
+use Rattle.gf_nfg.proofs.lemmas.limit.Tokens.{last_of, StandsIn, parted, AreGroups, each_parts}
+use Rattle.gf_nfg.proofs.lemmas.limit.Tokens.{IsLimitToken, limit_by_last}
+
+-- ---- a file above the limit has counts that pass it
+
+-- the first of some tokens through which the product of the counts passes the limit
+record Found (tokens : List Token) : Type 0 where
+  front : List Token
+  last : Token
+  rest : List Token
+  counts : List ℕ
+  parts : tokens ≡ front ++ last ∷ rest
+  gives : GivesCounts (front ++ last ∷ []) counts
+  passes : PassesAtLast counts
+
+group_parts : (xs ys : Strategies) (ts : List Token) → AreGroups ts (xs ++ ys)
+    → (front : List Token) × (rest : List Token) × (ts ≡ front ++ rest) × AreGroups front xs
+group_parts xs ys ts (inl h) =
+    let k = each_parts IsCount xs ys ts h in (k.0, k.1, k.2, inl k.3)
+group_parts xs ys ts (inr h) =
+    let k = each_parts IsLabelList xs ys ts h in (k.0, k.1, k.2, inr k.3)
+
+braced_parts : (front rest others : List Token)
+    → braced (front ++ rest) ++ others ≡ Opening ∷ (front ++ (rest ++ Closing ∷ others))
+braced_parts front rest others =
+    let close = append_assoc (front ++ rest) (Closing ∷ []) others in
+    let behind = append_assoc front rest (Closing ∷ others) in
+    ap (λ (ts : List Token). Opening ∷ ts) (close ∙ behind)
+
+found : (tokens : List Token) (t : Table) → Sentence tokens t → profile_limit < length t.entries
+    → Found tokens
+found tokens t s over =
+    let table = s.is_table in
+    let size = entries_counted t table in
+    let c = past t.strategies table.some_strategy (omega (arith, size, over)) in
+    let first = c.front ++ c.labels ∷ [] in
+    let inner = s.is_strategies.0 in
+    let i = group_parts first c.rest inner (subst (AreGroups inner) c.parts s.is_strategies.2) in
+    let others = s.comment ++ s.body in
+    let behind = i.1 ++ Closing ∷ others in
+    let through = headed s.letter t.title t.players (Opening ∷ i.0) in
+    let strategies_are = s.is_strategies.1 ∙ ap braced i.2 in
+    let parts : s.strategies ++ others ≡ (Opening ∷ i.0) ++ behind =
+    ap (λ (ts : List Token). ts ++ others) strategies_are ∙ braced_parts i.0 i.1 others in
+    let whole : tokens ≡ through ++ behind =
+    s.parts ∙ ap (headed s.letter t.title t.players) parts
+    ∙ sym (headed_on s.letter t.title t.players (Opening ∷ i.0) behind) in
+    let l = last_of (Bare (codes "NFG"))
+    (Bare (codes "1") ∷ Bare s.letter ∷ Text t.title
+    ∷ (braced (map Text t.players) ++ Opening ∷ i.0)) in
+    let one_each = table.one_list_each in
+    let all : length t.strategies ≡ length (first ++ c.rest) = ap length c.parts in
+    let more = length-append first c.rest in
+    let same = length-map first length in
+    record {
+      front = l.front;
+      last = l.last;
+      rest = behind;
+      counts = map length first;
+      parts = whole ∙ ap (λ (ts : List Token). ts ++ behind) l.parts
+          ∙ append_assoc l.front (l.last ∷ []) behind;
+      gives = record {
+        letter = s.letter;
+        title = t.title;
+        players = t.players;
+        inner = i.0;
+        strategies = first;
+        parts = sym l.parts;
+        is_letter = s.is_letter;
+        is_inner = i.3;
+        are_counts = refl;
+        some_strategy = (by_counts c.front c.labels c.passes).some;
+        first_players = omega (arith, all, more, same, one_each);
+      };
+      passes = by_counts c.front c.labels c.passes;
+    }
+
+-- ---- there is one such token
+
+none_before : (xs : List Token) (x : Token) (us : List Token)
+    → IsLimitToken xs x → StaysWithinLimit us → ¬ (StandsIn xs x us)
+none_before xs x us h stays stands =
+    let w = stays xs stands.0 x stands.1 h.grows in
+    let over = h.past.past w.0 w.1 w.2 in
+    let within = w.3 in
+    omega (arith, over, within)
+
+one_limit_token : (xs : List Token) (x : Token) (ys us : List Token) (u : Token) (vs : List Token)
+    → xs ++ x ∷ ys ≡ us ++ u ∷ vs → IsLimitToken xs x → IsLimitToken us u
+    → xs ++ x ∷ [] ≡ us ++ u ∷ []
+one_limit_token xs x ys us u vs e h k = elim (parted xs x ys us u vs e) [
+  | inl same ↦ (λ i. same.0 i ++ same.1 i ∷ [])
+  | inr (inl stands) ↦ absurd (none_before xs x us h k.first stands)
+  | inr (inr stands) ↦ absurd (none_before us u xs k h.first stands)
+]
+
+-- ---- the law
+
+place_by_files : (bytes : List ℕ) (span : Span) → IsLimitByFiles bytes span
+    → IsLimitPlace bytes span
+place_by_files bytes span h =
+    let ts = tokens_of h.before in
+    let t = h.lexeme.token in
+    let b = h.past.begins in
+    let file = b.1 in
+    let over = h.past.past b.0 file.0 file.1 in
+    let f = found ((ts ++ t ∷ []) ++ b.0) file.0 file.1 over in
+    let whole = sym f.parts ∙ append_assoc ts (t ∷ []) b.0 in
+    let here : IsLimitToken ts t = record { grows = h.grows; past = h.past; first = h.first } in
+    let there = limit_by_last f.front f.last f.counts f.gives f.passes in
+    let tokens = one_limit_token f.front f.last f.rest ts t b.0 whole there here in
+    record {
+      before = h.before;
+      lexeme = h.lexeme;
+      after = h.after;
+      counts = f.counts;
+      spelled = h.spelled;
+      place = h.place;
+      gives = subst (λ (us : List Token). GivesCounts us f.counts) tokens f.gives;
+      passes = f.passes.passes;
+      nowhere_before = f.passes.nowhere_before;
+    }
+
+files_at_place : (bytes : List ℕ) (span : Span) → IsLimitPlace bytes span
+    → IsLimitByFiles bytes span
+files_at_place bytes span h =
+    let passes : PassesAtLast h.counts = record {
+      some = h.gives.some_strategy;
+      passes = h.passes;
+      nowhere_before = h.nowhere_before;
+    } in
+    let l = limit_by_last (tokens_of h.before) h.lexeme.token h.counts h.gives passes in
+    record {
+      before = h.before;
+      lexeme = h.lexeme;
+      after = h.after;
+      spelled = h.spelled;
+      place = h.place;
+      grows = l.grows;
+      past = l.past;
+      first = l.first;
+    }
+
+pub limit_by_files : (bytes : List ℕ) (span : Span)
+    → IsLimitPlace bytes span ↔ IsLimitByFiles bytes span
+limit_by_files bytes span = (files_at_place bytes span, place_by_files bytes span)

@@ -1,0 +1,9 @@
+pub mod AllBytes
+pub mod DueRows
+pub mod DueTable
+pub mod Heard
+pub mod Judged
+pub mod Led
+pub mod Once
+pub mod Reasons
+pub mod Walk

@@ -1,0 +1,35 @@
+-- Each list of bytes is a file within the limit, or it is refused.
+use Rattle.std.proofs.Common.{◌≡◌, ℕ, List, Result, Ok, Err, length, inl, inr}
+use Rattle.std.specs.Prelude.{◌⊎◌}
+use Rattle.gf_token.specs.Token.{Lexeme}
+use Rattle.gf_token.specs.TokenSpelling.{Spells}
+use Rattle.gf_token.specs.declared.fault.Fault.{Fault}
+use Rattle.gf_token.specs.declared.fault.Span.{Span}
+use Rattle.gf_token.specs.declared.fault.Why.{Why}
+use Rattle.gf_token.proofs.Spelled.{spelled_once}
+use Rattle.gf_nfg.specs.inner.Heard.{read_on}
+use Rattle.gf_nfg.specs.Judgement.{IsRefused}
+use Rattle.gf_nfg.specs.LimitPlace.{IsWithinLimit}
+use Rattle.gf_nfg.specs.inner.Machine.{Content, start}
+use Rattle.gf_nfg.specs.inner.Meaning.{table_of}
+use Rattle.gf_nfg.specs.Table.{Table}
+use Rattle.gf_nfg.specs.TableText.{SpellsTable}
+use Rattle.gf_nfg.proofs.lemmas.places.Heard.{IsAnswered, all_answered}
+use Rattle.gf_nfg.proofs.lemmas.tables.Meaning.{within_limit}
+
+-- read, or refused
+abbrev pub Answered : List ℕ → Type 0
+Answered bytes = ((t : Table) × SpellsTable bytes t × IsWithinLimit t)
+    ⊎ ((why : Why) × (span : Span) × IsRefused why bytes span)
+
+by_answer : (bytes : List ℕ) (all : List Lexeme) (o : Result Content Fault) → Spells 0 bytes all
+    → IsAnswered bytes all o → Answered bytes
+by_answer bytes all (Ok c) spelled a =
+    inl (table_of c, (all, spelled, a.0.sentence), within_limit c a.0.complete a.1)
+by_answer bytes all (Err f) spelled a = inr (f.why, f.span, a)
+
+pub answered : (bytes : List ℕ) → Answered bytes
+answered bytes =
+    let spelled = spelled_once bytes in
+    by_answer bytes spelled.0 (read_on (length bytes) start spelled.0) spelled.1
+    (all_answered bytes spelled.0 spelled.1)

@@ -1,0 +1,287 @@
+-- What the machine answers to the tokens of an input is what the file means, or the refusal that is
+-- due; and at a place that it has passed, memory may be refused.
+use Rattle.std.proofs.Common.{◌≡◌, ℕ, ◌+◌, ◌<◌, ◌≤◌, Bool, true, false, List, [], ◌∷◌, ◌++◌, length}
+use Rattle.std.proofs.Common.{Option, None, Some, Result, Ok, Err, refl, sym, subst, ap, ◌∙◌, arith}
+use Rattle.std.specs.Prelude.{IfErr, if◌then◌else◌}
+use Rattle.gf_token.specs.Place.{tokens_of, IsSpanOf}
+use Rattle.gf_token.specs.Remaining.{AreInOrder, Remaining, StandsBefore}
+use Rattle.gf_token.specs.Token.{Token, Lexeme, lexeme}
+use Rattle.gf_token.specs.Token.Token.{Opening, Closing, Comma, Text, Bare, Broken}
+use Rattle.gf_token.specs.TokenSpelling.{Spells}
+use Rattle.gf_token.specs.declared.fault.Fault.{Fault}
+use Rattle.gf_token.specs.declared.fault.Span.{Span}
+use Rattle.gf_token.specs.declared.fault.What.{What}
+use Rattle.gf_token.specs.declared.fault.Why.{Why}
+use Rattle.gf_token.specs.declared.fault.Why.TheVariants.{Memory, TooLong, TooManyProfiles}
+use Rattle.gf_token.specs.declared.fault.Why.TheVariants.{Unterminated}
+use Rattle.gf_token.proofs.Spelled.{same_tokens}
+use Rattle.gf_token.proofs.TokensAhead.{in_order}
+use Rattle.gf_nfg.specs.inner.Heard.{Answer, Fails, HasPassed, HasPassedPlace, at_end, heard}
+use Rattle.gf_nfg.specs.inner.Heard.{is_past}
+use Rattle.gf_nfg.specs.inner.Heard.{read_on, taken, then_on, within}
+use Rattle.gf_nfg.specs.inner.Heard.Fails.{of_file, of_memory}
+use Rattle.gf_nfg.specs.Judgement.{IsAcceptedWithinLimit, IsJudged, IsRefusal, IsRefused}
+use Rattle.gf_nfg.specs.Limit.{profile_limit}
+use Rattle.gf_nfg.specs.inner.Machine.{Content, State, at, due_at, ended, finish, nothing, start}
+use Rattle.gf_nfg.specs.inner.Machine.{step}
+use Rattle.gf_nfg.specs.inner.Position.{Position as p}
+use Rattle.gf_nfg.specs.Reason.{IsReason}
+use Rattle.gf_nfg.specs.inner.ReaderState.{answer, content_in}
+use Rattle.gf_nfg.specs.declared.reader.Reader.{Reader}
+use Rattle.gf_nfg.proofs.lemmas.places.Judged.{accepted, broken, end_of, err, limit, only_expected}
+use Rattle.gf_nfg.proofs.lemmas.places.Judged.{refusal, refusal_end, span_of}
+use Rattle.gf_nfg.proofs.lemmas.places.Led.{Led, led_more, led_none, read_whole}
+use Rattle.gf_nfg.proofs.lemmas.limit.Stays.{bounded, past}
+use Rattle.gf_nfg.proofs.lemmas.places.Reasons.{IsWhole}
+use Rattle.gf_nfg.proofs.lemmas.runs.Common.{ok_is}
+use Rattle.gf_nfg.proofs.lemmas.runs.Sentence.{Read}
+
+-- ---- reasons
+
+-- no reason is lack of memory or a limit
+no_reason : (before after : List Token) → ¬ (IsReason Memory before after)
+    × ¬ (IsReason TooManyProfiles before after) × ¬ (IsReason TooLong before after)
+no_reason before [] = (λ h. h.0, λ h. h.0, λ h. h.0)
+no_reason before (t ∷ after) = (λ h. h.0, λ h. h.0, λ h. h.0)
+
+refused_by : (why : Why) (bytes : List ℕ) (span : Span) → IsRefusal why bytes span
+    → IsRefused why bytes span
+refused_by Memory bytes span h =
+    absurd ((no_reason (tokens_of h.place.before) (tokens_of h.place.after)).0 h.reason)
+refused_by TooManyProfiles bytes span h =
+    absurd ((no_reason (tokens_of h.place.before) (tokens_of h.place.after)).1 h.reason)
+refused_by TooLong bytes span h =
+    absurd ((no_reason (tokens_of h.place.before) (tokens_of h.place.after)).2 h.reason)
+refused_by why bytes span h = (λ e. absurd cc, h)
+
+-- ---- a token
+
+-- what the machine does at a token: it goes on, and the token is accepted; or it is refused
+data Took (bytes : List ℕ) (all ls : List Lexeme) (l : Lexeme) (o : Result State Why) : Type 0 where
+  goes_on : (after : State) → o ≡ Ok after → Led all ls after
+      → after.content.profiles ≤ profile_limit → IsAcceptedWithinLimit bytes (span_of l)
+      → Took bytes all ls l o
+  refuses : (why : Why) → o ≡ Err why → IsRefused why bytes (span_of l) → Took bytes all ls l o
+
+module _ (bytes : List ℕ) (all : List Lexeme) (spelled : Spells 0 bytes all) where
+  took_past : (s after : State) (l : Lexeme) (ls : List Lexeme) (b : Bool) → Led all (l ∷ ls) s
+      → s.content.profiles ≤ profile_limit → step s l.token ≡ Ok after
+      → is_past after.position after.content.profiles ≡ b
+      → Took bytes all ls l (if b then Err TooManyProfiles else Ok after)
+  took_past s after l ls true h few is over = refuses TooManyProfiles refl (
+    λ same. absurd cc,
+    limit bytes all ls l s after spelled h few is
+        (past after.position after.content.profiles over),
+  )
+  took_past s after l ls false h few is not =
+      let more = bounded s after l.token is few not in
+      goes_on after refl (led_more all ls l s after h is) more
+      (accepted bytes all ls l s after spelled h is more)
+
+  took_step : (s : State) (l : Lexeme) (ls : List Lexeme) (o : Result State Why)
+      → Led all (l ∷ ls) s → s.content.profiles ≤ profile_limit → IsWhole l.token
+      → step s l.token ≡ o → Took bytes all ls l (within o)
+  took_step s l ls (Ok after) h few whole is =
+      took_past s after l ls (is_past after.position after.content.profiles) h few is refl
+  took_step s l ls (Err why) h few whole is = refuses why refl
+      (refused_by why bytes (span_of l) (refusal bytes all ls l s why spelled h few whole is))
+
+  took : (s : State) (start end : ℕ) (t : Token) (ls : List Lexeme)
+      → Led all (lexeme start end t ∷ ls) s → s.content.profiles ≤ profile_limit
+      → Took bytes all ls (lexeme start end t) (taken s t)
+  took s start end Broken ls h few =
+      refuses Unterminated refl
+      (refused_by Unterminated bytes _ (broken bytes all ls start end s spelled h few))
+  took s start end Opening ls h few = took_step s _ ls (step s Opening) h few tt refl
+  took s start end Closing ls h few = took_step s _ ls (step s Closing) h few tt refl
+  took s start end Comma ls h few = took_step s _ ls (step s Comma) h few tt refl
+  took s start end (Text label) ls h few = took_step s _ ls (step s (Text label)) h few tt refl
+  took s start end (Bare b) ls h few = took_step s _ ls (step s (Bare b)) h few tt refl
+
+-- ---- all tokens
+
+-- what is known of an answer: the bytes mean a file within the limit, or they are refused
+abbrev pub IsAnswered : List ℕ → List Lexeme → Result Content Fault → Type 0
+IsAnswered bytes all (Ok c) = Read (tokens_of all) c × (c.profiles ≤ profile_limit)
+IsAnswered bytes all (Err f) = IsRefused f.why bytes f.span
+
+-- the answer if a token is taken so
+abbrev answer_at : ℕ → List Lexeme → Lexeme → Result State Why → Result Content Fault
+answer_at end ls l o = then_on l.start l.end o (λ next. read_on end next ls)
+
+ended_is : (c r : Content) (o : Option What) → ended c o ≡ Ok r → c ≡ r
+ended_is c r None e = ok_is c r e
+ended_is c r (Some expected) e = absurd cc
+
+module _ (bytes : List ℕ) (all : List Lexeme) (spelled : Spells 0 bytes all) where
+  end_answered : (s : State) (o : Result Content Why) → Led all [] s
+      → s.content.profiles ≤ profile_limit → finish s ≡ o
+      → IsAnswered bytes all (at_end (length bytes) o)
+  end_answered s (Ok c) h few e = (
+    read_whole all s c h e,
+    subst (λ (r : Content). r.profiles ≤ profile_limit)
+        (ended_is s.content c (due_at s.position s.due) e) few,
+  )
+  end_answered s (Err why) h few e =
+      let w = only_expected s.content (due_at s.position s.due) why e in
+      subst (λ (x : Why). IsRefused x bytes (end_of (length bytes))) (sym w.1)
+      (λ same. absurd cc, refusal_end bytes all s w.0 spelled h few (e ∙ ap err w.1))
+
+  token_answered : (l : Lexeme) (ls : List Lexeme) (o : Result State Why) → Took bytes all ls l o
+      → ((after : State) → Led all ls after → after.content.profiles ≤ profile_limit
+      → IsAnswered bytes all (read_on (length bytes) after ls))
+      → IsAnswered bytes all (answer_at (length bytes) ls l o)
+  token_answered l ls o (goes_on after is led more accepted) later =
+      subst (λ x. IsAnswered bytes all (answer_at (length bytes) ls l x)) (sym is)
+      (later after led more)
+  token_answered l ls o (refuses why is refused) later =
+      subst (λ x. IsAnswered bytes all (answer_at (length bytes) ls l x)) (sym is) refused
+
+  answered_on : (s : State) (ls : List Lexeme) → Led all ls s → s.content.profiles ≤ profile_limit
+      → IsAnswered bytes all (read_on (length bytes) s ls)
+  answered_on s [] h few = end_answered s (finish s) h few refl
+  answered_on s (l ∷ ls) h few = token_answered l ls (taken s l.token)
+      (took bytes all spelled s l.start l.end l.token ls h few)
+      (λ after led more. answered_on after ls led more)
+
+  pub all_answered : IsAnswered bytes all (read_on (length bytes) start all)
+  all_answered = answered_on start all (led_none all) (omega arith)
+
+-- ---- memory
+
+-- what is refused after a token begins after its start
+passed_on : (end from start : ℕ) → start < from → (s : State) (ls : List Lexeme)
+    → AreInOrder end from ls → HasPassed (read_on end s ls) start
+passed_on end from start less s [] h = by (finish s)
+  where
+    by : (o : Result Content Why) → HasPassed (at_end end o) start
+    by (Ok c) = tt
+    by (Err why) = omega (arith, less, h)
+passed_on end from start less s (l ∷ ls) h =
+    let near = h.0 in let some = h.1 in
+    by (taken s l.token)
+    (λ after. passed_on end l.end start (omega (arith, less, near, some)) after ls h.2)
+  where
+    by : (o : Result State Why) → ((after : State) → HasPassed (read_on end after ls) start)
+        → HasPassed (answer_at end ls l o) start
+    by (Ok after) later = later after
+    by (Err why) later = let near = h.0 in omega (arith, less, near)
+
+-- so if the machine goes on after a token, it has passed the token
+passed_before : (t : Remaining) (span : Span) → StandsBefore t span
+    → (s : State) → HasPassed (read_on (length t.input) s t.ahead) span.start
+passed_before t span h s = passed_on (length t.input) span.end span.start h.some s t.ahead h.order
+
+pub carried : {f : Fault} {a b : Answer} → Fails f b → a ≡ b → Fails f a
+carried {f} {a} {b} h e = subst (Fails f) (sym e) h
+
+pub wants_memory : {f : Fault} {span : Span} {t : Remaining} {a : Answer} → StandsBefore t span
+    → f ≡ record { span = span; why = Memory } → (s : State) → a ≡ heard s t → Fails f a
+wants_memory {f} {span} {t} {a} stands is s goes =
+    subst (λ g. Fails g a) (sym is) (carried (of_memory refl (record {
+      place = stands.place;
+      some = stands.some;
+      passed = passed_before t span stands s;
+    })) goes)
+
+-- ---- at a token that it has passed, memory may run out
+
+module _ (bytes : List ℕ) (all : List Lexeme) (spelled : Spells 0 bytes all) where
+  -- a token after others begins after them
+  begins_later : (end from : ℕ) (before after : List Lexeme) (l : Lexeme)
+      → AreInOrder end from (before ++ l ∷ after) → from ≤ l.start
+  begins_later end from [] after l h = h.0
+  begins_later end from (z ∷ zs) after l h =
+      let far = begins_later end z.end zs after l h.2 in
+      let near = h.0 in let some = h.1 in omega (arith, far, near, some)
+
+  abbrev Accepted : Lexeme → Type 0
+  Accepted l = IsAcceptedWithinLimit bytes (span_of l)
+
+  last_token : (l : Lexeme) (ls : List Lexeme) (o : Result State Why) → Took bytes all ls l o
+      → HasPassed (answer_at (length bytes) ls l o) l.start → Accepted l
+  last_token l ls o (goes_on after is led more accepted) passed = accepted
+  last_token l ls o (refuses why is judged) passed =
+      let p : HasPassed (answer_at (length bytes) ls l (Err why)) l.start =
+      subst (λ x. HasPassed (answer_at (length bytes) ls l x) l.start) is passed in
+      absurd (omega (arith, p))
+
+  first_token : (z l : Lexeme) (ls : List Lexeme) (o : Result State Why) → z.start < l.start
+      → Took bytes all ls z o → HasPassed (answer_at (length bytes) ls z o) l.start
+      → ((after : State) → Led all ls after → after.content.profiles ≤ profile_limit
+      → HasPassed (read_on (length bytes) after ls) l.start → Accepted l)
+      → Accepted l
+  first_token z l ls o less (goes_on after is led more accepted) passed later = later after led more
+      (subst (λ x. HasPassed (answer_at (length bytes) ls z x) l.start) is passed)
+  first_token z l ls o less (refuses why is judged) passed later =
+      let p : HasPassed (answer_at (length bytes) ls z (Err why)) l.start =
+      subst (λ x. HasPassed (answer_at (length bytes) ls z x) l.start) is passed in
+      absurd (omega (arith, less, p))
+
+  passed_token : (from : ℕ) (s : State) (before after : List Lexeme) (l : Lexeme)
+      → AreInOrder (length bytes) from (before ++ l ∷ after) → Led all (before ++ l ∷ after) s
+      → s.content.profiles ≤ profile_limit
+      → HasPassed (read_on (length bytes) s (before ++ l ∷ after)) l.start → Accepted l
+  passed_token from s [] after l order h few passed =
+      last_token l after (taken s l.token)
+      (took bytes all spelled s l.start l.end l.token after h few) passed
+  passed_token from s (z ∷ zs) after l order h few passed =
+      let far = begins_later (length bytes) z.end zs after l order.2 in
+      let some = order.1 in
+      first_token z l (zs ++ l ∷ after) (taken s z.token) (omega (arith, far, some))
+      (took bytes all spelled s z.start z.end z.token (zs ++ l ∷ after) h few) passed
+      (λ next led more p. passed_token z.end next zs after l order.2 led more p)
+
+  -- a place of a token that the machine has passed
+  pub memory_judged : (span : Span) → HasPassedPlace (heard start (record { input = bytes; ahead = all }))
+      span → IsAcceptedWithinLimit bytes span
+  memory_judged span h = at_place h.place.0 h.place.1 h.place.2 h.place.3
+    where
+      none : 0 + length bytes ≡ length bytes
+      none = omega arith
+
+      at_place : (before after : List Lexeme) → Spells 0 bytes (before ++ after)
+          → IsSpanOf after (length bytes) span → IsAcceptedWithinLimit bytes span
+      at_place before [] k place =
+          let a = place.0 in let b = place.1 in let some = h.some in
+          absurd (omega (arith, a, b, some))
+      at_place before (l ∷ after) k place =
+          let same : all ≡ before ++ l ∷ after =
+          same_tokens bytes all (before ++ l ∷ after) spelled k in
+          let order = subst (λ (n : ℕ). AreInOrder n 0 (before ++ l ∷ after)) none
+          (in_order 0 bytes (before ++ l ∷ after) k) in
+          let passed : HasPassed (read_on (length bytes) start (before ++ l ∷ after)) l.start =
+          subst (λ (n : ℕ). HasPassed (read_on (length bytes) start (before ++ l ∷ after)) n) place.0
+          (subst (λ (x : List Lexeme). HasPassed (read_on (length bytes) start x) span.start) same
+          h.passed) in
+          let is : span_of l ≡ span =
+          (λ i. record { start = sym place.0 i; end = sym place.1 i }) in
+          subst (IsAcceptedWithinLimit bytes) is (passed_token 0 start before after l order
+          (subst (λ (x : List Lexeme). Led all x start) same (led_none all)) (omega arith) passed)
+
+-- ---- the answer to all tokens
+
+abbrev pub to_all : List ℕ → List Lexeme → Answer
+to_all bytes all = heard start (record { input = bytes; ahead = all })
+
+pub answer_judged : (bytes : List ℕ) (all : List Lexeme) (fault : Fault) → Spells 0 bytes all
+    → Fails fault (to_all bytes all) → IsJudged fault.why bytes fault.span
+answer_judged bytes all fault spelled (of_file e) =
+    (subst (IsAnswered bytes all) e (all_answered bytes all spelled)).1
+answer_judged bytes all fault spelled (of_memory is h) =
+    subst (λ why. IsJudged why bytes fault.span) (sym is)
+    (memory_judged bytes all spelled fault.span h)
+
+pub answer_read : (bytes : List ℕ) (all : List Lexeme) (c : Content) → Spells 0 bytes all
+    → (to_all bytes all).machine ≡ Ok c → Read (tokens_of all) c
+answer_read bytes all c spelled e =
+    (subst (IsAnswered bytes all) e (all_answered bytes all spelled)).0
+
+pub heard_begun : (r : Reader) (bytes : List ℕ) → r.tokens.input ≡ bytes
+    → content_in r.heading ≡ nothing → to_all bytes r.tokens.ahead ≡ answer p.Format 0 0 r
+heard_begun r bytes input none =
+    λ i. heard (at p.Format 0 0 0 (sym none i)) (record { input = sym input i; ahead = r.tokens.ahead })
+
+pub refused_why : {A : Type 0} (f : Fault) (P : Fault → Type 0) (result : Result A Fault)
+    → result ≡ Err f → P f → IfErr result P
+refused_why f P result e h = subst (λ r. IfErr r P) (sym e) h

@@ -1,0 +1,199 @@
+-- Where the reader refuses, no file goes on, or each file that does is above the limit.
+use Rattle.std.proofs.Common.{◌≡◌, ℕ, ◌<◌, ◌≤◌, List, [], ◌∷◌, ◌++◌, length}
+use Rattle.std.proofs.Common.{Option, None, Some, Result, Ok, Err}
+use Rattle.std.proofs.Common.{refl, sym, ap, subst, ◌∙◌, append_assoc, arith}
+use Rattle.std.proofs.lemmas.List.{append-nil, map-append}
+use Rattle.gf_token.specs.Token.{Token, Lexeme, lexeme}
+use Rattle.gf_token.specs.Token.Token.{Broken}
+use Rattle.gf_token.specs.TokenSpelling.{Spells}
+use Rattle.gf_token.specs.declared.fault.Fault.{Fault}
+use Rattle.gf_token.specs.declared.fault.Span.{Span}
+use Rattle.gf_token.specs.declared.fault.What.{What}
+use Rattle.gf_token.specs.declared.fault.Why.{Why}
+use Rattle.gf_token.specs.declared.fault.Why.TheVariants.{TooLong, Unterminated, Expected}
+use Rattle.gf_token.specs.declared.fault.Why.TheVariants.{Memory, TooManyProfiles}
+use Rattle.gf_nfg.specs.Limit.{profile_limit}
+use Rattle.gf_nfg.specs.Table.{Table}
+use Rattle.gf_nfg.specs.Sentence.{Sentence, IsStrategicFile}
+use Rattle.gf_nfg.specs.TableText.{SpellsTable}
+use Rattle.gf_token.specs.Place.{tokens_of, IsOffendingPlace}
+use Rattle.gf_nfg.specs.LimitPlace.{IsLimitPlace, IsWithinLimit}
+use Rattle.gf_nfg.specs.inner.Machine.{State, Content, step, finish, due_at, ended}
+use Rattle.gf_nfg.specs.Judgement.{IsRefusal, IsAcceptedWithinLimit, IsJudged}
+use Rattle.gf_token.proofs.Places.{no_file as refused_no_file}
+use Rattle.gf_nfg.proofs.lemmas.limit.Counts.{limit_by_files}
+use Rattle.gf_nfg.proofs.lemmas.limit.Passed.{later, nowhere}
+use Rattle.gf_nfg.proofs.lemmas.runs.Ends.{broken_refused}
+use Rattle.gf_nfg.proofs.lemmas.places.Led.{Led, spelled_as}
+use Rattle.gf_nfg.proofs.lemmas.limit.Stays.{makes_more, read_past, stays_within}
+use Rattle.gf_nfg.proofs.lemmas.places.Walk.{leads_more, begins, refused, no_file}
+use Rattle.gf_nfg.proofs.lemmas.places.Reasons.{IsWhole, reason, broken_reason, end_reason}
+
+abbrev pub span_of : Lexeme → Span
+span_of l = record { start = l.start; end = l.end }
+
+abbrev pub end_of : ℕ → Span
+end_of size = record { start = size; end = size }
+
+-- ---- a token that is refused
+
+abbrev offending : (bytes : List ℕ) (all rest : List Lexeme) (l : Lexeme) (s : State) (why : Why)
+    → Spells 0 bytes all → Led all (l ∷ rest) s → step s l.token ≡ Err why
+    → IsOffendingPlace IsStrategicFile bytes (span_of l)
+offending bytes all rest l s why spelled h e = record {
+  before = h.seen;
+  after = l ∷ rest;
+  spelled = subst (λ (ls : List Lexeme). Spells 0 bytes ls) h.parts spelled;
+  place = (refl, refl);
+  begins = begins (tokens_of h.seen) s h.leads;
+  refused = refused (tokens_of h.seen) l.token s why h.leads e;
+}
+
+pub refusal : (bytes : List ℕ) (all rest : List Lexeme) (l : Lexeme) (s : State) (why : Why)
+    → Spells 0 bytes all → Led all (l ∷ rest) s → s.content.profiles ≤ profile_limit
+    → IsWhole l.token → step s l.token ≡ Err why → IsRefusal why bytes (span_of l)
+refusal bytes all rest l s why spelled h within whole e = record {
+  place = offending bytes all rest l s why spelled h e;
+  reason = reason (tokens_of h.seen) (tokens_of rest) l.token s why h.leads whole e;
+  within = nowhere bytes (span_of l) (offending bytes all rest l s why spelled h e)
+      (stays_within (tokens_of h.seen) s h.leads within);
+}
+
+pub limit : (bytes : List ℕ) (all rest : List Lexeme) (l : Lexeme) (s after : State)
+    → Spells 0 bytes all → Led all (l ∷ rest) s → s.content.profiles ≤ profile_limit
+    → step s l.token ≡ Ok after → profile_limit < after.content.profiles
+    → IsLimitPlace bytes (span_of l)
+limit bytes all rest l s after spelled h within e over =
+    let leads = leads_more (tokens_of h.seen) l.token s after h.leads e in
+    (limit_by_files bytes (span_of l)).1 (record {
+      before = h.seen;
+      lexeme = l;
+      after = rest;
+      spelled = subst (λ (ls : List Lexeme). Spells 0 bytes ls) h.parts spelled;
+      place = (refl, refl);
+      grows = makes_more s after l.token e (omega (arith, within, over));
+      past = record {
+        begins = begins (tokens_of h.seen ++ l.token ∷ []) after leads;
+        past = λ more t sentence.
+            let grown = read_past (tokens_of h.seen ++ l.token ∷ []) after leads more t sentence in
+            omega (arith, over, grown);
+      };
+      first = stays_within (tokens_of h.seen) s h.leads within;
+    })
+
+-- a token that is not refused
+pub accepted : (bytes : List ℕ) (all rest : List Lexeme) (l : Lexeme) (s after : State)
+    → Spells 0 bytes all → Led all (l ∷ rest) s → step s l.token ≡ Ok after
+    → after.content.profiles ≤ profile_limit → IsAcceptedWithinLimit bytes (span_of l)
+accepted bytes all rest l s after spelled h e within =
+    let through = tokens_of h.seen ++ l.token ∷ [] in
+    let leads = leads_more (tokens_of h.seen) l.token s after h.leads e in
+    let parts = subst (λ (ls : List Lexeme). Spells 0 bytes ls) h.parts spelled in
+    record {
+      place = record {
+        before = h.seen;
+        after = l ∷ rest;
+        spelled = parts;
+        place = (refl, refl);
+        accepted = begins through after leads;
+      };
+      within = later bytes h.seen rest l parts (stays_within through after leads within);
+    }
+
+-- ---- an unterminated text
+
+pub broken : (bytes : List ℕ) (all rest : List Lexeme) (from to : ℕ) (s : State)
+    → Spells 0 bytes all → Led all (lexeme from to Broken ∷ rest) s
+    → s.content.profiles ≤ profile_limit
+    → IsRefusal Unterminated bytes (record { start = from; end = to })
+broken bytes all rest from to s spelled h within =
+    let b = broken_refused s in
+    let l = lexeme from to Broken in
+    record {
+      place = offending bytes all rest l s b.0 spelled h b.1;
+      reason = broken_reason (tokens_of h.seen) (tokens_of rest);
+      within = nowhere bytes (span_of l) (offending bytes all rest l s b.0 spelled h b.1)
+          (stays_within (tokens_of h.seen) s h.leads within);
+    }
+
+-- ---- the end
+
+pub refusal_end : (bytes : List ℕ) (all : List Lexeme) (s : State) (expected : What)
+    → Spells 0 bytes all → Led all [] s → s.content.profiles ≤ profile_limit
+    → finish s ≡ Err (Expected expected)
+    → IsRefusal (Expected expected) bytes (end_of (length bytes))
+refusal_end bytes all s expected spelled h within e =
+    let off : IsOffendingPlace IsStrategicFile bytes (end_of (length bytes)) = record {
+      before = h.seen;
+      after = [];
+      spelled = subst (λ (ls : List Lexeme). Spells 0 bytes ls) h.parts spelled;
+      place = (refl, refl);
+      begins = begins (tokens_of h.seen) s h.leads;
+      refused = no_file (tokens_of h.seen) s (Expected expected) h.leads e;
+    } in
+    record {
+      place = off;
+      reason = end_reason (tokens_of h.seen) s expected h.leads e;
+      within = nowhere bytes (end_of (length bytes)) off
+          (stays_within (tokens_of h.seen) s h.leads within);
+    }
+
+abbrev pub err : Why → Result Content Why
+err why = Err why
+
+pub only_expected : (c : Content) (o : Option What) (why : Why) → ended c o ≡ Err why
+    → (what : What) × (why ≡ Expected what)
+only_expected c None why e = absurd cc
+only_expected c (Some what) why e = (what, cc)
+
+-- no table within the limit passes it
+all_past : (bytes : List ℕ) (span : Span) (t : Table)
+    → IsLimitPlace bytes span → SpellsTable bytes t → IsWithinLimit t → ⊥
+all_past bytes span t place k within =
+    let h = (limit_by_files bytes span).0 place in
+    let sentence = spelled_as bytes (h.before ++ h.lexeme ∷ h.after) t h.spelled k in
+    let over = h.past.past (tokens_of h.after) t (subst (λ (x : List Token). Sentence x t)
+    (map-append (λ (x : Lexeme). x.token) h.before (h.lexeme ∷ h.after)
+    ∙ sym (append_assoc (tokens_of h.before) (h.lexeme.token ∷ []) (tokens_of h.after)))
+    sentence) in
+    omega (arith, over, within)
+
+-- a file within the limit is accepted through its end
+accepted_whole : (bytes : List ℕ) (t : Table) → SpellsTable bytes t → IsWithinLimit t
+    → IsAcceptedWithinLimit bytes (end_of (length bytes))
+accepted_whole bytes t h within = record {
+  place = record {
+    before = h.0;
+    after = [];
+    spelled = subst (λ (ls : List Lexeme). Spells 0 bytes ls) (sym (append-nil h.0)) h.1;
+    place = (refl, refl);
+    accepted = (t, h.2);
+  };
+  within = λ limit place. absurd (all_past bytes limit t place h within);
+}
+
+-- so that memory may be wanted there
+pub memory_at_end : (bytes : List ℕ) (t : Table) (fault : Fault) (why : Why) → SpellsTable bytes t
+    → IsWithinLimit t → fault ≡ record { span = end_of (length bytes); why = why } → why ≡ Memory
+    → IsJudged fault.why bytes fault.span
+memory_at_end bytes t fault why h within is memory =
+    let P : Why → Type 0 = λ w. IsJudged w bytes (end_of (length bytes)) in
+    subst (λ (f : Fault). IsJudged f.why bytes f.span) (sym is)
+    (subst P (sym memory) (accepted_whole bytes t h within))
+
+-- ---- no table within the limit is refused but for lack of memory
+
+none_spelled : (bytes : List ℕ) (span : Span) (t : Table)
+    → IsOffendingPlace IsStrategicFile bytes span → SpellsTable bytes t → ⊥
+none_spelled bytes span t h k =
+    let sentence = spelled_as bytes (h.before ++ h.after) t h.spelled k in
+    let parts = map-append (λ (x : Lexeme). x.token) h.before h.after in
+    refused_no_file IsStrategicFile (tokens_of h.before) (tokens_of h.after) h.refused
+    (t, subst (λ (x : List Token). Sentence x t) parts sentence)
+
+pub only_memory : (why : Why) (bytes : List ℕ) (span : Span) (t : Table)
+    → IsJudged why bytes span → SpellsTable bytes t → IsWithinLimit t → why ≡ Memory
+only_memory Memory bytes span t h k within = refl
+only_memory TooManyProfiles bytes span t h k within = absurd (all_past bytes span t h k within)
+only_memory TooLong bytes span t h k within = absurd h
+only_memory _ bytes span t h k within = absurd (none_spelled bytes span t h.place k)

@@ -1,0 +1,62 @@
+-- What the tokens so far have led the machine to, and what follows from it for the whole input.
+use Rattle.std.proofs.Common.{◌≡◌, ℕ, List, [], ◌∷◌, ◌++◌, Result, Ok}
+use Rattle.std.proofs.Common.{refl, sym, ap, subst, ◌∙◌, append_assoc}
+use Rattle.std.proofs.lemmas.List.{map-append}
+use Rattle.gf_token.specs.Token.{Token, Lexeme}
+use Rattle.gf_token.specs.TokenSpelling.{Spells}
+use Rattle.gf_token.specs.declared.fault.Why.{Why}
+use Rattle.gf_token.proofs.Spelled.{same_tokens}
+use Rattle.gf_nfg.specs.Table.{Table}
+use Rattle.gf_nfg.specs.Sentence.{Sentence}
+use Rattle.gf_nfg.specs.TableText.{SpellsTable}
+use Rattle.gf_token.specs.Place.{tokens_of}
+use Rattle.gf_nfg.specs.inner.Machine.{State, Content, run, step, finish, start}
+use Rattle.gf_nfg.specs.inner.Meaning.{table_of}
+use Rattle.gf_nfg.proofs.lemmas.runs.Sentence.{Read, sentence_found, one_table}
+use Rattle.gf_nfg.proofs.lemmas.places.Walk.{Leads, leads_more, leads_run}
+
+pub record Led (all rest : List Lexeme) (s : State) : Type 0 where
+  pub seen : List Lexeme
+  pub parts : all ≡ seen ++ rest
+  pub leads : Leads (tokens_of seen) s
+
+pub led_none : (all : List Lexeme) → Led all all start
+led_none all = record { seen = []; parts = refl; leads = refl }
+
+pub led_more : (all rest : List Lexeme) (l : Lexeme) (s after : State)
+    → Led all (l ∷ rest) s → step s l.token ≡ Ok after → Led all rest after
+led_more all rest l s after h e = record {
+  seen = h.seen ++ l ∷ [];
+  parts = h.parts ∙ sym (append_assoc h.seen (l ∷ []) rest);
+  leads = subst (λ (ts : List Token). Leads ts after)
+      (sym (map-append (λ (x : Lexeme). x.token) h.seen (l ∷ [])))
+      (leads_more (tokens_of h.seen) l.token s after h.leads e);
+}
+
+-- ---- the end
+
+all_read : (all : List Lexeme) (s : State) (o : Result Content Why) → Led all [] s → finish s ≡ o
+    → run start (tokens_of all) ≡ o
+all_read all s o h e =
+    let k : tokens_of all ≡ tokens_of h.seen ++ [] =
+    ap tokens_of h.parts ∙ map-append (λ (x : Lexeme). x.token) h.seen [] in
+    ap (run start) k ∙ leads_run (tokens_of h.seen) [] s h.leads ∙ e
+
+pub read_whole : (all : List Lexeme) (s : State) (r : Content) → Led all [] s → finish s ≡ Ok r
+    → Read (tokens_of all) r
+read_whole all s r h e = sentence_found (tokens_of all) r (all_read all s (Ok r) h e)
+
+-- and so one table at most
+pub spelled_as : (bytes : List ℕ) (all : List Lexeme) (t : Table)
+    → Spells 0 bytes all → SpellsTable bytes t → Sentence (tokens_of all) t
+spelled_as bytes all t h k =
+    subst (λ (ls : List Lexeme). Sentence (tokens_of ls) t) (same_tokens bytes k.0 all k.1 h) k.2
+
+pub spells_one_table : (bytes : List ℕ) (t u : Table) → SpellsTable bytes t → SpellsTable bytes u
+    → t ≡ u
+spells_one_table bytes t u h k = one_table (tokens_of h.0) t u h.2 (spelled_as bytes h.0 u h.1 k)
+
+pub only_table : (bytes : List ℕ) (all : List Lexeme) (r : Content) (t : Table)
+    → Spells 0 bytes all → Read (tokens_of all) r → SpellsTable bytes t → table_of r ≡ t
+only_table bytes all r t h read k =
+    one_table (tokens_of all) (table_of r) t read.sentence (spelled_as bytes all t h k)

@@ -1,0 +1,61 @@
+-- A strategic file is refused at one place, with one code.
+use Rattle.std.proofs.Common.{◌≡◌, ℕ, List, length}
+use Rattle.std.proofs.Common.{refl, sym, ap, subst, ◌∙◌, inl, inr}
+use Rattle.std.specs.Prelude.{◌⊎◌}
+use Rattle.gf_token.specs.Token.{Lexeme}
+use Rattle.gf_token.specs.Code.{code_of}
+use Rattle.gf_token.specs.Place.{tokens_of, IsSpanOf}
+use Rattle.gf_token.specs.declared.fault.Span.{Span}
+use Rattle.gf_token.specs.declared.fault.Why.{Why}
+use Rattle.gf_token.specs.declared.fault.Why.TheVariants.{Memory, TooManyProfiles, TooLong}
+use Rattle.gf_token.proofs.Places.{one_span, one_offending_place, one_code}
+use Rattle.gf_nfg.specs.Table.{Table}
+use Rattle.gf_nfg.specs.Sentence.{IsStrategicFile}
+use Rattle.gf_nfg.specs.TableText.{SpellsTable}
+use Rattle.gf_nfg.specs.LimitPlace.{IsLimitPlace, IsWithinLimit}
+use Rattle.gf_nfg.specs.Due.{IsDue}
+use Rattle.gf_nfg.specs.Reason.{Holds, IsReason}
+use Rattle.gf_nfg.specs.Judgement.{IsRefusal, IsJudged, IsRefused}
+use Rattle.gf_nfg.proofs.lemmas.limit.Passed.{one_limit_place}
+use Rattle.gf_nfg.proofs.lemmas.places.Judged.{only_memory}
+
+-- ---- one judgement
+
+refusal_or_limit : (why : Why) (bytes : List ℕ) (s : Span) → ¬ (why ≡ Memory) → IsJudged why bytes s
+    → IsRefusal why bytes s ⊎ ((why ≡ TooManyProfiles) × IsLimitPlace bytes s)
+refusal_or_limit Memory bytes s some h = absurd (some refl)
+refusal_or_limit TooManyProfiles bytes s some h = inr (refl, h)
+refusal_or_limit TooLong bytes s some h = absurd h
+refusal_or_limit why bytes s some h = inl h
+
+one_refusal : (why other : Why) (bytes : List ℕ) (s t : Span)
+    → IsRefusal why bytes s → IsRefusal other bytes t → (s ≡ t) × (code_of why ≡ code_of other)
+one_refusal why other bytes s t h k =
+    let same = one_offending_place IsStrategicFile bytes s t h.place k.place in (
+      one_span h.place.after (length bytes) s t h.place.place
+          (subst (λ (ls : List Lexeme). IsSpanOf ls (length bytes) t) (sym same.1) k.place.place),
+      one_code (λ code. Holds code (tokens_of h.place.before) (tokens_of h.place.after))
+          (λ what. IsDue (tokens_of h.place.before) what) why other h.reason
+          (subst (λ (ls : List Lexeme). IsReason other (tokens_of ls) (tokens_of h.place.after))
+          (sym same.0)
+          (subst (λ (ls : List Lexeme). IsReason other (tokens_of k.place.before) (tokens_of ls))
+          (sym same.1) k.reason)),
+    )
+
+pub refused_once : (bytes : List ℕ) (why other : Why) (s t : Span)
+    → IsRefused why bytes s → IsRefused other bytes t → (s ≡ t) × (code_of why ≡ code_of other)
+refused_once bytes why other s t h k = elim (refusal_or_limit why bytes s h.0 h.1) [
+  | inl a ↦ elim (refusal_or_limit other bytes t k.0 k.1) [
+    | inl b ↦ one_refusal why other bytes s t a b
+    | inr b ↦ absurd (a.within t b.1)
+  ]
+  | inr a ↦ elim (refusal_or_limit other bytes t k.0 k.1) [
+    | inl b ↦ absurd (b.within s a.1)
+    | inr b ↦ (one_limit_place bytes s t a.1 b.1, ap code_of (a.0 ∙ sym b.0))
+  ]
+]
+
+-- what is refused is not a file within the limit
+pub not_both : (bytes : List ℕ) (t : Table) (why : Why) (s : Span)
+    → SpellsTable bytes t → IsWithinLimit t → ¬ (IsRefused why bytes s)
+not_both bytes t why s spelled within h = h.0 (only_memory why bytes s t h.1 spelled within)

@@ -1,0 +1,331 @@
+-- The code of each refusal is the reason for it.
+use Rattle.std.proofs.Common.{◌≡◌, ℕ, ◌≤◌, Bool, true, false, List, [], ◌∷◌}
+use Rattle.std.proofs.Common.{◌++◌, map, Option, Some, None, Result, Ok, Err}
+use Rattle.std.proofs.Common.{refl, sym, ap, subst, ◌∙◌, arith, inl, inr}
+use Rattle.std.specs.Prelude.{codes, nat_eq}
+use Rattle.std.specs.Cmp.Lexicographic.{pointwise}
+use Rattle.gf_token.specs.Token.{Token}
+use Rattle.gf_token.specs.Token.Token.{Opening, Closing, Comma, Text, Bare, Broken}
+use Rattle.gf_token.specs.Index.{IsIndex}
+use Rattle.gf_token.specs.Code.{code_of}
+use Rattle.gf_token.specs.NumberWhy.{why_of}
+use Rattle.gf_token.specs.declared.fault.What.{What}
+use Rattle.gf_token.specs.declared.fault.What.TheVariants as what
+use Rattle.gf_token.specs.declared.fault.Why.{Why}
+use Rattle.gf_token.specs.declared.fault.Why.TheVariants.{Unterminated, Expected, NotANumber}
+use Rattle.gf_token.specs.declared.fault.Why.TheVariants.{ZeroDenominator, NumberTooLarge}
+use Rattle.gf_token.specs.declared.fault.Why.TheVariants.{BadIndex, NoEntry, UnknownOutcome}
+use Rattle.gf_fraction.specs.NumberSpelling.{HasNumberFault}
+use Rattle.gf_fraction.specs.Computed.{number_of, lowest_of, gcd_within}
+use Rattle.gf_fraction.specs.declared.fraction.NumberFault.{NumberFault}
+use Rattle.gf_fraction.specs.declared.fraction.NumberFault.TheVariants as number
+use Rattle.gf_fraction.proofs.ComputedAnswers.{number_is}
+use Rattle.gf_fraction.proofs.ReadingBack.{same_fault}
+use Rattle.gf_token.specs.Place.{Begins, MayFollow}
+use Rattle.gf_nfg.specs.Sentence.{IsStrategicFile}
+use Rattle.gf_nfg.specs.Due.{Role, Suits, RoleIsDue, IsDue}
+use Rattle.gf_nfg.specs.Due.Role.{Format, Version, Letter, Count, Payoff, OutcomeNumber}
+use Rattle.gf_nfg.specs.Reason.{Applies, IsReason}
+use Rattle.gf_token.specs.Indices.{index_of, count_of}
+use Rattle.gf_nfg.specs.inner.Machine.{State, step, finish}
+use Rattle.gf_token.proofs.ReadingIndices.{index_is, index_again, count_is, count_again}
+use Rattle.gf_nfg.proofs.lemmas.runs.Ends.{zero_text, zero_number, zero_is_number, zero_is_index}
+use Rattle.gf_nfg.proofs.lemmas.places.Walk.{Leads, leads_on, begins, stops}
+use Rattle.gf_nfg.proofs.lemmas.places.DueRows.{Accepts, AcceptsBare, RefusesBare}
+use Rattle.gf_nfg.proofs.lemmas.places.DueRows.{RefusesClosing, Refuses, Answers, no}
+use Rattle.gf_nfg.proofs.lemmas.places.DueTable.{Stands, EndsAs, stands, may_follow}
+use Rattle.gf_nfg.proofs.lemmas.places.DueTable.{role_is_due, expected_is_due, two_texts}
+
+-- ---- no two roles of numbers are due at one place
+
+abbrev two_text : List ℕ
+two_text = codes "2"
+
+abbrev signed_text : List ℕ
+signed_text = codes "-0"
+
+zero_suits_payoff : Suits Payoff zero_text
+zero_suits_payoff = (zero_number, number_is zero_text zero_number zero_is_number)
+
+signed_is_number : number_of signed_text ≡ Ok zero_number
+unfolding number_of lowest_of gcd_within
+signed_is_number = refl
+
+signed_is_no_index : index_of signed_text ≡ None
+unfolding index_of
+signed_is_no_index = refl
+
+zero_is_no_count : count_of zero_text ≡ None
+unfolding index_of
+zero_is_no_count = refl
+
+two_is_count : count_of two_text ≡ Some 2
+unfolding index_of
+two_is_count = refl
+
+zero_suits_outcome : (outcomes : ℕ) → Suits (OutcomeNumber outcomes) zero_text
+zero_suits_outcome outcomes = (0, index_is zero_text 0 zero_is_index, omega arith)
+
+two_suits_count : Suits Count two_text
+two_suits_count = let h = count_is two_text 2 two_is_count in (2, h.1, h.0)
+
+no_zero_count : ¬ (Suits Count zero_text)
+no_zero_count h = let f = count_again zero_text h.0 h.2 h.1 in let e = zero_is_no_count in absurd cc
+
+not_payoff_and_count : (ts : List Token) → RoleIsDue ts Payoff → ¬ (RoleIsDue ts Count)
+not_payoff_and_count ts h k = no_zero_count ((k zero_text).0 ((h zero_text).1 zero_suits_payoff))
+
+not_outcome_and_count : (ts : List Token) (outcomes : ℕ) → RoleIsDue ts (OutcomeNumber outcomes)
+    → ¬ (RoleIsDue ts Count)
+not_outcome_and_count ts outcomes h k =
+    no_zero_count ((k zero_text).0 ((h zero_text).1 (zero_suits_outcome outcomes)))
+
+not_payoff_and_outcome : (ts : List Token) (outcomes : ℕ) → RoleIsDue ts Payoff
+    → ¬ (RoleIsDue ts (OutcomeNumber outcomes))
+not_payoff_and_outcome ts outcomes h k =
+    let g = (k signed_text).0
+    ((h signed_text).1 (zero_number, number_is signed_text zero_number signed_is_number)) in
+    let f = index_again signed_text g.0 g.1 in
+    let e = signed_is_no_index in
+    absurd cc
+
+-- ---- the lowest code
+
+abbrev Lowest : Why → List Token → Token → Type 0
+Lowest why ts t = (other : Why) → Applies other ts t → code_of why ≤ code_of other
+
+number_code : (f g : NumberFault) → f ≡ g → code_of (why_of f) ≤ code_of (why_of g)
+number_code f g e =
+    subst (λ (x : NumberFault). code_of (why_of f) ≤ code_of (why_of x)) e (omega arith)
+
+lowest_number : (ts : List Token) (b : List ℕ) (fault : NumberFault)
+    → RoleIsDue ts Payoff → HasNumberFault b fault → Lowest (why_of fault) ts (Bare b)
+lowest_number ts b fault h k NotANumber g =
+    number_code fault number.NotANumber (same_fault b fault number.NotANumber k g.1)
+lowest_number ts b fault h k ZeroDenominator g =
+    number_code fault number.ZeroDenominator (same_fault b fault number.ZeroDenominator k g.1)
+lowest_number ts b fault h k NumberTooLarge g =
+    number_code fault number.TooLarge (same_fault b fault number.TooLarge k g.1)
+lowest_number ts b fault h k BadIndex (inl g) = absurd (not_payoff_and_count ts h g.0)
+lowest_number ts b fault h k BadIndex (inr g) = absurd (not_payoff_and_outcome ts g.0 h g.1.0)
+lowest_number ts b fault h k UnknownOutcome g = absurd (not_payoff_and_outcome ts g.0 h g.1.0)
+lowest_number ts b fault h k _ g = absurd g
+
+lowest_index : (ts : List Token) (b : List ℕ) → ¬ (RoleIsDue ts Payoff)
+    → Lowest BadIndex ts (Bare b)
+lowest_index ts b h NotANumber g = absurd (h g.0)
+lowest_index ts b h ZeroDenominator g = absurd (h g.0)
+lowest_index ts b h NumberTooLarge g = absurd (h g.0)
+lowest_index ts b h BadIndex g = omega arith
+lowest_index ts b h UnknownOutcome g = omega arith
+lowest_index ts b h _ g = absurd g
+
+lowest_outcome : (ts : List Token) (b : List ℕ) (outcomes n : ℕ)
+    → RoleIsDue ts (OutcomeNumber outcomes) → IsIndex b n → Lowest UnknownOutcome ts (Bare b)
+lowest_outcome ts b outcomes n h k NotANumber g = absurd (not_payoff_and_outcome ts outcomes g.0 h)
+lowest_outcome ts b outcomes n h k ZeroDenominator g =
+    absurd (not_payoff_and_outcome ts outcomes g.0 h)
+lowest_outcome ts b outcomes n h k NumberTooLarge g =
+    absurd (not_payoff_and_outcome ts outcomes g.0 h)
+lowest_outcome ts b outcomes n h k BadIndex (inl g) =
+    absurd (not_outcome_and_count ts outcomes h g.0)
+lowest_outcome ts b outcomes n h k BadIndex (inr g) = absurd (g.1.1 n k)
+lowest_outcome ts b outcomes n h k UnknownOutcome g = omega arith
+lowest_outcome ts b outcomes n h k _ g = absurd g
+
+lowest_entry : (ts : List Token) → Lowest NoEntry ts Closing
+lowest_entry ts NoEntry g = omega arith
+lowest_entry ts _ g = absurd g
+
+lowest_broken : (ts : List Token) → Lowest Unterminated ts Broken
+lowest_broken ts Unterminated g = omega arith
+lowest_broken ts _ g = absurd g
+
+-- ---- if none applies
+
+abbrev NoneApplies : List Token → Token → Type 0
+NoneApplies ts t = (why : Why) → ¬ (Applies why ts t)
+
+-- if neither 0 nor 2 may follow
+none_of_bare : (ts : List Token) (b : List ℕ) → ¬ (MayFollow IsStrategicFile ts (Bare zero_text))
+    → ¬ (MayFollow IsStrategicFile ts (Bare two_text)) → NoneApplies ts (Bare b)
+none_of_bare ts b z t NotANumber g = z ((g.0 zero_text).1 zero_suits_payoff)
+none_of_bare ts b z t ZeroDenominator g = z ((g.0 zero_text).1 zero_suits_payoff)
+none_of_bare ts b z t NumberTooLarge g = z ((g.0 zero_text).1 zero_suits_payoff)
+none_of_bare ts b z t BadIndex (inl g) = t ((g.0 two_text).1 two_suits_count)
+none_of_bare ts b z t BadIndex (inr g) = z ((g.1.0 zero_text).1 (zero_suits_outcome g.0))
+none_of_bare ts b z t UnknownOutcome g = z ((g.1.0 zero_text).1 (zero_suits_outcome g.0))
+none_of_bare ts b z t _ g = absurd g
+
+none_of_closing : (ts : List Token) → ¬ (Begins IsStrategicFile (ts ++ two_texts))
+    → NoneApplies ts Closing
+none_of_closing ts h NoEntry g = h (g.0 ([] ∷ [] ∷ []))
+none_of_closing ts h _ g = absurd g
+
+-- ---- the reason at a token
+
+abbrev Reason : List Token → List Token → Token → Why → Type 0
+Reason ts after t why = IsReason why ts (t ∷ after)
+
+number_reason : (ts after : List Token) (b : List ℕ) (fault : NumberFault)
+    → RoleIsDue ts Payoff → HasNumberFault b fault → Reason ts after (Bare b) (why_of fault)
+number_reason ts after b number.NotANumber h k = ((h, k), lowest_number ts b number.NotANumber h k)
+number_reason ts after b number.ZeroDenominator h k =
+    ((h, k), lowest_number ts b number.ZeroDenominator h k)
+number_reason ts after b number.TooLarge h k = ((h, k), lowest_number ts b number.TooLarge h k)
+
+differs : (bytes word : List ℕ)
+    → pointwise nat_eq bytes word ≡ false → pointwise nat_eq word word ≡ true → ¬ (bytes ≡ word)
+differs bytes word differ same e =
+    no (sym differ ∙ ap (λ (x : List ℕ). pointwise nat_eq x word) e ∙ same)
+
+no_letter : (bytes : List ℕ) → ¬ (bytes ≡ codes "R") → ¬ (bytes ≡ codes "D")
+    → ¬ (Suits Letter bytes)
+no_letter bytes r d (inl e) = r e
+no_letter bytes r d (inr e) = d e
+
+-- what was read, and its position
+record Place (ts : List Token) (s : State) : Type 0 where
+  leads : Leads ts s
+  stands : Stands s
+
+follows_as : (ts : List Token) (s : State) (h : Place ts s) (o : Option Role) (b : List ℕ)
+    → h.stands.row.bare ≡ o → MayFollow IsStrategicFile ts (Bare b) → AcceptsBare o b
+follows_as ts s h o b e f = subst (λ (x : Option Role). AcceptsBare x b) e
+    ((may_follow ts s h.stands.row h.leads h.stands.law (Bare b)).0 f)
+
+is_due : (ts : List Token) (s : State) (h : Place ts s) (role : Role)
+    → h.stands.row.bare ≡ Some role → RoleIsDue ts role
+is_due ts s h role e = role_is_due ts s h.stands.row role h.leads h.stands.law e
+
+expected_reason : (ts after : List Token) (t : Token) (s : State) (h : Place ts s) (why : Why)
+    → why ≡ Expected h.stands.row.expected → NoneApplies ts t → Reason ts after t why
+expected_reason ts after t s h why e none = subst (λ (x : Why). IsReason x ts (t ∷ after)) (sym e)
+    (expected_is_due ts s h.stands h.leads, none)
+
+-- in a row that expects no number
+word_reason : (ts after : List Token) (b : List ℕ) (s : State)
+    (h : Place ts s) (why : Why) (o : Option Role)
+    → h.stands.row.bare ≡ o → ¬ (AcceptsBare o zero_text) → ¬ (AcceptsBare o two_text)
+    → why ≡ Expected h.stands.row.expected → Reason ts after (Bare b) why
+word_reason ts after b s h why o e z t is =
+    expected_reason ts after (Bare b) s h why is (none_of_bare ts b
+    (λ f. z (follows_as ts s h o zero_text e f)) (λ f. t (follows_as ts s h o two_text e f)))
+
+bare_reason : (ts after : List Token) (b : List ℕ) (s : State)
+    (h : Place ts s) (why : Why) (o : Option Role)
+    → h.stands.row.bare ≡ o → ¬ (AcceptsBare o b) → RefusesBare o h.stands.row.expected b why
+    → Reason ts after (Bare b) why
+bare_reason ts after b s h why None e n r = word_reason ts after b s h why None e no no r
+bare_reason ts after b s h why (Some Format) e n r = word_reason ts after b s h why (Some Format) e
+    (differs zero_text (codes "NFG") refl refl) (differs two_text (codes "NFG") refl refl) r
+bare_reason ts after b s h why (Some Version) e n r = word_reason ts after b s h why (Some Version)
+    e (differs zero_text (codes "1") refl refl) (differs two_text (codes "1") refl refl) r
+bare_reason ts after b s h why (Some Letter) e n r =
+    word_reason ts after b s h why (Some Letter) e
+    (no_letter zero_text (differs zero_text (codes "R") refl refl)
+    (differs zero_text (codes "D") refl refl))
+    (no_letter two_text (differs two_text (codes "R") refl refl)
+    (differs two_text (codes "D") refl refl))
+    r
+bare_reason ts after b s h why (Some Count) e n r =
+    let due = is_due ts s h Count e in
+    subst (λ (x : Why). IsReason x ts (Bare b ∷ after)) (sym r)
+    (inl (due, n), lowest_index ts b (λ payoff. not_payoff_and_count ts payoff due))
+bare_reason ts after b s h why (Some Payoff) e n r =
+    subst (λ (x : Why). IsReason x ts (Bare b ∷ after)) (sym r.1)
+    (number_reason ts after b r.0 (is_due ts s h Payoff e) r.2)
+bare_reason ts after b s h why (Some (OutcomeNumber outcomes)) e n (inl r) =
+    let due = is_due ts s h (OutcomeNumber outcomes) e in
+    subst (λ (x : Why). IsReason x ts (Bare b ∷ after)) (sym r.0) (
+      inr (outcomes, (due, r.1)),
+      lowest_index ts b (λ payoff. not_payoff_and_outcome ts outcomes payoff due),
+    )
+bare_reason ts after b s h why (Some (OutcomeNumber outcomes)) e n (inr r) =
+    let due = is_due ts s h (OutcomeNumber outcomes) e in
+    subst (λ (x : Why). IsReason x ts (Bare b ∷ after)) (sym r.0)
+    ((outcomes, (due, r.1)), lowest_outcome ts b outcomes r.1.0 due r.1.1)
+
+is_false : (b : Bool) → ¬ (b ≡ true) → b ≡ false
+is_false true h = absurd (h refl)
+is_false false h = refl
+
+closing_reason : (ts after : List Token) (s : State) (h : Place ts s) (why : Why) (unfilled : Bool)
+    → h.stands.row.unfilled ≡ unfilled → ¬ (h.stands.row.closing ≡ true)
+    → RefusesClosing unfilled h.stands.row.expected why → Reason ts after Closing why
+closing_reason ts after s h why true e n r =
+    let labels : (labels : List (List ℕ)) → Begins IsStrategicFile (ts ++ map Text labels) =
+    λ labels.
+    let w = h.stands.labels e labels in
+    begins (ts ++ map Text labels) w.0 (leads_on ts (map Text labels) s w.0 h.leads w.1) in
+    let refused : ¬ (MayFollow IsStrategicFile ts Closing) =
+    λ f. n ((may_follow ts s h.stands.row h.leads h.stands.law Closing).0 f) in
+    subst (λ (x : Why). IsReason x ts (Closing ∷ after)) (sym r)
+    ((labels, refused), lowest_entry ts)
+closing_reason ts after s h why false e n r =
+    let w = h.stands.no_labels (is_false h.stands.row.closing n) e in
+    expected_reason ts after Closing s h why r
+    (none_of_closing ts (stops ts two_texts s w.0 h.leads w.1))
+
+-- no code applies to these tokens
+abbrev IsOther : Token → Type 0
+IsOther Opening = Unit {0}
+IsOther Comma = Unit {0}
+IsOther (Text label) = Unit {0}
+IsOther token = ⊥
+
+none_of_other : (ts : List Token) (t : Token) → IsOther t → NoneApplies ts t
+none_of_other ts Opening o NoEntry g = absurd g
+none_of_other ts Opening o _ g = absurd g
+none_of_other ts Comma o NoEntry g = absurd g
+none_of_other ts Comma o _ g = absurd g
+none_of_other ts (Text label) o NoEntry g = absurd g
+none_of_other ts (Text label) o _ g = absurd g
+none_of_other ts _ o why g = absurd o
+
+-- a token of a text that has an end
+abbrev pub IsWhole : Token → Type 0
+IsWhole Broken = ⊥
+IsWhole token = Unit {0}
+
+refused_reason : (ts after : List Token) (t : Token) (s : State) (h : Place ts s) (why : Why)
+    → IsWhole t → ¬ (Accepts h.stands.row t) → Refuses h.stands.row t why → Reason ts after t why
+refused_reason ts after Opening s h why w n r =
+    expected_reason ts after Opening s h why r (none_of_other ts Opening tt)
+refused_reason ts after Comma s h why w n r =
+    expected_reason ts after Comma s h why r (none_of_other ts Comma tt)
+refused_reason ts after (Text label) s h why w n r =
+    expected_reason ts after (Text label) s h why r (none_of_other ts (Text label) tt)
+refused_reason ts after Closing s h why w n r =
+    closing_reason ts after s h why h.stands.row.unfilled refl n r
+refused_reason ts after (Bare b) s h why w n r =
+    bare_reason ts after b s h why h.stands.row.bare refl n r
+refused_reason ts after Broken s h why w n r = absurd w
+
+pub reason : (ts after : List Token) (t : Token) (s : State) (why : Why)
+    → Leads ts s → IsWhole t → step s t ≡ Err why → IsReason why ts (t ∷ after)
+reason ts after t s why leads whole e =
+    let k = stands s in
+    let a : Answers k.row t (Err why) =
+    subst (λ (o : Result State Why). Answers k.row t o) e (k.law t) in
+    refused_reason ts after t s (record { leads = leads; stands = k }) why whole a.0 a.1
+
+-- ---- an unterminated text
+
+pub broken_reason : (ts after : List Token) → IsReason Unterminated ts (Broken ∷ after)
+broken_reason ts after = (tt, lowest_broken ts)
+
+-- ---- the end
+
+end_names : (s : State) (expected named : What)
+    → EndsAs expected s → finish s ≡ Err (Expected named) → expected ≡ named
+end_names s what.End named e f = absurd cc
+end_names s _ named e f = cc
+
+pub end_reason : (ts : List Token) (s : State) (named : What)
+    → Leads ts s → finish s ≡ Err (Expected named) → IsReason (Expected named) ts []
+end_reason ts s named h e =
+    let k = stands s in (
+      subst (IsDue ts) (end_names s k.row.expected named k.ends e) (expected_is_due ts s k h),
+      λ why g. g,
+    )

@@ -1,0 +1,10 @@
+pub mod Body
+pub mod Common
+pub mod Ends
+pub mod Heading
+pub mod Outcomes
+pub mod Payoffs
+pub mod ReaderSteps
+pub mod Rows
+pub mod Sentence
+pub mod Strategies

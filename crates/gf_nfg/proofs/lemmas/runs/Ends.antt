@@ -1,0 +1,331 @@
+-- Each state of the machine can be completed.
+use Rattle.std.proofs.Common.{◌≡◌, ℕ, zero, suc, ◌+◌, ◌-◌, ◌*◌, ◌<◌, Bool, true}
+use Rattle.std.proofs.Common.{false, cond, List, [], ◌∷◌, length, Some, Result, Ok}
+use Rattle.std.proofs.Common.{Err, refl, sym, ap, subst, ◌∙◌, arith, nat_eq, inl, inr}
+use Rattle.std.specs.Prelude.{◌⊎◌, codes, pos, nat_le}
+use Rattle.std.proofs.Math.Nat.{mul-one}
+use Rattle.std.proofs.lemmas.Bool.{le-leb}
+use Rattle.std.proofs.lemmas.List.{length-append}
+use Rattle.gf_token.specs.Token.{Token}
+use Rattle.gf_token.specs.Token.Token.{Opening, Closing, Text, Bare, Broken}
+use Rattle.gf_token.specs.declared.fault.What.TheVariants as what
+use Rattle.gf_token.specs.declared.fault.Why.{Why}
+use Rattle.gf_token.specs.declared.fault.Why.TheVariants.{Expected}
+use Rattle.gf_fraction.specs.Ratio.{Ratio, whole}
+use Rattle.gf_nfg.specs.inner.Position.{Position}
+use Rattle.gf_nfg.specs.inner.Position.{Position as p}
+use Rattle.gf_fraction.specs.Computed.{number_of, lowest_of, gcd_within}
+use Rattle.gf_token.specs.Indices.{index_of, count_of}
+use Rattle.gf_nfg.specs.inner.Machine.{State, Content, at, step, run, listed, with_title}
+use Rattle.gf_nfg.specs.inner.Machine.{with_labels}
+use Rattle.gf_nfg.specs.inner.Machine.{with_count, with_payoffs, with_choices, next_outcome}
+use Rattle.gf_nfg.proofs.lemmas.runs.Common.{not_zero, pred_suc}
+
+-- it can be completed, to this many profiles
+abbrev pub EndsWith : State → ℕ → Type 0
+EndsWith s profiles =
+    (more : List Token) × (r : Content) × (run s more ≡ Ok r) × (r.profiles ≡ profiles)
+
+-- to no more profiles than there are
+abbrev Ends : State → Type 0
+Ends s = EndsWith s s.content.profiles
+
+-- by a token that leads to a state that can be completed
+then : {profiles : ℕ} (s after : State) (t : Token) → step s t ≡ Ok after → EndsWith after profiles
+    → EndsWith s profiles
+then s after t e h = (t ∷ h.0, h.1, rw e h.2, h.3)
+
+abbrev pub zero_text : List ℕ
+zero_text = codes "0"
+
+abbrev pub zero_number : Ratio
+zero_number = whole (pos 0)
+
+pub zero_is_number : number_of zero_text ≡ Ok zero_number
+unfolding number_of lowest_of gcd_within
+zero_is_number = refl
+
+pub zero_is_index : index_of zero_text ≡ Some 0
+unfolding index_of
+zero_is_index = refl
+
+one_is_count : count_of (codes "1") ≡ Some 1
+unfolding index_of
+one_is_count = refl
+
+-- ---- bodies
+
+flat_step : (due from outcomes : ℕ) (c : Content)
+    → step (at p.FlatPayoffs (suc due) from outcomes c) (Bare zero_text)
+    ≡ Ok (at p.FlatPayoffs due from outcomes (with_payoffs c (zero_number ∷ [])))
+flat_step due from outcomes c = rw (not_zero, zero_is_number, pred_suc) refl
+
+flat_ends : (due from outcomes : ℕ) (c : Content) → Ends (at p.FlatPayoffs due from outcomes c)
+flat_ends zero from outcomes c = ([], c, refl, refl)
+flat_ends (suc due) from outcomes c = then _ _ (Bare zero_text) (flat_step due from outcomes c)
+    (flat_ends due from outcomes (with_payoffs c (zero_number ∷ [])))
+
+comment_step : (due from outcomes : ℕ) (c : Content)
+    → step (at p.AfterComment (suc due) from outcomes c) (Bare zero_text)
+    ≡ Ok (at p.FlatPayoffs due from outcomes (with_payoffs c (zero_number ∷ [])))
+comment_step due from outcomes c = rw (not_zero, zero_is_number, pred_suc) refl
+
+comment_ends : (due from outcomes : ℕ) (c : Content) → Ends (at p.AfterComment due from outcomes c)
+comment_ends zero from outcomes c = ([], c, refl, refl)
+comment_ends (suc due) from outcomes c =
+    then _ _ (Bare zero_text) (comment_step due from outcomes c)
+    (flat_ends due from outcomes (with_payoffs c (zero_number ∷ [])))
+
+body_step : (due from outcomes : ℕ) (c : Content)
+    → step (at p.AfterStrategies (suc due) from outcomes c) (Bare zero_text)
+    ≡ Ok (at p.FlatPayoffs due from outcomes (with_payoffs c (zero_number ∷ [])))
+body_step due from outcomes c = rw (not_zero, zero_is_number, pred_suc) refl
+
+body_ends : (due from outcomes : ℕ) (c : Content) → Ends (at p.AfterStrategies due from outcomes c)
+body_ends zero from outcomes c = ([], c, refl, refl)
+body_ends (suc due) from outcomes c = then _ _ (Bare zero_text) (body_step due from outcomes c)
+    (flat_ends due from outcomes (with_payoffs c (zero_number ∷ [])))
+
+number_step : (due from outcomes : ℕ) (c : Content)
+    → step (at p.OutcomeNumbers (suc due) from outcomes c) (Bare zero_text)
+    ≡ Ok (at p.OutcomeNumbers due from outcomes (with_choices c (0 ∷ [])))
+number_step due from outcomes c =
+    let known : nat_le 0 outcomes ≡ true = le-leb 0 outcomes (omega arith) in
+    rw (not_zero, zero_is_index, known, pred_suc) refl
+
+numbers_ends : (due from outcomes : ℕ) (c : Content)
+    → Ends (at p.OutcomeNumbers due from outcomes c)
+numbers_ends zero from outcomes c = ([], c, refl, refl)
+numbers_ends (suc due) from outcomes c = then _ _ (Bare zero_text) (number_step due from outcomes c)
+    (numbers_ends due from outcomes (with_choices c (0 ∷ [])))
+
+outcomes_ends : (due from outcomes : ℕ) (c : Content) → Ends (at p.InOutcomes due from outcomes c)
+outcomes_ends due from outcomes c = then _ (at p.OutcomeNumbers c.profiles from outcomes c) Closing
+    refl (numbers_ends c.profiles from outcomes c)
+
+after_braced_step : (due from outcomes : ℕ) (c : Content)
+    → step (at p.AfterBracedPayoff (suc due) from outcomes c) (Bare zero_text)
+    ≡ Ok (at p.AfterBracedPayoff due from outcomes (with_payoffs c (zero_number ∷ [])))
+after_braced_step due from outcomes c = rw (not_zero, zero_is_number, pred_suc) refl
+
+after_braced_ends : (due from outcomes : ℕ) (c : Content)
+    → Ends (at p.AfterBracedPayoff due from outcomes c)
+after_braced_ends zero from outcomes c = then _ (at p.InOutcomes 0 from (next_outcome outcomes) c)
+    Closing refl (outcomes_ends 0 from (next_outcome outcomes) c)
+after_braced_ends (suc due) from outcomes c =
+    then _ _ (Bare zero_text) (after_braced_step due from outcomes c)
+    (after_braced_ends due from outcomes (with_payoffs c (zero_number ∷ [])))
+
+braced_step : (due from outcomes : ℕ) (c : Content)
+    → step (at p.BracedPayoff (suc due) from outcomes c) (Bare zero_text)
+    ≡ Ok (at p.AfterBracedPayoff due from outcomes (with_payoffs c (zero_number ∷ [])))
+braced_step due from outcomes c = rw (not_zero, zero_is_number, pred_suc) refl
+
+braced_ends : (due from outcomes : ℕ) (c : Content) → Ends (at p.BracedPayoff due from outcomes c)
+braced_ends zero from outcomes c = then _ (at p.InOutcomes 0 from (next_outcome outcomes) c) Closing
+    refl (outcomes_ends 0 from (next_outcome outcomes) c)
+braced_ends (suc due) from outcomes c = then _ _ (Bare zero_text) (braced_step due from outcomes c)
+    (after_braced_ends due from outcomes (with_payoffs c (zero_number ∷ [])))
+
+name_ends : (due from outcomes : ℕ) (c : Content) → Ends (at p.OutcomeName due from outcomes c)
+name_ends due from outcomes c = then _ (at p.BracedPayoff (length c.players) from outcomes c)
+    (Text []) refl (braced_ends (length c.players) from outcomes c)
+
+-- ---- strategies
+
+-- one strategy makes no more profiles
+by_one : (s : State) (profiles n : ℕ) → n ≡ 1 → EndsWith s (profiles * n) → EndsWith s profiles
+by_one s profiles n e h = subst (EndsWith s) (ap (λ (k : ℕ). profiles * k) e ∙ mul-one profiles) h
+
+count_step : (due from outcomes : ℕ) (c : Content)
+    → step (at p.Counts (suc due) from outcomes c) (Bare (codes "1"))
+    ≡ Ok (at p.Counts due from outcomes (with_count c 1))
+count_step due from outcomes c = rw (not_zero, one_is_count, pred_suc) refl
+
+counts_ends : (due from outcomes : ℕ) (c : Content) → Ends (at p.Counts due from outcomes c)
+counts_ends zero from outcomes c =
+    then _ (at p.AfterStrategies (length c.players * c.profiles) from outcomes c) Closing refl
+    (body_ends (length c.players * c.profiles) from outcomes c)
+counts_ends (suc due) from outcomes c = then _ _ (Bare (codes "1")) (count_step due from outcomes c)
+    (by_one (at p.Counts due from outcomes (with_count c 1)) c.profiles 1 refl
+    (counts_ends due from outcomes (with_count c 1)))
+
+first_step : (due from outcomes : ℕ) (c : Content)
+    → step (at p.FirstStrategies (suc due) from outcomes c) (Bare (codes "1"))
+    ≡ Ok (at p.Counts due from outcomes (with_count c 1))
+first_step due from outcomes c = rw (not_zero, one_is_count, pred_suc) refl
+
+first_ends : (due from outcomes : ℕ) (c : Content) → Ends (at p.FirstStrategies due from outcomes c)
+first_ends zero from outcomes c =
+    then _ (at p.AfterStrategies (length c.players * c.profiles) from outcomes c) Closing refl
+    (body_ends (length c.players * c.profiles) from outcomes c)
+first_ends (suc due) from outcomes c = then _ _ (Bare (codes "1")) (first_step due from outcomes c)
+    (by_one (at p.Counts due from outcomes (with_count c 1)) c.profiles 1 refl
+    (counts_ends due from outcomes (with_count c 1)))
+
+listed_step : (s : State) (n : ℕ) → 0 < n
+    → listed s n ≡ Ok (at p.BeforeList s.due 0 s.outcomes (with_count s.content n))
+listed_step s zero some = absurd (omega arith)
+listed_step s (suc n) some = refl
+
+open_step : (due from outcomes : ℕ) (c : Content)
+    → step (at p.BeforeList (suc due) from outcomes c) Opening
+    ≡ Ok (at p.InList due (length c.labels) outcomes c)
+open_step due from outcomes c = rw (not_zero, pred_suc) refl
+
+text_step : (due from outcomes : ℕ) (c : Content) → step (at p.InList due from outcomes c) (Text [])
+    ≡ Ok (at p.InList due from outcomes (with_labels c ([] ∷ [])))
+text_step due from outcomes c = refl
+
+longer : (c : Content) → length (with_labels c ([] ∷ [])).labels ≡ length c.labels + 1
+longer c = length-append c.labels ([] ∷ [])
+
+-- a list is filled up with this many empty labels, and closed; then come lists of one label
+lists_ends : (due from outcomes : ℕ) (c : Content) → Ends (at p.BeforeList due from outcomes c)
+lists_ends zero from outcomes c =
+    then _ (at p.AfterStrategies (length c.players * c.profiles) from outcomes c) Closing refl
+    (body_ends (length c.players * c.profiles) from outcomes c)
+lists_ends (suc due) from outcomes c =
+    let d = with_labels c ([] ∷ []) in
+    let n = length d.labels - length c.labels in
+    let one : n ≡ 1 = let more = longer c in omega (arith, more) in
+    let some : 0 < n = omega (arith, one) in
+    then _ _ Opening (open_step due from outcomes c)
+    (then _ _ (Text []) (text_step due (length c.labels) outcomes c)
+    (then _ _ Closing (listed_step (at p.InList due (length c.labels) outcomes d) n some)
+    (by_one (at p.BeforeList due 0 outcomes (with_count d n)) c.profiles n one
+    (lists_ends due 0 outcomes (with_count d n)))))
+
+list_ends : (n due from outcomes : ℕ) (c : Content) → from < length c.labels + n
+    → (profiles : ℕ) × EndsWith (at p.InList due from outcomes c) profiles
+list_ends zero due from outcomes c h =
+    let n = length c.labels - from in (
+      c.profiles * n,
+      then _ _ Closing (listed_step (at p.InList due from outcomes c) n (omega arith))
+          (lists_ends due 0 outcomes (with_count c n)),
+    )
+list_ends (suc n) due from outcomes c h =
+    let h = list_ends n due from outcomes (with_labels c ([] ∷ []))
+    (let more = longer c in omega (arith, more)) in
+    (h.0, then _ _ (Text []) (text_step due from outcomes c) h.1)
+
+-- ---- headings
+
+before_strategies_ends : (due from outcomes : ℕ) (c : Content)
+    → Ends (at p.BeforeStrategies due from outcomes c)
+before_strategies_ends due from outcomes c =
+    then _ (at p.FirstStrategies due from outcomes c) Opening refl (first_ends due from outcomes c)
+
+players_ends : (due from outcomes : ℕ) (c : Content) → Ends (at p.InPlayers due from outcomes c)
+players_ends due from outcomes c = then _ (at p.BeforeStrategies (length c.players) from outcomes c)
+    Closing refl (before_strategies_ends (length c.players) from outcomes c)
+
+before_players_ends : (due from outcomes : ℕ) (c : Content)
+    → Ends (at p.BeforePlayers due from outcomes c)
+before_players_ends due from outcomes c =
+    then _ (at p.InPlayers due from outcomes c) Opening refl (players_ends due from outcomes c)
+
+title_ends : (due from outcomes : ℕ) (c : Content) → Ends (at p.Title due from outcomes c)
+title_ends due from outcomes c = then _ (at p.BeforePlayers due from outcomes (with_title c []))
+    (Text []) refl (before_players_ends due from outcomes (with_title c []))
+
+letter_ends : (due from outcomes : ℕ) (c : Content) → Ends (at p.Letter due from outcomes c)
+letter_ends due from outcomes c =
+    then _ (at p.Title due from outcomes c) (Bare (codes "R")) refl (title_ends due from outcomes c)
+
+version_ends : (due from outcomes : ℕ) (c : Content) → Ends (at p.Version due from outcomes c)
+version_ends due from outcomes c = then _ (at p.Letter due from outcomes c) (Bare (codes "1")) refl
+    (letter_ends due from outcomes c)
+
+format_ends : (due from outcomes : ℕ) (c : Content) → Ends (at p.Format due from outcomes c)
+format_ends due from outcomes c = then _ (at p.Version due from outcomes c) (Bare (codes "NFG"))
+    refl (version_ends due from outcomes c)
+
+-- no list is open
+abbrev pub IsSettled : Position → Type 0
+IsSettled p.InList = ⊥
+IsSettled _ = Unit {0}
+
+ends_at : (q : Position) → IsSettled q → (due from outcomes : ℕ) (c : Content)
+    → Ends (at q due from outcomes c)
+ends_at p.Format h = format_ends
+ends_at p.Version h = version_ends
+ends_at p.Letter h = letter_ends
+ends_at p.Title h = title_ends
+ends_at p.BeforePlayers h = before_players_ends
+ends_at p.InPlayers h = players_ends
+ends_at p.BeforeStrategies h = before_strategies_ends
+ends_at p.FirstStrategies h = first_ends
+ends_at p.Counts h = counts_ends
+ends_at p.BeforeList h = lists_ends
+ends_at p.InList h = absurd h
+ends_at p.AfterStrategies h = body_ends
+ends_at p.AfterComment h = comment_ends
+ends_at p.FlatPayoffs h = flat_ends
+ends_at p.InOutcomes h = outcomes_ends
+ends_at p.OutcomeName h = name_ends
+ends_at p.BracedPayoff h = braced_ends
+ends_at p.AfterBracedPayoff h = after_braced_ends
+ends_at p.OutcomeNumbers h = numbers_ends
+
+pub settled_ends : (s : State) → IsSettled s.position → EndsWith s s.content.profiles
+settled_ends s h = ends_at s.position h s.due s.list_start s.outcomes s.content
+
+settled_or_not : (q : Position) → IsSettled q ⊎ (q ≡ p.InList)
+settled_or_not p.InList = inr refl
+settled_or_not _ = inl tt
+
+ends_by : (s : State) → IsSettled s.position ⊎ (s.position ≡ p.InList)
+    → (more : List Token) × (r : Content) × (run s more ≡ Ok r)
+ends_by s (inl h) = let e = settled_ends s h in (e.0, e.1, e.2)
+ends_by s (inr h) =
+    let P : Position → Type 0 = λ q. (more : List Token) × (r : Content)
+    × (run (at q s.due s.list_start s.outcomes s.content) more ≡ Ok r) in
+    let e = list_ends (s.list_start + 1) s.due s.list_start s.outcomes s.content (omega arith) in
+    subst P (sym h) (e.1.0, e.1.1, e.1.2)
+
+pub ends : (s : State) → (more : List Token) × (r : Content) × (run s more ≡ Ok r)
+ends s = ends_by s (settled_or_not s.position)
+
+-- ---- an unterminated text is refused in each state
+
+abbrev refused : Why → Result State Why
+refused why = Err why
+
+either : (b : Bool) (c d : Why) → (x : Why) × (cond b (refused c) (refused d) ≡ Err x)
+either true c d = (c, refl)
+either false c d = (d, refl)
+
+broken_at : (q : Position) (due from outcomes : ℕ) (c : Content)
+    → (why : Why) × (step (at q due from outcomes c) Broken ≡ Err why)
+broken_at p.Format due from outcomes c = (Expected what.Format, refl)
+broken_at p.Version due from outcomes c = (Expected what.Version, refl)
+broken_at p.Letter due from outcomes c = (Expected what.Letter, refl)
+broken_at p.Title due from outcomes c = (Expected what.Text, refl)
+broken_at p.BeforePlayers due from outcomes c = (Expected what.Opening, refl)
+broken_at p.InPlayers due from outcomes c = (Expected what.Text, refl)
+broken_at p.BeforeStrategies due from outcomes c = (Expected what.Opening, refl)
+broken_at p.FirstStrategies due from outcomes c =
+    either (nat_eq due 0) (Expected what.Closing) (Expected what.Strategies)
+broken_at p.Counts due from outcomes c =
+    either (nat_eq due 0) (Expected what.Closing) (Expected what.Index)
+broken_at p.BeforeList due from outcomes c =
+    either (nat_eq due 0) (Expected what.Closing) (Expected what.Opening)
+broken_at p.InList due from outcomes c = (Expected what.Text, refl)
+broken_at p.AfterStrategies due from outcomes c =
+    either (nat_eq due 0) (Expected what.End) (Expected what.Number)
+broken_at p.AfterComment due from outcomes c =
+    either (nat_eq due 0) (Expected what.End) (Expected what.Number)
+broken_at p.FlatPayoffs due from outcomes c =
+    either (nat_eq due 0) (Expected what.End) (Expected what.Number)
+broken_at p.InOutcomes due from outcomes c = (Expected what.Opening, refl)
+broken_at p.OutcomeName due from outcomes c = (Expected what.Text, refl)
+broken_at p.BracedPayoff due from outcomes c =
+    either (nat_eq due 0) (Expected what.Closing) (Expected what.Number)
+broken_at p.AfterBracedPayoff due from outcomes c =
+    either (nat_eq due 0) (Expected what.Closing) (Expected what.Number)
+broken_at p.OutcomeNumbers due from outcomes c =
+    either (nat_eq due 0) (Expected what.End) (Expected what.Index)
+
+pub broken_refused : (s : State) → (why : Why) × (step s Broken ≡ Err why)
+broken_refused s = broken_at s.position s.due s.list_start s.outcomes s.content

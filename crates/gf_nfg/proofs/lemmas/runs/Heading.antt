@@ -1,0 +1,160 @@
+-- Runs over the heading of a strategic file: its format, title and players.
+use Rattle.std.proofs.Common.{◌≡◌, ℕ, Bool, true, false, List, [], ◌∷◌, ◌++◌, length, map}
+use Rattle.std.proofs.Common.{Ok, refl, sym, ap, subst, ◌∙◌, append_assoc, inl, inr, nat_eq}
+use Rattle.std.specs.Prelude.{codes, ◌||◌, ◌⊎◌}
+use Rattle.std.specs.Cmp.Lexicographic.{pointwise}
+use Rattle.gf_token.specs.Token.{Token}
+use Rattle.gf_token.specs.Token.Token.{Opening, Closing, Text, Bare}
+use Rattle.gf_token.specs.declared.fault.What.TheVariants as what
+use Rattle.gf_token.specs.declared.fault.Why.TheVariants.{Expected}
+use Rattle.gf_token.specs.Grammar.{braced}
+use Rattle.gf_nfg.specs.inner.Position.{Position as p}
+use Rattle.gf_nfg.specs.inner.Machine.{Content, at, run, start, nothing, with_title, with_players}
+use Rattle.gf_nfg.proofs.lemmas.runs.Common.{guard_ok, same_bytes, with_no_players}
+use Rattle.gf_nfg.proofs.lemmas.runs.Common.{with_more_players}
+
+-- ---- what was read
+
+only_format : (ts : List Token) (r : Content) → run start ts ≡ Ok r
+    → (rest : List Token) × (ts ≡ Bare (codes "NFG") ∷ rest)
+    × (run (at p.Version 0 0 0 nothing) rest ≡ Ok r)
+only_format (Bare b ∷ rest) r e =
+    let h = guard_ok (pointwise nat_eq b (codes "NFG")) (at p.Version 0 0 0 nothing)
+    (Expected what.Format) rest r e in
+    (rest, ap (λ (x : List ℕ). Bare x ∷ rest) (same_bytes b (codes "NFG") h.0), h.1)
+only_format _ r e = absurd cc
+
+only_version : (ts : List Token) (r : Content) → run (at p.Version 0 0 0 nothing) ts ≡ Ok r
+    → (rest : List Token) × (ts ≡ Bare (codes "1") ∷ rest)
+    × (run (at p.Letter 0 0 0 nothing) rest ≡ Ok r)
+only_version (Bare b ∷ rest) r e =
+    let h = guard_ok (pointwise nat_eq b (codes "1")) (at p.Letter 0 0 0 nothing)
+    (Expected what.Version) rest r e in
+    (rest, ap (λ (x : List ℕ). Bare x ∷ rest) (same_bytes b (codes "1") h.0), h.1)
+only_version _ r e = absurd cc
+
+either_letter : (b : List ℕ) (is_r is_d : Bool) → pointwise nat_eq b (codes "R") ≡ is_r
+    → pointwise nat_eq b (codes "D") ≡ is_d → (is_r || is_d) ≡ true
+    → (b ≡ codes "R") ⊎ (b ≡ codes "D")
+either_letter b true is_d er ed h = inl (same_bytes b (codes "R") er)
+either_letter b false true er ed h = inr (same_bytes b (codes "D") ed)
+either_letter b false false er ed h = absurd cc
+
+only_letter : (ts : List Token) (r : Content) → run (at p.Letter 0 0 0 nothing) ts ≡ Ok r
+    → (letter : List ℕ) × (rest : List Token) × (ts ≡ Bare letter ∷ rest)
+    × ((letter ≡ codes "R") ⊎ (letter ≡ codes "D")) × (run (at p.Title 0 0 0 nothing) rest ≡ Ok r)
+only_letter (Bare b ∷ rest) r e =
+    let h = guard_ok (pointwise nat_eq b (codes "R") || pointwise nat_eq b (codes "D"))
+    (at p.Title 0 0 0 nothing) (Expected what.Letter) rest r e in (
+      b,
+      rest,
+      refl,
+      either_letter b (pointwise nat_eq b (codes "R"))
+          (pointwise nat_eq b (codes "D")) refl refl h.0,
+      h.1,
+    )
+only_letter _ r e = absurd cc
+
+only_title : (ts : List Token) (r : Content) → run (at p.Title 0 0 0 nothing) ts ≡ Ok r
+    → (title : List ℕ) × (rest : List Token) × (ts ≡ Text title ∷ rest)
+    × (run (at p.BeforePlayers 0 0 0 (with_title nothing title)) rest ≡ Ok r)
+only_title (Text title ∷ rest) r e = (title, rest, refl, e)
+only_title _ r e = absurd cc
+
+only_before_players : (ts : List Token) (c r : Content) → run (at p.BeforePlayers 0 0 0 c) ts ≡ Ok r
+    → (rest : List Token) × (ts ≡ Opening ∷ rest) × (run (at p.InPlayers 0 0 0 c) rest ≡ Ok r)
+only_before_players (Opening ∷ rest) c r e = (rest, refl, e)
+only_before_players _ c r e = absurd cc
+
+-- Text* Closing
+players_found : (ts : List Token) (c r : Content) → run (at p.InPlayers 0 0 0 c) ts ≡ Ok r
+    → (players : List (List ℕ)) × (rest : List Token) × (ts ≡ map Text players ++ Closing ∷ rest)
+    × (run (at p.BeforeStrategies (length (c.players ++ players)) 0 0 (with_players c players)) rest
+    ≡ Ok r)
+players_found (Text label ∷ ts) c r e =
+    let h = players_found ts (with_players c (label ∷ [])) r e in (
+      label ∷ h.0,
+      h.1,
+      ap (λ (x : List Token). Text label ∷ x) h.2,
+      subst (λ (d : Content). run (at p.BeforeStrategies (length d.players) 0 0 d) h.1 ≡ Ok r)
+          (with_more_players c label h.0) h.3,
+    )
+players_found (Closing ∷ ts) c r e = (
+  [],
+  ts,
+  refl,
+  subst (λ (d : Content). run (at p.BeforeStrategies (length d.players) 0 0 d) ts ≡ Ok r)
+      (sym (with_no_players c)) e,
+)
+players_found _ c r e = absurd cc
+
+-- of this title and these players
+abbrev pub heading : List ℕ → List (List ℕ) → Content
+heading title players = record nothing { title = title; players = players }
+
+pub record Heading (ts : List Token) (r : Content) : Type 0 where
+  pub letter : List ℕ
+  pub title : List ℕ
+  pub players : List (List ℕ)
+  pub rest : List Token
+  pub parts : ts ≡ Bare (codes "NFG") ∷ Bare (codes "1") ∷ Bare letter ∷ Text title
+      ∷ (braced (map Text players) ++ rest)
+  pub is_letter : (letter ≡ codes "R") ⊎ (letter ≡ codes "D")
+  pub goes_on : run (at p.BeforeStrategies (length players) 0 0 (heading title players)) rest ≡ Ok r
+
+joined : (ts t1 t2 t3 t4 t5 rest : List Token) (letter title : List ℕ) (players : List (List ℕ))
+    → ts ≡ Bare (codes "NFG") ∷ t1 → t1 ≡ Bare (codes "1") ∷ t2 → t2 ≡ Bare letter ∷ t3
+    → t3 ≡ Text title ∷ t4 → t4 ≡ Opening ∷ t5 → t5 ≡ map Text players ++ Closing ∷ rest
+    → ts ≡ Bare (codes "NFG") ∷ Bare (codes "1") ∷ Bare letter ∷ Text title
+    ∷ (braced (map Text players) ++ rest)
+joined ts t1 t2 t3 t4 t5 rest letter title players e1 e2 e3 e4 e5 e6 =
+    let last : t5 ≡ (map Text players ++ Closing ∷ []) ++ rest =
+    e6 ∙ sym (append_assoc (map Text players) (Closing ∷ []) rest) in
+    rw (e1, e2, e3, e4, e5, last) refl
+
+pub heading_found : (ts : List Token) (r : Content) → run start ts ≡ Ok r → Heading ts r
+heading_found ts r e =
+    let a = only_format ts r e in
+    let b = only_version a.0 r a.2 in
+    let c = only_letter b.0 r b.2 in
+    let d = only_title c.1 r c.4 in
+    let f = only_before_players d.1 (with_title nothing d.0) r d.3 in
+    let g = players_found f.0 (with_title nothing d.0) r f.2 in
+    record {
+      letter = c.0;
+      title = d.0;
+      players = g.0;
+      rest = g.1;
+      parts = joined ts a.0 b.0 c.1 d.1 f.0 g.1 c.0 d.0 g.0 a.1 b.1 c.2 d.2 f.1 g.2;
+      is_letter = c.3;
+      goes_on = g.3;
+    }
+
+-- ---- each heading is read
+
+players_again : (players : List (List ℕ)) (c : Content) (rest : List Token)
+    → run (at p.InPlayers 0 0 0 c) (map Text players ++ Closing ∷ rest)
+    ≡ run (at p.BeforeStrategies (length (c.players ++ players)) 0 0 (with_players c players)) rest
+players_again [] c rest =
+    ap (λ (d : Content). run (at p.BeforeStrategies (length d.players) 0 0 d) rest)
+    (sym (with_no_players c))
+players_again (label ∷ players) c rest =
+    players_again players (with_players c (label ∷ [])) rest
+    ∙ ap (λ (d : Content). run (at p.BeforeStrategies (length d.players) 0 0 d) rest)
+    (with_more_players c label players)
+
+letter_again : (letter : List ℕ) (rest : List Token) → (letter ≡ codes "R") ⊎ (letter ≡ codes "D")
+    → run (at p.Letter 0 0 0 nothing) (Bare letter ∷ rest) ≡ run (at p.Title 0 0 0 nothing) rest
+letter_again letter rest (inl e) = rw e refl
+letter_again letter rest (inr e) = rw e refl
+
+pub heading_again : (letter title : List ℕ) (players : List (List ℕ)) (rest : List Token)
+    → (letter ≡ codes "R") ⊎ (letter ≡ codes "D")
+    → run start (Bare (codes "NFG") ∷ Bare (codes "1") ∷ Bare letter
+    ∷ Text title ∷ (braced (map Text players) ++ rest))
+    ≡ run (at p.BeforeStrategies (length players) 0 0 (heading title players)) rest
+heading_again letter title players rest h =
+    letter_again letter (Text title ∷ (braced (map Text players) ++ rest)) h
+    ∙ ap (run (at p.InPlayers 0 0 0 (with_title nothing title)))
+    (append_assoc (map Text players) (Closing ∷ []) rest)
+    ∙ players_again players (with_title nothing title) rest

@@ -1,0 +1,155 @@
+-- What the methods of the reader rest on: answers carried back, and steps with a test of what is
+-- due.
+use Rattle.std.proofs.Common.{◌≡◌, ℕ, zero, suc, ◌<◌, ◌-◌, ◌*◌, false, List, [], ◌∷◌, length}
+use Rattle.std.proofs.Common.{Result, Ok, Err}
+use Rattle.std.proofs.Common.{refl, sym, ap, subst, ◌∙◌, arith}
+use Rattle.std.proofs.lemmas.Bool.Decides.{nat_tests}
+use Rattle.std.specs.Prelude.{MatchResult, ◌==◌}
+use Rattle.gf_token.specs.Label.{label_of}
+use Rattle.gf_token.specs.declared.label.Label.{Label}
+use Rattle.gf_token.specs.Remaining.{Remaining}
+use Rattle.gf_token.specs.Token.{Lexeme, lexeme}
+use Rattle.gf_token.specs.Token.Token.{Opening, Closing, Text}
+use Rattle.gf_token.specs.declared.fault.Fault.{Fault}
+use Rattle.gf_token.specs.declared.fault.Span.{Span}
+use Rattle.gf_token.specs.declared.fault.Why.{Why}
+use Rattle.gf_nfg.specs.inner.Heard.{Answer, Fails, Goes, heard, read_on, then_on, within}
+use Rattle.gf_nfg.specs.inner.Machine.{Content, State, at, listed, settled}
+use Rattle.gf_nfg.specs.inner.Position.{Position as p}
+use Rattle.gf_nfg.specs.inner.ReaderState.{HasToldAll, body_answer, content_in, content_told}
+use Rattle.gf_nfg.specs.inner.ReaderState.{labels_of, told_answer}
+use Rattle.gf_nfg.specs.inner.Told.{Told}
+use Rattle.gf_nfg.specs.declared.table.heading.Heading.{Heading}
+use Rattle.gf_nfg.specs.declared.reader.Reader.{Reader}
+use Rattle.gf_nfg.specs.declared.reader.receive.Version.{Version}
+use Rattle.gf_nfg.specs.declared.reader.receive.Version.TheVariants as version
+use Rattle.std.proofs.lemmas.List.{length-map}
+use Rattle.gf_nfg.proofs.lemmas.places.Heard.{carried}
+
+-- ---- answers carried back
+
+module _ {A : Type 0} {r : Result A Fault} {f : Fault} {a : Answer} where
+  pub goes_back : (b : Answer) → r ≡ Err f → Fails f a → Goes a r b
+  goes_back b e h = subst (λ x. Goes a x b) (sym e) h
+
+  pub ends_back : (P : A → Type 0) → r ≡ Err f → Fails f a → MatchResult r P (λ g. Fails g a)
+  ends_back P e h = subst (λ x. MatchResult x P (λ g. Fails g a)) (sym e) h
+
+pub goes_from : {A : Type 0} (r : Result A Fault) (d : Answer) {a b : Answer} → a ≡ b → Goes b r d
+    → Goes a r d
+goes_from r d e h = subst (λ x. Goes x r d) (sym e) h
+
+pub goes_to : {A : Type 0} (r : Result A Fault) (a : Answer) {b d : Answer} → b ≡ d → Goes a r b
+    → Goes a r d
+goes_to r a e h = subst (λ x. Goes a r x) e h
+
+-- ---- lists of labels
+
+pub first_opens : (due : ℕ) (c : Content) (t new : Remaining) (s : Span) → 0 < due
+    → t.ahead ≡ lexeme s.start s.end Opening ∷ new.ahead → new.input ≡ t.input
+    → heard (at p.FirstStrategies due 0 0 c) t
+    ≡ heard (at p.InList (due - 1) (length c.labels) 0 c) new
+first_opens due c t new s some next input =
+    let e : (due == 0) ≡ false = grind (arith, nat_tests) in
+    (λ i. heard (at p.FirstStrategies due 0 0 c) (record { input = sym input i; ahead = next i }))
+    ∙ rw e refl
+
+pub later_opens : (due : ℕ) (c : Content) (t new : Remaining) (s : Span) → 0 < due
+    → t.ahead ≡ lexeme s.start s.end Opening ∷ new.ahead → new.input ≡ t.input
+    → heard (at p.BeforeList due 0 0 c) t ≡ heard (at p.InList (due - 1) (length c.labels) 0 c) new
+later_opens due c t new s some next input =
+    let e : (due == 0) ≡ false = grind (arith, nat_tests) in
+    (λ i. heard (at p.BeforeList due 0 0 c) (record { input = sym input i; ahead = next i }))
+    ∙ rw e refl
+
+listed_settled : (s : State) (n : ℕ) → 0 < n
+    → listed s n ≡ settled (at p.BeforeList s.due 0 s.outcomes s.content) n
+listed_settled s zero some = absurd (omega (arith, some))
+listed_settled s (suc n) some = refl
+
+-- the closing brace of a list shows how many labels it has
+pub list_closes : (due before n : ℕ) (c : Content) (t new : Remaining) (s : Span)
+    → 0 < n → n ≡ length c.labels - before
+    → t.ahead ≡ lexeme s.start s.end Closing ∷ new.ahead → new.input ≡ t.input
+    → heard (at p.InList due before 0 c) t ≡ record {
+      input = new.input;
+      machine = then_on s.start s.end (within (settled (at p.BeforeList due 0 0 c) n))
+          (λ after. read_on (length new.input) after new.ahead);
+    }
+list_closes due before n c t new s some is next input =
+    (λ i. heard (at p.InList due before 0 c) (record { input = sym input i; ahead = next i }))
+    ∙ ap (λ (o : Result State Why). record {
+      input = new.input;
+      machine = then_on s.start s.end (within o)
+          (λ after. read_on (length new.input) after new.ahead);
+    }) (ap (listed (at p.InList due before 0 c)) (sym is)
+    ∙ listed_settled (at p.InList due before 0 c) n some)
+
+-- ---- outcomes
+
+-- after the name of an outcome, a payoff is due for each player
+pub outcome_named : (told : Told) (outcomes players : ℕ) (t new : Remaining) (start end : ℕ)
+    (label : List ℕ) → t.ahead ≡ lexeme start end (Text label) ∷ new.ahead → new.input ≡ t.input
+    → length (content_told told).players ≡ players
+    → told_answer p.OutcomeName 0 outcomes t told ≡ told_answer p.BracedPayoff players outcomes new told
+outcome_named told outcomes players t new start end label next input size =
+    (λ i. told_answer p.OutcomeName 0 outcomes (record { input = sym input i; ahead = next i }) told)
+    ∙ ap (λ n. told_answer p.BracedPayoff n outcomes new told) size
+
+-- ---- after the last of the strategies
+
+pub lists_end : (c : Content) (t : Remaining)
+    → heard (at p.BeforeList 0 0 0 c) t ≡ heard (at p.FirstStrategies 0 0 0 c) t
+lists_end c t = ap (λ o. record { input = t.input; machine = o }) (by t.ahead)
+  where
+    by : (ls : List Lexeme) → read_on (length t.input) (at p.BeforeList 0 0 0 c) ls
+        ≡ read_on (length t.input) (at p.FirstStrategies 0 0 0 c) ls
+    by [] = refl
+    by (l ∷ ls) = refl
+
+pub counts_end : (c : Content) (t : Remaining)
+    → heard (at p.Counts 0 0 0 c) t ≡ heard (at p.FirstStrategies 0 0 0 c) t
+counts_end c t = ap (λ o. record { input = t.input; machine = o }) (by t.ahead)
+  where
+    by : (ls : List Lexeme) → read_on (length t.input) (at p.Counts 0 0 0 c) ls
+        ≡ read_on (length t.input) (at p.FirstStrategies 0 0 0 c) ls
+    by [] = refl
+    by (l ∷ ls) = refl
+
+-- how many labels were read
+pub label_count : (now before : List Label) (n m k : ℕ) → n ≡ length now → m ≡ length before
+    → k ≡ n - m → k ≡ length (labels_of now) - length (labels_of before)
+label_count now before n m k e f g =
+    let a = length-map now label_of in
+    let b = length-map before label_of in
+    omega (arith, e, f, g, a, b)
+
+-- ---- the body
+
+-- where it begins the machine stands somewhere
+pub body_begins : (v : Version) (r : Reader)
+    → (s : State) × (body_answer v r ≡ heard s r.tokens)
+body_begins version.Payoffs r = (
+  at p.FlatPayoffs (length r.heading.players.items * r.heading.profiles.count) 0 0
+      (content_in r.heading),
+  refl,
+)
+body_begins version.Outcomes r = (at p.InOutcomes 0 0 0 (content_in r.heading), refl)
+
+-- the end stands after all that was told
+pub all_told : {A T : Type 0} (holds : T → Told → Type 0) (r : Result A Fault) (t : Told)
+    {before after : Answer} {h : Heading} {to : T}
+    → t.heading ≡ h → (t.version ≡ version.Payoffs → t.numbers ≡ []) → holds to t → before ≡ after
+    → MatchResult r (λ _. after.machine ≡ Ok (content_told t)) (λ f. Fails f after)
+    → MatchResult r (λ _. HasToldAll holds before h to) (λ f. Fails f before)
+all_told holds (Ok x) t same unnumbered holding goes whole = record {
+  told = t;
+  same = same;
+  whole = ap (λ (a : Answer). a.machine) goes ∙ whole;
+  unnumbered = unnumbered;
+  holding = holding;
+}
+all_told holds (Err f) t same unnumbered holding goes fails = carried fails goes
+
+pub no_payoffs : {numbers : List ℕ} → version.Outcomes ≡ version.Payoffs → numbers ≡ []
+no_payoffs e = absurd cc

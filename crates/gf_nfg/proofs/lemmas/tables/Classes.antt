@@ -1,0 +1,190 @@
+-- Places in classes that are merged, and the rows at them.
+use Rattle.std.proofs.Common.{◌≡◌, ◌≢◌, ℕ, ◌+◌, ◌-◌, ◌<◌, ◌≤◌, List, length, get_or, set, take}
+use Rattle.std.proofs.Common.{Option, Some, slice_get, option_map, refl, sym, ap, subst, ◌∙◌, arith}
+use Rattle.std.proofs.Common.{inl, inr}
+use Rattle.std.specs.Prelude.{if◌then◌else◌, max, min, nat_lt}
+use Rattle.std.specs.List.{range_with_len}
+use Rattle.std.proofs.lemmas.Bool.{cases_eq, cases_lt, lt-ltb, le-ltb}
+use Rattle.std.proofs.lemmas.Grind.{get_or-set_at, get_or_default_zero}
+use Rattle.std.proofs.lemmas.List.{get_or-set_other, get_or_past, length-set}
+use Rattle.std.proofs.lemmas.List.FromFn.{get_or-range_with_len, length-range_with_len}
+use Rattle.std.proofs.lemmas.Option.{slice_get-get_or, slice_get-map}
+use Rattle.gf_fraction.specs.Ratio.{Ratio}
+use Rattle.gf_fraction.proofs.AllElements.{all_at}
+use Rattle.gf_nfg.specs.inner.Classes.{LeadBack, ShareRows}
+use Rattle.gf_nfg.specs.TableParts.{AreShared, kept_row}
+use Rattle.gf_nfg.proofs.lemmas.tables.Agreement.{same_more}
+
+-- ---- each place in a class of its own
+
+alone : (n place : ℕ) → place < n → get_or (range_with_len 0 n) place 0 ≡ place
+alone n place h = let e = get_or-range_with_len 0 n place 0 h in omega (arith, e)
+
+pub back_begun : (n : ℕ) → LeadBack (range_with_len 0 n)
+back_begun n = λ place. elim (cases_lt place n) [
+  | inl h ↦ let e = alone n place h in omega (arith, e)
+  | inr h ↦ let e = get_or_past (range_with_len 0 n) place 0
+      (omega (arith, h, length-range_with_len 0 n)) in omega (arith, e)
+]
+
+pub rows_begun : (row : ℕ → List Ratio) (n : ℕ) → ShareRows row (range_with_len 0 n)
+rows_begun row n = λ place h.
+    ap row (alone n place (omega (arith, h, length-range_with_len 0 n)))
+
+-- ---- a place is hung below another one
+
+pub back_hung : (parents : List ℕ) (at above : ℕ) → at < length parents → above ≤ at
+    → LeadBack parents → LeadBack (set parents at above)
+back_hung parents at above there h back = λ place. elim (cases_eq place at) [
+  | inl e ↦ let g = get_or-set_at parents at place above 0 e there in omega (arith, g, e, h)
+  | inr ne ↦ let g = get_or-set_other parents at place above 0 ne in
+      let b = back place in omega (arith, g, b)
+]
+
+pub rows_hung : (row : ℕ → List Ratio) (parents : List ℕ) (at above : ℕ) → at < length parents
+    → row above ≡ row at → ShareRows row parents → ShareRows row (set parents at above)
+rows_hung row parents at above there same rows = λ place h. elim (cases_eq place at) [
+  | inl e ↦ ap row (get_or-set_at parents at place above 0 e there) ∙ same ∙ ap row (sym e)
+  | inr ne ↦ ap row (get_or-set_other parents at place above 0 ne)
+      ∙ rows place (omega (arith, h, length-set parents at above))
+]
+
+-- a place on the way to a root
+pub record IsOnWay (begin parents : List ℕ) (place at : ℕ) : Type 0 where
+  pub back : LeadBack parents
+  pub places : length parents ≡ length begin
+  pub there : at < length parents
+  pub rows : (row : ℕ → List Ratio) → ShareRows row begin
+      → ShareRows row parents × (row at ≡ row place)
+
+pub way_begun : (begin parents : List ℕ) (place : ℕ) → parents ≡ begin → LeadBack parents
+    → place < length begin → IsOnWay begin parents place place
+way_begun begin parents place e back there = record {
+  back = back;
+  places = ap length e;
+  there = omega (arith, there, ap length e);
+  rows = λ row rows. (subst (ShareRows row) (sym e) rows, refl);
+}
+
+-- what is read at a place
+parent_at : (parents : List ℕ) (at parent : ℕ) → LeadBack parents → at < length parents
+    → parent ≡ get_or parents at parent → (parent ≡ get_or parents at 0) × (parent ≤ at)
+parent_at parents at parent back there e =
+    let is : parent ≡ get_or parents at 0 = e ∙ get_or_default_zero parents at parent there in
+    (is, let h = back at in omega (arith, h, is))
+
+-- it goes on above its parent, below which it is hung
+pub way_on : (begin parents : List ℕ) (place at parent above : ℕ)
+    → IsOnWay begin parents place at → parent ≡ get_or parents at parent
+    → above ≡ get_or parents parent above → IsOnWay begin (set parents at above) place above
+way_on begin parents place at parent above way first second =
+    let below = parent_at parents at parent way.back way.there first in
+    let parent_there : parent < length parents = omega (arith, below.1, way.there) in
+    let nearer = parent_at parents parent above way.back parent_there second in
+    let size = length-set parents at above in
+    let above_at : above ≤ at = omega (arith, below.1, nearer.1) in
+    let same : (row : ℕ → List Ratio) → ShareRows row parents → row above ≡ row at = λ row rows.
+    ap row nearer.0 ∙ rows parent parent_there ∙ ap row below.0 ∙ rows at way.there in
+    record {
+      back = back_hung parents at above way.there above_at way.back;
+      places = size ∙ way.places;
+      there = omega (arith, size, above_at, way.there);
+      rows = λ row rows.
+          let known = way.rows row rows in (
+            rows_hung row parents at above way.there (same row known.0) known.0,
+            same row known.0 ∙ known.1,
+          );
+    }
+
+-- the way ends, since it leads back
+pub nearer : (begin parents : List ℕ) (place at looked parent above : ℕ)
+    → IsOnWay begin parents place at → looked ≡ get_or parents at looked → looked ≢ at
+    → parent ≡ get_or parents at parent → above ≡ get_or parents parent above → above < at
+nearer begin parents place at looked parent above way seen ne first second =
+    let here = parent_at parents at looked way.back way.there seen in
+    let below = parent_at parents at parent way.back way.there first in
+    let parent_there : parent < length parents = omega (arith, below.1, way.there) in
+    let above_it = parent_at parents parent above way.back parent_there second in
+    omega (arith, here.0, below.0, below.1, above_it.1, ne)
+
+-- ---- two classes become one
+
+pub rows_united : (parents : List ℕ) (a b high low : ℕ) → a < length parents → b < length parents
+    → high ≡ max a b → low ≡ min a b → (row : ℕ → List Ratio) → row a ≡ row b
+    → ShareRows row parents → ShareRows row (set parents high low)
+rows_united parents a b high low ha hb h l row same rows =
+    rows_hung row parents high low (omega (arith, h, ha, hb)) lower rows
+  where
+    lower : row low ≡ row high
+    lower = elim (cases_lt a b) [
+      | inl lt ↦ let x : low ≡ a = omega arith in let y : high ≡ b = omega arith in
+          ap row x ∙ same ∙ ap row (sym y)
+      | inr le ↦ let x : low ≡ b = omega arith in let y : high ≡ a = omega arith in
+          ap row x ∙ sym same ∙ ap row (sym y)
+    ]
+
+-- ---- the rows of two tables
+
+-- the rows of the first have the places from 0 on, and those of the second the places after them
+abbrev pub row_of_both : ℕ → (ℕ → List Ratio) → (ℕ → List Ratio) → ℕ → List Ratio
+row_of_both first f g place = if nat_lt place first then f place else g (place - first)
+
+row_of_first : (first : ℕ) (f g : ℕ → List Ratio) (n : ℕ) → n < first
+    → row_of_both first f g n ≡ f n
+row_of_first first f g n h = rw (lt-ltb n first h) refl
+
+row_of_second : (first : ℕ) (f g : ℕ → List Ratio) (n : ℕ)
+    → row_of_both first f g (first + n) ≡ g n
+row_of_second first f g n =
+    let behind : first ≤ first + n = omega arith in
+    let back : (first + n) - first ≡ n = omega arith in
+    rw (le-ltb (first + n) first behind) (ap g back)
+
+-- the row of a profile by its number
+pub record IsRowAt (rows : List (List Ratio)) (players : ℕ) (payoffs zeros : List Ratio)
+    (bound at number : ℕ) : Type 0 where
+  pub row : slice_get rows at ≡ Some (kept_row players payoffs zeros number)
+  pub below : number < bound
+
+pub row_at : (rows : List (List Ratio)) (numbers : List ℕ) (players : ℕ) (payoffs zeros : List Ratio)
+    (bound at : ℕ) → AreShared rows numbers players payoffs zeros bound → at < length numbers
+    → IsRowAt rows players payoffs zeros bound at (get_or numbers at 0)
+row_at rows numbers players payoffs zeros bound at shared h =
+    let number = get_or numbers at 0 in
+    let found = slice_get-get_or numbers at 0 h in
+    record {
+      row = ap (λ (rs : List (List Ratio)). slice_get rs at) shared.rows_are
+          ∙ slice_get-map (kept_row players payoffs zeros) numbers at
+          ∙ ap (λ (o : Option ℕ). option_map (kept_row players payoffs zeros) o) found;
+      below = all_at (λ number. number < bound) numbers at number shared.below found;
+    }
+
+-- the rows at the first profiles of two tables are the same
+pub record IsCompared (f g : ℕ → List Ratio) (first second : ℕ) (xs ys : List (List Ratio))
+    (parents : List ℕ) (at : ℕ) : Type 0 where
+  pub places : length parents ≡ first + second
+  pub rows : ShareRows (row_of_both first f g) parents
+  pub same : take at xs ≡ take at ys
+
+-- two places of one class
+pub same_class : (first : ℕ) (f g : ℕ → List Ratio) (m n : ℕ) → m < first
+    → row_of_both first f g m ≡ row_of_both first f g (first + n) → f m ≡ g n
+same_class first f g m n h e =
+    sym (row_of_first first f g m h) ∙ e ∙ row_of_second first f g n
+
+pub compared_more : (first second : ℕ) (f g : ℕ → List Ratio) (xs ys : List (List Ratio))
+    (old parents : List ℕ) (at m n : ℕ) → IsCompared f g first second xs ys old at → m < first
+    → slice_get xs at ≡ Some (f m) → slice_get ys at ≡ Some (g n) → f m ≡ g n
+    → length parents ≡ length old
+    → ((row : ℕ → List Ratio) → row m ≡ row (first + n) → ShareRows row old
+    → ShareRows row parents) → IsCompared f g first second xs ys parents (at + 1)
+compared_more first second f g xs ys old parents at m n done h left right same size rows = record {
+  places = size ∙ done.places;
+  rows = rows (row_of_both first f g)
+      (row_of_first first f g m h ∙ same ∙ sym (row_of_second first f g n)) done.rows;
+  same = same_more xs ys at (f m) (g n) left right same done.same;
+}
+
+pub rows_differ : (xs ys : List (List Ratio)) (at : ℕ) (x y : List Ratio)
+    → slice_get xs at ≡ Some x → slice_get ys at ≡ Some y → xs ≡ ys → x ≡ y
+rows_differ xs ys at x y left right e = cc

@@ -1,0 +1,94 @@
+-- Lists that stand one after another, and their lengths.
+use Rattle.std.proofs.Common.{◌≡◌, ℕ, zero, suc, ◌+◌, ◌*◌, ◌<◌, List, [], ◌∷◌, ◌++◌, length}
+use Rattle.std.proofs.Common.{map, take, drop, Some, refl, sym, ap, subst, ◌∙◌, arith}
+use Rattle.std.specs.Prelude.{decimal, sum, slice_get}
+use Rattle.std.specs.List.{AllByRecursion, flat_map}
+use Rattle.std.proofs.Math.Nat.{mul-suc, one-le-mul}
+use Rattle.std.proofs.lemmas.List.{length-append, length-map}
+use Rattle.std.proofs.lemmas.List.Sums.{sum_by-cons}
+use Rattle.gf_nfg.specs.Profiles.{positions, product}
+use Rattle.gf_nfg.specs.Sentence.{counted_labels}
+use Rattle.gf_nfg.specs.TableParts.{groups}
+use Rattle.gf_nfg.proofs.lemmas.tables.NumbersInTurn.{length-numbers_from}
+
+abbrev pub joined : {A : Type 0} → List (List A) → List A
+joined lists = flat_map (λ items. items) lists
+
+take-front : {A : Type 0} (xs ys : List A) → take (length xs) (xs ++ ys) ≡ xs
+take-front [] ys = refl
+take-front (x ∷ xs) ys = ap (λ zs. x ∷ zs) (take-front xs ys)
+
+drop-front : {A : Type 0} (xs ys : List A) → drop (length xs) (xs ++ ys) ≡ ys
+drop-front [] ys = refl
+drop-front (x ∷ xs) ys = drop-front xs ys
+
+-- a prefix of this length, and what is after it
+pub take-by : {A : Type 0} (n : ℕ) (xs ys : List A) → length xs ≡ n → take n (xs ++ ys) ≡ xs
+take-by n xs ys e = subst (λ k. take k (xs ++ ys) ≡ xs) e (take-front xs ys)
+
+pub drop-by : {A : Type 0} (n : ℕ) (xs ys : List A) → length xs ≡ n → drop n (xs ++ ys) ≡ ys
+drop-by n xs ys e = subst (λ k. drop k (xs ++ ys) ≡ ys) e (drop-front xs ys)
+
+drop-more : {A : Type 0} (n m : ℕ) (xs ys : List A) → length xs ≡ n
+    → drop (n + m) (xs ++ ys) ≡ drop m ys
+drop-more n m [] ys e = let f : n + m ≡ m = omega (arith, e) in ap (λ k. drop k ys) f
+drop-more n m (x ∷ xs) ys e =
+    let f : n + m ≡ suc (length xs + m) = omega (arith, e) in
+    ap (λ k. drop k (x ∷ (xs ++ ys))) f ∙ drop-more (length xs) m xs ys refl
+
+pub length-counted_labels : (n : ℕ) → length (counted_labels n) ≡ n
+length-counted_labels n = length-map (positions n) decimal ∙ length-numbers_from 1 n
+
+-- the lengths of the labels that counts stand for are the counts
+pub counts_back : (counts : List ℕ) → map length (map counted_labels counts) ≡ counts
+counts_back [] = refl
+counts_back (n ∷ counts) = rw length-counted_labels (ap (λ ns. n ∷ ns) (counts_back counts))
+
+pub sum-cons : (n : ℕ) (ns : List ℕ) → sum (n ∷ ns) ≡ n + sum ns
+sum-cons n ns = sum_by-cons (λ (x : ℕ). x) n ns
+
+-- lists one after another are parted by their lengths
+pub groups-joined : {A : Type 0} (lists : List (List A))
+    → groups (map length lists) (joined lists) ≡ lists
+groups-joined [] = refl
+groups-joined (xs ∷ lists) =
+    let rest : groups (map length lists) (drop (length xs) (xs ++ joined lists)) ≡ lists =
+    ap (groups (map length lists)) (drop-front xs (joined lists)) ∙ groups-joined lists in
+    (λ i. take-front xs (joined lists) i ∷ rest i)
+
+pub length-joined : {A : Type 0} (lists : List (List A))
+    → length (joined lists) ≡ sum (map length lists)
+length-joined [] = refl
+length-joined (xs ∷ lists) = length-append xs (joined lists)
+    ∙ ap (λ n. length xs + n) (length-joined lists)
+    ∙ sym (sum-cons (length xs) (map length lists))
+
+-- of one length each
+pub length-joined_rows : {A : Type 0} (size : ℕ) (lists : List (List A))
+    → AllByRecursion (λ xs. length xs ≡ size) lists → length (joined lists) ≡ size * length lists
+length-joined_rows size [] h = omega arith
+length-joined_rows size (xs ∷ lists) h =
+    let first = length-append xs (joined lists) in
+    let rest = length-joined_rows size lists h.1 in
+    omega (arith, first, rest, h.0, mul-suc size (length lists))
+
+-- the k-th of them
+pub get-joined : {A : Type 0} (size : ℕ) (lists : List (List A)) (k : ℕ)
+    → AllByRecursion (λ xs. length xs ≡ size) lists → k < length lists
+    → slice_get lists k ≡ Some (take size (drop (k * size) (joined lists)))
+get-joined size [] k h less = absurd (omega arith)
+get-joined size (xs ∷ lists) zero h less =
+    let none : zero * size ≡ 0 = omega arith in
+    let whole : take size (drop (zero * size) (xs ++ joined lists)) ≡ xs =
+    ap (λ n. take size (drop n (xs ++ joined lists))) none ∙ take-by size xs (joined lists) h.0 in
+    ap Some (sym whole)
+get-joined size (xs ∷ lists) (suc k) h less =
+    let more : suc k * size ≡ size + k * size = omega arith in
+    let same : drop (suc k * size) (xs ++ joined lists) ≡ drop (k * size) (joined lists) =
+    ap (λ n. drop n (xs ++ joined lists)) more ∙ drop-more size (k * size) xs (joined lists) h.0 in
+    get-joined size lists k h.1 (omega arith) ∙ ap (λ ys. Some (take size ys)) (sym same)
+
+-- of positive counts there are some
+pub product_above_zero : (counts : List ℕ) → AllByRecursion (λ n. 0 < n) counts → 0 < product counts
+product_above_zero [] h = omega arith
+product_above_zero (n ∷ counts) h = one-le-mul h.0 (product_above_zero counts h.1)

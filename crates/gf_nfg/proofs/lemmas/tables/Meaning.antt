@@ -1,0 +1,213 @@
+-- What was read in full means a table, and a table can be recovered from its parts.
+use Rattle.std.proofs.Common.{◌≡◌, ℕ, zero, suc, ◌+◌, ◌*◌, ◌<◌, ◌≤◌, List, []}
+use Rattle.std.proofs.Common.{Bool, true, false}
+use Rattle.std.proofs.Common.{◌∷◌, ◌++◌, length, map, take, drop, refl, sym}
+use Rattle.std.proofs.Common.{ap, subst, ◌∙◌, arith, length-take, length-drop}
+use Rattle.std.specs.Prelude.{◌==◌, sum, replicate, pos}
+use Rattle.std.proofs.lemmas.Bool.Decides.{nat_tests}
+use Rattle.std.specs.List.{AllByRecursion}
+use Rattle.std.proofs.Math.Nat.{mul_comm, mul-le-mul_right}
+use Rattle.std.proofs.lemmas.List.{drop-drop, length-map}
+use Rattle.gf_fraction.specs.Ratio.{Ratio, whole}
+use Rattle.gf_fraction.proofs.AllElements.{all_mapped}
+use Rattle.gf_nfg.specs.Profiles.{numbers_from, positions, product}
+use Rattle.gf_nfg.specs.Limit.{profile_limit}
+use Rattle.gf_nfg.specs.LimitPlace.{IsWithinLimit}
+use Rattle.gf_nfg.specs.Table.{IsSpellable, IsTable, rows}
+use Rattle.gf_nfg.specs.TableParts.{Names, groups, numbers_of, row_of, IsHeld, IsNamed, HasRows}
+use Rattle.gf_nfg.specs.inner.Machine.{Content}
+use Rattle.gf_nfg.specs.inner.Meaning.{names_in, choices_of, strategies_of, rows_by}
+use Rattle.gf_nfg.specs.inner.Meaning.{table_of, HasPayoffs, HasLabels, IsComplete}
+use Rattle.gf_nfg.proofs.lemmas.tables.Lists.{joined, sum-cons, counts_back}
+use Rattle.gf_nfg.proofs.lemmas.tables.Lists.{groups-joined, take-by, drop-by}
+use Rattle.gf_nfg.proofs.lemmas.tables.Rows as kept
+
+-- ---- strategies
+
+length-groups : {A : Type 0} (sizes : List ℕ) (items : List A) → length items ≡ sum sizes
+    → map length (groups sizes items) ≡ sizes
+length-groups [] items e = refl
+length-groups (n ∷ sizes) items e =
+    let all = sum-cons n sizes in
+    let first : length (take n items) ≡ n = omega (arith, e, all, length-take n items) in
+    let rest = length-groups sizes (drop n items) (omega (arith, e, all, length-drop n items)) in
+    (λ i. first i ∷ rest i)
+
+-- the strategies are as many as the counts say
+pub counts-strategies_of : (counts : List ℕ) (labels : List (List ℕ)) → HasLabels counts labels
+    → map length (strategies_of counts labels) ≡ counts
+counts-strategies_of counts [] h = counts_back counts
+counts-strategies_of counts (label ∷ labels) h = length-groups counts (label ∷ labels) h
+
+pub strategies_of-joined : (lists : List (List (List ℕ)))
+    → AllByRecursion (λ n. 0 < n) (map length lists)
+    → strategies_of (map length lists) (joined lists) ≡ lists
+strategies_of-joined [] h = refl
+strategies_of-joined ([] ∷ lists) h = absurd (let some : 0 < 0 = h.0 in omega arith)
+strategies_of-joined ((label ∷ labels) ∷ lists) h = groups-joined ((label ∷ labels) ∷ lists)
+
+-- ---- rows
+
+-- this many rows of this length, from the payoffs in turn
+abbrev pub rows_of : ℕ → ℕ → List Ratio → List (List Ratio)
+rows_of players zero payoffs = []
+rows_of players (suc n) payoffs = take players payoffs ∷ rows_of players n (drop players payoffs)
+
+numbered_rows : (players k n : ℕ) (payoffs : List Ratio)
+    → map (row_of players payoffs) (numbers_from (suc k) n)
+    ≡ rows_of players n (drop (k * players) payoffs)
+numbered_rows players k zero payoffs = refl
+numbered_rows players k (suc n) payoffs =
+    let next : suc k + 1 ≡ suc (suc k) = omega arith in
+    let more : suc k * players ≡ k * players + players = omega arith in
+    let rest : map (row_of players payoffs) (numbers_from (suc k + 1) n)
+    ≡ rows_of players n (drop players (drop (k * players) payoffs)) =
+    ap (λ (m : ℕ). map (row_of players payoffs) (numbers_from m n)) next
+    ∙ numbered_rows players (suc k) n payoffs
+    ∙ ap (λ (m : ℕ). rows_of players n (drop m payoffs)) more
+    ∙ ap (rows_of players n) (sym (drop-drop players (k * players) payoffs)) in
+    ap (λ (rs : List (List Ratio)). take players (drop (k * players) payoffs) ∷ rs) rest
+
+-- rows with the numbers from 1 are the rows in turn
+pub rows_in_turn : (players n : ℕ) (payoffs : List Ratio)
+    → map (row_of players payoffs) (positions n) ≡ rows_of players n payoffs
+rows_in_turn players n payoffs =
+    let none : 0 * players ≡ 0 = omega arith in
+    numbered_rows players 0 n payoffs ∙ ap (λ (m : ℕ). rows_of players n (drop m payoffs)) none
+
+-- rows one after another are parted again
+rows_of-joined : (players : ℕ) (rs : List (List Ratio))
+    → AllByRecursion (λ row. length row ≡ players) rs → rows_of players (length rs) (joined rs) ≡ rs
+rows_of-joined players [] h = refl
+rows_of-joined players (row ∷ rs) h =
+    let rest : rows_of players (length rs) (drop players (row ++ joined rs)) ≡ rs =
+    ap (rows_of players (length rs)) (drop-by players row (joined rs) h.0)
+    ∙ rows_of-joined players rs h.1 in
+    (λ i. take-by players row (joined rs) h.0 i ∷ rest i)
+
+pub rows_again : (players : ℕ) (rs : List (List Ratio))
+    → AllByRecursion (λ row. length row ≡ players) rs
+    → map (row_of players (joined rs)) (positions (length rs)) ≡ rs
+rows_again players rs h = rows_in_turn players (length rs) (joined rs) ∙ rows_of-joined players rs h
+
+choices_within : (players outcomes : ℕ) (choices : List ℕ) (payoffs : List Ratio)
+    → length payoffs ≡ players * outcomes → AllByRecursion (λ k. k ≤ outcomes) choices
+    → AllByRecursion (λ k. k * players ≤ length payoffs) choices
+choices_within players outcomes [] payoffs e h = tt
+choices_within players outcomes (k ∷ choices) payoffs e h = (
+  let fits = mul-le-mul_right players h.0 in omega (arith, e, fits, mul_comm players outcomes),
+  choices_within players outcomes choices payoffs e h.1,
+)
+
+zeros_kept : {A : Type 0} (zeros : List A) (numbers : List ℕ)
+    → AllByRecursion (λ number. number ≡ 0 → zeros ≡ zeros) numbers
+zeros_kept zeros [] = tt
+zeros_kept zeros (number ∷ numbers) = (λ e. refl, zeros_kept zeros numbers)
+
+has_rows : (c : Content) (choices : List ℕ) → HasPayoffs c choices
+    → HasRows (length c.players) c.profiles c.payoffs (replicate (length c.players) (whole (pos 0)))
+    (numbers_of c.profiles (choices_of choices))
+has_rows c [] h = kept.positions_have_rows (length c.players) c.profiles c.payoffs
+    (replicate (length c.players) (whole (pos 0))) (h ∙ mul_comm (length c.players) c.profiles)
+has_rows c (k ∷ choices) h = record {
+  one_number_each = h.2;
+  rows_kept = choices_within (length c.players) h.0 (k ∷ choices) c.payoffs h.1 h.3;
+  zeros_kept = zeros_kept (replicate (length c.players) (whole (pos 0))) (k ∷ choices);
+}
+
+pub length-rows_by : (c : Content) (choices : List ℕ) → HasPayoffs c choices
+    → length (rows_by c choices) ≡ c.profiles
+length-rows_by c choices h =
+    length-map (numbers_of c.profiles (choices_of choices)) (row_of (length c.players) c.payoffs)
+    ∙ (has_rows c choices h).one_number_each
+
+-- ---- the table
+
+pub named : (c : Content) → IsComplete c → IsNamed (names_in c) c.profiles
+named c h =
+    let same = counts-strategies_of c.counts c.labels h.has_labels in
+    record {
+      one_list_each = sym (length-map (strategies_of c.counts c.labels) length)
+          ∙ ap length same
+          ∙ h.one_count_each;
+      some_strategy = all_mapped (λ n. 0 < n) length (strategies_of c.counts c.labels)
+          (subst (λ ns. AllByRecursion (λ n. 0 < n) ns) (sym same) h.some_strategy);
+      counted = h.profiles_are ∙ ap product (sym same);
+    }
+
+named_rows : (c : Content) → IsComplete c → IsNamed (names_in c) (length (rows_by c c.choices))
+named_rows c h = rw (length-rows_by c c.choices h.has_rows) (named c h)
+
+full_rows : (c : Content) → IsComplete c
+    → AllByRecursion (λ row. length row ≡ length c.players) (rows_by c c.choices)
+full_rows c h =
+    kept.full_rows (length c.players) c.payoffs (numbers_of c.profiles (choices_of c.choices))
+    (has_rows c c.choices h.has_rows).rows_kept
+
+pub is_table : (c : Content) → IsComplete c → IsTable (table_of c)
+is_table c h = kept.is_table (names_in c) (rows_by c c.choices) (named_rows c h) (full_rows c h)
+
+pub rows-table_of : (c : Content) → IsComplete c → rows (table_of c) ≡ rows_by c c.choices
+rows-table_of c h = kept.rows-table_with (names_in c) (rows_by c c.choices) (named_rows c h).counted
+
+pub length-entries : (c : Content) → IsComplete c → length (table_of c).entries ≡ c.profiles
+length-entries c h =
+    kept.length-entries (names_in c) (rows_by c c.choices) (named_rows c h).counted
+    ∙ length-rows_by c c.choices h.has_rows
+
+pub within_limit : (c : Content) → IsComplete c → c.profiles ≤ profile_limit
+    → IsWithinLimit (table_of c)
+within_limit c h within = let count = length-entries c h in omega (arith, count, within)
+
+-- ---- the test whether a list is empty
+
+pub present : (size count : ℕ) (empty : Bool) → empty ≡ (size == 0) → empty ≡ false
+    → size ≡ count → 0 < count
+present size count empty is given same =
+    let test : (size == 0) ≡ false = sym is ∙ given in grind (arith, nat_tests, test, same)
+
+pub lacking : (size count : ℕ) (empty : Bool) → empty ≡ (size == 0) → empty ≡ true
+    → size ≡ count → count ≡ 0
+lacking size count empty is none same =
+    let test : (size == 0) ≡ true = sym is ∙ none in grind (arith, nat_tests, test, same)
+
+-- ---- the table as it is made
+
+pub held : (c : Content) (names : Names) (rs : List (List Ratio)) → names ≡ names_in c
+    → rs ≡ rows_by c c.choices → IsComplete c → c.profiles ≤ profile_limit
+    → IsSpellable (table_of c) → IsHeld names rs
+held c names rs names_are rows_are h within spellable =
+    let count = length-rows_by c c.choices h.has_rows in
+    rw (names_are, rows_are) (record {
+      named = named_rows c h;
+      one_payoff_each = full_rows c h;
+      within = omega (arith, count, within);
+      spellable = spellable;
+    })
+
+pub none_chosen : (profiles : ℕ) (choices : List ℕ) → length choices ≡ 0
+    → numbers_of profiles (choices_of choices) ≡ positions profiles
+none_chosen profiles [] h = refl
+none_chosen profiles (k ∷ choices) h = absurd (omega (arith, h))
+
+pub some_chosen : (profiles : ℕ) (choices : List ℕ) → 0 < length choices
+    → numbers_of profiles (choices_of choices) ≡ choices
+some_chosen profiles [] h = absurd (omega (arith, h))
+some_chosen profiles (k ∷ choices) h = refl
+
+pub payoffs_in_turn : (c : Content) (choices : List ℕ) → HasPayoffs c choices → length choices ≡ 0
+    → length c.payoffs ≡ c.profiles * length c.players
+payoffs_in_turn c [] h none = h ∙ mul_comm (length c.players) c.profiles
+payoffs_in_turn c (k ∷ choices) h none = absurd (omega (arith, none))
+
+pub count_chosen : (c : Content) (choices : List ℕ) → HasPayoffs c choices → 0 < length choices
+    → length choices ≡ c.profiles
+count_chosen c [] h some = absurd (omega (arith, some))
+count_chosen c (k ∷ choices) h some = h.2
+
+pub rows_chosen : (c : Content) (choices : List ℕ) → HasPayoffs c choices → 0 < length choices
+    → AllByRecursion (λ number. number * length c.players ≤ length c.payoffs) choices
+rows_chosen c choices h some =
+    subst (λ (ns : List ℕ).
+    AllByRecursion (λ number. number * length c.players ≤ length c.payoffs) ns)
+    (some_chosen c.profiles choices some) (has_rows c choices h).rows_kept

@@ -1,0 +1,145 @@
+-- Each choice of one strategy for each player is among the profiles once, and at its place.
+use Rattle.std.proofs.Common.{◌≡◌, ℕ, zero, suc, ◌+◌, ◌-◌, ◌*◌, ◌<◌, ◌≤◌, List}
+use Rattle.std.proofs.Common.{[], ◌∷◌, ◌++◌, length, map, drop, get_or, refl}
+use Rattle.std.proofs.Common.{sym, ap, ◌∙◌, append_assoc, arith, length-append}
+use Rattle.std.specs.Prelude.{◌↔◌}
+use Rattle.std.specs.List.{AllByRecursion, Contains, flat_map}
+use Rattle.std.proofs.Math.Nat.{mul-suc}
+use Rattle.std.proofs.lemmas.Grind.{flat_map-append}
+use Rattle.std.proofs.lemmas.List.{length-map, map-append, get_or-map}
+use Rattle.std.proofs.lemmas.List.Elements.{All-contains, All-from_recursion}
+use Rattle.gf_fraction.proofs.AllElements.{all_both}
+use Rattle.gf_nfg.specs.Profiles.{numbers_from, positions, profiles, product}
+use Rattle.gf_nfg.specs.ProfilePlaces.{IsProfile, place}
+use Rattle.gf_nfg.proofs.lemmas.tables.NumbersInTurn.{numbers_joined, length-numbers_from}
+use Rattle.gf_nfg.proofs.lemmas.tables.NumbersInTurn.{get_or-numbers_from, IsIn, number_in}
+use Rattle.gf_nfg.proofs.lemmas.tables.NumbersInTurn.{contains_in}
+
+-- a profile for each strategy of the first player, with these of the others
+abbrev firsts : ℕ → List ℕ → List (List ℕ)
+firsts count others = map (λ s. s ∷ others) (positions count)
+
+-- ---- places
+
+places_first : (count : ℕ) (counts others : List ℕ) (k n s : ℕ) → place counts others ≡ k → 1 ≤ s
+    → map (place (count ∷ counts)) (map (λ i. i ∷ others) (numbers_from s n))
+    ≡ numbers_from (s - 1 + count * k) n
+places_first count counts others k zero s e h = refl
+places_first count counts others k (suc n) s e h =
+    let f : s + 1 - 1 + count * k ≡ s - 1 + count * k + 1 = omega arith in
+    let rest = places_first count counts others k n (s + 1) e (omega arith) in
+    rw (e, rest, f) refl
+
+places_all : (count : ℕ) (counts : List ℕ) (tails : List (List ℕ)) (k : ℕ)
+    → map (place counts) tails ≡ numbers_from k (length tails)
+    → map (place (count ∷ counts)) (flat_map (firsts count) tails)
+    ≡ numbers_from (count * k) (count * length tails)
+places_all count counts [] k e = let z : count * 0 ≡ 0 = omega arith in rw z refl
+places_all count counts (others ∷ tails) k e =
+    let here : place counts others ≡ k = cc in
+    let first = places_first count counts others k count 1 here (omega arith) in
+    let start : 1 - 1 + count * k ≡ count * k = omega arith in
+    let on : count * (k + 1) ≡ count * k + count = omega (arith, mul-suc count k) in
+    let all : count + count * length tails ≡ count * suc (length tails) =
+    omega (arith, mul-suc count (length tails)) in
+    let rest = places_all count counts tails (k + 1) (ap (drop 1) e) in
+    map-append (place (count ∷ counts)) (firsts count others) (flat_map (firsts count) tails)
+    ∙ ap (λ (ns : List ℕ). ns ++ map (place (count ∷ counts)) (flat_map (firsts count) tails))
+    (first ∙ ap (λ (n : ℕ). numbers_from n count) start)
+    ∙ ap (λ (ns : List ℕ). numbers_from (count * k) count ++ ns)
+    (rest ∙ ap (λ (n : ℕ). numbers_from n (count * length tails)) on)
+    ∙ numbers_joined (count * k) count (count * length tails) ∙ ap (numbers_from (count * k)) all
+
+length-firsts : (count : ℕ) (tails : List (List ℕ))
+    → length (flat_map (firsts count) tails) ≡ count * length tails
+length-firsts count [] = omega arith
+length-firsts count (others ∷ tails) =
+    let first = length-map (positions count) (λ (s : ℕ). s ∷ others) in
+    let size = length-numbers_from 1 count in
+    let rest = length-firsts count tails in
+    let both = length-append (firsts count others) (flat_map (firsts count) tails) in
+    omega (arith, first, size, rest, both, mul-suc count (length tails))
+
+pub length-profiles : (counts : List ℕ) → length (profiles counts) ≡ product counts
+length-profiles [] = refl
+length-profiles (count ∷ counts) =
+    length-firsts count (profiles counts) ∙ ap (λ (n : ℕ). count * n) (length-profiles counts)
+
+places_are : (counts : List ℕ)
+    → map (place counts) (profiles counts) ≡ numbers_from 0 (length (profiles counts))
+places_are [] = refl
+places_are (count ∷ counts) =
+    let e : count * 0 ≡ 0 = omega arith in
+    places_all count counts (profiles counts) 0 (places_are counts)
+    ∙ ap (λ (n : ℕ). numbers_from n (count * length (profiles counts))) e
+    ∙ ap (numbers_from 0) (sym (length-firsts count (profiles counts)))
+
+pub profiles_in_order : (counts : List ℕ)
+    → map (place counts) (profiles counts) ≡ numbers_from 0 (product counts)
+profiles_in_order counts = places_are counts ∙ ap (numbers_from 0) (length-profiles counts)
+
+pub place_at : (counts : List ℕ) (i : ℕ) (d : List ℕ) → i < length (profiles counts)
+    → place counts (get_or (profiles counts) i d) ≡ i
+place_at counts i d h =
+    sym (get_or-map (place counts) (profiles counts) i d 0 h)
+    ∙ ap (λ (ns : List ℕ). get_or ns i 0) (places_are counts)
+    ∙ get_or-numbers_from 0 (length (profiles counts)) i 0 h
+    ∙ (let e : 0 + i ≡ i = omega arith in e)
+
+-- no profile stands twice
+pub profiles_distinct : (counts : List ℕ) (i j : ℕ) (d : List ℕ) → i < length (profiles counts)
+    → j < length (profiles counts) → get_or (profiles counts) i d ≡ get_or (profiles counts) j d
+    → i ≡ j
+profiles_distinct counts i j d hi hj e =
+    sym (place_at counts i d hi) ∙ ap (place counts) e ∙ place_at counts j d hj
+
+-- ---- all choices
+
+profile_in : (counts profile : List ℕ) → IsProfile counts profile → IsIn (profiles counts) profile
+profile_in [] [] h = ([], [], refl)
+profile_in [] (s ∷ others) h = absurd h
+profile_in (count ∷ counts) [] h = absurd h
+profile_in (count ∷ counts) (s ∷ others) h =
+    let r = profile_in counts others h.1 in
+    let n = number_in 1 count s h.0.0 (omega (arith, h.0.1)) in
+    let f = λ (i : ℕ). i ∷ others in
+    let g = flat_map (firsts count) in
+    let first : firsts count others ≡ map f n.0 ++ (s ∷ others) ∷ map f n.1 =
+    ap (map f) n.2 ∙ map-append f n.0 (s ∷ n.1) in (
+      g r.0 ++ map f n.0,
+      map f n.1 ++ g r.1,
+      ap g r.2
+          ∙ flat_map-append (firsts count) r.0 (others ∷ r.1)
+          ∙ ap (λ (ps : List (List ℕ)). g r.0 ++ (ps ++ g r.1)) first
+          ∙ ap (λ (ps : List (List ℕ)). g r.0 ++ ps)
+          (append_assoc (map f n.0) ((s ∷ others) ∷ map f n.1) (g r.1))
+          ∙ sym (append_assoc (g r.0) (map f n.0) ((s ∷ others) ∷ (map f n.1 ++ g r.1))),
+    )
+
+all_first : (count : ℕ) (counts others : List ℕ)
+    → IsProfile counts others → (s n : ℕ) → 1 ≤ s → s + n ≤ count + 1
+    → AllByRecursion (IsProfile (count ∷ counts)) (map (λ i. i ∷ others) (numbers_from s n))
+all_first count counts others p s zero h k = tt
+all_first count counts others p s (suc n) h k =
+    (((h, omega arith), p), all_first count counts others p (s + 1) n (omega arith) (omega arith))
+
+all_profiles : (count : ℕ) (counts : List ℕ) (tails : List (List ℕ))
+    → AllByRecursion (IsProfile counts) tails
+    → AllByRecursion (IsProfile (count ∷ counts)) (flat_map (firsts count) tails)
+all_profiles count counts [] h = tt
+all_profiles count counts (others ∷ tails) h =
+    all_both (IsProfile (count ∷ counts)) (firsts count others) (flat_map (firsts count) tails)
+    (all_first count counts others h.0 1 count (omega arith) (omega arith))
+    (all_profiles count counts tails h.1)
+
+pub are_profiles : (counts : List ℕ) → AllByRecursion (IsProfile counts) (profiles counts)
+are_profiles [] = (tt, tt)
+are_profiles (count ∷ counts) = all_profiles count counts (profiles counts) (are_profiles counts)
+
+pub every_profile : (counts profile : List ℕ)
+    → Contains (profiles counts) profile ↔ IsProfile counts profile
+every_profile counts profile = (
+  λ h. All-contains (IsProfile counts) (profiles counts) profile
+      (All-from_recursion (IsProfile counts) (profiles counts) (are_profiles counts)) h,
+  λ h. contains_in (profiles counts) profile (profile_in counts profile h),
+)

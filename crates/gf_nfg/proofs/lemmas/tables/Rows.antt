@@ -1,0 +1,332 @@
+-- The rows of a table.
+use Rattle.std.proofs.Common.{◌≡◌, ℕ, zero, suc, ◌+◌, ◌*◌, ◌<◌, ◌≤◌, List, [], ◌∷◌}
+use Rattle.std.proofs.Common.{◌++◌, length, map, take, drop, Option, Some, None}
+use Rattle.std.proofs.Common.{slice_get, option_map, refl, sym, ap, ◌∙◌, arith}
+use Rattle.std.specs.Prelude.{pos, replicate, IsSome, SomeIff, unwrap_or, vec_len, Vec, ◌/◌}
+use Rattle.std.specs.List.{AllByRecursion, flat_map}
+use Rattle.std.proofs.lemmas.List.{length-take, length-drop, length-map}
+use Rattle.std.proofs.lemmas.List.{length-replicate, take_all, drop-drop}
+use Rattle.std.proofs.Math.Nat.{mul-div_cancel, mul-le-mul_left, mul-le-mul_right, one-le-mul}
+use Rattle.std.proofs.lemmas.Option.{slice_get-map}
+use Rattle.gf_nfg.proofs.lemmas.tables.Profiles.{length-profiles}
+use Rattle.gf_nfg.proofs.lemmas.tables.NumbersInTurn.{length-numbers_from}
+use Rattle.gf_fraction.specs.Ratio.{Ratio, whole}
+use Rattle.gf_fraction.proofs.AllElements.{all_at}
+use Rattle.gf_nfg.specs.Limit.{profile_limit}
+use Rattle.gf_nfg.specs.Profiles.{numbers_from, positions, product, profiles}
+use Rattle.gf_nfg.specs.Table.{Entry, Table, IsTable, rows}
+use Rattle.gf_nfg.specs.TableAccess.{IsTableOf}
+use Rattle.gf_nfg.specs.TableParts.{Names, entries_of, kept_row, table_with, row_of}
+use Rattle.gf_nfg.specs.TableParts.{number_in, numbers_of, IsNamed, HasRows}
+
+pub length-entries_of : (ps : List (List ℕ)) (rs : List (List Ratio)) → length ps ≡ length rs
+    → length (entries_of ps rs) ≡ length rs
+length-entries_of [] [] h = refl
+length-entries_of [] (r ∷ rs) h = absurd (omega (arith, h))
+length-entries_of (p ∷ ps) [] h = refl
+length-entries_of (p ∷ ps) (r ∷ rs) h = ap suc (length-entries_of ps rs (omega (arith, h)))
+
+pub profiles-entries_of : (ps : List (List ℕ)) (rs : List (List Ratio)) → length ps ≡ length rs
+    → map (λ e. e.profile) (entries_of ps rs) ≡ ps
+profiles-entries_of [] [] h = refl
+profiles-entries_of [] (r ∷ rs) h = refl
+profiles-entries_of (p ∷ ps) [] h = absurd (omega (arith, h))
+profiles-entries_of (p ∷ ps) (r ∷ rs) h =
+    ap (λ qs. p ∷ qs) (profiles-entries_of ps rs (omega (arith, h)))
+
+pub payoffs-entries_of : (ps : List (List ℕ)) (rs : List (List Ratio)) → length ps ≡ length rs
+    → map (λ e. e.payoffs) (entries_of ps rs) ≡ rs
+payoffs-entries_of [] [] h = refl
+payoffs-entries_of [] (r ∷ rs) h = absurd (omega (arith, h))
+payoffs-entries_of (p ∷ ps) [] h = refl
+payoffs-entries_of (p ∷ ps) (r ∷ rs) h =
+    ap (λ qs. r ∷ qs) (payoffs-entries_of ps rs (omega (arith, h)))
+
+-- entries are found again from their profiles and their payoffs
+pub entries_again : (entries : List Entry)
+    → entries_of (map (λ e. e.profile) entries) (map (λ e. e.payoffs) entries) ≡ entries
+entries_again [] = refl
+entries_again (e ∷ entries) = ap (λ es. e ∷ es) (entries_again entries)
+
+-- ---- a table of names and rows
+
+-- as many rows as there are profiles
+pub matched : (names : Names) (rs : List (List Ratio))
+    → length rs ≡ product (map length names.strategies)
+    → length (profiles (map length names.strategies)) ≡ length rs
+matched names rs one = length-profiles (map length names.strategies) ∙ sym one
+
+pub length-entries : (names : Names) (rs : List (List Ratio))
+    → length rs ≡ product (map length names.strategies)
+    → length (table_with names rs).entries ≡ length rs
+length-entries names rs one =
+    length-entries_of (profiles (map length names.strategies)) rs (matched names rs one)
+
+pub rows-table_with : (names : Names) (rs : List (List Ratio))
+    → length rs ≡ product (map length names.strategies) → rows (table_with names rs) ≡ rs
+rows-table_with names rs one =
+    payoffs-entries_of (profiles (map length names.strategies)) rs (matched names rs one)
+
+pub is_table : (names : Names) (rs : List (List Ratio)) → IsNamed names (length rs)
+    → AllByRecursion (λ row. length row ≡ length names.players) rs → IsTable (table_with names rs)
+is_table names rs named full = record {
+  one_list_each = named.one_list_each;
+  some_strategy = named.some_strategy;
+  one_entry_each =
+      profiles-entries_of (profiles (map length names.strategies)) rs
+      (matched names rs named.counted);
+  one_payoff_each = rw (rows-table_with names rs named.counted) full;
+}
+
+-- ---- rows by their numbers
+
+length-row_of : (players : ℕ) (payoffs : List Ratio) (number : ℕ)
+    → number * players ≤ length payoffs → length (row_of players payoffs number) ≡ players
+length-row_of players payoffs zero h = length-replicate players (whole (pos 0))
+length-row_of players payoffs (suc k) h =
+    let more : suc k * players ≡ k * players + players = omega arith in
+    length-take players (drop (k * players) payoffs)
+    ∙ omega (arith, length-drop (k * players) payoffs, h, more)
+
+pub full_rows : (players : ℕ) (payoffs : List Ratio) (numbers : List ℕ)
+    → AllByRecursion (λ number. number * players ≤ length payoffs) numbers
+    → AllByRecursion (λ row. length row ≡ players) (map (row_of players payoffs) numbers)
+full_rows players payoffs [] h = tt
+full_rows players payoffs (number ∷ numbers) h =
+    (length-row_of players payoffs number h.0, full_rows players payoffs numbers h.1)
+
+pub length-kept : (players count : ℕ) (payoffs zeros : List Ratio) (numbers : List ℕ)
+    → HasRows players count payoffs zeros numbers
+    → length (map (row_of players payoffs) numbers) ≡ count
+length-kept players count payoffs zeros numbers kept =
+    length-map numbers (row_of players payoffs) ∙ kept.one_number_each
+
+-- ---- rows of the profiles in turn
+
+positions_kept : (players whole first n : ℕ) → (first + n) * players ≤ whole + players
+    → AllByRecursion (λ number. number * players ≤ whole) (numbers_from first n)
+positions_kept players whole first zero h = tt
+positions_kept players whole first (suc n) h =
+    let here : (first + 1) * players ≤ (first + suc n) * players =
+    mul-le-mul_right players (omega arith) in
+    let split : (first + 1) * players ≡ first * players + players = omega arith in
+    let moved : first + 1 + n ≡ first + suc n = omega arith in
+    (omega (arith, here, split, h), positions_kept players whole (first + 1) n (rw moved h))
+
+positions_above : (A : Type 0) (first n : ℕ) → 0 < first
+    → AllByRecursion (λ number. number ≡ 0 → A) (numbers_from first n)
+positions_above A first zero h = tt
+positions_above A first (suc n) h =
+    (λ e. absurd (omega (arith, h, e)), positions_above A (first + 1) n (omega arith))
+
+pub positions_have_rows : (players count : ℕ) (payoffs zeros : List Ratio)
+    → length payoffs ≡ count * players → HasRows players count payoffs zeros (positions count)
+positions_have_rows players count payoffs zeros h = record {
+  one_number_each = length-numbers_from 1 count;
+  rows_kept = positions_kept players (length payoffs) 1 count
+      (let split : (1 + count) * players ≡ players + count * players = omega arith in
+      omega (arith, h, split));
+  zeros_kept = positions_above (zeros ≡ replicate players (whole (pos 0))) 1 count (omega arith);
+}
+
+take-nil : {A : Type 0} (n : ℕ) → take {A = A} n [] ≡ []
+take-nil zero = refl
+take-nil (suc n) = refl
+
+take_two : {A : Type 0} (m n : ℕ) (xs : List A) → take m xs ++ take n (drop m xs) ≡ take (m + n) xs
+take_two zero n xs = let e : 0 + n ≡ n = omega arith in ap (λ (k : ℕ). take k xs) (sym e)
+take_two (suc m) n [] =
+    let e : suc m + n ≡ suc (m + n) = omega arith in take-nil n ∙ ap (λ (k : ℕ). take k []) (sym e)
+take_two (suc m) n (x ∷ xs) =
+    let e : suc m + n ≡ suc (m + n) = omega arith in
+    ap (λ ys. x ∷ ys) (take_two m n xs) ∙ ap (λ (k : ℕ). take k (x ∷ xs)) (sym e)
+
+numbered_from : (players : ℕ) (payoffs : List Ratio) (k n : ℕ)
+    → flat_map (λ row. row) (map (row_of players payoffs) (numbers_from (suc k) n))
+    ≡ take (n * players) (drop (k * players) payoffs)
+numbered_from players payoffs k zero = let none : 0 * players ≡ 0 = omega arith in rw none refl
+numbered_from players payoffs k (suc n) =
+    let next : suc k + 1 ≡ suc (suc k) = omega arith in
+    let more : suc k * players ≡ k * players + players = omega arith in
+    let all : suc n * players ≡ players + n * players = omega arith in
+    ap (λ (m : ℕ). take players (drop (k * players) payoffs)
+    ++ flat_map (λ row. row) (map (row_of players payoffs) (numbers_from m n)))
+    next
+    ∙ ap (λ (rest : List Ratio). take players (drop (k * players) payoffs) ++ rest)
+    (numbered_from players payoffs (suc k) n)
+    ∙ ap
+    (λ (m : ℕ). take players (drop (k * players) payoffs) ++ take (n * players) (drop m payoffs))
+    more
+    ∙ ap
+    (λ (rest : List Ratio). take players (drop (k * players) payoffs) ++ take (n * players) rest)
+    (sym (drop-drop players (k * players) payoffs))
+    ∙ take_two players (n * players) (drop (k * players) payoffs)
+    ∙ ap (λ (m : ℕ). take m (drop (k * players) payoffs)) (sym all)
+
+-- rows of the profiles in turn are the payoffs
+pub rows_in_turn : (players count : ℕ) (payoffs : List Ratio) → length payoffs ≡ count * players
+    → flat_map (λ row. row) (map (row_of players payoffs) (positions count)) ≡ payoffs
+rows_in_turn players count payoffs h =
+    let none : 0 * players ≡ 0 = omega arith in
+    numbered_from players payoffs 0 count
+    ∙ ap (λ (m : ℕ). take (count * players) (drop m payoffs)) none
+    ∙ take_all (count * players) payoffs (omega (arith, h))
+
+-- ---- one row
+
+-- the number of the row of the profile with this place
+pub record IsNumber (players count : ℕ) (payoffs zeros : List Ratio) (numbers : List ℕ)
+    (place number : ℕ) : Type 0 where
+  pub kept : HasRows players count payoffs zeros numbers
+  pub number_is : slice_get numbers place ≡ Some number
+
+pub number_within : (players count : ℕ) (payoffs zeros : List Ratio) (numbers : List ℕ)
+    (place number : ℕ) → IsNumber players count payoffs zeros numbers place number
+    → number * players ≤ length payoffs
+number_within players count payoffs zeros numbers place number h =
+    all_at (λ n. n * players ≤ length payoffs) numbers place number h.kept.rows_kept h.number_is
+
+pub number_zero : (players count : ℕ) (payoffs zeros : List Ratio) (numbers : List ℕ)
+    (place number : ℕ) → IsNumber players count payoffs zeros numbers place number
+    → number ≡ 0 → zeros ≡ replicate players (whole (pos 0))
+number_zero players count payoffs zeros numbers place number h =
+    all_at (λ n. n ≡ 0 → zeros ≡ replicate players (whole (pos 0))) numbers place number
+    h.kept.zeros_kept h.number_is
+
+pub kept_row_is : (players : ℕ) (payoffs zeros : List Ratio) (number : ℕ)
+    → (number ≡ 0 → zeros ≡ row_of players payoffs 0)
+    → kept_row players payoffs zeros number ≡ row_of players payoffs number
+kept_row_is players payoffs zeros zero h = h refl
+kept_row_is players payoffs zeros (suc k) h = refl
+
+pub row_is : (players count : ℕ) (payoffs zeros : List Ratio) (numbers : List ℕ)
+    (place number : ℕ) → IsNumber players count payoffs zeros numbers place number
+    → slice_get (map (row_of players payoffs) numbers) place ≡ Some (row_of players payoffs number)
+row_is players count payoffs zeros numbers place number h =
+    slice_get-map (row_of players payoffs) numbers place
+    ∙ ap (λ (o : Option ℕ). option_map (row_of players payoffs) o) h.number_is
+
+slice_get-numbers_from : (first n k : ℕ) → k < n
+    → slice_get (numbers_from first n) k ≡ Some (first + k)
+slice_get-numbers_from first zero k h = absurd (omega (arith, h))
+slice_get-numbers_from first (suc n) zero h = let e : first ≡ first + 0 = omega arith in ap Some e
+slice_get-numbers_from first (suc n) (suc k) h =
+    let e : first + 1 + k ≡ first + suc k = omega arith in
+    slice_get-numbers_from (first + 1) n k (omega (arith, h)) ∙ ap Some e
+
+pub number_found : (count : ℕ) (choices : Option (List ℕ)) (place : ℕ) → place < count
+    → number_in choices place ≡ slice_get (numbers_of count choices) place
+number_found count None place h =
+    let e : place + 1 ≡ 1 + place = omega arith in
+    ap Some e ∙ sym (slice_get-numbers_from 1 count place h)
+number_found count (Some choices) place h = refl
+
+pub some_from : {A : Type 0} (xs : List A) (k : ℕ) → k < length xs → IsSome (slice_get xs k)
+some_from [] k h = absurd (omega (arith, h))
+some_from (x ∷ xs) zero h = refl
+some_from (x ∷ xs) (suc k) h = some_from xs k (omega (arith, h))
+
+-- ---- a table's counts
+
+pub product_above : (strategies : List (List (List ℕ)))
+    → AllByRecursion (λ own. 0 < length own) strategies → 1 ≤ product (map length strategies)
+product_above [] h = omega arith
+product_above (own ∷ others) h = one-le-mul h.0 (product_above others h.1)
+
+-- if each player has a strategy, nobody has more strategies than there are profiles
+pub count_at_most : (strategies : List (List (List ℕ))) (k : ℕ) (own : List (List ℕ))
+    → AllByRecursion (λ own. 0 < length own) strategies → slice_get strategies k ≡ Some own
+    → length own ≤ product (map length strategies)
+count_at_most [] k own h e = absurd (cc)
+count_at_most (first ∷ others) zero own h e =
+    let same : first ≡ own = cc in
+    let some = product_above others h.1 in
+    let more = mul-le-mul_left (length first) some in
+    omega (arith, ap length same, more)
+count_at_most (first ∷ others) (suc k) own h e =
+    let below = count_at_most others k own h.1 e in
+    let more = mul-le-mul_right (product (map length others)) h.0 in
+    omega (arith, below, more)
+
+-- ---- a table made from its parts
+
+pub counts_of_lists : {A B Z : Type 0} (f : A → B) (lists : List (Vec A Z))
+    → map length (map (λ own. map f own.items) lists) ≡ map vec_len lists
+counts_of_lists f [] = refl
+counts_of_lists f (own ∷ lists) =
+    let size : length (map f own.items) ≡ vec_len own = length-map own.items f ∙ sym own.ok.0 in
+    rw (size, counts_of_lists f lists) refl
+
+pub some_in_lists : {A B Z : Type 0} (f : A → B) (lists : List (Vec A Z))
+    → AllByRecursion (λ own. 0 < vec_len own) lists
+    → AllByRecursion (λ own. 0 < length own) (map (λ own. map f own.items) lists)
+some_in_lists f [] h = tt
+some_in_lists f (own ∷ lists) h = (
+  let size : length (map f own.items) ≡ vec_len own = length-map own.items f ∙ sym own.ok.0 in
+      omega (arith, size, h.0),
+  some_in_lists f lists h.1,
+)
+
+-- as many rows as there are profiles
+pub profiles_counted : (rows players : ℕ) (counts : List ℕ) (quotient : Option ℕ)
+    → SomeIff quotient (0 < players) (rows / players) → length counts ≡ players
+    → rows ≡ product counts * players
+    → unwrap_or quotient 1 ≡ product counts
+profiles_counted rows zero [] None is one h = refl
+profiles_counted rows zero [] (Some q) is one h = absurd (omega (arith, is.0))
+profiles_counted rows zero (count ∷ counts) quotient is one h = absurd (omega (arith, one))
+profiles_counted rows (suc n) counts None is one h = absurd (is (omega arith))
+profiles_counted rows (suc n) counts (Some q) is one h =
+    is.1 ∙ ap (λ (m : ℕ). m / suc n) h ∙ mul-div_cancel (product counts) (omega arith)
+
+pub counted_own : (o : Option (List (List ℕ))) (n : ℕ) → option_map length o ≡ Some n
+    → (own : List (List ℕ)) × (o ≡ Some own) × (length own ≡ n)
+counted_own None n e = absurd (cc)
+counted_own (Some own) n e = let same : length own ≡ n = cc in (own, refl, same)
+
+pub own_count_within : (names : Names) (count k n : ℕ) → IsNamed names count → count ≤ profile_limit
+    → option_map length (slice_get names.strategies k) ≡ Some n → n ≤ profile_limit
+own_count_within names count k n h within e =
+    let own = counted_own (slice_get names.strategies k) n e in
+    omega
+    (arith, own.2, h.counted, within, count_at_most names.strategies k own.0 h.some_strategy own.1)
+
+pub place_within : (players count : ℕ) (payoffs zeros : List Ratio) (numbers : List ℕ)
+    (rs : List (List Ratio)) (place : ℕ) → HasRows players count payoffs zeros numbers
+    → map (row_of players payoffs) numbers ≡ rs → place < length rs → place < count
+place_within players count payoffs zeros numbers rs place kept view h =
+    let size : length rs ≡ count =
+    ap length (sym view) ∙ length-kept players count payoffs zeros numbers kept in
+    omega (arith, h, size)
+
+pub numbered : (players count : ℕ) (payoffs zeros : List Ratio) (choices : Option (List ℕ))
+    (rs : List (List Ratio)) (place number : ℕ)
+    → HasRows players count payoffs zeros (numbers_of count choices)
+    → map (row_of players payoffs) (numbers_of count choices) ≡ rs → place < length rs
+    → number_in choices place ≡ Some number
+    → IsNumber players count payoffs zeros (numbers_of count choices) place number
+numbered players count payoffs zeros choices rs place number kept view h e =
+    let numbers = numbers_of count choices in
+    let within = place_within players count payoffs zeros numbers rs place kept view h in
+    record { kept = kept; number_is = sym (number_found count choices place within) ∙ e }
+
+pub made_of_parts : (t : Table) (names : Names) (title comment : List ℕ) (players : List (List ℕ))
+    (strategies : List (List (List ℕ))) (rs : List (List Ratio)) (given : List Ratio)
+    → names
+    ≡ record { title = title; comment = comment; players = players; strategies = strategies }
+    → IsNamed names (length rs) → AllByRecursion (λ row. length row ≡ length names.players) rs
+    → flat_map (λ row. row) rs ≡ given → t ≡ table_with names rs
+    → IsTableOf t title comment players strategies given
+made_of_parts t names title comment players strategies rs given is named full in_turn
+    made = record {
+      title_is = ap (λ (u : Table). u.title) made ∙ ap (λ (n : Names). n.title) is;
+      comment_is = ap (λ (u : Table). u.comment) made ∙ ap (λ (n : Names). n.comment) is;
+      players_are = ap (λ (u : Table). u.players) made ∙ ap (λ (n : Names). n.players) is;
+      strategies_are = ap (λ (u : Table). u.strategies) made ∙ ap (λ (n : Names). n.strategies) is;
+      payoffs_are =
+          ap (λ (u : Table). flat_map (λ row. row) (rows u)) made
+          ∙ ap (λ (xs : List (List Ratio)). flat_map (λ row. row) xs)
+          (rows-table_with names rs named.counted)
+          ∙ in_turn;
+      is_table = rw made (is_table names rs named full);
+    }

@@ -1,0 +1,116 @@
+-- Tables that are the same are equal.
+use Rattle.std.proofs.Common.{◌≡◌, ℕ, ◌<◌, List, [], length, map}
+use Rattle.std.proofs.Common.{get_or, sym, ap, subst, ◌∙◌, arith}
+use Rattle.std.specs.Prelude.{◌↔◌, Bool, IsTrue}
+use Rattle.std.specs.List.{Contains}
+use Rattle.std.proofs.lemmas.List.{length-map, get_or-map, get_or_default, same_lists}
+use Rattle.gf_fraction.specs.Ratio.{Ratio}
+use Rattle.gf_nfg.specs.Profiles.{profiles}
+use Rattle.gf_nfg.specs.Table.{Entry, Table, IsTable, rows}
+use Rattle.gf_nfg.specs.TableParts.{Names}
+use Rattle.gf_nfg.specs.SameTable.{SamePlay, SameTable}
+use Rattle.gf_nfg.proofs.lemmas.tables.Agreement as agrees
+use Rattle.gf_nfg.proofs.lemmas.tables.Profiles.{profiles_distinct}
+
+-- an entry for each profile, and each of the entries among the others: the same entries
+same_entries : (counts : List ℕ) (es fs : List Entry) → map (λ e. e.profile) es ≡ profiles counts
+    → map (λ e. e.profile) fs ≡ profiles counts → ((e : Entry) → Contains es e → Contains fs e)
+    → es ≡ fs
+same_entries counts es fs p q pays = same_lists es fs sizes same
+  where
+    size : (xs : List Entry) → map (λ e. e.profile) xs ≡ profiles counts
+        → length xs ≡ length (profiles counts)
+    size xs r = sym (length-map xs (λ e. e.profile)) ∙ ap length r
+
+    sizes : length es ≡ length fs
+    sizes = size es p ∙ sym (size fs q)
+
+    profile_at : (xs : List Entry) (i : ℕ) (d : Entry) → map (λ e. e.profile) xs ≡ profiles counts
+        → i < length xs → get_or (profiles counts) i [] ≡ (get_or xs i d).profile
+    profile_at xs i d r h =
+        ap (λ ps. get_or ps i []) (sym r) ∙ get_or-map (λ (e : Entry). e.profile) xs i d [] h
+
+    same : (k : ℕ) (d : Entry) → k < length es → get_or es k d ≡ get_or fs k d
+    same k d h =
+        let e = get_or es k d in
+        let c = pays e (k, h, get_or_default es k e d h) in
+        let profile : get_or (profiles counts) k [] ≡ get_or (profiles counts) c.0 [] =
+        profile_at es k d p h
+        ∙ ap (λ (x : Entry). x.profile) (sym c.2)
+        ∙ sym (profile_at fs c.0 e q c.1) in
+        let in_es : k < length (profiles counts) = omega (arith, h, size es p) in
+        let in_fs : c.0 < length (profiles counts) = omega (arith, c.1, size fs q) in
+        let place : k ≡ c.0 = profiles_distinct counts k c.0 [] in_es in_fs profile in
+        sym c.2 ∙ get_or_default fs c.0 e d c.1 ∙ ap (λ (i : ℕ). get_or fs i d) (sym place)
+
+-- each table pays what the other does: the same entries
+same_payoffs : (t u : Table) → IsTable t → IsTable u → SamePlay t u → t.entries ≡ u.entries
+same_payoffs t u ht hu h =
+    let profiles_of_u = hu.one_entry_each ∙ ap (λ s. profiles (map length s)) (sym h.strategies) in
+    same_entries (map length t.strategies) t.entries u.entries ht.one_entry_each profiles_of_u
+    (λ e c. (h.payoffs e.profile e.payoffs).0 c)
+
+pub same_play_by_rows : (t u : Table) → IsTable t → IsTable u
+    → SamePlay t u ↔ ((t.players ≡ u.players) × (t.strategies ≡ u.strategies) × (rows t ≡ rows u))
+same_play_by_rows t u ht hu = (to, from)
+  where
+    to : SamePlay t u → (t.players ≡ u.players) × (t.strategies ≡ u.strategies) × (rows t ≡ rows u)
+    to h = (h.players, h.strategies, ap (map (λ e. e.payoffs)) (same_payoffs t u ht hu h))
+
+    from : (t.players ≡ u.players) × (t.strategies ≡ u.strategies) × (rows t ≡ rows u)
+        → SamePlay t u
+    from h =
+        let same = agrees.same_entries t u ht hu h.1 h.2 in
+        record {
+          players = h.0;
+          strategies = h.1;
+          payoffs = λ profile payoffs. (
+            λ c. subst (λ es. Contains es (record { profile = profile; payoffs = payoffs })) same c,
+            λ c. subst (λ es. Contains es (record { profile = profile; payoffs = payoffs }))
+                (sym same) c,
+          );
+        }
+
+-- a table but for its payoffs
+abbrev pub names_in : Table → Names
+names_in t = record {
+  title = t.title;
+  comment = t.comment;
+  players = t.players;
+  strategies = t.strategies;
+}
+
+-- by what is kept of both tables, if the names are the same
+pub same_play_as_kept : (t u : Table) (m n : Names) (xs ys : List (List Ratio)) (answer : Bool)
+    → IsTable t → IsTable u → m ≡ names_in t → n ≡ names_in u
+    → (m.players ≡ n.players) × (m.strategies ≡ n.strategies) → xs ≡ rows t → ys ≡ rows u
+    → IsTrue answer ↔ (xs ≡ ys) → IsTrue answer ↔ SamePlay t u
+same_play_as_kept t u m n xs ys answer ht hu left right both mine others same =
+    let players = sym (ap (λ n. n.players) left) ∙ both.0 ∙ ap (λ n. n.players) right in
+    let strategies = sym (ap (λ n. n.strategies) left) ∙ both.1 ∙ ap (λ n. n.strategies) right in
+    let by_rows = same_play_by_rows t u ht hu in (
+      λ h. by_rows.1 (players, strategies, sym mine ∙ same.0 h ∙ others),
+      λ play. same.1 (mine ∙ (by_rows.0 play).2 ∙ sym others),
+    )
+
+pub same_is_equal : (t u : Table) → IsTable t → IsTable u → SameTable t u ↔ (t ≡ u)
+same_is_equal t u ht hu = (to, from)
+  where
+    to : SameTable t u → t ≡ u
+    to h =
+        let entries = same_payoffs t u ht hu h.play in
+        λ i. record {
+          title = h.title i;
+          comment = h.comment i;
+          players = h.play.players i;
+          strategies = h.play.strategies i;
+          entries = entries i;
+        }
+
+    from : t ≡ u → SameTable t u
+    from e = record {
+      title = ap (λ x. x.title) e;
+      comment = ap (λ x. x.comment) e;
+      play = (same_play_by_rows t u ht hu).1
+          (ap (λ x. x.players) e, ap (λ x. x.strategies) e, ap rows e);
+    }

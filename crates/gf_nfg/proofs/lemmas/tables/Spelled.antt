@@ -1,0 +1,119 @@
+-- What a file means is a table that a file can hold.
+use Rattle.std.proofs.Common.{ℕ, zero, suc, pos, ◌+◌, ◌^◌, ◌<◌, List, [], ◌∷◌, ◌++◌}
+use Rattle.std.proofs.Common.{length, map, replicate, sym, ap, subst, ◌∙◌, arith, inl, inr}
+use Rattle.std.specs.Prelude.{◌⊎◌, decimal}
+use Rattle.std.specs.List.{AllByRecursion, flat_map}
+use Rattle.gf_token.specs.LabelSpelling.{IsLabel}
+use Rattle.gf_token.specs.Token.{Token}
+use Rattle.gf_token.specs.Token.Token.{Closing, Text}
+use Rattle.gf_token.specs.TokenSpelling.{IsSpelled}
+use Rattle.gf_token.specs.Grammar.{Each, braced, IsPayoffInBraces}
+use Rattle.gf_token.proofs.SpelledTokens.{AllSpelled, all_spelled, braced_spelled, comment_spelled}
+use Rattle.gf_fraction.specs.Ratio.{Ratio, IsFraction, whole}
+use Rattle.gf_fraction.proofs.WholeNumbers.{whole_fraction}
+use Rattle.gf_fraction.proofs.AllElements.{all_at, all_parts, all_both, all_joined, all_mapped}
+use Rattle.gf_nfg.specs.Profiles.{numbers_from}
+use Rattle.gf_nfg.specs.Table.{Table, IsTable, IsSpellable, rows}
+use Rattle.gf_nfg.specs.Sentence.{IsCount, IsLabelList, IsPayoff, IsOutcomeInBraces, Pays}
+use Rattle.gf_nfg.specs.Sentence.{IsOutcomeNumber, IsPayoffBody, IsOutcomeBody, Sentence}
+use Rattle.gf_nfg.specs.TableText.{SpellsTable}
+use Rattle.gf_nfg.proofs.lemmas.tables.LabelsCounted.{decimal_label}
+
+-- ---- labels
+
+counted_labels : (first n : ℕ) → first + n < 10 ^ 64
+    → AllByRecursion IsLabel (map decimal (numbers_from first n))
+counted_labels first zero h = tt
+counted_labels first (suc n) h =
+    (decimal_label first (omega (arith, h)), counted_labels (first + 1) n (omega (arith, h)))
+
+texts_spelled : (names : List (List ℕ)) (rest : List Token)
+    → AllSpelled (braced (map Text names) ++ rest) → AllByRecursion IsLabel names × AllSpelled rest
+texts_spelled names rest h =
+    let k = braced_spelled (map Text names) rest h in
+    (all_mapped IsSpelled Text names k.0, k.1)
+
+label_lists_spelled : (strategies : List (List (List ℕ))) (inner : List Token)
+    → Each IsLabelList inner strategies → AllSpelled inner
+    → AllByRecursion (λ names. AllByRecursion IsLabel names) strategies
+label_lists_spelled [] inner h all = tt
+label_lists_spelled (names ∷ strategies) inner h all =
+    let both = subst AllSpelled (h.2 ∙ ap (λ (ts : List Token). ts ++ h.1) h.3) all in
+    let k = texts_spelled names h.1 both in
+    (k.0, label_lists_spelled strategies h.1 h.4 k.1)
+
+count_spelled : (tokens : List Token) (names : List (List ℕ)) → IsCount tokens names
+    → AllByRecursion IsLabel names
+count_spelled tokens names h =
+    let small : 1 + h.1 < 10 ^ 64 =
+    let wide : 2 ^ 32 < 10 ^ 64 = omega arith in omega (arith, wide, h.3.2) in
+    subst (λ ls. AllByRecursion IsLabel ls) (sym h.4) (counted_labels 1 h.1 small)
+
+-- what holds for each group's value holds for each
+each_value : {A : Type 0} (P : List Token → A → Type 0) (Q : A → Type 0)
+    → ((tokens : List Token) (x : A) → P tokens x → Q x) → (xs : List A) (tokens : List Token)
+    → Each P tokens xs → AllByRecursion Q xs
+each_value P Q f [] tokens h = tt
+each_value P Q f (x ∷ xs) tokens h = (f h.0 x h.3, each_value P Q f xs h.1 h.4)
+
+-- ---- payoffs
+
+zeros : (n : ℕ) → AllByRecursion IsFraction (replicate n (whole (pos 0)))
+zeros zero = tt
+zeros (suc n) = (whole_fraction 0 (omega arith), zeros n)
+
+abbrev AreFractions : List Ratio → Type 0
+AreFractions row = AllByRecursion IsFraction row
+
+paid : (players k : ℕ) (outcomes : List (List Ratio)) (row : List Ratio)
+    → AllByRecursion AreFractions outcomes → Pays players outcomes k row → AreFractions row
+paid players zero outcomes row all h = subst AreFractions (sym h) (zeros players)
+paid players (suc k) outcomes row all h = all_at AreFractions outcomes k row all h
+
+payoffs_spelled : (players : ℕ) (tokens : List Token) (rs : List (List Ratio))
+    → (IsPayoffBody tokens rs ⊎ IsOutcomeBody players tokens rs) → AllByRecursion AreFractions rs
+payoffs_spelled players tokens rs (inl h) =
+    each_value (Each IsPayoff) AreFractions
+    (λ ts row each. each_value IsPayoff IsFraction (λ us r is. is.2.fraction) row ts each) rs tokens
+    h
+payoffs_spelled players tokens rs (inr h) =
+    let outcomes = each_value (IsOutcomeInBraces players) AreFractions
+    (λ ts row is. each_value IsPayoffInBraces IsFraction (λ us r one. one.3.fraction) row is.1 is.3)
+    h.outcomes h.list h.listed in
+    each_value (IsOutcomeNumber players h.outcomes) AreFractions
+    (λ ts row is. paid players is.1 h.outcomes row outcomes is.4) rs h.numbers h.chosen
+
+-- ---- the table
+
+is_spellable : (tokens : List Token) (t : Table) → AllSpelled tokens → Sentence tokens t
+    → IsSpellable t
+is_spellable tokens t all h =
+    let whole = subst AllSpelled h.parts all in
+    let heading = texts_spelled t.players (h.strategies ++ (h.comment ++ h.body)) whole.1.1.1.1 in
+    let more = all_parts IsSpelled h.strategies (h.comment ++ h.body) heading.1 in
+    let inner = h.is_strategies.0 in
+    let inside =
+    (all_parts IsSpelled inner (Closing ∷ []) (subst AllSpelled h.is_strategies.1 more.0).1).0 in
+    let names =
+    elim h.is_strategies.2 as (λ x. AllByRecursion (λ ls. AllByRecursion IsLabel ls) t.strategies) [
+      | inl counts ↦ each_value IsCount (λ ls. AllByRecursion IsLabel ls) count_spelled t.strategies
+          inner counts
+      | inr lists ↦ label_lists_spelled t.strategies inner lists inside
+    ] in
+    record {
+      labels_spelled = (
+        whole.1.1.1.0,
+        (
+          comment_spelled h.comment t.comment h.is_comment
+              (all_parts IsSpelled h.comment h.body more.1).0,
+          all_both IsLabel t.players (flat_map (λ ls. ls) t.strategies)
+              heading.0 (all_joined IsLabel t.strategies names),
+        ),
+      );
+      payoffs_are_fractions = payoffs_spelled (length t.players) h.body (rows t) h.is_body;
+    }
+
+pub spelled_is_spellable : (bytes : List ℕ) (t : Table) → SpellsTable bytes t
+    → IsTable t × IsSpellable t
+spelled_is_spellable bytes t h =
+    (h.2.is_table, is_spellable (map (λ l. l.token) h.0) t (all_spelled h.0 0 bytes h.1) h.2)

@@ -1,0 +1,31 @@
+-- What was told of a file, and was kept or written, means its table.
+use Rattle.std.proofs.Common.{◌≡◌, ℕ, List, subst, sym}
+use Rattle.gf_nfg.specs.LimitPlace.{IsWithinLimit}
+use Rattle.gf_nfg.specs.inner.Machine.{Content}
+use Rattle.gf_nfg.specs.inner.Meaning.{IsComplete, table_of}
+use Rattle.gf_nfg.specs.inner.ReaderState.{content_of, content_told, content_with}
+use Rattle.gf_nfg.specs.TableText.{SpellsTable}
+use Rattle.gf_nfg.specs.inner.Told.{Told}
+use Rattle.gf_nfg.specs.inner.ToldTable.{HasToldTable}
+use Rattle.gf_nfg.specs.declared.table.heading.Heading.{Heading}
+use Rattle.gf_nfg.specs.declared.reader.receive.Kept.{Kept}
+use Rattle.gf_nfg.proofs.lemmas.tables.Meaning.{within_limit}
+
+-- these parts mean a table within the limit, which the bytes spell
+pub record MeansTable (bytes : List ℕ) (c : Content) : Type 0 where
+  pub spelled : SpellsTable bytes (table_of c)
+  pub complete : IsComplete c
+  pub within : IsWithinLimit (table_of c)
+
+pub kept_means : (bytes : List ℕ) (heading : Heading) (kept : Kept)
+    → HasToldTable (λ (k : Kept) (told : Told). (k.payoffs.items ≡ told.payoffs)
+    × (k.numbers.items ≡ told.numbers)) bytes heading kept
+    → MeansTable bytes (content_of (record { heading = heading; kept = kept }))
+kept_means bytes heading kept h =
+    let same : content_told h.told ≡ content_of (record { heading = heading; kept = kept }) =
+    (λ i. content_with (h.same i) (sym h.holding.0 i) (sym h.holding.1 i)) in
+    subst (MeansTable bytes) same (record {
+      spelled = h.spelled;
+      complete = h.complete;
+      within = within_limit (content_told h.told) h.complete h.told.heading.profiles.within;
+    })

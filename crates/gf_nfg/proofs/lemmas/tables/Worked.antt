@@ -1,0 +1,63 @@
+-- Worked tables, each computed: the machine of the reader reads their files to them; and their
+-- texts.
+use Rattle.std.proofs.Common.{◌≡◌, ℕ, List, map, Result, Ok, Err, refl, subst}
+use Rattle.std.specs.Fmt.{digits}
+use Rattle.gf_fraction.specs.Computed.{gcd_within, lowest_of, number_of}
+use Rattle.gf_fraction.specs.NumberText.{number_text}
+use Rattle.gf_token.specs.Token.{Token}
+use Rattle.gf_token.specs.Indices.{index_of}
+use Rattle.gf_token.specs.inner.Lexing.{lex}
+use Rattle.gf_token.specs.inner.Lexing.Mode.{Gap}
+use Rattle.gf_token.specs.declared.fault.Why.{Why}
+use Rattle.gf_token.proofs.Spelled.{found}
+use Rattle.gf_nfg.specs.inner.Machine.{Content, run, start}
+use Rattle.gf_nfg.specs.inner.Meaning.{table_of}
+use Rattle.gf_nfg.specs.Sentence.{Sentence}
+use Rattle.gf_nfg.specs.Table.{Table}
+use Rattle.gf_nfg.specs.TableText.{table_text, SpellsTable}
+use Rattle.gf_nfg.specs.WorkedTables.{selten, selten_by_counts, selten_by_outcomes}
+use Rattle.gf_nfg.specs.WorkedTables.{selten_text, no_players, no_players_text}
+use Rattle.gf_nfg.proofs.lemmas.runs.Sentence.{sentence_found}
+
+-- ---- texts
+
+pub text_of_selten : table_text selten ≡ selten_text
+unfolding digits number_text
+text_of_selten = refl
+
+pub text_of_no_players : table_text no_players ≡ no_players_text
+text_of_no_players = refl
+
+-- ---- files
+
+abbrev table_read : Result Content Why → Result Table Why
+table_read (Ok c) = Ok (table_of c)
+table_read (Err why) = Err why
+
+abbrev ok_table : Table → Result Table Why
+ok_table t = Ok t
+
+abbrev tokens_in : List ℕ → List Token
+tokens_in bytes = map (λ l. l.token) (lex Gap 0 bytes)
+
+meant_by : (bytes : List ℕ) (t : Table) (o : Result Content Why) → run start (tokens_in bytes) ≡ o
+    → table_read o ≡ ok_table t → SpellsTable bytes t
+meant_by bytes t (Ok c) read means =
+    let same : table_of c ≡ t = cc in (
+      lex Gap 0 bytes,
+      found bytes 0,
+      subst (Sentence (tokens_in bytes)) same (sentence_found (tokens_in bytes) c read).sentence,
+    )
+meant_by bytes t (Err why) read means = absurd cc
+
+meant : (bytes : List ℕ) (t : Table) → table_read (run start (tokens_in bytes)) ≡ ok_table t
+    → SpellsTable bytes t
+meant bytes t means = meant_by bytes t (run start (tokens_in bytes)) refl means
+
+pub by_counts : SpellsTable selten_by_counts selten
+unfolding lex digits index_of number_of lowest_of gcd_within
+by_counts = meant selten_by_counts selten refl
+
+pub by_outcomes : SpellsTable selten_by_outcomes selten
+unfolding lex digits index_of number_of lowest_of gcd_within
+by_outcomes = meant selten_by_outcomes selten refl

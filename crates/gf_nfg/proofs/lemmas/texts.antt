@@ -1,0 +1,7 @@
+pub mod Headings
+pub mod Lines
+pub mod OneTable
+pub mod Pieces
+pub mod SharedLines
+pub mod Spelled
+pub mod Told

@@ -1,0 +1,153 @@
+-- Canonical text, piece by piece.
+use Rattle.std.proofs.Common.{◌≡◌, ℕ, zero, suc, ◌+◌, ◌<◌, ◌≤◌, List, [], ◌∷◌, ◌++◌, length}
+use Rattle.std.proofs.Common.{map, drop, get_or, Option, Some, slice_get, option_map, refl}
+use Rattle.std.proofs.Common.{sym, ap, ◌∙◌, append_assoc, arith, length-take, subst}
+use Rattle.std.specs.Prelude.{codes, option_and_then, unwrap_or}
+use Rattle.std.proofs.lemmas.List.{at_drop_more, append-nil, drop_all}
+use Rattle.std.proofs.lemmas.List.{take-append-le, take-append-drop, take_all}
+use Rattle.std.proofs.lemmas.Option.{slice_get-get_or, unwrap_or-slice_get}
+use Rattle.gf_fraction.specs.Ratio.{Ratio}
+use Rattle.gf_fraction.specs.NumberText.{number_text}
+use Rattle.gf_nfg.specs.TableParts.{Names, own_of}
+use Rattle.gf_nfg.specs.TableText.{list_text, spaced, lines_text}
+use Rattle.gf_nfg.specs.inner.TextParts.{Keeps, others_text, row_text}
+use Rattle.gf_nfg.proofs.lemmas.tables.Rows.{counted_own}
+
+-- each item and a space, and the closing brace
+abbrev pub items_text : List (List ℕ) → List ℕ
+items_text [] = codes "}"
+items_text (item ∷ items) = item ++ 32 ∷ items_text items
+
+spaced_items : (first : List ℕ) (items : List (List ℕ))
+    → spaced (first ∷ (items ++ codes "}" ∷ [])) ≡ first ++ 32 ∷ items_text items
+spaced_items first [] = refl
+spaced_items first (item ∷ items) = ap (λ (bs : List ℕ). first ++ 32 ∷ bs) (spaced_items item items)
+
+pub list_text_is : (items : List (List ℕ)) → list_text items ≡ codes "{ " ++ items_text items
+list_text_is items = spaced_items (codes "{") items
+
+pub spaced_is : (first : List ℕ) (items : List (List ℕ))
+    → spaced (first ∷ items) ≡ first ++ others_text items
+spaced_is first [] = sym (append-nil first)
+spaced_is first (item ∷ items) = ap (λ (bs : List ℕ). first ++ 32 ∷ bs) (spaced_is item items)
+
+pub drop_from : {A : Type 0} (xs : List A) (at : ℕ) (x : A) → slice_get xs at ≡ Some x
+    → drop at xs ≡ x ∷ drop (at + 1) xs
+drop_from [] at x h = absurd (cc)
+drop_from (y ∷ xs) zero x h = let e : y ≡ x = cc in ap (λ z. z ∷ xs) e
+drop_from (y ∷ xs) (suc at) x h =
+    let e : suc at + 1 ≡ suc (at + 1) = omega arith in rw e (drop_from xs at x h)
+
+pub kept_more : (old new more : List ℕ) → Keeps old new → Keeps old (new ++ more)
+kept_more old new more kept =
+    let within : length old ≤ length new =
+    omega (arith, length-take (length old) new, ap length kept) in
+    take-append-le (length old) new more within ∙ kept
+
+pub kept_twice : (old out out1 out2 x y : List ℕ)
+    → out1 ≡ out ++ x → out2 ≡ out1 ++ y → Keeps old out → Keeps old out2
+kept_twice old out out1 out2 x y e1 e2 kept =
+    rw (e2, e1) (kept_more old (out ++ x) y (kept_more old out x kept))
+
+kept_past : (old out new : List ℕ) → Keeps old out → Keeps out new → Keeps old new
+kept_past old out new kept h =
+    let rest = drop (length out) new in
+    let whole : out ++ rest ≡ new =
+    ap (λ (bs : List ℕ). bs ++ rest) (sym h) ∙ take-append-drop (length out) new in
+    subst (Keeps old) whole (kept_more old out rest kept)
+
+-- what was there before is kept if more was written and then nothing more could be
+pub kept_behind : (old out1 out2 new x y : List ℕ)
+    → out1 ≡ old ++ x → out2 ≡ out1 ++ y → Keeps out2 new → Keeps old new
+kept_behind old out1 out2 new x y e1 e2 h = kept_past old out2 new
+    (kept_twice old old out1 out2 x y e1 e2 (take_all (length old) old (omega arith))) h
+
+-- what is written of a list in braces, and what is still to come
+abbrev pub rest_text : {A : Type 0} → (A → List ℕ) → List A → ℕ → List ℕ
+rest_text f xs at = items_text (map f (drop at xs))
+
+pub item_written : {A : Type 0} (f : A → List ℕ) (xs : List A)
+    (at : ℕ) (x : A) (out out1 out2 total : List ℕ)
+    → slice_get xs at ≡ Some x → out1 ≡ out ++ f x → out2 ≡ out1 ++ 32 ∷ []
+    → out ++ rest_text f xs at ≡ total → out2 ++ rest_text f xs (at + 1) ≡ total
+item_written {A = A} f xs at x out out1 out2 total here e1 e2 h =
+    let rest = rest_text f xs (at + 1) in
+    let k : ((out ++ f x) ++ 32 ∷ []) ++ rest ≡ out ++ (f x ++ 32 ∷ rest) =
+    append_assoc (out ++ f x) (32 ∷ []) rest ∙ append_assoc out (f x) (32 ∷ rest) in
+    rw (e2, e1)
+    (k ∙ ap (λ (ys : List A). out ++ items_text (map f ys)) (sym (drop_from xs at x here)) ∙ h)
+
+-- the whole list, of which nothing is left
+pub list_ended : (all : List (List ℕ)) (old opened out : List ℕ) → opened ≡ old ++ codes "{ "
+    → out ++ codes "}" ≡ opened ++ items_text all → out ++ codes "}" ≡ old ++ list_text all
+list_ended all old opened out e h =
+    h ∙ ap (λ (bs : List ℕ). bs ++ items_text all) e
+    ∙ append_assoc old (codes "{ ") (items_text all)
+    ∙ ap (λ (bs : List ℕ). old ++ bs) (sym (list_text_is all))
+
+pub list_closed : {A : Type 0} (f : A → List ℕ) (xs : List A) (at : ℕ) (old opened out : List ℕ)
+    → opened ≡ old ++ codes "{ " → length xs ≤ at
+    → out ++ rest_text f xs at ≡ opened ++ rest_text f xs 0
+    → out ++ codes "}" ≡ old ++ list_text (map f xs)
+list_closed {A = A} f xs at old opened out e all h =
+    list_ended (map f xs) old opened out e
+    (ap (λ (ys : List A). out ++ items_text (map f ys)) (sym (drop_all at xs all)) ∙ h)
+
+abbrev pub payoffs_rest : List Ratio → List ℕ
+payoffs_rest payoffs = others_text (map number_text payoffs)
+
+pub others_more : (payoffs : List Ratio) (i : ℕ) (d : Ratio) → i < length payoffs
+    → payoffs_rest (drop i payoffs)
+    ≡ 32 ∷ (number_text (get_or payoffs i d) ++ payoffs_rest (drop (i + 1) payoffs))
+others_more payoffs i d h = at_drop_more payoffs_rest payoffs i d h
+
+pub row_written : (payoffs others : List Ratio) (first : Ratio) (old out1 out2 : List ℕ)
+    → payoffs ≡ first ∷ others → out1 ≡ old ++ number_text first
+    → out2 ≡ out1 ++ others_text (map number_text others) → out2 ≡ old ++ row_text payoffs
+row_written payoffs others first old out1 out2 e f g =
+    rw (g, f, e) (append_assoc old (number_text first) (others_text (map number_text others))
+    ∙ ap (λ (bs : List ℕ). old ++ bs)
+    (sym (spaced_is (number_text first) (map number_text others))))
+
+-- the lines of the rows still to come
+abbrev pub lines_rest : List (List Ratio) → ℕ → List ℕ
+lines_rest rs at = lines_text (map row_text (drop at rs))
+
+pub line_written : (rs : List (List Ratio)) (at : ℕ)
+    (row : List Ratio) (out out1 out2 total : List ℕ)
+    → slice_get rs at ≡ Some row → out1 ≡ out ++ row_text row → out2 ≡ out1 ++ 10 ∷ []
+    → out ++ lines_rest rs at ≡ total → out2 ++ lines_rest rs (at + 1) ≡ total
+line_written rs at row out out1 out2 total here e1 e2 h =
+    let rest = lines_rest rs (at + 1) in
+    let line = row_text row in
+    let k : ((out ++ line) ++ 10 ∷ []) ++ rest ≡ out ++ ((line ++ 10 ∷ []) ++ rest) =
+    ap (λ (bs : List ℕ). bs ++ rest) (append_assoc out line (10 ∷ []))
+    ∙ append_assoc out (line ++ 10 ∷ []) rest in
+    rw (e2, e1) (k ∙ ap (λ (ys : List (List Ratio)). out ++ lines_text (map row_text ys))
+    (sym (drop_from rs at row here)) ∙ h)
+
+-- ---- a player's own strategies
+
+pub own_some : (names : Names) (at : ℕ) (n : ℕ)
+    → option_map length (slice_get names.strategies at) ≡ Some n
+    → (slice_get names.strategies at ≡ Some (own_of names at)) × (length (own_of names at) ≡ n)
+own_some names at n h =
+    let own = counted_own (slice_get names.strategies at) n h in
+    let is : own_of names at ≡ own.0 = ap (λ (o : Option (List (List ℕ))). unwrap_or o []) own.1 in
+    (own.1 ∙ ap Some (sym is), ap length is ∙ own.2)
+
+pub own_there : (names : Names) (at : ℕ) → at < length names.strategies
+    → slice_get names.strategies at ≡ Some (own_of names at)
+own_there names at h =
+    let e = slice_get-get_or names.strategies at [] h in
+    e ∙ ap Some (sym (unwrap_or-slice_get names.strategies at []))
+
+pub own_strategy : (names : Names) (at n strategy : ℕ) (label : List ℕ)
+    → option_map length (slice_get names.strategies at) ≡ Some n
+    → option_and_then (λ own. slice_get own strategy) (slice_get names.strategies at) ≡ Some label
+    → slice_get (own_of names at) strategy ≡ Some label
+own_strategy names at n strategy label h e =
+    let own = own_some names at n h in
+    sym (ap (λ (o : Option (List (List ℕ))). option_and_then (λ own. slice_get own strategy) o)
+    own.0)
+    ∙ e

@@ -1,0 +1,153 @@
+-- What a text has of a file that is being told, and that it is the canonical text at the end.
+use Rattle.std.proofs.Common.{◌≡◌, ℕ, ◌-◌, ◌*◌, ◌<◌, ◌≤◌, Bool, List, [], ◌∷◌, ◌++◌}
+use Rattle.std.proofs.Common.{length, map, refl, sym, ap, subst, ◌∙◌, append_assoc, arith}
+use Rattle.std.proofs.lemmas.Grind.{flat_map-append}
+use Rattle.std.proofs.lemmas.List.{append-nil}
+use Rattle.gf_fraction.specs.Ratio.{Ratio}
+use Rattle.gf_fraction.specs.NumberText.{number_text}
+use Rattle.gf_nfg.specs.inner.Machine.{Content}
+use Rattle.gf_nfg.specs.inner.Meaning.{HasPayoffs, IsComplete, names_in, rows_by, table_of}
+use Rattle.gf_nfg.specs.Profiles.{product}
+use Rattle.gf_nfg.specs.LimitPlace.{IsWithinLimit}
+use Rattle.gf_nfg.specs.inner.ReaderState.{content_of, content_told, content_with}
+use Rattle.gf_nfg.specs.Table.{Table, rows}
+use Rattle.gf_nfg.specs.TableText.{SpellsTable, lines_text, list_text, named_by, quoted, table_text}
+use Rattle.gf_nfg.specs.inner.TextParts.{first_line, heading_text, names_by, row_text}
+use Rattle.gf_nfg.specs.inner.ToldTable.{HasToldTable}
+use Rattle.gf_nfg.specs.inner.ToldText.{AreLines, HasBody, HasText}
+use Rattle.gf_nfg.specs.declared.table.heading.Heading.{Heading}
+use Rattle.gf_nfg.specs.declared.text.Text.{Text}
+use Rattle.gf_nfg.specs.declared.reader.receive.Version.{Version}
+use Rattle.gf_nfg.specs.declared.reader.receive.Version.TheVariants.{Outcomes, Payoffs}
+use Rattle.gf_nfg.proofs.lemmas.texts.Lines.{laid_line, laid_more, lines_whole}
+use Rattle.gf_nfg.proofs.lemmas.tables.Meaning.{rows-table_of, within_limit}
+use Rattle.gf_nfg.proofs.lemmas.tables.Told.{MeansTable}
+
+-- ---- one more payoff
+
+pub longer : (bytes heading before out : List ℕ) (more : List ℕ) → before ≡ heading ++ bytes
+    → out ≡ before ++ more → out ≡ heading ++ (bytes ++ more)
+longer bytes heading before out more e f =
+    f ∙ ap (λ (bs : List ℕ). bs ++ more) e ∙ append_assoc heading bytes more
+
+pub is_payoffs : (v w : Version) → v ≡ w → ¬ (v ≡ Outcomes) → Payoffs ≡ w
+is_payoffs v w same not = by v same not
+  where
+    by : (v : Version) → v ≡ w → ¬ (v ≡ Outcomes) → Payoffs ≡ w
+    by Payoffs same not = same
+    by Outcomes same not = absurd (not refl)
+
+is_outcomes : (v w : Version) → v ≡ w → ¬ (v ≡ Payoffs) → Outcomes ≡ w
+is_outcomes v w same not = by v same not
+  where
+    by : (v : Version) → v ≡ w → ¬ (v ≡ Payoffs) → Outcomes ≡ w
+    by Payoffs same not = absurd (not refl)
+    by Outcomes same not = same
+
+nobody : (players : ℕ) (payoffs : List Ratio) (n : Ratio) {P : Type 0}
+    → payoffs ++ n ∷ [] ≡ [] → P
+nobody players [] n e = absurd cc
+nobody players (m ∷ payoffs) n e = absurd cc
+
+module _ (players left : ℕ) (bytes : List ℕ) (payoffs : List Ratio) (n : Ratio) where
+  pub one_more : AreLines players left bytes payoffs → 1 < left
+      → AreLines players (left - 1) (bytes ++ (number_text n ++ 32 ∷ [])) (payoffs ++ n ∷ [])
+  one_more l more = record {
+    of_some = λ some. laid_more players left bytes _ payoffs n (l.of_some some) more refl;
+    of_nobody = λ none e. nobody players payoffs n e;
+  }
+
+  pub line_ends : AreLines players left bytes payoffs → left ≤ 1
+      → AreLines players players (bytes ++ (number_text n ++ 10 ∷ [])) (payoffs ++ n ∷ [])
+  line_ends l last = record {
+    of_some = λ some.
+        let h = l.of_some some in
+        let wants = h.some in
+        laid_line players left bytes _ payoffs n h (omega (arith, last, wants)) refl;
+    of_nobody = λ none e. nobody players payoffs n e;
+  }
+
+-- ---- the whole
+
+-- a text is a heading and lines
+text_parts : (named : Bool) (c : Content) → table_text (named_by named (table_of c))
+    ≡ heading_text (names_by named (names_in c)) ++ lines_text (map row_text (rows (table_of c)))
+text_parts named c =
+    let names = names_by named (names_in c) in
+    let heads = first_line names
+    ∷ list_text (map (λ own. list_text (map quoted own)) names.strategies)
+    ∷ quoted names.comment ∷ [] ∷ [] in
+    flat_map-append (λ (line : List ℕ). line ++ 10 ∷ []) heads (map row_text (rows (table_of c)))
+
+-- with these lines after its heading it is the canonical text
+pub text_with : (named : Bool) (c : Content) (out : List ℕ) → IsComplete c
+    → out ≡ heading_text (names_by named (names_in c))
+    ++ lines_text (map row_text (rows_by c c.choices))
+    → out ≡ table_text (named_by named (table_of c))
+text_with named c out h e =
+    e ∙ ap (λ rs. heading_text (names_by named (names_in c)) ++ lines_text (map row_text rs))
+    (sym (rows-table_of c h)) ∙ sym (text_parts named c)
+
+no_counts : (counts : List ℕ) → length counts ≡ 0 → product counts ≡ 1
+no_counts [] e = refl
+no_counts (n ∷ counts) e = absurd (omega (arith, e))
+
+-- the lines of all payoffs
+pub lines_are : (c : Content) (left : ℕ) (bytes : List ℕ) → IsComplete c → c.choices ≡ []
+    → AreLines (length c.players) left bytes c.payoffs
+    → bytes ≡ lines_text (map row_text (rows_by c c.choices))
+lines_are c left bytes h none l =
+    let count : length c.payoffs ≡ length c.players * c.profiles =
+    subst (HasPayoffs c) none h.has_rows in
+    lines_whole (length c.players) left c.profiles bytes c.payoffs l count
+    (λ nobody. h.profiles_are ∙ no_counts c.counts (h.one_count_each ∙ nobody))
+    ∙ ap (λ ks. lines_text (map row_text (rows_by c ks))) (sym none)
+
+-- in payoff version the text is whole
+pub payoffs_text : (bytes : List ℕ) (heading : Heading) (named : Bool) (t : Text)
+    → t.version ≡ Payoffs → HasToldTable (HasText named) bytes heading t
+    → (u : Table) × SpellsTable bytes u × IsWithinLimit u
+    × (t.text.items ≡ table_text (named_by named u))
+payoffs_text bytes heading named t is h =
+    let c = content_told h.told in
+    let x = h.holding in
+    let version = sym x.version_is ∙ is in
+    let none = h.unnumbered version in
+    let body : AreLines t.width t.left x.bytes h.told.payoffs =
+    subst (λ v. HasBody v t h.told x.bytes) version x.has_body in
+    let lines = lines_are c t.left x.bytes h.complete none
+    (subst (λ w. AreLines w t.left x.bytes h.told.payoffs) x.width_is body) in (
+      table_of c,
+      h.spelled,
+      within_limit c h.complete h.told.heading.profiles.within,
+      text_with named c t.text.items h.complete
+          (x.text_is ∙ ap (λ (bs : List ℕ). heading_text (names_by named (names_in c)) ++ bs) lines),
+    )
+
+-- in outcome version it ends before the lines
+pub record BeginsText (bytes : List ℕ) (named : Bool) (c : Content) (text : List ℕ) : Type 0 where
+  pub means : MeansTable bytes c
+  pub text_is : text ≡ heading_text (names_by named (names_in c))
+
+pub outcomes_begin : (bytes : List ℕ) (heading : Heading) (named : Bool) (t : Text)
+    → ¬ (t.version ≡ Payoffs) → HasToldTable (HasText named) bytes heading t
+    → BeginsText bytes named (content_of (record { heading = heading; kept = t.kept }))
+    t.text.items
+outcomes_begin bytes heading named t not h =
+    let x = h.holding in
+    let is = is_outcomes t.version h.told.version x.version_is not in
+    let body : (x.bytes ≡ []) × (t.kept.payoffs.items ≡ h.told.payoffs) =
+    subst (λ v. HasBody v t h.told x.bytes) (sym is) x.has_body in
+    let same : content_told h.told ≡ content_of (record { heading = heading; kept = t.kept }) =
+    (λ i. content_with (h.same i) (sym body.1 i) (sym x.numbers_are i)) in
+    subst (λ c. BeginsText bytes named c t.text.items) same (record {
+      means = record {
+        spelled = h.spelled;
+        complete = h.complete;
+        within = within_limit (content_told h.told) h.complete h.told.heading.profiles.within;
+      };
+      text_is = x.text_is
+          ∙ ap (λ (bs : List ℕ). heading_text (names_by named (names_in (content_told h.told))) ++ bs)
+          body.0
+          ∙ append-nil (heading_text (names_by named (names_in (content_told h.told))));
+    })

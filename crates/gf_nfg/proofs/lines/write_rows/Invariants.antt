@@ -1,9 +1,0 @@
-use Rattle.std.proofs.Common.{◌≡◌, ◌++◌}
-use Rattle.gf_nfg.specs.inner.TextParts.{Keeps}
-use Rattle.gf_nfg.proofs.Texts.{lines_rest}
-use Rattle.gf_nfg.proofs.lines.write_rows.Given as goal
-
-abbrev pub invariant-loop-place : goal.invariant-loop-place
-invariant-loop-place l =
-    (l.out.items ++ lines_rest l.rows l.place ≡ l.initial.out.items ++ lines_rest l.rows 0)
-    × Keeps l.fn.out.items l.out.items

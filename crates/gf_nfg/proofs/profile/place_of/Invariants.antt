@@ -1,7 +1,0 @@
-use Rattle.std.proofs.Common.{◌≡◌, Some, map, drop, length}
-use Rattle.gf_nfg.specs.TableParts.{place_of}
-use Rattle.gf_nfg.proofs.profile.place_of.Given as goal
-
-abbrev pub invariant-loop-at : goal.invariant-loop-at
-invariant-loop-at l =
-    place_of (drop l.at (map length l.names.strategies)) (drop l.at l.profile) ≡ Some l.place

@@ -1,0 +1,6 @@
+use Rattle.std.proofs.Common.{◌≡◌, take}
+use Rattle.gf_nfg.specs.TableParts.{own_of}
+use Rattle.gf_nfg.proofs.table.agree.same_own.Given as goal
+
+abbrev pub invariant-loop-strategy : goal.invariant-loop-strategy
+invariant-loop-strategy l = take l.strategy (own_of l.a l.at) ≡ take l.strategy (own_of l.b l.at)

@@ -1,0 +1,8 @@
+use Rattle.std.proofs.Common.{◌≡◌, ◌++◌, map, take}
+use Rattle.std.specs.List.{join_with_byte}
+use Rattle.gf_token.specs.Label.{label_of}
+use Rattle.gf_nfg.proofs.table.labels.write_joined.Given as goal
+
+abbrev pub invariant-loop-at : goal.invariant-loop-at
+invariant-loop-at l =
+    l.bytes.items ≡ l.initial.bytes.items ++ join_with_byte 45 (map label_of (take l.at l.parts))

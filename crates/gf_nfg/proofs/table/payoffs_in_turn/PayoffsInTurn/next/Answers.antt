@@ -1,0 +1,11 @@
+use Rattle.std.proofs.Common.{refl}
+use Rattle.gf_nfg.proofs.lemmas.tables.Compared.{next_row}
+use Rattle.gf_nfg.proofs.lemmas.tables.Meaning.{lacking}
+use Rattle.gf_nfg.proofs.table.payoffs_in_turn.PayoffsInTurn.next.Goals as goal
+
+pub loop-self-preserved : goal.loop-self-preserved
+loop-self-preserved c =
+    next_row c.loop-self.self-inside.rows.now c.loop-self.self-inside.row.now
+    c.row-self-inside.result.now _ c.loop-self.self-inside.place
+    (lacking _ _ _ c.is_empty.ensures c.loop-self-test.true refl) c.row-self-inside.ensures
+    c.loop-self.invariant

@@ -1,0 +1,52 @@
+use Rattle.std.proofs.Common.{◌≡◌, ◌∙◌, ◌++◌, List, ℕ, Bool, ap, map, refl, rules, subst}
+use Rattle.gf_token.specs.declared.fault.Why.TheVariants.{Memory}
+use Rattle.gf_nfg.specs.inner.Meaning.{rows_by, table_of}
+use Rattle.gf_nfg.specs.inner.ReaderState.{content_of}
+use Rattle.gf_nfg.specs.TableText.{lines_text}
+use Rattle.gf_nfg.specs.inner.TextParts.{row_text}
+use Rattle.gf_nfg.specs.inner.ToldTable.{HasToldTable}
+use Rattle.gf_nfg.specs.inner.ToldText.{HasText}
+use Rattle.gf_nfg.specs.declared.reader.receive.Version.TheVariants.{Payoffs}
+use Rattle.gf_nfg.proofs.lemmas.places.Judged.{memory_at_end}
+use Rattle.gf_nfg.proofs.lemmas.texts.Told.{outcomes_begin, payoffs_text, text_with}
+use Rattle.gf_nfg.proofs.text.canonical.canonical_nfg.Goals as goal
+
+pub returns-then-eq-clause-text : goal.returns-then-eq-clause-text
+returns-then-eq-clause-text c =
+    let is : c.tell_nfg.new.to.version ≡ Payoffs = search rules in
+    payoffs_text c.args.input.now c.in_ok-heading.heading c.args.named c.tell_nfg.new.to is
+    (subst (λ (named : Bool). HasToldTable (HasText named) c.args.input.now c.in_ok-heading.heading
+    c.tell_nfg.new.to) c.new-text.ensures.named c.in_ok-heading.ensures.told)
+
+pub with_lines-requires : goal.with_lines-requires
+with_lines-requires c =
+    (outcomes_begin c.args.input.now c.in_ok-heading.heading c.args.named c.tell_nfg.new.to
+    (search rules)
+    (subst (λ (named : Bool). HasToldTable (HasText named) c.args.input.now c.in_ok-heading.heading
+    c.tell_nfg.new.to) c.new-text.ensures.named c.in_ok-heading.ensures.told)).means.complete
+
+pub returns-in-Ok-clause-text : goal.returns-in-Ok-clause-text
+returns-in-Ok-clause-text c =
+    let content = content_of
+    (record { heading = c.in_ok-heading.heading; kept = c.tell_nfg.new.to.kept }) in
+    let begun = outcomes_begin c.args.input.now c.in_ok-heading.heading c.args.named c.tell_nfg.new.to
+    (search rules)
+    (subst (λ (named : Bool). HasToldTable (HasText named) c.args.input.now c.in_ok-heading.heading
+    c.tell_nfg.new.to) c.new-text.ensures.named c.in_ok-heading.ensures.told) in (
+      table_of content,
+      begun.means.spelled,
+      begun.means.within,
+      text_with c.args.named content c.in-Ok.text.items begun.means.complete
+          (c.in-Ok.ensures ∙ ap (λ (bs : List ℕ). bs ++ lines_text
+          (map row_text (rows_by content content.choices))) begun.text_is),
+    )
+
+pub returns-in-Err-clause-judged : goal.returns-in-Err-clause-judged
+returns-in-Err-clause-judged c =
+    let begun = outcomes_begin c.args.input.now c.in_ok-heading.heading c.args.named c.tell_nfg.new.to
+    (search rules)
+    (subst (λ (named : Bool). HasToldTable (HasText named) c.args.input.now c.in_ok-heading.heading
+    c.tell_nfg.new.to) c.new-text.ensures.named c.in_ok-heading.ensures.told) in
+    memory_at_end c.args.input.now (table_of (content_of
+    (record { heading = c.in_ok-heading.heading; kept = c.tell_nfg.new.to.kept })))
+    c.at_end.result Memory begun.means.spelled begun.means.within c.at_end.ensures refl

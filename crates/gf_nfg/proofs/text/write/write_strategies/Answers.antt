@@ -1,0 +1,37 @@
+use Rattle.std.proofs.Common.{◌++◌, ◌∙◌, arith, map, List, ℕ}
+use Rattle.gf_nfg.specs.TableParts.{own_of}
+use Rattle.gf_nfg.specs.TableText.{list_text, quoted}
+use Rattle.gf_nfg.proofs.lemmas.texts.Pieces.{item_written, kept_twice, list_closed, own_there}
+use Rattle.gf_nfg.proofs.lemmas.texts.Pieces.{rest_text}
+use Rattle.gf_nfg.proofs.text.write.write_strategies.Goals as goal
+
+pub loop-at-preserved : goal.loop-at-preserved
+loop-at-preserved c =
+    let line : List (List ℕ) → List ℕ = λ own. list_text (map quoted own) in (
+      item_written line c.args.names.now.strategies c.loop-at.at
+          (own_of c.args.names.now c.loop-at.at) c.loop-at.out.items
+          c.write_own.new.out.items c.push.new.self.items
+          (c.extend_from_slice.new.self.items ++ rest_text line c.args.names.now.strategies 0)
+          (own_there c.args.names.now c.loop-at.at (omega (
+            arith,
+            c.loop-at-test.true,
+            c.players-at-end.ensures.players,
+            c.players-at-end.ensures.one_list_each,
+          ))) c.in_ok-write_own.ensures.text c.in_ok-push.ensures.items c.loop-at.invariant.0,
+      kept_twice c.args.out.now.items c.loop-at.out.items c.write_own.new.out.items
+          c.push.new.self.items _ _ c.in_ok-write_own.ensures.text c.in_ok-push.ensures.items
+          c.loop-at.invariant.1,
+    )
+
+pub returns-clause-text : goal.returns-clause-text
+returns-clause-text c =
+    let line : List (List ℕ) → List ℕ = λ own. list_text (map quoted own) in
+    c.in_ok-push-2.ensures.items
+    ∙ list_closed line c.args.names.now.strategies c.loop-at.at c.args.out.now.items
+    c.extend_from_slice.new.self.items c.loop-at.out.items c.in_ok-extend_from_slice.ensures.items
+    (omega (
+      arith,
+      c.loop-at-test.false,
+      c.players-at-end.ensures.players,
+      c.players-at-end.ensures.one_list_each,
+    )) c.loop-at.invariant.0

@@ -1,0 +1,157 @@
+//! Whether two tables are the same to play.
+
+ghost use Rattle.std.specs.Prelude.{◌≡◌, ◌<◌, ◌↔◌, [], IfOk, IsTrue, if◌then◌else◌, length};
+ghost use Rattle.gf_token.specs.Label.{label_of};
+ghost use Rattle.gf_nfg.specs.SameTable.{SamePlay};
+ghost use Rattle.gf_nfg.specs.TableParts.{own_of};
+ghost use Rattle.gf_nfg.specs.inner.TextParts.{names_by};
+
+use crate::table::Table;
+use crate::table::classes::Classes;
+use crate::table::names::Names;
+use crate::table::rows::Rows;
+use gf_fraction::Fraction;
+use gf_token::Label;
+use std::alloc::{AllocError, Global};
+
+/// Whether the player at this place has the same strategies in both.
+fn same_own(a: &Names, b: &Names, at: usize) -> bool
+    requires left { at < length a.now.players }
+    requires right { at < length b.now.players }
+    ensures { IsTrue result ↔ (own_of a.now at ≡ own_of b.now at) }
+{
+    if a.strategies(at) != b.strategies(at) {
+        return false;
+    }
+    for strategy in 0..a.strategies(at) {
+        if a.strategy(at, strategy) != b.strategy(at, strategy) {
+            return false;
+        }
+    }
+    true
+}
+
+/// Whether both have the same players.
+fn same_players(a: &Names, b: &Names) -> bool
+    ensures { IsTrue result ↔ (a.now.players ≡ b.now.players) }
+{
+    if a.players() != b.players() {
+        return false;
+    }
+    for at in 0..a.players() {
+        if a.player(at) != b.player(at) {
+            return false;
+        }
+    }
+    true
+}
+
+/// Whether the players of both have the same strategies.
+fn same_strategies(a: &Names, b: &Names) -> bool
+    ensures { IsTrue result ↔ (a.now.strategies ≡ b.now.strategies) }
+{
+    if a.players() != b.players() {
+        return false;
+    }
+    for at in 0..a.players() {
+        if !same_own(a, b, at) {
+            return false;
+        }
+    }
+    true
+}
+
+/// Whether both have the same players with the same strategies.
+fn same_names(a: &Names, b: &Names) -> bool
+    ensures { IsTrue result
+        ↔ ((a.now.players ≡ b.now.players) × (a.now.strategies ≡ b.now.strategies)) }
+{
+    same_players(a, b) && same_strategies(a, b)
+}
+
+/// Whether two labels are the same, if they count.
+fn same_label(a: Label<'_>, b: Label<'_>, counts: bool) -> bool
+    ensures { IsTrue result ↔ ((if counts then label_of a.entry else [])
+        ≡ (if counts then label_of b.entry else [])) }
+{
+    !counts || a.raw() == b.raw()
+}
+
+/// Whether both are the same; title and comment count if it is `named`.
+pub(crate) fn same_heading(a: &Names, b: &Names, named: bool) -> bool
+    ensures { IsTrue result ↔ (names_by named a.now ≡ names_by named b.now) }
+{
+    same_label(a.title(), b.title(), named)
+        && same_label(a.comment(), b.comment(), named)
+        && same_names(a, b)
+}
+
+/// Whether both rows are the same.
+fn same_row(a: &[Fraction], b: &[Fraction]) -> bool
+    ensures { IsTrue result ↔ (a.now ≡ b.now) }
+{
+    a == b
+}
+
+/// Whether both have the same rows.
+fn same_rows(a: &Rows, b: &Rows) -> bool
+    ensures { IsTrue result ↔ (a.now ≡ b.now) }
+{
+    if a.len() != b.len() {
+        return false;
+    }
+    for place in 0..a.len() {
+        if !same_row(a.row(place), b.row(place)) {
+            return false;
+        }
+    }
+    true
+}
+
+/// Whether both have the same rows. If profiles share rows in both, rows that were found to be the
+/// same are in one class from then on, so there are fewer comparisons than the two have rows.
+pub(crate) fn same_kept_rows(alloc: Global, a: &Rows, b: &Rows) -> Result<bool, AllocError>
+    ensures { IfOk result (λ answer. IsTrue answer ↔ (a.now ≡ b.now)) }
+{
+    let (Some(left), Some(right)) = (a.shared(), b.shared()) else {
+        return Ok(same_rows(a, b));
+    };
+    if left.numbers.len() != right.numbers.len() {
+        return Ok(false);
+    }
+    let mut classes = Classes::new(alloc, left.rows + right.rows)?;
+    for place in 0..left.numbers.len() {
+        let (m, n) = (left.numbers[place] as usize, right.numbers[place] as usize);
+        if classes.unite(m, left.rows + n) && !same_row(left.row(m), right.row(n)) {
+            return Ok(false);
+        }
+    }
+    Ok(true)
+}
+
+impl Table {
+    /// Whether the players, the labels of their strategies and the payoffs at each profile are the
+    /// same in both. Titles and comments do not count. This takes no memory.
+    ///
+    /// It takes time for each payoff that is spelled, and a file in outcome version can spell a
+    /// hundred thousand of them for each of its bytes. `plays_alike` takes time only for what the
+    /// tables keep.
+    pub fn play_agrees(&self, o: &Table) -> bool
+        ensures { IsTrue result ↔ SamePlay self.now o.now }
+    {
+        same_names(self.names(), o.names()) && same_rows(self.rows(), o.rows())
+    }
+
+    /// What `play_agrees` returns, in time that grows with what both tables keep: the payoffs of
+    /// each outcome, and the number of the outcome at each profile. This takes memory for a place
+    /// for each outcome.
+    ///
+    /// # Errors
+    ///
+    /// `AllocError` if memory is refused.
+    pub fn plays_alike(&self, alloc: Global, o: &Table) -> Result<bool, AllocError>
+        ensures { IfOk result (λ answer. IsTrue answer ↔ SamePlay self.now o.now) }
+    {
+        Ok(same_names(self.names(), o.names()) && same_kept_rows(alloc, self.rows(), o.rows())?)
+    }
+}

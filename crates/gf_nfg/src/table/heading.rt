@@ -1,0 +1,63 @@
+//! All of a strategic file except its payoffs, as it was read.
+
+ghost use Rattle.std.specs.Prelude.{◌≡◌, IfOk, length};
+ghost use Rattle.gf_nfg.specs.inner.Machine.{nothing};
+ghost use Rattle.gf_nfg.specs.inner.Meaning.{HasLabels, names_in};
+ghost use Rattle.gf_nfg.specs.inner.ReaderState.{content_in};
+
+use crate::limit::ProfileCount;
+use crate::table::names::Names;
+use gf_token::Label;
+use std::alloc::{AllocError, Global};
+
+/// What comes before the payoffs of a strategic file. Its labels are slices of the input.
+#[derive(Drop)]
+pub struct Heading<'a> {
+    pub title: Label<'a>,
+    /// Empty if the file has none.
+    pub comment: Label<'a>,
+    pub players: Vec<Label<'a>>,
+    /// How many strategies each player has.
+    pub counts: Vec<u32>,
+    /// The strategies' labels in turn; none if the file gives only counts.
+    pub labels: Vec<Label<'a>>,
+    /// The product of the counts.
+    pub profiles: ProfileCount,
+}
+
+impl<'a> Heading<'a> {
+    /// What was read before the first token.
+    pub(crate) fn new(alloc: Global) -> Heading<'a>
+        ensures { content_in result ≡ nothing }
+    {
+        let empty = Label::new(&[]).unwrap();
+        Heading {
+            title: empty,
+            comment: empty,
+            players: Vec::new(alloc),
+            counts: Vec::new(alloc),
+            labels: Vec::new(alloc),
+            profiles: ProfileCount::one(),
+        }
+    }
+    /// The title, the comment, the players and their strategies, in memory of their own.
+    pub(crate) fn names(&self, alloc: Global) -> Result<Names, AllocError>
+        requires one_count_each { length (content_in self.now).counts
+            ≡ length (content_in self.now).players }
+        requires has_labels { HasLabels (content_in self.now).counts (content_in self.now).labels }
+        ensures { IfOk result (λ names. names ≡ names_in (content_in self.now)) }
+    {
+        if self.labels.is_empty() {
+            Names::counted(alloc, self.title, self.comment, &self.players, &self.counts)
+        } else {
+            Names::grouped(
+                alloc,
+                self.title,
+                self.comment,
+                &self.players,
+                &self.counts,
+                &self.labels,
+            )
+        }
+    }
+}

@@ -1,0 +1,50 @@
+//! What a strategic file holds, as it was read, and the table that it means.
+
+ghost use Rattle.std.specs.Prelude.{◌≡◌, IfOk};
+ghost use Rattle.gf_nfg.specs.inner.Meaning.{IsComplete, rows_by, table_of};
+ghost use Rattle.gf_nfg.specs.inner.ReaderState.{content_of};
+ghost use Rattle.gf_nfg.specs.Table.{IsSpellable};
+
+use crate::reader::receive::Kept;
+use crate::table::Table;
+use crate::table::heading::Heading;
+use crate::table::rows::Rows;
+use std::alloc::{AllocError, Global};
+
+/// What a strategic file holds; the names of outcomes are not kept.
+#[derive(Drop)]
+pub struct Parts<'a> {
+    pub heading: Heading<'a>,
+    /// Rows of one payoff for each player, one row after another: those of the profiles in turn,
+    /// the first player's strategy fastest, or those of the outcomes. For each profile the number
+    /// of its outcome, from 1, or 0 if each player is paid zero; none in payoff version.
+    pub kept: Kept,
+}
+
+impl<'a> Parts<'a> {
+    /// A row for each profile. The payoffs are not copied.
+    pub(crate) fn rows(self, alloc: Global) -> Result<Rows, AllocError>
+        requires { IsComplete (content_of self) }
+        ensures { IfOk result
+            (λ rows. rows ≡ rows_by (content_of self.entry) self.entry.kept.numbers.items) }
+    {
+        let players = self.heading.players.len();
+        let Kept { payoffs, numbers } = self.kept;
+        if numbers.is_empty() {
+            Ok(Rows::in_turn(alloc, players, self.heading.profiles.count, payoffs))
+        } else {
+            Rows::by_number(players, payoffs, numbers)
+        }
+    }
+
+    /// The table that the parts mean.
+    pub(crate) fn into_table(self, alloc: Global) -> Result<Table, AllocError>
+        requires complete { IsComplete (content_of self) }
+        requires spellable { IsSpellable (table_of (content_of self)) }
+        ensures { IfOk result (λ t. t ≡ table_of (content_of self.entry)) }
+    {
+        let names = self.heading.names(alloc)?;
+        let rows = self.rows(alloc)?;
+        Ok(Table::of_parts(names, rows))
+    }
+}

@@ -1,0 +1,37 @@
+//! Pieces of a list that is cut at certain ends.
+
+ghost use Rattle.std.specs.Prelude.{◌≡◌, ◌-◌, ◌<◌, ◌≤◌, Some, drop};
+ghost use Rattle.std.specs.Prelude.{length, slice_get, slice_index, take};
+ghost use Rattle.gf_nfg.specs.TableParts.{RisesTo, pieces, start_of};
+
+use std::ops::Range;
+
+/// Where the piece with this number, from 0, is in a list that is cut at these ends.
+#[tactic(auto, using(crate::proofs::lemmas::tables::Pieces::start_of_suc))]
+pub(crate) fn piece_at(first: usize, ends: &[usize], number: usize) -> Range<usize>
+    requires { number < length ends.now }
+    ensures start { result.start ≡ start_of first ends.now number }
+    ensures end { result.end ≡ slice_index ends.now number }
+{
+    let start = if number == 0 { first } else { ends[number - 1] };
+    start..ends[number]
+}
+
+/// The bytes from `start` to `end`.
+fn between(bytes: &[u8], start: usize, end: usize) -> &[u8]
+    requires ordered { start ≤ end }
+    requires within { end ≤ length bytes.now }
+    ensures { result.now ≡ take (end - start) (drop start bytes.entry.now) }
+{
+    &bytes[start..end]
+}
+
+/// The piece with this number, from 0, of bytes that are cut at these ends.
+pub(crate) fn piece<'a>(bytes: &'a [u8], ends: &[usize], number: usize) -> &'a [u8]
+    requires rises { RisesTo (length bytes.now) 0 ends.now }
+    requires number { number < length ends.now }
+    ensures { slice_get (pieces 0 ends.now bytes.entry.now) number ≡ Some result.now }
+{
+    let own = piece_at(0, ends, number);
+    between(bytes, own.start, own.end)
+}

@@ -1,0 +1,32 @@
+//! The place of a profile among all.
+
+ghost use Rattle.std.specs.Prelude.{◌≡◌, ◌<◌, ◌≤◌, length, map};
+ghost use Rattle.std.specs.List.{AllByRecursion};
+ghost use Rattle.gf_nfg.specs.Limit.{profile_limit};
+ghost use Rattle.gf_nfg.specs.Profiles.{product};
+ghost use Rattle.gf_nfg.specs.TableParts.{place_of};
+
+use crate::table::names::Names;
+
+/// The place of a profile, from 0, or `None` if it is not a profile of these players.
+pub(crate) fn place_of(names: &Names, profile: &[u32]) -> Option<u32>
+    requires one_list_each { length names.now.strategies ≡ length names.now.players }
+    requires some_strategy { AllByRecursion (λ own. 0 < length own) names.now.strategies }
+    requires within { product (map length names.now.strategies) ≤ profile_limit }
+    ensures { result ≡ place_of (map length names.now.strategies) profile.now }
+{
+    let players = names.players();
+    if profile.len() != players {
+        return None;
+    }
+    let mut place = 0;
+    for at in (0..players).rev() {
+        let count = names.strategies(at);
+        let strategy = profile[at] as usize;
+        if strategy == 0 || strategy > count {
+            return None;
+        }
+        place = place * count + (strategy - 1);
+    }
+    Some(place as u32)
+}

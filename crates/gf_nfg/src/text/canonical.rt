@@ -1,0 +1,62 @@
+//! The canonical text of a strategic file.
+
+ghost use Rattle.std.specs.Prelude.{◌≡◌, ◌++◌, List, ℕ, IfErr, IfOk, map};
+ghost use Rattle.gf_token.specs.declared.fault.Why.TheVariants.{Memory};
+ghost use Rattle.gf_nfg.specs.Judgement.{IsJudged};
+ghost use Rattle.gf_nfg.specs.LimitPlace.{IsWithinLimit};
+ghost use Rattle.gf_nfg.specs.inner.Meaning.{IsComplete, rows_by};
+ghost use Rattle.gf_nfg.specs.inner.ReaderState.{content_of};
+ghost use Rattle.gf_nfg.specs.TableText.{SpellsTable, lines_text, named_by, table_text};
+ghost use Rattle.gf_nfg.specs.inner.TextParts.{row_text};
+
+use crate::read::tell_nfg;
+use crate::reader::receive::Version;
+use crate::table::Table;
+use crate::table::parts::Parts;
+use crate::text::Text;
+use crate::text::lines::write_rows;
+use gf_token::{Fault, Why};
+use std::alloc::{AllocError, Global};
+
+/// A text that ends with a line for each profile.
+fn with_lines(alloc: Global, text: Vec<u8>, parts: Parts<'_>) -> Result<Vec<u8>, AllocError>
+    requires { IsComplete (content_of parts) }
+    ensures { IfOk result (λ whole. whole.items ≡ text.items
+        ++ lines_text (map row_text (rows_by (content_of parts.entry) parts.entry.kept.numbers.items))) }
+{
+    let rows = parts.rows(alloc)?;
+    let mut whole = text;
+    write_rows(&rows, &mut whole)?;
+    Ok(whole)
+}
+
+/// The canonical text of a strategic file, written while the file is read; title and comment are
+/// written empty unless it is `named`. In outcome version its lines are made at the end, when the
+/// length of all of them is known.
+///
+/// # Errors
+///
+/// Those of `read_nfg`; E19 if memory for the text is refused.
+pub fn canonical_nfg(alloc: Global, input: &[u8], named: bool) -> Result<Vec<u8>, Fault>
+    ensures text { IfOk result (λ text. (t : Table) × SpellsTable input.now t × IsWithinLimit t
+        × (text.items ≡ table_text (named_by named t))) }
+    ensures only { IfErr result (λ fault. (t : Table) → SpellsTable input.now t → IsWithinLimit t
+        → fault.why ≡ Memory) }
+    ensures judged { IfErr result (λ fault. IsJudged fault.why input.now fault.span) }
+{
+    let mut text = Text::new(alloc, input.len(), named);
+    let heading = tell_nfg(alloc, input, &mut text)?;
+    let Text {
+        text,
+        version,
+        kept,
+        ..
+    } = text;
+    if version == Version::Payoffs {
+        return Ok(text);
+    }
+    match with_lines(alloc, text, Parts { heading, kept }) {
+        Ok(text) => Ok(text),
+        Err(_) => Err(Fault::at_end(input.len(), Why::Memory)),
+    }
+}

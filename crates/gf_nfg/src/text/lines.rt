@@ -1,0 +1,157 @@
+//! The lines of payoffs of a canonical text, one for each profile.
+
+ghost use Rattle.std.specs.Prelude.{◌≡◌, ℕ, ◌+◌, ◌*◌, ◌<◌, ◌≤◌, ◌^◌, ◌++◌, IfOk};
+ghost use Rattle.std.specs.Prelude.{MatchOption, OnErr, OnOk, Some, length, map};
+ghost use Rattle.std.specs.Prelude.{slice_get, vec_capacity, vec_len};
+ghost use Rattle.std.specs.List.{AllByRecursion};
+ghost use Rattle.gf_fraction.specs.NumberText.{number_text};
+ghost use Rattle.gf_nfg.specs.Profiles.{numbers_from};
+ghost use Rattle.gf_nfg.specs.TableParts.{kept_row};
+ghost use Rattle.gf_nfg.specs.TableText.{lines_text};
+ghost use Rattle.gf_nfg.specs.inner.TextParts.{Keeps, line_text, lines_with, others_text, row_text};
+
+use crate::table::pieces::piece;
+use crate::table::rows::{Rows, Shared};
+use gf_fraction::Fraction;
+use std::alloc::{AllocError, Global};
+use std::marker::Model;
+
+/// Appends payoffs, each after a space.
+#[tactic(auto, using(crate::proofs::lemmas::texts::Pieces::others_more))]
+fn write_others(payoffs: &[Fraction], out: &mut Vec<u8>) -> Result<(), AllocError>
+    ensures text { OnOk result
+        (out.new.items ≡ out.old.items ++ others_text (map number_text payoffs.now)) }
+    ensures kept { OnErr result (Keeps out.old.items out.new.items) }
+{
+    for payoff in payoffs {
+        out.push(b' ')?;
+        payoff.write(out)?;
+    }
+    Ok(())
+}
+
+/// Appends the payoffs at one profile, with a space between any two.
+fn write_row(payoffs: &[Fraction], out: &mut Vec<u8>) -> Result<(), AllocError>
+    ensures text { OnOk result (out.new.items ≡ out.old.items ++ row_text payoffs.now) }
+    ensures kept { OnErr result (Keeps out.old.items out.new.items) }
+{
+    match payoffs.split_first() {
+        None => Ok(()),
+        Some((first, others)) => {
+            first.write(out)?;
+            write_others(others, out)?;
+            Ok(())
+        }
+    }
+}
+
+/// Lines, one after another, with the place where each ends.
+#[derive(Drop)]
+struct Lines {
+    text: Vec<u8>,
+    ends: Vec<usize>,
+}
+
+impl Model for Lines {
+    ghost use Rattle.std.specs.Prelude.{List, ℕ, length};
+    ghost use Rattle.gf_nfg.specs.TableParts.{RisesTo, pieces};
+
+    ghost Value = { List (List ℕ) };
+
+    ghost view = { λ l. pieces 0 l.ends.items l.text.items };
+
+    ghost invariant = { λ l. RisesTo (length l.text.items) 0 l.ends.items };
+}
+
+impl Lines {
+    /// The line of each row that profiles share, made in the order of the rows in memory.
+    fn of_rows(alloc: Global, shared: Shared<'_>) -> Result<Lines, AllocError>
+        requires { (number : ℕ) → number < shared.rows
+            → number * shared.players ≤ length shared.payoffs.now }
+        ensures { IfOk result (λ lines. lines ≡ map (λ number. line_text
+            (kept_row shared.entry.players shared.entry.payoffs.now shared.entry.zeros.now number))
+            (numbers_from 0 shared.entry.rows)) }
+    {
+        let mut text = Vec::new(alloc);
+        let mut ends = Vec::new(alloc);
+        for number in 0..shared.rows {
+            write_row(shared.row(number), &mut text)?;
+            text.push(b'\n')?;
+            ends.push(text.len())?;
+        }
+        Ok(Lines { text, ends })
+    }
+
+    /// The line with this number, from 0.
+    fn line(&self, number: usize) -> &[u8]
+        requires { number < length self.now }
+        ensures { slice_get self.now number ≡ Some result.now }
+    {
+        piece(&self.text, &self.ends, number)
+    }
+
+    /// How long the lines with these numbers are together, or `None` if that does not fit `usize`.
+    fn len_of(&self, numbers: &[u32]) -> Option<usize>
+        requires { AllByRecursion (λ number. number < length self.now) numbers.now }
+        ensures { MatchOption result (2 ^ 64 ≤ length (lines_with self.now numbers.now))
+            (λ len. len ≡ length (lines_with self.now numbers.now)) }
+    {
+        let mut len: usize = 0;
+        for number in numbers {
+            match len.checked_add(self.line(*number as usize).len()) {
+                Some(more) => len = more,
+                None => return None,
+            }
+        }
+        Some(len)
+    }
+
+    /// Appends the lines with these numbers, for which there is room.
+    fn append(&self, numbers: &[u32], out: &mut Vec<u8>)
+        requires below { AllByRecursion (λ number. number < length self.now) numbers.now }
+        requires room { vec_len out.old + length (lines_with self.now numbers.now)
+            ≤ vec_capacity out.old }
+        ensures { out.new.items ≡ out.old.items ++ lines_with self.now numbers.now }
+    {
+        for number in numbers {
+            out.extend_from_slice(self.line(*number as usize)).unwrap();
+        }
+    }
+}
+
+/// Appends a line of payoffs for each profile, if profiles share rows. The line of a row is made
+/// once, and so is room for all lines, so a text that is too large is refused before it is begun.
+fn write_shared(shared: Shared<'_>, out: &mut Vec<u8>) -> Result<(), AllocError>
+    requires below { AllByRecursion (λ number. number < shared.rows) shared.numbers.now }
+    requires kept { (number : ℕ) → number < shared.rows
+        → number * shared.players ≤ length shared.payoffs.now }
+    ensures text { OnOk result (out.new.items ≡ out.old.items ++ lines_text (map row_text (map
+        (kept_row shared.entry.players shared.entry.payoffs.now shared.entry.zeros.now)
+        shared.entry.numbers.now))) }
+    ensures kept { OnErr result (Keeps out.old.items out.new.items) }
+{
+    let lines = Lines::of_rows(*out.allocator(), shared)?;
+    let len = lines.len_of(shared.numbers).ok_or(AllocError)?;
+    out.reserve_exact(len)?;
+    lines.append(shared.numbers, out);
+    Ok(())
+}
+
+/// Appends a line of payoffs for each profile.
+pub(crate) fn write_rows(rows: &Rows, out: &mut Vec<u8>) -> Result<(), AllocError>
+    ensures text { OnOk result
+        (out.new.items ≡ out.old.items ++ lines_text (map row_text rows.now)) }
+    ensures kept { OnErr result (Keeps out.old.items out.new.items) }
+{
+    match rows.shared() {
+        Some(shared) if shared.rows <= shared.numbers.len() => {
+            return write_shared(shared, out);
+        }
+        _ => {}
+    }
+    for place in 0..rows.len() {
+        write_row(rows.row(place), out)?;
+        out.push(b'\n')?;
+    }
+    Ok(())
+}

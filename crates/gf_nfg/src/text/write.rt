@@ -1,0 +1,117 @@
+//! The canonical text of a table: Gambit's strategic format in payoff version, laid out by this
+//! project's profile.
+
+ghost use Rattle.std.specs.Prelude.{◌≡◌, ◌<◌, ◌++◌, OnErr, OnOk, length, map};
+ghost use Rattle.gf_nfg.specs.Table.{IsSpellable, IsTable};
+ghost use Rattle.gf_nfg.specs.TableParts.{own_of};
+ghost use Rattle.gf_nfg.specs.TableText.{SpellsTable, list_text, quoted, table_text};
+ghost use Rattle.gf_nfg.specs.inner.TextParts.{Keeps, first_line, heading_text};
+
+use crate::table::Table;
+use crate::table::names::Names;
+use crate::text::lines::write_rows;
+use gf_token::write_label;
+use std::alloc::AllocError;
+
+/// Appends the players' names in braces.
+fn write_players(names: &Names, out: &mut Vec<u8>) -> Result<(), AllocError>
+    ensures text { OnOk result
+        (out.new.items ≡ out.old.items ++ list_text (map quoted names.now.players)) }
+    ensures kept { OnErr result (Keeps out.old.items out.new.items) }
+{
+    out.extend_from_slice(b"{ ")?;
+    for at in 0..names.players() {
+        write_label(names.player(at), out)?;
+        out.push(b' ')?;
+    }
+    out.push(b'}')?;
+    Ok(())
+}
+
+/// Appends the strategies of the player at this place in braces.
+fn write_own(names: &Names, at: usize, out: &mut Vec<u8>) -> Result<(), AllocError>
+    requires { at < length names.now.players }
+    ensures text { OnOk result
+        (out.new.items ≡ out.old.items ++ list_text (map quoted (own_of names.now at))) }
+    ensures kept { OnErr result (Keeps out.old.items out.new.items) }
+{
+    out.extend_from_slice(b"{ ")?;
+    for strategy in 0..names.strategies(at) {
+        write_label(names.strategy(at, strategy), out)?;
+        out.push(b' ')?;
+    }
+    out.push(b'}')?;
+    Ok(())
+}
+
+/// Appends the strategies of each player in braces, and all of them in braces.
+fn write_strategies(names: &Names, out: &mut Vec<u8>) -> Result<(), AllocError>
+    ensures text { OnOk result (out.new.items
+        ≡ out.old.items
+        ++ list_text (map (λ own. list_text (map quoted own)) names.now.strategies)) }
+    ensures kept { OnErr result (Keeps out.old.items out.new.items) }
+{
+    out.extend_from_slice(b"{ ")?;
+    for at in 0..names.players() {
+        write_own(names, at, out)?;
+        out.push(b' ')?;
+    }
+    out.push(b'}')?;
+    Ok(())
+}
+
+/// Appends the format, the title and the players.
+fn write_first_line(names: &Names, out: &mut Vec<u8>) -> Result<(), AllocError>
+    ensures text { OnOk result (out.new.items ≡ out.old.items ++ first_line names.now) }
+    ensures kept { OnErr result (Keeps out.old.items out.new.items) }
+{
+    out.extend_from_slice(b"NFG 1 R ")?;
+    write_label(names.title(), out)?;
+    out.push(b' ')?;
+    write_players(names, out)
+}
+
+/// Appends everything before the payoffs.
+fn write_heading(names: &Names, out: &mut Vec<u8>) -> Result<(), AllocError>
+    ensures text { OnOk result (out.new.items ≡ out.old.items ++ heading_text names.now) }
+    ensures kept { OnErr result (Keeps out.old.items out.new.items) }
+{
+    write_first_line(names, out)?;
+    out.push(b'\n')?;
+    write_strategies(names, out)?;
+    out.push(b'\n')?;
+    write_label(names.comment(), out)?;
+    out.extend_from_slice(b"\n\n")?;
+    Ok(())
+}
+
+/// Appends the heading of a table and its lines. Room for all labels is made once, before them.
+fn write_text(t: &Table, out: &mut Vec<u8>) -> Result<(), AllocError>
+    ensures text { OnOk result (out.new.items ≡ out.old.items ++ table_text t.now) }
+    ensures is_table { IsTable t.now }
+    ensures spellable { IsSpellable t.now }
+    ensures kept { OnErr result (Keeps out.old.items out.new.items) }
+{
+    out.reserve(t.names().room())?;
+    write_heading(t.names(), out)?;
+    write_rows(t.rows(), out)
+}
+
+/// Appends the canonical text of the table: payoff version, each number in lowest terms, one line
+/// for each profile. The text is a strategic file that means this table (`reads_back`).
+///
+/// # Errors
+///
+/// `AllocError` if memory is refused; the vector's items are then as they were.
+pub fn write_nfg(t: &Table, out: &mut Vec<u8>) -> Result<(), AllocError>
+    ensures ok { OnOk result (out.new.items ≡ out.old.items ++ table_text t.now) }
+    ensures reads_back { SpellsTable (table_text t.now) t.now }
+    ensures err { OnErr result (out.new.items ≡ out.old.items) }
+{
+    let start = out.len();
+    let written = write_text(t, out);
+    if written.is_err() {
+        out.truncate(start);
+    }
+    written
+}

@@ -1,6 +1,0 @@
-use Rattle.std.proofs.Common.{◌≡◌, take}
-use Rattle.gf_tree.specs.Actions.{actions_of}
-use Rattle.gf_tree.proofs.action.same_actions.Given as goal
-
-abbrev pub invariant-loop-at : goal.invariant-loop-at
-invariant-loop-at l = take l.at (actions_of l.a) ≡ take l.at (actions_of l.b)

@@ -1,0 +1,32 @@
+use Rattle.std.proofs.Common.{◌∙◌, arith, refl}
+use Rattle.gf_tree.proofs.lemmas.stores.NodeParts.{next_child}
+use Rattle.gf_tree.proofs.game.branches.BranchesIterator.next.Goals as goal
+
+pub at_place-branch-requires : goal.at_place-branch-requires
+at_place-branch-requires c =
+    let b = c.args.self.now in
+    (next_child b.game.now.tree b.at b.before b.place b.within
+    (omega (arith, c.if-self-child_count.false, c.child_count.ensures)) b.stands).within
+
+pub place_behind-requires : goal.place_behind-requires
+place_behind-requires c =
+    let b = c.args.self.now in
+    (next_child b.game.now.tree b.at b.before b.place b.within
+    (omega (arith, c.if-self-child_count.false, c.child_count.ensures)) b.stands).within
+
+pub invariant_of-self : goal.invariant_of-self
+invariant_of-self c =
+    let b = c.args.self.now in
+    let next = next_child b.game.now.tree b.at b.before b.place b.within
+    (omega (arith, c.if-self-child_count.false, c.child_count.ensures)) b.stands in
+    record {
+      within = b.within;
+      stands = c.place_behind.ensures ∙ next.behind;
+    }
+
+pub returns-clause-steps : goal.returns-clause-steps
+returns-clause-steps c =
+    let b = c.args.self.now in
+    let next = next_child b.game.now.tree b.at b.before b.place b.within
+    (omega (arith, c.if-self-child_count.false, c.child_count.ensures)) b.stands in
+    (rw c.at_place-branch.ensures.tree next.there, refl, (c.at_place-branch.ensures.game, refl))

@@ -1,0 +1,13 @@
+use Rattle.std.proofs.Common.{◌≡◌, ◌≤◌, drop, length, map}
+use Rattle.gf_tree.specs.KeptNodes.{child_counts, kept_of, sizes_of}
+use Rattle.gf_tree.specs.inner.Skipped.{sizes_grown}
+use Rattle.gf_tree.proofs.game.kept.fill_sizes.Given as goal
+
+abbrev pub invariant-loop-at : goal.invariant-loop-at
+invariant-loop-at l =
+    (l.at ≤ length l.nodes) × (map kept_of l.nodes ≡ map kept_of l.fn.nodes)
+    × (drop l.at (sizes_of l.nodes)
+    ≡ sizes_grown (drop l.at (child_counts l.sets.known (map kept_of l.fn.nodes))))
+
+abbrev pub decreases-loop-at : goal.decreases-loop-at
+decreases-loop-at l = l.at

@@ -1,0 +1,13 @@
+use Rattle.std.proofs.Common.{◌≡◌, ◌+◌, ◌≤◌, drop, length}
+use Rattle.gf_tree.specs.KeptNodes.{sizes_of}
+use Rattle.gf_tree.specs.inner.Skipped.{Begin, skipped}
+use Rattle.gf_tree.proofs.game.kept.skip.Given as goal
+
+abbrev pub invariant-loop-left : goal.invariant-loop-left
+invariant-loop-left l =
+    (l.at ≤ length l.nodes) × Begin l.left (drop l.at (sizes_of l.nodes))
+    × (l.at + skipped l.left (drop l.at (sizes_of l.nodes))
+    ≡ l.fn.from + skipped l.fn.count (drop l.fn.from (sizes_of l.nodes)))
+
+abbrev pub decreases-loop-left : goal.decreases-loop-left
+decreases-loop-left l = l.left

@@ -1,0 +1,17 @@
+use Rattle.std.proofs.Common.{arith, map, length-drop}
+use Rattle.gf_tree.specs.PrefixOrder.{Entry, flatten}
+use Rattle.gf_tree.specs.Game.{Node}
+use Rattle.gf_tree.proofs.lemmas.stores.GameNodes.{nodes_counted}
+use Rattle.gf_tree.proofs.game.nodes.NodesExactSizeIterator.len.Goals as goal
+
+pub returns : goal.returns
+returns c =
+    let tree = c.args.self.now.game.now.tree in
+    let nodes = map (λ (e : Entry Node). e.node) (flatten tree) in
+    omega (
+      arith,
+      c.saturating_sub.ensures,
+      c.len.ensures,
+      nodes_counted tree,
+      length-drop c.args.self.now.next_place nodes,
+    )

@@ -1,0 +1,29 @@
+use Rattle.std.proofs.Common.{ap, arith, length, map, rules}
+use Rattle.std.proofs.Math.ListN.{drop_of_length-le}
+use Rattle.gf_tree.specs.PrefixOrder.{Entry, flatten}
+use Rattle.gf_tree.specs.Game.{Node}
+use Rattle.gf_tree.proofs.lemmas.stores.GameNodes.{next_node, nodes_counted}
+use Rattle.gf_tree.proofs.game.nodes.NodesIterator.next.Goals as goal
+
+pub returns-then-self-len-clause-steps : goal.returns-then-self-len-clause-steps
+returns-then-self-len-clause-steps c =
+    let tree = c.args.self.now.game.now.tree in
+    let nodes = map (λ (e : Entry Node). e.node) (flatten tree) in
+    let none = drop_of_length-le nodes {i = c.args.self.now.next_place}
+    (omega (arith, c.if-self-len.true, c.len.ensures, nodes_counted tree)) in
+    (none, none)
+
+pub returns-clause-steps : goal.returns-clause-steps
+returns-clause-steps c =
+    let tree = c.args.self.now.game.now.tree in
+    let next =
+    next_node tree c.args.self.now.next_place (omega (arith, c.if-self-len.false, c.len.ensures)) in
+    rw c.node-node.ensures next
+
+pub returns-clause-goes : goal.returns-clause-goes
+returns-clause-goes c =
+    let tree = c.args.self.now.game.now.tree in
+    let next =
+    next_node tree c.args.self.now.next_place (omega (arith, c.if-self-len.false, c.len.ensures)) in
+    let shorter = ap length next in
+    search rules

@@ -1,0 +1,10 @@
+use Rattle.std.proofs.Common.{◌≡◌, ℕ, ◌+◌, ◌-◌, [], vec_len}
+use Rattle.std.specs.Prelude.{get_or}
+use Rattle.gf_tree.proofs.game.sets.reach.Given as goal
+
+abbrev pub invariant-loop-players : goal.invariant-loop-players
+invariant-loop-players l = (any : ℕ)
+    → get_or l.players.items any [] ≡ get_or l.fn.players.items any []
+
+abbrev pub decreases-loop-players : goal.decreases-loop-players
+decreases-loop-players l = l.player + 1 - vec_len l.players

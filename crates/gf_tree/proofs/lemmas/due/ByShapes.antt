@@ -1,0 +1,292 @@
+-- What is due, by what stands before, has a role: exactly those bare tokens may follow that suit
+-- it. Conversely, what a role names is due if exactly those may follow that suit it.
+use Rattle.std.proofs.Common.{◌≡◌, ℕ, ◌<◌, List, [], ◌∷◌, ◌++◌, length, Option, Some, None}
+use Rattle.std.proofs.Common.{refl, sym, ap, subst, ◌∙◌, arith, inl, inr, nat_eq}
+use Rattle.std.specs.Prelude.{codes, ◌⊎◌}
+use Rattle.std.proofs.lemmas.List.{length-append}
+use Rattle.gf_fraction.specs.Ratio.{Ratio}
+use Rattle.gf_fraction.specs.NumberSpelling.{IsNumber}
+use Rattle.gf_token.specs.Token.{Token}
+use Rattle.gf_token.specs.Token.Token.{Text, Bare}
+use Rattle.gf_token.specs.Place.{Begins}
+use Rattle.gf_token.specs.declared.fault.What.{What}
+use Rattle.gf_token.specs.declared.fault.What.TheVariants as what
+use Rattle.gf_token.specs.declared.fault.Why.{Why}
+use Rattle.gf_token.specs.declared.fault.Why.TheVariants.{BadIndex}
+use Rattle.gf_tree.specs.Description.{InformationSet, Outcome, SetKey, same_set, set_of}
+use Rattle.gf_tree.specs.Due.{IsDue, OutcomeIsDue, PayoffIsDue, PlayerIsDue, ProbabilityIsDue}
+use Rattle.gf_tree.specs.Due.{SetIsDue}
+use Rattle.gf_tree.specs.DueRoles.{IsToldByRole, OnlySuitedFollow, Role, Suits, what_of}
+use Rattle.gf_tree.specs.FileTree.{FileNode, Use}
+use Rattle.gf_tree.specs.FiniteMap.{description_at}
+use Rattle.gf_tree.specs.Front.{BehindSetNumber, EndsInNode, IsExtensiveFile, IsNewOutcome}
+use Rattle.gf_tree.specs.Front.{IsSetKnown, ToOutcomeNumber}
+use Rattle.gf_tree.specs.RowPlaces.{BehindPayoff, BehindSet, FileFront, ToPayoff}
+use Rattle.gf_tree.specs.Rows.{IsNoNumber, Row, a_letter, a_payoff, a_player, a_probability, a_set}
+use Rattle.gf_tree.specs.Rows.{a_word, an_outcome, or_comma, or_name, this_number}
+use Rattle.gf_tree.specs.Sentence.{IsDescription, IsInformationSet}
+use Rattle.gf_tree.proofs.lemmas.fronts.CutPlaces.{payoff_place}
+use Rattle.gf_tree.proofs.lemmas.due.Actions.{known_probability, new_probability}
+use Rattle.gf_tree.proofs.lemmas.due.Heading.{format, letter, version}
+use Rattle.gf_tree.proofs.lemmas.due.Nodes.{Parts, known_set, parts, player, set_number_due}
+use Rattle.gf_tree.proofs.lemmas.due.Outcomes.{outcome_number_due}
+use Rattle.gf_tree.proofs.lemmas.due.Payoffs.{after_known_payoff, after_new_payoff, known_payoff}
+use Rattle.gf_tree.proofs.lemmas.due.Payoffs.{new_payoff}
+use Rattle.gf_tree.proofs.lemmas.due.Rows.{Stands}
+use Rattle.gf_tree.proofs.lemmas.due.Suited.{node_only, one_name}
+use Rattle.gf_tree.proofs.lemmas.fronts.Codes.{begins_payoffs, begins_probability, known_outcome}
+use Rattle.gf_tree.proofs.lemmas.fronts.Codes.{none_or_some}
+use Rattle.gf_tree.proofs.lemmas.fronts.Lists.{to_probability}
+use Rattle.gf_tree.proofs.lemmas.fronts.Payoffs.{AtKnownPayoff, in_payoffs}
+use Rattle.gf_tree.proofs.lemmas.stores.ListedSums.{has_sum}
+use Rattle.gf_tree.proofs.lemmas.reasons.Nodes.{told_somewhere}
+use Rattle.gf_tree.proofs.lemmas.reasons.Rows.{IsOfRole, of_row}
+
+abbrev HasRole : List Token → What → Type 0
+HasRole before w = (r : Role) × (what_of r ≡ w) × OnlySuitedFollow before r
+
+-- a row of a role, and what it says of bytes that it refuses
+pub record Asks (before : List Token) (w : What) (Refused : List ℕ → Why → Type 0) : Type 1 where
+  pub row : Row
+  pub stands : Stands before row
+  pub role : Role
+  pub named : what_of role ≡ w
+  pub same : IsOfRole row role
+  pub refused : (b : List ℕ) (why : Why) → row.other_bare b why → Refused b why
+
+role_of : (before : List Token) (w : What) (Refused : List ℕ → Why → Type 0)
+    → Asks before w Refused → HasRole before w
+role_of before w Refused k = (k.role, k.named, of_row before k.row k.role k.stands k.same)
+
+abbrev pub front_of : (before : List Token) → Begins IsExtensiveFile before
+    → (players : List (List ℕ)) (nodes : List FileNode) (front : List Token)
+    → EndsInNode before players nodes front → FileFront
+front_of before begins players nodes front ends = record {
+  before = before;
+  players = players;
+  nodes = nodes;
+  front = front;
+  begins = begins;
+  ends = ends;
+}
+
+-- ---- an index
+
+pub asks_player : (before : List Token) (count : ℕ) → Begins IsExtensiveFile before
+    → (h : PlayerIsDue before count) → Asks before what.Index (a_player (length h.0)).other_bare
+asks_player before count begins h = record {
+  row = a_player (length h.0);
+  stands = player (front_of before begins h.0 h.1 h.2 h.3) h.5;
+  role = Role.PlayerNumber (length h.0);
+  named = refl;
+  same = λ x. (λ s. s, λ s. s);
+  refused = λ b why e. e;
+}
+
+abbrev pub AsksIndex : List Token → Type 1
+AsksIndex before = Asks before what.Index (λ b why. why ≡ BadIndex)
+
+pub asks_set : (before : List Token) → Begins IsExtensiveFile before → SetIsDue before
+    → AsksIndex before
+asks_set before begins h = record {
+  row = a_set;
+  stands = set_number_due (front_of before begins h.0 h.1 h.2 h.4) h.3 h.5;
+  role = Role.SetNumber;
+  named = refl;
+  same = λ x. (λ s. s, λ s. s);
+  refused = λ b why e. e;
+}
+
+outcome_at : (f : FileFront) → BehindSet f.front → AsksIndex f.before
+outcome_at f h = record {
+  row = an_outcome;
+  stands = outcome_number_due f h;
+  role = Role.OutcomeNumber;
+  named = refl;
+  same = λ x. (λ s. s, λ s. s);
+  refused = λ b why e. e;
+}
+
+behind_set_number : (front : List Token) (u : Use SetKey InformationSet)
+    → ToOutcomeNumber front (Some u) → u.description ≡ None → BehindSetNumber front u.key
+behind_set_number front u h e =
+    let k = h.4 in (
+      Bare h.0 ∷ Text h.1 ∷ k.0,
+      k.1,
+      h.3 ∙ ap (λ (ts : List Token). Bare h.0 ∷ Text h.1 ∷ ts) (k.3
+          ∙ ap (λ (ts : List Token). k.0 ++ Bare k.1 ∷ ts)
+          (subst (IsDescription (IsInformationSet u.key.player) k.2) e k.6)),
+      (h.0, h.1, k.0, refl, k.4),
+      k.5,
+    )
+
+outcome_by : (f : FileFront) (set : Option (Use SetKey InformationSet))
+    → ToOutcomeNumber f.front set → IsSetKnown f.nodes set → AsksIndex f.before
+outcome_by f None h known = outcome_at f (None, h, tt)
+outcome_by f (Some u) h (inl d) = outcome_at f (Some u, h, d)
+outcome_by f (Some u) h (inr k) = by u.description refl
+  where
+    by : (o : Option InformationSet) → u.description ≡ o → AsksIndex f.before
+    by None e = record {
+      row = or_name k.0.name an_outcome;
+      stands = known_set f u.key k.0 (behind_set_number f.front u h e) k.1;
+      role = Role.OutcomeNumber;
+      named = refl;
+      same = λ x. (λ s. s, λ s. s);
+      refused = λ b why q. q;
+    }
+    by (Some d) e = outcome_at f (Some u, h, (d, e))
+
+pub asks_outcome : (before : List Token) → Begins IsExtensiveFile before → OutcomeIsDue before
+    → AsksIndex before
+asks_outcome before begins h =
+    outcome_by (front_of before begins h.0 h.1 h.2 h.4) h.3 h.5 h.6
+
+index_due : (before : List Token) → Begins IsExtensiveFile before → IsDue before what.Index
+    → HasRole before what.Index
+index_due before begins (inl h) = role_of before what.Index _ (asks_player before h.0 begins h.1)
+index_due before begins (inr (inl h)) = role_of before what.Index _ (asks_set before begins h)
+index_due before begins (inr (inr h)) = role_of before what.Index _ (asks_outcome before begins h)
+
+-- ---- a number
+
+abbrev pub AsksNumber : List Token → Type 1
+AsksNumber before =
+    Asks before what.Number (λ b why. IsNoNumber b why ⊎ ((p : Ratio) × IsNumber b p))
+
+-- a number that was described before
+known : (before : List Token) (row : Row) (p : Ratio) → Stands before row
+    → IsOfRole row (Role.KnownNumber p)
+    → ((b : List ℕ) (why : Why) → row.other_bare b why → (this_number p).other_bare b why)
+    → AsksNumber before
+known before row p s same refused = record {
+  row = row;
+  stands = s;
+  role = Role.KnownNumber p;
+  named = refl;
+  same = same;
+  refused = λ b why e. elim (refused b why e) [ inl k ↦ inl k | inr k ↦ inr (k.1.0, k.1.1) ];
+}
+
+pub asks_probability : (before : List Token) → Begins IsExtensiveFile before
+    → ProbabilityIsDue before → AsksNumber before
+asks_probability before begins h =
+    let f = front_of before begins h.0 h.1 h.2 h.5 in
+    let key = set_of 0 h.3 in
+    let s = parts f (begins_probability h.2 h.3 h.4 h.6) in
+    elim (to_probability h.2 h.3 h.4 s.content h.6 s.goes_on) [
+      | inl k ↦ record {
+        row = a_probability k.sum;
+        stands = new_probability f h.3 h.4 k.sum h.6 (λ d knows. none_or_some
+            (description_at same_set s.content.sets key) d k.unknown ((s.sets key d).0 knows))
+            (has_sum h.4 k.sum k.have_sum);
+        role = Role.Probability k.sum;
+        named = refl;
+        same = λ x. (λ t. t, λ t. t);
+        refused = λ b why e. elim e [ inl n ↦ inl n | inr n ↦ inr (n.0, n.1) ];
+      }
+      | inr k ↦ known before (this_number k.p) k.p (known_probability f h.3 k.known h.4 k.next k.p
+          h.6 ((s.sets key k.known).1 k.is_known) (k.others, k.parts) k.is)
+          (λ x. (λ t. t, λ t. t)) (λ b why e. e)
+    ]
+
+module _ (f : FileFront) (s : Parts f) (n : ℕ) (outcome : Outcome)
+    (fewer : length outcome.payoffs < length f.players)
+    (place : ToPayoff f.front n outcome.payoffs ⊎ BehindPayoff f.front n outcome.payoffs)
+    (inner : List Token) where
+  new_paid : IsNewOutcome f.nodes n → AsksNumber f.before
+  new_paid new = elim place [
+    | inl h ↦ record {
+      row = a_payoff;
+      stands = new_payoff f n outcome.payoffs h new fewer;
+      role = Role.Payoff;
+      named = refl;
+      same = λ x. (λ t. t, λ t. t);
+      refused = λ b why e. inl e;
+    }
+    | inr h ↦ record {
+      row = or_comma a_payoff;
+      stands = after_new_payoff f n outcome.payoffs h new fewer;
+      role = Role.Payoff;
+      named = refl;
+      same = λ x. (λ t. t, λ t. t);
+      refused = λ b why e. inl e;
+    }
+  ]
+
+  known_paid : (k : AtKnownPayoff s.content f.front inner n outcome) (others : List Ratio)
+      → k.others ≡ others → AsksNumber f.before
+  known_paid k [] e =
+      let is = (known_outcome s.content n k.known s.goes_on.are_outcomes
+      k.is_known).one_payoff_each in
+      let whole =
+      ap length (k.parts ∙ ap (λ (qs : List Ratio). outcome.payoffs ++ qs) e) in
+      let sizes = length-append outcome.payoffs [] in
+      let players = ap length s.same_players in
+      absurd (omega (arith, is, whole, sizes, players, fewer))
+  known_paid k (p ∷ ps) e =
+      let knows = (s.outcomes n k.known).1 k.is_known in
+      let parts = k.parts ∙ ap (λ (qs : List Ratio). outcome.payoffs ++ qs) e in
+      elim place [
+        | inl h ↦ known f.before (this_number p) p
+            (known_payoff f n outcome.payoffs k.known p ps h knows parts) (λ x. (λ t. t, λ t. t))
+            (λ b why e. e)
+        | inr h ↦ known f.before (or_comma (this_number p)) p
+            (after_known_payoff f n outcome.payoffs k.known p ps h knows parts)
+            (λ x. (λ t. t, λ t. t)) (λ b why e. e)
+      ]
+
+pub asks_payoff : (before : List Token) → Begins IsExtensiveFile before → PayoffIsDue before
+    → AsksNumber before
+asks_payoff before begins h =
+    let f = front_of before begins h.0 h.1 h.2 h.5 in
+    let s = parts f (begins_payoffs h.2 h.3 h.4 h.6) in
+    let place = payoff_place h.2 h.6.0 h.6.1 h.3 h.4.name h.4.payoffs h.6.3 h.6.2 h.6.4 in
+    elim (in_payoffs h.2 h.3 h.4 s.content h.6 s.goes_on) [
+      | inl k ↦ new_paid f s h.3 h.4 h.7 place h.6.1 (λ d knows. none_or_some
+          (description_at nat_eq s.content.outcomes h.3) d k.unknown ((s.outcomes h.3 d).0 knows))
+      | inr k ↦ known_paid f s h.3 h.4 h.7 place h.6.1 k k.others refl
+    ]
+
+pub asks_number : (before : List Token) → Begins IsExtensiveFile before
+    → (ProbabilityIsDue before ⊎ PayoffIsDue before) → AsksNumber before
+asks_number before begins (inl h) = asks_probability before begins h
+asks_number before begins (inr h) = asks_payoff before begins h
+
+-- ---- both ways
+
+by_row : (before : List Token) (row : Row) (r : Role) → Stands before row → IsOfRole row r
+    → HasRole before (what_of r)
+by_row before row r o same = (r, refl, of_row before row r o same)
+
+pub follow : (before : List Token) (w : What) → Begins IsExtensiveFile before → IsToldByRole w
+    → IsDue before w → (r : Role) × (what_of r ≡ w) × OnlySuitedFollow before r
+follow before what.Format begins by_role e =
+    by_row before (a_word what.Format (codes "EFG")) Role.Format
+    (subst (λ (ts : List Token). Stands ts (a_word what.Format (codes "EFG"))) (sym e) format)
+    (λ x. (λ s. s, λ s. s))
+follow before what.Version begins by_role e =
+    by_row before (a_word what.Version (codes "2")) Role.Version
+    (subst (λ (ts : List Token). Stands ts (a_word what.Version (codes "2"))) (sym e) version)
+    (λ x. (λ s. s, λ s. s))
+follow before what.Letter begins by_role e = by_row before a_letter Role.Letter
+    (subst (λ (ts : List Token). Stands ts a_letter) (sym e) letter) (λ x. (λ s. s, λ s. s))
+follow before what.Number begins by_role h =
+    role_of before what.Number _ (asks_number before begins h)
+follow before what.Index begins by_role h = index_due before begins h
+follow before what.Node begins by_role m =
+    let k = told_somewhere before (codes "t") begins m in
+    (k.0, node_only k.0 ((k.1 (codes "t")).0 m), k.1)
+follow before what.Text begins by_role h = absurd by_role
+follow before what.Opening begins by_role h = absurd by_role
+follow before what.Closing begins by_role h = absurd by_role
+follow before what.Strategies begins by_role h = absurd by_role
+follow before what.End begins by_role h = absurd by_role
+
+pub stand : (before : List Token) (r : Role) (b : List ℕ) → Begins IsExtensiveFile before
+    → OnlySuitedFollow before r → Suits r b → IsDue before (what_of r)
+stand before r b begins only s =
+    let k = told_somewhere before b begins ((only b).1 s) in
+    let same : (x : List ℕ) → (Suits r x → Suits k.0 x) × (Suits k.0 x → Suits r x) =
+    λ x. (λ t. (k.1 x).0 ((only x).1 t), λ t. (only x).0 ((k.1 x).1 t)) in
+    subst (λ (w : What). IsDue before w) (sym (one_name r k.0 same b s)) k.2

@@ -1,0 +1,201 @@
+-- If the machine of the reader stands for the tokens before a place, exactly what a row accepts may
+-- follow, and everything else is refused as the row says, provided that the machine answers so.
+use Rattle.std.proofs.Common.{◌≡◌, ◌↔◌, ℕ, zero, suc, Bool, true, false, cond, List, [], ◌∷◌, ◌++◌}
+use Rattle.std.proofs.Common.{Result, Ok, Err, refl, sym, ap, subst, ◌∙◌}
+use Rattle.gf_token.specs.Token.{Token}
+use Rattle.gf_token.specs.Token.Token.{Broken}
+use Rattle.gf_token.specs.Place.{Begins, IsAccepted}
+use Rattle.gf_token.specs.declared.fault.Why.{Why}
+use Rattle.gf_token.specs.declared.fault.Why.TheVariants.{Unterminated}
+use Rattle.gf_tree.specs.Front.{IsExtensiveFile}
+use Rattle.gf_tree.specs.inner.Machine.{Content, Position, State, at, due, may_end, node_or_end}
+use Rattle.gf_tree.specs.inner.Machine.{nothing, step}
+use Rattle.gf_tree.specs.inner.Machine.Position.{Format}
+use Rattle.gf_tree.specs.inner.Machine.Position.{NodeDue}
+use Rattle.gf_tree.specs.inner.Machine.Position.{KnownAction}
+use Rattle.gf_tree.specs.inner.Machine.Position.{NewPayoff, AfterNewPayoff, KnownOutcomeName}
+use Rattle.gf_tree.specs.inner.Machine.Position.{KnownPayoff, AfterKnownPayoff}
+use Rattle.gf_tree.specs.inner.ReadGame.{run_tokens, then_run}
+use Rattle.gf_tree.specs.Rows.{Row, Accepts, Refuses, RefusesFor, Takes}
+use Rattle.gf_tree.proofs.lemmas.runs.Places.{Leads, follows, is_file, is_read, no_file}
+use Rattle.gf_tree.proofs.lemmas.runs.Places.{not_follows}
+use Rattle.gf_tree.proofs.lemmas.runs.Places.{then_walk, walk, walk_run}
+use Rattle.gf_tree.proofs.lemmas.runs.Stops.{StopsAt, not_accepted}
+use Rattle.gf_tree.proofs.lemmas.runs.Tokens.{Reads, run_on}
+
+-- ---- what the machine answers, by a row
+
+abbrev pub Answers : Row → Token → Result State Why → Type 0
+Answers row token (Ok after) = Takes row token
+Answers row token (Err why) = ¬ (Takes row token) × RefusesFor row token why
+
+abbrev pub Law : Position → Content → Row → Type 0
+Law q c row = (token : Token) → Answers row token (step q c token)
+
+abbrev pub AnswersEnd : Row → Bool → Why → Type 0
+AnswersEnd row true why = row.end
+AnswersEnd row false why = ¬ row.end × (why ≡ row.otherwise)
+
+abbrev pub EndLaw : Position → Content → Row → Type 0
+EndLaw q c row = AnswersEnd row (may_end q c.due) (due q c.due)
+
+-- after these tokens the machine answers as from this state
+abbrev pub StandsFor : List Token → Position → Content → Type 0
+StandsFor before q c =
+    (us : List Token) → run_tokens Format nothing (before ++ us) ≡ run_tokens q c us
+
+-- some file begins with these tokens, and the machine stands for them if it answers as the row says
+pub record Stands (before : List Token) (row : Row) : Type 0 where
+  pub begins : Begins IsExtensiveFile before
+  pub position : Position
+  pub content : Content
+  pub answers : StandsFor before position content
+  pub law : Law position content row
+  pub end : EndLaw position content row
+
+pub stands_by : (before : List Token) (q : Position) (c : Content) (row : Row)
+    → Begins IsExtensiveFile before → StandsFor before q c → Law q c row → EndLaw q c row
+    → Stands before row
+stands_by before q c row begins answers law end = record {
+  begins = begins;
+  position = q;
+  content = c;
+  answers = answers;
+  law = law;
+  end = end;
+}
+
+-- ---- some tokens lead to a state
+
+first_leads : (o : Result State Why) (t : Token) (ts more : List Token) (q : Position)
+    (c r : Content) → step q c t ≡ o → then_run o (run_on (ts ++ more)) ≡ Ok r
+    → ((s : State) → Reads s.position s.content (ts ++ more) r
+    → (end : State) × (walk s.position s.content ts ≡ Ok end))
+    → (end : State) × (walk q c (t ∷ ts) ≡ Ok end)
+first_leads (Ok s) t ts more q c r is e later =
+    let h = later s e in
+    (h.0, ap (λ o. then_walk o (λ x. walk x.position x.content ts)) is ∙ h.1)
+first_leads (Err why) t ts more q c r is e later = absurd cc
+
+leads_on : (ts more : List Token) (q : Position) (c r : Content) → Reads q c (ts ++ more) r
+    → (end : State) × (walk q c ts ≡ Ok end)
+leads_on [] more q c r e = (at q c, refl)
+leads_on (t ∷ ts) more q c r e = first_leads (step q c t) t ts more q c r refl e
+    (λ s h. leads_on ts more s.position s.content r h)
+
+pub leads : (before : List Token) → Begins IsExtensiveFile before
+    → (s : State) × Leads before s
+leads before h =
+    let r = is_read (before ++ h.0) h.1 in leads_on before h.0 Format nothing r.0 r.1
+
+-- ---- at the end nothing is refused as an unterminated text
+
+node_ends : (n : ℕ) → node_or_end n ≡ Unterminated → ⊥
+node_ends zero e = absurd cc
+node_ends (suc n) e = absurd cc
+
+ends_text : (q : Position) (n : ℕ) → due q n ≡ Unterminated → ⊥
+ends_text NodeDue n e = node_ends n e
+ends_text (KnownAction b []) n e = absurd cc
+ends_text (KnownAction b (a ∷ actions)) n e = absurd cc
+ends_text (NewPayoff b m outcome zero) n e = absurd cc
+ends_text (NewPayoff b m outcome (suc left)) n e = absurd cc
+ends_text (AfterNewPayoff b m outcome zero) n e = absurd cc
+ends_text (AfterNewPayoff b m outcome (suc left)) n e = absurd cc
+ends_text (KnownOutcomeName outcome) n e = node_ends n e
+ends_text (KnownPayoff []) n e = absurd cc
+ends_text (KnownPayoff (p ∷ ps)) n e = absurd cc
+ends_text (AfterKnownPayoff []) n e = absurd cc
+ends_text (AfterKnownPayoff (p ∷ ps)) n e = absurd cc
+ends_text q n e = absurd cc
+
+abbrev refused : Why → Result Content Why
+refused why = Err why
+
+abbrev at_end : Bool → Content → Why → Result Content Why
+at_end b c why = cond b (Ok c) (Err why)
+
+end_refused : (b : Bool) (c : Content) (why other : Why) → at_end b c why ≡ refused other
+    → why ≡ other
+end_refused true c why other e = absurd cc
+end_refused false c why other e = cc
+
+one_refusal : (why other : Why) → refused why ≡ refused other → why ≡ other
+one_refusal why other e = cc
+
+-- so no state refuses all that may come for one reason
+not_always : (s : State) (why : Why) → ((us : List Token) → run_on us s ≡ refused why) → ⊥
+not_always s why h =
+    let text = one_refusal Unterminated why (h (Broken ∷ [])) in
+    ends_text s.position s.content.due
+    (end_refused (may_end s.position s.content.due) s.content (due s.position s.content.due) why
+    (h []) ∙ sym text)
+
+-- ---- what may follow, and why the rest is refused
+
+-- exactly what the row accepts is accepted, and everything else stops the machine as the row says
+abbrev pub AnswersAt : List Token → State → Row → List Token → Type 0
+AnswersAt before s row after = (IsAccepted IsExtensiveFile before after ↔ Accepts row after)
+    × (¬ (Accepts row after) → (why : Why) × Refuses row after why × StopsAt s after why)
+
+module _ (before : List Token) (s : State) (l : Leads before s) (row : Row) where
+  at_token : (t : Token) (after : List Token) (o p : Result State Why)
+      → step s.position s.content t ≡ o
+      → ((us : List Token) → then_run o (run_on us) ≡ then_run p (run_on us)) → Answers row t p
+      → AnswersAt before s row (t ∷ after)
+  at_token t after (Ok x) (Ok y) e alike a =
+      ((λ f. a, λ h. follows before t s x l e), λ n. absurd (n a))
+  at_token t after (Ok x) (Err why) e alike a = absurd (not_always x why alike)
+  at_token t after (Err why) (Ok y) e alike a =
+      absurd (not_always y why (λ us. sym (alike us)))
+  at_token t after (Err why) (Err other) e alike a =
+      let same = one_refusal why other (alike []) in (
+        (λ f. absurd (not_follows before t s why l e f), λ h. absurd (a.0 h)),
+        λ n. (why, subst (RefusesFor row t) (sym same) a.1, e),
+      )
+
+  at_last : (b t : Bool) (c : Content) (why : Why)
+      → may_end s.position s.content.due ≡ b
+      → at_end b s.content (due s.position s.content.due) ≡ at_end t c why → AnswersEnd row t why
+      → AnswersAt before s row []
+  at_last true true c why e alike a = ((λ f. a, λ h. is_file before s l e), λ n. absurd (n a))
+  at_last true false c why e alike a = absurd cc
+  at_last false true c why e alike a = absurd cc
+  at_last false false c why e alike a =
+      let same = one_refusal (due s.position s.content.due) why alike in (
+        (λ f. absurd (no_file before s l e f), λ h. absurd (a.0 h)),
+        λ n. (due s.position s.content.due, same ∙ a.1, (e, refl)),
+      )
+
+by_state : (before after : List Token) (q : Position) (c : Content) (row : Row) (s : State)
+    → Leads before s → ((us : List Token) → run_on us s ≡ run_tokens q c us) → Law q c row
+    → EndLaw q c row → AnswersAt before s row after
+by_state before [] q c row s l alike law end =
+    at_last before s l row (may_end s.position s.content.due) (may_end q c.due) c (due q c.due) refl
+    (alike []) end
+by_state before (t ∷ after) q c row s l alike law end =
+    at_token before s l row t after (step s.position s.content t) (step q c t) refl
+    (λ us. alike (t ∷ us)) (law t)
+
+pub answers_at : (before after : List Token) (s : State) (row : Row) → Leads before s
+    → Stands before row → AnswersAt before s row after
+answers_at before after s row l h = by_state before after h.position h.content row s l
+    (λ us. sym (walk_run before us Format nothing s l) ∙ h.answers us) h.law h.end
+
+pub accepted : (before : List Token) (row : Row) → Stands before row → (after : List Token)
+    → IsAccepted IsExtensiveFile before after ↔ Accepts row after
+accepted before row h after =
+    let l = leads before h.begins in (answers_at before after l.0 row l.1 h).0
+
+one_stop : (after : List Token) (s : State) (why other : Why) → StopsAt s after why
+    → StopsAt s after other → why ≡ other
+one_stop [] s why other h k = sym h.1 ∙ k.1
+one_stop (t ∷ after) s why other h k = cc
+
+pub refused_by : (before after : List Token) (s : State) (why : Why) (row : Row) → Leads before s
+    → StopsAt s after why → Stands before row → ¬ (Accepts row after) × Refuses row after why
+refused_by before after s why row l h stands =
+    let a = answers_at before after s row l stands in
+    let never = λ (k : Accepts row after). not_accepted before after s why l h (a.0.1 k) in
+    let r = a.1 never in
+    (never, subst (λ (w : Why). Refuses row after w) (one_stop after s r.0 why r.2 h) r.1)

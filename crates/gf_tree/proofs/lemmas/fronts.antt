@@ -1,0 +1,11 @@
+pub mod Codes
+pub mod CutFiles
+pub mod CutPlaces
+pub mod Cuts
+pub mod Groups
+pub mod Judged
+pub mod Lists
+pub mod Nodes
+pub mod Payoffs
+pub mod Runs
+pub mod WholeNodes

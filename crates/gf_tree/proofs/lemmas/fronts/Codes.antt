@@ -1,0 +1,195 @@
+-- The front of a node after whole nodes: the machine of the reader reads it from what was learned
+-- in them, expects in the braces of a known set what is left of it, and refuses a player if there
+-- are none.
+use Rattle.std.proofs.Common.{◌≡◌, ℕ, ◌≤◌, List, [], ◌∷◌, ◌++◌, length, Option, Some, None, Result}
+use Rattle.std.proofs.Common.{Err, refl, sym, ap, ◌∙◌, nat_eq, inl, inr, append_assoc}
+use Rattle.std.specs.List.{filter_map}
+use Rattle.std.proofs.lemmas.Bool.Decides.{Decides-eqb}
+use Rattle.gf_token.specs.Token.{Token}
+use Rattle.gf_token.specs.Token.Token.{Opening, Text, Bare}
+use Rattle.gf_token.specs.Code.{code_of}
+use Rattle.gf_token.specs.declared.fault.Why.{Why}
+use Rattle.gf_token.specs.declared.fault.Why.TheVariants.{Expected, UnknownPlayer}
+use Rattle.gf_tree.specs.Description.{InformationSet, IsOutcome, Outcome, SetKey, same_set, set_of}
+use Rattle.gf_tree.specs.Description.{Action}
+use Rattle.gf_tree.specs.FiniteMap.{description_at}
+use Rattle.gf_tree.specs.FileTree.{FileNode}
+use Rattle.gf_tree.specs.Front.{BehindOutcomeNumber, BehindSetNumber, EndsInNode, InActions}
+use Rattle.gf_tree.specs.Front.{InPayoffs, KnowsOutcome, KnowsSet, ToProbability}
+use Rattle.gf_tree.specs.inner.Machine.{Content, nothing, Begun, after_node, begun, personal_node}
+use Rattle.gf_tree.specs.inner.Machine.Position.{Format, NodeDue, KnownAction}
+use Rattle.gf_tree.specs.inner.ReadGame.{run_tokens, then_run}
+use Rattle.gf_tree.proofs.lemmas.fronts.Nodes.{learned_at, parted}
+use Rattle.gf_tree.proofs.lemmas.fronts.Runs.{GoesOn, in_actions}
+use Rattle.gf_tree.proofs.lemmas.fronts.Groups.{NoText}
+use Rattle.gf_tree.proofs.lemmas.runs.Learned.{found_has}
+use Rattle.gf_tree.proofs.lemmas.runs.Results.{AreOutcomes}
+use Rattle.gf_tree.proofs.lemmas.runs.Tokens.{Reads, run_on}
+use Rattle.gf_tree.proofs.lemmas.games.TreesOnce.{same_set_equality}
+use Rattle.std.specs.Prelude.{codes}
+use Rattle.gf_tree.specs.Due.{NodeIsDue}
+use Rattle.gf_tree.proofs.lemmas.runs.Files.{due_by}
+use Rattle.gf_tree.proofs.lemmas.runs.Places.{is_read}
+
+-- some tokens that begin with these are read
+pub record ReadsOn (before : List Token) : Type 0 where
+  pub more : List Token
+  pub read : Content
+  pub reads : Reads Format nothing (before ++ more) read
+
+-- not for what is due, and for a code up to this one
+abbrev pub IsUpTo : Why → ℕ → Type 0
+IsUpTo (Expected what) bound = ⊥
+IsUpTo why bound = code_of why ≤ bound
+
+abbrev pub refused : Why → Result Content Why
+refused why = Err why
+
+-- ---- the front of a node
+
+abbrev pub BeginsBare : List Token → Type 0
+BeginsBare front = (letter : List ℕ) × (rest : List Token) × (front ≡ Bare letter ∷ rest)
+
+pub begins_on : (front first others : List Token) → BeginsBare first → front ≡ first ++ others
+    → BeginsBare front
+begins_on front first others h e =
+    (h.0, h.1 ++ others, e ∙ ap (λ (ts : List Token). ts ++ others) h.2)
+
+pub begins_number : (front : List Token) (key : SetKey) → BehindSetNumber front key → BeginsBare front
+begins_number front key h =
+    begins_on front h.0 (Bare h.1 ∷ []) (h.3.0, Text h.3.1 ∷ h.3.2, h.3.3) h.2
+
+pub begins_actions : (front : List Token) (key : SetKey) (set : InformationSet)
+    → InActions front key set → BeginsBare front
+begins_actions front key set h =
+    begins_on front h.0 (Text set.name ∷ Opening ∷ h.1) (begins_number h.0 key h.3) h.2
+
+pub begins_probability : (front : List Token) (n : ℕ) (set : InformationSet)
+    → ToProbability front n set → BeginsBare front
+begins_probability front n set h =
+    begins_on front h.0 (Text h.1 ∷ []) (begins_actions h.0 (set_of 0 n) set h.3) h.2
+
+pub begins_outcome : (front : List Token) (n : ℕ) → BehindOutcomeNumber front n → BeginsBare front
+begins_outcome front n h =
+    begins_on front h.0 (Bare h.2 ∷ []) (h.4.0, Text h.4.1 ∷ h.4.2, h.4.3) h.3
+
+pub begins_payoffs : (front : List Token) (n : ℕ) (outcome : Outcome) → InPayoffs front n outcome
+    → BeginsBare front
+begins_payoffs front n outcome h =
+    begins_on front h.0 (Text outcome.name ∷ Opening ∷ h.1) (begins_outcome h.0 n h.3) h.2
+
+plain_front : (front us : List Token) → BeginsBare front → NoText (front ++ us)
+plain_front front us h l others e =
+    let both = sym (ap (λ (ts : List Token). ts ++ us) h.2) ∙ e in absurd cc
+
+-- the front comes after whole nodes, and is read from what was learned in them
+pub record Split (players : List (List ℕ)) (nodes : List FileNode)
+    (before front : List Token) : Type 0 where
+  pub content : Content
+  pub same_players : content.players ≡ players
+  pub sets : (key : SetKey) (d : InformationSet)
+      → (KnowsSet nodes key d → description_at same_set content.sets key ≡ Some d)
+      × (description_at same_set content.sets key ≡ Some d → KnowsSet nodes key d)
+  pub outcomes : (n : ℕ) (d : Outcome)
+      → (KnowsOutcome nodes n d → description_at nat_eq content.outcomes n ≡ Some d)
+      × (description_at nat_eq content.outcomes n ≡ Some d → KnowsOutcome nodes n d)
+  pub goes_on : GoesOn content front
+  pub answers : (us : List Token)
+      → run_tokens Format nothing (before ++ us) ≡ run_tokens NodeDue content (front ++ us)
+
+pub split : (players : List (List ℕ)) (nodes : List FileNode) (before front : List Token)
+    → EndsInNode before players nodes front → BeginsBare front → ReadsOn before
+    → Split players nodes before front
+split players nodes before front ends bare h =
+    let p = parted players nodes before front h.more h.read ends (plain_front front h.more bare)
+    h.reads in
+    record {
+      content = p.content;
+      same_players = p.same_players;
+      sets = learned_at same_set same_set_equality (filter_map (λ n. n.set) nodes) p.content.sets
+          p.learns_sets;
+      outcomes = learned_at nat_eq Decides-eqb (filter_map (λ n. n.outcome) nodes)
+          p.content.outcomes p.learns_outcomes;
+      goes_on = record {
+        more = h.more;
+        read = h.read;
+        are_sets = p.are_sets;
+        are_outcomes = p.are_outcomes;
+        reads = sym (p.answers h.more (plain_front front h.more bare)) ∙ h.reads;
+      };
+      answers = λ us. p.answers us (plain_front front us bare);
+    }
+
+-- ---- new and known
+
+pub new_is : {D : Type 0} (o : Option D) → ((d : D) → ¬ (o ≡ Some d)) → o ≡ None
+new_is None h = refl
+new_is (Some d) h = absurd (h d refl)
+
+pub one_description : {D : Type 0} (o : Option D) (c d : D) → o ≡ Some c → o ≡ Some d → c ≡ d
+one_description o c d h k = cc
+
+pub none_or_some : {D : Type 0} (o : Option D) (d : D) → o ≡ None → o ≡ Some d → ⊥
+none_or_some o d h k = cc
+
+-- a known outcome is one
+pub known_outcome : (c : Content) (n : ℕ) (outcome : Outcome) → AreOutcomes (length c.players) c.outcomes
+    → description_at nat_eq c.outcomes n ≡ Some outcome → IsOutcome (length c.players) n outcome
+known_outcome c n outcome are known =
+    found_has nat_eq Decides-eqb (IsOutcome (length c.players)) c.outcomes n outcome are known
+
+-- ---- an unknown player
+
+-- if there is none
+pub no_player : (before : List Token) (t : List ℕ) → ReadsOn before
+    → ((nodes : List FileNode) × EndsInNode before [] nodes [] × NodeIsDue before × (t ≡ codes "p"))
+    → run_tokens Format nothing (before ++ Bare t ∷ []) ≡ refused UnknownPlayer
+no_player before t reads h =
+    let file = h.2 in
+    let r = is_read ((before ++ Bare (codes "t") ∷ []) ++ file.0) file.1 in
+    let more = Bare (codes "t") ∷ file.0 in
+    let text : Reads Format nothing (before ++ more) r.0 =
+    ap (run_tokens Format nothing) (sym (append_assoc before (Bare (codes "t") ∷ []) file.0))
+    ∙ r.1 in
+    let p = parted [] h.0 before [] more r.0 h.1 (λ l others e. absurd cc) text in
+    let c = p.content in
+    let due = (due_by (codes "t") file.0 c.due c r.0 refl p.are_sets p.are_outcomes
+    (sym (p.answers more (λ l others e. absurd cc)) ∙ text)).1 in
+    ap (λ (x : List ℕ). run_tokens Format nothing (before ++ Bare x ∷ [])) h.3
+    ∙ p.answers (Bare (codes "p") ∷ []) (λ l others e. absurd cc)
+    ∙ ap (λ (d : ℕ). then_run (after_node c d (codes "p")) (run_on [])) due.1
+    ∙ ap (λ (ps : List (List ℕ)). then_run (personal_node c ps) (run_on [])) p.same_players
+
+-- ---- a known set
+
+-- in the braces of a known set, the machine expects what is left of it
+pub record KnownLeft (before front : List Token) (known seen : InformationSet) : Type 0 where
+  pub content : Content
+  pub b : Begun
+  pub others : List Action
+  pub parts : known.actions ≡ seen.actions ++ others
+  pub answers : (us : List Token) → run_tokens Format nothing (before ++ us)
+      ≡ run_tokens (KnownAction b others) content us
+
+pub known_left : (players : List (List ℕ)) (nodes : List FileNode) (before front : List Token)
+    (key : SetKey) (known seen : InformationSet) → EndsInNode before players nodes front
+    → ReadsOn before → KnowsSet nodes key known → InActions front key seen
+    → KnownLeft before front known seen
+known_left players nodes before front key known seen ends reads knows h =
+    let s = split players nodes before front ends (begins_actions front key seen h) reads in
+    let c = s.content in
+    let at = (s.sets key known).0 knows in
+    elim (in_actions front key seen c h s.goes_on) [
+      | inl n ↦
+          absurd (none_or_some (description_at same_set c.sets key) known n.unknown at)
+      | inr k ↦
+          let same = one_description (description_at same_set c.sets key) k.known known k.is_known
+          at in
+          record {
+            content = c;
+            b = begun k.name key k.known;
+            others = k.others;
+            parts = ap (λ (x : InformationSet). x.actions) (sym same) ∙ k.parts;
+            answers = λ us. s.answers us ∙ k.answers us;
+          }
+    ]

@@ -1,0 +1,202 @@
+-- The canonical game: it is a game, the same as the first, and there is one for all games that are
+-- the same.
+use Rattle.std.proofs.Common.{◌≡◌, ℕ, Bool, List, map, filter, refl, sym, ap, subst, ◌∙◌}
+use Rattle.std.specs.Prelude.{nat_eq, ◌↔◌}
+use Rattle.std.proofs.lemmas.Bool.{eqb-true}
+use Rattle.std.proofs.lemmas.Bool.Decides.{Decides-eqb}
+use Rattle.gf_tree.specs.Description.{InformationSet, Outcome, SetKey, same_set, set_of}
+use Rattle.gf_tree.specs.FiniteMap.{Described, first_uses}
+use Rattle.gf_tree.specs.Game.{Game, IsGame, used_sets, used_outcomes}
+use Rattle.gf_tree.specs.Renumbering.{Renumbering, IsRenumbering, HasSet}
+use Rattle.gf_tree.specs.Renumbering.{HasOutcome, renumbered_set, renumbered}
+use Rattle.gf_tree.specs.FirstUse.{first_use_number, sets_of, first_use_numbers}
+use Rattle.gf_tree.specs.FirstUse.{player_keys, outcome_numbers}
+use Rattle.gf_tree.proofs.lemmas.games.Members.{filter_of_map, map_same, map_twice}
+use Rattle.gf_tree.proofs.lemmas.games.FirstUseNumbers.{number_kept}
+use Rattle.gf_tree.proofs.lemmas.games.Carried.{carried_map}
+use Rattle.gf_tree.proofs.lemmas.games.Renumberings.{Agree, agreed_games, composed}
+use Rattle.gf_tree.proofs.lemmas.games.Renumberings.{composed_games, sets_apart, outcomes_apart}
+use Rattle.gf_tree.proofs.lemmas.games.Renumbered.{set_at_image, outcome_at_image}
+use Rattle.gf_tree.proofs.lemmas.games.Renumbered.{renumbered_is_game}
+use Rattle.gf_tree.proofs.lemmas.games.Renumbered.{own_set, first_use_is_renumbering}
+use Rattle.gf_tree.proofs.lemmas.games.FirstUses.{of_filter}
+use Rattle.gf_tree.proofs.lemmas.games.TreesOnce.{same_set_equality}
+use Rattle.gf_tree.proofs.lemmas.games.Uses.{has, contains}
+use Rattle.gf_tree.specs.SameGame.{Carries, SameGame}
+use Rattle.gf_tree.specs.CanonicalGame.{canonical_game}
+use Rattle.gf_tree.proofs.lemmas.games.Same.{carried_sets, carried_outcomes, same_back, same_on}
+
+-- ---- carried
+
+pub carries_to_renumbered : (g : Game) (r : Renumbering) → IsGame g → IsRenumbering g r
+    → Carries r g (renumbered r g)
+carries_to_renumbered g r game h = record {
+  renumbering = h;
+  title = refl;
+  comment = refl;
+  players = refl;
+  tree = refl;
+  sets = λ key i. sym (set_at_image g r game h key (has (used_sets g.tree) key i));
+  outcomes =
+      λ number i. sym (outcome_at_image g r game h number (has (used_outcomes g.tree) number i));
+}
+
+-- a game is carried to the one by these new numbers, and to no other
+pub carried_is_renumbered : (r : Renumbering) (g h : Game) → IsGame g → IsGame h → Carries r g h
+    → renumbered r g ≡ h
+carried_is_renumbered r g h game game' c =
+    let sets =
+    carried_map
+    same_set
+    same_set_equality
+    (renumbered_set r)
+    (used_sets g.tree)
+    g.sets
+    h.sets
+    (sets_apart g r c.renumbering)
+    game.one_entry_each_set
+    (game'.one_entry_each_set ∙ ap (first_uses same_set) (carried_sets r g h c))
+    (λ k i. c.sets k (contains (used_sets g.tree) k i)) in
+    let outcomes =
+    carried_map
+    nat_eq
+    Decides-eqb
+    r.outcome
+    (used_outcomes g.tree)
+    g.outcomes
+    h.outcomes
+    (outcomes_apart g r c.renumbering)
+    game.one_entry_each_outcome
+    (game'.one_entry_each_outcome ∙ ap (first_uses nat_eq) (carried_outcomes r g h c))
+    (λ k i. c.outcomes k (contains (used_outcomes g.tree) k i)) in
+    λ i. record {
+      title = c.title i;
+      comment = c.comment i;
+      players = c.players i;
+      tree = c.tree i;
+      sets = sets i;
+      outcomes = outcomes i;
+    }
+
+pub carried_by_new_numbers : (r : Renumbering) (g h : Game) → IsGame g → IsGame h
+    → Carries r g h ↔ (IsRenumbering g r × (renumbered r g ≡ h))
+carried_by_new_numbers r g h game game' = (
+  λ c. (c.renumbering, carried_is_renumbered r g h game game' c),
+  λ k. subst (Carries r g) k.1 (carries_to_renumbered g r game k.0),
+)
+
+-- ---- the same place in order of first use
+
+pub set_numbers_carried : (r : Renumbering) (g h : Game) → IsGame g → IsGame h → Carries r g h
+    → (player : ℕ) → map (λ key. key.number) (player_keys h player)
+    ≡ map (λ key. r.set player key.number) (player_keys g player)
+set_numbers_carried r g h game game' c player =
+    ap (λ x. map (λ key. key.number) (player_keys x player))
+    (sym (carried_is_renumbered r g h game game' c))
+    ∙ ap (λ ss. map (λ key. key.number) (map (λ s. s.key) ss))
+    (filter_of_map mine mine moved g.sets (λ s i. refl))
+    ∙ map_twice (λ (key : SetKey). key.number) (λ s. s.key) (map moved own)
+    ∙ map_twice (λ s. s.key.number) moved own
+    ∙ map_same (λ s. r.set s.key.player s.key.number) (λ s. r.set player s.key.number) own
+    (λ s i. ap (λ p. r.set p s.key.number)
+    (eqb-true s.key.player player (of_filter mine g.sets s i).1))
+    ∙ sym (map_twice (λ (key : SetKey). r.set player key.number) (λ s. s.key) own)
+  where
+    mine : Described SetKey InformationSet → Bool
+    mine s = nat_eq s.key.player player
+
+    moved : Described SetKey InformationSet → Described SetKey InformationSet
+    moved s = record { key = renumbered_set r s.key; description = s.description }
+
+    own : List (Described SetKey InformationSet)
+    own = filter mine g.sets
+
+pub outcome_numbers_carried : (r : Renumbering) (g h : Game) → IsGame g → IsGame h → Carries r g h
+    → outcome_numbers h ≡ map r.outcome (outcome_numbers g)
+outcome_numbers_carried r g h game game' c =
+    ap outcome_numbers (sym (carried_is_renumbered r g h game game' c))
+    ∙ map_twice (λ o. o.key) moved g.outcomes
+    ∙ sym (map_twice r.outcome (λ o. o.key) g.outcomes)
+  where
+    moved : Described ℕ Outcome → Described ℕ Outcome
+    moved o = record { key = r.outcome o.key; description = o.description }
+
+-- ---- first-use numbers
+
+pub set_number_kept : (r : Renumbering) (g h : Game) → Carries r g h → (player number : ℕ)
+    → HasSet g player number
+    → (first_use_numbers h).set player (r.set player number)
+    ≡ (first_use_numbers g).set player number
+set_number_kept r g h c player number i =
+    let key = set_of player number in
+    let own = sets_of player (used_sets g.tree) in
+    let mine = λ (k : SetKey). nat_eq k.player player in
+    let carried : sets_of player (used_sets h.tree) ≡ map (renumbered_set r) own =
+    ap (sets_of player) (carried_sets r g h c)
+    ∙ filter_of_map mine mine (renumbered_set r) (used_sets g.tree) (λ k j. refl) in
+    ap (λ ks. first_use_number same_set ks (renumbered_set r key)) carried
+    ∙ number_kept
+    same_set
+    same_set
+    same_set_equality
+    same_set_equality
+    (renumbered_set r)
+    own
+    key
+    (λ a b j k e. sets_apart g r c.renumbering a b (of_filter mine (used_sets g.tree) a j).0
+    (of_filter mine (used_sets g.tree) b k).0 e)
+    (own_set g key (has (used_sets g.tree) key i))
+
+pub outcome_number_kept : (r : Renumbering) (g h : Game)
+    → Carries r g h → (number : ℕ) → HasOutcome g number
+    → (first_use_numbers h).outcome (r.outcome number) ≡ (first_use_numbers g).outcome number
+outcome_number_kept r g h c number i =
+    ap (λ ks. first_use_number nat_eq ks (r.outcome number)) (carried_outcomes r g h c)
+    ∙ number_kept nat_eq nat_eq Decides-eqb Decides-eqb r.outcome (used_outcomes g.tree) number
+    (outcomes_apart g r c.renumbering) (has (used_outcomes g.tree) number i)
+
+-- ---- the canonical game
+
+pub canonical_is_game : (g : Game) → IsGame g → IsGame (canonical_game g)
+canonical_is_game g game =
+    renumbered_is_game g (first_use_numbers g) game (first_use_is_renumbering g)
+
+pub carries_to_canonical : (g : Game) → IsGame g
+    → Carries (first_use_numbers g) g (canonical_game g)
+carries_to_canonical g game =
+    carries_to_renumbered g (first_use_numbers g) game (first_use_is_renumbering g)
+
+pub canonical_is_same : (g : Game) → IsGame g → SameGame g (canonical_game g)
+canonical_is_same g game = (first_use_numbers g, carries_to_canonical g game)
+
+pub same_canonical : (g h : Game) → IsGame g → IsGame h → SameGame g h
+    → canonical_game g ≡ canonical_game h
+same_canonical g h game game' (r, c) =
+    sym (
+    ap canonical_game (sym (carried_is_renumbered r g h game game' c))
+    ∙ ap (λ s. renumbered s (renumbered r g))
+    (ap first_use_numbers (carried_is_renumbered r g h game game' c))
+    ∙ composed_games r (first_use_numbers h) g
+    ∙ agreed_games (composed r (first_use_numbers h)) (first_use_numbers g) g game agree
+    )
+  where
+    agree : Agree (composed r (first_use_numbers h)) (first_use_numbers g) g.tree
+    agree = record {
+      sets = λ key i. let e =
+          set_number_kept r g h c key.player key.number (contains (used_sets g.tree) key i) in
+          λ j. record { player = key.player; number = e j };
+      outcomes =
+          λ number i. outcome_number_kept r g h c number (contains (used_outcomes g.tree) number i);
+    }
+
+pub same_by_canonical : (g h : Game) → IsGame g → IsGame h
+    → SameGame g h ↔ (canonical_game g ≡ canonical_game h)
+same_by_canonical g h game game' = (
+  same_canonical g h game game',
+  λ e. same_on g (canonical_game h) h (subst (SameGame g) e (canonical_is_same g game))
+      (same_back h (canonical_game h) game' (canonical_is_same h game')),
+)
+
+pub canonical_twice : (g : Game) → IsGame g → canonical_game (canonical_game g) ≡ canonical_game g
+canonical_twice g game = sym
+    (same_canonical g (canonical_game g) game (canonical_is_game g game) (canonical_is_same g game))

@@ -1,0 +1,165 @@
+-- Numbers that are listed in the order of first use are new numbers.
+use Rattle.std.proofs.Common.{◌≡◌, ℕ, zero, suc, ◌<◌, ◌≤◌, Bool, true, false}
+use Rattle.std.proofs.Common.{cond, List, [], ◌∷◌, length, get_or, slice_get}
+use Rattle.std.proofs.Common.{Some, inl, inr, refl, sym, ap, subst, ◌∙◌, arith}
+use Rattle.std.specs.Prelude.{nat_eq}
+use Rattle.std.specs.List.{AllByRecursion}
+use Rattle.std.proofs.lemmas.Bool.{both_ways, false_from_ne_true}
+use Rattle.std.proofs.lemmas.Bool.Decides.{Decides-eqb}
+use Rattle.gf_tree.specs.Description.{SetKey, InformationSet, same_set, set_of, IsSet}
+use Rattle.gf_tree.specs.FiniteMap.{Described}
+use Rattle.gf_tree.specs.FirstUse.{outcome_numbers, player_keys, sets_of}
+use Rattle.gf_tree.specs.Game.{Game, IsGame, used_sets, used_outcomes}
+use Rattle.gf_tree.specs.Renumbering.{IsRenumbering, HasSet}
+use Rattle.gf_tree.specs.Listed.{AreListed, AreNumbers, listed_numbers, number_listed}
+use Rattle.gf_tree.proofs.lemmas.games.Carried.{in_keys}
+use Rattle.gf_tree.proofs.lemmas.games.FirstUses.{AreDistinct, is_used}
+use Rattle.gf_tree.proofs.lemmas.games.PlayerSets.{sets_by_first_use}
+use Rattle.gf_tree.proofs.lemmas.games.Renumbered.{own_set}
+use Rattle.gf_tree.proofs.lemmas.games.TreesOnce.{same_set_equality}
+use Rattle.gf_tree.proofs.lemmas.games.Uses.{Has, IsEquality, contains, each, has, mapped_from}
+
+-- ---- lists of numbers
+
+pub distinct : (ns : List ℕ) → AreNumbers ns → AreDistinct ns
+distinct [] h = tt
+distinct (n ∷ ns) h = (λ m. h.1 (contains ns n m), distinct ns h.2)
+
+positive : (ns : List ℕ) (n : ℕ) → AreNumbers ns → Has ns n → 0 < n
+positive [] n h i = absurd i
+positive (m ∷ ns) n h (inl e) = subst (λ k. 0 < k) e h.0
+positive (m ∷ ns) n h (inr i) = positive ns n h.2 i
+
+-- ---- the number at the place of a key
+
+module _ {K : Type 0} (same : K → K → Bool) (tells : IsEquality same) where
+  later : (k : K) (ks : List K) (key : K) → Has (k ∷ ks) key → same k key ≡ false → Has ks key
+  later k ks key (inl p) q = absurd (both_ways (same k key) q ((tells k key).1 p))
+  later k ks key (inr m) q = m
+
+  has_by : (k : K) (ks : List K) (n : ℕ) (ns : List ℕ) (key : K) → Has (k ∷ ks) key
+      → (Has ks key → Has ns (number_listed same ks ns key)) → (b : Bool) → same k key ≡ b
+      → Has (n ∷ ns) (number_listed same (k ∷ ks) (n ∷ ns) key)
+  has_by k ks n ns key i more true q = rw q (inl refl)
+  has_by k ks n ns key i more false q = rw q (inr (more (later k ks key i q)))
+
+  pub has_number : (ks : List K) (ns : List ℕ) (key : K) → length ns ≡ length ks → Has ks key
+      → Has ns (number_listed same ks ns key)
+  has_number [] ns key e i = absurd i
+  has_number (k ∷ ks) [] key e i = absurd (omega (arith, e))
+  has_number (k ∷ ks) (n ∷ ns) key e i =
+      has_by k ks n ns key i (λ m. has_number ks ns key (omega (arith, e)) m) (same k key) refl
+
+  apart_by : (k : K) (ks : List K) (n : ℕ) (ns : List ℕ) (a b : K) → length ns ≡ length ks
+      → AreDistinct (n ∷ ns) → Has (k ∷ ks) a → Has (k ∷ ks) b
+      → (Has ks a → Has ks b → number_listed same ks ns a ≡ number_listed same ks ns b → a ≡ b)
+      → (x : Bool) → same k a ≡ x → (y : Bool) → same k b ≡ y
+      → cond x n (number_listed same ks ns a) ≡ cond y n (number_listed same ks ns b) → a ≡ b
+  apart_by k ks n ns a b e d i j more true p true q h = sym ((tells k a).0 p) ∙ (tells k b).0 q
+  apart_by k ks n ns a b e d i j more true p false q h =
+      absurd (d.0 (subst (Has ns) (sym h) (has_number ks ns b e (later k ks b j q))))
+  apart_by k ks n ns a b e d i j more false p true q h =
+      absurd (d.0 (subst (Has ns) h (has_number ks ns a e (later k ks a i p))))
+  apart_by k ks n ns a b e d i j more false p false q h =
+      more (later k ks a i p) (later k ks b j q) h
+
+  pub numbers_apart : (ks : List K) (ns : List ℕ) (a b : K) → length ns ≡ length ks
+      → AreDistinct ns → Has ks a → Has ks b
+      → number_listed same ks ns a ≡ number_listed same ks ns b
+      → a ≡ b
+  numbers_apart [] ns a b e d i j h = absurd i
+  numbers_apart (k ∷ ks) [] a b e d i j h = absurd (omega (arith, e))
+  numbers_apart (k ∷ ks) (n ∷ ns) a b e d i j h =
+      apart_by k ks n ns a b (omega (arith, e)) d i j
+      (numbers_apart ks ns a b (omega (arith, e)) d.1) (same k a) refl (same k b) refl h
+
+  has_place : (ks : List K) (place : ℕ) (key : K) → slice_get ks place ≡ Some key → Has ks key
+  has_place [] zero key h = absurd cc
+  has_place [] (suc place) key h = absurd cc
+  has_place (k ∷ ks) zero key h = inl cc
+  has_place (k ∷ ks) (suc place) key h = inr (has_place ks place key h)
+
+  -- it stands at the key's place
+  pub number_there : (ks : List K) (ns : List ℕ) (place : ℕ) (key : K) → length ns ≡ length ks
+      → AreDistinct ks → slice_get ks place ≡ Some key
+      → slice_get ns place ≡ Some (number_listed same ks ns key)
+  number_there [] ns zero key e d h = absurd cc
+  number_there [] ns (suc place) key e d h = absurd cc
+  number_there (k ∷ ks) [] place key e d h = absurd (omega (arith, e))
+  number_there (k ∷ ks) (n ∷ ns) zero key e d h =
+      let first : k ≡ key = cc in
+      rw ((tells k key).1 first) refl
+  number_there (k ∷ ks) (n ∷ ns) (suc place) key e d h =
+      let other : same k key ≡ false = false_from_ne_true (same k key)
+      (λ t. d.0 (subst (Has ks) (sym ((tells k key).0 t)) (has_place ks place key h))) in
+      rw other (number_there ks ns place key (omega (arith, e)) d.1 h)
+
+-- ---- the numbers of a game
+
+all_at : {X : Type 0} (P : X → Type 0) (xs : List X) (k : ℕ) (d : X) → AllByRecursion P xs
+    → k < length xs → P (get_or xs k d)
+all_at P [] k d h i = absurd (omega (arith, i))
+all_at P (x ∷ xs) zero d h i = h.0
+all_at P (x ∷ xs) (suc k) d h i = all_at P xs k d h.1 (omega (arith, i))
+
+module _ (g : Game) (game : IsGame g) (sets : List (List ℕ)) (outcomes : List ℕ)
+    (listed : AreListed g sets outcomes) where
+  pub own_key : (key : SetKey) → Has (used_sets g.tree) key → Has (player_keys g key.player) key
+  own_key key i =
+      subst (λ ks. Has ks key) (sym (sets_by_first_use g key.player game))
+      (is_used same_set same_set_equality (sets_of key.player (used_sets g.tree)) key
+      (own_set g key i))
+
+  pub some_player : (key : SetKey) → Has (used_sets g.tree) key → key.player ≤ length g.players
+  some_player key i =
+      let k =
+      in_keys same_set same_set_equality (used_sets g.tree) g.sets key game.one_entry_each_set i in
+      let s = mapped_from (λ (s : Described SetKey InformationSet). s.key) g.sets key k in
+      let is =
+      each (λ (s : Described SetKey InformationSet). IsSet (length g.players) s.key s.description)
+      g.sets s.0 game.each_set s.1 in
+      omega (arith, is.player, ap (λ (k : SetKey). k.player) s.2)
+
+  own_numbers : (key : SetKey) → Has (used_sets g.tree) key → AreNumbers (get_or sets key.player [])
+  own_numbers key i =
+      all_at AreNumbers sets key.player [] listed.set_numbers
+      (omega (arith, listed.one_list_each, some_player key i))
+
+  pub as_long : (key : SetKey) → Has (used_sets g.tree) key
+      → length (get_or sets key.player []) ≡ length (player_keys g key.player)
+  as_long key i = listed.each_set key.player (some_player key i)
+
+  own_outcome : (number : ℕ) → Has (used_outcomes g.tree) number → Has (outcome_numbers g) number
+  own_outcome number i = in_keys nat_eq Decides-eqb (used_outcomes g.tree) g.outcomes number
+      game.one_entry_each_outcome i
+
+  used : (player number : ℕ) → HasSet g player number
+      → Has (used_sets g.tree) (set_of player number)
+  used player number h = has (used_sets g.tree) (set_of player number) h
+
+  pub listed_is_renumbering : IsRenumbering g (listed_numbers g sets outcomes)
+  listed_is_renumbering = record {
+    positive_sets = λ player number h.
+        let i = used player number h in
+        positive (get_or sets player []) _ (own_numbers (set_of player number) i)
+        (has_number same_set same_set_equality (player_keys g player) (get_or sets player [])
+        (set_of player number)
+        (as_long (set_of player number) i) (own_key (set_of player number) i));
+    positive_outcomes = λ number h.
+        positive outcomes _ listed.outcome_numbers
+        (has_number nat_eq Decides-eqb (outcome_numbers g) outcomes number listed.each_outcome
+        (own_outcome number (has (used_outcomes g.tree) number h)));
+    sets_apart = λ player a b h k e.
+        let i = used player a h in
+        let j = used player b k in
+        ap (λ (key : SetKey). key.number)
+        (numbers_apart same_set same_set_equality (player_keys g player) (get_or sets player [])
+        (set_of player a) (set_of player b)
+        (as_long (set_of player a) i)
+        (distinct (get_or sets player []) (own_numbers (set_of player a) i))
+        (own_key (set_of player a) i) (own_key (set_of player b) j) e);
+    outcomes_apart = λ a b h k e.
+        numbers_apart nat_eq Decides-eqb (outcome_numbers g) outcomes a b listed.each_outcome
+        (distinct outcomes listed.outcome_numbers) (own_outcome a (has (used_outcomes g.tree) a h))
+        (own_outcome b (has (used_outcomes g.tree) b k)) e;
+  }

@@ -1,0 +1,82 @@
+-- Finite maps by their look-ups.
+use Rattle.std.proofs.Common.{ap, subst, ◌≡◌, Bool, true, false, cond, List, []}
+use Rattle.std.proofs.Common.{◌∷◌, map, Option, Some, refl, sym, ◌∙◌, inl, inr}
+use Rattle.std.specs.Prelude.{option_map}
+use Rattle.std.specs.List.{find}
+use Rattle.std.proofs.lemmas.Bool.{false_from_ne_true}
+use Rattle.gf_tree.specs.FiniteMap.{Described, description_at}
+use Rattle.gf_tree.proofs.lemmas.games.FirstUses.{AreDistinct}
+use Rattle.gf_tree.proofs.lemmas.games.Uses.{Has, IsEquality, has_map}
+
+abbrev pub keys : {K D : Type 0} → List (Described K D) → List K
+keys es = map (λ e. e.key) es
+
+-- the same descriptions at the images of the keys
+abbrev pub at_images : {K L D : Type 0} → (K → L) → List (Described K D) → List (Described L D)
+at_images f es = map (λ e. record { key = f e.key; description = e.description }) es
+
+either : {K L D : Type 0} (b : Bool) (k : K) (l : L) (d : D)
+    (x : Option (Described K D)) (y : Option (Described L D))
+    → option_map (λ e. e.description) y ≡ option_map (λ e. e.description) x
+    → option_map (λ e. e.description) (cond b (Some (record { key = l; description = d })) y)
+    ≡ option_map (λ e. e.description) (cond b (Some (record { key = k; description = d })) x)
+either true k l d x y h = refl
+either false k l d x y h = h
+
+pub lookup_image : {K L D : Type 0} (same : K → K → Bool)
+    (same' : L → L → Bool) (f : K → L) (es : List (Described K D)) (key : K)
+    → ((k : K) → Has (keys es) k → same' (f k) (f key) ≡ same k key)
+    → description_at same' (at_images f es) (f key) ≡ description_at same es key
+lookup_image same same' f [] key h = refl
+lookup_image same same' f (e ∷ es) key h =
+    rw (h e.key (inl refl)) (either (same e.key key) e.key (f e.key) e.description
+    (find (λ d. same d.key key) es) (find (λ d. same' d.key (f key)) (at_images f es))
+    (lookup_image same same' f es key (λ k i. h k (inr i))))
+
+-- if each key occurs once, a map is determined by its keys and by what it gives at each of them
+pub same_map : {K D : Type 0} (same : K → K → Bool)
+    → IsEquality same → (es fs : List (Described K D)) → keys es ≡ keys fs → AreDistinct (keys es)
+    → ((k : K) → Has (keys es) k → description_at same es k ≡ description_at same fs k) → es ≡ fs
+same_map same tells [] [] q d h = refl
+same_map same tells [] (f ∷ fs) q d h = absurd cc
+same_map same tells (e ∷ es) [] q d h = absurd cc
+same_map {K} {D} same tells (e ∷ es) (f ∷ fs) q d h =
+    let others = same_map same tells es fs rest d.1
+    (λ k i. sym (there e es k (λ p. d.0 (subst (Has (keys es)) (sym p) i)))
+    ∙ h k (inr i)
+    ∙ there f fs k (λ p. d.0 (subst (Has (keys es)) (sym (first ∙ p)) i))) in
+    λ i. record { key = first i; description = described i } ∷ others i
+  where
+    first : e.key ≡ f.key
+    first = cc
+
+    rest : keys es ≡ keys fs
+    rest = cc
+
+    here : (g : Described K D) (gs : List (Described K D)) (k : K) → g.key ≡ k
+        → description_at same (g ∷ gs) k ≡ Some g.description
+    here g gs k p = rw ((tells g.key k).1 p) refl
+
+    there : (g : Described K D) (gs : List (Described K D)) (k : K) → ¬ (g.key ≡ k)
+        → description_at same (g ∷ gs) k ≡ description_at same gs k
+    there g gs k p = rw (false_from_ne_true (same g.key k) (λ t. p ((tells g.key k).0 t))) refl
+
+    some : Some e.description ≡ Some f.description
+    some = sym (here e es e.key refl) ∙ h e.key (inl refl) ∙ here f fs e.key (sym first)
+
+    described : e.description ≡ f.description
+    described = let both : Some e.description ≡ Some f.description = some in cc
+
+-- an entry is the description at its key
+pub entry_at : {K D : Type 0} (same : K → K → Bool) → IsEquality same
+    → (es : List (Described K D)) (e : Described K D) → AreDistinct (keys es) → Has es e
+    → description_at same es e.key ≡ Some e.description
+entry_at same tells [] e d h = absurd h
+entry_at same tells (f ∷ es) e d (inl q) =
+    rw ((tells f.key e.key).1 (ap (λ (x : Described _ _). x.key) q))
+    (ap (λ (x : Described _ _). Some x.description) q)
+entry_at same tells (f ∷ es) e d (inr h) =
+    let other : same f.key e.key ≡ false =
+    false_from_ne_true (same f.key e.key) (λ t. d.0 (subst (Has (keys es))
+    (sym ((tells f.key e.key).0 t)) (has_map (λ (x : Described _ _). x.key) es e h))) in
+    rw other (entry_at same tells es e d.1 h)

@@ -1,0 +1,116 @@
+-- Games that are made from others by new numbers.
+use Rattle.std.proofs.Common.{◌≡◌, ℕ, ◌<◌, ◌^◌, List, [], ◌∷◌}
+use Rattle.std.proofs.Common.{length, map, sym, ap, subst, ◌∙◌}
+use Rattle.std.specs.List.{AllByRecursion}
+use Rattle.std.proofs.lemmas.List.{length-map}
+use Rattle.gf_token.specs.LabelSpelling.{IsLabel}
+use Rattle.gf_tree.specs.PrefixOrder.{Entry, flatten}
+use Rattle.gf_tree.specs.Description.{SetKey, InformationSet, Outcome}
+use Rattle.gf_tree.specs.FiniteMap.{Described}
+use Rattle.gf_tree.specs.Game.{Node, Game, IsGame}
+use Rattle.gf_tree.specs.inner.GameParts.{AreNodes, IsHeld, game_with}
+use Rattle.gf_tree.specs.KeptNodes.{entries_with, kept_of, tree_with}
+use Rattle.gf_tree.specs.Listed.{AreListed}
+use Rattle.gf_tree.specs.Renumbering.{Renumbering, IsRenumbering, renumbered, renumbered_node}
+use Rattle.gf_tree.specs.Spellable.{IsSpellable, IsSpellableOutcome, IsSpellableSet}
+use Rattle.gf_tree.specs.Subtrees.{subtree_sizes}
+use Rattle.gf_tree.specs.declared.game.kept.Stored.{Stored}
+use Rattle.gf_tree.proofs.lemmas.games.Consistent.{map_entry, flatten_map}
+use Rattle.gf_tree.proofs.lemmas.games.Renumbered.{renumbered_is_game}
+use Rattle.gf_tree.proofs.lemmas.stores.RenumberedKept.{entries_mapped, fills_mapped, game_mapped}
+use Rattle.gf_tree.proofs.lemmas.stores.RenumberedKept.{outcome_image, set_image, sizes_mapped}
+use Rattle.gf_tree.proofs.lemmas.stores.RenumberedKept.{tree_mapped}
+
+pub its_game : (inside value : Game) → IsGame inside → inside ≡ value → IsGame value
+its_game inside value h e = subst IsGame e h
+
+pub listed_outcomes_counted : (g : Game) (sets : List (List ℕ)) (outcomes : List ℕ)
+    → AreListed g sets outcomes → length outcomes ≡ length g.outcomes
+listed_outcomes_counted g sets outcomes h =
+    h.each_outcome ∙ length-map g.outcomes (λ (o : Described ℕ Outcome). o.key)
+
+-- ---- a file can hold it
+
+names_kept : {N M : Type 0} (P : N → Type 0) (Q : M → Type 0) (f : N → M)
+    → ((n : N) → P n → Q (f n)) → (es : List (Entry N))
+    → AllByRecursion (λ e. P e.node) es → AllByRecursion (λ e. Q e.node) (map (map_entry f) es)
+names_kept P Q f keeps [] h = tt
+names_kept P Q f keeps (e ∷ es) h = (keeps e.node h.0, names_kept P Q f keeps es h.1)
+
+sets_spelled : (r : Renumbering) (sets : List (Described SetKey InformationSet))
+    → AllByRecursion IsSpellableSet sets
+    → AllByRecursion (λ s. s.key.number < 2 ^ 32) (map (set_image r) sets)
+    → AllByRecursion IsSpellableSet (map (set_image r) sets)
+sets_spelled r [] h small = tt
+sets_spelled r (s ∷ sets) h small = (
+  record { player = h.0.player; number = small.0; name = h.0.name; actions = h.0.actions },
+  sets_spelled r sets h.1 small.1,
+)
+
+outcomes_spelled : (r : Renumbering) (outcomes : List (Described ℕ Outcome))
+    → AllByRecursion IsSpellableOutcome outcomes
+    → AllByRecursion (λ o. o.key < 2 ^ 32) (map (outcome_image r) outcomes)
+    → AllByRecursion IsSpellableOutcome (map (outcome_image r) outcomes)
+outcomes_spelled r [] h small = tt
+outcomes_spelled r (o ∷ outcomes) h small = (
+  record { number = small.0; name = h.0.name; payoffs = h.0.payoffs },
+  outcomes_spelled r outcomes h.1 small.1,
+)
+
+renumbered_spelled : (r : Renumbering) (g : Game) → IsSpellable g
+    → AllByRecursion (λ s. s.key.number < 2 ^ 32) (renumbered r g).sets
+    → AllByRecursion (λ o. o.key < 2 ^ 32) (renumbered r g).outcomes → IsSpellable (renumbered r g)
+renumbered_spelled r g h sets outcomes = record {
+  title = h.title;
+  comment = h.comment;
+  players = h.players;
+  nodes =
+      subst (AllByRecursion (λ (e : Entry Node). IsLabel e.node.name))
+      (sym (flatten_map (renumbered_node r) g.tree))
+      (names_kept (λ n. IsLabel n.name) (λ n. IsLabel n.name) (renumbered_node r) (λ n k. k)
+      (flatten g.tree) h.nodes);
+  sets = sets_spelled r g.sets h.sets sets;
+  outcomes = outcomes_spelled r g.outcomes h.outcomes outcomes;
+}
+
+-- ---- it is held as it was
+
+module _ (title comment : List ℕ) (players : List (List ℕ))
+    (sets : List (Described SetKey InformationSet)) (outcomes : List (Described ℕ Outcome))
+    (nodes : List Stored)
+    (r : Renumbering) (held : IsHeld title comment players sets outcomes nodes) where
+  abbrev sets' : List (Described SetKey InformationSet)
+  sets' = map (set_image r) sets
+
+  abbrev outcomes' : List (Described ℕ Outcome)
+  outcomes' = map (outcome_image r) outcomes
+
+  nodes_held : AreNodes sets' outcomes' nodes
+  nodes_held =
+      let sets_counted : length sets' ≡ length sets = length-map sets (set_image r) in
+      let outcomes_counted : length outcomes' ≡ length outcomes =
+      length-map outcomes (outcome_image r) in
+      record {
+        placed = rw (sets_counted, outcomes_counted) held.nodes_are.placed;
+        fills = rw (entries_mapped r sets outcomes (map kept_of nodes))
+            (fills_mapped (renumbered_node r) 1 (entries_with sets outcomes (map kept_of nodes))
+            held.nodes_are.fills);
+        sizes = held.nodes_are.sizes
+            ∙ sym (sizes_mapped (renumbered_node r) (tree_with sets outcomes (map kept_of nodes)))
+            ∙ ap subtree_sizes (sym (tree_mapped r sets outcomes (map kept_of nodes)));
+      }
+
+  pub renumbered_held :
+      IsRenumbering (game_with title comment players sets outcomes (map kept_of nodes)) r
+      → AllByRecursion (λ s. s.key.number < 2 ^ 32) sets'
+      → AllByRecursion (λ o. o.key < 2 ^ 32) outcomes'
+      → IsHeld title comment players sets' outcomes' nodes
+  renumbered_held new small_sets small_outcomes =
+      let g = game_with title comment players sets outcomes (map kept_of nodes) in
+      let is = game_mapped r sets outcomes title comment players (map kept_of nodes) in
+      record {
+        nodes_are = nodes_held;
+        is_game = subst IsGame (sym is) (renumbered_is_game g r held.is_game new);
+        spellable = subst IsSpellable (sym is)
+            (renumbered_spelled r g held.spellable small_sets small_outcomes);
+      }

@@ -1,0 +1,66 @@
+-- Lists, element by element.
+use Rattle.std.proofs.Common.{◌≡◌, Bool, true, false, cond, List, []}
+use Rattle.std.proofs.Common.{◌∷◌, ◌++◌, map, refl, sym, ap, inl, inr}
+use Rattle.std.proofs.lemmas.List.Elements.{filter-append}
+use Rattle.std.specs.List.{filter}
+use Rattle.gf_tree.proofs.lemmas.games.Uses.{Has}
+
+pub map_same : {X Y : Type 0} (f g : X → Y) (xs : List X) → ((x : X) → Has xs x → f x ≡ g x)
+    → map f xs ≡ map g xs
+map_same f g [] h = refl
+map_same f g (x ∷ xs) h = λ i. h x (inl refl) i ∷ map_same f g xs (λ y k. h y (inr k)) i
+
+pub map_twice : {X Y Z : Type 0} (f : Y → Z) (g : X → Y) (xs : List X)
+    → map f (map g xs) ≡ map (λ x. f (g x)) xs
+map_twice f g [] = refl
+map_twice f g (x ∷ xs) = ap (λ ys. f (g x) ∷ ys) (map_twice f g xs)
+
+-- what is in one of two lists is in both together
+pub in_left : {X : Type 0} (xs ys : List X) (x : X) → Has xs x → Has (xs ++ ys) x
+in_left [] ys x h = absurd h
+in_left (y ∷ xs) ys x (inl e) = inl e
+in_left (y ∷ xs) ys x (inr h) = inr (in_left xs ys x h)
+
+pub in_right : {X : Type 0} (xs ys : List X) (x : X) → Has ys x → Has (xs ++ ys) x
+in_right [] ys x h = h
+in_right (y ∷ xs) ys x h = inr (in_right xs ys x h)
+
+-- ---- filters
+
+-- a filter of images is the images of a filter
+pub filter_of_map : {X Y : Type 0} (p : Y → Bool) (q : X → Bool) (f : X → Y) (xs : List X)
+    → ((x : X) → Has xs x → p (f x) ≡ q x) → filter p (map f xs) ≡ map f (filter q xs)
+filter_of_map p q f [] h = refl
+filter_of_map p q f (x ∷ xs) h = rw (h x (inl refl), filter_of_map p q f xs (λ y k. h y (inr k)))
+    (sym (map_cond (q x) f x (filter q xs)))
+  where
+    map_cond : {X Y : Type 0} (b : Bool) (f : X → Y) (x : X) (xs : List X)
+        → map f (cond b (x ∷ xs) xs) ≡ cond b (f x ∷ map f xs) (map f xs)
+    map_cond true f x xs = refl
+    map_cond false f x xs = refl
+
+-- the filter of these and of one that passes
+pub filter_last : {X : Type 0} (p : X → Bool) (xs : List X) (y : X) (ys : List X) → p y ≡ true
+    → filter p (xs ++ y ∷ ys) ≡ filter p xs ++ y ∷ filter p ys
+filter_last p xs y ys e = rw (filter-append, e) refl
+
+-- one filter and another, in any order
+pub filter_swap : {X : Type 0} (p q : X → Bool) (xs : List X)
+    → filter p (filter q xs) ≡ filter q (filter p xs)
+filter_swap p q [] = refl
+filter_swap p q (x ∷ xs) = by_tests (p x) (q x) refl refl (filter_swap p q xs)
+  where
+    by_tests : (a b : Bool) → p x ≡ a → q x ≡ b → filter p (filter q xs) ≡ filter q (filter p xs)
+        → filter p (cond b (x ∷ filter q xs) (filter q xs))
+        ≡ filter q (cond a (x ∷ filter p xs) (filter p xs))
+    by_tests true true e f h = rw (e, f) (ap (λ ys. x ∷ ys) h)
+    by_tests true false e f h = rw f h
+    by_tests false true e f h = rw e h
+    by_tests false false e f h = h
+
+-- a filter that all of them pass
+pub filter_all : {X : Type 0} (p : X → Bool) (xs : List X) → ((x : X) → Has xs x → p x ≡ true)
+    → filter p xs ≡ xs
+filter_all p [] h = refl
+filter_all p (x ∷ xs) h =
+    rw (h x (inl refl)) (ap (λ ys. x ∷ ys) (filter_all p xs (λ y i. h y (inr i))))

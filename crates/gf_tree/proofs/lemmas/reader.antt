@@ -1,0 +1,5 @@
+pub mod Games
+pub mod Steps
+pub mod Telling
+pub mod ToldGames
+pub mod ToldNodes

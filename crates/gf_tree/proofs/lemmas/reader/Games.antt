@@ -1,0 +1,204 @@
+-- The answer of the machine to the tokens of a file is what the file means: the one game that its
+-- bytes spell, or a refusal where one is due.
+use Rattle.std.proofs.Common.{◌≡◌, ℕ, List, [], ◌∷◌, ◌++◌, length, Result, Ok, Err}
+use Rattle.std.proofs.Common.{refl, sym, ap, subst, ◌∙◌}
+use Rattle.gf_token.specs.Token.{Token, Lexeme}
+use Rattle.gf_token.specs.TokenSpelling.{Spells}
+use Rattle.gf_token.specs.Place.{tokens_of, IsSpanOf}
+use Rattle.gf_token.specs.declared.fault.Fault.{Fault}
+use Rattle.gf_token.specs.declared.fault.Span.{Span}
+use Rattle.gf_token.specs.declared.fault.Why.{Why}
+use Rattle.gf_token.specs.declared.fault.Why.TheVariants.{TooLong, UnknownOutcome}
+use Rattle.gf_token.specs.declared.fault.Why.TheVariants.{TooManyProfiles, Memory}
+use Rattle.gf_token.proofs.Spelled.{same_tokens}
+use Rattle.gf_tree.specs.Description.{SetKey, InformationSet, Outcome}
+use Rattle.gf_tree.specs.FiniteMap.{Described}
+use Rattle.gf_tree.specs.Game.{Game, IsGame, Node}
+use Rattle.gf_tree.specs.GameOf.{SpellsGame}
+use Rattle.gf_tree.specs.inner.GameParts.{game_with}
+use Rattle.gf_tree.specs.Judgement.{IsJudged, IsRefusal}
+use Rattle.gf_tree.specs.KeptNodes.{Kept, entries_with}
+use Rattle.gf_tree.specs.inner.Machine.{Content, nothing, run}
+use Rattle.gf_tree.specs.inner.Machine.Position.{Format}
+use Rattle.gf_tree.specs.inner.Passed.{HasPassed}
+use Rattle.gf_tree.specs.PrefixOrder.{Entry, Fills}
+use Rattle.gf_tree.specs.inner.ReadGame.{game_of}
+use Rattle.gf_tree.specs.Reason.{IsReason}
+use Rattle.gf_tree.specs.inner.ReaderState.{Answer, Fails, HasPassedPlace, heard}
+use Rattle.gf_tree.specs.inner.ReaderState.Fails.{of_file, of_memory}
+use Rattle.gf_tree.specs.Spellable.{IsSpellable}
+use Rattle.gf_tree.proofs.lemmas.fronts.Judged.{refuses}
+use Rattle.gf_tree.proofs.lemmas.runs.Games.{file_found}
+use Rattle.gf_tree.proofs.lemmas.runs.Passed.{accepted}
+use Rattle.gf_tree.proofs.lemmas.runs.Stops.{machine_spells, run_reads}
+use Rattle.gf_tree.proofs.lemmas.games.Spelled.{spelled_is_spellable}
+
+-- ---- what is read
+
+pub read_spells : (bytes : List ℕ) (ls : List Lexeme) (c : Content) → Spells 0 bytes ls
+    → run (length bytes) Format nothing ls ≡ Ok c → SpellsGame bytes (game_of c)
+read_spells bytes ls c spelled e = (machine_spells bytes (game_of c)).1
+    (record { lexemes = ls; spelled = spelled; content = c; read = e; means = refl })
+
+pub read_fills : (bytes : List ℕ) (ls : List Lexeme) (c : Content)
+    → run (length bytes) Format nothing ls ≡ Ok c → Fills 1 c.nodes
+read_fills bytes ls c e =
+    (file_found (tokens_of ls) c ((run_reads (length bytes) Format nothing ls c).0 e)).fills
+
+pub read_is_game : (bytes : List ℕ) (ls : List Lexeme) (c : Content) → Spells 0 bytes ls
+    → run (length bytes) Format nothing ls ≡ Ok c → IsGame (game_of c)
+read_is_game bytes ls c spelled e =
+    (spelled_is_spellable bytes (game_of c) (read_spells bytes ls c spelled e)).0
+
+pub read_is_spellable : (bytes : List ℕ) (ls : List Lexeme) (c : Content) → Spells 0 bytes ls
+    → run (length bytes) Format nothing ls ≡ Ok c → IsSpellable (game_of c)
+read_is_spellable bytes ls c spelled e =
+    (spelled_is_spellable bytes (game_of c) (read_spells bytes ls c spelled e)).1
+
+-- ---- no other game is spelled
+
+abbrev ok_run : Content → Result Content Fault
+ok_run c = Ok c
+
+content_once : (o : Result Content Fault) (c d : Content) → o ≡ ok_run c → o ≡ ok_run d → c ≡ d
+content_once o c d e f = cc
+
+not_both : (o : Result Content Fault) (c : Content) (fault : Fault)
+    → o ≡ ok_run c → o ≡ Err fault → ⊥
+not_both o c fault e f = absurd cc
+
+-- the machine reads these tokens to each game that the bytes spell
+spelled_read : (bytes : List ℕ) (ls : List Lexeme) (g : Game)
+    → Spells 0 bytes ls → SpellsGame bytes g → (c : Content)
+    × (run (length bytes) Format nothing ls ≡ Ok c) × (game_of c ≡ g)
+spelled_read bytes ls g spelled h =
+    let k = (machine_spells bytes g).0 h in
+    let same : ls ≡ k.lexemes = same_tokens bytes ls k.lexemes spelled k.spelled in
+    (k.content, ap (run (length bytes) Format nothing) same ∙ k.read, k.means)
+
+pub read_only : (bytes : List ℕ) (ls : List Lexeme) (c : Content) (g : Game) → Spells 0 bytes ls
+    → run (length bytes) Format nothing ls ≡ Ok c → SpellsGame bytes g → game_of c ≡ g
+read_only bytes ls c g spelled e h =
+    let k = spelled_read bytes ls g spelled h in
+    ap game_of (content_once (run (length bytes) Format nothing ls) c k.0 e k.1) ∙ k.2
+
+pub refused_none : (bytes : List ℕ) (ls : List Lexeme) (fault : Fault) (g : Game)
+    → Spells 0 bytes ls → run (length bytes) Format nothing ls ≡ Err fault → ¬ (SpellsGame bytes g)
+refused_none bytes ls fault g spelled e = λ h.
+    let k = spelled_read bytes ls g spelled h in
+    not_both (run (length bytes) Format nothing ls) k.0 fault k.1 e
+
+-- ---- refusals
+
+-- a reason lies in the file
+abbrev LiesInFile : Why → Type 0
+LiesInFile Memory = ⊥
+LiesInFile TooLong = ⊥
+LiesInFile UnknownOutcome = ⊥
+LiesInFile TooManyProfiles = ⊥
+LiesInFile why = Unit {0}
+
+lies_in_file : (why : Why) (before after : List Token) → IsReason why before after → LiesInFile why
+lies_in_file Memory before [] h = h.0
+lies_in_file Memory before (t ∷ after) h = h.0
+lies_in_file TooLong before [] h = h.0
+lies_in_file TooLong before (t ∷ after) h = h.0
+lies_in_file UnknownOutcome before [] h = h.0
+lies_in_file UnknownOutcome before (t ∷ after) h = h.0
+lies_in_file TooManyProfiles before [] h = h.0
+lies_in_file TooManyProfiles before (t ∷ after) h = h.0
+lies_in_file _ before after h = tt
+
+refusal_lies : (why : Why) (bytes : List ℕ) (span : Span) → IsRefusal why bytes span
+    → LiesInFile why
+refusal_lies why bytes span h =
+    lies_in_file why (tokens_of h.place.before) (tokens_of h.place.after) h.reason
+
+judged_by : (why : Why) (bytes : List ℕ) (span : Span) → LiesInFile why
+    → IsRefusal why bytes span → IsJudged why bytes span
+judged_by Memory bytes span h refusal = absurd h
+judged_by TooLong bytes span h refusal = absurd h
+judged_by UnknownOutcome bytes span h refusal = absurd h
+judged_by TooManyProfiles bytes span h refusal = absurd h
+judged_by _ bytes span h refusal = refusal
+
+pub refused_judged : (bytes : List ℕ) (ls : List Lexeme) (fault : Fault) → Spells 0 bytes ls
+    → run (length bytes) Format nothing ls ≡ Err fault → IsJudged fault.why bytes fault.span
+refused_judged bytes ls fault spelled e =
+    let refusal = refuses bytes ls fault spelled e in
+    judged_by fault.why bytes fault.span (refusal_lies fault.why bytes fault.span refusal) refusal
+
+-- it never refuses for lack of memory
+pub not_memory : (bytes : List ℕ) (ls : List Lexeme) (fault : Fault) → Spells 0 bytes ls
+    → run (length bytes) Format nothing ls ≡ Err fault → ¬ (fault.why ≡ Memory)
+not_memory bytes ls fault spelled e = λ h.
+    subst LiesInFile h
+    (refusal_lies fault.why bytes fault.span (refuses bytes ls fault spelled e))
+
+-- if memory runs out at a place that it has passed
+pub memory_judged : (bytes : List ℕ) (before after : List Lexeme) (span : Span)
+    → Spells 0 bytes (before ++ after) → IsSpanOf after (length bytes) span
+    → HasPassed (run (length bytes) Format nothing (before ++ after)) span.start
+    → IsJudged Memory bytes span
+memory_judged bytes before after span spelled place h = accepted bytes before after span spelled
+    place h
+
+-- ---- the game of what was read, as it is kept
+
+pub game_is_with : (c : Content) (nodes : List Kept)
+    → c.nodes ≡ entries_with c.sets c.outcomes nodes
+    → game_of c ≡ game_with c.title c.comment c.players c.sets c.outcomes nodes
+game_is_with c nodes kept = ap (λ (es : List (Entry Node)). game_of (record c { nodes = es })) kept
+
+-- these parts make a game, which is the one that the bytes spell
+pub record IsWhole (bytes : List ℕ) (title comment : List ℕ) (players : List (List ℕ))
+    (sets : List (Described SetKey InformationSet)) (outcomes : List (Described ℕ Outcome))
+    (nodes : List Kept) : Type 0 where
+  pub fills : Fills 1 (entries_with sets outcomes nodes)
+  pub is_game : IsGame (game_with title comment players sets outcomes nodes)
+  pub spellable : IsSpellable (game_with title comment players sets outcomes nodes)
+  pub spelled : SpellsGame bytes (game_with title comment players sets outcomes nodes)
+  pub only : (g : Game) → SpellsGame bytes g
+      → game_with title comment players sets outcomes nodes ≡ g
+
+pub whole : (bytes : List ℕ) (ls : List Lexeme) (c : Content) (nodes : List Kept)
+    → Spells 0 bytes ls → run (length bytes) Format nothing ls ≡ Ok c
+    → c.nodes ≡ entries_with c.sets c.outcomes nodes
+    → IsWhole bytes c.title c.comment c.players c.sets c.outcomes nodes
+whole bytes ls c nodes spelled e kept =
+    let is = game_is_with c nodes kept in
+    record {
+      fills = subst (Fills 1) kept (read_fills bytes ls c e);
+      is_game = subst IsGame is (read_is_game bytes ls c spelled e);
+      spellable = subst IsSpellable is (read_is_spellable bytes ls c spelled e);
+      spelled = subst (SpellsGame bytes) is (read_spells bytes ls c spelled e);
+      only = λ g h. sym is ∙ read_only bytes ls c g spelled e h;
+    }
+
+-- ---- a fault, of memory or of the machine
+
+-- what the machine answers to all tokens of an input
+abbrev to_all : List ℕ → List Lexeme → Answer
+to_all bytes ls = heard Format nothing (record { input = bytes; ahead = ls })
+
+passed_judged : (bytes : List ℕ) (ls : List Lexeme) (span : Span) → Spells 0 bytes ls
+    → HasPassedPlace (to_all bytes ls) span → IsJudged Memory bytes span
+passed_judged bytes ls span spelled h =
+    let p = h.place in
+    let same : ls ≡ p.0 ++ p.1 = same_tokens bytes ls (p.0 ++ p.1) spelled p.2 in
+    memory_judged bytes p.0 p.1 span p.2 p.3
+    (subst (λ (x : List Lexeme). HasPassed (run (length bytes) Format nothing x) span.start) same
+    h.passed)
+
+pub answer_judged : (bytes : List ℕ) (ls : List Lexeme) (fault : Fault) → Spells 0 bytes ls
+    → Fails fault (to_all bytes ls) → IsJudged fault.why bytes fault.span
+answer_judged bytes ls fault spelled (of_file e) = refused_judged bytes ls fault spelled e
+answer_judged bytes ls fault spelled (of_memory is h) =
+    subst (λ why. IsJudged why bytes fault.span) (sym is)
+    (passed_judged bytes ls fault.span spelled h)
+
+pub answer_only : (bytes : List ℕ) (ls : List Lexeme) (fault : Fault) (g : Game)
+    → Spells 0 bytes ls → Fails fault (to_all bytes ls) → SpellsGame bytes g → fault.why ≡ Memory
+answer_only bytes ls fault g spelled (of_file e) spells =
+    absurd (refused_none bytes ls fault g spelled e spells)
+answer_only bytes ls fault g spelled (of_memory is h) spells = is

@@ -1,0 +1,423 @@
+-- What the reader keeps still stands for the same when more is known.
+use Rattle.std.proofs.Common.{◌≡◌, ◌<◌, ◌≤◌, ◌+◌, ℕ, zero, suc, Bool, true, false}
+use Rattle.std.proofs.Common.{List, [], ◌∷◌, ◌++◌, length, map, Option, Some, None}
+use Rattle.std.proofs.Common.{option_map, slice_get, refl, sym, ap, ◌∙◌, arith}
+use Rattle.std.specs.Prelude.{position, nat_eq, Result, Ok, Err, OnOk, IfErr, IfOk, IfNone}
+use Rattle.std.specs.Prelude.{MatchResult, ◌^◌, ◌==◌, if◌then◌else◌}
+use Rattle.std.proofs.Common.{subst}
+use Rattle.std.proofs.lemmas.List.{length-append, length-map}
+use Rattle.std.proofs.lemmas.List.Quantifiers.{position-Some}
+use Rattle.gf_tree.specs.KnownSets.{KnownSets}
+use Rattle.gf_tree.specs.inner.KnownOutcomes.{KnownOutcomes}
+use Rattle.gf_tree.specs.declared.reader.Reader.{Reader}
+use Rattle.std.specs.List.{find}
+use Rattle.std.proofs.lemmas.Option.{slice_get_within}
+use Rattle.std.proofs.lemmas.Bool.Decides.{Decides-eqb}
+use Rattle.std.proofs.lemmas.Iterator.Adapters.{position_from-zero}
+use Rattle.gf_fraction.specs.Ratio.{Ratio}
+use Rattle.gf_token.specs.Label.{label_of}
+use Rattle.gf_token.specs.Positions.{at_position}
+use Rattle.gf_tree.specs.Description.{Action, InformationSet, Outcome, SetKey, same_set, set_of}
+use Rattle.gf_tree.specs.FiniteMap.{Described, description_at}
+use Rattle.gf_tree.specs.Game.{Game}
+use Rattle.gf_tree.specs.Judgement.{IsReadAs}
+use Rattle.gf_tree.proofs.lemmas.runs.Passed.{passed_before}
+use Rattle.gf_token.specs.Remaining.{Remaining, StandsBefore}
+use Rattle.gf_token.specs.declared.fault.Span.{Span}
+use Rattle.gf_token.specs.declared.token.TextToken.{TextToken}
+use Rattle.gf_tree.specs.Description.{outcome_with, set_with}
+use Rattle.gf_tree.specs.KeptNodes.{ArePlaced, Kept}
+use Rattle.gf_tree.specs.KeptNodes.{actions_counted, entries_with}
+use Rattle.gf_tree.specs.inner.Machine.{Begun, Content, begun, behind_set, nothing, run, set_ends}
+use Rattle.gf_tree.specs.inner.Machine.{set_known, set_number, then_on, with_outcome, with_set}
+use Rattle.gf_tree.specs.inner.Machine.{Position, State, new_set_ends, with_action}
+use Rattle.gf_tree.specs.inner.Machine.Position.{Format, KnownSetName, NewAction}
+use Rattle.gf_tree.specs.inner.Machine.Position.{OutcomeNumber, SetNumber}
+use Rattle.gf_tree.specs.Actions.{actions_of}
+use Rattle.gf_tree.specs.declared.game.action.Action as held
+use Rattle.gf_token.specs.declared.fault.Fault.{Fault}
+use Rattle.gf_token.specs.declared.fault.Why.{Why}
+use Rattle.gf_tree.specs.inner.AddsUp.{adds_up}
+use Rattle.gf_token.specs.Indices.{count_of}
+use Rattle.gf_token.specs.Token.{Lexeme, lexeme}
+use Rattle.gf_token.specs.Token.Token.{Bare, Closing}
+use Rattle.gf_token.specs.declared.fault.Why.TheVariants.{Memory, SumBelowOne}
+use Rattle.gf_tree.specs.inner.FoundSet.{FoundOutcome, FoundSet}
+use Rattle.gf_tree.specs.inner.ReaderState.{Answer, Fails, Goes, Grows, answer}
+use Rattle.gf_tree.specs.inner.ReaderState.{begun_with}
+use Rattle.gf_tree.specs.inner.ReaderState.{behind_label, content_of, heard}
+use Rattle.gf_tree.specs.inner.ReaderState.Fails.{of_memory}
+use Rattle.gf_tree.proofs.lemmas.stores.FoundKeys.{described_at, found_from}
+use Rattle.gf_tree.proofs.lemmas.stores.FoundKeys.{set_in_parts}
+use Rattle.gf_tree.proofs.lemmas.games.TreesOnce.{same_set_equality}
+use Rattle.gf_tree.proofs.lemmas.games.Uses.{IsEquality}
+
+-- ---- lists that grow at the end
+
+pub get_before : {A : Type 0} (xs ys : List A) (k : ℕ) → k < length xs
+    → slice_get (xs ++ ys) k ≡ slice_get xs k
+get_before [] ys k h = absurd (omega (arith, h))
+get_before (x ∷ xs) ys zero h = refl
+get_before (x ∷ xs) ys (suc k) h = get_before xs ys k (omega (arith, h))
+
+pub get_next : {A : Type 0} (xs : List A) (x : A) → slice_get (xs ++ x ∷ []) (length xs) ≡ Some x
+get_next [] x = refl
+get_next (y ∷ xs) x = get_next xs x
+
+pub at_before : {A : Type 0} (xs ys : List A) (p : ℕ) → p ≤ length xs
+    → at_position (xs ++ ys) p ≡ at_position xs p
+at_before xs ys zero h = refl
+at_before xs ys (suc k) h = get_before xs ys k (omega (arith, h))
+
+-- ---- nodes when more is known
+
+pub sets_grow : (sets more : List (Described SetKey InformationSet))
+    (outcomes : List (Described ℕ Outcome)) (nodes : List Kept)
+    → ArePlaced (length sets) (length outcomes) nodes
+    → entries_with (sets ++ more) outcomes nodes ≡ entries_with sets outcomes nodes
+sets_grow sets more outcomes [] h = refl
+sets_grow sets more outcomes (n ∷ ns) h = λ i.
+    record {
+      node = record {
+        name = n.name;
+        set = option_map (λ s. s.key) (at_before sets more n.set h.0.set i);
+        outcome = option_map (λ o. o.key) (at_position outcomes n.outcome);
+      };
+      children = actions_counted (at_before sets more n.set h.0.set i);
+    } ∷ sets_grow sets more outcomes ns h.1 i
+
+pub outcomes_grow : (sets : List (Described SetKey InformationSet))
+    (outcomes more : List (Described ℕ Outcome)) (nodes : List Kept)
+    → ArePlaced (length sets) (length outcomes) nodes
+    → entries_with sets (outcomes ++ more) nodes ≡ entries_with sets outcomes nodes
+outcomes_grow sets outcomes more [] h = refl
+outcomes_grow sets outcomes more (n ∷ ns) h = λ i.
+    record {
+      node = record {
+        name = n.name;
+        set = option_map (λ s. s.key) (at_position sets n.set);
+        outcome = option_map (λ o. o.key) (at_before outcomes more n.outcome h.0.outcome i);
+      };
+      children = actions_counted (at_position sets n.set);
+    } ∷ outcomes_grow sets outcomes more ns h.1 i
+
+pub placed_among_more : (sets outcomes more_sets more_outcomes : ℕ) (nodes : List Kept)
+    → sets ≤ more_sets → outcomes ≤ more_outcomes
+    → ArePlaced sets outcomes nodes → ArePlaced more_sets more_outcomes nodes
+placed_among_more s o t p [] hs ho h = tt
+placed_among_more s o t p (n ∷ ns) hs ho h =
+    let set = h.0.set in
+    let outcome = h.0.outcome in (
+      record { set = omega (arith, set, hs); outcome = omega (arith, outcome, ho) },
+      placed_among_more s o t p ns hs ho h.1,
+    )
+
+pub placed_one_more : (sets outcomes : ℕ) (nodes : List Kept) (n : Kept)
+    → ArePlaced sets outcomes nodes → n.set ≤ sets → n.outcome ≤ outcomes
+    → ArePlaced sets outcomes (nodes ++ n ∷ [])
+placed_one_more s o [] n h set outcome = (record { set = set; outcome = outcome }, tt)
+placed_one_more s o (m ∷ ms) n h set outcome = (h.0, placed_one_more s o ms n h.1 set outcome)
+
+-- ---- the set of a node
+
+pub new_begun : (known : List (Described SetKey InformationSet))
+    (s : Described SetKey InformationSet) (node : List ℕ)
+    → begun_with (known ++ s ∷ []) node (suc (length known)) ≡ begun node s.key s.description
+new_begun known s node = λ i. record {
+  name = node;
+  set = option_map (λ x. x.key) (get_next known s i);
+  children = actions_counted (get_next known s i);
+}
+
+module _ {K D : Type 0} (same : K → K → Bool) (tells : IsEquality same) (key : K) where
+  found_more : (e : Described K D) (es : List (Described K D)) (s : Described K D)
+      → (find (λ e. same e.key key) es ≡ Some s → s.key ≡ key)
+      → (b : Bool) → same e.key key ≡ b → find (λ e. same e.key key) (e ∷ es) ≡ Some s → s.key ≡ key
+  found_more e es s later true is h =
+      let here : Some e ≡ Some s = rw is at h in
+      let one : e ≡ s = cc in
+      ap (λ x. x.key) (sym one) ∙ (tells e.key key).0 is
+  found_more e es s later false is h = later (rw is at h)
+
+  found_is : (es : List (Described K D)) (s : Described K D)
+      → find (λ e. same e.key key) es ≡ Some s → s.key ≡ key
+  found_is [] s h = absurd cc
+  found_is (e ∷ es) s h = found_more e es s (found_is es s) (same e.key key) refl h
+
+  -- the first place of a key has it
+  pub key_at : (es : List (Described K D)) (place : ℕ) (s : Described K D)
+      → position (same key) (map (λ e. e.key) es) ≡ Some place → slice_get es place ≡ Some s
+      → s.key ≡ key
+  key_at es place s h is =
+      let r = found_from same tells key es 0 place
+      (sym (position_from-zero (same key) (map (λ e. e.key) es)) ∙ h) in
+      let k : r.0 ≡ place = omega (arith, r.1) in
+      found_is es s (r.2 ∙ ap (slice_get es) k ∙ is)
+
+pub found_set : (known : List (Described SetKey InformationSet)) (key : SetKey) (place : ℕ)
+    (name : List ℕ) (actions : List Action)
+    → position (same_set key) (map (λ s. s.key) known) ≡ Some place
+    → option_map (λ s. s.description.name) (slice_get known place) ≡ Some name
+    → option_map (λ s. s.description.actions) (slice_get known place) ≡ Some actions
+    → FoundSet known key place (set_with name actions)
+found_set known key place name actions at named acts = by (slice_get known place) refl
+  where
+    by : (o : Option (Described SetKey InformationSet)) → slice_get known place ≡ o
+        → FoundSet known key place (set_with name actions)
+    by None is = let none : None ≡ Some name = rw is at named in absurd cc
+    by (Some s) is =
+        let parts = set_in_parts (slice_get known place) name actions named acts in
+        let set : Some s.description ≡ Some (set_with name actions) =
+        ap (option_map (λ x. x.description)) (sym is) ∙ parts in
+        let one : s.description ≡ set_with name actions = cc in
+        let key_is = key_at same_set same_set_equality key known place s at is in
+        record {
+          described = described_at same_set same_set_equality key known place at ∙ parts;
+          begins = λ node. (λ i. record {
+            name = node;
+            set = option_map (λ x. x.key) (is i);
+            children = actions_counted (is i);
+          })
+              ∙ (λ i.
+              record { name = node; set = Some (key_is i); children = length (one i).actions });
+          within = slice_get_within known place s is;
+        }
+
+-- ---- a set that is kept
+
+-- the sets with one more, which was pending
+abbrev pub one_more : KnownSets → SetKey → List ℕ → KnownSets
+one_more k key name = record {
+  known = k.known ++ record { key = key; description = record { name = name; actions = k.pending } }
+      ∷ [];
+  pending = [];
+}
+
+module _ {E : Type 0} (r : Reader) (sets : KnownSets) (key : SetKey) (name : List ℕ) where
+  pub kept_content : (result : Result ℕ E) → OnOk result (sets ≡ one_more r.sets key name)
+      → OnOk result (content_of (record r { sets = sets })
+      ≡ with_set (content_of r) key (set_with name r.sets.pending))
+  kept_content (Err e) h = tt
+  kept_content (Ok place) h = ap (λ (k : KnownSets). content_of (record r { sets = k })) h
+
+  pub kept_grows : (result : Result ℕ E) → OnOk result (sets ≡ one_more r.sets key name)
+      → OnOk result (Grows r.sets.known sets.known)
+  kept_grows (Err e) h = tt
+  kept_grows (Ok place) h = record { more = _; parts = ap (λ (k : KnownSets). k.known) h }
+
+  pub kept_begun : (node : List ℕ) (result : Result ℕ E)
+      → OnOk result (sets ≡ one_more r.sets key name)
+      → IfOk result (λ place. place ≡ length r.sets.known)
+      → IfOk result (λ place.
+      begun_with sets.known node (suc place) ≡ begun node key (set_with name r.sets.pending))
+  kept_begun node (Err e) h is = tt
+  kept_begun node (Ok place) h is =
+      ap (λ (k : KnownSets). begun_with k.known node (suc place)) h
+      ∙ ap (λ (p : ℕ). begun_with (one_more r.sets key name).known node (suc p)) is
+      ∙ new_begun r.sets.known (record { key = key; description = set_with name r.sets.pending })
+      node
+
+-- ---- an outcome that is kept
+
+-- the outcomes with one more, which was pending
+abbrev pub one_outcome_more : KnownOutcomes → ℕ → List ℕ → KnownOutcomes
+one_outcome_more k number name = record {
+  known = k.known
+      ++ record { key = number; description = record { name = name; payoffs = k.pending } } ∷ [];
+  pending = [];
+}
+
+module _ {E : Type 0} (r : Reader) (outcomes : KnownOutcomes) (number : ℕ) (name : List ℕ) where
+  pub kept_outcome_content : (result : Result ℕ E)
+      → OnOk result (outcomes ≡ one_outcome_more r.outcomes number name)
+      → OnOk result (content_of (record r { outcomes = outcomes })
+      ≡ with_outcome (content_of r) number (outcome_with name r.outcomes.pending))
+  kept_outcome_content (Err e) h = tt
+  kept_outcome_content (Ok place) h =
+      ap (λ (k : KnownOutcomes). content_of (record r { outcomes = k })) h
+
+  pub kept_outcome_grows : (result : Result ℕ E)
+      → OnOk result (outcomes ≡ one_outcome_more r.outcomes number name)
+      → OnOk result (Grows r.outcomes.known outcomes.known)
+  kept_outcome_grows (Err e) h = tt
+  kept_outcome_grows (Ok place) h =
+      record { more = _; parts = ap (λ (k : KnownOutcomes). k.known) h }
+
+  pub kept_outcome_key : (result : Result ℕ E)
+      → OnOk result (outcomes ≡ one_outcome_more r.outcomes number name)
+      → IfOk result (λ place. place ≡ length r.outcomes.known)
+      → IfOk result
+      (λ place. option_map (λ o. o.key) (slice_get outcomes.known place) ≡ Some number)
+  kept_outcome_key (Err e) h is = tt
+  kept_outcome_key (Ok place) h is =
+      ap (λ (k : KnownOutcomes). option_map (λ o. o.key) (slice_get k.known place)) h
+      ∙ ap (λ (p : ℕ).
+      option_map (λ o. o.key) (slice_get (one_outcome_more r.outcomes number name).known p))
+      is
+      ∙ ap (option_map (λ o. o.key)) (get_next r.outcomes.known
+      (record { key = number; description = outcome_with name r.outcomes.pending }))
+
+pub if_none : {A : Type 0} {P : Type 0} (o : Option A) → P → IfNone o P
+if_none None p = p
+if_none (Some x) p = tt
+
+-- ---- the end of a list of actions
+
+pub set_ends_by : (c : Content) (node : List ℕ) (player n : ℕ) (set : InformationSet) (sum : Ratio)
+    → set_ends c node player n set sum
+    ≡ (if adds_up player sum then Ok (set_known c node (set_of player n) set) else Err SumBelowOne)
+set_ends_by c node zero n set sum = refl
+set_ends_by c node (suc player) n set sum = refl
+
+-- ---- a token is taken
+
+pub taken : {t u : Remaining} {l : Lexeme} → t.ahead ≡ l ∷ u.ahead → u.input ≡ t.input
+    → t ≡ record { input = u.input; ahead = l ∷ u.ahead }
+taken {t} {u} {l} ahead input = λ i. record { input = sym input i; ahead = ahead i }
+
+-- ---- a set that is known
+
+-- after its number its description, if there is one, was read
+pub set_known_again : (c : Content) (node : List ℕ) (key : SetKey) (place : ℕ)
+    (rest behind : Remaining) (set : InformationSet) → FoundSet c.sets key place set
+    → heard (KnownSetName node key set) c rest ≡ heard (OutcomeNumber (begun node key set)) c behind
+    → heard (behind_set node key (description_at same_set c.sets key)) c rest
+    ≡ heard (OutcomeNumber (begun_with c.sets node (suc place))) c behind
+set_known_again c node key place rest behind set found goes =
+    ap (λ o. heard (behind_set node key o) c rest) found.described
+    ∙ goes
+    ∙ ap (λ (x : Begun). heard (OutcomeNumber x) c behind) (sym (found.begins node))
+
+-- its number is read
+pub set_again : (c : Content) (node : List ℕ) (player n a b : ℕ) (t : List ℕ)
+    (all rest : Remaining) (after : Answer)
+    → all ≡ record { input = rest.input; ahead = lexeme a b (Bare t) ∷ rest.ahead }
+    → Some n ≡ count_of t
+    → heard (behind_set node (set_of player n)
+    (description_at same_set c.sets (set_of player n))) c rest ≡ after
+    → heard (SetNumber node player) c all ≡ after
+set_again c node player n a b t all rest after is number goes =
+    ap (heard (SetNumber node player) c) is
+    ∙ ap (λ o. record {
+      input = rest.input;
+      machine = then_on (lexeme a b (Bare t)) (set_number c node player o)
+          (λ s. run (length rest.input) s.position s.content rest.ahead);
+    }) (sym number)
+    ∙ goes
+
+-- ---- a new set is whole
+
+new_ended : (c : Content) (node : List ℕ) (player n : ℕ) (set : InformationSet)
+    (held : List held.Action) (actions : List Action) (sum : Ratio)
+    → false ≡ (length held == 0) → actions_of held ≡ actions → true ≡ adds_up player sum
+    → new_set_ends c node (set_of player n) set actions sum
+    ≡ Ok (set_known c node (set_of player n) set)
+new_ended c node player n set [] actions sum some is adds = absurd cc
+new_ended c node player n set (h ∷ hs) [] sum some is adds = absurd cc
+new_ended c node player n set (h ∷ hs) (a ∷ actions) sum some is adds =
+    set_ends_by c node player n set sum
+    ∙ ap (λ (b : Bool). if b then Ok (set_known c node (set_of player n) set) else Err SumBelowOne)
+    (sym adds)
+
+pub set_end : (c d : Content) (node : List ℕ) (player n : ℕ) (name : List ℕ)
+    (actions : List Action) (sum : Ratio) (a b : ℕ) (all rest behind : Remaining)
+    (held : List held.Action) (next : Begun)
+    → all ≡ record { input = rest.input; ahead = lexeme a b Closing ∷ rest.ahead }
+    → false ≡ (length held == 0) → actions_of held ≡ actions → true ≡ adds_up player sum
+    → d ≡ with_set c (set_of player n) (set_with name actions)
+    → next ≡ begun node (set_of player n) (set_with name actions) → behind ≡ rest
+    → heard (NewAction node (set_of player n) (set_with name actions) sum) c all
+    ≡ heard (OutcomeNumber next) d behind
+set_end c d node player n name actions sum a b all rest behind held next is some acts adds
+    content begins same =
+    ap (heard (NewAction node (set_of player n) (set_with name actions) sum) c) is
+    ∙ ap (λ (o : Result State Why). record {
+      input = rest.input;
+      machine = then_on (lexeme a b Closing) o
+          (λ s. run (length rest.input) s.position s.content rest.ahead);
+    }) (new_ended c node player n (set_with name actions) held actions sum some acts adds)
+    ∙ (λ i. heard (OutcomeNumber (sym begins i)) (sym content i) (sym same i))
+
+-- ---- answers carried back
+
+pub goes_on : (result : Result ℕ Fault) (a b : Answer) (f : ℕ → Answer)
+    → a ≡ b → MatchResult result (λ p. b ≡ f p) (λ g. Fails g b)
+    → MatchResult result (λ p. a ≡ f p) (λ g. Fails g a)
+goes_on (Ok p) a b f e h = e ∙ h
+goes_on (Err g) a b f e h = subst (Fails g) (sym e) h
+
+pub carried : {f : Fault} {a b : Answer} → Fails f b → a ≡ b → Fails f a
+carried {f} {a} {b} h e = subst (Fails f) (sym e) h
+
+-- if a call has failed
+module _ {A : Type 0} {r : Result A Fault} {f : Fault} {a : Answer} where
+  pub goes_back : (b : Answer) → r ≡ Err f → Fails f a → Goes a r b
+  goes_back b e h = subst (λ x. Goes a x b) (sym e) h
+
+  pub fails_back : (P : A → Type 0) → r ≡ Err f → Fails f a → MatchResult r P (λ g. Fails g a)
+  fails_back P e h = subst (λ x. MatchResult x P (λ g. Fails g a)) (sym e) h
+
+-- ---- an outcome that is known
+
+none_within : {A : Type 0} (xs : List A) (k : ℕ) → k < length xs → slice_get xs k ≡ None → ⊥
+none_within [] k h e = omega (arith, h)
+none_within (x ∷ xs) zero h e = cc
+none_within (x ∷ xs) (suc k) h e = none_within xs k (omega (arith, h)) e
+
+pub found_outcome : (known : List (Described ℕ Outcome)) (number place : ℕ)
+    → position (nat_eq number) (map (λ o. o.key) known) ≡ Some place
+    → FoundOutcome known number place
+found_outcome known number place at = by (slice_get known place) refl
+  where
+    within : place < length known
+    within = subst (λ (n : ℕ). place < n) (length-map known (λ o. o.key))
+        (position-Some (nat_eq number) (map (λ o. o.key) known) place 0 at).0
+
+    by : (o : Option (Described ℕ Outcome)) → slice_get known place ≡ o
+        → FoundOutcome known number place
+    by None is = absurd (none_within known place within is)
+    by (Some o) is = record {
+      outcome = o.description;
+      described = described_at nat_eq Decides-eqb number known place at
+          ∙ ap (option_map (λ x. x.description)) is;
+      stands = ap (option_map (λ x. x.description)) is;
+      key = ap (option_map (λ x. x.key)) is
+          ∙ ap Some (key_at nat_eq Decides-eqb number known place o at is);
+      within = within;
+    }
+
+-- ---- the whole file
+
+-- a reader before the first token stands for the machine before it
+pub heard_begun : (r : Reader) (bytes : List ℕ) → r.tokens.input ≡ bytes → content_of r ≡ nothing
+    → heard Format nothing (record { input = bytes; ahead = r.tokens.ahead }) ≡ answer Format r
+heard_begun r bytes input none =
+    λ i. heard Format (sym none i) (record { input = sym input i; ahead = r.tokens.ahead })
+
+-- if the file is refused
+pub refused_only : (f : Fault) (g : Game) (result : Result Game Fault) → result ≡ Err f
+    → f.why ≡ Memory → IsReadAs result g
+refused_only f g result e h = subst (λ r. IsReadAs r g) (sym e) h
+
+pub refused_why : {A : Type 0} (f : Fault) (P : Fault → Type 0) (result : Result A Fault)
+    → result ≡ Err f → P f → IfErr result P
+refused_why f P result e h = subst (λ r. IfErr r P) (sym e) h
+
+-- ---- memory that runs out
+
+-- at a token after which the machine goes on
+pub wants_memory : {f : Fault} {span : Span} {t : Remaining} {a : Answer} → StandsBefore t span
+    → f ≡ record { span = span; why = Memory } → (q : Position) (c : Content) → a ≡ heard q c t
+    → Fails f a
+wants_memory {f} {span} {t} {a} stands is q c goes =
+    subst (λ g. Fails g a) (sym is) (carried
+    (of_memory refl (record { place = stands.place; passed = passed_before t span stands q c }))
+    goes)
+
+-- at the label of a player's action
+pub labelled : (t : Remaining) (label : TextToken) (c : Content) (node : List ℕ) (player n : ℕ)
+    (set : InformationSet) (sum : Ratio) → (player ≡ 0 → ⊥)
+    → heard (NewAction node (set_of player n) set sum) c (behind_label t label)
+    ≡ heard (NewAction node (set_of player n) (with_action set (label_of label.label) None) sum) c t
+labelled t label c node zero n set sum some = absurd (some refl)
+labelled t label c node (suc player) n set sum some = refl

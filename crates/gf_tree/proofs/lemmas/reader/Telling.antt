@@ -1,0 +1,319 @@
+-- What a reader has told of the nodes of a file, and that the machine goes on after it.
+use Rattle.std.proofs.Common.{◌≡◌, ◌<◌, ◌≤◌, ◌+◌, ◌-◌, ℕ, List, [], ◌∷◌, ◌++◌, length, max}
+use Rattle.std.proofs.Common.{map, take, Option, Some, None, option_map, Result, Ok, Err}
+use Rattle.std.proofs.Common.{refl, sym, ap, subst, ◌∙◌, append_assoc, append-nil, arith}
+use Rattle.std.proofs.lemmas.List.{length-append, take-append-le}
+use Rattle.gf_token.specs.Positions.{at_position}
+use Rattle.gf_token.specs.declared.fault.Fault.{Fault}
+use Rattle.gf_tree.specs.Description.{InformationSet, Outcome, SetKey, set_of}
+use Rattle.gf_tree.specs.FiniteMap.{Described}
+use Rattle.gf_tree.specs.Game.{Node}
+use Rattle.gf_tree.specs.KeptNodes.{ArePlaced, IsPlaced, Kept, child_count}
+use Rattle.gf_tree.specs.KeptNodes.{entries_with, entry_with, position_of}
+use Rattle.gf_tree.specs.KnownSets.{KnownSets, known_of}
+use Rattle.gf_tree.specs.inner.KnownOutcomes.{KnownOutcomes}
+use Rattle.gf_tree.specs.inner.Machine.{Content, Position, with_node}
+use Rattle.gf_tree.specs.inner.Machine.Position.{NodeDue}
+use Rattle.gf_tree.specs.PrefixOrder.{Entry}
+use Rattle.std.specs.Prelude.{MatchOption, ⊤}
+use Rattle.gf_tree.specs.inner.ReaderState.{Answer, Fails, Goes, GoesTelling, Grows}
+use Rattle.gf_tree.specs.inner.ReaderState.{HasRead, HasReadAll}
+use Rattle.gf_tree.specs.inner.ReaderState.{HasTold, Tells, TellsNode, answer, begun_with, behind}
+use Rattle.gf_tree.specs.inner.ReaderState.{content_of, content_with, heard, with_nodes}
+use Rattle.gf_tree.specs.inner.ReaderState.Fails.{of_file, of_memory}
+use Rattle.gf_tree.specs.inner.Passed.{HasPassed}
+use Rattle.gf_tree.specs.Told.{Heading, Told, if_next, kept_as, told_from, told_node, told_outcome}
+use Rattle.gf_tree.specs.Told.{told_set}
+use Rattle.gf_tree.specs.Told.{used_outcomes_from, used_sets_from}
+use Rattle.gf_tree.specs.declared.reader.Reader.{Reader}
+use Rattle.gf_tree.proofs.lemmas.reader.Steps.{at_before, carried, outcomes_grow, placed_among_more}
+use Rattle.gf_tree.proofs.lemmas.reader.Steps.{placed_one_more}
+use Rattle.gf_tree.proofs.lemmas.reader.Steps.{sets_grow}
+use Rattle.gf_tree.proofs.lemmas.runs.Earlier.{heard_more}
+
+-- ---- what was told stays when more is known
+
+module _ (sets more_sets : List (Described SetKey InformationSet))
+    (outcomes more_outcomes : List (Described ℕ Outcome)) where
+  set_stays : (used p : ℕ) → p ≤ length sets
+      → told_set (sets ++ more_sets) used p ≡ told_set sets used p
+  set_stays used p h =
+      ap (option_map (λ (s : Described SetKey InformationSet). record {
+        key = set_of s.key.player
+            (length (known_of s.key.player (take p (sets ++ more_sets))));
+        description = if_next used p s.description;
+      })) (at_before sets more_sets p h)
+      ∙ ap (λ (front : List (Described SetKey InformationSet)).
+      option_map (λ (s : Described SetKey InformationSet). record {
+        key = set_of s.key.player (length (known_of s.key.player front));
+        description = if_next used p s.description;
+      }) (at_position sets p)) (take-append-le p sets more_sets h)
+
+  outcome_stays : (used p : ℕ) → p ≤ length outcomes
+      → told_outcome (outcomes ++ more_outcomes) used p ≡ told_outcome outcomes used p
+  outcome_stays used p h = ap (option_map (λ (o : Described ℕ Outcome).
+      record { key = p; description = if_next used p o.description }))
+      (at_before outcomes more_outcomes p h)
+
+  node_stays : (used_sets used_outcomes : ℕ) (n : Kept)
+      → IsPlaced (length sets) (length outcomes) n
+      → told_node (sets ++ more_sets) (outcomes ++ more_outcomes) used_sets used_outcomes n
+      ≡ told_node sets outcomes used_sets used_outcomes n
+  node_stays used_sets used_outcomes n h = λ i. record {
+    node = record {
+      name = n.name;
+      set = set_stays used_sets n.set h.set i;
+      outcome = outcome_stays used_outcomes n.outcome h.outcome i;
+    };
+    set = n.set;
+    outcome = n.outcome;
+  }
+
+  told_stays : (used_sets used_outcomes : ℕ) (ns : List Kept)
+      → ArePlaced (length sets) (length outcomes) ns
+      → told_from (sets ++ more_sets) (outcomes ++ more_outcomes) used_sets used_outcomes ns
+      ≡ told_from sets outcomes used_sets used_outcomes ns
+  told_stays used_sets used_outcomes [] h = refl
+  told_stays used_sets used_outcomes (n ∷ ns) h = λ i.
+      node_stays used_sets used_outcomes n h.0 i
+      ∷ told_stays (max used_sets n.set) (max used_outcomes n.outcome) ns h.1 i
+
+-- ---- one more node
+
+module _ (sets : List (Described SetKey InformationSet)) (outcomes : List (Described ℕ Outcome))
+    (n : Kept) where
+  told_more : (used_sets used_outcomes : ℕ) (ns : List Kept)
+      → told_from sets outcomes used_sets used_outcomes (ns ++ n ∷ [])
+      ≡ told_from sets outcomes used_sets used_outcomes ns
+      ++ told_node sets outcomes (used_sets_from used_sets ns)
+      (used_outcomes_from used_outcomes ns) n ∷ []
+  told_more used_sets used_outcomes [] = refl
+  told_more used_sets used_outcomes (m ∷ ms) =
+      ap (λ (ts : List Told). told_node sets outcomes used_sets used_outcomes m ∷ ts)
+      (told_more (max used_sets m.set) (max used_outcomes m.outcome) ms)
+
+sets_more : (n : Kept) (used : ℕ) (ns : List Kept)
+    → used_sets_from used (ns ++ n ∷ []) ≡ max (used_sets_from used ns) n.set
+sets_more n used [] = refl
+sets_more n used (m ∷ ms) = sets_more n (max used m.set) ms
+
+outcomes_more : (n : Kept) (used : ℕ) (ns : List Kept)
+    → used_outcomes_from used (ns ++ n ∷ []) ≡ max (used_outcomes_from used ns) n.outcome
+outcomes_more n used [] = refl
+outcomes_more n used (m ∷ ms) = outcomes_more n (max used m.outcome) ms
+
+entries_more : (sets : List (Described SetKey InformationSet))
+    (outcomes : List (Described ℕ Outcome)) (ns : List Kept) (n : Kept)
+    → entries_with sets outcomes (ns ++ n ∷ [])
+    ≡ entries_with sets outcomes ns ++ entry_with sets outcomes n ∷ []
+entries_more sets outcomes [] n = refl
+entries_more sets outcomes (m ∷ ms) n =
+    ap (λ (es : List (Entry Node)). entry_with sets outcomes m ∷ es)
+    (entries_more sets outcomes ms n)
+
+-- ---- answers after nodes
+
+behind_both : (ns ms : List (Entry Node)) (a : Answer) → behind ns (behind ms a) ≡ behind (ns ++ ms) a
+behind_both ns ms a = ap (λ (m : Result Content Fault). record { input = a.input; machine = m })
+    (by a.machine)
+  where
+    by : (m : Result Content Fault) → with_nodes ns (with_nodes ms m) ≡ with_nodes (ns ++ ms) m
+    by (Ok c) = ap (λ (es : List (Entry Node)). Ok (record c { nodes = es }))
+        (sym (append_assoc ns ms c.nodes))
+    by (Err fault) = refl
+
+-- what is refused after nodes is refused with them
+pub fails_behind : {f : Fault} {a : Answer} (ns : List (Entry Node)) → Fails f a
+    → Fails f (behind ns a)
+fails_behind {f} {a} ns (of_file e) = of_file (ap (with_nodes ns) e)
+fails_behind {f} {a} ns (of_memory is h) =
+    of_memory is (record { place = h.place; passed = by a.machine h.passed })
+  where
+    by : (m : Result Content Fault) → HasPassed m f.span.start
+        → HasPassed (with_nodes ns m) f.span.start
+    by (Ok c) p = tt
+    by (Err fault) p = p
+
+-- ---- lists that grow
+
+pub grows_none : {A : Type 0} (xs : List A) → Grows xs xs
+grows_none xs = record { more = []; parts = sym (append-nil xs) }
+
+pub grows_same : {A : Type 0} {xs ys : List A} → xs ≡ ys → Grows xs ys
+grows_same {A} {xs} {ys} e = record { more = []; parts = sym e ∙ sym (append-nil xs) }
+
+grows_length : {A : Type 0} {xs ys : List A} → Grows xs ys → length xs ≤ length ys
+grows_length {A} {xs} {ys} h =
+    let size = ap length h.parts in
+    let both = length-append xs h.more in
+    omega (arith, size, both)
+
+-- ---- a node that is told
+
+-- the machine, when this node has just become whole
+pub told_goes : (old new : Reader) (node : Kept)
+    → content_of new ≡ record (content_of old) {
+      due = child_count old.sets.known node.set + (old.due - 1);
+    }
+    → new.tokens ≡ old.tokens → new.sets ≡ old.sets → new.outcomes ≡ old.outcomes
+    → (q : Position) → heard q (with_node (content_of old)
+    (begun_with old.sets.known node.name node.set)
+    (option_map (λ o. o.key) (at_position old.outcomes.known node.outcome))) old.tokens
+    ≡ behind (entry_with new.sets.known new.outcomes.known node ∷ []) (answer q new)
+told_goes old new node content tokens sets outcomes q =
+    heard_more (entry_with old.sets.known old.outcomes.known node ∷ []) q
+    (record (content_of old) {
+      due = child_count old.sets.known node.set + (old.due - 1);
+    }) old.tokens
+    ∙ (λ i. behind
+    (entry_with (sym sets i).known (sym outcomes i).known node ∷ [])
+    (heard q (sym content i) (sym tokens i)))
+
+module _ {T : Type 0} {holds : T → T → Heading → List Told → Type 0} {before : Answer} {from to : T} where
+  -- a node that is told is told to what was known before
+  pub tells : (q : Position) {old r m new : Reader} {node : Kept} → r.told_sets ≡ old.told_sets
+      → r.told_outcomes ≡ old.told_outcomes → Grows old.sets.known r.sets.known
+      → Grows old.outcomes.known r.outcomes.known
+      → IsPlaced (length r.sets.known) (length r.outcomes.known) node
+      → TellsNode holds r m from to node
+      → before ≡ heard q (with_node (content_of r) (begun_with r.sets.known node.name node.set)
+      (option_map (λ o. o.key) (at_position r.outcomes.known node.outcome))) r.tokens
+      → new ≡ record m { tokens = new.tokens } → answer q m ≡ answer NodeDue new
+      → Tells holds before old new from to
+  tells q {old} {r} {m} {new} {node} told_sets told_outcomes sets outcomes placed h e kept goes =
+      let ms : m.sets ≡ r.sets = ap (λ (x : Reader). x.sets) h.kept in
+      let mo : m.outcomes ≡ r.outcomes = ap (λ (x : Reader). x.outcomes) h.kept in
+      let ns : new.sets ≡ m.sets = ap (λ (x : Reader). x.sets) kept in
+      let no : new.outcomes ≡ m.outcomes = ap (λ (x : Reader). x.outcomes) kept in
+      let s = ns ∙ ms in
+      let o = no ∙ mo in
+      record {
+        node = node;
+        goes = e ∙ h.goes q ∙ (λ i.
+            behind (entry_with (sym ns i).known (sym no i).known node ∷ []) (goes i));
+        placed = subst (λ (k : KnownSets). IsPlaced (length k.known) (length new.outcomes.known) node)
+            (sym s)
+            (subst (λ (k : KnownOutcomes). IsPlaced (length r.sets.known) (length k.known) node)
+            (sym o) placed);
+        told = λ untold heading told holding. subst (λ (x : Told). holds untold to heading (told ++ x ∷ []))
+            (λ i. told_node (sym s i).known (sym o i).known (told_sets i) (told_outcomes i) node)
+            (h.told untold heading told holding);
+        told_sets = ap (λ (x : Reader). x.told_sets) kept ∙ h.told_sets
+            ∙ ap (λ (n : ℕ). max n node.set) told_sets;
+        told_outcomes = ap (λ (x : Reader). x.told_outcomes) kept ∙ h.told_outcomes
+            ∙ ap (λ (n : ℕ). max n node.outcome) told_outcomes;
+        sets = subst (λ (k : KnownSets). Grows old.sets.known k.known) (sym s) sets;
+        outcomes = subst (λ (k : KnownOutcomes). Grows old.outcomes.known k.known) (sym o) outcomes;
+      }
+
+  -- the same if a description that is repeated comes after it
+  pub tells_again : {A : Type 0} (q : Position) (old r m new : Reader) (node : Kept)
+      (result : Result A Fault) → r.told_sets ≡ old.told_sets
+      → r.told_outcomes ≡ old.told_outcomes → Grows old.sets.known r.sets.known
+      → Grows old.outcomes.known r.outcomes.known
+      → IsPlaced (length r.sets.known) (length r.outcomes.known) node
+      → TellsNode holds r m from to node
+      → before ≡ heard q (with_node (content_of r) (begun_with r.sets.known node.name node.set)
+      (option_map (λ o. o.key) (at_position r.outcomes.known node.outcome))) r.tokens
+      → new ≡ record m { tokens = new.tokens } → Goes (answer q m) result (answer NodeDue new)
+      → GoesTelling holds result before old new from to
+  tells_again q old r m new node (Ok x) told_sets told_outcomes sets outcomes placed h e kept goes =
+      tells q told_sets told_outcomes sets outcomes placed h e kept goes
+  tells_again q old r m new node (Err f) told_sets told_outcomes sets outcomes placed h e kept
+      goes = carried (fails_behind (entry_with m.sets.known m.outcomes.known node ∷ []) goes)
+      (e ∙ h.goes q)
+
+pub placed_at : (sets outcomes : ℕ) (name : List ℕ) (set outcome : Option ℕ)
+    → MatchOption set ⊤ (λ place. place < sets) → MatchOption outcome ⊤ (λ place. place < outcomes)
+    → IsPlaced sets outcomes (record {
+      name = name;
+      set = position_of set;
+      outcome = position_of outcome;
+    })
+placed_at sets outcomes name set outcome s o = record { set = by set s; outcome = by outcome o }
+  where
+    by : {n : ℕ} (place : Option ℕ) → MatchOption place ⊤ (λ p. p < n) → position_of place ≤ n
+    by {n} None h = omega arith
+    by {n} (Some p) h = omega (arith, h)
+
+-- ---- the nodes of a file
+
+module _ {T : Type 0} (holds : T → T → Heading → List Told → Type 0) (untold : T) (heading : Heading) where
+  pub told_one_more : {old new : Reader} {from to : T} {nodes : List Kept} {before : Answer}
+      → HasTold (λ t told. holds untold t heading told) old from nodes → (h : Tells holds before old new from to)
+      → HasTold (λ t told. holds untold t heading told) new to (nodes ++ h.node ∷ [])
+  told_one_more {old} {new} {from} {to} {nodes} {before} k h = record {
+    placed = placed_one_more (length new.sets.known) (length new.outcomes.known) nodes h.node
+        (placed_among_more (length old.sets.known) (length old.outcomes.known)
+        (length new.sets.known) (length new.outcomes.known) nodes (grows_length h.sets)
+        (grows_length h.outcomes) k.placed) h.placed.set h.placed.outcome;
+    told = subst (holds untold to heading) (sym whole)
+        (h.told untold heading (told_from new.sets.known new.outcomes.known 0 0 nodes)
+        (subst (holds untold from heading) (sym same) k.told));
+    told_sets = h.told_sets ∙ ap (λ (n : ℕ). max n h.node.set) k.told_sets
+        ∙ sym (sets_more h.node 0 nodes);
+    told_outcomes = h.told_outcomes ∙ ap (λ (n : ℕ). max n h.node.outcome) k.told_outcomes
+        ∙ sym (outcomes_more h.node 0 nodes);
+  }
+    where
+      same : told_from new.sets.known new.outcomes.known 0 0 nodes
+          ≡ told_from old.sets.known old.outcomes.known 0 0 nodes
+      same = (λ i. told_from (h.sets.parts i) (h.outcomes.parts i) 0 0 nodes)
+          ∙ told_stays old.sets.known h.sets.more old.outcomes.known h.outcomes.more 0 0 nodes
+          k.placed
+
+      whole : told_from new.sets.known new.outcomes.known 0 0 (nodes ++ h.node ∷ [])
+          ≡ told_from new.sets.known new.outcomes.known 0 0 nodes
+          ++ told_node new.sets.known new.outcomes.known old.told_sets old.told_outcomes h.node ∷ []
+      whole = told_more new.sets.known new.outcomes.known h.node 0 0 nodes
+          ∙ (λ i. told_from new.sets.known new.outcomes.known 0 0 nodes
+          ++ told_node new.sets.known new.outcomes.known (sym k.told_sets i)
+          (sym k.told_outcomes i) h.node ∷ [])
+
+  pub read_one_more : {start : Answer} {old new : Reader} {from to : T}
+      → HasRead (λ t told. holds untold t heading told) start NodeDue old from
+      → Tells holds (answer NodeDue old) old new from to → HasRead (λ t told. holds untold t heading told) start NodeDue new to
+  read_one_more {start} {old} {new} {from} {to} k h = record {
+    nodes = k.nodes ++ h.node ∷ [];
+    goes = k.goes
+        ∙ (λ i. behind (entries i) (h.goes i))
+        ∙ behind_both (entries_with new.sets.known new.outcomes.known k.nodes)
+        (entry_with new.sets.known new.outcomes.known h.node ∷ []) (answer NodeDue new)
+        ∙ ap (λ (es : List (Entry Node)). behind es (answer NodeDue new))
+        (sym (entries_more new.sets.known new.outcomes.known k.nodes h.node));
+    has_told = told_one_more k.has_told h;
+  }
+    where
+      entries : entries_with old.sets.known old.outcomes.known k.nodes
+          ≡ entries_with new.sets.known new.outcomes.known k.nodes
+      entries = sym ((λ i. entries_with (h.sets.parts i) (h.outcomes.parts i) k.nodes)
+          ∙ outcomes_grow (old.sets.known ++ h.sets.more) old.outcomes.known h.outcomes.more k.nodes
+          (placed_among_more (length old.sets.known) (length old.outcomes.known)
+          (length (old.sets.known ++ h.sets.more)) (length old.outcomes.known) k.nodes
+          (grows_length (record { more = h.sets.more; parts = refl })) (omega arith)
+          k.has_told.placed)
+          ∙ sets_grow old.sets.known h.sets.more old.outcomes.known k.nodes k.has_told.placed)
+
+-- ---- nodes that are kept
+
+kept_told : (sets : List (Described SetKey InformationSet)) (outcomes : List (Described ℕ Outcome))
+    (used_sets used_outcomes : ℕ) (ns : List Kept)
+    → map kept_as (told_from sets outcomes used_sets used_outcomes ns) ≡ ns
+kept_told sets outcomes used_sets used_outcomes [] = refl
+kept_told sets outcomes used_sets used_outcomes (n ∷ ns) = ap (λ (ks : List Kept). n ∷ ks)
+    (kept_told sets outcomes (max used_sets n.set) (max used_outcomes n.outcome) ns)
+
+abbrev KeepsThem : List Kept → List Told → Type 0
+KeepsThem nodes told = nodes ≡ map kept_as told
+
+module _ (before : Answer) (r : Reader) (nodes : List Kept)
+    (h : HasReadAll KeepsThem before r nodes) where
+  all_kept : h.nodes ≡ nodes
+  all_kept = sym (h.has_told.told ∙ kept_told r.sets.known r.outcomes.known 0 0 h.nodes)
+
+  pub all_read : before.machine ≡ Ok (content_with r nodes)
+  all_read = h.whole ∙ ap (λ (ns : List Kept). Ok (content_with r ns)) all_kept
+
+  pub all_placed : ArePlaced (length r.sets.known) (length r.outcomes.known) nodes
+  all_placed = subst (ArePlaced (length r.sets.known) (length r.outcomes.known)) all_kept
+      h.has_told.placed

@@ -1,0 +1,155 @@
+-- The nodes that a reader tells are those of the game by its first-use numbers, as a file gives
+-- them.
+use Rattle.std.proofs.Common.{◌≡◌, ℕ, zero, suc, ◌+◌, ◌≤◌, List, [], ◌∷◌, ◌++◌, length, map}
+use Rattle.std.proofs.Common.{take, max, Some, option_map, slice_get, nat_eq, refl}
+use Rattle.std.proofs.Common.{sym, ap, subst, ◌∙◌, arith, length-append}
+use Rattle.std.specs.Prelude.{Bool, true, ◌==◌, Ok}
+use Rattle.std.specs.List.{filter}
+use Rattle.std.proofs.lemmas.Bool.{eq-eqb}
+use Rattle.std.proofs.lemmas.Bool.Decides.{Decides-eqb}
+use Rattle.std.proofs.lemmas.List.{length-map, map-append}
+use Rattle.std.proofs.lemmas.Option.{slice_get-map}
+use Rattle.gf_token.specs.Positions.{at_position}
+use Rattle.gf_token.specs.Token.{Lexeme}
+use Rattle.gf_token.specs.TokenSpelling.{Spells}
+use Rattle.gf_tree.specs.Description.{SetKey, InformationSet, Outcome, same_set}
+use Rattle.gf_tree.specs.FileNodes.{file_nodes}
+use Rattle.gf_tree.specs.FiniteMap.{Described, first_uses}
+use Rattle.gf_tree.specs.FirstUse.{first_use_numbers, sets_of}
+use Rattle.gf_tree.specs.Game.{Game, IsGame, used_outcomes, used_sets}
+use Rattle.gf_tree.specs.GameCode.{no_node}
+use Rattle.gf_tree.specs.KeptNodes.{ArePlaced, Kept, entries_with}
+use Rattle.gf_tree.specs.KnownSets.{known_of}
+use Rattle.gf_tree.specs.inner.KnownUses.{nodes_given, use_at}
+use Rattle.gf_tree.specs.inner.Machine.{Content, nothing, run}
+use Rattle.gf_tree.specs.inner.Machine.Position.{Format}
+use Rattle.gf_tree.specs.PrefixOrder.{flatten}
+use Rattle.gf_tree.specs.inner.ReadGame.{game_of}
+use Rattle.gf_tree.specs.Renumbering.{Renumbering, renumbered, renumbered_node}
+use Rattle.gf_tree.specs.Told.{told_from, told_outcome, told_set}
+use Rattle.gf_tree.proofs.lemmas.games.FirstUseNumbers.{number_at}
+use Rattle.gf_tree.proofs.lemmas.stores.GameNodes.{flatten_grown}
+use Rattle.gf_tree.proofs.lemmas.games.Consistent.{map_entry, flatten_map}
+use Rattle.gf_tree.proofs.lemmas.stores.GivenNodes.{nodes_are_given, something_there}
+use Rattle.gf_tree.proofs.lemmas.stores.KnownKeys.{around}
+use Rattle.gf_tree.proofs.lemmas.games.Members.{filter_last}
+use Rattle.gf_tree.proofs.lemmas.games.PlayerSets.{sets_by_first_use}
+use Rattle.gf_tree.proofs.lemmas.reader.Games.{read_fills, read_is_game}
+use Rattle.gf_tree.proofs.lemmas.games.Renumbered.{first_use_is_renumbering, renumbered_is_game}
+use Rattle.gf_tree.proofs.lemmas.stores.RenumberedKept.{entries_mapped, outcome_image, set_image}
+use Rattle.gf_tree.proofs.lemmas.games.TreesOnce.{same_set_equality}
+
+-- ---- lists
+
+taken_through : {A : Type 0} (front : List A) (x : A) (back : List A)
+    → take (suc (length front)) (front ++ x ∷ back) ≡ front ++ x ∷ []
+taken_through [] x back = refl
+taken_through (y ∷ front) x back = ap (λ ys. y ∷ ys) (taken_through front x back)
+
+-- ---- first-use numbers by positions
+
+module _ (g : Game) (game : IsGame g) where
+  abbrev numbers : Renumbering
+  numbers = first_use_numbers g
+
+  abbrev canonical : Game
+  canonical = renumbered numbers g
+
+  set_number : (k : ℕ) (s : Described SetKey InformationSet) → slice_get g.sets k ≡ Some s
+      → numbers.set s.key.player s.key.number
+      ≡ length (known_of s.key.player (take (suc k) g.sets))
+  set_number k s there =
+      let r = around g.sets k s there in
+      let his : Described SetKey InformationSet → Bool = λ x. x.key.player == s.key.player in
+      let key_of : Described SetKey InformationSet → SetKey = λ x. x.key in
+      let passes : his s ≡ true = eq-eqb s.key.player s.key.player refl in
+      let in_order : first_uses same_set (sets_of s.key.player (used_sets g.tree))
+      ≡ map key_of (filter his r.0) ++ s.key ∷ map key_of (filter his r.1) =
+      sym (sets_by_first_use g s.key.player game)
+      ∙ ap (λ xs. map key_of (filter his xs)) r.2
+      ∙ ap (map key_of) (filter_last his r.0 s r.1 passes)
+      ∙ map-append key_of (filter his r.0) (s ∷ filter his r.1) in
+      let taken : length (filter his (take (suc k) g.sets)) ≡ length (filter his r.0) + 1 =
+      ap (λ n. length (filter his (take (suc n) g.sets))) (sym r.3)
+      ∙ ap (λ xs. length (filter his (take (suc (length r.0)) xs))) r.2
+      ∙ ap (λ xs. length (filter his xs)) (taken_through r.0 s r.1)
+      ∙ ap length (filter_last his r.0 s [] passes)
+      ∙ length-append (filter his r.0) (s ∷ []) in
+      number_at same_set same_set_equality (sets_of s.key.player (used_sets g.tree))
+      (map key_of (filter his r.0)) (map key_of (filter his r.1)) s.key in_order
+      ∙ ap (λ n. n + 1) (length-map (filter his r.0) key_of)
+      ∙ sym taken
+
+  outcome_number : (k : ℕ) (o : Described ℕ Outcome) → slice_get g.outcomes k ≡ Some o
+      → numbers.outcome o.key ≡ suc k
+  outcome_number k o there =
+      let r = around g.outcomes k o there in
+      let key_of : Described ℕ Outcome → ℕ = λ x. x.key in
+      number_at nat_eq Decides-eqb (used_outcomes g.tree) (map key_of r.0) (map key_of r.1) o.key
+      (sym game.one_entry_each_outcome ∙ ap (map key_of) r.2 ∙ map-append key_of r.0 (o ∷ r.1))
+      ∙ omega (arith, length-map r.0 key_of, r.3)
+
+  -- ---- what is told of a set and of an outcome
+
+  set_told : (p met : ℕ) → p ≤ length g.sets
+      → told_set g.sets met p ≡ option_map (use_at met p) (at_position canonical.sets p)
+  set_told zero met within = refl
+  set_told (suc k) met within =
+      let s = something_there g.sets k (omega (arith, within)) in
+      let there : slice_get canonical.sets k ≡ Some (set_image numbers s.0) =
+      slice_get-map (set_image numbers) g.sets k ∙ ap (option_map (set_image numbers)) s.1 in
+      rw (s.1, there) (λ i. Some (use_at met (suc k) (record {
+        key = record { player = s.0.key.player; number = sym (set_number k s.0 s.1) i };
+        description = s.0.description;
+      })))
+
+  outcome_told : (p met : ℕ) → p ≤ length g.outcomes
+      → told_outcome g.outcomes met p ≡ option_map (use_at met p) (at_position canonical.outcomes p)
+  outcome_told zero met within = refl
+  outcome_told (suc k) met within =
+      let o = something_there g.outcomes k (omega (arith, within)) in
+      let there : slice_get canonical.outcomes k ≡ Some (outcome_image numbers o.0) =
+      slice_get-map (outcome_image numbers) g.outcomes k
+      ∙ ap (option_map (outcome_image numbers)) o.1 in
+      rw (o.1, there) (λ i. Some (use_at met (suc k) (record {
+        key = sym (outcome_number k o.0 o.1) i;
+        description = o.0.description;
+      })))
+
+  told_given : (nodes : List Kept) (met_sets met_outcomes : ℕ)
+      → ArePlaced (length g.sets) (length g.outcomes) nodes
+      → map (λ t. t.node) (told_from g.sets g.outcomes met_sets met_outcomes nodes)
+      ≡ nodes_given canonical.sets canonical.outcomes met_sets met_outcomes nodes
+  told_given [] met_sets met_outcomes placed = refl
+  told_given (n ∷ ns) met_sets met_outcomes placed =
+      let set = set_told n.set met_sets placed.0.set in
+      let outcome = outcome_told n.outcome met_outcomes placed.0.outcome in
+      let others = told_given ns (max met_sets n.set) (max met_outcomes n.outcome) placed.1 in
+      λ i. record { name = n.name; set = set i; outcome = outcome i } ∷ others i
+
+  pub told_are_given : (nodes : List Kept)
+      → flatten g.tree ≡ entries_with g.sets g.outcomes nodes
+      → ArePlaced (length g.sets) (length g.outcomes) nodes
+      → map (λ t. t.node) (told_from g.sets g.outcomes 0 0 nodes) ≡ file_nodes canonical
+  told_are_given nodes flat placed =
+      told_given nodes 0 0 placed
+      ∙ nodes_are_given canonical (renumbered_is_game g numbers game (first_use_is_renumbering g))
+      nodes (flatten_map (renumbered_node numbers) g.tree
+      ∙ ap (map (map_entry (renumbered_node numbers))) flat
+      ∙ sym (entries_mapped numbers g.sets g.outcomes nodes))
+      (subst (λ (n : ℕ). ArePlaced n (length canonical.outcomes) nodes)
+      (sym (length-map g.sets (set_image numbers)))
+      (subst (λ (n : ℕ). ArePlaced (length g.sets) n nodes)
+      (sym (length-map g.outcomes (outcome_image numbers))) placed))
+
+-- ---- what is told of a file
+
+pub told_of_file : (bytes : List ℕ) (ls : List Lexeme) (c : Content) (nodes : List Kept)
+    → Spells 0 bytes ls → run (length bytes) Format nothing ls ≡ Ok c
+    → c.nodes ≡ entries_with c.sets c.outcomes nodes
+    → ArePlaced (length c.sets) (length c.outcomes) nodes
+    → map (λ t. t.node) (told_from c.sets c.outcomes 0 0 nodes)
+    ≡ file_nodes (renumbered (first_use_numbers (game_of c)) (game_of c))
+told_of_file bytes ls c nodes spelled e kept placed =
+    told_are_given (game_of c) (read_is_game bytes ls c spelled e) nodes
+    (flatten_grown no_node c.nodes (read_fills bytes ls c e) ∙ kept) placed

@@ -1,0 +1,3 @@
+pub mod Nodes
+pub mod RefusedOnce
+pub mod Rows

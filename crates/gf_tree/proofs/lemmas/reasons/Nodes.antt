@@ -1,0 +1,355 @@
+-- The rows of nodes refuse for reasons, and so does each row after the front of a file.
+use Rattle.std.proofs.Common.{◌≡◌, ◌≢◌, ℕ, ◌<◌, List, [], ◌∷◌, ◌++◌, length}
+use Rattle.std.proofs.Common.{Bool, true, false, Option, Some, None, MatchOption, refl, sym, ap}
+use Rattle.std.proofs.Common.{subst, ◌∙◌, arith}
+use Rattle.std.proofs.Common.{inl, inr}
+use Rattle.std.specs.Prelude.{◌⊎◌}
+use Rattle.std.proofs.lemmas.List.{length-append}
+use Rattle.gf_fraction.specs.Ratio.{Ratio}
+use Rattle.gf_fraction.specs.NumberSpelling.{IsNumber}
+use Rattle.gf_token.specs.Token.{Token}
+use Rattle.gf_token.specs.Token.Token.{Closing, Text, Bare}
+use Rattle.gf_token.specs.Index.{IsIndex}
+use Rattle.gf_token.specs.NumberWhy.{why_of}
+use Rattle.gf_token.specs.Place.{Begins, MayFollow}
+use Rattle.gf_token.specs.declared.fault.What.TheVariants as what
+use Rattle.gf_token.specs.declared.fault.Why.{Why}
+use Rattle.gf_token.specs.declared.fault.Why.TheVariants.{Expected, BadIndex, UnknownPlayer}
+use Rattle.gf_token.specs.declared.fault.Why.TheVariants.{NotDescribed, Mismatch}
+use Rattle.gf_token.specs.declared.fault.Why.TheVariants.{SumBelowOne, NoEntry}
+use Rattle.gf_tree.specs.Description.{Action, InformationSet, Outcome, SetKey, set_of}
+use Rattle.gf_tree.specs.Due.{IsDue, OutcomeIsDue, PayoffIsDue, PlayerIsDue}
+use Rattle.gf_tree.specs.Due.{ProbabilityIsDue, SetIsDue}
+use Rattle.gf_tree.specs.DueRoles.{Role}
+use Rattle.gf_tree.specs.FileTree.{Use}
+use Rattle.gf_tree.specs.Front.{BehindOutcomeNumber, BehindSetNumber, InActions}
+use Rattle.gf_tree.specs.Front.{IsExtensiveFile, IsNewOutcome, IsNewSet, IsSetKnown}
+use Rattle.gf_tree.specs.Front.{KnowsOutcome, ToOutcomeNumber}
+use Rattle.gf_tree.specs.Reason.{DiffersFromOutcome, DiffersFromSet, EndsInFirstUse}
+use Rattle.gf_tree.specs.Reason.{ListsActions, NewProbabilityIsDue}
+use Rattle.gf_tree.specs.RowPlaces.{BehindNode, FileFront}
+use Rattle.gf_tree.specs.Rows.{IsNoNumber, Row, a_closing, a_first_name}
+use Rattle.gf_tree.specs.Rows.{a_new_action, a_new_branch, a_payoff, a_player}
+use Rattle.gf_tree.specs.Rows.{a_probability, a_set}
+use Rattle.gf_tree.specs.Rows.{an_outcome, no_label, or_comma, or_name}
+use Rattle.gf_tree.specs.Rows.{this_label, this_number}
+use Rattle.gf_tree.specs.SomeRow.{IsBeforeRow, IsInNode}
+use Rattle.gf_tree.proofs.lemmas.fronts.CutFiles.{some_row}
+use Rattle.gf_tree.proofs.lemmas.fronts.Cuts.{first_is, others_are}
+use Rattle.gf_tree.proofs.lemmas.due.Actions as actions
+use Rattle.gf_tree.proofs.lemmas.due.Nodes as nodes
+use Rattle.gf_tree.proofs.lemmas.due.Nodes.{parts}
+use Rattle.gf_tree.proofs.lemmas.due.Outcomes as outcomes
+use Rattle.gf_tree.proofs.lemmas.due.Outcomes.{GoesOnBehind, GoesOnBehindOr}
+use Rattle.gf_tree.proofs.lemmas.due.Payoffs as payoffs
+use Rattle.gf_tree.proofs.lemmas.due.Payoffs.{Seen, seen_behind, seen_to}
+use Rattle.gf_tree.proofs.lemmas.due.Rows.{Stands, accepted}
+use Rattle.gf_tree.proofs.lemmas.fronts.Codes.{begins_payoffs, known_outcome}
+use Rattle.gf_tree.proofs.lemmas.fronts.WholeNodes.{number_node, whole_node}
+use Rattle.gf_tree.proofs.lemmas.reasons.Rows.{IsOfRole, IsTold, Own, Reasoned, as_own, closing}
+use Rattle.gf_tree.proofs.lemmas.reasons.Rows.{end, fault_own}
+use Rattle.gf_tree.proofs.lemmas.reasons.Rows.{follows, in_heading, name_or_end, name_or_node}
+use Rattle.gf_tree.proofs.lemmas.reasons.Rows.{no_action, node}
+use Rattle.gf_tree.proofs.lemmas.reasons.Rows.{number_named, opening, reasons, some_text, text}
+use Rattle.gf_tree.proofs.lemmas.reasons.Rows.{told_by, wrong_own}
+
+-- ---- nodes
+
+-- the number of the outcome is due after a known set without a description
+known_step : (front : List Token) (key : SetKey) → BehindSetNumber front key
+    → ToOutcomeNumber front (Some (record { key = key; description = None }))
+known_step front key h = (
+  h.3.0,
+  h.3.1,
+  h.3.2 ++ Bare h.1 ∷ [],
+  h.2 ∙ (λ i. h.3.3 i ++ Bare h.1 ∷ []),
+  (h.3.2, h.1, [], refl, h.3.4, h.4, refl),
+)
+
+-- what is left after some is the same
+one_next : {A : Type 0} (seen : List A) (x y : A) (xs ys others : List A) → others ≡ seen ++ x ∷ xs
+    → others ≡ seen ++ y ∷ ys → x ≡ y
+one_next seen x y xs ys others e h =
+    first_is x y xs ys (others_are seen (x ∷ xs) (y ∷ ys) (sym e ∙ h))
+
+none_next : {A : Type 0} (seen : List A) (x : A) (xs : List A) → seen ≡ seen ++ x ∷ xs → ⊥
+none_next seen x xs e =
+    let sizes = ap length e in
+    let both = length-append seen (x ∷ xs) in
+    omega (arith, sizes, both)
+
+-- a known outcome has a payoff for each player
+known_fewer : (f : FileFront) (n : ℕ) (ps : List Ratio) (outcome : Outcome) (p : Ratio)
+    (others : List Ratio)
+    → (may : Bool) → Seen f.front n ps may → KnowsOutcome f.nodes n outcome
+    → outcome.payoffs ≡ ps ++ p ∷ others → length ps < length f.players
+known_fewer f n ps outcome p others may h knows values =
+    let s = parts f (begins_payoffs f.front n h.outcome h.place) in
+    let is = (known_outcome s.content n outcome s.goes_on.are_outcomes
+    ((s.outcomes n outcome).0 knows)).one_payoff_each in
+    let players = ap length s.same_players in
+    let sizes = ap length values in
+    let both = length-append ps (p ∷ others) in
+    omega (arith, is, players, sizes, both)
+
+module _ (f : FileFront) where
+  first_use : ((key : SetKey) × BehindSetNumber f.front key × IsNewSet f.nodes key)
+      ⊎ ((number : ℕ) × BehindOutcomeNumber f.front number × IsNewOutcome f.nodes number)
+      → Stands f.before a_first_name → Reasoned f.before
+  first_use h s =
+      let first : EndsInFirstUse f.before = (f.players, f.nodes, f.front, f.ends, h) in
+      reasons f.before a_first_name (λ after plain. (first, plain)) (λ l after n. absurd (n tt)) (λ b why after n e. as_own f.before why NotDescribed (Bare b ∷ after) (first, tt) e) (λ why after n e. as_own f.before why NotDescribed (Closing ∷ after) (first, tt) e) s
+      (λ b h. absurd h)
+
+  outcome_index : OutcomeIsDue f.before → (b : List ℕ) (why : Why) (after : List Token)
+      → ¬ ((n : ℕ) × IsIndex b n) → why ≡ BadIndex → Own why f.before (Bare b ∷ after)
+  outcome_index due b why after n e =
+      as_own f.before why BadIndex (Bare b ∷ after) (inr (due, λ m is. n (m, is))) e
+
+  outcome_due : (set : Option (Use SetKey InformationSet)) → ToOutcomeNumber f.front set
+      → IsSetKnown f.nodes set → OutcomeIsDue f.before
+  outcome_due set h known = (f.players, f.nodes, f.front, set, f.ends, h, known)
+
+  told_set : (set : Option (Use SetKey InformationSet))
+      → MatchOption set (Unit {0}) (λ u. (d : InformationSet) × (u.description ≡ Some d))
+      → IsSetKnown f.nodes set
+  told_set None h = tt
+  told_set (Some u) h = inl h
+
+  differs : (t : Token) → DiffersFromSet f.nodes f.front t ⊎ DiffersFromOutcome f.nodes f.front t
+      → (after : List Token) → Own Mismatch f.before (t ∷ after)
+  differs t h after = (f.players, f.nodes, f.front, f.ends, h)
+
+  lists : (key : SetKey) (set : InformationSet) → InActions f.front key set → IsNewSet f.nodes key
+      → ListsActions f.before key set
+  lists key set h new = (f.players, f.nodes, f.front, f.ends, h, new)
+
+  -- an empty list may not end
+  no_entry : (key : SetKey) (set : InformationSet) → InActions f.front key set → IsNewSet f.nodes key
+      → set.actions ≡ [] → (why : Why) (after : List Token) → why ≡ NoEntry
+      → Own why f.before (Closing ∷ after)
+  no_entry key set h new none why after e =
+      as_own f.before why NoEntry (Closing ∷ after) (
+        key,
+        set.name,
+        subst (λ (xs : List Action).
+            ListsActions f.before key (record { name = set.name; actions = xs })) none
+            (lists key set h new),
+      ) e
+
+  due_payoff : (n : ℕ) (ps : List Ratio) (may : Bool) → Seen f.front n ps may
+      → length ps < length f.players → PayoffIsDue f.before
+  due_payoff n ps may h fewer = (
+    f.players,
+    f.nodes,
+    f.front,
+    n,
+    h.outcome,
+    f.ends,
+    h.place,
+    subst (λ (qs : List Ratio). length qs < length f.players) (sym h.are) fewer,
+  )
+
+  new_number : (row : Row) → Stands f.before row → PayoffIsDue f.before
+      → row.otherwise ≡ Expected what.Number → row.other_text ≡ Expected what.Number
+      → ((b : List ℕ) (why : Why) → row.other_bare b why → IsNoNumber b why)
+      → ((why : Why) → row.other_closing why → why ≡ Expected what.Number)
+      → IsOfRole row Role.Payoff → Reasoned f.before
+  new_number row s due otherwise text bare closing same =
+      number_named f.before Role.Payoff (inr due) row s otherwise text
+      (λ b why after n e.
+      let k = bare b why e in
+      as_own f.before why (why_of k.0) (Bare b ∷ after)
+      (fault_own f.before after b k.0 (inr due) k.2) k.1) closing refl same
+
+  known_number : (row : Row) (p : Ratio) → Stands f.before row
+      → (ProbabilityIsDue f.before ⊎ PayoffIsDue f.before)
+      → ((b : List ℕ) (q : Ratio) → IsNumber b q → q ≢ p
+      → DiffersFromSet f.nodes f.front (Bare b) ⊎ DiffersFromOutcome f.nodes f.front (Bare b))
+      → row.otherwise ≡ Expected what.Number → row.other_text ≡ Expected what.Number
+      → ((b : List ℕ) (why : Why) → row.other_bare b why → (this_number p).other_bare b why)
+      → ((why : Why) → row.other_closing why → why ≡ Expected what.Number)
+      → IsOfRole row (Role.KnownNumber p) → Reasoned f.before
+  known_number row p s due other otherwise text bare closing same =
+      number_named f.before (Role.KnownNumber p) due row s otherwise text
+      (λ b why after n e. by b why after (bare b why e)) closing refl same
+    where
+      by : (b : List ℕ) (why : Why) (after : List Token) → (this_number p).other_bare b why
+          → Own why f.before (Bare b ∷ after)
+      by b why after (inl k) = as_own f.before why (why_of k.0) (Bare b ∷ after)
+          (fault_own f.before after b k.0 due k.2) k.1
+      by b why after (inr k) = as_own f.before why Mismatch (Bare b ∷ after)
+          (differs (Bare b) (other b k.1.0 k.1.1 k.1.2) after) k.0
+
+  -- a payoff of a known outcome
+  known_payoff : (row : Row) (n : ℕ) (ps : List Ratio) (outcome : Outcome) (p : Ratio)
+      (others : List Ratio) (may : Bool) → Stands f.before row → Seen f.front n ps may
+      → KnowsOutcome f.nodes n outcome → outcome.payoffs ≡ ps ++ p ∷ others
+      → row.otherwise ≡ Expected what.Number → row.other_text ≡ Expected what.Number
+      → ((b : List ℕ) (why : Why) → row.other_bare b why → (this_number p).other_bare b why)
+      → ((why : Why) → row.other_closing why → why ≡ Expected what.Number)
+      → IsOfRole row (Role.KnownNumber p) → Reasoned f.before
+  known_payoff row n ps outcome p others may s h knows parts =
+      known_number row p s (inr (due_payoff n ps may h (known_fewer f n ps outcome p others may h knows parts)))
+      (λ b q is other. inr (
+        n,
+        outcome,
+        h.outcome,
+        p,
+        others,
+        q,
+        knows,
+        h.place,
+        subst (λ (qs : List Ratio). outcome.payoffs ≡ qs ++ p ∷ others) (sym h.are) parts,
+        is,
+        other,
+      ))
+
+  behind : BehindNode f.front → Reasoned f.before
+  behind h = by (payoffs.either f h)
+    where
+      by : GoesOnBehind f → Reasoned f.before
+      by (inl s) = end f.before s
+      by (inr s) = node f.before f.players (whole_node f h) s
+
+  in_node : IsInNode f → Reasoned f.before
+  in_node (IsInNode.NodeName h) = text f.before (nodes.node_name f h)
+  in_node (IsInNode.Player h) =
+      let row = a_player (length f.players) in
+      let due : PlayerIsDue f.before (length f.players) =
+      (f.players, f.nodes, f.front, f.ends, refl, h) in
+      let is : IsDue f.before what.Index = inl (length f.players, due) in
+      let s = nodes.player f h in
+      reasons f.before row (λ after plain. is) (λ l after n. is) (λ b why after n e. elim e [ inl k ↦ as_own f.before why BadIndex (Bare b ∷ after) (inl (inl (length f.players, due), k.1)) k.0 | inr k ↦ as_own f.before why UnknownPlayer (Bare b ∷ after) (inl (length f.players, k.1.0, due, k.1.1, k.1.2)) k.0 ]) (λ why after n e. as_own f.before why (Expected what.Index) (Closing ∷ after) is e) s
+      (told_by f.before row (Role.PlayerNumber (length f.players)) s is (λ b. (λ k. k, λ k. k)))
+  in_node (IsInNode.SetNumber player h) =
+      let due : SetIsDue f.before = (f.players, f.nodes, f.front, player, f.ends, h) in
+      let is : IsDue f.before what.Index = inr (inl due) in
+      let s = nodes.set_number_due f player h in
+      reasons f.before a_set (λ after plain. is) (λ l after n. is) (λ b why after n e. as_own f.before why BadIndex (Bare b ∷ after) (inl (inr due, λ m k. n (m, k))) e) (λ why after n e. as_own f.before why (Expected what.Index) (Closing ∷ after) is e) s
+      (told_by f.before a_set Role.SetNumber s is (λ b. (λ k. k, λ k. k)))
+  in_node (IsInNode.NewSet key h new) =
+      first_use (inl (key, h, new)) (nodes.new_set f key h new)
+  in_node (IsInNode.KnownSet key set h knows) =
+      let row = or_name set.name an_outcome in
+      let due = outcome_due (Some (record { key = key; description = None }))
+      (known_step f.front key h) (inr (set, knows)) in
+      let is : IsDue f.before what.Index = inr (inr due) in
+      let s = nodes.known_set f key set h knows in
+      reasons f.before row (λ after plain. is) (λ l after n. differs (Text l) (inl (key, set, knows, inl (h, n))) after) (λ b why after n e. outcome_index due b why after n e) (λ why after n e. as_own f.before why (Expected what.Index) (Closing ∷ after) is e) s
+      (told_by f.before row Role.OutcomeNumber s is (λ b. (λ k. k, λ k. k)))
+  in_node (IsInNode.SetOpening key h) = opening f.before (nodes.set_opening f key h)
+  in_node (IsInNode.NewAction key set h new some) =
+      let row = a_new_action set.actions in
+      let s = actions.new_action f key set h new some in
+      let due = some_text f.before row s tt in
+      reasons f.before row (λ after plain. due) (λ l after n. due) (λ b why after n e. as_own f.before why (Expected what.Text) (Bare b ∷ after) due e) (λ why after n e. no_entry key set h new (no_action set.actions n) why after e) s
+      (λ b k. absurd k)
+  in_node (IsInNode.NewBranch number set sum h new has) =
+      let row = a_new_branch set.actions sum in
+      let key = set_of 0 number in
+      let s = actions.new_branch f number set sum h new has in
+      let due = some_text f.before row s tt in
+      reasons f.before row (λ after plain. due) (λ l after n. due) (λ b why after n e. as_own f.before why (Expected what.Text) (Bare b ∷ after) due e) (λ why after n e. elim e [ inl k ↦ no_entry key set h new k.1 why after k.0 | inr k ↦ as_own f.before why SumBelowOne (Closing ∷ after) (number, set, sum, lists key set h new, k.1, has, actions.sum_below f number set sum h new has (λ one. n (k.1, one))) k.0 ]) s
+      (λ b k. absurd k)
+  in_node (IsInNode.NewProbability number set sum h new has) =
+      let due : NewProbabilityIsDue f.before sum =
+      (f.players, f.nodes, f.front, number, set, f.ends, h, new, has) in
+      let asked : ProbabilityIsDue f.before = (f.players, f.nodes, f.front, number, set, f.ends, h) in
+      number_named f.before (Role.Probability sum) (inl asked) (a_probability sum)
+      (actions.new_probability f number set sum h new has) refl refl
+      (λ b why after n e. elim e [
+        | inl k ↦ as_own f.before why (why_of k.0) (Bare b ∷ after)
+            (fault_own f.before after b k.0 (inl asked) k.2) k.1
+        | inr k ↦ wrong_own why f.before after b sum k.0 due k.1 k.2
+      ]) (λ why e. e) refl (λ b. (λ k. k, λ k. k))
+  in_node (IsInNode.KnownAction key known seen next h knows more) =
+      let row = this_label next.label in
+      let s = actions.known_action f key known seen next h knows more in
+      let due : IsDue f.before what.Text =
+      (next.label, follows f.before row what.Text s (Text next.label ∷ []) refl) in
+      reasons f.before row (λ after plain. due) (λ l after n. differs (Text l) (inl (key, known, knows, inr (seen, h, λ other k e. n (e ∙ ap (λ (a : Action). a.label) (one_next seen.actions other next k.0 more.0 known.actions k.1 more.1))))) after) (λ b why after n e. as_own f.before why (Expected what.Text) (Bare b ∷ after) due e) (λ why after n e. as_own f.before why Mismatch (Closing ∷ after) (differs Closing (inl (key, known, seen, next, knows, h, more)) after) e) s
+      (λ b k. absurd k)
+  in_node (IsInNode.KnownProbability number known seen next p h knows more has) =
+      known_number (this_number p) p
+      (actions.known_probability f number known seen next p h knows more has)
+      (inl (f.players, f.nodes, f.front, number, seen, f.ends, h))
+      (λ b q is other. inl (
+        number,
+        known,
+        seen,
+        next,
+        q,
+        knows,
+        h,
+        more,
+        is,
+        λ e. other (actions.some_is q p (sym e ∙ has)),
+      )) refl refl (λ b why e. e) (λ why e. e)
+      (λ b. (λ k. k, λ k. k))
+  in_node (IsInNode.NoActionLeft key known seen h knows same) =
+      let s = actions.no_action_left f key known seen h knows same in
+      let due : IsDue f.before what.Closing =
+      follows f.before no_label what.Closing s (Closing ∷ []) tt in
+      reasons f.before no_label (λ after plain. due) (λ l after n. differs (Text l) (inl (key, known, knows, inr (seen, h, λ other k e. none_next seen.actions other k.0 (sym same ∙ k.1)))) after) (λ b why after n e. as_own f.before why (Expected what.Closing) (Bare b ∷ after) due e) (λ why after n e. absurd (n tt)) s
+      (λ b k. absurd k)
+  in_node (IsInNode.OutcomeNumber h) =
+      let due = outcome_due h.0 h.1 (told_set h.0 h.2) in
+      let is : IsDue f.before what.Index = inr (inr due) in
+      let s = outcomes.outcome_number_due f h in
+      reasons f.before an_outcome (λ after plain. is) (λ l after n. is) (λ b why after n e. outcome_index due b why after n e) (λ why after n e. as_own f.before why (Expected what.Index) (Closing ∷ after) is e) s
+      (told_by f.before an_outcome Role.OutcomeNumber s is (λ b. (λ k. k, λ k. k)))
+  in_node (IsInNode.NewOutcome number h new) =
+      first_use (inr (number, h, new)) (outcomes.new_outcome f number h new)
+  in_node (IsInNode.KnownOutcome number outcome h knows) =
+      by (outcomes.known_outcome f number outcome h knows)
+    where
+      other : (l : List ℕ) (after : List Token) → l ≢ outcome.name
+          → Own Mismatch f.before (Text l ∷ after)
+      other l after n = differs (Text l) (inr (number, outcome, knows, h, n)) after
+
+      by : GoesOnBehindOr outcome.name f → Reasoned f.before
+      by (inl s) = name_or_end f.before outcome.name s other
+      by (inr s) = name_or_node f.before f.players (λ e. number_node f number h)
+          outcome.name s other
+  in_node (IsInNode.OutcomeOpening number h) =
+      opening f.before (outcomes.outcome_opening f number h)
+  in_node (IsInNode.NewPayoff number ps h new fewer) =
+      new_number a_payoff (payoffs.new_payoff f number ps h new fewer)
+      (due_payoff number ps false (seen_to f.front number ps h) fewer) refl refl (λ b why e. e)
+      (λ why e. e) (λ b. (λ k. k, λ k. k))
+  in_node (IsInNode.KnownPayoff number ps outcome p others h knows parts) =
+      known_payoff (this_number p) number ps outcome p others false
+      (payoffs.known_payoff f number ps outcome p others h knows parts)
+      (seen_to f.front number ps h) knows parts refl refl (λ b why e. e) (λ why e. e)
+      (λ b. (λ k. k, λ k. k))
+  in_node (IsInNode.AfterNewPayoff number ps h new fewer) =
+      new_number (or_comma a_payoff) (payoffs.after_new_payoff f number ps h new fewer)
+      (due_payoff number ps true (seen_behind f.front number ps h) fewer) refl refl (λ b why e. e)
+      (λ why e. e) (λ b. (λ k. k, λ k. k))
+  in_node (IsInNode.AfterKnownPayoff number ps outcome p others h knows parts) =
+      known_payoff (or_comma (this_number p)) number ps outcome p others true
+      (payoffs.after_known_payoff f number ps outcome p others h knows parts)
+      (seen_behind f.front number ps h) knows parts refl refl (λ b why e. e) (λ why e. e)
+      (λ b. (λ k. k, λ k. k))
+  in_node (IsInNode.AfterLastPayoff number ps h all) =
+      closing f.before (or_comma a_closing) (payoffs.after_last_payoff f number ps h all) tt
+      refl refl (λ b why e. e) (λ why e. e) (λ b k. absurd k)
+  in_node (IsInNode.NoPayoff number ps h all) =
+      closing f.before a_closing (payoffs.no_payoff f number ps h all) tt refl refl
+      (λ b why e. e) (λ why e. e) (λ b k. absurd k)
+  in_node (IsInNode.AfterNode h) = behind h
+
+-- a row comes after the tokens that some file begins with, and its refusals have reasons
+pub reasoned : (before : List Token) → Begins IsExtensiveFile before → Reasoned before
+reasoned before begins = by (some_row before begins)
+  where
+    by : IsBeforeRow before → Reasoned before
+    by (inl h) = in_heading before h
+    by (inr k) = subst (λ (ts : List Token). Reasoned ts) k.1 (in_node k.0 k.2)
+
+pub told_somewhere : (before : List Token) (b : List ℕ) → Begins IsExtensiveFile before
+    → MayFollow IsExtensiveFile before (Bare b) → IsTold before
+told_somewhere before b begins m =
+    let r = reasoned before begins in
+    r.told b ((accepted before r.row r.stands (Bare b ∷ [])).0 m)

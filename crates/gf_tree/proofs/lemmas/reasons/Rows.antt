@@ -1,0 +1,265 @@
+-- What a row of the table of positions refuses, it refuses for a reason: the code applies there, or
+-- what is named is due.
+use Rattle.std.proofs.Common.{◌≡◌, ◌≢◌, ℕ, ◌<◌, List, [], ◌∷◌, length}
+use Rattle.std.proofs.Common.{refl, sym, subst, arith}
+use Rattle.std.proofs.Common.{inl, inr}
+use Rattle.std.specs.Prelude.{codes, ◌⊎◌}
+use Rattle.gf_fraction.specs.Ratio.{Ratio}
+use Rattle.gf_fraction.specs.NumberSpelling.{HasNumberFault, IsNumber}
+use Rattle.gf_fraction.specs.declared.fraction.NumberFault.{NumberFault}
+use Rattle.gf_fraction.specs.declared.fraction.NumberFault.TheVariants as number
+use Rattle.gf_token.specs.Token.{Token}
+use Rattle.gf_token.specs.Token.Token.{Opening, Closing, Comma, Text, Bare, Broken}
+use Rattle.gf_token.specs.NumberWhy.{why_of}
+use Rattle.gf_token.specs.Place.{IsAccepted}
+use Rattle.gf_token.specs.declared.fault.What.{What}
+use Rattle.gf_token.specs.declared.fault.What.TheVariants as what
+use Rattle.gf_token.specs.declared.fault.Why.{Why}
+use Rattle.gf_token.specs.declared.fault.Why.TheVariants.{Expected, UnknownPlayer}
+use Rattle.gf_token.specs.declared.fault.Why.TheVariants.{Mismatch}
+use Rattle.gf_token.specs.declared.fault.Why.TheVariants.{NegativeProbability, SumAboveOne}
+use Rattle.gf_token.specs.declared.fault.Why.TheVariants.{SumOverflow}
+use Rattle.gf_tree.specs.Description.{Action}
+use Rattle.gf_tree.specs.Due.{IsDue, NodeIsDue, PayoffIsDue}
+use Rattle.gf_tree.specs.Due.{ProbabilityIsDue}
+use Rattle.gf_tree.specs.DueRoles.{OnlySuitedFollow, Role, Suits, what_of}
+use Rattle.gf_tree.specs.FileTree.{FileNode}
+use Rattle.gf_tree.specs.Front.{EndsInNode}
+use Rattle.gf_tree.specs.Front.{IsExtensiveFile}
+use Rattle.gf_tree.specs.Reason.{Holds}
+use Rattle.gf_tree.specs.Reason.{IsNoText}
+use Rattle.gf_tree.specs.Reason.{IsWrongBehind, NewProbabilityIsDue}
+use Rattle.gf_tree.specs.Rows.{Accepts, Refuses, Row, a_letter}
+use Rattle.gf_tree.specs.Rows.{a_node, a_player_name}
+use Rattle.gf_tree.specs.Rows.{a_text, a_word, an_end, an_opening}
+use Rattle.gf_tree.specs.Rows.{or_name, or_text}
+use Rattle.gf_tree.specs.SomeRow.{IsInHeading}
+use Rattle.gf_tree.proofs.lemmas.due.Heading as heading
+use Rattle.gf_tree.proofs.lemmas.due.Rows.{Stands, accepted}
+use Rattle.gf_tree.proofs.lemmas.fronts.WholeNodes.{behind_comment, behind_players}
+
+-- the code applies, or what it names is due
+abbrev pub Own : Why → List Token → List Token → Type 0
+Own (Expected w) before after = IsDue before w
+Own why before after = Holds why before after
+
+-- one role is due
+abbrev pub IsTold : List Token → Type 0
+IsTold before = (r : Role) × OnlySuitedFollow before r × IsDue before (what_of r)
+
+-- a row comes after these tokens, and its refusals have reasons
+pub record Reasoned (before : List Token) : Type 1 where
+  pub row : Row
+  pub stands : Stands before row
+  pub own : (after : List Token) (why : Why) → ¬ (Accepts row after) → Refuses row after why
+      → Own why before after
+  pub told : (b : List ℕ) → row.bare b → IsTold before
+
+-- the bare tokens of a row suit a role
+abbrev pub IsOfRole : Row → Role → Type 0
+IsOfRole row r = (b : List ℕ) → (row.bare b → Suits r b) × (Suits r b → row.bare b)
+
+pub of_row : (before : List Token) (row : Row) (r : Role) → Stands before row → IsOfRole row r
+    → OnlySuitedFollow before r
+of_row before row r s same b =
+    let k = accepted before row s (Bare b ∷ []) in
+    (λ m. (same b).0 (k.0 m), λ t. k.1 ((same b).1 t))
+
+-- ---- codes
+
+pub fault_own : (before after : List Token) (b : List ℕ) (fault : NumberFault)
+    → (ProbabilityIsDue before ⊎ PayoffIsDue before) → HasNumberFault b fault
+    → Own (why_of fault) before (Bare b ∷ after)
+fault_own before after b number.NotANumber h is = (h, is)
+fault_own before after b number.ZeroDenominator h is = (h, is)
+fault_own before after b number.TooLarge h is = (h, is)
+
+pub wrong_own : (why : Why) (before after : List Token) (b : List ℕ) (sum p : Ratio)
+    → NewProbabilityIsDue before sum → IsNumber b p → IsWrongBehind why sum p
+    → Own why before (Bare b ∷ after)
+wrong_own NegativeProbability before after b sum p h is k = (sum, p, h, is, k)
+wrong_own SumAboveOne before after b sum p h is k = (sum, p, h, is, k)
+wrong_own SumOverflow before after b sum p h is k = (sum, p, h, is, k)
+wrong_own _ before after b sum p h is k = absurd k
+
+no_one : (players : List (List ℕ)) → length players ≡ 0 → players ≡ []
+no_one [] e = refl
+no_one (player ∷ players) e = absurd (omega (arith, e))
+
+pub no_action : (actions : List Action) → ¬ (0 < length actions) → actions ≡ []
+no_action [] n = refl
+no_action (a ∷ actions) n = absurd (n (omega arith))
+
+-- ---- by the parts of a row
+
+module _ (before : List Token) where
+  pub as_own : (why other : Why) (after : List Token) → Own other before after → why ≡ other
+      → Own why before after
+  as_own why other after h e = subst (λ (w : Why). Own w before after) (sym e) h
+
+  module _ (row : Row)
+      (otherwise : (after : List Token) → IsNoText after → Own row.otherwise before after)
+      (text : (l : List ℕ) (after : List Token) → ¬ (row.text l)
+      → Own row.other_text before (Text l ∷ after))
+      (bare : (b : List ℕ) (why : Why) (after : List Token) → ¬ (row.bare b)
+      → row.other_bare b why → Own why before (Bare b ∷ after))
+      (closing : (why : Why) (after : List Token) → ¬ row.closing → row.other_closing why
+      → Own why before (Closing ∷ after)) where
+    pub own_by : (after : List Token) (why : Why) → ¬ (Accepts row after) → Refuses row after why
+        → Own why before after
+    own_by [] why n e = as_own why row.otherwise [] (otherwise [] tt) e
+    own_by (Opening ∷ after) why n e =
+        as_own why row.otherwise (Opening ∷ after) (otherwise (Opening ∷ after) tt) e
+    own_by (Comma ∷ after) why n e =
+        as_own why row.otherwise (Comma ∷ after) (otherwise (Comma ∷ after) tt) e
+    own_by (Text l ∷ after) why n e =
+        as_own why row.other_text (Text l ∷ after) (text l after n) e
+    own_by (Bare b ∷ after) why n e = bare b why after n e
+    own_by (Closing ∷ after) why n e = closing why after n e
+    own_by (Broken ∷ after) why n e = as_own why _ (Broken ∷ after) tt e
+
+    pub reasons : Stands before row → ((b : List ℕ) → row.bare b → IsTold before) → Reasoned before
+    reasons s told = record { row = row; stands = s; own = own_by; told = told }
+
+-- a row with one refusal, for what is due
+module _ (before : List Token) (row : Row) (w : What)
+    (s : Stands before row) where
+  pub follows : (after : List Token) → Accepts row after → IsAccepted IsExtensiveFile before after
+  follows after = (accepted before row s after).1
+
+  one_reason : IsDue before w → row.otherwise ≡ Expected w → row.other_text ≡ Expected w
+      → ((b : List ℕ) (why : Why) → row.other_bare b why → why ≡ Expected w)
+      → ((why : Why) → row.other_closing why → why ≡ Expected w)
+      → ((b : List ℕ) → row.bare b → IsTold before) → Reasoned before
+  one_reason due otherwise text bare closing told = reasons before row (λ after plain. as_own before row.otherwise (Expected w) after due otherwise) (λ l after n. as_own before row.other_text (Expected w) (Text l ∷ after) due text) (λ b why after n e. as_own before why (Expected w) (Bare b ∷ after) due (bare b why e)) (λ why after n e. as_own before why (Expected w) (Closing ∷ after) due (closing why e)) s told
+
+-- a row of a role
+module _ (before : List Token) (row : Row) (r : Role)
+    (s : Stands before row) (due : IsDue before (what_of r)) (same : IsOfRole row r) where
+  pub told_by : (b : List ℕ) → row.bare b → IsTold before
+  told_by b h = (r, of_row before row r s same, due)
+
+-- the letter of a node: there is no player, although one is to move
+module _ (before : List Token) (players : List (List ℕ))
+    (ends : length players ≡ 0 → (whole : List FileNode) × EndsInNode before players whole [])
+    (due : NodeIsDue before) where
+  letter_own : (b : List ℕ) (why : Why) (after : List Token) → (a_node (length players)).other_bare b why
+      → Own why before (Bare b ∷ after)
+  letter_own b why after (inl h) = as_own before why UnknownPlayer (Bare b ∷ after) (inr (
+    (ends h.2).0,
+    subst (λ (ps : List (List ℕ)). EndsInNode before ps (ends h.2).0 []) (no_one players h.2)
+        (ends h.2).1,
+    due,
+    h.1,
+  )) h.0
+  letter_own b why after (inr k) = as_own before why (Expected what.Node) (Bare b ∷ after) due k.0
+
+-- ---- the heading
+
+module _ (before : List Token) where
+  word : (row : Row) (r : Role) → Stands before row → IsDue before (what_of r) → IsOfRole row r
+      → row.otherwise ≡ Expected (what_of r) → row.other_text ≡ Expected (what_of r)
+      → ((b : List ℕ) (why : Why) → row.other_bare b why → why ≡ Expected (what_of r))
+      → ((why : Why) → row.other_closing why → why ≡ Expected (what_of r)) → Reasoned before
+  word row r s due same otherwise text bare closing =
+      one_reason before row (what_of r) s due otherwise text bare closing
+      (told_by before row r s due same)
+
+  pub some_text : (row : Row) → Stands before row → row.text [] → IsDue before what.Text
+  some_text row s h = ([], follows before row what.Text s (Text [] ∷ []) h)
+
+  pub text : Stands before a_text → Reasoned before
+  text s = one_reason before a_text what.Text s (some_text a_text s tt) refl refl
+      (λ b why e. e) (λ why e. e) (λ b h. absurd h)
+
+  pub opening : Stands before an_opening → Reasoned before
+  opening s = one_reason before an_opening what.Opening s
+      (follows before an_opening what.Opening s (Opening ∷ []) tt) refl refl
+      (λ b why e. e) (λ why e. e) (λ b h. absurd h)
+
+  pub closing : (row : Row) → Stands before row → row.closing → row.otherwise ≡ Expected what.Closing
+      → row.other_text ≡ Expected what.Closing
+      → ((b : List ℕ) (why : Why) → row.other_bare b why → why ≡ Expected what.Closing)
+      → ((why : Why) → row.other_closing why → why ≡ Expected what.Closing)
+      → ((b : List ℕ) → row.bare b → IsTold before) → Reasoned before
+  closing row s h = one_reason before row what.Closing s
+      (follows before row what.Closing s (Closing ∷ []) h)
+
+  -- the letter of a node, and perhaps a text
+  module _ (players : List (List ℕ))
+      (ends : length players ≡ 0 → (whole : List FileNode) × EndsInNode before players whole [])
+    where
+      node_due : (row : Row) → Stands before row → IsOfRole row (Role.NodeLetter (length players))
+          → NodeIsDue before
+      node_due row s same =
+          follows before row what.Node s (Bare (codes "t") ∷ []) ((same (codes "t")).1 (inr (inl refl)))
+
+      pub node : Stands before (a_node (length players)) → Reasoned before
+      node s =
+          let due = node_due (a_node (length players)) s (λ b. (λ h. h, λ h. h)) in
+          reasons before (a_node (length players)) (λ after plain. due) (λ l after n. due) (λ b why after n e. letter_own before players ends due b why after e) (λ why after n e. as_own before why (Expected what.Node) (Closing ∷ after) due e) s
+          (told_by before (a_node (length players)) (Role.NodeLetter (length players)) s due (λ b. (λ h. h, λ h. h)))
+
+      text_or_node : Stands before (or_text (a_node (length players))) → Reasoned before
+      text_or_node s =
+          let row = or_text (a_node (length players)) in
+          let due = node_due row s (λ b. (λ h. h, λ h. h)) in
+          reasons before row (λ after plain. due) (λ l after n. due) (λ b why after n e. letter_own before players ends due b why after e) (λ why after n e. as_own before why (Expected what.Node) (Closing ∷ after) due e) s
+          (told_by before row (Role.NodeLetter (length players)) s due (λ b. (λ h. h, λ h. h)))
+
+      -- or this name, of which another one differs
+      pub name_or_node : (name : List ℕ) → Stands before (or_name name (a_node (length players)))
+          → ((l : List ℕ) (after : List Token) → l ≢ name → Own Mismatch before (Text l ∷ after))
+          → Reasoned before
+      name_or_node name s other =
+          let row = or_name name (a_node (length players)) in
+          let due = node_due row s (λ b. (λ h. h, λ h. h)) in
+          reasons before row (λ after plain. due) other (λ b why after n e. letter_own before players ends due b why after e) (λ why after n e. as_own before why (Expected what.Node) (Closing ∷ after) due e) s
+          (told_by before row (Role.NodeLetter (length players)) s due (λ b. (λ h. h, λ h. h)))
+
+  pub end : Stands before an_end → Reasoned before
+  end s = one_reason before an_end what.End s (follows before an_end what.End s [] tt)
+      refl refl (λ b why e. e) (λ why e. e) (λ b h. absurd h)
+
+  pub name_or_end : (name : List ℕ) → Stands before (or_name name an_end)
+      → ((l : List ℕ) (after : List Token) → l ≢ name → Own Mismatch before (Text l ∷ after))
+      → Reasoned before
+  name_or_end name s other =
+      let row = or_name name an_end in
+      let due : IsExtensiveFile before = follows before row what.End s [] tt in
+      reasons before row (λ after plain. due) other (λ b why after n e. as_own before why (Expected what.End) (Bare b ∷ after) due e) (λ why after n e. as_own before why (Expected what.End) (Closing ∷ after) due e) s
+      (λ b h. absurd h)
+
+  -- a number: some bytes are not one, and others are a different one
+  module _ (r : Role) (is : IsDue before what.Number) (row : Row) (s : Stands before row) where
+    pub number_named : row.otherwise ≡ Expected what.Number → row.other_text ≡ Expected what.Number
+        → ((b : List ℕ) (why : Why) (after : List Token) → ¬ (row.bare b) → row.other_bare b why
+        → Own why before (Bare b ∷ after))
+        → ((why : Why) → row.other_closing why → why ≡ Expected what.Number)
+        → what_of r ≡ what.Number → IsOfRole row r → Reasoned before
+    number_named otherwise text bare closing named same = reasons before row (λ after plain. as_own before row.otherwise (Expected what.Number) after is otherwise) (λ l after n. as_own before row.other_text (Expected what.Number) (Text l ∷ after) is text) bare (λ why after n e. as_own before why (Expected what.Number) (Closing ∷ after) is (closing why e)) s
+        (told_by before row r s (subst (λ (w : What). IsDue before w) (sym named) is) same)
+
+  pub in_heading : IsInHeading before → Reasoned before
+  in_heading (IsInHeading.Format e) =
+      word (a_word what.Format (codes "EFG")) Role.Format
+      (subst (λ (ts : List Token). Stands ts (a_word what.Format (codes "EFG"))) (sym e)
+      heading.format) e (λ b. (λ h. h, λ h. h)) refl refl (λ b why k. k) (λ why k. k)
+  in_heading (IsInHeading.Version e) =
+      word (a_word what.Version (codes "2")) Role.Version
+      (subst (λ (ts : List Token). Stands ts (a_word what.Version (codes "2"))) (sym e)
+      heading.version) e (λ b. (λ h. h, λ h. h)) refl refl (λ b why k. k) (λ why k. k)
+  in_heading (IsInHeading.Letter e) = word a_letter Role.Letter
+      (subst (λ (ts : List Token). Stands ts a_letter) (sym e) heading.letter) e
+      (λ b. (λ h. h, λ h. h)) refl refl (λ b why k. k) (λ why k. k)
+  in_heading (IsInHeading.Title h) = text (heading.title before h)
+  in_heading (IsInHeading.BeforePlayers h) = opening (heading.before_players before h)
+  in_heading (IsInHeading.Players players h) =
+      let s = heading.player_names before players h in
+      one_reason before a_player_name what.Text s (some_text a_player_name s tt) refl refl
+      (λ b why e. e) (λ why e. e) (λ b k. absurd k)
+  in_heading (IsInHeading.AfterPlayers players h) =
+      text_or_node players (λ e. ([], behind_players before players h))
+      (heading.after_players before players h)
+  in_heading (IsInHeading.AfterComment players h) =
+      node players (λ e. ([], behind_comment before players h)) (heading.after_comment before players h)

@@ -1,0 +1,283 @@
+-- Runs over the actions of a new information set in braces.
+use Rattle.std.proofs.Common.{◌≡◌, ℕ, zero, suc, ◌<◌, List, [], ◌∷◌, ◌++◌, length}
+use Rattle.std.proofs.Common.{map, drop, Option, Some, None, Result, Ok, Err, refl}
+use Rattle.std.proofs.Common.{sym, ap, subst, ◌∙◌, append_assoc, append-nil, arith}
+use Rattle.std.specs.Prelude.{pos, ◌≤ℤ◌}
+use Rattle.std.specs.List.{AllByRecursion}
+use Rattle.std.proofs.lemmas.Int.{ints}
+use Rattle.gf_token.specs.Token.{Token}
+use Rattle.gf_token.specs.Token.Token.{Closing, Text, Bare}
+use Rattle.gf_token.specs.Grammar.{Each}
+use Rattle.gf_token.specs.declared.fault.Why.{Why}
+use Rattle.gf_token.specs.declared.fault.Why.TheVariants.{SumBelowOne}
+use Rattle.gf_fraction.specs.Ratio.{Ratio, IsFraction, whole}
+use Rattle.gf_fraction.specs.Fits.{AddsTo}
+use Rattle.gf_tree.specs.Description.{Action, InformationSet, SetKey, set_of, AddToOne, AreActions}
+use Rattle.gf_tree.specs.inner.Probability.{Share, is_one, share_of}
+use Rattle.gf_tree.specs.Sentence.{IsAction}
+use Rattle.gf_tree.specs.inner.Machine.{Content, at, begun, new_set_ends}
+use Rattle.gf_tree.specs.inner.Machine.{set_ends, shared, with_action, with_set}
+use Rattle.gf_tree.specs.inner.Machine.Position.{NewAction, OutcomeNumber}
+use Rattle.gf_tree.specs.inner.ReadGame.{run_tokens, then_run}
+use Rattle.gf_tree.proofs.lemmas.runs.Tokens.{Reads, run_on, guard_ok, ratio_is}
+use Rattle.gf_tree.proofs.lemmas.runs.Shares.{share_found, share_again, sum_high}
+
+-- the probabilities of chance after this sum add up to one; a player's actions have none
+abbrev pub AreOthers : ℕ → Ratio → List Action → Type 0
+AreOthers zero sum actions =
+    (ps : List Ratio) × (map (λ a. a.probability) actions ≡ map Some ps) × AddToOne sum ps
+AreOthers (suc player) sum actions = AllByRecursion (λ a. a.probability ≡ None) actions
+
+pub others_are : (player : ℕ) (actions : List Action) → AreOthers player (whole (pos 0)) actions
+    → AreActions player actions
+others_are zero actions h = h
+others_are (suc player) actions h = h
+
+pub are_others : (player : ℕ) (actions : List Action) → AreActions player actions
+    → AreOthers player (whole (pos 0)) actions
+are_others zero actions h = h
+are_others (suc player) actions h = h
+
+abbrev pub with_actions : InformationSet → List Action → InformationSet
+with_actions set actions = record set { actions = set.actions ++ actions }
+
+pub no_actions : (set : InformationSet) → with_actions set [] ≡ set
+no_actions set = ap (λ (done : List Action). record set { actions = done }) (append-nil set.actions)
+
+pub more_actions : (set : InformationSet) (label : List ℕ) (p : Option Ratio) (actions : List Action)
+    → with_actions (with_action set label p) actions
+    ≡ with_actions set (record { label = label; probability = p } ∷ actions)
+more_actions set label p actions = ap (λ (done : List Action). record set { actions = done })
+    (append_assoc set.actions (record { label = label; probability = p } ∷ []) actions)
+
+pub record NewActions (ts : List Token) (name : List ℕ) (player n : ℕ) (set : InformationSet)
+    (sum : Ratio) (c r : Content) : Type 0 where
+  pub actions : List Action
+  pub inner : List Token
+  pub rest : List Token
+  pub parts : ts ≡ inner ++ Closing ∷ rest
+  pub each : Each (IsAction player) inner actions
+  pub some : 0 < length (set.actions ++ actions)
+  pub are : AreOthers player sum actions
+  pub goes_on : Reads (OutcomeNumber (begun name (set_of player n) (with_actions set actions)))
+      (with_set c (set_of player n) (with_actions set actions)) rest r
+
+new_end : (ts : List Token) (name : List ℕ) (player n : ℕ)
+    (set : InformationSet) (sum : Ratio) (c r : Content)
+    → 0 < length set.actions → AreOthers player sum []
+    → Reads (OutcomeNumber (begun name (set_of player n) set))
+    (with_set c (set_of player n) set) ts r
+    → NewActions (Closing ∷ ts) name player n set sum c r
+new_end ts name player n set sum c r some are e = record {
+  actions = [];
+  inner = [];
+  rest = ts;
+  parts = refl;
+  each = refl;
+  some = subst (λ (s : InformationSet). 0 < length s.actions) (sym (no_actions set)) some;
+  are = are;
+  goes_on = subst (λ (s : InformationSet).
+      Reads (OutcomeNumber (begun name (set_of player n) s)) (with_set c (set_of player n) s) ts r)
+      (sym (no_actions set)) e;
+}
+
+end_by_player : (ts : List Token) (name : List ℕ) (player n : ℕ)
+    (set : InformationSet) (sum : Ratio) (c r : Content)
+    → 0 < length set.actions
+    → then_run (set_ends c name player n set sum) (run_on ts) ≡ Ok r
+    → NewActions (Closing ∷ ts) name player n set sum c r
+end_by_player ts name zero n set sum c r some e =
+    let h = guard_ok (is_one sum)
+    (at (OutcomeNumber (begun name (set_of 0 n) set)) (with_set c (set_of 0 n) set)) SumBelowOne ts
+    r e in
+    new_end ts name 0 n set sum c r some ([], refl, ratio_is sum (whole (pos 1)) h.0) h.1
+end_by_player ts name (suc player) n set sum c r some e =
+    new_end ts name (suc player) n set sum c r some tt e
+
+end_by_actions : (ts : List Token) (name : List ℕ) (player n : ℕ)
+    (set : InformationSet) (actions : List Action) (sum : Ratio) (c r : Content)
+    → set.actions ≡ actions
+    → then_run (new_set_ends c name (set_of player n) set actions sum) (run_on ts) ≡ Ok r
+    → NewActions (Closing ∷ ts) name player n set sum c r
+end_by_actions ts name player n set [] sum c r is e = absurd cc
+end_by_actions ts name player n set (a ∷ actions) sum c r is e =
+    end_by_player ts name player n set sum c r (let size = ap length is in omega (arith, size)) e
+
+new_more : (first ts : List Token) (name label : List ℕ) (player n : ℕ) (set : InformationSet)
+    (p : Option Ratio) (sum next : Ratio) (c r : Content)
+    → IsAction player first (record { label = label; probability = p })
+    → ((actions : List Action) → AreOthers player next actions
+    → AreOthers player sum (record { label = label; probability = p } ∷ actions))
+    → NewActions ts name player n (with_action set label p) next c r
+    → NewActions (first ++ ts) name player n set sum c r
+new_more first ts name label player n set p sum next c r is are h =
+    let action : Action = record { label = label; probability = p } in
+    let all = more_actions set label p h.actions in
+    record {
+      actions = action ∷ h.actions;
+      inner = first ++ h.inner;
+      rest = h.rest;
+      parts = ap (λ (x : List Token). first ++ x) h.parts
+          ∙ sym (append_assoc first h.inner (Closing ∷ h.rest));
+      each = (first, h.inner, refl, is, h.each);
+      some = subst (λ (s : InformationSet). 0 < length s.actions) all h.some;
+      are = are h.actions h.are;
+      goes_on =
+          subst (λ (s : InformationSet). Reads (OutcomeNumber (begun name (set_of player n) s))
+          (with_set c (set_of player n) s) h.rest r)
+          all h.goes_on;
+    }
+
+abbrev pub ok_share : Share → Result Share Why
+ok_share s = Ok s
+
+pub shared_found : (c : Content) (name : List ℕ) (key : SetKey) (set : InformationSet) (label : List ℕ)
+    (o : Result Share Why) (ts : List Token) (r : Content)
+    → then_run (shared c name key set label o) (run_on ts) ≡ Ok r → (s : Share) × (o ≡ ok_share s)
+    × Reads (NewAction name key (with_action set label (Some s.probability)) s.sum) c ts r
+shared_found c name key set label (Err why) ts r e = absurd cc
+shared_found c name key set label (Ok s) ts r e = (s, refl, e)
+
+pub new_found : (ts : List Token) (name : List ℕ) (player n : ℕ)
+    (set : InformationSet) (sum : Ratio) (c r : Content)
+    → IsFraction sum
+    → Reads (NewAction name (set_of player n) set sum) c ts r
+    → NewActions ts name player n set sum c r
+new_found (Closing ∷ ts) name player n set sum c r fraction e =
+    end_by_actions ts name player n set set.actions sum c r refl e
+new_found (Text label ∷ ts) name (suc player) n set sum c r fraction e =
+    new_more (Text label ∷ []) ts name label (suc player) n set None sum sum c r (refl, refl)
+    (λ actions h. (refl, h))
+    (new_found ts name (suc player) n (with_action set label None) sum c r fraction e)
+new_found (Text label ∷ Bare b ∷ ts) name zero n set sum c r fraction e =
+    let h = shared_found c name (set_of 0 n) set label (share_of sum b) ts r e in
+    let s = h.0 in
+    let is = share_found sum b s fraction h.1 in
+    new_more (Text label ∷ Bare b ∷ []) ts name label 0 n set (Some s.probability) sum s.sum c r
+    (b, s.probability, refl, is.number, refl)
+    (λ actions k. (
+      s.probability ∷ k.0,
+      ap (λ (x : List (Option Ratio)). Some s.probability ∷ x) k.1,
+      (is.not_below, (s.sum, is.adds, k.2)),
+    ))
+    (new_found ts name 0 n (with_action set label (Some s.probability)) s.sum c r is.adds.1 h.2)
+new_found (Text label ∷ _) name zero n set sum c r fraction e = absurd cc
+new_found _ name player n set sum c r fraction e = absurd cc
+
+-- ---- each new set is read
+
+some_is : (p q : Ratio) (o : Option Ratio) → o ≡ Some p → o ≡ Some q → p ≡ q
+some_is p q o h k = cc
+
+record FirstShare (sum p : Ratio) (actions : List Action) : Type 0 where
+  not_below : pos 0 ≤ℤ p.num
+  next : Ratio
+  adds : AddsTo sum p next
+  others : AreOthers 0 next actions
+
+-- the first probability, and that the others add up to one with it
+first_share : (a : Action) (actions : List Action) (p sum : Ratio) (ps : List Ratio)
+    → a.probability ≡ Some p → a.probability ∷ map (λ b. b.probability) actions ≡ map Some ps
+    → AddToOne sum ps
+    → FirstShare sum p actions
+first_share a actions p sum [] e same h = absurd cc
+first_share a actions p sum (q ∷ ps) e same h =
+    let first : a.probability ≡ Some q = cc in
+    let is : q ≡ p = some_is q p a.probability first e in
+    let k = subst
+    (λ (x : Ratio). (pos 0 ≤ℤ x.num) × ((next : Ratio) × AddsTo sum x next × AddToOne next ps)) is
+    h in
+    record { not_below = k.0; next = k.1.0; adds = k.1.1; others = (ps, ap (drop 1) same, k.1.2) }
+
+-- the sum of the probabilities so far is at most one, if the others add up to one with it
+high : (actions : List Action) (inner : List Token) (sum : Ratio) → IsFraction sum
+    → Each (IsAction 0) inner actions → AreOthers 0 sum actions → sum.num ≤ℤ pos sum.den
+high [] inner sum fraction each h = by h.0 h.1 h.2
+  where
+    by : (ps : List Ratio) → [] ≡ map (λ (p : Ratio). Some p) ps → AddToOne sum ps
+        → sum.num ≤ℤ pos sum.den
+    by [] e one = subst (λ (x : Ratio). x.num ≤ℤ pos x.den) (sym one) (omega (arith, ints))
+    by (p ∷ ps) e one = absurd cc
+high (a ∷ actions) inner sum fraction each h =
+    let p = each.3.1 in
+    let s = first_share a actions p sum h.0 each.3.4 h.1 h.2 in
+    sum_high sum p s.next each.3.3.fraction.den_above_zero fraction.den_above_zero s.not_below
+    s.adds (high actions each.1 s.next s.adds.1 each.4 s.others)
+
+close_by_player : (player : ℕ) (rest : List Token) (name : List ℕ)
+    (n : ℕ) (set : InformationSet) (sum : Ratio) (c : Content)
+    → AreOthers player sum []
+    → then_run (set_ends c name player n set sum) (run_on rest) ≡ run_tokens
+    (OutcomeNumber (begun name (set_of player n) set)) (with_set c (set_of player n) set) rest
+close_by_player zero rest name n set sum c h = by h.0 h.1 h.2
+  where
+    by : (ps : List Ratio) → [] ≡ map (λ (p : Ratio). Some p) ps → AddToOne sum ps
+        → then_run (set_ends c name 0 n set sum) (run_on rest) ≡ run_tokens
+        (OutcomeNumber (begun name (set_of 0 n) set)) (with_set c (set_of 0 n) set) rest
+    by [] e one = rw one refl
+    by (p ∷ ps) e one = absurd cc
+close_by_player (suc player) rest name n set sum c h = refl
+
+close_by_actions : (actions : List Action) (player : ℕ) (rest : List Token)
+    (name : List ℕ) (n : ℕ) (set : InformationSet) (sum : Ratio) (c : Content)
+    → 0 < length actions → AreOthers player sum []
+    → then_run (new_set_ends c name (set_of player n) set actions sum) (run_on rest) ≡ run_tokens
+    (OutcomeNumber (begun name (set_of player n) set)) (with_set c (set_of player n) set) rest
+close_by_actions [] player rest name n set sum c some h = absurd (omega (arith, some))
+close_by_actions (a ∷ actions) player rest name n set sum c some h =
+    close_by_player player rest name n set sum c h
+
+pub new_again : (actions : List Action) (player : ℕ) (inner rest : List Token)
+    (name : List ℕ) (n : ℕ) (set : InformationSet) (sum : Ratio) (c : Content)
+    → IsFraction sum
+    → Each (IsAction player) inner actions → AreOthers player sum actions
+    → 0 < length (set.actions ++ actions)
+    → run_tokens (NewAction name (set_of player n) set sum) c (inner ++ Closing ∷ rest)
+    ≡ run_tokens (OutcomeNumber (begun name (set_of player n) (with_actions set actions)))
+    (with_set c (set_of player n) (with_actions set actions)) rest
+new_again [] player inner rest name n set sum c fraction each h some =
+    let filled = subst (λ (s : InformationSet). 0 < length s.actions) (no_actions set) some in
+    ap (λ (x : List Token).
+    run_tokens (NewAction name (set_of player n) set sum) c (x ++ Closing ∷ rest))
+    each
+    ∙ close_by_actions set.actions player rest name n set sum c filled h
+    ∙ ap (λ (s : InformationSet). run_tokens (OutcomeNumber (begun name (set_of player n) s))
+    (with_set c (set_of player n) s) rest) (sym (no_actions set))
+new_again (a ∷ actions) zero inner rest name n set sum c fraction each h some =
+    let b = each.3.0 in
+    let p = each.3.1 in
+    let s = first_share a actions p sum h.0 each.3.4 h.1 h.2 in
+    let is : a ≡ record { label = a.label; probability = Some p } =
+    λ i. record { label = a.label; probability = each.3.4 i } in
+    let all : with_actions (with_action set a.label (Some p)) actions
+    ≡ with_actions set (a ∷ actions) =
+    more_actions set a.label (Some p) actions
+    ∙ ap (λ (x : Action). with_actions set (x ∷ actions)) (sym is) in
+    let first : inner ++ Closing ∷ rest ≡ Text a.label ∷ Bare b ∷ (each.1 ++ Closing ∷ rest) =
+    rw (each.2, each.3.2) refl in
+    let more = subst (λ (t : InformationSet). 0 < length t.actions) (sym all) some in
+    ap (run_tokens (NewAction name (set_of 0 n) set sum) c) first
+    ∙ ap
+    (λ o. then_run (shared c name (set_of 0 n) set a.label o) (run_on (each.1 ++ Closing ∷ rest)))
+    (share_again sum p s.next b fraction each.3.3 s.not_below s.adds
+    (high actions each.1 s.next s.adds.1 each.4 s.others))
+    ∙ new_again actions 0 each.1 rest name n (with_action set a.label (Some p)) s.next c s.adds.1
+    each.4 s.others more
+    ∙ ap (λ (t : InformationSet).
+    run_tokens (OutcomeNumber (begun name (set_of 0 n) t)) (with_set c (set_of 0 n) t) rest)
+    all
+new_again (a ∷ actions) (suc player) inner rest name n set sum c fraction each h some =
+    let is : a ≡ record { label = a.label; probability = None } =
+    λ i. record { label = a.label; probability = each.3.1 i } in
+    let all : with_actions (with_action set a.label None) actions ≡ with_actions set (a ∷ actions) =
+    more_actions set a.label None actions
+    ∙ ap (λ (x : Action). with_actions set (x ∷ actions)) (sym is) in
+    let first : inner ++ Closing ∷ rest ≡ Text a.label ∷ (each.1 ++ Closing ∷ rest) =
+    rw (each.2, each.3.0) refl in
+    let more = subst (λ (t : InformationSet). 0 < length t.actions) (sym all) some in
+    ap (run_tokens (NewAction name (set_of (suc player) n) set sum) c) first
+    ∙ new_again actions (suc player) each.1 rest name n (with_action set a.label None) sum c
+    fraction each.4 h.1 more
+    ∙ ap (λ (t : InformationSet). run_tokens (OutcomeNumber (begun name (set_of (suc player) n) t))
+    (with_set c (set_of (suc player) n) t) rest)
+    all

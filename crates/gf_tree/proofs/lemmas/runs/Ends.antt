@@ -1,0 +1,306 @@
+-- Each state that the machine of the reader comes to can be completed.
+use Rattle.std.proofs.Common.{◌≡◌, ℕ, zero, suc, ◌<◌, Bool, true, cond, List, [], ◌∷◌, length}
+use Rattle.std.proofs.Common.{Option, Some, None, MatchOption, Ok, Err, refl, ap, ◌∙◌, arith}
+use Rattle.std.specs.Prelude.{codes, nat_le, pos}
+use Rattle.std.proofs.lemmas.Bool.{le-leb}
+use Rattle.std.proofs.lemmas.Int.{ints}
+use Rattle.std.proofs.lemmas.List.{length-append}
+use Rattle.gf_fraction.specs.Ratio.{Ratio, IsFraction, whole}
+use Rattle.gf_fraction.specs.NumberText.{number_text}
+use Rattle.gf_fraction.specs.Computed.{number_of, lowest_of, gcd_within}
+use Rattle.gf_fraction.proofs.ReadingBack.{written_is_read}
+use Rattle.gf_token.specs.Token.{Token}
+use Rattle.gf_token.specs.Token.Token.{Opening, Closing, Text, Bare}
+use Rattle.gf_token.specs.Indices.{count_of, index_of}
+use Rattle.gf_token.specs.declared.fault.Why.TheVariants.{UnknownPlayer}
+use Rattle.gf_tree.specs.Description.{Action, InformationSet, Outcome, SetKey, same_set, set_of}
+use Rattle.gf_tree.specs.FiniteMap.{description_at}
+use Rattle.gf_tree.specs.inner.Machine.{Begun, Content, Position, State, at, begun}
+use Rattle.gf_tree.specs.inner.Machine.{behind_label, behind_set, new_set_ends, outcome_number}
+use Rattle.gf_tree.specs.inner.Machine.{paid, player_number, set_ends, set_known, set_number}
+use Rattle.gf_tree.specs.inner.Machine.{shared, step, with_action, with_node}
+use Rattle.gf_tree.specs.inner.Machine.Position.{Format, Version, Letter, Title, BeforePlayers}
+use Rattle.gf_tree.specs.inner.Machine.Position.{InPlayers}
+use Rattle.gf_tree.specs.inner.Machine.Position.{AfterPlayers, NodeDue, ChanceName, PersonalName}
+use Rattle.gf_tree.specs.inner.Machine.Position.{TerminalName, PlayerNumber, SetNumber, NewSetName}
+use Rattle.gf_tree.specs.inner.Machine.Position.{NewSetOpening, NewAction, NewProbability}
+use Rattle.gf_tree.specs.inner.Machine.Position.{KnownSetName}
+use Rattle.gf_tree.specs.inner.Machine.Position.{KnownSetOpening, KnownAction, KnownProbability}
+use Rattle.gf_tree.specs.inner.Machine.Position.{OutcomeNumber, NewOutcomeName, NewOutcomeOpening}
+use Rattle.gf_tree.specs.inner.Machine.Position.{NewPayoff, AfterNewPayoff, KnownOutcomeName}
+use Rattle.gf_tree.specs.inner.Machine.Position.{KnownOutcomeOpening, KnownPayoff, AfterKnownPayoff}
+use Rattle.gf_tree.specs.inner.ReadGame.{then_run}
+use Rattle.gf_tree.proofs.lemmas.runs.Tokens.{Reads, run_on, text_again}
+use Rattle.gf_tree.proofs.lemmas.runs.Payoffs.{number_same}
+use Rattle.gf_tree.proofs.lemmas.runs.Shares.{share_again}
+use Rattle.gf_tree.proofs.lemmas.runs.Remainders.{IsShare, remainder, zero_share}
+use Rattle.gf_tree.proofs.lemmas.runs.Keeps.{Fine, FineActions, FinePayoffs}
+
+-- it can be completed
+abbrev pub Ends : Position → Content → Type 0
+Ends q c = (more : List Token) × (r : Content) × Reads q c more r
+
+-- by a token that leads to a state that can be completed
+by : (q : Position) (c : Content) (t : Token) (s : State)
+    → step q c t ≡ Ok s → Ends s.position s.content → Ends q c
+by q c t s e h = (t ∷ h.0, h.1, ap (λ o. then_run o (run_on h.0)) e ∙ h.2)
+
+zero_is_index : index_of (codes "0") ≡ Some 0
+unfolding index_of
+zero_is_index = refl
+
+one_is_count : count_of (codes "1") ≡ Some 1
+unfolding index_of
+one_is_count = refl
+
+zero_is_number : number_of (codes "0") ≡ Ok (whole (pos 0))
+unfolding number_of lowest_of gcd_within
+zero_is_number = refl
+
+-- ---- nodes
+
+abbrev terminal : Begun
+terminal = record { name = []; set = None; children = 0 }
+
+nodes_end : (due : ℕ) (c : Content) → c.due ≡ due → Ends NodeDue c
+nodes_end zero c is = ([], c, rw is refl)
+nodes_end (suc due) c is =
+    let behind : Content = with_node c terminal None in
+    let left : behind.due ≡ due = omega (arith, is) in
+    by NodeDue c (Bare (codes "t")) (at TerminalName c) (rw is refl)
+    (by TerminalName c (Text []) (at (OutcomeNumber terminal) c) refl
+    (by (OutcomeNumber terminal) c (Bare (codes "0")) (at NodeDue behind)
+    (ap (outcome_number c terminal) zero_is_index) (nodes_end due behind left)))
+
+node_ends : (c : Content) → Ends NodeDue c
+node_ends c = nodes_end c.due c refl
+
+outcome_ends : (b : Begun) (c : Content) → Ends (OutcomeNumber b) c
+outcome_ends b c = by (OutcomeNumber b) c (Bare (codes "0")) (at NodeDue (with_node c b None))
+    (ap (outcome_number c b) zero_is_index) (node_ends (with_node c b None))
+
+-- the same after a known outcome
+known_outcome_by : (due : ℕ) (outcome : Outcome) (c : Content) → c.due ≡ due
+    → Ends (KnownOutcomeName outcome) c
+known_outcome_by zero outcome c is = ([], c, rw is refl)
+known_outcome_by (suc due) outcome c is =
+    by (KnownOutcomeName outcome) c (Bare (codes "t")) (at TerminalName c) (rw is refl)
+    (by TerminalName c (Text []) (at (OutcomeNumber terminal) c) refl (outcome_ends terminal c))
+
+-- ---- payoffs
+
+new_payoffs_end : (left : ℕ) (b : Begun) (n : ℕ) (outcome : Outcome) (c : Content)
+    → Ends (AfterNewPayoff b n outcome left) c
+new_payoffs_end zero b n outcome c =
+    by (AfterNewPayoff b n outcome zero) c Closing _ refl (node_ends _)
+new_payoffs_end (suc left) b n outcome c =
+    by (AfterNewPayoff b n outcome (suc left)) c (Bare (codes "0")) _
+    (ap (paid c b n outcome left) zero_is_number) (new_payoffs_end left b n _ c)
+
+new_payoff_ends : (left : ℕ) (b : Begun) (n : ℕ) (outcome : Outcome) (c : Content)
+    → Ends (NewPayoff b n outcome left) c
+new_payoff_ends zero b n outcome c = by (NewPayoff b n outcome zero) c Closing _ refl (node_ends _)
+new_payoff_ends (suc left) b n outcome c =
+    by (NewPayoff b n outcome (suc left)) c (Bare (codes "0")) _
+    (ap (paid c b n outcome left) zero_is_number) (new_payoffs_end left b n _ c)
+
+known_payoffs_end : (ps : List Ratio) (c : Content) → FinePayoffs ps → Ends (AfterKnownPayoff ps) c
+known_payoffs_end [] c h = by (AfterKnownPayoff []) c Closing (at NodeDue c) refl (node_ends c)
+known_payoffs_end (p ∷ ps) c h =
+    by (AfterKnownPayoff (p ∷ ps)) c (Bare (number_text p)) (at (AfterKnownPayoff ps) c)
+    (number_same p (at (AfterKnownPayoff ps) c) (number_text p) (written_is_read p h.0))
+    (known_payoffs_end ps c h.1)
+
+known_payoff_ends : (ps : List Ratio) (c : Content) → FinePayoffs ps → Ends (KnownPayoff ps) c
+known_payoff_ends [] c h = by (KnownPayoff []) c Closing (at NodeDue c) refl (node_ends c)
+known_payoff_ends (p ∷ ps) c h =
+    by (KnownPayoff (p ∷ ps)) c (Bare (number_text p)) (at (AfterKnownPayoff ps) c)
+    (number_same p (at (AfterKnownPayoff ps) c) (number_text p) (written_is_read p h.0))
+    (known_payoffs_end ps c h.1)
+
+new_outcome_ends : (b : Begun) (n : ℕ) (label : List ℕ) (c : Content)
+    → Ends (NewOutcomeOpening b n label) c
+new_outcome_ends b n label c =
+    by (NewOutcomeOpening b n label) c Opening _ refl (new_payoff_ends (length c.players) b n _ c)
+
+-- ---- actions
+
+closed : (name : List ℕ) (player n : ℕ) (set : InformationSet) (sum : Ratio) (c : Content)
+    → sum ≡ whole (pos 1)
+    → set_ends c name player n set sum ≡ Ok (set_known c name (set_of player n) set)
+closed name zero n set sum c one = ap (set_ends c name 0 n set) one
+closed name (suc player) n set sum c one = refl
+
+-- after an action, if the probabilities add up to one
+actions_end : (name : List ℕ) (key : SetKey) (set : InformationSet)
+    (actions : List Action) (sum : Ratio) (c : Content)
+    → set.actions ≡ actions → 0 < length actions
+    → sum ≡ whole (pos 1) → Ends (NewAction name key set sum) c
+actions_end name key set [] sum c is some one = absurd (omega (arith, some))
+actions_end name key set (a ∷ actions) sum c is some one =
+    let after = set_known c name key set in
+    by (NewAction name key set sum) c Closing after
+    (ap (λ x. new_set_ends c name key set x sum) is
+    ∙ closed name key.player key.number set sum c one)
+    (outcome_ends (begun name key set) after.content)
+
+one_more : (set : InformationSet) (label : List ℕ) (p : Option Ratio)
+    → 0 < length (with_action set label p).actions
+one_more set label p =
+    let size = length-append set.actions (record { label = label; probability = p } ∷ []) in
+    omega (arith, size)
+
+probability_ends : (name : List ℕ) (key : SetKey)
+    (set : InformationSet) (sum : Ratio) (label : List ℕ) (c : Content)
+    → IsShare sum → Ends (NewProbability name key set sum label) c
+probability_ends name key set sum label c share =
+    let rest = remainder sum share in
+    let read = share_again sum rest.rest (whole (pos 1)) (number_text rest.rest) share.fraction
+    (written_is_read rest.rest rest.fraction) rest.low rest.adds (omega (arith, ints)) in
+    let full = with_action set label (Some rest.rest) in
+    by (NewProbability name key set sum label) c (Bare (number_text rest.rest))
+    (at (NewAction name key full (whole (pos 1))) c) (ap (shared c name key set label) read)
+    (actions_end name key full full.actions (whole (pos 1)) c refl
+    (one_more set label (Some rest.rest)) refl)
+
+-- a player's actions have no probabilities
+player_end : (name : List ℕ) (player n : ℕ) (set : InformationSet)
+    (actions : List Action) (sum : Ratio) (c : Content)
+    → set.actions ≡ actions → 0 < length actions
+    → Ends (NewAction name (set_of (suc player) n) set sum) c
+player_end name player n set [] sum c is some = absurd (omega (arith, some))
+player_end name player n set (a ∷ actions) sum c is some =
+    by (NewAction name (set_of (suc player) n) set sum) c Closing _
+    (ap (λ x. new_set_ends c name (set_of (suc player) n) set x sum) is) (outcome_ends _ _)
+
+action_ends : (name : List ℕ) (player n : ℕ) (set : InformationSet) (sum : Ratio) (c : Content)
+    → IsShare sum → Ends (NewAction name (set_of player n) set sum) c
+action_ends name zero n set sum c share =
+    by (NewAction name (set_of 0 n) set sum) c (Text [])
+    (at (NewProbability name (set_of 0 n) set sum []) c) refl
+    (probability_ends name (set_of 0 n) set sum [] c share)
+action_ends name (suc player) n set sum c share =
+    let more = with_action set [] None in
+    by (NewAction name (set_of (suc player) n) set sum) c (Text [])
+    (at (NewAction name (set_of (suc player) n) more sum) c) refl
+    (player_end name player n more more.actions sum c refl (one_more set [] None))
+
+new_set_end : (name : List ℕ) (key : SetKey) (label : List ℕ) (c : Content)
+    → Ends (NewSetOpening name key label) c
+new_set_end name key label c = by (NewSetOpening name key label) c Opening _ refl
+    (action_ends name key.player key.number _ (whole (pos 0)) c zero_share)
+
+known_actions_end : (actions : List Action) (b : Begun) (c : Content) → FineActions actions
+    → Ends (KnownAction b actions) c
+known_actions_end [] b c h =
+    by (KnownAction b []) c Closing (at (OutcomeNumber b) c) refl (outcome_ends b c)
+known_actions_end (a ∷ actions) b c h =
+    by (KnownAction b (a ∷ actions)) c (Text a.label) (at (behind_label b a.probability actions) c)
+    (text_again a.label (at (behind_label b a.probability actions) c))
+    (behind a.probability h.0 (known_actions_end actions b c h.1))
+  where
+    behind : (o : Option Ratio) → MatchOption o (Unit {0}) IsFraction
+        → Ends (KnownAction b actions) c → Ends (behind_label b o actions) c
+    behind None is later = later
+    behind (Some p) is later =
+        by (KnownProbability b p actions) c (Bare (number_text p)) (at (KnownAction b actions) c)
+        (number_same p (at (KnownAction b actions) c) (number_text p) (written_is_read p is)) later
+
+known_probability_ends : (b : Begun) (p : Ratio) (actions : List Action) (c : Content)
+    → IsFraction p → FineActions actions → Ends (KnownProbability b p actions) c
+known_probability_ends b p actions c is h =
+    by (KnownProbability b p actions) c (Bare (number_text p)) (at (KnownAction b actions) c)
+    (number_same p (at (KnownAction b actions) c) (number_text p) (written_is_read p is))
+    (known_actions_end actions b c h)
+
+-- ---- sets
+
+known_set_ends : (name : List ℕ) (key : SetKey) (set : InformationSet) (c : Content)
+    → Ends (KnownSetName name key set) c
+known_set_ends name key set c =
+    by (KnownSetName name key set) c (Bare (codes "0"))
+    (at NodeDue (with_node c (begun name key set) None))
+    (ap (outcome_number c (begun name key set)) zero_is_index) (node_ends _)
+
+new_name_ends : (name : List ℕ) (key : SetKey) (c : Content) → Ends (NewSetName name key) c
+new_name_ends name key c = by (NewSetName name key) c (Text []) (at (NewSetOpening name key []) c)
+    refl (new_set_end name key [] c)
+
+behind_ends : (name : List ℕ) (key : SetKey) (o : Option InformationSet) (c : Content)
+    → Ends (behind_set name key o) c
+behind_ends name key None c = new_name_ends name key c
+behind_ends name key (Some set) c = known_set_ends name key set c
+
+set_number_ends : (name : List ℕ) (player : ℕ) (c : Content) → Ends (SetNumber name player) c
+set_number_ends name player c =
+    by (SetNumber name player) c (Bare (codes "1"))
+    (at (behind_set name (set_of player 1) (description_at same_set c.sets (set_of player 1))) c)
+    (ap (set_number c name player) one_is_count)
+    (behind_ends name (set_of player 1) (description_at same_set c.sets (set_of player 1)) c)
+
+player_ends : (name : List ℕ) (c : Content) → 0 < length c.players → Ends (PlayerNumber name) c
+player_ends name c some =
+    let within : nat_le 1 (length c.players) ≡ true =
+    le-leb 1 (length c.players) (omega (arith, some)) in
+    let first : player_number c name (Some 1) ≡ Ok (at (SetNumber name 1) c) =
+    ap (λ (b : Bool). cond b (Ok (at (SetNumber name 1) c)) (Err UnknownPlayer)) within in
+    by (PlayerNumber name) c (Bare (codes "1")) (at (SetNumber name 1) c)
+    (ap (player_number c name) one_is_count ∙ first) (set_number_ends name 1 c)
+
+-- ---- headings
+
+after_players_ends : (c : Content) → Ends AfterPlayers c
+after_players_ends c = by AfterPlayers c (Text []) _ refl (node_ends _)
+
+players_end : (c : Content) → Ends InPlayers c
+players_end c = by InPlayers c Closing (at AfterPlayers c) refl (after_players_ends c)
+
+before_players_ends : (c : Content) → Ends BeforePlayers c
+before_players_ends c = by BeforePlayers c Opening (at InPlayers c) refl (players_end c)
+
+title_ends : (c : Content) → Ends Title c
+title_ends c = by Title c (Text []) _ refl (before_players_ends _)
+
+letter_ends : (c : Content) → Ends Letter c
+letter_ends c = by Letter c (Bare (codes "R")) (at Title c) refl (title_ends c)
+
+version_ends : (c : Content) → Ends Version c
+version_ends c = by Version c (Bare (codes "2")) (at Letter c) refl (letter_ends c)
+
+pub ends : (q : Position) (c : Content) → Fine q c → Ends q c
+ends Format c h = by Format c (Bare (codes "EFG")) (at Version c) refl (version_ends c)
+ends Version c h = version_ends c
+ends Letter c h = letter_ends c
+ends Title c h = title_ends c
+ends BeforePlayers c h = before_players_ends c
+ends InPlayers c h = players_end c
+ends AfterPlayers c h = after_players_ends c
+ends NodeDue c h = node_ends c
+ends ChanceName c h =
+    by ChanceName c (Text []) (at (SetNumber [] 0) c) refl (set_number_ends [] 0 c)
+ends PersonalName c h =
+    by PersonalName c (Text []) (at (PlayerNumber []) c) refl (player_ends [] c h.0)
+ends TerminalName c h =
+    by TerminalName c (Text []) (at (OutcomeNumber terminal) c) refl (outcome_ends terminal c)
+ends (PlayerNumber name) c h = player_ends name c h.0
+ends (SetNumber name player) c h = set_number_ends name player c
+ends (NewSetName name key) c h = new_name_ends name key c
+ends (NewSetOpening name key label) c h = new_set_end name key label c
+ends (NewAction name key set sum) c h = action_ends name key.player key.number set sum c h.0.0
+ends (NewProbability name key set sum label) c h = probability_ends name key set sum label c h.0.0
+ends (KnownSetName name key set) c h = known_set_ends name key set c
+ends (KnownSetOpening b actions) c h = by (KnownSetOpening b actions) c Opening
+    (at (KnownAction b actions) c) refl (known_actions_end actions b c h.0)
+ends (KnownAction b actions) c h = known_actions_end actions b c h.0
+ends (KnownProbability b p actions) c h = known_probability_ends b p actions c h.0.0 h.0.1
+ends (OutcomeNumber b) c h = outcome_ends b c
+ends (NewOutcomeName b n) c h = by (NewOutcomeName b n) c (Text [])
+    (at (NewOutcomeOpening b n []) c) refl (new_outcome_ends b n [] c)
+ends (NewOutcomeOpening b n label) c h = new_outcome_ends b n label c
+ends (NewPayoff b n outcome left) c h = new_payoff_ends left b n outcome c
+ends (AfterNewPayoff b n outcome left) c h = new_payoffs_end left b n outcome c
+ends (KnownOutcomeName outcome) c h = known_outcome_by c.due outcome c refl
+ends (KnownOutcomeOpening ps) c h =
+    by (KnownOutcomeOpening ps) c Opening (at (KnownPayoff ps) c) refl (known_payoff_ends ps c h.0)
+ends (KnownPayoff ps) c h = known_payoff_ends ps c h.0
+ends (AfterKnownPayoff ps) c h = known_payoffs_end ps c h.0

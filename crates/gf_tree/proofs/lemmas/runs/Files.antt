@@ -1,0 +1,270 @@
+-- Runs over all nodes of a file, in prefix order.
+use Rattle.std.proofs.Common.{◌≡◌, ℕ, zero, suc, ◌+◌, ◌-◌, ◌<◌, ◌==◌, Bool, true, false}
+use Rattle.std.proofs.Common.{cond, List, [], ◌∷◌, ◌++◌, length, map, option_map}
+use Rattle.std.proofs.Common.{Option, Some, None, Ok, Err, refl, sym, ap, subst, ◌∙◌}
+use Rattle.std.proofs.Common.{append_assoc, append-nil, arith, inl, inr, nat_eq}
+use Rattle.std.specs.List.{AllByRecursion, cons_option}
+use Rattle.std.proofs.lemmas.List.{length-append}
+use Rattle.std.proofs.lemmas.Bool.Decides.{Decides-eqb}
+use Rattle.gf_token.specs.Token.{Token}
+use Rattle.gf_token.specs.Token.Token.{Text, Bare}
+use Rattle.gf_token.specs.Grammar.{Each}
+use Rattle.gf_tree.specs.PrefixOrder.{Entry, Fills}
+use Rattle.gf_tree.specs.Description.{InformationSet, SetKey, Outcome, same_set}
+use Rattle.gf_tree.specs.FiniteMap.{Described, description_at}
+use Rattle.gf_tree.specs.FileTree.{Use, FileNode, set_uses, outcome_uses}
+use Rattle.gf_tree.specs.GameOf.{keys_alone}
+use Rattle.gf_tree.specs.Game.{Game, HasChildren, Node}
+use Rattle.gf_tree.specs.Learned.{Learns}
+use Rattle.gf_tree.specs.Sentence.{IsNode}
+use Rattle.gf_tree.specs.inner.Machine.{Content, after_node, node_or_end}
+use Rattle.gf_tree.specs.inner.Machine.Position.{NodeDue}
+use Rattle.gf_tree.specs.inner.ReadGame.{run_tokens, then_run, game_of}
+use Rattle.gf_tree.proofs.lemmas.games.Consistent.{map_entry}
+use Rattle.gf_tree.proofs.lemmas.fronts.Groups.{NoText}
+use Rattle.gf_tree.proofs.lemmas.games.TreesOnce.{same_set_equality}
+use Rattle.gf_tree.proofs.lemmas.runs.Tokens.{Reads, run_on, ok_read, ok_is}
+use Rattle.gf_tree.proofs.lemmas.runs.Sets.{AreSets}
+use Rattle.gf_tree.proofs.lemmas.runs.Results.{AreOutcomes}
+use Rattle.gf_tree.proofs.lemmas.runs.Nodes.{MapOf, HasChildrenBy, set_key, behind_node}
+use Rattle.gf_tree.proofs.lemmas.runs.Nodes.{NodeRead, letter_found, node_again}
+use Rattle.gf_tree.proofs.lemmas.runs.Learned.{uses_of, learns_on, learns_split}
+use Rattle.gf_tree.proofs.lemmas.runs.Learned.{kept, all_known, one_use, at_new}
+
+-- the nodes without descriptions
+abbrev pub alone : List (Entry FileNode) → List (Entry Node)
+alone es = map (map_entry keys_alone) es
+
+abbrev pub nodes_of : List (Entry FileNode) → List FileNode
+nodes_of es = map (λ e. e.node) es
+
+-- ---- what was read
+
+-- the nodes that are due, and no more
+pub record NodesRead (ts : List Token) (c r : Content) : Type 0 where
+  pub entries : List (Entry FileNode)
+  pub are_nodes : Each (IsNode (length c.players)) ts (nodes_of entries)
+  pub fills : Fills c.due entries
+  pub title : r.title ≡ c.title
+  pub comment : r.comment ≡ c.comment
+  pub players : r.players ≡ c.players
+  pub nodes : r.nodes ≡ c.nodes ++ alone entries
+  pub learns_sets : Learns same_set c.sets (set_uses entries) r.sets
+  pub learns_outcomes : Learns nat_eq c.outcomes (outcome_uses entries) r.outcomes
+  pub children : AllByRecursion (HasChildren (game_of r)) (alone entries)
+  pub are_sets : AreSets (length c.players) r.sets
+  pub are_outcomes : AreOutcomes (length c.players) r.outcomes
+
+no_nodes : (c r : Content) (none : Bool) (due : ℕ) → c.due ≡ due → due == 0 ≡ none
+    → AreSets (length c.players) c.sets → AreOutcomes (length c.players) c.outcomes
+    → cond none (Ok c) (Err (node_or_end due)) ≡ ok_read r → NodesRead [] c r
+no_nodes c r false due is test sets outcomes e = absurd cc
+no_nodes c r true due is test sets outcomes e =
+    let zero_is : due ≡ 0 = (Decides-eqb due 0).0 test in
+    let same : c ≡ r = ok_is c r e in
+    subst (NodesRead [] c) same (record {
+      entries = [];
+      are_nodes = refl;
+      fills = rw (is, zero_is) tt;
+      title = refl;
+      comment = refl;
+      players = refl;
+      nodes = sym (append-nil c.nodes);
+      learns_sets = refl;
+      learns_outcomes = refl;
+      children = tt;
+      are_sets = sets;
+      are_outcomes = outcomes;
+    })
+
+-- the uses of the first node, and the others
+pub more_uses : {K D : Type 0} (o : Option (Use K D)) (us : List (Use K D))
+    → uses_of o ++ us ≡ cons_option o us
+more_uses None us = refl
+more_uses (Some u) us = refl
+
+children_kept : (sets end : MapOf) (o : Option SetKey) (children : ℕ)
+    → ((key : SetKey) (d : InformationSet) → description_at same_set sets key ≡ Some d
+    → description_at same_set end key ≡ Some d)
+    → HasChildrenBy sets o children → HasChildrenBy end o children
+children_kept sets end None children same h = h
+children_kept sets end (Some key) children same h = by (description_at same_set sets key) refl h
+  where
+    by : (o : Option InformationSet) → description_at same_set sets key ≡ o
+        → option_map (λ (set : InformationSet). length set.actions) o ≡ Some children
+        → option_map (λ (set : InformationSet). length set.actions)
+        (description_at same_set end key) ≡ Some children
+    by None is h = absurd cc
+    by (Some d) is h =
+        ap (option_map (λ (set : InformationSet). length set.actions)) (same key d is) ∙ h
+
+nodes_more : (ts : List Token) (due : ℕ) (c r : Content) → c.due ≡ suc due → (h : NodeRead ts c r)
+    → NodesRead h.rest (behind_node c h.node h.children h.sets h.outcomes) r → NodesRead ts c r
+nodes_more ts due c r is h k =
+    let entry : Entry FileNode = record { node = h.node; children = h.children } in
+    let pending : h.children + (c.due - 1) ≡ h.children + due = omega (arith, is) in
+    let filled : Fills (suc due) (entry ∷ k.entries) =
+    subst (λ (d : ℕ). Fills d k.entries) pending k.fills in
+    record {
+      entries = entry ∷ k.entries;
+      are_nodes = (h.tokens, h.rest, h.parts, h.is_node, k.are_nodes);
+      fills = subst (λ (d : ℕ). Fills d (entry ∷ k.entries)) (sym is) filled;
+      title = k.title;
+      comment = k.comment;
+      players = k.players;
+      nodes = k.nodes ∙ append_assoc c.nodes (map_entry keys_alone entry ∷ []) (alone k.entries);
+      learns_sets =
+          subst (λ us. Learns same_set c.sets us r.sets) (more_uses h.node.set (set_uses k.entries))
+          (learns_on same_set (uses_of h.node.set) (set_uses k.entries) c.sets h.sets r.sets
+          h.learns_sets k.learns_sets);
+      learns_outcomes = subst (λ us. Learns nat_eq c.outcomes us r.outcomes)
+          (more_uses h.node.outcome (outcome_uses k.entries))
+          (learns_on nat_eq (uses_of h.node.outcome) (outcome_uses k.entries) c.outcomes h.outcomes
+          r.outcomes h.learns_outcomes k.learns_outcomes);
+      children = (
+        children_kept h.sets r.sets (set_key h.node) h.children
+            (kept same_set (set_uses k.entries) h.sets r.sets k.learns_sets) h.has_children,
+        k.children,
+      );
+      are_sets = k.are_sets;
+      are_outcomes = k.are_outcomes;
+    }
+
+-- a node takes tokens
+shorter : (ts : List Token) (c r : Content) (h : NodeRead ts c r) → length h.rest < length ts
+shorter ts c r h =
+    let behind : List Token = Text h.node.name ∷ (h.is_node.step ++ h.is_node.result) in
+    let whole : ts ≡ Bare h.is_node.letter ∷ (behind ++ h.rest) =
+    h.parts ∙ ap (λ (x : List Token). x ++ h.rest) h.is_node.parts in
+    let size = ap length whole in
+    let sizes = length-append behind h.rest in
+    omega (arith, size, sizes)
+
+pub due_by : (b : List ℕ) (ts : List Token) (due : ℕ) (c r : Content)
+    → c.due ≡ due → AreSets (length c.players) c.sets → AreOutcomes (length c.players) c.outcomes
+    → then_run (after_node c due b) (run_on ts) ≡ Ok r
+    → NodeRead (Bare b ∷ ts) c r × ((left : ℕ) × (c.due ≡ suc left))
+due_by b ts zero c r is sets outcomes e = absurd cc
+due_by b ts (suc due) c r is sets outcomes e = (letter_found b ts c r sets outcomes e, (due, is))
+
+nodes_by : (size : ℕ) (ts : List Token) (c r : Content)
+    → length ts < size → AreSets (length c.players) c.sets
+    → AreOutcomes (length c.players) c.outcomes → Reads NodeDue c ts r → NodesRead ts c r
+nodes_by zero ts c r within sets outcomes e = absurd (omega (arith, within))
+nodes_by (suc size) [] c r within sets outcomes e =
+    no_nodes c r (c.due == 0) c.due refl refl sets outcomes e
+nodes_by (suc size) (Bare b ∷ ts) c r within sets outcomes e =
+    let h = due_by b ts c.due c r refl sets outcomes e in
+    let n = h.0 in
+    let less = shorter (Bare b ∷ ts) c r n in
+    nodes_more (Bare b ∷ ts) h.1.0 c r h.1.1 n
+    (nodes_by size n.rest (behind_node c n.node n.children n.sets n.outcomes) r
+    (omega (arith, within, less)) n.are_sets n.are_outcomes n.goes_on)
+nodes_by (suc size) (_ ∷ ts) c r within sets outcomes e = absurd cc
+
+pub nodes_found : (ts : List Token) (c r : Content) → AreSets (length c.players) c.sets
+    → AreOutcomes (length c.players) c.outcomes → Reads NodeDue c ts r → NodesRead ts c r
+nodes_found ts c r sets outcomes e = nodes_by (suc (length ts)) ts c r (omega arith) sets outcomes e
+
+-- ---- all nodes are read
+
+pub no_text : (players : ℕ) (ns : List FileNode) (tokens : List Token)
+    → Each (IsNode players) tokens ns → NoText tokens
+no_text players [] tokens h = λ l others e. let none = sym h ∙ e in absurd cc
+no_text players (n ∷ ns) tokens h = λ l others e.
+    let whole : tokens ≡ Bare h.3.letter ∷ (Text n.name ∷ ((h.3.step ++ h.3.result) ++ h.1)) =
+    h.2 ∙ ap (λ (ts : List Token). ts ++ h.1) h.3.parts in
+    let both = sym whole ∙ e in
+    absurd cc
+
+-- after a use its key is known
+known_behind : (known mid : MapOf) (u : Use SetKey InformationSet)
+    → Learns same_set known (u ∷ []) mid
+    → (d : InformationSet) × (description_at same_set mid u.key ≡ Some d)
+known_behind known mid u learns = elim (one_use same_set known u mid learns) [
+  | inl h ↦ (
+    h.description,
+    ap (λ x. description_at same_set x u.key) h.more
+        ∙ at_new same_set same_set_equality known u.key h.description h.unknown,
+  )
+  | inr h ↦ (h.description, ap (λ x. description_at same_set x u.key) h.no_more ∙ h.is_known)
+]
+
+-- a node has its children by what is known after it
+children_then : (known mid end : MapOf) (o : Option (Use SetKey InformationSet)) (children : ℕ)
+    → Learns same_set known (uses_of o) mid
+    → ((key : SetKey) (d : InformationSet) → description_at same_set mid key ≡ Some d
+    → description_at same_set end key ≡ Some d)
+    → HasChildrenBy end (option_map (λ u. u.key) o) children
+    → HasChildrenBy mid (option_map (λ u. u.key) o) children
+children_then known mid end None children learns same h = h
+children_then known mid end (Some u) children learns same h =
+    let k = known_behind known mid u learns in
+    let counts =
+    λ (o : Option InformationSet). option_map (λ (set : InformationSet). length set.actions) o in
+    ap counts k.1 ∙ ap counts (sym (same u.key k.0 k.1)) ∙ h
+
+-- all that is read after this content
+abbrev pub behind_nodes : Content → List (Entry FileNode) → MapOf → List (Described ℕ Outcome)
+    → Content
+behind_nodes c es sets outcomes =
+    record c { nodes = c.nodes ++ alone es; due = 0; sets = sets; outcomes = outcomes }
+
+end_again : (c : Content) (sets : MapOf) (outcomes : List (Described ℕ Outcome))
+    → c.due ≡ 0 → sets ≡ c.sets → outcomes ≡ c.outcomes
+    → run_tokens NodeDue c [] ≡ ok_read (behind_nodes c [] sets outcomes)
+end_again c sets outcomes is same_sets same_outcomes =
+    let whole : c ≡ behind_nodes c [] sets outcomes = λ i. record c {
+      nodes = sym (append-nil c.nodes) i;
+      due = is i;
+      sets = sym same_sets i;
+      outcomes = sym same_outcomes i;
+    } in
+    ap (λ (d : ℕ). cond (d == 0) (ok_read c) (Err (node_or_end d))) is ∙ ap ok_read whole
+
+pub nodes_again : (es : List (Entry FileNode)) (ts : List Token) (c : Content)
+    (g : Game) (sets : MapOf) (outcomes : List (Described ℕ Outcome))
+    → g.sets ≡ sets
+    → Each (IsNode (length c.players)) ts (nodes_of es)
+    → Fills c.due es → Learns same_set c.sets (set_uses es) sets
+    → Learns nat_eq c.outcomes (outcome_uses es) outcomes
+    → AllByRecursion (HasChildren g) (alone es) → AreSets (length c.players) sets
+    → run_tokens NodeDue c ts ≡ ok_read (behind_nodes c es sets outcomes)
+nodes_again [] ts c g sets outcomes of each fills learns_sets learns_outcomes children are =
+    ap (run_tokens NodeDue c) each
+    ∙ end_again c sets outcomes (empty c.due fills) learns_sets learns_outcomes
+  where
+    empty : (due : ℕ) → Fills {N = FileNode} due [] → due ≡ 0
+    empty zero h = refl
+    empty (suc due) h = absurd h
+nodes_again (e ∷ es) ts c g sets outcomes of each fills learns_sets learns_outcomes children are =
+    let left = some_due c.due refl fills in
+    let us = subst (λ us. Learns same_set c.sets us sets) (sym (more_uses e.node.set (set_uses es)))
+    learns_sets in
+    let vs = subst (λ us. Learns nat_eq c.outcomes us outcomes)
+    (sym (more_uses e.node.outcome (outcome_uses es))) learns_outcomes in
+    let s = learns_split same_set (uses_of e.node.set) (set_uses es) c.sets sets us in
+    let o = learns_split nat_eq (uses_of e.node.outcome) (outcome_uses es) c.outcomes outcomes vs in
+    let mid_are = all_known same_set _ (set_uses es) s.0 sets s.2 are in
+    let counted : HasChildrenBy sets (set_key e.node) e.children =
+    subst (λ (x : MapOf). HasChildrenBy x (set_key e.node) e.children) of children.0 in
+    let has = children_then c.sets s.0 sets e.node.set e.children s.1
+    (kept same_set (set_uses es) s.0 sets s.2) counted in
+    let behind = behind_node c e.node e.children s.0 o.0 in
+    ap (run_tokens NodeDue c) each.2
+    ∙ node_again e.node e.children left.0 each.0 each.1 c s.0 o.0 left.1 each.3
+    (no_text (length c.players) (nodes_of es) each.1 each.4) s.1 o.1 has mid_are
+    ∙ nodes_again es each.1 behind g sets outcomes of each.4 left.2 s.2 o.2 children.1 are
+    ∙ ap (λ (ns : List (Entry Node)).
+    ok_read (record c { nodes = ns; due = 0; sets = sets; outcomes = outcomes }))
+    (append_assoc c.nodes (map_entry keys_alone e ∷ []) (alone es))
+  where
+    some_due : (due : ℕ) → c.due ≡ due → Fills due (e ∷ es)
+        → (left : ℕ) × (c.due ≡ suc left) × Fills (e.children + (c.due - 1)) es
+    some_due zero is h = absurd h
+    some_due (suc left) is h = (
+      left,
+      is,
+      let pending : e.children + left ≡ e.children + (c.due - 1) = omega (arith, is) in
+          subst (λ (d : ℕ). Fills d es) pending h,
+    )

@@ -1,0 +1,88 @@
+-- Each sum of probabilities that the machine goes on with can be completed to one.
+use Rattle.std.proofs.Common.{◌≡◌, ◌<◌, ◌≤◌, ◌*◌, ◌-◌, ℕ, refl, sym, ap, subst, arith}
+use Rattle.std.specs.Prelude.{ℤ, pos, negsuc, ◌≤ℤ◌, ◌*ℤ◌, ◌+ℤ◌}
+use Rattle.std.specs.Int.{IsGcd}
+use Rattle.std.proofs.Math.Nat.{one-dvd, dvd-sub_iff_right}
+use Rattle.std.proofs.Math.IntN.{*ℤ_comm}
+use Rattle.std.proofs.lemmas.Int.{ints}
+use Rattle.gf_fraction.specs.Ratio.{Ratio, IsFraction, whole}
+use Rattle.gf_fraction.specs.Fits.{IsSum, AddsTo}
+use Rattle.gf_fraction.proofs.Products.{mul_above}
+use Rattle.gf_fraction.proofs.Sums.{Adding-equal, equal_parts, equal_value, sum_fits}
+use Rattle.gf_fraction.proofs.WholeNumbers.{whole_fraction}
+use Rattle.gf_tree.proofs.lemmas.runs.Shares.{no_sign}
+
+-- a sum of probabilities
+pub record IsShare (r : Ratio) : Type 0 where
+  pub fraction : IsFraction r
+  pub low : pos 0 ≤ℤ r.num
+  pub high : r.num ≤ℤ pos r.den
+
+pub zero_share : IsShare (whole (pos 0))
+zero_share = record {
+  fraction = whole_fraction 0 (omega arith);
+  low = omega (arith, ints);
+  high = omega (arith, ints);
+}
+
+-- numbers not below zero have a sum that is not
+pub sum_low : (x y r : Ratio)
+    → 0 < x.den → 0 < y.den → pos 0 ≤ℤ x.num → pos 0 ≤ℤ y.num → IsSum r x y → pos 0 ≤ℤ r.num
+sum_low x y r hx hy lx ly is = by x.num y.num r.num lx ly is
+  where
+    by : (a b z : ℤ) → pos 0 ≤ℤ a → pos 0 ≤ℤ b
+        → z *ℤ pos (x.den * y.den) ≡ (a *ℤ pos y.den +ℤ b *ℤ pos x.den) *ℤ pos r.den → pos 0 ≤ℤ z
+    by (pos a) (pos b) (pos z) la lb e = omega (arith, ints)
+    by (pos a) (pos b) (negsuc z) la lb e =
+        absurd (no_sign z (x.den * y.den) a b y.den x.den r.den (mul_above x.den y.den hx hy) e)
+    by (negsuc a) b z la lb e = absurd (omega (arith, ints))
+    by (pos a) (negsuc b) z la lb e = absurd (omega (arith, ints))
+
+-- what is left to one
+pub record Remainder (sum : Ratio) : Type 0 where
+  pub rest : Ratio
+  pub fraction : IsFraction rest
+  pub low : pos 0 ≤ℤ rest.num
+  pub adds : AddsTo sum rest (whole (pos 1))
+
+abbrev over : ℕ → ℕ → Ratio
+over a d = record { num = pos a; den = d }
+
+left_apart : (a d : ℕ) → a ≤ d → IsGcd a d 1 → IsGcd (d - a) d 1
+left_apart a d within is =
+    (one-dvd _, one-dvd _, λ e p q. is.2 e ((dvd-sub_iff_right e within q).0 p) q)
+
+of_parts : (a d : ℕ) → a ≤ d → IsFraction (over a d) → Remainder (over a d)
+of_parts a d within is =
+    let left : IsFraction (over (d - a) d) = record {
+      den_above_zero = is.den_above_zero;
+      den_within = is.den_within;
+      num_within = let small = is.den_within in omega (arith, small);
+      lowest = left_apart a d within is.lowest;
+    } in
+    let adding = Adding-equal (over a d) (over (d - a) d) (pos a) (pos (d - a)) d d is left refl
+    refl refl refl refl in
+    let both : pos d ≡ pos a +ℤ pos (d - a) = ap pos (omega arith) in
+    let parts = equal_parts (over a d) (over (d - a) d) (pos a) (pos (d - a)) (pos d) d d adding
+    both is.den_within in
+    record {
+      rest = over (d - a) d;
+      fraction = left;
+      low = omega (arith, ints);
+      adds = (
+        sum_fits (over a d) (over (d - a) d) (pos a) (pos (d - a)) d d d 1 1 adding parts,
+        whole_fraction 1 (omega arith),
+        equal_value (whole (pos 1)) (over a d) (over (d - a) d) (pos a) (pos (d - a)) (pos d) d d
+            adding both (*ℤ_comm (pos 1) (pos d)),
+      );
+    }
+
+pub remainder : (sum : Ratio) → IsShare sum → Remainder sum
+remainder sum h = by sum.num refl h.low h.high
+  where
+    by : (z : ℤ) → sum.num ≡ z → pos 0 ≤ℤ z → z ≤ℤ pos sum.den → Remainder sum
+    by (negsuc a) e low high = absurd (omega (arith, ints))
+    by (pos a) e low high =
+        let is : sum ≡ over a sum.den = λ i. record { num = e i; den = sum.den } in
+        let within : a ≤ sum.den = omega (arith, ints) in
+        subst Remainder (sym is) (of_parts a sum.den within (subst IsFraction is h.fraction))

@@ -1,0 +1,324 @@
+-- Runs over the information set of a node: its number, and its description.
+use Rattle.std.proofs.Common.{◌≡◌, ℕ, ◌<◌, ◌≤◌, List, [], ◌∷◌, ◌++◌, length, Option, Some, None}
+use Rattle.std.proofs.Common.{Ok, refl, sym, ap, subst, ◌∙◌, append_assoc, arith, inl, inr}
+use Rattle.std.specs.Prelude.{◌⊎◌, pos}
+use Rattle.std.specs.List.{AllByRecursion}
+use Rattle.gf_token.specs.Token.{Token}
+use Rattle.gf_token.specs.Token.Token.{Opening, Closing, Text, Bare}
+use Rattle.gf_token.specs.Grammar.{braced}
+use Rattle.gf_token.specs.Indices.{count_of}
+use Rattle.gf_token.proofs.ReadingIndices.{count_is, count_again}
+use Rattle.gf_fraction.specs.Ratio.{IsFraction, whole}
+use Rattle.gf_fraction.proofs.WholeNumbers.{whole_fraction}
+use Rattle.gf_tree.specs.Description.{Action, InformationSet, SetKey, set_of, same_set, IsSet}
+use Rattle.gf_tree.specs.FiniteMap.{Described, description_at}
+use Rattle.gf_tree.specs.FileTree.{Use}
+use Rattle.gf_tree.specs.Learned.{Learns}
+use Rattle.gf_tree.specs.Sentence.{IsPositive, IsDescription, IsInformationSet}
+use Rattle.gf_tree.specs.inner.Machine.{Content, at, begun, behind_set, set_number}
+use Rattle.gf_tree.specs.inner.Machine.Position.{SetNumber, NewSetName, NewSetOpening}
+use Rattle.gf_tree.specs.inner.Machine.Position.{NewAction, KnownSetName, KnownSetOpening}
+use Rattle.gf_tree.specs.inner.Machine.Position.{KnownAction, OutcomeNumber}
+use Rattle.gf_tree.specs.inner.ReadGame.{run_tokens, then_run}
+use Rattle.gf_tree.proofs.lemmas.games.TreesOnce.{same_set_equality}
+use Rattle.gf_tree.proofs.lemmas.runs.Tokens.{Reads, run_on, text_found, text_again}
+use Rattle.gf_tree.proofs.lemmas.runs.Actions.{others_are, are_others, new_found, new_again}
+use Rattle.gf_tree.proofs.lemmas.runs.KnownActions.{probabilities, known_found, known_again}
+use Rattle.gf_tree.proofs.lemmas.runs.Learned.{one, use_of, learns_new, learns_again, one_use}
+use Rattle.gf_tree.proofs.lemmas.runs.Learned.{IsNew, IsKnown, at_new, found_has, all_more}
+
+-- these sets are known
+abbrev pub with_sets : Content → List (Described SetKey InformationSet) → Content
+with_sets c sets = record c { sets = sets }
+
+abbrev pub AreSets : ℕ → List (Described SetKey InformationSet) → Type 0
+AreSets players sets = AllByRecursion (λ s. IsSet players s.key s.description) sets
+
+-- ---- after the number
+
+-- the description of a set, or none, and what follows
+record Behind (ts : List Token) (name : List ℕ) (player n : ℕ) (c r : Content) : Type 0 where
+  description : Option InformationSet
+  tokens : List Token
+  rest : List Token
+  sets : List (Described SetKey InformationSet)
+  set : InformationSet
+  parts : ts ≡ tokens ++ rest
+  is_description : IsDescription (IsInformationSet player) tokens description
+  learns : Learns same_set c.sets (use_of (set_of player n) description ∷ []) sets
+  is_known : description_at same_set sets (set_of player n) ≡ Some set
+  are : AreSets (length c.players) sets
+  goes_on : Reads (OutcomeNumber (begun name (set_of player n) set)) (with_sets c sets) rest r
+
+name_found : (ts : List Token) (name : List ℕ) (key : SetKey) (c r : Content)
+    → Reads (NewSetName name key) c ts r
+    → (label : List ℕ) × (rest : List Token) × (ts ≡ Text label ∷ rest)
+    × Reads (NewSetOpening name key label) c rest r
+name_found (Text label ∷ rest) name key c r e = (label, rest, refl, e)
+name_found _ name key c r e = absurd cc
+
+opening_found : (ts : List Token) (name : List ℕ) (key : SetKey) (label : List ℕ) (c r : Content)
+    → Reads (NewSetOpening name key label) c ts r
+    → (rest : List Token) × (ts ≡ Opening ∷ rest)
+    × Reads (NewAction name key (record { name = label; actions = [] }) (whole (pos 0))) c rest r
+opening_found (Opening ∷ rest) name key label c r e = (rest, refl, e)
+opening_found _ name key label c r e = absurd cc
+
+known_opening_found : (ts : List Token) (b : _) (actions : List Action) (c r : Content)
+    → Reads (KnownSetOpening b actions) c ts r
+    → (rest : List Token) × (ts ≡ Opening ∷ rest) × Reads (KnownAction b actions) c rest r
+known_opening_found (Opening ∷ rest) b actions c r e = (rest, refl, e)
+known_opening_found _ b actions c r e = absurd cc
+
+-- a name, an opening brace, and actions and the closing brace after it
+described : (ts t1 t2 inner rest : List Token) (label : List ℕ) → ts ≡ Text label ∷ t1
+    → t1 ≡ Opening ∷ t2 → t2 ≡ inner ++ Closing ∷ rest → ts ≡ (Text label ∷ braced inner) ++ rest
+described ts t1 t2 inner rest label e f g =
+    let last : t2 ≡ (inner ++ Closing ∷ []) ++ rest =
+    g ∙ sym (append_assoc inner (Closing ∷ []) rest) in
+    rw (e, f, last) refl
+
+zero_fraction : IsFraction (whole (pos 0))
+zero_fraction = whole_fraction 0 (omega arith)
+
+new_behind : (ts : List Token) (name : List ℕ) (player n : ℕ) (c r : Content)
+    → player ≤ length c.players → 0 < n → AreSets (length c.players) c.sets
+    → description_at same_set c.sets (set_of player n) ≡ None
+    → Reads (NewSetName name (set_of player n)) c ts r → Behind ts name player n c r
+new_behind ts name player n c r among some are unknown e =
+    let key = set_of player n in
+    let x = name_found ts name key c r e in
+    let y = opening_found x.1 name key x.0 c r x.3 in
+    let h = new_found y.0 name player n (record { name = x.0; actions = [] }) (whole (pos 0)) c r
+    zero_fraction y.2 in
+    let set : InformationSet = record { name = x.0; actions = h.actions } in
+    let is : IsSet (length c.players) key set = record {
+      player = among;
+      number = some;
+      some_action = h.some;
+      actions = others_are player h.actions h.are;
+    } in
+    record {
+      description = Some set;
+      tokens = Text x.0 ∷ braced h.inner;
+      rest = h.rest;
+      sets = c.sets ++ one key set ∷ [];
+      set = set;
+      parts = described ts x.1 y.0 h.inner h.rest x.0 x.2 y.1 h.parts;
+      is_description = (h.inner, refl, h.each);
+      learns = learns_new same_set c.sets key set unknown;
+      is_known = at_new same_set same_set_equality c.sets key set unknown;
+      are =
+          all_more (λ s. IsSet (length c.players) s.key s.description) c.sets (one key set) are is;
+      goes_on = h.goes_on;
+    }
+
+known_behind : (ts : List Token) (name : List ℕ)
+    (player n : ℕ) (set : InformationSet) (c r : Content)
+    → AreSets (length c.players) c.sets
+    → description_at same_set c.sets (set_of player n) ≡ Some set
+    → Reads (KnownSetName name (set_of player n) set) c ts r → Behind ts name player n c r
+known_behind (Text label ∷ ts) name player n set c r are known e =
+    let key = set_of player n in
+    let b = begun name key set in
+    let is =
+    found_has same_set same_set_equality (IsSet (length c.players)) c.sets key set are known in
+    let h = text_found set.name label (at (KnownSetOpening b set.actions) c) ts r e in
+    let y = known_opening_found ts b set.actions c r h.1 in
+    let k =
+    known_found set.actions player y.0 b c r (probabilities player set.actions is.actions) y.2 in
+    record {
+      description = Some set;
+      tokens = Text set.name ∷ braced k.inner;
+      rest = k.rest;
+      sets = c.sets;
+      set = set;
+      parts = described (Text label ∷ ts) ts y.0 k.inner k.rest set.name
+          (ap (λ (x : List ℕ). Text x ∷ ts) h.0) y.1 k.parts;
+      is_description = (k.inner, refl, k.each);
+      learns = learns_again same_set c.sets key set (Some set) known (inr refl);
+      is_known = known;
+      are = are;
+      goes_on = k.goes_on;
+    }
+known_behind (Bare t ∷ ts) name player n set c r are known e = record {
+  description = None;
+  tokens = [];
+  rest = Bare t ∷ ts;
+  sets = c.sets;
+  set = set;
+  parts = refl;
+  is_description = refl;
+  learns = learns_again same_set c.sets (set_of player n) set None known (inl refl);
+  is_known = known;
+  are = are;
+  goes_on = e;
+}
+known_behind _ name player n set c r are known e = absurd cc
+
+behind_found : (ts : List Token) (name : List ℕ)
+    (player n : ℕ) (o : Option InformationSet) (c r : Content)
+    → player ≤ length c.players → 0 < n → AreSets (length c.players) c.sets
+    → description_at same_set c.sets (set_of player n) ≡ o
+    → Reads (behind_set name (set_of player n) o) c ts r → Behind ts name player n c r
+behind_found ts name player n None c r among some are is e =
+    new_behind ts name player n c r among some are is e
+behind_found ts name player n (Some set) c r among some are is e =
+    known_behind ts name player n set c r are is e
+
+-- ---- the number
+
+-- the number of a set and its description, and what follows
+pub record SetRead (ts : List Token) (name : List ℕ) (player : ℕ) (c r : Content) : Type 0 where
+  pub number : List ℕ
+  pub n : ℕ
+  pub description : Option InformationSet
+  pub tokens : List Token
+  pub rest : List Token
+  pub sets : List (Described SetKey InformationSet)
+  pub set : InformationSet
+  pub parts : ts ≡ Bare number ∷ (tokens ++ rest)
+  pub is_number : IsPositive number n
+  pub is_description : IsDescription (IsInformationSet player) tokens description
+  pub learns : Learns same_set c.sets (use_of (set_of player n) description ∷ []) sets
+  pub is_known : description_at same_set sets (set_of player n) ≡ Some set
+  pub are : AreSets (length c.players) sets
+  pub goes_on : Reads (OutcomeNumber (begun name (set_of player n) set)) (with_sets c sets) rest r
+
+number_by : (ts : List Token) (t : List ℕ) (o : Option ℕ)
+    (name : List ℕ) (player : ℕ) (c r : Content)
+    → player ≤ length c.players → AreSets (length c.players) c.sets → count_of t ≡ o
+    → then_run (set_number c name player o) (run_on ts) ≡ Ok r
+    → SetRead (Bare t ∷ ts) name player c r
+number_by ts t None name player c r among are is e = absurd cc
+number_by ts t (Some n) name player c r among are is e =
+    let k = count_is t n is in
+    let h = behind_found ts name player n (description_at same_set c.sets (set_of player n)) c r
+    among k.0 are refl e in
+    record {
+      number = t;
+      n = n;
+      description = h.description;
+      tokens = h.tokens;
+      rest = h.rest;
+      sets = h.sets;
+      set = h.set;
+      parts = ap (λ (x : List Token). Bare t ∷ x) h.parts;
+      is_number = (k.1, k.0);
+      is_description = h.is_description;
+      learns = h.learns;
+      is_known = h.is_known;
+      are = h.are;
+      goes_on = h.goes_on;
+    }
+
+pub set_found : (ts : List Token) (name : List ℕ) (player : ℕ) (c r : Content)
+    → player ≤ length c.players → AreSets (length c.players) c.sets
+    → Reads (SetNumber name player) c ts r
+    → SetRead ts name player c r
+set_found (Bare t ∷ ts) name player c r among are e =
+    number_by ts t (count_of t) name player c r among are refl e
+set_found _ name player c r among are e = absurd cc
+
+-- ---- each set of a node is read
+
+some_is : (s t : InformationSet) (o : Option InformationSet) → o ≡ Some s → o ≡ Some t → s ≡ t
+some_is s t o h k = cc
+
+-- after the description stands the number of the outcome
+behind_again : (tokens rest : List Token) (t name : List ℕ) (u : Use SetKey InformationSet)
+    (sets : List (Described SetKey InformationSet)) (set : InformationSet) (c : Content)
+    → IsDescription (IsInformationSet u.key.player) tokens u.description
+    → IsSet (length c.players) u.key set → description_at same_set sets u.key ≡ Some set
+    → IsNew same_set c.sets u sets ⊎ IsKnown same_set c.sets u sets
+    → run_tokens (behind_set name u.key (description_at same_set c.sets u.key))
+    c (tokens ++ Bare t ∷ rest)
+    ≡ run_tokens (OutcomeNumber (begun name u.key set)) (with_sets c sets) (Bare t ∷ rest)
+behind_again tokens rest t name u sets set c is good known (inl h) = by u.description is h.told
+  where
+    by : (o : Option InformationSet) → IsDescription (IsInformationSet u.key.player) tokens o
+        → o ≡ Some h.description
+        → run_tokens (behind_set name u.key (description_at same_set c.sets u.key))
+        c (tokens ++ Bare t ∷ rest)
+        ≡ run_tokens (OutcomeNumber (begun name u.key set)) (with_sets c sets) (Bare t ∷ rest)
+    by None is told = absurd cc
+    by (Some d) is told =
+        let first : d ≡ h.description = cc in
+        let there : description_at same_set sets u.key ≡ Some h.description =
+        ap (λ x. description_at same_set x u.key) h.more
+        ∙ at_new same_set same_set_equality c.sets u.key h.description h.unknown in
+        let same : d ≡ set =
+        first ∙ some_is h.description set (description_at same_set sets u.key) there known in
+        let good_set = subst (IsSet (length c.players) u.key) (sym same) good in
+        let behind : List Token = is.0 ++ Closing ∷ (Bare t ∷ rest) in
+        let text : tokens ++ Bare t ∷ rest ≡ Text d.name ∷ Opening ∷ behind =
+        ap (λ (x : List Token). x ++ Bare t ∷ rest) is.1
+        ∙ ap (λ (x : List Token). Text d.name ∷ Opening ∷ x)
+        (append_assoc is.0 (Closing ∷ []) (Bare t ∷ rest)) in
+        let all : c.sets ++ one u.key d ∷ [] ≡ sets =
+        ap (λ (x : InformationSet). c.sets ++ one u.key x ∷ []) first ∙ sym h.more in
+        ap (λ o. run_tokens (behind_set name u.key o) c (tokens ++ Bare t ∷ rest)) h.unknown
+        ∙ ap (run_tokens (NewSetName name u.key) c) text
+        ∙ new_again d.actions u.key.player is.0 (Bare t ∷ rest) name u.key.number
+        (record { name = d.name; actions = [] }) (whole (pos 0)) c zero_fraction is.2
+        (are_others u.key.player d.actions good_set.actions) good_set.some_action
+        ∙ ap (λ x. run_tokens (OutcomeNumber (begun name u.key d)) (with_sets c x) (Bare t ∷ rest))
+        all
+        ∙ ap (λ (x : InformationSet).
+        run_tokens (OutcomeNumber (begun name u.key x)) (with_sets c sets) (Bare t ∷ rest))
+        same
+behind_again tokens rest t name u sets set c is good known (inr h) =
+    ap (λ o. run_tokens (behind_set name u.key o) c (tokens ++ Bare t ∷ rest)) h.is_known
+    ∙ by u.description is h.told
+    ∙ ap (λ x.
+    run_tokens (OutcomeNumber (begun name u.key h.description)) (with_sets c x) (Bare t ∷ rest))
+    (sym h.no_more)
+    ∙ ap (λ (x : InformationSet).
+    run_tokens (OutcomeNumber (begun name u.key x)) (with_sets c sets) (Bare t ∷ rest))
+    same
+  where
+    same : h.description ≡ set
+    same = some_is h.description set (description_at same_set sets u.key)
+        (ap (λ x. description_at same_set x u.key) h.no_more ∙ h.is_known) known
+
+    by : (o : Option InformationSet) → IsDescription (IsInformationSet u.key.player) tokens o
+        → (o ≡ None) ⊎ (o ≡ Some h.description)
+        → run_tokens (KnownSetName name u.key h.description) c (tokens ++ Bare t ∷ rest)
+        ≡ run_tokens (OutcomeNumber (begun name u.key h.description)) c (Bare t ∷ rest)
+    by None is told = ap (λ (x : List Token).
+        run_tokens (KnownSetName name u.key h.description) c (x ++ Bare t ∷ rest))
+        is
+    by (Some d) is (inl told) = absurd cc
+    by (Some d) is (inr told) =
+        let first : d ≡ h.description = cc in
+        let behind : List Token = is.0 ++ Closing ∷ (Bare t ∷ rest) in
+        let text : tokens ++ Bare t ∷ rest ≡ Text d.name ∷ Opening ∷ behind =
+        ap (λ (x : List Token). x ++ Bare t ∷ rest) is.1
+        ∙ ap (λ (x : List Token). Text d.name ∷ Opening ∷ x)
+        (append_assoc is.0 (Closing ∷ []) (Bare t ∷ rest)) in
+        ap
+        (λ (x : InformationSet). run_tokens (KnownSetName name u.key x) c (tokens ++ Bare t ∷ rest))
+        (sym first)
+        ∙ ap (run_tokens (KnownSetName name u.key d) c) text
+        ∙ ap (λ o. then_run o (run_on (Opening ∷ behind)))
+        (text_again d.name (at (KnownSetOpening (begun name u.key d) d.actions) c))
+        ∙ known_again d.actions u.key.player is.0 (Bare t ∷ rest) (begun name u.key d) c is.2
+        ∙ ap
+        (λ (x : InformationSet). run_tokens (OutcomeNumber (begun name u.key x)) c (Bare t ∷ rest))
+        first
+
+pub set_again : (number tokens rest : _) (t name : List ℕ) (u : Use SetKey InformationSet)
+    (sets : List (Described SetKey InformationSet)) (set : InformationSet) (c : Content)
+    → IsPositive number u.key.number
+    → IsDescription (IsInformationSet u.key.player) tokens u.description
+    → AreSets (length c.players) sets
+    → description_at same_set sets u.key ≡ Some set → Learns same_set c.sets (u ∷ []) sets
+    → run_tokens (SetNumber name u.key.player) c (Bare number ∷ (tokens ++ Bare t ∷ rest))
+    ≡ run_tokens (OutcomeNumber (begun name u.key set)) (with_sets c sets) (Bare t ∷ rest)
+set_again number tokens rest t name u sets set c is_number is are known learns =
+    let good =
+    found_has same_set same_set_equality (IsSet (length c.players)) sets u.key set are known in
+    ap (λ o. then_run (set_number c name u.key.player o) (run_on (tokens ++ Bare t ∷ rest)))
+    (count_again number u.key.number is_number.1 is_number.0)
+    ∙ behind_again tokens rest t name u sets set c is good known
+    (one_use same_set c.sets u sets learns)

@@ -1,0 +1,276 @@
+-- The nodes of a game as they are kept are those of its tree.
+use Rattle.std.proofs.Common.{◌≡◌, ℕ, zero, suc, ◌+◌, ◌<◌, List, [], ◌∷◌, ◌++◌}
+use Rattle.std.proofs.Common.{length, map, drop, get_or, slice_get}
+use Rattle.std.proofs.Common.{refl, sym, ap, subst, ◌∙◌, arith}
+use Rattle.std.proofs.lemmas.List.{length-map, drop-map, get_or-map, map-append}
+use Rattle.std.proofs.Math.Seq.{drop-cons}
+use Rattle.gf_tree.specs.Tree.{Tree, Trees, count}
+use Rattle.gf_tree.specs.Tree.Tree.{branch}
+use Rattle.gf_tree.specs.Tree.Trees.{none, more}
+use Rattle.gf_tree.specs.PrefixOrder.{Entry, Fills, flatten, flatten_all}
+use Rattle.gf_tree.specs.Grown.{grow, root}
+use Rattle.gf_tree.specs.GrowsAgain.{root_grows_again}
+use Rattle.gf_tree.specs.Description.{SetKey, InformationSet, Outcome}
+use Rattle.gf_tree.specs.FiniteMap.{Described}
+use Rattle.gf_tree.specs.Game.{Node, IsGame}
+use Rattle.gf_tree.specs.Spellable.{IsSpellable}
+use Rattle.gf_tree.specs.GameCode.{no_node}
+use Rattle.gf_tree.specs.inner.GameParts.{AreNodes, IsHeld, game_with}
+use Rattle.gf_tree.specs.Subtrees.{child_trees, list_of, root_node, subtree_at}
+use Rattle.gf_tree.specs.Subtrees.{subtree_sizes, subtrees, subtrees_all}
+use Rattle.gf_tree.specs.inner.Skipped.{Begin, skipped}
+use Rattle.gf_tree.specs.KeptNodes.{Kept, IsPlaced, ArePlaced, child_count}
+use Rattle.gf_tree.specs.KeptNodes.{child_counts, entries_with}
+use Rattle.gf_tree.specs.KeptNodes.{kept_of, node_with, sizes_of, tree_with}
+use Rattle.gf_tree.specs.declared.game.kept.Stored.{Stored}
+use Rattle.gf_tree.proofs.lemmas.games.Prefix.{one_tree}
+use Rattle.gf_tree.proofs.lemmas.stores.SubtreeSizes.{begin_first, counts_of, drop_suc, skips_to}
+use Rattle.gf_tree.proofs.lemmas.stores.SubtreeSizes.{slice_get_behind, stands, subtrees_counted}
+
+-- ---- the tree of a list
+
+pub flatten_grown : {N : Type 0} (n : N) (es : List (Entry N)) → Fills 1 es
+    → flatten (root n (grow es)) ≡ es
+flatten_grown n es h =
+    let t = one_tree es h in
+    ap (λ xs. flatten (root n (grow xs))) (sym t.1) ∙ ap flatten (root_grows_again n t.0) ∙ t.1
+
+-- ---- the subtrees and the entries of a tree go side by side
+
+mutual
+  nodes_beside : {N : Type 0} (t : Tree N)
+      → map root_node (subtrees t) ≡ map (λ e. e.node) (flatten t)
+  nodes_beside (branch n ts) = ap (λ xs. n ∷ xs) (all_nodes_beside ts)
+
+  all_nodes_beside : {N : Type 0} (ts : Trees N)
+      → map root_node (subtrees_all ts) ≡ map (λ e. e.node) (flatten_all ts)
+  all_nodes_beside none = refl
+  all_nodes_beside (more t ts) =
+      map-append root_node (subtrees t) (subtrees_all ts)
+      ∙ (λ i. nodes_beside t i ++ all_nodes_beside ts i)
+      ∙ sym (map-append (λ e. e.node) (flatten t) (flatten_all ts))
+
+length-list_of : {N : Type 0} (ts : Trees N) → length (list_of ts) ≡ count ts
+length-list_of none = refl
+length-list_of (more t ts) = ap suc (length-list_of ts)
+
+mutual
+  counts_beside : {N : Type 0} (t : Tree N)
+      → map (λ s. length (child_trees s)) (subtrees t) ≡ counts_of (flatten t)
+  counts_beside (branch n ts) = λ i. length-list_of ts i ∷ all_counts_beside ts i
+
+  all_counts_beside : {N : Type 0} (ts : Trees N)
+      → map (λ s. length (child_trees s)) (subtrees_all ts) ≡ counts_of (flatten_all ts)
+  all_counts_beside none = refl
+  all_counts_beside (more t ts) =
+      map-append (λ s. length (child_trees s)) (subtrees t) (subtrees_all ts)
+      ∙ (λ i. counts_beside t i ++ all_counts_beside ts i)
+      ∙ sym (map-append (λ e. e.children) (flatten t) (flatten_all ts))
+
+-- what is mapped to the same list is the same at each place
+beside : {X Y Z : Type 0} (f : X → Z) (g : Y → Z)
+    (xs : List X) (ys : List Y) (at : ℕ) (d : X) (e : Y)
+    → map f xs ≡ map g ys → at < length xs
+    → f (get_or xs at d) ≡ g (get_or ys at e)
+beside f g [] ys at d e h i = absurd (omega (arith, i))
+beside f g (x ∷ xs) [] at d e h i = absurd cc
+beside f g (x ∷ xs) (y ∷ ys) zero d e h i = cc
+beside f g (x ∷ xs) (y ∷ ys) (suc at) d e h i =
+    let same : map f xs ≡ map g ys = cc in beside f g xs ys at d e same (omega (arith, i))
+
+-- ---- a child's place
+
+get_or_from_drop : {X : Type 0} (xs ys : List X) (at : ℕ) (x d : X) → drop at xs ≡ x ∷ ys
+    → get_or xs at d ≡ x
+get_or_from_drop [] ys zero x d e = absurd cc
+get_or_from_drop [] ys (suc at) x d e = absurd cc
+get_or_from_drop (y ∷ xs) ys zero x d e = cc
+get_or_from_drop (y ∷ xs) ys (suc at) x d e = get_or_from_drop xs ys at x d e
+
+pub record IsChildPlace {N : Type 0} (t : Tree N) (at i : ℕ) : Type 0 where
+  pub begin : Begin i (drop (at + 1) (subtree_sizes t))
+  pub begin_more : Begin (suc i) (drop (at + 1) (subtree_sizes t))
+  pub there : slice_get (subtrees t) (at + 1 + skipped i (drop (at + 1) (subtree_sizes t)))
+      ≡ slice_get (child_trees (subtree_at t at)) i
+
+pub child_is_there : {N : Type 0} (t : Tree N) (at i : ℕ)
+    → at < length (subtrees t) → i < length (child_trees (subtree_at t at)) → IsChildPlace t at i
+child_is_there {N} t at i h j =
+    let r = stands t at (rw (← subtrees_counted t) h) in
+    let here : drop at (subtrees t)
+    ≡ branch r.node r.below ∷ (subtrees_all r.below ++ subtrees_all r.others) = r.stands.trees in
+    let tree : subtree_at t at ≡ branch r.node r.below = get_or_from_drop (subtrees t)
+    (subtrees_all r.below ++ subtrees_all r.others) at (branch r.node r.below) t here in
+    let behind : drop (suc at) (subtrees t) ≡ subtrees_all r.below ++ subtrees_all r.others =
+    drop_suc (subtrees t) (subtrees_all r.below ++ subtrees_all r.others) at (branch r.node r.below)
+    here in
+    let next : at + 1 ≡ suc at = omega arith in
+    let sizes : drop (at + 1) (subtree_sizes t)
+    ≡ map (λ s. length (flatten s)) (subtrees_all r.below ++ subtrees_all r.others) =
+    ap (λ k. drop k (subtree_sizes t)) next
+    ∙ drop-map (λ (s : Tree N). length (flatten s)) (suc at) (subtrees t)
+    ∙ ap (map (λ (s : Tree N). length (flatten s))) behind in
+    let less : i < count r.below =
+    subst (λ n. i < n) (ap (λ s. length (child_trees s)) tree ∙ length-list_of r.below) j in
+    record {
+      begin = rw sizes (begin_first i r.below (subtrees_all r.others) (omega (arith, less)));
+      begin_more =
+          rw sizes (begin_first (suc i) r.below (subtrees_all r.others) (omega (arith, less)));
+      there =
+          rw (sizes, tree)
+          (slice_get_behind (subtrees t) (at + 1) (skipped i
+          (map (λ s. length (flatten s)) (subtrees_all r.below ++ subtrees_all r.others)))
+          ∙ ap (λ xs. slice_get xs (skipped i (map (λ (s : Tree N). length (flatten s))
+          (subtrees_all r.below ++ subtrees_all r.others))))
+          (ap (λ k. drop k (subtrees t)) next ∙ behind)
+          ∙ skips_to i r.below (subtrees_all r.others) less);
+    }
+
+-- ---- the nodes of a game
+
+pub record IsTreeOf (sets : List (Described SetKey InformationSet))
+    (outcomes : List (Described ℕ Outcome)) (nodes : List Stored) (tree : Tree Node) : Type 0 where
+  pub are : AreNodes sets outcomes nodes
+  pub is : tree_with sets outcomes (map kept_of nodes) ≡ tree
+
+entries_are : (sets : List (Described SetKey InformationSet))
+    (outcomes : List (Described ℕ Outcome)) (nodes : List Stored) (tree : Tree Node)
+    → IsTreeOf sets outcomes nodes tree
+    → flatten tree ≡ entries_with sets outcomes (map kept_of nodes)
+entries_are sets outcomes nodes tree h = ap flatten (sym h.is)
+    ∙ flatten_grown no_node (entries_with sets outcomes (map kept_of nodes)) h.are.fills
+
+pub sizes_beside : (sets : List (Described SetKey InformationSet))
+    (outcomes : List (Described ℕ Outcome)) (nodes : List Stored) (tree : Tree Node)
+    → IsTreeOf sets outcomes nodes tree
+    → sizes_of nodes ≡ subtree_sizes tree
+sizes_beside sets outcomes nodes tree h = h.are.sizes ∙ ap subtree_sizes h.is
+
+pub as_many : (sets : List (Described SetKey InformationSet))
+    (outcomes : List (Described ℕ Outcome)) (nodes : List Stored) (tree : Tree Node)
+    → IsTreeOf sets outcomes nodes tree
+    → length nodes ≡ length (subtrees tree)
+as_many sets outcomes nodes tree h =
+    sym (length-map nodes (λ n. n.size))
+    ∙ ap length (sizes_beside sets outcomes nodes tree h)
+    ∙ length-map (subtrees tree) (λ (s : Tree Node). length (flatten s))
+
+pub node_there : (sets : List (Described SetKey InformationSet))
+    (outcomes : List (Described ℕ Outcome)) (nodes : List Stored)
+    (tree : Tree Node) (at : ℕ) (d : Stored)
+    → IsTreeOf sets outcomes nodes tree
+    → at < length (subtrees tree)
+    → root_node (subtree_at tree at) ≡ node_with sets outcomes (kept_of (get_or nodes at d))
+node_there sets outcomes nodes tree at d h i =
+    let mapped : map root_node (subtrees tree)
+    ≡ map (λ n. node_with sets outcomes (kept_of n)) nodes =
+    nodes_beside tree
+    ∙ ap (map (λ (e : Entry Node). e.node)) (entries_are sets outcomes nodes tree h)
+    ∙ nodes_of sets outcomes nodes in
+    beside root_node (λ n. node_with sets outcomes (kept_of n)) (subtrees tree) nodes at tree d
+    mapped i
+  where
+    nodes_of : (sets : List (Described SetKey InformationSet))
+        (outcomes : List (Described ℕ Outcome)) (ns : List Stored)
+        → map (λ e. e.node) (entries_with sets outcomes (map kept_of ns))
+        ≡ map (λ n. node_with sets outcomes (kept_of n)) ns
+    nodes_of sets outcomes [] = refl
+    nodes_of sets outcomes (n ∷ ns) =
+        ap (λ xs. node_with sets outcomes (kept_of n) ∷ xs) (nodes_of sets outcomes ns)
+
+pub counts_kept : (sets : List (Described SetKey InformationSet))
+    (outcomes : List (Described ℕ Outcome)) (ns : List Kept)
+    → counts_of (entries_with sets outcomes ns) ≡ child_counts sets ns
+counts_kept sets outcomes [] = refl
+counts_kept sets outcomes (n ∷ ns) =
+    ap (λ xs. child_count sets n.set ∷ xs) (counts_kept sets outcomes ns)
+
+pub children_there : (sets : List (Described SetKey InformationSet))
+    (outcomes : List (Described ℕ Outcome)) (nodes : List Stored)
+    (tree : Tree Node) (at : ℕ) (d : Stored)
+    → IsTreeOf sets outcomes nodes tree
+    → at < length (subtrees tree)
+    → length (child_trees (subtree_at tree at)) ≡ child_count sets (get_or nodes at d).set
+children_there sets outcomes nodes tree at d h i =
+    let mapped : map (λ s. length (child_trees s)) (subtrees tree)
+    ≡ map (λ n. child_count sets n.set) nodes =
+    counts_beside tree
+    ∙ ap counts_of (entries_are sets outcomes nodes tree h)
+    ∙ counts_kept sets outcomes (map kept_of nodes)
+    ∙ counts_in sets nodes in
+    beside (λ s. length (child_trees s)) (λ n. child_count sets n.set) (subtrees tree) nodes at tree
+    d mapped i
+  where
+    counts_in : (sets : List (Described SetKey InformationSet)) (ns : List Stored)
+        → child_counts sets (map kept_of ns) ≡ map (λ n. child_count sets n.set) ns
+    counts_in sets [] = refl
+    counts_in sets (n ∷ ns) = ap (λ xs. child_count sets n.set ∷ xs) (counts_in sets ns)
+
+pub placed_there : (sets outcomes : ℕ) (nodes : List Stored) (at : ℕ) (d : Stored)
+    → ArePlaced sets outcomes (map kept_of nodes) → at < length nodes
+    → IsPlaced sets outcomes (kept_of (get_or nodes at d))
+placed_there sets outcomes [] at d p h = absurd (omega (arith, h))
+placed_there sets outcomes (n ∷ ns) zero d p h = p.0
+placed_there sets outcomes (n ∷ ns) (suc at) d p h =
+    placed_there sets outcomes ns at d p.1 (omega (arith, h))
+
+pub child_there : (sets : List (Described SetKey InformationSet))
+    (outcomes : List (Described ℕ Outcome)) (nodes : List Stored) (tree : Tree Node) (at i : ℕ)
+    → IsTreeOf sets outcomes nodes tree
+    → at < length (subtrees tree) → i < length (child_trees (subtree_at tree at))
+    → Begin i (drop (at + 1) (sizes_of nodes))
+    × (slice_get (subtrees tree) (at + 1 + skipped i (drop (at + 1) (sizes_of nodes)))
+    ≡ slice_get (child_trees (subtree_at tree at)) i)
+child_there sets outcomes nodes tree at i h a b =
+    let r = child_is_there tree at i a b in
+    rw (sizes_beside sets outcomes nodes tree h) (r.begin, r.there)
+
+-- ---- a game of its parts
+
+pub shaped : (sets : List (Described SetKey InformationSet))
+    (outcomes : List (Described ℕ Outcome)) (ns : List Kept)
+    → Fills 1 (entries_with sets outcomes ns)
+    → counts_of (flatten (tree_with sets outcomes ns)) ≡ child_counts sets ns
+shaped sets outcomes ns h = ap counts_of (flatten_grown no_node (entries_with sets outcomes ns) h)
+    ∙ counts_kept sets outcomes ns
+
+pub made_held : (title comment : List ℕ) (players : List (List ℕ))
+    (sets : List (Described SetKey InformationSet)) (outcomes : List (Described ℕ Outcome))
+    (ns : List Kept) (nodes : List Stored)
+    → map kept_of nodes ≡ ns → ArePlaced (length sets) (length outcomes) ns
+    → Fills 1 (entries_with sets outcomes ns)
+    → sizes_of nodes ≡ subtree_sizes (tree_with sets outcomes ns)
+    → IsGame (game_with title comment players sets outcomes ns)
+    → IsSpellable (game_with title comment players sets outcomes ns)
+    → IsHeld title comment players sets outcomes nodes
+made_held title comment players sets outcomes ns nodes e placed fills sizes game
+    spellable = record {
+      nodes_are = record { placed = rw e placed; fills = rw e fills; sizes = rw e sizes };
+      is_game = rw e game;
+      spellable = rw e spellable;
+    }
+
+-- ---- the nodes from a place on
+
+pub next_node : {N : Type 0} (t : Tree N) (at : ℕ) → at < length (subtrees t)
+    → drop at (map (λ e. e.node) (flatten t))
+    ≡ root_node (subtree_at t at) ∷ drop (at + 1) (map (λ e. e.node) (flatten t))
+next_node {N} t at h =
+    let within : at < length (map root_node (subtrees t)) =
+    omega (arith, h, length-map (subtrees t) (root_node {N = N})) in
+    let next : at + 1 ≡ suc at = omega arith in
+    rw (← nodes_beside t, next) (drop-cons (map root_node (subtrees t)) at (root_node t) within
+    ∙ ap (λ n. n ∷ drop (suc at) (map root_node (subtrees t)))
+    (get_or-map root_node (subtrees t) at t (root_node t) h))
+
+pub nodes_counted : {N : Type 0} (t : Tree N)
+    → length (map (λ e. e.node) (flatten t)) ≡ length (subtrees t)
+nodes_counted {N} t = length-map (flatten t) (λ (e : Entry N). e.node) ∙ sym (subtrees_counted t)
+
+-- ---- the first subtree is the tree
+
+pub some_subtree : {N : Type 0} (t : Tree N) → 0 < length (subtrees t)
+some_subtree (branch n ts) = omega arith
+
+pub root_first : {N : Type 0} (t : Tree N) → subtree_at t 0 ≡ t
+root_first (branch n ts) = refl

@@ -1,0 +1,190 @@
+-- The nodes of a game as they are kept, given one after another, are those that a file gives.
+use Rattle.std.proofs.Common.{◌≡◌, ℕ, zero, suc, ◌+◌, ◌<◌, ◌≤◌, List, [], ◌∷◌, ◌++◌, length, map}
+use Rattle.std.proofs.Common.{max, Option, None, Some, option_map, slice_get, nat_eq, refl}
+use Rattle.std.proofs.Common.{sym, ap, ◌∙◌, arith, append_assoc, append-nil}
+use Rattle.std.specs.Prelude.{Bool}
+use Rattle.std.specs.List.{filter_map, cons_option}
+use Rattle.std.proofs.Math.Nat.{max-zero}
+use Rattle.std.proofs.lemmas.Bool.Decides.{Decides-eqb}
+use Rattle.std.proofs.lemmas.List.{map-append}
+use Rattle.std.proofs.lemmas.List.Elements.{filter_map-append}
+use Rattle.gf_token.specs.Positions.{at_position}
+use Rattle.gf_tree.specs.Description.{SetKey, same_set}
+use Rattle.gf_tree.specs.FileNodes.{file_nodes, node_behind, use_behind, with_those_before}
+use Rattle.gf_tree.specs.FiniteMap.{Described, description_at, first_uses}
+use Rattle.gf_tree.specs.Game.{Game, Node, IsGame}
+use Rattle.gf_tree.specs.KeptNodes.{ArePlaced, IsPlaced, Kept, entries_with, entry_with}
+use Rattle.gf_tree.specs.inner.KnownUses.{node_given, nodes_given, use_at}
+use Rattle.gf_tree.specs.PrefixOrder.{Entry, flatten}
+use Rattle.gf_tree.proofs.lemmas.stores.KnownKeys.{known_there, use_there}
+use Rattle.gf_tree.proofs.lemmas.games.Members.{map_same, map_twice}
+use Rattle.gf_tree.proofs.lemmas.games.TreesOnce.{same_set_equality}
+use Rattle.gf_tree.proofs.lemmas.games.Uses.{IsEquality}
+
+-- ---- lists
+
+pub something_there : {A : Type 0} (xs : List A) (k : ℕ) → k < length xs
+    → (x : A) × (slice_get xs k ≡ Some x)
+something_there [] k h = absurd (omega (arith, h))
+something_there (y ∷ xs) zero h = (y, refl)
+something_there (y ∷ xs) (suc k) h = something_there xs k (omega (arith, h))
+
+-- an item with those before it, after others
+behind_front : {A B : Type 0} (f : List A → A → B) (front : List A) (x : A) (xs : List A)
+    → map (λ p. f (front ++ p.0) p.1) (with_those_before (x ∷ xs))
+    ≡ f front x ∷ map (λ p. f ((front ++ x ∷ []) ++ p.0) p.1) (with_those_before xs)
+behind_front {A} {B} f front x xs =
+    let first : f (front ++ []) x ≡ f front x = ap (λ ys. f ys x) (append-nil front) in
+    let others : map (λ (p : List A × A). f (front ++ p.0) p.1)
+    (map (λ (p : List A × A). (x ∷ p.0, p.1)) (with_those_before xs))
+    ≡ map (λ (p : List A × A). f ((front ++ x ∷ []) ++ p.0) p.1) (with_those_before xs) =
+    map_twice (λ (p : List A × A). f (front ++ p.0) p.1) (λ (p : List A × A). (x ∷ p.0, p.1))
+    (with_those_before xs)
+    ∙ map_same (λ (p : List A × A). f (front ++ x ∷ p.0) p.1)
+    (λ (p : List A × A). f ((front ++ x ∷ []) ++ p.0) p.1) (with_those_before xs)
+    (λ p i. ap (λ ys. f ys p.1) (sym (append_assoc front (x ∷ []) p.0))) in
+    λ i. first i ∷ others i
+
+-- ---- the use at a position, after other uses
+
+-- this use comes after those before, and stands for the key at this position
+record IsUse {K D : Type 0} (same : K → K → Bool) (known : List (Described K D))
+    (before after : List K) (used : Option K) (position met : ℕ) : Type 0 where
+  all : map (λ d. d.key) known ≡ first_uses same (before ++ cons_option used after)
+  is : used ≡ option_map (λ d. d.key) (at_position known position)
+  within : position ≤ length known
+  met_are : met ≡ length (first_uses same before)
+
+module _ {K D : Type 0} (same : K → K → Bool) (tells : IsEquality same)
+    (known : List (Described K D)) (before after : List K) (used : Option K) where
+  use_given : (position met : ℕ) → IsUse same known before after used position met
+      → option_map (use_behind same (description_at same known) before) used
+      ≡ option_map (use_at met position) (at_position known position)
+  use_given zero met h = rw h.is refl
+  use_given (suc k) met h =
+      let d = something_there known k (omega (arith, h.within)) in
+      let key : used ≡ Some d.0.key = h.is ∙ ap (option_map (λ (d : Described K D). d.key)) d.1 in
+      rw (key, d.1, h.met_are) (ap Some (use_there same tells known before after k d.0
+      (h.all ∙ ap (λ o. first_uses same (before ++ cons_option o after)) key) d.1))
+
+  met_given : (position met : ℕ) → IsUse same known before after used position met
+      → max met position ≡ length (first_uses same (before ++ cons_option used []))
+  met_given zero met h =
+      let none : used ≡ None = h.is in
+      max-zero met ∙ h.met_are
+      ∙ ap (λ ks. length (first_uses same ks))
+      (sym (ap (λ o. before ++ cons_option o []) none ∙ append-nil before))
+  met_given (suc k) met h =
+      let d = something_there known k (omega (arith, h.within)) in
+      let key : used ≡ Some d.0.key = h.is ∙ ap (option_map (λ (d : Described K D). d.key)) d.1 in
+      ap (λ n. max n (suc k)) h.met_are
+      ∙ sym (known_there same tells known before after k d.0
+      (h.all ∙ ap (λ o. first_uses same (before ++ cons_option o after)) key) d.1)
+      ∙ ap (λ o. length (first_uses same (before ++ cons_option o []))) (sym key)
+
+-- ---- one node after another
+
+module _ (g : Game) (game : IsGame g) (nodes : List Kept)
+    (flat : flatten g.tree ≡ entries_with g.sets g.outcomes nodes) where
+  abbrev entries : List Kept → List (Entry Node)
+  entries ns = entries_with g.sets g.outcomes ns
+
+  abbrev sets_in : List Kept → List SetKey
+  sets_in ns = filter_map (λ e. e.node.set) (entries ns)
+
+  abbrev outcomes_in : List Kept → List ℕ
+  outcomes_in ns = filter_map (λ e. e.node.outcome) (entries ns)
+
+  -- these nodes are given after those in front
+  record IsFront (front ns : List Kept) (met_sets met_outcomes : ℕ) : Type 0 where
+    parts : nodes ≡ front ++ ns
+    sets : met_sets ≡ length (first_uses same_set (sets_in front))
+    outcomes : met_outcomes ≡ length (first_uses nat_eq (outcomes_in front))
+
+  module _ (front : List Kept) (n : Kept) (ns : List Kept) (met_sets met_outcomes : ℕ)
+      (here : IsFront front (n ∷ ns) met_sets met_outcomes)
+      (placed : IsPlaced (length g.sets) (length g.outcomes) n) where
+    split : flatten g.tree ≡ entries front ++ entries (n ∷ ns)
+    split = flat ∙ ap entries here.parts
+        ∙ map-append (entry_with g.sets g.outcomes) front (n ∷ ns)
+
+    set_here : IsUse same_set g.sets (sets_in front) (sets_in ns)
+        (entry_with g.sets g.outcomes n).node.set n.set met_sets
+    set_here = record {
+      all = game.one_entry_each_set
+          ∙ ap (λ es. first_uses same_set (filter_map (λ (e : Entry Node). e.node.set) es)) split
+          ∙ ap (first_uses same_set) (filter_map-append (λ (e : Entry Node). e.node.set)
+          (entries front) (entries (n ∷ ns)));
+      is = refl;
+      within = placed.set;
+      met_are = here.sets;
+    }
+
+    outcome_here : IsUse nat_eq g.outcomes (outcomes_in front) (outcomes_in ns)
+        (entry_with g.sets g.outcomes n).node.outcome n.outcome met_outcomes
+    outcome_here = record {
+      all = game.one_entry_each_outcome
+          ∙ ap (λ es. first_uses nat_eq (filter_map (λ (e : Entry Node). e.node.outcome) es)) split
+          ∙ ap (first_uses nat_eq) (filter_map-append (λ (e : Entry Node). e.node.outcome)
+          (entries front) (entries (n ∷ ns)));
+      is = refl;
+      within = placed.outcome;
+      met_are = here.outcomes;
+    }
+
+    node_here : node_given g.sets g.outcomes met_sets met_outcomes n
+        ≡ node_behind g (entries front) (entry_with g.sets g.outcomes n).node
+    node_here =
+        let set = sym (use_given same_set same_set_equality g.sets (sets_in front) (sets_in ns)
+        (entry_with g.sets g.outcomes n).node.set n.set met_sets set_here) in
+        let outcome = sym (use_given nat_eq Decides-eqb g.outcomes (outcomes_in front)
+        (outcomes_in ns) (entry_with g.sets g.outcomes n).node.outcome n.outcome met_outcomes
+        outcome_here) in
+        λ i. record { name = n.name; set = set i; outcome = outcome i }
+
+    one_more : entries (front ++ n ∷ []) ≡ entries front ++ entries (n ∷ [])
+    one_more = map-append (entry_with g.sets g.outcomes) front (n ∷ [])
+
+    goes_on : IsFront (front ++ n ∷ []) ns (max met_sets n.set) (max met_outcomes n.outcome)
+    goes_on = record {
+      parts = here.parts ∙ sym (append_assoc front (n ∷ []) ns);
+      sets = met_given same_set same_set_equality g.sets (sets_in front) (sets_in ns)
+          (entry_with g.sets g.outcomes n).node.set n.set met_sets set_here
+          ∙ ap (λ ks. length (first_uses same_set ks))
+          (sym (ap (filter_map (λ (e : Entry Node). e.node.set)) one_more
+          ∙ filter_map-append (λ (e : Entry Node). e.node.set) (entries front)
+          (entries (n ∷ []))));
+      outcomes = met_given nat_eq Decides-eqb g.outcomes (outcomes_in front)
+          (outcomes_in ns) (entry_with g.sets g.outcomes n).node.outcome n.outcome
+          met_outcomes outcome_here
+          ∙ ap (λ ks. length (first_uses nat_eq ks))
+          (sym (ap (filter_map (λ (e : Entry Node). e.node.outcome)) one_more
+          ∙ filter_map-append (λ (e : Entry Node). e.node.outcome) (entries front)
+          (entries (n ∷ []))));
+    }
+
+  given_behind : (front ns : List Kept) (met_sets met_outcomes : ℕ)
+      → IsFront front ns met_sets met_outcomes
+      → ArePlaced (length g.sets) (length g.outcomes) ns
+      → nodes_given g.sets g.outcomes met_sets met_outcomes ns
+      ≡ map (λ p. node_behind g (entries front ++ p.0) p.1.node)
+      (with_those_before (entries ns))
+  given_behind front [] met_sets met_outcomes here placed = refl
+  given_behind front (n ∷ ns) met_sets met_outcomes here placed =
+      let node = node_here front n ns met_sets met_outcomes here placed.0 in
+      let others = given_behind (front ++ n ∷ []) ns (max met_sets n.set)
+      (max met_outcomes n.outcome) (goes_on front n ns met_sets met_outcomes here placed.0)
+      placed.1
+      ∙ ap (λ es. map (λ (p : List (Entry Node) × Entry Node).
+      node_behind g (es ++ p.0) p.1.node) (with_those_before (entries ns)))
+      (one_more front n ns met_sets met_outcomes here placed.0) in
+      (λ i. node i ∷ others i)
+      ∙ sym (behind_front (λ before (e : Entry Node). node_behind g before e.node)
+      (entries front) (entry_with g.sets g.outcomes n) (entries ns))
+
+  pub nodes_are_given : ArePlaced (length g.sets) (length g.outcomes) nodes
+      → nodes_given g.sets g.outcomes 0 0 nodes ≡ file_nodes g
+  nodes_are_given placed =
+      given_behind [] nodes 0 0 (record { parts = refl; sets = refl; outcomes = refl }) placed
+      ∙ ap (λ es. map (λ (p : List (Entry Node) × Entry Node). node_behind g p.0 p.1.node)
+      (with_those_before es)) (sym flat)

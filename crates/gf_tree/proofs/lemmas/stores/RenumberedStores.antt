@@ -1,0 +1,360 @@
+-- Sets and outcomes that are known, renumbered one after another.
+use Rattle.std.proofs.Common.{◌≡◌, ℕ, zero, suc, ◌+◌, ◌-◌, ◌<◌, ◌≤◌, ◌^◌, Bool, true}
+use Rattle.std.proofs.Common.{false, List, [], ◌∷◌, ◌++◌, length, map, take}
+use Rattle.std.proofs.Common.{get_or, slice_get, Some, None, MatchOption}
+use Rattle.std.proofs.Common.{option_map, inl, inr, refl, sym, ap, subst, ◌∙◌, arith}
+use Rattle.std.proofs.Common.{Vec, Global}
+use Rattle.std.proofs.lemmas.List.{get_or-map}
+use Rattle.std.specs.Prelude.{nat_eq, position, ◌==◌, ⊤}
+use Rattle.std.specs.List.{AllByRecursion, position_from}
+use Rattle.std.proofs.lemmas.Bool.{eq-eqb, false_from_ne_true}
+use Rattle.std.proofs.lemmas.Bool.Decides.{Decides-eqb}
+use Rattle.std.proofs.lemmas.Iterator.Adapters.{position_from-zero}
+use Rattle.std.proofs.lemmas.Option.{get_or_from_slice_get, slice_get-map, slice_get_within}
+use Rattle.gf_tree.specs.Description.{SetKey, InformationSet, Outcome, same_set, set_of}
+use Rattle.gf_tree.specs.FiniteMap.{Described}
+use Rattle.gf_tree.specs.FirstUse.{outcome_numbers, player_keys, sets_of}
+use Rattle.gf_tree.specs.Game.{Game, IsGame, used_sets, used_outcomes}
+use Rattle.gf_tree.specs.KnownSets.{known_of, number_among}
+use Rattle.gf_tree.specs.Listed.{AreListed, listed_numbers, number_listed}
+use Rattle.gf_tree.specs.Renumbering.{Renumbering, renumbered}
+use Rattle.gf_tree.proofs.lemmas.games.Carried.{entry_used}
+use Rattle.gf_tree.proofs.lemmas.games.FirstUses.{AreDistinct, first_uses_distinct}
+use Rattle.gf_tree.proofs.lemmas.games.ListedNumbers.{as_long, listed_is_renumbering, number_there}
+use Rattle.gf_tree.proofs.lemmas.games.ListedNumbers.{some_player}
+use Rattle.gf_tree.proofs.lemmas.games.PlayerSets.{sets_by_first_use}
+use Rattle.gf_tree.proofs.lemmas.games.Renumbered.{renumbered_is_game}
+use Rattle.gf_tree.proofs.lemmas.games.TreesOnce.{same_set_equality}
+use Rattle.gf_tree.proofs.lemmas.games.Uses.{Has, IsEquality}
+
+-- ---- a key that has not stood yet
+
+pub some_same : {X : Type 0} (x y : X) → Some x ≡ Some y → x ≡ y
+some_same x y e = cc
+
+pub has_place : {X : Type 0} (xs : List X) (place : ℕ) (x : X) → slice_get xs place ≡ Some x → Has xs x
+has_place [] zero x h = absurd cc
+has_place [] (suc place) x h = absurd cc
+has_place (y ∷ xs) zero x h = inl cc
+has_place (y ∷ xs) (suc place) x h = inr (has_place xs place x h)
+
+absent_from : {K : Type 0} (same : K → K → Bool) → IsEquality same
+    → (key : K) (ks : List K) (start : ℕ)
+    → (Has ks key → ⊥) → position_from (same key) start ks ≡ None
+absent_from same tells key [] start h = refl
+absent_from same tells key (k ∷ ks) start h =
+    let other : same key k ≡ false =
+    false_from_ne_true (same key k) (λ t. h (inl (sym ((tells key k).0 t)))) in
+    rw other (absent_from same tells key ks (start + 1) (λ m. h (inr m)))
+
+pub absent : {K : Type 0} (same : K → K → Bool) → IsEquality same → (key : K) (ks : List K)
+    → (Has ks key → ⊥) → position (same key) ks ≡ None
+absent same tells key ks h = position_from-zero (same key) ks ∙ absent_from same tells key ks 0 h
+
+not_yet : {K : Type 0} (ks : List K) (place : ℕ) (key : K) → AreDistinct ks
+    → slice_get ks place ≡ Some key
+    → Has (take place ks) key → ⊥
+not_yet [] zero key d h i = absurd i
+not_yet [] (suc place) key d h i = absurd i
+not_yet (k ∷ ks) zero key d h i = absurd i
+not_yet (k ∷ ks) (suc place) key d h (inl e) =
+    d.0 (subst (Has ks) (sym e) (has_place ks place key h))
+not_yet (k ∷ ks) (suc place) key d h (inr m) = not_yet ks place key d.1 h m
+
+map_take : {X Y : Type 0} (f : X → Y) (n : ℕ) (xs : List X) → map f (take n xs) ≡ take n (map f xs)
+map_take f zero xs = refl
+map_take f (suc n) [] = refl
+map_take f (suc n) (x ∷ xs) = ap (λ ys. f x ∷ ys) (map_take f n xs)
+
+-- the key of the next entry has not stood before it
+pub next_absent : {K D : Type 0} (same : K → K → Bool) → IsEquality same
+    → (es : List (Described K D)) (place : ℕ) (e : Described K D)
+    → AreDistinct (map (λ e. e.key) es) → slice_get es place ≡ Some e
+    → position (same e.key) (map (λ e. e.key) (take place es)) ≡ None
+next_absent {K} {D} same tells es place e d h =
+    let key : slice_get (map (λ (e : Described K D). e.key) es) place ≡ Some e.key =
+    slice_get-map (λ (e : Described K D). e.key) es place
+    ∙ ap (option_map (λ (e : Described K D). e.key)) h in
+    rw (map_take (λ (e : Described K D). e.key) place es)
+    (absent same tells e.key (take place (map (λ e. e.key) es))
+    (not_yet (map (λ e. e.key) es) place e.key d key))
+
+-- ---- one more entry
+
+take_next : {X : Type 0} (xs : List X) (place : ℕ) (x : X) → slice_get xs place ≡ Some x
+    → take (suc place) xs ≡ take place xs ++ x ∷ []
+take_next [] zero x h = absurd cc
+take_next [] (suc place) x h = absurd cc
+take_next (y ∷ xs) zero x h = let first : y ≡ x = cc in ap (λ z. z ∷ []) first
+take_next (y ∷ xs) (suc place) x h = ap (λ ys. y ∷ ys) (take_next xs place x h)
+
+pub taken : {X : Type 0} (xs : List X) (place : ℕ) (x : X) → slice_get xs place ≡ Some x
+    → take (place + 1) xs ≡ take place xs ++ x ∷ []
+taken xs place x h =
+    let next : place + 1 ≡ suc place = omega arith in rw next (take_next xs place x h)
+
+pub all_and_one : {X : Type 0} (P : X → Type 0) (xs : List X) (x : X) → AllByRecursion P xs → P x
+    → AllByRecursion P (xs ++ x ∷ [])
+all_and_one P [] x h p = (p, tt)
+all_and_one P (y ∷ xs) x h p = (h.0, all_and_one P xs x h.1 p)
+
+pub there : {X : Type 0} (xs : List X) (place : ℕ) → place < length xs
+    → (x : X) × (slice_get xs place ≡ Some x)
+there [] place h = absurd (omega (arith, h))
+there (x ∷ xs) zero h = (x, refl)
+there (x ∷ xs) (suc place) h = there xs place (omega (arith, h))
+
+-- ---- a set's number among those of its player
+
+-- the entries of a player through this one are one more than the place of this one among all of his
+pub record IsAmong (known : List (Described SetKey InformationSet)) (place player : ℕ)
+    (s : Described SetKey InformationSet) : Type 0 where
+  pub before : ℕ
+  pub counted : length (known_of player (take (suc place) known)) ≡ suc before
+  pub stands : slice_get (known_of player known) before ≡ Some s
+
+among_more : (t : Described SetKey InformationSet) (known : List (Described SetKey InformationSet))
+    (place player : ℕ) (s : Described SetKey InformationSet)
+    → IsAmong known place player s → (b : Bool) → (t.key.player == player) ≡ b
+    → IsAmong (t ∷ known) (suc place) player s
+among_more t known place player s r true q =
+    record { before = suc r.before; counted = rw q (ap suc r.counted); stands = rw q r.stands }
+among_more t known place player s r false q =
+    record { before = r.before; counted = rw q r.counted; stands = rw q r.stands }
+
+pub is_among : (known : List (Described SetKey InformationSet)) (place player : ℕ)
+    (s : Described SetKey InformationSet)
+    → slice_get known place ≡ Some s → s.key.player ≡ player → IsAmong known place player s
+is_among [] zero player s h e = absurd cc
+is_among [] (suc place) player s h e = absurd cc
+is_among (t ∷ known) zero player s h e =
+    let first : t ≡ s = cc in
+    let his : (t.key.player == player) ≡ true = (eq-eqb t.key.player player
+    (ap (λ (x : Described SetKey InformationSet). x.key.player) first ∙ e)) in
+    record {
+      before = 0;
+      counted = rw his refl;
+      stands = rw his (ap (λ (x : Described SetKey InformationSet). Some x) first);
+    }
+is_among (t ∷ known) (suc place) player s h e = among_more t known place player s
+    (is_among known place player s h e) (t.key.player == player) refl
+
+-- ---- the numbers of sets, one after another
+
+module _ (g : Game) (game : IsGame g) (lists : List (List ℕ)) (outcomes : List ℕ)
+    (listed : AreListed g lists outcomes) where
+  abbrev own : Described SetKey InformationSet → List ℕ
+  own s = get_or lists s.key.player []
+
+  pub record IsListedAt (place n : ℕ) : Type 0 where
+    pub set : Described SetKey InformationSet
+    pub stands : slice_get g.sets place ≡ Some set
+    pub positive : 1 ≤ n
+    pub player : set.key.player < length lists
+    pub within : n - 1 < length (get_or lists set.key.player [])
+    pub number : slice_get (get_or lists set.key.player []) (n - 1)
+        ≡ Some (number_listed same_set (player_keys g set.key.player)
+        (get_or lists set.key.player [])
+        set.key)
+
+  key_used : (place : ℕ) (s : Described SetKey InformationSet) → slice_get g.sets place ≡ Some s
+      → Has (used_sets g.tree) s.key
+  key_used place s h = entry_used same_set (used_sets g.tree) g.sets s game.one_entry_each_set
+      (has_place g.sets place s h)
+
+  pub listed_at : (place n : ℕ) → place < length g.sets → number_among g.sets place ≡ Some n
+      → IsListedAt place n
+  listed_at place n h e =
+      let t = there g.sets place h in
+      let s = t.0 in
+      let player = s.key.player in
+      let counted : Some (length (known_of player (take (place + 1) g.sets))) ≡ Some n = rw t.1 at
+      e in
+      let next : place + 1 ≡ suc place = omega arith in
+      let counted' : length (known_of player (take (suc place) g.sets)) ≡ n =
+      ap (λ k. length (known_of player (take k g.sets))) (sym next) ∙ some_same _ _ counted in
+      let a = is_among g.sets place player s t.1 refl in
+      let among : n ≡ suc a.before = sym counted' ∙ a.counted in
+      let before : n - 1 ≡ a.before = omega (arith, among) in
+      let key : slice_get (player_keys g player) a.before ≡ Some s.key =
+      slice_get-map (λ (x : Described SetKey InformationSet). x.key) (known_of player g.sets)
+      a.before
+      ∙ ap (option_map (λ (x : Described SetKey InformationSet). x.key)) a.stands in
+      let used = key_used place s t.1 in
+      let long = as_long g game lists outcomes listed s.key used in
+      let distinct : AreDistinct (player_keys g player) =
+      subst AreDistinct (sym (sets_by_first_use g player game))
+      (first_uses_distinct same_set same_set_equality (sets_of player (used_sets g.tree))) in
+      let number = number_there same_set same_set_equality (player_keys g player) (own s) a.before
+      s.key long distinct key in
+      record {
+        set = s;
+        stands = t.1;
+        positive = omega (arith, among);
+        player = omega
+            (arith, some_player g game lists outcomes listed s.key used, listed.one_list_each);
+        within = rw before (slice_get_within (own s) a.before _ number);
+        number = rw before number;
+      }
+
+  -- what is found at a place by the number of its set among those of its player
+  pub record IsFound (place n : ℕ) (items : List ℕ) : Type 0 where
+    pub positive : 1 ≤ n
+    pub within : n - 1 < length items
+    pub number : (x : ℕ) → x ≡ get_or items (n - 1) x
+        → MatchOption (slice_get g.sets place) ⊤ (λ s.
+        x
+        ≡ number_listed same_set (player_keys g s.key.player) (get_or lists s.key.player []) s.key)
+
+  pub found_in : (known : List (Described SetKey InformationSet))
+      (place n player number : ℕ) (items : List ℕ)
+      → known ≡ g.sets → place < length g.sets
+      → option_map (λ s. s.key) (slice_get known place) ≡ Some (set_of player number)
+      → number_among known place ≡ Some n
+      → (player < length lists → items ≡ get_or lists player []) → IsFound place n items
+  found_in known place n player number items e h k a own_is =
+      let r = listed_at place n h
+      (ap (λ (ss : List (Described SetKey InformationSet)). number_among ss place) (sym e) ∙ a) in
+      let key : Some r.set.key ≡ Some (set_of player number) =
+      sym (ap (option_map (λ (s : Described SetKey InformationSet). s.key)) r.stands)
+      ∙ ap (λ (ss : List (Described SetKey InformationSet)).
+      option_map (λ (s : Described SetKey InformationSet). s.key) (slice_get ss place)) (sym e)
+      ∙ k in
+      let his : r.set.key.player ≡ player = ap (λ (x : SetKey). x.player) (some_same _ _ key) in
+      let items_are : items ≡ get_or lists r.set.key.player [] =
+      own_is (subst (λ p. p < length lists) his r.player)
+      ∙ ap (λ (p : ℕ). get_or lists p []) (sym his) in
+      record {
+        positive = r.positive;
+        within = rw items_are r.within;
+        number = λ x q. rw r.stands (q
+            ∙ ap (λ (ns : List ℕ). get_or ns (n - 1) x) items_are
+            ∙ get_or_from_slice_get (own r.set) (n - 1) _ x r.number);
+      }
+
+  abbrev by_list : Renumbering
+  by_list = listed_numbers g lists outcomes
+
+  abbrev image : Described SetKey InformationSet → Described SetKey InformationSet
+  image s = record {
+    key = set_of s.key.player (by_list.set s.key.player s.key.number);
+    description = s.description;
+  }
+
+  distinct_sets : AreDistinct (map (λ s. s.key) (renumbered by_list g).sets)
+  distinct_sets =
+      let h =
+      renumbered_is_game g by_list game (listed_is_renumbering g game lists outcomes listed) in
+      subst AreDistinct (sym h.one_entry_each_set)
+      (first_uses_distinct same_set same_set_equality (used_sets (renumbered by_list g).tree))
+
+  image_there : (place : ℕ) (s : Described SetKey InformationSet) → slice_get g.sets place ≡ Some s
+      → slice_get (renumbered by_list g).sets place ≡ Some (image s)
+  image_there place s h = slice_get-map image g.sets place ∙ ap (option_map image) h
+
+  pub set_absent : (from now : List (Described SetKey InformationSet)) (place number : ℕ)
+      → from ≡ g.sets → now ≡ take place (renumbered by_list g).sets
+      → place < length g.sets
+      → MatchOption (slice_get g.sets place) ⊤ (λ s. number ≡ by_list.set s.key.player s.key.number)
+      → MatchOption (slice_get from place) ⊤
+      (λ s. position (same_set (set_of s.key.player number)) (map (λ t. t.key) now) ≡ None)
+  set_absent from now place number e f h m =
+      let t = there g.sets place h in
+      let is : number ≡ by_list.set t.0.key.player t.0.key.number = rw t.1 at m in
+      rw (e, t.1, f, is) (next_absent same_set same_set_equality (renumbered by_list g).sets place
+      (image t.0) distinct_sets (image_there place t.0 t.1))
+
+  pub set_added : (from now new : List (Described SetKey InformationSet)) (place number : ℕ)
+      → from ≡ g.sets → now ≡ take place (renumbered by_list g).sets
+      → place < length g.sets → number < 2 ^ 32
+      → MatchOption (slice_get g.sets place) ⊤ (λ s. number ≡ by_list.set s.key.player s.key.number)
+      → AllByRecursion (λ s. s.key.number < 2 ^ 32) now
+      → MatchOption (slice_get from place) ⊤ (λ s.
+      new ≡ now ++ record { key = set_of s.key.player number; description = s.description } ∷ [])
+      → (new ≡ take (place + 1) (renumbered by_list g).sets)
+      × AllByRecursion (λ s. s.key.number < 2 ^ 32) new
+  set_added from now new place number e f h small m all added =
+      let t = there g.sets place h in
+      let is : number ≡ by_list.set t.0.key.player t.0.key.number = rw t.1 at m in
+      let entry : ℕ → Described SetKey InformationSet =
+      λ n. record { key = set_of t.0.key.player n; description = t.0.description } in
+      let one : new ≡ now ++ entry number ∷ [] = rw (e, t.1) at added in
+      let there = image_there place t.0 t.1 in
+      let more = taken (renumbered by_list g).sets place (image t.0) there in (
+        one ∙ (λ i. f i ++ entry (is i) ∷ []) ∙ sym more,
+        rw one (all_and_one (λ s. s.key.number < 2 ^ 32) now (entry number) all small),
+      )
+
+-- ---- the numbers of outcomes, one after another
+
+module _ (g : Game) (game : IsGame g) (lists : List (List ℕ)) (outcomes : List ℕ)
+    (listed : AreListed g lists outcomes) where
+  abbrev outcomes_by_list : Renumbering
+  outcomes_by_list = listed_numbers g lists outcomes
+
+  abbrev outcome_image : Described ℕ Outcome → Described ℕ Outcome
+  outcome_image o = record { key = outcomes_by_list.outcome o.key; description = o.description }
+
+  distinct_keys : AreDistinct (outcome_numbers g)
+  distinct_keys = subst AreDistinct (sym game.one_entry_each_outcome)
+      (first_uses_distinct nat_eq Decides-eqb (used_outcomes g.tree))
+
+  distinct_outcomes : AreDistinct (map (λ o. o.key) (renumbered outcomes_by_list g).outcomes)
+  distinct_outcomes =
+      let h = renumbered_is_game g outcomes_by_list game
+      (listed_is_renumbering g game lists outcomes listed) in
+      subst AreDistinct (sym h.one_entry_each_outcome)
+      (first_uses_distinct nat_eq Decides-eqb (used_outcomes (renumbered outcomes_by_list g).tree))
+
+  outcome_there : (place : ℕ) (o : Described ℕ Outcome) → slice_get g.outcomes place ≡ Some o
+      → slice_get (renumbered outcomes_by_list g).outcomes place ≡ Some (outcome_image o)
+  outcome_there place o h =
+      slice_get-map outcome_image g.outcomes place ∙ ap (option_map outcome_image) h
+
+  listed_outcome : (place number : ℕ) (o : Described ℕ Outcome)
+      → slice_get g.outcomes place ≡ Some o → slice_get outcomes place ≡ Some number
+      → number ≡ outcomes_by_list.outcome o.key
+  listed_outcome place number o h e =
+      let key = slice_get-map (λ (x : Described ℕ Outcome). x.key) g.outcomes place
+      ∙ ap (option_map (λ (x : Described ℕ Outcome). x.key)) h in
+      some_same _ _
+      (sym e ∙ number_there nat_eq Decides-eqb (outcome_numbers g) outcomes place o.key
+      listed.each_outcome distinct_keys key)
+
+  pub outcome_absent : (now : List (Described ℕ Outcome)) (place number : ℕ)
+      → now ≡ take place (renumbered outcomes_by_list g).outcomes
+      → place < length g.outcomes → slice_get outcomes place ≡ Some number
+      → position (nat_eq number) (map (λ t. t.key) now) ≡ None
+  outcome_absent now place number f h m =
+      let t = there g.outcomes place h in
+      let is = listed_outcome place number t.0 t.1 m in
+      rw (f, is) (next_absent nat_eq Decides-eqb (renumbered outcomes_by_list g).outcomes place
+      (outcome_image t.0) distinct_outcomes (outcome_there place t.0 t.1))
+
+  pub outcome_added : (from now new : List (Described ℕ Outcome)) (place number : ℕ)
+      → from ≡ g.outcomes → now ≡ take place (renumbered outcomes_by_list g).outcomes
+      → place < length g.outcomes → number < 2 ^ 32 → slice_get outcomes place ≡ Some number
+      → AllByRecursion (λ o. o.key < 2 ^ 32) now
+      → MatchOption (slice_get from place) ⊤
+      (λ o. new ≡ now ++ record { key = number; description = o.description } ∷ [])
+      → (new ≡ take (place + 1) (renumbered outcomes_by_list g).outcomes)
+      × AllByRecursion (λ o. o.key < 2 ^ 32) new
+  outcome_added from now new place number e f h small m all added =
+      let t = there g.outcomes place h in
+      let is = listed_outcome place number t.0 t.1 m in
+      let one : new ≡ now ++ record { key = number; description = t.0.description } ∷ [] =
+      rw (e, t.1) at added in
+      let more = taken (renumbered outcomes_by_list g).outcomes place (outcome_image t.0)
+      (outcome_there place t.0 t.1) in (
+        one ∙ (λ i. f i ++ record { key = is i; description = t.0.description } ∷ []) ∙ sym more,
+        rw one (all_and_one (λ (o : Described ℕ Outcome). o.key < 2 ^ 32) now _ all small),
+      )
+
+-- ---- lists of lists
+
+pub own_items : (vs : List (Vec ℕ Global)) (player : ℕ) (v : Vec ℕ Global) → v ≡ get_or vs player v
+    → player < length vs
+    → v.items ≡ get_or (map (λ own. own.items) vs) player []
+own_items vs player v e h =
+    ap (λ (own : Vec ℕ Global). own.items) e
+    ∙ sym (get_or-map (λ (own : Vec ℕ Global). own.items) vs player v [] h)

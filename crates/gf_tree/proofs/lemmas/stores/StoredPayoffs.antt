@@ -1,0 +1,58 @@
+-- What is stored of outcomes, once one more payoff is pending or one more outcome is complete.
+use Rattle.std.proofs.Common.{◌≡◌, ℕ, ◌+◌, ◌<◌, ◌^◌, List, [], ◌∷◌, ◌++◌, length, map, drop, ap}
+use Rattle.std.proofs.Common.{◌∙◌, arith, length-append}
+use Rattle.std.proofs.lemmas.List.{drop-append-le}
+use Rattle.gf_fraction.specs.Ratio.{Ratio}
+use Rattle.gf_token.specs.Label.{label_of}
+use Rattle.gf_tree.specs.declared.game.outcomes.Entry.{Entry}
+use Rattle.gf_tree.specs.Description.{Outcome}
+use Rattle.gf_tree.specs.FiniteMap.{Described}
+use Rattle.gf_tree.specs.inner.KnownOutcomes.{KnownOutcomes}
+use Rattle.gf_tree.specs.inner.StoredOutcomes.{described, end_of, stored_outcomes, AreOutcomes}
+use Rattle.gf_tree.proofs.lemmas.stores.OutcomePlaces.{places_then}
+use Rattle.gf_tree.proofs.lemmas.stores.Stretching.{entry_behind, items_behind}
+
+abbrev made_of : Entry → List Ratio → Described ℕ Outcome
+made_of e payoffs = record {
+  key = e.number;
+  description =
+      record { name = label_of e.name; payoffs = payoffs };
+}
+
+module _ (ns : List (ℕ × ℕ)) (entries : List Entry) (payoffs : List Ratio) (from : ℕ)
+    (whole : KnownOutcomes) (are : AreOutcomes ns entries payoffs from)
+    (view : stored_outcomes entries payoffs from ≡ whole) where
+  pub payoff_pushed : (after : List Ratio) (payoff : Ratio) → after ≡ payoffs ++ payoff ∷ []
+      → stored_outcomes entries after from ≡ record whole { pending = whole.pending ++ payoff ∷ [] }
+  payoff_pushed after payoff is =
+      let known : map (described (payoffs ++ payoff ∷ [])) entries
+      ≡ map (described payoffs) entries =
+      items_behind (λ e. e.start) end_of made_of entries payoffs
+      (payoff ∷ []) from are.stretches in
+      let rest : drop from (payoffs ++ payoff ∷ []) ≡ drop from payoffs ++ payoff ∷ [] =
+      drop-append-le from payoffs (payoff ∷ []) are.stretches.within in
+      let more : stored_outcomes entries (payoffs ++ payoff ∷ []) from
+      ≡ record {
+        known = map (described payoffs) entries;
+        pending =
+            drop from payoffs ++ payoff ∷ [];
+      } =
+      λ i. record { known = known i; pending = rest i } in
+      ap (λ (xs : List Ratio). stored_outcomes entries xs from) is ∙ more
+      ∙ ap (λ (k : KnownOutcomes). record k { pending = k.pending ++ payoff ∷ [] }) view
+
+  -- one more outcome, with the payoffs from here on
+  module _ (new : Entry) (stored : List Entry) (is : stored ≡ entries ++ new ∷ []) (place last : ℕ)
+      (at : place ≡ length entries) (all : last ≡ length payoffs)
+      (starts : new.start ≡ from) (ends : end_of new ≡ last) where
+    pub outcomes_stored : (after : List (ℕ × ℕ)) → after ≡ ns ++ (new.number, place) ∷ []
+        → place + 1 < 2 ^ 32 → AreOutcomes after stored payoffs last
+    outcomes_stored after own room =
+        let are_then : AreOutcomes after (entries ++ new ∷ []) payoffs (length payoffs) = record {
+          stretches = entry_behind (λ e. e.start)
+              end_of entries payoffs from new are.stretches starts (ends ∙ all);
+          places = own ∙ ap (λ (k : ℕ). ns ++ (new.number, k) ∷ []) at
+              ∙ places_then ns entries new are.places;
+          few = omega (arith, room, at, length-append entries (new ∷ []));
+        } in
+        rw (is, all) are_then

@@ -1,0 +1,3 @@
+pub mod Games
+pub mod Nodes
+pub mod Tokens

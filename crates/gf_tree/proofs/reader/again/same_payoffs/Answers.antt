@@ -1,0 +1,26 @@
+use Rattle.std.proofs.Common.{◌∙◌, ◌+◌, ◌∷◌, ap, sym, drop, rules}
+use Rattle.std.proofs.lemmas.List.{at_drop_all, at_drop_more}
+use Rattle.gf_fraction.specs.Ratio.{Ratio}
+use Rattle.gf_tree.specs.inner.Machine.Position.{KnownPayoff}
+use Rattle.gf_tree.specs.inner.ReaderState.{heard}
+use Rattle.gf_tree.specs.inner.ReaderState.Fails.{of_file}
+use Rattle.gf_tree.proofs.lemmas.reader.Steps.{carried, goes_back}
+use Rattle.gf_tree.proofs.reader.again.same_payoffs.Goals as goal
+
+pub returns-in_err-same_payoff-clause-machine : goal.returns-in_err-same_payoff-clause-machine
+returns-in_err-same_payoff-clause-machine c = λ content.
+    let i = c.loop-payoff.payoff-index in
+    let others = drop (i + 1) c.args.payoffs.now in
+    goes_back _ (search rules) (carried (c.in_err-same_payoff.ensures.machine content others)
+    (c.loop-payoff.invariant.goes content
+    ∙ at_drop_more (λ payoffs. heard (KnownPayoff payoffs) content c.loop-payoff.tokens)
+    c.args.payoffs.now i c.payoff-item.result c.loop-payoff-test.true
+    ∙ ap (λ (p : Ratio). heard (KnownPayoff (p ∷ others)) content c.loop-payoff.tokens)
+    (sym c.payoff-item.is)))
+
+pub returns-in_default-closing-clause-machine : goal.returns-in_default-closing-clause-machine
+returns-in_default-closing-clause-machine c = λ content.
+    carried (carried (of_file (search rules)) (at_drop_all
+    (λ payoffs. heard (KnownPayoff payoffs) content c.loop-payoff.tokens) c.args.payoffs.now
+    c.loop-payoff.payoff-index c.loop-payoff-test.false))
+    (c.loop-payoff.invariant.goes content)

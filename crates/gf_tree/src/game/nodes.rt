@@ -1,0 +1,69 @@
+//! The nodes of a game in prefix order.
+
+ghost use Rattle.std.specs.Prelude.{◌≡◌, length, map};
+
+use crate::game::Game;
+use crate::game::node::Node;
+
+/// An iterator over the nodes of a game in prefix order: a node, then the subtrees of its children
+/// from the first to the last.
+#[derive(Drop)]
+pub struct Nodes<'g, 'a> {
+    game: &'g Game<'a>,
+    /// The place of the node that comes next.
+    next_place: usize,
+}
+
+impl<'g, 'a> Nodes<'g, 'a> {
+    ghost use Rattle.gf_tree.specs.PrefixOrder.{flatten};
+    ghost use Rattle.gf_tree.specs.NodesLeft.{nodes_left};
+
+    /// All nodes of a game.
+    pub(crate) fn all(game: &'g Game<'a>) -> Nodes<'g, 'a>
+        ensures { nodes_left result ≡ map (λ e. e.node) (flatten game.entry.now.tree) }
+    {
+        Nodes {
+            game,
+            next_place: 0,
+        }
+    }
+}
+
+impl<'g, 'a> Iterator for Nodes<'g, 'a> {
+    ghost use Rattle.std.specs.Iterator.{YieldsFirstBy, item_count};
+    ghost use Rattle.gf_tree.specs.NodeOf.{node_of};
+    ghost use Rattle.gf_tree.specs.NodesLeft.{nodes_left};
+
+    type Item = Node<'a>;
+
+    ghost next_gives = { YieldsFirstBy node_of nodes_left };
+
+    ghost remaining = { item_count nodes_left };
+
+    fn next(&mut self) -> Option<Node<'a>> {
+        let game = self.game;
+        if self.next_place >= game.len() {
+            return None;
+        }
+        let node = game.node(self.next_place);
+        self.next_place += 1;
+        Some(node)
+    }
+
+    fn size_hint(&self) -> (usize, Option<usize>) {
+        let left = self.len();
+        (left, Some(left))
+    }
+}
+
+impl<'g, 'a> ExactSizeIterator for Nodes<'g, 'a> {
+    ghost use Rattle.gf_tree.specs.NodesLeft.{nodes_left};
+
+    /// How many nodes it can still give.
+    fn len(&self) -> usize
+        ensures { result ≡ length (nodes_left self.now) }
+    {
+        let game = self.game;
+        game.len().saturating_sub(self.next_place)
+    }
+}

@@ -1,0 +1,200 @@
+//! The outcomes that are known.
+
+ghost use Rattle.std.specs.Prelude.{◌+◌, ◌≡◌, ◌<◌, ◌^◌, ◌++◌, [], ◌∷◌};
+ghost use Rattle.std.specs.Prelude.{None, Some, nat_eq, map, length};
+ghost use Rattle.std.specs.Prelude.{slice_get, option_map, position, OnOk, OnErr, IfOk};
+ghost use Rattle.gf_token.specs.Label.{label_of};
+ghost use Rattle.gf_token.specs.Positions.{at_position};
+ghost use Rattle.gf_tree.specs.inner.KnownOutcomes.{with_outcome, with_payoff};
+ghost use Rattle.gf_tree.specs.inner.StoredOutcomes.{end_of};
+
+use crate::numbers::indexing::Indexing;
+use crate::numbers::{Numbers, next_place};
+use gf_fraction::Fraction;
+use gf_token::Label;
+use std::alloc::{AllocError, Global};
+use std::marker::Model;
+
+/// An outcome that is known, in 32 bytes: its number, how many payoffs it has, its name, and where
+/// its payoffs begin among those of all outcomes.
+#[derive(Clone, Copy)]
+struct Entry<'a> {
+    number: u32,
+    count: u32,
+    name: Label<'a>,
+    start: usize,
+}
+
+impl<'a> Entry<'a> {
+    /// Where its payoffs end.
+    fn end(&self) -> usize
+        requires { end_of self.now < 2 ^ 64 }
+        ensures { result ≡ end_of self.now }
+    {
+        self.start + self.count as usize
+    }
+}
+
+/// The outcomes that are known, each with its description, in order of first use; and the payoffs
+/// so far of an outcome whose description is being read.
+///
+/// An outcome has the place at which it became known, from 0. There are fewer than 2^32 outcomes,
+/// and none has as many payoffs: room for more is refused.
+#[derive(Drop)]
+pub(crate) struct Outcomes<'a> {
+    alloc: Global,
+    indexing: Indexing<'a>,
+    numbers: Numbers,
+    entries: Vec<Entry<'a>>,
+    payoffs: Vec<Fraction>,
+    from: usize,
+}
+
+impl<'a> Model for Outcomes<'a> {
+    ghost use Rattle.gf_tree.specs.inner.KnownOutcomes.{KnownOutcomes};
+    ghost use Rattle.gf_tree.specs.inner.StoredOutcomes.{stored_outcomes, AreOutcomes};
+
+    ghost Value = { KnownOutcomes };
+
+    ghost view = { λ o. stored_outcomes o.entries.items o.payoffs.items o.from };
+
+    ghost invariant = { λ o. AreOutcomes o.numbers o.entries.items o.payoffs.items o.from };
+}
+
+impl<'a> Outcomes<'a> {
+    /// No outcomes.
+    pub(crate) fn new(alloc: Global, indexing: Indexing<'a>) -> Outcomes<'a>
+        ensures { result ≡ record { known = []; pending = [] } }
+    {
+        Outcomes {
+            alloc,
+            indexing,
+            numbers: Numbers::new(),
+            entries: Vec::new(alloc),
+            payoffs: Vec::new(alloc),
+            from: 0,
+        }
+    }
+
+    /// No outcomes, which will be found in the same way.
+    pub(crate) fn emptied(&self, alloc: Global) -> Outcomes<'a>
+        ensures { result ≡ record { known = []; pending = [] } }
+    {
+        Outcomes::new(alloc, self.indexing)
+    }
+
+    /// How they are found.
+    pub(crate) fn indexing(&self) -> Indexing<'a> {
+        self.indexing
+    }
+
+    /// Takes over what was hashed for the same input.
+    pub(crate) fn adopt(&mut self, indexing: Indexing<'a>)
+        ensures { self.new ≡ self.old }
+    {
+        self.indexing.adopt(indexing);
+    }
+
+    /// The place of an outcome.
+    #[inline(always)]
+    pub(crate) fn find(&self, number: u32) -> Option<u32>
+        ensures { result ≡ position (nat_eq number) (map (λ o. o.key) self.now.known) }
+    {
+        self.numbers.place(number)
+    }
+
+    /// How many outcomes there are.
+    pub(crate) fn len(&self) -> usize
+        ensures len { result ≡ length self.now.known }
+        ensures few { result < 2 ^ 32 }
+    {
+        self.entries.len()
+    }
+
+    /// The number of the outcome at a place.
+    pub(crate) fn number(&self, place: u32) -> u32
+        requires { place < length self.now.known }
+        ensures { option_map (λ o. o.key) (slice_get self.now.known place) ≡ Some result }
+    {
+        self.entries[place as usize].number
+    }
+
+    /// The name of the outcome at a place.
+    #[inline(always)]
+    pub(crate) fn name(&self, place: u32) -> Label<'a>
+        requires { place < length self.now.known }
+        ensures { option_map (λ o. o.description.name) (slice_get self.now.known place)
+            ≡ Some (label_of result) }
+    {
+        self.entries[place as usize].name
+    }
+
+    /// The payoffs of the outcome at a place.
+    #[inline(always)]
+    pub(crate) fn payoffs(&self, place: u32) -> &[Fraction]
+        requires { place < length self.now.known }
+        ensures { option_map (λ o. o.description.payoffs) (slice_get self.now.known place)
+            ≡ Some result.now }
+    {
+        let entry = self.entries[place as usize];
+        &self.payoffs[entry.start..entry.end()]
+    }
+
+    /// The number of the outcome at a position, from 1.
+    pub(crate) fn at(&self, i: usize) -> Option<u32>
+        ensures { result ≡ at_position (map (λ o. o.key) self.now.known) i }
+    {
+        self.numbers.number(i)
+    }
+
+    /// A description begins.
+    pub(crate) fn begin(&mut self)
+        ensures { self.new ≡ record self.old { pending = [] } }
+    {
+        self.from = self.payoffs.len();
+    }
+
+    /// It has one more payoff. After an `Err` nothing has changed.
+    pub(crate) fn push(&mut self, payoff: Fraction) -> Result<(), AllocError>
+        ensures ok { OnOk result (self.new ≡ with_payoff self.old payoff) }
+        ensures err { OnErr result (self.new ≡ self.old) }
+    {
+        if self.payoffs.push(payoff).is_err() {
+            return Err(AllocError);
+        }
+        Ok(())
+    }
+
+    /// Its payoffs so far.
+    pub(crate) fn pending(&self) -> &[Fraction]
+        ensures { result.now ≡ self.now.pending }
+    {
+        &self.payoffs[self.from..]
+    }
+
+    /// The description is complete, and belongs to this outcome, which was not known. Returns the
+    /// outcome's place. After an `Err` nothing has changed.
+    pub(crate) fn end(&mut self, number: u32, name: Label<'a>) -> Result<u32, AllocError>
+        requires { position (nat_eq number) (map (λ o. o.key) self.old.known) ≡ None }
+        ensures ok { OnOk result (self.new ≡ with_outcome self.old number (label_of name.entry)) }
+        ensures place { IfOk result (λ place. place ≡ length self.old.known) }
+        ensures err { OnErr result (self.new ≡ self.old) }
+    {
+        let end = self.payoffs.len();
+        let place = next_place(self.entries.len())?;
+        let Ok(count) = u32::try_from(end - self.from) else {
+            return Err(AllocError);
+        };
+        self.entries.reserve(1)?;
+        self.numbers
+            .insert(self.alloc, &mut self.indexing, number, place)?;
+        self.entries.push_reserved(Entry {
+            number,
+            count,
+            name,
+            start: self.from,
+        });
+        self.from = end;
+        Ok(place)
+    }
+}
