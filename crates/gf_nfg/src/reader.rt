@@ -2,7 +2,7 @@
 //! representation formats").
 
 ghost use Rattle.std.specs.Prelude.{◌≡◌, ◌≤◌, ◌∷◌, ◌++◌, [], ◌*◌, length, min};
-ghost use Rattle.std.specs.Prelude.{IfOk, MatchResult, vec_capacity, vec_len};
+ghost use Rattle.std.specs.Prelude.{IfOk, MatchResult, OnOk, vec_capacity, vec_len};
 ghost use Rattle.gf_token.specs.Label.{label_of};
 ghost use Rattle.gf_token.specs.Remaining.{StandsBefore};
 ghost use Rattle.gf_token.specs.declared.fault.Why.TheVariants.{Memory};
@@ -10,8 +10,8 @@ ghost use Rattle.gf_token.specs.TokenSpelling.{Spells};
 ghost use Rattle.gf_nfg.specs.inner.Heard.{Fails};
 ghost use Rattle.gf_nfg.specs.inner.Machine.{nothing};
 ghost use Rattle.gf_nfg.specs.inner.Position.Position.{Format};
-ghost use Rattle.gf_nfg.specs.inner.ReaderState.{HasToldAll, answer, body_answer, content_in};
-ghost use Rattle.gf_nfg.specs.inner.ReaderState.{labels_of};
+ghost use Rattle.gf_nfg.specs.inner.ReaderState.{HasCounts, HasToldAll, answer};
+ghost use Rattle.gf_nfg.specs.inner.ReaderState.{body_answer, content_in, labels_of};
 ghost use Rattle.gf_nfg.specs.inner.Told.{told_heading};
 ghost use Rattle.gf_nfg.specs.declared.reader.receive.Version.TheVariants as version;
 
@@ -89,9 +89,11 @@ impl<'a> Reader<'a> {
     /// Reads everything before the payoffs or the outcomes. Returns which of them follow, and the
     /// place of the last token.
     fn begin(&mut self) -> Result<(Version, Span), Fault>
+        requires { self.old.heading.counts.items ≡ [] }
         ensures machine { MatchResult result
             (λ begun. answer Format 0 0 self.old ≡ body_answer begun.0 self.new)
             (λ f. Fails f (answer Format 0 0 self.old)) }
+        ensures counted { OnOk result (HasCounts self.new.heading) }
         ensures place { IfOk result (λ begun. StandsBefore self.new.tokens begun.1) }
     {
         self.heading()?;
@@ -109,6 +111,7 @@ impl<'a> Reader<'a> {
         to: &mut R,
     ) -> Result<(), Fault>
         requires untold { R.untold to.old }
+        requires counted { HasCounts self.now.heading }
         requires place { StandsBefore self.now.tokens last }
         ensures { MatchResult result
             (λ _. R.holds to.old to.new (told_heading version self.now.heading))
@@ -153,7 +156,8 @@ impl<'a> Reader<'a> {
 
     /// Reads the file to its end, and tells it to a receiver.
     pub(crate) fn tell<R: Receive<'a>>(&mut self, to: &mut R) -> Result<(), Fault>
-        requires { R.untold to.old }
+        requires untold { R.untold to.old }
+        requires uncounted { self.old.heading.counts.items ≡ [] }
         ensures { MatchResult result
             (λ _. HasToldAll (R.holds to.old) (answer Format 0 0 self.old) self.new.heading to.new)
             (λ f. Fails f (answer Format 0 0 self.old)) }

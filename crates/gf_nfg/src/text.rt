@@ -2,17 +2,19 @@
 
 ghost use Rattle.std.specs.Prelude.{◌≡◌, [], OnErr, OnOk, ◌++◌, ◌∷◌};
 ghost use Rattle.gf_fraction.specs.NumberText.{number_text};
+ghost use Rattle.gf_nfg.specs.inner.Meaning.{names_in};
+ghost use Rattle.gf_nfg.specs.inner.ReaderState.{HasCounts, content_in};
+ghost use Rattle.gf_nfg.specs.inner.TextParts.{heading_text, names_by};
 
 use crate::reader::receive::{Kept, Receive, Version};
 use crate::table::heading::Heading;
-use crate::text::write_heading::write_heading;
+use crate::text::write::write_heading;
 use gf_fraction::Fraction;
 use std::alloc::{AllocError, Global};
 
 pub(crate) mod canonical;
 pub(crate) mod lines;
 pub(crate) mod write;
-pub(crate) mod write_heading;
 
 /// The text of a file that is being told.
 #[derive(Drop)]
@@ -50,6 +52,16 @@ impl Text {
     }
 }
 
+/// Appends everything before the payoffs; title and comment are empty unless it is `named`.
+fn write_told(heading: &Heading<'_>, named: bool, out: &mut Vec<u8>) -> Result<(), AllocError>
+    requires { HasCounts heading.now }
+    ensures { OnOk result (out.new.items ≡ out.old.items
+        ++ heading_text (names_by named (names_in (content_in heading.now)))) }
+{
+    let names = heading.names(*out.allocator())?;
+    write_heading(&names, named, out)
+}
+
 /// Appends a payoff, and a byte after it.
 #[inline(always)]
 fn write_payoff(payoff: Fraction, end: u8, out: &mut Vec<u8>) -> Result<(), AllocError>
@@ -81,7 +93,7 @@ impl<'a> Receive<'a> for Text {
         expected: usize,
     ) -> Result<(), AllocError> {
         self.text.reserve(self.room)?;
-        write_heading(heading, self.named, &mut self.text)?;
+        write_told(heading, self.named, &mut self.text)?;
         self.version = version;
         self.width = heading.players.len();
         self.left = self.width;

@@ -1,4 +1,3 @@
-pub mod Headings
 pub mod Lines
 pub mod OneTable
 pub mod Pieces

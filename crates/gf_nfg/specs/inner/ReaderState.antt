@@ -1,5 +1,5 @@
 -- What a reader and what it has read stand for, regardless of where they are in memory.
-use Rattle.std.specs.Prelude.{◌≡◌, ℕ, ◌*◌, List, [], length, map, MatchResult, Result, Ok}
+use Rattle.std.specs.Prelude.{◌≡◌, ℕ, ◌+◌, ◌*◌, List, [], length, map, MatchResult, Result, Ok}
 use Rattle.gf_fraction.specs.Ratio.{Ratio}
 use Rattle.gf_token.specs.Label.{label_of}
 use Rattle.gf_token.specs.declared.label.Label.{Label}
@@ -41,6 +41,15 @@ content_of f = content_with f.heading f.kept.payoffs.items f.kept.numbers.items
 
 abbrev pub content_told : Told → Content
 content_told t = content_with t.heading t.payoffs t.numbers
+
+-- this many more players have their count
+abbrev pub HasMore : ℕ → Heading → Heading → Type 0
+HasMore n before after = (length after.counts.items ≡ length before.counts.items + n)
+    × (after.players.items ≡ before.players.items)
+
+-- each player has one
+abbrev pub HasCounts : Heading → Type 0
+HasCounts h = length h.counts.items ≡ length h.players.items
 
 -- what the machine answers to the tokens that a reader has yet to read, from a position at which
 -- this many of something are due, after this many outcomes

@@ -15,7 +15,9 @@ use gf_token::{Fault, Span, What, Why};
 impl<'a> Reader<'a> {
     /// Reads everything before the players.
     pub(super) fn heading(&mut self) -> Result<(), Fault>
-        ensures { Goes (answer Format 0 0 self.old) result (answer BeforePlayers 0 0 self.new) }
+        ensures machine { Goes (answer Format 0 0 self.old) result
+            (answer BeforePlayers 0 0 self.new) }
+        ensures uncounted { self.new.heading.counts ≡ self.old.heading.counts }
     {
         self.tokens.word(b"NFG", What::Format)?;
         self.tokens.word(b"1", What::Version)?;
@@ -29,8 +31,9 @@ impl<'a> Reader<'a> {
 
     /// Reads the players.
     pub(super) fn players(&mut self) -> Result<(), Fault>
-        ensures { Goes (answer BeforePlayers 0 0 self.old) result
+        ensures machine { Goes (answer BeforePlayers 0 0 self.old) result
             (answer BeforeStrategies (length self.new.heading.players.items) 0 self.new) }
+        ensures uncounted { self.new.heading.counts ≡ self.old.heading.counts }
     {
         let Some(_) = self.tokens.opening() else {
             return Err(self.tokens.refusal(Why::Expected(What::Opening)));
@@ -68,6 +71,7 @@ impl<'a> Reader<'a> {
         ensures machine { answer AfterComment
             (length self.old.heading.players.items * self.old.heading.profiles.count) 0 self.old
             ≡ body_answer result.0 self.new }
+        ensures kept { self.new.heading ≡ self.old.heading }
         ensures place { StandsBefore self.new.tokens result.1 }
     {
         match self.tokens.opening() {

@@ -19,6 +19,7 @@ pub enum Version {
 /// in turn, and then the numbers of outcomes.
 pub(crate) trait Receive<'a> {
     ghost use Rattle.std.specs.Prelude.{OnErr, OnOk};
+    ghost use Rattle.gf_nfg.specs.inner.ReaderState.{HasCounts};
     ghost use Rattle.gf_nfg.specs.inner.Told.{Told, told_heading, with_number, with_payoff};
 
     /// It was told nothing.
@@ -41,7 +42,8 @@ pub(crate) trait Receive<'a> {
         version: Version,
         expected: usize,
     ) -> Result<(), AllocError>
-        requires { untold self.old }
+        requires untold { untold self.old }
+        requires counted { HasCounts heading.now }
         ensures { OnOk result (holds self.old self.new (told_heading version heading.now)) };
 
     /// Takes the next payoff.

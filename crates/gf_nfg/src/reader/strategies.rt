@@ -1,6 +1,6 @@
 //! The strategies of a strategic file: a count or a list of labels for each player.
 
-ghost use Rattle.std.specs.Prelude.{◌≡◌, ◌<◌, ◌≤◌, ◌-◌, ◌*◌, ℕ, false, length, IfErr, IfOk};
+ghost use Rattle.std.specs.Prelude.{◌≡◌, ◌<◌, ◌≤◌, ◌-◌, ◌*◌, ℕ, false, length, IfErr, IfOk, OnOk};
 ghost use Rattle.std.specs.Prelude.{vec_capacity, vec_len};
 ghost use Rattle.gf_token.specs.Next.{is_opening, starts};
 ghost use Rattle.gf_token.specs.Remaining.{StandsBefore};
@@ -10,7 +10,8 @@ ghost use Rattle.gf_nfg.specs.inner.Heard.{Goes};
 ghost use Rattle.gf_nfg.specs.inner.Position.Position.{AfterStrategies, BeforeList};
 ghost use Rattle.gf_nfg.specs.inner.Position.Position.{BeforeStrategies};
 ghost use Rattle.gf_nfg.specs.inner.Position.Position.{Counts, FirstStrategies};
-ghost use Rattle.gf_nfg.specs.inner.ReaderState.{answer, labels_of, list_answer, settling};
+ghost use Rattle.gf_nfg.specs.inner.ReaderState.{HasMore, answer, labels_of};
+ghost use Rattle.gf_nfg.specs.inner.ReaderState.{list_answer, settling};
 
 use super::{Reader, keep};
 use crate::reader::readings;
@@ -25,6 +26,8 @@ impl<'a> Reader<'a> {
             (answer Counts due 0 self.new) }
         ensures lists { (due : ℕ) → Goes (settling BeforeList due strategies stands self.old) result
             (answer BeforeList due 0 self.new) }
+
+        ensures counted { OnOk result (HasMore 1 self.old.heading self.new.heading) }
 
         // Memory is refused only if there was no room.
         ensures full { IfErr result (λ f. f.why ≡ Memory
@@ -48,6 +51,7 @@ impl<'a> Reader<'a> {
             (answer Counts (left - 1) 0 self.new) }
         ensures later { (left : ℕ) → 0 < left → due ≡ what.Index
             → Goes (answer Counts left 0 self.old) result (answer Counts (left - 1) 0 self.new) }
+        ensures counted { OnOk result (HasMore 1 self.old.heading self.new.heading) }
     {
         let Some((word, index)) = self.tokens.index() else {
             return Err(self.tokens.refusal(Why::Expected(due)));
@@ -63,6 +67,7 @@ impl<'a> Reader<'a> {
         ensures machine { (left : ℕ)
             → Goes (list_answer left (length (labels_of self.old.heading.labels.items)) self.old) result
             (answer BeforeList left 0 self.new) }
+        ensures counted { OnOk result (HasMore 1 self.old.heading self.new.heading) }
     {
         let before = self.heading.labels.len();
         while let Some(strategy) = self.tokens.text() {
@@ -81,7 +86,8 @@ impl<'a> Reader<'a> {
 
     /// Reads this many counts, as many as are still due.
     fn counts(&mut self, mut due: usize) -> Result<(), Fault>
-        ensures { Goes (answer Counts due 0 self.old) result (answer Counts 0 0 self.new) }
+        ensures machine { Goes (answer Counts due 0 self.old) result (answer Counts 0 0 self.new) }
+        ensures counted { OnOk result (HasMore due self.old.heading self.new.heading) }
     {
         while due > 0 {
             self.count(What::Index)?;
@@ -92,7 +98,9 @@ impl<'a> Reader<'a> {
 
     /// Reads this many lists of labels, as many as are still due.
     fn lists(&mut self, mut due: usize) -> Result<(), Fault>
-        ensures { Goes (answer BeforeList due 0 self.old) result (answer BeforeList 0 0 self.new) }
+        ensures machine { Goes (answer BeforeList due 0 self.old) result
+            (answer BeforeList 0 0 self.new) }
+        ensures counted { OnOk result (HasMore due self.old.heading self.new.heading) }
     {
         while due > 0 {
             let Some(_) = self.tokens.opening() else {
@@ -106,8 +114,11 @@ impl<'a> Reader<'a> {
 
     /// Reads the strategies of the players, if there are players.
     fn counts_or_lists(&mut self) -> Result<(), Fault>
-        ensures { Goes (answer FirstStrategies (length self.old.heading.players.items) 0 self.old) result
+        ensures machine { Goes
+            (answer FirstStrategies (length self.old.heading.players.items) 0 self.old) result
             (answer FirstStrategies 0 0 self.new) }
+        ensures counted { OnOk result (HasMore (length self.old.heading.players.items)
+            self.old.heading self.new.heading) }
     {
         let players = self.heading.players.len();
         if players == 0 {
@@ -127,6 +138,8 @@ impl<'a> Reader<'a> {
             self.old) result
             (answer AfterStrategies
             (length self.new.heading.players.items * self.new.heading.profiles.count) 0 self.new) }
+        ensures counted { OnOk result (HasMore (length self.old.heading.players.items)
+            self.old.heading self.new.heading) }
         ensures place { IfOk result (λ brace. StandsBefore self.new.tokens brace) }
     {
         let Some(_) = self.tokens.opening() else {

@@ -1,9 +1,9 @@
 //! All of a strategic file except its payoffs, as it was read.
 
-ghost use Rattle.std.specs.Prelude.{◌≡◌, IfOk, length};
+ghost use Rattle.std.specs.Prelude.{◌≡◌, IfOk};
 ghost use Rattle.gf_nfg.specs.inner.Machine.{nothing};
-ghost use Rattle.gf_nfg.specs.inner.Meaning.{HasLabels, names_in};
-ghost use Rattle.gf_nfg.specs.inner.ReaderState.{content_in};
+ghost use Rattle.gf_nfg.specs.inner.Meaning.{names_in};
+ghost use Rattle.gf_nfg.specs.inner.ReaderState.{HasCounts, content_in};
 
 use crate::limit::ProfileCount;
 use crate::table::names::Names;
@@ -42,9 +42,7 @@ impl<'a> Heading<'a> {
     }
     /// The title, the comment, the players and their strategies, in memory of their own.
     pub(crate) fn names(&self, alloc: Global) -> Result<Names, AllocError>
-        requires one_count_each { length (content_in self.now).counts
-            ≡ length (content_in self.now).players }
-        requires has_labels { HasLabels (content_in self.now).counts (content_in self.now).labels }
+        requires { HasCounts self.now }
         ensures { IfOk result (λ names. names ≡ names_in (content_in self.now)) }
     {
         if self.labels.is_empty() {

@@ -2,7 +2,7 @@
 //! strategies.
 
 ghost use Rattle.std.specs.Prelude.{◌≡◌, ◌<◌, [], ◌∷◌, Some, IfOk, OnOk, length, map, IsSomeAnd};
-ghost use Rattle.std.specs.Prelude.{option_and_then, option_map, slice_get, sum};
+ghost use Rattle.std.specs.Prelude.{option_and_then, option_map, slice_get};
 ghost use Rattle.std.specs.List.{AllByRecursion};
 ghost use Rattle.gf_token.specs.Label.{label_of};
 ghost use Rattle.gf_nfg.specs.Sentence.{counted_labels};
@@ -90,14 +90,13 @@ fn add_grouped(
     strategies: &[Label<'_>],
     labels: &mut Labels,
 ) -> Result<Vec<usize>, AllocError>
-    requires { sum counts.now ≡ length strategies.now }
     ensures { IfOk result (λ ends. AreStrategies labels.old labels.new ends.items
         (groups counts.now (map label_of strategies.now))) }
 {
     let mut ends = Vec::new(alloc);
     let mut start = 0;
     for count in counts {
-        let end = start + *count as usize;
+        let end = strategies.len().min(start + *count as usize);
         labels.extend(&strategies[start..end])?;
         ends.push(labels.len())?;
         start = end;
@@ -211,8 +210,7 @@ impl Names {
         counts: &[u32],
         strategies: &[Label<'_>],
     ) -> Result<Names, AllocError>
-        requires one_count_each { length counts.now ≡ length players.now }
-        requires one_label_each { sum counts.now ≡ length strategies.now }
+        requires { length counts.now ≡ length players.now }
         ensures { IfOk result (λ names. names ≡ record {
           title = label_of title.entry;
           comment = label_of comment.entry;

@@ -1,16 +1,18 @@
 //! The canonical text of a table: Gambit's strategic format in payoff version, laid out by this
 //! project's profile.
 
-ghost use Rattle.std.specs.Prelude.{◌≡◌, ◌<◌, ◌++◌, OnErr, OnOk, length, map};
+ghost use Rattle.std.specs.Prelude.{◌≡◌, ◌<◌, ◌++◌, [], OnErr, OnOk, if◌then◌else◌, length};
+ghost use Rattle.std.specs.Prelude.{map};
+ghost use Rattle.gf_token.specs.Label.{label_of};
 ghost use Rattle.gf_nfg.specs.Table.{IsSpellable, IsTable};
 ghost use Rattle.gf_nfg.specs.TableParts.{own_of};
 ghost use Rattle.gf_nfg.specs.TableText.{SpellsTable, list_text, quoted, table_text};
-ghost use Rattle.gf_nfg.specs.inner.TextParts.{Keeps, first_line, heading_text};
+ghost use Rattle.gf_nfg.specs.inner.TextParts.{Keeps, first_line, heading_text, names_by};
 
 use crate::table::Table;
 use crate::table::names::Names;
 use crate::text::lines::write_rows;
-use gf_token::write_label;
+use gf_token::{Label, write_label};
 use std::alloc::AllocError;
 
 /// Appends the players' names in braces.
@@ -60,27 +62,40 @@ fn write_strategies(names: &Names, out: &mut Vec<u8>) -> Result<(), AllocError>
     Ok(())
 }
 
+/// A label, or an empty one.
+fn label_by(named: bool, label: Label<'_>) -> Label<'_>
+    ensures { label_of result ≡ (if named then label_of label.entry else []) }
+{
+    if named {
+        label
+    } else {
+        Label::new(&[]).unwrap()
+    }
+}
+
 /// Appends the format, the title and the players.
-fn write_first_line(names: &Names, out: &mut Vec<u8>) -> Result<(), AllocError>
-    ensures text { OnOk result (out.new.items ≡ out.old.items ++ first_line names.now) }
+fn write_first_line(names: &Names, named: bool, out: &mut Vec<u8>) -> Result<(), AllocError>
+    ensures text { OnOk result
+        (out.new.items ≡ out.old.items ++ first_line (names_by named names.now)) }
     ensures kept { OnErr result (Keeps out.old.items out.new.items) }
 {
     out.extend_from_slice(b"NFG 1 R ")?;
-    write_label(names.title(), out)?;
+    write_label(label_by(named, names.title()), out)?;
     out.push(b' ')?;
     write_players(names, out)
 }
 
-/// Appends everything before the payoffs.
-fn write_heading(names: &Names, out: &mut Vec<u8>) -> Result<(), AllocError>
-    ensures text { OnOk result (out.new.items ≡ out.old.items ++ heading_text names.now) }
+/// Appends everything before the payoffs; title and comment are empty unless it is `named`.
+pub(crate) fn write_heading(names: &Names, named: bool, out: &mut Vec<u8>) -> Result<(), AllocError>
+    ensures text { OnOk result
+        (out.new.items ≡ out.old.items ++ heading_text (names_by named names.now)) }
     ensures kept { OnErr result (Keeps out.old.items out.new.items) }
 {
-    write_first_line(names, out)?;
+    write_first_line(names, named, out)?;
     out.push(b'\n')?;
     write_strategies(names, out)?;
     out.push(b'\n')?;
-    write_label(names.comment(), out)?;
+    write_label(label_by(named, names.comment()), out)?;
     out.extend_from_slice(b"\n\n")?;
     Ok(())
 }
@@ -93,7 +108,7 @@ fn write_text(t: &Table, out: &mut Vec<u8>) -> Result<(), AllocError>
     ensures kept { OnErr result (Keeps out.old.items out.new.items) }
 {
     out.reserve(t.names().room())?;
-    write_heading(t.names(), out)?;
+    write_heading(t.names(), true, out)?;
     write_rows(t.rows(), out)
 }
 

@@ -1,5 +1,5 @@
 -- Each list of bytes is a file within the limit, or it is refused.
-use Rattle.std.proofs.Common.{◌≡◌, ℕ, List, Result, Ok, Err, length, inl, inr}
+use Rattle.std.proofs.Common.{ℕ, List, Result, Ok, Err, length, inl, inr}
 use Rattle.std.specs.Prelude.{◌⊎◌}
 use Rattle.gf_token.specs.Token.{Lexeme}
 use Rattle.gf_token.specs.TokenSpelling.{Spells}

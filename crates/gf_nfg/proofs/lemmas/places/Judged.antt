@@ -1,7 +1,7 @@
 -- Where the reader refuses, no file goes on, or each file that does is above the limit.
 use Rattle.std.proofs.Common.{◌≡◌, ℕ, ◌<◌, ◌≤◌, List, [], ◌∷◌, ◌++◌, length}
 use Rattle.std.proofs.Common.{Option, None, Some, Result, Ok, Err}
-use Rattle.std.proofs.Common.{refl, sym, ap, subst, ◌∙◌, append_assoc, arith}
+use Rattle.std.proofs.Common.{refl, sym, subst, ◌∙◌, append_assoc, arith}
 use Rattle.std.proofs.lemmas.List.{append-nil, map-append}
 use Rattle.gf_token.specs.Token.{Token, Lexeme, lexeme}
 use Rattle.gf_token.specs.Token.Token.{Broken}
@@ -18,7 +18,7 @@ use Rattle.gf_nfg.specs.Sentence.{Sentence, IsStrategicFile}
 use Rattle.gf_nfg.specs.TableText.{SpellsTable}
 use Rattle.gf_token.specs.Place.{tokens_of, IsOffendingPlace}
 use Rattle.gf_nfg.specs.LimitPlace.{IsLimitPlace, IsWithinLimit}
-use Rattle.gf_nfg.specs.inner.Machine.{State, Content, step, finish, due_at, ended}
+use Rattle.gf_nfg.specs.inner.Machine.{State, Content, step, finish, ended}
 use Rattle.gf_nfg.specs.Judgement.{IsRefusal, IsAcceptedWithinLimit, IsJudged}
 use Rattle.gf_token.proofs.Places.{no_file as refused_no_file}
 use Rattle.gf_nfg.proofs.lemmas.limit.Counts.{limit_by_files}

@@ -1,11 +1,11 @@
 -- The names of a table in one list of labels.
 use Rattle.std.proofs.Common.{◌≡◌, ℕ, zero, suc, ◌+◌, ◌-◌, ◌<◌, ◌≤◌, List, [], ◌∷◌}
 use Rattle.std.proofs.Common.{◌++◌, length, map, take, drop, get_or, Option, Some}
-use Rattle.std.proofs.Common.{None, slice_get, option_map, refl, sym, ap, ◌∙◌, arith}
+use Rattle.std.proofs.Common.{None, slice_get, option_map, min, refl, sym, ap, ◌∙◌, arith}
 use Rattle.std.specs.Prelude.{IsSomeAnd, option_and_then, sum, unwrap_or}
 use Rattle.std.proofs.lemmas.List.{length-take, length-drop, length-append, take_all}
-use Rattle.std.proofs.lemmas.List.{take-append-le, drop-drop, drop-map}
-use Rattle.std.proofs.lemmas.List.{take-map, take_more, map-append}
+use Rattle.std.proofs.lemmas.List.{take-append-le, drop-drop, drop-map, drop_min}
+use Rattle.std.proofs.lemmas.List.{take-map, take_min, take_more, map-append}
 use Rattle.std.proofs.lemmas.List.Sums.{sum_by_push}
 use Rattle.std.proofs.lemmas.Option.{slice_get_within}
 use Rattle.gf_nfg.specs.TableParts.{AreNames, Names, groups, names_of, pieces}
@@ -276,24 +276,29 @@ groups-push (n ∷ sizes) size items =
 pub record AreAdded {A : Type 0} (f : A → List ℕ) (before labels : List (List ℕ))
     (ends sizes : List ℕ) (items : List A) (start : ℕ) : Type 0 where
   pub strategies : AreStrategies before labels ends (groups sizes (map f items))
-  pub start_is : start ≡ sum sizes
+  pub start_is : start ≡ min (sum sizes) (length items)
 
 pub more_added : {A : Type 0} (f : A → List ℕ) (before labels labels' : List (List ℕ))
-    (ends ends' sizes : List ℕ) (items own : List A) (start i size : ℕ)
-    → i < length sizes → size ≡ get_or sizes i 0
-    → AreAdded f before labels ends (take i sizes) items start → own ≡ take size (drop start items)
+    (ends ends' sizes : List ℕ) (items own : List A) (start end i size : ℕ)
+    → i < length sizes → size ≡ get_or sizes i 0 → end ≡ min (length items) (start + size)
+    → AreAdded f before labels ends (take i sizes) items start
+    → own ≡ take (end - start) (drop start items)
     → labels' ≡ labels ++ map f own → ends' ≡ ends ++ length labels' ∷ []
-    → AreAdded f before labels' ends' (take (i + 1) sizes) items (start + size)
-more_added f before labels labels' ends ends' sizes items own start i size h is a cut e g =
+    → AreAdded f before labels' ends' (take (i + 1) sizes) items end
+more_added f before labels labels' ends ends' sizes items own start end i size h is stop a cut e g =
     let next : take (i + 1) sizes ≡ take i sizes ++ size ∷ [] =
     take_more sizes i 0 h ∙ ap (λ (n : ℕ). take i sizes ++ n ∷ []) (sym is) in
     let total : sum (take (i + 1) sizes) ≡ sum (take i sizes) + size =
     ap (λ (ns : List ℕ). sum ns) next ∙ sum-push (take i sizes) size in
+    let here : end - start ≡ min size (length (drop start items)) =
+    omega (arith, stop, a.start_is, length-drop start items) in
     let named : map f own ≡ take size (drop (sum (take i sizes)) (map f items)) =
-    ap (λ xs. map f xs) cut
-    ∙ sym (take-map f size (drop start items))
-    ∙ ap (λ xs. take size xs) (sym (drop-map f start items))
-    ∙ ap (λ (n : ℕ). take size (drop n (map f items))) a.start_is in
+    ap (λ xs. map f xs) (cut ∙ ap (λ (n : ℕ). take n (drop start items)) here
+    ∙ take_min size (drop start items)
+    ∙ ap (λ (n : ℕ). take size (drop n items)) a.start_is
+    ∙ ap (λ xs. take size xs) (drop_min (sum (take i sizes)) items))
+    ∙ sym (take-map f size (drop (sum (take i sizes)) items))
+    ∙ ap (λ xs. take size xs) (sym (drop-map f (sum (take i sizes)) items)) in
     let grown : groups (take (i + 1) sizes) (map f items)
     ≡ groups (take i sizes) (map f items) ++ map f own ∷ [] =
     ap (λ (ns : List ℕ). groups ns (map f items)) next
@@ -302,5 +307,5 @@ more_added f before labels labels' ends ends' sizes items own start i size h is 
     record {
       strategies = rw grown (strategies_more before labels labels' (map f own) ends ends'
           (groups (take i sizes) (map f items)) a.strategies e g);
-      start_is = omega (arith, total, a.start_is);
+      start_is = omega (arith, total, stop, a.start_is);
     }

@@ -2,7 +2,7 @@
 use Rattle.std.proofs.Common.{◌≡◌, ℕ, zero, suc, ◌+◌, ◌<◌, ◌≤◌, List, [], ◌∷◌, ◌++◌, length}
 use Rattle.std.proofs.Common.{map, drop, get_or, Option, Some, slice_get, option_map, refl}
 use Rattle.std.proofs.Common.{sym, ap, ◌∙◌, append_assoc, arith, length-take, subst}
-use Rattle.std.specs.Prelude.{codes, option_and_then, unwrap_or}
+use Rattle.std.specs.Prelude.{codes, option_and_then, unwrap_or, Err, Ok, OnErr, Result}
 use Rattle.std.proofs.lemmas.List.{at_drop_more, append-nil, drop_all}
 use Rattle.std.proofs.lemmas.List.{take-append-le, take-append-drop, take_all}
 use Rattle.std.proofs.lemmas.Option.{slice_get-get_or, unwrap_or-slice_get}
@@ -61,6 +61,18 @@ pub kept_behind : (old out1 out2 new x y : List ℕ)
     → out1 ≡ old ++ x → out2 ≡ out1 ++ y → Keeps out2 new → Keeps old new
 kept_behind old out1 out2 new x y e1 e2 h = kept_past old out2 new
     (kept_twice old old out1 out2 x y e1 e2 (take_all (length old) old (omega arith))) h
+
+-- the same if the last part is written by a call
+pub kept_through : {A E : Type 0} (r : Result A E) (old out new : List ℕ) → Keeps old out
+    → OnErr r (Keeps out new) → OnErr r (Keeps old new)
+kept_through (Ok a) old out new kept h = tt
+kept_through (Err e) old out new kept h = kept_past old out new kept h
+
+pub kept_thrice : (old out out1 out2 x y z : List ℕ)
+    → out ≡ old ++ x → out1 ≡ out ++ y → out2 ≡ out1 ++ z → Keeps old out2
+kept_thrice old out out1 out2 x y z e e1 e2 =
+    kept_twice old out out1 out2 y z e1 e2
+    (rw e (kept_more old old x (take_all (length old) old (omega arith))))
 
 -- what is written of a list in braces, and what is still to come
 abbrev pub rest_text : {A : Type 0} → (A → List ℕ) → List A → ℕ → List ℕ

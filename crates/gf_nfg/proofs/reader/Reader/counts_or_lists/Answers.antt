@@ -10,8 +10,8 @@ use Rattle.gf_nfg.proofs.lemmas.runs.ReaderSteps.{counts_end, first_opens, goes_
 use Rattle.gf_nfg.proofs.lemmas.runs.ReaderSteps.{goes_to, lists_end}
 use Rattle.gf_nfg.proofs.reader.Reader.counts_or_lists.Goals as goal
 
-pub returns-in_err-list : goal.returns-in_err-list
-returns-in_err-list c =
+pub returns-in_err-list-clause-machine : goal.returns-in_err-list-clause-machine
+returns-in_err-list-clause-machine c =
     let players = c.len-players.result in
     let size : players ≡ length c.args.self.now.heading.players.items = search rules in
     let some : 0 < players = search rules in
@@ -21,8 +21,8 @@ returns-in_err-list c =
     ∙ first_opens players (content_in c.args.self.now.heading) c.args.self.now.tokens
     c.opening.new.self c.in-Some.field-0 some c.in-Some.ensures.next c.in-Some.ensures.input))
 
-pub returns-in-Some : goal.returns-in-Some
-returns-in-Some c =
+pub returns-in-Some-clause-machine : goal.returns-in-Some-clause-machine
+returns-in-Some-clause-machine c =
     let players = c.len-players.result in
     let size : players ≡ length c.args.self.now.heading.players.items = search rules in
     let some : 0 < players = search rules in
@@ -32,10 +32,10 @@ returns-in-Some c =
     c.opening.new.self c.in-Some.field-0 some c.in-Some.ensures.next c.in-Some.ensures.input
     ∙ c.in_ok-list.ensures.machine (players - 1))
     (goes_to c.lists.result _
-    (lists_end (content_in c.lists.new.self.heading) c.lists.new.self.tokens) c.lists.ensures)
+    (lists_end (content_in c.lists.new.self.heading) c.lists.new.self.tokens) c.lists.ensures.machine)
 
-pub returns : goal.returns
-returns c =
+pub returns-clause-machine : goal.returns-clause-machine
+returns-clause-machine c =
     let players = c.len-players.result in
     let size : players ≡ length c.args.self.now.heading.players.items = search rules in
     let some : 0 < players = search rules in
@@ -48,4 +48,4 @@ returns c =
     ∙ ap (heard (at FirstStrategies players 0 0 (content_in c.args.self.now.heading))) (sym same)
     ∙ c.in_ok-count.ensures.first players some refl other)
     (goes_to c.counts.result _
-    (counts_end (content_in c.counts.new.self.heading) c.counts.new.self.tokens) c.counts.ensures)
+    (counts_end (content_in c.counts.new.self.heading) c.counts.new.self.tokens) c.counts.ensures.machine)

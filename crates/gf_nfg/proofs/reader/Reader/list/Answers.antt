@@ -7,18 +7,16 @@ use Rattle.gf_nfg.proofs.lemmas.places.Heard.{wants_memory}
 use Rattle.gf_nfg.proofs.lemmas.runs.ReaderSteps.{goes_back, goes_from, label_count, list_closes}
 use Rattle.gf_nfg.proofs.reader.Reader.list.Goals as goal
 
-pub returns-in_err-keep : goal.returns-in_err-keep
-returns-in_err-keep c = record {
-  machine = λ left. goes_back {r = c.from_residual.result} _ (search rules)
-      (wants_memory c.in-Some.ensures.place c.in_err-keep.ensures.0
-      (at InList left (length (labels_of c.args.self.now.heading.labels.items)) 0
-      (with_labels (content_in c.loop-strategy.self.heading)
-      (label_of c.in-Some.strategy.label ∷ [])))
-      (search rules));
-}
+pub returns-in_err-keep-clause-machine : goal.returns-in_err-keep-clause-machine
+returns-in_err-keep-clause-machine c = λ left. goes_back {r = c.from_residual.result} _ (search rules)
+    (wants_memory c.in-Some.ensures.place c.in_err-keep.ensures.0
+    (at InList left (length (labels_of c.args.self.now.heading.labels.items)) 0
+    (with_labels (content_in c.loop-strategy.self.heading)
+    (label_of c.in-Some.strategy.label ∷ [])))
+    (search rules))
 
-pub returns : goal.returns
-returns c =
+pub returns-clause-machine : goal.returns-clause-machine
+returns-clause-machine c =
     let now = c.loop-strategy.self in
     let before = length (labels_of c.args.self.now.heading.labels.items) in
     let n = c.saturating_sub-strategies.result in
@@ -27,11 +25,9 @@ returns c =
     label_count now.heading.labels.items c.args.self.now.heading.labels.items c.len.result
     c.len-before.result n (c.len.ensures ∙ now.heading.labels.ok.0)
     (c.len-before.ensures ∙ c.args.self.now.heading.labels.ok.0) c.saturating_sub-strategies.ensures in
-    record {
-      machine = λ left.
-          goes_from c.settle.result _
-          (c.loop-strategy.invariant left ∙ list_closes left before n
-          (content_in now.heading) now.tokens c.closing.new.self c.in-Some-closing.brace some counted
-          (search rules) (search rules))
-          (c.settle.ensures.lists left);
-    }
+    λ left.
+    goes_from c.settle.result _
+    (c.loop-strategy.invariant.0 left ∙ list_closes left before n
+    (content_in now.heading) now.tokens c.closing.new.self c.in-Some-closing.brace some counted
+    (search rules) (search rules))
+    (c.settle.ensures.lists left)

@@ -7,8 +7,8 @@ use Rattle.gf_nfg.proofs.lemmas.places.Heard.{wants_memory}
 use Rattle.gf_nfg.proofs.lemmas.runs.ReaderSteps.{goes_back}
 use Rattle.gf_nfg.proofs.reader.Reader.players.Goals as goal
 
-pub returns-in_err-keep : goal.returns-in_err-keep
-returns-in_err-keep c =
+pub returns-in_err-keep-clause-machine : goal.returns-in_err-keep-clause-machine
+returns-in_err-keep-clause-machine c =
     goes_back {r = c.from_residual.result} _ (search rules)
     (wants_memory c.in-Some-text.ensures.place c.in_err-keep.ensures.0
     (at InPlayers 0 0 0 (with_players (content_in c.loop-player.self.heading)

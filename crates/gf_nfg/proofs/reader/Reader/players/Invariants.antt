@@ -4,7 +4,9 @@ use Rattle.gf_nfg.specs.inner.ReaderState.{answer}
 use Rattle.gf_nfg.proofs.reader.Reader.players.Given as goal
 
 abbrev pub invariant-loop-player : goal.invariant-loop-player
-invariant-loop-player l = answer BeforePlayers 0 0 l.fn.self ≡ answer InPlayers 0 0 l.self
+invariant-loop-player l =
+    (answer BeforePlayers 0 0 l.fn.self ≡ answer InPlayers 0 0 l.self)
+    × (l.self.heading.counts ≡ l.fn.self.heading.counts)
 
 abbrev pub decreases-loop-player : goal.decreases-loop-player
 decreases-loop-player l = length l.self.tokens.ahead

@@ -11,7 +11,7 @@ made : (c : goal.In_ok-ends) → IsMade (label_of c.args.title) (label_of c.args
 made c = record {
   heading_is = c.in_ok-heading.ensures;
   one_list_each = length-groups c.args.counts.now (map label_of c.args.strategies.now)
-      ∙ c.requires.one_count_each
+      ∙ c.requires
       ∙ sym (length-map c.args.players.now label_of);
   are = rw (← c.new-labels.ensures) c.in_ok-ends.ensures;
 }
