@@ -5,9 +5,9 @@ ghost use Rattle.gf_canon.specs.Judgement.{IsRefusedWith, SpellsWithin};
 ghost use Rattle.gf_canon.specs.MeaningOf.{file_of, file_of_listed};
 
 use crate::format::{Format, format_of};
-use gf_nfg::{Table, read_nfg};
+use gf_nfg::{ListedTable, Table, list_nfg, read_nfg};
 use gf_token::Fault;
-use gf_tree::{Game, ListedGame, list_efg};
+use gf_tree::{Game, ListedGame, list_efg, read_efg};
 use std::alloc::Global;
 
 /// What a game file means.
@@ -19,11 +19,11 @@ pub enum Meaning<'a> {
     Table(Table),
 }
 
-/// What a game file means; a game is kept as the list of its nodes.
+/// What a game file means, for a comparison with another: a game is kept as the list of its nodes.
 #[derive(Drop)]
 pub(crate) enum Listed<'a> {
     Tree(ListedGame<'a>),
-    Table(Table),
+    Table(ListedTable),
 }
 
 /// Reads a game file as `read_file` does.
@@ -37,7 +37,7 @@ pub(crate) fn list_file<'a>(alloc: Global, input: &'a [u8]) -> Result<Listed<'a>
             Ok(game) => Ok(Listed::Tree(game)),
             Err(fault) => Err(fault),
         },
-        Format::Strategic => match read_nfg(alloc, input) {
+        Format::Strategic => match list_nfg(alloc, input) {
             Ok(table) => Ok(Listed::Table(table)),
             Err(fault) => Err(fault),
         },
@@ -54,9 +54,14 @@ pub fn read_file<'a>(alloc: Global, input: &'a [u8]) -> Result<Meaning<'a>, Faul
     ensures spelled { IfOk result (λ meaning. SpellsWithin input.entry.now (file_of meaning)) }
     ensures refused { IfErr result (IsRefusedWith input.entry.now) }
 {
-    match list_file(alloc, input) {
-        Ok(Listed::Tree(game)) => Ok(Meaning::Tree(game.into_game())),
-        Ok(Listed::Table(table)) => Ok(Meaning::Table(table)),
-        Err(fault) => Err(fault),
+    match format_of(input)? {
+        Format::Extensive => match read_efg(alloc, input) {
+            Ok(game) => Ok(Meaning::Tree(game)),
+            Err(fault) => Err(fault),
+        },
+        Format::Strategic => match read_nfg(alloc, input) {
+            Ok(table) => Ok(Meaning::Table(table)),
+            Err(fault) => Err(fault),
+        },
     }
 }

@@ -21,7 +21,7 @@ use crate::meaning::{Listed, Meaning, list_file};
 use crate::sameness::compare::same_name;
 use crate::sameness::comparison::Comparison;
 use crate::sameness::walk::same_games;
-use gf_nfg::{Table, compare_nfg};
+use gf_nfg::{ListedTable, Table, compare_nfg};
 use gf_token::Fault;
 use gf_tree::{ListedGame, tell_efg};
 use std::alloc::{AllocError, Global};
@@ -105,7 +105,7 @@ fn same_as_tree(alloc: Global, g: &ListedGame<'_>, b: &[u8], names: Names) -> Re
 /// `AllocError` if it is accepted, and memory to compare it is refused.
 fn same_as_told_table(
     alloc: Global,
-    t: &Table,
+    t: &ListedTable,
     b: &[u8],
     names: Names,
 ) -> Result<Result<bool, AllocError>, Fault>
@@ -125,7 +125,7 @@ fn same_as_told_table(
 /// is refused.
 fn same_as_table(
     alloc: Global,
-    t: &Table,
+    t: &ListedTable,
     b: &[u8],
     names: Names,
 ) -> Result<Result<bool, AllocError>, Fault>

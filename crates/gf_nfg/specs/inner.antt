@@ -2,8 +2,10 @@
 pub mod Classes
 pub mod ComparedTable
 pub mod Heard
+pub mod ListedTable
 pub mod Machine
 pub mod Meaning
+pub mod PayoffLists
 pub mod Position
 pub mod ReaderState
 pub mod TextParts

@@ -15,11 +15,11 @@ ghost use Rattle.gf_nfg.specs.inner.ToldTable.{HasToldTable};
 
 use crate::read::tell_nfg;
 use crate::reader::receive::{Kept, Receive, Version};
-use crate::table::Table;
 use crate::table::agree::{same_heading, same_kept_rows};
 use crate::table::heading::Heading;
+use crate::table::listed::ListedTable;
 use crate::table::parts::Parts;
-use crate::table::payoffs_in_turn::PayoffsInTurn;
+use crate::table::payoffs_in_turn::{PayoffsInTurn, same_left};
 use gf_fraction::Fraction;
 use gf_token::Fault;
 use std::alloc::{AllocError, Global};
@@ -86,13 +86,13 @@ impl<'t, 'a> Receive<'a> for Comparison<'t> {
 
 impl<'t> Comparison<'t> {
     /// Nothing was told.
-    fn new(alloc: Global, t: &'t Table) -> Comparison<'t>
+    fn new(alloc: Global, t: &'t ListedTable) -> Comparison<'t>
         ensures left { result.left ≡ flat_map (λ row. row) (rows t.entry.now) }
         ensures same { IsTrue result.same }
         ensures kept { (result.kept.payoffs.items ≡ []) × (result.kept.numbers.items ≡ []) }
     {
         Comparison {
-            left: PayoffsInTurn::new(t.rows()),
+            left: t.payoffs_in_turn(),
             same: true,
             version: Version::Payoffs,
             kept: Kept::new(alloc),
@@ -111,7 +111,7 @@ impl<'t> Comparison<'t> {
     fn is_same(
         mut self,
         alloc: Global,
-        t: &Table,
+        t: &ListedTable,
         heading: Heading<'_>,
         named: bool,
     ) -> Result<bool, AllocError>
@@ -134,7 +134,10 @@ impl<'t> Comparison<'t> {
             kept: self.kept,
         })
         .rows(alloc)?;
-        same_kept_rows(alloc, t.rows(), &rows)
+        match t.shared() {
+            Some(own) => same_kept_rows(alloc, own, &rows),
+            None => Ok(same_left(t.payoffs_in_turn(), PayoffsInTurn::new(&rows))),
+        }
     }
 }
 
@@ -145,7 +148,7 @@ impl<'t> Comparison<'t> {
 /// Refused as `read_nfg` refuses.
 pub fn compare_nfg(
     alloc: Global,
-    t: &Table,
+    t: &ListedTable,
     input: &[u8],
     named: bool,
 ) -> Result<Result<bool, AllocError>, Fault>

@@ -13,8 +13,9 @@ mod text;
 
 pub use crate::comparison::compare_nfg;
 pub use crate::limit::ProfileCount;
-pub use crate::read::{check_nfg, read_nfg};
+pub use crate::read::{check_nfg, list_nfg, read_nfg};
 pub use crate::table::Table;
 pub use crate::table::labels::Labels;
+pub use crate::table::listed::ListedTable;
 pub use crate::text::canonical::canonical_nfg;
 pub use crate::text::write::write_nfg;

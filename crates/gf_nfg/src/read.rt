@@ -11,6 +11,7 @@ use crate::reader::Reader;
 use crate::reader::receive::{Kept, Receive, Unkept};
 use crate::table::Table;
 use crate::table::heading::Heading;
+use crate::table::listed::{ListedTable, Listing};
 use crate::table::parts::Parts;
 use gf_token::Fault;
 use std::alloc::Global;
@@ -84,6 +85,21 @@ pub fn read_nfg(alloc: Global, input: &[u8]) -> Result<Table, Fault>
     let mut kept = Kept::new(alloc);
     let heading = tell_nfg(alloc, input, &mut kept)?;
     match (Parts { heading, kept }).into_table(alloc) {
+        Ok(table) => Ok(table),
+        Err(error) => Err(Fault::at_end(input.len(), error.into())),
+    }
+}
+
+/// Reads a strategic file as `read_nfg` does, into a table that is only compared.
+pub fn list_nfg(alloc: Global, input: &[u8]) -> Result<ListedTable, Fault>
+    ensures spelled { IfOk result (λ t. SpellsTable input.now t) }
+    ensures within { IfOk result (λ t. IsWithinLimit t) }
+    ensures only { (t : Table) → SpellsTable input.now t → IsWithinLimit t → IsReadAs result t }
+    ensures judged { IfErr result (λ fault. IsJudged fault.why input.now fault.span) }
+{
+    let mut listing = Listing::new(alloc);
+    let heading = tell_nfg(alloc, input, &mut listing)?;
+    match ListedTable::told(alloc, heading, listing) {
         Ok(table) => Ok(table),
         Err(error) => Err(Fault::at_end(input.len(), error.into())),
     }

@@ -25,6 +25,7 @@ pub(crate) mod agree;
 pub(crate) mod classes;
 pub(crate) mod heading;
 pub(crate) mod labels;
+pub(crate) mod listed;
 pub(crate) mod names;
 pub(crate) mod parts;
 pub(crate) mod payoffs_in_turn;

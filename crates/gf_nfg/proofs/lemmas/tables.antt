@@ -3,6 +3,7 @@ pub mod Classes
 pub mod Compared
 pub mod LabelsCounted
 pub mod LabelsJoined
+pub mod Listed
 pub mod Lists
 pub mod Made
 pub mod Meaning

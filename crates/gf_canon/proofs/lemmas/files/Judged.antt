@@ -1,19 +1,14 @@
 -- What the bytes of a file are answered with: its canonical text, or out of memory.
-use Rattle.std.proofs.Common.{◌≡◌, ℕ, List, [], length, Result, Ok, Err, IfOk, IfErr, IsErrAnd}
-use Rattle.std.proofs.Common.{MatchResult, refl, sym, ap, subst, ◌∙◌, append-nil}
+use Rattle.std.proofs.Common.{◌≡◌, ℕ, List, Result, Ok, Err, IfOk, IfErr, IsErrAnd}
+use Rattle.std.proofs.Common.{MatchResult, sym, ap, subst, ◌∙◌}
 use Rattle.std.specs.Prelude.{codes}
-use Rattle.gf_token.specs.Token.{Lexeme}
-use Rattle.gf_token.specs.TokenSpelling.{Spells}
 use Rattle.gf_token.specs.declared.fault.Fault.{Fault}
 use Rattle.gf_token.specs.declared.fault.Why.TheVariants.{Memory}
 use Rattle.gf_nfg.specs.LimitPlace.{IsWithinLimit}
 use Rattle.gf_nfg.specs.Table.{Table}
 use Rattle.gf_nfg.specs.TableText.{SpellsTable}
-use Rattle.gf_nfg.specs.Judgement as strategic_file
-use Rattle.gf_nfg.proofs.lemmas.places.Judged.{memory_at_end}
 use Rattle.gf_tree.specs.Game.{Game}
 use Rattle.gf_tree.specs.GameOf.{SpellsGame}
-use Rattle.gf_tree.specs.Judgement as extensive_file
 use Rattle.gf_canon.specs.GameFile.{GameFile, SpellsFile, canonical_text}
 use Rattle.gf_canon.specs.GameFile.GameFile.{extensive, strategic}
 use Rattle.gf_canon.specs.Judgement.{BeginsWithWord, IsTextBy, IsWithoutFormat, SpellsWithin}
@@ -21,17 +16,6 @@ use Rattle.gf_canon.specs.NamesAside.{file_by}
 use Rattle.gf_canon.specs.declared.sameness.Names.{Names}
 use Rattle.gf_canon.proofs.lemmas.files.Texts.{spells_one_file}
 use Rattle.gf_canon.proofs.lemmas.files.Formats.{named_by_word, none_without_format, two_words}
-
--- ---- if memory runs out after the last token
-
-abbrev pub wants_memory : List ℕ → Fault
-wants_memory bytes =
-    record { span = record { start = length bytes; end = length bytes }; why = Memory }
-
-pub table_accepted : (bytes : List ℕ) (t : Table) (fault : Fault) → SpellsTable bytes t
-    → IsWithinLimit t → fault ≡ wants_memory bytes
-    → strategic_file.IsJudged fault.why bytes fault.span
-table_accepted bytes t fault h within is = memory_at_end bytes t fault Memory h within is refl
 
 -- ---- what is answered
 

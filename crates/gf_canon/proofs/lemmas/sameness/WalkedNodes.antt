@@ -1,6 +1,6 @@
 -- Two games are the same exactly if their headings and their nodes by first-use numbers are equal,
 -- which a walk over the nodes of both decides.
-use Rattle.std.proofs.Common.{◌≡◌, ℕ, List, [], ◌∷◌, ◌++◌, map, sym, ap, ◌∙◌}
+use Rattle.std.proofs.Common.{◌≡◌, ℕ, List, ◌∷◌, ◌++◌, map, sym, ap, ◌∙◌}
 use Rattle.std.specs.Prelude.{◌↔◌}
 use Rattle.gf_tree.specs.FileNodes.{file_nodes}
 use Rattle.gf_tree.specs.FileTree.{FileNode}

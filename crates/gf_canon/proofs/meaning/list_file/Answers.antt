@@ -20,9 +20,9 @@ returns-in-Err-clause-refused c =
     c.in_ok-format_of.ensures.named)
     c.in-Err.ensures.judged c.in-Err.ensures.only
 
-pub returns-in-Err-read_nfg-clause-refused : goal.returns-in-Err-read_nfg-clause-refused
-returns-in-Err-read_nfg-clause-refused c =
-    refused_table c.args.input.now c.in-Err-read_nfg.fault
+pub returns-in-Err-list_nfg-clause-refused : goal.returns-in-Err-list_nfg-clause-refused
+returns-in-Err-list_nfg-clause-refused c =
+    refused_table c.args.input.now c.in-Err-list_nfg.fault
     (subst (λ (f : Format). BeginsWithWord (word_of f) c.args.input.now) c.in-Strategic.is
     c.in_ok-format_of.ensures.named)
-    c.in-Err-read_nfg.ensures.judged c.in-Err-read_nfg.ensures.only
+    c.in-Err-list_nfg.ensures.judged c.in-Err-list_nfg.ensures.only

@@ -27,10 +27,6 @@ back_begun n = λ place. elim (cases_lt place n) [
       (omega (arith, h, length-range_with_len 0 n)) in omega (arith, e)
 ]
 
-pub rows_begun : (row : ℕ → List Ratio) (n : ℕ) → ShareRows row (range_with_len 0 n)
-rows_begun row n = λ place h.
-    ap row (alone n place (omega (arith, h, length-range_with_len 0 n)))
-
 -- ---- a place is hung below another one
 
 pub back_hung : (parents : List ℕ) (at above : ℕ) → at < length parents → above ≤ at

@@ -127,6 +127,18 @@ module _ (named : Bool) (t : Table) (m n : Names) (bytes : List ℕ) (heading : 
       let parts = same_by_parts named t told m n rs qs ht is_told of_t of_told rows_t rows_u in
       (λ x. parts.1 (names, is.0 x), λ s. is.1 (parts.0 s).1)
 
+  pub in_turn_compared : (answer : Bool) → names_by named m ≡ names_by named n
+      → IsTrue answer ↔ (joined (rows t) ≡ joined (rows told))
+      → IsTrue answer ↔ SameTable (named_by named t) (named_by named told)
+  in_turn_compared answer names is =
+      let both : names_by named (names_in t) ≡ names_by named (names_in told) =
+      sym (ap (names_by named) of_t) ∙ names ∙ ap (names_by named) of_told in
+      rows_compared (rows t) (rows told) answer names refl refl (
+        λ yes. rows_parted t told ht is_told (ap (λ (x : Names). x.players) both)
+            (ap (λ (x : Names). x.strategies) both) (is.0 yes),
+        λ same. is.1 (ap joined same),
+      )
+
   pub payoffs_compared : (answer : Bool) → c.version ≡ Payoffs
       → names_by named m ≡ names_by named n
       → IsTrue answer ↔ (IsTrue c.same × (c.left ≡ []))
@@ -137,15 +149,9 @@ module _ (named : Bool) (t : Table) (m n : Names) (bytes : List ℕ) (heading : 
       let compared : Compares (joined (rows t)) c.same c.left h.told.payoffs =
       subst (λ v. ComparesBody v (joined (rows t)) c h.told) told_version x.compares in
       let payoffs = payoffs_told (content_told h.told) h.complete (h.unnumbered told_version) in
-      let both : names_by named (names_in t) ≡ names_by named (names_in told) =
-      sym (ap (names_by named) of_t) ∙ names ∙ ap (names_by named) of_told in
-      rows_compared (rows t) (rows told) answer names refl refl (
-        λ yes.
-            rows_parted t told ht is_told (ap (λ (x : Names). x.players) both)
-            (ap (λ (x : Names). x.strategies) both)
-            ((compared []).1 (is.0 yes) ∙ append-nil h.told.payoffs ∙ sym payoffs),
-        λ same. is.1 ((compared []).0
-            (ap joined same ∙ payoffs ∙ sym (append-nil h.told.payoffs))),
+      in_turn_compared answer names (
+        λ yes. (compared []).1 (is.0 yes) ∙ append-nil h.told.payoffs ∙ sym payoffs,
+        λ same. is.1 ((compared []).0 (same ∙ payoffs ∙ sym (append-nil h.told.payoffs))),
       )
 
   pub rows_kept : ¬ (c.version ≡ Payoffs)

@@ -90,20 +90,15 @@ item_written {A = A} f xs at x out out1 out2 total here e1 e2 h =
     (k ∙ ap (λ (ys : List A). out ++ items_text (map f ys)) (sym (drop_from xs at x here)) ∙ h)
 
 -- the whole list, of which nothing is left
-pub list_ended : (all : List (List ℕ)) (old opened out : List ℕ) → opened ≡ old ++ codes "{ "
-    → out ++ codes "}" ≡ opened ++ items_text all → out ++ codes "}" ≡ old ++ list_text all
-list_ended all old opened out e h =
-    h ∙ ap (λ (bs : List ℕ). bs ++ items_text all) e
-    ∙ append_assoc old (codes "{ ") (items_text all)
-    ∙ ap (λ (bs : List ℕ). old ++ bs) (sym (list_text_is all))
-
 pub list_closed : {A : Type 0} (f : A → List ℕ) (xs : List A) (at : ℕ) (old opened out : List ℕ)
     → opened ≡ old ++ codes "{ " → length xs ≤ at
     → out ++ rest_text f xs at ≡ opened ++ rest_text f xs 0
     → out ++ codes "}" ≡ old ++ list_text (map f xs)
 list_closed {A = A} f xs at old opened out e all h =
-    list_ended (map f xs) old opened out e
-    (ap (λ (ys : List A). out ++ items_text (map f ys)) (sym (drop_all at xs all)) ∙ h)
+    ap (λ (ys : List A). out ++ items_text (map f ys)) (sym (drop_all at xs all)) ∙ h
+    ∙ ap (λ (bs : List ℕ). bs ++ items_text (map f xs)) e
+    ∙ append_assoc old (codes "{ ") (items_text (map f xs))
+    ∙ ap (λ (bs : List ℕ). old ++ bs) (sym (list_text_is (map f xs)))
 
 abbrev pub payoffs_rest : List Ratio → List ℕ
 payoffs_rest payoffs = others_text (map number_text payoffs)

@@ -1,11 +1,13 @@
-use Rattle.std.proofs.Common.{◌≡◌, ◌∙◌, rules}
+use Rattle.std.proofs.Common.{◌≡◌, ◌∙◌, ap, rules, sym}
 use Rattle.std.specs.Prelude.{◌↔◌, IsTrue}
 use Rattle.gf_nfg.specs.inner.ReaderState.{content_told}
 use Rattle.gf_nfg.specs.inner.Meaning.{table_of}
 use Rattle.gf_nfg.specs.SameTable.{SameTable}
 use Rattle.gf_nfg.specs.TableText.{named_by}
 use Rattle.gf_nfg.specs.declared.reader.receive.Version.TheVariants.{Payoffs}
-use Rattle.gf_nfg.proofs.lemmas.tables.Compared.{if_ok, payoffs_compared, rows_compared, rows_kept}
+use Rattle.gf_nfg.proofs.lemmas.tables.Compared.{if_ok, in_turn_compared, payoffs_compared, rows_compared}
+use Rattle.gf_nfg.proofs.lemmas.tables.Compared.{rows_kept}
+use Rattle.gf_nfg.proofs.lemmas.tables.Lists.{joined}
 use Rattle.gf_nfg.proofs.comparison.Comparison.is_same.Goals as goal
 
 pub returns-then-eq : goal.returns-then-eq
@@ -15,19 +17,34 @@ returns-then-eq c = λ bytes h.
     c.in_ok-names.ensures c.has_ended.result (search rules)
     (c.same_heading.ensures.0 c.if-not-same_heading.false) c.has_ended.ensures
 
-pub returns : goal.returns
-returns c = λ bytes h.
+pub returns-in-Some : goal.returns-in-Some
+returns-in-Some c = λ bytes h.
     let not : ¬ (c.args.self.version ≡ Payoffs) = search rules in
     let qs = c.in_ok-rows.ensures
     ∙ rows_kept c.args.named c.args.t.now c.names-2.result.now c.in_ok-names.names bytes
     c.args.heading c.args.self h c.names-2.ensures.is_table c.names-2.ensures.names
     c.in_ok-names.ensures not in
-    if_ok (λ answer. IsTrue answer ↔ (c.rows-2.result.now ≡ c.in_ok-rows.rows))
+    if_ok (λ answer. IsTrue answer ↔ (c.in-Some.own.now ≡ c.in_ok-rows.rows))
     (λ answer. IsTrue answer ↔ SameTable (named_by c.args.named c.args.t.now)
     (named_by c.args.named (table_of (content_told h.told)))) c.same_kept_rows.result
     c.same_kept_rows.ensures
     (λ answer same.
     rows_compared c.args.named c.args.t.now c.names-2.result.now c.in_ok-names.names bytes
     c.args.heading c.args.self h c.names-2.ensures.is_table c.names-2.ensures.names
-    c.in_ok-names.ensures c.rows-2.result.now c.in_ok-rows.rows answer
-    (c.same_heading.ensures.0 c.if-not-same_heading.false) c.rows-2.ensures qs same)
+    c.in_ok-names.ensures c.in-Some.own.now c.in_ok-rows.rows answer
+    (c.same_heading.ensures.0 c.if-not-same_heading.false) c.in-Some.ensures qs same)
+
+pub returns : goal.returns
+returns c = λ bytes h.
+    let not : ¬ (c.args.self.version ≡ Payoffs) = search rules in
+    let qs = c.new.ensures ∙ ap joined (c.in_ok-rows.ensures
+    ∙ rows_kept c.args.named c.args.t.now c.names-2.result.now c.in_ok-names.names bytes
+    c.args.heading c.args.self h c.names-2.ensures.is_table c.names-2.ensures.names
+    c.in_ok-names.ensures not) in
+    in_turn_compared c.args.named c.args.t.now c.names-2.result.now c.in_ok-names.names bytes
+    c.args.heading c.args.self h c.names-2.ensures.is_table c.names-2.ensures.names
+    c.in_ok-names.ensures c.same_left.result
+    (c.same_heading.ensures.0 c.if-not-same_heading.false) (
+      λ yes. sym c.payoffs_in_turn.ensures ∙ c.same_left.ensures.0 yes ∙ qs,
+      λ same. c.same_left.ensures.1 (c.payoffs_in_turn.ensures ∙ same ∙ sym qs),
+    )

@@ -1,11 +1,15 @@
 use Rattle.std.proofs.Common.{refl}
+use Rattle.std.specs.Prelude.{option_map}
+use Rattle.gf_nfg.specs.inner.PayoffLists.{rows_in}
 use Rattle.gf_nfg.proofs.lemmas.tables.Compared.{next_row}
 use Rattle.gf_nfg.proofs.lemmas.tables.Meaning.{lacking}
 use Rattle.gf_nfg.proofs.table.payoffs_in_turn.PayoffsInTurn.next.Goals as goal
 
 pub loop-self-preserved : goal.loop-self-preserved
-loop-self-preserved c =
-    next_row c.loop-self.self-inside.rows.now c.loop-self.self-inside.row.now
-    c.row-self-inside.result.now _ c.loop-self.self-inside.place
-    (lacking _ _ _ c.is_empty.ensures c.loop-self-test.true refl) c.row-self-inside.ensures
-    c.loop-self.invariant
+loop-self-preserved c = (
+  c.loop-self.invariant.0,
+  next_row (rows_in (option_map (λ r. r.now) c.loop-self.self-inside.rows))
+      c.loop-self.self-inside.row.now c.row-self-inside.result.now _ c.loop-self.self-inside.place
+      (lacking _ _ _ c.is_empty.ensures c.loop-self-test.true refl)
+      (rw c.in_ok-rows.was c.row-self-inside.ensures) c.loop-self.invariant.1,
+)

@@ -1,0 +1,121 @@
+-- Tables that are only compared: what is kept of their payoffs, and that it means the table.
+use Rattle.std.proofs.Common.{◌≡◌, ℕ, ℤ, ◌*◌, ◌<◌, List, [], ◌∷◌, length, map}
+use Rattle.std.proofs.Common.{refl, sym, ap, arith, subst, ◌∙◌}
+use Rattle.std.specs.Prelude.{Vec}
+use Rattle.std.specs.Global.{Global}
+use Rattle.std.proofs.Math.Nat.{mul_comm}
+use Rattle.gf_fraction.specs.Ratio.{Ratio}
+use Rattle.gf_nfg.specs.Profiles.{positions, product}
+use Rattle.gf_nfg.specs.Table.{IsTable, Table, rows}
+use Rattle.gf_nfg.specs.TableParts.{IsHeld, Names, row_of, table_with}
+use Rattle.gf_nfg.specs.inner.ListedTable.{IsFull, IsListed, IsListing, listed_rows}
+use Rattle.gf_nfg.specs.inner.Machine.{Content}
+use Rattle.gf_nfg.specs.inner.Meaning.{HasPayoffs, IsComplete, names_in, rows_by, table_of}
+use Rattle.gf_nfg.specs.inner.PayoffLists.{payoffs_in}
+use Rattle.gf_nfg.specs.inner.ReaderState.{content_in, content_of, content_told, content_with}
+use Rattle.gf_nfg.specs.inner.ToldTable.{HasToldTable}
+use Rattle.gf_nfg.specs.declared.reader.receive.Version.{Version}
+use Rattle.gf_nfg.specs.declared.reader.receive.Version.TheVariants.{Outcomes, Payoffs}
+use Rattle.gf_nfg.specs.declared.table.heading.Heading.{Heading}
+use Rattle.gf_nfg.specs.declared.table.listed.Body.{Body}
+use Rattle.gf_nfg.specs.declared.table.listed.Body.TheVariants.{InTurn}
+use Rattle.gf_nfg.specs.declared.table.listed.Listing.{Listing}
+use Rattle.gf_nfg.proofs.lemmas.tables.Lists.{joined}
+use Rattle.gf_nfg.proofs.lemmas.tables.Meaning.{held, named}
+use Rattle.gf_nfg.proofs.lemmas.tables.Rows.{is_table, rows-table_with, rows_in_turn}
+use Rattle.gf_nfg.proofs.lemmas.tables.Spelled.{spelled_is_spellable}
+
+-- ---- a table by its parts
+
+module _ (t : Table) (names : Names) (body : Body)
+    (view : table_with names (listed_rows names body) ≡ t) (listed : IsListed names body) where
+  pub rows_are : listed_rows names body ≡ rows t
+  rows_are = sym (rows-table_with names (listed_rows names body) listed.held.named.counted)
+      ∙ ap rows view
+
+  pub table_listed : IsTable t
+  table_listed = rw (← view) (is_table _ _ listed.held.named listed.held.one_payoff_each)
+
+  pub payoffs_are : (numbers : Vec ℤ Global) (others : Vec Ratio Global) → body ≡ InTurn numbers others
+      → payoffs_in numbers.items others.items ≡ joined (rows t)
+  payoffs_are numbers others is =
+      sym (rows_in_turn (length names.players) (product (map length names.strategies))
+      (payoffs_in numbers.items others.items) (subst (IsFull names) is listed.full))
+      ∙ ap joined (ap (listed_rows names) (sym is) ∙ rows_are)
+
+-- ---- the table that was told
+
+pub empty_is : (numbers : List ℕ) → length numbers ≡ 0 → numbers ≡ []
+empty_is [] e = refl
+empty_is (n ∷ numbers) e = absurd (omega (arith, e))
+
+pub some_is : (numbers : List ℕ) → 0 < length numbers → ¬ (numbers ≡ [])
+some_is numbers some e = absurd (omega (arith, some, ap length e))
+
+module _ (bytes : List ℕ) (heading : Heading) (l : Listing)
+    (h : HasToldTable IsListing bytes heading l) where
+  abbrev told : Content
+  told = content_told h.told
+
+  none_chosen : l.kept.numbers.items ≡ [] → told.choices ≡ []
+  none_chosen none = sym h.holding.numbers_are ∙ none
+
+  -- with some numbers it is in outcome version
+  shared : ¬ (l.kept.numbers.items ≡ []) → h.told.version ≡ Outcomes
+  shared some = by h.told.version h.unnumbered
+    where
+      by : (v : Version) → (v ≡ Payoffs → h.told.numbers ≡ []) → v ≡ Outcomes
+      by Payoffs none = absurd (some (h.holding.numbers_are ∙ none refl))
+      by Outcomes none = refl
+
+  pub parts_told : ¬ (l.kept.numbers.items ≡ [])
+      → told ≡ content_of (record { heading = heading; kept = l.kept })
+  parts_told some =
+      let none : l.whole.items ≡ [] = (h.holding.none_small (shared some)).1 in
+      let payoffs : l.kept.payoffs.items ≡ h.told.payoffs =
+      ap (λ ns. payoffs_in ns l.kept.payoffs.items) (sym none) ∙ h.holding.payoffs_are in
+      (λ i. content_with (h.same i) (sym payoffs i) (sym h.holding.numbers_are i))
+
+  pub shared_rows : ¬ (l.kept.numbers.items ≡ [])
+      → rows_by (content_of (record { heading = heading; kept = l.kept })) l.kept.numbers.items
+      ≡ rows_by told told.choices
+  shared_rows some = ap (λ (c : Content). rows_by c c.choices) (sym (parts_told some))
+
+  pub parts_complete : ¬ (l.kept.numbers.items ≡ [])
+      → IsComplete (content_of (record { heading = heading; kept = l.kept }))
+  parts_complete some = subst IsComplete (parts_told some) h.complete
+
+  module _ (names : Names) (is : names ≡ names_in (content_in heading)) where
+    names_are : names ≡ names_in told
+    names_are = is ∙ ap (λ (x : Heading). names_in (content_in x)) (sym h.same)
+
+    count_is : product (map length names.strategies) ≡ told.profiles
+    count_is = ap (λ (n : Names). product (map length n.strategies)) names_are
+        ∙ sym (named told h.complete).counted
+
+    pub listed_in_turn : l.kept.numbers.items ≡ []
+        → map (row_of (length names.players) (payoffs_in l.whole.items l.kept.payoffs.items))
+        (positions (product (map length names.strategies)))
+        ≡ rows_by told told.choices
+    listed_in_turn none =
+        (λ i. map (row_of (length (names_are i).players) (h.holding.payoffs_are i))
+        (positions (count_is i)))
+        ∙ ap (rows_by told) (sym (none_chosen none))
+
+    pub in_turn_full : l.kept.numbers.items ≡ []
+        → length (payoffs_in l.whole.items l.kept.payoffs.items)
+        ≡ product (map length names.strategies) * length names.players
+    in_turn_full none =
+        ap length h.holding.payoffs_are
+        ∙ subst (HasPayoffs told) (none_chosen none) h.complete.has_rows
+        ∙ mul_comm (length told.players) told.profiles
+        ∙ (λ i. sym count_is i * length (sym names_are i).players)
+
+    pub rows_held : (rs : List (List Ratio)) → rs ≡ rows_by told told.choices → IsHeld names rs
+    rows_held rs are =
+        held told names rs names_are are h.complete h.told.heading.profiles.within
+        (spelled_is_spellable bytes (table_of told) h.spelled).1
+
+    pub table_is : (rs : List (List Ratio)) → rs ≡ rows_by told told.choices
+        → table_with names rs ≡ table_of told
+    table_is rs are = (λ i. table_with (names_are i) (are i))
