@@ -19,7 +19,7 @@ use gf_fraction::Fraction;
 use std::alloc::{AllocError, Global};
 use std::marker::Model;
 
-/// The whole number that a payoff is, if it has 64 bits.
+/// The whole number that a payoff is, if it fits 64 bits.
 #[inline(always)]
 fn small(payoff: Fraction) -> Option<i64>
     ensures { IfSome result (λ n. payoff ≡ whole n) }
@@ -31,7 +31,7 @@ fn small(payoff: Fraction) -> Option<i64>
 }
 
 /// A receiver that keeps payoffs and numbers. In payoff version the first payoffs take 8 bytes
-/// each, as long as they are whole numbers of 64 bits.
+/// each, as long as they are whole numbers that fit 64 bits.
 #[derive(Drop)]
 pub(crate) struct Listing {
     whole: Vec<i64>,

@@ -45,9 +45,10 @@ pub(crate) struct Shared<'t> {
     pub numbers: &'t [u32],
     /// How many rows there are.
     pub rows: usize,
-    players: usize,
-    payoffs: &'t [Fraction],
-    zeros: &'t [Fraction],
+    pub players: usize,
+    /// All rows but the first, in which each player is paid zero.
+    pub payoffs: &'t [Fraction],
+    pub zeros: &'t [Fraction],
 }
 
 /// The number of the row of the profile with this place.
