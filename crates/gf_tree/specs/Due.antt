@@ -6,7 +6,7 @@ use Rattle.gf_token.specs.Place.{MayFollow}
 use Rattle.gf_token.specs.declared.fault.What.{What}
 use Rattle.gf_token.specs.declared.fault.What.TheVariants as what
 use Rattle.gf_tree.specs.Description.{InformationSet, Outcome, SetKey}
-use Rattle.gf_tree.specs.FileTree.{Use, FileNode}
+use Rattle.gf_tree.specs.FileTree.{Use}
 use Rattle.gf_tree.specs.Front.{IsExtensiveFile, EndsInNode, ToPlayerNumber, ToSetNumber}
 use Rattle.gf_tree.specs.Front.{ToProbability, ToOutcomeNumber, InPayoffs, IsSetKnown}
 
@@ -16,32 +16,27 @@ NodeIsDue before = MayFollow IsExtensiveFile before (Bare (codes "t"))
 
 -- the number of a player, among this many
 abbrev pub PlayerIsDue : List Token → ℕ → Type 0
-PlayerIsDue before count = (players : List (List ℕ)) × (nodes : List FileNode)
-    × (front : List Token) × EndsInNode before players nodes front × (count ≡ length players)
-    × ToPlayerNumber front
+PlayerIsDue before count =
+    (f : EndsInNode before) × (count ≡ length f.players) × ToPlayerNumber f.front
 
 -- the number of a set
 abbrev pub SetIsDue : List Token → Type 0
-SetIsDue before = (players : List (List ℕ)) × (nodes : List FileNode) × (front : List Token)
-    × (player : ℕ) × EndsInNode before players nodes front × ToSetNumber front player
+SetIsDue before = (f : EndsInNode before) × (player : ℕ) × ToSetNumber f.front player
 
 -- the number of an outcome, after a set that is known
 abbrev pub OutcomeIsDue : List Token → Type 0
-OutcomeIsDue before = (players : List (List ℕ)) × (nodes : List FileNode) × (front : List Token)
-    × (set : Option (Use SetKey InformationSet)) × EndsInNode before players nodes front
-    × ToOutcomeNumber front set × IsSetKnown nodes set
+OutcomeIsDue before = (f : EndsInNode before) × (set : Option (Use SetKey InformationSet))
+    × ToOutcomeNumber f.front set × IsSetKnown f.nodes set
 
 -- a probability
 abbrev pub ProbabilityIsDue : List Token → Type 0
-ProbabilityIsDue before = (players : List (List ℕ)) × (nodes : List FileNode)
-    × (front : List Token) × (number : ℕ) × (set : InformationSet)
-    × EndsInNode before players nodes front × ToProbability front number set
+ProbabilityIsDue before =
+    (f : EndsInNode before) × (number : ℕ) × (set : InformationSet) × ToProbability f.front number set
 
 -- a payoff
 abbrev pub PayoffIsDue : List Token → Type 0
-PayoffIsDue before = (players : List (List ℕ)) × (nodes : List FileNode) × (front : List Token)
-    × (number : ℕ) × (outcome : Outcome) × EndsInNode before players nodes front
-    × InPayoffs front number outcome × (length outcome.payoffs < length players)
+PayoffIsDue before = (f : EndsInNode before) × (number : ℕ) × (outcome : Outcome)
+    × InPayoffs f.front number outcome × (length outcome.payoffs < length f.players)
 
 -- What a refusal names is due. There are no strategies.
 abbrev pub IsDue : List Token → What → Type 0

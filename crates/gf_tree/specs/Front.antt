@@ -15,12 +15,14 @@ use Rattle.gf_tree.specs.Sentence.{IsAction, IsMover, IsPositive, IsStep, Says, 
 abbrev pub IsExtensiveFile : List Token → Type 0
 IsExtensiveFile tokens = (f : FileTree) × Sentence tokens f × IsConsistent f
 
--- a heading and whole nodes, followed by these tokens of the next node
-pub record EndsInNode (before : List Token) (players : List (List ℕ)) (nodes : List FileNode)
-    (front : List Token) : Type 0 where
+-- a heading and whole nodes, followed by the front of the next node
+pub record EndsInNode (before : List Token) : Type 0 where
   pub title : List ℕ
   pub note : List ℕ
+  pub players : List (List ℕ)
+  pub nodes : List FileNode
   pub whole : List Token
+  pub front : List Token
   pub parts : before ≡ whole ++ front
   pub says : Says title note players nodes whole
 

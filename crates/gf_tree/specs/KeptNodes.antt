@@ -68,9 +68,9 @@ abbrev pub tree_with
 tree_with sets outcomes nodes = root no_node (grow (entries_with sets outcomes nodes))
 
 -- its set and its outcome are among this many
-pub record IsPlaced (sets outcomes : ℕ) (n : Kept) : Type 0 where
+pub record IsAmong (sets outcomes : ℕ) (n : Kept) : Type 0 where
   pub set : n.set ≤ sets
   pub outcome : n.outcome ≤ outcomes
 
-abbrev pub ArePlaced : ℕ → ℕ → List Kept → Type 0
-ArePlaced sets outcomes nodes = AllByRecursion (IsPlaced sets outcomes) nodes
+abbrev pub AreAmong : ℕ → ℕ → List Kept → Type 0
+AreAmong sets outcomes nodes = AllByRecursion (IsAmong sets outcomes) nodes

@@ -23,14 +23,14 @@ number_among known place =
     (slice_get known place)
 
 -- with one more action of the set whose description is being read
-abbrev pub with_action : KnownSets → List ℕ → Option Ratio → KnownSets
-with_action k label probability = record k {
+abbrev pub with_pending_action : KnownSets → List ℕ → Option Ratio → KnownSets
+with_pending_action k label probability = record k {
   pending = k.pending ++ record { label = label; probability = probability } ∷ [];
 }
 
 -- with this set, which the pending actions describe
-abbrev pub with_set : KnownSets → SetKey → List ℕ → KnownSets
-with_set k key name = record {
+abbrev pub with_pending_set : KnownSets → SetKey → List ℕ → KnownSets
+with_pending_set k key name = record {
   known = k.known
       ++ record { key = key; description = record { name = name; actions = k.pending } } ∷ [];
   pending = [];

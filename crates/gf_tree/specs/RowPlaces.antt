@@ -8,7 +8,7 @@ use Rattle.gf_token.specs.Token.Token.{Opening, Closing, Comma, Text, Bare}
 use Rattle.gf_token.specs.Index.{IsIndex}
 use Rattle.gf_token.specs.Place.{Begins}
 use Rattle.gf_tree.specs.Description.{InformationSet, Outcome, SetKey}
-use Rattle.gf_tree.specs.FileTree.{Use, FileNode}
+use Rattle.gf_tree.specs.FileTree.{Use}
 use Rattle.gf_tree.specs.Front.{BehindOutcomeNumber, BehindSetNumber, EndsInNode, InPayoffs}
 use Rattle.gf_tree.specs.Front.{IsExtensiveFile, ToOutcomeNumber}
 
@@ -44,11 +44,9 @@ BehindComment before players = (first : List Token) × (comment : List ℕ)
 -- some file begins with these tokens: a heading, whole nodes, and the front of the next node
 pub record FileFront : Type 0 where
   pub before : List Token
-  pub players : List (List ℕ)
-  pub nodes : List FileNode
-  pub front : List Token
   pub begins : Begins IsExtensiveFile before
-  pub ends : EndsInNode before players nodes front
+  pub ends : EndsInNode before
+  pub open ends use {players, nodes, front}
 
 -- the letter; the node's name is next
 abbrev pub BehindLetter : List Token → Type 0

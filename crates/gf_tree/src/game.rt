@@ -14,7 +14,7 @@ ghost use Rattle.gf_tree.specs.FirstUse.{outcome_numbers, player_keys};
 ghost use Rattle.gf_tree.specs.Game.{IsGame, outcome_at, set_at};
 ghost use Rattle.gf_tree.specs.inner.GameParts.{game_with};
 ghost use Rattle.gf_tree.specs.Description.{outcome_with, set_with};
-ghost use Rattle.gf_tree.specs.KeptNodes.{ArePlaced, entries_with};
+ghost use Rattle.gf_tree.specs.KeptNodes.{AreAmong, entries_with};
 ghost use Rattle.gf_tree.specs.Movers.{IsMover};
 ghost use Rattle.gf_tree.specs.NodeOf.{node_of};
 ghost use Rattle.gf_tree.specs.OutcomePositions.{position_among};
@@ -96,7 +96,7 @@ impl<'a> Game<'a> {
         outcomes: Outcomes<'a>,
         nodes: NodeList<'a>,
     ) -> Game<'a>
-        requires placed { ArePlaced (length sets.known) (length outcomes.known) nodes }
+        requires placed { AreAmong (length sets.known) (length outcomes.known) nodes }
         requires fills { Fills 1 (entries_with sets.known outcomes.known nodes) }
         requires is_game { IsGame (game_with (label_of title) (label_of comment)
             (map label_of players.items) sets.known outcomes.known nodes) }

@@ -13,7 +13,7 @@ ghost use Rattle.gf_token.specs.Token.{Lexeme};
 ghost use Rattle.gf_tree.specs.inner.Machine.{nothing, run};
 ghost use Rattle.gf_tree.specs.inner.Machine.Position.{Format, NodeDue};
 ghost use Rattle.gf_tree.specs.inner.ReadGame.{game_of};
-ghost use Rattle.gf_tree.specs.KeptNodes.{ArePlaced};
+ghost use Rattle.gf_tree.specs.KeptNodes.{AreAmong};
 ghost use Rattle.gf_tree.specs.inner.ReaderState.{answer, content_of, content_with, Goes, HasRoom};
 
 pub(crate) mod again;
@@ -94,7 +94,7 @@ impl<'a> Reader<'a> {
 
     /// The game of the file, which was read to its end and has these nodes.
     pub(crate) fn into_listed_game(self, nodes: NodeList<'a>) -> ListedGame<'a>
-        requires placed { ArePlaced (length self.sets.known) (length self.outcomes.known) nodes }
+        requires placed { AreAmong (length self.sets.known) (length self.outcomes.known) nodes }
         requires read { (bytes : List ℕ) × (tokens : List Lexeme) × Spells 0 bytes tokens
             × (run (length bytes) Format nothing tokens ≡ Ok (content_with self nodes)) }
         ensures { result ≡ game_of (content_with self.entry nodes.entry) }

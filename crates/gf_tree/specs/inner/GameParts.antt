@@ -7,7 +7,7 @@ use Rattle.gf_tree.specs.FiniteMap.{Described}
 use Rattle.gf_tree.specs.Game.{Game, IsGame}
 use Rattle.gf_tree.specs.Spellable.{IsSpellable}
 use Rattle.gf_tree.specs.Subtrees.{subtree_sizes}
-use Rattle.gf_tree.specs.KeptNodes.{Kept, ArePlaced, entries_with, kept_of, sizes_of, tree_with}
+use Rattle.gf_tree.specs.KeptNodes.{Kept, AreAmong, entries_with, kept_of, sizes_of, tree_with}
 use Rattle.gf_tree.specs.declared.game.kept.Stored.{Stored}
 
 -- the game of these parts
@@ -28,7 +28,7 @@ game_with title comment players sets outcomes nodes = record {
 pub record AreNodes
     (sets : List (Described SetKey InformationSet)) (outcomes : List (Described ℕ Outcome))
     (nodes : List Stored) : Type 0 where
-  pub placed : ArePlaced (length sets) (length outcomes) (map kept_of nodes)
+  pub placed : AreAmong (length sets) (length outcomes) (map kept_of nodes)
   pub fills : Fills 1 (entries_with sets outcomes (map kept_of nodes))
   pub sizes : sizes_of nodes ≡ subtree_sizes (tree_with sets outcomes (map kept_of nodes))
 
@@ -37,7 +37,7 @@ pub record IsListed
     (title comment : List ℕ) (players : List (List ℕ))
     (sets : List (Described SetKey InformationSet)) (outcomes : List (Described ℕ Outcome))
     (nodes : List Kept) : Type 0 where
-  pub placed : ArePlaced (length sets) (length outcomes) nodes
+  pub placed : AreAmong (length sets) (length outcomes) nodes
   pub fills : Fills 1 (entries_with sets outcomes nodes)
   pub is_game : IsGame (game_with title comment players sets outcomes nodes)
   pub spellable : IsSpellable (game_with title comment players sets outcomes nodes)

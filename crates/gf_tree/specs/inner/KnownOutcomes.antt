@@ -10,12 +10,12 @@ pub record KnownOutcomes : Type 0 where
   pub pending : List Ratio
 
 -- with one more payoff of the outcome whose description is being read
-abbrev pub with_payoff : KnownOutcomes → Ratio → KnownOutcomes
-with_payoff k payoff = record k { pending = k.pending ++ payoff ∷ [] }
+abbrev pub with_pending_payoff : KnownOutcomes → Ratio → KnownOutcomes
+with_pending_payoff k payoff = record k { pending = k.pending ++ payoff ∷ [] }
 
 -- with this outcome, which the pending payoffs describe
-abbrev pub with_outcome : KnownOutcomes → ℕ → List ℕ → KnownOutcomes
-with_outcome k number name = record {
+abbrev pub with_pending_outcome : KnownOutcomes → ℕ → List ℕ → KnownOutcomes
+with_pending_outcome k number name = record {
   known = k.known
       ++ record { key = number; description = record { name = name; payoffs = k.pending } } ∷ [];
   pending = [];

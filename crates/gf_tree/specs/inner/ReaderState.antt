@@ -14,7 +14,7 @@ use Rattle.gf_token.specs.declared.token.TextToken.{TextToken}
 use Rattle.gf_tree.specs.Description.{InformationSet, SetKey}
 use Rattle.gf_tree.specs.FiniteMap.{Described}
 use Rattle.gf_tree.specs.Game.{Node}
-use Rattle.gf_tree.specs.KeptNodes.{ArePlaced, IsPlaced, Kept, child_count}
+use Rattle.gf_tree.specs.KeptNodes.{AreAmong, IsAmong, Kept, child_count}
 use Rattle.gf_tree.specs.KeptNodes.{entries_with, entry_with}
 use Rattle.gf_tree.specs.inner.Machine.{Begun, Content, Position, State, run, with_node}
 use Rattle.gf_tree.specs.inner.Machine.Position.{NodeDue}
@@ -115,7 +115,7 @@ pub record Tells {T : Type 0} (holds : T → T → Heading → List Told → Typ
   pub node : Kept
   pub goes : before
       ≡ behind (entry_with new.sets.known new.outcomes.known node ∷ []) (answer NodeDue new)
-  pub placed : IsPlaced (length new.sets.known) (length new.outcomes.known) node
+  pub placed : IsAmong (length new.sets.known) (length new.outcomes.known) node
   pub told : (untold : T) (heading : Heading) (told : List Told) → holds untold from heading told
       → holds untold to heading (told ++ told_node new.sets.known
       new.outcomes.known old.told_sets old.told_outcomes node ∷ [])
@@ -127,7 +127,7 @@ pub record Tells {T : Type 0} (holds : T → T → Heading → List Told → Typ
 -- it was told these nodes, of which the first is the first one of the file
 pub record HasTold {T : Type 0} (holds : T → List Told → Type 0) (r : Reader) (to : T)
     (nodes : List Kept) : Type 0 where
-  pub placed : ArePlaced (length r.sets.known) (length r.outcomes.known) nodes
+  pub placed : AreAmong (length r.sets.known) (length r.outcomes.known) nodes
   pub told : holds to (told_from r.sets.known r.outcomes.known 0 0 nodes)
   pub told_sets : r.told_sets ≡ used_sets_from 0 nodes
   pub told_outcomes : r.told_outcomes ≡ used_outcomes_from 0 nodes
@@ -170,7 +170,7 @@ GoesTelling holds result before old new from to =
     MatchResult result (λ _. Tells holds before old new from to) (λ f. Fails f before)
 
 -- the tokens with a text before them
-abbrev pub behind_label : Remaining → TextToken → Remaining
-behind_label t label = record t {
+abbrev pub with_text : Remaining → TextToken → Remaining
+with_text t label = record t {
   ahead = lexeme label.span.start label.span.end (Text (label_of label.label)) ∷ t.ahead;
 }

@@ -102,7 +102,7 @@ impl<'g, 'a> Model for FileNodes<'g, 'a> {
     ghost use Rattle.std.specs.Prelude.{List, length, map};
     ghost use Rattle.std.specs.Slice.Iter.{iter_rest};
     ghost use Rattle.gf_tree.specs.FileTree.{FileNode};
-    ghost use Rattle.gf_tree.specs.KeptNodes.{ArePlaced, kept_of};
+    ghost use Rattle.gf_tree.specs.KeptNodes.{AreAmong, kept_of};
     ghost use Rattle.gf_tree.specs.inner.KnownUses.{nodes_given};
 
     ghost Value = { List FileNode };
@@ -110,7 +110,7 @@ impl<'g, 'a> Model for FileNodes<'g, 'a> {
     ghost view = { λ n. nodes_given n.sets.now.known n.outcomes.now.known n.used_sets
         n.used_outcomes (map kept_of (iter_rest n.nodes)) };
 
-    ghost invariant = { λ n. ArePlaced (length n.sets.now.known) (length n.outcomes.now.known)
+    ghost invariant = { λ n. AreAmong (length n.sets.now.known) (length n.outcomes.now.known)
         (map kept_of (iter_rest n.nodes)) };
 }
 

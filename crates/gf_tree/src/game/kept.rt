@@ -10,7 +10,7 @@ ghost use Rattle.gf_token.specs.Positions.{at_position};
 ghost use Rattle.gf_tree.specs.Tree.{Tree};
 ghost use Rattle.gf_tree.specs.PrefixOrder.{flatten};
 ghost use Rattle.gf_tree.specs.Game.{Node};
-ghost use Rattle.gf_tree.specs.KeptNodes.{ArePlaced, child_count, child_counts};
+ghost use Rattle.gf_tree.specs.KeptNodes.{AreAmong, child_count, child_counts};
 ghost use Rattle.gf_tree.specs.KeptNodes.{kept_of, position_of, sizes_of};
 ghost use Rattle.gf_tree.specs.NodeOf.{outcome_of, set_of_step};
 ghost use Rattle.gf_tree.specs.inner.Skipped.{Begin, skipped};
@@ -101,7 +101,7 @@ pub(crate) fn skip(nodes: &[Stored<'_>], from: usize, count: usize) -> usize
 /// Fills in the sizes of subtrees, from the last node to the first.
 fn fill_sizes(nodes: &mut [Stored<'_>], sets: &Sets<'_>)
     requires placed { (outcomes : ℕ)
-        × ArePlaced (length sets.now.known) outcomes (map kept_of nodes.old) }
+        × AreAmong (length sets.now.known) outcomes (map kept_of nodes.old) }
     requires tree { (t : Tree Node)
         × (map (λ e. e.children) (flatten t)
         ≡ child_counts sets.now.known (map kept_of nodes.old)) }
@@ -175,7 +175,7 @@ impl<'a> NodeList<'a> {
     /// The nodes with the sizes of their subtrees. The caller has to ensure that they are those of
     /// a tree.
     pub(crate) fn sized(self, sets: &Sets<'_>) -> Vec<Stored<'a>>
-        requires placed { (outcomes : ℕ) × ArePlaced (length sets.now.known) outcomes self }
+        requires placed { (outcomes : ℕ) × AreAmong (length sets.now.known) outcomes self }
         requires tree { (t : Tree Node)
             × (map (λ e. e.children) (flatten t) ≡ child_counts sets.now.known self) }
         ensures kept { map kept_of result.items ≡ self.entry }

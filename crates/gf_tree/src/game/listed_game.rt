@@ -6,7 +6,7 @@ ghost use Rattle.gf_tree.specs.FileNodes.{file_nodes};
 ghost use Rattle.gf_tree.specs.FirstUse.{first_use_numbers};
 ghost use Rattle.gf_tree.specs.Game.{IsGame};
 ghost use Rattle.gf_tree.specs.inner.GameParts.{game_with};
-ghost use Rattle.gf_tree.specs.KeptNodes.{ArePlaced, entries_with};
+ghost use Rattle.gf_tree.specs.KeptNodes.{AreAmong, entries_with};
 ghost use Rattle.gf_tree.specs.PrefixOrder.{Fills};
 ghost use Rattle.gf_tree.specs.Renumbering.{renumbered};
 ghost use Rattle.gf_tree.specs.Spellable.{IsSpellable};
@@ -60,7 +60,7 @@ impl<'a> ListedGame<'a> {
         outcomes: Outcomes<'a>,
         nodes: NodeList<'a>,
     ) -> ListedGame<'a>
-        requires placed { ArePlaced (length sets.known) (length outcomes.known) nodes }
+        requires placed { AreAmong (length sets.known) (length outcomes.known) nodes }
         requires fills { Fills 1 (entries_with sets.known outcomes.known nodes) }
         requires is_game { IsGame (game_with (label_of title) (label_of comment)
             (map label_of players.items) sets.known outcomes.known nodes) }

@@ -18,7 +18,7 @@ pub enum Step {
 
 /// A node: its name, what happens there, and the number of its outcome, or 0 if it has none. No
 /// step names a player 0: chance has a step of its own.
-#[derive(Clone, Copy, PartialEq, Eq)]
+#[derive(Clone, Copy)]
 pub struct Node<'a> {
     pub name: Label<'a>,
     pub step: Step,

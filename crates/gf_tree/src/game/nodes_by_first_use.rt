@@ -4,7 +4,7 @@ ghost use Rattle.std.specs.Prelude.{◌≡◌, length, map};
 ghost use Rattle.std.specs.Slice.Iter.{iter_rest};
 ghost use Rattle.gf_tree.specs.FileNodes.{file_nodes};
 ghost use Rattle.gf_tree.specs.FirstUse.{first_use_numbers};
-ghost use Rattle.gf_tree.specs.KeptNodes.{ArePlaced, kept_of};
+ghost use Rattle.gf_tree.specs.KeptNodes.{AreAmong, kept_of};
 ghost use Rattle.gf_tree.specs.Renumbering.{renumbered};
 ghost use Rattle.gf_tree.specs.Told.{told_from};
 
@@ -45,7 +45,7 @@ impl<'g, 'a> Model for NodesByFirstUse<'g, 'a> {
     ghost use Rattle.std.specs.Prelude.{List, length, map};
     ghost use Rattle.std.specs.Slice.Iter.{iter_rest};
     ghost use Rattle.gf_tree.specs.FileTree.{FileNode};
-    ghost use Rattle.gf_tree.specs.KeptNodes.{ArePlaced, kept_of};
+    ghost use Rattle.gf_tree.specs.KeptNodes.{AreAmong, kept_of};
     ghost use Rattle.gf_tree.specs.Told.{told_from};
 
     ghost Value = { List FileNode };
@@ -53,7 +53,7 @@ impl<'g, 'a> Model for NodesByFirstUse<'g, 'a> {
     ghost view = { λ n. map (λ t. t.node) (told_from n.sets.now.known n.outcomes.now.known
         n.used_sets n.used_outcomes (map kept_of (iter_rest n.nodes))) };
 
-    ghost invariant = { λ n. ArePlaced (length n.sets.now.known) (length n.outcomes.now.known)
+    ghost invariant = { λ n. AreAmong (length n.sets.now.known) (length n.outcomes.now.known)
         (map kept_of (iter_rest n.nodes)) };
 }
 
@@ -64,7 +64,7 @@ impl<'g, 'a> NodesByFirstUse<'g, 'a> {
         outcomes: &'g Outcomes<'a>,
         nodes: slice::Iter<'g, Stored<'a>>,
     ) -> NodesByFirstUse<'g, 'a>
-        requires { ArePlaced (length sets.now.known) (length outcomes.now.known)
+        requires { AreAmong (length sets.now.known) (length outcomes.now.known)
             (map kept_of (iter_rest nodes)) }
         ensures { result ≡ map (λ t. t.node) (told_from sets.now.known outcomes.now.known 0 0
             (map kept_of (iter_rest nodes.entry))) }

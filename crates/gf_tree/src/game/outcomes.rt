@@ -5,7 +5,7 @@ ghost use Rattle.std.specs.Prelude.{None, Some, nat_eq, map, length};
 ghost use Rattle.std.specs.Prelude.{slice_get, option_map, position, OnOk, OnErr, IfOk};
 ghost use Rattle.gf_token.specs.Label.{label_of};
 ghost use Rattle.gf_token.specs.Positions.{at_position};
-ghost use Rattle.gf_tree.specs.inner.KnownOutcomes.{with_outcome, with_payoff};
+ghost use Rattle.gf_tree.specs.inner.KnownOutcomes.{with_pending_outcome, with_pending_payoff};
 ghost use Rattle.gf_tree.specs.inner.StoredOutcomes.{end_of};
 
 use crate::numbers::indexing::Indexing;
@@ -156,7 +156,7 @@ impl<'a> Outcomes<'a> {
 
     /// It has one more payoff. After an `Err` nothing has changed.
     pub(crate) fn push(&mut self, payoff: Fraction) -> Result<(), AllocError>
-        ensures ok { OnOk result (self.new ≡ with_payoff self.old payoff) }
+        ensures ok { OnOk result (self.new ≡ with_pending_payoff self.old payoff) }
         ensures err { OnErr result (self.new ≡ self.old) }
     {
         if self.payoffs.push(payoff).is_err() {
@@ -176,7 +176,7 @@ impl<'a> Outcomes<'a> {
     /// outcome's place. After an `Err` nothing has changed.
     pub(crate) fn end(&mut self, number: u32, name: Label<'a>) -> Result<u32, AllocError>
         requires { position (nat_eq number) (map (λ o. o.key) self.old.known) ≡ None }
-        ensures ok { OnOk result (self.new ≡ with_outcome self.old number (label_of name.entry)) }
+        ensures ok { OnOk result (self.new ≡ with_pending_outcome self.old number (label_of name.entry)) }
         ensures place { IfOk result (λ place. place ≡ length self.old.known) }
         ensures err { OnErr result (self.new ≡ self.old) }
     {

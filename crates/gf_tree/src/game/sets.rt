@@ -10,7 +10,7 @@ ghost use Rattle.gf_tree.specs.Actions.{action_of, actions_of};
 ghost use Rattle.gf_tree.specs.Description.{same_set, set_of};
 ghost use Rattle.gf_tree.specs.inner.Stretches.{AreStretches};
 ghost use Rattle.gf_tree.specs.inner.StoredSets.{HoldActions, end_of};
-ghost use Rattle.gf_tree.specs.KnownSets.{known_of, number_among, with_action, with_set};
+ghost use Rattle.gf_tree.specs.KnownSets.{known_of, number_among, with_pending_action, with_pending_set};
 
 use crate::game::action::{Action, same_actions};
 use crate::numbers::indexing::Indexing;
@@ -297,7 +297,7 @@ impl<'a> Sets<'a> {
         probability: Option<Fraction>,
     ) -> Result<(), AllocError>
         ensures ok { OnOk result (self.new
-            ≡ with_action self.old (label_of label.entry) probability) }
+            ≡ with_pending_action self.old (label_of label.entry) probability) }
         ensures err { OnErr result (self.new ≡ self.old) }
     {
         if self.actions.push(Action { label, probability }).is_err() {
@@ -324,7 +324,7 @@ impl<'a> Sets<'a> {
         requires { position (same_set (set_of player number)) (map (λ s. s.key) self.old.known)
             ≡ None }
         ensures ok { OnOk result (self.new
-            ≡ with_set self.old (set_of player number) (label_of name.entry)) }
+            ≡ with_pending_set self.old (set_of player number) (label_of name.entry)) }
         ensures place { IfOk result (λ place. place ≡ length self.old.known) }
         ensures err { OnErr result (self.new ≡ self.old) }
     {

@@ -15,7 +15,7 @@ ghost use Rattle.gf_tree.specs.Description.{set_with};
 ghost use Rattle.gf_tree.specs.inner.Machine.{begun, behind_set, with_set};
 ghost use Rattle.gf_tree.specs.inner.Machine.Position.{NewAction, NewProbability};
 ghost use Rattle.gf_tree.specs.inner.Machine.Position.{NewSetName, OutcomeNumber, SetNumber};
-ghost use Rattle.gf_tree.specs.inner.ReaderState.{answer, begun_with, behind_label, content_of};
+ghost use Rattle.gf_tree.specs.inner.ReaderState.{answer, begun_with, with_text, content_of};
 ghost use Rattle.gf_tree.specs.inner.ReaderState.{Fails, Grows, heard};
 
 use super::Reader;
@@ -103,12 +103,12 @@ impl<'a> Reader<'a> {
         ensures machine { (node : List ℕ) (number : ℕ) (name : List ℕ) → MatchResult result
             (λ through. heard (NewAction node (set_of player number)
             (set_with name self.old.sets.pending) sum) (content_of self.old)
-            (behind_label self.old.tokens label.entry)
+            (with_text self.old.tokens label.entry)
             ≡ answer (NewAction node (set_of player number)
             (set_with name self.new.sets.pending) through) self.new)
             (λ f. Fails f (heard (NewAction node (set_of player number)
             (set_with name self.old.sets.pending) sum) (content_of self.old)
-            (behind_label self.old.tokens label.entry))) }
+            (with_text self.old.tokens label.entry))) }
         ensures fraction { IfOk result IsFraction }
         ensures kept { OnOk result (self.new ≡ record self.old {
           tokens = self.new.tokens;

@@ -39,8 +39,8 @@ use Rattle.gf_tree.proofs.lemmas.due.Nodes.{name_by, stands_in, parts, reads_on}
 use Rattle.gf_tree.proofs.lemmas.due.Rows.{Stands, StandsFor, Answers, Law, stands_by}
 use Rattle.gf_tree.proofs.lemmas.fronts.Codes.{begins_actions, begins_probability, none_or_some}
 use Rattle.gf_tree.proofs.lemmas.fronts.Codes.{one_description}
-use Rattle.gf_tree.proofs.lemmas.fronts.Lists.{to_probability}
 use Rattle.gf_tree.proofs.lemmas.fronts.Codes.{known_left}
+use Rattle.gf_tree.proofs.lemmas.fronts.Lists.{to_probability}
 use Rattle.gf_tree.proofs.lemmas.fronts.Runs.{in_actions}
 use Rattle.gf_tree.proofs.lemmas.stores.ListedSums.{same_sum}
 use Rattle.gf_tree.proofs.lemmas.runs.Shares.{share_again, share_found}
@@ -180,7 +180,7 @@ wrong_sum sum p b (Some total) is low h = by (int_lt (pos total.den) total.num) 
     by : (t : Bool) → int_lt (pos total.den) total.num ≡ t
         → WrongShare sum b (cond t (Err SumAboveOne)
         (Ok (record { probability = p; sum = total })))
-    by true e = inr (p, is, (h.0, (total, h.1, h.2, grind (arith, ints, e))), inr low)
+    by true e = inr (p, is, (total, h, grind (arith, ints, e)), inr low)
     by false e = tt
 
 wrong_share : (sum : Ratio) (b : List ℕ) (o : Result Ratio NumberFault) → IsFraction sum
@@ -289,8 +289,7 @@ pub known_action : (f : FileFront) (key : SetKey) (known seen : InformationSet) 
     → InActions f.front key seen → KnowsSet f.nodes key known → GoesOnWith known seen next
     → Stands f.before (this_label next.label)
 known_action f key known seen next h knows more =
-    let l = known_left f.players f.nodes f.before f.front key known seen f.ends (reads_on f) knows h
-    in
+    let l = known_left f.before f.ends key known seen (reads_on f) knows h in
     let left = others_are seen.actions l.others (next ∷ more.0) (sym l.parts ∙ more.1) in
     stands_by f.before (KnownAction l.b (next ∷ more.0)) l.content (this_label next.label) f.begins
     (λ us. l.answers us
@@ -306,8 +305,7 @@ pub no_action_left : (f : FileFront) (key : SetKey) (known seen : InformationSet
     → InActions f.front key seen → KnowsSet f.nodes key known → known.actions ≡ seen.actions
     → Stands f.before no_label
 no_action_left f key known seen h knows same =
-    let l = known_left f.players f.nodes f.before f.front key known seen f.ends (reads_on f) knows h
-    in
+    let l = known_left f.before f.ends key known seen (reads_on f) knows h in
     let left = others_are seen.actions l.others []
     (sym l.parts ∙ same ∙ sym (append-nil seen.actions)) in
     stands_by f.before (KnownAction l.b []) l.content no_label f.begins

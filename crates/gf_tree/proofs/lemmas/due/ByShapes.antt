@@ -2,9 +2,9 @@
 -- it. Conversely, what a role names is due if exactly those may follow that suit it.
 use Rattle.std.proofs.Common.{◌≡◌, ℕ, ◌<◌, List, [], ◌∷◌, ◌++◌, length, Option, Some, None}
 use Rattle.std.proofs.Common.{refl, sym, ap, subst, ◌∙◌, arith, inl, inr, nat_eq}
-use Rattle.std.specs.Prelude.{codes, ◌⊎◌}
+use Rattle.std.specs.Prelude.{codes, ◌⊎◌, pos}
 use Rattle.std.proofs.lemmas.List.{length-append}
-use Rattle.gf_fraction.specs.Ratio.{Ratio}
+use Rattle.gf_fraction.specs.Ratio.{Ratio, whole}
 use Rattle.gf_fraction.specs.NumberSpelling.{IsNumber}
 use Rattle.gf_token.specs.Token.{Token}
 use Rattle.gf_token.specs.Token.Token.{Text, Bare}
@@ -17,7 +17,7 @@ use Rattle.gf_tree.specs.Description.{InformationSet, Outcome, SetKey, same_set,
 use Rattle.gf_tree.specs.Due.{IsDue, OutcomeIsDue, PayoffIsDue, PlayerIsDue, ProbabilityIsDue}
 use Rattle.gf_tree.specs.Due.{SetIsDue}
 use Rattle.gf_tree.specs.DueRoles.{IsToldByRole, OnlySuitedFollow, Role, Suits, what_of}
-use Rattle.gf_tree.specs.FileTree.{FileNode, Use}
+use Rattle.gf_tree.specs.FileTree.{Use}
 use Rattle.gf_tree.specs.FiniteMap.{description_at}
 use Rattle.gf_tree.specs.Front.{BehindSetNumber, EndsInNode, IsExtensiveFile, IsNewOutcome}
 use Rattle.gf_tree.specs.Front.{IsSetKnown, ToOutcomeNumber}
@@ -38,7 +38,7 @@ use Rattle.gf_tree.proofs.lemmas.fronts.Codes.{begins_payoffs, begins_probabilit
 use Rattle.gf_tree.proofs.lemmas.fronts.Codes.{none_or_some}
 use Rattle.gf_tree.proofs.lemmas.fronts.Lists.{to_probability}
 use Rattle.gf_tree.proofs.lemmas.fronts.Payoffs.{AtKnownPayoff, in_payoffs}
-use Rattle.gf_tree.proofs.lemmas.stores.ListedSums.{has_sum}
+use Rattle.gf_tree.proofs.lemmas.stores.ListedSums.{adds_up}
 use Rattle.gf_tree.proofs.lemmas.reasons.Nodes.{told_somewhere}
 use Rattle.gf_tree.proofs.lemmas.reasons.Rows.{IsOfRole, of_row}
 
@@ -58,26 +58,19 @@ role_of : (before : List Token) (w : What) (Refused : List ℕ → Why → Type 
     → Asks before w Refused → HasRole before w
 role_of before w Refused k = (k.role, k.named, of_row before k.row k.role k.stands k.same)
 
-abbrev pub front_of : (before : List Token) → Begins IsExtensiveFile before
-    → (players : List (List ℕ)) (nodes : List FileNode) (front : List Token)
-    → EndsInNode before players nodes front → FileFront
-front_of before begins players nodes front ends = record {
-  before = before;
-  players = players;
-  nodes = nodes;
-  front = front;
-  begins = begins;
-  ends = ends;
-}
+abbrev pub front_of : (before : List Token) → Begins IsExtensiveFile before → EndsInNode before
+    → FileFront
+front_of before begins ends = record { before = before; begins = begins; ends = ends }
 
 -- ---- an index
 
 pub asks_player : (before : List Token) (count : ℕ) → Begins IsExtensiveFile before
-    → (h : PlayerIsDue before count) → Asks before what.Index (a_player (length h.0)).other_bare
+    → (h : PlayerIsDue before count)
+    → Asks before what.Index (a_player (length h.0.players)).other_bare
 asks_player before count begins h = record {
-  row = a_player (length h.0);
-  stands = player (front_of before begins h.0 h.1 h.2 h.3) h.5;
-  role = Role.PlayerNumber (length h.0);
+  row = a_player (length h.0.players);
+  stands = player (front_of before begins h.0) h.2;
+  role = Role.PlayerNumber (length h.0.players);
   named = refl;
   same = λ x. (λ s. s, λ s. s);
   refused = λ b why e. e;
@@ -90,7 +83,7 @@ pub asks_set : (before : List Token) → Begins IsExtensiveFile before → SetIs
     → AsksIndex before
 asks_set before begins h = record {
   row = a_set;
-  stands = set_number_due (front_of before begins h.0 h.1 h.2 h.4) h.3 h.5;
+  stands = set_number_due (front_of before begins h.0) h.1 h.2;
   role = Role.SetNumber;
   named = refl;
   same = λ x. (λ s. s, λ s. s);
@@ -139,8 +132,7 @@ outcome_by f (Some u) h (inr k) = by u.description refl
 
 pub asks_outcome : (before : List Token) → Begins IsExtensiveFile before → OutcomeIsDue before
     → AsksIndex before
-asks_outcome before begins h =
-    outcome_by (front_of before begins h.0 h.1 h.2 h.4) h.3 h.5 h.6
+asks_outcome before begins h = outcome_by (front_of before begins h.0) h.1 h.2 h.3
 
 index_due : (before : List Token) → Begins IsExtensiveFile before → IsDue before what.Index
     → HasRole before what.Index
@@ -171,22 +163,22 @@ known before row p s same refused = record {
 pub asks_probability : (before : List Token) → Begins IsExtensiveFile before
     → ProbabilityIsDue before → AsksNumber before
 asks_probability before begins h =
-    let f = front_of before begins h.0 h.1 h.2 h.5 in
-    let key = set_of 0 h.3 in
-    let s = parts f (begins_probability h.2 h.3 h.4 h.6) in
-    elim (to_probability h.2 h.3 h.4 s.content h.6 s.goes_on) [
+    let f = front_of before begins h.0 in
+    let key = set_of 0 h.1 in
+    let s = parts f (begins_probability f.front h.1 h.2 h.3) in
+    elim (to_probability f.front h.1 h.2 s.content h.3 s.goes_on) [
       | inl k ↦ record {
         row = a_probability k.sum;
-        stands = new_probability f h.3 h.4 k.sum h.6 (λ d knows. none_or_some
+        stands = new_probability f h.1 h.2 k.sum h.3 (λ d knows. none_or_some
             (description_at same_set s.content.sets key) d k.unknown ((s.sets key d).0 knows))
-            (has_sum h.4 k.sum k.have_sum);
+            (adds_up h.2.actions (whole (pos 0)) k.sum k.have_sum);
         role = Role.Probability k.sum;
         named = refl;
         same = λ x. (λ t. t, λ t. t);
         refused = λ b why e. elim e [ inl n ↦ inl n | inr n ↦ inr (n.0, n.1) ];
       }
-      | inr k ↦ known before (this_number k.p) k.p (known_probability f h.3 k.known h.4 k.next k.p
-          h.6 ((s.sets key k.known).1 k.is_known) (k.others, k.parts) k.is)
+      | inr k ↦ known before (this_number k.p) k.p (known_probability f h.1 k.known h.2 k.next k.p
+          h.3 ((s.sets key k.known).1 k.is_known) (k.others, k.parts) k.is)
           (λ x. (λ t. t, λ t. t)) (λ b why e. e)
     ]
 
@@ -239,13 +231,14 @@ module _ (f : FileFront) (s : Parts f) (n : ℕ) (outcome : Outcome)
 pub asks_payoff : (before : List Token) → Begins IsExtensiveFile before → PayoffIsDue before
     → AsksNumber before
 asks_payoff before begins h =
-    let f = front_of before begins h.0 h.1 h.2 h.5 in
-    let s = parts f (begins_payoffs h.2 h.3 h.4 h.6) in
-    let place = payoff_place h.2 h.6.0 h.6.1 h.3 h.4.name h.4.payoffs h.6.3 h.6.2 h.6.4 in
-    elim (in_payoffs h.2 h.3 h.4 s.content h.6 s.goes_on) [
-      | inl k ↦ new_paid f s h.3 h.4 h.7 place h.6.1 (λ d knows. none_or_some
-          (description_at nat_eq s.content.outcomes h.3) d k.unknown ((s.outcomes h.3 d).0 knows))
-      | inr k ↦ known_paid f s h.3 h.4 h.7 place h.6.1 k k.others refl
+    let f = front_of before begins h.0 in
+    let at = h.3 in
+    let s = parts f (begins_payoffs f.front h.1 h.2 at) in
+    let place = payoff_place f.front at.0 at.1 h.1 h.2.name h.2.payoffs at.3 at.2 at.4 in
+    elim (in_payoffs f.front h.1 h.2 s.content at s.goes_on) [
+      | inl k ↦ new_paid f s h.1 h.2 h.4 place at.1 (λ d knows. none_or_some
+          (description_at nat_eq s.content.outcomes h.1) d k.unknown ((s.outcomes h.1 d).0 knows))
+      | inr k ↦ known_paid f s h.1 h.2 h.4 place at.1 k k.others refl
     ]
 
 pub asks_number : (before : List Token) → Begins IsExtensiveFile before

@@ -47,10 +47,10 @@ reads_on f =
     record { more = f.begins.0; read = r.0; reads = r.1 }
 
 abbrev pub Parts : FileFront → Type 0
-Parts f = Split f.players f.nodes f.before f.front
+Parts f = Split f.before f.ends
 
 pub parts : (f : FileFront) → BeginsBare f.front → Parts f
-parts f bare = split f.players f.nodes f.before f.front f.ends bare (reads_on f)
+parts f bare = split f.before f.ends bare (reads_on f)
 
 -- where the machine comes to after the front
 pub stands_in : (f : FileFront) (s : Parts f) (q : Position) (c : Content) (row : Row)

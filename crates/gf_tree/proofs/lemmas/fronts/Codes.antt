@@ -2,7 +2,7 @@
 -- in them, expects in the braces of a known set what is left of it, and refuses a player if there
 -- are none.
 use Rattle.std.proofs.Common.{◌≡◌, ℕ, ◌≤◌, List, [], ◌∷◌, ◌++◌, length, Option, Some, None, Result}
-use Rattle.std.proofs.Common.{Err, refl, sym, ap, ◌∙◌, nat_eq, inl, inr, append_assoc}
+use Rattle.std.proofs.Common.{Err, refl, sym, ap, ◌∙◌, nat_eq, inl, inr, append_assoc, subst}
 use Rattle.std.specs.List.{filter_map}
 use Rattle.std.proofs.lemmas.Bool.Decides.{Decides-eqb}
 use Rattle.gf_token.specs.Token.{Token}
@@ -13,7 +13,6 @@ use Rattle.gf_token.specs.declared.fault.Why.TheVariants.{Expected, UnknownPlaye
 use Rattle.gf_tree.specs.Description.{InformationSet, IsOutcome, Outcome, SetKey, same_set, set_of}
 use Rattle.gf_tree.specs.Description.{Action}
 use Rattle.gf_tree.specs.FiniteMap.{description_at}
-use Rattle.gf_tree.specs.FileTree.{FileNode}
 use Rattle.gf_tree.specs.Front.{BehindOutcomeNumber, BehindSetNumber, EndsInNode, InActions}
 use Rattle.gf_tree.specs.Front.{InPayoffs, KnowsOutcome, KnowsSet, ToProbability}
 use Rattle.gf_tree.specs.inner.Machine.{Content, nothing, Begun, after_node, begun, personal_node}
@@ -30,6 +29,7 @@ use Rattle.std.specs.Prelude.{codes}
 use Rattle.gf_tree.specs.Due.{NodeIsDue}
 use Rattle.gf_tree.proofs.lemmas.runs.Files.{due_by}
 use Rattle.gf_tree.proofs.lemmas.runs.Places.{is_read}
+use Rattle.gf_tree.specs.Reason.{NobodyMoves}
 
 -- some tokens that begin with these are read
 pub record ReadsOn (before : List Token) : Type 0 where
@@ -83,41 +83,39 @@ plain_front front us h l others e =
     let both = sym (ap (λ (ts : List Token). ts ++ us) h.2) ∙ e in absurd cc
 
 -- the front comes after whole nodes, and is read from what was learned in them
-pub record Split (players : List (List ℕ)) (nodes : List FileNode)
-    (before front : List Token) : Type 0 where
+pub record Split (before : List Token) (e : EndsInNode before) : Type 0 where
   pub content : Content
-  pub same_players : content.players ≡ players
+  pub same_players : content.players ≡ e.players
   pub sets : (key : SetKey) (d : InformationSet)
-      → (KnowsSet nodes key d → description_at same_set content.sets key ≡ Some d)
-      × (description_at same_set content.sets key ≡ Some d → KnowsSet nodes key d)
+      → (KnowsSet e.nodes key d → description_at same_set content.sets key ≡ Some d)
+      × (description_at same_set content.sets key ≡ Some d → KnowsSet e.nodes key d)
   pub outcomes : (n : ℕ) (d : Outcome)
-      → (KnowsOutcome nodes n d → description_at nat_eq content.outcomes n ≡ Some d)
-      × (description_at nat_eq content.outcomes n ≡ Some d → KnowsOutcome nodes n d)
-  pub goes_on : GoesOn content front
+      → (KnowsOutcome e.nodes n d → description_at nat_eq content.outcomes n ≡ Some d)
+      × (description_at nat_eq content.outcomes n ≡ Some d → KnowsOutcome e.nodes n d)
+  pub goes_on : GoesOn content e.front
   pub answers : (us : List Token)
-      → run_tokens Format nothing (before ++ us) ≡ run_tokens NodeDue content (front ++ us)
+      → run_tokens Format nothing (before ++ us) ≡ run_tokens NodeDue content (e.front ++ us)
 
-pub split : (players : List (List ℕ)) (nodes : List FileNode) (before front : List Token)
-    → EndsInNode before players nodes front → BeginsBare front → ReadsOn before
-    → Split players nodes before front
-split players nodes before front ends bare h =
-    let p = parted players nodes before front h.more h.read ends (plain_front front h.more bare)
-    h.reads in
+pub split : (before : List Token) (e : EndsInNode before) → BeginsBare e.front → ReadsOn before
+    → Split before e
+split before e bare h =
+    let plain = λ (us : List Token). plain_front e.front us bare in
+    let p = parted before h.more e h.read (plain h.more) h.reads in
     record {
       content = p.content;
       same_players = p.same_players;
-      sets = learned_at same_set same_set_equality (filter_map (λ n. n.set) nodes) p.content.sets
-          p.learns_sets;
-      outcomes = learned_at nat_eq Decides-eqb (filter_map (λ n. n.outcome) nodes)
+      sets = learned_at same_set same_set_equality (filter_map (λ n. n.set) e.nodes)
+          p.content.sets p.learns_sets;
+      outcomes = learned_at nat_eq Decides-eqb (filter_map (λ n. n.outcome) e.nodes)
           p.content.outcomes p.learns_outcomes;
       goes_on = record {
         more = h.more;
         read = h.read;
         are_sets = p.are_sets;
         are_outcomes = p.are_outcomes;
-        reads = sym (p.answers h.more (plain_front front h.more bare)) ∙ h.reads;
+        reads = sym (p.answers h.more (plain h.more)) ∙ h.reads;
       };
-      answers = λ us. p.answers us (plain_front front us bare);
+      answers = λ us. p.answers us (plain us);
     }
 
 -- ---- new and known
@@ -141,29 +139,33 @@ known_outcome c n outcome are known =
 -- ---- an unknown player
 
 -- if there is none
-pub no_player : (before : List Token) (t : List ℕ) → ReadsOn before
-    → ((nodes : List FileNode) × EndsInNode before [] nodes [] × NodeIsDue before × (t ≡ codes "p"))
-    → run_tokens Format nothing (before ++ Bare t ∷ []) ≡ refused UnknownPlayer
-no_player before t reads h =
-    let file = h.2 in
+pub no_player : (before : List Token) (t : List ℕ) → NobodyMoves before → NodeIsDue before
+    → t ≡ codes "p" → run_tokens Format nothing (before ++ Bare t ∷ []) ≡ refused UnknownPlayer
+no_player before t h file is =
+    let none = λ (us : List Token). ap (λ (ts : List Token). ts ++ us) h.2 in
+    let plain = λ (b : List ℕ) (us : List Token).
+    subst NoText (sym (none (Bare b ∷ us))) (λ l others e. absurd cc) in
     let r = is_read ((before ++ Bare (codes "t") ∷ []) ++ file.0) file.1 in
     let more = Bare (codes "t") ∷ file.0 in
     let text : Reads Format nothing (before ++ more) r.0 =
     ap (run_tokens Format nothing) (sym (append_assoc before (Bare (codes "t") ∷ []) file.0))
     ∙ r.1 in
-    let p = parted [] h.0 before [] more r.0 h.1 (λ l others e. absurd cc) text in
+    let p = parted before more h.0 r.0 (plain (codes "t") file.0) text in
     let c = p.content in
+    let answers = λ (b : List ℕ) (us : List Token). p.answers (Bare b ∷ us) (plain b us)
+    ∙ ap (run_tokens NodeDue c) (none (Bare b ∷ us)) in
     let due = (due_by (codes "t") file.0 c.due c r.0 refl p.are_sets p.are_outcomes
-    (sym (p.answers more (λ l others e. absurd cc)) ∙ text)).1 in
-    ap (λ (x : List ℕ). run_tokens Format nothing (before ++ Bare x ∷ [])) h.3
-    ∙ p.answers (Bare (codes "p") ∷ []) (λ l others e. absurd cc)
+    (sym (answers (codes "t") file.0) ∙ text)).1 in
+    ap (λ (x : List ℕ). run_tokens Format nothing (before ++ Bare x ∷ [])) is
+    ∙ answers (codes "p") []
     ∙ ap (λ (d : ℕ). then_run (after_node c d (codes "p")) (run_on [])) due.1
-    ∙ ap (λ (ps : List (List ℕ)). then_run (personal_node c ps) (run_on [])) p.same_players
+    ∙ ap (λ (ps : List (List ℕ)). then_run (personal_node c ps) (run_on []))
+    (p.same_players ∙ h.1)
 
 -- ---- a known set
 
 -- in the braces of a known set, the machine expects what is left of it
-pub record KnownLeft (before front : List Token) (known seen : InformationSet) : Type 0 where
+pub record KnownLeft (before : List Token) (known seen : InformationSet) : Type 0 where
   pub content : Content
   pub b : Begun
   pub others : List Action
@@ -171,15 +173,14 @@ pub record KnownLeft (before front : List Token) (known seen : InformationSet) :
   pub answers : (us : List Token) → run_tokens Format nothing (before ++ us)
       ≡ run_tokens (KnownAction b others) content us
 
-pub known_left : (players : List (List ℕ)) (nodes : List FileNode) (before front : List Token)
-    (key : SetKey) (known seen : InformationSet) → EndsInNode before players nodes front
-    → ReadsOn before → KnowsSet nodes key known → InActions front key seen
-    → KnownLeft before front known seen
-known_left players nodes before front key known seen ends reads knows h =
-    let s = split players nodes before front ends (begins_actions front key seen h) reads in
+pub known_left : (before : List Token) (e : EndsInNode before) (key : SetKey)
+    (known seen : InformationSet) → ReadsOn before → KnowsSet e.nodes key known
+    → InActions e.front key seen → KnownLeft before known seen
+known_left before e key known seen reads knows h =
+    let s = split before e (begins_actions e.front key seen h) reads in
     let c = s.content in
     let at = (s.sets key known).0 knows in
-    elim (in_actions front key seen c h s.goes_on) [
+    elim (in_actions e.front key seen c h s.goes_on) [
       | inl n ↦
           absurd (none_or_some (description_at same_set c.sets key) known n.unknown at)
       | inr k ↦

@@ -286,14 +286,14 @@ module _ (before more : List Token) (file : IsExtensiveFile (before ++ more)) wh
           → FileFront
       front_of w = record {
         before = before;
-        players = tree.players;
-        nodes = w.earlier;
-        front = w.first ∷ w.front;
         begins = (more, file);
         ends = record {
           title = tree.title;
           note = tree.comment;
+          players = tree.players;
+          nodes = w.earlier;
           whole = headed says.letter tree.title (braced names ++ (comment ++ w.whole));
+          front = w.first ∷ w.front;
           parts = e ∙ (λ i. headed says.letter tree.title (braced names ++ (comment ++ w.parts i)))
               ∙ (λ i. headed says.letter tree.title
               (braced names ++ sym (append_assoc comment w.whole (w.first ∷ w.front)) i))

@@ -11,13 +11,12 @@ use Rattle.gf_token.specs.Token.{Token}
 use Rattle.gf_token.specs.Token.Token.{Opening, Closing, Comma, Text, Bare}
 use Rattle.gf_token.specs.Grammar.{Each, IsPayoffInBraces}
 use Rattle.gf_tree.specs.Description.{Action, AddToOne, AreActions, InformationSet, IsOutcome}
-use Rattle.gf_tree.specs.Description.{IsSet}
-use Rattle.gf_tree.specs.Description.{Outcome, SetKey, same_set, set_of}
+use Rattle.gf_tree.specs.Description.{IsSet, Outcome, SetKey, same_set, set_of, set_with}
 use Rattle.gf_tree.specs.FileTree.{Use}
 use Rattle.gf_tree.specs.FiniteMap.{description_at}
 use Rattle.gf_tree.specs.Front.{BehindOutcomeNumber, BehindSetNumber, InActions}
 use Rattle.gf_tree.specs.Front.{IsNewSet, KnowsOutcome, KnowsSet, ToOutcomeNumber}
-use Rattle.gf_tree.specs.Reason.{AddsUp, HasSum}
+use Rattle.gf_tree.specs.Reason.{HasSum, AddUpTo}
 use Rattle.gf_tree.specs.RowPlaces.{BehindPayoff, FileFront, ToPayoff}
 use Rattle.gf_tree.specs.Sentence.{IsAction, IsDescription}
 use Rattle.gf_tree.specs.Sentence.{IsOutcomeDescription, IsResult}
@@ -271,26 +270,18 @@ module _ (f : FileFront) (bare : BeginsBare f.front) where
 -- the probabilities of the first actions have a sum
 prefix_sum : (seen left : List Action) (ps : List Ratio) (sum : Ratio)
     → map (λ (a : Action). a.probability) (seen ++ left) ≡ map Some ps → AddToOne sum ps
-    → (qs : List Ratio) × (total : Ratio)
-    × (map (λ (a : Action). a.probability) seen ≡ map Some qs) × AddsUp sum qs total
-prefix_sum [] left ps sum e h = ([], sum, refl, refl)
+    → (total : Ratio) × AddUpTo sum seen total
+prefix_sum [] left ps sum e h = (sum, refl)
 prefix_sum (a ∷ seen) left [] sum e h = absurd cc
 prefix_sum (a ∷ seen) left (p ∷ ps) sum e h =
     let k = prefix_sum seen left ps h.1.0 (ap (drop 1) e) h.1.2 in
-    let first : a.probability ≡ Some p = first_is a.probability (Some p) _ _ e in (
-      p ∷ k.0,
-      k.1,
-      (λ i. first i ∷ k.2 i),
-      (h.1.1.0, (h.1.0, h.1.1.1, h.1.1.2, k.3)),
-    )
+    (k.0, (p, h.1.0, first_is a.probability (Some p) _ _ e, h.1.1, k.1))
 
 some_sum : (name : List ℕ) (actions seen left : List Action) → actions ≡ seen ++ left
     → AreActions 0 actions
-    → (sum : Ratio) × HasSum (record { name = name; actions = seen }) sum
-some_sum name actions seen left e h =
-    let k = prefix_sum seen left h.0 (whole (pos 0))
-    (ap (map (λ (a : Action). a.probability)) (sym e) ∙ h.1) h.2 in
-    (k.1, (k.0, k.2, k.3))
+    → (sum : Ratio) × HasSum (set_with name seen) sum
+some_sum name actions seen left e h = prefix_sum seen left h.0 (whole (pos 0))
+    (ap (map (λ (a : Action). a.probability)) (sym e) ∙ h.1) h.2
 
 -- a whole action, or the label of one of chance
 action_front : (player : ℕ) (t : Token) (front rest : List Token) (a : Action)

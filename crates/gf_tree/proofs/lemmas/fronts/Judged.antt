@@ -16,22 +16,21 @@ use Rattle.gf_token.specs.declared.fault.Why.TheVariants.{UnknownPlayer, NotDesc
 use Rattle.gf_token.specs.declared.fault.Why.TheVariants.{NegativeProbability, SumAboveOne}
 use Rattle.gf_token.specs.declared.fault.Why.TheVariants.{SumBelowOne, SumOverflow, NoEntry}
 use Rattle.gf_tree.specs.Judgement.{IsRefusal}
-use Rattle.gf_tree.specs.Reason.{StaysBelowOne}
+use Rattle.gf_tree.specs.Reason.{StaysBelowOne, Holds, IsReason, DiffersFromOutcome, DiffersFromSet}
+use Rattle.gf_tree.specs.Reason.{IsBadIndex, EndsInFirstUse, IsMismatch, IsNoText, IsWrongBehind}
+use Rattle.gf_tree.specs.Reason.{IsWrongProbability, ListsActions, NobodyMoves}
 use Rattle.gf_tree.specs.Rows.{a_new_action, a_new_branch}
+use Rattle.gf_tree.specs.Rows.{Obeys, Row, IsNoNumber, Refuses, a_first_name, a_node, an_end}
+use Rattle.gf_tree.specs.Rows.{an_outcome, no_label, or_comma, or_name, this_label, this_number}
 use Rattle.gf_tree.specs.inner.Machine.{Content, State, nothing, run, step}
 use Rattle.gf_tree.specs.inner.Machine.Position.{Format}
 use Rattle.gf_tree.specs.inner.ReadGame.{run_tokens, then_run}
-use Rattle.gf_tree.specs.Reason.{Holds, IsReason, DiffersFromOutcome, DiffersFromSet, IsBadIndex}
-use Rattle.gf_tree.specs.Reason.{EndsInFirstUse, IsMismatch, IsNoText, IsWrongBehind}
-use Rattle.gf_tree.specs.Reason.{IsWrongProbability, ListsActions}
-use Rattle.gf_tree.specs.Rows.{Obeys, Row, IsNoNumber, Refuses, a_first_name, a_node, an_end}
-use Rattle.gf_tree.specs.Rows.{an_outcome, no_label, or_comma, or_name, this_label, this_number}
 use Rattle.gf_tree.proofs.lemmas.due.Rows.{Stands, accepted, answers_at, leads, refused_by}
-use Rattle.gf_tree.proofs.lemmas.fronts.Codes.{IsUpTo, ReadsOn, refused, no_player, known_left}
+use Rattle.gf_tree.proofs.lemmas.fronts.Codes.{IsUpTo, refused, no_player, known_left}
 use Rattle.gf_tree.proofs.lemmas.reasons.Nodes.{reasoned}
 use Rattle.gf_tree.proofs.lemmas.reasons.Rows.{Own}
 use Rattle.gf_tree.proofs.lemmas.runs.Ends.{ends}
-use Rattle.gf_tree.proofs.lemmas.runs.Places.{Leads, begins, leads_fine, walk_run}
+use Rattle.gf_tree.proofs.lemmas.runs.Places.{Leads, begins, walk_run}
 use Rattle.gf_tree.proofs.lemmas.runs.Stops.{StopsAt, not_accepted, stopped}
 use Rattle.gf_tree.proofs.lemmas.runs.Tokens.{run_on}
 use Rattle.gf_fraction.specs.Ratio.{Ratio, whole}
@@ -41,10 +40,9 @@ use Rattle.gf_fraction.specs.NumberSpelling.{HasNumberFault, IsNumber}
 use Rattle.gf_fraction.specs.declared.fraction.NumberFault.{NumberFault}
 use Rattle.gf_fraction.proofs.ComputedAnswers.{answer_is, number_again}
 use Rattle.gf_token.specs.NumberWhy.{why_of}
-use Rattle.gf_tree.specs.Description.{Action, InformationSet, SetKey, set_of}
+use Rattle.gf_tree.specs.Description.{Action, InformationSet, SetKey, set_of, set_with}
 use Rattle.gf_tree.specs.Due.{NodeIsDue, PayoffIsDue, PlayerIsDue, ProbabilityIsDue}
-use Rattle.gf_tree.specs.FileTree.{FileNode}
-use Rattle.gf_tree.specs.Front.{EndsInNode, InActions, IsExtensiveFile, KnowsSet}
+use Rattle.gf_tree.specs.Front.{InActions, IsExtensiveFile, KnowsSet}
 use Rattle.gf_tree.specs.RowPlaces.{FileFront}
 use Rattle.gf_tree.proofs.lemmas.fronts.CutPlaces.{payoff_place}
 use Rattle.gf_tree.proofs.lemmas.due.Actions.{a_share, known_action, known_share, new_action}
@@ -104,8 +102,8 @@ module _ (before after : List Token) (s : State) (why : Why) (l : Leads before s
 
   pub undescribed : EndsInFirstUse before → IsNoText after → IsUpTo why 9
   undescribed k plain =
-      let f = front_of before file k.0 k.1 k.2 k.3 in
-      elim k.4 [
+      let f = front_of before file k.0 in
+      elim k.1 [
         | inl u ↦ first_use (new_set f u.0 u.1 u.2) plain
         | inr u ↦ first_use (new_outcome f u.0 u.1 u.2) plain
       ]
@@ -170,14 +168,13 @@ module _ (f : FileFront) (after : List Token) (t : Token) (s : State) (why : Why
       (known_action f key known seen next at knows (others, parts)))
 
 mismatch_of_set : (f : FileFront) (after : List Token) (t : Token) (s : State) (why : Why)
-    → Leads f.before s → StopsAt s (t ∷ after) why → DiffersFromSet f.nodes f.front t
+    → Leads f.before s → StopsAt s (t ∷ after) why → DiffersFromSet f.ends t
     → why ≡ Mismatch
 mismatch_of_set f after (Text label) s why l h k = elim k.3 [
   | inl d ↦ told f after (Text label) s why l h (or_name k.1.name an_outcome)
       (known_set f k.0 k.1 d.0 k.2)
   | inr d ↦
-      let left = known_left f.players f.nodes f.before f.front k.0 k.1 d.0 f.ends (reads_on f) k.2 d.1
-      in
+      let left = known_left f.before f.ends k.0 k.1 d.0 (reads_on f) k.2 d.1 in
       other_label f after (Text label) s why l h label k.0 k.1 d.0 left.others refl d.1 k.2 left.parts
 ]
 mismatch_of_set f after Closing s why l h k =
@@ -192,7 +189,7 @@ mismatch_of_set f after Comma s why l h k = absurd k
 mismatch_of_set f after Broken s why l h k = absurd k
 
 mismatch_of_outcome : (f : FileFront) (after : List Token) (t : Token) (s : State) (why : Why)
-    → Leads f.before s → StopsAt s (t ∷ after) why → DiffersFromOutcome f.nodes f.front t
+    → Leads f.before s → StopsAt s (t ∷ after) why → DiffersFromOutcome f.ends t
     → why ≡ Mismatch
 mismatch_of_outcome f after (Text label) s why l h k = elim (known_outcome f k.0 k.1 k.3 k.2) [
   | inl row ↦ told f after (Text label) s why l h (or_name k.1.name an_end) row
@@ -214,8 +211,8 @@ mismatch_of_outcome f after Broken s why l h k = absurd k
 pub mismatch : (before after : List Token) (t : Token) (s : State) (why : Why) → Leads before s
     → StopsAt s (t ∷ after) why → IsMismatch before t → why ≡ Mismatch
 mismatch before after t s why l h k =
-    let f = front_of before (begins before s l) k.0 k.1 k.2 k.3 in
-    elim k.4 [
+    let f = front_of before (begins before s l) k.0 in
+    elim k.1 [
       | inl d ↦ mismatch_of_set f after t s why l h d
       | inr d ↦ mismatch_of_outcome f after t s why l h d
     ]
@@ -225,9 +222,9 @@ mismatch before after t s why l h k =
 below_one : (before after : List Token) (s : State) (why : Why) → Leads before s
     → StopsAt s (Closing ∷ after) why → StaysBelowOne before → why ≡ SumBelowOne
 below_one before after s why l h k =
-    let f = front_of before (begins before s l) k.3.0 k.3.1 k.3.2 k.3.3 in
+    let f = front_of before (begins before s l) k.3.0 in
     elim (row_refuses before (Closing ∷ after) s why l h (a_new_branch k.1.actions k.2)
-    (new_branch f k.0 k.1 k.2 k.3.4 k.3.5 k.5)) [
+    (new_branch f k.0 k.1 k.2 k.3.1 k.3.2 k.5)) [
       | inl e ↦ let some = k.4 in let size = ap length e.1 in absurd (omega (arith, some, size))
       | inr e ↦ e.0
     ]
@@ -235,20 +232,18 @@ below_one before after s why l h k =
 -- the list has no action
 no_entry : (before after : List Token) (s : State) (why : Why) → Leads before s
     → StopsAt s (Closing ∷ after) why → (player n : ℕ) (name : List ℕ)
-    → ListsActions before (set_of player n) (record { name = name; actions = [] }) → why ≡ NoEntry
+    → ListsActions before (set_of player n) (set_with name []) → why ≡ NoEntry
 no_entry before after s why l h zero n name k =
-    let f = front_of before (begins before s l) k.0 k.1 k.2 k.3 in
+    let f = front_of before (begins before s l) k.0 in
     elim (row_refuses before (Closing ∷ after) s why l h (a_new_branch [] (whole (pos 0)))
-    (new_branch f n (record { name = name; actions = [] }) (whole (pos 0)) k.4 k.5
-    ([], refl, refl))) [
+    (new_branch f n (set_with name []) (whole (pos 0)) k.1 k.2 refl)) [
       | inl e ↦ e.0
       | inr e ↦ let some = e.1 in absurd (omega (arith, some))
     ]
 no_entry before after s why l h (suc player) n name k =
-    let f = front_of before (begins before s l) k.0 k.1 k.2 k.3 in
     row_refuses before (Closing ∷ after) s why l h (a_new_action [])
-    (new_action f (set_of (suc player) n) (record { name = name; actions = [] }) k.4 k.5
-    (omega arith))
+    (new_action (front_of before (begins before s l) k.0) (set_of (suc player) n)
+    (set_with name []) k.1 k.2 (omega arith))
 
 -- ---- a wrong probability
 
@@ -265,8 +260,8 @@ wrong_share : (before after : List Token) (b : List ℕ) (s : State) (why other 
     → IsOrdered k.0 k.1 why
 wrong_share before after b s why other l h k =
     let d = k.2 in
-    let f = front_of before (begins before s l) d.0 d.1 d.2 d.5 in
-    elim (says before b after s why l h (a_share k.0) (new_share f d.3 d.4 k.0 d.6 d.7 d.8)) [
+    let f = front_of before (begins before s l) d.0 in
+    elim (says before b after s why l h (a_share k.0) (new_share f d.1 d.2 k.0 d.3 d.4 d.5)) [
       | inl n ↦ absurd (no_fault b k.1 n.0 k.3 n.2)
       | inr w ↦ subst (λ (p : Ratio). IsOrdered k.0 p why)
           (one_number (number_of b) w.0 k.1 (number_again b w.0 w.1) (number_again b k.1 k.3))
@@ -301,20 +296,13 @@ one_refusal : (o : Result Content Why) (why other : Why) → o ≡ refused why �
     → why ≡ other
 one_refusal o why other h k = cc
 
--- some tokens follow those that lead to a state
-reads_there : (before : List Token) (s : State) → Leads before s → ReadsOn before
-reads_there before s h =
-    let e = ends s.position s.content (leads_fine before s h) in
-    record { more = e.0; read = e.1; reads = walk_run before e.0 Format nothing s h ∙ e.2 }
-
 no_players : (before after : List Token) (b : List ℕ) (s : State) (why : Why) → Leads before s
-    → StopsAt s (Bare b ∷ after) why
-    → ((nodes : List FileNode) × EndsInNode before [] nodes [] × NodeIsDue before
-    × (b ≡ codes "p")) → why ≡ UnknownPlayer
+    → StopsAt s (Bare b ∷ after) why → NobodyMoves before × NodeIsDue before × (b ≡ codes "p")
+    → why ≡ UnknownPlayer
 no_players before after b s why l h k =
     one_refusal (run_tokens Format nothing (before ++ Bare b ∷ [])) why UnknownPlayer
     (walk_run before (Bare b ∷ []) Format nothing s l ∙ ap (λ o. then_run o (run_on [])) h)
-    (no_player before b (reads_there before s l) k)
+    (no_player before b k.0 k.1 k.2)
 
 -- ---- no lower code applies
 
@@ -340,7 +328,7 @@ module _ (before after : List Token) (s : State) (why : Why) (l : Leads before s
   lower_bare b h NegativeProbability k = up_to_negative k.0 k.1 why k.4
       (wrong_share before after b s why NegativeProbability l h k)
   lower_bare b h SumAboveOne k = let wrong = k.4 in
-      up_to_above k.0 k.1 why wrong.0 (wrong_share before after b s why SumAboveOne l h k).0
+      up_to_above k.0 k.1 why wrong.1.0 (wrong_share before after b s why SumAboveOne l h k).0
   lower_bare b h SumOverflow k =
       up_to_overflow k.0 k.1 why (wrong_share before after b s why SumOverflow l h k).0
   lower_bare b h _ k = absurd k

@@ -15,7 +15,7 @@ use Rattle.gf_tree.specs.Learned.{Learns}
 use Rattle.gf_tree.specs.inner.Machine.{Content, nothing}
 use Rattle.gf_tree.specs.inner.Machine.Position.{Format, AfterPlayers, NodeDue}
 use Rattle.gf_tree.specs.inner.ReadGame.{run_tokens}
-use Rattle.gf_tree.specs.Sentence.{IsNode, Says}
+use Rattle.gf_tree.specs.Sentence.{IsNode}
 use Rattle.gf_tree.proofs.lemmas.fronts.Groups.{NoText}
 use Rattle.gf_tree.proofs.lemmas.games.Learned.{told_found}
 use Rattle.gf_tree.proofs.lemmas.games.Learning.{learned_once}
@@ -171,44 +171,40 @@ walked_nodes (n ∷ nodes) tokens rest c r each plain sets outcomes reads =
 
 -- after these tokens the machine answers as after only the front, from a content in which the nodes
 -- were learned
-pub record Parted (players : List (List ℕ)) (nodes : List FileNode)
-    (before front : List Token) : Type 0 where
+pub record Parted (before : List Token) (e : EndsInNode before) : Type 0 where
   pub content : Content
-  pub same_players : content.players ≡ players
-  pub learns_sets : Learns same_set [] (filter_map (λ n. n.set) nodes) content.sets
-  pub learns_outcomes : Learns nat_eq [] (filter_map (λ n. n.outcome) nodes) content.outcomes
+  pub same_players : content.players ≡ e.players
+  pub learns_sets : Learns same_set [] (filter_map (λ n. n.set) e.nodes) content.sets
+  pub learns_outcomes : Learns nat_eq [] (filter_map (λ n. n.outcome) e.nodes) content.outcomes
   pub are_sets : AreSets (length content.players) content.sets
   pub are_outcomes : AreOutcomes (length content.players) content.outcomes
-  pub answers : (us : List Token) → NoText (front ++ us)
-      → run_tokens Format nothing (before ++ us) ≡ run_tokens NodeDue content (front ++ us)
+  pub answers : (us : List Token) → NoText (e.front ++ us)
+      → run_tokens Format nothing (before ++ us) ≡ run_tokens NodeDue content (e.front ++ us)
 
-heading_answers : (title note : List ℕ) (players : List (List ℕ)) (nodes : List FileNode)
-    (whole us : List Token) (h : Says title note players nodes whole) → NoText us
-    → run_tokens Format nothing (whole ++ us)
-    ≡ run_tokens NodeDue (headed title note players) (h.nodes ++ us)
-heading_answers title note players nodes whole us h plain =
+heading_answers : (before us : List Token) (e : EndsInNode before) → NoText us
+    → run_tokens Format nothing (e.whole ++ us)
+    ≡ run_tokens NodeDue (headed e.title e.note e.players) (e.says.nodes ++ us)
+heading_answers before us e plain =
+    let h = e.says in
     ap (λ (ts : List Token). run_tokens Format nothing (ts ++ us)) h.parts
     ∙ ap (λ (ts : List Token). run_tokens Format nothing
-    (Bare (codes "EFG") ∷ Bare (codes "2") ∷ Bare h.letter ∷ Text title ∷ ts))
-    (append_assoc (braced (map Text players)) (h.comment ++ h.nodes) us)
-    ∙ heading_again h.letter title players ((h.comment ++ h.nodes) ++ us) h.is_letter
-    ∙ ap (run_tokens AfterPlayers (heading title players)) (append_assoc h.comment h.nodes us)
-    ∙ comment_again h.comment (h.nodes ++ us) note title players h.is_comment
-    (nodes_plain (length players) nodes h.nodes us h.are_nodes plain)
+    (Bare (codes "EFG") ∷ Bare (codes "2") ∷ Bare h.letter ∷ Text e.title ∷ ts))
+    (append_assoc (braced (map Text e.players)) (h.comment ++ h.nodes) us)
+    ∙ heading_again h.letter e.title e.players ((h.comment ++ h.nodes) ++ us) h.is_letter
+    ∙ ap (run_tokens AfterPlayers (heading e.title e.players)) (append_assoc h.comment h.nodes us)
+    ∙ comment_again h.comment (h.nodes ++ us) e.note e.title e.players h.is_comment
+    (nodes_plain (length e.players) e.nodes h.nodes us h.are_nodes plain)
 
-pub parted : (players : List (List ℕ)) (nodes : List FileNode) (before front more : List Token)
-    (r : Content) → EndsInNode before players nodes front → NoText (front ++ more)
-    → Reads Format nothing (before ++ more) r → Parted players nodes before front
-parted players nodes before front more r h plain reads =
-    let says = h.says in
-    let c = headed h.title h.note players in
-    let whole = λ (us : List Token). ap (λ (ts : List Token). ts ++ us) h.parts
-    ∙ append_assoc h.whole front us in
-    let answers = λ (us : List Token) (free : NoText (front ++ us)).
-    ap (run_tokens Format nothing) (whole us)
-    ∙ heading_answers h.title h.note players nodes h.whole (front ++ us) says free in
-    let w = walked_nodes nodes says.nodes (front ++ more) c r says.are_nodes plain tt tt
-    (sym (answers more plain) ∙ reads) in
+pub parted : (before more : List Token) (e : EndsInNode before) (r : Content)
+    → NoText (e.front ++ more) → Reads Format nothing (before ++ more) r → Parted before e
+parted before more e r plain reads =
+    let says = e.says in
+    let answers = λ (us : List Token) (free : NoText (e.front ++ us)).
+    ap (λ (ts : List Token). run_tokens Format nothing (ts ++ us)) e.parts
+    ∙ ap (run_tokens Format nothing) (append_assoc e.whole e.front us)
+    ∙ heading_answers before (e.front ++ us) e free in
+    let w = walked_nodes e.nodes says.nodes (e.front ++ more) (headed e.title e.note e.players) r
+    says.are_nodes plain tt tt (sym (answers more plain) ∙ reads) in
     record {
       content = w.content;
       same_players = w.players;
@@ -216,5 +212,5 @@ parted players nodes before front more r h plain reads =
       learns_outcomes = w.learns_outcomes;
       are_sets = w.are_sets;
       are_outcomes = w.are_outcomes;
-      answers = λ us free. answers us free ∙ w.answers (front ++ us) free;
+      answers = λ us free. answers us free ∙ w.answers (e.front ++ us) free;
     }

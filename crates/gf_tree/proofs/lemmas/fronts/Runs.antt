@@ -1,7 +1,7 @@
 -- What the machine of the reader answers after the front of a node: the shape of the front
 -- determines this.
-use Rattle.std.proofs.Common.{◌≡◌, ℕ, zero, suc, ◌<◌, ◌≤◌, List, [], ◌∷◌, ◌++◌, length, map}
-use Rattle.std.proofs.Common.{Option, Some, None, Ok, refl, sym, ap, subst, ◌∙◌, arith, inl, inr}
+use Rattle.std.proofs.Common.{◌≡◌, ℕ, zero, suc, ◌<◌, ◌≤◌, List, [], ◌∷◌, ◌++◌, length, Option}
+use Rattle.std.proofs.Common.{Some, None, Ok, refl, sym, ap, subst, ◌∙◌, arith, inl, inr}
 use Rattle.std.specs.Prelude.{codes, pos, ◌⊎◌, ◌≤ℤ◌}
 use Rattle.std.proofs.lemmas.Int.{ints}
 use Rattle.std.specs.List.{AllByRecursion}
@@ -156,16 +156,15 @@ behind_number front key c h g =
 
 -- ---- the actions of a new set
 
--- added to this sum, probabilities have sums that fit, and none is negative; this is the last one
-abbrev pub AddsShares : Ratio → List Ratio → Ratio → Type 0
-AddsShares sum [] total = sum ≡ total
-AddsShares sum (p ∷ ps) total = IsFraction p × (pos 0 ≤ℤ p.num)
-    × ((next : Ratio) × AddsTo sum p next × AddsShares next ps total)
+-- as AddUpTo, and each probability is a fraction
+abbrev pub AddShares : Ratio → List Action → Ratio → Type 0
+AddShares sum [] total = sum ≡ total
+AddShares sum (a ∷ actions) total = (p next : Ratio) × (a.probability ≡ Some p)
+    × AddsTo sum p next × IsFraction p × AddShares next actions total
 
 -- after this sum
 abbrev pub HaveSumFrom : ℕ → Ratio → List Action → Ratio → Type 0
-HaveSumFrom zero sum actions total =
-    (ps : List Ratio) × (map (λ a. a.probability) actions ≡ map Some ps) × AddsShares sum ps total
+HaveSumFrom zero sum actions total = AddShares sum actions total
 HaveSumFrom (suc player) sum actions total = Unit {0}
 
 record NewFront (name : List ℕ) (player n : ℕ) (set : InformationSet) (sum : Ratio)
@@ -179,7 +178,7 @@ record NewFront (name : List ℕ) (player n : ℕ) (set : InformationSet) (sum :
       ≡ run_tokens (NewAction name (set_of player n) (with_actions set actions) total) c us
 
 none_listed : (player : ℕ) (sum : Ratio) → HaveSumFrom player sum [] sum
-none_listed zero sum = ([], refl, refl)
+none_listed zero sum = refl
 none_listed (suc player) sum = tt
 
 new_front : (actions : List Action) (player : ℕ) (inner more : List Token) (name : List ℕ) (n : ℕ)
@@ -221,15 +220,13 @@ new_front (a ∷ actions) zero inner more name n set sum c r fraction high each 
     ∙ ap (λ (x : Ratio).
     with_actions set (record { label = a.label; probability = Some x } ∷ actions)) same
     ∙ ap (λ (x : Action). with_actions set (x ∷ actions)) (sym is) in
+    let given : a.probability ≡ Some s.probability =
+    each.3.4 ∙ ap (λ (x : Ratio). Some x) (sym same) in
     record {
       total = f.total;
       fraction = f.fraction;
       high = f.high;
-      have_sum = (
-        s.probability ∷ f.have_sum.0,
-        (λ i. (each.3.4 ∙ ap (λ (x : Ratio). Some x) (sym same)) i ∷ f.have_sum.1 i),
-        (found.number.fraction, found.not_below, (s.sum, found.adds, f.have_sum.2)),
-      );
+      have_sum = (s.probability, s.sum, given, found.adds, found.number.fraction, f.have_sum);
       answers = λ us. ap (run_tokens (NewAction name key set sum) c) (first us)
           ∙ ap (λ o. then_run (shared c name key set a.label o) (run_on (each.1 ++ us))) k.1
           ∙ f.answers us

@@ -8,7 +8,7 @@ use Rattle.gf_token.specs.Token.Token.{Opening, Closing, Text, Bare}
 use Rattle.gf_token.specs.Grammar.{braced, IsComment}
 use Rattle.gf_tree.specs.Description.{Outcome}
 use Rattle.gf_tree.specs.FileTree.{FileNode}
-use Rattle.gf_tree.specs.Front.{BehindOutcomeNumber, EndsInNode, InPayoffs}
+use Rattle.gf_tree.specs.Front.{BehindOutcomeNumber, InPayoffs}
 use Rattle.gf_tree.specs.RowPlaces.{BehindComment, BehindNode, BehindPlayers, FileFront}
 use Rattle.gf_tree.specs.Sentence.{IsNode}
 use Rattle.gf_tree.proofs.lemmas.fronts.CutFiles.{headed}
@@ -17,28 +17,41 @@ use Rattle.gf_tree.proofs.lemmas.due.Nodes.{parts}
 use Rattle.gf_tree.proofs.lemmas.fronts.Codes.{begins_on, begins_payoffs, known_outcome}
 use Rattle.gf_tree.proofs.lemmas.fronts.Payoffs.{in_payoffs}
 use Rattle.gf_tree.proofs.lemmas.fronts.Runs.{goes_before}
+use Rattle.gf_tree.specs.Reason.{NobodyMoves}
 
 -- ---- the heading
 
+no_one : (players : List (List ℕ)) → length players ≡ 0 → players ≡ []
+no_one [] e = refl
+no_one (player ∷ players) e = absurd (omega (arith, e))
+
 heading_ends : (letter title note : List ℕ) (players : List (List ℕ)) (comment before : List Token)
     → ((letter ≡ codes "R") ⊎ (letter ≡ codes "D")) → IsComment comment note
-    → before ≡ headed letter title (braced (map Text players) ++ comment)
-    → EndsInNode before players [] []
-heading_ends letter title note players comment before is is_comment e = record {
-  title = title;
-  note = note;
-  whole = before;
-  parts = sym (append-nil before);
-  says = record {
-    letter = letter;
-    comment = comment;
+    → before ≡ headed letter title (braced (map Text players) ++ comment) → length players ≡ 0
+    → NobodyMoves before
+heading_ends letter title note players comment before is is_comment e none = (
+  record {
+    title = title;
+    note = note;
+    players = players;
     nodes = [];
-    parts = e ∙ (λ i. headed letter title (braced (map Text players) ++ sym (append-nil comment) i));
-    is_letter = is;
-    is_comment = is_comment;
-    are_nodes = refl;
-  };
-}
+    whole = before;
+    front = [];
+    parts = sym (append-nil before);
+    says = record {
+      letter = letter;
+      comment = comment;
+      nodes = [];
+      parts = e
+          ∙ (λ i. headed letter title (braced (map Text players) ++ sym (append-nil comment) i));
+      is_letter = is;
+      is_comment = is_comment;
+      are_nodes = refl;
+    };
+  },
+  no_one players none,
+  refl,
+)
 
 heading_is : (before : List Token) (players : List (List ℕ)) (h : BehindPlayers before players)
     → before ≡ headed h.1.1.2.0 h.1.1.1 (braced (map Text players))
@@ -47,14 +60,14 @@ heading_is before players h = h.2 ∙ (λ i. h.1.2 i ++ Closing ∷ [])
     ∙ (λ i. ((h.1.1.2.2 i ++ Text h.1.1.1 ∷ []) ++ Opening ∷ map Text players) ++ Closing ∷ [])
 
 pub behind_players : (before : List Token) (players : List (List ℕ)) → BehindPlayers before players
-    → EndsInNode before players [] []
+    → length players ≡ 0 → NobodyMoves before
 behind_players before players h =
     heading_ends h.1.1.2.0 h.1.1.1 [] players [] before h.1.1.2.1 (inl (refl, refl))
     (heading_is before players h
     ∙ (λ i. headed h.1.1.2.0 h.1.1.1 (sym (append-nil (braced (map Text players))) i)))
 
 pub behind_comment : (before : List Token) (players : List (List ℕ)) → BehindComment before players
-    → EndsInNode before players [] []
+    → length players ≡ 0 → NobodyMoves before
 behind_comment before players h =
     let k = h.2 in
     heading_ends k.1.1.2.0 k.1.1.1 h.1 players (Text h.1 ∷ []) before k.1.1.2.1 (inr refl)
@@ -63,51 +76,55 @@ behind_comment before players h =
 -- ---- a node more
 
 node_ends : (f : FileFront) (n : FileNode) → IsNode (length f.players) f.front n
-    → EndsInNode f.before f.players (f.nodes ++ n ∷ []) []
-node_ends f n is =
+    → length f.players ≡ 0 → NobodyMoves f.before
+node_ends f n is none =
     let e = f.ends in
     let names = braced (map Text f.players) in
-    let says = e.says in
-    record {
-      title = e.title;
-      note = e.note;
-      whole = e.whole ++ f.front;
-      parts = e.parts ∙ sym (append-nil (e.whole ++ f.front));
-      says = record {
-        letter = says.letter;
-        comment = says.comment;
-        nodes = says.nodes ++ f.front;
-        parts = ap (λ (ts : List Token). ts ++ f.front) says.parts
-            ∙ (λ i. headed says.letter e.title
-            (append_assoc names (says.comment ++ says.nodes) f.front i))
-            ∙ (λ i. headed says.letter e.title
-            (names ++ append_assoc says.comment says.nodes f.front i));
-        is_letter = says.is_letter;
-        is_comment = says.is_comment;
-        are_nodes = each_more (IsNode (length f.players)) says.nodes f.front f.nodes n says.are_nodes
-            is;
-      };
-    }
+    let says = e.says in (
+      record {
+        title = e.title;
+        note = e.note;
+        players = f.players;
+        nodes = f.nodes ++ n ∷ [];
+        whole = e.whole ++ f.front;
+        front = [];
+        parts = e.parts ∙ sym (append-nil (e.whole ++ f.front));
+        says = record {
+          letter = says.letter;
+          comment = says.comment;
+          nodes = says.nodes ++ f.front;
+          parts = ap (λ (ts : List Token). ts ++ f.front) says.parts
+              ∙ (λ i. headed says.letter e.title
+              (append_assoc names (says.comment ++ says.nodes) f.front i))
+              ∙ (λ i. headed says.letter e.title
+              (names ++ append_assoc says.comment says.nodes f.front i));
+          is_letter = says.is_letter;
+          is_comment = says.is_comment;
+          are_nodes = each_more (IsNode (length f.players)) says.nodes f.front f.nodes n says.are_nodes
+              is;
+        };
+      },
+      no_one f.players none,
+      refl,
+    )
 
 -- after the number of an outcome, without a description
-pub number_node : (f : FileFront) (n : ℕ) → BehindOutcomeNumber f.front n
-    → (nodes : List FileNode) × EndsInNode f.before f.players nodes []
-number_node f n h =
+pub number_node : (f : FileFront) (n : ℕ) → BehindOutcomeNumber f.front n → length f.players ≡ 0
+    → NobodyMoves f.before
+number_node f n h none =
     let node : FileNode = record {
       name = h.4.1;
       set = h.1;
       outcome = Some (record { key = n; description = None });
-    } in (
-      f.nodes ++ node ∷ [],
-      node_ends f node (record {
-        letter = h.4.0;
-        step = h.4.2;
-        result = Bare h.2 ∷ [];
-        parts = h.3 ∙ (λ i. h.4.3 i ++ Bare h.2 ∷ []);
-        is_step = h.4.4;
-        is_result = (h.2, [], refl, h.5, refl);
-      }),
-    )
+    } in
+    node_ends f node (record {
+      letter = h.4.0;
+      step = h.4.2;
+      result = Bare h.2 ∷ [];
+      parts = h.3 ∙ (λ i. h.4.3 i ++ Bare h.2 ∷ []);
+      is_step = h.4.4;
+      is_result = (h.2, [], refl, h.5, refl);
+    }) none
 
 -- no more payoffs than players
 few_payoffs : (f : FileFront) (first rest : List Token) (n : ℕ) (outcome : Outcome)
@@ -128,19 +145,17 @@ few_payoffs f first rest n outcome h e =
 
 -- if there are no players
 pub whole_node : (f : FileFront) → BehindNode f.front → length f.players ≡ 0
-    → (nodes : List FileNode) × EndsInNode f.before f.players nodes []
+    → NobodyMoves f.before
 whole_node f (inl h) none =
-    let node : FileNode = record { name = h.3.1; set = h.1; outcome = None } in (
-      f.nodes ++ node ∷ [],
-      node_ends f node (record {
-        letter = h.3.0;
-        step = h.3.2;
-        result = Bare h.2 ∷ [];
-        parts = h.5 ∙ (λ i. h.3.3 i ++ Bare h.2 ∷ []);
-        is_step = h.3.4;
-        is_result = (h.2, refl, h.4);
-      }),
-    )
+    let node : FileNode = record { name = h.3.1; set = h.1; outcome = None } in
+    node_ends f node (record {
+      letter = h.3.0;
+      step = h.3.2;
+      result = Bare h.2 ∷ [];
+      parts = h.5 ∙ (λ i. h.3.3 i ++ Bare h.2 ∷ []);
+      is_step = h.3.4;
+      is_result = (h.2, refl, h.4);
+    }) none
 whole_node f (inr h) none =
     let outcome = h.2 in
     let k = h.3 in
@@ -151,20 +166,18 @@ whole_node f (inr h) none =
       name = b.4.1;
       set = b.1;
       outcome = Some (record { key = h.1; description = Some outcome });
-    } in (
-      f.nodes ++ node ∷ [],
-      node_ends f node (record {
-        letter = b.4.0;
-        step = b.4.2;
-        result = Bare b.2 ∷ Text outcome.name ∷ braced k.1;
-        parts = h.4 ∙ (λ i. k.2 i ++ Closing ∷ [])
-            ∙ (λ i. (b.3 i ++ Text outcome.name ∷ Opening ∷ k.1) ++ Closing ∷ [])
-            ∙ (λ i. ((b.4.3 i ++ Bare b.2 ∷ []) ++ Text outcome.name ∷ Opening ∷ k.1) ++ Closing ∷ [])
-            ∙ (λ i. Bare b.4.0 ∷ Text b.4.1 ∷ (append_assoc b.4.2 (Bare b.2 ∷ [])
-            (Text outcome.name ∷ Opening ∷ k.1) i ++ Closing ∷ []))
-            ∙ (λ i. Bare b.4.0 ∷ Text b.4.1 ∷ append_assoc b.4.2
-            (Bare b.2 ∷ Text outcome.name ∷ Opening ∷ k.1) (Closing ∷ []) i);
-        is_step = b.4.4;
-        is_result = (b.2, Text outcome.name ∷ braced k.1, refl, b.5, (k.1, refl, k.4, size));
-      }),
-    )
+    } in
+    node_ends f node (record {
+      letter = b.4.0;
+      step = b.4.2;
+      result = Bare b.2 ∷ Text outcome.name ∷ braced k.1;
+      parts = h.4 ∙ (λ i. k.2 i ++ Closing ∷ [])
+          ∙ (λ i. (b.3 i ++ Text outcome.name ∷ Opening ∷ k.1) ++ Closing ∷ [])
+          ∙ (λ i. ((b.4.3 i ++ Bare b.2 ∷ []) ++ Text outcome.name ∷ Opening ∷ k.1) ++ Closing ∷ [])
+          ∙ (λ i. Bare b.4.0 ∷ Text b.4.1 ∷ (append_assoc b.4.2 (Bare b.2 ∷ [])
+          (Text outcome.name ∷ Opening ∷ k.1) i ++ Closing ∷ []))
+          ∙ (λ i. Bare b.4.0 ∷ Text b.4.1 ∷ append_assoc b.4.2
+          (Bare b.2 ∷ Text outcome.name ∷ Opening ∷ k.1) (Closing ∷ []) i);
+      is_step = b.4.4;
+      is_result = (b.2, Text outcome.name ∷ braced k.1, refl, b.5, (k.1, refl, k.4, size));
+    }) none

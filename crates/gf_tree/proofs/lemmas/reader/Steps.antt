@@ -26,7 +26,7 @@ use Rattle.gf_token.specs.Remaining.{Remaining, StandsBefore}
 use Rattle.gf_token.specs.declared.fault.Span.{Span}
 use Rattle.gf_token.specs.declared.token.TextToken.{TextToken}
 use Rattle.gf_tree.specs.Description.{outcome_with, set_with}
-use Rattle.gf_tree.specs.KeptNodes.{ArePlaced, Kept}
+use Rattle.gf_tree.specs.KeptNodes.{AreAmong, Kept}
 use Rattle.gf_tree.specs.KeptNodes.{actions_counted, entries_with}
 use Rattle.gf_tree.specs.inner.Machine.{Begun, Content, begun, behind_set, nothing, run, set_ends}
 use Rattle.gf_tree.specs.inner.Machine.{set_known, set_number, then_on, with_outcome, with_set}
@@ -45,7 +45,7 @@ use Rattle.gf_token.specs.declared.fault.Why.TheVariants.{Memory, SumBelowOne}
 use Rattle.gf_tree.specs.inner.FoundSet.{FoundOutcome, FoundSet}
 use Rattle.gf_tree.specs.inner.ReaderState.{Answer, Fails, Goes, Grows, answer}
 use Rattle.gf_tree.specs.inner.ReaderState.{begun_with}
-use Rattle.gf_tree.specs.inner.ReaderState.{behind_label, content_of, heard}
+use Rattle.gf_tree.specs.inner.ReaderState.{with_text, content_of, heard}
 use Rattle.gf_tree.specs.inner.ReaderState.Fails.{of_memory}
 use Rattle.gf_tree.proofs.lemmas.stores.FoundKeys.{described_at, found_from}
 use Rattle.gf_tree.proofs.lemmas.stores.FoundKeys.{set_in_parts}
@@ -73,7 +73,7 @@ at_before xs ys (suc k) h = get_before xs ys k (omega (arith, h))
 
 pub sets_grow : (sets more : List (Described SetKey InformationSet))
     (outcomes : List (Described ℕ Outcome)) (nodes : List Kept)
-    → ArePlaced (length sets) (length outcomes) nodes
+    → AreAmong (length sets) (length outcomes) nodes
     → entries_with (sets ++ more) outcomes nodes ≡ entries_with sets outcomes nodes
 sets_grow sets more outcomes [] h = refl
 sets_grow sets more outcomes (n ∷ ns) h = λ i.
@@ -88,7 +88,7 @@ sets_grow sets more outcomes (n ∷ ns) h = λ i.
 
 pub outcomes_grow : (sets : List (Described SetKey InformationSet))
     (outcomes more : List (Described ℕ Outcome)) (nodes : List Kept)
-    → ArePlaced (length sets) (length outcomes) nodes
+    → AreAmong (length sets) (length outcomes) nodes
     → entries_with sets (outcomes ++ more) nodes ≡ entries_with sets outcomes nodes
 outcomes_grow sets outcomes more [] h = refl
 outcomes_grow sets outcomes more (n ∷ ns) h = λ i.
@@ -103,7 +103,7 @@ outcomes_grow sets outcomes more (n ∷ ns) h = λ i.
 
 pub placed_among_more : (sets outcomes more_sets more_outcomes : ℕ) (nodes : List Kept)
     → sets ≤ more_sets → outcomes ≤ more_outcomes
-    → ArePlaced sets outcomes nodes → ArePlaced more_sets more_outcomes nodes
+    → AreAmong sets outcomes nodes → AreAmong more_sets more_outcomes nodes
 placed_among_more s o t p [] hs ho h = tt
 placed_among_more s o t p (n ∷ ns) hs ho h =
     let set = h.0.set in
@@ -113,8 +113,8 @@ placed_among_more s o t p (n ∷ ns) hs ho h =
     )
 
 pub placed_one_more : (sets outcomes : ℕ) (nodes : List Kept) (n : Kept)
-    → ArePlaced sets outcomes nodes → n.set ≤ sets → n.outcome ≤ outcomes
-    → ArePlaced sets outcomes (nodes ++ n ∷ [])
+    → AreAmong sets outcomes nodes → n.set ≤ sets → n.outcome ≤ outcomes
+    → AreAmong sets outcomes (nodes ++ n ∷ [])
 placed_one_more s o [] n h set outcome = (record { set = set; outcome = outcome }, tt)
 placed_one_more s o (m ∷ ms) n h set outcome = (h.0, placed_one_more s o ms n h.1 set outcome)
 
@@ -417,7 +417,7 @@ wants_memory {f} {span} {t} {a} stands is q c goes =
 -- at the label of a player's action
 pub labelled : (t : Remaining) (label : TextToken) (c : Content) (node : List ℕ) (player n : ℕ)
     (set : InformationSet) (sum : Ratio) → (player ≡ 0 → ⊥)
-    → heard (NewAction node (set_of player n) set sum) c (behind_label t label)
+    → heard (NewAction node (set_of player n) set sum) c (with_text t label)
     ≡ heard (NewAction node (set_of player n) (with_action set (label_of label.label) None) sum) c t
 labelled t label c node zero n set sum some = absurd (some refl)
 labelled t label c node (suc player) n set sum some = refl

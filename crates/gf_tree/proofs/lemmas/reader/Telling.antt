@@ -8,7 +8,7 @@ use Rattle.gf_token.specs.declared.fault.Fault.{Fault}
 use Rattle.gf_tree.specs.Description.{InformationSet, Outcome, SetKey, set_of}
 use Rattle.gf_tree.specs.FiniteMap.{Described}
 use Rattle.gf_tree.specs.Game.{Node}
-use Rattle.gf_tree.specs.KeptNodes.{ArePlaced, IsPlaced, Kept, child_count}
+use Rattle.gf_tree.specs.KeptNodes.{AreAmong, IsAmong, Kept, child_count}
 use Rattle.gf_tree.specs.KeptNodes.{entries_with, entry_with, position_of}
 use Rattle.gf_tree.specs.KnownSets.{KnownSets, known_of}
 use Rattle.gf_tree.specs.inner.KnownOutcomes.{KnownOutcomes}
@@ -56,7 +56,7 @@ module _ (sets more_sets : List (Described SetKey InformationSet))
       (at_before outcomes more_outcomes p h)
 
   node_stays : (used_sets used_outcomes : ℕ) (n : Kept)
-      → IsPlaced (length sets) (length outcomes) n
+      → IsAmong (length sets) (length outcomes) n
       → told_node (sets ++ more_sets) (outcomes ++ more_outcomes) used_sets used_outcomes n
       ≡ told_node sets outcomes used_sets used_outcomes n
   node_stays used_sets used_outcomes n h = λ i. record {
@@ -70,7 +70,7 @@ module _ (sets more_sets : List (Described SetKey InformationSet))
   }
 
   told_stays : (used_sets used_outcomes : ℕ) (ns : List Kept)
-      → ArePlaced (length sets) (length outcomes) ns
+      → AreAmong (length sets) (length outcomes) ns
       → told_from (sets ++ more_sets) (outcomes ++ more_outcomes) used_sets used_outcomes ns
       ≡ told_from sets outcomes used_sets used_outcomes ns
   told_stays used_sets used_outcomes [] h = refl
@@ -174,7 +174,7 @@ module _ {T : Type 0} {holds : T → T → Heading → List Told → Type 0} {be
   pub tells : (q : Position) {old r m new : Reader} {node : Kept} → r.told_sets ≡ old.told_sets
       → r.told_outcomes ≡ old.told_outcomes → Grows old.sets.known r.sets.known
       → Grows old.outcomes.known r.outcomes.known
-      → IsPlaced (length r.sets.known) (length r.outcomes.known) node
+      → IsAmong (length r.sets.known) (length r.outcomes.known) node
       → TellsNode holds r m from to node
       → before ≡ heard q (with_node (content_of r) (begun_with r.sets.known node.name node.set)
       (option_map (λ o. o.key) (at_position r.outcomes.known node.outcome))) r.tokens
@@ -191,9 +191,9 @@ module _ {T : Type 0} {holds : T → T → Heading → List Told → Type 0} {be
         node = node;
         goes = e ∙ h.goes q ∙ (λ i.
             behind (entry_with (sym ns i).known (sym no i).known node ∷ []) (goes i));
-        placed = subst (λ (k : KnownSets). IsPlaced (length k.known) (length new.outcomes.known) node)
+        placed = subst (λ (k : KnownSets). IsAmong (length k.known) (length new.outcomes.known) node)
             (sym s)
-            (subst (λ (k : KnownOutcomes). IsPlaced (length r.sets.known) (length k.known) node)
+            (subst (λ (k : KnownOutcomes). IsAmong (length r.sets.known) (length k.known) node)
             (sym o) placed);
         told = λ untold heading told holding. subst (λ (x : Told). holds untold to heading (told ++ x ∷ []))
             (λ i. told_node (sym s i).known (sym o i).known (told_sets i) (told_outcomes i) node)
@@ -211,7 +211,7 @@ module _ {T : Type 0} {holds : T → T → Heading → List Told → Type 0} {be
       (result : Result A Fault) → r.told_sets ≡ old.told_sets
       → r.told_outcomes ≡ old.told_outcomes → Grows old.sets.known r.sets.known
       → Grows old.outcomes.known r.outcomes.known
-      → IsPlaced (length r.sets.known) (length r.outcomes.known) node
+      → IsAmong (length r.sets.known) (length r.outcomes.known) node
       → TellsNode holds r m from to node
       → before ≡ heard q (with_node (content_of r) (begun_with r.sets.known node.name node.set)
       (option_map (λ o. o.key) (at_position r.outcomes.known node.outcome))) r.tokens
@@ -225,7 +225,7 @@ module _ {T : Type 0} {holds : T → T → Heading → List Told → Type 0} {be
 
 pub placed_at : (sets outcomes : ℕ) (name : List ℕ) (set outcome : Option ℕ)
     → MatchOption set ⊤ (λ place. place < sets) → MatchOption outcome ⊤ (λ place. place < outcomes)
-    → IsPlaced sets outcomes (record {
+    → IsAmong sets outcomes (record {
       name = name;
       set = position_of set;
       outcome = position_of outcome;
@@ -314,6 +314,6 @@ module _ (before : Answer) (r : Reader) (nodes : List Kept)
   pub all_read : before.machine ≡ Ok (content_with r nodes)
   all_read = h.whole ∙ ap (λ (ns : List Kept). Ok (content_with r ns)) all_kept
 
-  pub all_placed : ArePlaced (length r.sets.known) (length r.outcomes.known) nodes
-  all_placed = subst (ArePlaced (length r.sets.known) (length r.outcomes.known)) all_kept
+  pub all_placed : AreAmong (length r.sets.known) (length r.outcomes.known) nodes
+  all_placed = subst (AreAmong (length r.sets.known) (length r.outcomes.known)) all_kept
       h.has_told.placed

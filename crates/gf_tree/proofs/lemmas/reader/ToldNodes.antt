@@ -18,7 +18,7 @@ use Rattle.gf_tree.specs.FiniteMap.{Described, first_uses}
 use Rattle.gf_tree.specs.FirstUse.{first_use_numbers, sets_of}
 use Rattle.gf_tree.specs.Game.{Game, IsGame, used_outcomes, used_sets}
 use Rattle.gf_tree.specs.GameCode.{no_node}
-use Rattle.gf_tree.specs.KeptNodes.{ArePlaced, Kept, entries_with}
+use Rattle.gf_tree.specs.KeptNodes.{AreAmong, Kept, entries_with}
 use Rattle.gf_tree.specs.KnownSets.{known_of}
 use Rattle.gf_tree.specs.inner.KnownUses.{nodes_given, use_at}
 use Rattle.gf_tree.specs.inner.Machine.{Content, nothing, run}
@@ -117,7 +117,7 @@ module _ (g : Game) (game : IsGame g) where
       })))
 
   told_given : (nodes : List Kept) (met_sets met_outcomes : ℕ)
-      → ArePlaced (length g.sets) (length g.outcomes) nodes
+      → AreAmong (length g.sets) (length g.outcomes) nodes
       → map (λ t. t.node) (told_from g.sets g.outcomes met_sets met_outcomes nodes)
       ≡ nodes_given canonical.sets canonical.outcomes met_sets met_outcomes nodes
   told_given [] met_sets met_outcomes placed = refl
@@ -129,7 +129,7 @@ module _ (g : Game) (game : IsGame g) where
 
   pub told_are_given : (nodes : List Kept)
       → flatten g.tree ≡ entries_with g.sets g.outcomes nodes
-      → ArePlaced (length g.sets) (length g.outcomes) nodes
+      → AreAmong (length g.sets) (length g.outcomes) nodes
       → map (λ t. t.node) (told_from g.sets g.outcomes 0 0 nodes) ≡ file_nodes canonical
   told_are_given nodes flat placed =
       told_given nodes 0 0 placed
@@ -137,9 +137,9 @@ module _ (g : Game) (game : IsGame g) where
       nodes (flatten_map (renumbered_node numbers) g.tree
       ∙ ap (map (map_entry (renumbered_node numbers))) flat
       ∙ sym (entries_mapped numbers g.sets g.outcomes nodes))
-      (subst (λ (n : ℕ). ArePlaced n (length canonical.outcomes) nodes)
+      (subst (λ (n : ℕ). AreAmong n (length canonical.outcomes) nodes)
       (sym (length-map g.sets (set_image numbers)))
-      (subst (λ (n : ℕ). ArePlaced (length g.sets) n nodes)
+      (subst (λ (n : ℕ). AreAmong (length g.sets) n nodes)
       (sym (length-map g.outcomes (outcome_image numbers))) placed))
 
 -- ---- what is told of a file
@@ -147,7 +147,7 @@ module _ (g : Game) (game : IsGame g) where
 pub told_of_file : (bytes : List ℕ) (ls : List Lexeme) (c : Content) (nodes : List Kept)
     → Spells 0 bytes ls → run (length bytes) Format nothing ls ≡ Ok c
     → c.nodes ≡ entries_with c.sets c.outcomes nodes
-    → ArePlaced (length c.sets) (length c.outcomes) nodes
+    → AreAmong (length c.sets) (length c.outcomes) nodes
     → map (λ t. t.node) (told_from c.sets c.outcomes 0 0 nodes)
     ≡ file_nodes (renumbered (first_use_numbers (game_of c)) (game_of c))
 told_of_file bytes ls c nodes spelled e kept placed =

@@ -17,7 +17,7 @@ use Rattle.gf_token.specs.declared.fault.Why.{Why}
 use Rattle.gf_token.specs.declared.fault.Why.TheVariants.{Expected, BadIndex, UnknownPlayer}
 use Rattle.gf_token.specs.declared.fault.Why.TheVariants.{NotDescribed, Mismatch}
 use Rattle.gf_token.specs.declared.fault.Why.TheVariants.{SumBelowOne, NoEntry}
-use Rattle.gf_tree.specs.Description.{Action, InformationSet, Outcome, SetKey, set_of}
+use Rattle.gf_tree.specs.Description.{Action, InformationSet, Outcome, SetKey, set_of, set_with}
 use Rattle.gf_tree.specs.Due.{IsDue, OutcomeIsDue, PayoffIsDue, PlayerIsDue}
 use Rattle.gf_tree.specs.Due.{ProbabilityIsDue, SetIsDue}
 use Rattle.gf_tree.specs.DueRoles.{Role}
@@ -97,7 +97,7 @@ module _ (f : FileFront) where
       ⊎ ((number : ℕ) × BehindOutcomeNumber f.front number × IsNewOutcome f.nodes number)
       → Stands f.before a_first_name → Reasoned f.before
   first_use h s =
-      let first : EndsInFirstUse f.before = (f.players, f.nodes, f.front, f.ends, h) in
+      let first : EndsInFirstUse f.before = (f.ends, h) in
       reasons f.before a_first_name (λ after plain. (first, plain)) (λ l after n. absurd (n tt)) (λ b why after n e. as_own f.before why NotDescribed (Bare b ∷ after) (first, tt) e) (λ why after n e. as_own f.before why NotDescribed (Closing ∷ after) (first, tt) e) s
       (λ b h. absurd h)
 
@@ -108,7 +108,7 @@ module _ (f : FileFront) where
 
   outcome_due : (set : Option (Use SetKey InformationSet)) → ToOutcomeNumber f.front set
       → IsSetKnown f.nodes set → OutcomeIsDue f.before
-  outcome_due set h known = (f.players, f.nodes, f.front, set, f.ends, h, known)
+  outcome_due set h known = (f.ends, set, h, known)
 
   told_set : (set : Option (Use SetKey InformationSet))
       → MatchOption set (Unit {0}) (λ u. (d : InformationSet) × (u.description ≡ Some d))
@@ -116,13 +116,13 @@ module _ (f : FileFront) where
   told_set None h = tt
   told_set (Some u) h = inl h
 
-  differs : (t : Token) → DiffersFromSet f.nodes f.front t ⊎ DiffersFromOutcome f.nodes f.front t
+  differs : (t : Token) → DiffersFromSet f.ends t ⊎ DiffersFromOutcome f.ends t
       → (after : List Token) → Own Mismatch f.before (t ∷ after)
-  differs t h after = (f.players, f.nodes, f.front, f.ends, h)
+  differs t h after = (f.ends, h)
 
   lists : (key : SetKey) (set : InformationSet) → InActions f.front key set → IsNewSet f.nodes key
       → ListsActions f.before key set
-  lists key set h new = (f.players, f.nodes, f.front, f.ends, h, new)
+  lists key set h new = (f.ends, h, new)
 
   -- an empty list may not end
   no_entry : (key : SetKey) (set : InformationSet) → InActions f.front key set → IsNewSet f.nodes key
@@ -132,20 +132,16 @@ module _ (f : FileFront) where
       as_own f.before why NoEntry (Closing ∷ after) (
         key,
         set.name,
-        subst (λ (xs : List Action).
-            ListsActions f.before key (record { name = set.name; actions = xs })) none
+        subst (λ (xs : List Action). ListsActions f.before key (set_with set.name xs)) none
             (lists key set h new),
       ) e
 
   due_payoff : (n : ℕ) (ps : List Ratio) (may : Bool) → Seen f.front n ps may
       → length ps < length f.players → PayoffIsDue f.before
   due_payoff n ps may h fewer = (
-    f.players,
-    f.nodes,
-    f.front,
+    f.ends,
     n,
     h.outcome,
-    f.ends,
     h.place,
     subst (λ (qs : List Ratio). length qs < length f.players) (sym h.are) fewer,
   )
@@ -165,7 +161,7 @@ module _ (f : FileFront) where
   known_number : (row : Row) (p : Ratio) → Stands f.before row
       → (ProbabilityIsDue f.before ⊎ PayoffIsDue f.before)
       → ((b : List ℕ) (q : Ratio) → IsNumber b q → q ≢ p
-      → DiffersFromSet f.nodes f.front (Bare b) ⊎ DiffersFromOutcome f.nodes f.front (Bare b))
+      → DiffersFromSet f.ends (Bare b) ⊎ DiffersFromOutcome f.ends (Bare b))
       → row.otherwise ≡ Expected what.Number → row.other_text ≡ Expected what.Number
       → ((b : List ℕ) (why : Why) → row.other_bare b why → (this_number p).other_bare b why)
       → ((why : Why) → row.other_closing why → why ≡ Expected what.Number)
@@ -216,14 +212,13 @@ module _ (f : FileFront) where
   in_node (IsInNode.NodeName h) = text f.before (nodes.node_name f h)
   in_node (IsInNode.Player h) =
       let row = a_player (length f.players) in
-      let due : PlayerIsDue f.before (length f.players) =
-      (f.players, f.nodes, f.front, f.ends, refl, h) in
+      let due : PlayerIsDue f.before (length f.players) = (f.ends, refl, h) in
       let is : IsDue f.before what.Index = inl (length f.players, due) in
       let s = nodes.player f h in
       reasons f.before row (λ after plain. is) (λ l after n. is) (λ b why after n e. elim e [ inl k ↦ as_own f.before why BadIndex (Bare b ∷ after) (inl (inl (length f.players, due), k.1)) k.0 | inr k ↦ as_own f.before why UnknownPlayer (Bare b ∷ after) (inl (length f.players, k.1.0, due, k.1.1, k.1.2)) k.0 ]) (λ why after n e. as_own f.before why (Expected what.Index) (Closing ∷ after) is e) s
       (told_by f.before row (Role.PlayerNumber (length f.players)) s is (λ b. (λ k. k, λ k. k)))
   in_node (IsInNode.SetNumber player h) =
-      let due : SetIsDue f.before = (f.players, f.nodes, f.front, player, f.ends, h) in
+      let due : SetIsDue f.before = (f.ends, player, h) in
       let is : IsDue f.before what.Index = inr (inl due) in
       let s = nodes.set_number_due f player h in
       reasons f.before a_set (λ after plain. is) (λ l after n. is) (λ b why after n e. as_own f.before why BadIndex (Bare b ∷ after) (inl (inr due, λ m k. n (m, k))) e) (λ why after n e. as_own f.before why (Expected what.Index) (Closing ∷ after) is e) s
@@ -253,9 +248,8 @@ module _ (f : FileFront) where
       reasons f.before row (λ after plain. due) (λ l after n. due) (λ b why after n e. as_own f.before why (Expected what.Text) (Bare b ∷ after) due e) (λ why after n e. elim e [ inl k ↦ no_entry key set h new k.1 why after k.0 | inr k ↦ as_own f.before why SumBelowOne (Closing ∷ after) (number, set, sum, lists key set h new, k.1, has, actions.sum_below f number set sum h new has (λ one. n (k.1, one))) k.0 ]) s
       (λ b k. absurd k)
   in_node (IsInNode.NewProbability number set sum h new has) =
-      let due : NewProbabilityIsDue f.before sum =
-      (f.players, f.nodes, f.front, number, set, f.ends, h, new, has) in
-      let asked : ProbabilityIsDue f.before = (f.players, f.nodes, f.front, number, set, f.ends, h) in
+      let due : NewProbabilityIsDue f.before sum = (f.ends, number, set, h, new, has) in
+      let asked : ProbabilityIsDue f.before = (f.ends, number, set, h) in
       number_named f.before (Role.Probability sum) (inl asked) (a_probability sum)
       (actions.new_probability f number set sum h new has) refl refl
       (λ b why after n e. elim e [
@@ -273,7 +267,7 @@ module _ (f : FileFront) where
   in_node (IsInNode.KnownProbability number known seen next p h knows more has) =
       known_number (this_number p) p
       (actions.known_probability f number known seen next p h knows more has)
-      (inl (f.players, f.nodes, f.front, number, seen, f.ends, h))
+      (inl (f.ends, number, seen, h))
       (λ b q is other. inl (
         number,
         known,
@@ -310,8 +304,7 @@ module _ (f : FileFront) where
 
       by : GoesOnBehindOr outcome.name f → Reasoned f.before
       by (inl s) = name_or_end f.before outcome.name s other
-      by (inr s) = name_or_node f.before f.players (λ e. number_node f number h)
-          outcome.name s other
+      by (inr s) = name_or_node f.before f.players (number_node f number h) outcome.name s other
   in_node (IsInNode.OutcomeOpening number h) =
       opening f.before (outcomes.outcome_opening f number h)
   in_node (IsInNode.NewPayoff number ps h new fewer) =

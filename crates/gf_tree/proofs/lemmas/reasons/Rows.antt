@@ -23,12 +23,8 @@ use Rattle.gf_tree.specs.Description.{Action}
 use Rattle.gf_tree.specs.Due.{IsDue, NodeIsDue, PayoffIsDue}
 use Rattle.gf_tree.specs.Due.{ProbabilityIsDue}
 use Rattle.gf_tree.specs.DueRoles.{OnlySuitedFollow, Role, Suits, what_of}
-use Rattle.gf_tree.specs.FileTree.{FileNode}
-use Rattle.gf_tree.specs.Front.{EndsInNode}
 use Rattle.gf_tree.specs.Front.{IsExtensiveFile}
-use Rattle.gf_tree.specs.Reason.{Holds}
-use Rattle.gf_tree.specs.Reason.{IsNoText}
-use Rattle.gf_tree.specs.Reason.{IsWrongBehind, NewProbabilityIsDue}
+use Rattle.gf_tree.specs.Reason.{Holds, IsNoText, IsWrongBehind, NewProbabilityIsDue, NobodyMoves}
 use Rattle.gf_tree.specs.Rows.{Accepts, Refuses, Row, a_letter}
 use Rattle.gf_tree.specs.Rows.{a_node, a_player_name}
 use Rattle.gf_tree.specs.Rows.{a_text, a_word, an_end, an_opening}
@@ -81,10 +77,6 @@ wrong_own NegativeProbability before after b sum p h is k = (sum, p, h, is, k)
 wrong_own SumAboveOne before after b sum p h is k = (sum, p, h, is, k)
 wrong_own SumOverflow before after b sum p h is k = (sum, p, h, is, k)
 wrong_own _ before after b sum p h is k = absurd k
-
-no_one : (players : List (List ℕ)) → length players ≡ 0 → players ≡ []
-no_one [] e = refl
-no_one (player ∷ players) e = absurd (omega (arith, e))
 
 pub no_action : (actions : List Action) → ¬ (0 < length actions) → actions ≡ []
 no_action [] n = refl
@@ -141,17 +133,11 @@ module _ (before : List Token) (row : Row) (r : Role)
 
 -- the letter of a node: there is no player, although one is to move
 module _ (before : List Token) (players : List (List ℕ))
-    (ends : length players ≡ 0 → (whole : List FileNode) × EndsInNode before players whole [])
-    (due : NodeIsDue before) where
+    (ends : length players ≡ 0 → NobodyMoves before) (due : NodeIsDue before) where
   letter_own : (b : List ℕ) (why : Why) (after : List Token) → (a_node (length players)).other_bare b why
       → Own why before (Bare b ∷ after)
-  letter_own b why after (inl h) = as_own before why UnknownPlayer (Bare b ∷ after) (inr (
-    (ends h.2).0,
-    subst (λ (ps : List (List ℕ)). EndsInNode before ps (ends h.2).0 []) (no_one players h.2)
-        (ends h.2).1,
-    due,
-    h.1,
-  )) h.0
+  letter_own b why after (inl h) =
+      as_own before why UnknownPlayer (Bare b ∷ after) (inr (ends h.2, due, h.1)) h.0
   letter_own b why after (inr k) = as_own before why (Expected what.Node) (Bare b ∷ after) due k.0
 
 -- ---- the heading
@@ -186,36 +172,34 @@ module _ (before : List Token) where
       (follows before row what.Closing s (Closing ∷ []) h)
 
   -- the letter of a node, and perhaps a text
-  module _ (players : List (List ℕ))
-      (ends : length players ≡ 0 → (whole : List FileNode) × EndsInNode before players whole [])
-    where
-      node_due : (row : Row) → Stands before row → IsOfRole row (Role.NodeLetter (length players))
-          → NodeIsDue before
-      node_due row s same =
-          follows before row what.Node s (Bare (codes "t") ∷ []) ((same (codes "t")).1 (inr (inl refl)))
+  module _ (players : List (List ℕ)) (ends : length players ≡ 0 → NobodyMoves before) where
+    node_due : (row : Row) → Stands before row → IsOfRole row (Role.NodeLetter (length players))
+        → NodeIsDue before
+    node_due row s same =
+        follows before row what.Node s (Bare (codes "t") ∷ []) ((same (codes "t")).1 (inr (inl refl)))
 
-      pub node : Stands before (a_node (length players)) → Reasoned before
-      node s =
-          let due = node_due (a_node (length players)) s (λ b. (λ h. h, λ h. h)) in
-          reasons before (a_node (length players)) (λ after plain. due) (λ l after n. due) (λ b why after n e. letter_own before players ends due b why after e) (λ why after n e. as_own before why (Expected what.Node) (Closing ∷ after) due e) s
-          (told_by before (a_node (length players)) (Role.NodeLetter (length players)) s due (λ b. (λ h. h, λ h. h)))
+    pub node : Stands before (a_node (length players)) → Reasoned before
+    node s =
+        let due = node_due (a_node (length players)) s (λ b. (λ h. h, λ h. h)) in
+        reasons before (a_node (length players)) (λ after plain. due) (λ l after n. due) (λ b why after n e. letter_own before players ends due b why after e) (λ why after n e. as_own before why (Expected what.Node) (Closing ∷ after) due e) s
+        (told_by before (a_node (length players)) (Role.NodeLetter (length players)) s due (λ b. (λ h. h, λ h. h)))
 
-      text_or_node : Stands before (or_text (a_node (length players))) → Reasoned before
-      text_or_node s =
-          let row = or_text (a_node (length players)) in
-          let due = node_due row s (λ b. (λ h. h, λ h. h)) in
-          reasons before row (λ after plain. due) (λ l after n. due) (λ b why after n e. letter_own before players ends due b why after e) (λ why after n e. as_own before why (Expected what.Node) (Closing ∷ after) due e) s
-          (told_by before row (Role.NodeLetter (length players)) s due (λ b. (λ h. h, λ h. h)))
+    text_or_node : Stands before (or_text (a_node (length players))) → Reasoned before
+    text_or_node s =
+        let row = or_text (a_node (length players)) in
+        let due = node_due row s (λ b. (λ h. h, λ h. h)) in
+        reasons before row (λ after plain. due) (λ l after n. due) (λ b why after n e. letter_own before players ends due b why after e) (λ why after n e. as_own before why (Expected what.Node) (Closing ∷ after) due e) s
+        (told_by before row (Role.NodeLetter (length players)) s due (λ b. (λ h. h, λ h. h)))
 
-      -- or this name, of which another one differs
-      pub name_or_node : (name : List ℕ) → Stands before (or_name name (a_node (length players)))
-          → ((l : List ℕ) (after : List Token) → l ≢ name → Own Mismatch before (Text l ∷ after))
-          → Reasoned before
-      name_or_node name s other =
-          let row = or_name name (a_node (length players)) in
-          let due = node_due row s (λ b. (λ h. h, λ h. h)) in
-          reasons before row (λ after plain. due) other (λ b why after n e. letter_own before players ends due b why after e) (λ why after n e. as_own before why (Expected what.Node) (Closing ∷ after) due e) s
-          (told_by before row (Role.NodeLetter (length players)) s due (λ b. (λ h. h, λ h. h)))
+    -- or this name, of which another one differs
+    pub name_or_node : (name : List ℕ) → Stands before (or_name name (a_node (length players)))
+        → ((l : List ℕ) (after : List Token) → l ≢ name → Own Mismatch before (Text l ∷ after))
+        → Reasoned before
+    name_or_node name s other =
+        let row = or_name name (a_node (length players)) in
+        let due = node_due row s (λ b. (λ h. h, λ h. h)) in
+        reasons before row (λ after plain. due) other (λ b why after n e. letter_own before players ends due b why after e) (λ why after n e. as_own before why (Expected what.Node) (Closing ∷ after) due e) s
+        (told_by before row (Role.NodeLetter (length players)) s due (λ b. (λ h. h, λ h. h)))
 
   pub end : Stands before an_end → Reasoned before
   end s = one_reason before an_end what.End s (follows before an_end what.End s [] tt)
@@ -259,7 +243,7 @@ module _ (before : List Token) where
       one_reason before a_player_name what.Text s (some_text a_player_name s tt) refl refl
       (λ b why e. e) (λ why e. e) (λ b k. absurd k)
   in_heading (IsInHeading.AfterPlayers players h) =
-      text_or_node players (λ e. ([], behind_players before players h))
+      text_or_node players (behind_players before players h)
       (heading.after_players before players h)
   in_heading (IsInHeading.AfterComment players h) =
-      node players (λ e. ([], behind_comment before players h)) (heading.after_comment before players h)
+      node players (behind_comment before players h) (heading.after_comment before players h)

@@ -19,7 +19,7 @@ use Rattle.gf_tree.specs.inner.GameParts.{AreNodes, IsHeld, game_with}
 use Rattle.gf_tree.specs.Subtrees.{child_trees, list_of, root_node, subtree_at}
 use Rattle.gf_tree.specs.Subtrees.{subtree_sizes, subtrees, subtrees_all}
 use Rattle.gf_tree.specs.inner.Skipped.{Begin, skipped}
-use Rattle.gf_tree.specs.KeptNodes.{Kept, IsPlaced, ArePlaced, child_count}
+use Rattle.gf_tree.specs.KeptNodes.{Kept, IsAmong, AreAmong, child_count}
 use Rattle.gf_tree.specs.KeptNodes.{child_counts, entries_with}
 use Rattle.gf_tree.specs.KeptNodes.{kept_of, node_with, sizes_of, tree_with}
 use Rattle.gf_tree.specs.declared.game.kept.Stored.{Stored}
@@ -207,8 +207,8 @@ children_there sets outcomes nodes tree at d h i =
     counts_in sets (n ∷ ns) = ap (λ xs. child_count sets n.set ∷ xs) (counts_in sets ns)
 
 pub placed_there : (sets outcomes : ℕ) (nodes : List Stored) (at : ℕ) (d : Stored)
-    → ArePlaced sets outcomes (map kept_of nodes) → at < length nodes
-    → IsPlaced sets outcomes (kept_of (get_or nodes at d))
+    → AreAmong sets outcomes (map kept_of nodes) → at < length nodes
+    → IsAmong sets outcomes (kept_of (get_or nodes at d))
 placed_there sets outcomes [] at d p h = absurd (omega (arith, h))
 placed_there sets outcomes (n ∷ ns) zero d p h = p.0
 placed_there sets outcomes (n ∷ ns) (suc at) d p h =
@@ -237,7 +237,7 @@ shaped sets outcomes ns h = ap counts_of (flatten_grown no_node (entries_with se
 pub made_held : (title comment : List ℕ) (players : List (List ℕ))
     (sets : List (Described SetKey InformationSet)) (outcomes : List (Described ℕ Outcome))
     (ns : List Kept) (nodes : List Stored)
-    → map kept_of nodes ≡ ns → ArePlaced (length sets) (length outcomes) ns
+    → map kept_of nodes ≡ ns → AreAmong (length sets) (length outcomes) ns
     → Fills 1 (entries_with sets outcomes ns)
     → sizes_of nodes ≡ subtree_sizes (tree_with sets outcomes ns)
     → IsGame (game_with title comment players sets outcomes ns)

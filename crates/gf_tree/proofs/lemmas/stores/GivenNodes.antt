@@ -13,7 +13,7 @@ use Rattle.gf_tree.specs.Description.{SetKey, same_set}
 use Rattle.gf_tree.specs.FileNodes.{file_nodes, node_behind, use_behind, with_those_before}
 use Rattle.gf_tree.specs.FiniteMap.{Described, description_at, first_uses}
 use Rattle.gf_tree.specs.Game.{Game, Node, IsGame}
-use Rattle.gf_tree.specs.KeptNodes.{ArePlaced, IsPlaced, Kept, entries_with, entry_with}
+use Rattle.gf_tree.specs.KeptNodes.{AreAmong, IsAmong, Kept, entries_with, entry_with}
 use Rattle.gf_tree.specs.inner.KnownUses.{node_given, nodes_given, use_at}
 use Rattle.gf_tree.specs.PrefixOrder.{Entry, flatten}
 use Rattle.gf_tree.proofs.lemmas.stores.KnownKeys.{known_there, use_there}
@@ -103,7 +103,7 @@ module _ (g : Game) (game : IsGame g) (nodes : List Kept)
 
   module _ (front : List Kept) (n : Kept) (ns : List Kept) (met_sets met_outcomes : ℕ)
       (here : IsFront front (n ∷ ns) met_sets met_outcomes)
-      (placed : IsPlaced (length g.sets) (length g.outcomes) n) where
+      (placed : IsAmong (length g.sets) (length g.outcomes) n) where
     split : flatten g.tree ≡ entries front ++ entries (n ∷ ns)
     split = flat ∙ ap entries here.parts
         ∙ map-append (entry_with g.sets g.outcomes) front (n ∷ ns)
@@ -165,7 +165,7 @@ module _ (g : Game) (game : IsGame g) (nodes : List Kept)
 
   given_behind : (front ns : List Kept) (met_sets met_outcomes : ℕ)
       → IsFront front ns met_sets met_outcomes
-      → ArePlaced (length g.sets) (length g.outcomes) ns
+      → AreAmong (length g.sets) (length g.outcomes) ns
       → nodes_given g.sets g.outcomes met_sets met_outcomes ns
       ≡ map (λ p. node_behind g (entries front ++ p.0) p.1.node)
       (with_those_before (entries ns))
@@ -182,7 +182,7 @@ module _ (g : Game) (game : IsGame g) (nodes : List Kept)
       ∙ sym (behind_front (λ before (e : Entry Node). node_behind g before e.node)
       (entries front) (entry_with g.sets g.outcomes n) (entries ns))
 
-  pub nodes_are_given : ArePlaced (length g.sets) (length g.outcomes) nodes
+  pub nodes_are_given : AreAmong (length g.sets) (length g.outcomes) nodes
       → nodes_given g.sets g.outcomes 0 0 nodes ≡ file_nodes g
   nodes_are_given placed =
       given_behind [] nodes 0 0 (record { parts = refl; sets = refl; outcomes = refl }) placed

@@ -9,7 +9,7 @@ use Rattle.gf_tree.specs.Description.{SetKey, InformationSet}
 use Rattle.gf_tree.specs.FiniteMap.{Described}
 use Rattle.gf_tree.specs.Subtrees.{subtree_sizes}
 use Rattle.gf_tree.specs.inner.Skipped.{Begin, skipped, sizes_grown}
-use Rattle.gf_tree.specs.KeptNodes.{ArePlaced, child_count, child_counts, kept_of, sizes_of}
+use Rattle.gf_tree.specs.KeptNodes.{AreAmong, child_count, child_counts, kept_of, sizes_of}
 use Rattle.gf_tree.specs.declared.game.kept.Stored.{Stored}
 use Rattle.gf_tree.proofs.lemmas.stores.SubtreeSizes.{begin_children, counts_of, sizes_are}
 use Rattle.gf_tree.proofs.lemmas.stores.SubtreeSizes.{skips_once, stands}
@@ -134,12 +134,12 @@ filled_all sets old nodes e t counts = e ∙ ap sizes_grown (sym counts) ∙ siz
 
 pub set_placed : (old nodes : List Stored) (sets outcomes at : ℕ) (d : Stored) → at < length nodes
     → map kept_of nodes ≡ map kept_of old
-    → ArePlaced sets outcomes (map kept_of old) → (get_or nodes at d).set ≤ sets
+    → AreAmong sets outcomes (map kept_of old) → (get_or nodes at d).set ≤ sets
 set_placed old nodes sets outcomes at d h kept placed =
-    of_kept nodes at h (subst (ArePlaced sets outcomes) (sym kept) placed)
+    of_kept nodes at h (subst (AreAmong sets outcomes) (sym kept) placed)
   where
     of_kept : (ns : List Stored) (at : ℕ)
-        → at < length ns → ArePlaced sets outcomes (map kept_of ns) → (get_or ns at d).set ≤ sets
+        → at < length ns → AreAmong sets outcomes (map kept_of ns) → (get_or ns at d).set ≤ sets
     of_kept [] at h p = absurd (omega (arith, h))
     of_kept (n ∷ ns) zero h p = p.0.set
     of_kept (n ∷ ns) (suc at) h p = of_kept ns at (omega (arith, h)) p.1

@@ -13,7 +13,7 @@ use Rattle.gf_tree.specs.declared.game.action.Action.{Action as Held}
 use Rattle.gf_tree.specs.declared.game.sets.Entry.{Entry}
 use Rattle.gf_tree.specs.Description.{same_set, set_of}
 use Rattle.gf_tree.specs.Actions.{actions_of}
-use Rattle.gf_tree.specs.KnownSets.{KnownSets, with_set}
+use Rattle.gf_tree.specs.KnownSets.{KnownSets, with_pending_set}
 use Rattle.gf_tree.specs.inner.StoredSets.{described, end_of, stored_sets, places_from}
 use Rattle.gf_tree.specs.inner.StoredSets.{AreSets, HoldActions}
 use Rattle.gf_tree.proofs.lemmas.stores.SetPlaces.{found}
@@ -97,7 +97,7 @@ module _ (players : List (List (ℕ × ℕ))) (entries : List Entry) (actions : 
         → (stored : List Entry) → stored ≡ entries ++ new ∷ []
         → (kept : List Held) → kept ≡ take last actions
         → stored_sets stored kept last
-        ≡ with_set whole (set_of new.player new.number) (label_of new.name)
+        ≡ with_pending_set whole (set_of new.player new.number) (label_of new.name)
     view_then whole view stored is kept cut =
         let those : map (described (take last actions)) entries ≡ map (described actions) entries =
         items_until (λ e. e.start) end_of set_made entries actions from last are.stretches
@@ -123,10 +123,10 @@ module _ (players : List (List (ℕ × ℕ))) (entries : List Entry) (actions : 
           description = record { name = label_of new.name; actions = this i };
         } ∷ []) in
         let made : stored_sets (entries ++ new ∷ []) (take last actions) last
-        ≡ with_set (stored_sets entries actions from) (set_of new.player new.number)
+        ≡ with_pending_set (stored_sets entries actions from) (set_of new.player new.number)
         (label_of new.name) =
         λ i. record { known = known i; pending = none i } in
-        rw (is, cut) (made ∙ ap (λ (k : KnownSets). with_set k (set_of new.player new.number)
+        rw (is, cut) (made ∙ ap (λ (k : KnownSets). with_pending_set k (set_of new.player new.number)
         (label_of new.name)) view)
 
     module _ (after : List (List (ℕ × ℕ)))
