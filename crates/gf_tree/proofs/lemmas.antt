@@ -1,3 +1,4 @@
+pub mod Once
 pub mod due
 pub mod fronts
 pub mod games

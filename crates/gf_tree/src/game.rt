@@ -31,6 +31,7 @@ use crate::game::node::Node;
 use crate::game::nodes::Nodes;
 use crate::game::outcomes::Outcomes;
 use crate::game::sets::Sets;
+use crate::numbers::indexing::Indexing;
 use crate::reader::receive::ToldHeading;
 use gf_fraction::Fraction;
 use gf_token::Label;
@@ -62,6 +63,8 @@ pub struct Game<'a> {
     title: Label<'a>,
     comment: Label<'a>,
     players: Vec<Label<'a>>,
+    /// How its numbers are found.
+    indexing: Indexing<'a>,
     sets: Sets<'a>,
     outcomes: Outcomes<'a>,
     nodes: Vec<Stored<'a>>,
@@ -92,6 +95,7 @@ impl<'a> Game<'a> {
         title: Label<'a>,
         comment: Label<'a>,
         players: Vec<Label<'a>>,
+        indexing: Indexing<'a>,
         sets: Sets<'a>,
         outcomes: Outcomes<'a>,
         nodes: NodeList<'a>,
@@ -110,6 +114,7 @@ impl<'a> Game<'a> {
             title,
             comment,
             players,
+            indexing,
             sets,
             outcomes,
             nodes,

@@ -41,6 +41,8 @@ pub(crate) struct Reader<'a> {
     title: Label<'a>,
     comment: Label<'a>,
     players: Vec<Label<'a>>,
+    /// How numbers are found.
+    indexing: Indexing<'a>,
     sets: Sets<'a>,
     outcomes: Outcomes<'a>,
     /// How many nodes are still to come.
@@ -61,14 +63,14 @@ impl<'a> Reader<'a> {
         ensures untold { (result.told_sets ≡ 0) × (result.told_outcomes ≡ 0) }
     {
         let empty = Label::new(&[]).unwrap();
-        let indexing = Indexing::of(input);
         Reader {
             tokens: Tokens::new(input),
             title: empty,
             comment: empty,
             players: Vec::new(alloc),
-            sets: Sets::new(alloc, indexing),
-            outcomes: Outcomes::new(alloc, indexing),
+            indexing: Indexing::of(input),
+            sets: Sets::new(alloc),
+            outcomes: Outcomes::new(alloc),
             due: 1,
             told_sets: 0,
             told_outcomes: 0,
@@ -103,6 +105,7 @@ impl<'a> Reader<'a> {
             self.title,
             self.comment,
             self.players,
+            self.indexing,
             self.sets,
             self.outcomes,
             nodes,

@@ -16,6 +16,7 @@ use crate::game::kept::NodeList;
 use crate::game::outcomes::Outcomes;
 use crate::game::sets::Sets;
 use crate::game::{Game, NodesByFirstUse};
+use crate::numbers::indexing::Indexing;
 use crate::reader::receive::ToldHeading;
 use gf_token::Label;
 use std::marker::Model;
@@ -27,6 +28,8 @@ pub struct ListedGame<'a> {
     title: Label<'a>,
     comment: Label<'a>,
     players: Vec<Label<'a>>,
+    /// How its numbers are found.
+    indexing: Indexing<'a>,
     sets: Sets<'a>,
     outcomes: Outcomes<'a>,
     nodes: NodeList<'a>,
@@ -56,6 +59,7 @@ impl<'a> ListedGame<'a> {
         title: Label<'a>,
         comment: Label<'a>,
         players: Vec<Label<'a>>,
+        indexing: Indexing<'a>,
         sets: Sets<'a>,
         outcomes: Outcomes<'a>,
         nodes: NodeList<'a>,
@@ -73,6 +77,7 @@ impl<'a> ListedGame<'a> {
             title,
             comment,
             players,
+            indexing,
             sets,
             outcomes,
             nodes,
@@ -109,6 +114,7 @@ impl<'a> ListedGame<'a> {
             self.title,
             self.comment,
             self.players,
+            self.indexing,
             self.sets,
             self.outcomes,
             self.nodes,

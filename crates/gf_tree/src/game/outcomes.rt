@@ -43,7 +43,6 @@ impl<'a> Entry<'a> {
 #[derive(Drop)]
 pub(crate) struct Outcomes<'a> {
     alloc: Global,
-    indexing: Indexing<'a>,
     numbers: Numbers,
     entries: Vec<Entry<'a>>,
     payoffs: Vec<Fraction>,
@@ -63,36 +62,16 @@ impl<'a> Model for Outcomes<'a> {
 
 impl<'a> Outcomes<'a> {
     /// No outcomes.
-    pub(crate) fn new(alloc: Global, indexing: Indexing<'a>) -> Outcomes<'a>
+    pub(crate) fn new(alloc: Global) -> Outcomes<'a>
         ensures { result ≡ record { known = []; pending = [] } }
     {
         Outcomes {
             alloc,
-            indexing,
             numbers: Numbers::new(),
             entries: Vec::new(alloc),
             payoffs: Vec::new(alloc),
             from: 0,
         }
-    }
-
-    /// No outcomes, which will be found in the same way.
-    pub(crate) fn emptied(&self, alloc: Global) -> Outcomes<'a>
-        ensures { result ≡ record { known = []; pending = [] } }
-    {
-        Outcomes::new(alloc, self.indexing)
-    }
-
-    /// How they are found.
-    pub(crate) fn indexing(&self) -> Indexing<'a> {
-        self.indexing
-    }
-
-    /// Takes over what was hashed for the same input.
-    pub(crate) fn adopt(&mut self, indexing: Indexing<'a>)
-        ensures { self.new ≡ self.old }
-    {
-        self.indexing.adopt(indexing);
     }
 
     /// The place of an outcome.
@@ -165,16 +144,14 @@ impl<'a> Outcomes<'a> {
         Ok(())
     }
 
-    /// Its payoffs so far.
-    pub(crate) fn pending(&self) -> &[Fraction]
-        ensures { result.now ≡ self.now.pending }
-    {
-        &self.payoffs[self.from..]
-    }
-
     /// The description is complete, and belongs to this outcome, which was not known. Returns the
     /// outcome's place. After an `Err` nothing has changed.
-    pub(crate) fn end(&mut self, number: u32, name: Label<'a>) -> Result<u32, AllocError>
+    pub(crate) fn end(
+        &mut self,
+        indexing: &mut Indexing<'_>,
+        number: u32,
+        name: Label<'a>,
+    ) -> Result<u32, AllocError>
         requires { position (nat_eq number) (map (λ o. o.key) self.old.known) ≡ None }
         ensures ok { OnOk result (self.new ≡ with_pending_outcome self.old number (label_of name.entry)) }
         ensures place { IfOk result (λ place. place ≡ length self.old.known) }
@@ -186,8 +163,7 @@ impl<'a> Outcomes<'a> {
             return Err(AllocError);
         };
         self.entries.reserve(1)?;
-        self.numbers
-            .insert(self.alloc, &mut self.indexing, number, place)?;
+        self.numbers.insert(self.alloc, indexing, number, place)?;
         self.entries.push_reserved(Entry {
             number,
             count,

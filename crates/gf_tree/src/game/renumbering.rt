@@ -10,11 +10,13 @@ ghost use Rattle.gf_tree.specs.Renumbering.{renumbered};
 use crate::game::Game;
 use crate::game::outcomes::Outcomes;
 use crate::game::sets::Sets;
+use crate::numbers::indexing::Indexing;
 use std::alloc::{AllocError, Global};
 
 /// Adds the set at this place, by another number.
 fn add_set<'a>(
     to: &mut Sets<'a>,
+    indexing: &mut Indexing<'_>,
     from: &Sets<'a>,
     place: u32,
     number: u32,
@@ -31,13 +33,14 @@ fn add_set<'a>(
         to.push(action.label, action.probability)?;
     }
     let (player, _) = from.key(place);
-    to.end(player, number, from.name(place))?;
+    to.end(indexing, player, number, from.name(place))?;
     Ok(())
 }
 
 /// Adds the outcome at this place, by another number.
 fn add_outcome<'a>(
     to: &mut Outcomes<'a>,
+    indexing: &mut Indexing<'_>,
     from: &Outcomes<'a>,
     place: u32,
     number: u32,
@@ -51,7 +54,7 @@ fn add_outcome<'a>(
     for payoff in from.payoffs(place) {
         to.push(*payoff)?;
     }
-    to.end(number, from.name(place))?;
+    to.end(indexing, number, from.name(place))?;
     Ok(())
 }
 
@@ -78,10 +81,11 @@ impl<'a> Game<'a> {
             (listed_numbers self.now (map (λ own. own.items) sets.now) []) self.now).sets) }
         ensures small { IfOk result (λ r. AllByRecursion (λ s. s.key.number < 2 ^ 32) r.known) }
     {
-        let mut renumbered = self.sets.emptied(alloc);
+        let mut renumbered = Sets::new(alloc);
+        let mut indexing = self.indexing;
         for place in 0..self.sets.len() as u32 {
             let number = self.listed_number(sets, place);
-            add_set(&mut renumbered, &self.sets, place, number)?;
+            add_set(&mut renumbered, &mut indexing, &self.sets, place, number)?;
         }
         Ok(renumbered)
     }
@@ -97,10 +101,17 @@ impl<'a> Game<'a> {
             ≡ (renumbered (listed_numbers self.now [] outcomes.now) self.now).outcomes) }
         ensures small { IfOk result (λ r. AllByRecursion (λ o. o.key < 2 ^ 32) r.known) }
     {
-        let mut renumbered = self.outcomes.emptied(alloc);
+        let mut renumbered = Outcomes::new(alloc);
+        let mut indexing = self.indexing;
         for place in 0..self.outcomes.len() as u32 {
             let number = outcomes[place as usize];
-            add_outcome(&mut renumbered, &self.outcomes, place, number)?;
+            add_outcome(
+                &mut renumbered,
+                &mut indexing,
+                &self.outcomes,
+                place,
+                number,
+            )?;
         }
         Ok(renumbered)
     }
@@ -133,6 +144,7 @@ impl<'a> Game<'a> {
             title: self.title,
             comment: self.comment,
             players,
+            indexing: self.indexing,
             sets,
             outcomes,
             nodes,

@@ -133,7 +133,6 @@ fn stretch_like(
 #[derive(Drop)]
 pub(crate) struct Sets<'a> {
     alloc: Global,
-    indexing: Indexing<'a>,
     players: Vec<Numbers>,
     entries: Vec<Entry<'a>>,
     /// How many actions each has, stored a second time: this is read at each node, and all of it
@@ -158,37 +157,17 @@ impl<'a> Model for Sets<'a> {
 
 impl<'a> Sets<'a> {
     /// No sets.
-    pub(crate) fn new(alloc: Global, indexing: Indexing<'a>) -> Sets<'a>
+    pub(crate) fn new(alloc: Global) -> Sets<'a>
         ensures { result ≡ record { known = []; pending = [] } }
     {
         Sets {
             alloc,
-            indexing,
             players: Vec::new(alloc),
             entries: Vec::new(alloc),
             counts: Vec::new(alloc),
             actions: Vec::new(alloc),
             from: 0,
         }
-    }
-
-    /// No sets, which will be found in the same way.
-    pub(crate) fn emptied(&self, alloc: Global) -> Sets<'a>
-        ensures { result ≡ record { known = []; pending = [] } }
-    {
-        Sets::new(alloc, self.indexing)
-    }
-
-    /// How they are found.
-    pub(crate) fn indexing(&self) -> Indexing<'a> {
-        self.indexing
-    }
-
-    /// Takes over what was hashed for the same input.
-    pub(crate) fn adopt(&mut self, indexing: Indexing<'a>)
-        ensures { self.new ≡ self.old }
-    {
-        self.indexing.adopt(indexing);
     }
 
     /// The place of a set.
@@ -317,6 +296,7 @@ impl<'a> Sets<'a> {
     /// place. After an `Err` nothing has changed.
     pub(crate) fn end(
         &mut self,
+        indexing: &mut Indexing<'_>,
         player: u32,
         number: u32,
         name: Label<'a>,
@@ -336,7 +316,7 @@ impl<'a> Sets<'a> {
         let among = note(
             &mut self.players,
             self.alloc,
-            &mut self.indexing,
+            indexing,
             player,
             number,
             place,

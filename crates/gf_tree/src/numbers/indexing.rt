@@ -4,7 +4,7 @@ use crate::numbers::seeded::Seeded;
 
 /// For this many bytes of the input there is room for one number in the tables, in addition to the
 /// room for small numbers.
-const BYTES_FOR_NUMBER: usize = 8;
+const BYTES_FOR_NUMBER: usize = 4;
 
 /// The room that the tables of an input's numbers have, and what makes the hashers of its maps.
 ///
@@ -43,12 +43,5 @@ impl<'a> Indexing<'a> {
         let seeded = Seeded::of(self.input);
         self.seeded = Some(seeded);
         seeded
-    }
-
-    /// Takes over what another one has hashed for the same input, if it has.
-    pub(crate) fn adopt(&mut self, other: Indexing<'a>) {
-        if self.seeded.is_none() {
-            self.seeded = other.seeded;
-        }
     }
 }

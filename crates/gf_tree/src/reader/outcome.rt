@@ -45,14 +45,14 @@ impl<'a> Reader<'a> {
             ≡ None }
         ensures content { OnOk result (content_of self.new ≡ with_outcome (content_of self.old)
             number (outcome_with (label_of name.entry) self.old.outcomes.pending)) }
-        ensures kept { self.new ≡ record self.old { outcomes = self.new.outcomes } }
+        ensures kept { self.new
+            ≡ record self.old { indexing = self.new.indexing; outcomes = self.new.outcomes } }
         ensures grows { OnOk result (Grows self.old.outcomes.known self.new.outcomes.known) }
         ensures key { IfOk result (λ place. option_map (λ o. o.key)
             (at_position self.new.outcomes.known (suc place)) ≡ Some number) }
         ensures place { IfOk result (λ place. place < length self.new.outcomes.known) }
     {
-        self.outcomes.adopt(self.sets.indexing());
-        self.outcomes.end(number, name)
+        self.outcomes.end(&mut self.indexing, number, name)
     }
 
     /// Reads a payoff of a new outcome, and one comma if there is one.

@@ -131,15 +131,15 @@ impl<'a> Reader<'a> {
             (map (λ s. s.key) self.old.sets.known) ≡ None }
         ensures content { OnOk result (content_of self.new ≡ with_set (content_of self.old)
             (set_of player number) (set_with (label_of name.entry) self.old.sets.pending)) }
-        ensures kept { self.new ≡ record self.old { sets = self.new.sets } }
+        ensures kept { self.new
+            ≡ record self.old { indexing = self.new.indexing; sets = self.new.sets } }
         ensures grows { OnOk result (Grows self.old.sets.known self.new.sets.known) }
         ensures begins { (node : List ℕ) → IfOk result (λ place.
             begun_with self.new.sets.known node (suc place) ≡ begun node (set_of player number)
             (set_with (label_of name.entry) self.old.sets.pending)) }
         ensures place { IfOk result (λ place. place < length self.new.sets.known) }
     {
-        self.sets.adopt(self.outcomes.indexing());
-        self.sets.end(player, number, name)
+        self.sets.end(&mut self.indexing, player, number, name)
     }
 
     /// Reads the closing brace of the actions of a set that is not known, and returns the set's
@@ -161,8 +161,11 @@ impl<'a> Reader<'a> {
             ≡ answer (OutcomeNumber (begun_with self.new.sets.known node (suc place))) self.new)
             (λ f. Fails f (answer (NewAction node (set_of player number)
             (set_with (label_of name.entry) self.old.sets.pending) sum) self.old)) }
-        ensures kept { OnOk result (self.new
-            ≡ record self.old { tokens = self.new.tokens; sets = self.new.sets }) }
+        ensures kept { OnOk result (self.new ≡ record self.old {
+          tokens = self.new.tokens;
+          indexing = self.new.indexing;
+          sets = self.new.sets;
+        }) }
         ensures grows { OnOk result (Grows self.old.sets.known self.new.sets.known) }
         ensures place { IfOk result (λ place. place < length self.new.sets.known) }
         ensures shorter { OnOk result (length self.new.tokens.ahead ≤ length self.old.tokens.ahead) }
@@ -191,8 +194,11 @@ impl<'a> Reader<'a> {
             (λ place. answer (NewSetName node (set_of player number)) self.old
             ≡ answer (OutcomeNumber (begun_with self.new.sets.known node (suc place))) self.new)
             (λ f. Fails f (answer (NewSetName node (set_of player number)) self.old)) }
-        ensures kept { OnOk result (self.new
-            ≡ record self.old { tokens = self.new.tokens; sets = self.new.sets }) }
+        ensures kept { OnOk result (self.new ≡ record self.old {
+          tokens = self.new.tokens;
+          indexing = self.new.indexing;
+          sets = self.new.sets;
+        }) }
         ensures grows { OnOk result (Grows self.old.sets.known self.new.sets.known) }
         ensures place { IfOk result (λ place. place < length self.new.sets.known) }
         ensures shorter { OnOk result (length self.new.tokens.ahead ≤ length self.old.tokens.ahead) }
@@ -221,8 +227,11 @@ impl<'a> Reader<'a> {
             ≡ answer (OutcomeNumber (begun_with self.new.sets.known node (suc place))) self.new)
             (λ f. Fails f (answer (behind_set node (set_of player number)
             (description_at same_set self.old.sets.known (set_of player number))) self.old)) }
-        ensures kept { OnOk result (self.new
-            ≡ record self.old { tokens = self.new.tokens; sets = self.new.sets }) }
+        ensures kept { OnOk result (self.new ≡ record self.old {
+          tokens = self.new.tokens;
+          indexing = self.new.indexing;
+          sets = self.new.sets;
+        }) }
         ensures grows { OnOk result (Grows self.old.sets.known self.new.sets.known) }
         ensures place { IfOk result (λ place. place < length self.new.sets.known) }
         ensures shorter { OnOk result (length self.new.tokens.ahead ≤ length self.old.tokens.ahead) }
@@ -248,8 +257,11 @@ impl<'a> Reader<'a> {
             (λ place. answer (SetNumber node player) self.old
             ≡ answer (OutcomeNumber (begun_with self.new.sets.known node (suc place))) self.new)
             (λ f. Fails f (answer (SetNumber node player) self.old)) }
-        ensures kept { OnOk result (self.new
-            ≡ record self.old { tokens = self.new.tokens; sets = self.new.sets }) }
+        ensures kept { OnOk result (self.new ≡ record self.old {
+          tokens = self.new.tokens;
+          indexing = self.new.indexing;
+          sets = self.new.sets;
+        }) }
         ensures grows { OnOk result (Grows self.old.sets.known self.new.sets.known) }
         ensures place { IfOk result (λ place. place < length self.new.sets.known) }
         ensures shorter { OnOk result (length self.new.tokens.ahead ≤ length self.old.tokens.ahead) }

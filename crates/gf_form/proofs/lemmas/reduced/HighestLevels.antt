@@ -5,9 +5,8 @@ use Rattle.std.proofs.Common.{◌∙◌, arith, inl, inr}
 use Rattle.std.specs.Prelude.{◌⊎◌}
 use Rattle.std.proofs.lemmas.Bool.{cases_lt}
 use Rattle.std.proofs.lemmas.List.{get_or_append_left, length-append}
-use Rattle.std.proofs.lemmas.Option.{slice_get_within}
+use Rattle.std.proofs.lemmas.Option.{slice_get_within, same_Some}
 use Rattle.std.proofs.Math.Seq.{get_or-append_seam}
-use Rattle.gf_tree.proofs.lemmas.stores.RenumberedStores.{some_same}
 use Rattle.gf_form.specs.inner.reduced.Levels.{AreHighest, AreLevels}
 use Rattle.gf_form.specs.inner.reduced.Visits.{AreOrdered}
 use Rattle.gf_form.specs.declared.reduced.visits.Visit.{Visit}
@@ -52,7 +51,7 @@ highest_more sets vs levels highest next i v new ordered h at is upto above one 
     here = ap (λ (n : ℕ). get_or (highest ++ new ∷ []) n 0) (sym h.counted) ∙ get_or-append_seam highest new [] 0
 
     same : (k : ℕ) (w : Visit) → k ≡ i → slice_get vs k ≡ Some w → v ≡ w
-    same k w e there = some_same v w (sym at ∙ ap (slice_get vs) (sym e) ∙ there)
+    same k w e there = same_Some v w (sym at ∙ ap (slice_get vs) (sym e) ∙ there)
 
     by : (k : ℕ) (w : Visit) → slice_get vs k ≡ Some w → (k < i) ⊎ (i ≤ k) → k < i + 1
         → get_or (highest ++ new ∷ []) w.last.visit 0 ≤ get_or (highest ++ new ∷ []) (suc k) 0

@@ -9,11 +9,10 @@ use Rattle.std.proofs.lemmas.Bool.{and_parts, cases_lt, eq-eqb, false≢true, le
 use Rattle.std.proofs.lemmas.Grind.{get_or-set_at}
 use Rattle.std.proofs.lemmas.List.{get_or-set_other, length-set, take_more}
 use Rattle.std.proofs.lemmas.List.Elements.{filter_more}
-use Rattle.std.proofs.lemmas.Option.{slice_get-get_or, slice_get_within}
+use Rattle.std.proofs.lemmas.Option.{slice_get-get_or, slice_get_within, same_Some}
 use Rattle.std.proofs.Math.Bool.{and-false, and-true}
 use Rattle.gf_nfg.specs.Profiles.{numbers_from}
 use Rattle.gf_tree.proofs.lemmas.games.FirstUses.{in_filter, of_filter}
-use Rattle.gf_tree.proofs.lemmas.stores.RenumberedStores.{some_same}
 use Rattle.gf_tree.proofs.lemmas.games.Uses.{Has, all_of_each}
 use Rattle.gf_form.specs.inner.reduced.Levels.{AreLeft, AreLevels, IsLevel, is_made_at, is_made_to}
 use Rattle.gf_form.specs.inner.reduced.Visits.{AreNumbers, AreOrdered, chosen, is_met, visit_at}
@@ -120,7 +119,7 @@ visit_is vs k v at =
     let none : Visit = record { last = record { visit = 0; set = 0; action = 0 }; set = 0 } in
     let same : Some (get_or vs k none) ≡ Some v =
     sym (slice_get-get_or vs k none (slice_get_within vs k v at)) ∙ at in
-    ap (λ (n : ℕ). get_or vs n none) before ∙ some_same (get_or vs k none) v same
+    ap (λ (n : ℕ). get_or vs n none) before ∙ same_Some (get_or vs k none) v same
 
 -- the visit before comes earlier
 pub comes_earlier : (sets : ℕ) (vs : List Visit) (number : ℕ) → AreOrdered sets 1 vs → 1 ≤ number

@@ -15,9 +15,9 @@ use Rattle.gf_tree.specs.FirstUse.{player_keys, player_sets}
 use Rattle.gf_tree.specs.Game.{Game, IsGame, set_at, used_sets}
 use Rattle.gf_tree.proofs.lemmas.games.FirstUses.{AreDistinct, first_uses_distinct, of_filter}
 use Rattle.gf_tree.proofs.lemmas.games.Lookups.{entry_at}
-use Rattle.gf_tree.proofs.lemmas.stores.RenumberedStores.{has_place}
 use Rattle.gf_tree.proofs.lemmas.games.TreesOnce.{same_set_equality}
 use Rattle.gf_form.specs.Strategies.{action_counts}
+use Rattle.gf_tree.proofs.lemmas.games.Members.{has_at}
 
 abbrev Known : Type 0
 Known = Described SetKey InformationSet
@@ -28,7 +28,7 @@ his_set : (g : Game) → IsGame g → (player : ℕ) (s : Known) (k : ℕ)
     → set_at g (set_of player s.key.number) ≡ Some s.description
 his_set g game player s k is =
     let his = λ (s : Known). s.key.player == player in
-    let there = of_filter his g.sets s (has_place (player_sets g player) k s is) in
+    let there = of_filter his g.sets s (has_at (player_sets g player) k s is) in
     let owner : s.key.player ≡ player = eqb-true s.key.player player there.1 in
     let distinct : AreDistinct (map (λ (s : Known). s.key) g.sets) =
     subst AreDistinct (sym game.one_entry_each_set)

@@ -1,14 +1,13 @@
 -- Rows that are put onto a stack and taken from it.
 use Rattle.std.proofs.Common.{◌≡◌, ℕ, ◌<◌, List, [], ◌∷◌, ◌++◌, length, map, Option, Some}
 use Rattle.std.proofs.Common.{Vec, Global, refl, sym, ap, subst, ◌∙◌, arith}
+use Rattle.std.proofs.Common.{◌+◌, ◌≤◌, suc}
 use Rattle.std.specs.Prelude.{Err, IsErrOf, option_to_list}
 use Rattle.std.specs.List.{AllByRecursion}
 use Rattle.std.proofs.lemmas.List.{map-append}
 use Rattle.gf_fraction.specs.Ratio.{IsFraction, Ratio}
 use Rattle.gf_fraction.specs.Rational.{zero_ratio}
 use Rattle.gf_fraction.proofs.AllElements.{all_parts}
-use Rattle.gf_tree.proofs.lemmas.stores.RenumberedStores.{all_and_one}
-use Rattle.std.proofs.Common.{◌+◌, ◌≤◌, suc}
 use Rattle.gf_tree.specs.Game.{Game}
 use Rattle.gf_form.proofs.lemmas.values.PaidRowsKept.{empty_at}
 use Rattle.gf_form.specs.inner.values.Program.{operands, paid, run}
@@ -19,6 +18,7 @@ use Rattle.gf_form.specs.inner.values.Rows.{column_on}
 use Rattle.gf_form.specs.inner.values.Values.{plus_of, times_of}
 use Rattle.gf_form.proofs.lemmas.values.RowSums.{fraction_at}
 use Rattle.gf_form.proofs.lemmas.values.Zeros.{zero_plus}
+use Rattle.gf_tree.proofs.lemmas.games.Members.{all_more}
 
 abbrev pub rows_in : List (Vec Ratio Global) → List (List Ratio)
 rows_in held = map (λ row. row.items) held
@@ -50,7 +50,7 @@ last_row players all rows row e h =
 pub one_more_row : (players : ℕ) (all rows : List (List Ratio)) (row : List Ratio)
     → all ≡ rows ++ row ∷ [] → AreRows players rows → IsRow players row → AreRows players all
 one_more_row players all rows row e h is =
-    subst (AreRows players) (sym e) (all_and_one (IsRow players) rows row h is)
+    subst (AreRows players) (sym e) (all_more (IsRow players) rows row h is)
 
 pub below_players : (players k : ℕ) (row : List Ratio) → k < length row → IsRow players row
     → k < players

@@ -2,9 +2,9 @@
 use Rattle.std.proofs.Common.{◌≡◌, ℕ, zero, suc, ◌+◌, ◌-◌, ◌<◌, false, List, [], ◌∷◌}
 use Rattle.std.proofs.Common.{◌++◌, length, map, slice_get, Option, Some, None, MatchOption}
 use Rattle.std.proofs.Common.{option_map, refl, sym, ap, subst, ◌∙◌, append_assoc, arith}
+use Rattle.std.proofs.Common.{◌≤◌, get_or, Vec, Global}
 use Rattle.std.specs.Prelude.{◌==◌, option_and_then, unwrap_or, if◌then◌else◌}
 use Rattle.std.proofs.lemmas.Bool.{eqb-true, eq-eqb, false_from_ne_true}
-use Rattle.std.proofs.Common.{◌≤◌, get_or, Vec, Global}
 use Rattle.std.proofs.lemmas.List.{length-append, length-map}
 use Rattle.std.proofs.lemmas.Option.{slice_get-get_or, slice_get-map, slice_get_past}
 use Rattle.gf_tree.specs.Actions.{action_of, actions_of}
@@ -23,7 +23,6 @@ use Rattle.gf_tree.specs.PrefixOrder.{flatten, flatten_all}
 use Rattle.gf_tree.specs.Subtrees.{child_trees, list_of, root_node}
 use Rattle.gf_tree.proofs.lemmas.games.FirstUses.{AreDistinct, first_uses_distinct}
 use Rattle.gf_tree.proofs.lemmas.games.PlayerSets.{sets_by_first_use}
-use Rattle.gf_tree.proofs.lemmas.stores.RenumberedStores.{has_place}
 use Rattle.gf_tree.proofs.lemmas.games.TreesOnce.{same_set_equality}
 use Rattle.gf_tree.proofs.lemmas.games.Uses.{Has}
 use Rattle.gf_form.specs.inner.values.CodeLeft.{list_code, open_code, opened, option_code}
@@ -34,6 +33,7 @@ use Rattle.gf_form.specs.inner.values.Values.{chances_at}
 use Rattle.gf_form.specs.declared.values.op.Op.{Op}
 use Rattle.gf_form.specs.declared.values.op.Op.TheVariants.{Begin, Nothing, Weigh, Pay}
 use Rattle.gf_form.specs.declared.values.walk.Open.{Open}
+use Rattle.gf_tree.proofs.lemmas.games.Members.{has_at}
 
 -- ---- the operations of a tree by the list of its children
 
@@ -117,7 +117,7 @@ choice_there (s ∷ keys) (action ∷ others) (suc zero) key d h =
     let same : s ≡ key = cc in rw ((same_set_equality s key).1 same) refl
 choice_there (s ∷ keys) (action ∷ others) (suc (suc k)) key d h =
     let other : same_set s key ≡ false = false_from_ne_true (same_set s key)
-    (λ t. d.0 (subst (Has keys) (sym ((same_set_equality s key).0 t)) (has_place keys k key h))) in
+    (λ t. d.0 (subst (Has keys) (sym ((same_set_equality s key).0 t)) (has_at keys k key h))) in
     rw other (choice_there keys others (suc k) key d.1 h)
 
 pub choice_is : (g : Game) (all : List (List ℕ)) (player position : ℕ) (key : SetKey) → IsGame g

@@ -37,17 +37,15 @@ use Rattle.gf_tree.proofs.lemmas.fronts.Cuts.{first_is, others_are}
 use Rattle.gf_tree.proofs.lemmas.due.Answers.{spells_fault}
 use Rattle.gf_tree.proofs.lemmas.due.Nodes.{name_by, stands_in, parts, reads_on}
 use Rattle.gf_tree.proofs.lemmas.due.Rows.{Stands, StandsFor, Answers, Law, stands_by}
-use Rattle.gf_tree.proofs.lemmas.fronts.Codes.{begins_actions, begins_probability, none_or_some}
-use Rattle.gf_tree.proofs.lemmas.fronts.Codes.{one_description}
+use Rattle.gf_tree.proofs.lemmas.fronts.Codes.{begins_actions, begins_probability}
 use Rattle.gf_tree.proofs.lemmas.fronts.Codes.{known_left}
 use Rattle.gf_tree.proofs.lemmas.fronts.Lists.{to_probability}
 use Rattle.gf_tree.proofs.lemmas.fronts.Runs.{in_actions}
 use Rattle.gf_tree.proofs.lemmas.stores.ListedSums.{same_sum}
 use Rattle.gf_tree.proofs.lemmas.runs.Shares.{share_again, share_found}
 use Rattle.gf_tree.proofs.lemmas.runs.Tokens.{ratio_is, ratio_same}
-
-no_test : (t : Bool) → t ≡ true → t ≡ false → ⊥
-no_test t h k = cc
+use Rattle.std.proofs.lemmas.Option.{same_Some}
+use Rattle.gf_tree.proofs.lemmas.Once.{true_or_false, one_ok, ok_or_err, none_or_some, one_some}
 
 -- ---- a new set of a player
 
@@ -84,7 +82,7 @@ ends_at : (s : State) (a : Action) (actions : List Action) (sum : Ratio) (t : Bo
     → Answers (a_new_branch (a ∷ actions) sum) Closing (cond t (Ok s) (Err SumBelowOne))
 ends_at s a actions sum true e = (omega arith, ratio_is sum (whole (pos 1)) e)
 ends_at s a actions sum false e = (
-  λ h. no_test (is_one sum) (subst (λ (x : Ratio). is_one x ≡ true) (sym h.1) refl) e,
+  λ h. true_or_false (is_one sum) (subst (λ (x : Ratio). is_one x ≡ true) (sym h.1) refl) e,
   inr (refl, omega arith),
 )
 
@@ -152,12 +150,6 @@ sum_below f n set sum h new has other =
 
 -- ---- a new probability
 
-one_number : (o : Result Ratio NumberFault) (p q : Ratio) → o ≡ Ok p → o ≡ Ok q → p ≡ q
-one_number o p q e h = cc
-
-not_both : {A : Type 0} (o : Result A Why) (x : A) (why : Why) → o ≡ Ok x → o ≡ Err why → ⊥
-not_both o x why e h = cc
-
 -- why the bytes are not a probability after this sum; the sign is looked at before the sum
 abbrev pub IsNoShare : Ratio → List ℕ → Why → Type 0
 IsNoShare sum b why = IsNoNumber b why ⊎ ((p : Ratio) × IsNumber b p × IsWrongBehind why sum p
@@ -205,7 +197,7 @@ share_answers c name key set label sum b (Ok share) fraction e wrong =
     let h = share_found sum b share fraction e in
     (share.probability, share.sum, h.number, h.not_below, h.adds, h.not_above)
 share_answers c name key set label sum b (Err why) fraction e wrong = (
-  λ a. not_both (share_of sum b) (record { probability = a.0; sum = a.1 }) why
+  λ a. ok_or_err (share_of sum b) (record { probability = a.0; sum = a.1 }) why
       (share_again sum a.0 a.1 b fraction a.2 a.3 a.4 a.5) e,
   wrong,
 )
@@ -321,9 +313,9 @@ number_at : (p found : Ratio) (b : List ℕ) (s : State) (t : Bool) → number_o
 number_at p found b s true e h =
     subst (IsNumber b) (ratio_is found p h) (number_is b found e)
 number_at p found b s false e h =
-    let other : found ≢ p = λ q. no_test (same_ratio found p)
+    let other : found ≢ p = λ q. true_or_false (same_ratio found p)
     (subst (λ (x : Ratio). same_ratio found x ≡ true) q (ratio_same found)) h in (
-      λ a. other (one_number (number_of b) found p e (number_again b p a)),
+      λ a. other (one_ok (number_of b) found p e (number_again b p a)),
       inr (refl, (found, number_is b found e, other)),
     )
 
@@ -341,9 +333,6 @@ known_probability_law c b p others (Bare t) =
     same_answers p t (at (KnownAction b others) c) (number_of t) refl
 known_probability_law c b p others _ = (λ a. a, refl)
 
-pub some_is : (p q : Ratio) → Some p ≡ Some q → p ≡ q
-some_is p q e = cc
-
 pub known_share : (f : FileFront) (n : ℕ) (known seen : InformationSet) (next : Action)
     → ToProbability f.front n seen → KnowsSet f.nodes (set_of 0 n) known
     → GoesOnWith known seen next
@@ -357,7 +346,7 @@ known_share f n known seen next h knows more =
       | inl k ↦
           absurd (none_or_some (description_at same_set c.sets key) known k.unknown at_key)
       | inr k ↦
-          let same = one_description (description_at same_set c.sets key) k.known known k.is_known
+          let same = one_some (description_at same_set c.sets key) k.known known k.is_known
           at_key in
           let left = others_are seen.actions (k.next ∷ k.others) (next ∷ more.0)
           (sym k.parts ∙ ap (λ (x : InformationSet). x.actions) same ∙ more.1) in
@@ -374,4 +363,4 @@ pub known_probability : (f : FileFront) (n : ℕ) (known seen : InformationSet) 
     → GoesOnWith known seen next → next.probability ≡ Some p → Stands f.before (this_number p)
 known_probability f n known seen next p h knows more has =
     let k = known_share f n known seen next h knows more in
-    subst (λ (x : Ratio). Stands f.before (this_number x)) (some_is k.0 p (sym k.1 ∙ has)) k.2
+    subst (λ (x : Ratio). Stands f.before (this_number x)) (same_Some k.0 p (sym k.1 ∙ has)) k.2

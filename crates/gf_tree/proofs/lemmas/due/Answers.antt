@@ -1,8 +1,7 @@
 -- The answers of the machine of the reader in the heading and at nodes, by the rows of the table of
 -- positions.
-use Rattle.std.proofs.Common.{◌≡◌, ℕ, suc, Bool, true, false, cond, List, []}
-use Rattle.std.proofs.Common.{◌∷◌, length, Result, Ok, Err, refl, sym, subst, ◌∙◌, arith}
-use Rattle.std.proofs.Common.{None, inl, inr, nat_eq}
+use Rattle.std.proofs.Common.{◌≡◌, ℕ, suc, Bool, true, false, cond, List, [], ◌∷◌, length, Result}
+use Rattle.std.proofs.Common.{Ok, Err, refl, sym, subst, arith, None, inl, inr, nat_eq}
 use Rattle.std.specs.Prelude.{codes, ◌||◌, ◌≢◌}
 use Rattle.std.specs.Cmp.Lexicographic.{pointwise}
 use Rattle.gf_fraction.specs.Computed.{number_of}
@@ -27,6 +26,8 @@ use Rattle.gf_tree.specs.Rows.{a_word, an_end, an_opening, or_text}
 use Rattle.gf_tree.specs.Sentence.{IsPositive}
 use Rattle.gf_tree.proofs.lemmas.due.Rows.{Answers, Law}
 use Rattle.gf_tree.proofs.lemmas.runs.Tokens.{bytes_same, same_bytes}
+use Rattle.gf_tree.proofs.lemmas.Once.{true_or_false}
+use Rattle.gf_tree.proofs.lemmas.games.SentencesOnce.{one_letter}
 
 -- ---- numbers
 
@@ -41,11 +42,8 @@ no_index b e n h = let k = index_again b n h in absurd cc
 
 -- ---- words
 
-no_test : (t : Bool) → t ≡ true → t ≡ false → ⊥
-no_test t h k = cc
-
 pub other_word : (b word : List ℕ) → pointwise nat_eq b word ≡ false → b ≢ word
-other_word b word e q = no_test (pointwise nat_eq b word)
+other_word b word e q = true_or_false (pointwise nat_eq b word)
     (subst (λ (x : List ℕ). pointwise nat_eq b x ≡ true) q (bytes_same b)) e
 
 word_by : (w : What) (word b : List ℕ) (s : State) (t : Bool) → pointwise nat_eq b word ≡ t
@@ -93,9 +91,6 @@ in_players c Closing = tt
 in_players c _ = (λ a. a, refl)
 
 -- ---- nodes
-
-one_letter : (b : List ℕ) (x y : ℕ) → b ≡ x ∷ [] → b ≡ y ∷ [] → x ≡ y
-one_letter b x y h k = let e = sym h ∙ k in cc
 
 personal_by : (c : Content) (players : List (List ℕ)) (b : List ℕ) → c.players ≡ players
     → b ≡ codes "p"

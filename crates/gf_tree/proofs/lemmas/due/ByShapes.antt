@@ -35,12 +35,12 @@ use Rattle.gf_tree.proofs.lemmas.due.Payoffs.{new_payoff}
 use Rattle.gf_tree.proofs.lemmas.due.Rows.{Stands}
 use Rattle.gf_tree.proofs.lemmas.due.Suited.{node_only, one_name}
 use Rattle.gf_tree.proofs.lemmas.fronts.Codes.{begins_payoffs, begins_probability, known_outcome}
-use Rattle.gf_tree.proofs.lemmas.fronts.Codes.{none_or_some}
 use Rattle.gf_tree.proofs.lemmas.fronts.Lists.{to_probability}
 use Rattle.gf_tree.proofs.lemmas.fronts.Payoffs.{AtKnownPayoff, in_payoffs}
 use Rattle.gf_tree.proofs.lemmas.stores.ListedSums.{adds_up}
 use Rattle.gf_tree.proofs.lemmas.reasons.Nodes.{told_somewhere}
 use Rattle.gf_tree.proofs.lemmas.reasons.Rows.{IsOfRole, of_row}
+use Rattle.gf_tree.proofs.lemmas.Once.{none_or_some}
 
 abbrev HasRole : List Token → What → Type 0
 HasRole before w = (r : Role) × (what_of r ≡ w) × OnlySuitedFollow before r

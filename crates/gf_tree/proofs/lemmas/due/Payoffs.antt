@@ -31,14 +31,15 @@ use Rattle.gf_tree.proofs.lemmas.due.Nodes.{Parts, stands_in, parts}
 use Rattle.gf_tree.proofs.lemmas.due.Outcomes.{GoesOnBehind, after_zero}
 use Rattle.gf_tree.proofs.lemmas.due.Outcomes.{behind_node}
 use Rattle.gf_tree.proofs.lemmas.due.Rows.{Answers, EndLaw, Law, Stands, accepted}
-use Rattle.gf_tree.proofs.lemmas.fronts.Codes.{begins_on, begins_payoffs, none_or_some}
-use Rattle.gf_tree.proofs.lemmas.fronts.Codes.{known_outcome, one_description}
+use Rattle.gf_tree.proofs.lemmas.fronts.Codes.{begins_on, begins_payoffs}
+use Rattle.gf_tree.proofs.lemmas.fronts.Codes.{known_outcome}
 use Rattle.gf_tree.proofs.lemmas.fronts.Payoffs.{AtKnownPayoff, AtNewPayoff, ends_number}
 use Rattle.gf_tree.proofs.lemmas.fronts.Payoffs.{in_payoffs}
 use Rattle.gf_tree.proofs.lemmas.fronts.Runs.{goes_before}
 use Rattle.gf_tree.proofs.lemmas.fronts.Groups.{regroup}
 use Rattle.gf_tree.proofs.lemmas.runs.Payoffs.{known_at, new_at}
 use Rattle.gf_tree.proofs.lemmas.runs.Tokens.{Reads}
+use Rattle.gf_tree.proofs.lemmas.Once.{none_or_some, one_some}
 
 -- ---- the payoffs that stand before
 
@@ -245,7 +246,7 @@ module _ (f : FileFront) (n : ℕ) (payoffs : List Ratio) (may : Bool)
             absurd (none_or_some (description_at nat_eq s.content.outcomes n) outcome k.unknown
             at_key)
         | inr k ↦
-            let same = one_description (description_at nat_eq s.content.outcomes n) k.known outcome
+            let same = one_some (description_at nat_eq s.content.outcomes n) k.known outcome
             k.is_known at_key in
             let left = others_are payoffs k.others (p ∷ others)
             (ap (λ (ps : List Ratio). ps ++ k.others) (sym h.are)

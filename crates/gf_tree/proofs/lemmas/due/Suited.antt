@@ -1,8 +1,6 @@
 -- The tokens that suit a role determine what a refusal names there.
-use Rattle.std.proofs.Common.{◌≡◌, ℕ, List, Some, None, Err}
-use Rattle.std.proofs.Common.{false, nat_eq, refl, ◌∙◌, arith, inl, inr}
-use Rattle.std.specs.Prelude.{codes, ◌≢◌}
-use Rattle.std.specs.Cmp.Lexicographic.{pointwise}
+use Rattle.std.proofs.Common.{◌≡◌, ℕ, List, Some, None, Err, refl, ◌∙◌, arith, inl, inr}
+use Rattle.std.specs.Prelude.{codes}
 use Rattle.gf_fraction.specs.Ratio.{Ratio}
 use Rattle.gf_fraction.specs.Computed.{number_of, lowest_of, gcd_within}
 use Rattle.gf_fraction.specs.NumberSpelling.{IsNumber}
@@ -15,7 +13,7 @@ use Rattle.gf_token.proofs.ReadingIndices.{index_again, index_is}
 use Rattle.gf_tree.specs.DueRoles.{Role, Suits, what_of}
 use Rattle.gf_tree.specs.DueRoles.Role.{Format, Version, Letter, NodeLetter, PlayerNumber}
 use Rattle.gf_tree.specs.DueRoles.Role.{SetNumber, OutcomeNumber, Probability, Payoff, KnownNumber}
-use Rattle.gf_tree.proofs.lemmas.due.Answers.{other_word}
+use Rattle.gf_tree.proofs.lemmas.due.Answers.{other_word, no_index}
 
 -- ---- numbers and indices, spelled in two ways
 
@@ -63,9 +61,6 @@ no_r = not_read (codes "R") r_none
 no_t : (p : Ratio) → ¬ (IsNumber (codes "t") p)
 no_t = not_read (codes "t") t_none
 
-not_counted : (b : List ℕ) → index_of b ≡ None → (n : ℕ) → ¬ (IsIndex b n)
-not_counted b e n is = let f = index_again b n is in absurd cc
-
 efg_no_index : index_of (codes "EFG") ≡ None
 unfolding index_of
 efg_no_index = refl
@@ -98,47 +93,44 @@ two_index n is = index_is (codes "02") n (two_indices ∙ index_again (codes "2"
 
 -- ---- what some bytes show
 
-other : (b word : List ℕ) → pointwise nat_eq b word ≡ false → b ≢ word
-other = other_word
-
 pub format_only : (r : Role) → Suits r (codes "EFG") → what_of r ≡ what.Format
 format_only Format s = refl
-format_only Version s = absurd (other (codes "EFG") (codes "2") refl s)
-format_only Letter (inl s) = absurd (other (codes "EFG") (codes "R") refl s)
-format_only Letter (inr s) = absurd (other (codes "EFG") (codes "D") refl s)
-format_only (NodeLetter n) (inl s) = absurd (other (codes "EFG") (codes "c") refl s)
-format_only (NodeLetter n) (inr (inl s)) = absurd (other (codes "EFG") (codes "t") refl s)
-format_only (NodeLetter n) (inr (inr s)) = absurd (other (codes "EFG") (codes "p") refl s.0)
-format_only (PlayerNumber n) s = absurd (not_counted (codes "EFG") efg_no_index s.0 s.1.0)
-format_only SetNumber s = absurd (not_counted (codes "EFG") efg_no_index s.0 s.1.0)
-format_only OutcomeNumber s = absurd (not_counted (codes "EFG") efg_no_index s.0 s.1)
+format_only Version s = absurd (other_word (codes "EFG") (codes "2") refl s)
+format_only Letter (inl s) = absurd (other_word (codes "EFG") (codes "R") refl s)
+format_only Letter (inr s) = absurd (other_word (codes "EFG") (codes "D") refl s)
+format_only (NodeLetter n) (inl s) = absurd (other_word (codes "EFG") (codes "c") refl s)
+format_only (NodeLetter n) (inr (inl s)) = absurd (other_word (codes "EFG") (codes "t") refl s)
+format_only (NodeLetter n) (inr (inr s)) = absurd (other_word (codes "EFG") (codes "p") refl s.0)
+format_only (PlayerNumber n) s = absurd (no_index (codes "EFG") efg_no_index s.0 s.1.0)
+format_only SetNumber s = absurd (no_index (codes "EFG") efg_no_index s.0 s.1.0)
+format_only OutcomeNumber s = absurd (no_index (codes "EFG") efg_no_index s.0 s.1)
 format_only (Probability sum) s = absurd (no_efg s.0 s.2)
 format_only Payoff s = absurd (no_efg s.0 s.1)
 format_only (KnownNumber p) s = absurd (no_efg p s)
 
 pub letter_only : (r : Role) → Suits r (codes "R") → what_of r ≡ what.Letter
-letter_only Format s = absurd (other (codes "R") (codes "EFG") refl s)
-letter_only Version s = absurd (other (codes "R") (codes "2") refl s)
+letter_only Format s = absurd (other_word (codes "R") (codes "EFG") refl s)
+letter_only Version s = absurd (other_word (codes "R") (codes "2") refl s)
 letter_only Letter s = refl
-letter_only (NodeLetter n) (inl s) = absurd (other (codes "R") (codes "c") refl s)
-letter_only (NodeLetter n) (inr (inl s)) = absurd (other (codes "R") (codes "t") refl s)
-letter_only (NodeLetter n) (inr (inr s)) = absurd (other (codes "R") (codes "p") refl s.0)
-letter_only (PlayerNumber n) s = absurd (not_counted (codes "R") r_no_index s.0 s.1.0)
-letter_only SetNumber s = absurd (not_counted (codes "R") r_no_index s.0 s.1.0)
-letter_only OutcomeNumber s = absurd (not_counted (codes "R") r_no_index s.0 s.1)
+letter_only (NodeLetter n) (inl s) = absurd (other_word (codes "R") (codes "c") refl s)
+letter_only (NodeLetter n) (inr (inl s)) = absurd (other_word (codes "R") (codes "t") refl s)
+letter_only (NodeLetter n) (inr (inr s)) = absurd (other_word (codes "R") (codes "p") refl s.0)
+letter_only (PlayerNumber n) s = absurd (no_index (codes "R") r_no_index s.0 s.1.0)
+letter_only SetNumber s = absurd (no_index (codes "R") r_no_index s.0 s.1.0)
+letter_only OutcomeNumber s = absurd (no_index (codes "R") r_no_index s.0 s.1)
 letter_only (Probability sum) s = absurd (no_r s.0 s.2)
 letter_only Payoff s = absurd (no_r s.0 s.1)
 letter_only (KnownNumber p) s = absurd (no_r p s)
 
 pub node_only : (r : Role) → Suits r (codes "t") → what_of r ≡ what.Node
-node_only Format s = absurd (other (codes "t") (codes "EFG") refl s)
-node_only Version s = absurd (other (codes "t") (codes "2") refl s)
-node_only Letter (inl s) = absurd (other (codes "t") (codes "R") refl s)
-node_only Letter (inr s) = absurd (other (codes "t") (codes "D") refl s)
+node_only Format s = absurd (other_word (codes "t") (codes "EFG") refl s)
+node_only Version s = absurd (other_word (codes "t") (codes "2") refl s)
+node_only Letter (inl s) = absurd (other_word (codes "t") (codes "R") refl s)
+node_only Letter (inr s) = absurd (other_word (codes "t") (codes "D") refl s)
 node_only (NodeLetter n) s = refl
-node_only (PlayerNumber n) s = absurd (not_counted (codes "t") t_no_index s.0 s.1.0)
-node_only SetNumber s = absurd (not_counted (codes "t") t_no_index s.0 s.1.0)
-node_only OutcomeNumber s = absurd (not_counted (codes "t") t_no_index s.0 s.1)
+node_only (PlayerNumber n) s = absurd (no_index (codes "t") t_no_index s.0 s.1.0)
+node_only SetNumber s = absurd (no_index (codes "t") t_no_index s.0 s.1.0)
+node_only OutcomeNumber s = absurd (no_index (codes "t") t_no_index s.0 s.1)
 node_only (Probability sum) s = absurd (no_t s.0 s.2)
 node_only Payoff s = absurd (no_t s.0 s.1)
 node_only (KnownNumber p) s = absurd (no_t p s)
@@ -146,13 +138,13 @@ node_only (KnownNumber p) s = absurd (no_t p s)
 -- only "2" among its spellings
 version_only : (r : Role) → Suits r (codes "2") → ¬ (Suits r (codes "02"))
     → what_of r ≡ what.Version
-version_only Format s lacks = absurd (other (codes "2") (codes "EFG") refl s)
+version_only Format s lacks = absurd (other_word (codes "2") (codes "EFG") refl s)
 version_only Version s lacks = refl
-version_only Letter (inl s) lacks = absurd (other (codes "2") (codes "R") refl s)
-version_only Letter (inr s) lacks = absurd (other (codes "2") (codes "D") refl s)
-version_only (NodeLetter n) (inl s) lacks = absurd (other (codes "2") (codes "c") refl s)
-version_only (NodeLetter n) (inr (inl s)) lacks = absurd (other (codes "2") (codes "t") refl s)
-version_only (NodeLetter n) (inr (inr s)) lacks = absurd (other (codes "2") (codes "p") refl s.0)
+version_only Letter (inl s) lacks = absurd (other_word (codes "2") (codes "R") refl s)
+version_only Letter (inr s) lacks = absurd (other_word (codes "2") (codes "D") refl s)
+version_only (NodeLetter n) (inl s) lacks = absurd (other_word (codes "2") (codes "c") refl s)
+version_only (NodeLetter n) (inr (inl s)) lacks = absurd (other_word (codes "2") (codes "t") refl s)
+version_only (NodeLetter n) (inr (inr s)) lacks = absurd (other_word (codes "2") (codes "p") refl s.0)
 version_only (PlayerNumber n) s lacks = absurd (lacks (s.0, (two_index s.0 s.1.0, s.1.1), s.2))
 version_only SetNumber s lacks = absurd (lacks (s.0, (two_index s.0 s.1.0, s.1.1)))
 version_only OutcomeNumber s lacks = absurd (lacks (s.0, two_index s.0 s.1))
@@ -163,13 +155,13 @@ version_only (KnownNumber p) s lacks = absurd (lacks (two_again p s))
 
 -- "1", and not "1.0"
 index_only : (r : Role) → Suits r (codes "1") → ¬ (Suits r (codes "1.0")) → what_of r ≡ what.Index
-index_only Format s lacks = absurd (other (codes "1") (codes "EFG") refl s)
-index_only Version s lacks = absurd (other (codes "1") (codes "2") refl s)
-index_only Letter (inl s) lacks = absurd (other (codes "1") (codes "R") refl s)
-index_only Letter (inr s) lacks = absurd (other (codes "1") (codes "D") refl s)
-index_only (NodeLetter n) (inl s) lacks = absurd (other (codes "1") (codes "c") refl s)
-index_only (NodeLetter n) (inr (inl s)) lacks = absurd (other (codes "1") (codes "t") refl s)
-index_only (NodeLetter n) (inr (inr s)) lacks = absurd (other (codes "1") (codes "p") refl s.0)
+index_only Format s lacks = absurd (other_word (codes "1") (codes "EFG") refl s)
+index_only Version s lacks = absurd (other_word (codes "1") (codes "2") refl s)
+index_only Letter (inl s) lacks = absurd (other_word (codes "1") (codes "R") refl s)
+index_only Letter (inr s) lacks = absurd (other_word (codes "1") (codes "D") refl s)
+index_only (NodeLetter n) (inl s) lacks = absurd (other_word (codes "1") (codes "c") refl s)
+index_only (NodeLetter n) (inr (inl s)) lacks = absurd (other_word (codes "1") (codes "t") refl s)
+index_only (NodeLetter n) (inr (inr s)) lacks = absurd (other_word (codes "1") (codes "p") refl s.0)
 index_only (PlayerNumber n) s lacks = refl
 index_only SetNumber s lacks = refl
 index_only OutcomeNumber s lacks = refl
@@ -188,7 +180,7 @@ TakesNumbers q = (x : List ℕ) → Suits q x
 module _ (r q : Role) (same : (x : List ℕ) → (Suits r x → Suits q x) × (Suits q x → Suits r x))
   where
     no_point : (n : ℕ) → ¬ (IsIndex (codes "1.0") n)
-    no_point = not_counted (codes "1.0") point_no_index
+    no_point = no_index (codes "1.0") point_no_index
 
     is_index : Suits q (codes "1") → ¬ (Suits q (codes "1.0")) → what_of r ≡ what.Index
     is_index one point =
@@ -207,7 +199,7 @@ number_by Format q same numbers b s =
     let k = numbers (codes "EFG") ((same (codes "EFG")).0 refl) in absurd (no_efg k.0 k.1)
 number_by Version q same numbers b s =
     let k = numbers (codes "2") ((same (codes "2")).0 refl) in
-    absurd (other (codes "02") (codes "2") refl
+    absurd (other_word (codes "02") (codes "2") refl
     ((same (codes "02")).1 (k.2 (codes "02") (two_again k.0 k.1))))
 number_by Letter q same numbers b s =
     let k = numbers (codes "R") ((same (codes "R")).0 (inl refl)) in absurd (no_r k.0 k.1)
@@ -235,7 +227,7 @@ pub one_name : (r q : Role)
     → Suits r b → what_of r ≡ what_of q
 one_name r Format same b s = format_only r ((same (codes "EFG")).1 refl)
 one_name r Version same b s = version_only r ((same (codes "2")).1 refl)
-    (λ k. other (codes "02") (codes "2") refl ((same (codes "02")).0 k))
+    (λ k. other_word (codes "02") (codes "2") refl ((same (codes "02")).0 k))
 one_name r Letter same b s = letter_only r ((same (codes "R")).1 (inl refl))
 one_name r (NodeLetter n) same b s = node_only r ((same (codes "t")).1 (inr (inl refl)))
 one_name r (PlayerNumber n) same b s =

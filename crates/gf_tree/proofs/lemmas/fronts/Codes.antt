@@ -30,6 +30,7 @@ use Rattle.gf_tree.specs.Due.{NodeIsDue}
 use Rattle.gf_tree.proofs.lemmas.runs.Files.{due_by}
 use Rattle.gf_tree.proofs.lemmas.runs.Places.{is_read}
 use Rattle.gf_tree.specs.Reason.{NobodyMoves}
+use Rattle.gf_tree.proofs.lemmas.Once.{none_or_some, one_some}
 
 -- some tokens that begin with these are read
 pub record ReadsOn (before : List Token) : Type 0 where
@@ -124,12 +125,6 @@ pub new_is : {D : Type 0} (o : Option D) → ((d : D) → ¬ (o ≡ Some d)) →
 new_is None h = refl
 new_is (Some d) h = absurd (h d refl)
 
-pub one_description : {D : Type 0} (o : Option D) (c d : D) → o ≡ Some c → o ≡ Some d → c ≡ d
-one_description o c d h k = cc
-
-pub none_or_some : {D : Type 0} (o : Option D) (d : D) → o ≡ None → o ≡ Some d → ⊥
-none_or_some o d h k = cc
-
 -- a known outcome is one
 pub known_outcome : (c : Content) (n : ℕ) (outcome : Outcome) → AreOutcomes (length c.players) c.outcomes
     → description_at nat_eq c.outcomes n ≡ Some outcome → IsOutcome (length c.players) n outcome
@@ -184,7 +179,7 @@ known_left before e key known seen reads knows h =
       | inl n ↦
           absurd (none_or_some (description_at same_set c.sets key) known n.unknown at)
       | inr k ↦
-          let same = one_description (description_at same_set c.sets key) k.known known k.is_known
+          let same = one_some (description_at same_set c.sets key) k.known known k.is_known
           at in
           record {
             content = c;

@@ -25,7 +25,8 @@ use Rattle.gf_tree.proofs.lemmas.fronts.Cuts.{Last, Within, cut, each_last, each
 use Rattle.gf_tree.proofs.lemmas.fronts.Cuts.{none_left}
 use Rattle.gf_tree.proofs.lemmas.fronts.Cuts.{within}
 use Rattle.gf_tree.proofs.lemmas.due.Nodes.{parts}
-use Rattle.gf_tree.proofs.lemmas.fronts.Codes.{BeginsBare, none_or_some}
+use Rattle.gf_tree.proofs.lemmas.fronts.Codes.{BeginsBare}
+use Rattle.gf_tree.proofs.lemmas.Once.{none_or_some}
 
 -- ---- what is known there
 

@@ -38,6 +38,7 @@ use Rattle.gf_tree.proofs.lemmas.runs.Sets.{AreSets}
 use Rattle.gf_tree.proofs.lemmas.runs.Shares.{share_found}
 use Rattle.gf_tree.proofs.lemmas.runs.Tokens.{Reads, run_on, text_again, text_found}
 use Rattle.gf_tree.proofs.lemmas.games.TreesOnce.{same_set_equality}
+use Rattle.gf_tree.proofs.lemmas.Once.{one_some}
 
 -- from this content some tokens that begin with these are read
 pub record GoesOn (c : Content) (front : List Token) : Type 0 where
@@ -98,9 +99,6 @@ to_player front c h g =
 
 -- ---- the number of a set
 
-some_once : (o : Option ℕ) (n m : ℕ) → o ≡ Some n → o ≡ Some m → n ≡ m
-some_once o n m h k = cc
-
 among_players : (letter mover name more : _) (player left : ℕ) (c r : Content)
     → IsMover letter mover player → c.due ≡ suc left
     → Reads NodeDue c (Bare letter ∷ Text name ∷ (mover ++ more)) r → player ≤ length c.players
@@ -113,7 +111,7 @@ among_players letter mover name more (suc player) left c r h is e =
     (subst (λ (ts : List Token). Reads NodeDue c ts r) whole e) in
     let k = player_by name h.0 (count_of h.0) more c r refl
     (some_player c.players (Text name ∷ Bare h.0 ∷ more) c r reads) in
-    let same = some_once (count_of h.0) k.0 (suc player) k.1
+    let same = one_some (count_of h.0) k.0 (suc player) k.1
     (count_again h.0 (suc player) (omega arith) h.3) in
     let within = k.2 in
     omega (arith, same, within)

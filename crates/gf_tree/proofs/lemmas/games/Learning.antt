@@ -10,6 +10,8 @@ use Rattle.gf_tree.specs.Consistent.{Describes, AreConsistent}
 use Rattle.gf_tree.specs.Learned.{Learns}
 use Rattle.gf_tree.proofs.lemmas.games.Uses.{Has, IsEquality, has, contains, all_of_each}
 use Rattle.gf_tree.proofs.lemmas.games.Uses.{described_once}
+use Rattle.gf_tree.proofs.lemmas.Once.{none_or_some}
+use Rattle.std.proofs.lemmas.Option.{same_Some}
 
 -- ---- filters
 
@@ -110,12 +112,6 @@ record With {K D : Type 0} (same : K → K → Bool) (known : List (Described K 
   as_known : (key : K) (c d : D) → description_at same known key ≡ Some c → Has us (told key d)
       → d ≡ c
 
-is_some : {D : Type 0} (c d : D) → Some c ≡ Some d → c ≡ d
-is_some c d e = cc
-
-not_some : {D : Type 0} (o : Option D) (d : D) → o ≡ None → o ≡ Some d → ⊥
-not_some o d e f = cc
-
 key_is : {K D : Type 0} (u : Use K D) (key : K) (d : D) → u ≡ told key d → u.key ≡ key
 key_is {K} {D} u key d e = ap (λ (v : Use K D). v.key) e
 
@@ -138,11 +134,11 @@ module _ {K D : Type 0} (same : K → K → Bool) (equality : IsEquality same) w
       by_option : (o : Option D) → description_at same known k ≡ o
           → (key ≡ k → ⊥) × (description_at same known k ≡ None)
       by_option None p = (
-        λ q. not_some (description_at same (known ++ one key d ∷ []) k)
+        λ q. none_or_some (description_at same (known ++ one key d ∷ []) k)
             d e (at_key known key k d p q),
         p,
       )
-      by_option (Some c) p = absurd (not_some (description_at same (known ++ one key d ∷ []) k) c e
+      by_option (Some c) p = absurd (none_or_some (description_at same (known ++ one key d ∷ []) k) c e
           (at_more same known key k d c p))
 
   -- what is found after one more is that one, or was known
@@ -154,8 +150,8 @@ module _ {K D : Type 0} (same : K → K → Bool) (equality : IsEquality same) w
       by_option : (o : Option D) → description_at same known k ≡ o → (b : Bool) → same key k ≡ b
           → ((key ≡ k) × (c ≡ d)) ⊎ (description_at same known k ≡ Some c)
       by_option None p true t =
-          inl ((equality key k).0 t, is_some c d (sym e ∙ at_last same known key k d true t p))
-      by_option None p false t = absurd (not_some (description_at same (known ++ one key d ∷ []) k)
+          inl ((equality key k).0 t, same_Some c d (sym e ∙ at_last same known key k d true t p))
+      by_option None p false t = absurd (none_or_some (description_at same (known ++ one key d ∷ []) k)
           c (at_last same known key k d false t p) e)
       by_option (Some a) p b t = inr (p ∙ sym (at_more same known key k d a p) ∙ e)
 
@@ -180,7 +176,7 @@ module _ {K D : Type 0} (same : K → K → Bool) (equality : IsEquality same) w
   rest_old u us known d n h = record {
     described = λ before after v e first f.
         h.described (u ∷ before) after v (ap (λ x. u ∷ x) e) (
-          λ (k : u.key ≡ v.key). not_some (description_at same known v.key)
+          λ (k : u.key ≡ v.key). none_or_some (description_at same known v.key)
               d f (ap (description_at same known) (sym k) ∙ n),
           first,
         ) f;
@@ -232,7 +228,7 @@ module _ {K D : Type 0} (same : K → K → Bool) (equality : IsEquality same) w
       here key q = at_key known u.key key d (ap (description_at same known) (sym q) ∙ n) q
 
       its : (key : K) (a : D) → u ≡ told key a → d ≡ a
-      its key a e = is_some d a (sym t ∙ description_is u key a e)
+      its key a e = same_Some d a (sym t ∙ description_is u key a e)
 
       not_here : (v : Use K D) → (u.key ≡ v.key → ⊥) → (b : Bool)
           → same u.key v.key ≡ b → description_at same known v.key ≡ None
@@ -261,7 +257,7 @@ module _ {K D : Type 0} (same : K → K → Bool) (equality : IsEquality same) w
 
       as_known : (key : K) (c a : D)
           → description_at same known key ≡ Some c → Has (u ∷ us) (told key a) → a ≡ c
-      as_known key c a f (inl p) = absurd (not_some (description_at same known u.key) c n
+      as_known key c a f (inl p) = absurd (none_or_some (description_at same known u.key) c n
           (ap (description_at same known) (key_is u key a p) ∙ f))
       as_known key c a f (inr p) = w.as_known key c a (at_more same known u.key key d c f) p
 
@@ -273,8 +269,8 @@ module _ {K D : Type 0} (same : K → K → Bool) (equality : IsEquality same) w
     where
       its : (key : K) (a : D) → u ≡ told key a → a ≡ d
       its key a e = elim t [
-        | inl z ↦ absurd (not_some u.description a z (description_is u key a e))
-        | inr z ↦ is_some a d (sym (description_is u key a e) ∙ z)
+        | inl z ↦ absurd (none_or_some u.description a z (description_is u key a e))
+        | inr z ↦ same_Some a d (sym (description_is u key a e) ∙ z)
       ]
 
       here : (key : K) (a : D) → u ≡ told key a → description_at same known key ≡ Some d
@@ -285,7 +281,7 @@ module _ {K D : Type 0} (same : K → K → Bool) (equality : IsEquality same) w
           → (a : D) × (v.description ≡ Some a)
       described [] after v e first f =
           let q : u ≡ v = cc in
-          absurd (not_some (description_at same known u.key) d
+          absurd (none_or_some (description_at same known u.key) d
           (ap (λ (x : Use K D). description_at same known x.key) q ∙ f) n)
       described (x ∷ before) after v e first f =
           let r : us ≡ before ++ v ∷ after = cc in w.described before after v r first.1 f
@@ -298,7 +294,7 @@ module _ {K D : Type 0} (same : K → K → Bool) (equality : IsEquality same) w
 
       as_known : (key : K) (c a : D)
           → description_at same known key ≡ Some c → Has (u ∷ us) (told key a) → a ≡ c
-      as_known key c a f (inl p) = its key a p ∙ is_some d c (sym (here key a p) ∙ f)
+      as_known key c a f (inl p) = its key a p ∙ same_Some d c (sym (here key a p) ∙ f)
       as_known key c a f (inr p) = w.as_known key c a f p
 
   with_none : (known : List (Described K D)) → With same known []
@@ -390,7 +386,7 @@ module _ {K D : Type 0} (same : K → K → Bool) (equality : IsEquality same) w
     described = λ before after u e first f. c.first_described before after u e first;
     alike = λ key a b p q.
         c.described_alike key a b (contains us (told key a) p) (contains us (told key b) q);
-    as_known = λ key a b f p. absurd (not_some (description_at same [] key) a refl f);
+    as_known = λ key a b f p. absurd (none_or_some (description_at same [] key) a refl f);
   }
 
   is_described : (us : List (Use K D)) (end : List (Described K D)) → Learns same [] us end

@@ -18,6 +18,7 @@ use Rattle.gf_tree.proofs.lemmas.games.PlayerSets.{sets_by_first_use}
 use Rattle.gf_tree.proofs.lemmas.games.Renumbered.{own_set}
 use Rattle.gf_tree.proofs.lemmas.games.TreesOnce.{same_set_equality}
 use Rattle.gf_tree.proofs.lemmas.games.Uses.{Has, IsEquality, contains, each, has, mapped_from}
+use Rattle.gf_tree.proofs.lemmas.games.Members.{has_at}
 
 -- ---- lists of numbers
 
@@ -73,12 +74,6 @@ module _ {K : Type 0} (same : K → K → Bool) (tells : IsEquality same) where
       apart_by k ks n ns a b (omega (arith, e)) d i j
       (numbers_apart ks ns a b (omega (arith, e)) d.1) (same k a) refl (same k b) refl h
 
-  has_place : (ks : List K) (place : ℕ) (key : K) → slice_get ks place ≡ Some key → Has ks key
-  has_place [] zero key h = absurd cc
-  has_place [] (suc place) key h = absurd cc
-  has_place (k ∷ ks) zero key h = inl cc
-  has_place (k ∷ ks) (suc place) key h = inr (has_place ks place key h)
-
   -- it stands at the key's place
   pub number_there : (ks : List K) (ns : List ℕ) (place : ℕ) (key : K) → length ns ≡ length ks
       → AreDistinct ks → slice_get ks place ≡ Some key
@@ -91,7 +86,7 @@ module _ {K : Type 0} (same : K → K → Bool) (tells : IsEquality same) where
       rw ((tells k key).1 first) refl
   number_there (k ∷ ks) (n ∷ ns) (suc place) key e d h =
       let other : same k key ≡ false = false_from_ne_true (same k key)
-      (λ t. d.0 (subst (Has ks) (sym ((tells k key).0 t)) (has_place ks place key h))) in
+      (λ t. d.0 (subst (Has ks) (sym ((tells k key).0 t)) (has_at ks place key h))) in
       rw other (number_there ks ns place key (omega (arith, e)) d.1 h)
 
 -- ---- the numbers of a game

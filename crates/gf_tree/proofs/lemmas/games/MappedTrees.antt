@@ -9,7 +9,7 @@ use Rattle.gf_tree.specs.Tree.Trees.{none, more}
 use Rattle.gf_tree.specs.PrefixOrder.{Entry, flatten, flatten_all}
 use Rattle.gf_tree.proofs.lemmas.games.Consistent.{map_entry}
 use Rattle.gf_tree.proofs.lemmas.games.Members.{in_left, in_right}
-use Rattle.gf_tree.proofs.lemmas.games.Uses.{Has}
+use Rattle.gf_tree.proofs.lemmas.games.Uses.{Has, has_later}
 
 mutual
   pub map_tree_same : {N M : Type 0} (f g : N → M) (t : Tree N)
@@ -67,8 +67,4 @@ held holds [] e x i h = absurd i
 held holds (d ∷ es) e x (inl q) h =
     let s : holds d.node ≡ Some x = ap (λ (c : Entry _). holds c.node) q ∙ h in rw s (inl refl)
 held holds (d ∷ es) e x (inr i) h =
-    go (holds d.node) (filter_map (λ e. holds e.node) es) x (held holds es e x i h)
-  where
-    go : {X : Type 0} (o : Option X) (xs : List X) (x : X) → Has xs x → Has (cons_option o xs) x
-    go None xs x i = i
-    go (Some y) xs x i = inr i
+    has_later (holds d.node) (filter_map (λ e. holds e.node) es) x (held holds es e x i h)

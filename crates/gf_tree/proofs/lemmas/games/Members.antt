@@ -1,8 +1,8 @@
 -- Lists, element by element.
-use Rattle.std.proofs.Common.{◌≡◌, Bool, true, false, cond, List, []}
-use Rattle.std.proofs.Common.{◌∷◌, ◌++◌, map, refl, sym, ap, inl, inr}
+use Rattle.std.proofs.Common.{◌≡◌, Bool, true, false, cond, List, [], ◌∷◌, ◌++◌, map, refl, sym, ap}
+use Rattle.std.proofs.Common.{inl, inr, ℕ, zero, suc, ◌<◌, length, Some, slice_get, arith}
 use Rattle.std.proofs.lemmas.List.Elements.{filter-append}
-use Rattle.std.specs.List.{filter}
+use Rattle.std.specs.List.{filter, AllByRecursion}
 use Rattle.gf_tree.proofs.lemmas.games.Uses.{Has}
 
 pub map_same : {X Y : Type 0} (f g : X → Y) (xs : List X) → ((x : X) → Has xs x → f x ≡ g x)
@@ -24,6 +24,26 @@ in_left (y ∷ xs) ys x (inr h) = inr (in_left xs ys x h)
 pub in_right : {X : Type 0} (xs ys : List X) (x : X) → Has ys x → Has (xs ++ ys) x
 in_right [] ys x h = h
 in_right (y ∷ xs) ys x h = inr (in_right xs ys x h)
+
+-- what stands at a place
+pub something_there : {X : Type 0} (xs : List X) (place : ℕ) → place < length xs
+    → (x : X) × (slice_get xs place ≡ Some x)
+something_there [] place h = absurd (omega (arith, h))
+something_there (y ∷ xs) zero h = (y, refl)
+something_there (y ∷ xs) (suc place) h = something_there xs place (omega (arith, h))
+
+pub has_at : {X : Type 0} (xs : List X) (place : ℕ) (x : X) → slice_get xs place ≡ Some x
+    → Has xs x
+has_at [] zero x h = absurd cc
+has_at [] (suc place) x h = absurd cc
+has_at (y ∷ xs) zero x h = inl cc
+has_at (y ∷ xs) (suc place) x h = inr (has_at xs place x h)
+
+-- one more of a kind
+pub all_more : {X : Type 0} (P : X → Type 0) (xs : List X) (x : X) → AllByRecursion P xs → P x
+    → AllByRecursion P (xs ++ x ∷ [])
+all_more P [] x h k = (k, tt)
+all_more P (y ∷ xs) x h k = (h.0, all_more P xs x h.1 k)
 
 -- ---- filters
 

@@ -76,8 +76,8 @@ indices_once : (bytes bytes' : List ℕ) (n m : ℕ)
 indices_once bytes bytes' n m e h k = sym h.1 ∙ ap (digits_value 10) e ∙ k.1
 
 -- the first byte of a letter
-apart : (letter : List ℕ) (a b : ℕ) → letter ≡ a ∷ [] → letter ≡ b ∷ [] → a ≡ b
-apart letter a b h k = let e = sym h ∙ k in cc
+pub one_letter : (letter : List ℕ) (a b : ℕ) → letter ≡ a ∷ [] → letter ≡ b ∷ [] → a ≡ b
+one_letter letter a b h k = let e = sym h ∙ k in cc
 
 movers_once : (letter letter' : List ℕ) (n m : ℕ) (first first' rest rest' : List Token)
     → letter ≡ letter' → IsMover letter first n → IsMover letter' first' m
@@ -85,9 +85,9 @@ movers_once : (letter letter' : List ℕ) (n m : ℕ) (first first' rest rest' :
 movers_once letter letter' zero zero first first' rest rest' l h k e =
     (refl, in_front first first' rest rest' [] [] h.1 k.1 e)
 movers_once letter letter' zero (suc m) first first' rest rest' l h k e =
-    let x : 99 ≡ 112 = apart letter 99 112 h.0 (l ∙ k.1) in absurd (omega (arith, x))
+    let x : 99 ≡ 112 = one_letter letter 99 112 h.0 (l ∙ k.1) in absurd (omega (arith, x))
 movers_once letter letter' (suc n) zero first first' rest rest' l h k e =
-    let x : 112 ≡ 99 = apart letter 112 99 h.1 (l ∙ k.0) in absurd (omega (arith, x))
+    let x : 112 ≡ 99 = one_letter letter 112 99 h.1 (l ∙ k.0) in absurd (omega (arith, x))
 movers_once letter letter' (suc n) (suc m) first first' rest rest' l h k e =
     let whole = in_front first first' rest rest' (Bare h.0 ∷ []) (Bare k.0 ∷ []) h.2 k.2 e in
     let bytes : h.0 ≡ k.0 = cc in
@@ -96,9 +96,9 @@ movers_once letter letter' (suc n) (suc m) first first' rest rest' l h k e =
 no_mover : (letter : List ℕ) (tokens : List Token) (n : ℕ)
     → letter ≡ codes "t" → IsMover letter tokens n → ⊥
 no_mover letter tokens zero e h =
-    let x : 116 ≡ 99 = apart letter 116 99 e h.0 in absurd (omega (arith, x))
+    let x : 116 ≡ 99 = one_letter letter 116 99 e h.0 in absurd (omega (arith, x))
 no_mover letter tokens (suc n) e h =
-    let x : 116 ≡ 112 = apart letter 116 112 e h.1 in absurd (omega (arith, x))
+    let x : 116 ≡ 112 = one_letter letter 116 112 e h.1 in absurd (omega (arith, x))
 
 steps_once : (letter letter' : List ℕ) (x y : Option (Use SetKey InformationSet))
     (first first' rest rest' : List Token)
@@ -188,7 +188,7 @@ node_once players x y first first' rest rest' h k n m e =
     k.is_result n m step.1 in
     (λ i. record { name = name i; set = step.0 i; outcome = result.0 i }, result.1)
 
-nodes_no_text : (players : ℕ) (ns : List FileNode) (tokens : List Token)
+pub nodes_no_text : (players : ℕ) (ns : List FileNode) (tokens : List Token)
     → Each (IsNode players) tokens ns → NoText tokens
 nodes_no_text players [] tokens h = λ l others e. let none = sym h ∙ e in cc
 nodes_no_text players (n ∷ ns) tokens h =

@@ -7,6 +7,7 @@ use Rattle.std.specs.List.{AllByRecursion, Contains, cons_option}
 use Rattle.gf_tree.specs.FiniteMap.{Described}
 use Rattle.gf_tree.specs.FileTree.{Use}
 use Rattle.gf_tree.specs.Consistent.{Describes, AreConsistent}
+use Rattle.gf_tree.proofs.lemmas.Once.{true_or_false}
 
 -- ---- an element of a list, by recursion
 
@@ -66,12 +67,9 @@ has_later (Some y) xs x h = inr h
 abbrev pub IsEquality : {K : Type 0} → (K → K → Bool) → Type 0
 IsEquality {K} same = (a b : K) → (same a b ≡ true) ↔ (a ≡ b)
 
-not_both : (b : Bool) → b ≡ true → b ≡ false → ⊥
-not_both b h k = cc
-
 pub differ : {K : Type 0} (same : K → K → Bool)
     → IsEquality same → (a b : K) → same a b ≡ false → a ≡ b → ⊥
-differ same equality a b h e = not_both (same a b) ((equality a b).1 e) h
+differ same equality a b h e = true_or_false (same a b) ((equality a b).1 e) h
 
 -- ---- first uses
 

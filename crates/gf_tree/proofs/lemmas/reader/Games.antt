@@ -32,6 +32,7 @@ use Rattle.gf_tree.proofs.lemmas.runs.Games.{file_found}
 use Rattle.gf_tree.proofs.lemmas.runs.Passed.{accepted}
 use Rattle.gf_tree.proofs.lemmas.runs.Stops.{machine_spells, run_reads}
 use Rattle.gf_tree.proofs.lemmas.games.Spelled.{spelled_is_spellable}
+use Rattle.gf_tree.proofs.lemmas.Once.{one_ok, ok_or_err}
 
 -- ---- what is read
 
@@ -60,13 +61,6 @@ read_is_spellable bytes ls c spelled e =
 abbrev ok_run : Content → Result Content Fault
 ok_run c = Ok c
 
-content_once : (o : Result Content Fault) (c d : Content) → o ≡ ok_run c → o ≡ ok_run d → c ≡ d
-content_once o c d e f = cc
-
-not_both : (o : Result Content Fault) (c : Content) (fault : Fault)
-    → o ≡ ok_run c → o ≡ Err fault → ⊥
-not_both o c fault e f = absurd cc
-
 -- the machine reads these tokens to each game that the bytes spell
 spelled_read : (bytes : List ℕ) (ls : List Lexeme) (g : Game)
     → Spells 0 bytes ls → SpellsGame bytes g → (c : Content)
@@ -80,13 +74,13 @@ pub read_only : (bytes : List ℕ) (ls : List Lexeme) (c : Content) (g : Game) �
     → run (length bytes) Format nothing ls ≡ Ok c → SpellsGame bytes g → game_of c ≡ g
 read_only bytes ls c g spelled e h =
     let k = spelled_read bytes ls g spelled h in
-    ap game_of (content_once (run (length bytes) Format nothing ls) c k.0 e k.1) ∙ k.2
+    ap game_of (one_ok (run (length bytes) Format nothing ls) c k.0 e k.1) ∙ k.2
 
 pub refused_none : (bytes : List ℕ) (ls : List Lexeme) (fault : Fault) (g : Game)
     → Spells 0 bytes ls → run (length bytes) Format nothing ls ≡ Err fault → ¬ (SpellsGame bytes g)
 refused_none bytes ls fault g spelled e = λ h.
     let k = spelled_read bytes ls g spelled h in
-    not_both (run (length bytes) Format nothing ls) k.0 fault k.1 e
+    ok_or_err (run (length bytes) Format nothing ls) k.0 fault k.1 e
 
 -- ---- refusals
 

@@ -2,13 +2,13 @@
 use Rattle.std.proofs.Common.{◌≡◌, ◌<◌, ◌≤◌, ◌+◌, ℕ, zero, suc, Bool, true, false}
 use Rattle.std.proofs.Common.{List, [], ◌∷◌, ◌++◌, length, map, Option, Some, None}
 use Rattle.std.proofs.Common.{option_map, slice_get, refl, sym, ap, ◌∙◌, arith}
-use Rattle.std.specs.Prelude.{position, nat_eq, Result, Ok, Err, OnOk, IfErr, IfOk, IfNone}
-use Rattle.std.specs.Prelude.{MatchResult, ◌^◌, ◌==◌, if◌then◌else◌}
 use Rattle.std.proofs.Common.{subst}
-use Rattle.std.proofs.lemmas.List.{length-append, length-map}
+use Rattle.std.specs.Prelude.{position, nat_eq, Result, Ok, Err, OnOk, IfErr, IfOk, IfNone}
+use Rattle.std.specs.Prelude.{MatchResult, ◌==◌, if◌then◌else◌}
+use Rattle.std.proofs.lemmas.List.{length-map}
 use Rattle.std.proofs.lemmas.List.Quantifiers.{position-Some}
-use Rattle.gf_tree.specs.KnownSets.{KnownSets}
-use Rattle.gf_tree.specs.inner.KnownOutcomes.{KnownOutcomes}
+use Rattle.gf_tree.specs.KnownSets.{KnownSets, with_pending_set}
+use Rattle.gf_tree.specs.inner.KnownOutcomes.{KnownOutcomes, with_pending_outcome}
 use Rattle.gf_tree.specs.declared.reader.Reader.{Reader}
 use Rattle.std.specs.List.{find}
 use Rattle.std.proofs.lemmas.Option.{slice_get_within}
@@ -18,6 +18,7 @@ use Rattle.gf_fraction.specs.Ratio.{Ratio}
 use Rattle.gf_token.specs.Label.{label_of}
 use Rattle.gf_token.specs.Positions.{at_position}
 use Rattle.gf_tree.specs.Description.{Action, InformationSet, Outcome, SetKey, same_set, set_of}
+use Rattle.gf_tree.specs.Description.{outcome_with, set_with}
 use Rattle.gf_tree.specs.FiniteMap.{Described, description_at}
 use Rattle.gf_tree.specs.Game.{Game}
 use Rattle.gf_tree.specs.Judgement.{IsReadAs}
@@ -25,7 +26,6 @@ use Rattle.gf_tree.proofs.lemmas.runs.Passed.{passed_before}
 use Rattle.gf_token.specs.Remaining.{Remaining, StandsBefore}
 use Rattle.gf_token.specs.declared.fault.Span.{Span}
 use Rattle.gf_token.specs.declared.token.TextToken.{TextToken}
-use Rattle.gf_tree.specs.Description.{outcome_with, set_with}
 use Rattle.gf_tree.specs.KeptNodes.{AreAmong, Kept}
 use Rattle.gf_tree.specs.KeptNodes.{actions_counted, entries_with}
 use Rattle.gf_tree.specs.inner.Machine.{Begun, Content, begun, behind_set, nothing, run, set_ends}
@@ -185,51 +185,35 @@ found_set known key place name actions at named acts = by (slice_get known place
 
 -- ---- a set that is kept
 
--- the sets with one more, which was pending
-abbrev pub one_more : KnownSets → SetKey → List ℕ → KnownSets
-one_more k key name = record {
-  known = k.known ++ record { key = key; description = record { name = name; actions = k.pending } }
-      ∷ [];
-  pending = [];
-}
-
 module _ {E : Type 0} (r : Reader) (sets : KnownSets) (key : SetKey) (name : List ℕ) where
-  pub kept_content : (result : Result ℕ E) → OnOk result (sets ≡ one_more r.sets key name)
+  pub kept_content : (result : Result ℕ E) → OnOk result (sets ≡ with_pending_set r.sets key name)
       → OnOk result (content_of (record r { sets = sets })
       ≡ with_set (content_of r) key (set_with name r.sets.pending))
   kept_content (Err e) h = tt
   kept_content (Ok place) h = ap (λ (k : KnownSets). content_of (record r { sets = k })) h
 
-  pub kept_grows : (result : Result ℕ E) → OnOk result (sets ≡ one_more r.sets key name)
+  pub kept_grows : (result : Result ℕ E) → OnOk result (sets ≡ with_pending_set r.sets key name)
       → OnOk result (Grows r.sets.known sets.known)
   kept_grows (Err e) h = tt
   kept_grows (Ok place) h = record { more = _; parts = ap (λ (k : KnownSets). k.known) h }
 
   pub kept_begun : (node : List ℕ) (result : Result ℕ E)
-      → OnOk result (sets ≡ one_more r.sets key name)
+      → OnOk result (sets ≡ with_pending_set r.sets key name)
       → IfOk result (λ place. place ≡ length r.sets.known)
       → IfOk result (λ place.
       begun_with sets.known node (suc place) ≡ begun node key (set_with name r.sets.pending))
   kept_begun node (Err e) h is = tt
   kept_begun node (Ok place) h is =
       ap (λ (k : KnownSets). begun_with k.known node (suc place)) h
-      ∙ ap (λ (p : ℕ). begun_with (one_more r.sets key name).known node (suc p)) is
+      ∙ ap (λ (p : ℕ). begun_with (with_pending_set r.sets key name).known node (suc p)) is
       ∙ new_begun r.sets.known (record { key = key; description = set_with name r.sets.pending })
       node
 
 -- ---- an outcome that is kept
 
--- the outcomes with one more, which was pending
-abbrev pub one_outcome_more : KnownOutcomes → ℕ → List ℕ → KnownOutcomes
-one_outcome_more k number name = record {
-  known = k.known
-      ++ record { key = number; description = record { name = name; payoffs = k.pending } } ∷ [];
-  pending = [];
-}
-
 module _ {E : Type 0} (r : Reader) (outcomes : KnownOutcomes) (number : ℕ) (name : List ℕ) where
   pub kept_outcome_content : (result : Result ℕ E)
-      → OnOk result (outcomes ≡ one_outcome_more r.outcomes number name)
+      → OnOk result (outcomes ≡ with_pending_outcome r.outcomes number name)
       → OnOk result (content_of (record r { outcomes = outcomes })
       ≡ with_outcome (content_of r) number (outcome_with name r.outcomes.pending))
   kept_outcome_content (Err e) h = tt
@@ -237,14 +221,14 @@ module _ {E : Type 0} (r : Reader) (outcomes : KnownOutcomes) (number : ℕ) (na
       ap (λ (k : KnownOutcomes). content_of (record r { outcomes = k })) h
 
   pub kept_outcome_grows : (result : Result ℕ E)
-      → OnOk result (outcomes ≡ one_outcome_more r.outcomes number name)
+      → OnOk result (outcomes ≡ with_pending_outcome r.outcomes number name)
       → OnOk result (Grows r.outcomes.known outcomes.known)
   kept_outcome_grows (Err e) h = tt
   kept_outcome_grows (Ok place) h =
       record { more = _; parts = ap (λ (k : KnownOutcomes). k.known) h }
 
   pub kept_outcome_key : (result : Result ℕ E)
-      → OnOk result (outcomes ≡ one_outcome_more r.outcomes number name)
+      → OnOk result (outcomes ≡ with_pending_outcome r.outcomes number name)
       → IfOk result (λ place. place ≡ length r.outcomes.known)
       → IfOk result
       (λ place. option_map (λ o. o.key) (slice_get outcomes.known place) ≡ Some number)
@@ -252,7 +236,7 @@ module _ {E : Type 0} (r : Reader) (outcomes : KnownOutcomes) (number : ℕ) (na
   kept_outcome_key (Ok place) h is =
       ap (λ (k : KnownOutcomes). option_map (λ o. o.key) (slice_get k.known place)) h
       ∙ ap (λ (p : ℕ).
-      option_map (λ o. o.key) (slice_get (one_outcome_more r.outcomes number name).known p))
+      option_map (λ o. o.key) (slice_get (with_pending_outcome r.outcomes number name).known p))
       is
       ∙ ap (option_map (λ o. o.key)) (get_next r.outcomes.known
       (record { key = number; description = outcome_with name r.outcomes.pending }))

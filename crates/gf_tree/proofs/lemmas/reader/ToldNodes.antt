@@ -30,9 +30,9 @@ use Rattle.gf_tree.specs.Told.{told_from, told_outcome, told_set}
 use Rattle.gf_tree.proofs.lemmas.games.FirstUseNumbers.{number_at}
 use Rattle.gf_tree.proofs.lemmas.stores.GameNodes.{flatten_grown}
 use Rattle.gf_tree.proofs.lemmas.games.Consistent.{map_entry, flatten_map}
-use Rattle.gf_tree.proofs.lemmas.stores.GivenNodes.{nodes_are_given, something_there}
+use Rattle.gf_tree.proofs.lemmas.stores.GivenNodes.{nodes_are_given}
 use Rattle.gf_tree.proofs.lemmas.stores.KnownKeys.{around}
-use Rattle.gf_tree.proofs.lemmas.games.Members.{filter_last}
+use Rattle.gf_tree.proofs.lemmas.games.Members.{filter_last, something_there}
 use Rattle.gf_tree.proofs.lemmas.games.PlayerSets.{sets_by_first_use}
 use Rattle.gf_tree.proofs.lemmas.reader.Games.{read_fills, read_is_game}
 use Rattle.gf_tree.proofs.lemmas.games.Renumbered.{first_use_is_renumbering, renumbered_is_game}

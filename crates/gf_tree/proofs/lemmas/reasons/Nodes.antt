@@ -25,8 +25,8 @@ use Rattle.gf_tree.specs.FileTree.{Use}
 use Rattle.gf_tree.specs.Front.{BehindOutcomeNumber, BehindSetNumber, InActions}
 use Rattle.gf_tree.specs.Front.{IsExtensiveFile, IsNewOutcome, IsNewSet, IsSetKnown}
 use Rattle.gf_tree.specs.Front.{KnowsOutcome, ToOutcomeNumber}
-use Rattle.gf_tree.specs.Reason.{DiffersFromOutcome, DiffersFromSet, EndsInFirstUse}
-use Rattle.gf_tree.specs.Reason.{ListsActions, NewProbabilityIsDue}
+use Rattle.gf_tree.specs.Reason.{DiffersFromOutcome, DiffersFromSet, EndsInFirstUse, ListsActions}
+use Rattle.gf_tree.specs.Reason.{NewProbabilityIsDue, GoesOnWith}
 use Rattle.gf_tree.specs.RowPlaces.{BehindNode, FileFront}
 use Rattle.gf_tree.specs.Rows.{IsNoNumber, Row, a_closing, a_first_name}
 use Rattle.gf_tree.specs.Rows.{a_new_action, a_new_branch, a_payoff, a_player}
@@ -46,12 +46,12 @@ use Rattle.gf_tree.proofs.lemmas.due.Payoffs.{Seen, seen_behind, seen_to}
 use Rattle.gf_tree.proofs.lemmas.due.Rows.{Stands, accepted}
 use Rattle.gf_tree.proofs.lemmas.fronts.Codes.{begins_payoffs, known_outcome}
 use Rattle.gf_tree.proofs.lemmas.fronts.WholeNodes.{number_node, whole_node}
-use Rattle.gf_tree.proofs.lemmas.reasons.Rows.{IsOfRole, IsTold, Own, Reasoned, as_own, closing}
-use Rattle.gf_tree.proofs.lemmas.reasons.Rows.{end, fault_own}
-use Rattle.gf_tree.proofs.lemmas.reasons.Rows.{follows, in_heading, name_or_end, name_or_node}
-use Rattle.gf_tree.proofs.lemmas.reasons.Rows.{no_action, node}
-use Rattle.gf_tree.proofs.lemmas.reasons.Rows.{number_named, opening, reasons, some_text, text}
-use Rattle.gf_tree.proofs.lemmas.reasons.Rows.{told_by, wrong_own}
+use Rattle.gf_tree.proofs.lemmas.reasons.Rows.{IsOfRole, IsTold, Own, Reasoned, closing, end}
+use Rattle.gf_tree.proofs.lemmas.reasons.Rows.{fault_own, follows, in_heading, name_or_end}
+use Rattle.gf_tree.proofs.lemmas.reasons.Rows.{name_or_node, no_action, node, number_named, opening}
+use Rattle.gf_tree.proofs.lemmas.reasons.Rows.{reasons, some_text, text, told_by, wrong_own, Given}
+use Rattle.gf_tree.proofs.lemmas.reasons.Rows.{IsFor, for_due}
+use Rattle.std.proofs.lemmas.Option.{same_Some}
 
 -- ---- nodes
 
@@ -98,13 +98,13 @@ module _ (f : FileFront) where
       → Stands f.before a_first_name → Reasoned f.before
   first_use h s =
       let first : EndsInFirstUse f.before = (f.ends, h) in
-      reasons f.before a_first_name (λ after plain. (first, plain)) (λ l after n. absurd (n tt)) (λ b why after n e. as_own f.before why NotDescribed (Bare b ∷ after) (first, tt) e) (λ why after n e. as_own f.before why NotDescribed (Closing ∷ after) (first, tt) e) s
-      (λ b h. absurd h)
+      reasons f.before a_first_name (λ after plain. (first, plain)) (λ l after n. absurd (n tt))
+      (λ b why after n e. (NotDescribed, e, (first, tt)))
+      (λ why after n e. (NotDescribed, e, (first, tt))) s (λ b h. absurd h)
 
   outcome_index : OutcomeIsDue f.before → (b : List ℕ) (why : Why) (after : List Token)
-      → ¬ ((n : ℕ) × IsIndex b n) → why ≡ BadIndex → Own why f.before (Bare b ∷ after)
-  outcome_index due b why after n e =
-      as_own f.before why BadIndex (Bare b ∷ after) (inr (due, λ m is. n (m, is))) e
+      → ¬ ((n : ℕ) × IsIndex b n) → why ≡ BadIndex → Given f.before (Bare b ∷ after) why
+  outcome_index due b why after n e = (BadIndex, e, inr (due, λ m is. n (m, is)))
 
   outcome_due : (set : Option (Use SetKey InformationSet)) → ToOutcomeNumber f.front set
       → IsSetKnown f.nodes set → OutcomeIsDue f.before
@@ -127,14 +127,11 @@ module _ (f : FileFront) where
   -- an empty list may not end
   no_entry : (key : SetKey) (set : InformationSet) → InActions f.front key set → IsNewSet f.nodes key
       → set.actions ≡ [] → (why : Why) (after : List Token) → why ≡ NoEntry
-      → Own why f.before (Closing ∷ after)
+      → Given f.before (Closing ∷ after) why
   no_entry key set h new none why after e =
-      as_own f.before why NoEntry (Closing ∷ after) (
-        key,
-        set.name,
-        subst (λ (xs : List Action). ListsActions f.before key (set_with set.name xs)) none
-            (lists key set h new),
-      ) e
+      let listed = subst (λ (xs : List Action). ListsActions f.before key (set_with set.name xs)) none
+      (lists key set h new) in
+      (NoEntry, e, (key, set.name, listed))
 
   due_payoff : (n : ℕ) (ps : List Ratio) (may : Bool) → Seen f.front n ps may
       → length ps < length f.players → PayoffIsDue f.before
@@ -146,48 +143,40 @@ module _ (f : FileFront) where
     subst (λ (qs : List Ratio). length qs < length f.players) (sym h.are) fewer,
   )
 
-  new_number : (row : Row) → Stands f.before row → PayoffIsDue f.before
-      → row.otherwise ≡ Expected what.Number → row.other_text ≡ Expected what.Number
+  new_number : (row : Row) → Stands f.before row → PayoffIsDue f.before → IsFor row what.Number
       → ((b : List ℕ) (why : Why) → row.other_bare b why → IsNoNumber b why)
-      → ((why : Why) → row.other_closing why → why ≡ Expected what.Number)
       → IsOfRole row Role.Payoff → Reasoned f.before
-  new_number row s due otherwise text bare closing same =
-      number_named f.before Role.Payoff (inr due) row s otherwise text
+  new_number row s due is bare same = number_named f.before Role.Payoff (inr due) row s is
       (λ b why after n e.
       let k = bare b why e in
-      as_own f.before why (why_of k.0) (Bare b ∷ after)
-      (fault_own f.before after b k.0 (inr due) k.2) k.1) closing refl same
+      (why_of k.0, k.1, fault_own f.before after b k.0 (inr due) k.2)) refl same
 
   known_number : (row : Row) (p : Ratio) → Stands f.before row
       → (ProbabilityIsDue f.before ⊎ PayoffIsDue f.before)
       → ((b : List ℕ) (q : Ratio) → IsNumber b q → q ≢ p
       → DiffersFromSet f.ends (Bare b) ⊎ DiffersFromOutcome f.ends (Bare b))
-      → row.otherwise ≡ Expected what.Number → row.other_text ≡ Expected what.Number
+      → IsFor row what.Number
       → ((b : List ℕ) (why : Why) → row.other_bare b why → (this_number p).other_bare b why)
-      → ((why : Why) → row.other_closing why → why ≡ Expected what.Number)
       → IsOfRole row (Role.KnownNumber p) → Reasoned f.before
-  known_number row p s due other otherwise text bare closing same =
-      number_named f.before (Role.KnownNumber p) due row s otherwise text
-      (λ b why after n e. by b why after (bare b why e)) closing refl same
+  known_number row p s due other is bare same =
+      number_named f.before (Role.KnownNumber p) due row s is
+      (λ b why after n e. by b why after (bare b why e)) refl same
     where
       by : (b : List ℕ) (why : Why) (after : List Token) → (this_number p).other_bare b why
-          → Own why f.before (Bare b ∷ after)
-      by b why after (inl k) = as_own f.before why (why_of k.0) (Bare b ∷ after)
-          (fault_own f.before after b k.0 due k.2) k.1
-      by b why after (inr k) = as_own f.before why Mismatch (Bare b ∷ after)
-          (differs (Bare b) (other b k.1.0 k.1.1 k.1.2) after) k.0
+          → Given f.before (Bare b ∷ after) why
+      by b why after (inl k) = (why_of k.0, k.1, fault_own f.before after b k.0 due k.2)
+      by b why after (inr k) =
+          (Mismatch, k.0, differs (Bare b) (other b k.1.0 k.1.1 k.1.2) after)
 
   -- a payoff of a known outcome
   known_payoff : (row : Row) (n : ℕ) (ps : List Ratio) (outcome : Outcome) (p : Ratio)
       (others : List Ratio) (may : Bool) → Stands f.before row → Seen f.front n ps may
-      → KnowsOutcome f.nodes n outcome → outcome.payoffs ≡ ps ++ p ∷ others
-      → row.otherwise ≡ Expected what.Number → row.other_text ≡ Expected what.Number
+      → KnowsOutcome f.nodes n outcome → outcome.payoffs ≡ ps ++ p ∷ others → IsFor row what.Number
       → ((b : List ℕ) (why : Why) → row.other_bare b why → (this_number p).other_bare b why)
-      → ((why : Why) → row.other_closing why → why ≡ Expected what.Number)
       → IsOfRole row (Role.KnownNumber p) → Reasoned f.before
   known_payoff row n ps outcome p others may s h knows parts =
-      known_number row p s (inr (due_payoff n ps may h (known_fewer f n ps outcome p others may h knows parts)))
-      (λ b q is other. inr (
+      let fewer = known_fewer f n ps outcome p others may h knows parts in
+      known_number row p s (inr (due_payoff n ps may h fewer)) (λ b q is other. inr (
         n,
         outcome,
         h.outcome,
@@ -215,13 +204,16 @@ module _ (f : FileFront) where
       let due : PlayerIsDue f.before (length f.players) = (f.ends, refl, h) in
       let is : IsDue f.before what.Index = inl (length f.players, due) in
       let s = nodes.player f h in
-      reasons f.before row (λ after plain. is) (λ l after n. is) (λ b why after n e. elim e [ inl k ↦ as_own f.before why BadIndex (Bare b ∷ after) (inl (inl (length f.players, due), k.1)) k.0 | inr k ↦ as_own f.before why UnknownPlayer (Bare b ∷ after) (inl (length f.players, k.1.0, due, k.1.1, k.1.2)) k.0 ]) (λ why after n e. as_own f.before why (Expected what.Index) (Closing ∷ after) is e) s
-      (told_by f.before row (Role.PlayerNumber (length f.players)) s is (λ b. (λ k. k, λ k. k)))
+      for_due f.before row what.Index s is (refl, refl, λ why e. e) (λ b why after n e. elim e [
+        | inl k ↦ (BadIndex, k.0, inl (inl (length f.players, due), k.1))
+        | inr k ↦ (UnknownPlayer, k.0, inl (length f.players, k.1.0, due, k.1.1, k.1.2))
+      ]) (told_by f.before row (Role.PlayerNumber (length f.players)) s is (λ b. (λ k. k, λ k. k)))
   in_node (IsInNode.SetNumber player h) =
       let due : SetIsDue f.before = (f.ends, player, h) in
       let is : IsDue f.before what.Index = inr (inl due) in
       let s = nodes.set_number_due f player h in
-      reasons f.before a_set (λ after plain. is) (λ l after n. is) (λ b why after n e. as_own f.before why BadIndex (Bare b ∷ after) (inl (inr due, λ m k. n (m, k))) e) (λ why after n e. as_own f.before why (Expected what.Index) (Closing ∷ after) is e) s
+      for_due f.before a_set what.Index s is (refl, refl, λ why e. e)
+      (λ b why after n e. (BadIndex, e, inl (inr due, λ m k. n (m, k))))
       (told_by f.before a_set Role.SetNumber s is (λ b. (λ k. k, λ k. k)))
   in_node (IsInNode.NewSet key h new) =
       first_use (inl (key, h, new)) (nodes.new_set f key h new)
@@ -231,38 +223,60 @@ module _ (f : FileFront) where
       (known_step f.front key h) (inr (set, knows)) in
       let is : IsDue f.before what.Index = inr (inr due) in
       let s = nodes.known_set f key set h knows in
-      reasons f.before row (λ after plain. is) (λ l after n. differs (Text l) (inl (key, set, knows, inl (h, n))) after) (λ b why after n e. outcome_index due b why after n e) (λ why after n e. as_own f.before why (Expected what.Index) (Closing ∷ after) is e) s
+      reasons f.before row (λ after plain. is)
+      (λ l after n. differs (Text l) (inl (key, set, knows, inl (h, n))) after) (outcome_index due)
+      (λ why after n e. (Expected what.Index, e, is)) s
       (told_by f.before row Role.OutcomeNumber s is (λ b. (λ k. k, λ k. k)))
   in_node (IsInNode.SetOpening key h) = opening f.before (nodes.set_opening f key h)
   in_node (IsInNode.NewAction key set h new some) =
       let row = a_new_action set.actions in
       let s = actions.new_action f key set h new some in
       let due = some_text f.before row s tt in
-      reasons f.before row (λ after plain. due) (λ l after n. due) (λ b why after n e. as_own f.before why (Expected what.Text) (Bare b ∷ after) due e) (λ why after n e. no_entry key set h new (no_action set.actions n) why after e) s
+      reasons f.before row (λ after plain. due) (λ l after n. due)
+      (λ b why after n e. (Expected what.Text, e, due))
+      (λ why after n e. no_entry key set h new (no_action set.actions n) why after e) s
       (λ b k. absurd k)
   in_node (IsInNode.NewBranch number set sum h new has) =
       let row = a_new_branch set.actions sum in
       let key = set_of 0 number in
       let s = actions.new_branch f number set sum h new has in
       let due = some_text f.before row s tt in
-      reasons f.before row (λ after plain. due) (λ l after n. due) (λ b why after n e. as_own f.before why (Expected what.Text) (Bare b ∷ after) due e) (λ why after n e. elim e [ inl k ↦ no_entry key set h new k.1 why after k.0 | inr k ↦ as_own f.before why SumBelowOne (Closing ∷ after) (number, set, sum, lists key set h new, k.1, has, actions.sum_below f number set sum h new has (λ one. n (k.1, one))) k.0 ]) s
-      (λ b k. absurd k)
+      reasons f.before row (λ after plain. due) (λ l after n. due)
+      (λ b why after n e. (Expected what.Text, e, due)) (λ why after n e. elim e [
+        | inl k ↦ no_entry key set h new k.1 why after k.0
+        | inr k ↦
+            let below = actions.sum_below f number set sum h new has (λ one. n (k.1, one)) in
+            (SumBelowOne, k.0, (number, set, sum, lists key set h new, k.1, has, below))
+      ]) s (λ b k. absurd k)
   in_node (IsInNode.NewProbability number set sum h new has) =
       let due : NewProbabilityIsDue f.before sum = (f.ends, number, set, h, new, has) in
       let asked : ProbabilityIsDue f.before = (f.ends, number, set, h) in
       number_named f.before (Role.Probability sum) (inl asked) (a_probability sum)
-      (actions.new_probability f number set sum h new has) refl refl
+      (actions.new_probability f number set sum h new has) (refl, refl, λ why e. e)
       (λ b why after n e. elim e [
-        | inl k ↦ as_own f.before why (why_of k.0) (Bare b ∷ after)
-            (fault_own f.before after b k.0 (inl asked) k.2) k.1
-        | inr k ↦ wrong_own why f.before after b sum k.0 due k.1 k.2
-      ]) (λ why e. e) refl (λ b. (λ k. k, λ k. k))
+        | inl k ↦ (why_of k.0, k.1, fault_own f.before after b k.0 (inl asked) k.2)
+        | inr k ↦ (why, refl, wrong_own why f.before after b sum k.0 due k.1 k.2)
+      ]) refl (λ b. (λ k. k, λ k. k))
   in_node (IsInNode.KnownAction key known seen next h knows more) =
       let row = this_label next.label in
       let s = actions.known_action f key known seen next h knows more in
       let due : IsDue f.before what.Text =
       (next.label, follows f.before row what.Text s (Text next.label ∷ []) refl) in
-      reasons f.before row (λ after plain. due) (λ l after n. differs (Text l) (inl (key, known, knows, inr (seen, h, λ other k e. n (e ∙ ap (λ (a : Action). a.label) (one_next seen.actions other next k.0 more.0 known.actions k.1 more.1))))) after) (λ b why after n e. as_own f.before why (Expected what.Text) (Bare b ∷ after) due e) (λ why after n e. as_own f.before why Mismatch (Closing ∷ after) (differs Closing (inl (key, known, seen, next, knows, h, more)) after) e) s
+      let same = λ (other : Action) (k : GoesOnWith known seen other).
+      one_next seen.actions other next k.0 more.0 known.actions k.1 more.1 in
+      reasons f.before row (λ after plain. due)
+      (λ l after n. differs (Text l) (inl (
+        key,
+        known,
+        knows,
+        inr (
+          seen,
+          h,
+          λ other k e. n (e ∙ ap (λ (a : Action). a.label) (same other k)),
+        ),
+      )) after)
+      (λ b why after n e. (Expected what.Text, e, due)) (λ why after n e.
+      (Mismatch, e, differs Closing (inl (key, known, seen, next, knows, h, more)) after)) s
       (λ b k. absurd k)
   in_node (IsInNode.KnownProbability number known seen next p h knows more has) =
       known_number (this_number p) p
@@ -278,20 +292,30 @@ module _ (f : FileFront) where
         h,
         more,
         is,
-        λ e. other (actions.some_is q p (sym e ∙ has)),
-      )) refl refl (λ b why e. e) (λ why e. e)
-      (λ b. (λ k. k, λ k. k))
+        λ e. other (same_Some q p (sym e ∙ has)),
+      )) (refl, refl, λ why e. e) (λ b why e. e) (λ b. (λ k. k, λ k. k))
   in_node (IsInNode.NoActionLeft key known seen h knows same) =
       let s = actions.no_action_left f key known seen h knows same in
       let due : IsDue f.before what.Closing =
       follows f.before no_label what.Closing s (Closing ∷ []) tt in
-      reasons f.before no_label (λ after plain. due) (λ l after n. differs (Text l) (inl (key, known, knows, inr (seen, h, λ other k e. none_next seen.actions other k.0 (sym same ∙ k.1)))) after) (λ b why after n e. as_own f.before why (Expected what.Closing) (Bare b ∷ after) due e) (λ why after n e. absurd (n tt)) s
+      reasons f.before no_label (λ after plain. due)
+      (λ l after n. differs (Text l) (inl (
+        key,
+        known,
+        knows,
+        inr (
+          seen,
+          h,
+          λ other k e. none_next seen.actions other k.0 (sym same ∙ k.1),
+        ),
+      )) after)
+      (λ b why after n e. (Expected what.Closing, e, due)) (λ why after n e. absurd (n tt)) s
       (λ b k. absurd k)
   in_node (IsInNode.OutcomeNumber h) =
       let due = outcome_due h.0 h.1 (told_set h.0 h.2) in
       let is : IsDue f.before what.Index = inr (inr due) in
       let s = outcomes.outcome_number_due f h in
-      reasons f.before an_outcome (λ after plain. is) (λ l after n. is) (λ b why after n e. outcome_index due b why after n e) (λ why after n e. as_own f.before why (Expected what.Index) (Closing ∷ after) is e) s
+      for_due f.before an_outcome what.Index s is (refl, refl, λ why e. e) (outcome_index due)
       (told_by f.before an_outcome Role.OutcomeNumber s is (λ b. (λ k. k, λ k. k)))
   in_node (IsInNode.NewOutcome number h new) =
       first_use (inr (number, h, new)) (outcomes.new_outcome f number h new)
@@ -309,28 +333,28 @@ module _ (f : FileFront) where
       opening f.before (outcomes.outcome_opening f number h)
   in_node (IsInNode.NewPayoff number ps h new fewer) =
       new_number a_payoff (payoffs.new_payoff f number ps h new fewer)
-      (due_payoff number ps false (seen_to f.front number ps h) fewer) refl refl (λ b why e. e)
-      (λ why e. e) (λ b. (λ k. k, λ k. k))
+      (due_payoff number ps false (seen_to f.front number ps h) fewer) (refl, refl, λ why e. e)
+      (λ b why e. e) (λ b. (λ k. k, λ k. k))
   in_node (IsInNode.KnownPayoff number ps outcome p others h knows parts) =
       known_payoff (this_number p) number ps outcome p others false
       (payoffs.known_payoff f number ps outcome p others h knows parts)
-      (seen_to f.front number ps h) knows parts refl refl (λ b why e. e) (λ why e. e)
+      (seen_to f.front number ps h) knows parts (refl, refl, λ why e. e) (λ b why e. e)
       (λ b. (λ k. k, λ k. k))
   in_node (IsInNode.AfterNewPayoff number ps h new fewer) =
       new_number (or_comma a_payoff) (payoffs.after_new_payoff f number ps h new fewer)
-      (due_payoff number ps true (seen_behind f.front number ps h) fewer) refl refl (λ b why e. e)
-      (λ why e. e) (λ b. (λ k. k, λ k. k))
+      (due_payoff number ps true (seen_behind f.front number ps h) fewer) (refl, refl, λ why e. e)
+      (λ b why e. e) (λ b. (λ k. k, λ k. k))
   in_node (IsInNode.AfterKnownPayoff number ps outcome p others h knows parts) =
       known_payoff (or_comma (this_number p)) number ps outcome p others true
       (payoffs.after_known_payoff f number ps outcome p others h knows parts)
-      (seen_behind f.front number ps h) knows parts refl refl (λ b why e. e) (λ why e. e)
+      (seen_behind f.front number ps h) knows parts (refl, refl, λ why e. e) (λ b why e. e)
       (λ b. (λ k. k, λ k. k))
   in_node (IsInNode.AfterLastPayoff number ps h all) =
       closing f.before (or_comma a_closing) (payoffs.after_last_payoff f number ps h all) tt
-      refl refl (λ b why e. e) (λ why e. e) (λ b k. absurd k)
+      (refl, refl, λ why e. e) (λ b why e. e) (λ b k. absurd k)
   in_node (IsInNode.NoPayoff number ps h all) =
-      closing f.before a_closing (payoffs.no_payoff f number ps h all) tt refl refl
-      (λ b why e. e) (λ why e. e) (λ b k. absurd k)
+      closing f.before a_closing (payoffs.no_payoff f number ps h all) tt (refl, refl, λ why e. e)
+      (λ b why e. e) (λ b k. absurd k)
   in_node (IsInNode.AfterNode h) = behind h
 
 -- a row comes after the tokens that some file begins with, and its refusals have reasons

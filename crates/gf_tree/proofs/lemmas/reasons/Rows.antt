@@ -15,10 +15,9 @@ use Rattle.gf_token.specs.Place.{IsAccepted}
 use Rattle.gf_token.specs.declared.fault.What.{What}
 use Rattle.gf_token.specs.declared.fault.What.TheVariants as what
 use Rattle.gf_token.specs.declared.fault.Why.{Why}
-use Rattle.gf_token.specs.declared.fault.Why.TheVariants.{Expected, UnknownPlayer}
-use Rattle.gf_token.specs.declared.fault.Why.TheVariants.{Mismatch}
+use Rattle.gf_token.specs.declared.fault.Why.TheVariants.{Expected, UnknownPlayer, Mismatch}
 use Rattle.gf_token.specs.declared.fault.Why.TheVariants.{NegativeProbability, SumAboveOne}
-use Rattle.gf_token.specs.declared.fault.Why.TheVariants.{SumOverflow}
+use Rattle.gf_token.specs.declared.fault.Why.TheVariants.{SumOverflow, Unterminated}
 use Rattle.gf_tree.specs.Description.{Action}
 use Rattle.gf_tree.specs.Due.{IsDue, NodeIsDue, PayoffIsDue}
 use Rattle.gf_tree.specs.Due.{ProbabilityIsDue}
@@ -84,46 +83,63 @@ no_action (a ∷ actions) n = absurd (n (omega arith))
 
 -- ---- by the parts of a row
 
+-- the code is this one, which applies
+abbrev pub Given : List Token → List Token → Why → Type 0
+Given before after why = (other : Why) × (why ≡ other) × Own other before after
+
 module _ (before : List Token) where
-  pub as_own : (why other : Why) (after : List Token) → Own other before after → why ≡ other
-      → Own why before after
-  as_own why other after h e = subst (λ (w : Why). Own w before after) (sym e) h
+  given : (after : List Token) (why : Why) → Given before after why → Own why before after
+  given after why h = subst (λ (w : Why). Own w before after) (sym h.1) h.2
 
   module _ (row : Row)
       (otherwise : (after : List Token) → IsNoText after → Own row.otherwise before after)
       (text : (l : List ℕ) (after : List Token) → ¬ (row.text l)
       → Own row.other_text before (Text l ∷ after))
       (bare : (b : List ℕ) (why : Why) (after : List Token) → ¬ (row.bare b)
-      → row.other_bare b why → Own why before (Bare b ∷ after))
+      → row.other_bare b why → Given before (Bare b ∷ after) why)
       (closing : (why : Why) (after : List Token) → ¬ row.closing → row.other_closing why
-      → Own why before (Closing ∷ after)) where
-    pub own_by : (after : List Token) (why : Why) → ¬ (Accepts row after) → Refuses row after why
-        → Own why before after
-    own_by [] why n e = as_own why row.otherwise [] (otherwise [] tt) e
-    own_by (Opening ∷ after) why n e =
-        as_own why row.otherwise (Opening ∷ after) (otherwise (Opening ∷ after) tt) e
-    own_by (Comma ∷ after) why n e =
-        as_own why row.otherwise (Comma ∷ after) (otherwise (Comma ∷ after) tt) e
-    own_by (Text l ∷ after) why n e =
-        as_own why row.other_text (Text l ∷ after) (text l after n) e
-    own_by (Bare b ∷ after) why n e = bare b why after n e
-    own_by (Closing ∷ after) why n e = closing why after n e
-    own_by (Broken ∷ after) why n e = as_own why _ (Broken ∷ after) tt e
+      → Given before (Closing ∷ after) why) where
+    given_by : (after : List Token) (why : Why) → ¬ (Accepts row after) → Refuses row after why
+        → Given before after why
+    given_by [] why n e = (row.otherwise, e, otherwise [] tt)
+    given_by (Opening ∷ after) why n e = (row.otherwise, e, otherwise (Opening ∷ after) tt)
+    given_by (Comma ∷ after) why n e = (row.otherwise, e, otherwise (Comma ∷ after) tt)
+    given_by (Text l ∷ after) why n e = (row.other_text, e, text l after n)
+    given_by (Bare b ∷ after) why n e = bare b why after n e
+    given_by (Closing ∷ after) why n e = closing why after n e
+    given_by (Broken ∷ after) why n e = (Unterminated, e, tt)
 
     pub reasons : Stands before row → ((b : List ℕ) → row.bare b → IsTold before) → Reasoned before
-    reasons s told = record { row = row; stands = s; own = own_by; told = told }
+    reasons s told = record {
+      row = row;
+      stands = s;
+      own = λ after why n e. given after why (given_by after why n e);
+      told = told;
+    }
 
--- a row with one refusal, for what is due
-module _ (before : List Token) (row : Row) (w : What)
-    (s : Stands before row) where
+-- the row refuses for what is due, except perhaps bare tokens
+abbrev pub IsFor : Row → What → Type 0
+IsFor row w = (row.otherwise ≡ Expected w) × (row.other_text ≡ Expected w)
+    × ((why : Why) → row.other_closing why → why ≡ Expected w)
+
+module _ (before : List Token) (row : Row) (w : What) (s : Stands before row) where
   pub follows : (after : List Token) → Accepts row after → IsAccepted IsExtensiveFile before after
   follows after = (accepted before row s after).1
 
-  one_reason : IsDue before w → row.otherwise ≡ Expected w → row.other_text ≡ Expected w
-      → ((b : List ℕ) (why : Why) → row.other_bare b why → why ≡ Expected w)
-      → ((why : Why) → row.other_closing why → why ≡ Expected w)
+  pub for_due : IsDue before w → IsFor row w
+      → ((b : List ℕ) (why : Why) (after : List Token) → ¬ (row.bare b) → row.other_bare b why
+      → Given before (Bare b ∷ after) why)
       → ((b : List ℕ) → row.bare b → IsTold before) → Reasoned before
-  one_reason due otherwise text bare closing told = reasons before row (λ after plain. as_own before row.otherwise (Expected w) after due otherwise) (λ l after n. as_own before row.other_text (Expected w) (Text l ∷ after) due text) (λ b why after n e. as_own before why (Expected w) (Bare b ∷ after) due (bare b why e)) (λ why after n e. as_own before why (Expected w) (Closing ∷ after) due (closing why e)) s told
+  for_due due is bare told = reasons before row
+      (λ after plain. given before after row.otherwise (Expected w, is.0, due))
+      (λ l after n. given before (Text l ∷ after) row.other_text (Expected w, is.1, due))
+      bare (λ why after n e. (Expected w, is.2 why e, due)) s told
+
+  one_reason : IsDue before w → IsFor row w
+      → ((b : List ℕ) (why : Why) → row.other_bare b why → why ≡ Expected w)
+      → ((b : List ℕ) → row.bare b → IsTold before) → Reasoned before
+  one_reason due is bare told =
+      for_due due is (λ b why after n e. (Expected w, bare b why e, due)) told
 
 -- a row of a role
 module _ (before : List Token) (row : Row) (r : Role)
@@ -134,39 +150,35 @@ module _ (before : List Token) (row : Row) (r : Role)
 -- the letter of a node: there is no player, although one is to move
 module _ (before : List Token) (players : List (List ℕ))
     (ends : length players ≡ 0 → NobodyMoves before) (due : NodeIsDue before) where
-  letter_own : (b : List ℕ) (why : Why) (after : List Token) → (a_node (length players)).other_bare b why
-      → Own why before (Bare b ∷ after)
-  letter_own b why after (inl h) =
-      as_own before why UnknownPlayer (Bare b ∷ after) (inr (ends h.2, due, h.1)) h.0
-  letter_own b why after (inr k) = as_own before why (Expected what.Node) (Bare b ∷ after) due k.0
+  letter_given : (b : List ℕ) (why : Why) (after : List Token)
+      → (a_node (length players)).other_bare b why → Given before (Bare b ∷ after) why
+  letter_given b why after (inl h) = (UnknownPlayer, h.0, inr (ends h.2, due, h.1))
+  letter_given b why after (inr k) = (Expected what.Node, k.0, due)
 
 -- ---- the heading
 
 module _ (before : List Token) where
   word : (row : Row) (r : Role) → Stands before row → IsDue before (what_of r) → IsOfRole row r
-      → row.otherwise ≡ Expected (what_of r) → row.other_text ≡ Expected (what_of r)
+      → IsFor row (what_of r)
       → ((b : List ℕ) (why : Why) → row.other_bare b why → why ≡ Expected (what_of r))
-      → ((why : Why) → row.other_closing why → why ≡ Expected (what_of r)) → Reasoned before
-  word row r s due same otherwise text bare closing =
-      one_reason before row (what_of r) s due otherwise text bare closing
-      (told_by before row r s due same)
+      → Reasoned before
+  word row r s due same is bare =
+      one_reason before row (what_of r) s due is bare (told_by before row r s due same)
 
   pub some_text : (row : Row) → Stands before row → row.text [] → IsDue before what.Text
   some_text row s h = ([], follows before row what.Text s (Text [] ∷ []) h)
 
   pub text : Stands before a_text → Reasoned before
-  text s = one_reason before a_text what.Text s (some_text a_text s tt) refl refl
-      (λ b why e. e) (λ why e. e) (λ b h. absurd h)
+  text s = one_reason before a_text what.Text s (some_text a_text s tt) (refl, refl, λ why e. e)
+      (λ b why e. e) (λ b h. absurd h)
 
   pub opening : Stands before an_opening → Reasoned before
   opening s = one_reason before an_opening what.Opening s
-      (follows before an_opening what.Opening s (Opening ∷ []) tt) refl refl
-      (λ b why e. e) (λ why e. e) (λ b h. absurd h)
+      (follows before an_opening what.Opening s (Opening ∷ []) tt) (refl, refl, λ why e. e)
+      (λ b why e. e) (λ b h. absurd h)
 
-  pub closing : (row : Row) → Stands before row → row.closing → row.otherwise ≡ Expected what.Closing
-      → row.other_text ≡ Expected what.Closing
+  pub closing : (row : Row) → Stands before row → row.closing → IsFor row what.Closing
       → ((b : List ℕ) (why : Why) → row.other_bare b why → why ≡ Expected what.Closing)
-      → ((why : Why) → row.other_closing why → why ≡ Expected what.Closing)
       → ((b : List ℕ) → row.bare b → IsTold before) → Reasoned before
   closing row s h = one_reason before row what.Closing s
       (follows before row what.Closing s (Closing ∷ []) h)
@@ -178,18 +190,23 @@ module _ (before : List Token) where
     node_due row s same =
         follows before row what.Node s (Bare (codes "t") ∷ []) ((same (codes "t")).1 (inr (inl refl)))
 
+    by_letter : (row : Row) → Stands before row → IsOfRole row (Role.NodeLetter (length players))
+        → IsFor row what.Node
+        → ((b : List ℕ) (why : Why) → row.other_bare b why
+        → (a_node (length players)).other_bare b why) → Reasoned before
+    by_letter row s same is bare =
+        let due = node_due row s same in
+        for_due before row what.Node s due is
+        (λ b why after n e. letter_given before players ends due b why after (bare b why e))
+        (told_by before row (Role.NodeLetter (length players)) s due same)
+
     pub node : Stands before (a_node (length players)) → Reasoned before
-    node s =
-        let due = node_due (a_node (length players)) s (λ b. (λ h. h, λ h. h)) in
-        reasons before (a_node (length players)) (λ after plain. due) (λ l after n. due) (λ b why after n e. letter_own before players ends due b why after e) (λ why after n e. as_own before why (Expected what.Node) (Closing ∷ after) due e) s
-        (told_by before (a_node (length players)) (Role.NodeLetter (length players)) s due (λ b. (λ h. h, λ h. h)))
+    node s = by_letter (a_node (length players)) s (λ b. (λ h. h, λ h. h))
+        (refl, refl, λ why e. e) (λ b why e. e)
 
     text_or_node : Stands before (or_text (a_node (length players))) → Reasoned before
-    text_or_node s =
-        let row = or_text (a_node (length players)) in
-        let due = node_due row s (λ b. (λ h. h, λ h. h)) in
-        reasons before row (λ after plain. due) (λ l after n. due) (λ b why after n e. letter_own before players ends due b why after e) (λ why after n e. as_own before why (Expected what.Node) (Closing ∷ after) due e) s
-        (told_by before row (Role.NodeLetter (length players)) s due (λ b. (λ h. h, λ h. h)))
+    text_or_node s = by_letter (or_text (a_node (length players))) s (λ b. (λ h. h, λ h. h))
+        (refl, refl, λ why e. e) (λ b why e. e)
 
     -- or this name, of which another one differs
     pub name_or_node : (name : List ℕ) → Stands before (or_name name (a_node (length players)))
@@ -198,12 +215,14 @@ module _ (before : List Token) where
     name_or_node name s other =
         let row = or_name name (a_node (length players)) in
         let due = node_due row s (λ b. (λ h. h, λ h. h)) in
-        reasons before row (λ after plain. due) other (λ b why after n e. letter_own before players ends due b why after e) (λ why after n e. as_own before why (Expected what.Node) (Closing ∷ after) due e) s
+        reasons before row (λ after plain. due) other
+        (λ b why after n e. letter_given before players ends due b why after e)
+        (λ why after n e. (Expected what.Node, e, due)) s
         (told_by before row (Role.NodeLetter (length players)) s due (λ b. (λ h. h, λ h. h)))
 
   pub end : Stands before an_end → Reasoned before
   end s = one_reason before an_end what.End s (follows before an_end what.End s [] tt)
-      refl refl (λ b why e. e) (λ why e. e) (λ b h. absurd h)
+      (refl, refl, λ why e. e) (λ b why e. e) (λ b h. absurd h)
 
   pub name_or_end : (name : List ℕ) → Stands before (or_name name an_end)
       → ((l : List ℕ) (after : List Token) → l ≢ name → Own Mismatch before (Text l ∷ after))
@@ -211,37 +230,37 @@ module _ (before : List Token) where
   name_or_end name s other =
       let row = or_name name an_end in
       let due : IsExtensiveFile before = follows before row what.End s [] tt in
-      reasons before row (λ after plain. due) other (λ b why after n e. as_own before why (Expected what.End) (Bare b ∷ after) due e) (λ why after n e. as_own before why (Expected what.End) (Closing ∷ after) due e) s
-      (λ b h. absurd h)
+      reasons before row (λ after plain. due) other
+      (λ b why after n e. (Expected what.End, e, due))
+      (λ why after n e. (Expected what.End, e, due)) s (λ b h. absurd h)
 
   -- a number: some bytes are not one, and others are a different one
   module _ (r : Role) (is : IsDue before what.Number) (row : Row) (s : Stands before row) where
-    pub number_named : row.otherwise ≡ Expected what.Number → row.other_text ≡ Expected what.Number
+    pub number_named : IsFor row what.Number
         → ((b : List ℕ) (why : Why) (after : List Token) → ¬ (row.bare b) → row.other_bare b why
-        → Own why before (Bare b ∷ after))
-        → ((why : Why) → row.other_closing why → why ≡ Expected what.Number)
+        → Given before (Bare b ∷ after) why)
         → what_of r ≡ what.Number → IsOfRole row r → Reasoned before
-    number_named otherwise text bare closing named same = reasons before row (λ after plain. as_own before row.otherwise (Expected what.Number) after is otherwise) (λ l after n. as_own before row.other_text (Expected what.Number) (Text l ∷ after) is text) bare (λ why after n e. as_own before why (Expected what.Number) (Closing ∷ after) is (closing why e)) s
+    number_named is_for bare named same = for_due before row what.Number s is is_for bare
         (told_by before row r s (subst (λ (w : What). IsDue before w) (sym named) is) same)
 
   pub in_heading : IsInHeading before → Reasoned before
   in_heading (IsInHeading.Format e) =
       word (a_word what.Format (codes "EFG")) Role.Format
       (subst (λ (ts : List Token). Stands ts (a_word what.Format (codes "EFG"))) (sym e)
-      heading.format) e (λ b. (λ h. h, λ h. h)) refl refl (λ b why k. k) (λ why k. k)
+      heading.format) e (λ b. (λ h. h, λ h. h)) (refl, refl, λ why k. k) (λ b why k. k)
   in_heading (IsInHeading.Version e) =
       word (a_word what.Version (codes "2")) Role.Version
       (subst (λ (ts : List Token). Stands ts (a_word what.Version (codes "2"))) (sym e)
-      heading.version) e (λ b. (λ h. h, λ h. h)) refl refl (λ b why k. k) (λ why k. k)
+      heading.version) e (λ b. (λ h. h, λ h. h)) (refl, refl, λ why k. k) (λ b why k. k)
   in_heading (IsInHeading.Letter e) = word a_letter Role.Letter
       (subst (λ (ts : List Token). Stands ts a_letter) (sym e) heading.letter) e
-      (λ b. (λ h. h, λ h. h)) refl refl (λ b why k. k) (λ why k. k)
+      (λ b. (λ h. h, λ h. h)) (refl, refl, λ why k. k) (λ b why k. k)
   in_heading (IsInHeading.Title h) = text (heading.title before h)
   in_heading (IsInHeading.BeforePlayers h) = opening (heading.before_players before h)
   in_heading (IsInHeading.Players players h) =
       let s = heading.player_names before players h in
-      one_reason before a_player_name what.Text s (some_text a_player_name s tt) refl refl
-      (λ b why e. e) (λ why e. e) (λ b k. absurd k)
+      one_reason before a_player_name what.Text s (some_text a_player_name s tt)
+      (refl, refl, λ why e. e) (λ b why e. e) (λ b k. absurd k)
   in_heading (IsInHeading.AfterPlayers players h) =
       text_or_node players (behind_players before players h)
       (heading.after_players before players h)

@@ -21,6 +21,7 @@ use Rattle.gf_tree.specs.inner.Machine.Position.{NewAction, OutcomeNumber}
 use Rattle.gf_tree.specs.inner.ReadGame.{run_tokens, then_run}
 use Rattle.gf_tree.proofs.lemmas.runs.Tokens.{Reads, run_on, guard_ok, ratio_is}
 use Rattle.gf_tree.proofs.lemmas.runs.Shares.{share_found, share_again, sum_high}
+use Rattle.gf_tree.proofs.lemmas.Once.{one_some}
 
 -- the probabilities of chance after this sum add up to one; a player's actions have none
 abbrev pub AreOthers : ℕ → Ratio → List Action → Type 0
@@ -166,9 +167,6 @@ new_found _ name player n set sum c r fraction e = absurd cc
 
 -- ---- each new set is read
 
-some_is : (p q : Ratio) (o : Option Ratio) → o ≡ Some p → o ≡ Some q → p ≡ q
-some_is p q o h k = cc
-
 record FirstShare (sum p : Ratio) (actions : List Action) : Type 0 where
   not_below : pos 0 ≤ℤ p.num
   next : Ratio
@@ -183,7 +181,7 @@ first_share : (a : Action) (actions : List Action) (p sum : Ratio) (ps : List Ra
 first_share a actions p sum [] e same h = absurd cc
 first_share a actions p sum (q ∷ ps) e same h =
     let first : a.probability ≡ Some q = cc in
-    let is : q ≡ p = some_is q p a.probability first e in
+    let is : q ≡ p = one_some a.probability q p first e in
     let k = subst
     (λ (x : Ratio). (pos 0 ≤ℤ x.num) × ((next : Ratio) × AddsTo sum x next × AddToOne next ps)) is
     h in

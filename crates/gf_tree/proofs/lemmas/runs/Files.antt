@@ -21,7 +21,6 @@ use Rattle.gf_tree.specs.inner.Machine.{Content, after_node, node_or_end}
 use Rattle.gf_tree.specs.inner.Machine.Position.{NodeDue}
 use Rattle.gf_tree.specs.inner.ReadGame.{run_tokens, then_run, game_of}
 use Rattle.gf_tree.proofs.lemmas.games.Consistent.{map_entry}
-use Rattle.gf_tree.proofs.lemmas.fronts.Groups.{NoText}
 use Rattle.gf_tree.proofs.lemmas.games.TreesOnce.{same_set_equality}
 use Rattle.gf_tree.proofs.lemmas.runs.Tokens.{Reads, run_on, ok_read, ok_is}
 use Rattle.gf_tree.proofs.lemmas.runs.Sets.{AreSets}
@@ -30,6 +29,7 @@ use Rattle.gf_tree.proofs.lemmas.runs.Nodes.{MapOf, HasChildrenBy, set_key, behi
 use Rattle.gf_tree.proofs.lemmas.runs.Nodes.{NodeRead, letter_found, node_again}
 use Rattle.gf_tree.proofs.lemmas.runs.Learned.{uses_of, learns_on, learns_split}
 use Rattle.gf_tree.proofs.lemmas.runs.Learned.{kept, all_known, one_use, at_new}
+use Rattle.gf_tree.proofs.lemmas.games.SentencesOnce.{nodes_no_text}
 
 -- the nodes without descriptions
 abbrev pub alone : List (Entry FileNode) → List (Entry Node)
@@ -168,15 +168,6 @@ nodes_found ts c r sets outcomes e = nodes_by (suc (length ts)) ts c r (omega ar
 
 -- ---- all nodes are read
 
-pub no_text : (players : ℕ) (ns : List FileNode) (tokens : List Token)
-    → Each (IsNode players) tokens ns → NoText tokens
-no_text players [] tokens h = λ l others e. let none = sym h ∙ e in absurd cc
-no_text players (n ∷ ns) tokens h = λ l others e.
-    let whole : tokens ≡ Bare h.3.letter ∷ (Text n.name ∷ ((h.3.step ++ h.3.result) ++ h.1)) =
-    h.2 ∙ ap (λ (ts : List Token). ts ++ h.1) h.3.parts in
-    let both = sym whole ∙ e in
-    absurd cc
-
 -- after a use its key is known
 known_behind : (known mid : MapOf) (u : Use SetKey InformationSet)
     → Learns same_set known (u ∷ []) mid
@@ -253,7 +244,7 @@ nodes_again (e ∷ es) ts c g sets outcomes of each fills learns_sets learns_out
     let behind = behind_node c e.node e.children s.0 o.0 in
     ap (run_tokens NodeDue c) each.2
     ∙ node_again e.node e.children left.0 each.0 each.1 c s.0 o.0 left.1 each.3
-    (no_text (length c.players) (nodes_of es) each.1 each.4) s.1 o.1 has mid_are
+    (nodes_no_text (length c.players) (nodes_of es) each.1 each.4) s.1 o.1 has mid_are
     ∙ nodes_again es each.1 behind g sets outcomes of each.4 left.2 s.2 o.2 children.1 are
     ∙ ap (λ (ns : List (Entry Node)).
     ok_read (record c { nodes = ns; due = 0; sets = sets; outcomes = outcomes }))

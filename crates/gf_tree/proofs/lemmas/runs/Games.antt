@@ -27,7 +27,8 @@ use Rattle.gf_tree.proofs.lemmas.fronts.Groups.{NoText}
 use Rattle.gf_tree.proofs.lemmas.runs.Tokens.{Reads}
 use Rattle.gf_tree.proofs.lemmas.runs.Heading.{Heading, heading, heading_found, heading_again}
 use Rattle.gf_tree.proofs.lemmas.runs.Files.{NodesRead, alone, nodes_of, nodes_found}
-use Rattle.gf_tree.proofs.lemmas.runs.Files.{nodes_again, behind_nodes, no_text}
+use Rattle.gf_tree.proofs.lemmas.runs.Files.{nodes_again, behind_nodes}
+use Rattle.gf_tree.proofs.lemmas.games.SentencesOnce.{nodes_no_text}
 
 -- ---- the comment
 
@@ -181,7 +182,7 @@ file_again tokens f g s l =
       read = ap (run_tokens Format nothing) s.parts
           ∙ heading_again s.letter f.title f.players (s.comment ++ s.nodes) s.is_letter
           ∙ comment_again s.comment s.nodes f.comment f.title f.players s.is_comment
-          (no_text (length f.players) (nodes_of es) s.nodes s.are_nodes)
+          (nodes_no_text (length f.players) (nodes_of es) s.nodes s.are_nodes)
           ∙ nodes_again es s.nodes c g g.sets g.outcomes refl s.are_nodes (fills_one f.tree) l.sets
           l.outcomes children are;
       means = λ i. record {

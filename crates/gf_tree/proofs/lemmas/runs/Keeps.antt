@@ -37,9 +37,10 @@ use Rattle.gf_tree.specs.inner.Machine.Position.{OutcomeNumber, NewOutcomeName, 
 use Rattle.gf_tree.specs.inner.Machine.Position.{NewPayoff, AfterNewPayoff, KnownOutcomeName}
 use Rattle.gf_tree.specs.inner.Machine.Position.{KnownOutcomeOpening, KnownPayoff, AfterKnownPayoff}
 use Rattle.gf_tree.proofs.lemmas.games.TreesOnce.{same_set_equality}
-use Rattle.gf_tree.proofs.lemmas.runs.Learned.{one, found_has, all_more}
+use Rattle.gf_tree.proofs.lemmas.runs.Learned.{one, found_has}
 use Rattle.gf_tree.proofs.lemmas.runs.Shares.{share_found}
 use Rattle.gf_tree.proofs.lemmas.runs.Remainders.{IsShare, zero_share, sum_low}
+use Rattle.gf_tree.proofs.lemmas.games.Members.{all_more}
 
 abbrev pub FineActions : List Action → Type 0
 FineActions actions = AllByRecursion (λ a. MatchOption a.probability (Unit {0}) IsFraction) actions

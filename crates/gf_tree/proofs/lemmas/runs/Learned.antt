@@ -186,11 +186,6 @@ found_has {K} {D} same equality P (x ∷ es) key d all e =
         subst (P key) is (subst (λ y. P y x.description) k all.0)
     by later false t e = later e
 
-pub all_more : {X : Type 0} (P : X → Type 0) (xs : List X) (x : X) → AllByRecursion P xs → P x
-    → AllByRecursion P (xs ++ x ∷ [])
-all_more P [] x h k = (k, tt)
-all_more P (y ∷ xs) x h k = (h.0, all_more P xs x h.1 k)
-
 pub all_before : {X : Type 0} (P : X → Type 0) (xs : List X) (x : X)
     → AllByRecursion P (xs ++ x ∷ []) → AllByRecursion P xs
 all_before P [] x h = tt

@@ -15,6 +15,7 @@ use Rattle.gf_tree.proofs.lemmas.runs.Tokens.{Reads, run_on, ok_read}
 use Rattle.gf_tree.proofs.lemmas.runs.Games.{file_found, file_again}
 use Rattle.gf_tree.proofs.lemmas.runs.Keeps.{Fine, LeadsFine, keeps}
 use Rattle.gf_tree.proofs.lemmas.runs.Ends.{ends}
+use Rattle.gf_tree.proofs.lemmas.Once.{ok_or_err}
 
 -- ---- where tokens lead
 
@@ -89,9 +90,6 @@ read_is tokens r e =
     let f = file_found tokens r e in
     (f.file, f.sentence, ((game_learned_once f.file (game_of r)).0 f.learns).0)
 
-not_both : (o : Result Content Why) (r : Content) (why : Why) → o ≡ ok_read r → o ≡ Err why → ⊥
-not_both o r why h k = cc
-
 pub begins : (ts : List Token) (s : State) → Leads ts s → Begins IsExtensiveFile ts
 begins ts s h =
     let e = ends s.position s.content (leads_fine ts s h) in
@@ -109,7 +107,7 @@ not_follows ts t s why h e = λ file.
     ap (run_tokens Format nothing) (sym (append_assoc ts (t ∷ []) file.0)) ∙ r.1 in
     let stops : run_tokens Format nothing (ts ++ t ∷ file.0) ≡ Err why =
     walk_run ts (t ∷ file.0) Format nothing s h ∙ ap (λ o. then_run o (run_on file.0)) e in
-    not_both (run_tokens Format nothing (ts ++ t ∷ file.0)) r.0 why read stops
+    ok_or_err (run_tokens Format nothing (ts ++ t ∷ file.0)) r.0 why read stops
 
 -- the answer at the end
 at_end : (ts : List Token) (s : State) → Leads ts s
@@ -126,5 +124,5 @@ pub no_file : (ts : List Token) (s : State) → Leads ts s → may_end s.positio
     → ¬ (IsExtensiveFile ts)
 no_file ts s h e = λ file.
     let r = is_read ts file in
-    not_both (run_tokens Format nothing ts) r.0 (due s.position s.content.due) r.1 (at_end ts s h
+    ok_or_err (run_tokens Format nothing ts) r.0 (due s.position s.content.due) r.1 (at_end ts s h
     ∙ ap (λ (b : Bool). cond b (ok_read s.content) (Err (due s.position s.content.due))) e)

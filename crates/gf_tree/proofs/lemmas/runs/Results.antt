@@ -28,7 +28,8 @@ use Rattle.gf_tree.proofs.lemmas.runs.Tokens.{Reads, run_on, text_found, text_ag
 use Rattle.gf_tree.proofs.lemmas.runs.Payoffs.{Numbers, new_result, new_found}
 use Rattle.gf_tree.proofs.lemmas.runs.Payoffs.{new_again, known_found, known_again}
 use Rattle.gf_tree.proofs.lemmas.runs.Learned.{one, use_of, uses_of, learns_new, learns_again}
-use Rattle.gf_tree.proofs.lemmas.runs.Learned.{one_use, IsNew, IsKnown, found_has, all_more}
+use Rattle.gf_tree.proofs.lemmas.runs.Learned.{one_use, IsNew, IsKnown, found_has}
+use Rattle.gf_tree.proofs.lemmas.games.Members.{all_more}
 
 -- these outcomes are known
 abbrev pub with_outcomes : Content → List (Described ℕ Outcome) → Content

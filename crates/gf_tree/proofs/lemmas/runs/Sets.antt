@@ -25,7 +25,9 @@ use Rattle.gf_tree.proofs.lemmas.runs.Tokens.{Reads, run_on, text_found, text_ag
 use Rattle.gf_tree.proofs.lemmas.runs.Actions.{others_are, are_others, new_found, new_again}
 use Rattle.gf_tree.proofs.lemmas.runs.KnownActions.{probabilities, known_found, known_again}
 use Rattle.gf_tree.proofs.lemmas.runs.Learned.{one, use_of, learns_new, learns_again, one_use}
-use Rattle.gf_tree.proofs.lemmas.runs.Learned.{IsNew, IsKnown, at_new, found_has, all_more}
+use Rattle.gf_tree.proofs.lemmas.runs.Learned.{IsNew, IsKnown, at_new, found_has}
+use Rattle.gf_tree.proofs.lemmas.Once.{one_some}
+use Rattle.gf_tree.proofs.lemmas.games.Members.{all_more}
 
 -- these sets are known
 abbrev pub with_sets : Content → List (Described SetKey InformationSet) → Content
@@ -222,9 +224,6 @@ set_found _ name player c r among are e = absurd cc
 
 -- ---- each set of a node is read
 
-some_is : (s t : InformationSet) (o : Option InformationSet) → o ≡ Some s → o ≡ Some t → s ≡ t
-some_is s t o h k = cc
-
 -- after the description stands the number of the outcome
 behind_again : (tokens rest : List Token) (t name : List ℕ) (u : Use SetKey InformationSet)
     (sets : List (Described SetKey InformationSet)) (set : InformationSet) (c : Content)
@@ -248,7 +247,7 @@ behind_again tokens rest t name u sets set c is good known (inl h) = by u.descri
         ap (λ x. description_at same_set x u.key) h.more
         ∙ at_new same_set same_set_equality c.sets u.key h.description h.unknown in
         let same : d ≡ set =
-        first ∙ some_is h.description set (description_at same_set sets u.key) there known in
+        first ∙ one_some (description_at same_set sets u.key) h.description set there known in
         let good_set = subst (IsSet (length c.players) u.key) (sym same) good in
         let behind : List Token = is.0 ++ Closing ∷ (Bare t ∷ rest) in
         let text : tokens ++ Bare t ∷ rest ≡ Text d.name ∷ Opening ∷ behind =
@@ -278,7 +277,7 @@ behind_again tokens rest t name u sets set c is good known (inr h) =
     same
   where
     same : h.description ≡ set
-    same = some_is h.description set (description_at same_set sets u.key)
+    same = one_some (description_at same_set sets u.key) h.description set
         (ap (λ x. description_at same_set x u.key) h.no_more ∙ h.is_known) known
 
     by : (o : Option InformationSet) → IsDescription (IsInformationSet u.key.player) tokens o

@@ -1,7 +1,7 @@
 -- The nodes of a game as they are kept, given one after another, are those that a file gives.
-use Rattle.std.proofs.Common.{◌≡◌, ℕ, zero, suc, ◌+◌, ◌<◌, ◌≤◌, List, [], ◌∷◌, ◌++◌, length, map}
-use Rattle.std.proofs.Common.{max, Option, None, Some, option_map, slice_get, nat_eq, refl}
-use Rattle.std.proofs.Common.{sym, ap, ◌∙◌, arith, append_assoc, append-nil}
+use Rattle.std.proofs.Common.{◌≡◌, ℕ, zero, suc, ◌+◌, ◌≤◌, List, [], ◌∷◌, ◌++◌, length, map, max}
+use Rattle.std.proofs.Common.{Option, None, Some, option_map, nat_eq, refl, sym, ap, ◌∙◌, arith}
+use Rattle.std.proofs.Common.{append_assoc, append-nil}
 use Rattle.std.specs.Prelude.{Bool}
 use Rattle.std.specs.List.{filter_map, cons_option}
 use Rattle.std.proofs.Math.Nat.{max-zero}
@@ -17,17 +17,11 @@ use Rattle.gf_tree.specs.KeptNodes.{AreAmong, IsAmong, Kept, entries_with, entry
 use Rattle.gf_tree.specs.inner.KnownUses.{node_given, nodes_given, use_at}
 use Rattle.gf_tree.specs.PrefixOrder.{Entry, flatten}
 use Rattle.gf_tree.proofs.lemmas.stores.KnownKeys.{known_there, use_there}
-use Rattle.gf_tree.proofs.lemmas.games.Members.{map_same, map_twice}
+use Rattle.gf_tree.proofs.lemmas.games.Members.{map_same, map_twice, something_there}
 use Rattle.gf_tree.proofs.lemmas.games.TreesOnce.{same_set_equality}
 use Rattle.gf_tree.proofs.lemmas.games.Uses.{IsEquality}
 
 -- ---- lists
-
-pub something_there : {A : Type 0} (xs : List A) (k : ℕ) → k < length xs
-    → (x : A) × (slice_get xs k ≡ Some x)
-something_there [] k h = absurd (omega (arith, h))
-something_there (y ∷ xs) zero h = (y, refl)
-something_there (y ∷ xs) (suc k) h = something_there xs k (omega (arith, h))
 
 -- an item with those before it, after others
 behind_front : {A B : Type 0} (f : List A → A → B) (front : List A) (x : A) (xs : List A)

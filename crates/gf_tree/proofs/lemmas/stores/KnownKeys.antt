@@ -18,7 +18,7 @@ use Rattle.gf_tree.specs.inner.KnownUses.{use_at}
 use Rattle.gf_tree.proofs.lemmas.games.FirstUseNumbers.{number_at, number_at_most}
 use Rattle.gf_tree.proofs.lemmas.games.FirstUses.{AreDistinct, first_uses_distinct}
 use Rattle.gf_tree.proofs.lemmas.games.Lookups.{entry_at}
-use Rattle.gf_tree.proofs.lemmas.games.Members.{filter_last}
+use Rattle.gf_tree.proofs.lemmas.games.Members.{filter_last, has_at}
 use Rattle.gf_tree.proofs.lemmas.games.Uses.{Has, IsEquality}
 
 -- ---- an item at its place
@@ -30,12 +30,6 @@ around [] (suc k) x h = absurd cc
 around (y ∷ xs) zero x h = let e : y ≡ x = cc in ([], xs, ap (λ z. z ∷ xs) e, refl)
 around (y ∷ xs) (suc k) x h =
     let r = around xs k x h in (y ∷ r.0, r.1, ap (λ zs. y ∷ zs) r.2, ap suc r.3)
-
-pub stands_in : {A : Type 0} (xs : List A) (k : ℕ) (x : A) → slice_get xs k ≡ Some x → Has xs x
-stands_in [] zero x h = absurd cc
-stands_in [] (suc k) x h = absurd cc
-stands_in (y ∷ xs) zero x h = inl cc
-stands_in (y ∷ xs) (suc k) x h = inr (stands_in xs k x h)
 
 module _ {K : Type 0} (same : K → K → Bool) (tells : IsEquality same) where
   either_way : (key k : K) → same k key ≡ same key k
@@ -152,7 +146,7 @@ module _ {K : Type 0} (same : K → K → Bool) (tells : IsEquality same) where
     description_there : description_at same known d.key ≡ Some d.description
     description_there = entry_at same tells known d
         (subst AreDistinct (sym all) (first_uses_distinct same tells (before ++ d.key ∷ after)))
-        (stands_in known k d there)
+        (has_at known k d there)
 
     pub use_there : use_behind same (description_at same known) before d.key
         ≡ use_at (length (first_uses same before)) (suc k) d

@@ -1,5 +1,5 @@
 -- The sum of the probabilities of a list of actions: as the reader adds them up, and as reasons do.
-use Rattle.std.proofs.Common.{◌≡◌, ◌<◌, List, [], ◌∷◌, Some, sym, subst, ◌∙◌, arith, Option}
+use Rattle.std.proofs.Common.{◌≡◌, ◌<◌, List, [], ◌∷◌, sym, subst, ◌∙◌, arith}
 use Rattle.std.specs.Prelude.{pos}
 use Rattle.gf_fraction.specs.Ratio.{Ratio, whole}
 use Rattle.gf_fraction.specs.Fits.{IsSum}
@@ -8,6 +8,7 @@ use Rattle.gf_fraction.proofs.SumsOnce.{one_sum}
 use Rattle.gf_tree.specs.Description.{InformationSet, Action}
 use Rattle.gf_tree.specs.Reason.{HasSum, AddUpTo}
 use Rattle.gf_tree.proofs.lemmas.fronts.Runs.{HaveSumFrom, AddShares}
+use Rattle.gf_tree.proofs.lemmas.Once.{one_some}
 
 sums_once : (actions : List Action) (sum total machine : Ratio) → 0 < sum.den
     → AddUpTo sum actions total → AddShares sum actions machine → machine ≡ total
@@ -18,9 +19,6 @@ sums_once (a ∷ actions) sum total machine some h k =
     (subst (λ (x : Ratio). IsSum h.1 sum x) same h.3.2) in
     sums_once actions h.1 total machine h.3.1.den_above_zero h.4
     (subst (λ (x : Ratio). AddShares x actions machine) next k.5)
-  where
-    one_some : (o : Option Ratio) (p q : Ratio) → o ≡ Some p → o ≡ Some q → p ≡ q
-    one_some o p q e f = cc
 
 pub same_sum : (set : InformationSet) (total machine : Ratio) → HasSum set total
     → HaveSumFrom 0 (whole (pos 0)) set.actions machine → machine ≡ total

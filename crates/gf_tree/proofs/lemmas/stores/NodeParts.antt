@@ -3,14 +3,15 @@ use Rattle.std.proofs.Common.{◌≡◌, ℕ, zero, suc, ◌+◌, ◌-◌, ◌<�
 use Rattle.std.proofs.Common.{map, drop, take, get_or, slice_get, Option, Some, None, option_map}
 use Rattle.std.proofs.Common.{MatchOption}
 use Rattle.std.proofs.Common.{refl, sym, ap, subst, ◌∙◌, arith}
+use Rattle.std.proofs.Common.{false}
 use Rattle.std.specs.Prelude.{nat_eq, position}
 use Rattle.std.specs.List.{position_from}
-use Rattle.std.proofs.Common.{false}
 use Rattle.std.proofs.lemmas.Bool.{eqb-true, eq-eqb, false_from_ne_true}
 use Rattle.std.proofs.lemmas.Bool.Decides.{Decides-eqb}
 use Rattle.std.proofs.lemmas.Iterator.Adapters.{position_from-zero}
 use Rattle.std.proofs.lemmas.List.{append-nil, drop-drop, drop-map}
 use Rattle.std.proofs.lemmas.Option.{get_or_from_slice_get, slice_get-map, slice_get_within}
+use Rattle.std.proofs.lemmas.Option.{same_Some}
 use Rattle.gf_token.specs.Positions.{at_position}
 use Rattle.gf_tree.specs.Tree.{Tree}
 use Rattle.gf_tree.specs.Tree.Tree.{branch}
@@ -34,10 +35,11 @@ use Rattle.gf_tree.proofs.lemmas.stores.GameNodes.{IsTreeOf, as_many, child_is_t
 use Rattle.gf_tree.proofs.lemmas.stores.GameNodes.{placed_there}
 use Rattle.gf_tree.proofs.lemmas.games.Lookups.{entry_at}
 use Rattle.gf_tree.proofs.lemmas.stores.Places.{at_index}
-use Rattle.gf_tree.proofs.lemmas.stores.RenumberedStores.{has_place, is_among, some_same, there}
+use Rattle.gf_tree.proofs.lemmas.stores.RenumberedStores.{is_among}
 use Rattle.gf_tree.proofs.lemmas.stores.SubtreeSizes.{begin_first, stands, subtrees_counted}
 use Rattle.gf_tree.proofs.lemmas.games.TreesOnce.{same_set_equality}
 use Rattle.gf_tree.proofs.lemmas.games.Uses.{Has}
+use Rattle.gf_tree.proofs.lemmas.games.Members.{has_at, something_there}
 
 from_there : {A : Type 0} (xs : List A) (k : ℕ) (x : A) → slice_get xs k ≡ Some x
     → drop k xs ≡ x ∷ drop (k + 1) xs
@@ -89,7 +91,7 @@ next_child {N} t at before place h i e =
     let kids = child_trees (subtree_at t at) in
     let sizes = drop (at + 1) (subtree_sizes t) in
     let r = child_is_there t at before h i in
-    let x = there kids before i in
+    let x = something_there kids before i in
     let is : slice_get (subtrees t) place ≡ Some x.0 =
     ap (slice_get (subtrees t)) e ∙ r.there ∙ x.1 in
     let more = skips_more before sizes r.begin_more in
@@ -114,10 +116,10 @@ pub mover_there : (known : List (Described SetKey InformationSet)) (place player
     → number_among known place ≡ Some n
     → at_position (map (λ s. s.key) (known_of player known)) n ≡ Some (set_of player number)
 mover_there known place player number n h key among =
-    let t = there known place h in
+    let t = something_there known place h in
     let s = t.0 in
     let is : s.key ≡ set_of player number =
-    some_same _ _ (sym (ap (option_map (λ (s : Described SetKey InformationSet). s.key)) t.1)
+    same_Some _ _ (sym (ap (option_map (λ (s : Described SetKey InformationSet). s.key)) t.1)
     ∙ key) in
     let his : s.key.player ≡ player = ap (λ (k : SetKey). k.player) is in
     let counted : Some (length (known_of s.key.player (take (place + 1) known))) ≡ Some n =
@@ -126,7 +128,7 @@ mover_there known place player number n h key among =
     let a = is_among known place s.key.player s t.1 refl in
     let same : length (known_of s.key.player (take (suc place) known)) ≡ n =
     ap (λ (k : ℕ). length (known_of s.key.player (take k known))) (sym next)
-    ∙ some_same _ _ counted in
+    ∙ same_Some _ _ counted in
     let at : n ≡ suc a.before = sym same ∙ a.counted in
     rw at
     (ap (λ (p : ℕ). slice_get (map (λ (s : Described SetKey InformationSet). s.key)
@@ -149,13 +151,13 @@ actions_there g game place key actions at are = by (slice_get g.sets place) refl
         → option_map (λ set. set.actions) (set_at g key) ≡ Some actions
     by None is at are = absurd cc
     by (Some s) is at are =
-        let same : s.key ≡ key = some_same _ _ at in
+        let same : s.key ≡ key = same_Some _ _ at in
         let distinct : AreDistinct (map (λ s. s.key) g.sets) =
         subst AreDistinct (sym game.one_entry_each_set)
         (first_uses_distinct same_set same_set_equality (used_sets g.tree)) in
         ap (λ (k : SetKey). option_map (λ set. set.actions) (set_at g k)) (sym same)
         ∙ ap (option_map (λ set. set.actions))
-        (entry_at same_set same_set_equality g.sets s distinct (has_place g.sets place s is))
+        (entry_at same_set same_set_equality g.sets s distinct (has_at g.sets place s is))
         ∙ are
 
 -- ---- the position of a number
@@ -169,7 +171,7 @@ position_behind (m ∷ ns) start zero n d h =
     rw (eq-eqb n m same) (ap Some (omega arith))
 position_behind (m ∷ ns) start (suc k) n d h =
     let other : nat_eq n m ≡ false = false_from_ne_true (nat_eq n m)
-    (λ t. d.0 (subst (Has ns) (eqb-true n m t) (has_place ns k n h))) in
+    (λ t. d.0 (subst (Has ns) (eqb-true n m t) (has_at ns k n h))) in
     rw other (position_behind ns (start + 1) k n d.1 h ∙ ap Some (omega arith))
 
 position_is : (ns : List ℕ) (k n : ℕ) → AreDistinct ns → slice_get ns k ≡ Some n
@@ -245,7 +247,7 @@ module _ (sets : List (Described SetKey InformationSet)) (outcomes : List (Descr
       → MatchOption node.set (actions ≡ [])
       (λ key. option_map (λ set. set.actions) (set_at g key) ≡ Some actions)
   are_actions g actions game are some h =
-      let at = there sets (n.set - 1) (set_below some) in
+      let at = something_there sets (n.set - 1) (set_below some) in
       let key : node.set ≡ Some at.0.key =
       set_before some ∙ ap (option_map (λ (s : Described SetKey InformationSet). s.key)) at.1 in
       let same : slice_get g.sets (n.set - 1) ≡ slice_get sets (n.set - 1) =
@@ -272,7 +274,7 @@ module _ (sets : List (Described SetKey InformationSet)) (outcomes : List (Descr
           ∙ ap (λ k. option_map (λ o. o.key) (at_position outcomes k)) is in
           ap (position_among (outcome_numbers g)) (sym none)
       by (suc k) is within =
-          let at = there outcomes k (omega (arith, within)) in
+          let at = something_there outcomes k (omega (arith, within)) in
           let some : node.outcome ≡ Some at.0.key = kept.outcome_is
           ∙ ap (λ k. option_map (λ o. o.key) (at_position outcomes k)) is
           ∙ ap (option_map (λ (o : Described ℕ Outcome). o.key)) at.1 in

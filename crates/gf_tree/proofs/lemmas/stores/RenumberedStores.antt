@@ -11,6 +11,7 @@ use Rattle.std.proofs.lemmas.Bool.{eq-eqb, false_from_ne_true}
 use Rattle.std.proofs.lemmas.Bool.Decides.{Decides-eqb}
 use Rattle.std.proofs.lemmas.Iterator.Adapters.{position_from-zero}
 use Rattle.std.proofs.lemmas.Option.{get_or_from_slice_get, slice_get-map, slice_get_within}
+use Rattle.std.proofs.lemmas.Option.{same_Some}
 use Rattle.gf_tree.specs.Description.{SetKey, InformationSet, Outcome, same_set, set_of}
 use Rattle.gf_tree.specs.FiniteMap.{Described}
 use Rattle.gf_tree.specs.FirstUse.{outcome_numbers, player_keys, sets_of}
@@ -26,17 +27,9 @@ use Rattle.gf_tree.proofs.lemmas.games.PlayerSets.{sets_by_first_use}
 use Rattle.gf_tree.proofs.lemmas.games.Renumbered.{renumbered_is_game}
 use Rattle.gf_tree.proofs.lemmas.games.TreesOnce.{same_set_equality}
 use Rattle.gf_tree.proofs.lemmas.games.Uses.{Has, IsEquality}
+use Rattle.gf_tree.proofs.lemmas.games.Members.{all_more, has_at, something_there}
 
 -- ---- a key that has not stood yet
-
-pub some_same : {X : Type 0} (x y : X) → Some x ≡ Some y → x ≡ y
-some_same x y e = cc
-
-pub has_place : {X : Type 0} (xs : List X) (place : ℕ) (x : X) → slice_get xs place ≡ Some x → Has xs x
-has_place [] zero x h = absurd cc
-has_place [] (suc place) x h = absurd cc
-has_place (y ∷ xs) zero x h = inl cc
-has_place (y ∷ xs) (suc place) x h = inr (has_place xs place x h)
 
 absent_from : {K : Type 0} (same : K → K → Bool) → IsEquality same
     → (key : K) (ks : List K) (start : ℕ)
@@ -58,7 +51,7 @@ not_yet [] zero key d h i = absurd i
 not_yet [] (suc place) key d h i = absurd i
 not_yet (k ∷ ks) zero key d h i = absurd i
 not_yet (k ∷ ks) (suc place) key d h (inl e) =
-    d.0 (subst (Has ks) (sym e) (has_place ks place key h))
+    d.0 (subst (Has ks) (sym e) (has_at ks place key h))
 not_yet (k ∷ ks) (suc place) key d h (inr m) = not_yet ks place key d.1 h m
 
 map_take : {X Y : Type 0} (f : X → Y) (n : ℕ) (xs : List X) → map f (take n xs) ≡ take n (map f xs)
@@ -92,17 +85,6 @@ pub taken : {X : Type 0} (xs : List X) (place : ℕ) (x : X) → slice_get xs pl
     → take (place + 1) xs ≡ take place xs ++ x ∷ []
 taken xs place x h =
     let next : place + 1 ≡ suc place = omega arith in rw next (take_next xs place x h)
-
-pub all_and_one : {X : Type 0} (P : X → Type 0) (xs : List X) (x : X) → AllByRecursion P xs → P x
-    → AllByRecursion P (xs ++ x ∷ [])
-all_and_one P [] x h p = (p, tt)
-all_and_one P (y ∷ xs) x h p = (h.0, all_and_one P xs x h.1 p)
-
-pub there : {X : Type 0} (xs : List X) (place : ℕ) → place < length xs
-    → (x : X) × (slice_get xs place ≡ Some x)
-there [] place h = absurd (omega (arith, h))
-there (x ∷ xs) zero h = (x, refl)
-there (x ∷ xs) (suc place) h = there xs place (omega (arith, h))
 
 -- ---- a set's number among those of its player
 
@@ -160,19 +142,19 @@ module _ (g : Game) (game : IsGame g) (lists : List (List ℕ)) (outcomes : List
   key_used : (place : ℕ) (s : Described SetKey InformationSet) → slice_get g.sets place ≡ Some s
       → Has (used_sets g.tree) s.key
   key_used place s h = entry_used same_set (used_sets g.tree) g.sets s game.one_entry_each_set
-      (has_place g.sets place s h)
+      (has_at g.sets place s h)
 
   pub listed_at : (place n : ℕ) → place < length g.sets → number_among g.sets place ≡ Some n
       → IsListedAt place n
   listed_at place n h e =
-      let t = there g.sets place h in
+      let t = something_there g.sets place h in
       let s = t.0 in
       let player = s.key.player in
       let counted : Some (length (known_of player (take (place + 1) g.sets))) ≡ Some n = rw t.1 at
       e in
       let next : place + 1 ≡ suc place = omega arith in
       let counted' : length (known_of player (take (suc place) g.sets)) ≡ n =
-      ap (λ k. length (known_of player (take k g.sets))) (sym next) ∙ some_same _ _ counted in
+      ap (λ k. length (known_of player (take k g.sets))) (sym next) ∙ same_Some _ _ counted in
       let a = is_among g.sets place player s t.1 refl in
       let among : n ≡ suc a.before = sym counted' ∙ a.counted in
       let before : n - 1 ≡ a.before = omega (arith, among) in
@@ -220,7 +202,7 @@ module _ (g : Game) (game : IsGame g) (lists : List (List ℕ)) (outcomes : List
       ∙ ap (λ (ss : List (Described SetKey InformationSet)).
       option_map (λ (s : Described SetKey InformationSet). s.key) (slice_get ss place)) (sym e)
       ∙ k in
-      let his : r.set.key.player ≡ player = ap (λ (x : SetKey). x.player) (some_same _ _ key) in
+      let his : r.set.key.player ≡ player = ap (λ (x : SetKey). x.player) (same_Some _ _ key) in
       let items_are : items ≡ get_or lists r.set.key.player [] =
       own_is (subst (λ p. p < length lists) his r.player)
       ∙ ap (λ (p : ℕ). get_or lists p []) (sym his) in
@@ -259,7 +241,7 @@ module _ (g : Game) (game : IsGame g) (lists : List (List ℕ)) (outcomes : List
       → MatchOption (slice_get from place) ⊤
       (λ s. position (same_set (set_of s.key.player number)) (map (λ t. t.key) now) ≡ None)
   set_absent from now place number e f h m =
-      let t = there g.sets place h in
+      let t = something_there g.sets place h in
       let is : number ≡ by_list.set t.0.key.player t.0.key.number = rw t.1 at m in
       rw (e, t.1, f, is) (next_absent same_set same_set_equality (renumbered by_list g).sets place
       (image t.0) distinct_sets (image_there place t.0 t.1))
@@ -274,7 +256,7 @@ module _ (g : Game) (game : IsGame g) (lists : List (List ℕ)) (outcomes : List
       → (new ≡ take (place + 1) (renumbered by_list g).sets)
       × AllByRecursion (λ s. s.key.number < 2 ^ 32) new
   set_added from now new place number e f h small m all added =
-      let t = there g.sets place h in
+      let t = something_there g.sets place h in
       let is : number ≡ by_list.set t.0.key.player t.0.key.number = rw t.1 at m in
       let entry : ℕ → Described SetKey InformationSet =
       λ n. record { key = set_of t.0.key.player n; description = t.0.description } in
@@ -282,7 +264,7 @@ module _ (g : Game) (game : IsGame g) (lists : List (List ℕ)) (outcomes : List
       let there = image_there place t.0 t.1 in
       let more = taken (renumbered by_list g).sets place (image t.0) there in (
         one ∙ (λ i. f i ++ entry (is i) ∷ []) ∙ sym more,
-        rw one (all_and_one (λ s. s.key.number < 2 ^ 32) now (entry number) all small),
+        rw one (all_more (λ s. s.key.number < 2 ^ 32) now (entry number) all small),
       )
 
 -- ---- the numbers of outcomes, one after another
@@ -317,7 +299,7 @@ module _ (g : Game) (game : IsGame g) (lists : List (List ℕ)) (outcomes : List
   listed_outcome place number o h e =
       let key = slice_get-map (λ (x : Described ℕ Outcome). x.key) g.outcomes place
       ∙ ap (option_map (λ (x : Described ℕ Outcome). x.key)) h in
-      some_same _ _
+      same_Some _ _
       (sym e ∙ number_there nat_eq Decides-eqb (outcome_numbers g) outcomes place o.key
       listed.each_outcome distinct_keys key)
 
@@ -326,7 +308,7 @@ module _ (g : Game) (game : IsGame g) (lists : List (List ℕ)) (outcomes : List
       → place < length g.outcomes → slice_get outcomes place ≡ Some number
       → position (nat_eq number) (map (λ t. t.key) now) ≡ None
   outcome_absent now place number f h m =
-      let t = there g.outcomes place h in
+      let t = something_there g.outcomes place h in
       let is = listed_outcome place number t.0 t.1 m in
       rw (f, is) (next_absent nat_eq Decides-eqb (renumbered outcomes_by_list g).outcomes place
       (outcome_image t.0) distinct_outcomes (outcome_there place t.0 t.1))
@@ -340,14 +322,14 @@ module _ (g : Game) (game : IsGame g) (lists : List (List ℕ)) (outcomes : List
       → (new ≡ take (place + 1) (renumbered outcomes_by_list g).outcomes)
       × AllByRecursion (λ o. o.key < 2 ^ 32) new
   outcome_added from now new place number e f h small m all added =
-      let t = there g.outcomes place h in
+      let t = something_there g.outcomes place h in
       let is = listed_outcome place number t.0 t.1 m in
       let one : new ≡ now ++ record { key = number; description = t.0.description } ∷ [] =
       rw (e, t.1) at added in
       let more = taken (renumbered outcomes_by_list g).outcomes place (outcome_image t.0)
       (outcome_there place t.0 t.1) in (
         one ∙ (λ i. f i ++ record { key = is i; description = t.0.description } ∷ []) ∙ sym more,
-        rw one (all_and_one (λ (o : Described ℕ Outcome). o.key < 2 ^ 32) now _ all small),
+        rw one (all_more (λ (o : Described ℕ Outcome). o.key < 2 ^ 32) now _ all small),
       )
 
 -- ---- lists of lists

@@ -6,6 +6,7 @@ use Rattle.std.specs.List.{AllByRecursion}
 use Rattle.std.proofs.lemmas.List.{take-append-le, take-append-drop, drop-append-le}
 use Rattle.std.proofs.lemmas.List.{length-drop, length-take-le}
 use Rattle.gf_tree.specs.inner.Stretches.{AreStretches}
+use Rattle.gf_tree.proofs.lemmas.games.Members.{all_more}
 
 same_part : {T : Type 0} (items more : List T) (i j : ℕ) → i ≤ j → j ≤ length items
     → slice_range (items ++ more) i j ≡ slice_range items i j
@@ -22,11 +23,6 @@ up_to : {E : Type 0} (start end : E → ℕ) (entries : List E) (from to : ℕ) 
 up_to start end [] from to more all = all
 up_to start end (e ∷ es) from to more all =
     ((all.0.0, omega (arith, all.0.1)), up_to start end es from to more all.1)
-
-one_behind : {E : Type 0} (P : E → Type 0) (entries : List E) (e : E) → AllByRecursion P entries
-    → P e → AllByRecursion P (entries ++ e ∷ [])
-one_behind P [] e all one = (one, tt)
-one_behind P (x ∷ xs) e all one = (all.0, one_behind P xs e all.1 one)
 
 module _ {E T : Type 0} (start end : E → ℕ) where
   -- what is made from the entries' stretches
@@ -59,7 +55,7 @@ module _ {E T : Type 0} (start end : E → ℕ) where
       → AreStretches start end (entries ++ e ∷ []) items (length items)
   entry_behind entries items from e are starts ends = record {
     within = omega arith;
-    ordered = one_behind (Ends start end (length items)) entries e
+    ordered = all_more (Ends start end (length items)) entries e
         (up_to start end entries from (length items) are.within are.ordered)
         (omega (arith, are.within), omega arith);
   }
@@ -89,7 +85,7 @@ module _ {E T : Type 0} (start end : E → ℕ) where
       → AreStretches start end (entries ++ e ∷ []) (take last items) last
   entry_within entries items from last e are behind within ordered ends = record {
     within = omega (arith, length-take-le last items within);
-    ordered = one_behind (Ends start end last) entries e
+    ordered = all_more (Ends start end last) entries e
         (up_to start end entries from last behind are.ordered) (ordered, ends);
   }
 

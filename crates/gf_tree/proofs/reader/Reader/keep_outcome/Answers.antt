@@ -5,16 +5,15 @@ use Rattle.gf_tree.proofs.reader.Reader.keep_outcome.Goals as goal
 
 pub returns-clause-content : goal.returns-clause-content
 returns-clause-content c =
-    let ok = rw c.adopt.ensures at c.end.ensures.ok in
-    kept_outcome_content c.args.self.now _ c.args.number (label_of c.args.name) c.end.result ok
+    kept_outcome_content c.args.self.now _ c.args.number (label_of c.args.name) c.end.result
+    c.end.ensures.ok
 
 pub returns-clause-key : goal.returns-clause-key
 returns-clause-key c =
-    let ok = rw c.adopt.ensures at c.end.ensures.ok in
-    let place = rw c.adopt.ensures at c.end.ensures.place in
-    kept_outcome_key c.args.self.now _ c.args.number (label_of c.args.name) c.end.result ok place
+    kept_outcome_key c.args.self.now _ c.args.number (label_of c.args.name) c.end.result
+    c.end.ensures.ok c.end.ensures.place
 
 pub returns-clause-grows : goal.returns-clause-grows
 returns-clause-grows c =
-    let ok = rw c.adopt.ensures at c.end.ensures.ok in
-    kept_outcome_grows c.args.self.now _ c.args.number (label_of c.args.name) c.end.result ok
+    kept_outcome_grows c.args.self.now _ c.args.number (label_of c.args.name) c.end.result
+    c.end.ensures.ok

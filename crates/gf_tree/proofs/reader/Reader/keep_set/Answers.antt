@@ -5,19 +5,15 @@ use Rattle.gf_tree.proofs.reader.Reader.keep_set.Goals as goal
 
 pub returns-clause-content : goal.returns-clause-content
 returns-clause-content c =
-    let ok = rw c.adopt.ensures at c.end.ensures.ok in
-    kept_content c.args.self.now _ (set_of c.args.player c.args.number)
-    (label_of c.args.name) c.end.result ok
+    kept_content c.args.self.now _ (set_of c.args.player c.args.number) (label_of c.args.name)
+    c.end.result c.end.ensures.ok
 
 pub returns-clause-begins : goal.returns-clause-begins
 returns-clause-begins c = λ node.
-    let ok = rw c.adopt.ensures at c.end.ensures.ok in
-    let place = rw c.adopt.ensures at c.end.ensures.place in
-    kept_begun c.args.self.now _ (set_of c.args.player c.args.number)
-    (label_of c.args.name) node c.end.result ok place
+    kept_begun c.args.self.now _ (set_of c.args.player c.args.number) (label_of c.args.name) node
+    c.end.result c.end.ensures.ok c.end.ensures.place
 
 pub returns-clause-grows : goal.returns-clause-grows
 returns-clause-grows c =
-    let ok = rw c.adopt.ensures at c.end.ensures.ok in
     kept_grows c.args.self.now _ (set_of c.args.player c.args.number) (label_of c.args.name)
-    c.end.result ok
+    c.end.result c.end.ensures.ok
