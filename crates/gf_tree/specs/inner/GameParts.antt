@@ -1,8 +1,7 @@
 -- A game as it is kept.
 use Rattle.std.specs.Prelude.{◌≡◌, ℕ, List, length, map}
-use Rattle.gf_fraction.specs.Ratio.{Ratio}
 use Rattle.gf_tree.specs.PrefixOrder.{Fills}
-use Rattle.gf_tree.specs.Description.{Action, SetKey, InformationSet, Outcome}
+use Rattle.gf_tree.specs.Description.{SetKey, InformationSet, Outcome}
 use Rattle.gf_tree.specs.FiniteMap.{Described}
 use Rattle.gf_tree.specs.Game.{Game, IsGame}
 use Rattle.gf_tree.specs.Spellable.{IsSpellable}

@@ -1,5 +1,5 @@
 -- The machine of the reader refuses for the reason at the place.
-use Rattle.std.proofs.Common.{◌≡◌, ℕ, zero, suc, ◌≤◌, List, [], ◌∷◌, ◌++◌, length, Err, sym, ap}
+use Rattle.std.proofs.Common.{◌≡◌, ℕ, zero, suc, List, [], ◌∷◌, ◌++◌, length, Err, sym, ap}
 use Rattle.std.proofs.Common.{subst, ◌∙◌, arith, inl, inr, refl, append-nil}
 use Rattle.std.specs.Prelude.{pos, ◌⊎◌, ◌≤ℤ◌}
 use Rattle.std.proofs.lemmas.Int.{ints}

@@ -1,4 +1,3 @@
-use Rattle.gf_tree.proofs.lemmas.due.Heading.{after_comment}
 use Rattle.gf_tree.proofs.lemmas.due.Nodes.{node_name, player}
 use Rattle.gf_tree.proofs.lemmas.due.Payoffs.{nodes_due, after_last_node}
 use Rattle.gf_tree.proofs.lemmas.fronts.Judged.{obeys}
