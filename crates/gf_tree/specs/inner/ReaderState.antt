@@ -73,6 +73,10 @@ begun_with sets name position = record {
 abbrev pub HasRoom : ℕ → Reader → Type 0
 HasRoom more r = r.due + (length r.tokens.ahead + more) * 18446744073709551616 < 2 ^ 128
 
+-- a node has begun: it is still due, and there is room for its children
+abbrev pub HasBegunNode : Reader → Type 0
+HasBegunNode r = (0 < r.due) × HasRoom 1 r
+
 -- ---- nodes that were told
 
 -- with these nodes before its own

@@ -4,7 +4,7 @@ ghost use Rattle.std.specs.Prelude.{◌≡◌, ◌<◌, ◌≤◌, ℕ, List, []
 ghost use Rattle.gf_tree.specs.inner.Machine.Position.{ChanceName, NodeDue, PersonalName};
 ghost use Rattle.gf_tree.specs.inner.Machine.Position.{PlayerNumber, SetNumber, TerminalName};
 ghost use Rattle.gf_tree.specs.inner.ReaderState.{answer, content_of, Fails, Goes, GoesTelling};
-ghost use Rattle.gf_tree.specs.inner.ReaderState.{HasReadAll, HasRoom, heading_read};
+ghost use Rattle.gf_tree.specs.inner.ReaderState.{HasBegunNode, HasReadAll, HasRoom, heading_read};
 
 use super::Reader;
 use crate::reader::readings;
@@ -15,8 +15,7 @@ impl<'a> Reader<'a> {
     /// Reads a node of chance, after its letter.
     #[inline(always)]
     fn chance_node<R: Receive<'a>>(&mut self, to: &mut R) -> Result<(), Fault>
-        requires due { 0 < self.old.due }
-        requires room { HasRoom 1 self.old }
+        requires begun { HasBegunNode self.old }
         ensures machine { GoesTelling R.holds result (answer ChanceName self.old) self.old self.new
             to.old to.new }
         ensures room { OnOk result (HasRoom 0 self.new) }
@@ -54,8 +53,7 @@ impl<'a> Reader<'a> {
     /// Reads a node of a player, after its letter.
     #[inline(always)]
     fn personal_node<R: Receive<'a>>(&mut self, to: &mut R) -> Result<(), Fault>
-        requires due { 0 < self.old.due }
-        requires room { HasRoom 1 self.old }
+        requires begun { HasBegunNode self.old }
         ensures machine { GoesTelling R.holds result (answer PersonalName self.old) self.old self.new
             to.old to.new }
         ensures room { OnOk result (HasRoom 0 self.new) }
@@ -72,8 +70,7 @@ impl<'a> Reader<'a> {
     /// Reads a terminal node, after its letter.
     #[inline(always)]
     fn terminal_node<R: Receive<'a>>(&mut self, to: &mut R) -> Result<(), Fault>
-        requires due { 0 < self.old.due }
-        requires room { HasRoom 1 self.old }
+        requires begun { HasBegunNode self.old }
         ensures machine { GoesTelling R.holds result (answer TerminalName self.old) self.old self.new
             to.old to.new }
         ensures room { OnOk result (HasRoom 0 self.new) }

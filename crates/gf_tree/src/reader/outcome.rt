@@ -15,7 +15,8 @@ ghost use Rattle.gf_tree.specs.inner.Machine.{Begun, behind_outcome, with_outcom
 ghost use Rattle.gf_tree.specs.inner.Machine.Position.{KnownOutcomeName, NewOutcomeName};
 ghost use Rattle.gf_tree.specs.inner.Machine.Position.{NewPayoff, NodeDue, OutcomeNumber};
 ghost use Rattle.gf_tree.specs.inner.ReaderState.{answer, begun_with, content_of};
-ghost use Rattle.gf_tree.specs.inner.ReaderState.{Goes, GoesTelling, Grows, HasRoom, heard_from};
+ghost use Rattle.gf_tree.specs.inner.ReaderState.{Goes, GoesTelling, Grows, HasBegunNode, HasRoom};
+ghost use Rattle.gf_tree.specs.inner.ReaderState.{heard_from};
 
 use super::Reader;
 use crate::game::outcomes::Outcomes;
@@ -94,8 +95,7 @@ impl<'a> Reader<'a> {
     ) -> Result<(), Fault>
         requires absent { position (nat_eq number) (map (λ o. o.key) self.old.outcomes.known)
             ≡ None }
-        requires due { 0 < self.old.due }
-        requires room { HasRoom 1 self.old }
+        requires begun { HasBegunNode self.old }
         requires set { MatchOption set ⊤ (λ place. place < length self.old.sets.known) }
         ensures machine { GoesTelling R.holds result (answer
             (NewPayoff (begun_with self.old.sets.known (label_of node.entry) (position_of set))
@@ -127,8 +127,7 @@ impl<'a> Reader<'a> {
     ) -> Result<(), Fault>
         requires absent { position (nat_eq number) (map (λ o. o.key) self.old.outcomes.known)
             ≡ None }
-        requires due { 0 < self.old.due }
-        requires room { HasRoom 1 self.old }
+        requires begun { HasBegunNode self.old }
         requires set { MatchOption set ⊤ (λ place. place < length self.old.sets.known) }
         ensures machine { GoesTelling R.holds result (answer (NewOutcomeName
             (begun_with self.old.sets.known (label_of node.entry) (position_of set)) number)
@@ -177,8 +176,7 @@ impl<'a> Reader<'a> {
         to: &mut R,
     ) -> Result<(), Fault>
         requires positive { 0 < number }
-        requires due { 0 < self.old.due }
-        requires room { HasRoom 1 self.old }
+        requires begun { HasBegunNode self.old }
         requires set { MatchOption set ⊤ (λ place. place < length self.old.sets.known) }
         requires stands { StandsBefore self.old.tokens stands }
         ensures machine { GoesTelling R.holds result
@@ -208,8 +206,7 @@ impl<'a> Reader<'a> {
         set: Option<u32>,
         to: &mut R,
     ) -> Result<(), Fault>
-        requires due { 0 < self.old.due }
-        requires room { HasRoom 1 self.old }
+        requires begun { HasBegunNode self.old }
         requires set { MatchOption set ⊤ (λ place. place < length self.old.sets.known) }
         ensures machine { GoesTelling R.holds result (answer (OutcomeNumber
             (begun_with self.old.sets.known (label_of node.entry) (position_of set))) self.old)

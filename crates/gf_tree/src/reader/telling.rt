@@ -6,7 +6,7 @@ ghost use Rattle.gf_token.specs.Label.{label_of};
 ghost use Rattle.gf_token.specs.Remaining.{StandsBefore};
 ghost use Rattle.gf_tree.specs.KeptNodes.{child_count, position_of};
 ghost use Rattle.gf_tree.specs.inner.Machine.Position.{NodeDue};
-ghost use Rattle.gf_tree.specs.inner.ReaderState.{Fails, HasRoom, TellsNode, answer};
+ghost use Rattle.gf_tree.specs.inner.ReaderState.{Fails, HasBegunNode, HasRoom, TellsNode, answer};
 ghost use Rattle.gf_tree.specs.inner.ReaderState.{heading_read};
 
 use super::Reader;
@@ -56,8 +56,7 @@ impl<'a> Reader<'a> {
         outcome: Option<u32>,
         to: &mut R,
     ) -> Result<(), AllocError>
-        requires due { 0 < self.old.due }
-        requires room { HasRoom 1 self.old }
+        requires begun { HasBegunNode self.old }
         requires set { MatchOption set ⊤ (λ place. place < length self.old.sets.known) }
         requires outcome { MatchOption outcome ⊤ (λ place. place < length self.old.outcomes.known) }
         ensures told { OnOk result (TellsNode R.holds self.old self.new to.old to.new (record {

@@ -140,11 +140,6 @@ pub record AtOutcome (c : Content) (front : List Token) : Type 0 where
   pub answers : (t : List ℕ) (us : List Token) → run_tokens NodeDue c (front ++ Bare t ∷ us)
       ≡ run_tokens (OutcomeNumber b) content (Bare t ∷ us)
 
-record Ended (name : List ℕ) (key : SetKey) (set : InformationSet) (sum : Ratio)
-    (c : Content) : Type 0 where
-  answers : (us : List Token) → run_tokens (NewAction name key set sum) c (Closing ∷ us)
-      ≡ run_tokens (OutcomeNumber (begun name key set)) (with_set c key set) us
-
 ended_by : (player : ℕ) (name : List ℕ) (n : ℕ) (set : InformationSet) (sum : Ratio) (c r : Content)
     (more : List Token) → then_run (set_ends c name player n set sum) (run_on more) ≡ Ok r
     → ((us : List Token) → then_run (set_ends c name player n set sum) (run_on us)
@@ -159,14 +154,12 @@ ended_by (suc player) name n set sum c r more e = λ us. refl
 ended : (actions : List Action) (name : List ℕ) (key : SetKey) (set : InformationSet) (sum : Ratio)
     (c r : Content) (more : List Token) → set.actions ≡ actions
     → then_run (new_set_ends c name key set actions sum) (run_on more) ≡ Ok r
-    → Ended name key set sum c
-ended [] name key set sum c r more is e = absurd cc
-ended (a ∷ actions) name key set sum c r more is e =
-    let f = ended_by key.player name key.number set sum c r more e in
-    record {
-      answers = λ us.
-          ap (λ xs. then_run (new_set_ends c name key set xs sum) (run_on us)) is ∙ f us;
-    }
+    → (us : List Token) → run_tokens (NewAction name key set sum) c (Closing ∷ us)
+    ≡ run_tokens (OutcomeNumber (begun name key set)) (with_set c key set) us
+ended [] name key set sum c r more is e us = absurd cc
+ended (a ∷ actions) name key set sum c r more is e us =
+    ap (λ xs. then_run (new_set_ends c name key set xs sum) (run_on us)) is
+    ∙ ended_by key.player name key.number set sum c r more e us
 
 known_ended : (others : List Action) (b : Begun) (c r : Content) (more : List Token)
     → Reads (KnownAction b others) c (Closing ∷ more) r
@@ -194,8 +187,8 @@ described_step front u d c behind inner e h g =
             content = with_set c u.key d;
             players = refl;
             outcomes = refl;
-            answers = λ us. ap (run_tokens NodeDue c) (first us) ∙ n.answers (Closing ∷ us)
-                ∙ f.answers us;
+            answers = λ us.
+                ap (run_tokens NodeDue c) (first us) ∙ n.answers (Closing ∷ us) ∙ f us;
           }
       | inr k ↦
           let b = begun k.name u.key k.known in

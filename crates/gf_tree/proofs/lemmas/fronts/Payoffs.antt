@@ -15,8 +15,8 @@ use Rattle.gf_tree.specs.Description.{Outcome}
 use Rattle.gf_tree.specs.FiniteMap.{description_at}
 use Rattle.gf_tree.specs.Front.{InPayoffs}
 use Rattle.gf_tree.specs.inner.Machine.{Begun, Content, at, behind_outcome, with_node, with_payoff}
-use Rattle.gf_tree.specs.inner.Machine.Position.{NodeDue, AfterNewPayoff, AfterKnownPayoff}
-use Rattle.gf_tree.specs.inner.Machine.Position.{KnownOutcomeName, KnownOutcomeOpening}
+use Rattle.gf_tree.specs.inner.Machine.Position.{NodeDue, AfterKnownPayoff, KnownOutcomeName}
+use Rattle.gf_tree.specs.inner.Machine.Position.{KnownOutcomeOpening}
 use Rattle.gf_tree.specs.inner.ReadGame.{run_tokens, then_run}
 use Rattle.gf_tree.proofs.lemmas.fronts.Runs.{GoesOn, goes_before}
 use Rattle.gf_tree.proofs.lemmas.fronts.Groups.{numbers_once, regroup}
@@ -53,20 +53,19 @@ some_left false b n outcome zero t us c r e = absurd cc
 some_left may b n outcome (suc k) t us c r e = (k, refl)
 
 -- after a comma, or none
-behind_comma : (comma : List Token) (b : Begun) (n : ℕ) (outcome : Outcome) (left : ℕ) (c : Content)
+behind_comma : {A : Type 0} (answers : Bool → List Token → A) (comma : List Token)
+    → ((us : List Token) → answers true (Comma ∷ us) ≡ answers false us)
     → ((comma ≡ []) ⊎ (comma ≡ Comma ∷ []))
-    → (may : Bool) × ((us : List Token) → run_tokens (AfterNewPayoff b n outcome left) c (comma ++ us)
-    ≡ run_tokens (new_at may b n outcome left) c us)
+    → (may : Bool) × ((us : List Token) → answers true (comma ++ us) ≡ answers may us)
     × ((ts : List Token) → ends_number true (comma ++ ts) ≡ ends_number may ts)
-behind_comma comma b n outcome left c (inl e) = (
+behind_comma answers comma h (inl e) = (
   true,
-  λ us. ap (λ (ts : List Token). run_tokens (AfterNewPayoff b n outcome left) c (ts ++ us)) e,
+  λ us. ap (λ (ts : List Token). answers true (ts ++ us)) e,
   λ ts. ap (λ (us : List Token). ends_number true (us ++ ts)) e,
 )
-behind_comma comma b n outcome left c (inr e) = (
+behind_comma answers comma h (inr e) = (
   false,
-  λ us. ap (λ (ts : List Token). run_tokens (AfterNewPayoff b n outcome left) c (ts ++ us)) e
-      ∙ new_comma b n outcome left c us,
+  λ us. ap (λ (ts : List Token). answers true (ts ++ us)) e ∙ h us,
   λ ts. ap (λ (us : List Token). ends_number true (us ++ ts)) e,
 )
 
@@ -93,7 +92,8 @@ new_paid (p ∷ payoffs) may b n outcome left inner more c r each e =
     e in
     let s = some_left may b n outcome left t (comma ++ (each.1 ++ more)) c r reads in
     let paid = with_payoff outcome p in
-    let k = behind_comma comma b n paid s.0 c each.3.4 in
+    let k = behind_comma (λ (behind : Bool). run_tokens (new_at behind b n paid s.0) c) comma
+    (new_comma b n paid s.0 c) each.3.4 in
     let number = number_again t p each.3.3 in
     let one : (us : List Token) → run_tokens (new_at may b n outcome left) c (inner ++ us)
     ≡ run_tokens (new_at k.0 b n paid s.0) c (each.1 ++ us) =
@@ -123,23 +123,6 @@ record KnownPaid (may : Bool) (known payoffs : List Ratio) (inner : List Token)
   parts : known ≡ payoffs ++ others
   answers : (us : List Token) → run_tokens (known_at may known) c (inner ++ us)
       ≡ run_tokens (known_at behind others) c us
-
-behind_known_comma : (comma : List Token) (ps : List Ratio) (c : Content)
-    → ((comma ≡ []) ⊎ (comma ≡ Comma ∷ []))
-    → (may : Bool) × ((us : List Token) → run_tokens (known_at true ps) c (comma ++ us)
-    ≡ run_tokens (known_at may ps) c us)
-    × ((ts : List Token) → ends_number true (comma ++ ts) ≡ ends_number may ts)
-behind_known_comma comma ps c (inl e) = (
-  true,
-  λ us. ap (λ (ts : List Token). run_tokens (known_at true ps) c (ts ++ us)) e,
-  λ ts. ap (λ (us : List Token). ends_number true (us ++ ts)) e,
-)
-behind_known_comma comma ps c (inr e) = (
-  false,
-  λ us. ap (λ (ts : List Token). run_tokens (known_at true ps) c (ts ++ us)) e
-      ∙ known_comma ps c us,
-  λ ts. ap (λ (us : List Token). ends_number true (us ++ ts)) e,
-)
 
 -- the next payoff of a known outcome
 pub known_next : (may : Bool) (known : List Ratio) (t : List ℕ) (p : Ratio) (us : List Token)
@@ -173,7 +156,8 @@ known_paid (p ∷ payoffs) known may inner more c r each e =
     ∙ ap (λ (ts : List Token). ts ++ (each.1 ++ us)) each.3.2 in
     let s = known_next may known t p (comma ++ (each.1 ++ more)) c r each.3.3
     (subst (λ (ts : List Token). Reads (known_at may known) c ts r) (first more) e) in
-    let k = behind_known_comma comma s.0 c each.3.4 in
+    let k = behind_comma (λ (behind : Bool). run_tokens (known_at behind s.0) c) comma
+    (known_comma s.0 c) each.3.4 in
     let one : (us : List Token) → run_tokens (known_at may known) c (inner ++ us)
     ≡ run_tokens (known_at k.0 s.0) c (each.1 ++ us) =
     λ us. ap (run_tokens (known_at may known) c) (first us)

@@ -8,7 +8,7 @@ use Rattle.gf_tree.proofs.reader.Reader.tell.Goals as goal
 
 pub returns-clause-told : goal.returns-clause-told
 returns-clause-told g c =
-    let some = c.requires.due in
+    let some = c.requires.begun.0 in
     let children = c.children-children.ensures in
     let due : c.args.self.now.due - 1 + c.children-children.result
     ≡ child_count c.args.self.now.sets.known (position_of c.args.set) + (c.args.self.now.due - 1) =
