@@ -1,7 +1,7 @@
 -- Uses of keys: where each key is first used, and which descriptions a consistent list gives.
-use Rattle.std.proofs.Common.{◌≡◌, ◌↔◌, ℕ, zero, suc, ◌<◌, Bool, true, false, List}
-use Rattle.std.proofs.Common.{[], ◌∷◌, ◌++◌, length, map, drop, get_or, Some, None}
-use Rattle.std.proofs.Common.{Option, refl, sym, ap, subst, ◌∙◌, arith, inl, inr}
+use Rattle.std.proofs.Common.{◌≡◌, ◌↔◌, ℕ, zero, suc, ◌<◌, Bool, true, false, List, [], ◌∷◌, ◌++◌}
+use Rattle.std.proofs.Common.{length, map, drop, get_or, Some, None, Option, refl, sym, ap, subst}
+use Rattle.std.proofs.Common.{◌∙◌, arith, inl, inr}
 use Rattle.std.specs.Prelude.{◌⊎◌}
 use Rattle.std.specs.List.{AllByRecursion, Contains, cons_option}
 use Rattle.gf_tree.specs.FiniteMap.{Described}
@@ -70,6 +70,15 @@ IsEquality {K} same = (a b : K) → (same a b ≡ true) ↔ (a ≡ b)
 pub differ : {K : Type 0} (same : K → K → Bool)
     → IsEquality same → (a b : K) → same a b ≡ false → a ≡ b → ⊥
 differ same equality a b h e = true_or_false (same a b) ((equality a b).1 e) h
+
+pub either_way : {K : Type 0} (same : K → K → Bool) → IsEquality same → (key k : K)
+    → same k key ≡ same key k
+either_way same equality key k = by (same k key) refl (same key k) refl
+  where
+    by : (a : Bool) → same k key ≡ a → (b : Bool) → same key k ≡ b → same k key ≡ same key k
+    by true e b f = e ∙ sym ((equality key k).1 (sym ((equality k key).0 e)))
+    by false e true f = (equality k key).1 (sym ((equality key k).0 f)) ∙ sym f
+    by false e false f = e ∙ sym f
 
 -- ---- first uses
 

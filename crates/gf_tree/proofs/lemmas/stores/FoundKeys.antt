@@ -6,18 +6,9 @@ use Rattle.std.specs.List.{find, position_from}
 use Rattle.std.proofs.lemmas.Iterator.Adapters.{position_from-zero}
 use Rattle.gf_fraction.specs.Ratio.{Ratio}
 use Rattle.gf_tree.specs.Description.{Action, InformationSet, Outcome}
-use Rattle.gf_tree.specs.FiniteMap.{Described, description_at}
 use Rattle.gf_tree.specs.Description.{outcome_with, set_with}
-use Rattle.gf_tree.proofs.lemmas.games.Uses.{IsEquality}
-
-either_way : {K : Type 0} (same : K → K → Bool) → IsEquality same → (key k : K)
-    → same k key ≡ same key k
-either_way same tells key k = by (same k key) refl (same key k) refl
-  where
-    by : (a : Bool) → same k key ≡ a → (b : Bool) → same key k ≡ b → same k key ≡ same key k
-    by true e b f = e ∙ sym ((tells key k).1 (sym ((tells k key).0 e)))
-    by false e true f = (tells k key).1 (sym ((tells key k).0 f)) ∙ sym f
-    by false e false f = e ∙ sym f
+use Rattle.gf_tree.specs.FiniteMap.{Described, description_at}
+use Rattle.gf_tree.proofs.lemmas.games.Uses.{IsEquality, either_way}
 
 module _ {K D : Type 0} (same : K → K → Bool) (tells : IsEquality same) (key : K) where
   -- the place k from the start is the first one with the key

@@ -19,7 +19,7 @@ use Rattle.gf_tree.proofs.lemmas.games.FirstUseNumbers.{number_at, number_at_mos
 use Rattle.gf_tree.proofs.lemmas.games.FirstUses.{AreDistinct, first_uses_distinct}
 use Rattle.gf_tree.proofs.lemmas.games.Lookups.{entry_at}
 use Rattle.gf_tree.proofs.lemmas.games.Members.{filter_last, has_at}
-use Rattle.gf_tree.proofs.lemmas.games.Uses.{Has, IsEquality}
+use Rattle.gf_tree.proofs.lemmas.games.Uses.{Has, IsEquality, either_way}
 
 -- ---- an item at its place
 
@@ -32,14 +32,6 @@ around (y ∷ xs) (suc k) x h =
     let r = around xs k x h in (y ∷ r.0, r.1, ap (λ zs. y ∷ zs) r.2, ap suc r.3)
 
 module _ {K : Type 0} (same : K → K → Bool) (tells : IsEquality same) where
-  either_way : (key k : K) → same k key ≡ same key k
-  either_way key k = by (same k key) refl (same key k) refl
-    where
-      by : (a : Bool) → same k key ≡ a → (b : Bool) → same key k ≡ b → same k key ≡ same key k
-      by true e b f = e ∙ sym ((tells key k).1 (sym ((tells k key).0 e)))
-      by false e true f = (tells k key).1 (sym ((tells key k).0 f)) ∙ sym f
-      by false e false f = e ∙ sym f
-
   -- ---- a key that was used and one that was not
 
   pub used_before : (before : List K) (key : K) → list_any (same key) before ≡ true → Has before key
@@ -62,8 +54,8 @@ module _ {K : Type 0} (same : K → K → Bool) (tells : IsEquality same) where
           ≡ through_first_use same key before)
           → through_first_use same key ((b ∷ before) ++ after)
           ≡ through_first_use same key (b ∷ before)
-      by true e h more = rw (either_way key b, e) refl
-      by false e h more = rw (either_way key b, e) (ap (λ ks. b ∷ ks) (more h))
+      by true e h more = rw (either_way same tells key b, e) refl
+      by false e h more = rw (either_way same tells key b, e) (ap (λ ks. b ∷ ks) (more h))
 
   through_new : (before after : List K) (key : K) → list_any (same key) before ≡ false
       → through_first_use same key (before ++ key ∷ after) ≡ before ++ key ∷ []
@@ -75,7 +67,7 @@ module _ {K : Type 0} (same : K → K → Bool) (tells : IsEquality same) where
           → through_first_use same key (before ++ key ∷ after) ≡ before ++ key ∷ [])
           → through_first_use same key ((b ∷ before) ++ key ∷ after) ≡ (b ∷ before) ++ key ∷ []
       by true e h more = absurd cc
-      by false e h more = rw (either_way key b, e) (ap (λ ks. b ∷ ks) (more h))
+      by false e h more = rw (either_way same tells key b, e) (ap (λ ks. b ∷ ks) (more h))
 
   -- the keys that are known then
   abbrev pub more_known : Bool → List K → K → List K
@@ -100,13 +92,13 @@ module _ {K : Type 0} (same : K → K → Bool) (tells : IsEquality same) where
           (b ∷ others (first_uses same before)) key
       by true e true f rest = rw (e, rest, f) refl
       by true e false f rest =
-          let first : same b key ≡ true = either_way key b ∙ e in
+          let first : same b key ≡ true = either_way same tells key b ∙ e in
           rw (e, rest, f) (ap (λ ks. b ∷ ks) (filter-append (λ k. not (same b k))
           (first_uses same before) (key ∷ [])
           ∙ rw first (append-nil (others (first_uses same before)))))
       by false e true f rest = rw (e, rest, f) refl
       by false e false f rest =
-          let first : same b key ≡ false = either_way key b ∙ e in
+          let first : same b key ≡ false = either_way same tells key b ∙ e in
           rw (e, rest, f) (ap (λ ks. b ∷ ks) (filter_last (λ k. not (same b k))
           (first_uses same before) key [] (not_from_false (same b key) first)))
 
