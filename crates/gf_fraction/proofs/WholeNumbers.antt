@@ -1,5 +1,5 @@
--- Whole numbers and parts of one within the bound are fractions, and the texts of whole numbers
--- spell them.
+-- Whole numbers and parts of one within the bound are fractions, and a sign and digits spell whole
+-- numbers.
 use Rattle.std.proofs.Common.{ℕ, zero, suc, pos, ◌^◌, ◌<◌, ◌++◌, Bool, true, false, List, [], arith, lit<}
 use Rattle.std.proofs.Common.{refl}
 use Rattle.std.specs.Prelude.{codes, unsigned_abs}
@@ -13,9 +13,7 @@ use Rattle.gf_fraction.specs.NumberSpelling.IsSign.{absent, minus}
 use Rattle.gf_fraction.specs.NumberSpelling.IsPlain.{whole}
 use Rattle.gf_fraction.specs.NumberSpelling.HasShape.{plain}
 use Rattle.gf_fraction.specs.NumberSpelling.Reading.{decimal}
-use Rattle.gf_fraction.specs.NumberText.{number_text}
 use Rattle.gf_fraction.proofs.Divisors.{IsGcd-one_left, IsGcd-one_right}
-use Rattle.gf_fraction.proofs.ReadingBack.{written_is_read}
 
 pub whole_fraction : (n : ℕ) → n < 2 ^ 127 → IsFraction (ratio.whole (pos n))
 whole_fraction n h = record {
@@ -32,9 +30,6 @@ part_fraction n above h = record {
   num_within = omega arith;
   lowest = IsGcd-one_left n;
 }
-
-pub whole_spelled : (n : ℕ) → n < 2 ^ 127 → IsNumber (number_text (ratio.whole (pos n))) (ratio.whole (pos n))
-whole_spelled n h = written_is_read (ratio.whole (pos n)) (whole_fraction n h)
 
 -- a sign, as short as can be
 abbrev pub sign_of : Bool → List ℕ

@@ -16,6 +16,30 @@ pub const LARGEST: u128 = i128::MAX as u128;
 /// The greatest number of 64 bits. Up to it, division is fast.
 const WORD: u128 = u64::MAX as u128;
 
+/// The powers of ten that 64 bits have room for.
+static POWERS_OF_TEN: [u64; 20] = [
+    1,
+    10,
+    100,
+    1_000,
+    10_000,
+    100_000,
+    1_000_000,
+    10_000_000,
+    100_000_000,
+    1_000_000_000,
+    10_000_000_000,
+    100_000_000_000,
+    1_000_000_000_000,
+    10_000_000_000_000,
+    100_000_000_000_000,
+    1_000_000_000_000_000,
+    10_000_000_000_000_000,
+    100_000_000_000_000_000,
+    1_000_000_000_000_000_000,
+    10_000_000_000_000_000_000,
+];
+
 /// The greatest common divisor of two odd numbers. The difference of two odd numbers is even, and
 /// its factors of two divide neither of them, so no step needs a division.
 fn odd_gcd(a: u64, b: u64) -> u64
@@ -116,7 +140,7 @@ pub fn lowest_decimal(digits: u64, places: u32) -> (u64, u64)
 {
     let twos = digits.trailing_zeros().min(places);
     let mut num = digits >> twos;
-    let mut den = 10u64.pow(places) >> twos;
+    let mut den = POWERS_OF_TEN[places as usize] >> twos;
     let mut fives = places;
     while fives > 0 && num % 5 == 0 {
         num /= 5;
