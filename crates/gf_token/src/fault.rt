@@ -11,14 +11,14 @@ use std::alloc::{AllocError, AllocFailed};
 /// A part of an input: its first byte, and one past its last. Bytes are counted from 0.
 ///
 /// At the end of an input, both are its length.
-#[derive(Clone, Copy, Debug, PartialEq, Eq, Hash)]
+#[derive(Clone, Copy, Debug, PartialEq, Eq)]
 pub struct Span {
     pub start: usize,
     pub end: usize,
 }
 
 /// What was expected at a place where a file has something else.
-#[derive(Clone, Copy, Debug, PartialEq, Eq, Hash)]
+#[derive(Clone, Copy, Debug, PartialEq, Eq)]
 pub enum What {
     /// The name of the format, `NFG` or `EFG`.
     Format,
@@ -45,7 +45,7 @@ pub enum What {
 }
 
 /// Why a file is refused, and the place that its [`Fault`] names (this project's profile).
-#[derive(Clone, Copy, Debug, PartialEq, Eq, Hash)]
+#[derive(Clone, Copy, Debug, PartialEq, Eq)]
 pub enum Why {
     /// E1: the file is longer than the program's limit; at the limit.
     TooLong,
@@ -148,7 +148,7 @@ impl<T: Drop> From<AllocFailed<T>> for Why {
 }
 
 /// The refusal of a file: the place of the token that is refused, or the end, and why.
-#[derive(Clone, Copy, Debug, PartialEq, Eq, Hash)]
+#[derive(Clone, Copy, Debug, PartialEq, Eq)]
 pub struct Fault {
     pub span: Span,
     pub why: Why,

@@ -1,6 +1,5 @@
 use Rattle.std.proofs.Common.{◌≡◌, ◌-◌, get_or, arith}
 use Rattle.gf_token.proofs.Steps.{stays_open, closes}
-use Rattle.gf_token.proofs.scan.long_text_end.Goals.{}
 use Rattle.gf_token.proofs.scan.long_text_end.Goals.{
   else-input-at-eq34-via-then-input-at-eq34+else-input-at-ne92,
 }
