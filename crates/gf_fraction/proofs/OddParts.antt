@@ -126,12 +126,14 @@ common_twos a b s t x y g ha hb is = by_order (cases_lt s t)
         subst (λ n. F b n t) left (subst (λ m. F m (x * 2 ^ (t + (s - t))) t) hb.parts odd) in
         subst (λ k. F a b k) low (IsGcd-swap b a (g * 2 ^ t) whole)
 
--- and no product of a common divisor wraps
-pub from_odd_parts : (a b s t x y g k : ℕ) → 0 < a → a < 2 ^ 64 → IsOddPart a s x → IsOddPart b t y
-    → IsGcd x y g → k ≡ min s t → IsGcd a b (g * 2 ^ k % 2 ^ 64)
-from_odd_parts a b s t x y g k some fits ha hb is least =
-    let whole : IsGcd a b (g * 2 ^ k) =
-    subst (λ j. IsGcd a b (g * 2 ^ j)) (sym least) (common_twos a b s t x y g ha hb is) in
-    let within : g * 2 ^ k ≤ a = le_of_dvd some whole.0 in
-    subst (IsGcd a b)
-    (sym (mod-eq_of_lt (let h : g * 2 ^ k < 2 ^ 64 = omega (arith, within, fits) in h))) whole
+-- the greatest common divisor by odd parts
+pub from_odd_parts : (a b s t x y g k : ℕ) → IsOddPart a s x → IsOddPart b t y → IsGcd x y g
+    → k ≡ min s t → IsGcd a b (g * 2 ^ k)
+from_odd_parts a b s t x y g k ha hb is least =
+    subst (λ j. IsGcd a b (g * 2 ^ j)) (sym least) (common_twos a b s t x y g ha hb is)
+
+-- a common divisor does not wrap
+pub no_wrap : (a b g : ℕ) → 0 < a → a < 2 ^ 64 → IsGcd a b g → IsGcd a b (g % 2 ^ 64)
+no_wrap a b g some fits is =
+    let within : g ≤ a = le_of_dvd some is.0 in
+    subst (IsGcd a b) (sym (mod-eq_of_lt (let h : g < 2 ^ 64 = omega (arith, within, fits) in h))) is

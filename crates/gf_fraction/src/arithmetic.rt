@@ -57,6 +57,19 @@ fn odd_gcd(a: u64, b: u64) -> u64
     x
 }
 
+/// The greatest common divisor of two numbers of 64 bits: an odd number, and the count of twos that
+/// it is multiplied by.
+fn shared(a: u64, b: u64) -> (u64, u32)
+    requires some_a { 0 < a }
+    requires some_b { 0 < b }
+    ensures shared { IsGcd a b (result.0 * 2 ^ result.1) }
+    ensures few { result.1 < 64 }
+{
+    let a_twos = a.trailing_zeros();
+    let b_twos = b.trailing_zeros();
+    (odd_gcd(a >> a_twos, b >> b_twos), a_twos.min(b_twos))
+}
+
 /// The greatest common divisor of two numbers of 64 bits.
 fn word_gcd(a: u64, b: u64) -> u64
     ensures { IsGcd a b result }
@@ -67,9 +80,8 @@ fn word_gcd(a: u64, b: u64) -> u64
     if b == 0 {
         return a;
     }
-    let a_twos = a.trailing_zeros();
-    let b_twos = b.trailing_zeros();
-    odd_gcd(a >> a_twos, b >> b_twos) << a_twos.min(b_twos)
+    let (odd, twos) = shared(a, b);
+    odd << twos
 }
 
 /// The greatest common divisor. Steps use 64 bits as soon as both numbers fit.
@@ -113,23 +125,32 @@ pub fn lowest(size: u128, den: u128, common: u128) -> (u128, u128)
     requires { HoldsCommon size den common }
     ensures { IsLowest size den result.0 result.1 }
 {
+    if size <= WORD && den <= WORD && common <= WORD {
+        let (size, den) = lowest_words(size as u64, den as u64, common as u64);
+        return (u128::from(size), u128::from(den));
+    }
     let shared = gcd(size, common);
     (quotient(size, shared), quotient(den, shared))
 }
 
-/// The same for numbers of 64 bits.
-pub fn lowest_words(size: u64, den: u64) -> (u64, u64)
-    requires { 0 < den }
+/// The same for numbers of 64 bits. Common twos need no division.
+pub fn lowest_words(size: u64, den: u64, common: u64) -> (u64, u64)
+    requires { HoldsCommon size den common }
     ensures { IsLowest size den result.0 result.1 }
 {
-    if den == 1 {
-        return (size, 1);
-    }
-    let shared = word_gcd(size, den);
-    if shared == 1 {
+    if common == 1 {
         return (size, den);
     }
-    (size / shared, den / shared)
+    if size == 0 {
+        return (0, 1);
+    }
+    let (odd, twos) = shared(size, common);
+    let size = size >> twos;
+    let den = den >> twos;
+    if odd == 1 {
+        return (size, den);
+    }
+    (size / odd, den / odd)
 }
 
 /// Digits over ten to a power, in lowest terms. Common factors are only twos and fives, and these

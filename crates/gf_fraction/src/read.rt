@@ -89,7 +89,7 @@ fn short(text: &[u8]) -> Option<(u64, u64)>
         [b'/', under @ ..] if rest.len() < text.len() => {
             let (den, rest) = word_digits(0, under);
             if rest.is_empty() && den > 0 {
-                Some(lowest_words(num, den))
+                Some(lowest_words(num, den, den))
             } else {
                 None
             }
