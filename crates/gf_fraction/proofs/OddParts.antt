@@ -136,4 +136,5 @@ from_odd_parts a b s t x y g k ha hb is least =
 pub no_wrap : (a b g : ℕ) → 0 < a → a < 2 ^ 64 → IsGcd a b g → IsGcd a b (g % 2 ^ 64)
 no_wrap a b g some fits is =
     let within : g ≤ a = le_of_dvd some is.0 in
-    subst (IsGcd a b) (sym (mod-eq_of_lt (let h : g < 2 ^ 64 = omega (arith, within, fits) in h))) is
+    subst (IsGcd a b) (sym (mod-eq_of_lt (let h : g < 2 ^ 64 = omega (arith, within, fits) in h)))
+    is

@@ -1,5 +1,5 @@
--- Where the profiles pass their limit, by the files that begin with the tokens through a place. A law
--- says that this is the limit place.
+-- Where the profiles pass their limit, by the files that begin with the tokens through a place. A
+-- law says that this is the limit place.
 use Rattle.std.specs.Prelude.{◌≡◌, ℕ, ◌<◌, List, [], ◌∷◌, ◌++◌, length}
 use Rattle.gf_token.specs.Token.{Token, Lexeme}
 use Rattle.gf_token.specs.Token.Token.{Closing, Bare}
@@ -35,8 +35,8 @@ StaysWithinLimit tokens = (front back : List Token) (token : Token)
     → tokens ≡ front ++ token ∷ back → IsBareOrClosing token
     → BeginsWithinLimit (front ++ token ∷ [])
 
--- The span is that of the first count or closing brace such that files begin with the tokens through
--- it, all of them past the limit.
+-- The span is that of the first count or closing brace such that files begin with the tokens
+-- through it, all of them past the limit.
 pub record IsLimitByFiles (bytes : List ℕ) (span : Span) : Type 0 where
   pub before : List Lexeme
   pub lexeme : Lexeme

@@ -55,8 +55,8 @@ IsPayoffBody tokens rows = Each (Each IsPayoff) tokens rows
 
 -- the body of the outcome version: the outcomes in braces, and the number of one for each profile
 -- in turn
-pub record IsOutcomeBody (players : ℕ) (tokens : List Token) (rows : List (List Ratio)) : Type
-    0 where
+pub record IsOutcomeBody (players : ℕ) (tokens : List Token) (rows : List (List Ratio))
+    : Type 0 where
   pub list : List Token
   pub numbers : List Token
   pub outcomes : List (List Ratio)

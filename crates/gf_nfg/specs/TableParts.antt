@@ -50,8 +50,8 @@ pub record Names : Type 0 where
 abbrev pub own_of : Names → ℕ → List (List ℕ)
 own_of names at = unwrap_or (slice_get names.strategies at) []
 
--- The heading is the title, the comment and the players' names, and the strategies of each player end
--- at one of these places among those of all.
+-- The heading is the title, the comment and the players' names, and the strategies of each player
+-- end at one of these places among those of all.
 abbrev pub names_of : List (List ℕ) → List (List ℕ) → List ℕ → Names
 names_of heading strategies ends = record {
   title = unwrap_or (slice_get heading 0) [];

@@ -37,9 +37,9 @@ pub fn read_or_refused()
         → IsRefused other bytes place → (span ≡ place) × (code_of why ≡ code_of other) }
 {}
 
-/// The limit place is the first count or closing brace such that files begin with the tokens through
-/// it, all of them with more profiles than allowed. Counts of 1,024 and 1,025 pass the limit at the
-/// second, and two counts of 1,024 nowhere.
+/// The limit place is the first count or closing brace such that files begin with the tokens
+/// through it, all of them with more profiles than allowed. Counts of 1,024 and 1,025 pass the
+/// limit at the second, and two counts of 1,024 nowhere.
 pub fn limit_by_files()
     ensures of_files { (bytes : List ℕ) (span : Span)
         → IsLimitPlace bytes span ↔ IsLimitByFiles bytes span }

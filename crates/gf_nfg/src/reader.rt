@@ -129,7 +129,8 @@ impl<'a> Reader<'a> {
 
     /// Reads and tells the payoffs of the players at each profile, to the end.
     fn tell_payoffs<R: Receive<'a>>(&mut self, to: &mut R) -> Result<(), Fault>
-        ensures { (untold : R) → R.holds untold to.old (told_heading version.Payoffs self.old.heading)
+        ensures { (untold : R)
+            → R.holds untold to.old (told_heading version.Payoffs self.old.heading)
             → MatchResult result
             (λ _. HasToldAll (R.holds untold) (body_answer version.Payoffs self.old)
             self.new.heading to.new)
@@ -143,7 +144,8 @@ impl<'a> Reader<'a> {
     /// Reads and tells the outcomes, after their opening brace, and the number of one at each
     /// profile, to the end.
     fn tell_outcomes<R: Receive<'a>>(&mut self, to: &mut R) -> Result<(), Fault>
-        ensures { (untold : R) → R.holds untold to.old (told_heading version.Outcomes self.old.heading)
+        ensures { (untold : R)
+            → R.holds untold to.old (told_heading version.Outcomes self.old.heading)
             → MatchResult result
             (λ _. HasToldAll (R.holds untold) (body_answer version.Outcomes self.old)
             self.new.heading to.new)

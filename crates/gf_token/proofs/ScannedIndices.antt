@@ -1,5 +1,6 @@
 -- The digits of an index, one by one, if they are read while their end is looked for.
-use Rattle.std.proofs.Common.{[], ◌≡◌, ℕ, ◌+◌, ◌-◌, ◌*◌, ◌<◌, ◌≤◌, ◌^◌, true, List, length, take, drop}
+use Rattle.std.proofs.Common.{[], ◌≡◌, ℕ, ◌+◌, ◌-◌, ◌*◌, ◌<◌, ◌≤◌, ◌^◌, true, List, length, take}
+use Rattle.std.proofs.Common.{drop}
 use Rattle.std.proofs.Common.{get_or, Some, None, sym, ap, subst, ◌∙◌, arith, refl, lit<}
 use Rattle.std.specs.Prelude.{nat_lt, slice_range, if◌then◌else◌}
 use Rattle.std.specs.Char.{digit_value, is_ascii_digit}
@@ -62,7 +63,8 @@ module _ (bytes : List ℕ) (start : ℕ) (within : start < length bytes)
   pub first_value : digits_value 10 (slice_range bytes start (start + 1))
       ≡ digit_value (get_or bytes start 0)
   first_value =
-      let nothing : digits_value 10 (slice_range bytes start start) ≡ 0 = ap (digits_value 10) none in
+      let nothing : digits_value 10 (slice_range bytes start start) ≡ 0 =
+      ap (digits_value 10) none in
       let more = more_value bytes start start (omega arith) within digit in
       omega (arith, nothing, more)
 
@@ -74,9 +76,11 @@ has_room bytes start at value from within few all is =
     let long : length (slice_range bytes start at) ≡ at - start =
     length-take-le (at - start) (drop start bytes) (omega (arith, length-drop start bytes)) in
     let below : digits_value 10 (slice_range bytes start at)
-    < 10 ^ length (slice_range bytes start at) = digits_value-lt 10 (slice_range bytes start at) all in
+    < 10 ^ length (slice_range bytes start at) =
+    digits_value-lt 10 (slice_range bytes start at) all in
     let less : length (slice_range bytes start at) ≤ 18 = omega (arith, long) in
-    let most : 10 ^ length (slice_range bytes start at) ≤ 10 ^ 18 = pow-le-pow_right (lit< tt) less in
+    let most : 10 ^ length (slice_range bytes start at) ≤ 10 ^ 18 =
+    pow-le-pow_right (lit< tt) less in
     omega (arith, most, below, is)
 
 -- what digits by themselves are read as

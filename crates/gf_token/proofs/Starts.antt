@@ -73,7 +73,8 @@ module _ (test : Token → Bool) (bytes : List ℕ) (at : ℕ) (lt : at < length
   not_in_front =
       elim (cases_eq (get_or bytes at 0) 34) [
         | inl e ↦ front test bytes at 34 (drop (at + 1) bytes)
-            (in_text test false (texts e) (broken e) at 34 [] (at + 1) (drop (at + 1) bytes)) lt e refl
+            (in_text test false (texts e) (broken e) at 34 [] (at + 1) (drop (at + 1) bytes)) lt e
+            refl
         | inr q ↦ elim (cases_eq (get_or bytes at 0) 123) [
           | inl e ↦ front test bytes at 123 (drop (at + 1) bytes) (opens e) lt e refl
           | inr o ↦ elim (cases_eq (get_or bytes at 0) 125) [
@@ -130,5 +131,15 @@ pub broken_front : (test : Token → Bool) (ls : List Lexeme) (start end : ℕ)
     → ls ≡ lexeme start end Broken ∷ [] → test Broken ≡ false → starts test ls ≡ false
 broken_front test ls start end e h = ap (starts test) e ∙ h
 
-pub ruleset starts_steps =
-    (quoted, not_quoted, no_text, no_bare, no_opening, no_closing, no_comma, opening, closing, comma)
+pub ruleset starts_steps = (
+  quoted,
+  not_quoted,
+  no_text,
+  no_bare,
+  no_opening,
+  no_closing,
+  no_comma,
+  opening,
+  closing,
+  comma,
+)

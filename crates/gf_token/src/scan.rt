@@ -86,8 +86,8 @@ fn digit_value(byte: u8) -> u64
     u64::from(byte - b'0')
 }
 
-/// Where the bare token ends that begins at `start`, and the index that it spells, if it spells one.
-/// Digits are read in the scan that finds their end.
+/// Where the bare token ends that begins at `start`, and the index that it spells, if it spells
+/// one. Digits are read in the scan that finds their end.
 #[tactic(auto, using(crate::proofs::Steps::bare_steps))]
 #[inline(always)]
 pub(crate) fn index_end(input: &[u8], start: usize) -> (usize, Option<u32>)
@@ -126,8 +126,8 @@ fn index_of_value(value: u64) -> Option<u32>
     }
 }
 
-/// Where the bare token ends that begins at `start`, and the number that it spells, or why it spells
-/// none. The digits of a short whole number are read in the scan that finds their end.
+/// Where the bare token ends that begins at `start`, and the number that it spells, or why it
+/// spells none. The digits of a short whole number are read in the scan that finds their end.
 #[tactic(auto, using(crate::proofs::Steps::bare_steps))]
 #[inline(always)]
 pub(crate) fn number_end(input: &[u8], start: usize) -> (usize, Result<Fraction, NumberFault>)
@@ -195,8 +195,8 @@ pub(crate) fn closing_quote(input: &[u8], start: usize) -> Option<usize>
     long_text_end(input, start)
 }
 
-/// Where the text of this label ends, if it begins at `start`. Its end is not searched for: the label
-/// has no quote that would close it.
+/// Where the text of this label ends, if it begins at `start`. Its end is not searched for: the
+/// label has no quote that would close it.
 #[tactic(auto, using(crate::proofs::TextsOfLabels::label_steps))]
 #[inline(always)]
 pub(crate) fn end_of_label(input: &[u8], start: usize, label: Label<'_>) -> Option<usize>

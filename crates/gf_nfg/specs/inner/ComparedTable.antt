@@ -6,8 +6,8 @@ use Rattle.gf_nfg.specs.declared.comparison.Comparison.{Comparison}
 use Rattle.gf_nfg.specs.declared.reader.receive.Version.{Version}
 use Rattle.gf_nfg.specs.declared.reader.receive.Version.TheVariants.{Outcomes, Payoffs}
 
--- With any payoffs after those that were told they are the table's exactly if no difference was found,
--- and these are what is left of the table's; or the payoffs are kept.
+-- With any payoffs after those that were told they are the table's exactly if no difference was
+-- found, and these are what is left of the table's; or the payoffs are kept.
 abbrev pub ComparesBody : Version → List Ratio → Comparison → Told → Type 0
 ComparesBody Payoffs all c told = (rest : List Ratio)
     → (all ≡ told.payoffs ++ rest) ↔ (IsTrue c.same × (c.left ≡ rest))

@@ -4,8 +4,8 @@ use Rattle.gf_fraction.specs.Ratio.{Ratio}
 use Rattle.gf_nfg.specs.declared.table.heading.Heading.{Heading}
 use Rattle.gf_nfg.specs.declared.reader.receive.Version.{Version}
 
--- the payoffs are those of the profiles or those of the outcomes, in turn; the numbers are those of the
--- outcomes at the profiles, in turn
+-- the payoffs are those of the profiles or those of the outcomes, in turn; the numbers are those of
+-- the outcomes at the profiles, in turn
 pub record Told : Type 0 where
   pub version : Version
   pub heading : Heading

@@ -7,8 +7,8 @@ use Rattle.gf_nfg.specs.inner.Told.{Told}
 use Rattle.gf_nfg.specs.declared.table.heading.Heading.{Heading}
 use Rattle.gf_nfg.specs.declared.reader.receive.Version.TheVariants.{Payoffs}
 
--- It was told this heading and a body, and they mean a table that the bytes spell. In payoff version no
--- numbers were told.
+-- It was told this heading and a body, and they mean a table that the bytes spell. In payoff
+-- version no numbers were told.
 pub record HasToldTable {T : Type 0} (holds : T → Told → Type 0) (bytes : List ℕ)
     (heading : Heading) (to : T) : Type 0 where
   pub told : Told

@@ -65,7 +65,8 @@ impl<'a> Reader<'a> {
     /// Reads the rest of a list of labels, after its opening brace.
     fn list(&mut self) -> Result<(), Fault>
         ensures machine { (left : ℕ)
-            → Goes (list_answer left (length (labels_of self.old.heading.labels.items)) self.old) result
+            → Goes (list_answer left (length (labels_of self.old.heading.labels.items)) self.old)
+            result
             (answer BeforeList left 0 self.new) }
         ensures counted { OnOk result (HasMore 1 self.old.heading self.new.heading) }
     {

@@ -22,7 +22,8 @@ use std::alloc::{AllocError, Global};
 fn with_lines(alloc: Global, text: Vec<u8>, parts: Parts<'_>) -> Result<Vec<u8>, AllocError>
     requires { IsComplete (content_of parts) }
     ensures { IfOk result (λ whole. whole.items ≡ text.items
-        ++ lines_text (map row_text (rows_by (content_of parts.entry) parts.entry.kept.numbers.items))) }
+        ++ lines_text
+        (map row_text (rows_by (content_of parts.entry) parts.entry.kept.numbers.items))) }
 {
     let rows = parts.rows(alloc)?;
     let mut whole = text;

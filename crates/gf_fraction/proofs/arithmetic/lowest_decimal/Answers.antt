@@ -13,7 +13,8 @@ power_at i within =
     grind (arith, nat_tests, same)
 
 pub loop-fives-init : goal.loop-fives-init
-loop-fives-init c = rw (power_at c.args.places c.requires) (first_left c.args.digits c.args.places c.min-twos.result
+loop-fives-init c =
+    rw (power_at c.args.places c.requires) (first_left c.args.digits c.args.places c.min-twos.result
     (omega arith) c.requires c.min-twos.ensures)
 
 pub loop-fives-preserved : goal.loop-fives-preserved

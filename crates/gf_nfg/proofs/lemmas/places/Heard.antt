@@ -233,7 +233,8 @@ module _ (bytes : List ℕ) (all : List Lexeme) (spelled : Spells 0 bytes all) w
       (λ next led more p. passed_token z.end next zs after l order.2 led more p)
 
   -- a place of a token that the machine has passed
-  pub memory_judged : (span : Span) → HasPassedPlace (heard start (record { input = bytes; ahead = all }))
+  pub memory_judged : (span : Span)
+      → HasPassedPlace (heard start (record { input = bytes; ahead = all }))
       span → IsAcceptedWithinLimit bytes span
   memory_judged span h = at_place h.place.0 h.place.1 h.place.2 h.place.3
     where
@@ -251,7 +252,8 @@ module _ (bytes : List ℕ) (all : List Lexeme) (spelled : Spells 0 bytes all) w
           let order = subst (λ (n : ℕ). AreInOrder n 0 (before ++ l ∷ after)) none
           (in_order 0 bytes (before ++ l ∷ after) k) in
           let passed : HasPassed (read_on (length bytes) start (before ++ l ∷ after)) l.start =
-          subst (λ (n : ℕ). HasPassed (read_on (length bytes) start (before ++ l ∷ after)) n) place.0
+          subst (λ (n : ℕ). HasPassed (read_on (length bytes) start (before ++ l ∷ after)) n)
+          place.0
           (subst (λ (x : List Lexeme). HasPassed (read_on (length bytes) start x) span.start) same
           h.passed) in
           let is : span_of l ≡ span =
@@ -280,7 +282,8 @@ answer_read bytes all c spelled e =
 pub heard_begun : (r : Reader) (bytes : List ℕ) → r.tokens.input ≡ bytes
     → content_in r.heading ≡ nothing → to_all bytes r.tokens.ahead ≡ answer p.Format 0 0 r
 heard_begun r bytes input none =
-    λ i. heard (at p.Format 0 0 0 (sym none i)) (record { input = sym input i; ahead = r.tokens.ahead })
+    λ i. heard (at p.Format 0 0 0 (sym none i))
+    (record { input = sym input i; ahead = r.tokens.ahead })
 
 pub refused_why : {A : Type 0} (f : Fault) (P : Fault → Type 0) (result : Result A Fault)
     → result ≡ Err f → P f → IfErr result P

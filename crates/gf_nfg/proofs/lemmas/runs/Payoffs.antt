@@ -84,8 +84,8 @@ no_comma true = inl refl
 no_comma false = refl
 
 -- (number [Comma])^due Closing, after a comma if there may be one
-pub record Braces (may : Bool) (ts : List Token) (due from outcomes : ℕ) (c r : Content) : Type
-    0 where
+pub record Braces (may : Bool) (ts : List Token) (due from outcomes : ℕ) (c r : Content)
+    : Type 0 where
   pub numbers : List Ratio
   pub comma : List Token
   pub inner : List Token

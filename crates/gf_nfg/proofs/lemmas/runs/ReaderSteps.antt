@@ -91,9 +91,11 @@ list_closes due before n c t new s some is next input =
 pub outcome_named : (told : Told) (outcomes players : ℕ) (t new : Remaining) (start end : ℕ)
     (label : List ℕ) → t.ahead ≡ lexeme start end (Text label) ∷ new.ahead → new.input ≡ t.input
     → length (content_told told).players ≡ players
-    → told_answer p.OutcomeName 0 outcomes t told ≡ told_answer p.BracedPayoff players outcomes new told
+    → told_answer p.OutcomeName 0 outcomes t told ≡ told_answer p.BracedPayoff players outcomes new
+    told
 outcome_named told outcomes players t new start end label next input size =
-    (λ i. told_answer p.OutcomeName 0 outcomes (record { input = sym input i; ahead = next i }) told)
+    (λ i. told_answer p.OutcomeName 0 outcomes (record { input = sym input i; ahead = next i })
+    told)
     ∙ ap (λ n. told_answer p.BracedPayoff n outcomes new told) size
 
 -- ---- after the last of the strategies

@@ -50,8 +50,8 @@ only_opening (Opening ∷ rest) due c r e = (rest, refl, e)
 only_opening _ due c r e = absurd cc
 
 -- the strategies, as they are spelled and as they are kept
-record Strategies (ts : List Token) (title : List ℕ) (players : List (List ℕ)) (r : Content) : Type
-    0 where
+record Strategies (ts : List Token) (title : List ℕ) (players : List (List ℕ)) (r : Content)
+    : Type 0 where
   inner : List Token
   rest : List Token
   counts : List ℕ

@@ -124,8 +124,8 @@ counts_found (_ ∷ ts) (suc due) from outcomes c r e = let f = rw not_zero at e
 -- ---- lists
 
 -- Text* Closing, if these labels of the list are read already
-record List1 (ts : List Token) (due outcomes : ℕ) (c r : Content) (before : List (List ℕ)) : Type
-    0 where
+record List1 (ts : List Token) (due outcomes : ℕ) (c r : Content) (before : List (List ℕ))
+    : Type 0 where
   labels : List (List ℕ)
   rest : List Token
   parts : ts ≡ map Text labels ++ Closing ∷ rest

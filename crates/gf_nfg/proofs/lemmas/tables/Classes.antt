@@ -142,7 +142,8 @@ pub record IsRowAt (rows : List (List Ratio)) (players : ℕ) (payoffs zeros : L
   pub row : slice_get rows at ≡ Some (kept_row players payoffs zeros number)
   pub below : number < bound
 
-pub row_at : (rows : List (List Ratio)) (numbers : List ℕ) (players : ℕ) (payoffs zeros : List Ratio)
+pub row_at : (rows : List (List Ratio)) (numbers : List ℕ) (players : ℕ)
+    (payoffs zeros : List Ratio)
     (bound at : ℕ) → AreShared rows numbers players payoffs zeros bound → at < length numbers
     → IsRowAt rows players payoffs zeros bound at (get_or numbers at 0)
 row_at rows numbers players payoffs zeros bound at shared h =

@@ -29,7 +29,8 @@ use Rattle.gf_nfg.proofs.lemmas.tables.Spelled.{spelled_is_spellable}
 use Rattle.gf_nfg.proofs.lemmas.tables.Rows.{entries_again, rows_in_turn}
 use Rattle.gf_nfg.proofs.lemmas.texts.Pieces.{drop_from}
 
--- with any payoffs after these it is all exactly if no difference was found, and they are what is left
+-- with any payoffs after these it is all exactly if no difference was found, and they are what is
+-- left
 abbrev pub Compares : List Ratio → Bool → List Ratio → List Ratio → Type 0
 Compares all same left told =
     (rest : List Ratio) → (all ≡ told ++ rest) ↔ (IsTrue same × (left ≡ rest))
@@ -68,12 +69,14 @@ same_by_parts named t u m n rs qs ht hu of_t of_u rows_t rows_u =
       λ e.
           let names = sym (ap (names_by named) of_t) ∙ e.0 ∙ ap (names_by named) of_u in
           let same = sym rows_t ∙ e.1 ∙ rows_u in
-          equal.1 (sym (table_again x hx) ∙ (λ i. table_with (names i) (same i)) ∙ table_again y hy),
+          equal.1 (sym (table_again x hx) ∙ (λ i. table_with (names i) (same i))
+          ∙ table_again y hy),
     )
 
 -- ---- the whole
 
-rows_counted : (t : Table) → IsTable t → length (rows t) ≡ length (profiles (map length t.strategies))
+rows_counted : (t : Table) → IsTable t
+    → length (rows t) ≡ length (profiles (map length t.strategies))
 rows_counted t h =
     length-map t.entries (λ e. e.payoffs) ∙ sym (length-map t.entries (λ e. e.profile))
     ∙ ap length h.one_entry_each
@@ -90,7 +93,8 @@ rows_parted t u ht hu players strategies same =
     ∙ (λ i. map (row_of (length (players i)) (same i)) (positions (count i)))
     ∙ rows_again (length u.players) (rows u) hu.one_payoff_each
 
-payoffs_told : (c : Content) → IsComplete c → c.choices ≡ [] → joined (rows (table_of c)) ≡ c.payoffs
+payoffs_told : (c : Content) → IsComplete c → c.choices ≡ []
+    → joined (rows (table_of c)) ≡ c.payoffs
 payoffs_told c h none =
     let count : length c.payoffs ≡ length c.players * c.profiles =
     subst (HasPayoffs c) none h.has_rows in
@@ -101,7 +105,8 @@ payoffs_told c h none =
 -- what was told with this heading, beside a table with these names
 module _ (named : Bool) (t : Table) (m n : Names) (bytes : List ℕ) (heading : Heading)
     (c : Comparison) (h : HasToldTable (IsCompared (joined (rows t))) bytes heading c)
-    (ht : IsTable t) (of_t : m ≡ names_in t) (of_u : n ≡ meaning.names_in (content_in heading)) where
+    (ht : IsTable t) (of_t : m ≡ names_in t)
+    (of_u : n ≡ meaning.names_in (content_in heading)) where
   abbrev told : Table
   told = table_of (content_told h.told)
 

@@ -20,7 +20,8 @@ use Rattle.gf_nfg.proofs.lemmas.tables.Pieces.{rises_within}
 
 -- the pieces of a list are as long as the list
 pieces_size : {A : Type 0} (from : ℕ) (ends : List ℕ) (items : List A)
-    → RisesTo (length items) from ends → from + sum (map length (pieces from ends items)) ≡ length items
+    → RisesTo (length items) from ends
+    → from + sum (map length (pieces from ends items)) ≡ length items
 pieces_size from [] items h = omega (arith, h)
 pieces_size from (end ∷ ends) items h =
     let first = take (end - from) (drop from items) in

@@ -36,7 +36,8 @@ module _ (t : Table) (names : Names) (body : Body)
   pub table_listed : IsTable t
   table_listed = rw (← view) (is_table _ _ listed.held.named listed.held.one_payoff_each)
 
-  pub payoffs_are : (numbers : Vec ℤ Global) (others : Vec Ratio Global) → body ≡ InTurn numbers others
+  pub payoffs_are : (numbers : Vec ℤ Global) (others : Vec Ratio Global)
+      → body ≡ InTurn numbers others
       → payoffs_in numbers.items others.items ≡ joined (rows t)
   payoffs_are numbers others is =
       sym (rows_in_turn (length names.players) (product (map length names.strategies))

@@ -29,8 +29,8 @@ length-strategies heading labels ends names view =
     ap (λ (n : Names). length n.strategies) (sym view) ∙ length-pieces 0 ends labels
 
 -- the strategies of the player at a place
-pub record IsOwn (labels : List (List ℕ)) (ends : List ℕ) (names : Names) (at start end : ℕ) : Type
-    0 where
+pub record IsOwn (labels : List (List ℕ)) (ends : List ℕ) (names : Names) (at start end : ℕ)
+    : Type 0 where
   pub rises : RisesTo (length labels) 0 ends
   pub strategies_are : pieces 0 ends labels ≡ names.strategies
   pub within : at < length ends

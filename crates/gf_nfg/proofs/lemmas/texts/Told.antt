@@ -121,7 +121,8 @@ payoffs_text bytes heading named t is h =
       h.spelled,
       within_limit c h.complete h.told.heading.profiles.within,
       text_with named c t.text.items h.complete
-          (x.text_is ∙ ap (λ (bs : List ℕ). heading_text (names_by named (names_in c)) ++ bs) lines),
+          (x.text_is ∙ ap (λ (bs : List ℕ). heading_text (names_by named (names_in c)) ++ bs)
+          lines),
     )
 
 -- in outcome version it ends before the lines
@@ -147,7 +148,8 @@ outcomes_begin bytes heading named t not h =
         within = within_limit (content_told h.told) h.complete h.told.heading.profiles.within;
       };
       text_is = x.text_is
-          ∙ ap (λ (bs : List ℕ). heading_text (names_by named (names_in (content_told h.told))) ++ bs)
+          ∙ ap (λ (bs : List ℕ). heading_text (names_by named (names_in (content_told h.told)))
+          ++ bs)
           body.0
           ∙ append-nil (heading_text (names_by named (names_in (content_told h.told))));
     })

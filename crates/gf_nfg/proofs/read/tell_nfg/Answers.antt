@@ -23,13 +23,15 @@ returns-in_err-tell-clause-judged g c =
     refused_why c.in_err-tell.field-0.0 _ c.from_residual.result (search rules)
     (answer_judged c.args.input.now c.new-reader.result.tokens.ahead c.in_err-tell.field-0.0
     n.spelled
-    (carried c.in_err-tell.ensures (heard_begun c.new-reader.result c.args.input.now n.input n.content)))
+    (carried c.in_err-tell.ensures
+    (heard_begun c.new-reader.result c.args.input.now n.input n.content)))
 
 pub returns-clause-told : goal.returns-clause-told
 returns-clause-told g c =
     let n = c.new-reader.ensures in
     let h = c.in_ok-tell.ensures in
-    let read = answer_read c.args.input.now c.new-reader.result.tokens.ahead (content_told h.told) n.spelled
+    let read = answer_read c.args.input.now c.new-reader.result.tokens.ahead (content_told h.told)
+    n.spelled
     (ap (λ (a : Answer). a.machine)
     (heard_begun c.new-reader.result c.args.input.now n.input n.content) ∙ h.whole) in
     record {

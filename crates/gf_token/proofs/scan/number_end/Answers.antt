@@ -82,6 +82,7 @@ returns-then-at-input-clause-number c =
     let bytes = c.args.input.now in
     answer_is (slice_range bytes c.args.start c.loop-at.at) (Ok c.whole.result)
     (number_scanned bytes c.args.start c.from.result c.loop-at.at c.loop-at.value
-    (get_or bytes c.args.start 0 == 45) c.whole.result c.from.ensures c.requires.within refl i.begins
+    (get_or bytes c.args.start 0 == 45) c.whole.result c.from.ensures c.requires.within refl
+    i.begins
     (omega (arith, i.within, i.stops)) i.digits i.value (omega (arith, c.loop-at.auto.value-fits))
     c.whole.ensures.value)

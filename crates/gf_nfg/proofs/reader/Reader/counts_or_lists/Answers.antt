@@ -32,7 +32,8 @@ returns-in-Some-clause-machine c =
     c.opening.new.self c.in-Some.field-0 some c.in-Some.ensures.next c.in-Some.ensures.input
     ∙ c.in_ok-list.ensures.machine (players - 1))
     (goes_to c.lists.result _
-    (lists_end (content_in c.lists.new.self.heading) c.lists.new.self.tokens) c.lists.ensures.machine)
+    (lists_end (content_in c.lists.new.self.heading) c.lists.new.self.tokens)
+    c.lists.ensures.machine)
 
 pub returns-clause-machine : goal.returns-clause-machine
 returns-clause-machine c =
@@ -48,4 +49,5 @@ returns-clause-machine c =
     ∙ ap (heard (at FirstStrategies players 0 0 (content_in c.args.self.now.heading))) (sym same)
     ∙ c.in_ok-count.ensures.first players some refl other)
     (goes_to c.counts.result _
-    (counts_end (content_in c.counts.new.self.heading) c.counts.new.self.tokens) c.counts.ensures.machine)
+    (counts_end (content_in c.counts.new.self.heading) c.counts.new.self.tokens)
+    c.counts.ensures.machine)

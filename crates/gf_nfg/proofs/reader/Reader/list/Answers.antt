@@ -8,7 +8,8 @@ use Rattle.gf_nfg.proofs.lemmas.runs.ReaderSteps.{goes_back, goes_from, label_co
 use Rattle.gf_nfg.proofs.reader.Reader.list.Goals as goal
 
 pub returns-in_err-keep-clause-machine : goal.returns-in_err-keep-clause-machine
-returns-in_err-keep-clause-machine c = λ left. goes_back {r = c.from_residual.result} _ (search rules)
+returns-in_err-keep-clause-machine c =
+    λ left. goes_back {r = c.from_residual.result} _ (search rules)
     (wants_memory c.in-Some.ensures.place c.in_err-keep.ensures.0
     (at InList left (length (labels_of c.args.self.now.heading.labels.items)) 0
     (with_labels (content_in c.loop-strategy.self.heading)
@@ -24,7 +25,8 @@ returns-clause-machine c =
     let counted : n ≡ length (labels_of now.heading.labels.items) - before =
     label_count now.heading.labels.items c.args.self.now.heading.labels.items c.len.result
     c.len-before.result n (c.len.ensures ∙ now.heading.labels.ok.0)
-    (c.len-before.ensures ∙ c.args.self.now.heading.labels.ok.0) c.saturating_sub-strategies.ensures in
+    (c.len-before.ensures ∙ c.args.self.now.heading.labels.ok.0)
+    c.saturating_sub-strategies.ensures in
     λ left.
     goes_from c.settle.result _
     (c.loop-strategy.invariant.0 left ∙ list_closes left before n

@@ -6,7 +6,8 @@ use Rattle.gf_nfg.proofs.reader.Reader.lists.Given as goal
 abbrev pub invariant-loop-due : goal.invariant-loop-due
 invariant-loop-due l =
     (answer BeforeList l.initial.due 0 l.initial.self ≡ answer BeforeList l.due 0 l.self)
-    × HasMore (l.initial.due - l.due) l.initial.self.heading l.self.heading × (l.due ≤ l.initial.due)
+    × HasMore (l.initial.due - l.due) l.initial.self.heading l.self.heading
+    × (l.due ≤ l.initial.due)
 
 abbrev pub decreases-loop-due : goal.decreases-loop-due
 decreases-loop-due l = l.due

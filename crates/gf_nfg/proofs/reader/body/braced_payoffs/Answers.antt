@@ -48,6 +48,7 @@ returns-clause-told g c = λ untold told outcomes holding.
     record {
       told = h.told;
       goes = h.goes
-          ∙ ap (λ n. told_answer BracedPayoff n outcomes c.loop-due.tokens (paying told h.told)) none;
+          ∙ ap (λ n. told_answer BracedPayoff n outcomes c.loop-due.tokens (paying told h.told))
+          none;
       holding = h.holding;
     }

@@ -31,6 +31,7 @@ returns g c = λ untold told holding.
     record {
       told = h.told;
       goes = h.goes
-          ∙ ap (λ n. told_answer OutcomeNumbers n c.args.outcomes c.loop-due.tokens (choosing told h.told)) none;
+          ∙ ap (λ n. told_answer OutcomeNumbers n c.args.outcomes c.loop-due.tokens
+          (choosing told h.told)) none;
       holding = h.holding;
     }

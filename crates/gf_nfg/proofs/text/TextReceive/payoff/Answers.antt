@@ -16,12 +16,16 @@ returns-in_ok-write_payoff-clause-told c = λ untold told h.
     let is = is_payoffs t.version told.version h.version_is not in
     record {
       bytes = h.bytes ++ (number_text c.args.payoff ++ 32 ∷ []);
-      text_is = longer h.bytes (heading_text (names_by untold.named (names_in (content_in told.heading)))) t.text.items c.write_payoff.new.out.items _ h.text_is
+      text_is = longer h.bytes
+          (heading_text (names_by untold.named (names_in (content_in told.heading)))) t.text.items
+          c.write_payoff.new.out.items _ h.text_is
           c.in_ok-write_payoff.ensures;
       named_is = h.named_is;
       version_is = h.version_is;
       width_is = h.width_is;
-      has_body = subst (λ v. HasBody v (record t { text = c.write_payoff.new.out; left = t.left - 1 }) (with_payoff told c.args.payoff)
+      has_body = subst
+          (λ v. HasBody v (record t { text = c.write_payoff.new.out; left = t.left - 1 })
+          (with_payoff told c.args.payoff)
           (h.bytes ++ (number_text c.args.payoff ++ 32 ∷ []))) is
           (one_more t.width t.left h.bytes told.payoffs c.args.payoff
           (subst (λ v. HasBody v t told h.bytes) (sym is) h.has_body) c.if-self-gt1.true);
@@ -35,12 +39,16 @@ returns-in_ok-write_payoff-2-clause-told c = λ untold told h.
     let is = is_payoffs t.version told.version h.version_is not in
     record {
       bytes = h.bytes ++ (number_text c.args.payoff ++ 10 ∷ []);
-      text_is = longer h.bytes (heading_text (names_by untold.named (names_in (content_in told.heading)))) t.text.items c.write_payoff-else-self-gt1.new.out.items _ h.text_is
+      text_is = longer h.bytes
+          (heading_text (names_by untold.named (names_in (content_in told.heading)))) t.text.items
+          c.write_payoff-else-self-gt1.new.out.items _ h.text_is
           c.in_ok-write_payoff-2.ensures;
       named_is = h.named_is;
       version_is = h.version_is;
       width_is = h.width_is;
-      has_body = subst (λ v. HasBody v (record t { text = c.write_payoff-else-self-gt1.new.out; left = t.width }) (with_payoff told c.args.payoff)
+      has_body = subst
+          (λ v. HasBody v (record t { text = c.write_payoff-else-self-gt1.new.out; left = t.width })
+          (with_payoff told c.args.payoff)
           (h.bytes ++ (number_text c.args.payoff ++ 10 ∷ []))) is
           (line_ends t.width t.left h.bytes told.payoffs c.args.payoff
           (subst (λ v. HasBody v t told h.bytes) (sym is) h.has_body) c.if-self-gt1.false);

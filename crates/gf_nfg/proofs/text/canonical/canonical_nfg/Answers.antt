@@ -29,7 +29,8 @@ pub returns-in-Ok-clause-text : goal.returns-in-Ok-clause-text
 returns-in-Ok-clause-text c =
     let content = content_of
     (record { heading = c.in_ok-heading.heading; kept = c.tell_nfg.new.to.kept }) in
-    let begun = outcomes_begin c.args.input.now c.in_ok-heading.heading c.args.named c.tell_nfg.new.to
+    let begun = outcomes_begin c.args.input.now c.in_ok-heading.heading c.args.named
+    c.tell_nfg.new.to
     (search rules)
     (subst (λ (named : Bool). HasToldTable (HasText named) c.args.input.now c.in_ok-heading.heading
     c.tell_nfg.new.to) c.new-text.ensures.named c.in_ok-heading.ensures.told) in (
@@ -43,7 +44,8 @@ returns-in-Ok-clause-text c =
 
 pub returns-in-Err-clause-judged : goal.returns-in-Err-clause-judged
 returns-in-Err-clause-judged c =
-    let begun = outcomes_begin c.args.input.now c.in_ok-heading.heading c.args.named c.tell_nfg.new.to
+    let begun = outcomes_begin c.args.input.now c.in_ok-heading.heading c.args.named
+    c.tell_nfg.new.to
     (search rules)
     (subst (λ (named : Bool). HasToldTable (HasText named) c.args.input.now c.in_ok-heading.heading
     c.tell_nfg.new.to) c.new-text.ensures.named c.in_ok-heading.ensures.told) in

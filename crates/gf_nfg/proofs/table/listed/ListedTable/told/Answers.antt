@@ -1,5 +1,6 @@
 use Rattle.std.proofs.Common.{◌∙◌}
-use Rattle.gf_nfg.proofs.lemmas.tables.Listed.{empty_is, in_turn_full, listed_in_turn, parts_complete}
+use Rattle.gf_nfg.proofs.lemmas.tables.Listed.{empty_is, in_turn_full, listed_in_turn}
+use Rattle.gf_nfg.proofs.lemmas.tables.Listed.{parts_complete}
 use Rattle.gf_nfg.proofs.lemmas.tables.Listed.{rows_held, shared_rows, some_is, table_is}
 use Rattle.gf_nfg.proofs.lemmas.tables.Meaning.{lacking, present}
 use Rattle.gf_nfg.proofs.table.listed.ListedTable.told.Goals as goal

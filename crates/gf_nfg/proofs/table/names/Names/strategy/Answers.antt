@@ -6,7 +6,8 @@ use Rattle.gf_nfg.proofs.table.names.Names.strategy.Goals as goal
 pub piece_at-own-requires : goal.piece_at-own-requires
 piece_at-own-requires c =
     let player = strategy_has_player c.self.inside.heading c.self.inside.strategies
-    c.self.inside.ends.items c.args.self.now c.args.at c.args.strategy c.self.invariant c.self.view_is c.requires in
+    c.self.inside.ends.items c.args.self.now c.args.at c.args.strategy c.self.invariant
+    c.self.view_is c.requires in
     let same : length c.deref.result.now ≡ length c.self.inside.ends.items =
     ap length c.deref.ensures.value in
     omega (

@@ -24,14 +24,16 @@ in_turn-requires c =
 pub by_number-requires-clause-profiles : goal.by_number-requires-clause-profiles
 by_number-requires-clause-profiles c =
     let content = content_of c.args.self in
-    let given = present _ _ _ c.is_empty.ensures c.if-is_empty.false c.args.self.kept.numbers.ok.0 in
+    let given = present _ _ _ c.is_empty.ensures c.if-is_empty.false
+    c.args.self.kept.numbers.ok.0 in
     let count = count_chosen content content.choices c.requires.has_rows given in
     omega (arith, count)
 
 pub by_number-requires-clause-rows : goal.by_number-requires-clause-rows
 by_number-requires-clause-rows c =
     let content = content_of c.args.self in
-    let given = present _ _ _ c.is_empty.ensures c.if-is_empty.false c.args.self.kept.numbers.ok.0 in
+    let given = present _ _ _ c.is_empty.ensures c.if-is_empty.false
+    c.args.self.kept.numbers.ok.0 in
     let players : length content.players ≡ c.len-players.result =
     length-map c.args.self.heading.players.items label_of
     ∙ sym (c.len-players.ensures ∙ c.args.self.heading.players.ok.0) in
@@ -52,7 +54,8 @@ returns-then-is_empty c =
 pub returns : goal.returns
 returns c =
     let content = content_of c.args.self in
-    let given = present _ _ _ c.is_empty.ensures c.if-is_empty.false c.args.self.kept.numbers.ok.0 in
+    let given = present _ _ _ c.is_empty.ensures c.if-is_empty.false
+    c.args.self.kept.numbers.ok.0 in
     let chosen = some_chosen content.profiles content.choices given in
     let players : c.len-players.result ≡ length content.players =
     c.len-players.ensures ∙ c.args.self.heading.players.ok.0
