@@ -31,7 +31,8 @@ OutcomeIsDue before = (f : EndsInNode before) × (set : Option (Use SetKey Infor
 -- a probability
 abbrev pub ProbabilityIsDue : List Token → Type 0
 ProbabilityIsDue before =
-    (f : EndsInNode before) × (number : ℕ) × (set : InformationSet) × ToProbability f.front number set
+    (f : EndsInNode before) × (number : ℕ) × (set : InformationSet)
+    × ToProbability f.front number set
 
 -- a payoff
 abbrev pub PayoffIsDue : List Token → Type 0

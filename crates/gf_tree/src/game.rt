@@ -312,7 +312,8 @@ impl<'a> Game<'a> {
     /// The actions at the node at this place; none if the game ends there.
     pub(crate) fn actions(&self, at: usize) -> &[Action<'a>]
         requires { at < length (subtrees self.now.tree) }
-        ensures { MatchOption (root_node (subtree_at self.now.tree at)).set (actions_of result.now ≡ [])
+        ensures { MatchOption (root_node (subtree_at self.now.tree at)).set
+            (actions_of result.now ≡ [])
             (λ key. option_map (λ set. set.actions) (set_at self.now key)
             ≡ Some (actions_of result.now)) }
     {

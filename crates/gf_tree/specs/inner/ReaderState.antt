@@ -168,7 +168,8 @@ Goes before (Ok _) after = before ≡ after
 Goes before (Err f) after = Fails f before
 
 -- the same for a call that tells a node
-abbrev pub GoesTelling : {A T : Type 0} → (T → T → Heading → List Told → Type 0) → Result A Fault → Answer
+abbrev pub GoesTelling : {A T : Type 0} → (T → T → Heading → List Told → Type 0) → Result A Fault
+    → Answer
     → Reader → Reader → T → T → Type 0
 GoesTelling holds result before old new from to =
     MatchResult result (λ _. Tells holds before old new from to) (λ f. Fails f before)

@@ -153,7 +153,8 @@ impl<'a> Outcomes<'a> {
         name: Label<'a>,
     ) -> Result<u32, AllocError>
         requires { position (nat_eq number) (map (λ o. o.key) self.old.known) ≡ None }
-        ensures ok { OnOk result (self.new ≡ with_pending_outcome self.old number (label_of name.entry)) }
+        ensures ok { OnOk result
+            (self.new ≡ with_pending_outcome self.old number (label_of name.entry)) }
         ensures place { IfOk result (λ place. place ≡ length self.old.known) }
         ensures err { OnErr result (self.new ≡ self.old) }
     {

@@ -10,7 +10,8 @@ ghost use Rattle.gf_tree.specs.Actions.{action_of, actions_of};
 ghost use Rattle.gf_tree.specs.Description.{same_set, set_of};
 ghost use Rattle.gf_tree.specs.inner.Stretches.{AreStretches};
 ghost use Rattle.gf_tree.specs.inner.StoredSets.{HoldActions, end_of};
-ghost use Rattle.gf_tree.specs.KnownSets.{known_of, number_among, with_pending_action, with_pending_set};
+ghost use Rattle.gf_tree.specs.KnownSets.{known_of, number_among, with_pending_action};
+ghost use Rattle.gf_tree.specs.KnownSets.{with_pending_set};
 
 use crate::game::action::{Action, same_actions};
 use crate::numbers::indexing::Indexing;

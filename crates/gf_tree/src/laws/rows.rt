@@ -58,9 +58,9 @@ pub fn nodes()
 {}
 
 /// In a set: its number is due; then its name, which if the set is known may be missing; and its
-/// actions in braces. In the list of a new set, of a player (`new_action`) or of chance (`new_branch`),
-/// an action is due or the closing brace; in that of a known set, the next action, or the brace after
-/// the last one. In lists of chance a probability follows each label.
+/// actions in braces. In the list of a new set, of a player (`new_action`) or of chance
+/// (`new_branch`), an action is due or the closing brace; in that of a known set, the next action,
+/// or the brace after the last one. In lists of chance a probability follows each label.
 pub fn sets()
     ensures set_number { (f : FileFront) (player : ℕ) → ToSetNumber f.front player
         → Obeys f.before a_set }
@@ -112,21 +112,23 @@ pub fn outcomes()
 {}
 
 /// In the payoffs of an outcome: while players are left a payoff is due, after a payoff or after a
-/// comma; any number in a new description, and in a repeated one the next of the first. After the last
-/// payoff a comma may follow, and then the closing brace, which is due at once if there are no
+/// comma; any number in a new description, and in a repeated one the next of the first. After the
+/// last payoff a comma may follow, and then the closing brace, which is due at once if there are no
 /// players.
 pub fn payoffs()
     ensures braced_payoff { (f : FileFront) (number : ℕ) (payoffs : List Ratio)
         → ToPayoff f.front number payoffs → IsNewOutcome f.nodes number
         → length payoffs < length f.players → Obeys f.before a_payoff }
-    ensures braced_payoff_again { (f : FileFront) (number : ℕ) (payoffs : List Ratio) (outcome : Outcome)
+    ensures braced_payoff_again { (f : FileFront) (number : ℕ) (payoffs : List Ratio)
+        (outcome : Outcome)
         (p : Ratio) (others : List Ratio) → ToPayoff f.front number payoffs
         → KnowsOutcome f.nodes number outcome → outcome.payoffs ≡ payoffs ++ p ∷ others
         → Obeys f.before (this_number p) }
     ensures after_braced_payoff { (f : FileFront) (number : ℕ) (payoffs : List Ratio)
         → BehindPayoff f.front number payoffs → IsNewOutcome f.nodes number
         → length payoffs < length f.players → Obeys f.before (or_comma a_payoff) }
-    ensures after_braced_payoff_again { (f : FileFront) (number : ℕ) (payoffs : List Ratio) (outcome : Outcome)
+    ensures after_braced_payoff_again { (f : FileFront) (number : ℕ) (payoffs : List Ratio)
+        (outcome : Outcome)
         (p : Ratio) (others : List Ratio) → BehindPayoff f.front number payoffs
         → KnowsOutcome f.nodes number outcome → outcome.payoffs ≡ payoffs ++ p ∷ others
         → Obeys f.before (or_comma (this_number p)) }

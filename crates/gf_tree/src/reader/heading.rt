@@ -15,7 +15,8 @@ impl<'a> Reader<'a> {
         ensures machine { Goes (answer Format self.old) result (answer BeforePlayers self.new) }
         ensures kept { OnOk result (self.new
             ≡ record self.old { tokens = self.new.tokens; title = self.new.title }) }
-        ensures shorter { OnOk result (length self.new.tokens.ahead ≤ length self.old.tokens.ahead) }
+        ensures shorter { OnOk result
+            (length self.new.tokens.ahead ≤ length self.old.tokens.ahead) }
     {
         self.tokens.word(b"EFG", What::Format)?;
         self.tokens.word(b"2", What::Version)?;
@@ -35,7 +36,8 @@ impl<'a> Reader<'a> {
         ensures kept { OnOk result (self.new
             ≡ record self.old { tokens = self.new.tokens; players = self.new.players }) }
         ensures place { IfOk result (λ brace. StandsBefore self.new.tokens brace) }
-        ensures shorter { OnOk result (length self.new.tokens.ahead ≤ length self.old.tokens.ahead) }
+        ensures shorter { OnOk result
+            (length self.new.tokens.ahead ≤ length self.old.tokens.ahead) }
     {
         let Some(_) = self.tokens.opening() else {
             return Err(self.tokens.refusal(Why::Expected(What::Opening)));

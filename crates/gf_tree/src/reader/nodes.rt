@@ -19,7 +19,8 @@ impl<'a> Reader<'a> {
         ensures machine { GoesTelling R.holds result (answer ChanceName self.old) self.old self.new
             to.old to.new }
         ensures room { OnOk result (HasRoom 0 self.new) }
-        ensures shorter { OnOk result (length self.new.tokens.ahead ≤ length self.old.tokens.ahead) }
+        ensures shorter { OnOk result
+            (length self.new.tokens.ahead ≤ length self.old.tokens.ahead) }
     {
         let Some(name) = self.tokens.text() else {
             return Err(self.tokens.refusal(Why::Expected(What::Text)));
@@ -36,7 +37,8 @@ impl<'a> Reader<'a> {
             answer (PlayerNumber node) self.old ≡ answer (SetNumber node player) self.new)
             (λ f. Fails f (answer (PlayerNumber node) self.old)) }
         ensures kept { OnOk result (self.new ≡ record self.old { tokens = self.new.tokens }) }
-        ensures shorter { OnOk result (length self.new.tokens.ahead ≤ length self.old.tokens.ahead) }
+        ensures shorter { OnOk result
+            (length self.new.tokens.ahead ≤ length self.old.tokens.ahead) }
     {
         let Some((word, index)) = self.tokens.index() else {
             return Err(self.tokens.refusal(Why::Expected(What::Index)));
@@ -54,10 +56,12 @@ impl<'a> Reader<'a> {
     #[inline(always)]
     fn personal_node<R: Receive<'a>>(&mut self, to: &mut R) -> Result<(), Fault>
         requires begun { HasBegunNode self.old }
-        ensures machine { GoesTelling R.holds result (answer PersonalName self.old) self.old self.new
+        ensures machine { GoesTelling R.holds result (answer PersonalName self.old) self.old
+            self.new
             to.old to.new }
         ensures room { OnOk result (HasRoom 0 self.new) }
-        ensures shorter { OnOk result (length self.new.tokens.ahead ≤ length self.old.tokens.ahead) }
+        ensures shorter { OnOk result
+            (length self.new.tokens.ahead ≤ length self.old.tokens.ahead) }
     {
         let Some(name) = self.tokens.text() else {
             return Err(self.tokens.refusal(Why::Expected(What::Text)));
@@ -71,10 +75,12 @@ impl<'a> Reader<'a> {
     #[inline(always)]
     fn terminal_node<R: Receive<'a>>(&mut self, to: &mut R) -> Result<(), Fault>
         requires begun { HasBegunNode self.old }
-        ensures machine { GoesTelling R.holds result (answer TerminalName self.old) self.old self.new
+        ensures machine { GoesTelling R.holds result (answer TerminalName self.old) self.old
+            self.new
             to.old to.new }
         ensures room { OnOk result (HasRoom 0 self.new) }
-        ensures shorter { OnOk result (length self.new.tokens.ahead ≤ length self.old.tokens.ahead) }
+        ensures shorter { OnOk result
+            (length self.new.tokens.ahead ≤ length self.old.tokens.ahead) }
     {
         let Some(name) = self.tokens.text() else {
             return Err(self.tokens.refusal(Why::Expected(What::Text)));
@@ -90,7 +96,8 @@ impl<'a> Reader<'a> {
         ensures machine { GoesTelling R.holds result (answer NodeDue self.old) self.old self.new
             to.old to.new }
         ensures room { OnOk result (HasRoom 0 self.new) }
-        ensures shorter { OnOk result (length self.new.tokens.ahead < length self.old.tokens.ahead) }
+        ensures shorter { OnOk result
+            (length self.new.tokens.ahead < length self.old.tokens.ahead) }
     {
         let Some(letter) = self.tokens.bare() else {
             return Err(self.tokens.refusal(Why::Expected(What::Node)));

@@ -67,7 +67,8 @@ impl<'a> Reader<'a> {
           tokens = self.new.tokens;
           outcomes = record self.old.outcomes { pending = self.new.outcomes.pending };
         }) }
-        ensures shorter { OnOk result (length self.new.tokens.ahead ≤ length self.old.tokens.ahead) }
+        ensures shorter { OnOk result
+            (length self.new.tokens.ahead ≤ length self.old.tokens.ahead) }
     {
         let Some((word, number)) = self.tokens.number() else {
             return Err(self.tokens.refusal(Why::Expected(What::Number)));
@@ -102,7 +103,8 @@ impl<'a> Reader<'a> {
             number (outcome_with (label_of name.entry) self.old.outcomes.pending) 0) self.old)
             self.old self.new to.old to.new }
         ensures room { OnOk result (HasRoom 0 self.new) }
-        ensures shorter { OnOk result (length self.new.tokens.ahead ≤ length self.old.tokens.ahead) }
+        ensures shorter { OnOk result
+            (length self.new.tokens.ahead ≤ length self.old.tokens.ahead) }
     {
         let Some(brace) = self.tokens.closing() else {
             return Err(self.tokens.refusal(Why::Expected(What::Closing)));
@@ -133,7 +135,8 @@ impl<'a> Reader<'a> {
             (begun_with self.old.sets.known (label_of node.entry) (position_of set)) number)
             self.old) self.old self.new to.old to.new }
         ensures room { OnOk result (HasRoom 0 self.new) }
-        ensures shorter { OnOk result (length self.new.tokens.ahead ≤ length self.old.tokens.ahead) }
+        ensures shorter { OnOk result
+            (length self.new.tokens.ahead ≤ length self.old.tokens.ahead) }
     {
         let Some(name) = self.tokens.text() else {
             return Err(self.tokens.refusal(Why::NotDescribed));
@@ -158,7 +161,8 @@ impl<'a> Reader<'a> {
             ≡ Some outcome
             → Goes (answer (KnownOutcomeName outcome) self.old) result (answer NodeDue self.new) }
         ensures kept { self.new ≡ record self.old { tokens = self.new.tokens } }
-        ensures shorter { OnOk result (length self.new.tokens.ahead ≤ length self.old.tokens.ahead) }
+        ensures shorter { OnOk result
+            (length self.new.tokens.ahead ≤ length self.old.tokens.ahead) }
     {
         let (name, payoffs) = (self.outcomes.name(place), self.outcomes.payoffs(place));
         same_outcome(&mut self.tokens, name, payoffs)
@@ -185,7 +189,8 @@ impl<'a> Reader<'a> {
             (description_at nat_eq self.old.outcomes.known number)) self.old.tokens)
             self.old self.new to.old to.new }
         ensures room { OnOk result (HasRoom 0 self.new) }
-        ensures shorter { OnOk result (length self.new.tokens.ahead ≤ length self.old.tokens.ahead) }
+        ensures shorter { OnOk result
+            (length self.new.tokens.ahead ≤ length self.old.tokens.ahead) }
     {
         let Some(place) = found(&self.outcomes, number) else {
             self.new_outcome(node, set, number, to)?;
@@ -212,7 +217,8 @@ impl<'a> Reader<'a> {
             (begun_with self.old.sets.known (label_of node.entry) (position_of set))) self.old)
             self.old self.new to.old to.new }
         ensures room { OnOk result (HasRoom 0 self.new) }
-        ensures shorter { OnOk result (length self.new.tokens.ahead ≤ length self.old.tokens.ahead) }
+        ensures shorter { OnOk result
+            (length self.new.tokens.ahead ≤ length self.old.tokens.ahead) }
     {
         let Some((word, index)) = self.tokens.index() else {
             return Err(self.tokens.refusal(Why::Expected(What::Index)));

@@ -77,7 +77,8 @@ impl<'a> Reader<'a> {
           tokens = self.new.tokens;
           sets = record self.old.sets { pending = self.new.sets.pending };
         }) }
-        ensures shorter { OnOk result (length self.new.tokens.ahead ≤ length self.old.tokens.ahead) }
+        ensures shorter { OnOk result
+            (length self.new.tokens.ahead ≤ length self.old.tokens.ahead) }
     {
         let Some(word) = self.tokens.bare() else {
             return Err(self.tokens.refusal(Why::Expected(What::Number)));
@@ -114,7 +115,8 @@ impl<'a> Reader<'a> {
           tokens = self.new.tokens;
           sets = record self.old.sets { pending = self.new.sets.pending };
         }) }
-        ensures shorter { OnOk result (length self.new.tokens.ahead ≤ length self.old.tokens.ahead) }
+        ensures shorter { OnOk result
+            (length self.new.tokens.ahead ≤ length self.old.tokens.ahead) }
     {
         if player == 0 {
             return self.probability(label.label, sum);
@@ -168,7 +170,8 @@ impl<'a> Reader<'a> {
         }) }
         ensures grows { OnOk result (Grows self.old.sets.known self.new.sets.known) }
         ensures place { IfOk result (λ place. place < length self.new.sets.known) }
-        ensures shorter { OnOk result (length self.new.tokens.ahead ≤ length self.old.tokens.ahead) }
+        ensures shorter { OnOk result
+            (length self.new.tokens.ahead ≤ length self.old.tokens.ahead) }
     {
         let Some(brace) = self.tokens.closing() else {
             return Err(self.tokens.refusal(Why::Expected(What::Text)));
@@ -201,7 +204,8 @@ impl<'a> Reader<'a> {
         }) }
         ensures grows { OnOk result (Grows self.old.sets.known self.new.sets.known) }
         ensures place { IfOk result (λ place. place < length self.new.sets.known) }
-        ensures shorter { OnOk result (length self.new.tokens.ahead ≤ length self.old.tokens.ahead) }
+        ensures shorter { OnOk result
+            (length self.new.tokens.ahead ≤ length self.old.tokens.ahead) }
     {
         let Some(name) = self.tokens.text() else {
             return Err(self.tokens.refusal(Why::NotDescribed));
@@ -234,7 +238,8 @@ impl<'a> Reader<'a> {
         }) }
         ensures grows { OnOk result (Grows self.old.sets.known self.new.sets.known) }
         ensures place { IfOk result (λ place. place < length self.new.sets.known) }
-        ensures shorter { OnOk result (length self.new.tokens.ahead ≤ length self.old.tokens.ahead) }
+        ensures shorter { OnOk result
+            (length self.new.tokens.ahead ≤ length self.old.tokens.ahead) }
     {
         let place = match described(&self.sets, player, number) {
             Some(set) => {
@@ -264,7 +269,8 @@ impl<'a> Reader<'a> {
         }) }
         ensures grows { OnOk result (Grows self.old.sets.known self.new.sets.known) }
         ensures place { IfOk result (λ place. place < length self.new.sets.known) }
-        ensures shorter { OnOk result (length self.new.tokens.ahead ≤ length self.old.tokens.ahead) }
+        ensures shorter { OnOk result
+            (length self.new.tokens.ahead ≤ length self.old.tokens.ahead) }
     {
         let Some((word, index)) = self.tokens.index() else {
             return Err(self.tokens.refusal(Why::Expected(What::Index)));

@@ -70,7 +70,8 @@ new_action f key set h new some =
     let s = parts f (begins_actions f.front key set h) in
     let c = s.content in
     elim (in_actions f.front key set c h s.goes_on) [
-      | inl n ↦ stands_in f s (NewAction n.name key set n.sum) c (a_new_action set.actions) n.answers
+      | inl n ↦ stands_in f s (NewAction n.name key set n.sum) c (a_new_action set.actions)
+          n.answers
           (action_law c n.name key.player key.number set n.sum some) (λ a. a, refl)
       | inr k ↦ absurd (new k.known ((s.sets key k.known).1 k.is_known))
     ]

@@ -31,7 +31,8 @@ use Rattle.gf_tree.proofs.lemmas.games.SentencesOnce.{one_letter}
 
 -- ---- numbers
 
-pub spells_fault : (b : List ℕ) (fault : NumberFault) → number_of b ≡ Err fault → HasNumberFault b fault
+pub spells_fault : (b : List ℕ) (fault : NumberFault) → number_of b ≡ Err fault
+    → HasNumberFault b fault
 spells_fault b fault e = subst (Spelled b) e (number_is_computed b)
 
 pub no_positive : (b : List ℕ) → count_of b ≡ None → (n : ℕ) → ¬ (IsPositive b n)
@@ -105,7 +106,8 @@ personal_by c [] b e is = (
 )
 personal_by c (player ∷ players) b e is = inr (inr (is, omega arith))
 
-letter_of : (c : Content) (b : List ℕ) (is_c is_p is_t : Bool) → pointwise nat_eq b (codes "c") ≡ is_c
+letter_of : (c : Content) (b : List ℕ) (is_c is_p is_t : Bool)
+    → pointwise nat_eq b (codes "c") ≡ is_c
     → pointwise nat_eq b (codes "p") ≡ is_p → pointwise nat_eq b (codes "t") ≡ is_t
     → Answers (a_node (length c.players)) (Bare b) (cond is_c (Ok (at ChanceName c)) (cond is_p
     (personal_node c c.players) (cond is_t (Ok (at TerminalName c)) (Err (Expected what.Node)))))

@@ -29,7 +29,8 @@ stands_led before q c row l law end =
 
 more_leads : (before first : List Token) (t : Token) (s after : State) → Leads first s
     → step s.position s.content t ≡ Ok after → before ≡ first ++ t ∷ [] → Leads before after
-more_leads before first t s after l e parts = subst (λ (ts : List Token). Leads ts after) (sym parts)
+more_leads before first t s after l e parts =
+    subst (λ (ts : List Token). Leads ts after) (sym parts)
     (walk_more first t Format nothing s after l e)
 
 to_title : (before : List Token) → ToTitle before → Leads before (at Title nothing)
@@ -46,7 +47,8 @@ to_title before h = by h.1
 
 to_players : (before : List Token) (h : ToPlayers before)
     → Leads before (at BeforePlayers (heading h.1 []))
-to_players before h = more_leads before h.0 (Text h.1) (at Title nothing) _ (to_title h.0 h.2) refl h.3
+to_players before h =
+    more_leads before h.0 (Text h.1) (at Title nothing) _ (to_title h.0 h.2) refl h.3
 
 walk_both : (ts us : List Token) (q : Position) (c : Content) (s : State) → walk q c ts ≡ Ok s
     → walk q c (ts ++ us) ≡ walk s.position s.content us

@@ -89,7 +89,8 @@ seen_comma front n ps h =
         (k.1 ++ Bare b.2 ∷ []) ++ Comma ∷ [],
         h.2 ∙ (λ i. b.6 i ++ Comma ∷ [])
             ∙ (λ i. (k.2 i ++ Bare b.2 ∷ []) ++ Comma ∷ [])
-            ∙ (λ i. append_assoc k.0 (Text seen.name ∷ Opening ∷ k.1) (Bare b.2 ∷ []) i ++ Comma ∷ [])
+            ∙ (λ i. append_assoc k.0 (Text seen.name ∷ Opening ∷ k.1) (Bare b.2 ∷ []) i
+            ++ Comma ∷ [])
             ∙ append_assoc k.0 (Text seen.name ∷ Opening ∷ (k.1 ++ Bare b.2 ∷ [])) (Comma ∷ []),
         k.3,
         subst (λ (qs : List Ratio).
@@ -272,7 +273,8 @@ module _ (f : FileFront) (n : ℕ) (payoffs : List Ratio) (may : Bool)
     last_known : (k : AtKnownPayoff s.content f.front h.place.1 n h.outcome) (others : List Ratio)
         → k.others ≡ others → Stands f.before (with_comma may a_closing)
     last_known k [] e =
-        stands_in f s (known_at may []) k.content (with_comma may a_closing) (known_answers s k [] e)
+        stands_in f s (known_at may []) k.content (with_comma may a_closing)
+        (known_answers s k [] e)
         (known_closing may k.content) (known_closing_end may k.content)
     last_known k (p ∷ ps) e =
         let is = (known_outcome s.content n k.known s.goes_on.are_outcomes

@@ -144,7 +144,8 @@ version_only Letter (inl s) lacks = absurd (other_word (codes "2") (codes "R") r
 version_only Letter (inr s) lacks = absurd (other_word (codes "2") (codes "D") refl s)
 version_only (NodeLetter n) (inl s) lacks = absurd (other_word (codes "2") (codes "c") refl s)
 version_only (NodeLetter n) (inr (inl s)) lacks = absurd (other_word (codes "2") (codes "t") refl s)
-version_only (NodeLetter n) (inr (inr s)) lacks = absurd (other_word (codes "2") (codes "p") refl s.0)
+version_only (NodeLetter n) (inr (inr s)) lacks =
+    absurd (other_word (codes "2") (codes "p") refl s.0)
 version_only (PlayerNumber n) s lacks = absurd (lacks (s.0, (two_index s.0 s.1.0, s.1.1), s.2))
 version_only SetNumber s lacks = absurd (lacks (s.0, (two_index s.0 s.1.0, s.1.1)))
 version_only OutcomeNumber s lacks = absurd (lacks (s.0, two_index s.0 s.1))

@@ -56,7 +56,8 @@ pub begins_on : (front first others : List Token) → BeginsBare first → front
 begins_on front first others h e =
     (h.0, h.1 ++ others, e ∙ ap (λ (ts : List Token). ts ++ others) h.2)
 
-pub begins_number : (front : List Token) (key : SetKey) → BehindSetNumber front key → BeginsBare front
+pub begins_number : (front : List Token) (key : SetKey) → BehindSetNumber front key
+    → BeginsBare front
 begins_number front key h =
     begins_on front h.0 (Bare h.1 ∷ []) (h.3.0, Text h.3.1 ∷ h.3.2, h.3.3) h.2
 
@@ -126,7 +127,8 @@ new_is None h = refl
 new_is (Some d) h = absurd (h d refl)
 
 -- a known outcome is one
-pub known_outcome : (c : Content) (n : ℕ) (outcome : Outcome) → AreOutcomes (length c.players) c.outcomes
+pub known_outcome : (c : Content) (n : ℕ) (outcome : Outcome)
+    → AreOutcomes (length c.players) c.outcomes
     → description_at nat_eq c.outcomes n ≡ Some outcome → IsOutcome (length c.players) n outcome
 known_outcome c n outcome are known =
     found_has nat_eq Decides-eqb (IsOutcome (length c.players)) c.outcomes n outcome are known

@@ -1,5 +1,5 @@
--- Tokens that some file begins with stand before a row of the table of positions: the sentence is cut
--- where they end.
+-- Tokens that some file begins with stand before a row of the table of positions: the sentence is
+-- cut where they end.
 use Rattle.std.proofs.Common.{◌≡◌, ℕ, zero, suc, List, [], ◌∷◌, ◌++◌, drop, length, map, Option}
 use Rattle.std.proofs.Common.{Some, None, MatchOption, refl, sym, ap, subst, ◌∙◌, append_assoc}
 use Rattle.std.proofs.Common.{append-nil, inl, inr}
@@ -121,7 +121,8 @@ module _ (f : FileFront) (letter name : List ℕ) (more result : List Token)
         e ∙ (λ i. behind ++ first i ∷ second i ∷ ts) in
         elim (cut ts more is.0 (Closing ∷ result)
         (ap (drop 2) whole ∙ append_assoc is.0 (Closing ∷ []) result)) [
-          | inl k ↦ actions_place f bare behind ts k.0 is.0 player n d behind_is opened (sym k.1) is.2
+          | inl k ↦ actions_place f bare behind ts k.0 is.0 player n d behind_is opened (sym k.1)
+              is.2
               here
           | inr k ↦ by opened k.0 k.1 k.2
         ]
@@ -175,7 +176,8 @@ module _ (f : FileFront) (letter name : List ℕ) (more result : List Token)
       let whole = parts
       ∙ ap (λ (us : List Token). us ++ Bare number ∷ (description ++ result)) moves.2 in
       let first = first_is t (Bare moves.0) (ts ++ more) _ whole in
-      to_number (suc player) n (Bare moves.0 ∷ []) number (moves.0, moves.1, refl, moves.3) positive ts
+      to_number (suc player) n (Bare moves.0 ∷ []) number (moves.0, moves.1, refl, moves.3) positive
+      ts
       description o is (e ∙ (λ i. Bare letter ∷ Text name ∷ first i ∷ ts)) (ap (drop 1) whole) here
 
   named : (set : Option (Use SetKey InformationSet)) (ts step : List Token)
@@ -200,7 +202,8 @@ in_node f n t (u ∷ ts) more e is sets outcomes =
     let second = first_is u (Text n.name) (ts ++ more) _ (ap (drop 1) is.parts) in
     let front : f.front ≡ Bare is.letter ∷ Text n.name ∷ ts = e ∙ (λ i. first i ∷ second i ∷ ts) in
     named f is.letter n.name more is.result n.outcome is.is_result outcomes
-    (is.letter, Text n.name ∷ ts, front) n.set ts is.step is.is_step front (ap (drop 2) is.parts) sets
+    (is.letter, Text n.name ∷ ts, front) n.set ts is.step is.is_step front (ap (drop 2) is.parts)
+    sets
 
 -- ---- the uses of a file
 
@@ -237,8 +240,11 @@ module _ {K D : Type 0} (use_in : FileNode → Option (Use K D)) (Is : K → D �
           × ((k : D) → Describes (filter_map use_in earlier) u.key k → k ≡ d))
       by None q = tt
       by (Some d) q =
-          let h = here_described u d e q in
-          (all u.key d h, λ k x. consistent.described_alike u.key k d (before_described u.key k x) h)
+          let h = here_described u d e q in (
+            all u.key d h,
+            λ k x.
+                consistent.described_alike u.key k d (before_described u.key k x) h,
+          )
 
 outcomes_of_nodes : (es : List (Entry FileNode))
     → outcome_uses es ≡ filter_map (λ n. n.outcome) (map (λ e. e.node) es)
@@ -282,7 +288,8 @@ module _ (before more : List Token) (file : IsExtensiveFile (before ++ more)) wh
   in_nodes comment t ts is_comment e parts = by (within (IsNode (length tree.players))
       (map (λ x. x.node) (flatten tree.tree)) t ts more says.nodes parts says.are_nodes)
     where
-      front_of : Within (IsNode (length tree.players)) (t ∷ ts) (map (λ x. x.node) (flatten tree.tree))
+      front_of : Within (IsNode (length tree.players)) (t ∷ ts)
+          (map (λ x. x.node) (flatten tree.tree))
           → FileFront
       front_of w = record {
         before = before;
@@ -321,7 +328,8 @@ module _ (before more : List Token) (file : IsExtensiveFile (before ++ more)) wh
             (set_uses (flatten tree.tree))
             (uses_of_nodes (flatten tree.tree) ∙ ap (filter_map (λ n. n.set)) w.values)
             file.2.sets file.2.each_set w.last.set refl)
-            (use_described (λ n. n.outcome) (IsOutcome (length tree.players)) w.earlier w.later w.last
+            (use_described (λ n. n.outcome) (IsOutcome (length tree.players)) w.earlier w.later
+            w.last
             (outcome_uses (flatten tree.tree))
             (outcomes_of_nodes (flatten tree.tree) ∙ ap (filter_map (λ n. n.outcome)) w.values)
             file.2.outcomes file.2.each_outcome w.last.outcome refl),
@@ -384,7 +392,8 @@ module _ (before more : List Token) (file : IsExtensiveFile (before ++ more)) wh
           → r ++ more ≡ Closing ∷ (says.comment ++ says.nodes) → IsBeforeRow before
       all [] k m = inl (IsInHeading.Players tree.players
           (subst (λ (us : List Token). InPlayers us tree.players)
-          (sym (e ∙ (λ i. headed says.letter tree.title (Opening ∷ (k ∙ append-nil names) i)))) opened))
+          (sym (e ∙ (λ i. headed says.letter tree.title (Opening ∷ (k ∙ append-nil names) i))))
+          opened))
       all (t ∷ r) k m =
           let first = first_is t Closing (r ++ more) (says.comment ++ says.nodes) m in
           behind_players r says.comment says.is_comment

@@ -307,7 +307,8 @@ module _ (f : FileFront) (bare : BeginsBare f.front) where
     | inr new ↦ IsInNode.NewSet key h new
   ]
 
-  module _ (n : ℕ) (d : InformationSet) (seen left : List Action) (values : d.actions ≡ seen ++ left) where
+  module _ (n : ℕ) (d : InformationSet) (seen left : List Action)
+      (values : d.actions ≡ seen ++ left) where
     abbrev seen_set : InformationSet
     seen_set = record { name = d.name; actions = seen }
 

@@ -22,7 +22,8 @@ abbrev pub Cut : {A : Type 0} → List A → List A → List A → List A → Ty
 Cut {A} xs ys first second = ((rest : List A) × (first ≡ xs ++ rest) × (ys ≡ rest ++ second))
     ⊎ ((rest : List A) × (xs ≡ first ++ rest) × (rest ++ ys ≡ second))
 
-pub cut : {A : Type 0} (xs ys first second : List A) → xs ++ ys ≡ first ++ second → Cut xs ys first second
+pub cut : {A : Type 0} (xs ys first second : List A) → xs ++ ys ≡ first ++ second
+    → Cut xs ys first second
 cut [] ys first second e = inl (first, refl, e)
 cut (x ∷ xs) ys [] second e = inr (x ∷ xs, refl, e)
 cut (x ∷ xs) ys (a ∷ first) second e =

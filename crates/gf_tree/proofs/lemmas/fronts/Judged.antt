@@ -303,7 +303,8 @@ reason_by : (why : Why) (before after : List Token) → Own why before after
 reason_by (Expected what) before after h low = (h, low)
 reason_by _ before after h low = (h, low)
 
-pub reason : (before after : List Token) (s : State) (why : Why) → Leads before s → StopsAt s after why
+pub reason : (before after : List Token) (s : State) (why : Why) → Leads before s
+    → StopsAt s after why
     → IsReason why before after
 reason before after s why l h =
     reason_by why before after (own before after s why l h) (lower before s why l after h)

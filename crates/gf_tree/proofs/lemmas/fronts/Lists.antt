@@ -86,7 +86,8 @@ pub to_probability : (front : List Token) (number : ℕ) (set : InformationSet) 
     → AtNewProbability c front number set ⊎ AtKnownProbability c front number set
 to_probability front number set c h g =
     let first = λ (us : List Token). regroup front h.0 (Text h.1 ∷ []) us h.2 in
-    elim (in_actions h.0 (set_of 0 number) set c h.3 (goes_before c front h.0 (Text h.1 ∷ []) g h.2)) [
+    elim (in_actions h.0 (set_of 0 number) set c h.3
+    (goes_before c front h.0 (Text h.1 ∷ []) g h.2)) [
       | inl n ↦ inl (record {
         name = n.name;
         label = h.1;
@@ -285,7 +286,8 @@ module _ (front whole : List Token) (t : List ℕ) (f : whole ≡ front ++ Bare 
         (letter, name, mover, refl, moves),
         positive,
       ) (goes_before c whole front (Bare t ∷ []) g f) in
-      let known = known_by k.name u.key (description_at same_set c.sets u.key) c g.read t g.more refl
+      let known = known_by k.name u.key (description_at same_set c.sets u.key) c g.read t g.more
+      refl
       (sym (ap (run_tokens NodeDue c) (regroup whole front (Bare t ∷ []) g.more f)
       ∙ k.answers (Bare t ∷ g.more)) ∙ g.reads) in
       record {

@@ -104,7 +104,8 @@ module _ (n : FileNode) (nodes : List FileNode) (tokens first others rest : List
       (subst (λ (ts : List Token). Reads NodeDue d ts r) (sym one.1) h.goes_on) in
       let sets = subst (λ (x : FileNode). Learns same_set c.sets (uses_of x.set) h.sets)
       (sym one.0) h.learns_sets in
-      let outcomes = subst (λ (x : FileNode). Learns nat_eq c.outcomes (uses_of x.outcome) h.outcomes)
+      let outcomes =
+      subst (λ (x : FileNode). Learns nat_eq c.outcomes (uses_of x.outcome) h.outcomes)
       (sym one.0) h.learns_outcomes in
       record {
         content = w.content;
@@ -138,7 +139,8 @@ begun_walked : (n : FileNode) (nodes : List FileNode) (tokens first others rest 
     → ((d : Content) → d.players ≡ c.players → AreSets (length c.players) d.sets
     → AreOutcomes (length c.players) d.outcomes → Reads NodeDue d (others ++ rest) r
     → Walked d nodes others) → Walked c (n ∷ nodes) tokens
-begun_walked n nodes tokens first others rest b ts c r e is_node parts each plain sets outcomes reads
+begun_walked n nodes tokens first others rest b ts c r e is_node parts each plain sets outcomes
+    reads
     later =
     let k = due_by b ts c.due c r refl sets outcomes
     (subst (λ (x : List Token). Reads NodeDue c x r) e reads) in

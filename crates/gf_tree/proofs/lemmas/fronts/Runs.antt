@@ -211,7 +211,8 @@ new_front (a ∷ actions) zero inner more name n set sum c r fraction high each 
     let found = share_found sum b s fraction k.1 in
     let same = numbers_once b b s.probability p refl found.number each.3.3 in
     let f = new_front actions 0 each.1 more name n
-    (with_action set a.label (Some s.probability)) s.sum c r found.adds.1 found.not_above each.4 k.2 in
+    (with_action set a.label (Some s.probability)) s.sum c r found.adds.1 found.not_above each.4
+    k.2 in
     let all : with_actions (with_action set a.label (Some s.probability)) actions
     ≡ with_actions set (a ∷ actions) =
     more_actions set a.label (Some s.probability) actions

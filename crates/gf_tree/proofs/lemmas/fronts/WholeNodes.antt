@@ -100,7 +100,8 @@ node_ends f n is none =
               (names ++ append_assoc says.comment says.nodes f.front i));
           is_letter = says.is_letter;
           is_comment = says.is_comment;
-          are_nodes = each_more (IsNode (length f.players)) says.nodes f.front f.nodes n says.are_nodes
+          are_nodes = each_more (IsNode (length f.players)) says.nodes f.front f.nodes n
+              says.are_nodes
               is;
         };
       },
@@ -133,7 +134,8 @@ few_payoffs : (f : FileFront) (first rest : List Token) (n : ℕ) (outcome : Out
 few_payoffs f first rest n outcome h e =
     let s = parts f (begins_on f.front first rest (begins_payoffs first n outcome h) e) in
     let players = ap length s.same_players in
-    elim (in_payoffs first n outcome s.content h (goes_before s.content f.front first rest s.goes_on e)) [
+    elim (in_payoffs first n outcome s.content h
+    (goes_before s.content f.front first rest s.goes_on e)) [
       | inl k ↦ let count = k.count in omega (arith, count, players)
       | inr k ↦
           let is = (known_outcome s.content n k.known s.goes_on.are_outcomes

@@ -138,7 +138,8 @@ module _ {K D : Type 0} (same : K → K → Bool) (equality : IsEquality same) w
             d e (at_key known key k d p q),
         p,
       )
-      by_option (Some c) p = absurd (none_or_some (description_at same (known ++ one key d ∷ []) k) c e
+      by_option (Some c) p =
+          absurd (none_or_some (description_at same (known ++ one key d ∷ []) k) c e
           (at_more same known key k d c p))
 
   -- what is found after one more is that one, or was known
@@ -151,7 +152,8 @@ module _ {K D : Type 0} (same : K → K → Bool) (equality : IsEquality same) w
           → ((key ≡ k) × (c ≡ d)) ⊎ (description_at same known k ≡ Some c)
       by_option None p true t =
           inl ((equality key k).0 t, same_Some c d (sym e ∙ at_last same known key k d true t p))
-      by_option None p false t = absurd (none_or_some (description_at same (known ++ one key d ∷ []) k)
+      by_option None p false t =
+          absurd (none_or_some (description_at same (known ++ one key d ∷ []) k)
           c (at_last same known key k d false t p) e)
       by_option (Some a) p b t = inr (p ∙ sym (at_more same known key k d a p) ∙ e)
 

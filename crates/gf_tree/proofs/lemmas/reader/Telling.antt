@@ -113,7 +113,8 @@ entries_more sets outcomes (m ∷ ms) n =
 
 -- ---- answers after nodes
 
-behind_both : (ns ms : List (Entry Node)) (a : Answer) → behind ns (behind ms a) ≡ behind (ns ++ ms) a
+behind_both : (ns ms : List (Entry Node)) (a : Answer)
+    → behind ns (behind ms a) ≡ behind (ns ++ ms) a
 behind_both ns ms a = ap (λ (m : Result Content Fault). record { input = a.input; machine = m })
     (by a.machine)
   where
@@ -169,7 +170,8 @@ told_goes old new node content tokens sets outcomes q =
     (entry_with (sym sets i).known (sym outcomes i).known node ∷ [])
     (heard q (sym content i) (sym tokens i)))
 
-module _ {T : Type 0} {holds : T → T → Heading → List Told → Type 0} {before : Answer} {from to : T} where
+module _ {T : Type 0} {holds : T → T → Heading → List Told → Type 0} {before : Answer}
+    {from to : T} where
   -- a node that is told is told to what was known before
   pub tells : (q : Position) {old r m new : Reader} {node : Kept} → r.told_sets ≡ old.told_sets
       → r.told_outcomes ≡ old.told_outcomes → Grows old.sets.known r.sets.known
@@ -191,11 +193,13 @@ module _ {T : Type 0} {holds : T → T → Heading → List Told → Type 0} {be
         node = node;
         goes = e ∙ h.goes q ∙ (λ i.
             behind (entry_with (sym ns i).known (sym no i).known node ∷ []) (goes i));
-        placed = subst (λ (k : KnownSets). IsAmong (length k.known) (length new.outcomes.known) node)
+        placed = subst
+            (λ (k : KnownSets). IsAmong (length k.known) (length new.outcomes.known) node)
             (sym s)
             (subst (λ (k : KnownOutcomes). IsAmong (length r.sets.known) (length k.known) node)
             (sym o) placed);
-        told = λ untold heading told holding. subst (λ (x : Told). holds untold to heading (told ++ x ∷ []))
+        told = λ untold heading told holding. subst
+            (λ (x : Told). holds untold to heading (told ++ x ∷ []))
             (λ i. told_node (sym s i).known (sym o i).known (told_sets i) (told_outcomes i) node)
             (h.told untold heading told holding);
         told_sets = ap (λ (x : Reader). x.told_sets) kept ∙ h.told_sets
@@ -238,9 +242,11 @@ placed_at sets outcomes name set outcome s o = record { set = by set s; outcome 
 
 -- ---- the nodes of a file
 
-module _ {T : Type 0} (holds : T → T → Heading → List Told → Type 0) (untold : T) (heading : Heading) where
+module _ {T : Type 0} (holds : T → T → Heading → List Told → Type 0) (untold : T)
+    (heading : Heading) where
   pub told_one_more : {old new : Reader} {from to : T} {nodes : List Kept} {before : Answer}
-      → HasTold (λ t told. holds untold t heading told) old from nodes → (h : Tells holds before old new from to)
+      → HasTold (λ t told. holds untold t heading told) old from nodes
+      → (h : Tells holds before old new from to)
       → HasTold (λ t told. holds untold t heading told) new to (nodes ++ h.node ∷ [])
   told_one_more {old} {new} {from} {to} {nodes} {before} k h = record {
     placed = placed_one_more (length new.sets.known) (length new.outcomes.known) nodes h.node
@@ -272,7 +278,8 @@ module _ {T : Type 0} (holds : T → T → Heading → List Told → Type 0) (un
 
   pub read_one_more : {start : Answer} {old new : Reader} {from to : T}
       → HasRead (λ t told. holds untold t heading told) start NodeDue old from
-      → Tells holds (answer NodeDue old) old new from to → HasRead (λ t told. holds untold t heading told) start NodeDue new to
+      → Tells holds (answer NodeDue old) old new from to
+      → HasRead (λ t told. holds untold t heading told) start NodeDue new to
   read_one_more {start} {old} {new} {from} {to} k h = record {
     nodes = k.nodes ++ h.node ∷ [];
     goes = k.goes

@@ -125,11 +125,13 @@ module _ (f : FileFront) where
   lists key set h new = (f.ends, h, new)
 
   -- an empty list may not end
-  no_entry : (key : SetKey) (set : InformationSet) → InActions f.front key set → IsNewSet f.nodes key
+  no_entry : (key : SetKey) (set : InformationSet) → InActions f.front key set
+      → IsNewSet f.nodes key
       → set.actions ≡ [] → (why : Why) (after : List Token) → why ≡ NoEntry
       → Given f.before (Closing ∷ after) why
   no_entry key set h new none why after e =
-      let listed = subst (λ (xs : List Action). ListsActions f.before key (set_with set.name xs)) none
+      let listed =
+      subst (λ (xs : List Action). ListsActions f.before key (set_with set.name xs)) none
       (lists key set h new) in
       (NoEntry, e, (key, set.name, listed))
 

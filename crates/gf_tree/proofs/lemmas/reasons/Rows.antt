@@ -188,7 +188,8 @@ module _ (before : List Token) where
     node_due : (row : Row) → Stands before row → IsOfRole row (Role.NodeLetter (length players))
         → NodeIsDue before
     node_due row s same =
-        follows before row what.Node s (Bare (codes "t") ∷ []) ((same (codes "t")).1 (inr (inl refl)))
+        follows before row what.Node s (Bare (codes "t") ∷ [])
+        ((same (codes "t")).1 (inr (inl refl)))
 
     by_letter : (row : Row) → Stands before row → IsOfRole row (Role.NodeLetter (length players))
         → IsFor row what.Node

@@ -45,7 +45,8 @@ with_actions set actions = record set { actions = set.actions ++ actions }
 pub no_actions : (set : InformationSet) → with_actions set [] ≡ set
 no_actions set = ap (λ (done : List Action). record set { actions = done }) (append-nil set.actions)
 
-pub more_actions : (set : InformationSet) (label : List ℕ) (p : Option Ratio) (actions : List Action)
+pub more_actions : (set : InformationSet) (label : List ℕ) (p : Option Ratio)
+    (actions : List Action)
     → with_actions (with_action set label p) actions
     ≡ with_actions set (record { label = label; probability = p } ∷ actions)
 more_actions set label p actions = ap (λ (done : List Action). record set { actions = done })
@@ -132,7 +133,8 @@ new_more first ts name label player n set p sum next c r is are h =
 abbrev pub ok_share : Share → Result Share Why
 ok_share s = Ok s
 
-pub shared_found : (c : Content) (name : List ℕ) (key : SetKey) (set : InformationSet) (label : List ℕ)
+pub shared_found : (c : Content) (name : List ℕ) (key : SetKey) (set : InformationSet)
+    (label : List ℕ)
     (o : Result Share Why) (ts : List Token) (r : Content)
     → then_run (shared c name key set label o) (run_on ts) ≡ Ok r → (s : Share) × (o ≡ ok_share s)
     × Reads (NewAction name key (with_action set label (Some s.probability)) s.sum) c ts r

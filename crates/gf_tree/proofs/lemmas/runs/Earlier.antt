@@ -22,13 +22,17 @@ use Rattle.gf_tree.specs.PrefixOrder.{Entry}
 use Rattle.gf_tree.specs.inner.Probability.{Share, share_of, is_one, same_ratio}
 use Rattle.gf_tree.specs.inner.Machine.{Begun, Content, Position, State, after_node, at, begun}
 use Rattle.gf_tree.specs.inner.Machine.{behind_label, behind_outcome, due, may_end, new_set_ends}
-use Rattle.gf_tree.specs.inner.Machine.{node_letter, outcome_ends, outcome_number, paid, personal_node}
-use Rattle.gf_tree.specs.inner.Machine.{player_number, refused, run, same_number, set_ends, set_known}
+use Rattle.gf_tree.specs.inner.Machine.{node_letter, outcome_ends, outcome_number, paid}
+use Rattle.gf_tree.specs.inner.Machine.{personal_node}
+use Rattle.gf_tree.specs.inner.Machine.{player_number, refused, run, same_number, set_ends}
+use Rattle.gf_tree.specs.inner.Machine.{set_known}
 use Rattle.gf_tree.specs.inner.Machine.{set_number, shared, step, then_on, with_node, new_label}
-use Rattle.gf_tree.specs.inner.Machine.Position.{Format, Version, Letter, Title, BeforePlayers, InPlayers}
+use Rattle.gf_tree.specs.inner.Machine.Position.{Format, Version, Letter, Title, BeforePlayers}
+use Rattle.gf_tree.specs.inner.Machine.Position.{InPlayers}
 use Rattle.gf_tree.specs.inner.Machine.Position.{AfterPlayers, NodeDue, ChanceName, PersonalName}
 use Rattle.gf_tree.specs.inner.Machine.Position.{TerminalName, PlayerNumber, SetNumber, NewSetName}
-use Rattle.gf_tree.specs.inner.Machine.Position.{NewSetOpening, NewAction, NewProbability, KnownSetName}
+use Rattle.gf_tree.specs.inner.Machine.Position.{NewSetOpening, NewAction, NewProbability}
+use Rattle.gf_tree.specs.inner.Machine.Position.{KnownSetName}
 use Rattle.gf_tree.specs.inner.Machine.Position.{KnownSetOpening, KnownAction, KnownProbability}
 use Rattle.gf_tree.specs.inner.Machine.Position.{OutcomeNumber, NewOutcomeName, NewOutcomeOpening}
 use Rattle.gf_tree.specs.inner.Machine.Position.{NewPayoff, AfterNewPayoff, KnownOutcomeName}
@@ -69,7 +73,8 @@ module _ (ns : List (Entry Node)) where
         (personal_node (with_front ns c) c.players)
         (cond is_t (Ok (at TerminalName (with_front ns c))) (Err (Expected what.Node))))
         ≡ fronted (cond is_c (Ok (at ChanceName c)) (cond is_p
-        (personal_node c c.players) (cond is_t (Ok (at TerminalName c)) (Err (Expected what.Node)))))
+        (personal_node c c.players)
+        (cond is_t (Ok (at TerminalName c)) (Err (Expected what.Node)))))
     by_letter true is_p is_t = refl
     by_letter false true is_t = personal_more c.players
     by_letter false false true = refl
@@ -137,7 +142,8 @@ module _ (ns : List (Entry Node)) where
     paid_more b n outcome left (Ok p) = refl
 
     outcome_ends_more : (b : Begun) (n : ℕ) (outcome : Outcome)
-        → Ok (outcome_ends (with_front ns c) b n outcome) ≡ fronted (Ok (outcome_ends c b n outcome))
+        → Ok (outcome_ends (with_front ns c) b n outcome) ≡ fronted
+        (Ok (outcome_ends c b n outcome))
     outcome_ends_more b n outcome = ap (λ (d : Content). Ok (at NodeDue d))
         (node_more (record c {
           outcomes = c.outcomes ++ record { key = n; description = outcome } ∷ [];
@@ -147,7 +153,8 @@ module _ (ns : List (Entry Node)) where
       → step q (with_front ns c) t ≡ fronted (step q c t)
   step_more Format c (Bare b) = by_test (pointwise nat_eq b (codes "EFG")) Version c _
   step_more Version c (Bare b) = by_test (pointwise nat_eq b (codes "2")) Letter c _
-  step_more Letter c (Bare b) = by_test (pointwise nat_eq b (codes "R") || pointwise nat_eq b (codes "D")) Title c _
+  step_more Letter c (Bare b) =
+      by_test (pointwise nat_eq b (codes "R") || pointwise nat_eq b (codes "D")) Title c _
   step_more Title c (Text l) = refl
   step_more BeforePlayers c Opening = refl
   step_more InPlayers c (Text l) = refl
@@ -162,25 +169,34 @@ module _ (ns : List (Entry Node)) where
   step_more (SetNumber name player) c (Bare b) = set_more c name player (count_of b)
   step_more (NewSetName name key) c (Text l) = refl
   step_more (NewSetOpening name key label) c Opening = refl
-  step_more (NewAction name key set sum) c (Text l) = label_more c name key.player key.number set sum l
+  step_more (NewAction name key set sum) c (Text l) =
+      label_more c name key.player key.number set sum l
   step_more (NewAction name key set sum) c Closing = new_ends_more c name key set set.actions sum
-  step_more (NewProbability name key set sum label) c (Bare b) = shared_more c name key set label (share_of sum b)
-  step_more (KnownSetName name key set) c (Text l) = by_test (pointwise nat_eq l set.name) (KnownSetOpening (begun name key set) set.actions) c _
-  step_more (KnownSetName name key set) c (Bare b) = outcome_more c (begun name key set) (index_of b)
+  step_more (NewProbability name key set sum label) c (Bare b) =
+      shared_more c name key set label (share_of sum b)
+  step_more (KnownSetName name key set) c (Text l) =
+      by_test (pointwise nat_eq l set.name) (KnownSetOpening (begun name key set) set.actions) c _
+  step_more (KnownSetName name key set) c (Bare b) =
+      outcome_more c (begun name key set) (index_of b)
   step_more (KnownSetOpening b actions) c Opening = refl
   step_more (KnownAction b []) c Closing = refl
-  step_more (KnownAction b (a ∷ actions)) c (Text l) = by_test (pointwise nat_eq l a.label) (behind_label b a.probability actions) c _
-  step_more (KnownProbability b p actions) c (Bare t) = same_more (KnownAction b actions) c p (number_of t)
+  step_more (KnownAction b (a ∷ actions)) c (Text l) =
+      by_test (pointwise nat_eq l a.label) (behind_label b a.probability actions) c _
+  step_more (KnownProbability b p actions) c (Bare t) =
+      same_more (KnownAction b actions) c p (number_of t)
   step_more (OutcomeNumber b) c (Bare t) = outcome_more c b (index_of t)
   step_more (NewOutcomeName b n) c (Text l) = refl
   step_more (NewOutcomeOpening b n label) c Opening = refl
   step_more (NewPayoff b n outcome zero) c Closing = outcome_ends_more c b n outcome
-  step_more (NewPayoff b n outcome (suc left)) c (Bare t) = paid_more c b n outcome left (number_of t)
+  step_more (NewPayoff b n outcome (suc left)) c (Bare t) =
+      paid_more c b n outcome left (number_of t)
   step_more (AfterNewPayoff b n outcome zero) c Comma = refl
   step_more (AfterNewPayoff b n outcome zero) c Closing = outcome_ends_more c b n outcome
   step_more (AfterNewPayoff b n outcome (suc left)) c Comma = refl
-  step_more (AfterNewPayoff b n outcome (suc left)) c (Bare t) = paid_more c b n outcome left (number_of t)
-  step_more (KnownOutcomeName outcome) c (Text l) = by_test (pointwise nat_eq l outcome.name) (KnownOutcomeOpening outcome.payoffs) c _
+  step_more (AfterNewPayoff b n outcome (suc left)) c (Bare t) =
+      paid_more c b n outcome left (number_of t)
+  step_more (KnownOutcomeName outcome) c (Text l) =
+      by_test (pointwise nat_eq l outcome.name) (KnownOutcomeOpening outcome.payoffs) c _
   step_more (KnownOutcomeName outcome) c (Bare b) = due_more c c.due b
   step_more (KnownOutcomeOpening ps) c Opening = refl
   step_more (KnownPayoff []) c Closing = refl
@@ -188,7 +204,8 @@ module _ (ns : List (Entry Node)) where
   step_more (AfterKnownPayoff []) c Comma = refl
   step_more (AfterKnownPayoff []) c Closing = refl
   step_more (AfterKnownPayoff (p ∷ ps)) c Comma = refl
-  step_more (AfterKnownPayoff (p ∷ ps)) c (Bare t) = same_more (AfterKnownPayoff ps) c p (number_of t)
+  step_more (AfterKnownPayoff (p ∷ ps)) c (Bare t) =
+      same_more (AfterKnownPayoff ps) c p (number_of t)
   step_more q c t = refl
 
   run_more : (end : ℕ) (q : Position) (c : Content) (ls : List Lexeme)

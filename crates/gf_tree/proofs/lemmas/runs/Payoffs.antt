@@ -262,7 +262,8 @@ known_found true _ (p ∷ ps) c r e = absurd cc
 known_found false _ [] c r e = absurd cc
 known_found false _ (p ∷ ps) c r e = absurd cc
 
-pub known_step : (may : Bool) (t : List ℕ) (p : Ratio) (ps : List Ratio) (c : Content) (ts : List Token)
+pub known_step : (may : Bool) (t : List ℕ) (p : Ratio) (ps : List Ratio) (c : Content)
+    (ts : List Token)
     → IsNumber t p
     → run_tokens (known_at may (p ∷ ps)) c (Bare t ∷ ts) ≡ run_tokens (AfterKnownPayoff ps) c ts
 known_step true t p ps c ts is =

@@ -126,7 +126,8 @@ module _ (players : List (List (ℕ × ℕ))) (entries : List Entry) (actions : 
         ≡ with_pending_set (stored_sets entries actions from) (set_of new.player new.number)
         (label_of new.name) =
         λ i. record { known = known i; pending = none i } in
-        rw (is, cut) (made ∙ ap (λ (k : KnownSets). with_pending_set k (set_of new.player new.number)
+        rw (is, cut)
+        (made ∙ ap (λ (k : KnownSets). with_pending_set k (set_of new.player new.number)
         (label_of new.name)) view)
 
     module _ (after : List (List (ℕ × ℕ)))

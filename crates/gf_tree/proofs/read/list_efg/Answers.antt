@@ -48,7 +48,8 @@ returns-in_err-nodes-clause-judged c =
     ∙ c.in_ok-begin.ensures.machine)))
 
 pub into_listed_game-requires-clause-placed : goal.into_listed_game-requires-clause-placed
-into_listed_game-requires-clause-placed c = all_placed (answer NodeDue c.begin.new.self) c.nodes.new.self
+into_listed_game-requires-clause-placed c =
+    all_placed (answer NodeDue c.begin.new.self) c.nodes.new.self
     c.nodes.new.to (c.in_ok-nodes.ensures.machine [] c.new-nodes.ensures)
 
 pub into_listed_game-requires-clause-read : goal.into_listed_game-requires-clause-read
@@ -72,7 +73,8 @@ returns-clause-spelled c =
     ∙ c.in_ok-begin.ensures.machine)
     ∙ all_read (answer NodeDue c.begin.new.self) c.nodes.new.self c.nodes.new.to
     (c.in_ok-nodes.ensures.machine [] c.new-nodes.ensures) in
-    subst (SpellsGame c.args.input.now) (sym c.into_listed_game.ensures) (read_spells c.args.input.now
+    subst (SpellsGame c.args.input.now) (sym c.into_listed_game.ensures)
+    (read_spells c.args.input.now
     c.new-reader.result.tokens.ahead (content_with c.nodes.new.self c.nodes.new.to) n.spelled e)
 
 pub returns-clause-only : goal.returns-clause-only

@@ -11,7 +11,8 @@ pub returns-in_err-last-clause-only : goal.returns-in_err-last-clause-only
 returns-in_err-last-clause-only r c =
     let n = c.new-reader.ensures in
     refused_why c.in_err-last.field-0.0 _ c.from_residual.result (search rules) (λ g spells.
-    answer_only c.args.input.now c.new-reader.result.tokens.ahead c.in_err-last.field-0.0 g n.spelled
+    answer_only c.args.input.now c.new-reader.result.tokens.ahead c.in_err-last.field-0.0 g
+    n.spelled
     (carried c.in_err-last.ensures.machine
     (heard_begun c.new-reader.result c.args.input.now n.input n.content))
     spells)
@@ -51,7 +52,8 @@ returns-clause-told r c =
     let n = c.new-reader.ensures in
     let u = c.in_ok-last.ensures.unknown in
     on_ok _ _ c.nodes.result
-    (c.nodes.ensures.machine c.args.to.now c.in_ok-tell_heading.ensures) (told_game c.args.input.now c.new-reader.result.tokens.ahead
+    (c.nodes.ensures.machine c.args.to.now c.in_ok-tell_heading.ensures)
+    (told_game c.args.input.now c.new-reader.result.tokens.ahead
     c.begin.new.self (record {
       spelled = n.spelled;
       goes = heard_begun c.new-reader.result c.args.input.now n.input n.content

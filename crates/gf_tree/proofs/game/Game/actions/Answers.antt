@@ -6,21 +6,24 @@ use Rattle.gf_tree.proofs.game.Game.actions.Goals as goal
 
 pub returns-then-set-eq0 : goal.returns-then-set-eq0
 returns-then-set-eq0 c =
-    no_actions _ _ _ _ (kept_there c.self.inside.sets.known c.self.inside.outcomes.known c.self.inside.nodes.items
+    no_actions _ _ _ _
+    (kept_there c.self.inside.sets.known c.self.inside.outcomes.known c.self.inside.nodes.items
     c.args.self.now.tree c.args.at c.index.result.now c.self.invariant.nodes_are
     (ap (λ (g : Game). g.tree) c.self.view_is) c.requires c.index.ensures)
     c.args.self.now c.if-set-eq0.true
 
 pub actions-requires : goal.actions-requires
 actions-requires c =
-    set_below _ _ _ _ (kept_there c.self.inside.sets.known c.self.inside.outcomes.known c.self.inside.nodes.items
+    set_below _ _ _ _
+    (kept_there c.self.inside.sets.known c.self.inside.outcomes.known c.self.inside.nodes.items
     c.args.self.now.tree c.args.at c.index.result.now c.self.invariant.nodes_are
     (ap (λ (g : Game). g.tree) c.self.view_is) c.requires c.index.ensures)
     c.if-set-eq0.false
 
 pub returns : goal.returns
 returns c =
-    are_actions _ _ _ _ (kept_there c.self.inside.sets.known c.self.inside.outcomes.known c.self.inside.nodes.items
+    are_actions _ _ _ _
+    (kept_there c.self.inside.sets.known c.self.inside.outcomes.known c.self.inside.nodes.items
     c.args.self.now.tree c.args.at c.index.result.now c.self.invariant.nodes_are
     (ap (λ (g : Game). g.tree) c.self.view_is) c.requires c.index.ensures)
     c.args.self.now _ (its_game _ _ c.self.invariant.is_game c.self.view_is)

@@ -12,7 +12,8 @@ returns-clause-braced_payoff_again c =
     parts)
 
 pub returns-clause-after_braced_payoff : goal.returns-clause-after_braced_payoff
-returns-clause-after_braced_payoff c = λ f n ps h new fewer. obeys (after_new_payoff f n ps h new fewer)
+returns-clause-after_braced_payoff c =
+    λ f n ps h new fewer. obeys (after_new_payoff f n ps h new fewer)
 
 pub returns-clause-after_braced_payoff_again : goal.returns-clause-after_braced_payoff_again
 returns-clause-after_braced_payoff_again c =

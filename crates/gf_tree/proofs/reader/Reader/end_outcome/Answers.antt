@@ -10,7 +10,8 @@ use Rattle.gf_tree.proofs.lemmas.reader.Steps.{wants_memory}
 use Rattle.gf_tree.proofs.lemmas.reader.Telling.{grows_same, placed_at, tells}
 use Rattle.gf_tree.proofs.reader.Reader.end_outcome.Goals as goal
 
-pub returns-in_default-keep_outcome-clause-machine : goal.returns-in_default-keep_outcome-clause-machine
+pub returns-in_default-keep_outcome-clause-machine :
+    goal.returns-in_default-keep_outcome-clause-machine
 returns-in_default-keep_outcome-clause-machine g c =
     wants_memory c.in-Some.ensures.place c.at.ensures NodeDue
     (with_node (with_outcome (content_of c.args.self.now) c.args.number
@@ -31,7 +32,8 @@ returns-in_default-tell-clause-machine g c =
 pub returns-clause-machine : goal.returns-clause-machine
 returns-clause-machine g c =
     let kept = c.in-Ok.ensures.kept in
-    tells NodeDue (ap (λ (r : Reader). r.told_sets) kept) (ap (λ (r : Reader). r.told_outcomes) kept)
+    tells NodeDue (ap (λ (r : Reader). r.told_sets) kept)
+    (ap (λ (r : Reader). r.told_outcomes) kept)
     (grows_same (sym (ap (λ (r : Reader). r.sets.known) kept))) c.in-Ok.ensures.grows
     (placed_at (length c.keep_outcome.new.self.sets.known)
     (length c.keep_outcome.new.self.outcomes.known) (label_of c.args.node) c.args.set

@@ -25,5 +25,6 @@ returns-clause-machine c = λ node.
 
 pub returns-in_err-sum-clause-machine : goal.returns-in_err-sum-clause-machine
 returns-in_err-sum-clause-machine c = λ node.
-    fails_back {r = c.from_residual.result} _ (search rules) (carried (c.in_err-sum.ensures.machine node c.args.number
+    fails_back {r = c.from_residual.result} _ (search rules)
+    (carried (c.in_err-sum.ensures.machine node c.args.number
     (label_of c.in-Some.name.label)) (search rules))

@@ -11,7 +11,8 @@ returns-in-Some-described-clause-machine c = λ node.
     let content = content_of c.args.self.now in
     let key = set_of c.args.player c.in-Some-count.number in
     let tokens = c.index.new.self in
-    set_again content node c.args.player c.in-Some-count.number _ _ _ c.args.self.now.tokens tokens _
+    set_again content node c.args.player c.in-Some-count.number _ _ _ c.args.self.now.tokens tokens
+    _
     (taken c.in-Some.ensures.next c.in-Some.ensures.input)
     (c.in-Some-count.ensures ∙ ap positive c.in-Some.ensures.index)
     (set_known_again content node key c.in-Some-described.set.place tokens tokens _

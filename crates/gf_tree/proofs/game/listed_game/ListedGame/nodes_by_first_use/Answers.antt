@@ -16,7 +16,8 @@ returns c =
     let outcomes = c.self.inside.outcomes.known in
     let listed = c.self.invariant in
     c.new.ensures
-    ∙ ap (λ (nodes : List Kept). map (λ t. t.node) (told_from sets outcomes 0 0 nodes)) c.iter.ensures
+    ∙ ap (λ (nodes : List Kept). map (λ t. t.node) (told_from sets outcomes 0 0 nodes))
+    c.iter.ensures
     ∙ told_are_given _ listed.is_game c.self.inside.nodes
     (flatten_grown no_node (entries_with sets outcomes c.self.inside.nodes) listed.fills)
     listed.placed

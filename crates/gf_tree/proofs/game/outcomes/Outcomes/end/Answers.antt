@@ -22,4 +22,5 @@ invariant_of-self-2 c =
     outcomes_stored o.numbers o.entries.items o.payoffs.items o.from c.args.self.now
     c.self.invariant c.self.view_is new c.push_reserved.new.self.items (search rules)
     c.in_ok-place.place c.len-end.result (omega (arith, c.in_ok-place.ensures.ok)) (omega arith)
-    refl (omega (arith, c.self.invariant.stretches.within, c.in-Ok.ensures)) c.insert.new.self (search rules) (omega (arith, c.in_ok-place.ensures.ok))
+    refl (omega (arith, c.self.invariant.stretches.within, c.in-Ok.ensures)) c.insert.new.self
+    (search rules) (omega (arith, c.in_ok-place.ensures.ok))

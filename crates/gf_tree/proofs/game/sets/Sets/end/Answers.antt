@@ -34,15 +34,18 @@ invariant_of-self-2 c =
       name = c.args.name;
       start = c.in_ok-start.start;
     } in
-    let Holds : List Held → Type 0 = λ actions. HoldActions actions s.from new.start (end_of new) in (
+    let Holds : List Held → Type 0 =
+    λ actions. HoldActions actions s.from new.start (end_of new) in (
       are_stored s.players.items s.entries.items s.actions.items s.from c.self.invariant.0 new
           c.max-self-inside.result
           (subst Holds c.deref-3.ensures.value c.in_ok-start.ensures) (search rules)
-          c.note.new.players.items c.push_reserved.new.self.items c.truncate.new.self.items c.in_ok-place.place
+          c.note.new.players.items c.push_reserved.new.self.items c.truncate.new.self.items
+          c.in_ok-place.place
           (search rules) (search rules) (omega (arith, c.in_ok-place.ensures.ok))
           c.note.ensures.others c.in_ok-among.ensures.own c.in_ok-among.ensures.count
           (omega (arith, c.in_ok-place.ensures.ok)),
-      counts_then s.entries.items c.push_reserved.new.self.items s.counts.items c.push_reserved-2.new.self.items
+      counts_then s.entries.items c.push_reserved.new.self.items s.counts.items
+          c.push_reserved-2.new.self.items
           new c.self.invariant.1 (search rules) (search rules),
     )
 
