@@ -13,7 +13,9 @@ pub mod Merges
 pub mod NodeTerms
 pub mod OrderedShares
 pub mod OverOneDenominator
+pub mod PairRows
 pub mod PathsTold
+pub mod PayingTerms
 pub mod ReachedValues
 pub mod RowsMade
 pub mod SettledRows

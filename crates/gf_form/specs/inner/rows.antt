@@ -5,7 +5,9 @@ pub mod FitsTable
 pub mod GameDigits
 pub mod KeptNodes
 pub mod ListedNodes
+pub mod Pairs
 pub mod PathsLeft
+pub mod Paying
 pub mod ProfileRows
 pub mod ReachedNodes
 pub mod SettledRows

@@ -1,6 +1,7 @@
 //! The terms of the nodes that choices can reach.
 
-ghost use Rattle.std.specs.Prelude.{◌≡◌, ◌<◌, ◌≤◌, ℕ, IfOk, IfSome, List, OnOk, length, map};
+ghost use Rattle.std.specs.Prelude.{◌≡◌, ◌<◌, ◌≤◌, ℕ, IfOk, IfSome, IsTrue, List, OnOk, length};
+ghost use Rattle.std.specs.Prelude.{map};
 ghost use Rattle.std.specs.Int.{◌∣◌};
 ghost use Rattle.std.specs.List.Sorted.{IsNonDecreasingBy};
 ghost use Rattle.gf_fraction.specs.Ratio.{IsWithin};
@@ -9,6 +10,7 @@ ghost use Rattle.gf_form.specs.inner.rows.Entries.{AreOrdered, EndsBelow, IsShap
 ghost use Rattle.gf_form.specs.inner.rows.KeptNodes.{paid_reached};
 ghost use Rattle.gf_form.specs.inner.rows.ListedNodes.{AreTermsOf, IsShareIn, IsTermMore};
 ghost use Rattle.gf_form.specs.inner.values.PaidRows.{rows_of};
+ghost use Rattle.gf_form.specs.inner.rows.Paying.{FitOver};
 ghost use Rattle.gf_form.specs.inner.values.Rows.{ArePaid};
 ghost use Rattle.gf_form.specs.Strategies.{choices_by};
 ghost use Rattle.gf_form.specs.declared.rows.paths.Reached.{Reached};
@@ -149,7 +151,9 @@ impl Terms {
     }
 
     /// Whether all are over this denominator, and fit together.
-    fn fit_over(&self, den: u128) -> bool {
+    pub(crate) fn fit_over(&self, den: u128) -> bool
+        ensures { IsTrue result → FitOver den self.now.heads.items }
+    {
         let mut size: u128 = 0;
         for head in &self.heads {
             let Some(sum) = size.checked_add(head.size) else {
@@ -160,7 +164,7 @@ impl Terms {
             }
             size = sum;
         }
-        den <= LARGEST
+        den > 0 && den <= LARGEST
     }
 }
 

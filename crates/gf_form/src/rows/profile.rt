@@ -13,7 +13,6 @@ ghost use Rattle.gf_form.specs.StrategicForm.{ArePayoffsAt};
 use crate::fault::FormFault;
 use crate::rows::digits::Digits;
 use crate::rows::listed::game_terms;
-use crate::rows::terms::Terms;
 use crate::rows::written::{Asked, Run, Written};
 use crate::strategies::counts::Counts;
 use crate::strategies::picked::{Picked, full_number_of};
@@ -66,11 +65,11 @@ pub(crate) fn profile_rows(
     };
     let mut written = Written::new(alloc, counts, profiles, players)?;
     let Some(digits) = Digits::new(alloc, counts)? else {
-        let unknown = Terms::unknown(alloc, players)?;
-        written.push_alike(&asked, &unknown, 0, profiles)?;
+        written.push_all_walked(&asked, 0, profiles)?;
         return Ok(written.rows);
     };
-    let terms = game_terms(alloc, game, &digits, &payoffs)?;
+    let listed = game_terms(alloc, game, &digits, &payoffs)?;
+    let terms = listed.paying(alloc)?;
     let run = Run {
         first: 0,
         count: counts.profiles.count,

@@ -2,7 +2,7 @@
 //! of the choices.
 
 ghost use Rattle.std.specs.Prelude.{◌≡◌, ◌+◌, ◌*◌, ◌<◌, ◌≤◌, ◌+ℤ◌, ◌*ℤ◌, ◌++◌, [], ◌∷◌, ℕ, ℤ};
-ghost use Rattle.std.specs.Prelude.{IfOk, IsTrue, List, OnOk, get_or, length, pos, true};
+ghost use Rattle.std.specs.Prelude.{IfOk, List, OnOk, get_or, length, pos, true};
 ghost use Rattle.std.specs.List.{AllByRecursion};
 ghost use Rattle.gf_fraction.specs.Ratio.{IsWithin};
 ghost use Rattle.gf_form.specs.declared.rows.terms.Head.{Head};
@@ -44,27 +44,6 @@ impl Terms {
             heads: Vec::new(alloc),
             numbers: Vec::new(alloc),
         }
-    }
-
-    /// A term of which nothing is known.
-    pub(crate) fn unknown(alloc: Global, players: usize) -> Result<Terms, AllocError>
-        ensures unknown { IfOk result (λ terms. (h : Head) × (h.demands ≡ 0) × (h.den ≡ 0)
-            × (terms.heads.items ≡ h ∷ [])) }
-        ensures players { IfOk result (λ terms. terms.players ≡ players) }
-        ensures shaped { IfOk result IsShaped }
-    {
-        let mut heads = Vec::new(alloc);
-        heads.push(Head {
-            demands: 0,
-            den: 0,
-            size: 0,
-        })?;
-        let numbers = vec![in alloc; 0; players]?;
-        Ok(Terms {
-            players,
-            heads,
-            numbers,
-        })
     }
 
     /// No terms are left.

@@ -2,23 +2,23 @@
 
 ghost use Rattle.std.specs.Prelude.{◌≡◌, ◌+◌, ◌*◌, ◌<◌, ◌≤◌, ◌^◌, [], ◌∷◌, ℕ, IfOk, IfSome};
 ghost use Rattle.std.specs.Prelude.{IsErrOf, OnOk};
-ghost use Rattle.std.specs.Prelude.{get_or, length, map, pos};
-ghost use Rattle.gf_fraction.specs.Ratio.{HasValue, IsFraction, IsWithin};
+ghost use Rattle.std.specs.Prelude.{get_or, length, map, true};
 ghost use Rattle.gf_nfg.specs.Profiles.{product};
 ghost use Rattle.gf_form.specs.inner.rows.Demands.{spans};
-ghost use Rattle.gf_form.specs.inner.rows.Entries.{AreOrdered, IsShaped, entries};
+ghost use Rattle.gf_form.specs.inner.rows.Entries.{AreOrdered, IsShaped};
 ghost use Rattle.gf_form.specs.inner.values.PaidRows.{rows_of};
 ghost use Rattle.gf_form.specs.inner.strategies.Picked.{IsPicked, numbers_in, picked_profiles};
 ghost use Rattle.gf_form.specs.Refusal.{HasValues, IsFirstWithout};
 ghost use Rattle.gf_form.specs.inner.values.Rows.{ArePaid};
-ghost use Rattle.gf_form.specs.inner.rows.SettledRows.{AreWritten, HasRowOver, IsAsked, IsRowOver};
-ghost use Rattle.gf_form.specs.inner.rows.SettledRows.{SettleRows, Settles};
+ghost use Rattle.gf_form.specs.inner.rows.Pairs.{IsPaidPair};
+ghost use Rattle.gf_form.specs.inner.rows.SettledRows.{AreWritten, IsAsked, SettleRows};
 ghost use Rattle.gf_form.specs.StrategicForm.{ArePayoffsAt};
 ghost use Rattle.gf_form.specs.Strategies.{strategies_at};
 ghost use Rattle.gf_form.specs.inner.rows.GameDigits.{HaveSteps, actions_at};
 
 use crate::fault::{EvalFault, FormFault};
 use crate::rows::digits::Digit;
+use crate::rows::pairs::{Pair, count_near};
 use crate::rows::terms::Terms;
 use crate::strategies::counts::Counts;
 use crate::strategies::picked::Picked;
@@ -29,9 +29,6 @@ use crate::values::stack::Values;
 use gf_fraction::Fraction;
 use gf_tree::Game;
 use std::alloc::{AllocError, Global};
-
-/// The greatest denominator, and the greatest size.
-const LARGEST: u128 = i128::MAX as u128;
 
 /// The profiles of the strategies that are picked from a game.
 #[derive(Drop)]
@@ -65,62 +62,6 @@ pub(crate) struct Written {
     pub values: Values,
     /// Lists whose room is used again.
     pub spare: Vec<Terms>,
-}
-
-/// The denominator of the row that terms which demand nothing come to; `None` if it is not known to
-/// fit.
-fn row_denominator(terms: &Terms) -> Option<u128>
-    requires { IsShaped terms.now }
-    ensures { IfSome result (λ den. IsRowOver den terms.now) }
-{
-    let count = terms.heads.len();
-    if count == 0 {
-        return Some(1);
-    }
-    let head = terms.heads[0];
-    if count > 1 || head.den == 0 || head.den > LARGEST || head.size > LARGEST {
-        return None;
-    }
-    Some(head.den)
-}
-
-/// The number at a place, from 0; zero if there is none.
-fn number_at(numbers: &[i128], place: usize) -> i128
-    ensures { result ≡ get_or numbers.now place (pos 0) }
-{
-    match numbers.get(place) {
-        Some(number) => *number,
-        None => 0,
-    }
-}
-
-/// A whole number over a denominator.
-fn over(den: u128, whole: i128) -> Fraction
-    requires above_zero { 0 < den }
-    requires den_within { den < 2 ^ 127 }
-    requires within { IsWithin whole }
-    ensures fraction { IsFraction result }
-    ensures value { HasValue result whole den }
-{
-    Fraction::new(whole, den).unwrap()
-}
-
-/// Appends a row of these numbers over a denominator; zeros if there are none.
-fn push_row_over(
-    den: u128,
-    numbers: &[i128],
-    players: usize,
-    rows: &mut Vec<Fraction>,
-) -> Result<(), AllocError>
-    requires above { 0 < den }
-    requires within { den < 2 ^ 127 }
-    requires numbers { (k : ℕ) → IsWithin (get_or numbers.now k (pos 0)) }
-    ensures { OnOk result (HasRowOver den players numbers.now rows.old.items rows.new.items) }
-{
-    for place in 0..players {
-        rows.push(over(den, number_at(numbers, place)))?;
-    }
-    Ok(())
 }
 
 /// What each player is paid at the profile with this number, from 0, by a walk through the tree. The
@@ -172,20 +113,11 @@ impl Written {
         })
     }
 
-    /// Appends the row of the profile at this place, from 0, which these terms come to.
-    fn push_row(
-        &mut self,
-        asked: &Asked<'_, '_, '_>,
-        terms: &Terms,
-        before: u32,
-    ) -> Result<(), FormFault>
+    /// Appends the row of the profile at this place, from 0, by a walk.
+    fn push_walked(&mut self, asked: &Asked<'_, '_, '_>, before: u32) -> Result<(), FormFault>
         requires asked { IsAsked asked.now }
         requires within { before < length (picked_profiles (numbers_in asked.now.picked.now)) }
         requires written { AreWritten asked.now before self.old }
-        requires shaped { IsShaped terms.now }
-        requires players { terms.now.players ≡ length asked.now.game.now.players }
-        requires settles { Settles asked.now.game.now (get_or asked.now.numbers.now before 0) [] []
-            (entries terms.now) }
         ensures written { OnOk result (AreWritten asked.now (before + 1) self.new) }
         ensures few { IsErrOf result FormFault.TooManyProfiles → ⊥ }
         ensures overflow { (position : ℕ) → IsErrOf result (FormFault.Overflow position)
@@ -193,10 +125,6 @@ impl Written {
             (picked_profiles (numbers_in asked.now.picked.now)) position }
     {
         let _players = asked.game.players();
-        if let Some(den) = row_denominator(terms) {
-            push_row_over(den, &terms.numbers, terms.players, &mut self.rows)?;
-            return Ok(());
-        }
         write_strategies(asked.counts, asked.picked, before, &mut self.strategies)?;
         match row_by_walk(
             self.alloc,
@@ -219,12 +147,10 @@ impl Written {
         }
     }
 
-    /// Appends the rows of the profiles from one place up to another, each of which these terms
-    /// come to.
-    pub(crate) fn push_alike(
+    /// Appends the rows of the profiles from one place up to another, each by a walk.
+    pub(crate) fn push_all_walked(
         &mut self,
         asked: &Asked<'_, '_, '_>,
-        terms: &Terms,
         from: u32,
         to: u32,
     ) -> Result<(), FormFault>
@@ -232,10 +158,6 @@ impl Written {
         requires places { from ≤ to }
         requires within { to ≤ length (picked_profiles (numbers_in asked.now.picked.now)) }
         requires written { AreWritten asked.now from self.old }
-        requires shaped { IsShaped terms.now }
-        requires players { terms.now.players ≡ length asked.now.game.now.players }
-        requires settles { (i : ℕ) → from ≤ i → i < to → Settles asked.now.game.now
-            (get_or asked.now.numbers.now i 0) [] [] (entries terms.now) }
         ensures written { OnOk result (AreWritten asked.now to self.new) }
         ensures few { IsErrOf result FormFault.TooManyProfiles → ⊥ }
         ensures overflow { (position : ℕ) → IsErrOf result (FormFault.Overflow position)
@@ -243,12 +165,75 @@ impl Written {
             (picked_profiles (numbers_in asked.now.picked.now)) position }
     {
         for before in from..to {
-            self.push_row(asked, terms, before)?;
+            self.push_walked(asked, before)?;
         }
         Ok(())
     }
 
-    /// A list with the room of one that is not used any more.
+    /// Appends the row of the profile at this place, from 0: that of a pair, if there is one and its
+    /// numbers fit, and otherwise one by a walk.
+    fn push_row(
+        &mut self,
+        asked: &Asked<'_, '_, '_>,
+        pair: Option<Pair<'_>>,
+        players: usize,
+        before: u32,
+    ) -> Result<(), FormFault>
+        requires asked { IsAsked asked.now }
+        requires within { before < length (picked_profiles (numbers_in asked.now.picked.now)) }
+        requires written { AreWritten asked.now before self.old }
+        requires players { players ≡ length asked.now.game.now.players }
+        requires paid { IfSome pair
+            (IsPaidPair asked.now.game.now (get_or asked.now.numbers.now before 0)) }
+        ensures written { OnOk result (AreWritten asked.now (before + 1) self.new) }
+        ensures few { IsErrOf result FormFault.TooManyProfiles → ⊥ }
+        ensures overflow { (position : ℕ) → IsErrOf result (FormFault.Overflow position)
+            → IsFirstWithout (HasValues asked.now.game.now)
+            (picked_profiles (numbers_in asked.now.picked.now)) position }
+    {
+        let _players = asked.game.players();
+        if let Some(pair) = pair {
+            if pair.push_to(players, &mut self.rows)? {
+                return Ok(());
+            }
+        }
+        self.push_walked(asked, before)
+    }
+
+    /// Appends the rows of these profiles, by what the terms come to at the choice for the only digit.
+    fn push_last(
+        &mut self,
+        asked: &Asked<'_, '_, '_>,
+        terms: &Terms,
+        run: Run,
+    ) -> Result<(), FormFault>
+        requires asked { IsAsked asked.now }
+        requires places { run.from ≤ run.to }
+        requires within { run.to ≤ length (picked_profiles (numbers_in asked.now.picked.now)) }
+        requires written { AreWritten asked.now run.from self.old }
+        requires shaped { IsShaped terms.now }
+        requires ordered { AreOrdered terms.now }
+        requires players { terms.now.players ≡ length asked.now.game.now.players }
+        requires settles { (actions : ℕ) × SettleRows asked.now (actions ∷ []) terms.now run }
+        ensures written { OnOk result (AreWritten asked.now run.to self.new) }
+        ensures few { IsErrOf result FormFault.TooManyProfiles → ⊥ }
+        ensures overflow { (position : ℕ) → IsErrOf result (FormFault.Overflow position)
+            → IsFirstWithout (HasValues asked.now.game.now)
+            (picked_profiles (numbers_in asked.now.picked.now)) position }
+    {
+        let free = count_near(&terms.heads, 1, 0);
+        let mut end = free;
+        for before in run.from..run.to {
+            let action = u64::from(asked.numbers[before as usize] - run.first) + 1;
+            let start = count_near(&terms.heads, action, end);
+            end = count_near(&terms.heads, action + 1, start);
+            let pair = terms.pair(free, start, end);
+            self.push_row(asked, pair, terms.players, before)?;
+        }
+        Ok(())
+    }
+
+    /// A list to be filled anew, with the room of one that is not used any more.
     fn list(&mut self, players: usize) -> Terms
         ensures players { result.players ≡ players }
         ensures rows { self.new.rows ≡ self.old.rows }
@@ -256,7 +241,6 @@ impl Written {
     {
         match self.spare.pop() {
             Some(mut list) => {
-                list.clear();
                 list.players = players;
                 list
             }
@@ -290,8 +274,11 @@ impl Written {
             (picked_profiles (numbers_in asked.now.picked.now)) position }
     {
         let [slowest, faster @ ..] = digits else {
-            return self.push_alike(asked, terms, run.from, run.to);
+            return self.push_all_walked(asked, run.from, run.to);
         };
+        if faster.is_empty() {
+            return self.push_last(asked, terms, run);
+        }
         let mut level = self.list(terms.players);
         let mut rest = run;
         while rest.from < rest.to {
@@ -316,6 +303,7 @@ impl Terms {
         faster: &[Digit],
         run: Run,
     ) -> Result<Run, AllocError>
+        requires asked { IsAsked asked.now }
         requires some { run.from < run.to }
         requires within { run.to ≤ length asked.now.numbers.now }
         requires shaped { IsShaped terms.now }
@@ -340,8 +328,9 @@ impl Terms {
         let before = (asked.numbers[run.from as usize] - run.first) / count;
         let first = run.first + before * count;
         self.merge(terms, slowest.step, before + 1)?;
-        let to = run_end(asked.numbers, run.from + 1, run.to, first, count);
         let from = run.from;
+        let are_places = asked.picked.are_all;
+        let to = run_end(asked.numbers, are_places, from + 1, run.to, first, count);
         Ok(Run {
             first,
             count,
@@ -352,8 +341,11 @@ impl Terms {
 }
 
 /// The place after the last number, between one place and another, in the run of numbers that are
-/// at least `first` and exceed it by less than `count`.
-fn run_end(numbers: &[u32], from: u32, to: u32, first: u32, count: u32) -> u32
+/// at least `first` and exceed it by less than `count`. If each number is its place, none of them
+/// has to be read.
+fn run_end(numbers: &[u32], are_places: bool, from: u32, to: u32, first: u32, count: u32) -> u32
+    requires places { are_places ≡ true → (i : ℕ) → i < length numbers.now
+        → get_or numbers.now i 0 ≡ i }
     requires from { from ≤ to }
     requires to { to ≤ length numbers.now }
     ensures onward { from ≤ result }
@@ -361,6 +353,9 @@ fn run_end(numbers: &[u32], from: u32, to: u32, first: u32, count: u32) -> u32
     ensures run { (i : ℕ) → from ≤ i → i < result → (first ≤ get_or numbers.now i 0)
         × (get_or numbers.now i 0 < first + count) }
 {
+    if are_places && first <= from {
+        return first.saturating_add(count).min(to).max(from);
+    }
     let mut end = from;
     while end < to {
         let number = numbers[end as usize];

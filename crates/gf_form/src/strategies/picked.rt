@@ -1,6 +1,7 @@
 //! The strategies of each player that are picked for a table.
 
-ghost use Rattle.std.specs.Prelude.{◌≡◌, ◌<◌, ℕ, [], false, get_or, length, map, IfOk, MatchOption};
+ghost use Rattle.std.specs.Prelude.{◌≡◌, ◌<◌, ℕ, [], false, true, get_or, length, map, IfOk};
+ghost use Rattle.std.specs.Prelude.{MatchOption};
 ghost use Rattle.std.specs.List.{AllByRecursion};
 ghost use Rattle.gf_nfg.specs.Limit.{profile_limit};
 ghost use Rattle.gf_nfg.specs.Profiles.{numbers_from, product};
@@ -82,9 +83,10 @@ impl Picked {
 pub(crate) fn full_number_of(counts: &Counts, picked: &Picked, profile: u32) -> u32
     requires within { profile < picked.now.profiles.count }
     requires picked { (g : Game) × AreCounts g counts.now × IsPicked g picked.now }
-    ensures { (g : Game) → AreCounts g counts.now → IsPicked g picked.now
+    ensures number { (g : Game) → AreCounts g counts.now → IsPicked g picked.now
         → (result < length (full_profiles g)) × (get_or (full_profiles g) result []
         ≡ get_or (picked_profiles (numbers_in picked.now)) profile []) }
+    ensures place { picked.now.are_all ≡ true → result ≡ profile }
 {
     if picked.are_all {
         return profile;

@@ -25,7 +25,7 @@ use Rattle.gf_form.specs.declared.rows.sums.Scale.{Scale}
 use Rattle.gf_form.specs.declared.rows.terms.Head.{Head}
 use Rattle.gf_form.specs.declared.rows.terms.Terms.{Terms}
 
-past : (xs : List ℤ) (k : ℕ) → length xs ≤ k → get_or xs k (pos 0) ≡ pos 0
+pub past : (xs : List ℤ) (k : ℕ) → length xs ≤ k → get_or xs k (pos 0) ≡ pos 0
 past [] zero h = refl
 past [] (suc k) h = refl
 past (x ∷ xs) zero h = absurd (omega (arith, h))

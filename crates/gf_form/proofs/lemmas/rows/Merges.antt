@@ -12,7 +12,7 @@ use Rattle.std.proofs.lemmas.List.{take_rest}
 use Rattle.std.proofs.lemmas.List.Sorted.{IsNonDecreasingBy-push, IsNonDecreasingBy-short}
 use Rattle.gf_fraction.specs.Ratio.{IsWithin}
 use Rattle.gf_form.specs.inner.rows.Entries.{AreMerged, AreOrdered, Entry, HasSum, IsShaped}
-use Rattle.gf_form.specs.inner.rows.Entries.{entries, entry_at}
+use Rattle.gf_form.specs.inner.rows.Entries.{entries, entry_at, part}
 use Rattle.gf_form.specs.inner.rows.Entries.{CountsBelow, EndsBelow, entries_of, lowered, no_entry}
 use Rattle.gf_form.specs.inner.rows.Entries.{no_head}
 use Rattle.gf_form.specs.declared.rows.terms.Head.{Head}
@@ -24,11 +24,7 @@ use Rattle.gf_form.proofs.lemmas.rows.MergedEntries.{first_parts, take_both, tak
 
 -- ---- ranges of a list
 
--- those from one place up to another
-abbrev pub part : ℕ → ℕ → List Entry → List Entry
-part i end es = take (end - i) (drop i es)
-
-part_next : (es : List Entry) (i end : ℕ) → i < end → end ≤ length es
+pub part_next : (es : List Entry) (i end : ℕ) → i < end → end ≤ length es
     → part i end es ≡ get_or es i no_entry ∷ part (i + 1) end es
 part_next es i end less within =
     let n : end - i ≡ suc (end - (i + 1)) = omega arith in
@@ -40,7 +36,7 @@ take_none : (es : List Entry) → take 0 es ≡ []
 take_none [] = refl
 take_none (e ∷ es) = refl
 
-part_past : (es : List Entry) (i end : ℕ) → end ≤ i → part i end es ≡ []
+pub part_past : (es : List Entry) (i end : ℕ) → end ≤ i → part i end es ≡ []
 part_past es i end past =
     let none : end - i ≡ 0 = omega arith in
     ap (λ (n : ℕ). take n (drop i es)) none ∙ take_none (drop i es)
@@ -102,7 +98,7 @@ module _ (from : Terms) (step action : ℕ) (some : 1 ≤ action) (free start en
   by_head P Q f k less q =
       f (entry_at from k) (subst (λ (h : Head). Q h.demands) (sym (entry_head from k less)) q)
 
-  ranges : Ranges step action (entries from) (take free (entries from))
+  pub ranges : Ranges step action (entries from) (take free (entries from))
       (part free start (entries from)) (part start end (entries from)) (drop end (entries from))
   ranges = record {
     joined = sym (take-append-drop free (entries from))

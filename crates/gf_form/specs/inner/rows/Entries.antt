@@ -58,6 +58,10 @@ no_entry = record { head = no_head; row = [] }
 abbrev pub entry_at : Terms → ℕ → Entry
 entry_at t place = get_or (entries t) place no_entry
 
+-- the terms from one place up to another
+abbrev pub part : ℕ → ℕ → List Entry → List Entry
+part start end es = take (end - start) (drop start es)
+
 -- the same with lower demands
 abbrev pub lowered : ℕ → Entry → Entry
 lowered less e = record {

@@ -1,8 +1,8 @@
 -- Payoffs at profiles, by the terms of which they are sums.
-use Rattle.std.specs.Prelude.{◌≡◌, ℕ, ℤ, suc, pos, ◌-◌, ◌<◌, ◌≤◌, ◌^◌, List, [], ◌++◌}
-use Rattle.std.specs.Prelude.{Some, get_or, length, take}
+use Rattle.std.specs.Prelude.{◌≡◌, ℕ, ℤ, suc, ◌-◌, ◌<◌, ◌≤◌, ◌^◌, List, []}
+use Rattle.std.specs.Prelude.{Some, get_or, length, take, true}
 use Rattle.std.specs.List.{AllByRecursion}
-use Rattle.gf_fraction.specs.Ratio.{HasValue, IsFraction, IsWithin, Ratio}
+use Rattle.gf_fraction.specs.Ratio.{HasValue, IsFraction, Ratio}
 use Rattle.gf_nfg.specs.Profiles.{product}
 use Rattle.gf_tree.specs.Game.{Game}
 use Rattle.gf_form.specs.inner.strategies.Counted.{AreCounts}
@@ -13,7 +13,7 @@ use Rattle.gf_form.specs.inner.values.PaidRows.{rows_of}
 use Rattle.gf_form.specs.inner.strategies.Picked.{IsPicked, numbers_in, picked_profiles}
 use Rattle.gf_form.specs.inner.rows.ProfileRows.{AreRowsAt}
 use Rattle.gf_form.specs.Refusal.{HasValues}
-use Rattle.gf_form.specs.inner.values.Rows.{ArePaid, at_place}
+use Rattle.gf_form.specs.inner.values.Rows.{ArePaid}
 use Rattle.gf_form.specs.StrategicForm.{ArePayoffsAt}
 use Rattle.gf_form.specs.Strategies.{all_choices, choices_by, full_profiles, strategies_at}
 use Rattle.gf_form.specs.inner.values.Values.{value}
@@ -54,6 +54,7 @@ pub record AreFullNumbers (g : Game) (picked : Picked) (numbers : List ℕ) : Ty
   pub each : (i : ℕ) → i < length numbers → (get_or numbers i 0 < length (full_profiles g))
       × (get_or (full_profiles g) (get_or numbers i 0) []
       ≡ get_or (picked_profiles (numbers_in picked)) i [])
+  pub places : picked.are_all ≡ true → (i : ℕ) → i < length numbers → get_or numbers i 0 ≡ i
 
 pub record IsAsked (asked : Asked) : Type 0 where
   pub counts : AreCounts asked.game.now asked.counts.now
@@ -73,23 +74,3 @@ pub record AreWritten (asked : Asked) (count : ℕ) (written : Written) : Type 0
 abbrev pub SettleRows : Asked → List ℕ → Terms → Run → Type 0
 SettleRows asked actions terms run = (i : ℕ) → run.from ≤ i → i < run.to
     → SettlesAt asked.game.now actions terms run.first (get_or asked.numbers.now i 0)
-
--- ---- one row
-
--- the terms, for no digits, come to a row over this denominator
-pub record IsRowOver (den : ℕ) (terms : Terms) : Type 0 where
-  pub above : 0 < den
-  pub within : den < 2 ^ 127
-  pub exact : AreExactAt den [] [] (entries terms)
-  pub size : size_of_entries den [] [] (entries terms) < 2 ^ 127
-  pub sums : (k : ℕ) → sum_of_entries k den [] [] (entries terms)
-      ≡ get_or terms.numbers.items k (pos 0)
-  pub numbers : (k : ℕ) → IsWithin (get_or terms.numbers.items k (pos 0))
-
--- this many more fractions, whose values are these numbers over a denominator
-pub record HasRowOver (den players : ℕ) (numbers : List ℤ) (old new : List Ratio) : Type 0 where
-  pub row : List Ratio
-  pub is : new ≡ old ++ row
-  pub one_each : length row ≡ players
-  pub fractions : AllByRecursion IsFraction row
-  pub values : (k : ℕ) → k < players → HasValue (at_place row k) (get_or numbers k (pos 0)) den

@@ -1,4 +1,4 @@
-use Rattle.std.proofs.Common.{◌≡◌, ◌∷◌, ◌∙◌, [], ap, arith, length}
+use Rattle.std.proofs.Common.{◌≡◌, ◌∷◌, ◌∙◌, [], ap, arith, length, true}
 use Rattle.std.proofs.lemmas.List.{length-append}
 use Rattle.gf_form.proofs.lemmas.rows.GameRows.{IsFullNumber, one_number_more}
 use Rattle.gf_form.proofs.rows.profile.full_numbers.Goals as goal
@@ -11,7 +11,10 @@ loop-before-preserved c =
       ap length is ∙ length-append numbers (c.full_number_of.result ∷ []) ∙ omega (arith, inv.0),
       λ g counts picked. one_number_more (IsFullNumber g c.args.picked.now) numbers
           c.push.new.self.items c.full_number_of.result c.loop-before.before is inv.0
-          (inv.1 g counts picked) (c.full_number_of.ensures g counts picked),
+          (inv.1 g counts picked) (c.full_number_of.ensures.number g counts picked),
+      one_number_more (λ i n. c.args.picked.now.are_all ≡ true → n ≡ i) numbers
+          c.push.new.self.items c.full_number_of.result c.loop-before.before is inv.0 inv.2
+          c.full_number_of.ensures.place,
     )
 
 pub returns : goal.returns
@@ -22,4 +25,5 @@ returns c =
     λ g counts picked. record {
       as_many = inv.0 ∙ all ∙ picked.profiles;
       each = λ i less. inv.1 g counts picked i (omega (arith, less, inv.0));
+      places = λ are i less. inv.2 i (omega (arith, less, inv.0)) are;
     }

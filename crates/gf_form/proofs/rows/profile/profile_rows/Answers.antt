@@ -8,6 +8,7 @@ use Rattle.gf_form.specs.inner.rows.SettledRows.{SettlesAt}
 use Rattle.gf_form.specs.inner.rows.GameDigits.{actions_at}
 use Rattle.gf_form.specs.declared.rows.digits.Digit.{Digit}
 use Rattle.gf_form.proofs.lemmas.rows.GameRows.{settle_all}
+use Rattle.gf_form.proofs.lemmas.rows.PayingTerms.{settled_at}
 use Rattle.gf_form.proofs.rows.profile.profile_rows.Goals as goal
 
 pub push_rows-requires-clause-settles : goal.push_rows-requires-clause-settles
@@ -15,6 +16,7 @@ push_rows-requires-clause-settles c =
     let g = c.args.game.now in
     let picked = c.args.picked.now in
     let d = c.in-Some.digits in
+    let listed = c.in_ok-listed.listed in
     let terms = c.in_ok-terms.terms in
     let is_game = c.players-players.ensures.is_game in
     let full = c.in_ok-numbers.ensures g c.requires.counts c.requires.picked in
@@ -25,7 +27,9 @@ push_rows-requires-clause-settles c =
     (get_or c.deref.result.now i 0)) (sym c.deref-2.ensures.value)
     (subst (λ (ns : List ℕ). SettlesAt g (digit_actions d) terms 0 (get_or ns i 0))
     (sym c.deref.ensures.value)
+    (settled_at g (digit_actions d) listed terms 0 (get_or c.in_ok-numbers.numbers.items i 0)
+    c.in_ok-terms.ensures.settle
     (settle_all g is_game c.players-players.ensures.spellable
     (rows_of c.in_ok-payoffs.payoffs) c.in_ok-payoffs.ensures picked
-    c.in_ok-numbers.numbers.items full d digits terms c.in_ok-terms.ensures.terms i
-    (omega (arith, less, full.as_many, c.requires.picked.profiles))))
+    c.in_ok-numbers.numbers.items full d digits listed c.in_ok-listed.ensures.terms i
+    (omega (arith, less, full.as_many, c.requires.picked.profiles)))))

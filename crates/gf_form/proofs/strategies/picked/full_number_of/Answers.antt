@@ -1,5 +1,5 @@
 use Rattle.std.proofs.Common.{◌+◌, ◌*◌, ◌/◌, ◌<◌, ℕ, List, Vec, Global, ap, arith, get_or, length}
-use Rattle.std.proofs.Common.{[], subst, sym}
+use Rattle.std.proofs.Common.{◌≡◌, ◌∙◌, [], subst, sym, true, false}
 use Rattle.std.proofs.lemmas.List.{length-map}
 use Rattle.gf_form.specs.inner.strategies.Picked.{numbers_in}
 use Rattle.gf_form.proofs.lemmas.strategies.FullNumbers.{CountsOn, IsFullNumber, as_long, count_at}
@@ -112,8 +112,8 @@ loop-place-preserved c =
     (c.loop-place.number + c.loop-place.whole * c.index.result.now) (c.loop-place.whole * k)
     (c.loop-place.left / c.len-count.result)) (sym is) more.1
 
-pub returns : goal.returns
-returns c g counts picked =
+pub returns-clause-number : goal.returns-clause-number
+returns-clause-number c g counts picked =
     let of = of_profile g c.args.counts.now c.args.picked.now counts picked c.args.profile
     c.requires.within in
     let full = subst (IsFullNumber g (numbers_in c.args.picked.now) c.args.profile)
@@ -127,9 +127,12 @@ returns c g counts picked =
     )))) of in
     (full.within, full.same)
 
-pub returns-then-picked : goal.returns-then-picked
-returns-then-picked c g counts picked =
+pub returns-then-picked-clause-number : goal.returns-then-picked-clause-number
+returns-then-picked-clause-number c g counts picked =
     let all = picked.all c.if-picked.true in (
       omega (arith, c.requires.within, picked.profiles, ap length all),
       ap (λ (ps : List (List ℕ)). get_or ps c.args.profile []) (sym all),
     )
+
+pub returns-clause-place : goal.returns-clause-place
+returns-clause-place c all = absurd (let no : true ≡ false = sym all ∙ c.if-picked.false in cc)

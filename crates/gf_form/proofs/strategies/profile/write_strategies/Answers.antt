@@ -31,7 +31,7 @@ nonzero_rem-number c =
     let g = c.requires.picked.0 in
     some_strategy g c.args.counts.now c.requires.picked.1 c.full_number_of-full.result
     c.loop-place.place c.index-whole.result.now
-    (c.full_number_of-full.ensures g c.requires.picked.1 c.requires.picked.2).0
+    (c.full_number_of-full.ensures.number g c.requires.picked.1 c.requires.picked.2).0
     (omega (arith, c.loop-place-test.true)) c.index-whole.ensures
 
 pub nonzero_div-rest : goal.nonzero_div-rest
@@ -39,7 +39,7 @@ nonzero_div-rest c =
     let g = c.requires.picked.0 in
     some_strategy g c.args.counts.now c.requires.picked.1 c.full_number_of-full.result
     c.loop-place.place c.index-whole.result.now
-    (c.full_number_of-full.ensures g c.requires.picked.1 c.requires.picked.2).0
+    (c.full_number_of-full.ensures.number g c.requires.picked.1 c.requires.picked.2).0
     (omega (arith, c.loop-place-test.true)) c.index-whole.ensures
 
 pub write_strategy-requires-clause-whole : goal.write_strategy-requires-clause-whole
@@ -59,7 +59,7 @@ write_strategy-requires-clause-within c =
     mod-lt c.loop-place.rest
     (some_strategy g c.args.counts.now c.requires.picked.1 c.full_number_of-full.result
     c.loop-place.place c.index-whole.result.now
-    (c.full_number_of-full.ensures g c.requires.picked.1 c.requires.picked.2).0
+    (c.full_number_of-full.ensures.number g c.requires.picked.1 c.requires.picked.2).0
     (omega (arith, c.loop-place-test.true)) c.index-whole.ensures)
 
 pub loop-place-preserved : goal.loop-place-preserved
@@ -97,7 +97,7 @@ returns-clause-strategies c h others =
     let g = c.requires.picked.0 in
     let counts = c.args.counts.now in
     let full = c.full_number_of-full.result in
-    let of = c.full_number_of-full.ensures g c.requires.picked.1 c.requires.picked.2 in
+    let of = c.full_number_of-full.ensures.number g c.requires.picked.1 c.requires.picked.2 in
     let same : full_profiles h ≡ full_profiles g =
     ap profiles (sym others.strategies ∙ c.requires.picked.1.strategies) in
     last_written (actions_in counts) full c.loop-place.place c.loop-place.rest

@@ -1,4 +1,4 @@
-use Rattle.std.proofs.Common.{◌≡◌, ◌++◌, ◌<◌, ◌∙◌, ℕ, Bool, List, ap, arith, false, get_or, length}
+use Rattle.std.proofs.Common.{◌≡◌, ◌++◌, ◌∙◌, ℕ, Bool, List, ap, arith, false, get_or, length}
 use Rattle.std.proofs.Common.{subst, sym}
 use Rattle.gf_tree.specs.FirstUse.{player_keys}
 use Rattle.gf_form.specs.inner.reduced.Levels.{IsLevels, TellsMet, last_known}

@@ -19,3 +19,6 @@ returns-clause-settles c =
     c.args.terms.now c.args.run c.requires.some c.requires.count c.requires.settles
     c.args.slowest.step c.run_end-to.result c.merge.new.self c.requires.step
     c.in_ok-merge.ensures.merged c.run_end-to.ensures.within c.run_end-to.ensures.run
+
+pub run_end-to-requires-clause-places : goal.run_end-to-requires-clause-places
+run_end-to-requires-clause-places c = c.requires.asked.numbers.places

@@ -1,0 +1,316 @@
+-- Terms that fit together over one denominator, and those of them that add something.
+use Rattle.std.proofs.Common.{◌≡◌, ℕ, ℤ, suc, pos, ◌+◌, ◌-◌, ◌*◌, ◌/◌, ◌<◌, ◌≤◌, ◌^◌, ◌+ℤ◌}
+use Rattle.std.proofs.Common.{◌*ℤ◌}
+use Rattle.std.proofs.Common.{Bool, true, false, List, [], ◌∷◌, ◌++◌, length, get_or, take, drop}
+use Rattle.std.proofs.Common.{refl, ap, sym, subst, ◌∙◌, arith, lit<}
+use Rattle.std.specs.Prelude.{if◌then◌else◌}
+use Rattle.std.specs.Int.{◌∣◌}
+use Rattle.std.specs.List.{AllByRecursion}
+use Rattle.std.proofs.Math.IntN.{zero-*ℤ}
+use Rattle.std.proofs.Math.Nat.{div-mul_cancel}
+use Rattle.std.proofs.Math.Seq.{take-length, take-suc}
+use Rattle.std.proofs.lemmas.Int.{ints}
+use Rattle.std.proofs.lemmas.List.Sorted.{IsNonDecreasingBy-short}
+use Rattle.std.proofs.lemmas.Nat.Gcd.{dvd_refl}
+use Rattle.gf_fraction.proofs.AllElements.{all_both, all_parts}
+use Rattle.gf_fraction.proofs.Integers.{*ℤ-cancel_right, *ℤ_assoc, *ℤ_right_comm, add-*ℤ}
+use Rattle.gf_tree.specs.Game.{Game}
+use Rattle.gf_form.specs.inner.rows.Demands.{meets, steps_of}
+use Rattle.gf_form.specs.inner.rows.Entries.{AreExactAt, AreOrdered, EndsBelow, Entry, IsShaped}
+use Rattle.gf_form.specs.inner.rows.Entries.{entries}
+use Rattle.gf_form.specs.inner.rows.Entries.{entries_of, entry_at, lowered, no_entry, no_head}
+use Rattle.gf_form.specs.inner.rows.Entries.{number_at}
+use Rattle.gf_form.specs.inner.rows.Entries.{size_of_entries, sum_of_entries}
+use Rattle.gf_form.specs.inner.rows.Paying.{FitOver, SettleAsWell, sizes_of}
+use Rattle.gf_form.specs.inner.rows.SettledRows.{SettlesAt}
+use Rattle.gf_form.specs.Strategies.{all_choices}
+use Rattle.gf_form.specs.declared.rows.terms.Head.{Head}
+use Rattle.gf_form.specs.declared.rows.terms.Terms.{Terms}
+use Rattle.gf_form.proofs.lemmas.rows.FlatRows.{entries_count, entry_head, head_at, itself}
+use Rattle.gf_form.proofs.lemmas.rows.MergedEntries.{sum_append}
+use Rattle.gf_form.proofs.lemmas.rows.Merges.{below_more, lowered_none, ordered_more}
+
+-- ---- all over one denominator
+
+abbrev pub IsOver : ℕ → Entry → Type 0
+IsOver den e = e.head.den ≡ den
+
+are_over : (den p : ℕ) (hs : List Head) (ns : List ℤ)
+    → AllByRecursion (λ (h : Head). h.den ≡ den) hs
+    → AllByRecursion (IsOver den) (entries_of p hs ns)
+are_over den p [] ns all = tt
+are_over den p (h ∷ hs) ns all = (all.0, are_over den p hs (drop p ns) all.1)
+
+chosen : (b : Bool) (n : ℕ) → (if b then n else 0) ≤ n
+chosen true n = omega arith
+chosen false n = omega arith
+
+module _ (den : ℕ) (above : 0 < den) (steps choices : List ℕ) where
+  are_exact : (es : List Entry) → AllByRecursion (IsOver den) es
+      → AreExactAt den steps choices es
+  are_exact [] all = tt
+  are_exact (e ∷ es) all = (
+    λ met. (
+      subst (λ (n : ℕ). 0 < n) (sym all.0) above,
+      subst (λ (n : ℕ). n ∣ den) (sym all.0) (dvd_refl den),
+    ),
+    are_exact es all.1,
+  )
+
+  sizes_met : (p : ℕ) (hs : List Head) (ns : List ℤ)
+      → AllByRecursion (λ (h : Head). h.den ≡ den) hs
+      → size_of_entries den steps choices (entries_of p hs ns) ≤ sizes_of hs
+  sizes_met p [] ns all = omega arith
+  sizes_met p (h ∷ hs) ns all =
+      let one : den / h.den ≡ 1 = ap (λ (n : ℕ). den / n) all.0 ∙ itself den above in
+      let own : h.size * (den / h.den) ≡ h.size * 1 = ap (λ (n : ℕ). h.size * n) one in
+      let met = chosen (meets steps choices h.demands) (h.size * (den / h.den)) in
+      let rest = sizes_met p hs (drop p ns) all.1 in omega (arith, own, met, rest)
+
+-- ---- over a multiple of the denominator
+
+module _ (k den most : ℕ) (above : 0 < den) (steps choices : List ℕ) where
+  over_most : (z : ℤ) (d : ℕ) → d ≡ den → d ∣ most
+      → (z *ℤ pos (most / d)) *ℤ pos den ≡ (z *ℤ pos (den / d)) *ℤ pos most
+  over_most z d same divides =
+      let own : most / d * den ≡ most =
+      sym (ap (λ (n : ℕ). most / d * n) same) ∙ div-mul_cancel d divides in
+      let one : den / d ≡ 1 = ap (λ (n : ℕ). den / n) same ∙ itself den above in
+      let once : 1 * most ≡ most = omega arith in
+      let other : den / d * most ≡ most = ap (λ (n : ℕ). n * most) one ∙ once in
+      *ℤ_assoc z (pos (most / d)) (pos den)
+      ∙ ap (λ (n : ℕ). z *ℤ pos n) (own ∙ sym other)
+      ∙ sym (*ℤ_assoc z (pos (den / d)) (pos most))
+
+  one_scaled : (b : Bool) (z : ℤ) (d : ℕ) → d ≡ den → (b ≡ true → (0 < d) × (d ∣ most))
+      → (if b then z *ℤ pos (most / d) else pos 0) *ℤ pos den
+      ≡ (if b then z *ℤ pos (den / d) else pos 0) *ℤ pos most
+  one_scaled true z d same exact = over_most z d same (exact refl).1
+  one_scaled false z d same exact = zero-*ℤ (pos den) ∙ sym (zero-*ℤ (pos most))
+
+  all_scaled : (es : List Entry) → AllByRecursion (IsOver den) es
+      → AreExactAt most steps choices es
+      → sum_of_entries k most steps choices es *ℤ pos den
+      ≡ sum_of_entries k den steps choices es *ℤ pos most
+  all_scaled [] all exact = zero-*ℤ (pos den) ∙ sym (zero-*ℤ (pos most))
+  all_scaled (e ∷ es) all exact =
+      let met = meets steps choices e.head.demands in
+      let z = number_at k e in
+      let d = e.head.den in
+      add-*ℤ (if met then z *ℤ pos (most / d) else pos 0) (sum_of_entries k most steps choices es)
+      (pos den)
+      ∙ (λ i. one_scaled met z d all.0 exact.0 i +ℤ all_scaled es all.1 exact.1 i)
+      ∙ sym (add-*ℤ (if met then z *ℤ pos (den / d) else pos 0)
+      (sum_of_entries k den steps choices es) (pos most))
+
+-- ---- some of the terms
+
+-- the second come to what the first come to
+pub record Kept (es left : List Entry) : Type 0 where
+  pub sums : (k den : ℕ) (steps choices : List ℕ) → sum_of_entries k den steps choices left
+      ≡ sum_of_entries k den steps choices es
+  pub among : (den : ℕ) → AllByRecursion (IsOver den) es → AllByRecursion (IsOver den) left
+
+kept_more : (es left : List Entry) (e : Entry) → Kept es left → Kept (es ++ e ∷ []) (left ++ e ∷ [])
+kept_more es left e before = record {
+  sums = λ k den steps choices. sum_append den steps choices k left (e ∷ [])
+      ∙ ap (λ (z : ℤ). z +ℤ sum_of_entries k den steps choices (e ∷ []))
+      (before.sums k den steps choices)
+      ∙ sym (sum_append den steps choices k es (e ∷ []));
+  among = λ den all. let parts = all_parts (IsOver den) es (e ∷ []) all in
+      all_both (IsOver den) left (e ∷ []) (before.among den parts.0) parts.1;
+}
+
+none_met : (b : Bool) (z : ℤ) (n : ℕ) → z ≡ pos 0 → (if b then z *ℤ pos n else pos 0) ≡ pos 0
+none_met true z n none = ap (λ (x : ℤ). x *ℤ pos n) none ∙ zero-*ℤ (pos n)
+none_met false z n none = refl
+
+kept_zero : (es left : List Entry) (e : Entry) → ((k : ℕ) → number_at k e ≡ pos 0)
+    → Kept es left → Kept (es ++ e ∷ []) left
+kept_zero es left e none before = record {
+  sums = λ k den steps choices.
+      let own = if meets steps choices e.head.demands
+      then number_at k e *ℤ pos (den / e.head.den) else pos 0 in
+      let nothing : own ≡ pos 0 = none_met (meets steps choices e.head.demands) (number_at k e)
+      (den / e.head.den) (none k) in
+      let s = sum_of_entries k den steps choices es in
+      let more : s ≡ s +ℤ (own +ℤ pos 0) = omega (arith, ints, nothing) in
+      before.sums k den steps choices ∙ more ∙ sym (sum_append den steps choices k es (e ∷ []));
+  among = λ den all. before.among den (all_parts (IsOver den) es (e ∷ []) all).0;
+}
+
+pub settled_as_well : (from left : Terms) (den : ℕ) → FitOver den from.heads.items
+    → Kept (entries from) (entries left) → SettleAsWell from left
+settled_as_well from left den fit kept g number steps choices settles k less most above within exact small =
+    let hs = from.heads.items in
+    let ns = from.numbers.items in
+    let all = are_over den from.players hs ns fit.dens in
+    let base = settles k less den fit.above fit.within
+    (are_exact den fit.above steps choices (entries from) all)
+    (let met = sizes_met den fit.above steps choices from.players hs ns fit.dens in
+    let sizes = fit.sizes in omega (arith, met, sizes)) in
+    let whole = sum_of_entries k den steps choices (entries from) in
+    let left_whole = sum_of_entries k most steps choices (entries left) in
+    let num = base.payoff.num in
+    let own = base.payoff.den in
+    let same : whole *ℤ pos most ≡ left_whole *ℤ pos den =
+    ap (λ (z : ℤ). z *ℤ pos most) (sym (kept.sums k den steps choices))
+    ∙ sym (all_scaled k den most fit.above steps choices (entries left) (kept.among den all) exact) in
+    record {
+      payoff = base.payoff;
+      fraction = base.fraction;
+      is_value = base.is_value;
+      over = *ℤ-cancel_right (num *ℤ pos most) (left_whole *ℤ pos own) den fit.above
+          (*ℤ_right_comm num (pos most) (pos den)
+          ∙ ap (λ (z : ℤ). z *ℤ pos most) base.over
+          ∙ *ℤ_right_comm whole (pos own) (pos most)
+          ∙ ap (λ (z : ℤ). z *ℤ pos own) same
+          ∙ *ℤ_right_comm left_whole (pos den) (pos own));
+    }
+
+-- ---- while they are gone over
+
+pub record Paying (from : Terms) (i : ℕ) (left : Terms) : Type 0 where
+  pub kept : Kept (take i (entries from)) (entries left)
+  pub shaped : IsShaped left
+  pub players : left.players ≡ from.players
+  pub ordered : AreOrdered left
+  pub next : i < length from.heads.items → EndsBelow left.heads.items (head_at from i).demands
+
+take_zero : (es : List Entry) → take 0 es ≡ []
+take_zero [] = refl
+take_zero (e ∷ es) = refl
+
+pub first_paying : (from left : Terms) → entries left ≡ [] → IsShaped left
+    → left.players ≡ from.players → Paying from 0 left
+first_paying from left none shaped players =
+    let no_heads : length left.heads.items ≡ 0 =
+    sym (entries_count left.players left.heads.items left.numbers.items) ∙ ap length none in
+    record {
+      kept = subst (λ (es : List Entry). Kept es (entries left)) (sym (take_zero (entries from)))
+          (subst (Kept []) (sym none) (record {
+            sums = λ k den steps choices. refl;
+            among = λ den all. tt;
+          }));
+      shaped = shaped;
+      players = players;
+      ordered = IsNonDecreasingBy-short (λ (h : Head). h.demands) left.heads.items
+          (omega (arith, no_heads));
+      next = λ less d some. absurd (omega (arith, no_heads, some));
+    }
+
+module _ (from : Terms) (i : ℕ) (left : Terms) (sorted : AreOrdered from)
+    (less : i < length from.heads.items) (before : Paying from i left) where
+  one_more : take (i + 1) (entries from) ≡ take i (entries from) ++ entry_at from i ∷ []
+  one_more =
+      let count = entries_count from.players from.heads.items from.numbers.items in
+      let next : i + 1 ≡ suc i = omega arith in
+      ap (λ (n : ℕ). take n (entries from)) next
+      ∙ take-suc (entries from) i no_entry (omega (arith, count, less))
+
+  rises : i + 1 < length from.heads.items
+      → (head_at from i).demands ≤ (head_at from (i + 1)).demands
+  rises there = sorted i (i + 1) no_head (omega arith) there
+
+  pub more_paying : (after : Terms) → entries after ≡ entries left ++ lowered 0 (entry_at from i) ∷ []
+      → after.heads.items ≡ left.heads.items ++ (lowered 0 (entry_at from i)).head ∷ []
+      → after.players ≡ left.players → IsShaped after → Paying from (i + 1) after
+  more_paying after is heads players shaped =
+      let e = entry_at from i in
+      let demands : (lowered 0 e).head.demands ≡ (head_at from i).demands =
+      ap (λ (f : Entry). f.head.demands) (lowered_none e)
+      ∙ ap (λ (h : Head). h.demands) (entry_head from i less) in
+      record {
+        kept = subst (λ (es : List Entry). Kept es (entries after)) (sym one_more)
+            (subst (Kept (take i (entries from) ++ e ∷ []))
+            (sym (is ∙ ap (λ (f : Entry). entries left ++ f ∷ []) (lowered_none e)))
+            (kept_more (take i (entries from)) (entries left) e before.kept));
+        shaped = shaped;
+        players = players ∙ before.players;
+        ordered = ordered_more left.heads.items after.heads.items (lowered 0 e).head heads
+            before.ordered (λ d some. let le = before.next less d some in omega (arith, le, demands));
+        next = λ there. below_more left.heads.items after.heads.items (lowered 0 e).head
+            (head_at from (i + 1)).demands heads
+            (let le = rises there in omega (arith, le, demands));
+      }
+
+  pub same_paying : ((k : ℕ) → number_at k (entry_at from i) ≡ pos 0) → Paying from (i + 1) left
+  same_paying none = record {
+    kept = subst (λ (es : List Entry). Kept es (entries left)) (sym one_more)
+        (kept_zero (take i (entries from)) (entries left) (entry_at from i) none before.kept);
+    shaped = before.shaped;
+    players = before.players;
+    ordered = before.ordered;
+    next = λ there d some. let le = before.next less d some in
+        let up = rises there in omega (arith, le, up);
+  }
+
+pub last_paying : (from left : Terms) (i den : ℕ) → i ≡ length from.heads.items
+    → FitOver den from.heads.items → Paying from i left → SettleAsWell from left
+last_paying from left i den all fit done =
+    let count = entries_count from.players from.heads.items from.numbers.items in
+    settled_as_well from left den fit
+    (subst (λ (es : List Entry). Kept es (entries left))
+    (ap (λ (n : ℕ). take n (entries from)) (all ∙ sym count) ∙ take-length (entries from)) done.kept)
+
+-- ---- whether they fit
+
+-- the first heads, so many
+pub record Fitting (den size : ℕ) (heads : List Head) (i : ℕ) : Type 0 where
+  pub dens : AllByRecursion (λ (h : Head). h.den ≡ den) (take i heads)
+  pub sizes : sizes_of (take i heads) ≡ size
+  pub within : size < 2 ^ 127
+
+sizes_append : (xs ys : List Head) → sizes_of (xs ++ ys) ≡ sizes_of xs + sizes_of ys
+sizes_append [] ys = omega arith
+sizes_append (x ∷ xs) ys = omega (arith, sizes_append xs ys)
+
+no_heads_taken : (heads : List Head) → take 0 heads ≡ []
+no_heads_taken [] = refl
+no_heads_taken (h ∷ hs) = refl
+
+pub first_fitting : (den : ℕ) (heads : List Head) → Fitting den 0 heads 0
+first_fitting den heads = record {
+  dens = subst (AllByRecursion (λ (h : Head). h.den ≡ den)) (sym (no_heads_taken heads)) tt;
+  sizes = ap sizes_of (no_heads_taken heads);
+  within = lit< tt;
+}
+
+pub more_fitting : (den size more : ℕ) (heads : List Head) (i : ℕ) (h : Head)
+    → i < length heads → h ≡ get_or heads i h → h.den ≡ den → more ≡ size + h.size
+    → more < 2 ^ 127 → Fitting den size heads i → Fitting den more heads (i + 1)
+more_fitting den size more heads i h less is same sum within before =
+    let next : i + 1 ≡ suc i = omega arith in
+    let taken : take (i + 1) heads ≡ take i heads ++ h ∷ [] =
+    ap (λ (n : ℕ). take n heads) next ∙ take-suc heads i h less
+    ∙ ap (λ (g : Head). take i heads ++ g ∷ []) (sym is) in
+    record {
+      dens = subst (AllByRecursion (λ (g : Head). g.den ≡ den)) (sym taken)
+          (all_both (λ (g : Head). g.den ≡ den) (take i heads) (h ∷ []) before.dens (same, tt));
+      sizes = ap sizes_of taken ∙ sizes_append (take i heads) (h ∷ [])
+          ∙ (let so_far = before.sizes in omega (arith, so_far, sum));
+      within = within;
+    }
+
+pub all_fitting : (den size : ℕ) (heads : List Head) (i : ℕ) → i ≡ length heads → 0 < den
+    → den < 2 ^ 127 → Fitting den size heads i → FitOver den heads
+all_fitting den size heads i all above within done =
+    let whole : take i heads ≡ heads = ap (λ (n : ℕ). take n heads) all ∙ take-length heads in
+    record {
+      above = above;
+      within = within;
+      dens = subst (AllByRecursion (λ (h : Head). h.den ≡ den)) whole done.dens;
+      sizes = subst (λ (n : ℕ). n < 2 ^ 127) (sym done.sizes ∙ ap sizes_of whole) done.within;
+    }
+
+-- ---- profiles
+
+pub settled_at : (g : Game) (actions : List ℕ) (from left : Terms) (least number : ℕ)
+    → SettleAsWell from left → SettlesAt g actions from least number
+    → SettlesAt g actions left least number
+settled_at g actions from left least number as_well before = record {
+  from = before.from;
+  to = before.to;
+  settles = as_well g number (steps_of actions)
+      (get_or (all_choices actions) (number - least) []) before.settles;
+}

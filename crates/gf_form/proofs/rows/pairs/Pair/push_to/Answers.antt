@@ -1,0 +1,28 @@
+use Rattle.std.proofs.Common.{◌≡◌, ◌∙◌, ◌+ℤ◌, ◌*ℤ◌, ℤ, of_z, pos, subst, to_z}
+use Rattle.std.specs.Int.{w128}
+use Rattle.std.proofs.lemmas.Int.{fits_signed_from_abs, to_z-of_z}
+use Rattle.gf_fraction.specs.Ratio.{HasValue}
+use Rattle.gf_form.specs.inner.rows.Pairs.{pair_number}
+use Rattle.gf_form.proofs.lemmas.rows.PairRows.{no_row, one_more}
+use Rattle.gf_form.proofs.rows.pairs.Pair.push_to.Goals as goal
+
+pub loop-place-init : goal.loop-place-init
+loop-place-init c = no_row c.args.self c.args.rows.now.items
+
+pub loop-place-preserved : goal.loop-place-preserved
+loop-place-preserved c =
+    let pair = c.args.self in
+    let number = c.in-Some.number in
+    let first = to_z-of_z w128 c.number_at-first.result (record { sfits = c.number_at-first.type_inv })
+    ∙ c.number_at-first.ensures in
+    let second = to_z-of_z w128 c.number_at-second.result (record { sfits = c.number_at-second.type_inv })
+    ∙ c.number_at-second.ensures in
+    let whole : to_z w128 (of_z w128 number) ≡ number =
+    to_z-of_z w128 number (fits_signed_from_abs w128 number c.in-Some.ensures.within) in
+    let is : number ≡ pair_number pair c.loop-place.place =
+    c.in-Some.ensures.sum
+    ∙ (λ i. first i *ℤ pos pair.scale.first +ℤ second i *ℤ pos pair.scale.second) in
+    one_more pair c.loop-place.place c.args.rows.now.items c.loop-place.rows.items
+    c.push.new.self.items c.over.result c.in_ok-push.ensures.items c.over.ensures.fraction
+    (subst (λ (z : ℤ). HasValue c.over.result z pair.scale.den) (whole ∙ is) c.over.ensures.value)
+    c.loop-place.invariant

@@ -1,0 +1,57 @@
+-- What at most two terms come to: one that demands nothing, and one that demands an action of the
+-- fastest digit.
+use Rattle.std.specs.Prelude.{◌≡◌, ℕ, ℤ, pos, ◌/◌, ◌<◌, ◌≤◌, ◌*◌, ◌^◌, ◌+ℤ◌, ◌*ℤ◌}
+use Rattle.std.specs.Prelude.{List, [], ◌∷◌, ◌++◌, get_or, length}
+use Rattle.std.specs.Int.{◌∣◌}
+use Rattle.std.specs.List.{AllByRecursion}
+use Rattle.gf_fraction.specs.Ratio.{HasValue, IsFraction, Ratio}
+use Rattle.gf_tree.specs.Game.{Game}
+use Rattle.gf_form.specs.inner.rows.Entries.{AreExactAt, Entry, number_at, size_of_entries}
+use Rattle.gf_form.specs.inner.rows.Entries.{sum_of_entries}
+use Rattle.gf_form.specs.inner.rows.SettledRows.{PaysOver}
+use Rattle.gf_form.specs.inner.values.Rows.{at_place}
+use Rattle.gf_form.specs.declared.rows.pairs.Only.{Only}
+use Rattle.gf_form.specs.declared.rows.pairs.Pair.{Pair}
+
+abbrev pub entry_of : Only → Entry
+entry_of only = record { head = only.head; row = only.numbers.now }
+
+-- Terms that demand nothing more come to this one, over each denominator that its own divides.
+pub record ComeToOne (es : List Entry) (e : Entry) (den : ℕ) : Type 0 where
+  pub exact : AreExactAt den [] [] es
+  pub sums : (k : ℕ) → sum_of_entries k den [] [] es ≡ number_at k e *ℤ pos (den / e.head.den)
+  pub sizes : size_of_entries den [] [] es ≤ e.head.size * (den / e.head.den)
+
+abbrev pub IsOnly : List Entry → Only → Type 0
+IsOnly es only = (den : ℕ) → 0 < only.head.den → only.head.den ∣ den
+    → ComeToOne es (entry_of only) den
+
+-- what the pair has for the player at this place, from 0
+abbrev pub pair_number : Pair → ℕ → ℤ
+pair_number pair k = get_or pair.first.now k (pos 0) *ℤ pos pair.scale.first
+    +ℤ get_or pair.second.now k (pos 0) *ℤ pos pair.scale.second
+
+-- at this action of the fastest digit the terms come to the pair, which fits
+pub record ComeToPair (action : ℕ) (es : List Entry) (pair : Pair) : Type 0 where
+  pub above : 0 < pair.scale.den
+  pub within : pair.scale.den < 2 ^ 127
+  pub exact : AreExactAt pair.scale.den (1 ∷ []) (action ∷ []) es
+  pub size : size_of_entries pair.scale.den (1 ∷ []) (action ∷ []) es < 2 ^ 127
+  pub sums : (k : ℕ) → sum_of_entries k pair.scale.den (1 ∷ []) (action ∷ []) es
+      ≡ pair_number pair k
+
+-- the pair is what is paid at the profile with this number, from 0, among all
+pub record IsPaidPair (g : Game) (number : ℕ) (pair : Pair) : Type 0 where
+  pub above : 0 < pair.scale.den
+  pub within : pair.scale.den < 2 ^ 127
+  pub pays : (k : ℕ) → k < length g.players
+      → PaysOver g number k pair.scale.den (pair_number pair k)
+
+-- this many more fractions, whose values are those of the pair
+pub record HasPairRow (pair : Pair) (players : ℕ) (old new : List Ratio) : Type 0 where
+  pub row : List Ratio
+  pub is : new ≡ old ++ row
+  pub one_each : length row ≡ players
+  pub fractions : AllByRecursion IsFraction row
+  pub values : (k : ℕ) → k < players
+      → HasValue (at_place row k) (pair_number pair k) pair.scale.den

@@ -1,0 +1,25 @@
+-- Terms that fit together over one denominator.
+use Rattle.std.specs.Prelude.{◌≡◌, ℕ, ◌+◌, ◌<◌, ◌^◌, List, [], ◌∷◌}
+use Rattle.std.specs.List.{AllByRecursion}
+use Rattle.gf_tree.specs.Game.{Game}
+use Rattle.gf_form.specs.inner.rows.Entries.{entries}
+use Rattle.gf_form.specs.inner.rows.SettledRows.{Settles}
+use Rattle.gf_form.specs.declared.rows.terms.Head.{Head}
+use Rattle.gf_form.specs.declared.rows.terms.Terms.{Terms}
+
+abbrev pub sizes_of : List Head → ℕ
+sizes_of [] = 0
+sizes_of (h ∷ hs) = h.size + sizes_of hs
+
+-- all are over this denominator, and no sum of them is too large
+pub record FitOver (den : ℕ) (heads : List Head) : Type 0 where
+  pub above : 0 < den
+  pub within : den < 2 ^ 127
+  pub dens : AllByRecursion (λ (h : Head). h.den ≡ den) heads
+  pub sizes : sizes_of heads < 2 ^ 127
+
+-- the second come to what is paid if the first do
+abbrev pub SettleAsWell : Terms → Terms → Type 0
+SettleAsWell terms left = (g : Game) (number : ℕ) (steps choices : List ℕ)
+    → Settles g number steps choices (entries terms)
+    → Settles g number steps choices (entries left)

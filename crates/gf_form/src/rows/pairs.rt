@@ -1,0 +1,161 @@
+//! Rows at the fastest digit: what a term that demands nothing and one that demands the action come
+//! to together.
+
+ghost use Rattle.std.specs.Prelude.{◌≡◌, ◌+◌, ◌<◌, ◌≤◌, ◌^◌, ◌+ℤ◌, ◌*ℤ◌, ℕ, IfOk, IfSome, get_or};
+ghost use Rattle.std.specs.Prelude.{false, length, pos, true};
+ghost use Rattle.std.specs.List.Sorted.{IsNonDecreasingBy};
+ghost use Rattle.gf_fraction.specs.Ratio.{HasValue, IsFraction, IsWithin};
+ghost use Rattle.gf_form.specs.inner.rows.Entries.{CountsBelow, IsShaped, entries, part};
+ghost use Rattle.gf_form.specs.inner.rows.Pairs.{ComeToPair, HasPairRow, IsOnly};
+ghost use Rattle.gf_form.specs.declared.rows.terms.Head.{Head};
+
+use crate::rows::sums::{Scale, combined, scale_of};
+use crate::rows::terms::{Head, Terms};
+use gf_fraction::Fraction;
+use std::alloc::AllocError;
+
+/// The greatest denominator, and the greatest size.
+const LARGEST: u128 = i128::MAX as u128;
+
+/// A term, or none.
+#[derive(Clone, Copy)]
+struct Only<'t> {
+    head: Head,
+    /// A number for each player; none if there is no term.
+    numbers: &'t [i128],
+}
+
+/// At most two terms over one denominator.
+#[derive(Clone, Copy)]
+pub(crate) struct Pair<'t> {
+    pub scale: Scale,
+    /// The numbers of the first, one for each player, and those of the second; none if there is no
+    /// such term.
+    pub first: &'t [i128],
+    pub second: &'t [i128],
+}
+
+/// How many of these terms, in order of demands, come before a number. Quick if a guess is close.
+pub(crate) fn count_near(heads: &[Head], number: u64, guess: usize) -> usize
+    requires ordered { IsNonDecreasingBy (λ (h : Head). h.demands) heads.now }
+    requires within { guess ≤ length heads.now }
+    ensures { CountsBelow heads.now number result }
+{
+    let mut count = guess;
+    while count > 0 && heads[count - 1].demands >= number {
+        count -= 1;
+    }
+    while count < heads.len() && heads[count].demands < number {
+        count += 1;
+    }
+    count
+}
+
+/// The number at a place, from 0; zero if there is none.
+fn number_at(numbers: &[i128], place: usize) -> i128
+    ensures { result ≡ get_or numbers.now place (pos 0) }
+{
+    match numbers.get(place) {
+        Some(number) => *number,
+        None => 0,
+    }
+}
+
+/// A whole number over a denominator.
+fn over(den: u128, whole: i128) -> Fraction
+    requires above_zero { 0 < den }
+    requires den_within { den < 2 ^ 127 }
+    requires within { IsWithin whole }
+    ensures fraction { IsFraction result }
+    ensures value { HasValue result whole den }
+{
+    Fraction::new(whole, den).unwrap()
+}
+
+impl<'t> Pair<'t> {
+    /// Appends its row, if all numbers fit.
+    pub(crate) fn push_to(
+        self,
+        players: usize,
+        rows: &mut Vec<Fraction>,
+    ) -> Result<bool, AllocError>
+        requires above { 0 < self.scale.den }
+        requires within { self.scale.den < 2 ^ 127 }
+        ensures row { IfOk result (λ fits. fits ≡ true
+            → HasPairRow self.entry players rows.old.items rows.new.items) }
+        ensures none { IfOk result (λ fits. fits ≡ false → rows.new.items ≡ rows.old.items) }
+    {
+        let before = rows.len();
+        for place in 0..players {
+            let first = number_at(self.first, place);
+            let second = number_at(self.second, place);
+            let Some(number) = combined(first, self.scale.first, second, self.scale.second) else {
+                rows.truncate(before);
+                return Ok(false);
+            };
+            rows.push(over(self.scale.den, number))?;
+        }
+        Ok(true)
+    }
+}
+
+impl Terms {
+    /// The only term from one place up to another; `None` if there are several. If there is none,
+    /// zeros over this denominator.
+    fn only(&self, start: usize, end: usize, den: u128) -> Option<Only<'_>>
+        requires shaped { IsShaped self.now }
+        requires within { end ≤ length self.now.heads.items }
+        ensures { IfSome result (λ only. IsOnly (part start end (entries self.now)) only) }
+    {
+        if start >= end {
+            return Some(Only {
+                head: Head {
+                    demands: 0,
+                    den,
+                    size: 0,
+                },
+                numbers: &[],
+            });
+        }
+        if end - start > 1 {
+            return None;
+        }
+        Some(Only {
+            head: self.heads[start],
+            numbers: self.row(start),
+        })
+    }
+
+    /// What these terms come to at an action of the fastest digit: the first of them, up to `free`,
+    /// which demand nothing, and those from one place up to another, which demand the action. `None`
+    /// if that is not known to fit.
+    pub(crate) fn pair(&self, free: usize, start: usize, end: usize) -> Option<Pair<'_>>
+        requires shaped { IsShaped self.now }
+        requires free { free ≤ length self.now.heads.items }
+        requires end { end ≤ length self.now.heads.items }
+        ensures { IfSome result (λ pair. (action : ℕ) → 1 ≤ action
+            → CountsBelow self.now.heads.items 1 free
+            → CountsBelow self.now.heads.items action start
+            → CountsBelow self.now.heads.items (action + 1) end
+            → ComeToPair action (entries self.now) pair) }
+    {
+        let den = if start < end {
+            self.heads[start].den
+        } else if free > 0 {
+            self.heads[0].den
+        } else {
+            1
+        };
+        let first = self.only(0, free, den)?;
+        let second = self.only(start, end, den)?;
+        let scale = scale_of(first.head, second.head)?;
+        if scale.den == 0 || scale.den > LARGEST || scale.size > LARGEST {
+            return None;
+        }
+        Some(Pair {
+            scale,
+            first: first.numbers,
+            second: second.numbers,
+        })
+    }
+}
