@@ -2,7 +2,7 @@
 //! to together.
 
 ghost use Rattle.std.specs.Prelude.{◌≡◌, ◌+◌, ◌<◌, ◌≤◌, ◌^◌, ◌+ℤ◌, ◌*ℤ◌, ℕ, IfOk, IfSome, get_or};
-ghost use Rattle.std.specs.Prelude.{false, length, pos, true};
+ghost use Rattle.std.specs.Prelude.{[], ◌∷◌, false, length, pos, true};
 ghost use Rattle.std.specs.List.Sorted.{IsNonDecreasingBy};
 ghost use Rattle.gf_fraction.specs.Ratio.{HasValue, IsFraction, IsWithin};
 ghost use Rattle.gf_form.specs.inner.rows.Entries.{CountsBelow, IsShaped, entries, part};
@@ -133,11 +133,13 @@ impl Terms {
         requires shaped { IsShaped self.now }
         requires free { free ≤ length self.now.heads.items }
         requires end { end ≤ length self.now.heads.items }
-        ensures { IfSome result (λ pair. (action : ℕ) → 1 ≤ action
+        ensures last { IfSome result (λ pair. (action : ℕ) → 1 ≤ action
             → CountsBelow self.now.heads.items 1 free
             → CountsBelow self.now.heads.items action start
             → CountsBelow self.now.heads.items (action + 1) end
-            → ComeToPair action (entries self.now) pair) }
+            → ComeToPair (1 ∷ []) (action ∷ []) (entries self.now) pair) }
+        ensures all { IfSome result (λ pair. free ≡ length self.now.heads.items → end ≤ start
+            → ComeToPair [] [] (entries self.now) pair) }
     {
         let den = if start < end {
             self.heads[start].den

@@ -200,6 +200,33 @@ impl Written {
         self.push_walked(asked, before)
     }
 
+    /// Appends the rows of these profiles, to each of which the terms come.
+    fn push_alike(
+        &mut self,
+        asked: &Asked<'_, '_, '_>,
+        terms: &Terms,
+        run: Run,
+    ) -> Result<(), FormFault>
+        requires asked { IsAsked asked.now }
+        requires places { run.from ≤ run.to }
+        requires within { run.to ≤ length (picked_profiles (numbers_in asked.now.picked.now)) }
+        requires written { AreWritten asked.now run.from self.old }
+        requires shaped { IsShaped terms.now }
+        requires players { terms.now.players ≡ length asked.now.game.now.players }
+        requires settles { SettleRows asked.now [] terms.now run }
+        ensures written { OnOk result (AreWritten asked.now run.to self.new) }
+        ensures few { IsErrOf result FormFault.TooManyProfiles → ⊥ }
+        ensures overflow { (position : ℕ) → IsErrOf result (FormFault.Overflow position)
+            → IsFirstWithout (HasValues asked.now.game.now)
+            (picked_profiles (numbers_in asked.now.picked.now)) position }
+    {
+        let all = terms.heads.len();
+        for before in run.from..run.to {
+            self.push_row(asked, terms.pair(all, all, all), terms.players, before)?;
+        }
+        Ok(())
+    }
+
     /// Appends the rows of these profiles, by what the terms come to at the choice for the only digit.
     fn push_last(
         &mut self,
@@ -274,7 +301,7 @@ impl Written {
             (picked_profiles (numbers_in asked.now.picked.now)) position }
     {
         let [slowest, faster @ ..] = digits else {
-            return self.push_all_walked(asked, run.from, run.to);
+            return self.push_alike(asked, terms, run);
         };
         if faster.is_empty() {
             return self.push_last(asked, terms, run);

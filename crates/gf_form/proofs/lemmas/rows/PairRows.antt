@@ -4,7 +4,7 @@ use Rattle.std.proofs.Common.{List, [], ◌∷◌, ◌++◌, ◌⊎◌, inl, inr
 use Rattle.std.proofs.Common.{take, refl, ap, sym, subst, ◌∙◌, arith, true, Option, None}
 use Rattle.std.specs.Prelude.{IfSome, ◌==◌}
 use Rattle.std.proofs.Math.IntN.{zero-*ℤ}
-use Rattle.std.proofs.Math.Seq.{get_or-append_seam}
+use Rattle.std.proofs.Math.Seq.{get_or-append_seam, take-length}
 use Rattle.std.proofs.lemmas.Bool.{cases_lt, eqb-true}
 use Rattle.std.proofs.lemmas.Int.{ints}
 use Rattle.std.proofs.lemmas.List.{append-nil, append_assoc, get_or_append_left, length-append}
@@ -101,7 +101,7 @@ pub come_to_pair : (from : Terms) (action free start end : ℕ) → 1 ≤ action
     → (first second : Only) (s : Scale) → IsOnly (part 0 free (entries from)) first
     → IsOnly (part start end (entries from)) second → IsScale first.head second.head s
     → 0 < s.den → s.den < 2 ^ 127 → s.size < 2 ^ 127
-    → ComeToPair action (entries from)
+    → ComeToPair (1 ∷ []) (action ∷ []) (entries from)
     (record { scale = s; first = first.numbers; second = second.numbers })
 come_to_pair from action free start end some frees starts ends first second s only_first only_second
     is above within small =
@@ -141,11 +141,61 @@ come_to_pair from action free start end some frees starts ends first second s on
           );
     }
 
+-- all terms, if there is at most one, and none beside them
+pub come_alone : (from : Terms) (free start end : ℕ) → free ≡ length from.heads.items
+    → end ≤ start → (first second : Only) (s : Scale) → IsOnly (part 0 free (entries from)) first
+    → IsOnly (part start end (entries from)) second → IsScale first.head second.head s
+    → 0 < s.den → s.den < 2 ^ 127 → s.size < 2 ^ 127
+    → ComeToPair [] [] (entries from)
+    (record { scale = s; first = first.numbers; second = second.numbers })
+come_alone from free start end whole none first second s only_first only_second is above within small =
+    let es = entries from in
+    let den = s.den in
+    let count = entries_count from.players from.heads.items from.numbers.items in
+    let all : free - 0 ≡ length es = omega (arith, whole, count) in
+    let a = subst (λ (xs : List Entry). ComeToOne xs (entry_of first) den)
+    (ap (λ (n : ℕ). take n es) all ∙ take-length es)
+    (only_first den is.first.above is.first.divides) in
+    let b = subst (λ (xs : List Entry). ComeToOne xs (entry_of second) den)
+    (part_past es start end none) (only_second den is.second.above is.second.divides) in
+    record {
+      above = above;
+      within = within;
+      exact = a.exact;
+      size = omega (arith, a.sizes, is.size, small);
+      sums = λ k.
+          let numbers : number_at k (entry_of first) *ℤ pos (den / first.head.den)
+          +ℤ number_at k (entry_of second) *ℤ pos (den / second.head.den)
+          ≡ number_at k (entry_of first) *ℤ pos s.first
+          +ℤ number_at k (entry_of second) *ℤ pos s.second =
+          λ i. number_at k (entry_of first) *ℤ pos (sym is.first.factor_is i)
+          +ℤ number_at k (entry_of second) *ℤ pos (sym is.second.factor_is i) in
+          omega (arith, ints, a.sums k, b.sums k, numbers);
+    }
+
 -- ---- what is paid
+
+pub paid_by : (g : Game) (number : ℕ) (steps choices : List ℕ) (es : List Entry) (pair : Pair)
+    → Settles g number steps choices es → ComeToPair steps choices es pair → IsPaidPair g number pair
+paid_by g number steps choices es pair settles come = record {
+  above = come.above;
+  within = come.within;
+  pays = λ k less. subst (PaysOver g number k pair.scale.den) (come.sums k)
+      (settles k less pair.scale.den come.above come.within come.exact come.size);
+}
+
+pub paid_alike : (g : Game) (terms : Terms) (least number : ℕ) (pair : Pair)
+    → SettlesAt g [] terms least number → ComeToPair [] [] (entries terms) pair
+    → IsPaidPair g number pair
+paid_alike g terms least number pair before come =
+    let none : number - least ≡ 0 = let to = before.to in omega (arith, to) in
+    paid_by g number [] [] (entries terms) pair
+    (subst (λ (k : ℕ). Settles g number [] (get_or ([] ∷ []) k []) (entries terms)) none
+    before.settles) come
 
 pub paid_pair : (g : Game) (n : ℕ) (terms : Terms) (least number action : ℕ) (pair : Pair)
     → SettlesAt g (n ∷ []) terms least number → action ≡ number - least + 1
-    → ComeToPair action (entries terms) pair → IsPaidPair g number pair
+    → ComeToPair (1 ∷ []) (action ∷ []) (entries terms) pair → IsPaidPair g number pair
 paid_pair g n terms least number action pair before is come =
     let r = number - least in
     let there : r < n = let to = before.to in omega (arith, to) in
@@ -153,14 +203,9 @@ paid_pair g n terms least number action pair before is come =
     let choices : get_or (all_choices (n ∷ [])) r [] ≡ action ∷ [] =
     ap (λ (k : ℕ). get_or (all_choices (n ∷ [])) k []) whole
     ∙ choice_first n [] r 0 there (lit< tt) ∙ ap (λ (a : ℕ). a ∷ []) (sym is) in
-    let settles = subst (λ (c : List ℕ). Settles g number (1 ∷ []) c (entries terms)) choices
-    before.settles in
-    record {
-      above = come.above;
-      within = come.within;
-      pays = λ k less. subst (PaysOver g number k pair.scale.den) (come.sums k)
-          (settles k less pair.scale.den come.above come.within come.exact come.size);
-    }
+    paid_by g number (1 ∷ []) (action ∷ []) (entries terms) pair
+    (subst (λ (c : List ℕ). Settles g number (1 ∷ []) c (entries terms)) choices before.settles)
+    come
 
 pub row_settled : (g : Game) → IsGame g → IsSpellable g → (number players : ℕ)
     (profile : List ℕ) (pair : Pair) (old new : List Ratio)
@@ -229,6 +274,12 @@ pub some_weaker : {A : Type 0} (o : Option A) (P Q : A → Type 0) → ((x : A) 
     → IfSome o P → IfSome o Q
 some_weaker None P Q each h = tt
 some_weaker (Some x) P Q each h = each x h
+
+pub no_digit : (asked : Asked) (digits : List Digit) (terms : Terms) (run : Run)
+    → length digits < 1 → SettleRows asked (actions_at digits) terms run
+    → SettleRows asked [] terms run
+no_digit asked [] terms run none settles = settles
+no_digit asked (d ∷ ds) terms run none settles = absurd (omega (arith, none))
 
 pub one_digit : (asked : Asked) (digits : List Digit) (terms : Terms) (run : Run)
     → 1 ≤ length digits → (length (take (length digits - 1) (drop 1 digits)) == 0) ≡ true

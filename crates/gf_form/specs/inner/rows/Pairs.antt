@@ -1,7 +1,7 @@
 -- What at most two terms come to: one that demands nothing, and one that demands an action of the
 -- fastest digit.
 use Rattle.std.specs.Prelude.{◌≡◌, ℕ, ℤ, pos, ◌/◌, ◌<◌, ◌≤◌, ◌*◌, ◌^◌, ◌+ℤ◌, ◌*ℤ◌}
-use Rattle.std.specs.Prelude.{List, [], ◌∷◌, ◌++◌, get_or, length}
+use Rattle.std.specs.Prelude.{List, [], ◌++◌, get_or, length}
 use Rattle.std.specs.Int.{◌∣◌}
 use Rattle.std.specs.List.{AllByRecursion}
 use Rattle.gf_fraction.specs.Ratio.{HasValue, IsFraction, Ratio}
@@ -31,14 +31,13 @@ abbrev pub pair_number : Pair → ℕ → ℤ
 pair_number pair k = get_or pair.first.now k (pos 0) *ℤ pos pair.scale.first
     +ℤ get_or pair.second.now k (pos 0) *ℤ pos pair.scale.second
 
--- at this action of the fastest digit the terms come to the pair, which fits
-pub record ComeToPair (action : ℕ) (es : List Entry) (pair : Pair) : Type 0 where
+-- at these choices the terms come to the pair, which fits
+pub record ComeToPair (steps choices : List ℕ) (es : List Entry) (pair : Pair) : Type 0 where
   pub above : 0 < pair.scale.den
   pub within : pair.scale.den < 2 ^ 127
-  pub exact : AreExactAt pair.scale.den (1 ∷ []) (action ∷ []) es
-  pub size : size_of_entries pair.scale.den (1 ∷ []) (action ∷ []) es < 2 ^ 127
-  pub sums : (k : ℕ) → sum_of_entries k pair.scale.den (1 ∷ []) (action ∷ []) es
-      ≡ pair_number pair k
+  pub exact : AreExactAt pair.scale.den steps choices es
+  pub size : size_of_entries pair.scale.den steps choices es < 2 ^ 127
+  pub sums : (k : ℕ) → sum_of_entries k pair.scale.den steps choices es ≡ pair_number pair k
 
 -- the pair is what is paid at the profile with this number, from 0, among all
 pub record IsPaidPair (g : Game) (number : ℕ) (pair : Pair) : Type 0 where

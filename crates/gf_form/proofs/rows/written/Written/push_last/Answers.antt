@@ -22,4 +22,4 @@ push_row-requires-clause-paid c =
     c.deref-in-loop-before.ensures.value c.count_near-start.ensures)
     (subst (λ (hs : List Head). CountsBelow hs (action + 1) c.count_near-end.result)
     c.deref-in-loop-before-2.ensures.value c.count_near-end.ensures)))
-    c.pair-pair.ensures
+    c.pair-pair.ensures.last

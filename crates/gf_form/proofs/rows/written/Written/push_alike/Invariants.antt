@@ -1,0 +1,5 @@
+use Rattle.gf_form.specs.inner.rows.SettledRows.{AreWritten}
+use Rattle.gf_form.proofs.rows.written.Written.push_alike.Given as goal
+
+abbrev pub invariant-loop-before : goal.invariant-loop-before
+invariant-loop-before l = AreWritten l.asked l.before l.self
