@@ -1,5 +1,5 @@
-//! Reduced strategies: which sets are relevant under a strategy, and the first of the strategies that
-//! reduce to one.
+//! Reduced strategies: which sets are relevant under a strategy, and the first of the strategies
+//! that reduce to one.
 
 pub(crate) mod first;
 pub(crate) mod labels;

@@ -1,5 +1,5 @@
-//! What the players are paid where they choose given actions: the tree is walked once, on a stack of
-//! rows.
+//! What the players are paid where they choose given actions: the tree is walked once, on a stack
+//! of rows.
 
 pub(crate) mod evaluate;
 pub(crate) mod expectation;

@@ -255,7 +255,8 @@ impl Levels {
 
     /// Makes the choices on one more level.
     fn go_on(&mut self, alloc: Global, visits: &[Visit]) -> Result<(), AllocError>
-        requires sets { (sets : ℕ) × AreOrdered sets 1 visits.now × IsLevels sets visits.now self.old }
+        requires sets { (sets : ℕ) × AreOrdered sets 1 visits.now
+            × IsLevels sets visits.now self.old }
         requires more { length self.old.lists.items ≤ self.old.count }
         ensures count { self.new.count ≡ self.old.count }
         ensures strategy { self.new.strategy.items ≡ self.old.strategy.items }
@@ -297,7 +298,8 @@ impl Levels {
         visits: &[Visit],
         strategy: &[u32],
     ) -> Result<(), AllocError>
-        requires sets { (sets : ℕ) × AreOrdered sets 1 visits.now × IsLevels sets visits.now self.old }
+        requires sets { (sets : ℕ) × AreOrdered sets 1 visits.now
+            × IsLevels sets visits.now self.old }
         ensures levels { OnOk result ((sets : ℕ) → AreOrdered sets 1 visits.now
             → IsLevels sets visits.now self.old → IsLevels sets visits.now self.new) }
         ensures known { OnOk result ((sets : ℕ) → AreOrdered sets 1 visits.now

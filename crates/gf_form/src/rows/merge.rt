@@ -1,5 +1,5 @@
-//! What terms become if an action is chosen at the slowest digit: those that demand nothing there and
-//! those that demand the action, merged in order of demands.
+//! What terms become if an action is chosen at the slowest digit: those that demand nothing there
+//! and those that demand the action, merged in order of demands.
 
 ghost use Rattle.std.specs.Prelude.{◌≡◌, ◌+◌, ◌*◌, ◌<◌, ◌≤◌, ◌^◌, ℕ, OnOk};
 ghost use Rattle.std.specs.List.Sorted.{IsNonDecreasingBy};

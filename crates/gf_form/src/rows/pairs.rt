@@ -127,8 +127,8 @@ impl Terms {
     }
 
     /// What these terms come to at an action of the fastest digit: the first of them, up to `free`,
-    /// which demand nothing, and those from one place up to another, which demand the action. `None`
-    /// if that is not known to fit.
+    /// which demand nothing, and those from one place up to another, which demand the action.
+    /// `None` if that is not known to fit.
     pub(crate) fn pair(&self, free: usize, start: usize, end: usize) -> Option<Pair<'_>>
         requires shaped { IsShaped self.now }
         requires free { free ≤ length self.now.heads.items }

@@ -1,5 +1,5 @@
-//! What the players are paid, as a list of terms: what each adds to their payoffs, and what it demands
-//! of the choices.
+//! What the players are paid, as a list of terms: what each adds to their payoffs, and what it
+//! demands of the choices.
 
 ghost use Rattle.std.specs.Prelude.{◌≡◌, ◌+◌, ◌*◌, ◌<◌, ◌≤◌, ◌+ℤ◌, ◌*ℤ◌, ◌++◌, [], ◌∷◌, ℕ, ℤ};
 ghost use Rattle.std.specs.Prelude.{IfOk, List, OnOk, get_or, length, pos, true};
@@ -104,7 +104,8 @@ impl Terms {
         requires alike { length first.now ≡ length second.now }
         requires first { AllByRecursion IsWithin first.now }
         requires second { AllByRecursion IsWithin second.now }
-        ensures numbers { IfOk result (λ fits. HasNumbers first.now second.now by_first by_second fits
+        ensures numbers { IfOk result
+            (λ fits. HasNumbers first.now second.now by_first by_second fits
             self.old.numbers.items self.new.numbers.items) }
         ensures heads { self.new.heads ≡ self.old.heads }
         ensures players { self.new.players ≡ self.old.players }
@@ -122,7 +123,8 @@ impl Terms {
         Ok(fits)
     }
 
-    /// Appends the sum of two terms of a list, at these places, from 0, with the demands of the first.
+    /// Appends the sum of two terms of a list, at these places, from 0, with the demands of the
+    /// first.
     #[inline]
     pub(crate) fn push_sum(
         &mut self,

@@ -64,8 +64,8 @@ pub(crate) struct Written {
     pub spare: Vec<Terms>,
 }
 
-/// What each player is paid at the profile with this number, from 0, by a walk through the tree. The
-/// strategies are those of the profile.
+/// What each player is paid at the profile with this number, from 0, by a walk through the tree.
+/// The strategies are those of the profile.
 fn row_by_walk(
     alloc: Global,
     game: &Game<'_>,
@@ -170,8 +170,8 @@ impl Written {
         Ok(())
     }
 
-    /// Appends the row of the profile at this place, from 0: that of a pair, if there is one and its
-    /// numbers fit, and otherwise one by a walk.
+    /// Appends the row of the profile at this place, from 0: that of a pair, if there is one and
+    /// its numbers fit, and otherwise one by a walk.
     fn push_row(
         &mut self,
         asked: &Asked<'_, '_, '_>,
@@ -227,7 +227,8 @@ impl Written {
         Ok(())
     }
 
-    /// Appends the rows of these profiles, by what the terms come to at the choice for the only digit.
+    /// Appends the rows of these profiles, by what the terms come to at the choice for the only
+    /// digit.
     fn push_last(
         &mut self,
         asked: &Asked<'_, '_, '_>,
@@ -275,7 +276,8 @@ impl Written {
         }
     }
 
-    /// Appends the rows of these profiles, by what the terms come to at the choices for these digits.
+    /// Appends the rows of these profiles, by what the terms come to at the choices for these
+    /// digits.
     pub(crate) fn push_rows(
         &mut self,
         asked: &Asked<'_, '_, '_>,

@@ -70,7 +70,8 @@ impl Values {
             → AreRows players (rows_on self.new)) }
         ensures added { OnOk result ((k : ℕ)
             → WeighsTo chance (column k (rows_on self.old)) (column k (rows_on self.new))) }
-        ensures overflow { IsErrOf result EvalFault.Overflow → (k : ℕ) × (below : List (Option Ratio))
+        ensures overflow { IsErrOf result EvalFault.Overflow → (k : ℕ)
+            × (below : List (Option Ratio))
             × ((players : ℕ) → AreRows players (rows_on self.old) → k < players)
             × WeighsTo chance (column k (rows_on self.old)) (None ∷ below) }
     {
@@ -93,7 +94,8 @@ impl Values {
             → IsRow players payoffs.now → AreRows players (rows_on self.new)) }
         ensures added { OnOk result ((k : ℕ) → PaysTo (at_place payoffs.now k)
             (column k (rows_on self.old)) (column k (rows_on self.new))) }
-        ensures overflow { IsErrOf result EvalFault.Overflow → (k : ℕ) × (below : List (Option Ratio))
+        ensures overflow { IsErrOf result EvalFault.Overflow → (k : ℕ)
+            × (below : List (Option Ratio))
             × ((players : ℕ) → IsRow players payoffs.now → k < players)
             × PaysTo (at_place payoffs.now k) (column k (rows_on self.old)) (None ∷ below) }
     {

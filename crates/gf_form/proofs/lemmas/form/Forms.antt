@@ -160,7 +160,8 @@ pub labels_counted : (g : Game) → map length (map (strategy_labels g) (players
     ≡ map (λ player. length (strategies g player)) (players_of g)
 labels_counted g =
     map_twice length (strategy_labels g) (players_of g)
-    ∙ map_same (λ player. length (strategy_labels g player)) (λ player. length (strategies g player))
+    ∙ map_same (λ player. length (strategy_labels g player))
+    (λ player. length (strategies g player))
     (players_of g) (λ player i. length-map (strategies g player) strategy_label)
 
 pub all_profiles : (g : Game) → form_profiles (strategy_labels g) g ≡ full_profiles g

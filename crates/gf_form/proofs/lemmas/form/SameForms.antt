@@ -57,7 +57,8 @@ module _ (g : Game) (r : Renumbering) (game : IsGame g) (is : IsRenumbering g r)
   sets_carried player = filter_of_map (λ s. s.key.player == player) (λ s. s.key.player == player)
       image g.sets (λ s i. refl)
 
-  pub keys_carried : (player : ℕ) → player_keys h player ≡ map (renumbered_set r) (player_keys g player)
+  pub keys_carried : (player : ℕ)
+      → player_keys h player ≡ map (renumbered_set r) (player_keys g player)
   keys_carried player =
       ap (map (λ s. s.key)) (sets_carried player)
       ∙ map_twice (λ (s : Described SetKey InformationSet). s.key) image (player_sets g player)

@@ -195,7 +195,8 @@ passed_by test all d numbers i (suc m) h within fails =
     let next : i + m + 1 ≡ i + suc m = omega arith in
     subst (AreFirst test all d numbers) next
     (first_left test all d (i + m) (omega (arith, within)) numbers
-    (passed_by test all d numbers i m h (omega (arith, within)) (λ j less. fails j (omega (arith, less))))
+    (passed_by test all d numbers i m h (omega (arith, within))
+    (λ j less. fails j (omega (arith, less))))
     (fails m (omega arith)))
 
 pub alike_moved : (counts own : List ℕ) (relevant flags : List Bool) (strategy s : List ℕ)
@@ -217,7 +218,8 @@ choice_where relevant (k ∷ keys) [] t es et h key r = absurd (omega (arith, es
 choice_where relevant (k ∷ keys) (a ∷ s) [] es et h key r = absurd (omega (arith, et))
 choice_where relevant (k ∷ keys) (a ∷ s) (b ∷ t) es et h key r =
     by (same_set k key) refl
-    (choice_where relevant keys s t (omega (arith, es)) (omega (arith, et)) (λ i f. h (suc i) f) key r)
+    (choice_where relevant keys s t (omega (arith, es)) (omega (arith, et)) (λ i f. h (suc i) f) key
+    r)
   where
     by : (d : Bool) → same_set k key ≡ d → choice_at keys s key ≡ choice_at keys t key
         → (if same_set k key then a else choice_at keys s key)
@@ -279,7 +281,8 @@ module _ (g : Game) (game : IsGame g) (player n alike : ℕ)
             first_where (relevant_sets g player t) t k
             (choice_length counts t hs ∙ sym (flags_counted g game player t)) first
             (omega (arith, inside, flags_counted g game player t))
-            (ap (λ (flags : List Bool). get_or flags k false) alike_flags ∙ (are.unmoved k le inside).0)),
+            (ap (λ (flags : List Bool). get_or flags k false) alike_flags
+            ∙ (are.unmoved k le inside).0)),
       ))
     where
       inside : n + m < product counts

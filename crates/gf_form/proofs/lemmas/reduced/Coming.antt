@@ -52,7 +52,8 @@ module _ (g : Game) (game : IsGame g) (choices : SetKey → ℕ) (key : SetKey) 
       → come (map (from_node n k) ps)
       ≡ (is_own_choice choices key.player (record { node = n; taken = k })
       && come ps)
-  any_below n k [] other = none_chosen (is_own_choice choices key.player (record { node = n; taken = k }))
+  any_below n k [] other =
+      none_chosen (is_own_choice choices key.player (record { node = n; taken = k }))
     where
       none_chosen : (b : Bool) → false ≡ (b && false)
       none_chosen true = refl
@@ -89,7 +90,8 @@ module _ (g : Game) (game : IsGame g) (choices : SetKey → ℕ) (key : SetKey) 
         some_children (more t ts) some below false other = below other
 
         at_set : (o : Option SetKey) → n.set ≡ o → MatchOption o (count ts ≡ 0)
-            (λ key. option_map (λ set. length set.actions) (set_at g key) ≡ Some (count ts)) → IsBelow ts
+            (λ key. option_map (λ set. length set.actions) (set_at g key) ≡ Some (count ts))
+            → IsBelow ts
             → come (plays (branch n ts))
             ≡ option_map_or (λ own. same_set key own || trees_come choices key n 1 ts) o false
         at_set None at c below = no_child ts c

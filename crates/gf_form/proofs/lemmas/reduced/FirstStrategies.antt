@@ -261,7 +261,8 @@ module _ (g : Game) (game : IsGame g) (player : ℕ) where
 
   pub reduced_shown : (s : List ℕ) → IsChoice counts s
       → reduced g player s ≡ shown (relevant_sets g player s) s
-  reduced_shown s h = shown_by (is_relevant g (choice_at keys s)) keys s (keys_distinct g game player)
+  reduced_shown s h =
+      shown_by (is_relevant g (choice_at keys s)) keys s (keys_distinct g game player)
       (keys_counted ∙ sym (choice_length counts s h))
 
   is_choice : (s : List ℕ) → Has (strategies g player) s → IsChoice counts s
@@ -290,7 +291,8 @@ module _ (g : Game) (game : IsGame g) (player : ℕ) where
       )
 
   only_first : (s t : List ℕ) → Has (strategies g player) s → Has (strategies g player) t
-      → is_first g player s ≡ true → is_first g player t ≡ true → reduced g player s ≡ reduced g player t → s ≡ t
+      → is_first g player s ≡ true → is_first g player t ≡ true
+      → reduced g player s ≡ reduced g player t → s ≡ t
   only_first s t i j hs ht e =
       one_shown counts (relevant_sets g player s) (relevant_sets g player t) s t (flags_counted s)
       (flags_counted t) (is_choice s i) (is_choice t j) hs ht
@@ -300,7 +302,8 @@ module _ (g : Game) (game : IsGame g) (player : ℕ) where
       ≡ map (reduced g player) (filter (is_first g player) (strategies g player))
   reduced_strategies_are =
       first_of_each (pointwise same_choice) choices_equality (reduced g player)
-      (is_first g player) (place counts) (strategies g player) one_first only_first (product counts) (places_are counts)
+      (is_first g player) (place counts) (strategies g player) one_first only_first (product counts)
+      (places_are counts)
 
   -- no more than all strategies
   pub fewer_reduced : length (reduced_strategies g player) ≤ length (strategies g player)

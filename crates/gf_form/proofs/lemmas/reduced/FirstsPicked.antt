@@ -1,5 +1,5 @@
--- The profiles of the first strategies that reduce to each reduced strategy are those of the reduced
--- form, in its order.
+-- The profiles of the first strategies that reduce to each reduced strategy are those of the
+-- reduced form, in its order.
 use Rattle.std.proofs.Common.{◌≡◌, ℕ, zero, suc, ◌+◌, ◌-◌, ◌<◌, ◌≤◌, List, [], ◌∷◌}
 use Rattle.std.proofs.Common.{Option, Some, length, map, get_or, take, refl, sym, ap, subst}
 use Rattle.std.proofs.Common.{◌∙◌, ◌++◌, add-one, arith, inl, inr}

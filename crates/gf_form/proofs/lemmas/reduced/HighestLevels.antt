@@ -48,7 +48,8 @@ highest_more sets vs levels highest next i v new ordered h at is upto above one 
     })
   where
     here : get_or (highest ++ new ∷ []) (suc i) 0 ≡ new
-    here = ap (λ (n : ℕ). get_or (highest ++ new ∷ []) n 0) (sym h.counted) ∙ get_or-append_seam highest new [] 0
+    here = ap (λ (n : ℕ). get_or (highest ++ new ∷ []) n 0) (sym h.counted)
+        ∙ get_or-append_seam highest new [] 0
 
     same : (k : ℕ) (w : Visit) → k ≡ i → slice_get vs k ≡ Some w → v ≡ w
     same k w e there = same_Some v w (sym at ∙ ap (slice_get vs) (sym e) ∙ there)
@@ -60,7 +61,8 @@ highest_more sets vs levels highest next i v new ordered h at is upto above one 
         omega (
           arith,
           h.visit k w earlier there,
-          get_or_append_left highest (new ∷ []) 0 w.last.visit (omega (arith, parent, earlier, h.counted)),
+          get_or_append_left highest (new ∷ []) 0 w.last.visit
+              (omega (arith, parent, earlier, h.counted)),
           get_or_append_left highest (new ∷ []) 0 (suc k) (omega (arith, earlier, h.counted)),
         )
     by k w there (inr past) less =

@@ -96,7 +96,8 @@ module _ (left : ℕ → Bool) where
       by true (suc i) less (inr h) others = others i (omega (arith, less)) h
       by false i less h others = others i less h
 
-pub are_numbers : (vs : List Visit) (test : Move → Bool) (numbers : List ℕ) → AreLeft vs test numbers
+pub are_numbers : (vs : List Visit) (test : Move → Bool) (numbers : List ℕ)
+    → AreLeft vs test numbers
     → AreNumbers vs numbers
 are_numbers vs test numbers h =
     subst (AreNumbers vs) (sym h.are)
@@ -159,7 +160,8 @@ module _ (sets : ℕ) (vs : List Visit) (ordered : AreOrdered sets 1 vs) (test m
     (numbers : List ℕ) (before : AreLeft vs test numbers) where
   below : (i m : ℕ) → i < length numbers → Has (take i numbers) m → m < get_or numbers i 0
   below i m less h =
-      subst (λ (ns : List ℕ). i < length ns → Has (take i ns) m → m < get_or ns i 0) (sym before.are)
+      subst (λ (ns : List ℕ). i < length ns → Has (take i ns) m → m < get_or ns i 0)
+      (sym before.are)
       (ascending before.left 1 (length vs) i m) less h
 
   there : (i m : ℕ) → Has (take i numbers) m → (1 ≤ m) × (m ≤ length vs)
@@ -260,7 +262,8 @@ module _ (sets : ℕ) (vs : List Visit) (ordered : AreOrdered sets 1 vs) (test m
           let found : Has (take (length numbers) numbers) (suc k) =
           subst (λ (ns : List ℕ). Has ns (suc k)) (sym (whole ∙ before.are))
           (in_filter before.left (numbers_from 1 (length vs)) (suc k)
-          (has_number 1 (length vs) (suc k) (omega arith) (omega (arith, slice_get_within vs k v at))) e) in
+          (has_number 1 (length vs) (suc k) (omega arith)
+          (omega (arith, slice_get_within vs k v at))) e) in
           let is : visit_at vs (suc k) ≡ v = visit_is vs k v at in
           (λ i. e i && h.flagged (suc k) found i)
           ∙ (λ i. sym parts.0 i && (get_or flags (is i).last.visit false && made (is i).last))
@@ -293,7 +296,8 @@ level_within levels count set are = by levels set are.each
 pub made_more : (levels : List ℕ) (level : ℕ) (choices : ℕ → ℕ) (m : Move) → 1 ≤ level
     → is_made_to levels level choices m
     ≡ (is_made_to levels (level - 1) choices m && is_made_at levels level choices m)
-made_more levels level choices m above = by (choices m.set == m.action) (cases_lt level x) (cases_lt x level)
+made_more levels level choices m above =
+    by (choices m.set == m.action) (cases_lt level x) (cases_lt x level)
   where
     x : ℕ
     x = get_or levels m.set 1
@@ -344,7 +348,8 @@ met_left left position at first (v ∷ vs) h =
         → list_any (λ n. (at n).set == position) (cond b (first ∷ later) later)
         ≡ ((v.set == position && b) || is_met left position (first + 1) vs)
     by true others =
-        λ i. (ap (λ (w : Visit). w.set == position) here ∙ sym (and-true (v.set == position))) i || others i
+        λ i. (ap (λ (w : Visit). w.set == position) here ∙ sym (and-true (v.set == position))) i
+        || others i
     by false others =
         others ∙ ap (λ b. b || is_met left position (first + 1) vs)
         (sym (and-false (v.set == position)))

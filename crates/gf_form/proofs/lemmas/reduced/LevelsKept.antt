@@ -37,7 +37,8 @@ module _ {A : Type 0} (lists : Vec (Vec A Global) Global) where
   list_kept : (more : Vec (Vec A Global) Global) (n i : ℕ) → more.items ≡ take n lists.items → i < n
       → get_or (map (λ (list : Vec A Global). list.items) more.items) i [] ≡ get_or items_in i []
   list_kept more n i is less =
-      ap (λ (ls : List (Vec A Global)). get_or (map (λ (list : Vec A Global). list.items) ls) i []) is
+      ap (λ (ls : List (Vec A Global)). get_or (map (λ (list : Vec A Global). list.items) ls) i [])
+      is
       ∙ ap (λ (ls : List (List A)). get_or ls i [])
       (sym (take-map (λ (list : Vec A Global). list.items) n lists.items))
       ∙ get_or-take n items_in i [] less
@@ -48,7 +49,8 @@ module _ {A : Type 0} (lists more : Vec (Vec A Global) Global) (list : Vec A Glo
   all_items = ap (map (λ (list : Vec A Global). list.items)) is
       ∙ map-append (λ (list : Vec A Global). list.items) lists.items (list ∷ [])
 
-  pushed_before : (i : ℕ) → i < length lists.items → get_or (items_in more) i [] ≡ get_or (items_in lists) i []
+  pushed_before : (i : ℕ) → i < length lists.items
+      → get_or (items_in more) i [] ≡ get_or (items_in lists) i []
   pushed_before i less =
       ap (λ (ls : List (List A)). get_or ls i []) all_items
       ∙ get_or_append_left (items_in lists) (list.items ∷ []) [] i
@@ -169,7 +171,8 @@ module _ (sets : ℕ) (vs : List Visit) (old : Levels) (lists : Lists) (known : 
       fits : (level : ℕ) → (level < length old.lists.items) ⊎ (length old.lists.items ≤ level)
           → level ≤ length old.lists.items → length (get_or (items_in known) level []) ≡ sets
       fits level (inl less) within =
-          ap length (pushed_before old.known known flags is_known level (omega (arith, less, h.as_many)))
+          ap length (pushed_before old.known known flags is_known level
+          (omega (arith, less, h.as_many)))
           ∙ h.counted level less
       fits level (inr past) within =
           ap length (pushed_last old.known known flags is_known level
@@ -183,7 +186,8 @@ module _ (sets : ℕ) (vs : List Visit) (old : Levels) (lists : Lists) (known : 
       by level (inl less) within =
           subst (IsLevel sets vs old.of_sets.items old.of_visits.items level old.strategy.items
           (get_or (items_in lists) level []))
-          (sym (pushed_before old.known known flags is_known level (omega (arith, less, h.as_many))))
+          (sym (pushed_before old.known known flags is_known level
+          (omega (arith, less, h.as_many))))
           (subst (λ (ns : List ℕ). IsLevel sets vs old.of_sets.items old.of_visits.items level
           old.strategy.items ns (known_to old level))
           (sym (pushed_before old.lists lists list is level less)) (h.each level less))
@@ -246,7 +250,8 @@ none_reached sets vs of_sets count strategy of_visits lists known left all none 
       counted = λ level less.
           let zeroth : 0 ≡ level = omega (arith, less, ap length is) in
           subst (λ (n : ℕ). length (get_or (items_in known) n []) ≡ sets) zeroth
-          (ap (λ (ls : List (Vec Bool Global)). length (get_or (map (λ (list : Vec Bool Global). list.items) ls) 0 []))
+          (ap (λ (ls : List (Vec Bool Global)). length
+          (get_or (map (λ (list : Vec Bool Global). list.items) ls) 0 []))
           is_known ∙ wide);
       each = λ level less.
           let zeroth : 0 ≡ level = omega (arith, less, ap length is) in
@@ -254,13 +259,16 @@ none_reached sets vs of_sets count strategy of_visits lists known left all none 
           (get_or (items_in lists) n []) (get_or (items_in known) n [])) zeroth
           (subst (IsLevel sets vs of_sets.items of_visits.items 0 strategy.items
           (get_or (items_in lists) 0 []))
-          (sym (ap (λ (ls : List (Vec Bool Global)). get_or (map (λ (list : Vec Bool Global). list.items) ls) 0 [])
+          (sym (ap (λ (ls : List (Vec Bool Global)). get_or
+          (map (λ (list : Vec Bool Global). list.items) ls) 0 [])
           is_known))
           (subst (λ (ns : List ℕ). IsLevel sets vs of_sets.items of_visits.items 0 strategy.items ns
           none.items)
-          (sym (ap (λ (ls : List (Vec ℕ Global)). get_or (map (λ (list : Vec ℕ Global). list.items) ls) 0 [])
+          (sym (ap (λ (ls : List (Vec ℕ Global)). get_or
+          (map (λ (list : Vec ℕ Global). list.items) ls) 0 [])
           is))
-          (none_chosen sets vs of_sets.items of_visits.items count strategy.items all.items none.items
+          (none_chosen sets vs of_sets.items of_visits.items count strategy.items all.items
+          none.items
           levels highest numbers nothing)));
     }
 
@@ -307,7 +315,8 @@ pub agree_less : (levels old new : List ℕ) (before kept less : ℕ) → Agree 
     → get_or levels (before + 1) 1 ≤ kept → 1 ≤ get_or levels (before + 1) 1
     → less ≡ get_or levels (before + 1) 1 - 1 → Agree levels old new (before + 1) less
 agree_less levels old new before kept less h upto above is =
-    agree_more levels old new before less (λ k early known. h k early (omega (arith, known, upto, is)))
+    agree_more levels old new before less
+    (λ k early known. h k early (omega (arith, known, upto, is)))
     (inr (omega (arith, above, is)))
 
 chosen_at : (strategy : List ℕ) (k : ℕ) → chosen strategy (suc k) ≡ get_or strategy k 0

@@ -61,7 +61,8 @@ module _ (sets : ℕ) (vs : List Visit) (ordered : AreOrdered sets 1 vs) (levels
       absurd (omega (arith, less))
   carried level old new test weaker first behind later weak (suc bound) zero less within settled h =
       first
-  carried level old new test weaker first behind later weak (suc bound) (suc k) less within settled h =
+  carried level old new test weaker first behind later weak (suc bound) (suc k) less within settled
+      h =
       by (get_or vs k none) (slice_get-get_or vs k none (omega (arith, within)))
       (λ number upto. carried level old new test weaker first behind later weak bound number
       (omega (arith, upto, less)))
@@ -88,7 +89,8 @@ module _ (sets : ℕ) (vs : List Visit) (ordered : AreOrdered sets 1 vs) (levels
       → ((number : ℕ) → Has numbers number
       → get_or known ((visit_at vs number).set - 1) false ≡ true)
       → TellsAll sets vs levels level strategy known
-  open_settles count counted level strategy numbers known h all later agree reached reaches place less =
+  open_settles count counted level strategy numbers known h all later agree reached reaches place
+      less =
       same_answer (get_or known place false) (is_met reached (suc place) 1 vs)
       (λ e. forth (h.sound place e)) back
     where
@@ -137,7 +139,8 @@ module _ (sets : ℕ) (vs : List Visit) (ordered : AreOrdered sets 1 vs) (levels
           carried count reached left (λ m. chosen later m.set == m.action)
           (is_made_to levels level (chosen strategy)) h.left.first comes h.left.behind
           (λ m known made. by m made (cases_lt level (get_or levels m.set 1)))
-          (suc number) number (omega arith) (omega (arith, inside.1)) (are.within count counted number)
+          (suc number) number (omega arith) (omega (arith, inside.1))
+          (are.within count counted number)
           passed.1 in
           let has : Has numbers number =
           subst (λ (ns : List ℕ). Has ns number) (sym h.left.are)
@@ -200,7 +203,8 @@ module _ (sets : ℕ) (vs : List Visit) (ordered : AreOrdered sets 1 vs) (levels
                   within = s.within;
                   is_left = carried (level - 1) h.left.left left.left
                       (is_made_to levels (level - 1) (chosen strategy))
-                      (is_made_to levels level (chosen strategy)) left.first h.left.behind left.behind
+                      (is_made_to levels level (chosen strategy)) left.first h.left.behind
+                      left.behind
                       (λ m upto made.
                       ap (λ b. b || chosen strategy m.set == m.action)
                       (le-ltb level (get_or levels m.set 1) (omega (arith, upto)))
@@ -350,9 +354,11 @@ pub record KnownTo (vs : List Visit) (highest : List ℕ) (level : ℕ) (numbers
     (before flags : List Bool) (i : ℕ) : Type 0 where
   pub counted : length flags ≡ length before
   pub known : (place : ℕ) → get_or flags place false
-      ≡ (get_or before place false || list_any (is_settled_at vs highest level place) (take i numbers))
+      ≡ (get_or before place false
+      || list_any (is_settled_at vs highest level place) (take i numbers))
 
-module _ (vs : List Visit) (highest : List ℕ) (level : ℕ) (numbers : List ℕ) (before flags : List Bool)
+module _ (vs : List Visit) (highest : List ℕ) (level : ℕ) (numbers : List ℕ)
+    (before flags : List Bool)
     (i : ℕ) (h : KnownTo vs highest level numbers before flags i) (less : i < length numbers) where
   pub known_more : (next : List Bool) (at : ℕ) → get_or highest (get_or numbers i 0) 0 ≤ level
       → at < length before → suc at ≡ (visit_at vs (get_or numbers i 0)).set

@@ -105,7 +105,8 @@ module _ (g : Game) (choices : SetKey → ℕ) (key : SetKey)
       → option_map (λ set. length set.actions) (set_at g own) ≡ Some m
       → (k : ℕ) → 1 ≤ k → k ≤ m → IsChosen n k
   chosen_child n own m at known k above within =
-      ap (λ o. option_map_or (λ key'. not (key'.player == key.player) || choices key' == k) o true) at
+      ap (λ o. option_map_or (λ key'. not (key'.player == key.player) || choices key' == k) o true)
+      at
       ∙ by_owner (own.player == key.player) refl
     where
       by_set : own.player ≡ key.player → (o : Option InformationSet) → set_at g own ≡ o
@@ -121,7 +122,8 @@ module _ (g : Game) (choices : SetKey → ℕ) (key : SetKey)
       by_owner false e = ap (λ b. not b || choices own == k) e
       by_owner true e =
           or_right (not (own.player == key.player)) (choices own == k)
-          (eq-eqb (choices own) k (by_set (eqb-true own.player key.player e) (set_at g own) refl known))
+          (eq-eqb (choices own) k
+          (by_set (eqb-true own.player key.player e) (set_at g own) refl known))
 
   mutual
     comes_there : (t : Tree Node) → AllByRecursion (HasChildren g) (flatten t) → (e : Entry Node)
@@ -181,7 +183,8 @@ all_shown : {A : Type 0} (xs : List A) (s : List ℕ) → length xs ≡ length s
 all_shown [] [] e = refl
 all_shown [] (a ∷ s) e = absurd (omega (arith, e))
 all_shown (x ∷ xs) [] e = absurd (omega (arith, e))
-all_shown (x ∷ xs) (a ∷ s) e = ap (λ (l : List (Option ℕ)). Some a ∷ l) (all_shown xs s (omega (arith, e)))
+all_shown (x ∷ xs) (a ∷ s) e =
+    ap (λ (l : List (Option ℕ)). Some a ∷ l) (all_shown xs s (omega (arith, e)))
 
 all_chosen : {A : Type 0} (xs : List A) (s : List ℕ) → chooses_first (map (λ x. true) xs) s ≡ true
 all_chosen [] s = refl
@@ -193,7 +196,8 @@ one_alone [] d e = absurd (omega (arith, e))
 one_alone (x ∷ []) d e = refl
 one_alone (x ∷ y ∷ xs) d e = absurd (omega (arith, e))
 
-module _ (g : Game) (game : IsGame g) (player : ℕ) (one : product (action_counts g player) ≡ 1) where
+module _ (g : Game) (game : IsGame g) (player : ℕ)
+    (one : product (action_counts g player) ≡ 1) where
   abbrev only : List ℕ
   only = get_or (all_choices (action_counts g player)) 0 []
 
@@ -252,7 +256,8 @@ module _ (g : Game) (game : IsGame g) (player : ℕ) (one : product (action_coun
   pub only_first : AreFirstsOf g (0 ∷ []) player
   only_first = (sym only_reduced, (omega (arith, counted), tt))
 
-  pub only_label : map strategy_label (all_choices (action_counts g player)) ≡ reduced_labels g player
+  pub only_label : map strategy_label (all_choices (action_counts g player)) ≡ reduced_labels g
+      player
   only_label =
       ap (map strategy_label) (one_alone (strategies g player) [] counted)
       ∙ ap (λ (bs : List ℕ). bs ∷ []) (sym (ap reduced_label only_shown

@@ -59,7 +59,8 @@ undashed_choice None small = (λ e. omega (arith, e), tt)
 undashed_choice (Some n) small = undashed_number n small
 
 no_star : (n : ℕ) → n < 2 ^ 64 → codes "*" ≡ decimal n → ⊥
-no_star n small e = let digit = subst AreDigits (sym e) (digits_of n small) in omega (arith, digit.0)
+no_star n small e = let digit =
+    subst AreDigits (sym e) (digits_of n small) in omega (arith, digit.0)
 
 one_choice : (a b : Option ℕ) → IsSmallChoice a → IsSmallChoice b → choice_text a ≡ choice_text b
     → a ≡ b
@@ -105,7 +106,8 @@ module _ (g : Game) (player : ℕ) where
   comes_from : (strategy : List (Option ℕ)) → Has all strategy → IsReducedTo strategy
   comes_from strategy h =
       let from = mapped_from (reduced g player) (strategies g player) strategy
-      (was_used (pointwise same_choice) (map (reduced g player) (strategies g player)) strategy h) in
+      (was_used (pointwise same_choice) (map (reduced g player) (strategies g player)) strategy
+      h) in
       (from.0, contains (strategies g player) from.0 from.1, from.2)
 
   pub each_comes : (strategy : List (Option ℕ)) → Contains all strategy ↔ IsReducedTo strategy

@@ -39,7 +39,8 @@ next_marked (f ∷ flags) (a ∷ s) zero hf hs =
     append-nil (choice_text (if f then Some a else None) ++ 45 ∷ [])
 next_marked (f ∷ flags) (a ∷ s) (suc i) hf hs =
     let first = choice_text (if f then Some a else None) ++ 45 ∷ [] in
-    ap (λ (bs : List ℕ). first ++ bs) (next_marked flags s i (omega (arith, hf)) (omega (arith, hs)))
+    ap (λ (bs : List ℕ). first ++ bs)
+    (next_marked flags s i (omega (arith, hf)) (omega (arith, hs)))
     ∙ sym (append_assoc first (marked (take i (shown flags s)))
     (choice_text (choice_in flags s i) ++ 45 ∷ []))
 

@@ -119,7 +119,8 @@ module _ (choices : SetKey → ℕ) (key : SetKey) where
       ≡ (not (own.player == key.player) || choices own == k) =
       λ k. ap (λ o. option_map_or
       (λ own. not (own.player == key.player) || choices own == k) o true) at in
-      ap (λ o. a && option_map_or (λ own. same_set key own || trees_come choices key n 1 ts) o false)
+      ap (λ o. a && option_map_or (λ own. same_set key own || trees_come choices key n 1 ts) o
+      false)
       at
       ∙ ap (λ b. a && (b || trees_come choices key n 1 ts)) is
       ∙ and-or_distrib_left a here (trees_come choices key n 1 ts)
@@ -138,7 +139,8 @@ found_own false false true below = refl
 found_own false false false true = refl
 found_own false false false false = refl
 
-found_below : (met inner below : Bool) → (met || (inner || (below || false))) ≡ ((met || inner) || below)
+found_below : (met inner below : Bool)
+    → (met || (inner || (below || false))) ≡ ((met || inner) || below)
 found_below true inner below = refl
 found_below false true below = refl
 found_below false false true = refl
@@ -166,7 +168,8 @@ module _ (g : Game) (game : IsGame g) where
       strategy reached position key there reaches =
       let choices = choice_at (player_keys g old.player) strategy in
       let taken = is_taken (chosen strategy) reached last in
-      let his = (own_set g old.player key (key_there (player_keys g old.player) position key there)).3 in
+      let his = (own_set g old.player key
+      (key_there (player_keys g old.player) position key there)).3 in
       let apart : (own.player == key.player) ≡ false =
       ne_eqb own.player key.player (λ e. other (e ∙ his)) in
       let here : same_set key own ≡ false = false_from_ne_true (same_set key own)
@@ -198,7 +201,8 @@ module _ (g : Game) (game : IsGame g) where
   -- the player moves
   pub entered_own : (old new : Survey) (last : Move) (set number : ℕ) (t : Tree Node) (own : SetKey)
       (o : Open)
-      → Meets (visits_of old.visits) (record { last = last; set = set }) (visits_of new.visits) number
+      → Meets (visits_of old.visits) (record { last = last; set = set }) (visits_of new.visits)
+      number
       → new.nodes.items ≡ old.nodes.items ++ o ∷ []
       → branches_left o.rest ≡ child_trees t → branches_given o.rest ≡ 0
       → o.last ≡ record { visit = number; set = set; action = 0 }
@@ -207,12 +211,14 @@ module _ (g : Game) (game : IsGame g) where
       → FindsMore g old new
       (λ strategy reached choices key. is_taken (chosen strategy) reached last
       && tree_comes choices key t)
-  entered_own old new last set number t own o meets opened left given last_is is_own at his own_there
+  entered_own old new last set number t own o meets opened left given last_is is_own at his
+      own_there
       strategy reached position key there reaches =
       let keys = player_keys g old.player in
       let choices = choice_at keys strategy in
       let taken = is_taken (chosen strategy) reached last in
-      let m = met (chosen strategy) reached (visits_of old.visits) _ (visits_of new.visits) number meets reaches in
+      let m = met (chosen strategy) reached (visits_of old.visits) _ (visits_of new.visits) number
+      meets reaches in
       let distinct = keys_distinct g game old.player in
       let key_his = (own_set g old.player key (key_there keys position key there)).3 in
       let owned : (own.player == key.player) ≡ true =
@@ -269,7 +275,8 @@ found_child g old between new node later t player visits opened left given last 
     let choices = choice_at keys strategy in
     let comes = open_comes strategy reached choices key in
     let same : (k : ℕ) → last_move later k ≡ last_move node k =
-    λ k i. if own i then record { visit = (last i).visit; set = (last i).set; action = k } else last i in
+    λ k i. if own i then record { visit = (last i).visit; set = (last i).set; action = k } else last
+    i in
     let test : Open → ℕ → Bool = λ o k. is_taken (chosen strategy) reached (last_move o k) in
     let m = finds_more strategy reached position key
     (ap (λ (p : ℕ). at_position (player_keys g p) position) player ∙ there) reaches in
@@ -283,10 +290,12 @@ found_child g old between new node later t player visits opened left given last 
     || list_comes choices key (λ k. is_taken (chosen strategy) reached (sym (same k) i))
     (branches_given later.rest + 1) (branches_left later.rest)) in (
       subst (Reaches (chosen strategy) reached) visits m.0,
-      (λ i. survey_comes strategy reached (choice_at (player_keys g (sym player i)) strategy) position key new)
+      (λ i. survey_comes strategy reached (choice_at (player_keys g (sym player i)) strategy)
+          position key new)
           ∙ m.1
           ∙ (λ i. (is_met reached position 1 (visits i)
-          || list_any (open_comes strategy reached (choice_at (player_keys g (player i)) strategy) key)
+          || list_any (open_comes strategy reached (choice_at (player_keys g (player i)) strategy)
+          key)
           (opened i)) || (test later (branches_given later.rest)
           && tree_comes (choice_at (player_keys g (player i)) strategy) key t))
           ∙ ap (λ b. (is_met reached position 1 (visits_of old.visits) || b) || here)
@@ -301,7 +310,8 @@ found_child g old between new node later t player visits opened left given last 
 flattened : (ts : Trees Node) → length (flatten_all ts) ≡ sizes (list_of ts)
 flattened none = refl
 flattened (more t ts) =
-    length-append (flatten t) (flatten_all ts) ∙ ap (λ (n : ℕ). length (flatten t) + n) (flattened ts)
+    length-append (flatten t) (flatten_all ts)
+    ∙ ap (λ (n : ℕ). length (flatten t) + n) (flattened ts)
 
 pub tree_size : (t : Tree Node) → length (flatten t) ≡ suc (sizes (child_trees t))
 tree_size (branch n ts) = ap suc (flattened ts)
@@ -328,8 +338,10 @@ survey_kept g old new o is grown ordered opened game visited = record {
       (all_both (λ (o : Open). game_of_branches o.rest ≡ g) old.nodes.items (o ∷ []) is.games
       (game, tt));
   visited =
-      subst (AllByRecursion (λ (o : Open). o.last.visit ≤ length (visits_of new.visits))) (sym opened)
-      (all_both (λ (o : Open). o.last.visit ≤ length (visits_of new.visits)) old.nodes.items (o ∷ [])
+      subst (AllByRecursion (λ (o : Open). o.last.visit ≤ length (visits_of new.visits)))
+      (sym opened)
+      (all_both (λ (o : Open). o.last.visit ≤ length (visits_of new.visits)) old.nodes.items
+      (o ∷ [])
       (weaker (length (visits_of old.visits)) (length (visits_of new.visits)) old.nodes.items grown
       is.visited)
       (visited, tt));
@@ -358,7 +370,8 @@ pub begun : (g h : Game) (empty new : Survey) (t : Tree Node) → visits_of empt
     (λ strategy reached choices key. is_taken (chosen strategy) reached
     (record { visit = 0; set = 0; action = 0 }) && tree_comes choices key t)
     → Finds g empty.player new
-begun g h empty new t visits nodes game tree finds_more strategy reached position key there reaches =
+begun g h empty new t visits nodes game tree finds_more strategy reached position key there
+    reaches =
     let choices = λ (g : Game). choice_at (player_keys g empty.player) strategy in
     let m = finds_more strategy reached position key
     (ap (λ (g : Game). at_position (player_keys g empty.player) position) game ∙ there) reaches in
@@ -375,7 +388,8 @@ pub went_on : (g : Game) (s between new : Survey) (node : Open)
     → FindsMore g between new
     (λ strategy reached choices key. open_comes strategy reached choices key node)
     → Finds g between.player s → Finds g between.player new
-went_on g s between new node visits nodes finds_more finds strategy reached position key there reaches =
+went_on g s between new node visits nodes finds_more finds strategy reached position key there
+    reaches =
     let choices = choice_at (player_keys g between.player) strategy in
     let comes = open_comes strategy reached choices key in
     let m = finds_more strategy reached position key there reaches in
@@ -383,8 +397,10 @@ went_on g s between new node visits nodes finds_more finds strategy reached posi
     ∙ sym (found_below (is_met reached position 1 (visits_of between.visits))
     (list_any comes between.nodes.items) (comes node))
     ∙ (λ i. is_met reached position 1 (visits i)
-    || (sym (list_any-append comes between.nodes.items (node ∷ [])) ∙ ap (list_any comes) (sym nodes)) i)
-    ∙ finds strategy reached position key there (subst (Reaches (chosen strategy) reached) visits m.0)
+    || (sym (list_any-append comes between.nodes.items (node ∷ []))
+    ∙ ap (list_any comes) (sym nodes)) i)
+    ∙ finds strategy reached position key there
+    (subst (Reaches (chosen strategy) reached) visits m.0)
 
 last_of : {A : Type 0} (P : A → Type 0) (xs : List A) (x : A) → AllByRecursion P (xs ++ x ∷ [])
     → AllByRecursion P xs × P x
@@ -409,7 +425,8 @@ popped_survey g s between node player visits nodes is =
         games = games.0;
         visited = visited.0;
         ordered =
-            subst (λ (p : ℕ). AreOrdered (length (player_keys g p)) 1 (visits_of between.visits)) (sym player)
+            subst (λ (p : ℕ). AreOrdered (length (player_keys g p)) 1 (visits_of between.visits))
+            (sym player)
             (subst (AreOrdered (length (player_keys g s.player)) 1) (sym visits) is.ordered);
       },
       games.1,

@@ -53,7 +53,8 @@ module _ (choices : ℕ → ℕ) (reached : ℕ → Bool) where
       let next : number + 1 + length vs ≡ number + suc (length vs) = omega arith in
       let here = (w.set == position) && reached number in
       ap (λ b. here || b) (met_last vs v position (number + 1)
-      ∙ ap (λ (n : ℕ). is_met reached position (number + 1) vs || (v.set == position && reached n)) next)
+      ∙ ap (λ (n : ℕ). is_met reached position (number + 1) vs || (v.set == position && reached n))
+      next)
       ∙ sym (or_assoc here (is_met reached position (number + 1) vs)
       (v.set == position && reached (number + suc (length vs))))
 
@@ -77,7 +78,8 @@ module _ (choices : ℕ → ℕ) (reached : ℕ → Bool) where
       let next : number + 1 + k ≡ number + suc k = omega arith in
       let here = (w.set == position) && reached number in
       ap (λ b. here || b) (met_there vs v position k (number + 1) there
-      ∙ ap (λ (n : ℕ). is_met reached position (number + 1) vs || (v.set == position && reached n)) next)
+      ∙ ap (λ (n : ℕ). is_met reached position (number + 1) vs || (v.set == position && reached n))
+      next)
       ∙ sym (or_assoc here (is_met reached position (number + 1) vs)
       (v.set == position && reached (number + suc k)))
 

@@ -1,5 +1,5 @@
--- Demands by their digits, the slowest first: which digit a demand has at a set, what another action
--- there changes, and which choices meet it.
+-- Demands by their digits, the slowest first: which digit a demand has at a set, what another
+-- action there changes, and which choices meet it.
 use Rattle.std.proofs.Common.{◌≡◌, ℕ, zero, suc, ◌+◌, ◌-◌, ◌*◌, ◌/◌, ◌%◌, ◌<◌, ◌≤◌, Bool, true}
 use Rattle.std.proofs.Common.{false, List, [], ◌∷◌, length, get_or, set, map, arith, refl, ap, sym}
 use Rattle.std.proofs.Common.{◌∙◌, subst, inl, inr, ◌⊎◌}
@@ -37,7 +37,8 @@ spans_above (n ∷ faster) =
 below_next : (d n p r : ℕ) → d ≤ n → r < p → d * p + r < (n + 1) * p
 below_next d n p r h k = omega (arith, mul-le-mul_right p h, k)
 
-pub pack_below : (actions ds : List ℕ) → AreWithin actions ds → pack actions ds < product (spans actions)
+pub pack_below : (actions ds : List ℕ) → AreWithin actions ds
+    → pack actions ds < product (spans actions)
 pack_below [] [] h = omega arith
 pack_below (n ∷ faster) (d ∷ ds) h =
     below_next d n (product (spans faster)) (pack faster ds) h.0 (pack_below faster ds h.1)
@@ -166,7 +167,11 @@ meets_first p r c (suc d) steps cs h =
     by (inr le) (inl less) =
         let past : nat_le (c * p) (suc d * p + r) ≡ false =
         lt-leb (c * p) (suc d * p + r)
-        (omega (arith, h, mul-le-mul_right p (let up : suc (suc d) ≤ c = omega (arith, less) in up))) in
+        (omega (
+          arith,
+          h,
+          mul-le-mul_right p (let up : suc (suc d) ≤ c = omega (arith, less) in up),
+        )) in
         let apart : (suc d == c) ≡ false = ne_eqb (suc d) c (λ e. omega (arith, less, e)) in
         rw (past, any, apart) refl
     by (inr le) (inr ge) =

@@ -86,7 +86,8 @@ place_picked (zero ∷ counts) (a ∷ choice) p h = absurd (omega (arith, p.0))
 place_picked (suc zero ∷ counts) (a ∷ choice) p h =
     let one : a - 1 ≡ 0 = omega (arith, h.0) in
     place_picked counts choice p.1 h.1
-    ∙ (let none : place counts choice ≡ 0 * product counts + place counts choice = omega arith in none)
+    ∙ (let none : place counts choice ≡ 0 * product counts + place counts choice = omega
+    arith in none)
     ∙ ap (λ (n : ℕ). n * product counts + place counts choice) (sym one)
 place_picked (suc (suc n) ∷ counts) (a ∷ choice) p h =
     λ i. (a - 1) * product_picked counts p.1 i + place_picked counts choice p.1 h.1 i

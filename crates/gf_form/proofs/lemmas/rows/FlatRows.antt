@@ -90,7 +90,8 @@ head_at t place = get_or t.heads.items place no_head
 pub entry_head : (t : Terms) (place : ℕ) → place < length t.heads.items
     → (entry_at t place).head ≡ head_at t place
 entry_head t place within =
-    ap (λ (e : Entry). e.head) (entry_is t.players t.heads.items t.numbers.items place no_head within)
+    ap (λ (e : Entry). e.head)
+    (entry_is t.players t.heads.items t.numbers.items place no_head within)
 
 -- ---- a term more
 
@@ -261,7 +262,8 @@ all_added first second by_first by_second place fits old new same all done = rec
     by known k (inr h) =
         past done.row k (omega (arith, h, done.one_each))
         ∙ sym ((λ i. past first k (omega (arith, h, all)) i *ℤ pos by_first
-        +ℤ past second k (omega (arith, h, all, same)) i *ℤ pos by_second) ∙ no_sum (pos by_first) (pos by_second))
+        +ℤ past second k (omega (arith, h, all, same)) i *ℤ pos by_second)
+        ∙ no_sum (pos by_first) (pos by_second))
 
 -- the sum of two terms
 pub sum_made : (a b : Entry) (s : Scale) (fits : Bool) (demands : ℕ) (row : List ℤ)
@@ -269,10 +271,12 @@ pub sum_made : (a b : Entry) (s : Scale) (fits : Bool) (demands : ℕ) (row : Li
     → (fits ≡ true → (k : ℕ) → get_or row k (pos 0)
     ≡ number_at k a *ℤ pos s.first +ℤ number_at k b *ℤ pos s.second)
     → (den : ℕ) → (0 < den → (fits ≡ true) × (den ≡ s.den)) → 0 < den
-    → IsSumOf a b (record { head = record { demands = demands; den = den; size = s.size }; row = row })
+    → IsSumOf a b
+    (record { head = record { demands = demands; den = den; size = s.size }; row = row })
 sum_made a b s fits demands row is sums den known above =
     let k = known above in
-    subst (λ (n : ℕ). IsSumOf a b (record { head = record { demands = demands; den = n; size = s.size }; row = row }))
+    subst (λ (n : ℕ). IsSumOf a b
+    (record { head = record { demands = demands; den = n; size = s.size }; row = row }))
     (sym k.1)
     (record {
       first = is.first.above;

@@ -52,7 +52,8 @@ among (s ∷ ss) key set is = by (same_set s.key key) refl (among ss key set) is
         → choice_at (map (λ s. s.key) (s ∷ ss)) xs key ≡ get_or xs 0 0
     here same [] = refl
     here same (x ∷ xs) =
-        ap (λ b. cond b x (choice_at (map (λ (s : Described SetKey InformationSet). s.key) ss) xs key))
+        ap (λ b. cond b x
+        (choice_at (map (λ (s : Described SetKey InformationSet). s.key) ss) xs key))
         same
 
     behind : same_set s.key key ≡ false → (place : ℕ) → ((xs : List ℕ)
@@ -60,7 +61,8 @@ among (s ∷ ss) key set is = by (same_set s.key key) refl (among ss key set) is
         → choice_at (map (λ s. s.key) (s ∷ ss)) xs key ≡ get_or xs (suc place) 0
     behind other place h [] = refl
     behind other place h (x ∷ xs) =
-        ap (λ b. cond b x (choice_at (map (λ (s : Described SetKey InformationSet). s.key) ss) xs key))
+        ap (λ b. cond b x
+        (choice_at (map (λ (s : Described SetKey InformationSet). s.key) ss) xs key))
         other ∙ h xs
 
     by : (b : Bool) → same_set s.key key ≡ b

@@ -47,7 +47,8 @@ last_two (x ∷ y ∷ z ∷ xs) zero d two = absurd (omega (arith, two))
 last_two (x ∷ y ∷ xs) (suc n) d two =
     let e : suc n + 1 ≡ suc (n + 1) = omega arith in
     ap (λ (more : List _). x ∷ more) (last_two (y ∷ xs) n d (omega (arith, two)))
-    ∙ ap (λ (k : ℕ). x ∷ take n (y ∷ xs) ++ get_or (y ∷ xs) n d ∷ get_or (x ∷ y ∷ xs) k d ∷ []) (sym e)
+    ∙ ap (λ (k : ℕ). x ∷ take n (y ∷ xs) ++ get_or (y ∷ xs) n d ∷ get_or (x ∷ y ∷ xs) k d ∷ [])
+    (sym e)
 
 -- ---- the sum of the last two
 

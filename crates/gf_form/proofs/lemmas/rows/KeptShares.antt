@@ -70,8 +70,10 @@ module _ (g : Game) (den : ℕ) (rows : List (List Ratio)) (are : ArePaid g rows
   kept_shares k steps choices (r ∷ rs) =
       at (is_paid rows r) refl (kept_shares k steps choices rs)
     where
-      at : (b : Bool) → is_paid rows r ≡ b → shares k steps choices (filter (is_paid rows) rs) ≡ shares k steps choices rs
-          → shares k steps choices (if b then r ∷ filter (is_paid rows) rs else filter (is_paid rows) rs)
+      at : (b : Bool) → is_paid rows r ≡ b
+          → shares k steps choices (filter (is_paid rows) rs) ≡ shares k steps choices rs
+          → shares k steps choices
+          (if b then r ∷ filter (is_paid rows) rs else filter (is_paid rows) rs)
           ≡ shares k steps choices (r ∷ rs)
       at true e same =
           ap (λ (z : ℤ). (if meets steps choices r.path.demands then share g (suc k) den r

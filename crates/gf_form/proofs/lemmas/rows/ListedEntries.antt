@@ -54,7 +54,8 @@ module _ (d m den : ℕ) (above : 0 < m) (first : d ∣ m) (second : m ∣ den) 
 
     rest_times : den / d / (m / d) ≡ den / m
     rest_times =
-        ap (λ (n : ℕ). n / (m / d)) (left_over ∙ (let turn : m / d * (den / m) ≡ den / m * (m / d) = omega arith in turn))
+        ap (λ (n : ℕ). n / (m / d))
+        (left_over ∙ (let turn : m / d * (den / m) ≡ den / m * (m / d) = omega arith in turn))
         ∙ mul-div_cancel (den / m) rest_above
 
     c_divides : c ∣ den / d
@@ -93,7 +94,8 @@ module _ (g : Game) (player m den : ℕ) (r : Reached) (above : 0 < m) (second :
       let whole : unsigned_abs (over (scale den r) (pay_at g player r)) ≡ size * (den / m) =
       ap unsigned_abs over_is
       ∙ unsigned_abs-mul (over (scale m r) (pay_at g player r)) (pos (den / m)) in
-      let grouped : r.path.bound * (size * (den / m)) ≡ r.path.bound * size * (den / m) = omega arith in
+      let grouped : r.path.bound * (size * (den / m)) ≡ r.path.bound * size * (den / m) =
+      omega arith in
       ap (λ (n : ℕ). r.path.bound * n) whole ∙ grouped
 
 -- ---- a node, and its term

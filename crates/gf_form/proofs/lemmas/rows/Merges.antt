@@ -131,7 +131,8 @@ module _ (from : Terms) (step action : ℕ) (some : 1 ≤ action) (free start en
         (λ k at less. by_head (IsOther step action)
         (λ n. (step ≤ n) × (action * step + step ≤ n)) (λ e q. (q.0, inr q.1)) k
         (omega (arith, less, count, ends.bound)) (
-          frees.above k (omega (arith, at, free_le, start_le)) (omega (arith, less, count, ends.bound)),
+          frees.above k (omega (arith, at, free_le, start_le))
+              (omega (arith, less, count, ends.bound)),
           ends.above k at (omega (arith, less, count, ends.bound)),
         )));
   }
@@ -162,11 +163,13 @@ pub first_merge : (from : Terms) (step action lowest : ℕ) → 1 ≤ action →
     → CountsBelow from.heads.items (lowest + step) end
     → (to : Terms) → to.heads.items ≡ [] → to.numbers.items ≡ [] → to.players ≡ from.players
     → Merges from step action lowest free end 0 start to
-first_merge from step action lowest some is free start end frees starts ends to none no_numbers players =
+first_merge from step action lowest some is free start end frees starts ends to none no_numbers
+    players =
     let all : free - 0 ≡ free = omega arith in
     let starts_at = subst (λ (n : ℕ). CountsBelow from.heads.items n start) is starts in
     let ends_at = subst (λ (n : ℕ). CountsBelow from.heads.items (n + step) end) is ends in
-    let nothing : entries to ≡ [] = ap (λ (hs : List Head). entries_of to.players hs to.numbers.items) none in
+    let nothing : entries to ≡ [] =
+    ap (λ (hs : List Head). entries_of to.players hs to.numbers.items) none in
     let parts = first_parts step action (entries from) (take free (entries from))
     (part free start (entries from)) (part start end (entries from)) (drop end (entries from)) some
     (ranges from step action some free start end frees starts_at ends_at) in
@@ -186,8 +189,10 @@ first_merge from step action lowest some is free start end frees starts ends to 
       players = players;
       ordered = IsNonDecreasingBy-short (λ (h : Head). h.demands) to.heads.items
           (let l : length to.heads.items ≡ 0 = ap length none in omega (arith, l));
-      free_next = λ less d some. absurd (let l : length to.heads.items ≡ 0 = ap length none in omega (arith, l, some));
-      own_next = λ less d some. absurd (let l : length to.heads.items ≡ 0 = ap length none in omega (arith, l, some));
+      free_next = λ less d some. absurd
+          (let l : length to.heads.items ≡ 0 = ap length none in omega (arith, l, some));
+      own_next = λ less d some. absurd
+          (let l : length to.heads.items ≡ 0 = ap length none in omega (arith, l, some));
       own_least = λ k at less. starts.above k at (omega (arith, less, ends.bound));
       free_within = frees.bound;
       own_within = ends.bound;
@@ -343,7 +348,8 @@ module _ (from : Terms) (step action lowest free_end own_end free own : ℕ) (to
               numbers = s.numbers;
             })
             (subst (λ (more : List Entry). Merging step action (entries from) (entries to) more
-            (map (lowered lowest) (get_or (entries from) own no_entry ∷ part (own + 1) own_end (entries from))))
+            (map (lowered lowest)
+            (get_or (entries from) own no_entry ∷ part (own + 1) own_end (entries from))))
             (part_next (entries from) free free_end free_less
             (omega (arith, count_from, before.free_within)))
             (subst (λ (others : List Entry). Merging step action (entries from) (entries to)

@@ -1,6 +1,7 @@
 -- Rows at the fastest digit, as what at most two terms come to.
 use Rattle.std.proofs.Common.{◌≡◌, ℕ, ℤ, suc, pos, ◌+◌, ◌-◌, ◌*◌, ◌/◌, ◌<◌, ◌≤◌, ◌^◌, ◌+ℤ◌, ◌*ℤ◌}
-use Rattle.std.proofs.Common.{List, [], ◌∷◌, ◌++◌, ◌⊎◌, inl, inr, Some, drop, get_or, length, lit<, map}
+use Rattle.std.proofs.Common.{List, [], ◌∷◌, ◌++◌, ◌⊎◌, inl, inr, Some, drop, get_or, length, lit<}
+use Rattle.std.proofs.Common.{map}
 use Rattle.std.proofs.Common.{take, refl, ap, sym, subst, ◌∙◌, arith, true, Option, None}
 use Rattle.std.specs.Prelude.{IfSome, ◌==◌}
 use Rattle.std.proofs.Math.IntN.{zero-*ℤ}
@@ -122,7 +123,8 @@ come_to_pair from action free start end some frees starts ends first second s on
       above = above;
       within = within;
       exact = parts.exact;
-      size = omega (arith, parts.sizes, a.sizes, b.sizes, low_size den (action * 1) own, is.size, small);
+      size = omega
+          (arith, parts.sizes, a.sizes, b.sizes, low_size den (action * 1) own, is.size, small);
       sums = λ k.
           let numbers : number_at k (entry_of first) *ℤ pos (den / first.head.den)
           +ℤ number_at k (entry_of second) *ℤ pos (den / second.head.den)
@@ -148,7 +150,8 @@ pub come_alone : (from : Terms) (free start end : ℕ) → free ≡ length from.
     → 0 < s.den → s.den < 2 ^ 127 → s.size < 2 ^ 127
     → ComeToPair [] [] (entries from)
     (record { scale = s; first = first.numbers; second = second.numbers })
-come_alone from free start end whole none first second s only_first only_second is above within small =
+come_alone from free start end whole none first second s only_first only_second is above within
+    small =
     let es = entries from in
     let den = s.den in
     let count = entries_count from.players from.heads.items from.numbers.items in
@@ -176,7 +179,8 @@ come_alone from free start end whole none first second s only_first only_second 
 -- ---- what is paid
 
 pub paid_by : (g : Game) (number : ℕ) (steps choices : List ℕ) (es : List Entry) (pair : Pair)
-    → Settles g number steps choices es → ComeToPair steps choices es pair → IsPaidPair g number pair
+    → Settles g number steps choices es → ComeToPair steps choices es pair
+    → IsPaidPair g number pair
 paid_by g number steps choices es pair settles come = record {
   above = come.above;
   within = come.within;
@@ -257,7 +261,8 @@ one_more pair place old new after f is fraction value before = record {
         → HasValue (at_place (before.row ++ f ∷ []) k) (pair_number pair k) pair.scale.den
     by k less (inl h) =
         subst (λ (r : Ratio). HasValue r (pair_number pair k) pair.scale.den)
-        (sym (get_or_append_left before.row (f ∷ []) zero_ratio k (omega (arith, h, before.one_each))))
+        (sym (get_or_append_left before.row (f ∷ []) zero_ratio k
+        (omega (arith, h, before.one_each))))
         (before.values k h)
     by k less (inr h) =
         let last : k ≡ length before.row = omega (arith, h, less, before.one_each) in

@@ -141,7 +141,8 @@ kept_zero es left e none before = record {
 
 pub settled_as_well : (from left : Terms) (den : ℕ) → FitOver den from.heads.items
     → Kept (entries from) (entries left) → SettleAsWell from left
-settled_as_well from left den fit kept g number steps choices settles k less most above within exact small =
+settled_as_well from left den fit kept g number steps choices settles k less most above within exact
+    small =
     let hs = from.heads.items in
     let ns = from.numbers.items in
     let all = are_over den from.players hs ns fit.dens in
@@ -155,7 +156,8 @@ settled_as_well from left den fit kept g number steps choices settles k less mos
     let own = base.payoff.den in
     let same : whole *ℤ pos most ≡ left_whole *ℤ pos den =
     ap (λ (z : ℤ). z *ℤ pos most) (sym (kept.sums k den steps choices))
-    ∙ sym (all_scaled k den most fit.above steps choices (entries left) (kept.among den all) exact) in
+    ∙ sym (all_scaled k den most fit.above steps choices (entries left) (kept.among den all)
+    exact) in
     record {
       payoff = base.payoff;
       fraction = base.fraction;
@@ -212,7 +214,8 @@ module _ (from : Terms) (i : ℕ) (left : Terms) (sorted : AreOrdered from)
       → (head_at from i).demands ≤ (head_at from (i + 1)).demands
   rises there = sorted i (i + 1) no_head (omega arith) there
 
-  pub more_paying : (after : Terms) → entries after ≡ entries left ++ lowered 0 (entry_at from i) ∷ []
+  pub more_paying : (after : Terms) → entries after ≡ entries left
+      ++ lowered 0 (entry_at from i) ∷ []
       → after.heads.items ≡ left.heads.items ++ (lowered 0 (entry_at from i)).head ∷ []
       → after.players ≡ left.players → IsShaped after → Paying from (i + 1) after
   more_paying after is heads players shaped =
@@ -228,7 +231,8 @@ module _ (from : Terms) (i : ℕ) (left : Terms) (sorted : AreOrdered from)
         shaped = shaped;
         players = players ∙ before.players;
         ordered = ordered_more left.heads.items after.heads.items (lowered 0 e).head heads
-            before.ordered (λ d some. let le = before.next less d some in omega (arith, le, demands));
+            before.ordered
+            (λ d some. let le = before.next less d some in omega (arith, le, demands));
         next = λ there. below_more left.heads.items after.heads.items (lowered 0 e).head
             (head_at from (i + 1)).demands heads
             (let le = rises there in omega (arith, le, demands));
@@ -251,7 +255,8 @@ last_paying from left i den all fit done =
     let count = entries_count from.players from.heads.items from.numbers.items in
     settled_as_well from left den fit
     (subst (λ (es : List Entry). Kept es (entries left))
-    (ap (λ (n : ℕ). take n (entries from)) (all ∙ sym count) ∙ take-length (entries from)) done.kept)
+    (ap (λ (n : ℕ). take n (entries from)) (all ∙ sym count) ∙ take-length (entries from))
+    done.kept)
 
 -- ---- whether they fit
 

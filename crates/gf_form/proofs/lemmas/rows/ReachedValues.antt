@@ -135,7 +135,8 @@ module _ (g : Game) (game : IsGame g) (spellable : IsSpellable g) (steps choose 
           (if b then by_any g steps path (steps key) 1 ts
           else by_action g steps path (demanded path.demands (steps key) (count ts)) ts)
       by_demand several true free =
-          let d = digit_of g steps choose actions choices digits key (count ts) personal several h in
+          let d = digit_of g steps choose actions choices digits key (count ts) personal several
+          h in
           any (steps key) d.place (record {
             within = d.within;
             step_is = d.step_is;
@@ -144,7 +145,8 @@ module _ (g : Game) (game : IsGame g) (spellable : IsSpellable g) (steps choose 
                 is.has d) ∙ eqb-true (demanded path.demands (steps key) (count ts)) 0 free;
           }) d.choice_is
       by_demand several false taken =
-          let d = digit_of g steps choose actions choices digits key (count ts) personal several h in
+          let d = digit_of g steps choose actions choices digits key (count ts) personal several
+          h in
           let there = digit_there actions choices ds path (steps key) (count ts) (choose key)
           is.has d in
           let some : ¬ (get_or ds d.place 0 ≡ 0) =
@@ -199,11 +201,13 @@ module _ (g : Game) (game : IsGame g) (spellable : IsSpellable g) (steps choose 
   node_valued n ts path ds is lot action any None at h exact limit =
       leaf_valued g player den den_above den_within (steps_of actions) choices
       (record { path = path; outcome = paid_at_node g n }) (payoff_at g player n)
-      (paid_is g player n) (own_fraction n) (exact.0 (demands_met path ds is)) (demands_met path ds is)
+      (paid_is g player n) (own_fraction n) (exact.0 (demands_met path ds is))
+      (demands_met path ds is)
   node_valued n ts path ds is lot action any (Some key) at h exact limit =
       move_valued g player den den_above den_within (steps_of actions) choices
       (record { path = path; outcome = paid_at_node g n }) (payoff_at g player n)
-      (paid_is g player n) (own_fraction n) (exact.0 (demands_met path ds is)) (demands_met path ds is)
+      (paid_is g player n) (own_fraction n) (exact.0 (demands_met path ds is))
+      (demands_met path ds is)
       _ _ is.bound_above limit
       (by (key.player == 0) refl exact.1 (omega (arith, limit)))
     where
@@ -291,7 +295,8 @@ module _ (g : Game) (game : IsGame g) (spellable : IsSpellable g) (steps choose 
         let later = lot_valued ts n key (k + 1) next.0 (start +ℤ c.num *ℤ child.amount) path ds at
         chance both.1 is next.2 next.3 exacts.1 rest in
         child_added g player den den_above den_within (steps_of actions) choices c fc sign sum start
-        f path.weight path.bound path.den starts is.bound_above (value g choose player t) xs ys child
+        f path.weight path.bound path.den starts is.bound_above (value g choose player t) xs ys
+        child
         limit _ (rw next.1 later)
 
     action_valued : (ts : Trees Node) (position : ℕ) (path : Path) (ds : List ℕ) → 1 ≤ position
@@ -301,7 +306,8 @@ module _ (g : Game) (game : IsGame g) (spellable : IsSpellable g) (steps choose 
     action_valued none position path ds some fits children is exact limit = absurd (omega arith)
     action_valued (more t ts) zero path ds some fits children is exact limit = absurd (omega arith)
     action_valued (more t ts) (suc zero) path ds some fits children is exact limit =
-        valued t path ds (all_parts (HasChildren g) (flatten t) (flatten_all ts) children).0 is exact
+        valued t path ds (all_parts (HasChildren g) (flatten t) (flatten_all ts) children).0 is
+        exact
         limit
     action_valued (more t ts) (suc (suc position)) path ds some fits children is exact limit =
         action_valued ts (suc position) path ds (omega arith) (omega (arith, fits))
@@ -319,7 +325,8 @@ module _ (g : Game) (game : IsGame g) (spellable : IsSpellable g) (steps choose 
         children is exact limit = absurd (omega arith)
     any_valued (more t ts) k zero path ds step m place choice some fits chosen at above all free
         children is exact limit = absurd (omega arith)
-    any_valued (more t ts) k (suc zero) path ds step m place choice some fits chosen at above all free
+    any_valued (more t ts) k (suc zero) path ds step m place choice some fits chosen at above all
+        free
         children is exact limit =
         let on = by_choice path step k in
         let xs = reached g steps on t in
@@ -331,7 +338,8 @@ module _ (g : Game) (game : IsGame g) (spellable : IsSpellable g) (steps choose 
         let with = met_with g steps choose actions choices digits ds step m place k is.has.1 free
         above in
         let child = valued t on (set ds place k) both.0 (record {
-          has = chosen_digits actions ds path step m place k digits.within is.has free (omega (arith, all));
+          has = chosen_digits actions ds path step m place k digits.within is.has free
+              (omega (arith, all));
           met = with ∙ and_from (met choices ds) (k == get_or choices place 0) is.met
               (eq-eqb k (get_or choices place 0) same);
           bound_above = is.bound_above;
@@ -353,7 +361,8 @@ module _ (g : Game) (game : IsGame g) (spellable : IsSpellable g) (steps choose 
         valued_behind g player den den_above den_within (steps_of actions) choices _ path.weight
         path.bound path.den xs ys
         (unmet g steps choose actions choices digits player den t on (set ds place k) both.0
-        (chosen_digits actions ds path step m place k digits.within is.has free (omega (arith, all)))
+        (chosen_digits actions ds path step m place k digits.within is.has free
+        (omega (arith, all)))
         (not_chosen path ds step m place k is free above (λ e. omega (arith, e, at, chosen))))
         (any_valued ts (k + 1) (suc position) path ds step m place choice (omega arith)
         (omega (arith, fits)) chosen (omega (arith, at)) (omega arith) (omega (arith, all)) free
@@ -368,7 +377,8 @@ pub reached_value : (g : Game) → IsGame g → IsSpellable g → (steps choose 
     (reached g steps root_path g.tree)) den
 reached_value g game spellable steps choose actions choices digits player den fits =
     let whole = valued g game spellable steps choose actions choices digits player den
-    fits.den_above_zero fits.den_within g.tree root_path (no_demands actions) game.children (record {
+    fits.den_above_zero fits.den_within g.tree root_path (no_demands actions) game.children
+    (record {
       has = (sym (none_pack actions), none_within actions);
       met = none_met choices actions;
       bound_above = omega arith;

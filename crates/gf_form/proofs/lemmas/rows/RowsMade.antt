@@ -61,7 +61,8 @@ same_rows n (x ∷ xs) (y ∷ ys) h k counted same =
 pub all_more : {A : Type 0} (P : A → Type 0) (xs : List A) (i : ℕ) (d : A) → i < length xs
     → AllByRecursion P (take i xs) → P (get_or xs i d) → AllByRecursion P (take (i + 1) xs)
 all_more P xs i d less h k =
-    subst (AllByRecursion P) (sym (take-suc xs i d less) ∙ ap (λ (n : ℕ). take n xs) (sym (add-one i)))
+    subst (AllByRecursion P)
+    (sym (take-suc xs i d less) ∙ ap (λ (n : ℕ). take n xs) (sym (add-one i)))
     (all_both P (take i xs) (get_or xs i d ∷ []) h (k, tt))
 
 before_it : {A : Type 0} (P : A → Type 0) (xs : List A) (i k : ℕ) (x : A)

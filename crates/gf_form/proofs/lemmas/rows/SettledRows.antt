@@ -62,7 +62,8 @@ choice_of n count least number from to =
 settled_left : (g : Game) (number step action : ℕ) (steps choices : List ℕ) (es left : List Entry)
     → AreMerged step action es left → Settles g number (step ∷ steps) (action ∷ choices) es
     → Settles g number steps choices left
-settled_left g number step action steps choices es left merged settles k less den above within exact small =
+settled_left g number step action steps choices es left merged settles k less den above within exact
+    small =
     let come = merged den steps choices exact in
     subst (PaysOver g number k den) (come.sums k)
     (settles k less den above within come.exact (omega (arith, come.sizes, small)))

@@ -167,7 +167,8 @@ module _ (g : Game) (steps choose : SetKey → ℕ) (actions choices : List ℕ)
         by_player false is = by_digit (eqb-false key.player 0 is) (steps key == 0) refl
 
     mutual
-      pub unmet : (t : Tree Node) (path : Path) (ds : List ℕ) → AllByRecursion (HasChildren g) (flatten t)
+      pub unmet : (t : Tree Node) (path : Path) (ds : List ℕ)
+          → AllByRecursion (HasChildren g) (flatten t)
           → HasDigits actions path ds → met choices ds ≡ false
           → AddsNothing (reached g steps path t)
       unmet (branch n ts) path ds children has missed =
@@ -178,7 +179,8 @@ module _ (g : Game) (steps choose : SetKey → ℕ) (actions choices : List ℕ)
           (λ chances. lot_unmet ts chances 1 path ds children.1 has missed)
           (λ position. action_unmet ts position path ds children.1 has missed)
           (λ step place free.
-          any_unmet ts 1 path ds step (count ts) place children.1 has free (omega arith) (omega arith)
+          any_unmet ts 1 path ds step (count ts) place children.1 has free (omega arith)
+          (omega arith)
           (λ j from.
           met_with ds step (count ts) place j has.1 free from
           ∙ ap (λ b. b && j == get_or choices place 0) missed))
@@ -201,7 +203,8 @@ module _ (g : Game) (steps choose : SetKey → ℕ) (actions choices : List ℕ)
       action_unmet none position path ds children has missed = refl
       action_unmet (more t ts) zero path ds children has missed = refl
       action_unmet (more t ts) (suc zero) path ds children has missed =
-          unmet t path ds (all_parts (HasChildren g) (flatten t) (flatten_all ts) children).0 has missed
+          unmet t path ds (all_parts (HasChildren g) (flatten t) (flatten_all ts) children).0 has
+          missed
       action_unmet (more t ts) (suc (suc position)) path ds children has missed =
           action_unmet ts (suc position) path ds
           (all_parts (HasChildren g) (flatten t) (flatten_all ts) children).1 has missed
@@ -218,7 +221,8 @@ module _ (g : Game) (steps choose : SetKey → ℕ) (actions choices : List ℕ)
           both_nothing (reached g steps (by_choice path step k) t)
           (by_any g steps path step (k + 1) ts)
           (unmet t (by_choice path step k) (set ds place k) both.0
-          (chosen_digits actions ds path step m place k digits.within has free (omega (arith, fits)))
+          (chosen_digits actions ds path step m place k digits.within has free
+          (omega (arith, fits)))
           (missed k (omega arith)))
           (any_unmet ts (k + 1) path ds step m place both.1 has free (omega arith)
           (omega (arith, fits)) (λ j from. missed j (omega (arith, from))))

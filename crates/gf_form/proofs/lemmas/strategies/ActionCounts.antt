@@ -62,7 +62,8 @@ set_there g game player (suc k) number h =
           set = s.description;
           found = ap (λ (n : ℕ). set_at g (set_of player n)) (sym same)
               ∙ his_set g game player s k is;
-          count = slice_get-map (λ (s : Known). length s.description.actions) (player_sets g player) k
+          count = slice_get-map (λ (s : Known). length s.description.actions) (player_sets g player)
+              k
               ∙ ap (option_map (λ (s : Known). length s.description.actions)) is;
         }
 
@@ -91,8 +92,10 @@ pub zip_places : {A : Type 0} (R : A → ℕ → Type 0) (d : A) (xs : List A) (
 zip_places R d [] [] e h = tt
 zip_places R d [] (y ∷ ys) e h = absurd (omega (arith, e))
 zip_places R d (x ∷ xs) [] e h = absurd (omega (arith, e))
-zip_places R d (x ∷ xs) (y ∷ ys) e h =
-    (h 0 (omega arith), zip_places R d xs ys (omega (arith, e)) (λ k less. h (suc k) (omega (arith, less))))
+zip_places R d (x ∷ xs) (y ∷ ys) e h = (
+  h 0 (omega arith),
+  zip_places R d xs ys (omega (arith, e)) (λ k less. h (suc k) (omega (arith, less))),
+)
 
 pub zip_at : {A B : Type 0} (R : A → B → Type 0) (d : A) (e : B) (xs : List A) (ys : List B)
     → AllZip R xs ys → (k : ℕ) → k < length xs → R (get_or xs k d) (get_or ys k e)

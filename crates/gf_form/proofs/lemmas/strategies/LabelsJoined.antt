@@ -106,7 +106,8 @@ pub one_joined_more : (firsts others labels next : List (List ℕ)) (i j : ℕ)
     → slice_get firsts i ≡ Some first → slice_get others j ≡ Some other
     → label ≡ first ++ 45 ∷ other → next ≡ labels ++ label ∷ []
     → AreJoined firsts others labels i j → AreJoined firsts others next i (j + 1)
-one_joined_more firsts others labels next i j first other label hi hj at_i at_j is more h xs ys hx hy
+one_joined_more firsts others labels next i j first other label hi hj at_i at_j is more h xs ys hx
+    hy
     f o =
     let less_i : i < product xs = omega (arith, hi, counted firsts xs f) in
     let less_j : j < product ys = omega (arith, hj, counted others ys o) in

@@ -1,5 +1,5 @@
--- The strategies of the profile with a number: those of one player after another, each by what is left
--- of the number.
+-- The strategies of the profile with a number: those of one player after another, each by what is
+-- left of the number.
 use Rattle.std.proofs.Common.{◌≡◌, ℕ, ◌+◌, ◌*◌, ◌/◌, ◌%◌, ◌<◌, List, [], ◌∷◌, length, map, get_or}
 use Rattle.std.proofs.Common.{refl, sym, ap, subst, ◌∙◌, add-one}
 use Rattle.std.specs.Prelude.{zip}

@@ -190,7 +190,8 @@ pub all_picked : (g : Game) (c : Counts) → AreCounts g c → (numbers : List (
 all_picked g c counts numbers is =
     let own = strategy_counts g in
     let are : numbers ≡ all_numbers own = is ∙ ap all_numbers counts.strategies in
-    let full : picked_profiles numbers ≡ full_profiles g = ap picked_profiles are ∙ all_full own in (
+    let full : picked_profiles numbers ≡ full_profiles g =
+    ap picked_profiles are ∙ all_full own in (
       subst (AreNumbers g) (sym are) (all_are_numbers g (players_of g)),
       counts.profiles ∙ sym (ap length full),
       full,
@@ -206,7 +207,8 @@ pub one_length : (numbers given : List (Vec ℕ Global)) (i n : ℕ) (own : Vec 
     → given ≡ numbers → i < length given → own ≡ get_or given i own → n ≡ vec_len own
     → (i < length (lengths_in numbers)) × (n ≡ get_or (lengths_in numbers) i 0)
 one_length numbers given i n own are less own_is is =
-    let here : i < length numbers = subst (λ (all : List (Vec ℕ Global)). i < length all) are less in
+    let here : i < length numbers =
+    subst (λ (all : List (Vec ℕ Global)). i < length all) are less in
     let lists = map (λ (own : Vec ℕ Global). own.items) numbers in
     let inside : i < length lists =
     omega (arith, here, length-map numbers (λ (own : Vec ℕ Global). own.items)) in (
@@ -260,7 +262,8 @@ module _ (g : Game) (c : Counts) (p : Picked) (counts : AreCounts g c) (picked :
           rest_within rest = omega (arith, mod-lt rest some_number, count_read)
 
           -- the one that is left of the number of a profile is that of a strategy
-          module _ (rest number : ℕ) (number_is : number ≡ get_or own.items (rest % count) number) where
+          module _ (rest number : ℕ)
+              (number_is : number ≡ get_or own.items (rest % count) number) where
             pub number_read : number ≡ get_or own.items (rest % count) 0
             number_read =
                 number_is

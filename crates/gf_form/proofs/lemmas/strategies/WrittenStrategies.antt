@@ -19,7 +19,8 @@ use Rattle.gf_form.proofs.lemmas.strategies.NumberedProfiles.{numbered}
 use Rattle.gf_form.proofs.lemmas.strategies.PickedProfiles.{some_factor}
 
 -- those of the players so far are written
-pub record Written (actions : List (List ℕ)) (number i rest : ℕ) (all : List (List ℕ)) : Type 0 where
+pub record Written (actions : List (List ℕ)) (number i rest : ℕ) (all : List (List ℕ)) : Type
+    0 where
   pub as_long : length all ≡ length actions
   pub wanted : take i all ++ numbered (drop i actions) rest ≡ numbered actions number
 

@@ -73,7 +73,8 @@ module _ (g : Game) (game : IsGame g) (spellable : IsSpellable g) (choices : Set
   pub are_payoffs : (row : List Ratio) → length row ≡ length g.players
       → AllByRecursion IsFraction row → AreValues row → ArePayoffs g choices row
   are_payoffs row count fractions h =
-      subst (λ (n : ℕ). AllZip (λ paid player. IsFraction paid × IsEqual paid (payoff g choices player))
+      subst (λ (n : ℕ). AllZip
+      (λ paid player. IsFraction paid × IsEqual paid (payoff g choices player))
       row (positions n)) count
       (zip_in_turn (λ paid player. IsFraction paid × IsEqual paid (payoff g choices player))
       zero_ratio row 1

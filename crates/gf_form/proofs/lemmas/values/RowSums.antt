@@ -65,7 +65,8 @@ module _ (step : Ratio → Ratio → Option Ratio) (old new row : List Ratio) wh
       by k (inr more) h' =
           let same : i ≡ k = omega (arith, more, h') in
           let counted = a.counted in
-          subst (λ (n : ℕ). step (at_place old n) (at_place row n) ≡ Some (at_place (set new i x) n))
+          subst (λ (n : ℕ). step (at_place old n) (at_place row n) ≡ Some
+          (at_place (set new i x) n))
           same
           (ap (λ (r : Ratio). step r (at_place row i)) (sym (a.kept i (omega arith)))
           ∙ is

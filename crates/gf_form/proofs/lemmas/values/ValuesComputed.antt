@@ -92,7 +92,8 @@ module _ (g : Game) (spellable : IsSpellable g) (choices : SetKey → ℕ) (play
       → Computed (value_over (own n) o (λ key. if key.player == 0
       then chance_value g choices player (chances_at g n) 1 (Some zero_ratio) ts
       else child_value g choices player (choices key) ts)) v
-  node_computed n ts v None chance child h = (ap Some (sym h), subst IsFraction (sym h) (own_fraction n))
+  node_computed n ts v None chance child h =
+      (ap Some (sym h), subst IsFraction (sym h) (own_fraction n))
   node_computed n ts v (Some key) chance child h =
       by (key.player == 0) h.1
     where
@@ -180,8 +181,11 @@ module _ (g : Game) (spellable : IsSpellable g) (choices : SetKey → ℕ) (play
           → ((below : Ratio) × MatchBool b (IsChanceValue g choices player n 1 zero_ratio ts below)
           (IsChildValue g choices player (choices key) ts below) × AddsTo (own n) below v)
           × IsFraction v
-      by true h = added {P = λ below. IsChanceValue g choices player n 1 zero_ratio ts below} _ chance h
-      by false h = added {P = λ below. IsChildValue g choices player (choices key) ts below} _ (child (choices key)) h
+      by true h = added {P = λ below. IsChanceValue g choices player n 1 zero_ratio ts below} _
+          chance h
+      by false h =
+          added {P = λ below. IsChildValue g choices player (choices key) ts below} _
+          (child (choices key)) h
 
   mutual
     pub computed_value : (t : Tree Node) (v : Ratio) → value g choices player t ≡ Some v

@@ -33,7 +33,8 @@ pub returns-in_default-clause-overflow : goal.returns-in_default-clause-overflow
 returns-in_default-clause-overflow c = λ _. (
   c.loop-i.i,
   c.loop-i-test.true,
-  not_multiplied c.args.chance c.loop-i.sum.items c.args.row.now c.loop-i.i (at_place c.loop-i.sum.items c.loop-i.i)
+  not_multiplied c.args.chance c.loop-i.sum.items c.args.row.now c.loop-i.i
+      (at_place c.loop-i.sum.items c.loop-i.i)
       c.index-row-i.result
       (record {
         chance_fraction = c.num.ensures.fraction;

@@ -4,7 +4,8 @@ use Rattle.gf_nfg.specs.Profiles.{product}
 
 -- This many strategies agree with this one except at its last sets, where it has the first action,
 -- and which are not relevant under it. Each of a player's sets has this many actions.
-pub record AreAlike (counts : List ℕ) (relevant : List Bool) (strategy : List ℕ) (alike : ℕ) : Type 0
+pub record AreAlike (counts : List ℕ) (relevant : List Bool) (strategy : List ℕ) (alike : ℕ) : Type
+    0
   where
     pub from : ℕ
     pub within : from ≤ length counts

@@ -27,11 +27,13 @@ pub record AreHighest (visits : List Visit) (levels highest : List ℕ) : Type 0
 
 -- the move is on another level, or is as it is chosen
 abbrev pub is_made_at : List ℕ → ℕ → (ℕ → ℕ) → Move → Bool
-is_made_at levels level choices m = not (get_or levels m.set 1 == level) || choices m.set == m.action
+is_made_at levels level choices m =
+    not (get_or levels m.set 1 == level) || choices m.set == m.action
 
 -- it is on a later level, or is as it is chosen
 abbrev pub is_made_to : List ℕ → ℕ → (ℕ → ℕ) → Move → Bool
-is_made_to levels level choices m = nat_lt level (get_or levels m.set 1) || choices m.set == m.action
+is_made_to levels level choices m =
+    nat_lt level (get_or levels m.set 1) || choices m.set == m.action
 
 -- the visit is to the set at this place, and no move before it is on a later level
 abbrev pub is_settled_at : List Visit → List ℕ → ℕ → ℕ → ℕ → Bool
@@ -52,7 +54,8 @@ pub record AreLeft (visits : List Visit) (test : Move → Bool) (numbers : List 
 
 -- the sets that are met by choices
 abbrev pub TellsMet : ℕ → List Visit → List ℕ → List Bool → Type 0
-TellsMet sets visits strategy known = (reached : ℕ → Bool) → Reaches (chosen strategy) reached visits
+TellsMet sets visits strategy known =
+    (reached : ℕ → Bool) → Reaches (chosen strategy) reached visits
     → (place : ℕ) → place < sets → get_or known place false ≡ is_met reached (suc place) 1 visits
 
 -- they are met whatever the choices on later levels
@@ -62,7 +65,8 @@ TellsAll sets visits levels level strategy known = (later : List ℕ)
     → TellsMet sets visits later known
 
 -- a visit that is left, before which all moves are on the levels so far, to the set at this place
-pub record IsSettled (visits : List Visit) (highest : List ℕ) (level : ℕ) (left : ℕ → Bool) (place : ℕ)
+pub record IsSettled (visits : List Visit) (highest : List ℕ) (level : ℕ) (left : ℕ → Bool)
+    (place : ℕ)
     : Type 0 where
   pub number : ℕ
   pub above : 1 ≤ number
@@ -72,7 +76,8 @@ pub record IsSettled (visits : List Visit) (highest : List ℕ) (level : ℕ) (l
   pub there : (visit_at visits number).set ≡ suc place
 
 -- what is left on some levels, and the sets that are known to be met
-pub record AreOpen (visits : List Visit) (levels highest : List ℕ) (level : ℕ) (strategy numbers : List ℕ)
+pub record AreOpen (visits : List Visit) (levels highest : List ℕ) (level : ℕ)
+    (strategy numbers : List ℕ)
     (known : List Bool) : Type 0 where
   pub left : AreLeft visits (is_made_to levels level (chosen strategy)) numbers
   pub sound : (place : ℕ) → get_or known place false ≡ true
@@ -108,5 +113,6 @@ pub record IsLevels (sets : ℕ) (visits : List Visit) (l : Levels) : Type 0 whe
   pub as_many : length l.known.items ≡ length l.lists.items
   pub counted : (level : ℕ) → level < length l.lists.items → length (known_to l level) ≡ sets
   pub each : (level : ℕ) → level < length l.lists.items
-      → IsLevel sets visits l.of_sets.items l.of_visits.items level l.strategy.items (left_to l level)
+      → IsLevel sets visits l.of_sets.items l.of_visits.items level l.strategy.items
+      (left_to l level)
       (known_to l level)

@@ -41,8 +41,10 @@ FindsMore g old new this = (strategy : List ℕ) (reached : ℕ → Bool) (posit
     → at_position (player_keys g old.player) position ≡ Some key
     → Reaches (chosen strategy) reached (visits_of new.visits)
     → Reaches (chosen strategy) reached (visits_of old.visits)
-    × (survey_comes strategy reached (choice_at (player_keys g old.player) strategy) position key new
-    ≡ (survey_comes strategy reached (choice_at (player_keys g old.player) strategy) position key old
+    × (survey_comes strategy reached (choice_at (player_keys g old.player) strategy) position key
+    new
+    ≡ (survey_comes strategy reached (choice_at (player_keys g old.player) strategy) position key
+    old
     || this strategy reached (choice_at (player_keys g old.player) strategy) key))
 
 -- its branches are those of the game, and its visits are in order

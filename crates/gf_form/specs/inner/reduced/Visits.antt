@@ -13,7 +13,8 @@ visits_of v = v.visits.keys
 -- the visit with this number, from 1
 abbrev pub visit_at : List Visit → ℕ → Visit
 visit_at visits number =
-    get_or visits (number - 1) (record { last = record { visit = 0; set = 0; action = 0 }; set = 0 })
+    get_or visits (number - 1)
+    (record { last = record { visit = 0; set = 0; action = 0 }; set = 0 })
 
 -- each is the number of a visit
 abbrev pub AreNumbers : List Visit → List ℕ → Type 0

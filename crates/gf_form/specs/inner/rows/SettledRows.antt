@@ -23,8 +23,8 @@ use Rattle.gf_form.specs.declared.rows.written.Asked.{Asked}
 use Rattle.gf_form.specs.declared.rows.written.Run.{Run}
 use Rattle.gf_form.specs.declared.rows.written.Written.{Written}
 
--- the player, by his place from 0, has this number over this denominator as his value at the profile
--- with this number, from 0, among all
+-- the player, by his place from 0, has this number over this denominator as his value at the
+-- profile with this number, from 0, among all
 pub record PaysOver (g : Game) (number k den : ℕ) (whole : ℤ) : Type 0 where
   pub payoff : Ratio
   pub fraction : IsFraction payoff

@@ -81,7 +81,8 @@ pub returns-clause-firsts : goal.returns-clause-firsts
 returns-clause-firsts c =
     let g = c.args.game.now in
     subst (λ (players : List ℕ).
-    AllZip (AreFirstsOf g) (map (λ (own : Vec ℕ Global). own.items) c.loop-place.firsts.items) players)
+    AllZip (AreFirstsOf g) (map (λ (own : Vec ℕ Global). own.items) c.loop-place.firsts.items)
+    players)
     (take_past c.loop-place.place (players_of g)
     (omega (
       arith,

@@ -30,7 +30,12 @@ is_first-requires c =
     let s = get_or (strategies g player) n [] in
     let whole = length-all_choices (action_counts g player) in
     let less : n < length (strategies g player) =
-    omega (arith, c.loop-number-test.true, c.requires.whole ∙ ap product c.requires.counts, whole) in
+    omega (
+      arith,
+      c.loop-number-test.true,
+      c.requires.whole ∙ ap product c.requires.counts,
+      whole,
+    ) in
     let written : c.write_strategy.new.strategy.items ≡ s =
     c.in_ok-write_strategy.ensures
     ∙ ap (λ (counts : List ℕ). get_or (all_choices counts) n []) c.requires.counts in
@@ -48,7 +53,12 @@ write_reduced_label-requires c =
     let s = get_or (strategies g player) n [] in
     let whole = length-all_choices (action_counts g player) in
     let less : n < length (strategies g player) =
-    omega (arith, c.loop-number-test.true, c.requires.whole ∙ ap product c.requires.counts, whole) in
+    omega (
+      arith,
+      c.loop-number-test.true,
+      c.requires.whole ∙ ap product c.requires.counts,
+      whole,
+    ) in
     let written : c.write_strategy.new.strategy.items ≡ s =
     c.in_ok-write_strategy.ensures
     ∙ ap (λ (counts : List ℕ). get_or (all_choices counts) n []) c.requires.counts in
@@ -72,7 +82,12 @@ loop-number-preserved c =
     let s = get_or all n [] in
     let whole = length-all_choices (action_counts g player) in
     let less : n < length all =
-    omega (arith, c.loop-number-test.true, c.requires.whole ∙ ap product c.requires.counts, whole) in
+    omega (
+      arith,
+      c.loop-number-test.true,
+      c.requires.whole ∙ ap product c.requires.counts,
+      whole,
+    ) in
     let written : c.write_strategy.new.strategy.items ≡ s =
     c.in_ok-write_strategy.ensures
     ∙ ap (λ (counts : List ℕ). get_or (all_choices counts) n []) c.requires.counts in
@@ -101,7 +116,8 @@ loop-number-preserved c =
     × (c.if-is_first.labels ≡ map label c.if-is_first.firsts.items) =
     elim c.if-is_first.branch [
       | then-is_first+in_ok-write_reduced_label+in_ok-push+in_ok-push-2 w ↦
-          let kept = ap (λ (v : Vec ℕ Global). v.items) w.firsts-is ∙ w.in_ok-push-2.ensures.items in (
+          let kept = ap (λ (v : Vec ℕ Global). v.items) w.firsts-is
+          ∙ w.in_ok-push-2.ensures.items in (
             first_kept (is_first g player) all [] n less numbers c.if-is_first.firsts.items
                 c.loop-number.invariant.0 (test ∙ w.if-is_first.true) kept,
             one_image_more label numbers c.if-is_first.firsts.items c.loop-number.labels
@@ -163,16 +179,23 @@ returns-clause-labels c =
     let numbers = c.loop-number.firsts.items in
     let whole = length-all_choices (action_counts g player) in
     let past : length all ≤ c.loop-number.number =
-    omega (arith, c.loop-number-test.false, c.requires.whole ∙ ap product c.requires.counts, whole) in
+    omega (
+      arith,
+      c.loop-number-test.false,
+      c.requires.whole ∙ ap product c.requires.counts,
+      whole,
+    ) in
     c.loop-number.invariant.1
     ∙ sym (map_twice (λ s. reduced_label (reduced g player s)) (λ number. get_or all number [])
     numbers)
     ∙ ap (map (λ s. reduced_label (reduced g player s))) (c.loop-number.invariant.0.are
     ∙ ap (filter (is_first g player)) (take_past c.loop-number.number all past))
     ∙ sym (map_twice reduced_label (reduced g player) (filter (is_first g player) all))
-    ∙ ap (map reduced_label) (sym (reduced_strategies_are g c.players-players.ensures.is_game player))
+    ∙ ap (map reduced_label)
+    (sym (reduced_strategies_are g c.players-players.ensures.is_game player))
 
-pub strategies_alike-number-requires-clause-actions : goal.strategies_alike-number-requires-clause-actions
+pub strategies_alike-number-requires-clause-actions :
+    goal.strategies_alike-number-requires-clause-actions
 strategies_alike-number-requires-clause-actions c =
     let g = c.args.game.now in
     let player = c.args.player in
@@ -248,7 +271,8 @@ loop-number-smaller c =
       some_alike (action_counts g player) are.from (omega (arith, less)),
     )
 
-pub strategies_alike-number-requires-clause-flags : goal.strategies_alike-number-requires-clause-flags
+pub strategies_alike-number-requires-clause-flags :
+    goal.strategies_alike-number-requires-clause-flags
 strategies_alike-number-requires-clause-flags c =
     let g = c.args.game.now in
     let player = c.args.player in

@@ -11,7 +11,8 @@ loop-before-preserved c =
     let i = c.loop-before.before in
     let flags = c.args.relevant.now in
     let s = c.args.strategy.now in
-    chooses_on flags s i (omega (arith, c.loop-before-test.true, c.requires)) c.loop-before-test.true
+    chooses_on flags s i (omega (arith, c.loop-before-test.true, c.requires))
+    c.loop-before-test.true
     (elim c.else-not-relevant-before.branch [
       | else-not-relevant-before-via-then-not-relevant-before+else-strategy-before-ne1 w ↦
           or_right (get_or flags i false) (get_or s i 0 == 1)

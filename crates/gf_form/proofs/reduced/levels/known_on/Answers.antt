@@ -38,7 +38,8 @@ loop-number-preserved c =
           (omega (arith, at.3, at.4)) (omega (arith, at.3))
           (ap (λ (v : Vec Bool Global). v.items) w.known-is)
       | else-highest-number w ↦
-          subst (λ (v : Vec Bool Global). KnownTo vs c.args.highest.now c.args.level c.args.numbers.now
+          subst (λ (v : Vec Bool Global). KnownTo vs c.args.highest.now c.args.level
+          c.args.numbers.now
           c.args.before.now v.items (i + 1)) (sym w.known-is)
           (known_still vs c.args.highest.now c.args.level c.args.numbers.now c.args.before.now
           c.loop-number.known.items i c.loop-number.invariant c.loop-number-test.true

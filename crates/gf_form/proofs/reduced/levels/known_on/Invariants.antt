@@ -2,4 +2,5 @@ use Rattle.gf_form.proofs.lemmas.reduced.MetSets.{KnownTo}
 use Rattle.gf_form.proofs.reduced.levels.known_on.Given as goal
 
 abbrev pub invariant-loop-number : goal.invariant-loop-number
-invariant-loop-number l = KnownTo l.visits l.highest l.level l.numbers l.before l.known.items l.number-index
+invariant-loop-number l =
+    KnownTo l.visits l.highest l.level l.numbers l.before l.known.items l.number-index

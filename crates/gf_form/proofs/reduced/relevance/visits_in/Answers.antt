@@ -73,7 +73,8 @@ loop-node-preserved c =
 pub returns : goal.returns
 returns c =
     let s = c.loop-node.survey in
-    let none : s.nodes.items ≡ [] = nil_from_length s.nodes.items (sym s.nodes.ok.0 ∙ c.in_default.ensures.cases.0) in
+    let none : s.nodes.items ≡ [] =
+    nil_from_length s.nodes.items (sym s.nodes.ok.0 ∙ c.in_default.ensures.cases.0) in
     subst (λ (p : ℕ). FindRelevance c.args.game.now p (visits_of s.visits))
     c.loop-node.invariant.0
     (finds_relevance c.args.game.now c.players-players.ensures.is_game s none

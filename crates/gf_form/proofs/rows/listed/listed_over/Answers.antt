@@ -30,4 +30,5 @@ returns-clause-terms c = λ g are.
     let all : c.loop-node.node-index ≡ length nodes =
     omega (arith, c.loop-node-test.false, c.loop-node.auto.node-index-end) in
     subst (λ (rs : List Reached). AreTermsOf g c.args.players rs (entries c.loop-node.terms))
-    (ap (λ (n : _). take n nodes) all ∙ take-length nodes) (c.loop-node.invariant.listing.told g are)
+    (ap (λ (n : _). take n nodes) all ∙ take-length nodes)
+    (c.loop-node.invariant.listing.told g are)

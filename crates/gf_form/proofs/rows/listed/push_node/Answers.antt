@@ -39,7 +39,8 @@ loop-place-preserved c =
           elim w.if-share-size.branch [
             | then-share-size v ↦ rw (w.terms-is, w.fits-is, w.size-is, v.size-is) (record {
               filling = one_filled path pays den size place fits old now w.push.new.self.items
-                  share.amount small is inv.filling share.bound (omega (arith, v.if-share-size.true))
+                  share.amount small is inv.filling share.bound
+                  (omega (arith, v.if-share-size.true))
                   (is_number path c.payoff_at-payoff.result (pays place) den share.bound share
                   c.payoff_at-payoff.ensures w.in-Some.ensures.share (omega arith));
               heads = inv.heads;

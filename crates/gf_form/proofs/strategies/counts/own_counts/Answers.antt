@@ -13,7 +13,8 @@ times-requires c =
     let player = c.args.player in
     let within = counted_sets g player c.loop-before.before c.set_count-count.result
     c.set_count-count.ensures.count c.loop-before-test.true in
-    subst (λ (n : ℕ). 0 < n) (sym (c.action_count-own.ensures ∙ count_at g player c.loop-before.before))
+    subst (λ (n : ℕ). 0 < n)
+    (sym (c.action_count-own.ensures ∙ count_at g player c.loop-before.before))
     (positive_at (action_counts g player) c.loop-before.before
     (actions_positive g c.players-players.ensures.is_game player) within)
 
@@ -36,7 +37,8 @@ loop-before-preserved c =
     c.set_count-count.ensures.count c.loop-before-test.true in
     one_more (action_counts g player) c.loop-before.actions.items c.push.new.self.items
     c.loop-before.before c.action_count-own.result c.loop-before.strategies.count
-    c.in-Some.more.count within (c.action_count-own.ensures ∙ count_at g player c.loop-before.before)
+    c.in-Some.more.count within
+    (c.action_count-own.ensures ∙ count_at g player c.loop-before.before)
     c.loop-before.invariant.0 c.loop-before.invariant.1 c.in-Some.ensures.0
     c.in_ok-push.ensures.items
 

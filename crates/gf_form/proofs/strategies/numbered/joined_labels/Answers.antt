@@ -17,11 +17,21 @@ pub loop-first-preserved : goal.loop-first-preserved
 loop-first-preserved c =
     row_joined c.args.firsts.now c.args.others.now c.loop-other.labels c.loop-first.first
     c.loop-other.other
-    (omega (arith, c.loop-other-test.false, c.loop-other.auto.other-end, c.len-other-end.ensures.len))
+    (omega (
+      arith,
+      c.loop-other-test.false,
+      c.loop-other.auto.other-end,
+      c.len-other-end.ensures.len,
+    ))
     c.loop-other.invariant
 
 pub returns : goal.returns
 returns c =
     all_joined c.args.firsts.now c.args.others.now c.loop-first.labels c.loop-first.first
-    (omega (arith, c.loop-first-test.false, c.loop-first.auto.first-end, c.len-first-end.ensures.len))
+    (omega (
+      arith,
+      c.loop-first-test.false,
+      c.loop-first.auto.first-end,
+      c.len-first-end.ensures.len,
+    ))
     c.loop-first.invariant

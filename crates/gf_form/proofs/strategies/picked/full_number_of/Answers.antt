@@ -46,7 +46,8 @@ index-requires c =
 
 pub overflow_mul-number : goal.overflow_mul-number
 overflow_mul-number c =
-    let more = player_more c.requires.picked.0 c.args.counts.now c.args.picked.now c.requires.picked.1
+    let more = player_more c.requires.picked.0 c.args.counts.now c.args.picked.now
+    c.requires.picked.1
     c.requires.picked.2 c.args.profile c.requires.within c.loop-place.place c.loop-place.number
     c.loop-place.whole c.loop-place.left c.len-count.result c.index.result.now
     c.index-numbers.result.now (omega (arith, c.loop-place-test.true))
@@ -58,7 +59,8 @@ overflow_mul-number c =
 
 pub overflow_add-number : goal.overflow_add-number
 overflow_add-number c =
-    let more = player_more c.requires.picked.0 c.args.counts.now c.args.picked.now c.requires.picked.1
+    let more = player_more c.requires.picked.0 c.args.counts.now c.args.picked.now
+    c.requires.picked.1
     c.requires.picked.2 c.args.profile c.requires.within c.loop-place.place c.loop-place.number
     c.loop-place.whole c.loop-place.left c.len-count.result c.index.result.now
     c.index-numbers.result.now (omega (arith, c.loop-place-test.true))
@@ -70,7 +72,8 @@ overflow_add-number c =
 
 pub overflow_mul-whole : goal.overflow_mul-whole
 overflow_mul-whole c =
-    let more = player_more c.requires.picked.0 c.args.counts.now c.args.picked.now c.requires.picked.1
+    let more = player_more c.requires.picked.0 c.args.counts.now c.args.picked.now
+    c.requires.picked.1
     c.requires.picked.2 c.args.profile c.requires.within c.loop-place.place c.loop-place.number
     c.loop-place.whole c.loop-place.left c.len-count.result c.index.result.now
     c.index-numbers.result.now (omega (arith, c.loop-place-test.true))
@@ -82,7 +85,8 @@ overflow_mul-whole c =
     c.requires.picked.2 c.args.profile c.requires.within c.loop-place.place
     c.index-in-loop-place.result.now less c.index-in-loop-place.ensures in
     let within = whole_small c.requires.picked.0 c.args.counts.now c.args.picked.now
-    c.requires.picked.1 c.requires.picked.2 c.args.profile c.requires.within (c.loop-place.place + 1)
+    c.requires.picked.1 c.requires.picked.2 c.args.profile c.requires.within
+    (c.loop-place.place + 1)
     _ _ _ more.1 in
     record { fits = omega (arith, within, ap (λ (k : ℕ). c.loop-place.whole * k) is) }
 
@@ -96,7 +100,8 @@ nonzero_div-left c =
 
 pub loop-place-preserved : goal.loop-place-preserved
 loop-place-preserved c =
-    let more = player_more c.requires.picked.0 c.args.counts.now c.args.picked.now c.requires.picked.1
+    let more = player_more c.requires.picked.0 c.args.counts.now c.args.picked.now
+    c.requires.picked.1
     c.requires.picked.2 c.args.profile c.requires.within c.loop-place.place c.loop-place.number
     c.loop-place.whole c.loop-place.left c.len-count.result c.index.result.now
     c.index-numbers.result.now (omega (arith, c.loop-place-test.true))

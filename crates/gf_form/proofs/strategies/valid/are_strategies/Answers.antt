@@ -26,15 +26,22 @@ returns c = record {
       ∙ c.if-choices-players.false
       ∙ sym (length-map c.players.result.now label_of) ∙ ap length c.players.ensures.names in
       subst (λ (n : ℕ). AllZip (λ strategy player.
-      AllZip (λ action count. (1 ≤ action) × (action ≤ count)) strategy (action_counts g player)) all
+      AllZip (λ action count. (1 ≤ action) × (action ≤ count)) strategy (action_counts g player))
+      all
       (positions n)) count
       (zip_in_turn (λ strategy player.
       AllZip (λ action count. (1 ≤ action) × (action ≤ count)) strategy (action_counts g player))
       [] all 1 (λ k less.
       let next : suc k ≡ 1 + k = omega arith in
-      subst (λ (player : ℕ). AllZip (λ action count. (1 ≤ action) × (action ≤ count)) (get_or all k [])
+      subst (λ (player : ℕ). AllZip (λ action count. (1 ≤ action) × (action ≤ count))
+      (get_or all k [])
       (action_counts g player)) next
-      (c.loop-before.invariant k (omega (arith, less, length-map c.args.choices.now (λ (own : Vec ℕ Global). own.items)))))));
+      (c.loop-before.invariant k
+      (omega (
+        arith,
+        less,
+        length-map c.args.choices.now (λ (own : Vec ℕ Global). own.items),
+      ))))));
   complete = λ _ _. refl;
 }
 
@@ -70,7 +77,11 @@ returns-then-not-is_strategy c = record {
       let lists = map (λ (own : Vec ℕ Global). own.items) c.args.choices.now in
       let here = zip_counted (AreFor c.args.game.now) [] lists (length c.args.game.now.players) all
       c.loop-before.before
-      (omega (arith, c.loop-before-test.true, length-map c.args.choices.now (λ (own : Vec ℕ Global). own.items))) in
+      (omega (
+        arith,
+        c.loop-before-test.true,
+        length-map c.args.choices.now (λ (own : Vec ℕ Global). own.items),
+      )) in
       let own = subst (λ (s : List ℕ). AreFor c.args.game.now s (c.loop-before.before + 1)) (
       get_or-map (λ (own : Vec ℕ Global). own.items) c.args.choices.now c.loop-before.before
       c.index-choices-before.result [] (omega (arith, c.loop-before-test.true))
@@ -78,6 +89,7 @@ returns-then-not-is_strategy c = record {
       ∙ sym c.deref.ensures.value
       ) here in
       let result = c.is_strategy.ensures.1
-      (subst (λ (player : ℕ). AreFor c.args.game.now c.deref.result.now player) (sym c.in-Ok.ensures.1) own) in
+      (subst (λ (player : ℕ). AreFor c.args.game.now c.deref.result.now player)
+      (sym c.in-Ok.ensures.1) own) in
       absurd cc;
 }

@@ -35,7 +35,8 @@ returns-then-action-eq0 c = (
   (λ f. absurd cc),
   λ all.
       let here = zip_at (λ action count. (1 ≤ action) × (action ≤ count)) 0 0 c.args.strategy.now
-      (action_counts c.args.game.now c.args.player) all c.loop-before.before c.loop-before-test.true in
+      (action_counts c.args.game.now c.args.player) all c.loop-before.before
+      c.loop-before-test.true in
       absurd (elim c.then-action-eq0.branch [
         | then-action-eq0-via-then-action-eq0 w ↦ omega (arith, here.0, w.if-action-eq0.true)
         | then-action-eq0-via-else-action-eq0+then-action-action_count w ↦ omega (
@@ -60,7 +61,10 @@ loop-before-preserved c = λ k less. by k (cases_lt k c.loop-before.before) less
         subst (λ (k : ℕ). (1 ≤ get_or c.args.strategy.now k 0)
         × (get_or c.args.strategy.now k 0
         ≤ get_or (action_counts c.args.game.now c.args.player) k 0)) same (
-          omega (arith, ne_zero (get_or c.args.strategy.now c.loop-before.before 0) c.if-action-eq0.false),
+          omega (
+            arith,
+            ne_zero (get_or c.args.strategy.now c.loop-before.before 0) c.if-action-eq0.false,
+          ),
           omega (
             arith,
             c.if-action-action_count.false,

@@ -69,9 +69,11 @@ returns-in-Pay-clause-overflow c = λ h.
       o.0,
       λ g paid are some. (
         o.2 (length g.players)
-            (subst (IsRow (length g.players)) (sym c.at-in-Pay.ensures) (paid.row c.in-Pay.outcome)),
+            (subst (IsRow (length g.players)) (sym c.at-in-Pay.ensures)
+            (paid.row c.in-Pay.outcome)),
         λ ops v e. stays_undefined g (suc o.0) ops o.1 v
-            (sym (pay_runs g (suc o.0) c.in-Pay.outcome (at_place c.at-in-Pay.result.now o.0) ops old
+            (sym (pay_runs g (suc o.0) c.in-Pay.outcome (at_place c.at-in-Pay.result.now o.0) ops
+            old
             (None ∷ o.1)
             (ap (λ (row : List Ratio). at_place row o.0) c.at-in-Pay.ensures
             ∙ paid.paid_is c.in-Pay.outcome o.0) o.3)

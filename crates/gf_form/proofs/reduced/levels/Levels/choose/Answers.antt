@@ -9,7 +9,8 @@ loop-self-init c =
     c.in_ok-extend_from_slice.ensures.items
     ∙ ap (λ (s : List ℕ). s ++ c.args.strategy.now) c.clear.ensures.items in (
       λ sets ordered levels.
-          levels_kept sets c.args.visits.now c.args.self.now c.truncate.new.self c.truncate-2.new.self
+          levels_kept sets c.args.visits.now c.args.self.now c.truncate.new.self
+          c.truncate-2.new.self
           levels c.extend_from_slice.new.self c.kept-kept.result c.kept-kept.ensures.within
           c.truncate.ensures.items c.truncate-2.ensures.items
           (λ set known. c.kept-kept.ensures.same set known
@@ -25,7 +26,8 @@ go_on-requires-clause-sets c = (
 )
 
 pub go_on-requires-clause-more : goal.go_on-requires-clause-more
-go_on-requires-clause-more c = omega (arith, c.loop-self-test.true, c.len.ensures, c.loop-self.self.lists.ok.0)
+go_on-requires-clause-more c =
+    omega (arith, c.loop-self-test.true, c.len.ensures, c.loop-self.self.lists.ok.0)
 
 pub loop-self-preserved : goal.loop-self-preserved
 loop-self-preserved c = (

@@ -18,7 +18,8 @@ left_on-requires-clause-within c =
     let l = c.args.self.now in
     let h = c.requires.sets.2 in
     let before = c.len-level.result - 1 in
-    let less : before < length l.lists.items = omega (arith, c.len-level.ensures, l.lists.ok.0, h.some) in
+    let less : before < length l.lists.items =
+    omega (arith, c.len-level.ensures, l.lists.ok.0, h.some) in
     subst (AreNumbers c.args.visits.now)
     (sym (list_read l.lists before c.index.result.now c.deref-3.result.now less c.index.ensures
     c.deref-3.ensures.value))
@@ -30,7 +31,8 @@ left_on-requires-clause-numbers c =
     let l = c.args.self.now in
     let h = c.requires.sets.2 in
     let before = c.len-level.result - 1 in
-    let less : before < length l.lists.items = omega (arith, c.len-level.ensures, l.lists.ok.0, h.some) in
+    let less : before < length l.lists.items =
+    omega (arith, c.len-level.ensures, l.lists.ok.0, h.some) in
     let list = list_read l.lists before c.index.result.now c.deref-3.result.now less c.index.ensures
     c.deref-3.ensures.value in
     subst (λ (levels : List ℕ). (c.deref-3.result.now ≡ []) ⊎ AreLeft c.args.visits.now
@@ -50,7 +52,8 @@ known_on-requires-clause-ordered c =
     let l = c.args.self.now in
     let h = c.requires.sets.2 in
     let before = c.len-level.result - 1 in
-    let less : before < length l.lists.items = omega (arith, c.len-level.ensures, l.lists.ok.0, h.some) in
+    let less : before < length l.lists.items =
+    omega (arith, c.len-level.ensures, l.lists.ok.0, h.some) in
     let flags = list_read l.known before c.index-2.result.now c.deref-6.result.now
     (omega (arith, less, h.as_many)) c.index-2.ensures c.deref-6.ensures.value in
     subst (λ (sets : ℕ). AreOrdered sets 1 c.args.visits.now)
@@ -67,7 +70,8 @@ any_unknown-requires-clause-ordered c =
     let l = c.args.self.now in
     let h = c.requires.sets.2 in
     let before = c.len-level.result - 1 in
-    let less : before < length l.lists.items = omega (arith, c.len-level.ensures, l.lists.ok.0, h.some) in
+    let less : before < length l.lists.items =
+    omega (arith, c.len-level.ensures, l.lists.ok.0, h.some) in
     let flags = list_read l.known before c.index-2.result.now c.deref-6.result.now
     (omega (arith, less, h.as_many)) c.index-2.ensures c.deref-6.ensures.value in
     subst (λ (sets : ℕ). AreOrdered sets 1 c.args.visits.now)
@@ -94,7 +98,8 @@ returns-clause-levels c = λ sets ordered h.
     let rest = c.if-not-any_unknown.list in
     let flags = list_read l.known before c.index-2.result.now c.deref-6.result.now
     (omega (arith, less, h.as_many)) c.index-2.ensures c.deref-6.ensures.value in
-    let numbers = list_read l.lists before c.index.result.now c.deref-3.result.now less c.index.ensures
+    let numbers =
+    list_read l.lists before c.index.result.now c.deref-3.result.now less c.index.ensures
     c.deref-3.ensures.value in
     let left = c.left_on.new.left in
     let same : (with_items l.left left).items ≡ left =
@@ -119,7 +124,8 @@ returns-clause-levels c = λ sets ordered h.
     c.in_ok-list.ensures.numbers in
     let there = subst (λ (s : List ℕ). (c.deref-3.result.now ≡ []) ⊎ AreLeft vs
     (is_made_to l.of_sets.items c.len-level.result (chosen s)) list) c.deref-2.ensures.value made in
-    let next = next_level sets vs ordered l.of_sets.items l.of_visits.items h.highest l.count h.levels
+    let next = next_level sets vs ordered l.of_sets.items l.of_visits.items h.highest l.count
+    h.levels
     c.len-level.result (omega (arith, long, h.some)) l.strategy.items (left_to l before) list
     (known_to l before) known.items is_known (h.each before less)
     (λ e. c.in_ok-list.ensures.none (numbers ∙ e))
@@ -131,5 +137,6 @@ returns-clause-levels c = λ sets ordered h.
     (ap length same ∙ c.in_ok-list.ensures.flags)
     (ap (λ (f : List Bool). get_or f 0 false) same ∙ c.in_ok-list.ensures.first)
     (c.in_ok-known.ensures.count ∙ ap length flags ∙ h.counted before less)
-    (subst (λ (n : ℕ). IsLevel sets vs l.of_sets.items l.of_visits.items n l.strategy.items rest.items
+    (subst (λ (n : ℕ). IsLevel sets vs l.of_sets.items l.of_visits.items n l.strategy.items
+    rest.items
     known.items) long next)

@@ -19,7 +19,13 @@ loop-before-preserved c =
     let level : c.level_of-level.result ≡ get_or levels (before + 1) 1 =
     c.level_of-level.ensures ∙ ap (λ (l : List ℕ). get_or l (before + 1) 1) c.deref.ensures.value in
     let inside : before < length old =
-    omega (arith, c.loop-before-test.true, c.if-len-strategy.false, c.len.ensures, c.args.self.now.strategy.ok.0) in
+    omega (
+      arith,
+      c.loop-before-test.true,
+      c.if-len-strategy.false,
+      c.len.ensures,
+      c.args.self.now.strategy.ok.0,
+    ) in
     let read : get_or old before 0 ≡ c.index.result.now =
     get_or_default old before 0 c.index.result.now inside ∙ sym c.index.ensures in
     elim c.if-index-strategy.branch [
@@ -53,4 +59,5 @@ returns-clause-same c = λ set known.
     let end : c.loop-before.before ≡ length new =
     omega (arith, c.loop-before-test.false, c.loop-before.auto.before-end) in
     agree_all levels old new c.loop-before.kept same
-    (subst (λ (n : ℕ). Agree levels old new n c.loop-before.kept) end c.loop-before.invariant.1) set known
+    (subst (λ (n : ℕ). Agree levels old new n c.loop-before.kept) end c.loop-before.invariant.1) set
+    known

@@ -14,7 +14,8 @@ wide : (g : Game) (player : ℕ) (counts : List ℕ) → counts ≡ action_count
     → length counts ≡ length (player_keys g player)
 wide g player counts is =
     ap length is
-    ∙ length-map (player_sets g player) (λ (s : Described SetKey InformationSet). length s.description.actions)
+    ∙ length-map (player_sets g player)
+    (λ (s : Described SetKey InformationSet). length s.description.actions)
     ∙ sym (length-map (player_sets g player) (λ (s : Described SetKey InformationSet). s.key))
 
 pub new-requires : goal.new-requires
@@ -27,7 +28,8 @@ new-requires c =
 pub returns : goal.returns
 returns c = record {
   visits = c.in_ok-visits.ensures;
-  levels = subst (λ (sets : ℕ). IsLevels sets (visits_of c.in_ok-visits.visits) c.in_ok-levels.levels)
+  levels = subst
+      (λ (sets : ℕ). IsLevels sets (visits_of c.in_ok-visits.visits) c.in_ok-levels.levels)
       (wide c.args.game.now c.args.player c.args.counts.now c.requires)
       (subst (λ (vs : List Visit). IsLevels (length c.args.counts.now) vs c.in_ok-levels.levels)
       c.all.ensures c.in_ok-levels.ensures);

@@ -125,7 +125,8 @@ loop-place-preserved c =
           (map (λ (digit : Digit). digit.actions) new) within within is is
           c.in_ok-push_digits.ensures.actions
           (c.loop-place.invariant.1
-          ∙ ap (λ (n : ℕ). at_digits (drop n (actions_in counts)) (drop n (actions_in counts))) next),
+          ∙ ap (λ (n : ℕ). at_digits (drop n (actions_in counts)) (drop n (actions_in counts)))
+          next),
     )
 
 pub returns : goal.returns

@@ -13,9 +13,11 @@ pub loop-place-preserved : goal.loop-place-preserved
 loop-place-preserved c =
     let pair = c.args.self in
     let number = c.in-Some.number in
-    let first = to_z-of_z w128 c.number_at-first.result (record { sfits = c.number_at-first.type_inv })
+    let first = to_z-of_z w128 c.number_at-first.result
+    (record { sfits = c.number_at-first.type_inv })
     ∙ c.number_at-first.ensures in
-    let second = to_z-of_z w128 c.number_at-second.result (record { sfits = c.number_at-second.type_inv })
+    let second =
+    to_z-of_z w128 c.number_at-second.result (record { sfits = c.number_at-second.type_inv })
     ∙ c.number_at-second.ensures in
     let whole : to_z w128 (of_z w128 number) ≡ number =
     to_z-of_z w128 number (fits_signed_from_abs w128 number c.in-Some.ensures.within) in

@@ -26,7 +26,8 @@ returns-clause-terms c =
     let heads = c.in_ok-push.ensures.heads
     ∙ ap (λ (hs : List Head). hs ++ (lowered 0 (entry_at c.push_sum.new.self 0)).head ∷ [])
     c.truncate.ensures.items in
-    joined_terms old c.clear.new.self c.push_sum.new.self c.push.new.self (count - 2) (count - 1) two next
+    joined_terms old c.clear.new.self c.push_sum.new.self c.push.new.self (count - 2) (count - 1)
+    two next
     same c.clear.ensures.none c.in_ok-push_sum.ensures.sum is heads
 
 pub returns-clause-ordered : goal.returns-clause-ordered
@@ -50,7 +51,8 @@ returns-clause-ordered c =
     let heads = c.in_ok-push.ensures.heads
     ∙ ap (λ (hs : List Head). hs ++ (lowered 0 (entry_at c.push_sum.new.self 0)).head ∷ [])
     c.truncate.ensures.items in
-    joined_ordered old c.clear.new.self c.push_sum.new.self c.push.new.self (count - 2) (count - 1) two next
+    joined_ordered old c.clear.new.self c.push_sum.new.self c.push.new.self (count - 2) (count - 1)
+    two next
     same c.clear.ensures.none c.in_ok-push_sum.ensures.sum is heads
 
 pub returns-clause-last : goal.returns-clause-last
@@ -74,5 +76,6 @@ returns-clause-last c =
     let heads = c.in_ok-push.ensures.heads
     ∙ ap (λ (hs : List Head). hs ++ (lowered 0 (entry_at c.push_sum.new.self 0)).head ∷ [])
     c.truncate.ensures.items in
-    joined_last old c.clear.new.self c.push_sum.new.self c.push.new.self (count - 2) (count - 1) two next
+    joined_last old c.clear.new.self c.push_sum.new.self c.push.new.self (count - 2) (count - 1) two
+    next
     same c.clear.ensures.none c.in_ok-push_sum.ensures.sum is heads

@@ -17,7 +17,8 @@ overflow_sub-head c =
       c.requires.less,
       ap (λ (h : Head). h.demands) there,
       ap (λ (h : Head). h.demands)
-          (head_read from c.args.place c.index-head.result.now c.requires.within c.index-head.ensures),
+          (head_read from c.args.place c.index-head.result.now c.requires.within
+          c.index-head.ensures),
     )
 
 pub returns-clause-pushed : goal.returns-clause-pushed
@@ -55,7 +56,8 @@ returns-clause-shaped c =
     ∙ sym c.requires.players in
     let all = subst (AllByRecursion IsWithin) (sym c.row.ensures)
     (row_in_bound from c.args.place c.requires.shaped.1 c.requires.within) in
-    let made = is_pushed c.args.self.now (less_head c.index-head.result.now c.args.less) c.row.result.now
+    let made = is_pushed c.args.self.now (less_head c.index-head.result.now c.args.less)
+    c.row.result.now
     c.push.new.self.items c.extend_from_slice.new.self.items c.requires.shaped.0 all one_each
     c.in_ok-push.ensures.items c.in_ok-extend_from_slice.ensures.items in
     record { count = made.count; within = made.within }

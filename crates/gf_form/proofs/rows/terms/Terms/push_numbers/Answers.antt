@@ -23,8 +23,10 @@ loop-place-preserved c =
           let read = λ (ns : List ℤ) (all : AllByRecursion IsWithin ns) (h : place < length ns).
           in_bits (get_or ns place (pos 0)) (all_at IsWithin ns place (pos 0) all h) in
           let first = read c.args.first.now c.requires.first less in
-          let second = read c.args.second.now c.requires.second (omega (arith, less, c.requires.alike)) in
-          let number : w.in-Some.number ≡ get_or c.args.first.now place (pos 0) *ℤ pos c.args.by_first
+          let second =
+          read c.args.second.now c.requires.second (omega (arith, less, c.requires.alike)) in
+          let number : w.in-Some.number ≡ get_or c.args.first.now place (pos 0) *ℤ pos
+          c.args.by_first
           +ℤ get_or c.args.second.now place (pos 0) *ℤ pos c.args.by_second =
           w.in-Some.ensures.sum
           ∙ (λ i. first i *ℤ pos c.args.by_first +ℤ second i *ℤ pos c.args.by_second) in

@@ -83,7 +83,8 @@ returns-clause-sum c =
     let sums = λ (fits : c.in_ok-fits.fits ≡ true) (k : ℕ). more.sums fits k
     ∙ (λ i. get_or (c.row-2.ensures i) k (pos 0) *ℤ pos c.in-Some.scale.first
     +ℤ get_or (c.row-3.ensures i) k (pos 0) *ℤ pos c.in-Some.scale.second) in
-    let known : 0 < c.if-fits.den → (c.in_ok-fits.fits ≡ true) × (c.if-fits.den ≡ c.in-Some.scale.den) =
+    let known : 0 < c.if-fits.den → (c.in_ok-fits.fits ≡ true)
+    × (c.if-fits.den ≡ c.in-Some.scale.den) =
     elim c.if-fits.branch [
       | then-fits w ↦ λ above. (w.if-fits.true, w.den-is)
       | else-fits w ↦ λ above. absurd (omega (arith, above, w.den-is))
@@ -93,7 +94,8 @@ returns-clause-sum c =
     c.push_numbers.new.self.numbers.items)) (sym c.in_ok-fits.ensures.players)
     (has_sum c.args.self.now from c.args.first c.args.second c.if-fits.den
     c.in-Some.scale.size c.index-own.result.now more.row c.push-2.new.self.items
-    c.push_numbers.new.self.numbers.items c.requires.shaped.0 c.requires.first more.within own one_each
+    c.push_numbers.new.self.numbers.items c.requires.shaped.0 c.requires.first more.within own
+    one_each
     (c.in_ok-push-2.ensures.items
     ∙ ap (λ (v : Vec Head Global). v.items ++ record {
       demands = c.index-own.result.now.demands;

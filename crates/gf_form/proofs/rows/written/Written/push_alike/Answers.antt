@@ -8,7 +8,8 @@ push_row-requires-clause-paid c =
     let before = c.loop-before.before in
     let t = c.args.terms.now in
     some_weaker c.pair.result _ _
-    (λ pair come. paid_alike asked.game.now t c.args.run.first (get_or asked.numbers.now before 0) pair
+    (λ pair come. paid_alike asked.game.now t c.args.run.first (get_or asked.numbers.now before 0)
+    pair
     (c.requires.settles before (omega (arith, c.loop-before.auto.before))
     (omega (arith, c.loop-before-test.true)))
     (come (omega (arith, c.len-all.ensures, t.heads.ok.0)) (omega arith)))

@@ -12,8 +12,10 @@ push_row-requires-clause-paid c =
     let action = c.from-action.result + 1 in
     let settles = c.requires.settles in
     some_weaker c.pair-pair.result _ _
-    (λ pair come. paid_pair asked.game.now settles.0 c.args.terms.now c.args.run.first number action pair
-    (settles.1 before (omega (arith, c.loop-before.auto.before)) (omega (arith, c.loop-before-test.true)))
+    (λ pair come. paid_pair asked.game.now settles.0 c.args.terms.now c.args.run.first number action
+    pair
+    (settles.1 before (omega (arith, c.loop-before.auto.before))
+    (omega (arith, c.loop-before-test.true)))
     (ap (λ n. n + 1) c.from-action.ensures)
     (come action (omega arith)
     (subst (λ (hs : List Head). CountsBelow hs 1 c.count_near-free.result) c.deref.ensures.value

@@ -18,7 +18,8 @@ returns-in_ok-give_back-in-Ok-clause-written c =
           c.extend_from_slice.new.self.items c.in-Ok.row.items less c.requires.written.rows
           c.in-Ok.ensures.payoffs
           (c.in_ok-extend_from_slice-in-Ok.ensures.items
-          ∙ ap (λ (row : List Ratio). c.args.self.now.rows.items ++ row) c.deref-in-Ok.ensures.value);
+          ∙ ap (λ (row : List Ratio). c.args.self.now.rows.items ++ row)
+          c.deref-in-Ok.ensures.value);
       values = all_more (HasValues g) all before [] less c.requires.written.values
           c.in-Ok.ensures.values;
       as_long = c.in_ok-write_strategies.ensures.as_long;

@@ -25,4 +25,5 @@ returns c =
       c.loop-before.auto.before-end,
       c.outcome_count-count.ensures.count,
     ) in
-    all_rows c.args.game.now rows (subst (ArePaidTo c.args.game.now rows) end c.loop-before.invariant)
+    all_rows c.args.game.now rows
+    (subst (ArePaidTo c.args.game.now rows) end c.loop-before.invariant)

@@ -23,13 +23,15 @@ returns-in-Err-clause-overflow c = λ h.
       column o.0 (rows_in c.pop.new.self.items),
       λ players is. below_players players o.0 c.args.payoffs.now o.1 is,
       pays (at_place c.args.payoffs.now o.0) o.0 (rows_on c.args.self.now)
-          (rows_in c.pop.new.self.items) c.unwrap-row.result.items None (popped c.args.self.now.rows.items c.pop.new.self.items c.pop.result
+          (rows_in c.pop.new.self.items) c.unwrap-row.result.items None
+          (popped c.args.self.now.rows.items c.pop.new.self.items c.pop.result
           c.unwrap-row.result c.pop.ensures.items c.unwrap-row.ensures) o.2,
     )
 
 pub returns-clause-rows : goal.returns-clause-rows
 returns-clause-rows c = λ players are is.
-    let last = last_row players _ _ _ (popped c.args.self.now.rows.items c.pop.new.self.items c.pop.result
+    let last = last_row players _ _ _
+    (popped c.args.self.now.rows.items c.pop.new.self.items c.pop.result
     c.unwrap-row.result c.pop.ensures.items c.unwrap-row.ensures) are in
     one_more_row players (rows_in c.push.new.self.items) (rows_in c.pop.new.self.items)
     c.pay.new.row.items
