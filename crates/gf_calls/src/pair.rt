@@ -1,10 +1,10 @@
 //! Which numbers of two trees correspond, in the form that C gets.
 
-ghost use Rattle.std.specs.Prelude.{◌≡◌, IfOk, map};
+ghost use Rattle.std.specs.Prelude.{◌≡◌};
 ghost use Rattle.gf_calls.specs.Pairs.{told_pair};
 
-use gf_canon::NumberPair;
-use std::alloc::{AllocError, Global};
+use gf_canon::{NumberPair, ReceivePairs};
+use std::alloc::AllocError;
 
 /// Numbers of two trees that correspond.
 #[repr(C)]
@@ -39,13 +39,20 @@ fn told_pair(pair: NumberPair) -> Pair
     }
 }
 
-/// The same pairs, in the form that C gets.
-pub fn told_pairs(alloc: Global, pairs: &[NumberPair]) -> Result<Vec<Pair>, AllocError>
-    ensures { IfOk result (λ told. told.items ≡ map told_pair pairs.now) }
-{
-    let mut told = Vec::with_capacity(alloc, pairs.len())?;
-    for pair in pairs {
-        told.push(told_pair(*pair))?;
+/// The pairs that were told, in the form that C gets.
+#[derive(Drop)]
+pub struct ToldPairs {
+    pub pairs: Vec<Pair>,
+}
+
+impl ReceivePairs for ToldPairs {
+    ghost use Rattle.std.specs.Prelude.{◌≡◌, map};
+    ghost use Rattle.gf_calls.specs.Pairs.{told_pair};
+
+    ghost holds = { λ told pairs. told.pairs.items ≡ map told_pair pairs };
+
+    fn pair(&mut self, pair: NumberPair) -> Result<(), AllocError> {
+        self.pairs.push(told_pair(pair))?;
+        Ok(())
     }
-    Ok(told)
 }

@@ -9,7 +9,7 @@ ghost use Rattle.gf_calls.specs.Pairs.{ArePairs};
 
 use crate::fault::{FaultNumbers, tell};
 use crate::handing::hand_out;
-use crate::pair::{Pair, told_pairs};
+use crate::pair::{Pair, ToldPairs};
 use crate::status::Status;
 use gf_canon::{Meaning, pairs_between, read_file};
 use std::alloc::{AllocError, Global};
@@ -24,9 +24,13 @@ fn pairs_of(
         (λ pairs. SameFile (file_of a.now) (file_of b.now)
         × ArePairs (file_of a.now) (file_of b.now) pairs.items)) }
 {
-    match pairs_between(alloc, a, b)? {
-        Some(pairs) => Ok(Some(told_pairs(alloc, &pairs)?)),
-        None => Ok(None),
+    let mut told = ToldPairs {
+        pairs: Vec::new(alloc),
+    };
+    if pairs_between(alloc, a, b, &mut told)? {
+        Ok(Some(told.pairs))
+    } else {
+        Ok(None)
     }
 }
 

@@ -17,7 +17,7 @@ pub use crate::format::Format;
 pub use crate::meaning::{Meaning, read_file};
 pub use crate::numbering::carry::renumbering;
 pub use crate::numbering::new_numbers::Renumbering;
-pub use crate::numbering::pairs::{NumberPair, pairs_between};
+pub use crate::numbering::pairs::{NumberPair, ReceivePairs, pairs_between};
 pub use crate::numbering::renumber;
 pub use crate::sameness::{Names, SameFault, same, same_by, same_meaning};
 pub use crate::text::write::write_efg;

@@ -8,6 +8,7 @@ pub mod GroupsText
 pub mod Hashed
 pub mod Interruptions
 pub mod JobFaults
+pub mod MapLines
 pub mod MoreRead
 pub mod MoreWritten
 pub mod OneGroup

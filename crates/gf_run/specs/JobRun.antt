@@ -1,5 +1,5 @@
 -- What a job does: the text that it writes and its exit status, or the fault that it ends with.
-use Rattle.std.specs.Prelude.{◌≡◌, ◌⊎◌, ℕ, Bool, true, false, List, Option, Result}
+use Rattle.std.specs.Prelude.{◌≡◌, ◌⊎◌, ℕ, Bool, true, false, List, MatchResult, Option, Result}
 use Rattle.std.specs.declared.io.Error.{Error}
 use Rattle.gf_canon.specs.GameFile.{SameFile}
 use Rattle.gf_canon.specs.Judgement.{IsRefusedWith, IsTextBy}
@@ -12,6 +12,7 @@ use Rattle.gf_run.specs.FileKinds.{IsKindLine}
 use Rattle.gf_run.specs.FormText.{IsFormText, ReadsFormUntil}
 use Rattle.gf_run.specs.Input.{IsReadWhole}
 use Rattle.gf_run.specs.Opening.{IsNotOpened, IsOpened, RunsOver, RunsOverTwo}
+use Rattle.gf_run.specs.Output.{IsWriteFault, IsWritten}
 use Rattle.gf_run.specs.Run.{Answers, ReadsUntil}
 use Rattle.gf_run.specs.RunOfTwo.{AnswersTwo, ReadsTwoUntil}
 use Rattle.gf_run.specs.SameText.{IsAnswer, IsLine, IsLineAndMap}
@@ -90,3 +91,22 @@ module _ {S : Type 0} (standard : S → Type 0) (opens : List ℕ → Result S E
   Fails untouched cut_off job Write =
       (status : ℕ) × Does standard opens remaining gives cut_off job status
   Fails untouched cut_off job fault = untouched × EndsWith job fault
+
+-- for the inputs, and for an output: the bytes that it holds, if it reports them, its count of
+-- failures, and what a push gives
+module _ {S W : Type 0} (standard : S → Type 0) (opens : List ℕ → Result S Error → Type 0)
+    (remaining : S → Option (List ℕ)) (count : S → ℕ)
+    (gives : S → List ℕ → Result ℕ Error → S → Type 0) (contents : W → Option (List ℕ))
+    (count' : W → ℕ) (takes : W → List ℕ → Result ℕ Error → W → Type 0) where
+  -- a job was done, and its text written
+  abbrev pub IsDone : Job → W → W → ℕ → Type 0
+  IsDone job old new = Does standard opens remaining gives (IsWritten contents takes old new) job
+
+  -- a job was not done
+  abbrev pub IsNotDone : Job → W → W → RunFault → Type 0
+  IsNotDone job old new = Fails standard opens remaining count gives (new ≡ old)
+      (IsWriteFault contents count' takes old new) job
+
+  -- one or the other
+  abbrev pub HasEnded : Job → W → W → Result ℕ RunFault → Type 0
+  HasEnded job old new result = MatchResult result (IsDone job old new) (IsNotDone job old new)

@@ -1,6 +1,6 @@
 //! Which numbers of two games correspond.
 
-ghost use Rattle.std.specs.Prelude.{◌≡◌, ◌++◌, IfOk, MatchOption, OnOk, map};
+ghost use Rattle.std.specs.Prelude.{◌≡◌, ◌↔◌, ◌++◌, IfOk, IsTrue, List, [], OnOk, false, map};
 ghost use Rattle.std.specs.Option.{option_to_list};
 ghost use Rattle.gf_token.specs.Positions.{at_position};
 ghost use Rattle.gf_tree.specs.FirstUse.{outcome_numbers};
@@ -34,136 +34,149 @@ pub enum NumberPair {
     },
 }
 
-/// Appends the pair of a player's set by its position in order of first use, if there is one. What
-/// is carried has the same position in both games.
-fn push_set(
+/// What is told the pairs of two games, one after another.
+pub trait ReceivePairs {
+    ghost use Rattle.std.specs.Prelude.{List, [], ◌∷◌, ◌++◌, OnOk};
+    ghost use Rattle.gf_canon.specs.declared.numbering.pairs.NumberPair.{NumberPair};
+
+    /// What it holds of the pairs that it was told.
+    ghost holds: { Self → List NumberPair → Type 0 };
+
+    /// Takes the next pair.
+    fn pair(&mut self, pair: NumberPair) -> Result<(), AllocError>
+        ensures { OnOk result ((told : List NumberPair) → holds self.old told
+            → holds self.new (told ++ pair ∷ [])) };
+}
+
+/// Tells the pair of a player's set by its position in order of first use, if there is one. What is
+/// carried has the same position in both games.
+fn tell_set<P: ReceivePairs>(
     g: &Game<'_>,
     h: &Game<'_>,
     player: u32,
     i: usize,
-    pairs: &mut Vec<NumberPair>,
+    to: &mut P,
 ) -> Result<(), AllocError>
     requires { IsGame g.now × IsGame h.now }
-    ensures { OnOk result ((r : Renumbering) → Carries r g.now h.now
-        → pairs.new.items ≡ pairs.old.items
+    ensures { OnOk result ((r : Renumbering) (told : List NumberPair) → Carries r g.now h.now
+        → P.holds to.old told → P.holds to.new (told
         ++ map (λ number. NumberPair.Set player number (r.set player number))
-        (option_to_list (at_position (set_numbers g.now player) i))) }
+        (option_to_list (at_position (set_numbers g.now player) i)))) }
 {
     let (Some(number), Some(new_number)) = (g.set_number(player, i), h.set_number(player, i)) else {
         return Ok(());
     };
-    pairs.push(NumberPair::Set {
+    to.pair(NumberPair::Set {
         player,
         number,
         new_number,
-    })?;
-    Ok(())
+    })
 }
 
-/// Appends a pair for each set of a player, in order of first use.
-fn push_sets(
+/// Tells a pair for each set of a player, in order of first use.
+fn tell_sets<P: ReceivePairs>(
     g: &Game<'_>,
     h: &Game<'_>,
     player: u32,
-    pairs: &mut Vec<NumberPair>,
+    to: &mut P,
 ) -> Result<(), AllocError>
     requires { IsGame g.now × IsGame h.now }
-    ensures { OnOk result ((r : Renumbering) → Carries r g.now h.now
-        → pairs.new.items ≡ pairs.old.items ++ set_pairs r g.now player) }
+    ensures { OnOk result ((r : Renumbering) (told : List NumberPair) → Carries r g.now h.now
+        → P.holds to.old told → P.holds to.new (told ++ set_pairs r g.now player)) }
 {
     for before in 0..g.set_count(player) {
-        push_set(g, h, player, before + 1, pairs)?;
+        tell_set(g, h, player, before + 1, to)?;
     }
     Ok(())
 }
 
 /// Those of a player by any number; he has no sets if the number is too large.
-fn push_player(
+fn tell_player<P: ReceivePairs>(
     g: &Game<'_>,
     h: &Game<'_>,
     player: usize,
-    pairs: &mut Vec<NumberPair>,
+    to: &mut P,
 ) -> Result<(), AllocError>
     requires games { IsGame g.now × IsGame h.now }
     requires spellable { IsSpellable g.now }
-    ensures { OnOk result ((r : Renumbering) → Carries r g.now h.now
-        → pairs.new.items ≡ pairs.old.items ++ set_pairs r g.now player) }
+    ensures { OnOk result ((r : Renumbering) (told : List NumberPair) → Carries r g.now h.now
+        → P.holds to.old told → P.holds to.new (told ++ set_pairs r g.now player)) }
 {
     match u32::try_from(player) {
-        Ok(player) => push_sets(g, h, player, pairs),
+        Ok(player) => tell_sets(g, h, player, to),
         Err(_) => Ok(()),
     }
 }
 
-/// Appends the pair of an outcome by its position in order of first use, if there is one.
-fn push_outcome(
+/// Tells the pair of an outcome by its position in order of first use, if there is one.
+fn tell_outcome<P: ReceivePairs>(
     g: &Game<'_>,
     h: &Game<'_>,
     i: usize,
-    pairs: &mut Vec<NumberPair>,
+    to: &mut P,
 ) -> Result<(), AllocError>
     requires { IsGame g.now × IsGame h.now }
-    ensures { OnOk result ((r : Renumbering) → Carries r g.now h.now
-        → pairs.new.items ≡ pairs.old.items
+    ensures { OnOk result ((r : Renumbering) (told : List NumberPair) → Carries r g.now h.now
+        → P.holds to.old told → P.holds to.new (told
         ++ map (λ number. NumberPair.Outcome number (r.outcome number))
-        (option_to_list (at_position (outcome_numbers g.now) i))) }
+        (option_to_list (at_position (outcome_numbers g.now) i)))) }
 {
     let (Some(number), Some(new_number)) = (g.outcome_number(i), h.outcome_number(i)) else {
         return Ok(());
     };
-    pairs.push(NumberPair::Outcome { number, new_number })?;
-    Ok(())
+    to.pair(NumberPair::Outcome { number, new_number })
 }
 
-/// Appends a pair for each outcome, in order of first use.
-fn push_outcomes(g: &Game<'_>, h: &Game<'_>, pairs: &mut Vec<NumberPair>) -> Result<(), AllocError>
+/// Tells a pair for each outcome, in order of first use.
+fn tell_outcomes<P: ReceivePairs>(g: &Game<'_>, h: &Game<'_>, to: &mut P) -> Result<(), AllocError>
     requires { IsGame g.now × IsGame h.now }
-    ensures { OnOk result ((r : Renumbering) → Carries r g.now h.now
-        → pairs.new.items ≡ pairs.old.items ++ outcome_pairs r g.now) }
+    ensures { OnOk result ((r : Renumbering) (told : List NumberPair) → Carries r g.now h.now
+        → P.holds to.old told → P.holds to.new (told ++ outcome_pairs r g.now)) }
 {
     for before in 0..g.outcome_count() {
-        push_outcome(g, h, before + 1, pairs)?;
+        tell_outcome(g, h, before + 1, to)?;
     }
     Ok(())
 }
 
-/// Appends the pairs of the renumbering that carries a game to another, if there is one.
-fn push_pairs(g: &Game<'_>, h: &Game<'_>, pairs: &mut Vec<NumberPair>) -> Result<(), AllocError>
-    ensures { OnOk result ((r : Renumbering) → Carries r g.now h.now
-        → pairs.new.items ≡ pairs.old.items ++ renumbering_pairs r g.now) }
+/// Tells the pairs of the only renumbering that carries a game to another, if there is one.
+fn tell_pairs<P: ReceivePairs>(g: &Game<'_>, h: &Game<'_>, to: &mut P) -> Result<(), AllocError>
+    ensures { OnOk result ((r : Renumbering) → Carries r g.now h.now → P.holds to.old []
+        → (pairs : List NumberPair) × ((s : Renumbering) → Carries s g.now h.now
+        → pairs ≡ renumbering_pairs s g.now) × P.holds to.new pairs) }
 {
     let players = g.players().len();
     let _others = h.players();
-    push_player(g, h, 0, pairs)?;
+    tell_player(g, h, 0, to)?;
     for before in 0..players {
-        push_player(g, h, before + 1, pairs)?;
+        tell_player(g, h, before + 1, to)?;
     }
-    push_outcomes(g, h, pairs)
+    tell_outcomes(g, h, to)
 }
 
-/// Which numbers of two files correspond, or `None` if these do not mean the same.
+/// Tells which numbers of two files correspond, if these mean the same; says whether they do.
 ///
 /// Of two games these are the numbers of the only renumbering that carries the first to the second:
 /// a pair for each information set of the first, and then one for each outcome. The sets of chance
 /// come first, and then those of player after player, each player's in order of first use, and so do
-/// the outcomes (this project's profile). Tables have no numbers.
+/// the outcomes (this project's profile). Tables have no numbers. If the files do not mean the same,
+/// nothing is told.
 ///
 /// `AllocError` if memory runs out.
-pub fn pairs_between(
+pub fn pairs_between<P: ReceivePairs>(
     alloc: Global,
     a: &Meaning<'_>,
     b: &Meaning<'_>,
-) -> Result<Option<Vec<NumberPair>>, AllocError>
-    ensures { IfOk result (λ found. MatchOption found (¬ (SameFile (file_of a.now) (file_of b.now)))
-        (λ pairs. SameFile (file_of a.now) (file_of b.now)
-        × ArePairs (file_of a.now) (file_of b.now) pairs.items)) }
+    to: &mut P,
+) -> Result<bool, AllocError>
+    ensures same { IfOk result (λ same. IsTrue same ↔ SameFile (file_of a.now) (file_of b.now)) }
+    ensures told { IfOk result (λ same. IsTrue same → P.holds to.old [] → (pairs : List NumberPair)
+        × ArePairs (file_of a.now) (file_of b.now) pairs × P.holds to.new pairs) }
+    ensures untold { IfOk result (λ same. same ≡ false → to.new ≡ to.old) }
 {
-    if !same_meaning(alloc, a, b, Names::Kept)? {
-        return Ok(None);
+    let same = same_meaning(alloc, a, b, Names::Kept)?;
+    if let (true, Meaning::Tree(g), Meaning::Tree(h)) = (same, a, b) {
+        tell_pairs(g, h, to)?;
     }
-    let mut pairs = Vec::new(alloc);
-    if let (Meaning::Tree(g), Meaning::Tree(h)) = (a, b) {
-        push_pairs(g, h, &mut pairs)?;
-    }
-    Ok(Some(pairs))
+    Ok(same)
 }

@@ -5,7 +5,7 @@ ghost use Rattle.std.specs.declared.io.Error.{Error};
 ghost use Rattle.gf_run.specs.Ending.{EndsBy};
 ghost use Rattle.gf_run.specs.FormText.{IsFormText, ReadsFormUntil};
 ghost use Rattle.gf_run.specs.Input.{IsReadWhole};
-ghost use Rattle.gf_run.specs.JobRun.{Does, Fails, IsAnswerBy, strategies_of};
+ghost use Rattle.gf_run.specs.JobRun.{Does, Fails, HasEnded, IsAnswerBy, strategies_of};
 ghost use Rattle.gf_run.specs.Opening.{IsNotOpened, IsOpened};
 ghost use Rattle.gf_run.specs.Output.{IsWriteFault, IsWritten};
 ghost use Rattle.gf_run.specs.Run.{Answers};
@@ -110,13 +110,9 @@ fn canon<I: Inputs, W: Sink>(
     names: Names,
     output: &mut W,
 ) -> Result<u8, RunFault>
-    ensures { MatchResult result
-        (Does (I.standard_gives inputs.now) (I.open_gives inputs.now)
-        I.Opened.remaining I.Opened.pull_gives
-        (IsWritten W.contents W.push_gives output.old output.new) (Job.Canon input.now names))
-        (Fails (I.standard_gives inputs.now) (I.open_gives inputs.now)
-        I.Opened.remaining I.Opened.count I.Opened.pull_gives (output.new ≡ output.old)
-        (IsWriteFault W.contents W.count W.push_gives output.old output.new) (Job.Canon input.now names)) }
+    ensures { HasEnded (I.standard_gives inputs.now) (I.open_gives inputs.now)
+        I.Opened.remaining I.Opened.count I.Opened.pull_gives W.contents W.count W.push_gives
+        (Job.Canon input.now names) output.old output.new result }
 {
     let mut input = open_input(inputs, input)?;
     run_canon(alloc, &mut input, names, output)?;
@@ -129,13 +125,9 @@ fn check<I: Inputs, W: Sink>(
     input: &Input,
     output: &mut W,
 ) -> Result<u8, RunFault>
-    ensures { MatchResult result
-        (Does (I.standard_gives inputs.now) (I.open_gives inputs.now)
-        I.Opened.remaining I.Opened.pull_gives
-        (IsWritten W.contents W.push_gives output.old output.new) (Job.Check input.now))
-        (Fails (I.standard_gives inputs.now) (I.open_gives inputs.now)
-        I.Opened.remaining I.Opened.count I.Opened.pull_gives (output.new ≡ output.old)
-        (IsWriteFault W.contents W.count W.push_gives output.old output.new) (Job.Check input.now)) }
+    ensures { HasEnded (I.standard_gives inputs.now) (I.open_gives inputs.now)
+        I.Opened.remaining I.Opened.count I.Opened.pull_gives W.contents W.count W.push_gives
+        (Job.Check input.now) output.old output.new result }
 {
     let mut input = open_input(inputs, input)?;
     run_check(alloc, &mut input, output)?;
@@ -149,13 +141,9 @@ fn table<I: Inputs, W: Sink>(
     reduced: bool,
     output: &mut W,
 ) -> Result<u8, RunFault>
-    ensures { MatchResult result
-        (Does (I.standard_gives inputs.now) (I.open_gives inputs.now)
-        I.Opened.remaining I.Opened.pull_gives
-        (IsWritten W.contents W.push_gives output.old output.new) (Job.Table input.now reduced))
-        (Fails (I.standard_gives inputs.now) (I.open_gives inputs.now)
-        I.Opened.remaining I.Opened.count I.Opened.pull_gives (output.new ≡ output.old)
-        (IsWriteFault W.contents W.count W.push_gives output.old output.new) (Job.Table input.now reduced)) }
+    ensures { HasEnded (I.standard_gives inputs.now) (I.open_gives inputs.now)
+        I.Opened.remaining I.Opened.count I.Opened.pull_gives W.contents W.count W.push_gives
+        (Job.Table input.now reduced) output.old output.new result }
 {
     let mut input = open_input(inputs, input)?;
     write_form(alloc, &mut input, reduced, output)?;
@@ -171,13 +159,9 @@ fn same<I: Inputs, W: Sink>(
     names: Names,
     output: &mut W,
 ) -> Result<u8, RunFault>
-    ensures { MatchResult result
-        (Does (I.standard_gives inputs.now) (I.open_gives inputs.now)
-        I.Opened.remaining I.Opened.pull_gives
-        (IsWritten W.contents W.push_gives output.old output.new) (Job.Same a.now b.now map names))
-        (Fails (I.standard_gives inputs.now) (I.open_gives inputs.now)
-        I.Opened.remaining I.Opened.count I.Opened.pull_gives (output.new ≡ output.old)
-        (IsWriteFault W.contents W.count W.push_gives output.old output.new) (Job.Same a.now b.now map names)) }
+    ensures { HasEnded (I.standard_gives inputs.now) (I.open_gives inputs.now)
+        I.Opened.remaining I.Opened.count I.Opened.pull_gives W.contents W.count W.push_gives
+        (Job.Same a.now b.now map names) output.old output.new result }
 {
     let mut first = open_file(inputs, a.as_str(), Which::First)?;
     let mut second = open_file(inputs, b.as_str(), Which::Second)?;
@@ -192,13 +176,9 @@ pub(crate) fn run_job<I: Inputs, W: Sink>(
     job: &Job,
     output: &mut W,
 ) -> Result<u8, RunFault>
-    ensures { MatchResult result
-        (Does (I.standard_gives inputs.now) (I.open_gives inputs.now)
-        I.Opened.remaining I.Opened.pull_gives
-        (IsWritten W.contents W.push_gives output.old output.new) (job.now))
-        (Fails (I.standard_gives inputs.now) (I.open_gives inputs.now)
-        I.Opened.remaining I.Opened.count I.Opened.pull_gives (output.new ≡ output.old)
-        (IsWriteFault W.contents W.count W.push_gives output.old output.new) (job.now)) }
+    ensures { HasEnded (I.standard_gives inputs.now) (I.open_gives inputs.now)
+        I.Opened.remaining I.Opened.count I.Opened.pull_gives W.contents W.count W.push_gives
+        job.now output.old output.new result }
 {
     match job {
         Job::Canon { input, names } => canon(alloc, inputs, input, *names, output),

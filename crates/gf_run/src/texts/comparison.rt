@@ -1,15 +1,14 @@
 //! What is written about two files that are compared.
 
-ghost use Rattle.std.specs.Prelude.{◌≡◌, ◌↔◌, ◌++◌, ℕ, IfErr, IfOk, IsTrue, List, true};
-ghost use Rattle.std.specs.List.{flat_map};
+ghost use Rattle.std.specs.Prelude.{◌≡◌, ◌↔◌, ℕ, IfErr, IfOk, IsTrue, List, false, true};
 ghost use Rattle.gf_canon.specs.GameFile.{SameFile};
 ghost use Rattle.gf_canon.specs.Judgement.{SpellsWithin};
 ghost use Rattle.gf_canon.specs.MeaningOf.{file_of};
 ghost use Rattle.gf_canon.specs.Sameness.{AreRefusedWith};
-ghost use Rattle.gf_run.specs.SameText.{IsAnswer, IsLineAndMap, answer_line, pair_line};
+ghost use Rattle.gf_run.specs.SameText.{IsAnswer, IsLineAndMap, answer_line};
 
-use crate::texts::renumbering::push_lines;
-use gf_canon::{Meaning, NumberPair, SameFault, pairs_between, read_file};
+use crate::texts::renumbering::pair_line;
+use gf_canon::{Meaning, NumberPair, ReceivePairs, SameFault, pairs_between, read_file};
 use std::alloc::{AllocError, Global};
 
 /// Whether two files are the same, and what is written about it.
@@ -26,25 +25,44 @@ pub fn answer_line(same: bool) -> &'static [u8]
     if same { b"same\n" } else { b"different\n" }
 }
 
-/// An answer of one line.
-fn line(alloc: Global, same: bool) -> Result<Answer, AllocError>
-    ensures same { IfOk result (λ answer. answer.same ≡ same) }
-    ensures text { IfOk result (λ answer. answer.text.items ≡ answer_line same) }
-{
-    let mut text = Vec::new(alloc);
-    text.extend_from_slice(answer_line(same))?;
-    Ok(Answer { same, text })
+/// The answer about two files that are the same, while their pairs are told: its line, and then a
+/// line for each pair.
+#[derive(Drop)]
+struct PairLines {
+    text: Vec<u8>,
 }
 
-/// The answer that two files are the same, with a line for each pair of their numbers.
-fn with_lines(alloc: Global, pairs: &[NumberPair]) -> Result<Answer, AllocError>
-    ensures same { IfOk result (λ answer. answer.same ≡ true) }
-    ensures text { IfOk result (λ answer.
-        answer.text.items ≡ answer_line true ++ flat_map pair_line pairs.now) }
+impl PairLines {
+    /// No pair was told.
+    fn new(alloc: Global) -> Result<PairLines, AllocError>
+        ensures { IfOk result (λ lines. lines.text.items ≡ answer_line true) }
+    {
+        let text = Vec::from_slice(alloc, answer_line(true))?;
+        Ok(PairLines { text })
+    }
+}
+
+impl ReceivePairs for PairLines {
+    ghost use Rattle.std.specs.Prelude.{◌≡◌, ◌++◌, true};
+    ghost use Rattle.std.specs.List.{flat_map};
+    ghost use Rattle.gf_run.specs.SameText.{answer_line, pair_line};
+
+    ghost holds = { λ lines pairs.
+        lines.text.items ≡ answer_line true ++ flat_map pair_line pairs };
+
+    #[tactic(auto, using(crate::proofs::MapLines::one_line_more))]
+    fn pair(&mut self, pair: NumberPair) -> Result<(), AllocError> {
+        self.text.extend_from_slice(pair_line(pair).as_slice())
+    }
+}
+
+/// The answer that two files are not the same.
+fn different(alloc: Global) -> Result<Answer, AllocError>
+    ensures same { IfOk result (λ answer. answer.same ≡ false) }
+    ensures text { IfOk result (λ answer. answer.text.items ≡ answer_line false) }
 {
-    let mut answer = line(alloc, true)?;
-    push_lines(pairs, &mut answer.text)?;
-    Ok(answer)
+    let text = Vec::from_slice(alloc, answer_line(false))?;
+    Ok(Answer { same: false, text })
 }
 
 /// The answer about two files that were read.
@@ -54,9 +72,14 @@ fn answer_of(alloc: Global, a: &Meaning<'_>, b: &Meaning<'_>) -> Result<Answer, 
     ensures text { IfOk result (λ answer.
         IsLineAndMap (file_of a.now) (file_of b.now) answer.same answer.text.items) }
 {
-    match pairs_between(alloc, a, b)? {
-        Some(pairs) => Ok(with_lines(alloc, &pairs)?),
-        None => Ok(line(alloc, false)?),
+    let mut lines = PairLines::new(alloc)?;
+    if pairs_between(alloc, a, b, &mut lines)? {
+        Ok(Answer {
+            same: true,
+            text: lines.text,
+        })
+    } else {
+        different(alloc)
     }
 }
 

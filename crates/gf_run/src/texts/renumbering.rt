@@ -1,12 +1,10 @@
-//! The text of a renumbering: a line for each information set, and one for each outcome.
+//! The lines of a renumbering: one for each information set, and one for each outcome.
 
-ghost use Rattle.std.specs.Prelude.{◌≡◌, ◌++◌, OnOk};
-ghost use Rattle.std.specs.List.{flat_map};
+ghost use Rattle.std.specs.Prelude.{◌≡◌};
 ghost use Rattle.gf_run.specs.SameText.{outcome_line, pair_line, set_line};
 
 use crate::texts::line::Line;
 use gf_canon::NumberPair;
-use std::alloc::AllocError;
 
 fn set_line(player: u32, number: u32, new_number: u32) -> Line
     ensures { result ≡ set_line player number new_number }
@@ -36,7 +34,7 @@ fn outcome_line(number: u32, new_number: u32) -> Line
 
 /// The line of a number and its new number: `set P X Y` of an information set, P being its player, X
 /// its number and Y its new number, and `outcome X Y` of an outcome.
-fn pair_line(pair: NumberPair) -> Line
+pub fn pair_line(pair: NumberPair) -> Line
     ensures { result ≡ pair_line pair }
 {
     match pair {
@@ -47,14 +45,4 @@ fn pair_line(pair: NumberPair) -> Line
         } => set_line(player, number, new_number),
         NumberPair::Outcome { number, new_number } => outcome_line(number, new_number),
     }
-}
-
-/// Appends a line for each pair.
-pub fn push_lines(pairs: &[NumberPair], text: &mut Vec<u8>) -> Result<(), AllocError>
-    ensures { OnOk result (text.new.items ≡ text.old.items ++ flat_map pair_line pairs.now) }
-{
-    for pair in pairs {
-        text.extend_from_slice(pair_line(*pair).as_slice())?;
-    }
-    Ok(())
 }

@@ -1,10 +1,12 @@
 -- Pairs of what a renumbering carries: it has the same position in both games.
 use Rattle.std.proofs.Common.{◌≡◌, ℕ, zero, suc, List, ◌++◌, ◌∷◌, [], map, Option, Some, None, refl}
-use Rattle.std.proofs.Common.{ap, sym, ◌∙◌}
+use Rattle.std.proofs.Common.{ap, length, sym, ◌∙◌}
 use Rattle.std.specs.Prelude.{option_map}
+use Rattle.std.specs.List.{flat_map}
 use Rattle.std.specs.Option.{option_to_list}
 use Rattle.std.proofs.lemmas.List.{append-nil}
 use Rattle.std.proofs.lemmas.Option.{slice_get-map}
+use Rattle.gf_nfg.specs.Profiles.{numbers_from}
 use Rattle.gf_token.specs.Positions.{at_position}
 use Rattle.gf_tree.specs.Description.{SetKey}
 use Rattle.gf_tree.specs.FirstUse.{outcome_numbers, player_keys}
@@ -13,8 +15,9 @@ use Rattle.gf_tree.specs.Renumbering.{Renumbering}
 use Rattle.gf_tree.proofs.lemmas.games.Members.{map_twice}
 use Rattle.gf_tree.specs.SameGame.{Carries}
 use Rattle.gf_tree.proofs.lemmas.games.Canonical.{outcome_numbers_carried, set_numbers_carried}
-use Rattle.gf_canon.specs.Pairs.{set_numbers}
+use Rattle.gf_canon.specs.Pairs.{outcome_pairs, renumbering_pairs, set_numbers, set_pairs}
 use Rattle.gf_canon.specs.declared.numbering.pairs.NumberPair.{NumberPair}
+use Rattle.gf_canon.specs.declared.numbering.pairs.NumberPair.TheVariants.{Set, Outcome}
 
 image_at : {A B : Type 0} (f : A → B) (xs : List A) (i : ℕ)
     → at_position (map f xs) i ≡ option_map f (at_position xs i)
@@ -40,12 +43,16 @@ module _ (f : ℕ → ℕ) (pair : ℕ → ℕ → NumberPair) where
   no_pair_of (Some k) other image none pairs = absurd (none k (f k) refl image)
 
 module _ (r : Renumbering) (g h : Game) (games : IsGame g × IsGame h) (c : Carries r g h) where
+  numbers_carried : (player : ℕ)
+      → set_numbers h player ≡ map (r.set player) (set_numbers g player)
+  numbers_carried player =
+      set_numbers_carried r g h games.0 games.1 c player
+      ∙ sym (map_twice (r.set player) (λ (key : SetKey). key.number) (player_keys g player))
+
   pub set_carried : (player i : ℕ) → at_position (set_numbers h player) i
       ≡ option_map (r.set player) (at_position (set_numbers g player) i)
   set_carried player i =
-      ap (λ (ns : List ℕ). at_position ns i)
-      (set_numbers_carried r g h games.0 games.1 c player
-      ∙ sym (map_twice (r.set player) (λ (key : SetKey). key.number) (player_keys g player)))
+      ap (λ (ns : List ℕ). at_position ns i) (numbers_carried player)
       ∙ image_at (r.set player) (set_numbers g player) i
 
   pub outcome_carried : (i : ℕ) → at_position (outcome_numbers h) i
@@ -53,3 +60,32 @@ module _ (r : Renumbering) (g h : Game) (games : IsGame g × IsGame h) (c : Carr
   outcome_carried i =
       ap (λ (ns : List ℕ). at_position ns i) (outcome_numbers_carried r g h games.0 games.1 c)
       ∙ image_at r.outcome (outcome_numbers g) i
+
+-- ---- two renumberings that carry a game to another have the same pairs
+
+module _ (pair : ℕ → ℕ → NumberPair) (f e : ℕ → ℕ) where
+  same_pairs : (ns : List ℕ) → map f ns ≡ map e ns
+      → map (λ n. pair n (f n)) ns ≡ map (λ n. pair n (e n)) ns
+  same_pairs [] is = refl
+  same_pairs (n ∷ ns) is =
+      let first : f n ≡ e n = cc in
+      let rest : map f ns ≡ map e ns = cc in
+      λ i. pair n (first i) ∷ same_pairs ns rest i
+
+module _ (g h : Game) (games : IsGame g × IsGame h) (r s : Renumbering) (c : Carries r g h)
+    (d : Carries s g h) where
+  same_sets : (player : ℕ) → set_pairs r g player ≡ set_pairs s g player
+  same_sets player =
+      same_pairs (Set player) (r.set player) (s.set player) (set_numbers g player)
+      (sym (numbers_carried r g h games c player) ∙ numbers_carried s g h games d player)
+
+  same_outcomes : outcome_pairs r g ≡ outcome_pairs s g
+  same_outcomes =
+      same_pairs Outcome r.outcome s.outcome (outcome_numbers g)
+      (sym (outcome_numbers_carried r g h games.0 games.1 c)
+      ∙ outcome_numbers_carried s g h games.0 games.1 d)
+
+  pub only_pairs : renumbering_pairs r g ≡ renumbering_pairs s g
+  only_pairs = λ i.
+      flat_map (λ player. same_sets player i) (numbers_from 0 (suc (length g.players)))
+      ++ same_outcomes i

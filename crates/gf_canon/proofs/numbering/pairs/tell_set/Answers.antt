@@ -1,25 +1,29 @@
-use Rattle.std.proofs.Common.{sym, ◌∙◌}
+use Rattle.std.proofs.Common.{List, sym, subst}
+use Rattle.std.proofs.lemmas.Result.{on_ok_weaker}
 use Rattle.gf_token.specs.Positions.{at_position}
 use Rattle.gf_canon.specs.Pairs.{set_numbers}
+use Rattle.gf_canon.specs.declared.numbering.pairs.NumberPair.{NumberPair}
 use Rattle.gf_canon.specs.declared.numbering.pairs.NumberPair.TheVariants.{Set}
 use Rattle.gf_canon.proofs.lemmas.numbers.CarriedPairs.{pair_of, no_pair_of, set_carried}
-use Rattle.gf_canon.proofs.numbering.pairs.push_set.Goals as goal
+use Rattle.gf_canon.proofs.numbering.pairs.tell_set.Goals as goal
 
 pub returns-in_default : goal.returns-in_default
-returns-in_default c = λ r carries.
-    no_pair_of (r.set c.args.player) (Set c.args.player)
+returns-in_default g c = λ r told carries.
+    subst (λ (pairs : List NumberPair). g.P.ReceivePairs.holds c.args.to.now pairs)
+    (no_pair_of (r.set c.args.player) (Set c.args.player)
     (at_position (set_numbers c.args.g.now c.args.player) c.args.i)
     (at_position (set_numbers c.args.h.now c.args.player) c.args.i)
     (set_carried r c.args.g.now c.args.h.now c.requires carries c.args.player c.args.i)
-    (λ n m here there. absurd (cc (c.in_default.ensures', there)))
-    c.args.pairs.now.items
+    (λ n m here there. absurd (cc (c.in_default.ensures', there))) told)
 
 pub returns : goal.returns
-returns c = λ r carries.
-    c.in_ok-push.ensures.items
-    ∙ pair_of (r.set c.args.player) (Set c.args.player)
+returns g c = on_ok_weaker c.pair.result
+    (λ more r told carries held. subst (λ (pairs : List NumberPair). g.P.ReceivePairs.holds c.pair.new.self pairs)
+    (pair_of (r.set c.args.player) (Set c.args.player)
     (at_position (set_numbers c.args.g.now c.args.player) c.args.i)
     (at_position (set_numbers c.args.h.now c.args.player) c.args.i)
     (set_carried r c.args.g.now c.args.h.now c.requires carries c.args.player c.args.i)
     c.in-Some-Some.number c.in-Some-Some.new_number (sym c.in-Some-Some.ensures)
-    (sym c.in-Some-Some.ensures') c.args.pairs.now.items
+    (sym c.in-Some-Some.ensures') told)
+    (more told held))
+    c.pair.ensures

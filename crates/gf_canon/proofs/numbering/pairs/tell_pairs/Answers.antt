@@ -1,0 +1,38 @@
+use Rattle.std.proofs.Common.{List, [], ◌+◌, ◌++◌, ap, length, ◌∙◌, arith, refl, subst}
+use Rattle.std.specs.List.{flat_map}
+use Rattle.std.proofs.lemmas.List.{length-map}
+use Rattle.std.proofs.lemmas.Result.{on_ok_weaker}
+use Rattle.gf_nfg.specs.Profiles.{numbers_from}
+use Rattle.gf_token.specs.Label.{label_of}
+use Rattle.gf_canon.specs.Pairs.{renumbering_pairs, set_pairs}
+use Rattle.gf_canon.specs.declared.numbering.pairs.NumberPair.{NumberPair}
+use Rattle.gf_canon.proofs.lemmas.numbers.CarriedPairs.{only_pairs}
+use Rattle.gf_canon.proofs.lemmas.numbers.PairsInTurn.{all_pairs, chance_done, player_more}
+use Rattle.gf_canon.proofs.numbering.pairs.tell_pairs.Goals as goal
+
+pub loop-before-init : goal.loop-before-init
+loop-before-init g c = λ r told carries held.
+    subst (λ (pairs : List NumberPair). g.P.ReceivePairs.holds c.tell_player.new.to pairs)
+    (chance_done (set_pairs r c.args.g.now) told _ refl)
+    (c.in_ok-tell_player.ensures r told carries held)
+
+pub loop-before-preserved : goal.loop-before-preserved
+loop-before-preserved g c = λ r told carries held.
+    subst (λ (pairs : List NumberPair). g.P.ReceivePairs.holds c.tell_player-in-loop-before.new.to pairs)
+    (player_more (set_pairs r c.args.g.now) c.loop-before.before told _ _ refl refl)
+    (c.in_ok-tell_player-2.ensures r _ carries (c.loop-before.invariant r told carries held))
+
+pub returns : goal.returns
+returns g c =
+    let names = ap length c.players-players.ensures.names in
+    let count = length-map c.players-players.result.now label_of in
+    on_ok_weaker c.tell_outcomes.result (λ more r carries held. (
+      renumbering_pairs r c.args.g.now,
+      (λ s carried. only_pairs c.args.g.now c.args.h.now
+          (c.players-players.ensures.is_game, c.players-others.ensures.is_game) r s carries carried),
+      subst (λ (pairs : List NumberPair). g.P.ReceivePairs.holds c.tell_outcomes.new.to pairs)
+          (all_pairs r c.args.g.now c.loop-before.before [] _ refl
+          (omega (arith, names, count, c.loop-before-test.false, c.loop-before.auto.before-end)))
+          (more r _ carries (c.loop-before.invariant r [] carries held)),
+    ))
+    c.tell_outcomes.ensures
