@@ -3,7 +3,8 @@ use Rattle.std.proofs.Common.{ℕ, List, refl}
 use Rattle.gf_nfg.specs.Table.{Table}
 use Rattle.gf_canon.specs.GameFile.{GameFile}
 use Rattle.gf_canon.specs.Judgement.{SpellsWithin}
-use Rattle.gf_calls.specs.Tabled.{IsMadeText, made, not_made, IsTableOf, IsTabled, written, out_of_memory}
+use Rattle.gf_calls.specs.Tabled.{IsMadeText, made, not_made, IsTableOf, IsTabled, written}
+use Rattle.gf_calls.specs.Tabled.{out_of_memory}
 use Rattle.gf_calls.specs.declared.fault.FaultNumbers.{FaultNumbers}
 use Rattle.gf_form.specs.declared.forms.Strategies.{Strategies}
 use Rattle.gf_calls.specs.declared.status.Status.{Status}
@@ -16,5 +17,6 @@ pub made_answers : (strategies : Strategies) (bytes : List ℕ) (x : GameFile) (
 made_answers strategies bytes x t old new needed profile numbers status spelled is (made handed) =
     written _ (record { file = x; spelled = spelled; table = t; is_table = is; is_text = refl })
     handed
-made_answers strategies bytes x t old new needed profile numbers status spelled is (not_made out kept) =
+made_answers strategies bytes x t old new needed profile numbers status spelled is
+    (not_made out kept) =
     out_of_memory out (x, spelled) kept

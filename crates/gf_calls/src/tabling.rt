@@ -102,7 +102,8 @@ fn write_by(
     fault: &mut FaultNumbers,
     profile: &mut u64,
 ) -> Status
-    ensures { IsTabled strategies input.now out.old out.new needed.new profile.new fault.new result }
+    ensures { IsTabled strategies input.now out.old out.new needed.new profile.new fault.new
+        result }
 {
     match read_file(alloc, input) {
         Ok(meaning) => write_meaning(alloc, &meaning, strategies, out, needed, profile),

@@ -121,8 +121,8 @@ fn same_as_told_table(
     }
 }
 
-/// Whether a file means the same as a table. `AllocError` if it is accepted, and memory to compare it
-/// is refused.
+/// Whether a file means the same as a table. `AllocError` if it is accepted, and memory to compare
+/// it is refused.
 fn same_as_table(
     alloc: Global,
     t: &ListedTable,

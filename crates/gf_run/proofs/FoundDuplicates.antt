@@ -23,7 +23,8 @@ module _ {W E : Type 0} (contents : W → Option (List ℕ)) (count : W → ℕ)
       → Finds contents count takes contents' count' takes' standard opens remaining failures gives
       names (drop at inputs) output a end
   file_more inputs at input a mid end within is step rest =
-      subst (λ (left : List Input). Finds contents count takes contents' count' takes' standard opens
+      subst (λ (left : List Input). Finds contents count takes contents' count' takes' standard
+      opens
       remaining failures gives names left output a end)
       (sym (drop_more inputs at input within
       ∙ ap (λ (i : Input). i ∷ drop (at + 1) inputs) (sym is)))
@@ -35,5 +36,6 @@ module _ {W E : Type 0} (contents : W → Option (List ℕ)) (count : W → ℕ)
       → Finds contents count takes contents' count' takes' standard opens remaining failures gives
       names (drop at inputs) output a end
   files_done inputs at a end past closed =
-      subst (λ (left : List Input). Finds contents count takes contents' count' takes' standard opens
+      subst (λ (left : List Input). Finds contents count takes contents' count' takes' standard
+      opens
       remaining failures gives names left output a end) (sym (drop_all at inputs past)) closed

@@ -23,7 +23,8 @@ same_hash_equality a b = slice_eq-Decides Decides-eqb a b (same_hash a b) refl
 not_both : (b : Bool) → b ≡ true → b ≡ false → ⊥
 not_both b h k = let e : true ≡ false = sym h ∙ k in absurd cc
 
-map_same : {X Y : Type 0} (f g : X → Y) → ((x : X) → f x ≡ g x) → (xs : List X) → map f xs ≡ map g xs
+map_same : {X Y : Type 0} (f g : X → Y) → ((x : X) → f x ≡ g x) → (xs : List X)
+    → map f xs ≡ map g xs
 map_same f g same [] = refl
 map_same f g same (x ∷ xs) = rw (same x) (ap (λ l. g x ∷ l) (map_same f g same xs))
 
@@ -33,7 +34,8 @@ map_of_map f g [] = refl
 map_of_map f g (x ∷ xs) = ap (λ l. f (g x) ∷ l) (map_of_map f g xs)
 
 next : {X : Type 0} (x : List X) (xs : List (List X)) (p : ℕ) (d : List X) (n : X)
-    → set (x ∷ xs) (1 + p) (get_or (x ∷ xs) (1 + p) d ++ n ∷ []) ≡ x ∷ set xs p (get_or xs p d ++ n ∷ [])
+    → set (x ∷ xs) (1 + p) (get_or (x ∷ xs) (1 + p) d ++ n ∷ []) ≡ x ∷ set xs p
+    (get_or xs p d ++ n ∷ [])
 next x xs p d n = let e : 1 + p ≡ suc p = omega arith in rw e refl
 
 module _ {K : Type 0} (same : K → K → Bool) (equality : IsEquality same) where
@@ -98,8 +100,10 @@ module _ {K : Type 0} (same : K → K → Bool) (equality : IsEquality same) whe
       by : (b : Bool) → same k a ≡ b
           → ((list_any (same k) ks ≡ true) × (position_or_len (same k) ks < length ks))
           ⊎ ((list_any (same k) ks ≡ false) × (position_or_len (same k) ks ≡ length ks))
-          → ((list_any (same k) (a ∷ ks) ≡ true) × (position_or_len (same k) (a ∷ ks) < length (a ∷ ks)))
-          ⊎ ((list_any (same k) (a ∷ ks) ≡ false) × (position_or_len (same k) (a ∷ ks) ≡ length (a ∷ ks)))
+          → ((list_any (same k) (a ∷ ks) ≡ true)
+          × (position_or_len (same k) (a ∷ ks) < length (a ∷ ks)))
+          ⊎ ((list_any (same k) (a ∷ ks) ≡ false)
+          × (position_or_len (same k) (a ∷ ks) ≡ length (a ∷ ks)))
       by true e h = inl (rw e refl, rw e (omega arith))
       by false e (inl h) = inl (rw e h.0, rw e (omega (arith, h.1)))
       by false e (inr h) = inr (rw e h.0, rw e (omega (arith, h.1)))
@@ -236,7 +240,8 @@ module _ (files : List HashedFile) (kept : KeptNames) (is : IsKeptOf files kept)
       by (inl h) =
           let stay : new.hashes ≡ kept.hashes = inserted
           ∙ ap (λ (b : Bool). cond b kept.hashes (kept.hashes ++ f.hash ∷ [])) h.0 in
-          let put = at_key same_hash same_hash_equality (λ h. names_of (having files h)) f.name f.hash
+          let put = at_key same_hash same_hash_equality (λ h. names_of (having files h)) f.name
+          f.hash
           kept.hashes [] apart h.1 in
           is_kept (files ++ f ∷ []) new kept.hashes hashes_are (sym stay ∙ hashes_are)
           (named
@@ -267,14 +272,18 @@ module _ (files : List HashedFile) (kept : KeptNames) (is : IsKeptOf files kept)
           (is_used same_hash same_hash_equality (map (λ file. file.hash) files) f.hash m))) in
           let own : (f.name ∷ []) ≡ names_of (having (files ++ f ∷ []) f.hash) =
           sym (each_more files f f.hash
-          ∙ ap (λ (l : List HashedFile). names_of l ++ cond (same_hash f.hash f.hash) (f.name ∷ []) []) unused
-          ∙ ap (λ (b : Bool). cond b (f.name ∷ []) []) ((same_hash_equality f.hash f.hash).1 refl)) in
-          is_kept (files ++ f ∷ []) new (kept.hashes ++ f.hash ∷ []) hashes_are (sym grown ∙ hashes_are)
+          ∙ ap (λ (l : List HashedFile). names_of l
+          ++ cond (same_hash f.hash f.hash) (f.name ∷ []) []) unused
+          ∙ ap (λ (b : Bool). cond b (f.name ∷ []) [])
+          ((same_hash_equality f.hash f.hash).1 refl)) in
+          is_kept (files ++ f ∷ []) new (kept.hashes ++ f.hash ∷ []) hashes_are
+          (sym grown ∙ hashes_are)
           (named
           ∙ ap (λ (l : List (List (List ℕ))). l ++ (f.name ∷ []) ∷ []) (names_are
           ∙ none_at same_hash same_hash_equality (λ h. names_of (having files h)) f.name f.hash
           kept.hashes none ∙ names_by_more files f kept.hashes)
-          ∙ ap (λ (l : List (List ℕ)). map (λ h. names_of (having (files ++ f ∷ []) h)) kept.hashes ++ l ∷ []) own
+          ∙ ap (λ (l : List (List ℕ)). map (λ h. names_of (having (files ++ f ∷ []) h)) kept.hashes
+          ++ l ∷ []) own
           ∙ sym (map-append (λ h. names_of (having (files ++ f ∷ []) h)) kept.hashes (f.hash ∷ [])))
 
 -- ---- the vectors that keep them

@@ -1,6 +1,8 @@
 -- The text of groups, with one more group.
-use Rattle.std.proofs.Common.{◌≡◌, ℕ, ◌+◌, ◌<◌, ◌≤◌, Bool, true, false, List, [], ◌∷◌, ◌++◌, length, map, filter}
-use Rattle.std.proofs.Common.{codes, refl, sym, ap, ◌∙◌, arith, inl, inr, append_assoc, take, get_or}
+use Rattle.std.proofs.Common.{◌≡◌, ℕ, ◌+◌, ◌<◌, ◌≤◌, Bool, true, false, List, [], ◌∷◌, ◌++◌, length}
+use Rattle.std.proofs.Common.{map, filter}
+use Rattle.std.proofs.Common.{codes, refl, sym, ap, ◌∙◌, arith, inl, inr, append_assoc, take}
+use Rattle.std.proofs.Common.{get_or}
 use Rattle.std.proofs.lemmas.Bool.{le-ltb, lt-ltb}
 use Rattle.std.proofs.lemmas.Grind.{flat_map-append}
 use Rattle.std.proofs.lemmas.List.{append-nil, get_or-map, length-map, take_more}
@@ -41,7 +43,8 @@ one_more : (groups : List (List (List ℕ))) (group : List (List ℕ))
 one_more groups group (inl none) = rw none (append-nil (name_lines group))
 one_more groups group (inr some) =
     let begun = name_lines (some.0 ∷ some.1) in
-    let later : List (List (List ℕ)) → List ℕ = flat_map (λ names. codes "\n" ++ name_lines names) in
+    let later : List (List (List ℕ)) → List ℕ =
+    flat_map (λ names. codes "\n" ++ name_lines names) in
     let added : later (some.2 ++ group ∷ []) ≡ later some.2 ++ (codes "\n" ++ name_lines group) =
     flat_map-append (λ names. codes "\n" ++ name_lines names) some.2 (group ∷ [])
     ∙ ap (λ (l : List ℕ). later some.2 ++ l) (append-nil (codes "\n" ++ name_lines group)) in
@@ -55,7 +58,8 @@ one_more groups group (inr some) =
     groups_text gs ++ empty_line (groups_text gs) ++ name_lines group) (sym some.3)
 
 -- while groups are visited: the text of those so far
-module _ (groups : List (List (List ℕ))) (at : ℕ) (group : List (List ℕ)) (within : at < length groups)
+module _ (groups : List (List (List ℕ))) (at : ℕ) (group : List (List ℕ))
+    (within : at < length groups)
     (is : group ≡ get_or groups at group) (text : List ℕ)
     (now : text ≡ groups_text (filter has_two (take at groups))) where
   taken : filter has_two (take (at + 1) groups)
@@ -71,10 +75,12 @@ module _ (groups : List (List (List ℕ))) (at : ℕ) (group : List (List ℕ)) 
       let kept : filter has_two (group ∷ []) ≡ group ∷ [] = rw two refl in
       e ∙ ap (λ (l : List ℕ). l ++ empty_line l ++ name_lines group) now
       ∙ sym (one_more (filter has_two (take at groups)) group (first_named (take at groups)))
-      ∙ ap (λ (gs : List (List (List ℕ))). groups_text (filter has_two (take at groups) ++ gs)) (sym kept)
+      ∙ ap (λ (gs : List (List (List ℕ))). groups_text (filter has_two (take at groups) ++ gs))
+      (sym kept)
       ∙ ap (λ (gs : List (List (List ℕ))). groups_text gs) (sym taken)
 
-  pub without_group : has_two group ≡ false → text ≡ groups_text (filter has_two (take (at + 1) groups))
+  pub without_group : has_two group ≡ false
+      → text ≡ groups_text (filter has_two (take (at + 1) groups))
   without_group one =
       let kept : filter has_two (group ∷ []) ≡ [] = rw one refl in
       now ∙ ap (λ (gs : List (List (List ℕ))). groups_text gs)
@@ -87,7 +93,8 @@ module _ {V : Type 0} (F : V → List (List ℕ)) (items : List V) (names : List
     (is : item ≡ get_or items at item) (text : List ℕ)
     (now : text ≡ groups_text (filter has_two (take at names))) where
   inside : at < length names
-  inside = omega (arith, within, ap (λ (l : List (List (List ℕ))). length l) are, length-map items F)
+  inside = omega
+      (arith, within, ap (λ (l : List (List (List ℕ))). length l) are, length-map items F)
 
   placed : F item ≡ get_or names at (F item)
   placed = ap F is ∙ sym (get_or-map F items at item (F item) within)
@@ -96,11 +103,13 @@ module _ {V : Type 0} (F : V → List (List ℕ)) (items : List V) (names : List
   pub with_item : 1 < length (F item) → (new : List ℕ)
       → new ≡ text ++ empty_line text ++ name_lines (F item)
       → new ≡ groups_text (filter has_two (take (at + 1) names))
-  with_item two new e = with_group names at (F item) inside placed text now (lt-ltb 1 (length (F item)) two) new e
+  with_item two new e =
+      with_group names at (F item) inside placed text now (lt-ltb 1 (length (F item)) two) new e
 
   pub without_item : length (F item) ≤ 1 → (new : List ℕ) → new ≡ text
       → new ≡ groups_text (filter has_two (take (at + 1) names))
-  without_item one new e = e ∙ without_group names at (F item) inside placed text now (le-ltb 1 (length (F item)) one)
+  without_item one new e =
+      e ∙ without_group names at (F item) inside placed text now (le-ltb 1 (length (F item)) one)
 
 -- ---- the status
 

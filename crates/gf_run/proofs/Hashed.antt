@@ -29,7 +29,8 @@ module _ {S : Type 0} (standard : S → Type 0) (opens : List ℕ → Result S E
       → Runs standard opens remaining count gives contents failures takes contents' failures' takes'
       names (drop at inputs) a end
   one_more inputs at input a mid end within is step rest =
-      subst (λ (left : List Input). Runs standard opens remaining count gives contents failures takes
+      subst (λ (left : List Input). Runs standard opens remaining count gives contents failures
+      takes
       contents' failures' takes' names left a end)
       (sym (drop_more inputs at input within
       ∙ ap (λ (i : Input). i ∷ drop (at + 1) inputs) (sym is)))

@@ -14,7 +14,8 @@ module _ {S : Type 0} (standard : S → Type 0) (opens : List ℕ → Result S E
       → (fault ≢ Write → untouched) → EndsWith standard opens remaining count gives job fault
       → (fault ≡ Write → (status : ℕ) × Does standard opens remaining gives cut_off job status)
       → Fails standard opens remaining count gives untouched cut_off job fault
-  fails untouched cut_off job (Refused which fault) before ends behind = (before (λ e. absurd cc), ends)
+  fails untouched cut_off job (Refused which fault) before ends behind =
+      (before (λ e. absurd cc), ends)
   fails untouched cut_off job (Read which) before ends behind = (before (λ e. absurd cc), ends)
   fails untouched cut_off job Write before ends behind = behind refl
   fails untouched cut_off job (Form fault) before ends behind = (before (λ e. absurd cc), ends)

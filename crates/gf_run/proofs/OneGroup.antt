@@ -8,7 +8,8 @@ use Rattle.gf_run.specs.Duplicates.{same_hash}
 use Rattle.gf_run.proofs.Grouped.{same_hash_equality}
 
 -- a file of the group of a hash has this hash
-hash_in : (files : List HashedFile) (hash : List ℕ) (a : HashedFile) → Contains (having files hash) a
+hash_in : (files : List HashedFile) (hash : List ℕ) (a : HashedFile)
+    → Contains (having files hash) a
     → hash ≡ a.hash
 hash_in files hash a m = (same_hash_equality hash a.hash).0
     (of_filter (λ file. same_hash hash file.hash) files a (has (having files hash) a m)).1
@@ -24,8 +25,10 @@ alike : (files : List HashedFile) (a b : HashedFile) → AreInOneGroup files a b
 alike files a b one =
     let from = mapped_from (having files) (hashes_of files) one.group
     (has (groups_of files) one.group one.is_group) in
-    sym (hash_in files from.0 a (subst (λ (group : List HashedFile). Contains group a) (sym from.2) one.first))
-    ∙ hash_in files from.0 b (subst (λ (group : List HashedFile). Contains group b) (sym from.2) one.second)
+    sym (hash_in files from.0 a
+    (subst (λ (group : List HashedFile). Contains group a) (sym from.2) one.first))
+    ∙ hash_in files from.0 b
+    (subst (λ (group : List HashedFile). Contains group b) (sym from.2) one.second)
 
 together : (files : List HashedFile) (a b : HashedFile) → Contains files a → Contains files b
     → a.hash ≡ b.hash → AreInOneGroup files a b

@@ -28,7 +28,8 @@ module _ {S : Type 0} (standard : S → Type 0) (opens : List ℕ → Result S E
   -- the file was opened and read whole, and this is the hash of its canonical text
   abbrev pub HasHash : Names → List ℕ → Input → Type 0
   HasHash names hash input = RunsOver standard opens (λ old new.
-      (bytes : List ℕ) × IsHashOf names bytes hash × IsReadWhole remaining gives old new bytes) input
+      (bytes : List ℕ) × IsHashOf names bytes hash × IsReadWhole remaining gives old new bytes)
+      input
 
 -- and for standard error
 module _ {S E : Type 0} (standard : S → Type 0) (opens : List ℕ → Result S Error → Type 0)

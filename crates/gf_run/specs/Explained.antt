@@ -1,5 +1,6 @@
 -- How a run ends whose fault is explained in words.
-use Rattle.std.specs.Prelude.{◌≡◌, ◌⊎◌, ℕ, Bool, true, false, ◌<◌, List, [], ◌++◌, codes, decimal, length, take, Option, Result}
+use Rattle.std.specs.Prelude.{◌≡◌, ◌⊎◌, ℕ, Bool, true, false, ◌<◌, List, [], ◌++◌, codes, decimal}
+use Rattle.std.specs.Prelude.{length, take, Option, Result}
 use Rattle.std.specs.String.{string_bytes}
 use Rattle.std.specs.declared.io.Error.{Error}
 use Rattle.gf_token.specs.declared.fault.Fault.{Fault}
@@ -40,8 +41,8 @@ abbrev pub IsHead : RunFault → List ℕ → List ℕ → List ℕ → Type 0
 IsHead (Refused which fault) name bytes text = IsWhere fault name bytes text
 IsHead fault name bytes text = text ≡ []
 
--- an explanation of a fault of the file with this name and these bytes: its first line has the place,
--- and then the line of the fault
+-- an explanation of a fault of the file with this name and these bytes: its first line has the
+-- place, and then the line of the fault
 pub record IsExplained (fault : RunFault) (name bytes text : List ℕ) : Type 0 where
   pub head : List ℕ
   pub rest : List ℕ
@@ -81,7 +82,8 @@ IsToldInWords job fault text = (text ≡ fault_line fault)
 -- failed with a fault, this is the status of the fault, and it was explained in words
 module _ {S : Type 0} (contents : S → Option (List ℕ)) (count : S → ℕ)
     (gives : S → List ℕ → Result ℕ Error → S → Type 0) where
-  abbrev pub EndsInWords : (Done : ℕ → Type 0) (Fails : RunFault → Type 0) → Job → ℕ → S → S → Type 0
+  abbrev pub EndsInWords : (Done : ℕ → Type 0) (Fails : RunFault → Type 0) → Job → ℕ → S → S
+      → Type 0
   EndsInWords Done Fails job status old new = (Done status × (new ≡ old))
       ⊎ ((fault : RunFault) × Fails fault × (status ≡ status_of fault)
       × ((text : List ℕ) × IsToldInWords job fault text × IsTold contents count gives text old new))

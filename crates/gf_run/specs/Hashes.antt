@@ -49,12 +49,14 @@ module _ {S : Type 0} (standard : S → Type 0) (opens : List ℕ → Result S E
   -- the file was opened and read whole, and the line of its hash was `written`
   abbrev pub IsHashed : Names → (List ℕ → Type 0) → Input → Type 0
   IsHashed names written input = RunsOver standard opens (λ old new.
-      Answers (IsHashLine names (name_of input)) (IsReadWhole remaining gives old new) written) input
+      Answers (IsHashLine names (name_of input)) (IsReadWhole remaining gives old new) written)
+      input
 
   -- the file was not opened, or it was read until this fault
   abbrev pub IsNotHashed : RunFault → Input → Type 0
   IsNotHashed fault input =
-      EndsOver standard opens remaining count gives (ReadsFileUntil remaining count gives) fault input
+      EndsOver standard opens remaining count gives (ReadsFileUntil remaining count gives) fault
+      input
 
   -- and for standard output and for standard error
   module _ {W E : Type 0} (contents : W → Option (List ℕ)) (failures : W → ℕ)

@@ -13,8 +13,8 @@ pub enum Input {
     Standard,
     /// The file of this name.
     File(String),
-    /// A file whose name is not UTF-8, so that it cannot be opened: its name, with U+FFFD in place of
-    /// what is not.
+    /// A file whose name is not UTF-8, so that it cannot be opened: its name, with U+FFFD in place
+    /// of what is not.
     NotText(String),
 }
 

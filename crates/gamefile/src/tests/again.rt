@@ -1,5 +1,5 @@
-//! A call that is made again if it was out of memory. tests/memory runs tests with one growth of memory
-//! refused, so the second call has to answer.
+//! A call that is made again if it was out of memory. tests/memory runs tests with one growth of
+//! memory refused, so the second call has to answer.
 
 use gf_token::{Fault, Why};
 use gf_tree::{Game, read_efg};

@@ -1,5 +1,5 @@
-//! What the players are paid at worked games, and which choices have no payoffs. A call that is out of
-//! memory is made again.
+//! What the players are paid at worked games, and which choices have no payoffs. A call that is out
+//! of memory is made again.
 
 use super::again::read_tree;
 use gf_form::{EvalFault, are_strategies, expected};

@@ -158,9 +158,9 @@ fn tell_pairs<P: ReceivePairs>(g: &Game<'_>, h: &Game<'_>, to: &mut P) -> Result
 ///
 /// Of two games these are the numbers of the only renumbering that carries the first to the second:
 /// a pair for each information set of the first, and then one for each outcome. The sets of chance
-/// come first, and then those of player after player, each player's in order of first use, and so do
-/// the outcomes (this project's profile). Tables have no numbers. If the files do not mean the same,
-/// nothing is told.
+/// come first, and then those of player after player, each player's in order of first use, and so
+/// do the outcomes (this project's profile). Tables have no numbers. If the files do not mean the
+/// same, nothing is told.
 ///
 /// `AllocError` if memory runs out.
 pub fn pairs_between<P: ReceivePairs>(

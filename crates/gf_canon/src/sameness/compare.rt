@@ -5,7 +5,8 @@ ghost use Rattle.gf_token.specs.Label.{label_of};
 ghost use Rattle.gf_tree.specs.FileNodeOf.{described_outcome, described_set, file_node_of};
 ghost use Rattle.gf_tree.specs.FileNodeOf.{outcome_use_of, set_use_of};
 ghost use Rattle.gf_tree.specs.Told.{heading_of, told_of};
-ghost use Rattle.gf_canon.specs.inner.NamedBy.{heading_by, name_by, node_by, outcome_by, use_by, set_by};
+ghost use Rattle.gf_canon.specs.inner.NamedBy.{heading_by, name_by, node_by, outcome_by, use_by};
+ghost use Rattle.gf_canon.specs.inner.NamedBy.{set_by};
 
 use crate::sameness::Names;
 use gf_fraction::Fraction;

@@ -21,7 +21,8 @@ const ROOM: usize = 11;
 
 /// Appends a space and a number. After an `Err` the items are as they were.
 fn write_number(number: u32, out: &mut Vec<u8>) -> Result<(), AllocError>
-    ensures text { OnOk result (out.new.items ≡ out.old.items ++ others_text (decimal number ∷ [])) }
+    ensures text { OnOk result
+        (out.new.items ≡ out.old.items ++ others_text (decimal number ∷ [])) }
     ensures same { OnErr result (out.new.items ≡ out.old.items) }
 {
     let mut text = [b' '; ROOM];
@@ -103,7 +104,8 @@ fn write_result(outcome: Option<OutcomeUse<'_, '_>>, out: &mut Vec<u8>) -> Resul
 #[inline(never)]
 #[tactic(auto, using(crate::proofs::lemmas::texts::TextPieces::step_joined))]
 fn write_described(node: &FileNode<'_, '_>, out: &mut Vec<u8>) -> Result<(), AllocError>
-    ensures text { OnOk result (out.new.items ≡ out.old.items ++ node_line (file_node_of node.now)) }
+    ensures text { OnOk result
+        (out.new.items ≡ out.old.items ++ node_line (file_node_of node.now)) }
     ensures kept { OnErr result (Keeps out.old.items out.new.items) }
 {
     write_step(node.name, node.set, out)?;
@@ -116,7 +118,8 @@ fn write_described(node: &FileNode<'_, '_>, out: &mut Vec<u8>) -> Result<(), All
 #[inline(always)]
 #[tactic(auto, using(crate::proofs::lemmas::texts::PlainLines::zero_text))]
 pub(crate) fn write_node(node: &FileNode<'_, '_>, out: &mut Vec<u8>) -> Result<(), AllocError>
-    ensures text { OnOk result (out.new.items ≡ out.old.items ++ node_line (file_node_of node.now)) }
+    ensures text { OnOk result
+        (out.new.items ≡ out.old.items ++ node_line (file_node_of node.now)) }
     ensures kept { OnErr result (Keeps out.old.items out.new.items) }
 {
     if let Some(set) = node.set {

@@ -40,7 +40,8 @@ pub(crate) fn write_heading(
     out: &mut Vec<u8>,
 ) -> Result<(), AllocError>
     ensures text { OnOk result (out.new.items ≡ out.old.items
-        ++ heading_text (label_of title.entry) (label_of comment.entry) (map label_of players.now)) }
+        ++ heading_text (label_of title.entry) (label_of comment.entry)
+        (map label_of players.now)) }
     ensures kept { OnErr result (Keeps out.old.items out.new.items) }
 {
     write_first_line(title, players, out)?;

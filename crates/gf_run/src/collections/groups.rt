@@ -74,8 +74,8 @@ impl<'a> Groups<'a> {
         Ok(())
     }
 
-    /// The names of each group of two files or more, a line for each, with an empty line between two
-    /// groups.
+    /// The names of each group of two files or more, a line for each, with an empty line between
+    /// two groups.
     pub fn text(&self, alloc: Global) -> Result<Vec<u8>, AllocError>
         ensures { IfOk result (λ text. (files : List HashedFile) → IsKeptOf files self.now
             → text.items ≡ groups_text (duplicates files)) }

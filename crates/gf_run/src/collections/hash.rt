@@ -2,7 +2,8 @@
 
 ghost use Rattle.std.specs.Prelude.{◌≡◌, ◌≢◌, ℕ, List, IfErr, IfOk, OnOk};
 ghost use Rattle.std.specs.String.{string_bytes};
-ghost use Rattle.gf_run.specs.HashText.{IsFaultOfFile, IsHashLine, IsHashOf, ReadsFileUntil, hash_line};
+ghost use Rattle.gf_run.specs.HashText.{IsFaultOfFile, IsHashLine, IsHashOf, ReadsFileUntil};
+ghost use Rattle.gf_run.specs.HashText.{hash_line};
 ghost use Rattle.gf_run.specs.Input.{IsReadWhole};
 ghost use Rattle.gf_run.specs.Output.{IsWriteFault, IsWritten};
 ghost use Rattle.gf_run.specs.Run.{Answers};
@@ -46,7 +47,8 @@ pub fn read_hash<R: Source>(
     hash_of(alloc, &bytes, names)
 }
 
-/// The line of a hash: in hexadecimal, two spaces and the name of the file, as `sha256sum` writes it.
+/// The line of a hash: in hexadecimal, two spaces and the name of the file, as `sha256sum` writes
+/// it.
 fn hash_line(alloc: Global, name: &str, hash: [u8; 32]) -> Result<String, AllocError>
     ensures { IfOk result (λ line. string_bytes line ≡ hash_line name.now hash) }
 {

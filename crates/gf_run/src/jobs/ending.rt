@@ -16,7 +16,8 @@ use crate::texts::report::write_fault;
 /// The status stays the same if the line cannot be written.
 pub fn tell<E: Sink>(fault: &RunFault, errors: &mut E) -> u8
     ensures status { result ≡ status_of fault.now }
-    ensures told { IsTold E.contents E.count E.push_gives (fault_line fault.now) errors.old errors.new }
+    ensures told { IsTold E.contents E.count E.push_gives (fault_line fault.now) errors.old
+        errors.new }
 {
     let _ = write_fault(fault, errors);
     fault::status(fault)

@@ -134,7 +134,8 @@ impl<'a, I: Inputs> Inputs for Kept<'a, I> {
 
     ghost standard_gives = { λ kept input. I.standard_gives (inputs_of kept) (input_of input) };
 
-    ghost open_gives = { λ kept name answer. I.open_gives (inputs_of kept) name (answer_of answer) };
+    ghost open_gives = { λ kept name answer. I.open_gives (inputs_of kept) name
+        (answer_of answer) };
 
     fn standard(&self) -> KeptInput<'a, I::Opened> {
         let note = self.notes.next();

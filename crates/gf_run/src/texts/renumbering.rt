@@ -32,8 +32,8 @@ fn outcome_line(number: u32, new_number: u32) -> Line
     line
 }
 
-/// The line of a number and its new number: `set P X Y` of an information set, P being its player, X
-/// its number and Y its new number, and `outcome X Y` of an outcome.
+/// The line of a number and its new number: `set P X Y` of an information set, P being its player,
+/// X its number and Y its new number, and `outcome X Y` of an outcome.
 pub fn pair_line(pair: NumberPair) -> Line
     ensures { result ≡ pair_line pair }
 {

@@ -1,5 +1,5 @@
-//! Games by other numbers, and the renumbering between two games. A call that is out of memory is made
-//! again.
+//! Games by other numbers, and the renumbering between two games. A call that is out of memory is
+//! made again.
 
 use crate::tests::again::read_tree;
 use crate::tests::trees::{FIVE, FIVE_TEXT};

@@ -1,4 +1,5 @@
-use Rattle.std.proofs.Common.{◌≡◌, ◌∙◌, Bool, true, false, List, ℕ, Result, Ok, Err, refl, subst, sym}
+use Rattle.std.proofs.Common.{◌≡◌, ◌∙◌, Bool, true, false, List, ℕ, Result, Ok, Err, refl, subst}
+use Rattle.std.proofs.Common.{sym}
 use Rattle.std.specs.Prelude.{IfOk}
 use Rattle.gf_token.specs.declared.fault.Fault.{Fault}
 use Rattle.gf_nfg.specs.LimitPlace.{IsWithinLimit}
@@ -28,7 +29,8 @@ text_by items names named bytes (Err fault) same h = tt
 
 pub returns-in-Kept-clause-text : goal.returns-in-Kept-clause-text
 returns-in-Kept-clause-text c =
-    subst (λ names. IfOk c.canonical_nfg.result (λ text. IsTextBy names c.args.input.now text.items))
+    subst (λ names. IfOk c.canonical_nfg.result
+    (λ text. IsTextBy names c.args.input.now text.items))
     (sym c.in-Kept.is)
     (text_by (λ text. text.items) Kept true c.args.input.now c.canonical_nfg.result (λ t. refl)
     c.canonical_nfg.ensures.text)

@@ -99,7 +99,8 @@ module _ (word : List ℕ) (IsFile : List Token → Type 0) (within : IsWithin w
 
 -- ---- the place of a refusal
 
-pub extensive_placed : (why : Why) (bytes : List ℕ) (span : Span) → BeginsWithWord (codes "EFG") bytes
+pub extensive_placed : (why : Why) (bytes : List ℕ) (span : Span)
+    → BeginsWithWord (codes "EFG") bytes
     → extensive_file.IsJudged why bytes span → IsPlaced why bytes span
 extensive_placed Memory bytes span named h =
     accepted (codes "EFG") IsExtensiveFile extensive_within bytes span h
@@ -109,7 +110,8 @@ extensive_placed TooManyProfiles bytes span named h = absurd h
 extensive_placed _ bytes span named h =
     offending (codes "EFG") IsExtensiveFile extensive_within bytes span named h.place
 
-pub strategic_placed : (why : Why) (bytes : List ℕ) (span : Span) → BeginsWithWord (codes "NFG") bytes
+pub strategic_placed : (why : Why) (bytes : List ℕ) (span : Span)
+    → BeginsWithWord (codes "NFG") bytes
     → strategic_file.IsJudged why bytes span → IsPlaced why bytes span
 strategic_placed Memory bytes span named h =
     accepted (codes "NFG") IsStrategicFile strategic_within bytes span h.place

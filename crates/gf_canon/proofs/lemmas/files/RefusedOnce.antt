@@ -132,9 +132,11 @@ named_format word bytes why span begins named h =
     named.spelled in
     let at_first : ¬ (IsAccepted IsInEitherFormat [] (tokens_of place.after)) =
     subst (λ (ls : List Lexeme).
-    ¬ (IsAccepted IsInEitherFormat (tokens_of ls) (tokens_of place.after))) h.at_first place.refused in
+    ¬ (IsAccepted IsInEitherFormat (tokens_of ls) (tokens_of place.after))) h.at_first
+    place.refused in
     let refused : ¬ (MayFollow IsInEitherFormat [] named.first.token) =
-    subst (λ (ls : List Lexeme). ¬ (IsAccepted IsInEitherFormat [] (tokens_of ls))) first at_first in
+    subst (λ (ls : List Lexeme). ¬ (IsAccepted IsInEitherFormat [] (tokens_of ls))) first
+    at_first in
     refused (subst (λ (t : Token). MayFollow IsInEitherFormat [] t) (sym named.is_word) begins)
 
 extensive_format : (bytes : List ℕ) (why : Why) (span : Span) → BeginsWithWord (codes "EFG") bytes

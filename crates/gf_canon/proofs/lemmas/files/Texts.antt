@@ -91,7 +91,8 @@ pub is_game_file : (bytes : List ℕ) (x : GameFile) → SpellsFile bytes x → 
 is_game_file bytes (extensive g) h = (spelled_game bytes g h).0
 is_game_file bytes (strategic t) h = (spelled_table bytes t h).0
 
-pub file_twice : (x : GameFile) → IsGameFile x → canonical_file (canonical_file x) ≡ canonical_file x
+pub file_twice : (x : GameFile) → IsGameFile x
+    → canonical_file (canonical_file x) ≡ canonical_file x
 file_twice (extensive g) game = ap extensive (canonical_twice g game)
 file_twice (strategic t) table = refl
 

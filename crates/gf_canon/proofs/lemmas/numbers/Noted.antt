@@ -202,7 +202,8 @@ module _ (r : numbers.Renumbering) (g : Game) (sets sets' : SetKey → Option �
 
 module _ (found : Renumbering) (g h : Game) (game : IsGame g) (r : numbers.Renumbering)
     (c : Carries r g h)
-    (sets : AreNoted (λ k. r.set k.player k.number) (number_of_set found.sets) (used_sets g.tree) [])
+    (sets : AreNoted (λ k. r.set k.player k.number) (number_of_set found.sets) (used_sets g.tree)
+    [])
     (outcomes : AreNoted r.outcome (get nat_cmp found.outcomes) (used_outcomes g.tree) []) where
   new_set : (player number : ℕ) → HasSet g player number
       → new_set_number found player number ≡ Some (r.set player number)

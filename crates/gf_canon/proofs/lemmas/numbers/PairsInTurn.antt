@@ -70,7 +70,8 @@ module _ (f : ℕ → List NumberPair) where
       ∙ append_assoc start (flat_map f so_far) (f (before + 1))
       ∙ ap (λ (ps : List NumberPair). start ++ (flat_map f so_far ++ ps))
       (sym (append-nil (f (before + 1))))
-      ∙ ap (λ (ps : List NumberPair). start ++ ps) (sym (flat_map-append f so_far ((before + 1) ∷ [])))
+      ∙ ap (λ (ps : List NumberPair). start ++ ps)
+      (sym (flat_map-append f so_far ((before + 1) ∷ [])))
       ∙ ap (λ (ks : List ℕ). start ++ flat_map f ks) joined
 
 -- all players' pairs, and then those of outcomes

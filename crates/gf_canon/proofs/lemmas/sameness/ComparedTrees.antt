@@ -1,5 +1,5 @@
--- A tree that was told whole is the same as a game exactly if no difference was found, and nothing is
--- left of the game.
+-- A tree that was told whole is the same as a game exactly if no difference was found, and nothing
+-- is left of the game.
 use Rattle.std.proofs.Common.{◌≡◌, ℕ, Bool, false, List, [], ◌∷◌, ◌++◌, map, refl, sym, ap, ◌∙◌}
 use Rattle.std.proofs.Common.{append-nil, subst}
 use Rattle.std.specs.Prelude.{◌↔◌, IsTrue}

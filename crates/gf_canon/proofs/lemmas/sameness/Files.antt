@@ -28,8 +28,11 @@ play_back : (t u : Table) → SamePlay t u → SamePlay u t
 play_back t u same = record {
   players = sym same.players;
   strategies = sym same.strategies;
-  payoffs = λ profile payoffs.
-      (λ pays. (same.payoffs profile payoffs).1 pays, λ pays. (same.payoffs profile payoffs).0 pays);
+  payoffs = λ profile payoffs. (
+    λ pays. (same.payoffs profile payoffs).1 pays,
+    λ pays.
+        (same.payoffs profile payoffs).0 pays,
+  );
 }
 
 back : (t u : Table) → SameTable t u → SameTable u t

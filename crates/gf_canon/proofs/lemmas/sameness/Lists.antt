@@ -33,9 +33,11 @@ module _ {A B : Type 0} (f : A → B) (same : A → A → Bool)
 
 -- ---- labels
 
-label_bytes : (x y : Label) → Decides (pointwise nat_eq x.raw.now y.raw.now) (label_of x ≡ label_of y)
+label_bytes : (x y : Label)
+    → Decides (pointwise nat_eq x.raw.now y.raw.now) (label_of x ≡ label_of y)
 label_bytes x y =
-    slice_eq-Decides Decides-eqb (label_of x) (label_of y) (pointwise nat_eq x.raw.now y.raw.now) refl
+    slice_eq-Decides Decides-eqb (label_of x) (label_of y) (pointwise nat_eq x.raw.now y.raw.now)
+    refl
 
 pub same_labels : (xs ys : List Label) (r : Bool)
     → r ≡ pointwise (λ x y. pointwise nat_eq x.raw.now y.raw.now) xs ys

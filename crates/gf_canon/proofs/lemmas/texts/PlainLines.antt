@@ -52,7 +52,8 @@ pub tail_chance : (set : Option SetUse) (used : SetUse) (outcome : ℕ) (rest x 
     → x ≡ tail_text (option_map set_use_of set) outcome ++ rest
 tail_chance set used outcome rest x e z h =
     h
-    ∙ ap (λ (p : ℕ). player_then p (number_then used.number (number_then outcome (10 ∷ []))) ++ rest)
+    ∙ ap (λ (p : ℕ). player_then p (number_then used.number (number_then outcome (10 ∷ [])))
+    ++ rest)
     (sym z)
     ∙ ap (λ (s : Option SetUse). tail_text (option_map set_use_of s) outcome ++ rest) (sym e)
 
@@ -150,7 +151,8 @@ plain_held (Some d) n = absurd cc
 pub plain_some : (set : Option SetUse) (used : SetUse) → set ≡ Some used
     → is_some used.description ≡ false → IsPlain (option_map set_use_of set)
 plain_some None used e n = absurd cc
-plain_some (Some held) used e n = plain_held held.description (ap (λ (s : Option SetUse). is_some (described s)) e ∙ n)
+plain_some (Some held) used e n =
+    plain_held held.description (ap (λ (s : Option SetUse). is_some (described s)) e ∙ n)
 
 null_tail : number_then 0 (10 ∷ []) ≡ (32 ∷ 48 ∷ []) ++ 10 ∷ []
 null_tail = ap (λ (bs : List ℕ). 32 ∷ (bs ++ 10 ∷ [])) zero_text
@@ -197,8 +199,10 @@ null_line : (name : List ℕ) (set : Option (Use SetKey InformationSet)) → IsP
     → plain_line name set 0 ≡ node_line (record { name = name; set = set; outcome = None })
 null_line name None plain =
     ap (λ (bs : List ℕ). 116 ∷ 32 ∷ (quoted name ++ 32 ∷ (bs ++ 10 ∷ []))) zero_text
-    ∙ ap (λ (bs : List ℕ). 116 ∷ 32 ∷ bs) (sym (append_assoc (quoted name) (32 ∷ 48 ∷ []) (10 ∷ [])))
-null_line name (Some set) plain = null_set_line set.key.player set.key.number name set.description plain
+    ∙ ap (λ (bs : List ℕ). 116 ∷ 32 ∷ bs)
+    (sym (append_assoc (quoted name) (32 ∷ 48 ∷ []) (10 ∷ [])))
+null_line name (Some set) plain =
+    null_set_line set.key.player set.key.number name set.description plain
 
 pub null_written : {A E : Type 0} (r : Result A E) (old new name : List ℕ)
     (set : Option (Use SetKey InformationSet)) (n : FileNode)

@@ -58,7 +58,8 @@ lines_are Kept text told g is nodes =
     let front = heading_text g.title g.comment g.players in
     is
     ∙ ap (λ (bs : List ℕ). front ++ bs) (lines_of_told Kept told)
-    ∙ ap (λ (ns : List FileNode). front ++ node_lines ns) (nodes_kept (map (λ t. t.node) told) ∙ nodes)
+    ∙ ap (λ (ns : List FileNode). front ++ node_lines ns)
+    (nodes_kept (map (λ t. t.node) told) ∙ nodes)
     ∙ sym (game_text_is (canonical_game g))
 lines_are Aside text told g is nodes =
     let front = heading_text [] [] g.players in
@@ -68,7 +69,8 @@ lines_are Aside text told g is nodes =
     (ap (map (node_by Aside)) nodes ∙ sym (nodes_aside g))
     ∙ sym (game_text_is (canonical_game (unnamed_game g)))
 
-pub told_is_canonical : {T : Type 0} (text : T → List ℕ) (kept : T → Type 0) (names : Names) (to : T)
+pub told_is_canonical : {T : Type 0} (text : T → List ℕ) (kept : T → Type 0) (names : Names)
+    (to : T)
     (g : Game)
     → HasToldGame (λ to heading told. kept to × (text to ≡ told_text names heading told)) to g
     → text to ≡ canonical_text (file_by names (extensive g))

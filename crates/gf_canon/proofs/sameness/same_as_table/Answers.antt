@@ -32,7 +32,8 @@ returns-in-Ok-same_as_told_table-clause-same c =
     let t = c.in-Ok-same_as_told_table.ensures.same in
     (strategic t.0, record { spelled = t.1; within = t.2 }, t.3)
 
-pub returns-in-Err-same_as_told_table-clause-refused : goal.returns-in-Err-same_as_told_table-clause-refused
+pub returns-in-Err-same_as_told_table-clause-refused :
+    goal.returns-in-Err-same_as_told_table-clause-refused
 returns-in-Err-same_as_told_table-clause-refused c =
     refused_table c.args.b.now c.in-Err-same_as_told_table.fault
     (subst (λ (f : Format). BeginsWithWord (word_of f) c.args.b.now) c.in-Strategic.is

@@ -18,7 +18,8 @@ loop-before-init g c = λ r told carries held.
 
 pub loop-before-preserved : goal.loop-before-preserved
 loop-before-preserved g c = λ r told carries held.
-    subst (λ (pairs : List NumberPair). g.P.ReceivePairs.holds c.tell_player-in-loop-before.new.to pairs)
+    subst (λ (pairs : List NumberPair). g.P.ReceivePairs.holds c.tell_player-in-loop-before.new.to
+    pairs)
     (player_more (set_pairs r c.args.g.now) c.loop-before.before told _ _ refl refl)
     (c.in_ok-tell_player-2.ensures r _ carries (c.loop-before.invariant r told carries held))
 
@@ -29,7 +30,8 @@ returns g c =
     on_ok_weaker c.tell_outcomes.result (λ more r carries held. (
       renumbering_pairs r c.args.g.now,
       (λ s carried. only_pairs c.args.g.now c.args.h.now
-          (c.players-players.ensures.is_game, c.players-others.ensures.is_game) r s carries carried),
+          (c.players-players.ensures.is_game, c.players-others.ensures.is_game) r s carries
+          carried),
       subst (λ (pairs : List NumberPair). g.P.ReceivePairs.holds c.tell_outcomes.new.to pairs)
           (all_pairs r c.args.g.now c.loop-before.before [] _ refl
           (omega (arith, names, count, c.loop-before-test.false, c.loop-before.auto.before-end)))

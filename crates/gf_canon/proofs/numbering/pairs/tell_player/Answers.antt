@@ -6,4 +6,5 @@ use Rattle.gf_canon.proofs.numbering.pairs.tell_player.Goals as goal
 pub returns-in-Err : goal.returns-in-Err
 returns-in-Err g c = λ r told carries.
     subst (λ (pairs : List NumberPair). g.P.ReceivePairs.holds c.args.to.now pairs)
-    (no_pairs r c.args.g.now c.args.player told (omega (arith, c.in-Err.ensures)) c.requires.spellable)
+    (no_pairs r c.args.g.now c.args.player told (omega (arith, c.in-Err.ensures))
+    c.requires.spellable)

@@ -18,7 +18,8 @@ returns-in_default g c = λ r told carries.
 
 pub returns : goal.returns
 returns g c = on_ok_weaker c.pair.result
-    (λ more r told carries held. subst (λ (pairs : List NumberPair). g.P.ReceivePairs.holds c.pair.new.self pairs)
+    (λ more r told carries held. subst
+    (λ (pairs : List NumberPair). g.P.ReceivePairs.holds c.pair.new.self pairs)
     (pair_of (r.set c.args.player) (Set c.args.player)
     (at_position (set_numbers c.args.g.now c.args.player) c.args.i)
     (at_position (set_numbers c.args.h.now c.args.player) c.args.i)

@@ -12,7 +12,8 @@ returns-then-same_heading-clause-same c =
     (record { game = h.is_game; spellable = h.spellable }) in (
       λ walked. same.0 (record {
         heading = sym (ap (heading_by c.args.names) g.heading)
-            ∙ c.same_heading.ensures.0 c.if-same_heading.true ∙ ap (heading_by c.args.names) h.heading;
+            ∙ c.same_heading.ensures.0 c.if-same_heading.true
+            ∙ ap (heading_by c.args.names) h.heading;
         nodes = c.same_nodes.ensures.0 walked;
       }),
       λ s. c.same_nodes.ensures.1 (same.1 s).nodes,

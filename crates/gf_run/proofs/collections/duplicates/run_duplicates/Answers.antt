@@ -8,7 +8,8 @@ loop-file-preserved g c =
       next.0,
       next.1,
       λ end rest. now.2 end (file_more _ _ _ _ _ _ _ _ _ _ _ _ _ c.args.files.now
-          c.loop-file.file-index c.file-item.result _ _ end c.loop-file-test.true c.file-item.is next.2 rest),
+          c.loop-file.file-index c.file-item.result _ _ end c.loop-file-test.true c.file-item.is
+          next.2 rest),
     )
 
 pub returns : goal.returns

@@ -10,11 +10,14 @@ pub returns-in-Ok-push_all : goal.returns-in-Ok-push_all
 returns-in-Ok-push_all g c = λ files is.
     let text = c.in-Ok.ensures files is in
     let status : c.if-len-gt0.max ≡ groups_status (duplicates files) = elim c.if-len-gt0.branch [
-      | then-len-gt0 w ↦ w.max-is ∙ status_of_some (map names_of (groups_of files)) c.in-Ok.text.items
+      | then-len-gt0 w ↦ w.max-is
+          ∙ status_of_some (map names_of (groups_of files)) c.in-Ok.text.items
           text (omega (arith, w.if-len-gt0.true, c.len.ensures, c.in-Ok.text.ok.0))
-      | else-len-gt0 w ↦ w.max-is ∙ status_of_none (map names_of (groups_of files)) c.in-Ok.text.items
+      | else-len-gt0 w ↦ w.max-is
+          ∙ status_of_none (map names_of (groups_of files)) c.in-Ok.text.items
           text (omega (arith, w.if-len-gt0.false, c.len.ensures, c.in-Ok.text.ok.0))
     ] in
-    written (subst (λ (t : List ℕ). IsWritten g.W.Write.contents g.W.Sink.push_gives c.args.output.now
+    written (subst
+    (λ (t : List ℕ). IsWritten g.W.Write.contents g.W.Sink.push_gives c.args.output.now
     c.push_all.new.output t) (c.as_slice.ensures.value ∙ text) c.in-Ok-push_all.ensures.all) refl
     (c.max.ensures ∙ ap (λ (s : ℕ). max c.args.worst s) status)

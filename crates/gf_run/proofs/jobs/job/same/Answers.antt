@@ -11,7 +11,8 @@ returns-in_err-same g c =
     MatchResult-only _ _ _ _ c.from_residual-in_err-same.ensures.1
     (fails (g.I.Inputs.standard_gives c.args.inputs.now)
     (g.I.Inputs.open_gives c.args.inputs.now) g.I.Opened.Read.remaining g.I.Opened.Source.count
-    g.I.Opened.Source.pull_gives _ _ (Same c.args.a.now c.args.b.now c.args.map c.args.names) c.in_err-same.field-0.0 run.untouched
+    g.I.Opened.Source.pull_gives _ _ (Same c.args.a.now c.args.b.now c.args.map c.args.names)
+    c.in_err-same.field-0.0 run.untouched
     (inr (inr (record {
       first_old = c.in_ok-first.first;
       first_new = c.compare.new.a;

@@ -10,7 +10,8 @@ returns-in_err-write_form g c =
     MatchResult-only _ _ _ _ c.from_residual-in_err-write_form.ensures.1
     (fails (g.I.Inputs.standard_gives c.args.inputs.now)
     (g.I.Inputs.open_gives c.args.inputs.now) g.I.Opened.Read.remaining g.I.Opened.Source.count
-    g.I.Opened.Source.pull_gives _ _ (Table c.args.input.now c.args.reduced) c.in_err-write_form.field-0.0 run.untouched
+    g.I.Opened.Source.pull_gives _ _ (Table c.args.input.now c.args.reduced)
+    c.in_err-write_form.field-0.0 run.untouched
     (inr (record {
       old = c.in_ok-input.input;
       new = c.write_form.new.input;

@@ -9,5 +9,6 @@ pub returns-in_err-text-clause-refused : goal.returns-in_err-text-clause-refused
 returns-in_err-text-clause-refused g c =
     let h : IfErr c.canonical_by.result (IsRefusedWith c.deref.result.now) =
     refused c.deref.result.now (λ x text. text.items ≡ canonical_text (file_by c.args.names x))
-    c.canonical_by.result c.canonical_by.ensures.judged c.canonical_by.ensures.placed c.canonical_by.ensures.only in
+    c.canonical_by.result c.canonical_by.ensures.judged c.canonical_by.ensures.placed
+    c.canonical_by.ensures.only in
     search (rules, h)

@@ -8,7 +8,8 @@ pub returns-in_err-text-clause-refused : goal.returns-in_err-text-clause-refused
 returns-in_err-text-clause-refused g c =
     IfErr-only _ _ _ c.from_residual-in_err-text.ensures.1
     (read _ c.in_ok-bytes.ensures.whole
-    (subst (λ (bytes : List ℕ). IsFaultOfBytes c.args.strategies bytes c.in_err-text.field-0.0) c.deref.ensures.value
+    (subst (λ (bytes : List ℕ). IsFaultOfBytes c.args.strategies bytes c.in_err-text.field-0.0)
+    c.deref.ensures.value
     c.in_err-text.ensures.fault))
 
 pub returns-in_err-text-clause-cut_off : goal.returns-in_err-text-clause-cut_off

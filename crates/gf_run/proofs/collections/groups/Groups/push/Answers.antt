@@ -1,4 +1,5 @@
-use Rattle.std.proofs.Common.{◌≡◌, ◌<◌, ◌≤◌, ℕ, List, [], ◌∷◌, ◌++◌, map, length, subst, sym, ap, ◌∙◌, rules, arith}
+use Rattle.std.proofs.Common.{◌≡◌, ◌<◌, ◌≤◌, ℕ, List, [], ◌∷◌, ◌++◌, map, length, subst, sym, ap}
+use Rattle.std.proofs.Common.{◌∙◌, rules, arith}
 use Rattle.std.proofs.lemmas.List.{map-append, length-map}
 use Rattle.gf_run.specs.Duplicates.{IsKeptOf, KeptNames}
 use Rattle.gf_run.proofs.Grouped.{more_new, more_there, put_last, put_there}
@@ -10,7 +11,11 @@ returns-in_ok-push-in-Some c = λ files is.
     more_there files _ (subst (λ (kept : KeptNames). IsKeptOf files kept) (sym c.self.view_is) is)
     (record { name = c.args.name.now; hash = c.args.hash }) _ c.in_ok-at.ensures.keys c.in_ok-at.at
     c.in_ok-at.ensures.index
-    (omega (arith, c.in-Some.ensures.item.3.0, length-map names (λ group. map (λ name. name.now) group.items)))
+    (omega (
+      arith,
+      c.in-Some.ensures.item.3.0,
+      length-map names (λ group. map (λ name. name.now) group.items),
+    ))
     (put_there (λ group. map (λ name. name.now) group.items) names c.push.new.self c.args.name.now
     c.in_ok-at.at c.in-Some.group.now c.in-Some.ensures.item.3.0 c.in-Some.ensures.item.1
     (ap (λ l. map (λ name. name.now) l) c.in_ok-push-in-Some.ensures.items
@@ -22,7 +27,12 @@ returns-in_ok-push-in-None c = λ files is.
     more_new files _ (subst (λ (kept : KeptNames). IsKeptOf files kept) (sym c.self.view_is) is)
     (record { name = c.args.name.now; hash = c.args.hash }) _ c.in_ok-at.ensures.keys c.in_ok-at.at
     c.in_ok-at.ensures.index
-    (omega (arith, c.in-None.ensures.item.3, length-map names (λ group. map (λ name. name.now) group.items)))
-    (ap (λ l. map (λ group. map (λ name. name.now) group.items) l) c.in_ok-push-in-None.ensures.items
+    (omega (
+      arith,
+      c.in-None.ensures.item.3,
+      length-map names (λ group. map (λ name. name.now) group.items),
+    ))
+    (ap (λ l. map (λ group. map (λ name. name.now) group.items) l)
+    c.in_ok-push-in-None.ensures.items
     ∙ put_last (λ group. map (λ name. name.now) group.items) names c.in_ok-vec-in-None.field-0
     c.args.name.now (ap (λ l. map (λ name. name.now) l) c.in_ok-vec-in-None.ensures.items))
