@@ -24,7 +24,7 @@ use Rattle.gf_tree.specs.Tree.Tree.{branch}
 use Rattle.gf_tree.specs.Tree.Trees.{none, more}
 use Rattle.gf_tree.proofs.lemmas.games.FirstUses.{AreDistinct, first_uses_distinct}
 use Rattle.gf_tree.proofs.lemmas.games.PlayerSets.{sets_by_first_use}
-use Rattle.gf_tree.proofs.lemmas.stores.RenumberedStores.{has_place}
+use Rattle.gf_tree.proofs.lemmas.games.Members.{has_at}
 use Rattle.gf_tree.proofs.lemmas.games.TreesOnce.{same_set_equality}
 use Rattle.gf_tree.proofs.lemmas.games.Uses.{Has}
 use Rattle.gf_form.specs.inner.reduced.Comes.{list_comes, tree_comes, trees_come}
@@ -54,7 +54,7 @@ keys_distinct g game player = subst AreDistinct (sym (sets_by_first_use g player
 pub key_there : {A : Type 0} (xs : List A) (position : ℕ) (x : A) → at_position xs position ≡ Some x
     → Has xs x
 key_there xs zero x h = absurd cc
-key_there xs (suc k) x h = has_place xs k x h
+key_there xs (suc k) x h = has_at xs k x h
 
 -- what stands at two positions stands there twice
 one_position : (keys : List SetKey) (i j : ℕ) (key : SetKey) → AreDistinct keys
@@ -65,10 +65,10 @@ one_position [] (suc i) (suc j) key d hi hj = absurd cc
 one_position (k ∷ keys) (suc zero) (suc zero) key d hi hj = refl
 one_position (k ∷ keys) (suc zero) (suc (suc j)) key d hi hj =
     let same : k ≡ key = cc in
-    absurd (d.0 (subst (Has keys) (sym same) (has_place keys j key hj)))
+    absurd (d.0 (subst (Has keys) (sym same) (has_at keys j key hj)))
 one_position (k ∷ keys) (suc (suc i)) (suc zero) key d hi hj =
     let same : k ≡ key = cc in
-    absurd (d.0 (subst (Has keys) (sym same) (has_place keys i key hi)))
+    absurd (d.0 (subst (Has keys) (sym same) (has_at keys i key hi)))
 one_position (k ∷ keys) (suc (suc i)) (suc (suc j)) key d hi hj =
     ap suc (one_position keys (suc i) (suc j) key d.1 hi hj)
 
