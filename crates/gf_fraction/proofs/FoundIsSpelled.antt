@@ -24,12 +24,12 @@ use Rattle.gf_fraction.proofs.SpelledIsFound.{held, capped_exponent, capped_expo
 use Rattle.gf_fraction.proofs.SpelledIsFound.{exponent_if, rational_if}
 
 -- a sign, or none, and the rest
-record HasSign (text : List ℕ) : Type 0 where
+pub record HasSign (text : List ℕ) : Type 0 where
   pub sign : List ℕ
   pub is_sign : IsSign sign (is_minus text)
   pub spelled : text ≡ sign ++ after_sign text
 
-has_sign : (text : List ℕ) → HasSign text
+pub has_sign : (text : List ℕ) → HasSign text
 has_sign [] = record { sign = []; is_sign = absent; spelled = refl }
 has_sign (c ∷ cs) = by_byte c cs (c == 43) (c == 45) refl refl
   where

@@ -1,27 +1,50 @@
--- Short numbers: what one pass over a text says about numerator and denominator, if 64 bits have
--- room for them.
-use Rattle.std.proofs.Common.{◌≡◌, ℕ, pos, zero, suc, ◌+◌, ◌-◌, ◌^◌, ◌<◌, ◌≤◌, Bool}
-use Rattle.std.proofs.Common.{true, List, [], ◌∷◌, length, get_or, take, drop, Some}
-use Rattle.std.proofs.Common.{None, arith, lit<, refl, ap, sym, ◌∙◌, subst}
-use Rattle.std.specs.Prelude.{nat_lt, ◌-ℤ◌, ◌==◌, ◌&&◌, ◌||◌, if◌then◌else◌}
-use Rattle.std.proofs.lemmas.Bool.{lt-ltb}
-use Rattle.std.proofs.lemmas.List.{take_all}
+-- Short numbers: what is read of a text one part at a time spells a number.
+use Rattle.std.proofs.Common.{Bool, ◌≡◌, ℕ, pos, ◌+◌, ◌-◌, ◌*◌, ◌^◌, ◌<◌, ◌≤◌, true, List}
+use Rattle.std.proofs.Common.{[], ◌∷◌, ◌++◌, length, get_or, take, drop, arith, lit<, refl, ap, sym}
+use Rattle.std.proofs.Common.{◌∙◌, subst, append_assoc, length-append}
+use Rattle.std.specs.Char.{digit_value, is_ascii_digit}
+use Rattle.std.specs.Str.Parse.{AllDigits, IsNumeral, digits_value, digits_value_after}
+use Rattle.std.specs.Prelude.{◌-ℤ◌}
 use Rattle.std.proofs.lemmas.Int.{ints}
+use Rattle.std.proofs.lemmas.List.{append-nil, take_all, take_more}
+use Rattle.std.proofs.Math.Seq.{take-append_seam}
 use Rattle.gf_fraction.specs.Ratio.{Ratio, IsFraction, HasValue, signed}
+use Rattle.gf_fraction.specs.Steps.{IsLowest}
+use Rattle.gf_fraction.specs.NumberSpelling.{HasShape, IsNumber, IsSign, size_of, den_of}
 use Rattle.gf_fraction.specs.NumberSpelling.{scaled_digits, power_of_ten}
-use Rattle.gf_fraction.specs.NumberScan.{capped, leading, behind, leading_value, has_digits}
-use Rattle.gf_fraction.specs.NumberScan.{scan_rest, scan_decimal, reading_of, IsShort, IsValueOf}
-use Rattle.gf_fraction.specs.declared.read.Spelling.TheVariants.{Decimal, Rational}
-use Rattle.gf_fraction.proofs.LeadingDigits.{length_leading}
-use Rattle.gf_fraction.proofs.PowersOfTen.{pow_above_zero}
+use Rattle.gf_fraction.specs.NumberSpelling.Reading.{decimal, rational}
+use Rattle.gf_fraction.specs.NumberSpelling.IsPlain.{whole, pointed}
+use Rattle.gf_fraction.specs.NumberSpelling.HasShape.{plain, fraction}
+use Rattle.gf_fraction.specs.NumberScan.{AreRead, Completes, after_sign}
+use Rattle.gf_fraction.proofs.Divisors.{IsGcd-one_right}
+use Rattle.gf_fraction.proofs.FoundIsSpelled.{has_sign}
+use Rattle.gf_fraction.proofs.LowestTerms.{value_from}
+use Rattle.gf_fraction.proofs.PowersOfTen.{power_of_ten-above}
+use Rattle.gf_fraction.proofs.SpelledIsFound.{AllDigits-append, digit_from_ascii}
+use Rattle.gf_fraction.proofs.SpelledIsFound.{digits_value_after-append}
 
-pub nil : (xs : List ℕ) → length xs ≡ 0 → xs ≡ []
-nil [] h = refl
-nil (x ∷ xs) h = absurd (omega arith)
+-- one more digit
+module _ (text : List ℕ) (i : ℕ) (within : i < length text)
+    (digit : is_ascii_digit (get_or text i 0) ≡ true) where
+  abbrev byte : ℕ
+  byte = get_or text i 0
 
--- a rest by its first byte
-pub first_and_more : (rest : List ℕ) (b : ℕ) → 1 ≤ length rest → get_or rest 0 0 ≡ b
-    → rest ≡ b ∷ take (length rest - 1) (drop 1 rest)
+  pub digits_more : AllDigits 10 (take i text) → AllDigits 10 (take (i + 1) text)
+  digits_more all =
+      subst (AllDigits 10) (sym (take_more text i 0 within))
+      (AllDigits-append (take i text) (byte ∷ []) all (digit_from_ascii byte digit, tt))
+
+  pub value_more : (n : ℕ) → digits_value_after 10 n (take (i + 1) text)
+      ≡ digits_value_after 10 n (take i text) * 10 + digit_value byte
+  value_more n =
+      ap (digits_value_after 10 n) (take_more text i 0 within)
+      ∙ digits_value_after-append n (take i text) (byte ∷ [])
+
+-- ---- what completes a number
+
+-- a text by its first byte
+pub first_and_more : (text : List ℕ) (b : ℕ) → 1 ≤ length text → get_or text 0 0 ≡ b
+    → text ≡ b ∷ take (length text - 1) (drop 1 text)
 first_and_more [] b some first = absurd (omega arith)
 first_and_more (c ∷ cs) b some first =
     let n : length (c ∷ cs) - 1 ≡ length cs = omega arith in
@@ -29,136 +52,127 @@ first_and_more (c ∷ cs) b some first =
     ap (λ k. take k cs) n ∙ take_all (length cs) cs (omega arith) in
     (λ i. first i ∷ sym all i)
 
-all_digits : (text : List ℕ) → behind text ≡ [] → (length (leading text) ≡ length text)
-all_digits text end =
-    let parts : length (leading text) + length (behind text) ≡ length text = length_leading text in
-    let none : length (behind text) ≡ 0 = ap length end in
-    omega (arith, parts, none)
+pub whole_completes : (n : ℕ) (text : List ℕ) → n < 2 ^ 64 → Completes n text n 1 text
+whole_completes n text short = record {
+  more = [];
+  reading = decimal n 0 (pos 0);
+  spelled = refl;
+  has_shape =
+      λ digits numeral value. subst (λ (t : List ℕ × ℕ). HasShape t.0 (decimal t.1 0 (pos 0)))
+      (λ i. (sym (append-nil digits) i, value i)) (plain digits digits 0 (whole digits numeral));
+  den_above_zero = lit< tt;
+  bounded = record {
+    digits_within = omega arith;
+    places_within = omega arith;
+    exponent_within = omega arith;
+    power_within = omega (arith, ints);
+    scaled_within = omega arith;
+  };
+  lowest = record { by = 1; num = omega arith; den = omega arith; apart = IsGcd-one_right n };
+}
 
-some_digits : (text rest : List ℕ) → behind text ≡ rest → length rest < length text
-    → has_digits text ≡ true
-some_digits text rest end some =
-    let parts : length (leading text) + length (behind text) ≡ length text = length_leading text in
-    let same : length (behind text) ≡ length rest = ap length end in
-    lt-ltb 0 (length (leading text)) (omega (arith, parts, same))
+some_digits : (d : ℕ) (digits : List ℕ) → d ≡ digits_value_after 10 0 digits → 0 < d
+    → 0 < length digits
+some_digits d [] is above = absurd (omega (arith, is))
+some_digits d (c ∷ cs) is above = omega arith
 
-kept : (v : ℕ) → v < 2 ^ 64 → capped v ≡ v
-kept v short = omega arith
+pub ratio_completes : (n d p q : ℕ) (text under rest : List ℕ) → n < 2 ^ 64 → d < 2 ^ 64
+    → text ≡ 47 ∷ under → AreRead 0 under d rest → 0 < d → IsLowest n d p q
+    → Completes n text p q rest
+ratio_completes n d p q text under rest num_short den_short slash h above low = record {
+  more = 47 ∷ h.digits;
+  reading = rational n d;
+  spelled = slash ∙ ap (λ t. 47 ∷ t) h.spelled;
+  has_shape =
+      λ digits numeral value. subst (λ (t : List ℕ × (ℕ × ℕ)). HasShape t.0 (rational t.1.0 t.1.1))
+      (λ i. (append_assoc digits (47 ∷ []) h.digits i, (value i, sym h.is i)))
+      (fraction digits h.digits numeral (some_digits d h.digits h.is above, h.all));
+  den_above_zero = above;
+  bounded = (omega arith, omega arith);
+  lowest = low;
+}
 
--- only digits
-pub short_whole : (text rest : List ℕ) (v : ℕ) → leading_value 0 text ≡ leading_value v rest
-    → behind text ≡ behind rest → v < 2 ^ 64 → rest ≡ [] → 0 < length text → IsShort text v 1
-short_whole text rest v value end short none some =
-    let value' : leading_value 0 text ≡ v = value ∙ ap (leading_value v) none in
-    let end' : behind text ≡ [] = end ∙ ap behind none in
-    let digits : has_digits text ≡ true = some_digits text [] end' some in
+pub decimal_completes : (n v p q places : ℕ) (text behind rest : List ℕ) → v < 2 ^ 64
+    → text ≡ 46 ∷ behind → AreRead n behind v rest → places ≡ length behind - length rest
+    → places ≤ 19 → IsLowest v (10 ^ places) p q → Completes n text p q rest
+decimal_completes n v p q places text behind rest short point h count few low =
+    let long : length behind ≡ length h.digits + length rest =
+    ap length h.spelled ∙ length-append h.digits rest in
+    let same : places ≡ length h.digits = omega (arith, long) in
+    let whole : (pos places -ℤ pos 0) ≡ pos places = omega (arith, ints) in
     record {
-      spelling = Decimal v 0 (pos 0);
-      scanned = (λ i. scan_rest (capped (value' i)) (digits i) (end' i))
-          ∙ ap (λ n. Some (Decimal n 0 (pos 0))) (kept v short);
-      num_is = refl;
-      den_is = refl;
-      den_above_zero = lit< tt;
+      more = 46 ∷ h.digits;
+      reading = decimal v places (pos 0);
+      spelled = point ∙ ap (λ t. 46 ∷ t) h.spelled;
+      has_shape =
+          λ digits numeral value.
+          let all : digits_value 10 (digits ++ h.digits) ≡ v =
+          digits_value_after-append 0 digits h.digits
+          ∙ ap (λ m. digits_value_after 10 m h.digits) value
+          ∙ sym h.is in
+          let numeral' : IsNumeral 10 (digits ++ h.digits) = (
+            omega (arith, numeral.0, length-append digits h.digits),
+            AllDigits-append digits h.digits numeral.1 h.all,
+          ) in
+          subst (λ (t : List ℕ × (ℕ × ℕ)). HasShape t.0 (decimal t.1.0 t.1.1 (pos 0)))
+          (λ i. (append_assoc digits (46 ∷ []) h.digits i, (all i, sym same i)))
+          (plain _ _ _ (pointed digits h.digits numeral'));
+      den_above_zero = power_of_ten-above (pos places -ℤ pos 0);
       bounded = record {
         digits_within = omega arith;
         places_within = omega arith;
         exponent_within = omega arith;
         power_within = omega (arith, ints);
-        scaled_within = omega arith;
+        scaled_within = subst (λ z. scaled_digits v z < 2 ^ 127) (sym whole)
+            (let h : v < 2 ^ 127 = omega arith in h);
       };
+      lowest = subst (λ z. IsLowest (scaled_digits v z) (power_of_ten z) p q) (sym whole) low;
     }
 
--- a slash and digits of value d after digits of value v
-pub short_ratio : (text rest under after : List ℕ) (v d : ℕ)
-    → leading_value 0 text ≡ leading_value v rest → behind text ≡ behind rest → v < 2 ^ 64
-    → rest ≡ 47 ∷ under → length rest < length text
-    → leading_value 0 under ≡ leading_value d after → behind under ≡ behind after → d < 2 ^ 64
-    → after ≡ [] → 0 < d → IsShort text v d
-short_ratio text rest under after v d value end short is some under_value under_end under_short none
-    above =
-    let value' : leading_value 0 text ≡ v = value ∙ ap (leading_value v) is in
-    let end' : behind text ≡ 47 ∷ under = end ∙ ap behind is in
-    let digits : has_digits text ≡ true = some_digits text (47 ∷ under) end'
-    (let e : length rest ≡ length (47 ∷ under) = ap length is in omega (arith, e)) in
-    let d_is : leading_value 0 under ≡ d = under_value ∙ ap (leading_value d) none in
-    let done : behind under ≡ [] = under_end ∙ ap behind none in
-    let under_digits : has_digits under ≡ true =
-    some_digits under [] done (not_empty under d d_is above) in
+-- ---- the number
+
+pub read_within : (n v : ℕ) (text rest : List ℕ) → AreRead n text v rest
+    → length rest ≤ length text
+read_within n v text rest h =
+    let long = ap length h.spelled ∙ length-append h.digits rest in omega (arith, long)
+
+pub completed_number : (sign digits text rest : List ℕ) (negative : Bool) (n p q len : ℕ)
+    (r : Ratio) → IsSign sign negative → IsNumeral 10 digits → digits_value 10 digits ≡ n
+    → Completes n text p q rest → len ≡ length text - length rest
+    → IsFraction r → r ≡ record { num = signed negative p; den = q }
+    → IsNumber (sign ++ digits ++ take len text) r
+completed_number sign digits text rest negative n p q len r is_sign numeral value c count
+    is_fraction is =
+    let long : length text ≡ length c.more + length rest =
+    ap length c.spelled ∙ length-append c.more rest in
+    let taken : take len text ≡ c.more =
+    (λ i. take (let e : len ≡ length c.more = omega (arith, long) in e i) (c.spelled i))
+    ∙ take-append_seam c.more rest in
     record {
-      spelling = Rational v d;
-      scanned = (λ i. scan_rest (capped (value' i)) (digits i) (end' i))
-          ∙ (λ i. if true && under_digits i && (length (done i) == 0)
-          then Some (Rational (kept v short i) (capped (d_is i)))
-          else None)
-          ∙ ap (λ n. Some (Rational v n)) (kept d under_short);
-      num_is = refl;
-      den_is = refl;
-      den_above_zero = above;
-      bounded = (omega arith, omega arith);
-    }
-  where
-    not_empty : (under : List ℕ) (d : ℕ) → leading_value 0 under ≡ d → 0 < d → 0 < length under
-    not_empty [] d is above = absurd (omega (arith, is))
-    not_empty (c ∷ cs) d is above = omega arith
-
-either : (m n : ℕ) → 0 < m + n → (nat_lt 0 m || nat_lt 0 n) ≡ true
-either zero n h = lt-ltb 0 n (omega arith)
-either (suc m) n h = ap (λ b. b || nat_lt 0 n) (lt-ltb 0 (suc m) (omega arith))
-
--- a point is not a number by itself
-some_side : (text more : List ℕ) → behind text ≡ 46 ∷ more → length (leading more) ≡ length more
-    → 1 < length text → (has_digits text || has_digits more) ≡ true
-some_side text more end places some =
-    let parts : length (leading text) + length (behind text) ≡ length text = length_leading text in
-    let same : length (behind text) ≡ length (46 ∷ more) = ap length end in
-    either (length (leading text)) (length (leading more)) (omega (arith, parts, same))
-
--- digits of value d with a point, which may be first or last, but not both
-pub short_decimal : (text rest more after : List ℕ) (v d p : ℕ)
-    → leading_value 0 text ≡ leading_value v rest → behind text ≡ behind rest → v < 2 ^ 64
-    → rest ≡ 46 ∷ more → 1 < length text
-    → leading_value v more ≡ leading_value d after → behind more ≡ behind after → d < 2 ^ 64
-    → after ≡ [] → length more ≤ 19 → p ≡ 10 ^ length more → IsShort text d p
-short_decimal text rest more after v d p value end short is some more_value more_end more_short none
-    few power =
-    let value' : leading_value 0 text ≡ v = value ∙ ap (leading_value v) is in
-    let end' : behind text ≡ 46 ∷ more = end ∙ ap behind is in
-    let d_is : leading_value v more ≡ d = more_value ∙ ap (leading_value d) none in
-    let done : behind more ≡ [] = more_end ∙ ap behind none in
-    let places : length (leading more) ≡ length more = all_digits more done in
-    let digits : (has_digits text || has_digits more) ≡ true =
-    some_side text more end' places some in
-    let whole : (pos (length more) -ℤ pos 0) ≡ pos (length more) = omega (arith, ints) in
-    record {
-      spelling = Decimal d (length more) (pos 0);
-      scanned = (λ i. scan_rest (capped (value' i)) (has_digits text) (end' i))
-          ∙ (λ i. scan_decimal (capped (leading_value (kept v short i) more)) (digits i) (places i)
-          (done i))
-          ∙ (λ i. Some (Decimal (capped (d_is i)) (length more) (pos 0)))
-          ∙ ap (λ n. Some (Decimal n (length more) (pos 0))) (kept d more_short);
-      num_is = ap (scaled_digits d) whole;
-      den_is = ap power_of_ten whole ∙ sym power;
-      den_above_zero = rw power (pow_above_zero (length more));
-      bounded = record {
-        digits_within = omega arith;
-        places_within = omega arith;
-        exponent_within = omega arith;
-        power_within = omega (arith, ints);
-        scaled_within = subst (λ z. scaled_digits d z < 2 ^ 127) (sym whole)
-            (let h : d < 2 ^ 127 = omega arith in h);
+      negative = negative;
+      reading = c.reading;
+      spelled = record {
+        sign = sign;
+        rest = digits ++ c.more;
+        spelled = ap (λ t. sign ++ digits ++ t) taken ∙ append_assoc sign digits c.more;
+        is_sign = is_sign;
+        has_shape = c.has_shape digits numeral value;
       };
+      den_above_zero = c.den_above_zero;
+      bounded = c.bounded;
+      fraction = is_fraction;
+      value =
+          subst (λ t. HasValue t (signed negative (size_of c.reading)) (den_of c.reading)) (sym is)
+          (value_from negative (size_of c.reading) (den_of c.reading) p q c.lowest);
     }
 
--- the fraction of such a text has its value
-pub value_from_short : (text : List ℕ) (negative : Bool)
-    (num den : ℕ) (r : Ratio) (h : IsShort text num den)
-    → IsFraction r → HasValue r (signed negative num) den
-    → IsValueOf negative (reading_of h.spelling) r
-value_from_short text negative num den r h fraction value =
-    let F : (ℕ × ℕ) → Type 0 = λ t. HasValue r (signed negative t.0) t.1 in
-    record {
-      den_above_zero = rw h.den_is h.den_above_zero;
-      bounded = h.bounded;
-      fraction = fraction;
-      value = subst F (λ i. (sym h.num_is i, sym h.den_is i)) value;
-    }
+-- a sign, digits and what follows them are the whole text
+pub parts_of : (text rest : List ℕ) (n len : ℕ) (d : AreRead 0 (after_sign text) n rest)
+    → len ≡ length rest → (has_sign text).sign ++ d.digits ++ take len rest ≡ text
+parts_of text rest n len d all =
+    let s = has_sign text in
+    ap (λ k. s.sign ++ d.digits ++ take k rest) all
+    ∙ ap (λ t. s.sign ++ d.digits ++ t) (take_all (length rest) rest (omega arith))
+    ∙ append_assoc s.sign d.digits rest
+    ∙ ap (λ t. s.sign ++ t) (sym d.spelled)
+    ∙ sym s.spelled

@@ -37,7 +37,7 @@ abbrev pub sign_of : Bool → List ℕ
 sign_of false = []
 sign_of true = codes "-"
 
-is_sign_of : (negative : Bool) → IsSign (sign_of negative) negative
+pub is_sign_of : (negative : Bool) → IsSign (sign_of negative) negative
 is_sign_of false = absent
 is_sign_of true = minus
 

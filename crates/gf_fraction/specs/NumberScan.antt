@@ -1,13 +1,13 @@
 -- What the code finds in a number text as it goes along. Only contracts inside this crate cite this
 -- file.
-use Rattle.std.specs.Prelude.{◌≡◌, ◌<◌, ℕ, ℤ, Bool, true, false, List, [], ◌∷◌}
+use Rattle.std.specs.Prelude.{◌≡◌, ◌<◌, ℕ, ℤ, Bool, true, false, List, [], ◌∷◌, ◌++◌}
 use Rattle.std.specs.Prelude.{length, Option, Some, None, pos, ◌==◌, ◌||◌, ◌&&◌}
 use Rattle.std.specs.Prelude.{nat_lt, min, ◌^◌, option_map, if◌then◌else◌}
 use Rattle.std.specs.Char.{is_ascii_digit}
-use Rattle.std.specs.Str.Parse.{digits_value_after}
+use Rattle.std.specs.Str.Parse.{AllDigits, IsNumeral, digits_value, digits_value_after}
 use Rattle.gf_fraction.specs.Ratio.{Ratio, IsFraction, HasValue, signed}
 use Rattle.gf_fraction.specs.Steps.{IsLowest}
-use Rattle.gf_fraction.specs.NumberSpelling.{Reading, size_of, den_of}
+use Rattle.gf_fraction.specs.NumberSpelling.{Reading, HasShape, size_of, den_of}
 use Rattle.gf_fraction.specs.NumberSpelling.{scaled_digits, power_of_ten, IsBounded}
 use Rattle.gf_fraction.specs.NumberSpelling.Reading.{decimal, rational}
 use Rattle.gf_fraction.specs.declared.fraction.NumberFault.{NumberFault}
@@ -94,21 +94,24 @@ abbrev pub reading_of : Spelling → Reading
 reading_of (Decimal digits places exponent) = decimal digits places exponent
 reading_of (Rational num den) = rational num den
 
--- a text after its sign that says a numerator over a denominator, within the bounds
-pub record IsShort (text : List ℕ) (num den : ℕ) : Type 0 where
-  pub spelling : Spelling
-  pub scanned : scan text ≡ Some spelling
-  pub num_is : size_of (reading_of spelling) ≡ num
-  pub den_is : den_of (reading_of spelling) ≡ den
-  pub den_above_zero : 0 < den
-  pub bounded : IsBounded (reading_of spelling)
+-- a text begins with digits, which have this value after digits of value n, and this follows them
+pub record AreRead (n : ℕ) (text : List ℕ) (value : ℕ) (rest : List ℕ) : Type 0 where
+  pub digits : List ℕ
+  pub spelled : text ≡ digits ++ rest
+  pub all : AllDigits 10 digits
+  pub is : value ≡ digits_value_after 10 n digits
 
--- the same in lowest terms
-pub record IsShortLowest (text : List ℕ) (p q : ℕ) : Type 0 where
-  pub num : ℕ
-  pub den : ℕ
-  pub said : IsShort text num den
-  pub lowest : IsLowest num den p q
+-- after digits of value n, a text begins with what completes a number within the bounds, p over q
+-- in lowest terms, and this follows it
+pub record Completes (n : ℕ) (text : List ℕ) (p q : ℕ) (rest : List ℕ) : Type 0 where
+  pub more : List ℕ
+  pub reading : Reading
+  pub spelled : text ≡ more ++ rest
+  pub has_shape : (digits : List ℕ) → IsNumeral 10 digits → digits_value 10 digits ≡ n
+      → HasShape (digits ++ more) reading
+  pub den_above_zero : 0 < den_of reading
+  pub bounded : IsBounded reading
+  pub lowest : IsLowest (size_of reading) (den_of reading) p q
 
 -- the value of a reading within its bounds, or what is wrong with it
 pub record IsValueOf (negative : Bool) (reading : Reading) (r : Ratio) : Type 0 where

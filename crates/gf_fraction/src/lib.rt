@@ -4,7 +4,7 @@
 //! `M` in size, where `M` is `2^127 - 1`. Arithmetic is exact or returns `Overflow`. No call except
 //! `Fraction::write` takes memory.
 //!
-//! The tests of these calls are in gamefile: a crate with tests is proved a second time for them.
+//! The tests of these calls are in gf_tests: a crate with tests is proved a second time for them.
 #![tactic(auto)]
 
 mod arithmetic;

@@ -1,9 +1,11 @@
 //! The texts of numbers.
 
-ghost use Rattle.std.specs.Prelude.{◌≡◌, ◌≤◌, ◌<◌, ◌^◌, length, unsigned_abs, IfSome, MatchResult};
-ghost use Rattle.gf_fraction.specs.NumberSpelling.{Reads, scaled_digits};
+ghost use Rattle.std.specs.Prelude.{◌≡◌, ◌≤◌, ◌<◌, ◌^◌, ◌++◌, ℕ, List, length, take, unsigned_abs};
+ghost use Rattle.std.specs.Prelude.{IfSome, MatchResult};
+ghost use Rattle.std.specs.Str.Parse.{IsNumeral, digits_value};
+ghost use Rattle.gf_fraction.specs.NumberSpelling.{IsNumber, IsSign, Reads, scaled_digits};
 ghost use Rattle.gf_fraction.specs.NumberSpelling.Reading.{decimal, rational};
-ghost use Rattle.gf_fraction.specs.NumberScan.{HasReadingFault, IsScaled, IsShortLowest};
+ghost use Rattle.gf_fraction.specs.NumberScan.{AreRead, Completes, HasReadingFault, IsScaled};
 ghost use Rattle.gf_fraction.specs.NumberScan.{IsValueOf, after_sign, behind, capped, is_minus};
 ghost use Rattle.gf_fraction.specs.NumberScan.{leading, leading_value, reading_of, scan};
 ghost use Rattle.gf_fraction.specs.NumberScan.{scan_decimal, scan_exponent, scan_fraction};
@@ -62,47 +64,64 @@ fn split_sign(text: &[u8]) -> (bool, &[u8])
     (negative, &text[usize::from(signed)..])
 }
 
-/// Reads digits while their value leaves room for one more in 64 bits.
+/// Reads digits, after digits of the value `from`, while their value leaves room for one more in 64
+/// bits: the value, and what follows them.
+#[inline(always)]
 fn word_digits(from: u64, text: &[u8]) -> (u64, &[u8])
-    ensures value { leading_value from text.entry.now ≡ leading_value result.0 result.1.now }
-    ensures rest { behind text.entry.now ≡ behind result.1.now }
-    ensures shorter { length result.1.now ≤ length text.entry.now }
+    ensures { AreRead from text.entry.now result.0 result.1.now }
 {
     let mut value = from;
-    for (i, byte) in text.iter().enumerate() {
-        if !byte.is_ascii_digit() || value >= u64::MAX / 10 {
-            return (value, &text[i..]);
-        }
-        value = value * 10 + u64::from(*byte - b'0');
+    let mut len = 0;
+    while len < text.len() && text[len].is_ascii_digit() && value < u64::MAX / 10 {
+        value = value * 10 + u64::from(text[len] - b'0');
+        len += 1;
     }
-    (value, &[])
+    (value, &text[len..])
 }
 
-/// A numerator and a denominator in lowest terms, if a text has no exponent and 64 bits have room
-/// for both as spelled and for one more digit. Most numbers are read in this way.
-fn short(text: &[u8]) -> Option<(u64, u64)>
-    ensures { IfSome result (λ r. IsShortLowest text.now r.0 r.1) }
+/// What follows the first digits of a short number, which have the value `num`: nothing, a
+/// denominator, or more digits after a point. Gives the numerator and the denominator in lowest
+/// terms, and what stands behind the number.
+#[inline(always)]
+fn short_end(num: u64, text: &[u8]) -> Option<(u64, u64, &[u8])>
+    ensures { IfSome result (λ r. Completes num text.entry.now r.0 r.1 r.2.now) }
 {
-    let (num, rest) = word_digits(0, text);
-    match rest {
-        [] if !text.is_empty() => Some((num, 1)),
-        [b'/', under @ ..] if rest.len() < text.len() => {
+    match text {
+        [b'/', under @ ..] => {
             let (den, rest) = word_digits(0, under);
-            if rest.is_empty() && den > 0 {
-                Some(lowest_words(num, den, den))
-            } else {
-                None
+            if den == 0 {
+                return None;
             }
+            let (num, den) = lowest_words(num, den, den);
+            Some((num, den, rest))
         }
-        [b'.', behind @ ..] if text.len() > 1 && behind.len() <= WORD_PLACES => {
+        [b'.', behind @ ..] => {
             let (digits, rest) = word_digits(num, behind);
-            if rest.is_empty() {
-                Some(lowest_decimal(digits, behind.len() as u32))
-            } else {
-                None
+            let places = behind.len() - rest.len();
+            if places > WORD_PLACES {
+                return None;
             }
+            let (num, den) = lowest_decimal(digits, places as u32);
+            Some((num, den, rest))
         }
-        _ => None,
+        _ => Some((num, 1, text)),
+    }
+}
+
+/// The number that a text spells, if all of it is read in one pass. Most numbers are.
+fn short(text: &[u8]) -> Option<Fraction>
+    ensures { IfSome result (λ r. IsNumber text.now r) }
+{
+    let (negative, unsigned) = split_sign(text);
+    let (num, rest) = word_digits(0, unsigned);
+    if rest.len() == unsigned.len() {
+        return None;
+    }
+    let (number, len) = Fraction::after_digits(negative, num, rest)?;
+    if len == rest.len() {
+        Some(number)
+    } else {
+        None
     }
 }
 
@@ -126,7 +145,7 @@ fn wide_digits(from: u128, text: &[u8]) -> (u128, &[u8])
     (value, &[])
 }
 
-/// The digits at the head of a text, after digits of the value `from`. The first steps use 64 bits.
+/// The digits at the head of a text, after digits of the value `from`.
 #[tactic(auto, using(crate::proofs::LeadingDigits::digit_counts))]
 fn digits(from: u128, text: &[u8]) -> Run<'_>
     requires { from ≤ 2 ^ 127 }
@@ -134,13 +153,7 @@ fn digits(from: u128, text: &[u8]) -> Run<'_>
     ensures len { result.len ≡ length (leading text.entry.now) }
     ensures rest { result.rest.now ≡ behind text.entry.now }
 {
-    let (value, rest) = match u64::try_from(from) {
-        Ok(word) => {
-            let (value, rest) = word_digits(word, text);
-            wide_digits(u128::from(value), rest)
-        }
-        Err(_) => wide_digits(from, text),
-    };
+    let (value, rest) = wide_digits(from, text);
     Run {
         value,
         len: text.len() - rest.len(),
@@ -317,13 +330,32 @@ impl Fraction {
     pub fn read(text: &[u8]) -> Result<Fraction, NumberFault>
         ensures { Reads text.now result }
     {
-        let (negative, rest) = split_sign(text);
-        if let Some((num, den)) = short(rest) {
-            return Ok(Fraction::of_words(negative, num, den));
+        if let Some(number) = short(text) {
+            return Ok(number);
         }
+        let (negative, rest) = split_sign(text);
         match scan(rest) {
             Some(spelling) => spelling.value(negative),
             None => Err(NumberFault::NotANumber),
         }
+    }
+
+    /// The number that a sign, digits of the value `num` and the first bytes of a text spell
+    /// together, and how many bytes these are: none, `/` and digits, or `.` and digits. So who has
+    /// read the digits need not read them again. Digits for which 64 bits have no room and
+    /// exponents are not read, so more bytes of a number may follow.
+    ///
+    /// `None` if the denominator is zero or has no digits, or if more than 19 digits follow the
+    /// point. Then only `Fraction::read` tells whether there is a number.
+    #[inline(always)]
+    pub fn after_digits(negative: bool, num: u64, text: &[u8]) -> Option<(Fraction, usize)>
+        ensures number { IfSome result (λ r. (sign digits : List ℕ) → IsSign sign negative
+            → IsNumeral 10 digits → digits_value 10 digits ≡ num
+            → IsNumber (sign ++ digits ++ take r.1 text.now) r.0) }
+        ensures within { IfSome result (λ r. r.1 ≤ length text.now) }
+    {
+        let (num, den, rest) = short_end(num, text)?;
+        let number = Fraction::of_words(negative, num, den);
+        Some((number, text.len() - rest.len()))
     }
 }

@@ -104,7 +104,7 @@ text_breaks (b ∷ bs) acc start at before h =
     ]
 
 -- a token, and what the bytes after it spell
-token_again : (t : Token) (at : ℕ) (rest : List ℕ) (others : List Lexeme) → IsSpelled t
+pub token_again : (t : Token) (at : ℕ) (rest : List ℕ) (others : List Lexeme) → IsSpelled t
     → MayPrecede t rest
     → GoesOn t others (lex Gap (at + length (spelling t)) rest ≡ others)
     → lex Gap at (spelling t ++ rest) ≡ lexeme at (at + length (spelling t)) t ∷ others

@@ -1,13 +1,12 @@
--- The texts of fractions and of indices are the bytes of bare tokens, and the texts of indices are
+-- The texts of numbers and of indices are the bytes of bare tokens, and the texts of indices are
 -- read as indices.
-use Rattle.std.proofs.Common.{◌≡◌, ℕ, ℤ, pos, negsuc, suc, ◌^◌, ◌<◌, ◌≤◌, Bool, true, false, List}
-use Rattle.std.proofs.Common.{[], ◌∷◌, ◌++◌, length, refl, arith, length-append}
-use Rattle.std.specs.Prelude.{◌==◌, decimal, unsigned_abs, if◌then◌else◌}
-use Rattle.std.specs.Fmt.{signed_decimal}
+use Rattle.std.proofs.Common.{◌≡◌, ◌⊎◌, ℕ, ℤ, ◌^◌, ◌<◌, ◌≤◌, true, List, [], ◌∷◌, ◌++◌, Ok}
+use Rattle.std.proofs.Common.{Err, refl, sym, subst, arith, inl, inr}
+use Rattle.std.specs.Prelude.{codes, decimal, Bool}
 use Rattle.std.specs.Char.{digit_value}
-use Rattle.std.specs.Str.Parse.{AllDigits}
+use Rattle.std.specs.Str.Parse.{AllDigits, IsNumeral}
 use Rattle.std.proofs.lemmas.Bool.Decides.{nat_tests}
-use Rattle.std.proofs.lemmas.Fmt.{decimal_is_IsNumeral, decimal_is_IsNumeral_wide}
+use Rattle.std.proofs.lemmas.Fmt.{decimal_is_IsNumeral}
 use Rattle.gf_token.specs.Byte.{is_bare}
 use Rattle.gf_token.specs.Token.Token.{Bare}
 use Rattle.gf_token.specs.TokenSpelling.{IsSpelled}
@@ -15,12 +14,16 @@ use Rattle.gf_token.specs.Index.{IsIndex}
 use Rattle.gf_token.proofs.Spelled.{AllBare}
 use Rattle.gf_fraction.specs.Ratio.{Ratio, IsFraction}
 use Rattle.gf_fraction.specs.NumberText.{number_text}
-use Rattle.gf_fraction.proofs.AllElements.{all_both}
-
--- bytes of bare tokens, at least one
-record IsBareText (bytes : List ℕ) : Type 0 where
-  some : 0 < length bytes
-  bare : AllBare bytes
+use Rattle.gf_fraction.specs.NumberSpelling.{Reading, IsSign, IsPlain, IsExponent, HasShape}
+use Rattle.gf_fraction.specs.NumberSpelling.{IsNumber}
+use Rattle.gf_fraction.specs.NumberSpelling.IsSign.{absent, plus, minus}
+use Rattle.gf_fraction.specs.NumberSpelling.IsPlain.{whole, pointed}
+use Rattle.gf_fraction.specs.NumberSpelling.HasShape.{plain, raised, fraction}
+use Rattle.gf_fraction.specs.declared.fraction.NumberFault.TheVariants.{NotANumber}
+use Rattle.gf_fraction.specs.Computed.{number_of}
+use Rattle.gf_fraction.proofs.AllElements.{all_both, all_parts}
+use Rattle.gf_fraction.proofs.ComputedAnswers.{number_again}
+use Rattle.gf_fraction.proofs.ReadingBack.{written_is_read}
 
 bare_digit : (b : ℕ) → digit_value b < 10 → is_bare b ≡ true
 bare_digit b h = grind (arith, nat_tests)
@@ -29,57 +32,65 @@ bare_digits : (bytes : List ℕ) → AllDigits 10 bytes → AllBare bytes
 bare_digits [] h = tt
 bare_digits (b ∷ bytes) h = (bare_digit b h.0, bare_digits bytes h.1)
 
-decimal_bare : (n : ℕ) → n < 2 ^ 127 → IsBareText (decimal n)
-decimal_bare n h =
-    let d =
-    decimal_is_IsNumeral_wide n
-    (let wide : 2 ^ 127 ≤ 10 ^ 64 = omega arith in omega (arith, wide)) in
-    record { some = d.0.0; bare = bare_digits (decimal n) d.0.1 }
+bare_both : (xs ys : List ℕ) → AllBare xs → AllBare ys → AllBare (xs ++ ys)
+bare_both xs ys h k = all_both (λ b. is_bare b ≡ true) xs ys h k
 
-signed_bare : (z : ℤ) → unsigned_abs z < 2 ^ 127 → IsBareText (signed_decimal z)
-signed_bare (pos n) h = decimal_bare n h
-signed_bare (negsuc n) h =
-    let d = decimal_bare (suc n) h in record { some = omega arith; bare = (refl, d.bare) }
+-- ---- the parts of a number
 
-number_bare : (r : Ratio) → IsFraction r → IsBareText (number_text r)
-unfolding number_text
-number_bare r h = by_den (r.den == 1)
-  where
-    by_den : (b : Bool) → IsBareText
-        (if b then signed_decimal r.num else signed_decimal r.num ++ (47 ∷ []) ++ decimal r.den)
-    by_den true = signed_bare r.num h.num_within
-    by_den false =
-        let n = signed_bare r.num h.num_within in
-        let d = decimal_bare r.den h.den_within in
-        record {
-          some =
-              omega (
-                arith,
-                n.some,
-                length-append (signed_decimal r.num) (47 ∷ []),
-                length-append
-                    (signed_decimal r.num ++ 47 ∷ []) (decimal r.den),
-              );
-          bare =
-              all_both (λ b. is_bare b ≡ true) (signed_decimal r.num ++ 47 ∷ []) (decimal r.den)
-              (all_both (λ b. is_bare b ≡ true) (signed_decimal r.num) (47 ∷ []) n.bare
-              (refl, tt)) d.bare;
-        }
+bare_sign : (sign : List ℕ) (negative : Bool) → IsSign sign negative → AllBare sign
+bare_sign _ _ absent = tt
+bare_sign _ _ plus = (refl, tt)
+bare_sign _ _ minus = (refl, tt)
 
-spelled_bare : (bytes : List ℕ) → IsBareText bytes → IsSpelled (Bare bytes)
-spelled_bare [] h = absurd (let some = h.some in omega arith)
-spelled_bare (b ∷ bytes) h = h.bare
+bare_plain : (text digits : List ℕ) (places : ℕ) → IsPlain text digits places → AllBare text
+bare_plain text _ _ (whole _ is) = bare_digits text is.1
+bare_plain _ _ _ (pointed before after is) =
+    let parts =
+    all_parts (λ b. is_bare b ≡ true) before after (bare_digits (before ++ after) is.1) in
+    bare_both (before ++ codes ".") after (bare_both before (codes ".") parts.0 (refl, tt)) parts.1
+
+bare_mark : (mark : List ℕ) → (mark ≡ codes "e") ⊎ (mark ≡ codes "E") → AllBare mark
+bare_mark mark (inl e) = subst AllBare (sym e) (refl, tt)
+bare_mark mark (inr e) = subst AllBare (sym e) (refl, tt)
+
+bare_exponent : (text : List ℕ) (exponent : ℤ) → IsExponent text exponent → AllBare text
+bare_exponent text exponent h =
+    subst AllBare (sym h.spelled)
+    (bare_both (h.mark ++ h.sign) h.digits (bare_both h.mark h.sign (bare_mark h.mark h.is_mark)
+    (bare_sign h.sign h.negative h.is_sign)) (bare_digits h.digits h.some.1))
+
+bare_shape : (text : List ℕ) (reading : Reading) → HasShape text reading → AllBare text
+bare_shape text _ (plain _ digits places is) = bare_plain text digits places is
+bare_shape _ _ (raised text more digits places exponent is by) =
+    bare_both text more (bare_plain text digits places is) (bare_exponent more exponent by)
+bare_shape _ _ (fraction num den is_num is_den) =
+    bare_both (num ++ codes "/") den (bare_both num (codes "/") (bare_digits num is_num.1)
+    (refl, tt)) (bare_digits den is_den.1)
+
+-- ---- a number, and an index
+
+pub number_bare : (text : List ℕ) (r : Ratio) → IsNumber text r → IsSpelled (Bare text)
+unfolding number_of
+number_bare [] r h =
+    absurd (let e : Err NotANumber ≡ Ok r = number_again [] r h in cc)
+number_bare (b ∷ bytes) r h =
+    let s = h.spelled in
+    subst AllBare (sym s.spelled)
+    (bare_both s.sign s.rest (bare_sign s.sign h.negative s.is_sign)
+    (bare_shape s.rest h.reading s.has_shape))
 
 pub number_spelled : (r : Ratio) → IsFraction r → IsSpelled (Bare (number_text r))
-number_spelled r h = spelled_bare (number_text r) (number_bare r h)
+number_spelled r h = number_bare (number_text r) r (written_is_read r h)
 
-pub index_spelled : (n : ℕ) → n < 2 ^ 32 → IsSpelled (Bare (decimal n))
-index_spelled n h =
-    spelled_bare (decimal n)
-    (decimal_bare n (let wide : 2 ^ 32 ≤ 2 ^ 127 = omega arith in omega (arith, wide, h)))
+digits_spelled : (bytes : List ℕ) → IsNumeral 10 bytes → IsSpelled (Bare bytes)
+digits_spelled [] h = absurd (let some = h.0 in omega (arith, some))
+digits_spelled (b ∷ bytes) h = bare_digits (b ∷ bytes) h.1
 
 pub decimal_is_index : (n : ℕ) → n < 2 ^ 32 → IsIndex (decimal n) n
 decimal_is_index n h =
     let wide : 2 ^ 32 ≤ 10 ^ 20 = omega arith in
     let d = decimal_is_IsNumeral n (omega (arith, h, wide)) in
     (d.0, d.1, h)
+
+pub index_spelled : (n : ℕ) → n < 2 ^ 32 → IsSpelled (Bare (decimal n))
+index_spelled n h = digits_spelled (decimal n) (decimal_is_index n h).0

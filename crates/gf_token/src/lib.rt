@@ -4,7 +4,7 @@
 //! The rules are those of the Gambit documentation, "Game representation formats", and, where that
 //! text leaves a choice, those of this project's profile.
 //!
-//! The tests of these calls are in gamefile: a crate with tests is proved a second time for them.
+//! The tests of these calls are in gf_tests: a crate with tests is proved a second time for them.
 #![tactic(auto)]
 
 mod byte;

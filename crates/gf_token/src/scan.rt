@@ -4,12 +4,12 @@
 //! memory.
 
 ghost use Rattle.std.specs.Prelude.{◌≡◌, ◌<◌, ◌≤◌, ◌+◌, [], ◌∷◌, length, slice_range};
-ghost use Rattle.std.specs.Prelude.{◌^◌, nat_lt, slice_index, MatchOption, None, Some};
+ghost use Rattle.std.specs.Prelude.{◌^◌, nat_lt, slice_index, IfSome, MatchOption, None, Some};
 ghost use Rattle.std.specs.Prelude.{true, false, if◌then◌else◌};
 ghost use Rattle.std.specs.Char.{digit_value, is_ascii_digit};
 ghost use Rattle.gf_fraction.specs.Computed.{number_of};
 ghost use Rattle.gf_token.specs.Byte.{is_space, is_bare};
-ghost use Rattle.gf_token.specs.inner.Finding.{lexed, ClosesText, EndsGap, Finds};
+ghost use Rattle.gf_token.specs.inner.Finding.{lexed, ClosesText, EndsGap, Finds, FindsNumber};
 ghost use Rattle.gf_token.specs.Indices.{index_of};
 ghost use Rattle.gf_token.specs.Label.{label_of};
 ghost use Rattle.gf_token.specs.Next.{starts, is_text_of};
@@ -126,9 +126,39 @@ fn index_of_value(value: u64) -> Option<u32>
     }
 }
 
+/// Where the bare token ends that begins at `start`, and the number that it spells, if all of it is
+/// read in one pass. Most numbers are whole: what ends these is looked for first.
+#[inline(always)]
+fn short_number_end(input: &[u8], start: usize) -> Option<(usize, Fraction)>
+    requires within { start < length input.now }
+    ensures { IfSome result (λ r. FindsNumber input.now start r.0 r.1) }
+{
+    let negative = input[start] == b'-';
+    let first = start + usize::from(negative);
+    if first == input.len() || !input[first].is_ascii_digit() {
+        return None;
+    }
+    let stop = first + (input.len() - first).min(WORD_DIGITS);
+    let mut at = first + 1;
+    let mut value = digit_value(input[first]);
+    while at < stop && input[at].is_ascii_digit() {
+        value = value * 10 + digit_value(input[at]);
+        at += 1;
+    }
+    if at == input.len() || !is_bare(input[at]) {
+        return Some((at, Fraction::whole(negative, value)));
+    }
+    let (number, len) = Fraction::after_digits(negative, value, &input[at..])?;
+    let end = at + len;
+    if end == input.len() || !is_bare(input[end]) {
+        Some((end, number))
+    } else {
+        None
+    }
+}
+
 /// Where the bare token ends that begins at `start`, and the number that it spells, or why it
-/// spells none. The digits of a short whole number are read in the scan that finds their end.
-#[tactic(auto, using(crate::proofs::Steps::bare_steps))]
+/// spells none.
 #[inline(always)]
 pub(crate) fn number_end(input: &[u8], start: usize) -> (usize, Result<Fraction, NumberFault>)
     requires within { start < length input.now }
@@ -139,19 +169,8 @@ pub(crate) fn number_end(input: &[u8], start: usize) -> (usize, Result<Fraction,
         ∷ lexed input.now result.0 }
     ensures number { result.1 ≡ number_of (slice_range input.now start result.0) }
 {
-    let negative = input[start] == b'-';
-    let first = start + usize::from(negative);
-    if first < input.len() && input[first].is_ascii_digit() {
-        let stop = first + (input.len() - first).min(WORD_DIGITS);
-        let mut at = first + 1;
-        let mut value = digit_value(input[first]);
-        while at < stop && input[at].is_ascii_digit() {
-            value = value * 10 + digit_value(input[at]);
-            at += 1;
-        }
-        if at == input.len() || !is_bare(input[at]) {
-            return (at, Ok(Fraction::whole(negative, value)));
-        }
+    if let Some((end, number)) = short_number_end(input, start) {
+        return (end, Ok(number));
     }
     let end = bare_end(input, start);
     (end, Fraction::read(&input[start..end]))

@@ -1,10 +1,12 @@
 -- What is found in the bytes from a place on. No public contract cites this file.
-use Rattle.std.specs.Prelude.{◌≡◌, ℕ, ◌+◌, ◌<◌, true, false, List, [], ◌∷◌, length, drop}
+use Rattle.std.specs.Prelude.{◌≡◌, ℕ, ◌+◌, ◌<◌, ◌≤◌, true, false, List, [], ◌∷◌, length, drop}
 use Rattle.std.specs.Prelude.{get_or, slice_range, Result, Ok, Err}
+use Rattle.gf_fraction.specs.Ratio.{Ratio}
+use Rattle.gf_fraction.specs.Computed.{number_of}
 use Rattle.gf_token.specs.Byte.{is_space}
 use Rattle.gf_token.specs.LabelSpelling.{is_spelling}
 use Rattle.gf_token.specs.Token.{Lexeme, lexeme}
-use Rattle.gf_token.specs.Token.Token.{Text, Broken}
+use Rattle.gf_token.specs.Token.Token.{Bare, Text, Broken}
 use Rattle.gf_token.specs.inner.Lexing.{lex}
 use Rattle.gf_token.specs.inner.Lexing.Mode.{Gap}
 use Rattle.gf_token.specs.HeldTokens.{lexeme_of}
@@ -21,6 +23,14 @@ pub record EndsGap (bytes : List ℕ) (start end : ℕ) : Type 0 where
   pub within : end < length bytes
   pub same : lexed bytes start ≡ lexed bytes end
   pub other : is_space (get_or bytes end 0) ≡ false
+
+-- the bare token that begins at `start` ends at `end` and spells a number
+pub record FindsNumber (bytes : List ℕ) (start end : ℕ) (r : Ratio) : Type 0 where
+  pub begins : start < end
+  pub within : end ≤ length bytes
+  pub found : lexed bytes start
+      ≡ lexeme start end (Bare (slice_range bytes start end)) ∷ lexed bytes end
+  pub number : Ok r ≡ number_of (slice_range bytes start end)
 
 -- the text that begins at `start` is closed by the quote at `end`
 pub record ClosesText (bytes : List ℕ) (start end : ℕ) : Type 0 where

@@ -1,57 +1,24 @@
-use Rattle.std.proofs.Common.{◌≡◌, arith, get_or, refl}
-use Rattle.std.proofs.lemmas.Bool.Decides.{nat_tests}
-use Rattle.gf_fraction.proofs.Divisors.{IsGcd-one_right}
-use Rattle.gf_fraction.proofs.ShortNumbers.{nil, first_and_more, short_whole}
-use Rattle.gf_fraction.proofs.ShortNumbers.{short_ratio, short_decimal}
+use Rattle.std.proofs.Common.{◌≡◌, ◌<◌, ◌+◌, length, subst, sym, ap, ◌∙◌, arith}
+use Rattle.std.proofs.lemmas.List.{length-append}
+use Rattle.gf_fraction.specs.NumberSpelling.{IsNumber, IsSign}
+use Rattle.gf_fraction.specs.NumberScan.{AreRead, after_sign}
+use Rattle.gf_fraction.proofs.FoundIsSpelled.{has_sign}
+use Rattle.gf_fraction.proofs.ShortNumbers.{parts_of}
 use Rattle.gf_fraction.proofs.read.short.Goals as goal
 
-pub returns-in-empty : goal.returns-in-empty
-returns-in-empty c =
+pub returns-then-len-rest : goal.returns-then-len-rest
+returns-then-len-rest c =
     let text = c.args.text.now in
-    let w = c.word_digits-num in
-    record {
-      num = w.result.0;
-      den = 1;
-      said = short_whole text w.result.1.now w.result.0 w.ensures.value w.ensures.rest (omega arith)
-          (nil w.result.1.now (omega arith)) (grind (arith, nat_tests));
-      lowest = record {
-        by = 1;
-        num = omega arith;
-        den = omega arith;
-        apart = IsGcd-one_right w.result.0;
-      };
-    }
-
-pub returns-then-den-gt0 : goal.returns-then-den-gt0
-returns-then-den-gt0 c =
-    let text = c.args.text.now in
-    let w = c.word_digits-num in
-    let u = c.word_digits-den in
-    let first : get_or w.result.1.now 0 0 ≡ 47 = omega arith in
-    record {
-      num = w.result.0;
-      den = u.result.0;
-      said = short_ratio text w.result.1.now _ u.result.1.now w.result.0 u.result.0 w.ensures.value
-          w.ensures.rest (omega arith)
-          (first_and_more w.result.1.now 47 (omega arith) first) (omega arith)
-          u.ensures.value u.ensures.rest (omega arith)
-          (nil u.result.1.now (grind (arith, nat_tests))) c.if-den-gt0.true;
-      lowest = c.lowest_words.ensures;
-    }
-
-pub returns-then-is_empty-2 : goal.returns-then-is_empty-2
-returns-then-is_empty-2 c =
-    let text = c.args.text.now in
-    let w = c.word_digits-num in
-    let u = c.word_digits-digits in
-    let first : get_or w.result.1.now 0 0 ≡ 46 = omega arith in
-    record {
-      num = u.result.0;
-      den = _;
-      said = short_decimal text w.result.1.now _ u.result.1.now w.result.0 u.result.0 _
-          w.ensures.value w.ensures.rest (omega arith)
-          (first_and_more w.result.1.now 46 (omega arith) first) (omega arith)
-          u.ensures.value u.ensures.rest (omega arith)
-          (nil u.result.1.now (grind (arith, nat_tests))) (omega arith) refl;
-      lowest = c.lowest_decimal.ensures;
-    }
+    let sign = c.split_sign-negative in
+    let n = c.word_digits-num.result.0 in
+    let rest = c.word_digits-num.result.1.now in
+    let d : AreRead 0 (after_sign text) n rest =
+    subst (λ t. AreRead 0 t n rest) sign.ensures.rest c.word_digits-num.ensures in
+    let long : length sign.result.1.now ≡ length d.digits + length rest =
+    ap length (sign.ensures.rest ∙ d.spelled) ∙ length-append d.digits rest in
+    let some : 0 < length d.digits = omega (arith, long, c.if-rest-unsigned.false) in
+    let s = has_sign text in
+    subst (λ t. IsNumber t c.in_ok-number.number)
+    (parts_of text rest n c.in_ok-number.len d c.if-len-rest.true)
+    (c.in_ok-number.ensures.number s.sign d.digits
+    (subst (IsSign s.sign) (sym sign.ensures.negative) s.is_sign) (some, d.all) (sym d.is))

@@ -1,19 +1,21 @@
-use Rattle.std.proofs.Common.{◌≡◌, ◌<◌, ◌∙◌, ◌+◌, ◌*◌, ap, sym, true, length, drop, get_or, arith}
+use Rattle.std.proofs.Common.{◌≡◌, ◌<◌, ◌∙◌, sym, true, length, get_or, arith}
 use Rattle.std.specs.Char.{is_ascii_digit}
-use Rattle.gf_fraction.specs.NumberScan.{leading_value}
-use Rattle.gf_fraction.proofs.LeadingDigits.{leading_value-drop, behind-drop}
+use Rattle.gf_fraction.proofs.LeadingDigits.{digit_value-ascii}
+use Rattle.gf_fraction.proofs.ShortNumbers.{digits_more, value_more}
 use Rattle.gf_fraction.proofs.read.word_digits.Goals as goal
 
-pub loop-i-preserved : goal.loop-i-preserved
-loop-i-preserved c =
+pub loop-len-preserved : goal.loop-len-preserved
+loop-len-preserved c =
     let text = c.args.text.now in
-    let i = c.loop-i.i in
-    let v = c.loop-i.value in
-    let within : i < length text = omega arith in
-    let digit : is_ascii_digit (get_or text i 0) ≡ true =
-    sym c.if-not-is_ascii_digit.ensures.value in (
-      c.loop-i.invariant.0
-          ∙ leading_value-drop text i within v digit
-          ∙ ap (λ d. leading_value (v * 10 + d) (drop (i + 1) text)) (sym c.from.ensures),
-      c.loop-i.invariant.1 ∙ behind-drop text i within digit,
-    )
+    let len = c.loop-len.len in
+    let i = c.loop-len.invariant in
+    let within : len < length text = omega (arith, c.loop-len-test.true) in
+    let digit : is_ascii_digit (get_or text len 0) ≡ true =
+    sym c.is_ascii_digit.ensures.value ∙ c.if-is_ascii_digit.true in
+    let more = value_more text len within digit c.args.from in
+    let value = digit_value-ascii (get_or text len 0) digit in
+    record {
+      within = omega (arith, within);
+      all = digits_more text len within digit i.all;
+      value = omega (arith, more, value, i.value, c.from.ensures);
+    }

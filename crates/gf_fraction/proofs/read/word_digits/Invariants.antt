@@ -1,8 +1,13 @@
-use Rattle.std.proofs.Common.{◌≡◌, drop}
-use Rattle.gf_fraction.specs.NumberScan.{behind, leading_value}
+use Rattle.std.proofs.Common.{◌≡◌, ◌≤◌, ◌-◌, length, take}
+use Rattle.std.specs.Str.Parse.{AllDigits, digits_value_after}
 use Rattle.gf_fraction.proofs.read.word_digits.Given as goal
 
-abbrev pub invariant-loop-i : goal.invariant-loop-i
-invariant-loop-i l =
-    (leading_value l.fn.from l.text ≡ leading_value l.value (drop l.i l.text))
-    × (behind l.text ≡ behind (drop l.i l.text))
+abbrev pub invariant-loop-len : goal.invariant-loop-len
+invariant-loop-len l = record {
+  within : l.len ≤ length l.text;
+  all : AllDigits 10 (take l.len l.text);
+  value : l.value ≡ digits_value_after 10 l.fn.from (take l.len l.text);
+}
+
+abbrev pub decreases-loop-len : goal.decreases-loop-len
+decreases-loop-len l = length l.text - l.len

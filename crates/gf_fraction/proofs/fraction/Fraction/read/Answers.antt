@@ -1,12 +1,9 @@
 use Rattle.std.proofs.Common.{◌≡◌, ◌∙◌, ℕ, List, Bool, ap, sym, subst, Some}
 use Rattle.std.proofs.lemmas.Result.{MatchResult-weaker}
-use Rattle.gf_fraction.specs.Ratio.{HasValue, signed}
-use Rattle.gf_fraction.specs.NumberScan.{after_sign, is_minus, scan, IsShortLowest}
+use Rattle.gf_fraction.specs.NumberScan.{after_sign, is_minus, scan}
 use Rattle.gf_fraction.specs.declared.read.Spelling.{Spelling}
 use Rattle.gf_fraction.proofs.FoundIsSpelled.{FoundNumber, found_number}
 use Rattle.gf_fraction.proofs.AnswersFromScans.{number_from_value, fault_from_reading, unspelled}
-use Rattle.gf_fraction.proofs.LowestTerms.{value_from}
-use Rattle.gf_fraction.proofs.ShortNumbers.{value_from_short}
 use Rattle.gf_fraction.proofs.fraction.Fraction.read.Goals as goal
 
 -- what is found after the sign
@@ -15,20 +12,6 @@ found : (text rest : List ℕ) (negative : Bool) (s : Spelling) → negative ≡
 found text rest negative s sign behind scanned =
     subst (λ b. FoundNumber text b s) (sym sign)
     (found_number text s (ap scan (sym behind) ∙ scanned))
-
-pub returns-in-Some : goal.returns-in-Some
-returns-in-Some c =
-    let text = c.args.text.now in
-    let sign = c.split_sign-negative in
-    let h : IsShortLowest sign.result.1.now c.in-Some.num c.in-Some.den = c.in-Some.ensures in
-    let s = h.said.spelling in
-    let value = value_from sign.result.0 h.num h.den c.in-Some.num c.in-Some.den h.lowest in
-    number_from_value text sign.result.0 s c.of_words.result
-    (found text sign.result.1.now sign.result.0 s sign.ensures.negative sign.ensures.rest
-    h.said.scanned)
-    (value_from_short _ _ _ _ _ h.said c.of_words.ensures.fraction
-    (subst (λ r. HasValue r (signed sign.result.0 h.num) h.den) (sym c.of_words.ensures.value)
-    value))
 
 pub returns-in-Some-scan : goal.returns-in-Some-scan
 returns-in-Some-scan c =

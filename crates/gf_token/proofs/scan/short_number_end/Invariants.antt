@@ -1,9 +1,7 @@
-use Rattle.std.proofs.Common.{◌≡◌, ◌≤◌, ◌<◌, ◌-◌, length, drop}
+use Rattle.std.proofs.Common.{◌≡◌, ◌≤◌, ◌<◌, ◌-◌, length}
 use Rattle.std.specs.Prelude.{slice_range}
 use Rattle.std.specs.Str.Parse.{AllDigits, digits_value}
-use Rattle.gf_token.specs.inner.Lexing.{lex}
-use Rattle.gf_token.specs.inner.Lexing.Mode.{Gap, InBare}
-use Rattle.gf_token.proofs.scan.number_end.Given as goal
+use Rattle.gf_token.proofs.scan.short_number_end.Given as goal
 
 abbrev pub invariant-loop-at : goal.invariant-loop-at
 invariant-loop-at l = record {
@@ -12,8 +10,6 @@ invariant-loop-at l = record {
   begins : l.first < l.at;
   signed : l.start ≤ l.first;
   few : l.stop - l.first ≤ 19;
-  same : lex Gap l.start (drop l.start l.input)
-      ≡ lex (InBare l.start (slice_range l.input l.start l.at)) l.at (drop l.at l.input);
   digits : AllDigits 10 (slice_range l.input l.first l.at);
   value : l.value ≡ digits_value 10 (slice_range l.input l.first l.at);
 }
