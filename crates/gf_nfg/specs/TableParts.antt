@@ -50,28 +50,19 @@ pub record Names : Type 0 where
 abbrev pub own_of : Names → ℕ → List (List ℕ)
 own_of names at = unwrap_or (slice_get names.strategies at) []
 
--- The heading is the title, the comment and the players' names, and the strategies of each player
--- end at one of these places among those of all.
-abbrev pub names_of : List (List ℕ) → List (List ℕ) → List ℕ → Names
-names_of heading strategies ends = record {
+-- the heading is the title and the comment
+abbrev pub names_of : List (List ℕ) → List (List ℕ) → List (List (List ℕ)) → Names
+names_of heading players strategies = record {
   title = unwrap_or (slice_get heading 0) [];
   comment = unwrap_or (slice_get heading 1) [];
-  players = drop 2 heading;
-  strategies = pieces 0 ends strategies;
+  players = players;
+  strategies = strategies;
 }
 
--- a heading with an end for each player, and strategies that are cut at these ends
-pub record AreNames (heading strategies : List (List ℕ)) (ends : List ℕ) : Type 0 where
-  pub one_end_each : length heading ≡ 2 + length ends
-  pub rises : RisesTo (length strategies) 0 ends
-
--- After the labels `before` come the strategies of some players, and each player's end at one of
--- these ends.
-pub record AreStrategies (before labels : List (List ℕ)) (ends : List ℕ)
-    (strategies : List (List (List ℕ))) : Type 0 where
-  pub begin : take (length before) labels ≡ before
-  pub rises : RisesTo (length labels) (length before) ends
-  pub are : pieces (length before) ends labels ≡ strategies
+-- a title and a comment, and a list of strategies for each player
+abbrev pub AreNames : List (List ℕ) → List (List ℕ) → List (List (List ℕ)) → Type 0
+AreNames heading players strategies =
+    (length heading ≡ 2) × (length strategies ≡ length players)
 
 -- ---- rows
 

@@ -1,6 +1,6 @@
 //! Gambit strategic files: their tables, their reader and their canonical text.
 //!
-//! The tests of these calls are in gamefile: a crate with tests is proved a second time for them.
+//! The tests of these calls are in gf_tests: a crate with tests is proved a second time for them.
 #![tactic(auto)]
 
 mod comparison;

@@ -16,6 +16,7 @@ use crate::table::labels::Labels;
 use crate::table::names::Names;
 use crate::table::profile::place_of;
 use crate::table::rows::Rows;
+use crate::table::strategies::Strategies;
 use gf_fraction::Fraction;
 use gf_token::Label;
 use std::alloc::{AllocError, Global};
@@ -32,6 +33,7 @@ pub(crate) mod payoffs_in_turn;
 pub(crate) mod pieces;
 pub(crate) mod profile;
 pub(crate) mod rows;
+pub(crate) mod strategies;
 
 /// A table: a title, a comment, players with at least one strategy each, and the payoffs at each
 /// profile of strategies. It has at most 1,048,576 profiles. Players and strategies are counted
@@ -91,6 +93,7 @@ impl Table {
             (map label_of players.now) (map (λ own. map label_of own.items) strategies.now)
             rows.now) }
     {
+        let strategies = Strategies::of_lists(alloc, strategies)?;
         let names = Names::new(alloc, title, comment, players, strategies)?;
         let rows = Vec::from_clones(alloc, rows)?;
         Ok(Table::in_turn(alloc, names, rows))
@@ -116,7 +119,8 @@ impl Table {
         ensures { IfOk result (λ t. IsTableOf t (label_of title.entry) (label_of comment.entry)
             (map label_of players.now) strategies.items rows.items) }
     {
-        let names = Names::of_labels(alloc, title, comment, players, strategies)?;
+        let strategies = Strategies::of_labels(alloc, strategies)?;
+        let names = Names::new(alloc, title, comment, players, strategies)?;
         Ok(Table::in_turn(alloc, names, rows))
     }
 

@@ -7,7 +7,6 @@ pub mod Listed
 pub mod Lists
 pub mod Made
 pub mod Meaning
-pub mod Names
 pub mod NumbersInTurn
 pub mod Pieces
 pub mod Places
@@ -15,5 +14,6 @@ pub mod Profiles
 pub mod Rows
 pub mod Same
 pub mod Spelled
+pub mod Strategies
 pub mod Told
 pub mod Worked

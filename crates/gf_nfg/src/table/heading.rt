@@ -7,6 +7,7 @@ ghost use Rattle.gf_nfg.specs.inner.ReaderState.{HasCounts, content_in};
 
 use crate::limit::ProfileCount;
 use crate::table::names::Names;
+use crate::table::strategies::Strategies;
 use gf_token::Label;
 use std::alloc::{AllocError, Global};
 
@@ -40,22 +41,24 @@ impl<'a> Heading<'a> {
             profiles: ProfileCount::one(),
         }
     }
+
+    /// The players' strategies, in memory of their own.
+    fn strategies(&self, alloc: Global) -> Result<Strategies, AllocError>
+        ensures { IfOk result (λ lists. lists ≡ (names_in (content_in self.now)).strategies) }
+    {
+        if self.labels.is_empty() {
+            Strategies::counted(alloc, &self.counts)
+        } else {
+            Strategies::grouped(alloc, &self.counts, &self.labels)
+        }
+    }
+
     /// The title, the comment, the players and their strategies, in memory of their own.
     pub(crate) fn names(&self, alloc: Global) -> Result<Names, AllocError>
         requires { HasCounts self.now }
         ensures { IfOk result (λ names. names ≡ names_in (content_in self.now)) }
     {
-        if self.labels.is_empty() {
-            Names::counted(alloc, self.title, self.comment, &self.players, &self.counts)
-        } else {
-            Names::grouped(
-                alloc,
-                self.title,
-                self.comment,
-                &self.players,
-                &self.counts,
-                &self.labels,
-            )
-        }
+        let strategies = self.strategies(alloc)?;
+        Names::new(alloc, self.title, self.comment, &self.players, strategies)
     }
 }

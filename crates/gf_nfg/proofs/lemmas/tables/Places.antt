@@ -231,43 +231,64 @@ pub record AtPlayer (names : Names) (profile : List ℕ) (at place count : ℕ) 
       ≡ Some place
   pub count_is : option_map length (slice_get names.strategies at) ≡ Some count
 
-at_count : (names : Names) (profile : List ℕ) (at place count : ℕ)
+-- the player before this place
+pub player_before : {names : Names} {profile : List ℕ} {at place count : ℕ}
+    → length names.strategies ≡ length names.players
+    → AllByRecursion (λ own. 0 < length own) names.strategies
+    → product (map length names.strategies) ≤ profile_limit
+    → length profile ≡ length names.players → 0 < at → at ≤ length names.players
+    → place_of (drop at (map length names.strategies)) (drop at profile) ≡ Some place
+    → option_map length (slice_get names.strategies (at - 1)) ≡ Some count
+    → AtPlayer names profile (at - 1) place count
+player_before {names} {profile} {at} one some few full above within found is =
+    let next : at - 1 + 1 ≡ at = omega (arith, above) in
+    record {
+      one_list_each = one;
+      some_strategy = some;
+      within = few;
+      one_number_each = full;
+      player = omega (arith, above, within);
+      found = rw next found;
+      count_is = is;
+    }
+
+at_count : {names : Names} {profile : List ℕ} {at place count : ℕ}
     → AtPlayer names profile at place count → (at < length (map length names.strategies))
     × (count ≡ get_or (map length names.strategies) at 0)
-at_count names profile at place count a =
+at_count {names} {profile} {at} {place} {count} a =
     let here : slice_get (map length names.strategies) at ≡ Some count =
     slice_get-map length names.strategies at ∙ a.count_is in (
       slice_get_within (map length names.strategies) at count here,
       sym (get_or_from_slice_get (map length names.strategies) at count 0 here),
     )
 
-pub strategy_out : (names : Names) (profile : List ℕ) (at place count : ℕ)
+pub strategy_out : {names : Names} {profile : List ℕ} {at place count : ℕ}
     → AtPlayer names profile at place count
     → (get_or profile at 0 ≡ 0) ⊎ (count < get_or profile at 0)
     → place_of (map length names.strategies) profile ≡ None
-strategy_out names profile at place count a out =
-    let here = at_count names profile at place count a in
+strategy_out {names} {profile} {at} {place} {count} a out =
+    let here = at_count a in
     let long : at < length profile = omega (arith, a.player, a.one_number_each) in
     none_before (map length names.strategies) profile at (omega (arith, here.0))
     (omega (arith, long)) (place_none (map length names.strategies) profile at count
     (get_or profile at 0) here.0 long here.1 refl out)
 
-pub strategy_in : (names : Names) (profile : List ℕ) (at place count : ℕ)
+pub strategy_in : {names : Names} {profile : List ℕ} {at place count : ℕ}
     → AtPlayer names profile at place count → 0 < get_or profile at 0 → get_or profile at 0 ≤ count
     → place_of (drop at (map length names.strategies)) (drop at profile)
     ≡ Some (place * count + (get_or profile at 0 - 1))
-strategy_in names profile at place count a above within =
-    let here = at_count names profile at place count a in
+strategy_in {names} {profile} {at} {place} {count} a above within =
+    let here = at_count a in
     let long : at < length profile = omega (arith, a.player, a.one_number_each) in
     place_more (map length names.strategies) profile at count (get_or profile at 0) place here.0
     long here.1 refl above within a.found
 
-pub strategy_fits : (names : Names) (profile : List ℕ) (at place count : ℕ)
+pub strategy_fits : {names : Names} {profile : List ℕ} {at place count : ℕ}
     → AtPlayer names profile at place count → 0 < get_or profile at 0 → get_or profile at 0 ≤ count
     → place * count + (get_or profile at 0 - 1) < profile_limit
-strategy_fits names profile at place count a above within =
+strategy_fits {names} {profile} {at} a above within =
     let below = place_below (drop at (map length names.strategies)) (drop at profile) _
-    (strategy_in names profile at place count a above within) in
+    (strategy_in a above within) in
     let whole = product_drop (map length names.strategies) at
     (all_images (λ n. 0 < n) length names.strategies a.some_strategy) in
     omega (arith, below, whole, a.within)

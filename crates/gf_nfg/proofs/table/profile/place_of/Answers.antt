@@ -1,7 +1,7 @@
-use Rattle.std.proofs.Common.{◌≡◌, ◌+◌, ◌-◌, ◌∙◌, sym, arith, map, length, Some, inl, inr}
+use Rattle.std.proofs.Common.{◌≡◌, ◌∙◌, sym, arith, map, length, Some, inl, inr}
 use Rattle.std.proofs.lemmas.List.{length-map}
 use Rattle.gf_nfg.specs.TableParts.{place_of}
-use Rattle.gf_nfg.proofs.lemmas.tables.Places.{AtPlayer, none_by_length, place_below}
+use Rattle.gf_nfg.proofs.lemmas.tables.Places.{none_by_length, place_below, player_before}
 use Rattle.gf_nfg.proofs.lemmas.tables.Places.{strategy_out, strategy_in, strategy_fits}
 use Rattle.gf_nfg.proofs.table.profile.place_of.Goals as goal
 
@@ -15,77 +15,48 @@ returns-then-profile-players c =
 
 pub returns-then-strategy-eq0 : goal.returns-then-strategy-eq0
 returns-then-strategy-eq0 c =
-    let next : c.loop-at.at - 1 + 1 ≡ c.loop-at.at = omega (arith, c.loop-at-test.true) in
-    let player : AtPlayer c.args.names.now c.args.profile.now (c.loop-at.at - 1) c.loop-at.place
-    c.strategies-count.result = record {
-      one_list_each = c.requires.one_list_each;
-      some_strategy = c.requires.some_strategy;
-      within = c.requires.within;
-      one_number_each = c.if-profile-players.false ∙ c.players-players.ensures.players;
-      player =
-          omega (arith, c.loop-at-test.true, c.loop-at.auto.at, c.players-players.ensures.players);
-      found = rw next c.loop-at.invariant;
-      count_is = c.strategies-count.ensures;
-    } in
-    sym (strategy_out c.args.names.now c.args.profile.now (c.loop-at.at - 1) c.loop-at.place
-    c.strategies-count.result player
+    let player = player_before {names = c.args.names.now} c.requires.one_list_each
+    c.requires.some_strategy c.requires.within
+    (c.if-profile-players.false ∙ c.players-players.ensures.players)
+    (omega (arith, c.loop-at-test.true))
+    (omega (arith, c.loop-at.auto.at, c.players-players.ensures.players))
+    c.loop-at.invariant c.strategies-count.ensures in
+    sym (strategy_out player
     (elim c.then-strategy-eq0.either [ inl zero ↦ inl zero | inr more ↦ inr more.1 ]))
 
 pub overflow_mul-place : goal.overflow_mul-place
 overflow_mul-place c =
-    let next : c.loop-at.at - 1 + 1 ≡ c.loop-at.at = omega (arith, c.loop-at-test.true) in
-    let player : AtPlayer c.args.names.now c.args.profile.now (c.loop-at.at - 1) c.loop-at.place
-    c.strategies-count.result = record {
-      one_list_each = c.requires.one_list_each;
-      some_strategy = c.requires.some_strategy;
-      within = c.requires.within;
-      one_number_each = c.if-profile-players.false ∙ c.players-players.ensures.players;
-      player =
-          omega (arith, c.loop-at-test.true, c.loop-at.auto.at, c.players-players.ensures.players);
-      found = rw next c.loop-at.invariant;
-      count_is = c.strategies-count.ensures;
-    } in
-    let fits = strategy_fits c.args.names.now c.args.profile.now (c.loop-at.at - 1) c.loop-at.place
-    c.strategies-count.result player (omega (arith, c.if-strategy-eq0.false))
+    let player = player_before {names = c.args.names.now} c.requires.one_list_each
+    c.requires.some_strategy c.requires.within
+    (c.if-profile-players.false ∙ c.players-players.ensures.players)
+    (omega (arith, c.loop-at-test.true))
+    (omega (arith, c.loop-at.auto.at, c.players-players.ensures.players))
+    c.loop-at.invariant c.strategies-count.ensures in
+    let fits = strategy_fits player (omega (arith, c.if-strategy-eq0.false))
     c.if-strategy-count.false in
     omega (arith, fits)
 
 pub overflow_add-place : goal.overflow_add-place
 overflow_add-place c =
-    let next : c.loop-at.at - 1 + 1 ≡ c.loop-at.at = omega (arith, c.loop-at-test.true) in
-    let player : AtPlayer c.args.names.now c.args.profile.now (c.loop-at.at - 1) c.loop-at.place
-    c.strategies-count.result = record {
-      one_list_each = c.requires.one_list_each;
-      some_strategy = c.requires.some_strategy;
-      within = c.requires.within;
-      one_number_each = c.if-profile-players.false ∙ c.players-players.ensures.players;
-      player =
-          omega (arith, c.loop-at-test.true, c.loop-at.auto.at, c.players-players.ensures.players);
-      found = rw next c.loop-at.invariant;
-      count_is = c.strategies-count.ensures;
-    } in
-    let fits = strategy_fits c.args.names.now c.args.profile.now (c.loop-at.at - 1) c.loop-at.place
-    c.strategies-count.result player (omega (arith, c.if-strategy-eq0.false))
+    let player = player_before {names = c.args.names.now} c.requires.one_list_each
+    c.requires.some_strategy c.requires.within
+    (c.if-profile-players.false ∙ c.players-players.ensures.players)
+    (omega (arith, c.loop-at-test.true))
+    (omega (arith, c.loop-at.auto.at, c.players-players.ensures.players))
+    c.loop-at.invariant c.strategies-count.ensures in
+    let fits = strategy_fits player (omega (arith, c.if-strategy-eq0.false))
     c.if-strategy-count.false in
     omega (arith, fits)
 
 pub loop-at-preserved : goal.loop-at-preserved
 loop-at-preserved c =
-    let next : c.loop-at.at - 1 + 1 ≡ c.loop-at.at = omega (arith, c.loop-at-test.true) in
-    let player : AtPlayer c.args.names.now c.args.profile.now (c.loop-at.at - 1) c.loop-at.place
-    c.strategies-count.result = record {
-      one_list_each = c.requires.one_list_each;
-      some_strategy = c.requires.some_strategy;
-      within = c.requires.within;
-      one_number_each = c.if-profile-players.false ∙ c.players-players.ensures.players;
-      player =
-          omega (arith, c.loop-at-test.true, c.loop-at.auto.at, c.players-players.ensures.players);
-      found = rw next c.loop-at.invariant;
-      count_is = c.strategies-count.ensures;
-    } in
-    strategy_in c.args.names.now c.args.profile.now (c.loop-at.at - 1) c.loop-at.place
-    c.strategies-count.result player (omega (arith, c.if-strategy-eq0.false))
-    c.if-strategy-count.false
+    let player = player_before {names = c.args.names.now} c.requires.one_list_each
+    c.requires.some_strategy c.requires.within
+    (c.if-profile-players.false ∙ c.players-players.ensures.players)
+    (omega (arith, c.loop-at-test.true))
+    (omega (arith, c.loop-at.auto.at, c.players-players.ensures.players))
+    c.loop-at.invariant c.strategies-count.ensures in
+    strategy_in player (omega (arith, c.if-strategy-eq0.false)) c.if-strategy-count.false
 
 pub overflow_cast-result : goal.overflow_cast-result
 overflow_cast-result c =

@@ -1,0 +1,172 @@
+-- Lists of labels, which are kept one after another.
+use Rattle.std.proofs.Common.{◌≡◌, ℕ, suc, ◌+◌, ◌-◌, ◌<◌, ◌≤◌, List, [], ◌∷◌, ◌++◌, length, map}
+use Rattle.std.proofs.Common.{take, drop, get_or, Option, Some, None, slice_get, option_map, min}
+use Rattle.std.proofs.Common.{refl, sym, ap, ◌∙◌, arith, append_assoc}
+use Rattle.std.specs.Prelude.{IsSomeAnd, option_and_then}
+use Rattle.std.proofs.lemmas.List.{length-take, length-drop, length-append, drop_more, drop_min}
+use Rattle.std.proofs.lemmas.List.{drop-drop, length-map}
+use Rattle.std.proofs.lemmas.List.{take-map, take_min, drop-map}
+use Rattle.std.proofs.lemmas.List.{get_or-take, get_or-drop}
+use Rattle.std.proofs.lemmas.Option.{slice_get-get_or, slice_get_within}
+use Rattle.gf_nfg.specs.Sentence.{counted_labels}
+use Rattle.gf_nfg.specs.inner.Meaning.{strategies_of}
+use Rattle.gf_nfg.specs.TableParts.{groups, pieces, start_of, RisesTo}
+use Rattle.gf_nfg.proofs.lemmas.tables.Pieces.{length-pieces, piece_at, pieces-push, rises-push}
+use Rattle.gf_nfg.proofs.lemmas.tables.Pieces.{start_before_end, end_within}
+
+-- ---- one more list
+
+-- the labels of all lists, with the end of each
+pub record AreKept (labels : List (List ℕ)) (ends : List ℕ) (lists : List (List (List ℕ)))
+    : Type 0 where
+  pub rises : RisesTo (length labels) 0 ends
+  pub are : pieces 0 ends labels ≡ lists
+
+pub one_more : (labels labels' own : List (List ℕ)) (ends ends' : List ℕ)
+    (lists : List (List (List ℕ)))
+    → AreKept labels ends lists → labels' ≡ labels ++ own → ends' ≡ ends ++ length labels' ∷ []
+    → AreKept labels' ends' (lists ++ own ∷ [])
+one_more labels labels' own ends ends' lists a e f =
+    let whole : length labels' ≡ length labels + length own =
+    ap length e ∙ length-append labels own in
+    let g : ends' ≡ ends ++ (length labels + length own) ∷ [] =
+    f ∙ ap (λ (n : ℕ). ends ++ n ∷ []) whole in
+    record {
+      rises = rw (whole, g) (rises-push 0 ends (length labels) (length own) a.rises);
+      are = rw (e, g) (pieces-push 0 ends labels own a.rises)
+          ∙ ap (λ (ls : List (List (List ℕ))). ls ++ own ∷ []) a.are;
+    }
+
+pub kept_by : {labels : List (List ℕ)} {ends items : List ℕ} {lists : List (List (List ℕ))}
+    → RisesTo (length labels) 0 ends → pieces 0 ends labels ≡ lists → items ≡ ends
+    → AreKept labels items lists
+kept_by rises are same = rw same (record { rises = rises; are = are })
+
+pub length-ends : {labels : List (List ℕ)} {ends : List ℕ} {lists : List (List (List ℕ))}
+    → AreKept labels ends lists → length ends ≡ length lists
+length-ends {labels} {ends} a = sym (length-pieces 0 ends labels) ∙ ap length a.are
+
+pub is_within : {labels : List (List ℕ)} {ends : List ℕ} {lists : List (List (List ℕ))} {at : ℕ}
+    → AreKept labels ends lists → at < length lists → at < length ends
+is_within a h = omega (arith, h, length-ends a)
+
+-- ---- groups of this many
+
+length-groups : {A : Type 0} (sizes : List ℕ) (items : List A)
+    → length (groups sizes items) ≡ length sizes
+length-groups [] items = refl
+length-groups (n ∷ sizes) items = ap suc (length-groups sizes (drop n items))
+
+pub length-strategies_of : (counts : List ℕ) (labels : List (List ℕ))
+    → length (strategies_of counts labels) ≡ length counts
+length-strategies_of counts [] = length-map counts counted_labels
+length-strategies_of counts (label ∷ labels) = length-groups counts (label ∷ labels)
+
+-- lists are made of the groups before this place
+pub record AreMade {A B : Type 0} (f : A → B) (all : List (List B)) (sizes : List ℕ)
+    (items : List A) (i start : ℕ) : Type 0 where
+  pub within : start ≤ length items
+  pub are : all ++ groups (drop i sizes) (map f (drop start items)) ≡ groups sizes (map f items)
+
+pub next_group : {A B : Type 0} (f : A → B) (all all' : List (List B)) (sizes : List ℕ)
+    (items own : List A) (i size start end : ℕ)
+    → i < length sizes → size ≡ get_or sizes i 0 → end ≡ min (length items) (start + size)
+    → own ≡ take (end - start) (drop start items)
+    → AreMade f all sizes items i start → all' ≡ all ++ map f own ∷ []
+    → AreMade f all' sizes items (i + 1) end
+next_group f all all' sizes items own i size start end h is stop cut m g =
+    let left = drop start items in
+    let behind = groups (drop (i + 1) sizes) (map f (drop end items)) in
+    let part : end - start ≡ min size (length left) =
+    omega (arith, stop, m.within, length-drop start items) in
+    let first : map f own ≡ take size (map f left) =
+    ap (map f) (cut ∙ ap (λ n. take n left) part ∙ take_min size left)
+    ∙ sym (take-map f size left) in
+    let back : start + (end - start) ≡ end = omega (arith, stop, m.within) in
+    let rest : map f (drop end items) ≡ drop size (map f left) =
+    ap (map f) (ap (λ n. drop n items) (sym back) ∙ sym (drop-drop (end - start) start items)
+    ∙ ap (λ n. drop n left) part ∙ drop_min size left)
+    ∙ sym (drop-map f size left) in
+    let now : groups (drop i sizes) (map f left) ≡ map f own ∷ behind =
+    ap (λ ns. groups ns (map f left)) (drop_more sizes i 0 h)
+    ∙ ap (λ n. take n (map f left) ∷ groups (drop (i + 1) sizes) (drop n (map f left))) (sym is)
+    ∙ (λ j. sym first j ∷ groups (drop (i + 1) sizes) (sym rest j)) in
+    record {
+      within = omega (arith, stop);
+      are = ap (λ xs. xs ++ behind) g
+          ∙ append_assoc all (map f own ∷ []) behind
+          ∙ ap (λ xs. all ++ xs) (sym now)
+          ∙ m.are;
+    }
+
+-- ---- one of the lists
+
+-- the list at a place stands from here to there
+pub record StandsAt (labels : List (List ℕ)) (lists : List (List (List ℕ))) (at start end : ℕ)
+    : Type 0 where
+  pub ordered : start ≤ end
+  pub within : end ≤ length labels
+  pub is : slice_get lists at ≡ Some (take (end - start) (drop start labels))
+
+pub stands_at : {labels : List (List ℕ)} {ends : List ℕ} {lists : List (List (List ℕ))}
+    {at start end : ℕ}
+    → AreKept labels ends lists → at < length lists → start ≡ start_of 0 ends at
+    → end ≡ get_or ends at 0 → StandsAt labels lists at start end
+stands_at {labels} {ends} {lists} {at} a less s e =
+    let h = is_within a less in
+    record {
+      ordered = omega (arith, s, e, start_before_end (length labels) 0 ends at 0 a.rises h);
+      within = omega (arith, e, end_within (length labels) 0 ends at 0 a.rises h);
+      is = ap (λ (ls : List (List (List ℕ))). slice_get ls at) (sym a.are)
+          ∙ piece_at 0 ends labels at 0 h
+          ∙ (λ j. Some (take (sym e j - sym s j) (drop (sym s j) labels)));
+    }
+
+length-own : (labels : List (List ℕ)) (start end : ℕ) → start ≤ end → end ≤ length labels
+    → length (take (end - start) (drop start labels)) ≡ end - start
+length-own labels start end ordered within =
+    length-take (end - start) (drop start labels)
+    ∙ omega (arith, length-drop start labels, ordered, within)
+
+pub length-list : {labels : List (List ℕ)} {lists : List (List (List ℕ))} {at start end : ℕ}
+    → StandsAt labels lists at start end
+    → option_map length (slice_get lists at) ≡ Some (end - start)
+length-list {labels} {lists} {at} {start} {end} s =
+    ap (option_map length) s.is ∙ ap Some (length-own labels start end s.ordered s.within)
+
+-- the list at this place has a label at that one
+abbrev HasLabel : List (List (List ℕ)) → ℕ → ℕ → Type 0
+HasLabel lists at k = IsSomeAnd (slice_get lists at) (λ own. k < length own)
+
+pub has_list : (lists : List (List (List ℕ))) (at k : ℕ) → HasLabel lists at k → at < length lists
+has_list lists at k h = by (slice_get lists at) refl h
+  where
+    by : (o : Option (List (List ℕ))) → slice_get lists at ≡ o
+        → IsSomeAnd o (λ own. k < length own) → at < length lists
+    by None e h = absurd h
+    by (Some own) e h = slice_get_within lists at own e
+
+-- one of its labels, among those of all lists
+pub record IsLabelAt (labels : List (List ℕ)) (lists : List (List (List ℕ)))
+    (at k end place : ℕ) : Type 0 where
+  pub before : place < end
+  pub within : place < length labels
+  pub is : option_and_then (λ own. slice_get own k) (slice_get lists at) ≡ slice_get labels place
+
+pub label_at : {labels : List (List ℕ)} {lists : List (List (List ℕ))} {at k start end : ℕ}
+    → StandsAt labels lists at start end → HasLabel lists at k
+    → IsLabelAt labels lists at k end (start + k)
+label_at {labels} {lists} {at} {k} {start} {end} s h =
+    let own = take (end - start) (drop start labels) in
+    let size = length-own labels start end s.ordered s.within in
+    let some : k < length own = rw s.is at h in
+    let inside : start + k < length labels = omega (arith, some, size, s.within) in
+    record {
+      before = omega (arith, some, size);
+      within = inside;
+      is = ap (option_and_then (λ own. slice_get own k)) s.is
+          ∙ slice_get-get_or own k [] some
+          ∙ ap Some (get_or-take (end - start) (drop start labels) k [] (omega (arith, some, size))
+          ∙ get_or-drop start labels k [])
+          ∙ sym (slice_get-get_or labels (start + k) [] inside);
+    }

@@ -1,8 +1,0 @@
-use Rattle.std.proofs.Common.{map, take}
-use Rattle.gf_token.specs.Label.{label_of}
-use Rattle.gf_nfg.specs.TableParts.{AreStrategies}
-use Rattle.gf_nfg.proofs.table.names.add_lists.Given as goal
-
-abbrev pub invariant-loop-own : goal.invariant-loop-own
-invariant-loop-own l = AreStrategies l.initial.labels l.labels l.ends.items
-    (map (λ own. map label_of own.items) (take l.own-index l.strategies))

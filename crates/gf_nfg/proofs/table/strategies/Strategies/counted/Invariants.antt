@@ -1,0 +1,6 @@
+use Rattle.std.proofs.Common.{◌≡◌, map, take}
+use Rattle.gf_nfg.specs.Sentence.{counted_labels}
+use Rattle.gf_nfg.proofs.table.strategies.Strategies.counted.Given as goal
+
+abbrev pub invariant-loop-count : goal.invariant-loop-count
+invariant-loop-count l = l.all ≡ map counted_labels (take l.count-index l.counts)

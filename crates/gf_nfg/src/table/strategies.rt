@@ -1,0 +1,166 @@
+//! The strategies of players, in memory of their own.
+
+ghost use Rattle.std.specs.Prelude.{◌≡◌, ◌<◌, ◌++◌, ◌∷◌, [], Some, length, map, IfOk, OnOk};
+ghost use Rattle.std.specs.Prelude.{IsSomeAnd, option_and_then, option_map, slice_get};
+ghost use Rattle.std.specs.List.{AllByRecursion};
+ghost use Rattle.gf_token.specs.Label.{label_of};
+ghost use Rattle.gf_nfg.specs.Sentence.{counted_labels};
+ghost use Rattle.gf_nfg.specs.TableParts.{AreSpellings, groups};
+
+use crate::table::labels::Labels;
+use crate::table::pieces::piece_at;
+use gf_token::Label;
+use std::alloc::{AllocError, Global};
+use std::marker::Model;
+
+/// A list of labels for each player.
+#[derive(Drop)]
+pub(crate) struct Strategies {
+    /// Those of one player after another.
+    labels: Labels,
+    /// Where each player's end.
+    ends: Vec<usize>,
+}
+
+impl Model for Strategies {
+    ghost use Rattle.std.specs.Prelude.{List, length, ℕ};
+    ghost use Rattle.gf_nfg.specs.TableParts.{RisesTo, pieces};
+
+    ghost Value = { List (List (List ℕ)) };
+
+    ghost view = { λ s. pieces 0 s.ends.items s.labels };
+
+    ghost invariant = { λ s. RisesTo (length s.labels) 0 s.ends.items };
+}
+
+impl Strategies {
+    /// Those of no player.
+    fn new(alloc: Global) -> Strategies
+        ensures { result ≡ [] }
+    {
+        Strategies {
+            labels: Labels::new(alloc),
+            ends: Vec::new(alloc),
+        }
+    }
+
+    /// These, and those of one more player.
+    fn with(self, own: &[Label<'_>]) -> Result<Strategies, AllocError>
+        ensures { IfOk result (λ all. all ≡ self ++ map label_of own.now ∷ []) }
+    {
+        let Strategies {
+            mut labels,
+            mut ends,
+        } = self;
+        labels.extend(own)?;
+        ends.push(labels.len())?;
+        Ok(Strategies { labels, ends })
+    }
+
+    /// These, and those of one more player: the labels "1" to this count.
+    fn with_counted(self, count: u32) -> Result<Strategies, AllocError>
+        ensures { IfOk result (λ all. all ≡ self ++ counted_labels count ∷ []) }
+    {
+        let Strategies {
+            mut labels,
+            mut ends,
+        } = self;
+        labels.extend_counted(count)?;
+        ends.push(labels.len())?;
+        Ok(Strategies { labels, ends })
+    }
+
+    /// These, and those of one more player. If there are no labels so far, his are not copied.
+    fn with_labels(self, own: Labels) -> Result<Strategies, AllocError>
+        ensures all { IfOk result (λ all. all ≡ self ++ own ∷ []) }
+        ensures spelled { OnOk result (AreSpellings own) }
+    {
+        // Its clause says that they are spelled.
+        let _own = own.len();
+        let Strategies { labels, mut ends } = self;
+        let labels = labels.followed_by(own)?;
+        ends.push(labels.len())?;
+        Ok(Strategies { labels, ends })
+    }
+
+    /// These lists.
+    pub(crate) fn of_lists(
+        alloc: Global,
+        lists: &[Vec<Label<'_>>],
+    ) -> Result<Strategies, AllocError>
+        ensures { IfOk result (λ all. all ≡ map (λ own. map label_of own.items) lists.now) }
+    {
+        let mut all = Strategies::new(alloc);
+        for own in lists {
+            all = all.with(own)?;
+        }
+        Ok(all)
+    }
+
+    /// These lists. If only one has labels, they are not copied.
+    pub(crate) fn of_labels(alloc: Global, lists: Vec<Labels>) -> Result<Strategies, AllocError>
+        ensures all { IfOk result (λ all. all ≡ lists.items) }
+        ensures spelled { OnOk result (AllByRecursion (λ own. AreSpellings own) lists.items) }
+    {
+        let mut all = Strategies::new(alloc);
+        for own in lists {
+            all = all.with_labels(own)?;
+        }
+        Ok(all)
+    }
+
+    /// A count of n stands for the labels "1" to n.
+    #[inline(never)]
+    pub(crate) fn counted(alloc: Global, counts: &[u32]) -> Result<Strategies, AllocError>
+        ensures { IfOk result (λ all. all ≡ map counted_labels counts.now) }
+    {
+        let mut all = Strategies::new(alloc);
+        for count in counts {
+            all = all.with_counted(*count)?;
+        }
+        Ok(all)
+    }
+
+    /// Labels that come one after another, this many for each player.
+    #[inline(never)]
+    pub(crate) fn grouped(
+        alloc: Global,
+        counts: &[u32],
+        labels: &[Label<'_>],
+    ) -> Result<Strategies, AllocError>
+        ensures { IfOk result (λ all. all ≡ groups counts.now (map label_of labels.now)) }
+    {
+        let mut all = Strategies::new(alloc);
+        let mut start = 0;
+        for count in counts {
+            let end = labels.len().min(start + *count as usize);
+            all = all.with(&labels[start..end])?;
+            start = end;
+        }
+        Ok(all)
+    }
+
+    /// The labels of all players, one player after another.
+    pub(crate) fn labels(&self) -> &Labels {
+        &self.labels
+    }
+
+    /// How many the player at this place, from 0, has.
+    pub(crate) fn count(&self, at: usize) -> usize
+        requires { at < length self.now }
+        ensures { option_map length (slice_get self.now at) ≡ Some result }
+    {
+        let own = piece_at(0, &self.ends, at);
+        own.end - own.start
+    }
+
+    /// One of the player at this place.
+    pub(crate) fn label(&self, at: usize, strategy: usize) -> Label<'_>
+        requires { IsSomeAnd (slice_get self.now at) (λ own. strategy < length own) }
+        ensures { option_and_then (λ own. slice_get own strategy) (slice_get self.now at)
+            ≡ Some (label_of result) }
+    {
+        let own = piece_at(0, &self.ends, at);
+        self.labels.label(own.start + strategy)
+    }
+}
