@@ -1,8 +1,8 @@
 -- What a branch stands for.
 use Rattle.gf_tree.specs.Tree.{Tree}
-use Rattle.gf_tree.specs.Game.{Node, Game}
 use Rattle.gf_tree.specs.Subtrees.{subtree_at}
 use Rattle.gf_tree.specs.declared.game.branch.Branch.{Branch}
+use Rattle.gf_tree.specs.Game.{Node, Game}
 
 -- the game whose branch it is
 abbrev pub game_of : Branch → Game

@@ -3,8 +3,8 @@ use Rattle.std.specs.Prelude.{◌≡◌, ◌+◌, ℕ, List, drop, Option, IfSom
 use Rattle.std.specs.Iterator.{YieldsFirstBy}
 use Rattle.gf_tree.specs.Tree.{Tree}
 use Rattle.gf_tree.specs.Game.{Game, Node}
-use Rattle.gf_tree.specs.Subtrees.{child_trees, subtree_at}
 use Rattle.gf_tree.specs.Branches.{game_of, tree_of}
+use Rattle.gf_tree.specs.Subtrees.{child_trees, subtree_at}
 use Rattle.gf_tree.specs.declared.game.branch.Branch.{Branch}
 use Rattle.gf_tree.specs.declared.game.branches.Branches.{Branches}
 

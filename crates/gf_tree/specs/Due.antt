@@ -1,14 +1,14 @@
 -- What is due after the front of an extensive file.
 use Rattle.std.specs.Prelude.{◌≡◌, ℕ, ◌<◌, ◌⊎◌, List, [], ◌∷◌, codes, length, Option}
 use Rattle.gf_token.specs.Token.{Token}
-use Rattle.gf_token.specs.Token.Token.{Opening, Closing, Text, Bare}
 use Rattle.gf_token.specs.Place.{MayFollow}
 use Rattle.gf_token.specs.declared.fault.What.{What}
-use Rattle.gf_token.specs.declared.fault.What.TheVariants as what
+use Rattle.gf_token.specs.Token.Token.{Opening, Closing, Text, Bare}
 use Rattle.gf_tree.specs.Description.{InformationSet, Outcome, SetKey}
 use Rattle.gf_tree.specs.FileTree.{Use}
 use Rattle.gf_tree.specs.Front.{IsExtensiveFile, EndsInNode, ToPlayerNumber, ToSetNumber}
 use Rattle.gf_tree.specs.Front.{ToProbability, ToOutcomeNumber, InPayoffs, IsSetKnown}
+use Rattle.gf_token.specs.declared.fault.What.TheVariants as what
 
 -- the letter of a node
 abbrev pub NodeIsDue : List Token → Type 0

@@ -8,10 +8,10 @@ use Rattle.gf_token.specs.Token.Token.{Bare}
 use Rattle.gf_token.specs.Index.{IsIndex}
 use Rattle.gf_token.specs.Place.{MayFollow}
 use Rattle.gf_token.specs.declared.fault.What.{What}
-use Rattle.gf_token.specs.declared.fault.What.TheVariants as what
 use Rattle.gf_tree.specs.Front.{IsExtensiveFile}
 use Rattle.gf_tree.specs.Rows.{IsNodeLetter}
 use Rattle.gf_tree.specs.Sentence.{IsPositive}
+use Rattle.gf_token.specs.declared.fault.What.TheVariants as what
 
 -- what a bare token is in a file: one of its first three tokens, the letter of a node among this
 -- many players, the number of one of this many players, of a set or of an outcome, a probability

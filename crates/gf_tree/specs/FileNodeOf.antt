@@ -2,14 +2,14 @@
 use Rattle.std.specs.Prelude.{ℕ, option_map}
 use Rattle.gf_token.specs.Label.{label_of}
 use Rattle.gf_tree.specs.Actions.{actions_of}
-use Rattle.gf_tree.specs.Description.{SetKey, InformationSet, Outcome, set_of}
-use Rattle.gf_tree.specs.FileTree as file
 use Rattle.gf_tree.specs.FileTree.{Use}
+use Rattle.gf_tree.specs.Description.{SetKey, InformationSet, Outcome, set_of}
 use Rattle.gf_tree.specs.declared.game.file_node.FileNode.{FileNode}
 use Rattle.gf_tree.specs.declared.game.file_node.SetUse.{SetUse}
 use Rattle.gf_tree.specs.declared.game.file_node.SetDescription.{SetDescription}
 use Rattle.gf_tree.specs.declared.game.file_node.OutcomeUse.{OutcomeUse}
 use Rattle.gf_tree.specs.declared.game.file_node.OutcomeDescription.{OutcomeDescription}
+use Rattle.gf_tree.specs.FileTree as file
 
 abbrev pub described_set : SetDescription → InformationSet
 described_set d = record { name = label_of d.name; actions = actions_of d.actions.now }

@@ -3,8 +3,8 @@ use Rattle.std.specs.Prelude.{ℕ, nat_eq, ◌==◌, Bool, List, [], ◌∷◌, 
 use Rattle.std.specs.List.{filter}
 use Rattle.gf_tree.specs.Description.{SetKey, InformationSet, same_set, set_of}
 use Rattle.gf_tree.specs.FiniteMap.{Described, first_uses}
-use Rattle.gf_tree.specs.Game.{Game, used_sets, used_outcomes}
 use Rattle.gf_tree.specs.Renumbering.{Renumbering}
+use Rattle.gf_tree.specs.Game.{Game, used_sets, used_outcomes}
 
 -- the uses through the first one of this key
 abbrev pub through_first_use : {K : Type 0} → (K → K → Bool) → K → List K → List K

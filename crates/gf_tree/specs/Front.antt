@@ -1,7 +1,6 @@
 -- The front of an extensive file: its heading, whole nodes one after another, and the front of the
 -- next node. This shape shows what is due after it, and what is wrong there.
-use Rattle.std.specs.Prelude.{◌≡◌, ℕ, ◌⊎◌, List, [], ◌∷◌, ◌++◌}
-use Rattle.std.specs.Prelude.{codes, Option, Some, MatchOption}
+use Rattle.std.specs.Prelude.{◌≡◌, ℕ, ◌⊎◌, List, [], ◌∷◌, ◌++◌, codes, Option, Some, MatchOption}
 use Rattle.std.specs.List.{filter_map}
 use Rattle.gf_token.specs.Token.{Token}
 use Rattle.gf_token.specs.Token.Token.{Opening, Text, Bare}

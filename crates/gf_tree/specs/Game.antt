@@ -1,6 +1,6 @@
 -- The game that an extensive file means.
-use Rattle.std.specs.Prelude.{◌≡◌, ℕ, nat_eq, List, length, map}
-use Rattle.std.specs.Prelude.{Option, MatchOption, Some, option_map}
+use Rattle.std.specs.Prelude.{◌≡◌, ℕ, nat_eq, List, length, map, Option, MatchOption, Some}
+use Rattle.std.specs.Prelude.{option_map}
 use Rattle.std.specs.List.{AllByRecursion, filter_map}
 use Rattle.gf_tree.specs.Tree.{Tree}
 use Rattle.gf_tree.specs.PrefixOrder.{Entry, flatten}

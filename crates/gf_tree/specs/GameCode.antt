@@ -6,9 +6,9 @@ use Rattle.gf_tree.specs.Tree.{Tree}
 use Rattle.gf_tree.specs.PrefixOrder.{Entry, flatten}
 use Rattle.gf_tree.specs.Grown.{grow, root}
 use Rattle.gf_tree.specs.GrowsAgain.{root_grows_again}
-use Rattle.gf_tree.specs.Description.{Action, SetKey, InformationSet, Outcome}
 use Rattle.gf_tree.specs.FiniteMap.{Described}
 use Rattle.gf_tree.specs.Game.{Node, Game}
+use Rattle.gf_tree.specs.Description.{Action, SetKey, InformationSet, Outcome}
 
 abbrev text_code : Coded (List ℕ)
 text_code = coded_list coded_ℕ

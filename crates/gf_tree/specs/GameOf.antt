@@ -7,9 +7,9 @@ use Rattle.gf_tree.specs.Tree.{map_tree}
 use Rattle.gf_tree.specs.PrefixOrder.{flatten}
 use Rattle.gf_tree.specs.Description.{same_set}
 use Rattle.gf_tree.specs.FiniteMap.{first_uses}
+use Rattle.gf_tree.specs.Sentence.{Sentence}
 use Rattle.gf_tree.specs.FileTree.{FileNode, FileTree, set_uses, outcome_uses}
 use Rattle.gf_tree.specs.Consistent.{Describes, IsConsistent}
-use Rattle.gf_tree.specs.Sentence.{Sentence}
 use Rattle.gf_tree.specs.Game.{Node, Game, used_sets, used_outcomes}
 
 -- a node without the descriptions

@@ -4,8 +4,8 @@ use Rattle.gf_token.specs.Place.{tokens_of, IsAcceptedThrough, IsOffendingPlace}
 use Rattle.gf_token.specs.declared.fault.Fault.{Fault}
 use Rattle.gf_token.specs.declared.fault.Span.{Span}
 use Rattle.gf_token.specs.declared.fault.Why.{Why}
-use Rattle.gf_token.specs.declared.fault.Why.TheVariants.{TooLong, UnknownOutcome}
-use Rattle.gf_token.specs.declared.fault.Why.TheVariants.{TooManyProfiles, Memory}
+use Rattle.gf_token.specs.declared.fault.Why.TheVariants.{Memory, TooLong, UnknownOutcome}
+use Rattle.gf_token.specs.declared.fault.Why.TheVariants.{TooManyProfiles}
 use Rattle.gf_tree.specs.Front.{IsExtensiveFile}
 use Rattle.gf_tree.specs.Game.{Game}
 use Rattle.gf_tree.specs.Reason.{IsReason}

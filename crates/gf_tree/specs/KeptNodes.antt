@@ -6,11 +6,11 @@ use Rattle.gf_token.specs.Positions.{at_position}
 use Rattle.gf_tree.specs.Tree.{Tree}
 use Rattle.gf_tree.specs.PrefixOrder.{Entry}
 use Rattle.gf_tree.specs.Grown.{grow, root}
-use Rattle.gf_tree.specs.Description.{SetKey, InformationSet, Outcome}
 use Rattle.gf_tree.specs.FiniteMap.{Described}
 use Rattle.gf_tree.specs.Game.{Node}
 use Rattle.gf_tree.specs.GameCode.{no_node}
 use Rattle.gf_tree.specs.declared.game.kept.Stored.{Stored}
+use Rattle.gf_tree.specs.Description.{SetKey, InformationSet, Outcome}
 
 -- Its name, and the positions of its set and of its outcome among those that are known, from 1, or
 -- 0 if it has none.

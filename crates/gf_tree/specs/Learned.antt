@@ -1,13 +1,13 @@
 -- Descriptions learned use by use, in the order of a file.
-use Rattle.std.specs.Prelude.{◌≡◌, nat_eq, length, Bool, ◌⊎◌, List}
-use Rattle.std.specs.Prelude.{[], ◌∷◌, ◌++◌, Some, None, MatchOption}
+use Rattle.std.specs.Prelude.{◌≡◌, nat_eq, length, Bool, ◌⊎◌, List, [], ◌∷◌, ◌++◌, Some, None}
+use Rattle.std.specs.Prelude.{MatchOption}
 use Rattle.std.specs.List.{AllByRecursion}
 use Rattle.gf_tree.specs.PrefixOrder.{flatten}
+use Rattle.gf_tree.specs.Game.{Game, HasChildren}
+use Rattle.gf_tree.specs.GameOf.{KeepsTree}
 use Rattle.gf_tree.specs.Description.{same_set, IsSet, IsOutcome}
 use Rattle.gf_tree.specs.FiniteMap.{Described, description_at}
 use Rattle.gf_tree.specs.FileTree.{Use, FileTree, set_uses, outcome_uses}
-use Rattle.gf_tree.specs.Game.{Game, HasChildren}
-use Rattle.gf_tree.specs.GameOf.{KeepsTree}
 
 -- From what is known already, the uses lead to what is known in the end. The use of a key that is
 -- not known describes it; any other use has no description, or the known one.

@@ -2,10 +2,10 @@
 use Rattle.std.specs.Prelude.{ℕ, zero, suc, Option, Some, None}
 use Rattle.gf_token.specs.Label.{label_of}
 use Rattle.gf_tree.specs.Description.{SetKey, set_of}
-use Rattle.gf_tree.specs.Game as game
 use Rattle.gf_tree.specs.declared.game.node.Node.{Node}
 use Rattle.gf_tree.specs.declared.game.node.Step.{Step}
 use Rattle.gf_tree.specs.declared.game.node.Step.TheVariants.{Chance, Personal, Terminal}
+use Rattle.gf_tree.specs.Game as game
 
 -- the set of the step
 abbrev pub set_of_step : Step → Option SetKey

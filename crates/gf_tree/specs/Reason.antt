@@ -2,27 +2,26 @@
 use Rattle.std.specs.Prelude.{◌≡◌, ◌≢◌, ℕ, pos, ◌<◌, ◌<ℤ◌, ◌⊎◌, List, [], ◌∷◌, ◌++◌, codes, length}
 use Rattle.std.specs.Prelude.{Some}
 use Rattle.gf_token.specs.Token.{Token}
-use Rattle.gf_token.specs.Token.Token.{Closing, Text, Bare, Broken}
 use Rattle.gf_token.specs.Index.{IsIndex}
-use Rattle.gf_token.specs.Reason as any_format
-use Rattle.gf_token.specs.declared.fault.What.TheVariants as what
+use Rattle.gf_token.specs.Token.Token.{Closing, Text, Bare, Broken}
 use Rattle.gf_token.specs.declared.fault.Why.{Why}
-use Rattle.gf_token.specs.declared.fault.Why.TheVariants.{Unterminated, NotANumber, ZeroDenominator}
+use Rattle.gf_token.specs.declared.fault.Why.TheVariants.{NotDescribed, Mismatch, Unterminated}
+use Rattle.gf_token.specs.declared.fault.Why.TheVariants.{NotANumber, ZeroDenominator}
 use Rattle.gf_token.specs.declared.fault.Why.TheVariants.{NumberTooLarge, BadIndex, UnknownPlayer}
-use Rattle.gf_token.specs.declared.fault.Why.TheVariants.{NotDescribed, Mismatch}
 use Rattle.gf_token.specs.declared.fault.Why.TheVariants.{NegativeProbability, SumAboveOne}
 use Rattle.gf_token.specs.declared.fault.Why.TheVariants.{SumBelowOne, SumOverflow, NoEntry}
 use Rattle.gf_fraction.specs.Fits.{SumFits, AddsTo}
-use Rattle.gf_fraction.specs.NumberSpelling.{HasNumberFault, IsNumber}
 use Rattle.gf_fraction.specs.Ratio.{Ratio, whole}
+use Rattle.gf_fraction.specs.NumberSpelling.{HasNumberFault, IsNumber}
 use Rattle.gf_fraction.specs.declared.fraction.NumberFault.{NumberFault}
-use Rattle.gf_fraction.specs.declared.fraction.NumberFault.TheVariants as number
 use Rattle.gf_tree.specs.Description.{Action, InformationSet, Outcome, SetKey, set_of, set_with}
 use Rattle.gf_tree.specs.Sentence.{IsPositive}
-use Rattle.gf_tree.specs.Front.{EndsInNode, BehindSetNumber, InActions}
-use Rattle.gf_tree.specs.Front.{ToProbability, BehindOutcomeNumber}
-use Rattle.gf_tree.specs.Front.{InPayoffs, KnowsSet, IsNewSet, KnowsOutcome, IsNewOutcome}
+use Rattle.gf_tree.specs.Front.{EndsInNode, BehindSetNumber, InActions, ToProbability, IsNewOutcome}
+use Rattle.gf_tree.specs.Front.{BehindOutcomeNumber, InPayoffs, KnowsSet, IsNewSet, KnowsOutcome}
 use Rattle.gf_tree.specs.Due.{NodeIsDue, PlayerIsDue, SetIsDue, OutcomeIsDue, IsDue}
+use Rattle.gf_token.specs.Reason as any_format
+use Rattle.gf_token.specs.declared.fault.What.TheVariants as what
+use Rattle.gf_fraction.specs.declared.fraction.NumberFault.TheVariants as number
 
 -- ---- numbers and indices
 
@@ -35,8 +34,7 @@ IsFaultyNumber before bytes fault = IsDue before what.Number × HasNumberFault b
 abbrev pub IsBadIndex : List Token → List ℕ → Type 0
 IsBadIndex before bytes =
     ((((count : ℕ) × PlayerIsDue before count) ⊎ SetIsDue before)
-    × ((n : ℕ) → ¬ (IsPositive bytes n)))
-    ⊎ (OutcomeIsDue before × ((n : ℕ) → ¬ (IsIndex bytes n)))
+    × ((n : ℕ) → ¬ (IsPositive bytes n))) ⊎ (OutcomeIsDue before × ((n : ℕ) → ¬ (IsIndex bytes n)))
 
 -- there are only whole nodes, and no players
 abbrev pub NobodyMoves : List Token → Type 0
@@ -65,8 +63,7 @@ GoesOnWith known seen next =
 -- a known set has a different name, a different action, or no more actions
 abbrev pub DiffersFromSet : {before : List Token} → EndsInNode before → Token → Type 0
 DiffersFromSet f (Text label) = (key : SetKey) × (known : InformationSet)
-    × KnowsSet f.nodes key known
-    × ((BehindSetNumber f.front key × (label ≢ known.name))
+    × KnowsSet f.nodes key known × ((BehindSetNumber f.front key × (label ≢ known.name))
     ⊎ ((seen : InformationSet) × InActions f.front key seen
     × ((next : Action) → GoesOnWith known seen next → label ≢ next.label)))
 DiffersFromSet f Closing = (key : SetKey) × (known seen : InformationSet) × (next : Action)

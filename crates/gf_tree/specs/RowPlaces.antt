@@ -1,16 +1,16 @@
 -- The table of positions of extensive files: the tokens that stand before each of its rows.
-use Rattle.std.specs.Prelude.{◌≡◌, ℕ, ◌⊎◌, List, [], ◌∷◌, ◌++◌, codes, map}
-use Rattle.std.specs.Prelude.{Option, Some, MatchOption}
+use Rattle.std.specs.Prelude.{◌≡◌, ℕ, ◌⊎◌, List, [], ◌∷◌, ◌++◌, codes, map, Option, Some}
+use Rattle.std.specs.Prelude.{MatchOption}
 use Rattle.gf_fraction.specs.Ratio.{Ratio}
 use Rattle.gf_fraction.specs.NumberSpelling.{IsNumber}
 use Rattle.gf_token.specs.Token.{Token}
-use Rattle.gf_token.specs.Token.Token.{Opening, Closing, Comma, Text, Bare}
 use Rattle.gf_token.specs.Index.{IsIndex}
 use Rattle.gf_token.specs.Place.{Begins}
+use Rattle.gf_token.specs.Token.Token.{Opening, Closing, Comma, Text, Bare}
 use Rattle.gf_tree.specs.Description.{InformationSet, Outcome, SetKey}
 use Rattle.gf_tree.specs.FileTree.{Use}
-use Rattle.gf_tree.specs.Front.{BehindOutcomeNumber, BehindSetNumber, EndsInNode, InPayoffs}
-use Rattle.gf_tree.specs.Front.{IsExtensiveFile, ToOutcomeNumber}
+use Rattle.gf_tree.specs.Front.{IsExtensiveFile, ToOutcomeNumber, BehindOutcomeNumber}
+use Rattle.gf_tree.specs.Front.{BehindSetNumber, EndsInNode, InPayoffs}
 
 -- ---- the heading
 

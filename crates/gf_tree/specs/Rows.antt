@@ -1,26 +1,26 @@
 -- The table of positions of extensive files: what each of its rows accepts, and why it refuses
 -- everything else.
-use Rattle.std.specs.Prelude.{◌≡◌, ◌≢◌, ◌↔◌, ℕ, ◌<◌, ◌≤◌, pos, ◌≤ℤ◌, ◌⊎◌, List, [], ◌∷◌}
-use Rattle.std.specs.Prelude.{codes, length}
+use Rattle.std.specs.Prelude.{◌≡◌, ◌≢◌, ◌↔◌, ℕ, ◌<◌, ◌≤◌, pos, ◌≤ℤ◌, ◌⊎◌, List, [], ◌∷◌, codes}
+use Rattle.std.specs.Prelude.{length}
 use Rattle.gf_fraction.specs.Ratio.{Ratio, whole}
 use Rattle.gf_fraction.specs.Fits.{AddsTo}
 use Rattle.gf_fraction.specs.NumberSpelling.{HasNumberFault, IsNumber}
 use Rattle.gf_fraction.specs.declared.fraction.NumberFault.{NumberFault}
 use Rattle.gf_token.specs.Token.{Token}
-use Rattle.gf_token.specs.Token.Token.{Opening, Closing, Comma, Text, Bare, Broken}
 use Rattle.gf_token.specs.Index.{IsIndex}
 use Rattle.gf_token.specs.NumberWhy.{why_of}
 use Rattle.gf_token.specs.Place.{IsAccepted}
+use Rattle.gf_token.specs.Token.Token.{Opening, Closing, Comma, Text, Bare, Broken}
 use Rattle.gf_token.specs.declared.fault.What.{What}
-use Rattle.gf_token.specs.declared.fault.What.TheVariants as what
 use Rattle.gf_token.specs.declared.fault.Why.{Why}
 use Rattle.gf_token.specs.declared.fault.Why.TheVariants.{Expected, Unterminated, BadIndex}
 use Rattle.gf_token.specs.declared.fault.Why.TheVariants.{UnknownPlayer, NotDescribed, Mismatch}
 use Rattle.gf_token.specs.declared.fault.Why.TheVariants.{SumBelowOne, NoEntry}
 use Rattle.gf_tree.specs.Description.{Action}
 use Rattle.gf_tree.specs.Front.{IsExtensiveFile}
-use Rattle.gf_tree.specs.Reason.{IsReason, IsWrongBehind}
 use Rattle.gf_tree.specs.Sentence.{IsPositive}
+use Rattle.gf_tree.specs.Reason.{IsReason, IsWrongBehind}
+use Rattle.gf_token.specs.declared.fault.What.TheVariants as what
 
 -- which tokens a row accepts, and whether it accepts the end; why it refuses other texts, other
 -- bare tokens and another closing brace; and why it refuses everything else, the end included

@@ -3,8 +3,8 @@ use Rattle.std.specs.Prelude.{◌≡◌, ℕ}
 use Rattle.gf_tree.specs.Tree.{map_tree}
 use Rattle.gf_tree.specs.Description.{SetKey}
 use Rattle.gf_tree.specs.Game.{Game, set_at, outcome_at}
-use Rattle.gf_tree.specs.Renumbering.{Renumbering, IsRenumbering, HasSet}
-use Rattle.gf_tree.specs.Renumbering.{HasOutcome, renumbered_node, renumbered_set}
+use Rattle.gf_tree.specs.Renumbering.{renumbered_node, renumbered_set, Renumbering, IsRenumbering}
+use Rattle.gf_tree.specs.Renumbering.{HasSet, HasOutcome}
 
 -- Title, comment and players are equal. The tree of h is that of g, node by node, with the new
 -- numbers in place of the old. A set of g has the description of the set of h with its new number,

@@ -1,6 +1,6 @@
 -- Which lists of tokens are extensive files, and what each of them says.
-use Rattle.std.specs.Prelude.{◌≡◌, ℕ, zero, suc, ◌⊎◌, ◌<◌, List, [], ◌∷◌}
-use Rattle.std.specs.Prelude.{◌++◌, length, map, codes, Option, Some, None}
+use Rattle.std.specs.Prelude.{◌≡◌, ℕ, zero, suc, ◌⊎◌, ◌<◌, List, [], ◌∷◌, ◌++◌, length, map, codes}
+use Rattle.std.specs.Prelude.{Option, Some, None}
 use Rattle.gf_fraction.specs.Ratio.{Ratio}
 use Rattle.gf_fraction.specs.NumberSpelling.{IsNumber}
 use Rattle.gf_token.specs.Token.{Token}
@@ -8,8 +8,8 @@ use Rattle.gf_token.specs.Token.Token.{Text, Bare}
 use Rattle.gf_token.specs.Index.{IsIndex}
 use Rattle.gf_token.specs.Grammar.{Each, braced, IsComment, IsPayoffInBraces}
 use Rattle.gf_tree.specs.PrefixOrder.{flatten}
-use Rattle.gf_tree.specs.Description.{Action, InformationSet, Outcome, SetKey}
 use Rattle.gf_tree.specs.FileTree.{Use, FileNode, FileTree}
+use Rattle.gf_tree.specs.Description.{Action, InformationSet, Outcome, SetKey}
 
 -- an index above 0
 abbrev pub IsPositive : List ℕ → ℕ → Type 0
@@ -83,5 +83,4 @@ pub record Says (title note : List ℕ) (players : List (List ℕ)) (said : List
 
 -- the nodes are those of a tree in prefix order
 abbrev pub Sentence : List Token → FileTree → Type 0
-Sentence tokens f =
-    Says f.title f.comment f.players (map (λ e. e.node) (flatten f.tree)) tokens
+Sentence tokens f = Says f.title f.comment f.players (map (λ e. e.node) (flatten f.tree)) tokens

@@ -59,14 +59,12 @@ pub data IsInNode (f : FileFront) : Type 0 where
       → IsNewOutcome f.nodes number → length payoffs < length f.players → IsInNode f
   KnownPayoff : (number : ℕ) (payoffs : List Ratio) (outcome : Outcome) (p : Ratio)
       (others : List Ratio) → ToPayoff f.front number payoffs
-      → KnowsOutcome f.nodes number outcome → outcome.payoffs ≡ payoffs ++ p ∷ others
-      → IsInNode f
+      → KnowsOutcome f.nodes number outcome → outcome.payoffs ≡ payoffs ++ p ∷ others → IsInNode f
   AfterNewPayoff : (number : ℕ) (payoffs : List Ratio) → BehindPayoff f.front number payoffs
       → IsNewOutcome f.nodes number → length payoffs < length f.players → IsInNode f
   AfterKnownPayoff : (number : ℕ) (payoffs : List Ratio) (outcome : Outcome) (p : Ratio)
       (others : List Ratio) → BehindPayoff f.front number payoffs
-      → KnowsOutcome f.nodes number outcome → outcome.payoffs ≡ payoffs ++ p ∷ others
-      → IsInNode f
+      → KnowsOutcome f.nodes number outcome → outcome.payoffs ≡ payoffs ++ p ∷ others → IsInNode f
   AfterLastPayoff : (number : ℕ) (payoffs : List Ratio) → BehindPayoff f.front number payoffs
       → length payoffs ≡ length f.players → IsInNode f
   NoPayoff : (number : ℕ) (payoffs : List Ratio) → ToPayoff f.front number payoffs
@@ -74,5 +72,4 @@ pub data IsInNode (f : FileFront) : Type 0 where
   AfterNode : BehindNode f.front → IsInNode f
 
 abbrev pub IsBeforeRow : List Token → Type 0
-IsBeforeRow before =
-    IsInHeading before ⊎ ((f : FileFront) × (f.before ≡ before) × IsInNode f)
+IsBeforeRow before = IsInHeading before ⊎ ((f : FileFront) × (f.before ≡ before) × IsInNode f)

@@ -4,9 +4,9 @@ use Rattle.std.specs.List.{AllByRecursion}
 use Rattle.gf_fraction.specs.Ratio.{IsFraction}
 use Rattle.gf_token.specs.LabelSpelling.{IsLabel}
 use Rattle.gf_tree.specs.PrefixOrder.{flatten}
-use Rattle.gf_tree.specs.Description.{Action, SetKey, InformationSet, Outcome}
 use Rattle.gf_tree.specs.FiniteMap.{Described}
 use Rattle.gf_tree.specs.Game.{Game}
+use Rattle.gf_tree.specs.Description.{Action, SetKey, InformationSet, Outcome}
 
 abbrev pub IsSpellableAction : Action → Type 0
 IsSpellableAction a = IsLabel a.label × MatchOption a.probability ⊤ IsFraction

@@ -12,7 +12,7 @@ ghost use Rattle.gf_tree.specs.PrefixOrder.{Fills, flatten};
 ghost use Rattle.gf_tree.specs.Description.{set_of};
 ghost use Rattle.gf_tree.specs.FirstUse.{outcome_numbers, player_keys};
 ghost use Rattle.gf_tree.specs.Game.{IsGame, outcome_at, set_at};
-ghost use Rattle.gf_tree.specs.inner.GameParts.{game_with};
+ghost use Rattle.gf_tree.specs.inner.GameParts.{IsKeptAt, game_with};
 ghost use Rattle.gf_tree.specs.Description.{outcome_with, set_with};
 ghost use Rattle.gf_tree.specs.KeptNodes.{AreAmong, entries_with};
 ghost use Rattle.gf_tree.specs.Movers.{IsMover};
@@ -245,12 +245,21 @@ impl<'a> Game<'a> {
         self.nodes.len()
     }
 
+    /// The node that is kept at this place.
+    fn kept(&self, at: usize) -> Stored<'a>
+        requires { at < length (subtrees self.now.tree) }
+        ensures kept { IsKeptAt self.now at result }
+        ensures is_game { IsGame self.now }
+    {
+        self.nodes[at]
+    }
+
     /// The node at this place, from 0, in prefix order.
     pub(crate) fn node(&self, at: usize) -> Node<'a>
         requires { at < length (subtrees self.now.tree) }
         ensures { node_of result ≡ root_node (subtree_at self.now.tree at) }
     {
-        let node = self.nodes[at];
+        let node = self.kept(at);
         Node {
             name: node.name,
             step: step(&self.sets, node.set),
@@ -263,7 +272,7 @@ impl<'a> Game<'a> {
         requires { at < length (subtrees self.now.tree) }
         ensures { result ≡ length (child_trees (subtree_at self.now.tree at)) }
     {
-        child_count(&self.sets, self.nodes[at].set)
+        child_count(&self.sets, self.kept(at).set)
     }
 
     /// The place of a child of the node at this place, by its own place, from 0, among the
@@ -300,7 +309,7 @@ impl<'a> Game<'a> {
         ensures mover { IsMover self.now (root_node (subtree_at self.now.tree at)).set result }
         ensures is_game { IsGame self.now }
     {
-        let set = self.nodes[at].set;
+        let set = self.kept(at).set;
         if set == 0 {
             return None;
         }
@@ -317,7 +326,7 @@ impl<'a> Game<'a> {
             (λ key. option_map (λ set. set.actions) (set_at self.now key)
             ≡ Some (actions_of result.now)) }
     {
-        let set = self.nodes[at].set;
+        let set = self.kept(at).set;
         if set == 0 {
             return &[];
         }
@@ -331,6 +340,6 @@ impl<'a> Game<'a> {
         ensures { result ≡ position_among (outcome_numbers self.now)
             (root_node (subtree_at self.now.tree at)).outcome }
     {
-        self.nodes[at].outcome
+        self.kept(at).outcome
     }
 }

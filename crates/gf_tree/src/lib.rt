@@ -1,6 +1,6 @@
 //! Gambit extensive files: the trees that they say, and the games that they mean.
 //!
-//! The tests of these calls are in gamefile: a crate with tests is proved a second time for them.
+//! The tests of these calls are in gf_tests: a crate with tests is proved a second time for them.
 #![tactic(auto)]
 
 mod game;

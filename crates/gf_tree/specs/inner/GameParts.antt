@@ -1,13 +1,14 @@
 -- A game as it is kept.
 use Rattle.std.specs.Prelude.{◌≡◌, ℕ, List, length, map}
 use Rattle.gf_tree.specs.PrefixOrder.{Fills}
-use Rattle.gf_tree.specs.Description.{SetKey, InformationSet, Outcome}
 use Rattle.gf_tree.specs.FiniteMap.{Described}
-use Rattle.gf_tree.specs.Game.{Game, IsGame}
 use Rattle.gf_tree.specs.Spellable.{IsSpellable}
-use Rattle.gf_tree.specs.Subtrees.{subtree_sizes}
-use Rattle.gf_tree.specs.KeptNodes.{Kept, AreAmong, entries_with, kept_of, sizes_of, tree_with}
 use Rattle.gf_tree.specs.declared.game.kept.Stored.{Stored}
+use Rattle.gf_tree.specs.Game.{Game, IsGame}
+use Rattle.gf_tree.specs.Subtrees.{child_trees, root_node, subtree_at, subtree_sizes}
+use Rattle.gf_tree.specs.Description.{SetKey, InformationSet, Outcome}
+use Rattle.gf_tree.specs.KeptNodes.{Kept, AreAmong, IsAmong, child_count, entries_with, kept_of}
+use Rattle.gf_tree.specs.KeptNodes.{node_with, sizes_of, tree_with}
 
 -- the game of these parts
 abbrev pub game_with
@@ -48,3 +49,9 @@ pub record IsHeld
   pub nodes_are : AreNodes sets outcomes nodes
   pub is_game : IsGame (game_with title comment players sets outcomes (map kept_of nodes))
   pub spellable : IsSpellable (game_with title comment players sets outcomes (map kept_of nodes))
+
+-- The node that is kept at a place of the tree.
+pub record IsKeptAt (g : Game) (at : ℕ) (n : Stored) : Type 0 where
+  pub node : root_node (subtree_at g.tree at) ≡ node_with g.sets g.outcomes (kept_of n)
+  pub children : length (child_trees (subtree_at g.tree at)) ≡ child_count g.sets n.set
+  pub placed : IsAmong (length g.sets) (length g.outcomes) (kept_of n)

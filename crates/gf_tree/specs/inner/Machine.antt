@@ -1,29 +1,29 @@
 -- The reader of extensive files as a machine: one token at a time. Sentence and Consistent say what
 -- it means; no public contract cites this file.
-use Rattle.std.specs.Prelude.{ℕ, zero, suc, ◌+◌, ◌-◌, ◌==◌, ◌||◌, Bool, false}
-use Rattle.std.specs.Prelude.{List, [], ◌∷◌, ◌++◌, length, codes, Option, Some, None}
-use Rattle.std.specs.Prelude.{Result, Ok, Err, nat_eq, nat_le, pos, if◌then◌else◌}
+use Rattle.std.specs.Prelude.{ℕ, zero, suc, ◌+◌, ◌-◌, ◌==◌, ◌||◌, Bool, false, List, [], ◌∷◌, ◌++◌}
+use Rattle.std.specs.Prelude.{length, codes, Option, Some, None, Result, Ok, Err, nat_eq, nat_le}
+use Rattle.std.specs.Prelude.{pos, if◌then◌else◌}
 use Rattle.std.specs.Cmp.Lexicographic.{pointwise}
 use Rattle.gf_fraction.specs.Ratio.{Ratio, whole}
 use Rattle.gf_fraction.specs.Computed.{number_of}
 use Rattle.gf_fraction.specs.declared.fraction.NumberFault.{NumberFault}
 use Rattle.gf_token.specs.Token.{Token, Lexeme}
-use Rattle.gf_token.specs.Token.Token.{Opening, Closing, Comma, Text, Bare}
-use Rattle.gf_token.specs.Next.{is_opening, is_closing, is_comma, is_text_token}
-use Rattle.gf_token.specs.Next.{is_bare_token, is_broken}
+use Rattle.gf_token.specs.Next.{is_broken, is_opening, is_closing, is_comma, is_text_token}
+use Rattle.gf_token.specs.Next.{is_bare_token}
 use Rattle.gf_token.specs.NumberWhy.{why_of}
 use Rattle.gf_token.specs.Indices.{count_of, index_of}
 use Rattle.gf_token.specs.declared.fault.Fault.{Fault}
-use Rattle.gf_token.specs.declared.fault.What.TheVariants as what
+use Rattle.gf_token.specs.Token.Token.{Opening, Closing, Comma, Text, Bare}
 use Rattle.gf_token.specs.declared.fault.Why.{Why}
-use Rattle.gf_token.specs.declared.fault.Why.TheVariants.{Expected, Unterminated, BadIndex}
-use Rattle.gf_token.specs.declared.fault.Why.TheVariants.{UnknownPlayer, NotDescribed}
-use Rattle.gf_token.specs.declared.fault.Why.TheVariants.{Mismatch, SumBelowOne, NoEntry}
+use Rattle.gf_token.specs.declared.fault.Why.TheVariants.{SumBelowOne, NoEntry, Expected}
+use Rattle.gf_token.specs.declared.fault.Why.TheVariants.{Unterminated, BadIndex, UnknownPlayer}
+use Rattle.gf_token.specs.declared.fault.Why.TheVariants.{NotDescribed, Mismatch}
 use Rattle.gf_tree.specs.Description.{Action, InformationSet, Outcome, SetKey, same_set, set_of}
 use Rattle.gf_tree.specs.FiniteMap.{Described, description_at}
 use Rattle.gf_tree.specs.Game.{Node}
 use Rattle.gf_tree.specs.PrefixOrder.{Entry}
 use Rattle.gf_tree.specs.inner.Probability.{Share, is_one, same_ratio, share_of}
+use Rattle.gf_token.specs.declared.fault.What.TheVariants as what
 
 -- What was read: the heading; the nodes in prefix order, and how many are still due; the sets and
 -- the outcomes that are known, in order of first use.
@@ -255,8 +255,7 @@ with_action set label p =
 
 -- an action's label, followed by a probability if chance moves
 abbrev pub new_label : Content → List ℕ → ℕ → ℕ → InformationSet → Ratio → List ℕ → State
-new_label c name zero n set sum label =
-    at (NewProbability name (set_of zero n) set sum label) c
+new_label c name zero n set sum label = at (NewProbability name (set_of zero n) set sum label) c
 new_label c name (suc player) n set sum label =
     at (NewAction name (set_of (suc player) n) (with_action set label None) sum) c
 

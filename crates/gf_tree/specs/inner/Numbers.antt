@@ -3,9 +3,9 @@ use Rattle.std.specs.Prelude.{ℕ, ◌+◌, ◌<◌, ◌^◌, List, [], ◌∷�
 use Rattle.std.specs.Global.{Box}
 use Rattle.indexmap.specs.IndexMap.{IndexMap}
 use Rattle.gf_tree.specs.declared.numbers.Held.{Held}
-use Rattle.gf_tree.specs.declared.numbers.Held.TheVariants.{Nothing, One, Many}
 use Rattle.gf_tree.specs.declared.numbers.Index.{Index}
 use Rattle.gf_tree.specs.declared.numbers.seeded.Seeded.{Seeded}
+use Rattle.gf_tree.specs.declared.numbers.Held.TheVariants.{Nothing, One, Many}
 use Rattle.gf_tree.specs.inner.SmallNumbers.{placed_pairs}
 
 abbrev pub entries_of : Option (Box (IndexMap ℕ ℕ Seeded)) → List (ℕ × ℕ)

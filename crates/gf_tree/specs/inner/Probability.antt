@@ -1,14 +1,14 @@
 -- Probabilities and their sums, computed, for the machine of the reader.
-use Rattle.std.specs.Prelude.{ℕ, Bool, ◌&&◌, ◌==◌, List, Option, Some, None}
-use Rattle.std.specs.Prelude.{Result, Ok, Err, int_lt, pos, if◌then◌else◌}
+use Rattle.std.specs.Prelude.{ℕ, Bool, ◌&&◌, ◌==◌, List, Option, Some, None, Result, Ok, Err}
+use Rattle.std.specs.Prelude.{int_lt, pos, if◌then◌else◌}
 use Rattle.std.specs.Ordering.{int_eq}
 use Rattle.gf_fraction.specs.Ratio.{Ratio}
-use Rattle.gf_fraction.specs.Computed.{number_of, sum_of}
 use Rattle.gf_fraction.specs.declared.fraction.NumberFault.{NumberFault}
+use Rattle.gf_fraction.specs.Computed.{number_of, sum_of}
 use Rattle.gf_token.specs.NumberWhy.{why_of}
 use Rattle.gf_token.specs.declared.fault.Why.{Why}
-use Rattle.gf_token.specs.declared.fault.Why.TheVariants.{NegativeProbability}
-use Rattle.gf_token.specs.declared.fault.Why.TheVariants.{SumAboveOne, SumOverflow}
+use Rattle.gf_token.specs.declared.fault.Why.TheVariants.{SumOverflow, NegativeProbability}
+use Rattle.gf_token.specs.declared.fault.Why.TheVariants.{SumAboveOne}
 
 abbrev pub is_one : Ratio → Bool
 is_one r = int_eq r.num (pos 1) && r.den == 1

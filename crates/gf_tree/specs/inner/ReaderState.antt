@@ -1,28 +1,27 @@
 -- What a reader stands for, regardless of where it is in memory. It keeps nothing of its nodes: it
 -- stands for a machine that begins where the reader is, and has read none.
-use Rattle.std.specs.Prelude.{◌≡◌, ◌<◌, ◌^◌, ◌+◌, ◌*◌, ◌++◌, ℕ, List, max}
-use Rattle.std.specs.Prelude.{[], ◌∷◌, length, map, option_map, MatchResult, Result, Ok, Err}
+use Rattle.std.specs.Prelude.{◌≡◌, ◌<◌, ◌≤◌, ◌^◌, ◌+◌, ◌*◌, ◌++◌, ℕ, List, max, [], ◌∷◌, length}
+use Rattle.std.specs.Prelude.{map, option_map, MatchResult, Result, Ok, Err}
 use Rattle.gf_token.specs.Label.{label_of}
 use Rattle.gf_token.specs.Positions.{at_position}
 use Rattle.gf_token.specs.Remaining.{IsPlaceIn, Remaining}
+use Rattle.gf_token.specs.declared.token.TextToken.{TextToken}
 use Rattle.gf_token.specs.Token.{lexeme}
 use Rattle.gf_token.specs.Token.Token.{Text}
 use Rattle.gf_token.specs.declared.fault.Fault.{Fault}
 use Rattle.gf_token.specs.declared.fault.Span.{Span}
 use Rattle.gf_token.specs.declared.fault.Why.TheVariants.{Memory}
-use Rattle.gf_token.specs.declared.token.TextToken.{TextToken}
 use Rattle.gf_tree.specs.Description.{InformationSet, SetKey}
 use Rattle.gf_tree.specs.FiniteMap.{Described}
 use Rattle.gf_tree.specs.Game.{Node}
-use Rattle.gf_tree.specs.KeptNodes.{AreAmong, IsAmong, Kept, child_count}
-use Rattle.gf_tree.specs.KeptNodes.{entries_with, entry_with}
+use Rattle.gf_tree.specs.PrefixOrder.{Entry}
+use Rattle.gf_tree.specs.Told.{used_sets_from, Heading, Told, heading_in, told_from, told_node}
+use Rattle.gf_tree.specs.Told.{used_outcomes_from}
+use Rattle.gf_tree.specs.KeptNodes.{AreAmong, IsAmong, Kept, child_count, entries_with, entry_with}
 use Rattle.gf_tree.specs.inner.Machine.{Begun, Content, Position, State, run, with_node}
 use Rattle.gf_tree.specs.inner.Machine.Position.{NodeDue}
 use Rattle.gf_tree.specs.inner.Passed.{HasPassed}
-use Rattle.gf_tree.specs.PrefixOrder.{Entry}
 use Rattle.gf_tree.specs.inner.ReadGame.{game_of}
-use Rattle.gf_tree.specs.Told.{Heading, Told, heading_in, told_from, told_node}
-use Rattle.gf_tree.specs.Told.{used_outcomes_from, used_sets_from}
 use Rattle.gf_tree.specs.declared.reader.Reader.{Reader}
 
 abbrev pub content_of : Reader → Content
@@ -67,6 +66,10 @@ begun_with sets name position = record {
   set = option_map (λ s. s.key) (at_position sets position);
   children = child_count sets position;
 }
+
+-- no more tokens are to come than before
+abbrev pub IsNoLonger : Reader → Reader → Type 0
+IsNoLonger old new = length new.tokens.ahead ≤ length old.tokens.ahead
 
 -- if there were this many more tokens to come, all of them could be nodes with as many children as
 -- a set can have actions
@@ -169,8 +172,7 @@ Goes before (Err f) after = Fails f before
 
 -- the same for a call that tells a node
 abbrev pub GoesTelling : {A T : Type 0} → (T → T → Heading → List Told → Type 0) → Result A Fault
-    → Answer
-    → Reader → Reader → T → T → Type 0
+    → Answer → Reader → Reader → T → T → Type 0
 GoesTelling holds result before old new from to =
     MatchResult result (λ _. Tells holds before old new from to) (λ f. Fails f before)
 

@@ -1,11 +1,11 @@
 -- Hashers whose start depends on an input.
 use Rattle.std.specs.Prelude.{ℕ, List}
-use Rattle.std.specs.Hash as fed
-use Rattle.std.specs.Hash.DefaultHasher as sip
-use Rattle.std.specs.Hash.FoldHasher as folding
 use Rattle.std.specs.List.{fold}
 use Rattle.std.specs.declared.hash.FoldHasher.{FoldHasher}
 use Rattle.gf_tree.specs.declared.numbers.seeded.Seeded.{Seeded}
+use Rattle.std.specs.Hash as fed
+use Rattle.std.specs.Hash.DefaultHasher as sip
+use Rattle.std.specs.Hash.FoldHasher as folding
 
 -- the fast hasher, fed with the SipHash of the input
 abbrev pub start_for : List ℕ → FoldHasher

@@ -1,15 +1,14 @@
 -- How the information sets that are known are stored.
 use Rattle.std.specs.Prelude.{◌≡◌, ℕ, ◌+◌, ◌<◌, ◌≤◌, ◌==◌, ◌^◌, List, [], ◌∷◌, length, map, take}
-use Rattle.std.specs.Prelude.{drop}
-use Rattle.std.specs.Prelude.{get_or, slice_get, slice_range, Some, if◌then◌else◌}
+use Rattle.std.specs.Prelude.{drop, get_or, slice_get, slice_range, Some, if◌then◌else◌}
 use Rattle.std.specs.List.{filter}
 use Rattle.gf_token.specs.Label.{label_of}
 use Rattle.gf_tree.specs.declared.game.action.Action.{Action as Held}
 use Rattle.gf_tree.specs.declared.game.sets.Entry.{Entry}
 use Rattle.gf_tree.specs.Actions.{actions_of}
-use Rattle.gf_tree.specs.Description.{SetKey, InformationSet, set_of}
 use Rattle.gf_tree.specs.FiniteMap.{Described}
 use Rattle.gf_tree.specs.KnownSets.{KnownSets}
+use Rattle.gf_tree.specs.Description.{SetKey, InformationSet, set_of}
 use Rattle.gf_tree.specs.inner.Stretches.{AreStretches}
 
 -- after its actions

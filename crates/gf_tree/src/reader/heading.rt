@@ -1,10 +1,10 @@
 //! The heading of an extensive file: its format, title and players, and the comment.
 
-ghost use Rattle.std.specs.Prelude.{◌≡◌, ◌≤◌, ◌∷◌, length, IfOk, OnOk};
+ghost use Rattle.std.specs.Prelude.{◌≡◌, ◌∷◌, IfOk, OnOk};
 ghost use Rattle.gf_token.specs.Remaining.{StandsBefore};
 ghost use Rattle.gf_tree.specs.inner.Machine.Position.{AfterPlayers, BeforePlayers, Format};
 ghost use Rattle.gf_tree.specs.inner.Machine.Position.{NodeDue};
-ghost use Rattle.gf_tree.specs.inner.ReaderState.{answer, Goes};
+ghost use Rattle.gf_tree.specs.inner.ReaderState.{answer, Goes, IsNoLonger};
 
 use super::Reader;
 use gf_token::{Fault, Span, What, Why};
@@ -15,8 +15,7 @@ impl<'a> Reader<'a> {
         ensures machine { Goes (answer Format self.old) result (answer BeforePlayers self.new) }
         ensures kept { OnOk result (self.new
             ≡ record self.old { tokens = self.new.tokens; title = self.new.title }) }
-        ensures shorter { OnOk result
-            (length self.new.tokens.ahead ≤ length self.old.tokens.ahead) }
+        ensures shorter { OnOk result (IsNoLonger self.old self.new) }
     {
         self.tokens.word(b"EFG", What::Format)?;
         self.tokens.word(b"2", What::Version)?;
@@ -36,8 +35,7 @@ impl<'a> Reader<'a> {
         ensures kept { OnOk result (self.new
             ≡ record self.old { tokens = self.new.tokens; players = self.new.players }) }
         ensures place { IfOk result (λ brace. StandsBefore self.new.tokens brace) }
-        ensures shorter { OnOk result
-            (length self.new.tokens.ahead ≤ length self.old.tokens.ahead) }
+        ensures shorter { OnOk result (IsNoLonger self.old self.new) }
     {
         let Some(_) = self.tokens.opening() else {
             return Err(self.tokens.refusal(Why::Expected(What::Opening)));
@@ -62,7 +60,7 @@ impl<'a> Reader<'a> {
         ensures kept { self.new
             ≡ record self.old { tokens = self.new.tokens; comment = self.new.comment } }
         ensures place { StandsBefore self.new.tokens result }
-        ensures shorter { length self.new.tokens.ahead ≤ length self.old.tokens.ahead }
+        ensures shorter { IsNoLonger self.old self.new }
     {
         let Some(comment) = self.tokens.text() else {
             return brace;

@@ -1,10 +1,11 @@
 //! The nodes of an extensive file, in prefix order.
 
-ghost use Rattle.std.specs.Prelude.{◌≡◌, ◌<◌, ◌≤◌, ℕ, List, [], Ok, length, OnOk, MatchResult};
+ghost use Rattle.std.specs.Prelude.{◌≡◌, ◌<◌, ℕ, List, [], Ok, length, OnOk, MatchResult};
 ghost use Rattle.gf_tree.specs.inner.Machine.Position.{ChanceName, NodeDue, PersonalName};
 ghost use Rattle.gf_tree.specs.inner.Machine.Position.{PlayerNumber, SetNumber, TerminalName};
 ghost use Rattle.gf_tree.specs.inner.ReaderState.{answer, content_of, Fails, Goes, GoesTelling};
-ghost use Rattle.gf_tree.specs.inner.ReaderState.{HasBegunNode, HasReadAll, HasRoom, heading_read};
+ghost use Rattle.gf_tree.specs.inner.ReaderState.{HasBegunNode, HasReadAll, HasRoom, IsNoLonger};
+ghost use Rattle.gf_tree.specs.inner.ReaderState.{heading_read};
 
 use super::Reader;
 use crate::reader::readings;
@@ -19,8 +20,7 @@ impl<'a> Reader<'a> {
         ensures machine { GoesTelling R.holds result (answer ChanceName self.old) self.old self.new
             to.old to.new }
         ensures room { OnOk result (HasRoom 0 self.new) }
-        ensures shorter { OnOk result
-            (length self.new.tokens.ahead ≤ length self.old.tokens.ahead) }
+        ensures shorter { OnOk result (IsNoLonger self.old self.new) }
     {
         let Some(name) = self.tokens.text() else {
             return Err(self.tokens.refusal(Why::Expected(What::Text)));
@@ -37,8 +37,7 @@ impl<'a> Reader<'a> {
             answer (PlayerNumber node) self.old ≡ answer (SetNumber node player) self.new)
             (λ f. Fails f (answer (PlayerNumber node) self.old)) }
         ensures kept { OnOk result (self.new ≡ record self.old { tokens = self.new.tokens }) }
-        ensures shorter { OnOk result
-            (length self.new.tokens.ahead ≤ length self.old.tokens.ahead) }
+        ensures shorter { OnOk result (IsNoLonger self.old self.new) }
     {
         let Some((word, index)) = self.tokens.index() else {
             return Err(self.tokens.refusal(Why::Expected(What::Index)));
@@ -60,8 +59,7 @@ impl<'a> Reader<'a> {
             self.new
             to.old to.new }
         ensures room { OnOk result (HasRoom 0 self.new) }
-        ensures shorter { OnOk result
-            (length self.new.tokens.ahead ≤ length self.old.tokens.ahead) }
+        ensures shorter { OnOk result (IsNoLonger self.old self.new) }
     {
         let Some(name) = self.tokens.text() else {
             return Err(self.tokens.refusal(Why::Expected(What::Text)));
@@ -79,8 +77,7 @@ impl<'a> Reader<'a> {
             self.new
             to.old to.new }
         ensures room { OnOk result (HasRoom 0 self.new) }
-        ensures shorter { OnOk result
-            (length self.new.tokens.ahead ≤ length self.old.tokens.ahead) }
+        ensures shorter { OnOk result (IsNoLonger self.old self.new) }
     {
         let Some(name) = self.tokens.text() else {
             return Err(self.tokens.refusal(Why::Expected(What::Text)));

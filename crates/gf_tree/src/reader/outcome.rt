@@ -1,6 +1,6 @@
 //! The outcome of a node, which completes the node.
 
-ghost use Rattle.std.specs.Prelude.{◌≡◌, ◌<◌, ◌≤◌, suc, ℕ, List, Some, None, length};
+ghost use Rattle.std.specs.Prelude.{◌≡◌, ◌<◌, suc, ℕ, List, Some, None, length};
 ghost use Rattle.std.specs.Prelude.{map, nat_eq, option_map, position, slice_get};
 ghost use Rattle.std.specs.Prelude.{IfNone, IfOk, IfSome, OnOk, MatchOption, ⊤};
 ghost use Rattle.gf_token.specs.Label.{label_of};
@@ -16,7 +16,7 @@ ghost use Rattle.gf_tree.specs.inner.Machine.Position.{KnownOutcomeName, NewOutc
 ghost use Rattle.gf_tree.specs.inner.Machine.Position.{NewPayoff, NodeDue, OutcomeNumber};
 ghost use Rattle.gf_tree.specs.inner.ReaderState.{answer, begun_with, content_of};
 ghost use Rattle.gf_tree.specs.inner.ReaderState.{Goes, GoesTelling, Grows, HasBegunNode, HasRoom};
-ghost use Rattle.gf_tree.specs.inner.ReaderState.{heard_from};
+ghost use Rattle.gf_tree.specs.inner.ReaderState.{IsNoLonger, heard_from};
 
 use super::Reader;
 use crate::game::outcomes::Outcomes;
@@ -67,8 +67,7 @@ impl<'a> Reader<'a> {
           tokens = self.new.tokens;
           outcomes = record self.old.outcomes { pending = self.new.outcomes.pending };
         }) }
-        ensures shorter { OnOk result
-            (length self.new.tokens.ahead ≤ length self.old.tokens.ahead) }
+        ensures shorter { OnOk result (IsNoLonger self.old self.new) }
     {
         let Some((word, number)) = self.tokens.number() else {
             return Err(self.tokens.refusal(Why::Expected(What::Number)));
@@ -103,8 +102,7 @@ impl<'a> Reader<'a> {
             number (outcome_with (label_of name.entry) self.old.outcomes.pending) 0) self.old)
             self.old self.new to.old to.new }
         ensures room { OnOk result (HasRoom 0 self.new) }
-        ensures shorter { OnOk result
-            (length self.new.tokens.ahead ≤ length self.old.tokens.ahead) }
+        ensures shorter { OnOk result (IsNoLonger self.old self.new) }
     {
         let Some(brace) = self.tokens.closing() else {
             return Err(self.tokens.refusal(Why::Expected(What::Closing)));
@@ -135,8 +133,7 @@ impl<'a> Reader<'a> {
             (begun_with self.old.sets.known (label_of node.entry) (position_of set)) number)
             self.old) self.old self.new to.old to.new }
         ensures room { OnOk result (HasRoom 0 self.new) }
-        ensures shorter { OnOk result
-            (length self.new.tokens.ahead ≤ length self.old.tokens.ahead) }
+        ensures shorter { OnOk result (IsNoLonger self.old self.new) }
     {
         let Some(name) = self.tokens.text() else {
             return Err(self.tokens.refusal(Why::NotDescribed));
@@ -161,8 +158,7 @@ impl<'a> Reader<'a> {
             ≡ Some outcome
             → Goes (answer (KnownOutcomeName outcome) self.old) result (answer NodeDue self.new) }
         ensures kept { self.new ≡ record self.old { tokens = self.new.tokens } }
-        ensures shorter { OnOk result
-            (length self.new.tokens.ahead ≤ length self.old.tokens.ahead) }
+        ensures shorter { OnOk result (IsNoLonger self.old self.new) }
     {
         let (name, payoffs) = (self.outcomes.name(place), self.outcomes.payoffs(place));
         same_outcome(&mut self.tokens, name, payoffs)
@@ -189,8 +185,7 @@ impl<'a> Reader<'a> {
             (description_at nat_eq self.old.outcomes.known number)) self.old.tokens)
             self.old self.new to.old to.new }
         ensures room { OnOk result (HasRoom 0 self.new) }
-        ensures shorter { OnOk result
-            (length self.new.tokens.ahead ≤ length self.old.tokens.ahead) }
+        ensures shorter { OnOk result (IsNoLonger self.old self.new) }
     {
         let Some(place) = found(&self.outcomes, number) else {
             self.new_outcome(node, set, number, to)?;
@@ -217,8 +212,7 @@ impl<'a> Reader<'a> {
             (begun_with self.old.sets.known (label_of node.entry) (position_of set))) self.old)
             self.old self.new to.old to.new }
         ensures room { OnOk result (HasRoom 0 self.new) }
-        ensures shorter { OnOk result
-            (length self.new.tokens.ahead ≤ length self.old.tokens.ahead) }
+        ensures shorter { OnOk result (IsNoLonger self.old self.new) }
     {
         let Some((word, index)) = self.tokens.index() else {
             return Err(self.tokens.refusal(Why::Expected(What::Index)));

@@ -1,6 +1,6 @@
 //! The information set of a node.
 
-ghost use Rattle.std.specs.Prelude.{◌≡◌, ◌<◌, ◌≤◌, ◌∷◌, suc, false, ℕ, List, None, map};
+ghost use Rattle.std.specs.Prelude.{◌≡◌, ◌<◌, ◌∷◌, suc, false, ℕ, List, None, map};
 ghost use Rattle.std.specs.Prelude.{length, position, IfOk, IfNone, IfSome, OnOk, MatchResult};
 ghost use Rattle.gf_fraction.specs.Ratio.{IsFraction};
 ghost use Rattle.gf_token.specs.Label.{label_of};
@@ -16,7 +16,7 @@ ghost use Rattle.gf_tree.specs.inner.Machine.{begun, behind_set, with_set};
 ghost use Rattle.gf_tree.specs.inner.Machine.Position.{NewAction, NewProbability};
 ghost use Rattle.gf_tree.specs.inner.Machine.Position.{NewSetName, OutcomeNumber, SetNumber};
 ghost use Rattle.gf_tree.specs.inner.ReaderState.{answer, begun_with, with_text, content_of};
-ghost use Rattle.gf_tree.specs.inner.ReaderState.{Fails, Grows, heard};
+ghost use Rattle.gf_tree.specs.inner.ReaderState.{Fails, Grows, IsNoLonger, heard};
 
 use super::Reader;
 use crate::game::action::Action;
@@ -77,8 +77,7 @@ impl<'a> Reader<'a> {
           tokens = self.new.tokens;
           sets = record self.old.sets { pending = self.new.sets.pending };
         }) }
-        ensures shorter { OnOk result
-            (length self.new.tokens.ahead ≤ length self.old.tokens.ahead) }
+        ensures shorter { OnOk result (IsNoLonger self.old self.new) }
     {
         let Some(word) = self.tokens.bare() else {
             return Err(self.tokens.refusal(Why::Expected(What::Number)));
@@ -115,8 +114,7 @@ impl<'a> Reader<'a> {
           tokens = self.new.tokens;
           sets = record self.old.sets { pending = self.new.sets.pending };
         }) }
-        ensures shorter { OnOk result
-            (length self.new.tokens.ahead ≤ length self.old.tokens.ahead) }
+        ensures shorter { OnOk result (IsNoLonger self.old self.new) }
     {
         if player == 0 {
             return self.probability(label.label, sum);
@@ -170,8 +168,7 @@ impl<'a> Reader<'a> {
         }) }
         ensures grows { OnOk result (Grows self.old.sets.known self.new.sets.known) }
         ensures place { IfOk result (λ place. place < length self.new.sets.known) }
-        ensures shorter { OnOk result
-            (length self.new.tokens.ahead ≤ length self.old.tokens.ahead) }
+        ensures shorter { OnOk result (IsNoLonger self.old self.new) }
     {
         let Some(brace) = self.tokens.closing() else {
             return Err(self.tokens.refusal(Why::Expected(What::Text)));
@@ -204,8 +201,7 @@ impl<'a> Reader<'a> {
         }) }
         ensures grows { OnOk result (Grows self.old.sets.known self.new.sets.known) }
         ensures place { IfOk result (λ place. place < length self.new.sets.known) }
-        ensures shorter { OnOk result
-            (length self.new.tokens.ahead ≤ length self.old.tokens.ahead) }
+        ensures shorter { OnOk result (IsNoLonger self.old self.new) }
     {
         let Some(name) = self.tokens.text() else {
             return Err(self.tokens.refusal(Why::NotDescribed));
@@ -238,8 +234,7 @@ impl<'a> Reader<'a> {
         }) }
         ensures grows { OnOk result (Grows self.old.sets.known self.new.sets.known) }
         ensures place { IfOk result (λ place. place < length self.new.sets.known) }
-        ensures shorter { OnOk result
-            (length self.new.tokens.ahead ≤ length self.old.tokens.ahead) }
+        ensures shorter { OnOk result (IsNoLonger self.old self.new) }
     {
         let place = match described(&self.sets, player, number) {
             Some(set) => {
@@ -269,8 +264,7 @@ impl<'a> Reader<'a> {
         }) }
         ensures grows { OnOk result (Grows self.old.sets.known self.new.sets.known) }
         ensures place { IfOk result (λ place. place < length self.new.sets.known) }
-        ensures shorter { OnOk result
-            (length self.new.tokens.ahead ≤ length self.old.tokens.ahead) }
+        ensures shorter { OnOk result (IsNoLonger self.old self.new) }
     {
         let Some((word, index)) = self.tokens.index() else {
             return Err(self.tokens.refusal(Why::Expected(What::Index)));

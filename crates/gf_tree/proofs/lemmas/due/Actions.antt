@@ -5,6 +5,7 @@ use Rattle.std.proofs.Common.{subst, ◌∙◌, append-nil, arith, inl, inr}
 use Rattle.std.specs.Prelude.{ℤ, pos, int_lt, ◌<ℤ◌, ◌≤ℤ◌, ◌*ℤ◌, ◌⊎◌, ◌≢◌}
 use Rattle.std.proofs.Math.IntN.{*ℤ_comm}
 use Rattle.std.proofs.lemmas.Int.{ints}
+use Rattle.std.proofs.lemmas.Option.{same_Some}
 use Rattle.gf_fraction.specs.Ratio.{Ratio, IsFraction, whole}
 use Rattle.gf_fraction.specs.Computed.{number_of, sum_of}
 use Rattle.gf_fraction.specs.Fits.{IsSum, SumFits}
@@ -17,41 +18,39 @@ use Rattle.gf_fraction.proofs.WholeNumbers.{whole_fraction}
 use Rattle.gf_token.specs.Token.{Token}
 use Rattle.gf_token.specs.Token.Token.{Closing, Text, Bare}
 use Rattle.gf_token.specs.declared.fault.Why.{Why}
-use Rattle.gf_token.specs.declared.fault.Why.TheVariants.{Mismatch, NegativeProbability}
-use Rattle.gf_token.specs.declared.fault.Why.TheVariants.{SumAboveOne, SumBelowOne}
+use Rattle.gf_token.specs.declared.fault.Why.TheVariants.{SumAboveOne, SumBelowOne, Mismatch}
+use Rattle.gf_token.specs.declared.fault.Why.TheVariants.{NegativeProbability}
 use Rattle.gf_tree.specs.Description.{Action, InformationSet, SetKey, same_set, set_of}
 use Rattle.gf_tree.specs.FiniteMap.{description_at}
+use Rattle.gf_tree.specs.RowPlaces.{FileFront}
 use Rattle.gf_tree.specs.Front.{InActions, IsNewSet, KnowsSet, ToProbability}
 use Rattle.gf_tree.specs.inner.Machine.{Begun, Content, State, at, new_set_ends, same_number}
 use Rattle.gf_tree.specs.inner.Machine.{set_known, shared, step}
-use Rattle.gf_tree.specs.inner.Machine.Position.{NewAction, NewProbability, KnownAction}
-use Rattle.gf_tree.specs.inner.Machine.Position.{KnownProbability}
+use Rattle.gf_tree.specs.inner.Machine.Position.{KnownProbability, NewAction, NewProbability}
+use Rattle.gf_tree.specs.inner.Machine.Position.{KnownAction}
 use Rattle.gf_tree.specs.inner.Probability.{Share, is_one, same_ratio, share_by, share_of}
 use Rattle.gf_tree.specs.inner.Probability.{up_to_one}
 use Rattle.gf_tree.specs.inner.ReadGame.{run_tokens}
 use Rattle.gf_tree.specs.Reason.{GoesOnWith, HasSum, IsWrongBehind}
-use Rattle.gf_tree.specs.RowPlaces.{FileFront}
 use Rattle.gf_tree.specs.Rows.{IsNoNumber, Row, a_new_action, a_new_branch, a_probability}
 use Rattle.gf_tree.specs.Rows.{a_known_action, no_label, this_label, this_number}
-use Rattle.gf_tree.proofs.lemmas.fronts.Cuts.{first_is, others_are}
-use Rattle.gf_tree.proofs.lemmas.due.Answers.{spells_fault}
-use Rattle.gf_tree.proofs.lemmas.due.Nodes.{name_by, stands_in, parts, reads_on}
-use Rattle.gf_tree.proofs.lemmas.due.Rows.{Stands, StandsFor, Answers, Law, stands_by}
-use Rattle.gf_tree.proofs.lemmas.fronts.Codes.{begins_actions, begins_probability}
-use Rattle.gf_tree.proofs.lemmas.fronts.Codes.{known_left}
+use Rattle.gf_tree.proofs.lemmas.fronts.Cuts.{first_is}
 use Rattle.gf_tree.proofs.lemmas.fronts.Lists.{to_probability}
 use Rattle.gf_tree.proofs.lemmas.fronts.Runs.{in_actions}
+use Rattle.gf_tree.proofs.lemmas.due.Answers.{spells_fault}
 use Rattle.gf_tree.proofs.lemmas.stores.ListedSums.{same_sum}
+use Rattle.gf_tree.proofs.lemmas.due.Nodes.{name_by, stands_in, parts, reads_on}
+use Rattle.gf_tree.proofs.lemmas.due.Rows.{Stands, StandsFor, Answers, Law, stands_by}
+use Rattle.gf_tree.proofs.lemmas.fronts.Codes.{begins_actions, begins_probability, known_left}
 use Rattle.gf_tree.proofs.lemmas.runs.Shares.{share_again, share_found}
 use Rattle.gf_tree.proofs.lemmas.runs.Tokens.{ratio_is, ratio_same}
-use Rattle.std.proofs.lemmas.Option.{same_Some}
 use Rattle.gf_tree.proofs.lemmas.Once.{true_or_false, one_ok, ok_or_err, none_or_some, one_some}
+use Rattle.std.proofs.lemmas.List.{append_cancel_left}
 
 -- ---- a new set of a player
 
 player_ends : (c : Content) (name : List ℕ) (player n : ℕ) (set : InformationSet) (sum : Ratio)
-    (actions : List Action)
-    → Answers (a_new_action actions) Closing
+    (actions : List Action) → Answers (a_new_action actions) Closing
     (new_set_ends c name (set_of (suc player) n) set actions sum)
 player_ends c name player n set sum [] = (λ some. omega (arith, some), refl)
 player_ends c name player n set sum (a ∷ actions) = omega arith
@@ -78,8 +77,7 @@ new_action f key set h new some =
 
 -- ---- a new set of chance
 
-ends_at : (s : State) (a : Action) (actions : List Action) (sum : Ratio) (t : Bool)
-    → is_one sum ≡ t
+ends_at : (s : State) (a : Action) (actions : List Action) (sum : Ratio) (t : Bool) → is_one sum ≡ t
     → Answers (a_new_branch (a ∷ actions) sum) Closing (cond t (Ok s) (Err SumBelowOne))
 ends_at s a actions sum true e = (omega arith, ratio_is sum (whole (pos 1)) e)
 ends_at s a actions sum false e = (
@@ -88,8 +86,7 @@ ends_at s a actions sum false e = (
 )
 
 branch_ends : (c : Content) (name : List ℕ) (n : ℕ) (set : InformationSet) (sum : Ratio)
-    (actions : List Action)
-    → Answers (a_new_branch actions sum) Closing
+    (actions : List Action) → Answers (a_new_branch actions sum) Closing
     (new_set_ends c name (set_of 0 n) set actions sum)
 branch_ends c name n set sum [] = (λ h. let some = h.0 in omega (arith, some), inl (refl, refl))
 branch_ends c name n set sum (a ∷ actions) =
@@ -112,8 +109,7 @@ new_branch f n set sum h new has =
       | inl k ↦
           let same = same_sum set sum k.sum has k.have_sum in
           stands_in f s (NewAction k.name key set sum) c (a_new_branch set.actions sum)
-          (λ us. k.answers us
-          ∙ ap (λ (x : Ratio). run_tokens (NewAction k.name key set x) c us) same)
+          (λ us. cc (k.answers us, same))
           (branch_law c k.name n set sum) (λ a. a, refl)
       | inr k ↦ absurd (new k.known ((s.sets key k.known).1 k.is_known))
     ]
@@ -204,8 +200,7 @@ share_answers c name key set label sum b (Err why) fraction e wrong = (
 )
 
 share_law : (c : Content) (name : List ℕ) (key : SetKey) (set : InformationSet) (sum : Ratio)
-    (label : List ℕ) → IsFraction sum
-    → Law (NewProbability name key set sum label) c (a_share sum)
+    (label : List ℕ) → IsFraction sum → Law (NewProbability name key set sum label) c (a_share sum)
 share_law c name key set sum label fraction (Bare b) =
     share_answers c name key set label sum b (share_of sum b) fraction refl
     (wrong_share sum b (number_of b) fraction refl)
@@ -245,9 +240,7 @@ asks_share f n set sum h new has =
             set = set;
             label = k.label;
             fraction = subst IsFraction same k.fraction;
-            answers = λ us. s.answers us ∙ k.answers us
-                ∙ ap (λ (x : Ratio). run_tokens (NewProbability k.name key set x k.label) c us)
-                same;
+            answers = λ us. cc (s.answers us, k.answers us, same);
           }
       | inr k ↦ absurd (new k.known ((s.sets key k.known).1 k.is_known))
     ]
@@ -283,7 +276,7 @@ pub known_action : (f : FileFront) (key : SetKey) (known seen : InformationSet) 
     → Stands f.before (this_label next.label)
 known_action f key known seen next h knows more =
     let l = known_left f.before f.ends key known seen (reads_on f) knows h in
-    let left = others_are seen.actions l.others (next ∷ more.0) (sym l.parts ∙ more.1) in
+    let left = append_cancel_left seen.actions l.others (next ∷ more.0) (sym l.parts ∙ more.1) in
     stands_by f.before (KnownAction l.b (next ∷ more.0)) l.content (this_label next.label) f.begins
     (λ us. l.answers us
     ∙ ap (λ (xs : List Action). run_tokens (KnownAction l.b xs) l.content us) left)
@@ -299,7 +292,7 @@ pub no_action_left : (f : FileFront) (key : SetKey) (known seen : InformationSet
     → Stands f.before no_label
 no_action_left f key known seen h knows same =
     let l = known_left f.before f.ends key known seen (reads_on f) knows h in
-    let left = others_are seen.actions l.others []
+    let left = append_cancel_left seen.actions l.others []
     (sym l.parts ∙ same ∙ sym (append-nil seen.actions)) in
     stands_by f.before (KnownAction l.b []) l.content no_label f.begins
     (λ us. l.answers us
@@ -309,10 +302,8 @@ no_action_left f key known seen h knows same =
 -- ---- a known number
 
 number_at : (p found : Ratio) (b : List ℕ) (s : State) (t : Bool) → number_of b ≡ Ok found
-    → same_ratio found p ≡ t
-    → Answers (this_number p) (Bare b) (cond t (Ok s) (Err Mismatch))
-number_at p found b s true e h =
-    subst (IsNumber b) (ratio_is found p h) (number_is b found e)
+    → same_ratio found p ≡ t → Answers (this_number p) (Bare b) (cond t (Ok s) (Err Mismatch))
+number_at p found b s true e h = subst (IsNumber b) (ratio_is found p h) (number_is b found e)
 number_at p found b s false e h =
     let other : found ≢ p = λ q. true_or_false (same_ratio found p)
     (subst (λ (x : Ratio). same_ratio found x ≡ true) q (ratio_same found)) h in (
@@ -349,7 +340,7 @@ known_share f n known seen next h knows more =
       | inr k ↦
           let same = one_some (description_at same_set c.sets key) k.known known k.is_known
           at_key in
-          let left = others_are seen.actions (k.next ∷ k.others) (next ∷ more.0)
+          let left = append_cancel_left seen.actions (k.next ∷ k.others) (next ∷ more.0)
           (sym k.parts ∙ ap (λ (x : InformationSet). x.actions) same ∙ more.1) in
           let first = first_is k.next next k.others more.0 left in (
             k.p,

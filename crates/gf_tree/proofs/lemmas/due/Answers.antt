@@ -5,12 +5,11 @@ use Rattle.std.proofs.Common.{Ok, Err, refl, sym, subst, arith, None, inl, inr, 
 use Rattle.std.specs.Prelude.{codes, ◌||◌, ◌≢◌}
 use Rattle.std.specs.Cmp.Lexicographic.{pointwise}
 use Rattle.gf_fraction.specs.Computed.{number_of}
-use Rattle.gf_fraction.specs.NumberSpelling.{HasNumberFault, Reads as Spelled}
 use Rattle.gf_fraction.specs.declared.fraction.NumberFault.{NumberFault}
+use Rattle.gf_fraction.specs.NumberSpelling.{HasNumberFault, Reads as Spelled}
 use Rattle.gf_fraction.proofs.ComputedAnswers.{number_is_computed}
 use Rattle.gf_token.specs.Token.Token.{Opening, Closing, Text, Bare, Broken}
 use Rattle.gf_token.specs.declared.fault.What.{What}
-use Rattle.gf_token.specs.declared.fault.What.TheVariants as what
 use Rattle.gf_token.specs.declared.fault.Why.{Why}
 use Rattle.gf_token.specs.declared.fault.Why.TheVariants.{Expected}
 use Rattle.gf_token.specs.Index.{IsIndex}
@@ -18,16 +17,16 @@ use Rattle.gf_token.specs.Indices.{count_of, index_of}
 use Rattle.gf_token.proofs.ReadingIndices.{count_again, index_again}
 use Rattle.gf_tree.specs.inner.Machine.{Content, State, after_node, at, node_letter, personal_node}
 use Rattle.gf_tree.specs.inner.Machine.Position.{Format, Version, Letter, Title, BeforePlayers}
-use Rattle.gf_tree.specs.inner.Machine.Position.{InPlayers}
-use Rattle.gf_tree.specs.inner.Machine.Position.{AfterPlayers, NodeDue, ChanceName, PersonalName}
-use Rattle.gf_tree.specs.inner.Machine.Position.{TerminalName}
-use Rattle.gf_tree.specs.Rows.{a_letter, a_node, a_player_name, a_text}
-use Rattle.gf_tree.specs.Rows.{a_word, an_end, an_opening, or_text}
+use Rattle.gf_tree.specs.inner.Machine.Position.{InPlayers, AfterPlayers, NodeDue, ChanceName}
+use Rattle.gf_tree.specs.inner.Machine.Position.{PersonalName, TerminalName}
+use Rattle.gf_tree.specs.Rows.{a_letter, a_node, a_player_name, a_text, a_word, an_end, an_opening}
+use Rattle.gf_tree.specs.Rows.{or_text}
 use Rattle.gf_tree.specs.Sentence.{IsPositive}
 use Rattle.gf_tree.proofs.lemmas.due.Rows.{Answers, Law}
 use Rattle.gf_tree.proofs.lemmas.runs.Tokens.{bytes_same, same_bytes}
 use Rattle.gf_tree.proofs.lemmas.Once.{true_or_false}
 use Rattle.gf_tree.proofs.lemmas.games.SentencesOnce.{one_letter}
+use Rattle.gf_token.specs.declared.fault.What.TheVariants as what
 
 -- ---- numbers
 
@@ -44,8 +43,7 @@ no_index b e n h = let k = index_again b n h in absurd cc
 -- ---- words
 
 pub other_word : (b word : List ℕ) → pointwise nat_eq b word ≡ false → b ≢ word
-other_word b word e q = true_or_false (pointwise nat_eq b word)
-    (subst (λ (x : List ℕ). pointwise nat_eq b x ≡ true) q (bytes_same b)) e
+other_word b word e q = grind (arith, true_or_false, bytes_same)
 
 word_by : (w : What) (word b : List ℕ) (s : State) (t : Bool) → pointwise nat_eq b word ≡ t
     → Answers (a_word w word) (Bare b) (cond t (Ok s) (Err (Expected w)))
@@ -94,8 +92,7 @@ in_players c _ = (λ a. a, refl)
 -- ---- nodes
 
 personal_by : (c : Content) (players : List (List ℕ)) (b : List ℕ) → c.players ≡ players
-    → b ≡ codes "p"
-    → Answers (a_node (length players)) (Bare b) (personal_node c players)
+    → b ≡ codes "p" → Answers (a_node (length players)) (Bare b) (personal_node c players)
 personal_by c [] b e is = (
   λ a. elim a [
     | inl q ↦ let x : 112 ≡ 99 = one_letter b 112 99 is q in omega (arith, x)

@@ -1,7 +1,7 @@
 -- What is due, by what stands before, has a role: exactly those bare tokens may follow that suit
 -- it. Conversely, what a role names is due if exactly those may follow that suit it.
-use Rattle.std.proofs.Common.{◌≡◌, ℕ, ◌<◌, List, [], ◌∷◌, ◌++◌, length, Option, Some, None}
-use Rattle.std.proofs.Common.{refl, sym, ap, subst, ◌∙◌, arith, inl, inr, nat_eq}
+use Rattle.std.proofs.Common.{◌≡◌, ℕ, ◌<◌, List, [], ◌∷◌, ◌++◌, length, Option, Some, None, refl}
+use Rattle.std.proofs.Common.{sym, ap, subst, ◌∙◌, arith, inl, inr, nat_eq}
 use Rattle.std.specs.Prelude.{codes, ◌⊎◌, pos}
 use Rattle.std.proofs.lemmas.List.{length-append}
 use Rattle.gf_fraction.specs.Ratio.{Ratio, whole}
@@ -10,37 +10,37 @@ use Rattle.gf_token.specs.Token.{Token}
 use Rattle.gf_token.specs.Token.Token.{Text, Bare}
 use Rattle.gf_token.specs.Place.{Begins}
 use Rattle.gf_token.specs.declared.fault.What.{What}
-use Rattle.gf_token.specs.declared.fault.What.TheVariants as what
 use Rattle.gf_token.specs.declared.fault.Why.{Why}
 use Rattle.gf_token.specs.declared.fault.Why.TheVariants.{BadIndex}
 use Rattle.gf_tree.specs.Description.{InformationSet, Outcome, SetKey, same_set, set_of}
 use Rattle.gf_tree.specs.Due.{IsDue, OutcomeIsDue, PayoffIsDue, PlayerIsDue, ProbabilityIsDue}
 use Rattle.gf_tree.specs.Due.{SetIsDue}
-use Rattle.gf_tree.specs.DueRoles.{IsToldByRole, OnlySuitedFollow, Role, Suits, what_of}
 use Rattle.gf_tree.specs.FileTree.{Use}
 use Rattle.gf_tree.specs.FiniteMap.{description_at}
-use Rattle.gf_tree.specs.Front.{BehindSetNumber, EndsInNode, IsExtensiveFile, IsNewOutcome}
-use Rattle.gf_tree.specs.Front.{IsSetKnown, ToOutcomeNumber}
+use Rattle.gf_tree.specs.Front.{IsSetKnown, ToOutcomeNumber, BehindSetNumber, EndsInNode}
+use Rattle.gf_tree.specs.Front.{IsExtensiveFile, IsNewOutcome}
+use Rattle.gf_tree.specs.Sentence.{IsDescription, IsInformationSet}
+use Rattle.gf_tree.specs.DueRoles.{IsToldByRole, OnlySuitedFollow, Role, Suits, what_of}
 use Rattle.gf_tree.specs.RowPlaces.{BehindPayoff, BehindSet, FileFront, ToPayoff}
 use Rattle.gf_tree.specs.Rows.{IsNoNumber, Row, a_letter, a_payoff, a_player, a_probability, a_set}
 use Rattle.gf_tree.specs.Rows.{a_word, an_outcome, or_comma, or_name, this_number}
-use Rattle.gf_tree.specs.Sentence.{IsDescription, IsInformationSet}
 use Rattle.gf_tree.proofs.lemmas.fronts.CutPlaces.{payoff_place}
+use Rattle.gf_tree.proofs.lemmas.fronts.Lists.{to_probability}
 use Rattle.gf_tree.proofs.lemmas.due.Actions.{known_probability, new_probability}
 use Rattle.gf_tree.proofs.lemmas.due.Heading.{format, letter, version}
 use Rattle.gf_tree.proofs.lemmas.due.Nodes.{Parts, known_set, parts, player, set_number_due}
 use Rattle.gf_tree.proofs.lemmas.due.Outcomes.{outcome_number_due}
-use Rattle.gf_tree.proofs.lemmas.due.Payoffs.{after_known_payoff, after_new_payoff, known_payoff}
-use Rattle.gf_tree.proofs.lemmas.due.Payoffs.{new_payoff}
+use Rattle.gf_tree.proofs.lemmas.due.Payoffs.{new_payoff, after_known_payoff, after_new_payoff}
+use Rattle.gf_tree.proofs.lemmas.due.Payoffs.{known_payoff}
 use Rattle.gf_tree.proofs.lemmas.due.Rows.{Stands}
 use Rattle.gf_tree.proofs.lemmas.due.Suited.{node_only, one_name}
 use Rattle.gf_tree.proofs.lemmas.fronts.Codes.{begins_payoffs, begins_probability, known_outcome}
-use Rattle.gf_tree.proofs.lemmas.fronts.Lists.{to_probability}
 use Rattle.gf_tree.proofs.lemmas.fronts.Payoffs.{AtKnownPayoff, in_payoffs}
 use Rattle.gf_tree.proofs.lemmas.stores.ListedSums.{adds_up}
+use Rattle.gf_tree.proofs.lemmas.Once.{none_or_some}
 use Rattle.gf_tree.proofs.lemmas.reasons.Nodes.{told_somewhere}
 use Rattle.gf_tree.proofs.lemmas.reasons.Rows.{IsOfRole, of_row}
-use Rattle.gf_tree.proofs.lemmas.Once.{none_or_some}
+use Rattle.gf_token.specs.declared.fault.What.TheVariants as what
 
 abbrev HasRole : List Token → What → Type 0
 HasRole before w = (r : Role) × (what_of r ≡ w) × OnlySuitedFollow before r

@@ -1,23 +1,22 @@
 -- The rows of the heading of an extensive file.
-use Rattle.std.proofs.Common.{◌≡◌, ℕ, List, [], ◌∷◌, ◌++◌, length, map, Result, Ok, refl, sym}
-use Rattle.std.proofs.Common.{ap, subst, ◌∙◌, append_assoc, append-nil, inl, inr}
+use Rattle.std.proofs.Common.{◌≡◌, ℕ, List, [], ◌∷◌, ◌++◌, length, map, Result, Ok, refl, sym, ap}
+use Rattle.std.proofs.Common.{subst, ◌∙◌, append_assoc, append-nil, inl, inr}
 use Rattle.std.specs.Prelude.{codes, ◌⊎◌}
 use Rattle.gf_token.specs.Token.{Token}
-use Rattle.gf_token.specs.Token.Token.{Opening, Closing, Text, Bare}
-use Rattle.gf_token.specs.declared.fault.What.TheVariants as what
 use Rattle.gf_token.specs.declared.fault.Why.{Why}
+use Rattle.gf_token.specs.Token.Token.{Opening, Closing, Text, Bare}
 use Rattle.gf_tree.specs.inner.Machine.{Content, Position, State, at, nothing, step, with_player}
 use Rattle.gf_tree.specs.inner.Machine.Position.{Format, Version, Letter, Title, BeforePlayers}
 use Rattle.gf_tree.specs.inner.Machine.Position.{InPlayers as Players, AfterPlayers, NodeDue}
 use Rattle.gf_tree.specs.RowPlaces.{BehindComment, BehindPlayers, InPlayers, ToPlayers, ToTitle}
-use Rattle.gf_tree.specs.Rows.{Row, a_letter, a_node, a_player_name, a_text, a_word}
-use Rattle.gf_tree.specs.Rows.{an_opening, or_text}
-use Rattle.gf_tree.proofs.lemmas.due.Answers as laws
+use Rattle.gf_tree.specs.Rows.{Row, a_letter, a_node, a_player_name, a_text, a_word, an_opening}
+use Rattle.gf_tree.specs.Rows.{or_text}
 use Rattle.gf_tree.proofs.lemmas.due.Rows.{Stands, EndLaw, Law, stands_by}
 use Rattle.gf_tree.proofs.lemmas.runs.Heading.{heading}
-use Rattle.gf_tree.proofs.lemmas.runs.Places.{Leads, begins, state_is, then_walk, walk, walk_more}
-use Rattle.gf_tree.proofs.lemmas.runs.Places.{walk_run}
-use Rattle.gf_tree.proofs.lemmas.runs.Places.{walked}
+use Rattle.gf_tree.proofs.lemmas.runs.Places.{walk_run, walked, Leads, begins, state_is, walk}
+use Rattle.gf_tree.proofs.lemmas.runs.Places.{walk_more}
+use Rattle.gf_token.specs.declared.fault.What.TheVariants as what
+use Rattle.gf_tree.proofs.lemmas.due.Answers as laws
 
 stands_led : (before : List Token) (q : Position) (c : Content) (row : Row) → Leads before (at q c)
     → Law q c row → EndLaw q c row → Stands before row
@@ -30,8 +29,7 @@ stands_led before q c row l law end =
 more_leads : (before first : List Token) (t : Token) (s after : State) → Leads first s
     → step s.position s.content t ≡ Ok after → before ≡ first ++ t ∷ [] → Leads before after
 more_leads before first t s after l e parts =
-    subst (λ (ts : List Token). Leads ts after) (sym parts)
-    (walk_more first t Format nothing s after l e)
+    rw parts (walk_more first t Format nothing s after l e)
 
 to_title : (before : List Token) → ToTitle before → Leads before (at Title nothing)
 to_title before h = by h.1
@@ -40,10 +38,8 @@ to_title before h = by h.1
     letters b = Bare (codes "EFG") ∷ Bare (codes "2") ∷ Bare b ∷ []
 
     by : (h.0 ≡ codes "R") ⊎ (h.0 ≡ codes "D") → Leads before (at Title nothing)
-    by (inl e) =
-        subst (λ ts. Leads ts (at Title nothing)) (sym (h.2 ∙ ap letters e)) refl
-    by (inr e) =
-        subst (λ ts. Leads ts (at Title nothing)) (sym (h.2 ∙ ap letters e)) refl
+    by (inl e) = subst (λ ts. Leads ts (at Title nothing)) (sym (h.2 ∙ ap letters e)) refl
+    by (inr e) = subst (λ ts. Leads ts (at Title nothing)) (sym (h.2 ∙ ap letters e)) refl
 
 to_players : (before : List Token) (h : ToPlayers before)
     → Leads before (at BeforePlayers (heading h.1 []))
@@ -55,8 +51,7 @@ walk_both : (ts us : List Token) (q : Position) (c : Content) (s : State) → wa
 walk_both [] us q c s e = ap (λ (x : State). walk x.position x.content us) (state_is (at q c) s e)
 walk_both (t ∷ ts) us q c s e =
     let h = walked (step q c t) (λ x. walk x.position x.content ts) s e in
-    ap (λ o. then_walk o (λ x. walk x.position x.content (ts ++ us))) h.1
-    ∙ walk_both ts us h.0.position h.0.content s h.2
+    cc (h.1, walk_both ts us h.0.position h.0.content s h.2)
 
 abbrev ok_players : List (List ℕ) → Content → Result State Why
 ok_players players c = Ok (at Players (record c { players = players }))
@@ -73,10 +68,8 @@ in_players before players h =
     let c = heading h.1.1 [] in
     let opened = walk_more h.0 Opening Format nothing (at BeforePlayers c) (at Players c)
     (to_players h.0 h.1) refl in
-    subst (λ (ts : List Token). Leads ts (at Players (heading h.1.1 players)))
-    (append_assoc h.0 (Opening ∷ []) (map Text players) ∙ sym h.2)
-    (walk_both (h.0 ++ Opening ∷ []) (map Text players) Format nothing (at Players c) opened
-    ∙ named players c)
+    rw (← append_assoc h.0 (Opening ∷ []) (map Text players) ∙ sym h.2) (walk_both (h.0 ++ Opening ∷
+    []) (map Text players) Format nothing (at Players c) opened ∙ named players c)
 
 behind_players : (before : List Token) (players : List (List ℕ)) (h : BehindPlayers before players)
     → Leads before (at AfterPlayers (heading h.1.1.1 players))

@@ -1,20 +1,20 @@
 -- The rows of a node up to the braces of its set.
-use Rattle.std.proofs.Common.{◌≡◌, ℕ, zero, suc, ◌<◌, Bool, true, false, cond, List, [], ◌∷◌}
-use Rattle.std.proofs.Common.{◌++◌, length, Option, Some, None, Result, Ok, Err, refl, sym, ap}
-use Rattle.std.proofs.Common.{subst, ◌∙◌}
+use Rattle.std.proofs.Common.{◌≡◌, ℕ, zero, suc, ◌<◌, Bool, true, false, cond, List, [], ◌∷◌, ◌++◌}
+use Rattle.std.proofs.Common.{length, Option, Some, None, Result, Ok, Err, refl, sym, ap, ◌∙◌}
 use Rattle.std.proofs.Common.{arith, inl, inr, nat_eq}
 use Rattle.std.specs.Prelude.{codes, nat_le}
 use Rattle.std.specs.Cmp.Lexicographic.{pointwise}
 use Rattle.std.proofs.lemmas.Bool.Decides.{nat_tests}
 use Rattle.gf_token.specs.Token.{Token}
-use Rattle.gf_token.specs.Token.Token.{Opening, Text, Bare}
 use Rattle.gf_token.specs.Indices.{count_of, index_of}
-use Rattle.gf_token.specs.declared.fault.What.TheVariants as what
 use Rattle.gf_token.specs.declared.fault.Why.{Why}
-use Rattle.gf_token.specs.declared.fault.Why.TheVariants.{Expected, Mismatch, UnknownPlayer}
+use Rattle.gf_token.specs.Token.Token.{Opening, Text, Bare}
+use Rattle.gf_token.specs.declared.fault.Why.TheVariants.{Expected, UnknownPlayer}
 use Rattle.gf_token.proofs.ReadingIndices.{count_again, count_is, index_is}
 use Rattle.gf_tree.specs.Description.{InformationSet, SetKey, same_set}
 use Rattle.gf_tree.specs.FiniteMap.{description_at}
+use Rattle.gf_tree.specs.Rows.{or_name, Row, a_first_name, a_player, a_set, a_text, an_opening}
+use Rattle.gf_tree.specs.Rows.{an_outcome}
 use Rattle.gf_tree.specs.Front.{BehindSetNumber, IsNewSet, KnowsSet, ToPlayerNumber, ToSetNumber}
 use Rattle.gf_tree.specs.inner.Machine.{Begun, Content, Position, State, after_node, at, begun}
 use Rattle.gf_tree.specs.inner.Machine.{behind_set, node_letter, outcome_number, personal_node}
@@ -24,20 +24,17 @@ use Rattle.gf_tree.specs.inner.Machine.Position.{PlayerNumber, SetNumber, NewSet
 use Rattle.gf_tree.specs.inner.Machine.Position.{KnownSetName, KnownSetOpening}
 use Rattle.gf_tree.specs.inner.ReadGame.{run_tokens, then_run}
 use Rattle.gf_tree.specs.RowPlaces.{BehindLetter, BehindSetName, FileFront}
-use Rattle.gf_tree.specs.Rows.{Row, a_first_name, a_player, a_set, a_text, an_opening}
-use Rattle.gf_tree.specs.Rows.{an_outcome, or_name}
 use Rattle.gf_tree.proofs.lemmas.due.Answers.{chance_name, no_index, no_positive, other_word}
-use Rattle.gf_tree.proofs.lemmas.due.Answers.{personal_name}
-use Rattle.gf_tree.proofs.lemmas.due.Answers.{terminal_name}
+use Rattle.gf_tree.proofs.lemmas.due.Answers.{personal_name, terminal_name}
 use Rattle.gf_tree.proofs.lemmas.due.Rows.{Stands, Answers, EndLaw, Law, stands_by}
 use Rattle.gf_tree.proofs.lemmas.fronts.Codes.{BeginsBare, ReadsOn, Split, begins_number, begins_on}
-use Rattle.gf_tree.proofs.lemmas.fronts.Codes.{new_is}
-use Rattle.gf_tree.proofs.lemmas.fronts.Codes.{split}
-use Rattle.gf_tree.proofs.lemmas.fronts.Runs.{behind_number, due_is, goes_before, to_number}
-use Rattle.gf_tree.proofs.lemmas.fronts.Runs.{to_player}
+use Rattle.gf_tree.proofs.lemmas.fronts.Codes.{new_is, split}
+use Rattle.gf_tree.proofs.lemmas.fronts.Runs.{to_player, behind_number, due_is, goes_before}
+use Rattle.gf_tree.proofs.lemmas.fronts.Runs.{to_number}
 use Rattle.gf_tree.proofs.lemmas.fronts.Groups.{regroup}
 use Rattle.gf_tree.proofs.lemmas.runs.Places.{is_read}
 use Rattle.gf_tree.proofs.lemmas.runs.Tokens.{run_on, same_bytes, text_again, text_found}
+use Rattle.gf_token.specs.declared.fault.What.TheVariants as what
 
 -- ---- after the front of a node
 
@@ -110,8 +107,7 @@ node_name f h =
 -- ---- the numbers of a player and of a set
 
 player_within : (c : Content) (name b : List ℕ) (n : ℕ) (t : Bool) → count_of b ≡ Some n
-    → nat_le n (length c.players) ≡ t
-    → Answers (a_player (length c.players)) (Bare b)
+    → nat_le n (length c.players) ≡ t → Answers (a_player (length c.players)) (Bare b)
     (cond t (Ok (at (SetNumber name n) c)) (Err UnknownPlayer))
 player_within c name b n true e h =
     let k = count_is b n e in (n, (k.1, k.0), grind (arith, nat_tests, h))
@@ -127,13 +123,10 @@ player_within c name b n false e h =
 
 player_by : (c : Content) (name b : List ℕ) (o : Option ℕ) → count_of b ≡ o
     → Answers (a_player (length c.players)) (Bare b) (player_number c name o)
-player_by c name b None e =
-    (λ a. no_positive b e a.0 a.1, inl (refl, no_positive b e))
-player_by c name b (Some n) e =
-    player_within c name b n (nat_le n (length c.players)) e refl
+player_by c name b None e = (λ a. no_positive b e a.0 a.1, inl (refl, no_positive b e))
+player_by c name b (Some n) e = player_within c name b n (nat_le n (length c.players)) e refl
 
-player_law : (c : Content) (name : List ℕ)
-    → Law (PlayerNumber name) c (a_player (length c.players))
+player_law : (c : Content) (name : List ℕ) → Law (PlayerNumber name) c (a_player (length c.players))
 player_law c name (Bare b) = player_by c name b (count_of b) refl
 player_law c name _ = (λ a. a, refl)
 
@@ -143,9 +136,8 @@ player f h =
     let s = parts f (codes "p", Text h.0 ∷ [], h.1) in
     let c = s.content in
     let k = to_player f.front c h s.goes_on in
-    subst (λ (ps : List (List ℕ)). Stands f.before (a_player (length ps))) s.same_players
-    (stands_in f s (PlayerNumber k.name) c (a_player (length c.players)) k.answers
-    (player_law c k.name) (λ a. a, refl))
+    rw (← s.same_players) (stands_in f s (PlayerNumber k.name) c (a_player (length c.players))
+    k.answers (player_law c k.name) (λ a. a, refl))
 
 set_by : (c : Content) (name b : List ℕ) (player : ℕ) (o : Option ℕ) → count_of b ≡ o
     → Answers a_set (Bare b) (set_number c name player o)
@@ -186,12 +178,7 @@ new_set f key h new =
 -- the text that is wanted, or another one
 pub name_by : (name : List ℕ) (row : Row) (label : List ℕ) (s : State)
     → Answers (or_name name row) (Text label) (same_text name label s)
-name_by name row label s = by (pointwise nat_eq label name) refl
-  where
-    by : (t : Bool) → pointwise nat_eq label name ≡ t
-        → Answers (or_name name row) (Text label) (cond t (Ok s) (Err Mismatch))
-    by true e = same_bytes label name e
-    by false e = (other_word label name e, refl)
+name_by name row label s = grind (arith, same_bytes, other_word)
 
 -- a name beside a bare token changes nothing there
 pub named_bare : (name : List ℕ) (row : Row) (b : List ℕ) (o : Result State Why)
@@ -220,8 +207,7 @@ known_set f key set h knows =
     let c = s.content in
     let k = behind_number f.front key c h s.goes_on in
     stands_in f s (KnownSetName k.name key set) c (or_name set.name an_outcome)
-    (λ us. k.answers us
-    ∙ ap (λ o. run_tokens (behind_set k.name key o) c us) ((s.sets key set).0 knows))
+    (λ us. cc (k.answers us, (s.sets key set).0 knows))
     (known_name_law c k.name key set) (λ a. a, refl)
 
 -- ---- the opening brace of a set
@@ -237,8 +223,7 @@ known_opening_law c b actions Opening = tt
 known_opening_law c b actions _ = (λ a. a, refl)
 
 opening_by : (f : FileFront) (s : Parts f) (name label : List ℕ) (key : SetKey)
-    (o : Option InformationSet) → ((us : List Token)
-    → run_tokens NodeDue s.content (f.front ++ us)
+    (o : Option InformationSet) → ((us : List Token) → run_tokens NodeDue s.content (f.front ++ us)
     ≡ run_tokens (behind_set name key o) s.content (Text label ∷ us)) → Stands f.before an_opening
 opening_by f s name label key None answers =
     stands_in f s (NewSetOpening name key label) s.content an_opening answers
@@ -249,9 +234,7 @@ opening_by f s name label key (Some set) answers =
     let next = KnownSetOpening (begun name key set) set.actions in
     let same = (text_found set.name label (at next c) g.more g.read
     (sym (answers g.more) ∙ g.reads)).0 in
-    stands_in f s next c an_opening (λ us. answers us
-    ∙ ap (λ (l : List ℕ). then_run (same_text set.name l (at next c)) (run_on us)) same
-    ∙ ap (λ o. then_run o (run_on us)) (text_again set.name (at next c)))
+    stands_in f s next c an_opening (λ us. cc (answers us, same, text_again set.name (at next c)))
     (known_opening_law c (begun name key set) set.actions) (λ a. a, refl)
 
 pub set_opening : (f : FileFront) (key : SetKey) → BehindSetName f.front key
@@ -262,5 +245,4 @@ set_opening f key h =
     let k = behind_number h.0 key c h.2
     (goes_before c f.front h.0 (Text h.1 ∷ []) s.goes_on h.3) in
     opening_by f s k.name h.1 key (description_at same_set c.sets key)
-    (λ us. ap (run_tokens NodeDue c) (regroup f.front h.0 (Text h.1 ∷ []) us h.3)
-    ∙ k.answers (Text h.1 ∷ us))
+    (λ us. cc (regroup f.front h.0 (Text h.1 ∷ []) us h.3, k.answers (Text h.1 ∷ us)))

@@ -1,21 +1,20 @@
 -- The rows of the outcome of a node up to its braces, and those after a whole node.
 use Rattle.std.proofs.Common.{◌≡◌, ℕ, zero, suc, List, [], ◌∷◌, ◌++◌, length, Option, Some, None}
-use Rattle.std.proofs.Common.{refl, sym, ap, subst, ◌∙◌, inl, inr, nat_eq, false}
-use Rattle.std.proofs.Common.{tests, rules}
+use Rattle.std.proofs.Common.{refl, sym, ap, subst, ◌∙◌, inl, inr, nat_eq, false, tests, rules}
 use Rattle.std.specs.Prelude.{◌⊎◌}
 use Rattle.gf_fraction.specs.Ratio.{Ratio}
 use Rattle.gf_token.specs.Token.{Token}
-use Rattle.gf_token.specs.Token.Token.{Opening, Text, Bare, Broken}
 use Rattle.gf_token.specs.Indices.{index_of}
+use Rattle.gf_token.specs.Token.Token.{Opening, Text, Bare, Broken}
 use Rattle.gf_token.proofs.ReadingIndices.{index_again}
 use Rattle.gf_tree.specs.Description.{Outcome}
 use Rattle.gf_tree.specs.FiniteMap.{description_at}
 use Rattle.gf_tree.specs.Front.{BehindOutcomeNumber, IsNewOutcome, KnowsOutcome, ToOutcomeNumber}
-use Rattle.gf_tree.specs.inner.Machine.{Begun, Content, after_node, at, behind_outcome}
-use Rattle.gf_tree.specs.inner.Machine.{outcome_number, same_text, with_node}
-use Rattle.gf_tree.specs.inner.Machine.Position.{NodeDue, OutcomeNumber, NewOutcomeName}
-use Rattle.gf_tree.specs.inner.Machine.Position.{NewOutcomeOpening, KnownOutcomeName}
-use Rattle.gf_tree.specs.inner.Machine.Position.{KnownOutcomeOpening}
+use Rattle.gf_tree.specs.inner.Machine.{Begun, Content, after_node, at, behind_outcome, same_text}
+use Rattle.gf_tree.specs.inner.Machine.{with_node}
+use Rattle.gf_tree.specs.inner.Machine.Position.{KnownOutcomeOpening, NodeDue, OutcomeNumber}
+use Rattle.gf_tree.specs.inner.Machine.Position.{NewOutcomeName, NewOutcomeOpening}
+use Rattle.gf_tree.specs.inner.Machine.Position.{KnownOutcomeName}
 use Rattle.gf_tree.specs.inner.ReadGame.{run_tokens, then_run}
 use Rattle.gf_tree.specs.RowPlaces.{BehindOutcomeName, BehindSet, BehindZero, FileFront}
 use Rattle.gf_tree.specs.Rows.{a_first_name, a_node, an_end, an_opening, an_outcome, or_name}
@@ -60,17 +59,14 @@ pub behind_node : (f : FileFront) (s : Parts f) (c : Content) → c.players ≡ 
 behind_node f s c players answers = by c.due refl
   where
     by : (n : ℕ) → c.due ≡ n → GoesOnBehind f
-    by zero e =
-        inl (stands_in f s NodeDue c an_end answers (after_last_node c e) (rw e tt))
+    by zero e = inl (stands_in f s NodeDue c an_end answers (after_last_node c e) (rw e tt))
     by (suc n) e =
         let none = not_zero n in
-        inr (subst (λ (ps : List (List ℕ)). Stands f.before (a_node (length ps))) players
-        (stands_in f s NodeDue c (a_node (length c.players)) answers (node_due c n e)
-        (rw (e, none) (λ a. a, refl))))
+        inr (rw (← players) (stands_in f s NodeDue c (a_node (length c.players)) answers (node_due c
+        n e) (rw (e, none) (λ a. a, refl))))
 
 pub zero_front : (f : FileFront) → BehindZero f.front → BeginsBare f.front
-zero_front f h =
-    begins_on f.front h.0 (Bare h.2 ∷ []) (begins_step h.0 h.1 h.3) h.5
+zero_front f h = begins_on f.front h.0 (Bare h.2 ∷ []) (begins_step h.0 h.1 h.3) h.5
 
 pub after_zero : (f : FileFront) → BehindZero f.front → GoesOnBehind f
 after_zero f h =
@@ -79,9 +75,7 @@ after_zero f h =
     let g = s.goes_on in
     let o = to_outcome h.0 f.front h.2 h.5 c g h.1 h.3 in
     behind_node f s (with_node o.content o.b None) (o.players ∙ s.same_players)
-    (λ us. ap (run_tokens NodeDue c) (regroup f.front h.0 (Bare h.2 ∷ []) us h.5)
-    ∙ o.answers h.2 us
-    ∙ ap (λ n. then_run (outcome_number o.content o.b n) (run_on us)) (index_again h.2 0 h.4))
+    (λ us. cc (regroup f.front h.0 (Bare h.2 ∷ []) us h.5, o.answers h.2 us, index_again h.2 0 h.4))
 
 -- ---- the name of an outcome
 
@@ -146,8 +140,7 @@ known_outcome f n outcome h knows =
     let c = s.content in
     let k = behind_outcome_number f.front n c h s.goes_on in
     behind_known f s (with_node k.content k.b (Some n)) outcome (k.players ∙ s.same_players)
-    (λ us. k.answers us ∙ ap (λ o. run_on us (behind_outcome k.content k.b n o))
-    ((s.outcomes n outcome).0 knows))
+    (λ us. cc (k.answers us, (s.outcomes n outcome).0 knows))
 
 -- ---- the opening brace
 
@@ -185,5 +178,4 @@ outcome_opening f n h =
     let k = behind_outcome_number h.0 n c h.2
     (goes_before c f.front h.0 (Text h.1 ∷ []) s.goes_on h.3) in
     opening_by f s h.1 n k.b k.content (description_at nat_eq c.outcomes n)
-    (λ us. ap (run_tokens NodeDue c) (regroup f.front h.0 (Text h.1 ∷ []) us h.3)
-    ∙ k.answers (Text h.1 ∷ us))
+    (λ us. cc (regroup f.front h.0 (Text h.1 ∷ []) us h.3, k.answers (Text h.1 ∷ us)))

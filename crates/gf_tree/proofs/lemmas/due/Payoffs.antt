@@ -1,45 +1,41 @@
 -- The rows of the payoffs of an outcome, for a new outcome and for a known one.
 use Rattle.std.proofs.Common.{◌≡◌, ℕ, zero, suc, ◌<◌, Bool, true, false, List, [], ◌∷◌, ◌++◌}
-use Rattle.std.proofs.Common.{length, Result, Ok, Err, refl, sym, ap, subst, ◌∙◌}
-use Rattle.std.proofs.Common.{append_assoc, arith, inl, inr, nat_eq}
+use Rattle.std.proofs.Common.{length, Result, Ok, Err, refl, sym, ap, subst, ◌∙◌, append_assoc}
+use Rattle.std.proofs.Common.{arith, inl, inr, nat_eq}
 use Rattle.std.specs.Prelude.{not}
-use Rattle.std.proofs.lemmas.List.{length-append}
+use Rattle.std.proofs.lemmas.List.{length-append, append_cancel_left}
 use Rattle.gf_fraction.specs.Ratio.{Ratio}
 use Rattle.gf_fraction.specs.Computed.{number_of}
 use Rattle.gf_fraction.specs.declared.fraction.NumberFault.{NumberFault}
 use Rattle.gf_fraction.proofs.ComputedAnswers.{number_again, number_is}
 use Rattle.gf_token.specs.Token.{Token}
-use Rattle.gf_token.specs.Token.Token.{Opening, Closing, Comma, Text, Bare}
-use Rattle.gf_token.specs.Grammar.{Each, IsPayoffInBraces}
 use Rattle.gf_token.specs.Next.{is_comma}
 use Rattle.gf_token.specs.declared.fault.Why.{Why}
+use Rattle.gf_token.specs.Token.Token.{Opening, Closing, Comma, Text, Bare}
+use Rattle.gf_token.specs.Grammar.{Each, IsPayoffInBraces}
 use Rattle.gf_tree.specs.Description.{Outcome}
 use Rattle.gf_tree.specs.FiniteMap.{description_at}
+use Rattle.gf_tree.specs.inner.ReadGame.{run_tokens}
+use Rattle.gf_tree.specs.RowPlaces.{ToPayoff, BehindComma, BehindNode, BehindPayoff, BehindPayoffs}
+use Rattle.gf_tree.specs.RowPlaces.{FileFront}
 use Rattle.gf_tree.specs.Front.{InPayoffs, IsExtensiveFile, IsNewOutcome, KnowsOutcome}
 use Rattle.gf_tree.specs.inner.Machine.{Begun, Content, State, at, outcome_ends, paid, same_number}
-use Rattle.gf_tree.specs.inner.Machine.Position.{NodeDue}
-use Rattle.gf_tree.specs.inner.Machine.Position.{AfterKnownPayoff}
-use Rattle.gf_tree.specs.inner.ReadGame.{run_tokens}
-use Rattle.gf_tree.specs.RowPlaces.{BehindComma, BehindNode, BehindPayoff}
-use Rattle.gf_tree.specs.RowPlaces.{BehindPayoffs, FileFront, ToPayoff}
-use Rattle.gf_tree.specs.Rows.{Row, a_closing, a_node, a_payoff, an_end, or_comma}
-use Rattle.gf_tree.specs.Rows.{this_number}
-use Rattle.gf_tree.proofs.lemmas.fronts.Cuts.{each_more, others_are}
+use Rattle.gf_tree.specs.inner.Machine.Position.{NodeDue, AfterKnownPayoff}
+use Rattle.gf_tree.specs.Rows.{Row, a_closing, a_node, a_payoff, an_end, or_comma, this_number}
+use Rattle.gf_tree.proofs.lemmas.fronts.Cuts.{each_more}
+use Rattle.gf_tree.proofs.lemmas.Once.{none_or_some, one_some}
 use Rattle.gf_tree.proofs.lemmas.due.Actions.{same_answers}
 use Rattle.gf_tree.proofs.lemmas.due.Answers.{spells_fault}
 use Rattle.gf_tree.proofs.lemmas.due.Nodes.{Parts, stands_in, parts}
-use Rattle.gf_tree.proofs.lemmas.due.Outcomes.{GoesOnBehind, after_zero}
-use Rattle.gf_tree.proofs.lemmas.due.Outcomes.{behind_node}
+use Rattle.gf_tree.proofs.lemmas.due.Outcomes.{GoesOnBehind, after_zero, behind_node}
 use Rattle.gf_tree.proofs.lemmas.due.Rows.{Answers, EndLaw, Law, Stands, accepted}
-use Rattle.gf_tree.proofs.lemmas.fronts.Codes.{begins_on, begins_payoffs}
-use Rattle.gf_tree.proofs.lemmas.fronts.Codes.{known_outcome}
+use Rattle.gf_tree.proofs.lemmas.fronts.Codes.{begins_on, begins_payoffs, known_outcome}
 use Rattle.gf_tree.proofs.lemmas.fronts.Payoffs.{AtKnownPayoff, AtNewPayoff, ends_number}
 use Rattle.gf_tree.proofs.lemmas.fronts.Payoffs.{in_payoffs}
 use Rattle.gf_tree.proofs.lemmas.fronts.Runs.{goes_before}
 use Rattle.gf_tree.proofs.lemmas.fronts.Groups.{regroup}
 use Rattle.gf_tree.proofs.lemmas.runs.Payoffs.{known_at, new_at}
 use Rattle.gf_tree.proofs.lemmas.runs.Tokens.{Reads}
-use Rattle.gf_tree.proofs.lemmas.Once.{none_or_some, one_some}
 
 -- ---- the payoffs that stand before
 
@@ -87,18 +83,14 @@ seen_comma front n ps h =
       place = (
         k.0,
         (k.1 ++ Bare b.2 ∷ []) ++ Comma ∷ [],
-        h.2 ∙ (λ i. b.6 i ++ Comma ∷ [])
-            ∙ (λ i. (k.2 i ++ Bare b.2 ∷ []) ++ Comma ∷ [])
+        h.2 ∙ (λ i. b.6 i ++ Comma ∷ []) ∙ (λ i. (k.2 i ++ Bare b.2 ∷ []) ++ Comma ∷ [])
             ∙ (λ i. append_assoc k.0 (Text seen.name ∷ Opening ∷ k.1) (Bare b.2 ∷ []) i
             ++ Comma ∷ [])
             ∙ append_assoc k.0 (Text seen.name ∷ Opening ∷ (k.1 ++ Bare b.2 ∷ [])) (Comma ∷ []),
         k.3,
-        subst (λ (qs : List Ratio).
-            Each IsPayoffInBraces ((k.1 ++ Bare b.2 ∷ []) ++ Comma ∷ []) qs) (sym b.7)
-            (subst (λ (ts : List Token). Each IsPayoffInBraces ts (seen.payoffs ++ b.3 ∷ []))
-            (sym (append_assoc k.1 (Bare b.2 ∷ []) (Comma ∷ [])))
-            (each_more IsPayoffInBraces k.1 (Bare b.2 ∷ Comma ∷ []) seen.payoffs b.3 k.4
-            (b.2, Comma ∷ [], refl, b.5, inr refl))),
+        rw b.7 (subst (λ (ts : List Token). Each IsPayoffInBraces ts (seen.payoffs ++ b.3 ∷ []))
+            (sym (append_assoc k.1 (Bare b.2 ∷ []) (Comma ∷ []))) (each_more IsPayoffInBraces k.1
+            (Bare b.2 ∷ Comma ∷ []) seen.payoffs b.3 k.4 (b.2, Comma ∷ [], refl, b.5, inr refl))),
       );
       are = refl;
       may_is = ends_last false (k.1 ++ Bare b.2 ∷ []) Comma;
@@ -166,8 +158,7 @@ known_law true c p ps (Bare t) =
     comma_bare (this_number p) t (same_number p (at (AfterKnownPayoff ps) c) (number_of t))
     (same_answers p t (at (AfterKnownPayoff ps) c) (number_of t) refl)
 known_law true c p ps _ = (λ a. a, refl)
-known_law false c p ps (Bare t) =
-    same_answers p t (at (AfterKnownPayoff ps) c) (number_of t) refl
+known_law false c p ps (Bare t) = same_answers p t (at (AfterKnownPayoff ps) c) (number_of t) refl
 known_law false c p ps _ = (λ a. a, refl)
 
 known_closing : (may : Bool) (c : Content) → Law (known_at may []) c (with_comma may a_closing)
@@ -249,9 +240,8 @@ module _ (f : FileFront) (n : ℕ) (payoffs : List Ratio) (may : Bool)
         | inr k ↦
             let same = one_some (description_at nat_eq s.content.outcomes n) k.known outcome
             k.is_known at_key in
-            let left = others_are payoffs k.others (p ∷ others)
-            (ap (λ (ps : List Ratio). ps ++ k.others) (sym h.are)
-            ∙ sym k.parts ∙ ap (λ (o : Outcome). o.payoffs) same ∙ more) in
+            let left = append_cancel_left payoffs k.others (p ∷ others)
+            (cc (h.are, k.parts, same, more)) in
             stands_in f s (known_at may (p ∷ others)) k.content (with_comma may (this_number p))
             (known_answers s k (p ∷ others) left) (known_law may k.content p others)
             (known_end may k.content p others)
@@ -332,18 +322,12 @@ new_ended : (may : Bool) (b : Begun) (n : ℕ) (outcome : Outcome) (left : ℕ) 
     (more us : List Token) → Reads (new_at may b n outcome left) c (Closing ∷ more) r
     → run_tokens (new_at may b n outcome left) c (Closing ∷ us)
     ≡ run_tokens NodeDue (outcome_ends c b n outcome).content us
-new_ended true b n outcome zero c r more us e = refl
-new_ended false b n outcome zero c r more us e = refl
-new_ended true b n outcome (suc left) c r more us e = absurd cc
-new_ended false b n outcome (suc left) c r more us e = absurd cc
+new_ended may b n outcome left c r more us h = grind arith
 
 known_ended : (may : Bool) (ps : List Ratio) (c r : Content) (more us : List Token)
     → Reads (known_at may ps) c (Closing ∷ more) r
     → run_tokens (known_at may ps) c (Closing ∷ us) ≡ run_tokens NodeDue c us
-known_ended true [] c r more us e = refl
-known_ended false [] c r more us e = refl
-known_ended true (p ∷ ps) c r more us e = absurd cc
-known_ended false (p ∷ ps) c r more us e = absurd cc
+known_ended may ps c r more us h = grind arith
 
 pub after_payoffs : (f : FileFront) → BehindPayoffs f.front → GoesOnBehind f
 after_payoffs f h =

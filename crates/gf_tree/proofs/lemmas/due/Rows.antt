@@ -1,25 +1,20 @@
 -- If the machine of the reader stands for the tokens before a place, exactly what a row accepts may
 -- follow, and everything else is refused as the row says, provided that the machine answers so.
-use Rattle.std.proofs.Common.{◌≡◌, ◌↔◌, ℕ, zero, suc, Bool, true, false, cond, List, [], ◌∷◌, ◌++◌}
-use Rattle.std.proofs.Common.{Result, Ok, Err, refl, sym, ap, subst, ◌∙◌}
+use Rattle.std.proofs.Common.{◌≡◌, ◌↔◌, ℕ, Bool, true, false, cond, List, [], ◌∷◌, ◌++◌, Result, Ok}
+use Rattle.std.proofs.Common.{Err, refl, sym, ap, subst, ◌∙◌, arith}
 use Rattle.gf_token.specs.Token.{Token}
 use Rattle.gf_token.specs.Token.Token.{Broken}
 use Rattle.gf_token.specs.Place.{Begins, IsAccepted}
 use Rattle.gf_token.specs.declared.fault.Why.{Why}
 use Rattle.gf_token.specs.declared.fault.Why.TheVariants.{Unterminated}
 use Rattle.gf_tree.specs.Front.{IsExtensiveFile}
+use Rattle.gf_tree.specs.inner.ReadGame.{run_tokens, then_run}
 use Rattle.gf_tree.specs.inner.Machine.{Content, Position, State, at, due, may_end, node_or_end}
 use Rattle.gf_tree.specs.inner.Machine.{nothing, step}
 use Rattle.gf_tree.specs.inner.Machine.Position.{Format}
-use Rattle.gf_tree.specs.inner.Machine.Position.{NodeDue}
-use Rattle.gf_tree.specs.inner.Machine.Position.{KnownAction}
-use Rattle.gf_tree.specs.inner.Machine.Position.{NewPayoff, AfterNewPayoff, KnownOutcomeName}
-use Rattle.gf_tree.specs.inner.Machine.Position.{KnownPayoff, AfterKnownPayoff}
-use Rattle.gf_tree.specs.inner.ReadGame.{run_tokens, then_run}
 use Rattle.gf_tree.specs.Rows.{Row, Accepts, Refuses, RefusesFor, Takes}
 use Rattle.gf_tree.proofs.lemmas.runs.Places.{Leads, follows, is_file, is_read, no_file}
-use Rattle.gf_tree.proofs.lemmas.runs.Places.{not_follows}
-use Rattle.gf_tree.proofs.lemmas.runs.Places.{then_walk, walk, walk_run}
+use Rattle.gf_tree.proofs.lemmas.runs.Places.{not_follows, then_walk, walk, walk_run}
 use Rattle.gf_tree.proofs.lemmas.runs.Stops.{StopsAt, not_accepted}
 use Rattle.gf_tree.proofs.lemmas.runs.Tokens.{Reads, run_on}
 
@@ -83,31 +78,17 @@ leads_on [] more q c r e = (at q c, refl)
 leads_on (t ∷ ts) more q c r e = first_leads (step q c t) t ts more q c r refl e
     (λ s h. leads_on ts more s.position s.content r h)
 
-pub leads : (before : List Token) → Begins IsExtensiveFile before
-    → (s : State) × Leads before s
+pub leads : (before : List Token) → Begins IsExtensiveFile before → (s : State) × Leads before s
 leads before h =
     let r = is_read (before ++ h.0) h.1 in leads_on before h.0 Format nothing r.0 r.1
 
 -- ---- at the end nothing is refused as an unterminated text
 
 node_ends : (n : ℕ) → node_or_end n ≡ Unterminated → ⊥
-node_ends zero e = absurd cc
-node_ends (suc n) e = absurd cc
+node_ends n h = grind arith
 
 ends_text : (q : Position) (n : ℕ) → due q n ≡ Unterminated → ⊥
-ends_text NodeDue n e = node_ends n e
-ends_text (KnownAction b []) n e = absurd cc
-ends_text (KnownAction b (a ∷ actions)) n e = absurd cc
-ends_text (NewPayoff b m outcome zero) n e = absurd cc
-ends_text (NewPayoff b m outcome (suc left)) n e = absurd cc
-ends_text (AfterNewPayoff b m outcome zero) n e = absurd cc
-ends_text (AfterNewPayoff b m outcome (suc left)) n e = absurd cc
-ends_text (KnownOutcomeName outcome) n e = node_ends n e
-ends_text (KnownPayoff []) n e = absurd cc
-ends_text (KnownPayoff (p ∷ ps)) n e = absurd cc
-ends_text (AfterKnownPayoff []) n e = absurd cc
-ends_text (AfterKnownPayoff (p ∷ ps)) n e = absurd cc
-ends_text q n e = absurd cc
+ends_text q n h = grind (arith, node_ends)
 
 abbrev refused : Why → Result Content Why
 refused why = Err why
@@ -146,16 +127,14 @@ module _ (before : List Token) (s : State) (l : Leads before s) (row : Row) wher
   at_token t after (Ok x) (Ok y) e alike a =
       ((λ f. a, λ h. follows before t s x l e), λ n. absurd (n a))
   at_token t after (Ok x) (Err why) e alike a = absurd (not_always x why alike)
-  at_token t after (Err why) (Ok y) e alike a =
-      absurd (not_always y why (λ us. sym (alike us)))
+  at_token t after (Err why) (Ok y) e alike a = absurd (not_always y why (λ us. sym (alike us)))
   at_token t after (Err why) (Err other) e alike a =
       let same = one_refusal why other (alike []) in (
         (λ f. absurd (not_follows before t s why l e f), λ h. absurd (a.0 h)),
         λ n. (why, subst (RefusesFor row t) (sym same) a.1, e),
       )
 
-  at_last : (b t : Bool) (c : Content) (why : Why)
-      → may_end s.position s.content.due ≡ b
+  at_last : (b t : Bool) (c : Content) (why : Why) → may_end s.position s.content.due ≡ b
       → at_end b s.content (due s.position s.content.due) ≡ at_end t c why → AnswersEnd row t why
       → AnswersAt before s row []
   at_last true true c why e alike a = ((λ f. a, λ h. is_file before s l e), λ n. absurd (n a))

@@ -2,18 +2,18 @@
 use Rattle.std.proofs.Common.{◌≡◌, ℕ, List, Some, None, Err, refl, ◌∙◌, arith, inl, inr}
 use Rattle.std.specs.Prelude.{codes}
 use Rattle.gf_fraction.specs.Ratio.{Ratio}
-use Rattle.gf_fraction.specs.Computed.{number_of, lowest_of, gcd_within}
 use Rattle.gf_fraction.specs.NumberSpelling.{IsNumber}
+use Rattle.gf_fraction.specs.Computed.{number_of, lowest_of, gcd_within}
 use Rattle.gf_fraction.specs.declared.fraction.NumberFault.TheVariants.{NotANumber}
 use Rattle.gf_fraction.proofs.ComputedAnswers.{number_again, number_is}
 use Rattle.gf_token.specs.Index.{IsIndex}
 use Rattle.gf_token.specs.Indices.{index_of}
-use Rattle.gf_token.specs.declared.fault.What.TheVariants as what
 use Rattle.gf_token.proofs.ReadingIndices.{index_again, index_is}
 use Rattle.gf_tree.specs.DueRoles.{Role, Suits, what_of}
 use Rattle.gf_tree.specs.DueRoles.Role.{Format, Version, Letter, NodeLetter, PlayerNumber}
 use Rattle.gf_tree.specs.DueRoles.Role.{SetNumber, OutcomeNumber, Probability, Payoff, KnownNumber}
 use Rattle.gf_tree.proofs.lemmas.due.Answers.{other_word, no_index}
+use Rattle.gf_token.specs.declared.fault.What.TheVariants as what
 
 -- ---- numbers and indices, spelled in two ways
 
@@ -149,8 +149,7 @@ version_only (NodeLetter n) (inr (inr s)) lacks =
 version_only (PlayerNumber n) s lacks = absurd (lacks (s.0, (two_index s.0 s.1.0, s.1.1), s.2))
 version_only SetNumber s lacks = absurd (lacks (s.0, (two_index s.0 s.1.0, s.1.1)))
 version_only OutcomeNumber s lacks = absurd (lacks (s.0, two_index s.0 s.1))
-version_only (Probability sum) s lacks =
-    absurd (lacks (s.0, s.1, two_again s.0 s.2, s.3, s.4, s.5))
+version_only (Probability sum) s lacks = absurd (lacks (s.0, s.1, two_again s.0 s.2, s.3, s.4, s.5))
 version_only Payoff s lacks = absurd (lacks (s.0, two_again s.0 s.1))
 version_only (KnownNumber p) s lacks = absurd (lacks (two_again p s))
 
@@ -166,8 +165,7 @@ index_only (NodeLetter n) (inr (inr s)) lacks = absurd (other_word (codes "1") (
 index_only (PlayerNumber n) s lacks = refl
 index_only SetNumber s lacks = refl
 index_only OutcomeNumber s lacks = refl
-index_only (Probability sum) s lacks =
-    absurd (lacks (s.0, s.1, one_again s.0 s.2, s.3, s.4, s.5))
+index_only (Probability sum) s lacks = absurd (lacks (s.0, s.1, one_again s.0 s.2, s.3, s.4, s.5))
 index_only Payoff s lacks = absurd (lacks (s.0, one_again s.0 s.1))
 index_only (KnownNumber p) s lacks = absurd (lacks (one_again p s))
 
@@ -184,8 +182,7 @@ module _ (r q : Role) (same : (x : List ℕ) → (Suits r x → Suits q x) × (S
     no_point = no_index (codes "1.0") point_no_index
 
     is_index : Suits q (codes "1") → ¬ (Suits q (codes "1.0")) → what_of r ≡ what.Index
-    is_index one point =
-        index_only r ((same (codes "1")).1 one) (λ s. point ((same (codes "1.0")).0 s))
+    is_index one point = grind (arith, index_only)
 
     pointed : TakesNumbers q → Suits r (codes "1") → Suits r (codes "1.0")
     pointed numbers one =
@@ -231,12 +228,7 @@ one_name r Version same b s = version_only r ((same (codes "2")).1 refl)
     (λ k. other_word (codes "02") (codes "2") refl ((same (codes "02")).0 k))
 one_name r Letter same b s = letter_only r ((same (codes "R")).1 (inl refl))
 one_name r (NodeLetter n) same b s = node_only r ((same (codes "t")).1 (inr (inl refl)))
-one_name r (PlayerNumber n) same b s =
-    let k = (same b).0 s in
-    let some = k.1.1 in
-    let within = k.2 in
-    is_index r (PlayerNumber n) same (1, (one_is, omega arith), omega (arith, some, within))
-    (λ p. no_point r (PlayerNumber n) same p.0 p.1.0)
+one_name r (PlayerNumber n) same b s = grind (arith, is_index, one_is, no_point)
 one_name r SetNumber same b s = is_index r SetNumber same (1, (one_is, omega arith))
     (λ p. no_point r SetNumber same p.0 p.1.0)
 one_name r OutcomeNumber same b s = is_index r OutcomeNumber same (1, one_is)
@@ -244,5 +236,4 @@ one_name r OutcomeNumber same b s = is_index r OutcomeNumber same (1, one_is)
 one_name r (Probability sum) same b s = number_by r (Probability sum) same
     (λ x h. (h.0, h.2, λ y k. (h.0, h.1, k, h.3, h.4, h.5))) b s
 one_name r Payoff same b s = number_by r Payoff same (λ x h. (h.0, h.1, λ y k. (h.0, k))) b s
-one_name r (KnownNumber p) same b s =
-    number_by r (KnownNumber p) same (λ x h. (p, h, λ y k. k)) b s
+one_name r (KnownNumber p) same b s = number_by r (KnownNumber p) same (λ x h. (p, h, λ y k. k)) b s

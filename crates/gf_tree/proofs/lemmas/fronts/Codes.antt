@@ -4,33 +4,33 @@
 use Rattle.std.proofs.Common.{◌≡◌, ℕ, ◌≤◌, List, [], ◌∷◌, ◌++◌, length, Option, Some, None, Result}
 use Rattle.std.proofs.Common.{Err, refl, sym, ap, ◌∙◌, nat_eq, inl, inr, append_assoc, subst}
 use Rattle.std.specs.List.{filter_map}
+use Rattle.std.specs.Prelude.{codes}
 use Rattle.std.proofs.lemmas.Bool.Decides.{Decides-eqb}
 use Rattle.gf_token.specs.Token.{Token}
-use Rattle.gf_token.specs.Token.Token.{Opening, Text, Bare}
 use Rattle.gf_token.specs.Code.{code_of}
+use Rattle.gf_token.specs.Token.Token.{Opening, Text, Bare}
 use Rattle.gf_token.specs.declared.fault.Why.{Why}
 use Rattle.gf_token.specs.declared.fault.Why.TheVariants.{Expected, UnknownPlayer}
 use Rattle.gf_tree.specs.Description.{InformationSet, IsOutcome, Outcome, SetKey, same_set, set_of}
 use Rattle.gf_tree.specs.Description.{Action}
 use Rattle.gf_tree.specs.FiniteMap.{description_at}
+use Rattle.gf_tree.specs.inner.ReadGame.{run_tokens, then_run}
+use Rattle.gf_tree.specs.Due.{NodeIsDue}
+use Rattle.gf_tree.specs.Reason.{NobodyMoves}
 use Rattle.gf_tree.specs.Front.{BehindOutcomeNumber, BehindSetNumber, EndsInNode, InActions}
 use Rattle.gf_tree.specs.Front.{InPayoffs, KnowsOutcome, KnowsSet, ToProbability}
 use Rattle.gf_tree.specs.inner.Machine.{Content, nothing, Begun, after_node, begun, personal_node}
 use Rattle.gf_tree.specs.inner.Machine.Position.{Format, NodeDue, KnownAction}
-use Rattle.gf_tree.specs.inner.ReadGame.{run_tokens, then_run}
 use Rattle.gf_tree.proofs.lemmas.fronts.Nodes.{learned_at, parted}
+use Rattle.gf_tree.proofs.lemmas.runs.Tokens.{Reads, run_on}
+use Rattle.gf_tree.proofs.lemmas.Once.{none_or_some, one_some}
 use Rattle.gf_tree.proofs.lemmas.fronts.Runs.{GoesOn, in_actions}
 use Rattle.gf_tree.proofs.lemmas.fronts.Groups.{NoText}
 use Rattle.gf_tree.proofs.lemmas.runs.Learned.{found_has}
 use Rattle.gf_tree.proofs.lemmas.runs.Results.{AreOutcomes}
-use Rattle.gf_tree.proofs.lemmas.runs.Tokens.{Reads, run_on}
-use Rattle.gf_tree.proofs.lemmas.games.TreesOnce.{same_set_equality}
-use Rattle.std.specs.Prelude.{codes}
-use Rattle.gf_tree.specs.Due.{NodeIsDue}
 use Rattle.gf_tree.proofs.lemmas.runs.Files.{due_by}
+use Rattle.gf_tree.proofs.lemmas.games.TreesOnce.{same_set_equality}
 use Rattle.gf_tree.proofs.lemmas.runs.Places.{is_read}
-use Rattle.gf_tree.specs.Reason.{NobodyMoves}
-use Rattle.gf_tree.proofs.lemmas.Once.{none_or_some, one_some}
 
 -- some tokens that begin with these are read
 pub record ReadsOn (before : List Token) : Type 0 where

@@ -7,9 +7,9 @@ use Rattle.std.specs.Prelude.{codes}
 use Rattle.std.specs.List.{cons_option, filter_map}
 use Rattle.std.proofs.lemmas.List.Elements.{filter_map-append}
 use Rattle.gf_token.specs.Token.{Token}
-use Rattle.gf_token.specs.Token.Token.{Opening, Closing, Text, Bare}
 use Rattle.gf_token.specs.Grammar.{braced, IsComment}
 use Rattle.gf_token.specs.Place.{Begins}
+use Rattle.gf_token.specs.Token.Token.{Opening, Closing, Text, Bare}
 use Rattle.gf_tree.specs.Consistent.{AreConsistent, Describes}
 use Rattle.gf_tree.specs.Description.{InformationSet, IsOutcome, IsSet, Outcome, SetKey, set_of}
 use Rattle.gf_tree.specs.FileTree.{Use, FileNode, FileTree, outcome_uses, set_uses}
@@ -20,12 +20,11 @@ use Rattle.gf_tree.specs.Sentence.{IsDescription, IsInformationSet, IsMover, IsN
 use Rattle.gf_tree.specs.Sentence.{IsResult, IsStep, Says}
 use Rattle.gf_tree.specs.SomeRow.{IsBeforeRow, IsInHeading, IsInNode}
 use Rattle.gf_tree.proofs.lemmas.fronts.CutPlaces.{AllHere, IsOutcomeHere, IsSetHere, actions_place}
-use Rattle.gf_tree.proofs.lemmas.fronts.CutPlaces.{result_place}
-use Rattle.gf_tree.proofs.lemmas.fronts.CutPlaces.{set_place}
+use Rattle.gf_tree.proofs.lemmas.fronts.CutPlaces.{result_place, set_place}
 use Rattle.gf_tree.proofs.lemmas.fronts.Cuts.{Within, cut, first_is, within}
 use Rattle.gf_tree.proofs.lemmas.fronts.Codes.{BeginsBare}
-use Rattle.gf_tree.proofs.lemmas.games.Members.{in_left, in_right}
 use Rattle.gf_tree.proofs.lemmas.games.TreesOnce.{uses_of_nodes}
+use Rattle.gf_tree.proofs.lemmas.games.Members.{in_left, in_right}
 use Rattle.gf_tree.proofs.lemmas.games.Uses.{Has, contains, has, has_first}
 
 -- ---- the set of a node
@@ -45,8 +44,7 @@ module _ (f : FileFront) (letter name : List ℕ) (more result : List Token)
       letter,
       name,
       step,
-      e ∙ ap (λ (ts : List Token). Bare letter ∷ Text name ∷ ts)
-          (append-nil step),
+      cc (append-nil step),
       is,
     ),
     told,
@@ -90,8 +88,7 @@ module _ (f : FileFront) (letter name : List ℕ) (more result : List Token)
         → ts ++ more ≡ description ++ result
         → MatchOption o (Unit {0}) (λ d. IsSetHere f (set_of player n) d) → IsInNode f
     numbered [] description o is e parts here =
-        set_place f bare (set_of player n) (subst (λ (us : List Token).
-        BehindSetNumber us (set_of player n)) (sym (e ∙ append-nil behind)) behind_is)
+        set_place f bare (set_of player n) (rw (e ∙ append-nil behind) behind_is)
     numbered (t ∷ ts) description None is e parts here =
         result_place f bare (Bare letter ∷ Text name ∷ (mover ++ Bare number ∷ []))
         (Some (use_here None)) t ts more result outcome (
@@ -113,8 +110,7 @@ module _ (f : FileFront) (letter name : List ℕ) (more result : List Token)
         )
     numbered (t ∷ u ∷ ts) description (Some d) is e parts here =
         let whole : t ∷ u ∷ (ts ++ more)
-        ≡ Text d.name ∷ Opening ∷ ((is.0 ++ Closing ∷ []) ++ result) =
-        parts ∙ ap (λ (us : List Token). us ++ result) is.1 in
+        ≡ Text d.name ∷ Opening ∷ ((is.0 ++ Closing ∷ []) ++ result) = cc (parts, is.1) in
         let first = first_is t (Text d.name) (u ∷ (ts ++ more)) _ whole in
         let second = first_is u Opening (ts ++ more) _ (ap (drop 1) whole) in
         let opened : f.front ≡ behind ++ Text d.name ∷ Opening ∷ ts =
@@ -187,8 +183,7 @@ module _ (f : FileFront) (letter name : List ℕ) (more result : List Token)
       (parts ∙ ap (λ (us : List Token). us ++ result) is.1) tt
   named (Some u) ts step is e parts here =
       moved u.key.player u.key.number ts is.0 is.2 is.1 u.description is.4 is.5 is.6 e
-      (parts ∙ ap (λ (us : List Token). us ++ result) is.3
-      ∙ append_assoc is.0 (Bare is.1 ∷ is.2) result) here
+      (cc (parts, is.3, append_assoc is.0 (Bare is.1 ∷ is.2) result)) here
 
 -- a front of a node, which is not empty
 in_node : (f : FileFront) (n : FileNode) (t : Token) (ts more : List Token) → f.front ≡ t ∷ ts
@@ -220,9 +215,8 @@ module _ {K D : Type 0} (use_in : FileNode → Option (Use K D)) (Is : K → D �
       let same : u ≡ record { key = u.key; description = Some d } =
       λ i. record { key = u.key; description = is i } in
       contains uses (record { key = u.key; description = Some d }) (subst (Has uses) same
-      (subst (λ us. Has us u) (sym split) (in_right (filter_map use_in earlier)
-      (cons_option (use_in n) (filter_map use_in later)) u
-      (has_first (use_in n) (filter_map use_in later) u e))))
+      (rw split (in_right (filter_map use_in earlier) (cons_option (use_in n) (filter_map use_in
+      later)) u (has_first (use_in n) (filter_map use_in later) u e))))
 
   before_described : (key : K) (d : D) → Describes (filter_map use_in earlier) key d
       → Describes uses key d
@@ -254,8 +248,7 @@ outcomes_of_nodes (e ∷ es) = ap (cons_option e.node.outcome) (outcomes_of_node
 -- ---- the heading
 
 abbrev pub headed : List ℕ → List ℕ → List Token → List Token
-headed letter title more =
-    Bare (codes "EFG") ∷ Bare (codes "2") ∷ Bare letter ∷ Text title ∷ more
+headed letter title more = Bare (codes "EFG") ∷ Bare (codes "2") ∷ Bare letter ∷ Text title ∷ more
 
 names_in : (players : List (List ℕ)) (ts rest : List Token) → map Text players ≡ ts ++ rest
     → (names : List (List ℕ)) × (ts ≡ map Text names)
@@ -281,16 +274,14 @@ module _ (before more : List Token) (file : IsExtensiveFile (before ++ more)) wh
   to_title = Bare (codes "EFG") ∷ Bare (codes "2") ∷ Bare says.letter ∷ []
 
   -- in the nodes
-  in_nodes : (comment : List Token) (t : Token) (ts : List Token)
-      → IsComment comment tree.comment
+  in_nodes : (comment : List Token) (t : Token) (ts : List Token) → IsComment comment tree.comment
       → before ≡ headed says.letter tree.title (braced names ++ (comment ++ t ∷ ts))
       → (t ∷ ts) ++ more ≡ says.nodes → IsBeforeRow before
   in_nodes comment t ts is_comment e parts = by (within (IsNode (length tree.players))
       (map (λ x. x.node) (flatten tree.tree)) t ts more says.nodes parts says.are_nodes)
     where
       front_of : Within (IsNode (length tree.players)) (t ∷ ts)
-          (map (λ x. x.node) (flatten tree.tree))
-          → FileFront
+          (map (λ x. x.node) (flatten tree.tree)) → FileFront
       front_of w = record {
         before = before;
         begins = (more, file);
@@ -406,11 +397,8 @@ some_of : (before more : List Token) → IsExtensiveFile (before ++ more) → Is
 some_of [] more file = inl (IsInHeading.Format refl)
 some_of (a ∷ []) more file = let e = file.1.parts in inl (IsInHeading.Version cc)
 some_of (a ∷ b ∷ []) more file = let e = file.1.parts in inl (IsInHeading.Letter cc)
-some_of (a ∷ b ∷ c ∷ []) more file =
-    let e = file.1.parts in
-    inl (IsInHeading.Title (file.1.letter, file.1.is_letter, cc))
+some_of (a ∷ b ∷ c ∷ []) more file = inl (IsInHeading.Title (file.1.letter, file.1.is_letter, cc))
 some_of (a ∷ b ∷ c ∷ d ∷ []) more file =
-    let e = file.1.parts in
     inl (IsInHeading.BeforePlayers (
       Bare (codes "EFG") ∷ Bare (codes "2") ∷ Bare file.1.letter ∷ [],
       file.0.title,

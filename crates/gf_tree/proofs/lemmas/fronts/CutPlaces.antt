@@ -1,31 +1,28 @@
 -- If the front of a file ends in a node, it stands before a row of the table of positions: the node
 -- is cut there.
 use Rattle.std.proofs.Common.{◌≡◌, ℕ, zero, suc, ◌<◌, List, [], ◌∷◌, ◌++◌, drop, length, map}
-use Rattle.std.proofs.Common.{Option}
-use Rattle.std.proofs.Common.{Some, None, MatchOption, refl, sym, ap, subst, ◌∙◌, append_assoc}
-use Rattle.std.proofs.Common.{append-nil, arith, inl, inr, nat_eq}
+use Rattle.std.proofs.Common.{Option, Some, None, MatchOption, refl, sym, ap, subst, ◌∙◌}
+use Rattle.std.proofs.Common.{append_assoc, append-nil, arith, inl, inr, nat_eq}
 use Rattle.std.specs.Prelude.{pos, ◌⊎◌}
 use Rattle.std.proofs.lemmas.List.{length-append}
 use Rattle.gf_fraction.specs.Ratio.{Ratio, whole}
 use Rattle.gf_token.specs.Token.{Token}
-use Rattle.gf_token.specs.Token.Token.{Opening, Closing, Comma, Text, Bare}
 use Rattle.gf_token.specs.Grammar.{Each, IsPayoffInBraces}
+use Rattle.gf_token.specs.Token.Token.{Opening, Closing, Comma, Text, Bare}
 use Rattle.gf_tree.specs.Description.{Action, AddToOne, AreActions, InformationSet, IsOutcome}
 use Rattle.gf_tree.specs.Description.{IsSet, Outcome, SetKey, same_set, set_of, set_with}
 use Rattle.gf_tree.specs.FileTree.{Use}
 use Rattle.gf_tree.specs.FiniteMap.{description_at}
-use Rattle.gf_tree.specs.Front.{BehindOutcomeNumber, BehindSetNumber, InActions}
-use Rattle.gf_tree.specs.Front.{IsNewSet, KnowsOutcome, KnowsSet, ToOutcomeNumber}
+use Rattle.gf_tree.specs.SomeRow.{IsInNode}
+use Rattle.gf_tree.specs.Front.{BehindOutcomeNumber, BehindSetNumber, InActions, IsNewSet}
+use Rattle.gf_tree.specs.Front.{KnowsOutcome, KnowsSet, ToOutcomeNumber}
 use Rattle.gf_tree.specs.Reason.{HasSum, AddUpTo}
 use Rattle.gf_tree.specs.RowPlaces.{BehindPayoff, FileFront, ToPayoff}
-use Rattle.gf_tree.specs.Sentence.{IsAction, IsDescription}
-use Rattle.gf_tree.specs.Sentence.{IsOutcomeDescription, IsResult}
-use Rattle.gf_tree.specs.SomeRow.{IsInNode}
+use Rattle.gf_tree.specs.Sentence.{IsAction, IsDescription, IsOutcomeDescription, IsResult}
 use Rattle.gf_tree.proofs.lemmas.fronts.Cuts.{Last, Within, cut, each_last, each_more, first_is}
-use Rattle.gf_tree.proofs.lemmas.fronts.Cuts.{none_left}
-use Rattle.gf_tree.proofs.lemmas.fronts.Cuts.{within}
-use Rattle.gf_tree.proofs.lemmas.due.Nodes.{parts}
+use Rattle.gf_tree.proofs.lemmas.fronts.Cuts.{none_left, within}
 use Rattle.gf_tree.proofs.lemmas.fronts.Codes.{BeginsBare}
+use Rattle.gf_tree.proofs.lemmas.due.Nodes.{parts}
 use Rattle.gf_tree.proofs.lemmas.Once.{none_or_some}
 
 -- ---- what is known there
@@ -96,8 +93,7 @@ payoffs_read ps (t ∷ ts) more inner e h =
       seen = w.earlier ++ w.last ∷ [];
       left = w.later;
       values = w.values ∙ sym (append_assoc w.earlier (w.last ∷ []) w.later);
-      each = subst (λ (us : List Token). Each IsPayoffInBraces us (w.earlier ++ w.last ∷ []))
-          (sym w.parts) (each_more IsPayoffInBraces w.whole (w.first ∷ w.front) w.earlier w.last
+      each = rw w.parts (each_more IsPayoffInBraces w.whole (w.first ∷ w.front) w.earlier w.last
           w.each (payoff_front w.first w.front w.rest w.last w.is_last));
     }
 
@@ -136,10 +132,7 @@ payoff_place front behind inner n name payoffs h e each =
 
     whole : (k : Last IsPayoffInBraces inner payoffs)
         → front ≡ (behind ++ Text name ∷ Opening ∷ k.front) ++ Bare k.is_last.0 ∷ k.is_last.1
-    whole k = e ∙ ap (λ (ts : List Token). behind ++ Text name ∷ Opening ∷ ts)
-        (k.parts ∙ ap (λ (ts : List Token). k.front ++ ts) k.is_last.2)
-        ∙ sym (append_assoc behind (Text name ∷ Opening ∷ k.front)
-        (Bare k.is_last.0 ∷ k.is_last.1))
+    whole k = grind (arith, append_assoc)
 
     by : (k : Last IsPayoffInBraces inner payoffs)
         → ((k.is_last.1 ≡ []) ⊎ (k.is_last.1 ≡ Comma ∷ []))
@@ -171,8 +164,7 @@ module _ (f : FileFront) (bare : BeginsBare f.front) where
       → ToPayoff f.front n r.seen ⊎ BehindPayoff f.front n r.seen → IsInNode f
   payoffs_by behind front n d r [] h e is none place =
       let all : length r.seen ≡ length f.players =
-      ap length (sym (append-nil r.seen) ∙ ap (λ (ps : List Ratio). r.seen ++ ps) (sym none)
-      ∙ sym r.values) ∙ is.0.one_payoff_each in
+      cc (append-nil r.seen, r.values, is.0.one_payoff_each) in
       elim place [
         | inl k ↦ IsInNode.NoPayoff n r.seen k all
         | inr k ↦ IsInNode.AfterLastPayoff n r.seen k all
@@ -211,8 +203,7 @@ module _ (f : FileFront) (bare : BeginsBare f.front) where
       → IsDescription (IsOutcomeDescription (length f.players)) description o
       → MatchOption o (Unit {0}) (λ d. IsOutcomeHere f n d) → IsInNode f
   outcome_place behind [] more description n o h e parts is here =
-      number_place n (subst (λ (ts : List Token). BehindOutcomeNumber ts n)
-      (sym (e ∙ append-nil behind)) h)
+      number_place n (rw (e ∙ append-nil behind) h)
   outcome_place behind (t ∷ ts) more description n None h e parts is here =
       let none : t ∷ (ts ++ more) ≡ [] = parts ∙ is in absurd cc
   outcome_place behind (t ∷ []) more description n (Some d) h e parts is here =
@@ -279,15 +270,13 @@ prefix_sum (a ∷ seen) left (p ∷ ps) sum e h =
     (k.0, (p, h.1.0, first_is a.probability (Some p) _ _ e, h.1.1, k.1))
 
 some_sum : (name : List ℕ) (actions seen left : List Action) → actions ≡ seen ++ left
-    → AreActions 0 actions
-    → (sum : Ratio) × HasSum (set_with name seen) sum
+    → AreActions 0 actions → (sum : Ratio) × HasSum (set_with name seen) sum
 some_sum name actions seen left e h = prefix_sum seen left h.0 (whole (pos 0))
     (ap (map (λ (a : Action). a.probability)) (sym e) ∙ h.1) h.2
 
 -- a whole action, or the label of one of chance
 action_front : (player : ℕ) (t : Token) (front rest : List Token) (a : Action)
-    → IsAction player (t ∷ (front ++ rest)) a
-    → IsAction player (t ∷ front) a
+    → IsAction player (t ∷ (front ++ rest)) a → IsAction player (t ∷ front) a
     ⊎ ((player ≡ 0) × (t ∷ front ≡ Text a.label ∷ []) × ((p : Ratio) × (a.probability ≡ Some p)))
 action_front zero t [] rest a h =
     inr (refl, ap (λ x. x ∷ []) (first_is t (Text a.label) rest _ h.2), (h.1, h.4))
@@ -323,13 +312,11 @@ module _ (f : FileFront) (bare : BeginsBare f.front) where
         known : (k : InformationSet) → KnowsSet f.nodes (set_of player n) k → (others : List Action)
             → left ≡ others → IsInNode f
         known k knows [] e = IsInNode.NoActionLeft (set_of player n) k seen_set h knows
-            (ap (λ (s : InformationSet). s.actions) (is.1 k knows) ∙ values
-            ∙ ap (λ (xs : List Action). seen ++ xs) e ∙ append-nil seen)
+            (cc (is.1 k knows, values, append-nil seen))
         known k knows (next ∷ others) e =
             IsInNode.KnownAction (set_of player n) k seen_set next h knows (
               others,
-              ap (λ (s : InformationSet). s.actions) (is.1 k knows) ∙ values
-                  ∙ ap (λ (xs : List Action). seen ++ xs) e,
+              cc (is.1 k knows, values),
             )
 
         first : (player : ℕ) → IsSetHere f (set_of player n) d
@@ -349,8 +336,7 @@ module _ (f : FileFront) (bare : BeginsBare f.front) where
     shared next others p to is h e more has = elim (set_known f (set_of 0 n) bare) [
       | inl k ↦ IsInNode.KnownProbability n k.0 seen_set next p (to, next.label, e, h) k.1 (
         others,
-        ap (λ (s : InformationSet). s.actions) (is.1 k.0 k.1) ∙ values
-            ∙ ap (λ (xs : List Action). seen ++ xs) more,
+        cc (is.1 k.0 k.1, values, more),
       ) has
       | inr new ↦
           let s = some_sum d.name d.actions seen left values is.0.actions in
@@ -360,8 +346,7 @@ module _ (f : FileFront) (bare : BeginsBare f.front) where
   actions_by : (behind tokens : List Token) (player n : ℕ) (d : InformationSet)
       (w : Within (IsAction player) tokens d.actions) → BehindSetNumber behind (set_of player n)
       → f.front ≡ behind ++ Text d.name ∷ Opening ∷ (w.whole ++ w.first ∷ w.front)
-      → IsSetHere f (set_of player n) d → player ≡ 0
-      → w.first ∷ w.front ≡ Text w.last.label ∷ []
+      → IsSetHere f (set_of player n) d → player ≡ 0 → w.first ∷ w.front ≡ Text w.last.label ∷ []
       → ((p : Ratio) × (w.last.probability ≡ Some p)) → IsInNode f
   actions_by behind tokens (suc player) n d w h e is chance last has = absurd cc
   actions_by behind tokens zero n d w h e is chance last has =

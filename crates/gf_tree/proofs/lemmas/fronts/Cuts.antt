@@ -8,11 +8,6 @@ use Rattle.gf_token.specs.Grammar.{Each}
 pub first_is : {A : Type 0} (x y : A) (xs ys : List A) → x ∷ xs ≡ y ∷ ys → x ≡ y
 first_is x y xs ys e = cc
 
--- what comes after the same front is the same
-pub others_are : {A : Type 0} (front xs ys : List A) → front ++ xs ≡ front ++ ys → xs ≡ ys
-others_are [] xs ys e = e
-others_are (x ∷ front) xs ys e = others_are front xs ys (ap (drop 1) e)
-
 pub none_left : {A : Type 0} (xs ys : List A) → xs ++ ys ≡ [] → xs ≡ []
 none_left [] ys e = refl
 none_left (x ∷ xs) ys e = absurd cc
@@ -80,8 +75,7 @@ module _ {A : Type 0} (P : List Token → A → Type 0) (x : A) (xs : List A) (t
         front = w.front;
         rest = w.rest;
         values = ap (λ ys. x ∷ ys) w.values;
-        parts = k ∙ ap (λ (vs : List Token). h.0 ++ vs) w.parts
-            ∙ sym (append_assoc h.0 w.whole (w.first ∷ w.front));
+        parts = cc (w.parts, append_assoc h.0 w.whole (w.first ∷ w.front));
         each = (h.0, w.whole, refl, h.3, w.each);
         is_last = w.is_last;
       }
@@ -140,8 +134,7 @@ each_last P (x ∷ xs) tokens h = elim (each_last P xs h.1 h.4) [
     front = h.0 ++ k.front;
     group = k.group;
     values = ap (λ ys. x ∷ ys) k.values;
-    parts = h.2 ∙ ap (λ (ts : List Token). h.0 ++ ts) k.parts
-        ∙ sym (append_assoc h.0 k.front k.group);
+    parts = cc (h.2, k.parts, append_assoc h.0 k.front k.group);
     each = (h.0, k.front, refl, h.3, k.each);
     is_last = k.is_last;
   })

@@ -1,6 +1,6 @@
 -- Groups of tokens at the front of a list: they say only one thing, and leave only one rest.
-use Rattle.std.proofs.Common.{◌≡◌, ℕ, List, [], ◌∷◌, ◌++◌, map, drop, Ok, refl}
-use Rattle.std.proofs.Common.{sym, ap, subst, ◌∙◌, append_assoc, inl, inr}
+use Rattle.std.proofs.Common.{◌≡◌, ℕ, List, [], ◌∷◌, ◌++◌, map, drop, Ok, refl, sym, ap, subst, ◌∙◌}
+use Rattle.std.proofs.Common.{append_assoc, arith}
 use Rattle.std.specs.Prelude.{◌⊎◌, Option, Some, None}
 use Rattle.gf_fraction.specs.Ratio.{Ratio}
 use Rattle.gf_fraction.specs.NumberSpelling.{IsNumber}
@@ -30,13 +30,11 @@ NoText tokens = (l : List ℕ) (others : List Token) → tokens ≡ Text l ∷ o
 -- the same tokens in front of a rest
 pub in_front : (first first' rest rest' : List Token) (a b : List Token)
     → first ≡ a → first' ≡ b → first ++ rest ≡ first' ++ rest' → a ++ rest ≡ b ++ rest'
-in_front first first' rest rest' a b h k e =
-    ap (λ (ts : List Token). ts ++ rest) (sym h) ∙ e ∙ ap (λ (ts : List Token). ts ++ rest') k
+in_front first first' rest rest' a b h k e = grind arith
 
 pub regroup : (tokens first others rest : List Token) → tokens ≡ first ++ others
     → tokens ++ rest ≡ first ++ (others ++ rest)
-regroup tokens first others rest e =
-    ap (λ (ts : List Token). ts ++ rest) e ∙ append_assoc first others rest
+regroup tokens first others rest e = grind (arith, append_assoc)
 
 -- groups up to a closing brace
 pub closed_once : {A : Type 0} (P : List Token → A → Type 0) → Agree P → Begun P
@@ -47,18 +45,15 @@ closed_once P agree begun [] [] inner inner' rest rest' h k e =
     (refl, ap (drop 1) (in_front inner inner' (Closing ∷ rest) (Closing ∷ rest') [] [] h k e))
 closed_once P agree begun [] (y ∷ ys) inner inner' rest rest' h k e =
     absurd (begun k.0 (k.1 ++ Closing ∷ rest') rest y k.3
-    (sym (regroup inner' k.0 k.1 (Closing ∷ rest') k.2)
-    ∙ sym e
+    (sym (regroup inner' k.0 k.1 (Closing ∷ rest') k.2) ∙ sym e
     ∙ ap (λ (ts : List Token). ts ++ Closing ∷ rest) h))
 closed_once P agree begun (x ∷ xs) [] inner inner' rest rest' h k e =
     absurd (begun h.0 (h.1 ++ Closing ∷ rest) rest' x h.3
-    (sym (regroup inner h.0 h.1 (Closing ∷ rest) h.2)
-    ∙ e
+    (sym (regroup inner h.0 h.1 (Closing ∷ rest) h.2) ∙ e
     ∙ ap (λ (ts : List Token). ts ++ Closing ∷ rest') k))
 closed_once P agree begun (x ∷ xs) (y ∷ ys) inner inner' rest rest' h k e =
     let a = agree h.0 k.0 (h.1 ++ Closing ∷ rest) (k.1 ++ Closing ∷ rest') x y h.3 k.3
-    (sym (regroup inner h.0 h.1 (Closing ∷ rest) h.2)
-    ∙ e
+    (sym (regroup inner h.0 h.1 (Closing ∷ rest) h.2) ∙ e
     ∙ regroup inner' k.0 k.1 (Closing ∷ rest') k.2) in
     let b = closed_once P agree begun xs ys h.1 k.1 rest rest' h.4 k.4 a.1 in
     (λ i. a.0 i ∷ b.0 i, b.1)
@@ -66,9 +61,7 @@ closed_once P agree begun (x ∷ xs) (y ∷ ys) inner inner' rest rest' h k e =
 -- what comes after an opening brace
 pub opened : (inner inner' rest rest' : List Token) → braced inner ++ rest ≡ braced inner' ++ rest'
     → inner ++ Closing ∷ rest ≡ inner' ++ Closing ∷ rest'
-opened inner inner' rest rest' e = sym (append_assoc inner (Closing ∷ []) rest)
-    ∙ ap (drop 1) e
-    ∙ append_assoc inner' (Closing ∷ []) rest'
+opened inner inner' rest rest' e = grind (arith, append_assoc)
 
 pub texts_once : (xs ys : List (List ℕ)) (rest rest' : List Token)
     → map Text xs ++ Closing ∷ rest ≡ map Text ys ++ Closing ∷ rest' → (xs ≡ ys) × (rest ≡ rest')
@@ -110,14 +103,7 @@ NoComma tokens = (others : List Token) → tokens ≡ Comma ∷ others → ⊥
 comma_gone : (comma comma' rest rest' : List Token) → ((comma ≡ []) ⊎ (comma ≡ Comma ∷ []))
     → ((comma' ≡ []) ⊎ (comma' ≡ Comma ∷ [])) → NoComma rest → NoComma rest'
     → comma ++ rest ≡ comma' ++ rest' → rest ≡ rest'
-comma_gone comma comma' rest rest' (inl a) (inl b) n m e =
-    in_front comma comma' rest rest' [] [] a b e
-comma_gone comma comma' rest rest' (inl a) (inr b) n m e =
-    absurd (n rest' (in_front comma comma' rest rest' [] (Comma ∷ []) a b e))
-comma_gone comma comma' rest rest' (inr a) (inl b) n m e =
-    absurd (m rest (sym (in_front comma comma' rest rest' (Comma ∷ []) [] a b e)))
-comma_gone comma comma' rest rest' (inr a) (inr b) n m e =
-    ap (drop 1) (in_front comma comma' rest rest' (Comma ∷ []) (Comma ∷ []) a b e)
+comma_gone comma comma' rest rest' h h2 h3 h4 h5 = grind (arith, in_front)
 
 -- no comma comes where a payoff or the closing brace is due
 no_comma : (xs : List Ratio) (inner rest : List Token) → Each IsPayoffInBraces inner xs
@@ -127,8 +113,7 @@ no_comma [] inner rest h = λ others e. let whole : Closing ∷ rest ≡ Comma �
     absurd cc
 no_comma (x ∷ xs) inner rest h = λ others e.
     let whole = ap (λ (ts : List Token). ts ++ (h.1 ++ Closing ∷ rest)) (sym h.3.2)
-    ∙ sym (regroup inner h.0 h.1 (Closing ∷ rest) h.2)
-    ∙ e in
+    ∙ sym (regroup inner h.0 h.1 (Closing ∷ rest) h.2) ∙ e in
     absurd cc
 
 payoffs_begun : Begun IsPayoffInBraces
@@ -142,13 +127,11 @@ payoffs_once [] [] inner inner' rest rest' h k e =
     (refl, ap (drop 1) (in_front inner inner' (Closing ∷ rest) (Closing ∷ rest') [] [] h k e))
 payoffs_once [] (y ∷ ys) inner inner' rest rest' h k e =
     absurd (payoffs_begun k.0 (k.1 ++ Closing ∷ rest') rest y k.3
-    (sym (regroup inner' k.0 k.1 (Closing ∷ rest') k.2)
-    ∙ sym e
+    (sym (regroup inner' k.0 k.1 (Closing ∷ rest') k.2) ∙ sym e
     ∙ ap (λ (ts : List Token). ts ++ Closing ∷ rest) h))
 payoffs_once (x ∷ xs) [] inner inner' rest rest' h k e =
     absurd (payoffs_begun h.0 (h.1 ++ Closing ∷ rest) rest' x h.3
-    (sym (regroup inner h.0 h.1 (Closing ∷ rest) h.2)
-    ∙ e
+    (sym (regroup inner h.0 h.1 (Closing ∷ rest) h.2) ∙ e
     ∙ ap (λ (ts : List Token). ts ++ Closing ∷ rest') k))
 payoffs_once (x ∷ xs) (y ∷ ys) inner inner' rest rest' h k e =
     let p = h.3 in
@@ -157,8 +140,7 @@ payoffs_once (x ∷ xs) (y ∷ ys) inner inner' rest rest' h k e =
     let more' = k.1 ++ Closing ∷ rest' in
     let whole : Bare p.0 ∷ (p.1 ++ more) ≡ Bare q.0 ∷ (q.1 ++ more') =
     in_front h.0 k.0 more more' (Bare p.0 ∷ p.1) (Bare q.0 ∷ q.1) p.2 q.2
-    (sym (regroup inner h.0 h.1 (Closing ∷ rest) h.2)
-    ∙ e
+    (sym (regroup inner h.0 h.1 (Closing ∷ rest) h.2) ∙ e
     ∙ regroup inner' k.0 k.1 (Closing ∷ rest') k.2) in
     let bytes : p.0 ≡ q.0 = cc in
     let first = numbers_once p.0 q.0 x y bytes p.3 q.3 in

@@ -1,6 +1,6 @@
 -- The machine of the reader refuses for the reason at the place.
-use Rattle.std.proofs.Common.{◌≡◌, ℕ, zero, suc, List, [], ◌∷◌, ◌++◌, length, Err, sym, ap}
-use Rattle.std.proofs.Common.{subst, ◌∙◌, arith, inl, inr, refl, append-nil}
+use Rattle.std.proofs.Common.{◌≡◌, ℕ, zero, suc, List, [], ◌∷◌, ◌++◌, length, Err, sym, ap, subst}
+use Rattle.std.proofs.Common.{◌∙◌, arith, inl, inr, refl, append-nil}
 use Rattle.std.specs.Prelude.{pos, ◌⊎◌, ◌≤ℤ◌}
 use Rattle.std.proofs.lemmas.Int.{ints}
 use Rattle.gf_token.specs.Token.{Token, Lexeme}
@@ -10,50 +10,49 @@ use Rattle.gf_token.specs.Code.{code_of}
 use Rattle.gf_token.specs.Place.{tokens_of, Begins}
 use Rattle.gf_token.specs.declared.fault.Fault.{Fault}
 use Rattle.gf_token.specs.declared.fault.Why.{Why}
+use Rattle.gf_token.specs.NumberWhy.{why_of}
 use Rattle.gf_token.specs.declared.fault.Why.TheVariants.{Unterminated, Expected, NotANumber}
 use Rattle.gf_token.specs.declared.fault.Why.TheVariants.{ZeroDenominator, NumberTooLarge, BadIndex}
 use Rattle.gf_token.specs.declared.fault.Why.TheVariants.{UnknownPlayer, NotDescribed, Mismatch}
 use Rattle.gf_token.specs.declared.fault.Why.TheVariants.{NegativeProbability, SumAboveOne}
 use Rattle.gf_token.specs.declared.fault.Why.TheVariants.{SumBelowOne, SumOverflow, NoEntry}
 use Rattle.gf_tree.specs.Judgement.{IsRefusal}
+use Rattle.gf_tree.specs.Rows.{or_name, this_label, this_number, a_new_action, a_new_branch, Obeys}
+use Rattle.gf_tree.specs.Rows.{Row, IsNoNumber, Refuses, a_first_name, a_node, an_end, an_outcome}
+use Rattle.gf_tree.specs.Rows.{no_label, or_comma}
+use Rattle.gf_tree.specs.inner.ReadGame.{run_tokens, then_run}
+use Rattle.gf_tree.specs.RowPlaces.{FileFront}
 use Rattle.gf_tree.specs.Reason.{StaysBelowOne, Holds, IsReason, DiffersFromOutcome, DiffersFromSet}
 use Rattle.gf_tree.specs.Reason.{IsBadIndex, EndsInFirstUse, IsMismatch, IsNoText, IsWrongBehind}
 use Rattle.gf_tree.specs.Reason.{IsWrongProbability, ListsActions, IsFaultyNumber, IsUnknownPlayer}
-use Rattle.gf_tree.specs.Rows.{a_new_action, a_new_branch}
-use Rattle.gf_tree.specs.Rows.{Obeys, Row, IsNoNumber, Refuses, a_first_name, a_node, an_end}
-use Rattle.gf_tree.specs.Rows.{an_outcome, no_label, or_comma, or_name, this_label, this_number}
 use Rattle.gf_tree.specs.inner.Machine.{State, nothing, run}
 use Rattle.gf_tree.specs.inner.Machine.Position.{Format}
-use Rattle.gf_tree.specs.inner.ReadGame.{run_tokens, then_run}
 use Rattle.gf_tree.proofs.lemmas.due.Rows.{Stands, accepted, answers_at, leads, refused_by}
 use Rattle.gf_tree.proofs.lemmas.fronts.Codes.{IsUpTo, no_player, known_left}
 use Rattle.gf_tree.proofs.lemmas.reasons.Nodes.{reasoned}
 use Rattle.gf_tree.proofs.lemmas.reasons.Rows.{Own}
+use Rattle.gf_tree.proofs.lemmas.runs.Tokens.{run_on}
+use Rattle.gf_tree.proofs.lemmas.fronts.CutPlaces.{payoff_place}
+use Rattle.gf_tree.proofs.lemmas.due.ByShapes.{front_of, asks_number, asks_outcome, asks_player}
+use Rattle.gf_tree.proofs.lemmas.due.ByShapes.{asks_set}
 use Rattle.gf_tree.proofs.lemmas.runs.Places.{Leads, begins, walk_run}
 use Rattle.gf_tree.proofs.lemmas.runs.Stops.{StopsAt, not_accepted, stopped}
-use Rattle.gf_tree.proofs.lemmas.runs.Tokens.{run_on}
 use Rattle.gf_fraction.specs.Ratio.{Ratio, whole}
 use Rattle.gf_fraction.specs.Computed.{number_of}
 use Rattle.gf_fraction.specs.Fits.{SumFits}
 use Rattle.gf_fraction.specs.NumberSpelling.{HasNumberFault, IsNumber}
 use Rattle.gf_fraction.specs.declared.fraction.NumberFault.{NumberFault}
 use Rattle.gf_fraction.proofs.ComputedAnswers.{answer_is, number_again}
-use Rattle.gf_token.specs.NumberWhy.{why_of}
 use Rattle.gf_tree.specs.Description.{Action, InformationSet, SetKey, set_of, set_with}
 use Rattle.gf_tree.specs.Front.{InActions, IsExtensiveFile, KnowsSet, EndsInNode}
-use Rattle.gf_tree.specs.RowPlaces.{FileFront}
-use Rattle.gf_tree.proofs.lemmas.fronts.CutPlaces.{payoff_place}
 use Rattle.gf_tree.proofs.lemmas.due.Actions.{a_share, known_action, known_share, new_action}
-use Rattle.gf_tree.proofs.lemmas.due.Actions.{new_branch}
-use Rattle.gf_tree.proofs.lemmas.due.Actions.{new_share, no_action_left}
-use Rattle.gf_tree.proofs.lemmas.due.ByShapes.{asks_number, asks_outcome, asks_player, asks_set}
-use Rattle.gf_tree.proofs.lemmas.due.ByShapes.{front_of}
+use Rattle.gf_tree.proofs.lemmas.due.Actions.{new_branch, new_share, no_action_left}
 use Rattle.gf_tree.proofs.lemmas.due.Nodes.{known_set, new_set, reads_on}
 use Rattle.gf_tree.proofs.lemmas.due.Outcomes.{known_outcome, new_outcome}
 use Rattle.gf_tree.proofs.lemmas.due.Payoffs.{after_known_payoff, known_payoff}
-use Rattle.gf_fraction.specs.declared.fraction.NumberFault.TheVariants as number
 use Rattle.gf_tree.proofs.lemmas.Once.{one_err, one_ok}
 use Rattle.gf_fraction.proofs.ReadingBack.{same_fault}
+use Rattle.gf_fraction.specs.declared.fraction.NumberFault.TheVariants as number
 
 -- ---- numbers
 
@@ -78,11 +77,9 @@ other_number b p q why is (inr k) = k.0
 
 -- the reason is that of this number after this sum, and first of its sign
 abbrev IsOrdered : Ratio → Ratio → Why → Type 0
-IsOrdered sum p why =
-    IsWrongBehind why sum p × ((why ≡ NegativeProbability) ⊎ (pos 0 ≤ℤ p.num))
+IsOrdered sum p why = IsWrongBehind why sum p × ((why ≡ NegativeProbability) ⊎ (pos 0 ≤ℤ p.num))
 
-up_to_above : (sum p : Ratio) (why : Why) → SumFits sum p → IsWrongBehind why sum p
-    → IsUpTo why 12
+up_to_above : (sum p : Ratio) (why : Why) → SumFits sum p → IsWrongBehind why sum p → IsUpTo why 12
 up_to_above sum p NegativeProbability fits wrong = omega arith
 up_to_above sum p SumAboveOne fits wrong = omega arith
 up_to_above sum p SumOverflow fits wrong = absurd (wrong fits)
@@ -276,8 +273,7 @@ module _ (before : List Token) (s : State) (why : Why) (l : Leads before s) wher
   lower_at after (Bare b) h NegativeProbability k = negative after b h k
   lower_at after (Bare b) h SumAboveOne k = let wrong = k.4 in
       up_to_above k.0 k.1 why wrong.1.0 (wrong_share after b h SumAboveOne k).0
-  lower_at after Closing h SumBelowOne k =
-      up_to SumBelowOne 13 (below_one after h k) (omega arith)
+  lower_at after Closing h SumBelowOne k = up_to SumBelowOne 13 (below_one after h k) (omega arith)
   lower_at after (Bare b) h SumOverflow k =
       up_to_overflow k.0 k.1 why (wrong_share after b h SumOverflow k).0
   lower_at after Closing h NoEntry k =
@@ -304,8 +300,7 @@ reason_by (Expected what) before after h low = (h, low)
 reason_by _ before after h low = (h, low)
 
 pub reason : (before after : List Token) (s : State) (why : Why) → Leads before s
-    → StopsAt s after why
-    → IsReason why before after
+    → StopsAt s after why → IsReason why before after
 reason before after s why l h =
     reason_by why before after (own before after s why l h) (lower before s why l after h)
 

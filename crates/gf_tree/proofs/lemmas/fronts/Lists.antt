@@ -1,28 +1,27 @@
 -- What the machine of the reader answers after the front of a node, from a probability up to the
 -- number of the outcome: the shape of the front determines this too.
-use Rattle.std.proofs.Common.{◌≡◌, ℕ, zero, suc, Bool, List, [], ◌∷◌, ◌++◌, length, Option}
-use Rattle.std.proofs.Common.{Some, None, MatchOption, Ok, Err, cond, refl, sym, ap, subst, ◌∙◌}
-use Rattle.std.proofs.Common.{append_assoc, inl, inr, nat_eq}
+use Rattle.std.proofs.Common.{◌≡◌, ℕ, zero, suc, Bool, List, [], ◌∷◌, ◌++◌, length, Option, Some}
+use Rattle.std.proofs.Common.{None, MatchOption, Ok, Err, cond, refl, sym, ap, subst, ◌∙◌}
+use Rattle.std.proofs.Common.{append_assoc, inl, inr, nat_eq, arith}
 use Rattle.std.specs.Prelude.{pos, ◌⊎◌}
 use Rattle.std.specs.List.{AllByRecursion}
 use Rattle.gf_fraction.specs.Ratio.{Ratio, IsFraction, whole}
 use Rattle.gf_token.specs.Token.{Token}
+use Rattle.gf_token.specs.declared.fault.Why.TheVariants.{SumBelowOne}
 use Rattle.gf_token.specs.Token.Token.{Opening, Closing, Text, Bare}
 use Rattle.gf_tree.specs.Description.{Action, InformationSet, SetKey, same_set, set_of, IsSet}
 use Rattle.gf_tree.specs.FiniteMap.{description_at}
 use Rattle.gf_tree.specs.FileTree.{Use}
+use Rattle.gf_tree.specs.inner.Probability.{is_one}
 use Rattle.gf_tree.specs.Front.{BehindOutcomeNumber, InActions, ToOutcomeNumber, ToProbability}
 use Rattle.gf_tree.specs.inner.Machine.{Begun, Content, at, begun, behind_label, behind_outcome}
 use Rattle.gf_tree.specs.inner.Machine.{set_known, behind_set, new_set_ends, set_ends, with_set}
-use Rattle.gf_tree.specs.inner.Probability.{is_one}
-use Rattle.gf_token.specs.declared.fault.Why.TheVariants.{SumBelowOne}
 use Rattle.gf_tree.specs.inner.Machine.Position.{NodeDue, NewAction, NewProbability, KnownAction}
 use Rattle.gf_tree.specs.inner.Machine.Position.{KnownProbability, OutcomeNumber}
 use Rattle.gf_tree.specs.inner.ReadGame.{run_tokens, then_run}
 use Rattle.gf_tree.specs.Sentence.{IsDescription, IsInformationSet, IsMover, IsPositive}
 use Rattle.gf_tree.proofs.lemmas.fronts.Runs.{GoesOn, HaveSumFrom, behind_number, due_is}
-use Rattle.gf_tree.proofs.lemmas.fronts.Runs.{goes_before}
-use Rattle.gf_tree.proofs.lemmas.fronts.Runs.{in_actions}
+use Rattle.gf_tree.proofs.lemmas.fronts.Runs.{goes_before, in_actions}
 use Rattle.gf_tree.proofs.lemmas.fronts.Groups.{regroup}
 use Rattle.gf_tree.proofs.lemmas.runs.KnownActions.{HasProbability, label_again, probabilities}
 use Rattle.gf_tree.proofs.lemmas.runs.Learned.{found_has}
@@ -77,8 +76,7 @@ known_label (a ∷ rest) b label c r more has e =
       refl,
       has.0.0,
       has.0.1,
-      λ us. ap (λ (l : List ℕ). run_tokens (KnownAction b (a ∷ rest)) c (Text l ∷ us)) h.0
-          ∙ label_again a rest (Some has.0.0) us b c has.0.1,
+      λ us. cc (h.0, label_again a rest (Some has.0.0) us b c has.0.1),
     )
 
 pub to_probability : (front : List Token) (number : ℕ) (set : InformationSet) (c : Content)
@@ -159,30 +157,26 @@ ended : (actions : List Action) (name : List ℕ) (key : SetKey) (set : Informat
     ≡ run_tokens (OutcomeNumber (begun name key set)) (with_set c key set) us
 ended [] name key set sum c r more is e us = absurd cc
 ended (a ∷ actions) name key set sum c r more is e us =
-    ap (λ xs. then_run (new_set_ends c name key set xs sum) (run_on us)) is
-    ∙ ended_by key.player name key.number set sum c r more e us
+    cc (is, ended_by key.player name key.number set sum c r more e us)
 
 known_ended : (others : List Action) (b : Begun) (c r : Content) (more : List Token)
     → Reads (KnownAction b others) c (Closing ∷ more) r
     → (us : List Token) → run_tokens (KnownAction b others) c (Closing ∷ us)
     ≡ run_tokens (OutcomeNumber b) c us
-known_ended [] b c r more e us = refl
-known_ended (a ∷ others) b c r more e us = absurd cc
+known_ended others b c r more h us = grind arith
 
 -- with a description
 described_step : (front : List Token) (u : Use SetKey InformationSet) (d : InformationSet)
     (c : Content) (behind inner : List Token)
     → front ≡ (behind ++ Text d.name ∷ Opening ∷ inner) ++ Closing ∷ []
-    → InActions (behind ++ Text d.name ∷ Opening ∷ inner) u.key d → GoesOn c front
-    → AtTold c front
+    → InActions (behind ++ Text d.name ∷ Opening ∷ inner) u.key d → GoesOn c front → AtTold c front
 described_step front u d c behind inner e h g =
     let listed = behind ++ Text d.name ∷ Opening ∷ inner in
     let first = λ (us : List Token). regroup front listed (Closing ∷ []) us e in
     elim (in_actions listed u.key d c h (goes_before c front listed (Closing ∷ []) g e)) [
       | inl n ↦
           let f = ended d.actions n.name u.key d n.sum c g.read g.more refl
-          (sym (ap (run_tokens NodeDue c) (first g.more) ∙ n.answers (Closing ∷ g.more))
-          ∙ g.reads) in
+          (cc (first g.more, n.answers (Closing ∷ g.more), g.reads)) in
           record {
             b = begun n.name u.key d;
             content = with_set c u.key d;
@@ -194,8 +188,7 @@ described_step front u d c behind inner e h g =
       | inr k ↦
           let b = begun k.name u.key k.known in
           let f = known_ended k.others b c g.read g.more
-          (sym (ap (run_tokens NodeDue c) (first g.more) ∙ k.answers (Closing ∷ g.more))
-          ∙ g.reads) in
+          (cc (first g.more, k.answers (Closing ∷ g.more), g.reads)) in
           record {
             b = b;
             content = c;
@@ -230,16 +223,14 @@ described_by front u d c letter name mover description number e moves positive h
 terminal_step : (front : List Token) (c : Content) → ToOutcomeNumber front None → GoesOn c front
     → AtTold c front
 terminal_step front c h g =
-    let whole : front ≡ Bare h.0 ∷ Text h.1 ∷ [] =
-    h.3 ∙ ap (λ (ts : List Token). Bare h.0 ∷ Text h.1 ∷ ts) h.4.1 in
+    let whole : front ≡ Bare h.0 ∷ Text h.1 ∷ [] = cc (h.3, h.4.1) in
     let due = due_is c front (Text h.1 ∷ []) h.0 g whole in
     record {
       b = record { name = h.1; set = None; children = 0 };
       content = c;
       players = refl;
       outcomes = refl;
-      answers = λ us. ap (λ (ts : List Token). run_tokens NodeDue c (ts ++ us)) whole
-          ∙ terminal_again h.0 us h.1 due.0 c h.4.0 due.1;
+      answers = λ us. cc (whole, terminal_again h.0 us h.1 due.0 c h.4.0 due.1);
     }
 
 pub to_told : (front : List Token) (set : Option (Use SetKey InformationSet)) (c : Content)
@@ -327,8 +318,7 @@ behind_outcome_number front n c h g =
       players = o.players;
       outcomes = o.outcomes;
       answers = λ us. ap (run_tokens NodeDue c) (regroup front h.0 (Bare h.2 ∷ []) us h.3)
-          ∙ o.answers h.2 us
-          ∙ outcome_again h.2 n o.b o.content us h.5.1 h.5.0
+          ∙ o.answers h.2 us ∙ outcome_again h.2 n o.b o.content us h.5.1 h.5.0
           ∙ ap (λ os. run_on us (behind_outcome o.content o.b n (description_at nat_eq os n)))
           o.outcomes;
     }

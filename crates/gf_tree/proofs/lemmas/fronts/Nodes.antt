@@ -8,27 +8,27 @@ use Rattle.gf_token.specs.Token.Token.{Text, Bare}
 use Rattle.gf_token.specs.Grammar.{Each, braced}
 use Rattle.gf_tree.specs.Consistent.{Describes}
 use Rattle.gf_tree.specs.Description.{same_set}
-use Rattle.gf_tree.specs.FiniteMap.{Described, description_at}
 use Rattle.gf_tree.specs.FileTree.{Use, FileNode}
 use Rattle.gf_tree.specs.Front.{EndsInNode}
 use Rattle.gf_tree.specs.Learned.{Learns}
-use Rattle.gf_tree.specs.inner.Machine.{Content, nothing}
-use Rattle.gf_tree.specs.inner.Machine.Position.{Format, AfterPlayers, NodeDue}
-use Rattle.gf_tree.specs.inner.ReadGame.{run_tokens}
 use Rattle.gf_tree.specs.Sentence.{IsNode}
+use Rattle.gf_tree.specs.FiniteMap.{Described, description_at}
+use Rattle.gf_tree.specs.inner.Machine.{Content, nothing}
+use Rattle.gf_tree.specs.inner.ReadGame.{run_tokens}
+use Rattle.gf_tree.specs.inner.Machine.Position.{Format, AfterPlayers, NodeDue}
 use Rattle.gf_tree.proofs.lemmas.fronts.Groups.{NoText}
+use Rattle.gf_tree.proofs.lemmas.games.SentencesOnce.{node_once}
 use Rattle.gf_tree.proofs.lemmas.games.Learned.{told_found}
 use Rattle.gf_tree.proofs.lemmas.games.Learning.{learned_once}
+use Rattle.gf_tree.proofs.lemmas.games.Uses.{IsEquality}
 use Rattle.gf_tree.proofs.lemmas.runs.Files.{due_by, more_uses}
 use Rattle.gf_tree.proofs.lemmas.runs.Games.{comment_again, headed}
 use Rattle.gf_tree.proofs.lemmas.runs.Heading.{heading, heading_again}
-use Rattle.gf_tree.proofs.lemmas.runs.Learned.{found_has, learns_on, uses_of}
-use Rattle.gf_tree.proofs.lemmas.runs.Nodes.{NodeRead, behind_node, node_again}
 use Rattle.gf_tree.proofs.lemmas.runs.Results.{AreOutcomes}
 use Rattle.gf_tree.proofs.lemmas.runs.Sets.{AreSets}
 use Rattle.gf_tree.proofs.lemmas.runs.Tokens.{Reads}
-use Rattle.gf_tree.proofs.lemmas.games.SentencesOnce.{node_once}
-use Rattle.gf_tree.proofs.lemmas.games.Uses.{IsEquality}
+use Rattle.gf_tree.proofs.lemmas.runs.Learned.{found_has, learns_on, uses_of}
+use Rattle.gf_tree.proofs.lemmas.runs.Nodes.{NodeRead, behind_node, node_again}
 
 -- ---- what is known after nodes
 
@@ -71,10 +71,7 @@ none_walked c tokens e sets outcomes = record {
 
 -- no text comes where nodes are read
 pub node_due_text : (ts : List Token) (c r : Content) → Reads NodeDue c ts r → NoText ts
-node_due_text ts c r e l others is =
-    let f : Reads NodeDue c (Text l ∷ others) r =
-    subst (λ (x : List Token). Reads NodeDue c x r) is e in
-    absurd cc
+node_due_text ts c r e l others is = absurd cc
 
 nodes_plain : (players : ℕ) (nodes : List FileNode) (tokens us : List Token)
     → Each (IsNode players) tokens nodes → NoText us → NoText (tokens ++ us)
@@ -84,7 +81,6 @@ nodes_plain players (n ∷ nodes) tokens us h plain l others e =
     let whole : tokens ++ us
     ≡ Bare h.3.letter ∷ (Text n.name ∷ ((h.3.step ++ h.3.result) ++ h.1)) ++ us =
     ap (λ (ts : List Token). ts ++ us) (h.2 ∙ ap (λ (ts : List Token). ts ++ h.1) h.3.parts) in
-    let both = sym whole ∙ e in
     absurd cc
 
 module _ (n : FileNode) (nodes : List FileNode) (tokens first others rest : List Token)
@@ -126,8 +122,7 @@ module _ (n : FileNode) (nodes : List FileNode) (tokens first others rest : List
             ∙ node_again h.node h.children due first (others ++ us) c h.sets h.outcomes is
             (subst (IsNode (length c.players) first) one.0 is_node)
             (nodes_plain (length c.players) nodes others us each free) h.learns_sets
-            h.learns_outcomes h.has_children h.are_sets
-            ∙ w.answers us free;
+            h.learns_outcomes h.has_children h.are_sets ∙ w.answers us free;
       }
 
 begun_walked : (n : FileNode) (nodes : List FileNode) (tokens first others rest : List Token)

@@ -8,9 +8,9 @@ use Rattle.gf_fraction.specs.Ratio.{Ratio}
 use Rattle.gf_fraction.specs.NumberSpelling.{IsNumber}
 use Rattle.gf_fraction.proofs.ComputedAnswers.{number_again}
 use Rattle.gf_token.specs.Token.{Token}
-use Rattle.gf_token.specs.Token.Token.{Opening, Comma, Text, Bare}
 use Rattle.gf_token.specs.Next.{is_comma}
 use Rattle.gf_token.specs.Grammar.{Each, IsPayoffInBraces}
+use Rattle.gf_token.specs.Token.Token.{Opening, Comma, Text, Bare}
 use Rattle.gf_tree.specs.Description.{Outcome}
 use Rattle.gf_tree.specs.FiniteMap.{description_at}
 use Rattle.gf_tree.specs.Front.{InPayoffs}
@@ -21,9 +21,8 @@ use Rattle.gf_tree.specs.inner.ReadGame.{run_tokens, then_run}
 use Rattle.gf_tree.proofs.lemmas.fronts.Runs.{GoesOn, goes_before}
 use Rattle.gf_tree.proofs.lemmas.fronts.Groups.{numbers_once, regroup}
 use Rattle.gf_tree.proofs.lemmas.runs.Payoffs.{known_at, known_comma, known_step, more_payoffs}
-use Rattle.gf_tree.proofs.lemmas.runs.Payoffs.{new_at}
-use Rattle.gf_tree.proofs.lemmas.runs.Payoffs.{new_comma, new_step, no_payoffs, number_found}
-use Rattle.gf_tree.proofs.lemmas.runs.Payoffs.{with_payoffs}
+use Rattle.gf_tree.proofs.lemmas.runs.Payoffs.{new_at, new_comma, new_step, no_payoffs}
+use Rattle.gf_tree.proofs.lemmas.runs.Payoffs.{number_found, with_payoffs}
 use Rattle.gf_tree.proofs.lemmas.runs.Tokens.{Reads, run_on, text_again, text_found}
 use Rattle.gf_tree.proofs.lemmas.fronts.Lists.{BehindOutcome, behind_outcome_number}
 
@@ -40,8 +39,7 @@ record NewPaid (may : Bool) (b : Begun) (n : ℕ) (outcome : Outcome) (payoffs :
   behind_is : behind ≡ ends_number may inner
   rest : ℕ
   count : length payoffs + rest ≡ left
-  answers : (us : List Token)
-      → run_tokens (new_at may b n outcome left) c (inner ++ us)
+  answers : (us : List Token) → run_tokens (new_at may b n outcome left) c (inner ++ us)
       ≡ run_tokens (new_at behind b n (with_payoffs outcome payoffs) rest) c us
 
 -- a number comes only if one is left
@@ -79,8 +77,7 @@ new_paid [] may b n outcome left inner more c r each e = record {
   rest = left;
   count = omega arith;
   answers = λ us.
-      ap (λ (ts : List Token). run_tokens (new_at may b n outcome left) c (ts ++ us)) each
-      ∙ ap (λ (o : Outcome). run_tokens (new_at may b n o left) c us) (sym (no_payoffs outcome));
+      cc (each, no_payoffs outcome);
 }
 new_paid (p ∷ payoffs) may b n outcome left inner more c r each e =
     let t = each.3.0 in
@@ -97,10 +94,12 @@ new_paid (p ∷ payoffs) may b n outcome left inner more c r each e =
     let number = number_again t p each.3.3 in
     let one : (us : List Token) → run_tokens (new_at may b n outcome left) c (inner ++ us)
     ≡ run_tokens (new_at k.0 b n paid s.0) c (each.1 ++ us) =
-    λ us. ap (run_tokens (new_at may b n outcome left) c) (first us)
-    ∙ ap (λ (m : ℕ). run_tokens (new_at may b n outcome m) c (Bare t ∷ (comma ++ (each.1 ++ us))))
-    s.1
-    ∙ new_step may t p b n outcome s.0 c (comma ++ (each.1 ++ us)) number ∙ k.1 (each.1 ++ us) in
+    λ us. cc (
+      first us,
+      s.1,
+      new_step may t p b n outcome s.0 c (comma ++ (each.1 ++ us)) number,
+      k.1 (each.1 ++ us),
+    ) in
     let f = new_paid payoffs k.0 b n paid s.0 each.1 more c r each.4 (sym (one more) ∙ e) in
     let count = f.count in
     let left_is = s.1 in
@@ -110,9 +109,7 @@ new_paid (p ∷ payoffs) may b n outcome left inner more c r each e =
           ∙ ap (ends_number may) (sym (each.2 ∙ ap (λ (ts : List Token). ts ++ each.1) each.3.2));
       rest = f.rest;
       count = omega (arith, count, left_is);
-      answers = λ us. one us ∙ f.answers us
-          ∙ ap (λ (o : Outcome). run_tokens (new_at f.behind b n o f.rest) c us)
-          (more_payoffs outcome p payoffs);
+      answers = λ us. cc (one us, f.answers us, more_payoffs outcome p payoffs);
     }
 
 record KnownPaid (may : Bool) (known payoffs : List Ratio) (inner : List Token)
@@ -160,10 +157,13 @@ known_paid (p ∷ payoffs) known may inner more c r each e =
     (known_comma s.0 c) each.3.4 in
     let one : (us : List Token) → run_tokens (known_at may known) c (inner ++ us)
     ≡ run_tokens (known_at k.0 s.0) c (each.1 ++ us) =
-    λ us. ap (run_tokens (known_at may known) c) (first us)
-    ∙ ap (λ (ps : List Ratio). run_tokens (known_at may ps) c (Bare t ∷ (comma ++ (each.1 ++ us))))
-    s.1
-    ∙ known_step may t p s.0 c (comma ++ (each.1 ++ us)) each.3.3 ∙ k.1 (each.1 ++ us) in
+    λ us. cc (
+      first us,
+      s.1,
+      known_step may t p s.0 c (comma ++ (each.1 ++ us)) each.3.3,
+      k.1
+          (each.1 ++ us),
+    ) in
     let f = known_paid payoffs s.0 k.0 each.1 more c r each.4 (sym (one more) ∙ e) in
     record {
       behind = f.behind;
@@ -207,8 +207,7 @@ paid_by : (front : List Token) (n : ℕ) (outcome : Outcome) (c : Content)
 paid_by front n outcome c h None unknown k g =
     let us_of = λ (us : List Token). Text outcome.name ∷ Opening ∷ (h.1 ++ us) in
     let behind = λ (us : List Token). ap (run_tokens NodeDue c)
-    (regroup front h.0 (Text outcome.name ∷ Opening ∷ h.1) us h.2)
-    ∙ k.answers (us_of us)
+    (regroup front h.0 (Text outcome.name ∷ Opening ∷ h.1) us h.2) ∙ k.answers (us_of us)
     ∙ ap (λ o. run_on (us_of us) (behind_outcome k.content k.b n o)) unknown in
     let f = new_paid outcome.payoffs false k.b n (record { name = outcome.name; payoffs = [] })
     (length k.content.players) h.1 g.more k.content g.read h.4
@@ -228,8 +227,7 @@ paid_by front n outcome c h (Some known) is_known k g =
     let content = with_node k.content k.b (Some n) in
     let us_of = λ (us : List Token). Text outcome.name ∷ Opening ∷ (h.1 ++ us) in
     let behind = λ (us : List Token). ap (run_tokens NodeDue c)
-    (regroup front h.0 (Text outcome.name ∷ Opening ∷ h.1) us h.2)
-    ∙ k.answers (us_of us)
+    (regroup front h.0 (Text outcome.name ∷ Opening ∷ h.1) us h.2) ∙ k.answers (us_of us)
     ∙ ap (λ o. run_on (us_of us) (behind_outcome k.content k.b n o)) is_known in
     let name = text_found known.name outcome.name (at (KnownOutcomeOpening known.payoffs) content)
     (Opening ∷ (h.1 ++ g.more)) g.read (sym (behind g.more) ∙ g.reads) in
@@ -243,12 +241,10 @@ paid_by front n outcome c h (Some known) is_known k g =
       is_known = is_known;
       others = f.others;
       parts = f.parts;
-      answers = λ us. behind us
-          ∙ ap (λ (l : List ℕ). run_tokens (KnownOutcomeName known) content
+      answers = λ us. behind us ∙ ap (λ (l : List ℕ). run_tokens (KnownOutcomeName known) content
           (Text l ∷ Opening ∷ (h.1 ++ us))) name.0
           ∙ ap (λ o. then_run o (run_on (Opening ∷ (h.1 ++ us))))
-          (text_again known.name (at (KnownOutcomeOpening known.payoffs) content))
-          ∙ f.answers us;
+          (text_again known.name (at (KnownOutcomeOpening known.payoffs) content)) ∙ f.answers us;
     })
 
 pub in_payoffs : (front : List Token) (n : ℕ) (outcome : Outcome) (c : Content)

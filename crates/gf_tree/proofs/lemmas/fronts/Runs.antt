@@ -3,42 +3,41 @@
 use Rattle.std.proofs.Common.{◌≡◌, ℕ, zero, suc, ◌<◌, ◌≤◌, List, [], ◌∷◌, ◌++◌, length, Option}
 use Rattle.std.proofs.Common.{Some, None, Ok, refl, sym, ap, subst, ◌∙◌, arith, inl, inr}
 use Rattle.std.specs.Prelude.{codes, pos, ◌⊎◌, ◌≤ℤ◌}
-use Rattle.std.proofs.lemmas.Int.{ints}
 use Rattle.std.specs.List.{AllByRecursion}
+use Rattle.std.proofs.lemmas.Int.{ints}
 use Rattle.gf_fraction.specs.Ratio.{Ratio, IsFraction, whole}
 use Rattle.gf_fraction.specs.Fits.{AddsTo}
 use Rattle.gf_fraction.specs.NumberSpelling.{IsNumber}
 use Rattle.gf_fraction.proofs.WholeNumbers.{whole_fraction}
 use Rattle.gf_token.specs.Token.{Token}
-use Rattle.gf_token.specs.Token.Token.{Opening, Text, Bare}
 use Rattle.gf_token.specs.Indices.{count_of}
 use Rattle.gf_token.specs.Grammar.{Each}
+use Rattle.gf_token.specs.Token.Token.{Opening, Text, Bare}
 use Rattle.gf_token.proofs.ReadingIndices.{count_again}
 use Rattle.gf_tree.specs.Description.{Action, InformationSet, SetKey, same_set, set_of, IsSet}
 use Rattle.gf_tree.specs.FiniteMap.{description_at}
+use Rattle.gf_tree.specs.Sentence.{IsAction, IsMover}
 use Rattle.gf_tree.specs.Front.{BehindSetNumber, InActions, ToPlayerNumber, ToSetNumber}
 use Rattle.gf_tree.specs.inner.Machine.{Begun, Content, after_node, at, begun, behind_label}
-use Rattle.gf_tree.specs.inner.Machine.{behind_set}
-use Rattle.gf_tree.specs.inner.Machine.{personal_node, set_number, shared, with_action}
+use Rattle.gf_tree.specs.inner.Machine.{behind_set, personal_node, set_number, shared, with_action}
 use Rattle.gf_tree.specs.inner.Machine.Position.{NodeDue, PlayerNumber, SetNumber, NewAction}
-use Rattle.gf_tree.specs.inner.Machine.Position.{KnownAction}
-use Rattle.gf_tree.specs.inner.Machine.Position.{KnownProbability, KnownSetName, KnownSetOpening}
+use Rattle.gf_tree.specs.inner.Machine.Position.{KnownAction, KnownProbability, KnownSetName}
+use Rattle.gf_tree.specs.inner.Machine.Position.{KnownSetOpening}
 use Rattle.gf_tree.specs.inner.Probability.{share_of}
 use Rattle.gf_tree.specs.inner.ReadGame.{run_tokens, then_run}
-use Rattle.gf_tree.specs.Sentence.{IsAction, IsMover}
 use Rattle.gf_tree.proofs.lemmas.fronts.Groups.{numbers_once, regroup}
+use Rattle.gf_tree.proofs.lemmas.Once.{one_some}
 use Rattle.gf_tree.proofs.lemmas.runs.Actions.{more_actions, no_actions, shared_found, with_actions}
 use Rattle.gf_tree.proofs.lemmas.runs.Files.{due_by}
-use Rattle.gf_tree.proofs.lemmas.runs.KnownActions.{HasProbability, label_again, probabilities}
 use Rattle.gf_tree.proofs.lemmas.runs.Learned.{found_has}
-use Rattle.gf_tree.proofs.lemmas.runs.Nodes.{mover_again, personal_again, player_by, some_player}
 use Rattle.gf_tree.proofs.lemmas.runs.Payoffs.{number_found, number_same}
 use Rattle.gf_tree.proofs.lemmas.runs.Results.{AreOutcomes}
 use Rattle.gf_tree.proofs.lemmas.runs.Sets.{AreSets}
+use Rattle.gf_tree.proofs.lemmas.runs.KnownActions.{HasProbability, label_again, probabilities}
+use Rattle.gf_tree.proofs.lemmas.runs.Nodes.{mover_again, personal_again, player_by, some_player}
 use Rattle.gf_tree.proofs.lemmas.runs.Shares.{share_found}
-use Rattle.gf_tree.proofs.lemmas.runs.Tokens.{Reads, run_on, text_again, text_found}
 use Rattle.gf_tree.proofs.lemmas.games.TreesOnce.{same_set_equality}
-use Rattle.gf_tree.proofs.lemmas.Once.{one_some}
+use Rattle.gf_tree.proofs.lemmas.runs.Tokens.{Reads, run_on, text_again, text_found}
 
 -- from this content some tokens that begin with these are read
 pub record GoesOn (c : Content) (front : List Token) : Type 0 where
@@ -55,8 +54,7 @@ goes_before c front first others g e = record {
   read = g.read;
   are_sets = g.are_sets;
   are_outcomes = g.are_outcomes;
-  reads = subst (λ (ts : List Token). Reads NodeDue c ts g.read)
-      (regroup front first others g.more e) g.reads;
+  reads = rw (← regroup front first others g.more e) g.reads;
 }
 
 pub due_is : (c : Content) (front rest : List Token) (letter : List ℕ) → GoesOn c front
@@ -75,8 +73,7 @@ personal_reads c r ts left is e =
 
 some_players : (players : List (List ℕ)) (c r : Content) (ts : List Token)
     → then_run (personal_node c players) (run_on ts) ≡ Ok r → 0 < length players
-some_players [] c r ts e = absurd cc
-some_players (player ∷ players) c r ts e = omega arith
+some_players players c r ts h = grind arith
 
 pub record AtPlayer (c : Content) (front : List Token) : Type 0 where
   pub name : List ℕ
@@ -131,8 +128,7 @@ to_number front player c h g =
     record {
       name = h.1;
       among = among;
-      answers = λ us. ap (λ (ts : List Token). run_tokens NodeDue c (ts ++ us)) h.3
-          ∙ mover_again h.0 h.2 us h.1 player due.0 c h.4 among due.1;
+      answers = λ us. cc (h.3, mover_again h.0 h.2 us h.1 player due.0 c h.4 among due.1);
     }
 
 pub record AtSet (c : Content) (front : List Token) (key : SetKey) : Type 0 where
@@ -190,10 +186,7 @@ new_front [] player inner more name n set sum c r fraction high each e = record 
   high = high;
   have_sum = none_listed player sum;
   answers = λ us.
-      ap (λ (ts : List Token). run_tokens (NewAction name (set_of player n) set sum) c (ts ++ us))
-      each
-      ∙ ap (λ (s : InformationSet). run_tokens (NewAction name (set_of player n) s sum) c us)
-      (sym (no_actions set));
+      cc (each, no_actions set);
 }
 new_front (a ∷ actions) zero inner more name n set sum c r fraction high each e =
     let b = each.3.0 in
@@ -215,21 +208,14 @@ new_front (a ∷ actions) zero inner more name n set sum c r fraction high each 
     k.2 in
     let all : with_actions (with_action set a.label (Some s.probability)) actions
     ≡ with_actions set (a ∷ actions) =
-    more_actions set a.label (Some s.probability) actions
-    ∙ ap (λ (x : Ratio).
-    with_actions set (record { label = a.label; probability = Some x } ∷ actions)) same
-    ∙ ap (λ (x : Action). with_actions set (x ∷ actions)) (sym is) in
-    let given : a.probability ≡ Some s.probability =
-    each.3.4 ∙ ap (λ (x : Ratio). Some x) (sym same) in
+    cc (more_actions set a.label (Some s.probability) actions, same, is) in
+    let given : a.probability ≡ Some s.probability = cc (each.3.4, same) in
     record {
       total = f.total;
       fraction = f.fraction;
       high = f.high;
       have_sum = (s.probability, s.sum, given, found.adds, found.number.fraction, f.have_sum);
-      answers = λ us. ap (run_tokens (NewAction name key set sum) c) (first us)
-          ∙ ap (λ o. then_run (shared c name key set a.label o) (run_on (each.1 ++ us))) k.1
-          ∙ f.answers us
-          ∙ ap (λ (t : InformationSet). run_tokens (NewAction name key t f.total) c us) all;
+      answers = λ us. cc (first us, k.1, f.answers us, all);
     }
 new_front (a ∷ actions) (suc player) inner more name n set sum c r fraction high each e =
     let key = set_of (suc player) n in
@@ -238,8 +224,7 @@ new_front (a ∷ actions) (suc player) inner more name n set sum c r fraction hi
     let first = λ (us : List Token). regroup inner each.0 each.1 us each.2
     ∙ ap (λ (ts : List Token). ts ++ (each.1 ++ us)) each.3.0 in
     let all : with_actions (with_action set a.label None) actions ≡ with_actions set (a ∷ actions) =
-    more_actions set a.label None actions
-    ∙ ap (λ (x : Action). with_actions set (x ∷ actions)) (sym is) in
+    cc (more_actions set a.label None actions, is) in
     let f = new_front actions (suc player) each.1 more name n (with_action set a.label None) sum c r
     fraction high each.4
     (subst (λ (ts : List Token). Reads (NewAction name key set sum) c ts r) (first more) e) in
@@ -248,9 +233,7 @@ new_front (a ∷ actions) (suc player) inner more name n set sum c r fraction hi
       fraction = f.fraction;
       high = f.high;
       have_sum = tt;
-      answers = λ us. ap (run_tokens (NewAction name key set sum) c) (first us)
-          ∙ f.answers us
-          ∙ ap (λ (t : InformationSet). run_tokens (NewAction name key t f.total) c us) all;
+      answers = λ us. cc (first us, f.answers us, all);
     }
 
 -- ---- the actions of a known set
@@ -270,8 +253,7 @@ known_more : (a k : Action) (known actions : List Action) (inner first rest : Li
 known_more a k known actions inner first rest b c same parts one f = record {
   others = f.others;
   parts = λ i. sym same i ∷ f.parts i;
-  answers = λ us. ap (run_tokens (KnownAction b (k ∷ known)) c) (regroup inner first rest us parts)
-      ∙ one (rest ++ us) ∙ f.answers us;
+  answers = λ us. cc (regroup inner first rest us parts, one (rest ++ us), f.answers us);
 }
 
 -- the next action of a set of chance, with its probability
@@ -308,8 +290,7 @@ player_next a k known b c r us has is e =
     let h = text_found k.label a.label (at (behind_label b k.probability known) c) us r e in (
       λ i. record { label = h.0 i; probability = (is ∙ sym has) i },
       subst (λ o. Reads (behind_label b o known) c us r) has h.1,
-      λ vs. ap (λ (l : List ℕ). run_tokens (KnownAction b (k ∷ known)) c (Text l ∷ vs)) h.0
-          ∙ label_again k known None vs b c has,
+      λ vs. cc (h.0, label_again k known None vs b c has),
     )
 
 known_front : (actions known : List Action) (player : ℕ) (inner more : List Token) (b : Begun)
@@ -325,14 +306,10 @@ known_front [] known player inner more b c r has each e = record {
 known_front (a ∷ actions) [] zero inner more b c r has each e =
     let first = regroup inner each.0 each.1 more each.2
     ∙ ap (λ (ts : List Token). ts ++ (each.1 ++ more)) each.3.2 in
-    let reads : Reads (KnownAction b []) c (Text a.label ∷ Bare each.3.0 ∷ (each.1 ++ more)) r =
-    subst (λ (ts : List Token). Reads (KnownAction b []) c ts r) first e in
     absurd cc
 known_front (a ∷ actions) [] (suc player) inner more b c r has each e =
     let first = regroup inner each.0 each.1 more each.2
     ∙ ap (λ (ts : List Token). ts ++ (each.1 ++ more)) each.3.0 in
-    let reads : Reads (KnownAction b []) c (Text a.label ∷ (each.1 ++ more)) r =
-    subst (λ (ts : List Token). Reads (KnownAction b []) c ts r) first e in
     absurd cc
 known_front (a ∷ actions) (k ∷ known) zero inner more b c r has each e =
     let t = each.3.0 in
@@ -425,8 +402,7 @@ in_braces front key set c h (Some known) is_known at_set g =
           ∙ ap (λ (l : List ℕ). run_tokens (KnownSetName at_set.name key known) c
           (Text l ∷ Opening ∷ (h.1 ++ us))) name.0
           ∙ ap (λ o. then_run o (run_on (Opening ∷ (h.1 ++ us))))
-          (text_again known.name (at (KnownSetOpening b known.actions) c))
-          ∙ f.answers us;
+          (text_again known.name (at (KnownSetOpening b known.actions) c)) ∙ f.answers us;
     })
 
 pub in_actions : (front : List Token) (key : SetKey) (set : InformationSet) (c : Content)

@@ -1,23 +1,23 @@
 -- After a heading, and after a whole node, there are only whole nodes.
-use Rattle.std.proofs.Common.{◌≡◌, ℕ, ◌≤◌, List, [], ◌∷◌, ◌++◌, length, map, Some}
-use Rattle.std.proofs.Common.{None, refl, sym, ap, ◌∙◌, append_assoc, append-nil, arith, inl, inr}
+use Rattle.std.proofs.Common.{◌≡◌, ℕ, ◌≤◌, List, [], ◌∷◌, ◌++◌, length, map, Some, None, refl, sym}
+use Rattle.std.proofs.Common.{ap, ◌∙◌, append_assoc, append-nil, arith, inl, inr}
 use Rattle.std.specs.Prelude.{codes, ◌⊎◌}
 use Rattle.std.proofs.lemmas.List.{length-append}
 use Rattle.gf_token.specs.Token.{Token}
-use Rattle.gf_token.specs.Token.Token.{Opening, Closing, Text, Bare}
 use Rattle.gf_token.specs.Grammar.{braced, IsComment}
+use Rattle.gf_token.specs.Token.Token.{Opening, Closing, Text, Bare}
 use Rattle.gf_tree.specs.Description.{Outcome}
 use Rattle.gf_tree.specs.FileTree.{FileNode}
 use Rattle.gf_tree.specs.Front.{BehindOutcomeNumber, InPayoffs}
-use Rattle.gf_tree.specs.RowPlaces.{BehindComment, BehindNode, BehindPlayers, FileFront}
 use Rattle.gf_tree.specs.Sentence.{IsNode}
+use Rattle.gf_tree.specs.Reason.{NobodyMoves}
+use Rattle.gf_tree.specs.RowPlaces.{BehindComment, BehindNode, BehindPlayers, FileFront}
 use Rattle.gf_tree.proofs.lemmas.fronts.CutFiles.{headed}
 use Rattle.gf_tree.proofs.lemmas.fronts.Cuts.{each_more}
-use Rattle.gf_tree.proofs.lemmas.due.Nodes.{parts}
-use Rattle.gf_tree.proofs.lemmas.fronts.Codes.{begins_on, begins_payoffs, known_outcome}
 use Rattle.gf_tree.proofs.lemmas.fronts.Payoffs.{in_payoffs}
+use Rattle.gf_tree.proofs.lemmas.due.Nodes.{parts}
 use Rattle.gf_tree.proofs.lemmas.fronts.Runs.{goes_before}
-use Rattle.gf_tree.specs.Reason.{NobodyMoves}
+use Rattle.gf_tree.proofs.lemmas.fronts.Codes.{begins_on, begins_payoffs, known_outcome}
 
 -- ---- the heading
 
@@ -55,9 +55,7 @@ heading_ends letter title note players comment before is is_comment e none = (
 
 heading_is : (before : List Token) (players : List (List ℕ)) (h : BehindPlayers before players)
     → before ≡ headed h.1.1.2.0 h.1.1.1 (braced (map Text players))
-heading_is before players h = h.2 ∙ (λ i. h.1.2 i ++ Closing ∷ [])
-    ∙ (λ i. (h.1.1.3 i ++ Opening ∷ map Text players) ++ Closing ∷ [])
-    ∙ (λ i. ((h.1.1.2.2 i ++ Text h.1.1.1 ∷ []) ++ Opening ∷ map Text players) ++ Closing ∷ [])
+heading_is before players h = grind arith
 
 pub behind_players : (before : List Token) (players : List (List ℕ)) → BehindPlayers before players
     → length players ≡ 0 → NobodyMoves before
@@ -146,8 +144,7 @@ few_payoffs f first rest n outcome h e =
     ]
 
 -- if there are no players
-pub whole_node : (f : FileFront) → BehindNode f.front → length f.players ≡ 0
-    → NobodyMoves f.before
+pub whole_node : (f : FileFront) → BehindNode f.front → length f.players ≡ 0 → NobodyMoves f.before
 whole_node f (inl h) none =
     let node : FileNode = record { name = h.3.1; set = h.1; outcome = None } in
     node_ends f node (record {

@@ -6,24 +6,23 @@ use Rattle.std.proofs.lemmas.Bool.{eqb-true}
 use Rattle.std.proofs.lemmas.Bool.Decides.{Decides-eqb}
 use Rattle.gf_tree.specs.Description.{InformationSet, Outcome, SetKey, same_set, set_of}
 use Rattle.gf_tree.specs.FiniteMap.{Described, first_uses}
+use Rattle.gf_tree.specs.FirstUse.{outcome_numbers, first_use_number, sets_of, first_use_numbers}
+use Rattle.gf_tree.specs.FirstUse.{player_keys}
+use Rattle.gf_tree.specs.SameGame.{Carries, SameGame}
+use Rattle.gf_tree.specs.CanonicalGame.{canonical_game}
 use Rattle.gf_tree.specs.Game.{Game, IsGame, used_sets, used_outcomes}
-use Rattle.gf_tree.specs.Renumbering.{Renumbering, IsRenumbering, HasSet}
-use Rattle.gf_tree.specs.Renumbering.{HasOutcome, renumbered_set, renumbered}
-use Rattle.gf_tree.specs.FirstUse.{first_use_number, sets_of, first_use_numbers}
-use Rattle.gf_tree.specs.FirstUse.{player_keys, outcome_numbers}
+use Rattle.gf_tree.specs.Renumbering.{Renumbering, IsRenumbering, HasSet, HasOutcome}
+use Rattle.gf_tree.specs.Renumbering.{renumbered_set, renumbered}
 use Rattle.gf_tree.proofs.lemmas.games.Members.{filter_of_map, map_same, map_twice}
 use Rattle.gf_tree.proofs.lemmas.games.FirstUseNumbers.{number_kept}
 use Rattle.gf_tree.proofs.lemmas.games.Carried.{carried_map}
-use Rattle.gf_tree.proofs.lemmas.games.Renumberings.{Agree, agreed_games, composed}
-use Rattle.gf_tree.proofs.lemmas.games.Renumberings.{composed_games, sets_apart, outcomes_apart}
-use Rattle.gf_tree.proofs.lemmas.games.Renumbered.{set_at_image, outcome_at_image}
-use Rattle.gf_tree.proofs.lemmas.games.Renumbered.{renumbered_is_game}
-use Rattle.gf_tree.proofs.lemmas.games.Renumbered.{own_set, first_use_is_renumbering}
+use Rattle.gf_tree.proofs.lemmas.games.Renumbered.{first_use_is_renumbering, set_at_image}
+use Rattle.gf_tree.proofs.lemmas.games.Renumbered.{outcome_at_image, renumbered_is_game, own_set}
 use Rattle.gf_tree.proofs.lemmas.games.FirstUses.{of_filter}
 use Rattle.gf_tree.proofs.lemmas.games.TreesOnce.{same_set_equality}
 use Rattle.gf_tree.proofs.lemmas.games.Uses.{has, contains}
-use Rattle.gf_tree.specs.SameGame.{Carries, SameGame}
-use Rattle.gf_tree.specs.CanonicalGame.{canonical_game}
+use Rattle.gf_tree.proofs.lemmas.games.Renumberings.{Agree, agreed_games, composed, composed_games}
+use Rattle.gf_tree.proofs.lemmas.games.Renumberings.{sets_apart, outcomes_apart}
 use Rattle.gf_tree.proofs.lemmas.games.Same.{carried_sets, carried_outcomes, same_back, same_on}
 
 -- ---- carried
@@ -115,8 +114,7 @@ pub outcome_numbers_carried : (r : Renumbering) (g h : Game) → IsGame g → Is
     → outcome_numbers h ≡ map r.outcome (outcome_numbers g)
 outcome_numbers_carried r g h game game' c =
     ap outcome_numbers (sym (carried_is_renumbered r g h game game' c))
-    ∙ map_twice (λ o. o.key) moved g.outcomes
-    ∙ sym (map_twice r.outcome (λ o. o.key) g.outcomes)
+    ∙ map_twice (λ o. o.key) moved g.outcomes ∙ sym (map_twice r.outcome (λ o. o.key) g.outcomes)
   where
     moved : Described ℕ Outcome → Described ℕ Outcome
     moved o = record { key = r.outcome o.key; description = o.description }
@@ -124,8 +122,7 @@ outcome_numbers_carried r g h game game' c =
 -- ---- first-use numbers
 
 pub set_number_kept : (r : Renumbering) (g h : Game) → Carries r g h → (player number : ℕ)
-    → HasSet g player number
-    → (first_use_numbers h).set player (r.set player number)
+    → HasSet g player number → (first_use_numbers h).set player (r.set player number)
     ≡ (first_use_numbers g).set player number
 set_number_kept r g h c player number i =
     let key = set_of player number in
@@ -134,18 +131,13 @@ set_number_kept r g h c player number i =
     let carried : sets_of player (used_sets h.tree) ≡ map (renumbered_set r) own =
     ap (sets_of player) (carried_sets r g h c)
     ∙ filter_of_map mine mine (renumbered_set r) (used_sets g.tree) (λ k j. refl) in
-    ap (λ ks. first_use_number same_set ks (renumbered_set r key)) carried
-    ∙ number_kept
-    same_set
-    same_set
-    same_set_equality
-    same_set_equality
-    (renumbered_set r)
-    own
-    key
-    (λ a b j k e. sets_apart g r c.renumbering a b (of_filter mine (used_sets g.tree) a j).0
-    (of_filter mine (used_sets g.tree) b k).0 e)
-    (own_set g key (has (used_sets g.tree) key i))
+    cc (
+      carried,
+      number_kept same_set same_set same_set_equality same_set_equality (renumbered_set
+          r) own key (λ a b j k e. sets_apart g r c.renumbering a b (of_filter mine (used_sets g.tree) a
+          j).0 (of_filter mine (used_sets g.tree) b k).0 e) (own_set g key (has (used_sets g.tree) key
+          i)),
+    )
 
 pub outcome_number_kept : (r : Renumbering) (g h : Game)
     → Carries r g h → (number : ℕ) → HasOutcome g number

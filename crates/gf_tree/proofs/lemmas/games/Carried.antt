@@ -1,15 +1,15 @@
 -- Finite maps whose keys are carried to others.
-use Rattle.std.proofs.Common.{◌≡◌, Bool, true, false, List, [], ◌∷◌}
-use Rattle.std.proofs.Common.{map, refl, sym, ap, subst, ◌∙◌, inl, inr}
+use Rattle.std.proofs.Common.{◌≡◌, Bool, true, false, List, [], ◌∷◌, map, refl, sym, ap, subst, ◌∙◌}
+use Rattle.std.proofs.Common.{inl, inr, arith}
+use Rattle.std.proofs.lemmas.Bool.{cases_Bool, both_ways}
 use Rattle.std.specs.Prelude.{◌⊎◌, unwrap_or}
 use Rattle.std.specs.List.{find}
-use Rattle.std.proofs.lemmas.Bool.{cases_Bool, both_ways}
 use Rattle.gf_tree.specs.FiniteMap.{Described, description_at, first_uses}
 use Rattle.gf_tree.proofs.lemmas.games.Members.{map_same, map_twice}
+use Rattle.gf_tree.proofs.lemmas.games.FirstUses.{AreDistinct, was_used, is_used}
+use Rattle.gf_tree.proofs.lemmas.games.FirstUses.{first_uses_distinct}
 use Rattle.gf_tree.proofs.lemmas.games.FirstUseNumbers.{same_tests, AreApart, first_uses_of_map}
 use Rattle.gf_tree.proofs.lemmas.games.Lookups.{keys, at_images, lookup_image, same_map}
-use Rattle.gf_tree.proofs.lemmas.games.FirstUses.{was_used, is_used, first_uses_distinct}
-use Rattle.gf_tree.proofs.lemmas.games.FirstUses.{AreDistinct}
 use Rattle.gf_tree.proofs.lemmas.games.Uses.{Has, has_map, mapped_from, IsEquality}
 
 pub of_keys : {K D : Type 0} (same : K → K → Bool) (us : List K) (es : List (Described K D)) (k : K)
@@ -32,16 +32,14 @@ pub image_keys : {K D : Type 0} (same : K → K → Bool)
     → keys es ≡ first_uses same us → keys (at_images f es) ≡ first_uses same (map f us)
 image_keys same tells f us es apart q =
     map_twice (λ e. e.key) (λ e. record { key = f e.key; description = e.description }) es
-    ∙ sym (map_twice f (λ e. e.key) es)
-    ∙ ap (map f) q
+    ∙ sym (map_twice f (λ e. e.key) es) ∙ ap (map f) q
     ∙ sym (first_uses_of_map same same tells tells f us apart)
 
 pub image_lookup : {K D : Type 0} (same : K → K → Bool)
     → IsEquality same → (f : K → K) (us : List K) (es : List (Described K D)) (k : K)
     → AreApart f us → keys es ≡ first_uses same us → Has us k
     → description_at same (at_images f es) (f k) ≡ description_at same es k
-image_lookup same tells f us es k apart q i = lookup_image same same f es k
-    (λ x j. same_tests same same tells tells f x k (apart x k (of_keys same us es x q j) i))
+image_lookup same tells f us es k apart q i = grind (arith, lookup_image, same_tests, of_keys)
 
 -- if each key and its image have the same description, one map is the other at the images
 pub carried_map : {K D : Type 0} (same : K → K → Bool)
@@ -60,10 +58,7 @@ carried_map {K} same tells f us es fs apart q p h =
         → description_at same (at_images f es) k ≡ description_at same fs k
     lookups k i =
         let o = mapped_from f us k (was_used same (map f us) k (subst (λ ks. Has ks k) image i)) in
-        ap (description_at same (at_images f es)) (sym o.2)
-        ∙ image_lookup same tells f us es o.0 apart q o.1
-        ∙ h o.0 o.1
-        ∙ ap (description_at same fs) o.2
+        cc (o.2, image_lookup same tells f us es o.0 apart q o.1, h o.0 o.1)
 
 pub at_images_twice : {K D : Type 0} (f g : K → K) (es : List (Described K D))
     → at_images g (at_images f es) ≡ at_images (λ k. g (f k)) es
@@ -103,11 +98,7 @@ undone {K} same tells f (u ∷ us) k apart i = elim (cases_Bool (same (f u) (f k
 -- what is undone was told apart
 pub undone_apart : {K L : Type 0} (f : K → L) (g : L → K) (us : List K)
     → ((k : K) → Has us k → g (f k) ≡ k) → AreApart g (map f us)
-undone_apart f g us h a b i j e =
-    let k = mapped_from f us a i in
-    let l = mapped_from f us b j in
-    let same : k.0 ≡ l.0 = sym (h k.0 k.1) ∙ ap g k.2 ∙ e ∙ ap g (sym l.2) ∙ h l.0 l.1 in
-    sym k.2 ∙ ap f same ∙ l.2
+undone_apart f g us h a b i j e = grind (arith, mapped_from)
 
 pub apart_twice : {K L M : Type 0} (f : K → L) (g : L → M) (us : List K)
     → AreApart f us → AreApart g (map f us) → AreApart (λ k. g (f k)) us

@@ -1,20 +1,21 @@
 -- The game of a consistent file tree: there is one, and it is a game.
 use Rattle.std.proofs.Common.{◌≡◌, ℕ, suc, ◌++◌, List, [], ◌∷◌, length, map, Some, None, Option}
 use Rattle.std.proofs.Common.{Bool, MatchOption, option_map, refl, sym, ap, subst, ◌∙◌, inl, inr}
-use Rattle.std.specs.Prelude.{nat_eq}
-use Rattle.std.specs.List.{AllByRecursion, filter_map, cons_option}
+use Rattle.std.proofs.Common.{arith}
 use Rattle.std.proofs.lemmas.Bool.Decides.{Decides-eqb}
 use Rattle.std.proofs.lemmas.List.{map-append}
+use Rattle.std.specs.Prelude.{nat_eq}
+use Rattle.std.specs.List.{AllByRecursion, filter_map, cons_option}
 use Rattle.gf_tree.specs.Tree.{Tree, Trees, count, map_tree, map_trees}
 use Rattle.gf_tree.specs.Tree.Tree.{branch}
 use Rattle.gf_tree.specs.Tree.Trees.{none, more}
 use Rattle.gf_tree.specs.PrefixOrder.{Entry, flatten, flatten_all}
 use Rattle.gf_tree.specs.Description.{SetKey, InformationSet, same_set, IsSet, IsOutcome}
 use Rattle.gf_tree.specs.FiniteMap.{first_uses}
+use Rattle.gf_tree.specs.GameOf.{keys_alone, IsGameOf}
 use Rattle.gf_tree.specs.FileTree.{Use, FileNode, FileTree, set_uses, outcome_uses}
 use Rattle.gf_tree.specs.Consistent.{Describes, AreConsistent, IsConsistent, HasChildrenAsDescribed}
 use Rattle.gf_tree.specs.Game.{Game, HasChildren, IsGame, used_sets, used_outcomes, set_at}
-use Rattle.gf_tree.specs.GameOf.{keys_alone, IsGameOf}
 use Rattle.gf_tree.proofs.lemmas.games.Uses.{Has, IsEquality, has_map, mapped_from, each}
 use Rattle.gf_tree.proofs.lemmas.games.Uses.{all_of_each, has_first, has_later, described}
 use Rattle.gf_tree.proofs.lemmas.games.FirstUses.{is_used, was_used, describe_all, found}
@@ -46,22 +47,18 @@ mutual
 keys_of_option : {K D : Type 0} (o : Option (Use K D)) (us : List (Use K D))
     → cons_option (option_map (λ u. u.key) o) (map (λ u. u.key) us)
     ≡ map (λ u. u.key) (cons_option o us)
-keys_of_option None us = refl
-keys_of_option (Some u) us = refl
+keys_of_option o us = grind arith
 
 set_keys_of : (es : List (Entry FileNode))
     → filter_map (λ e. e.node.set) (map (map_entry keys_alone) es) ≡ map (λ u. u.key) (set_uses es)
 set_keys_of [] = refl
-set_keys_of (e ∷ es) = ap (cons_option (option_map (λ u. u.key) e.node.set)) (set_keys_of es)
-    ∙ keys_of_option e.node.set (set_uses es)
+set_keys_of (e ∷ es) = cc (set_keys_of es, keys_of_option e.node.set (set_uses es))
 
 outcome_keys_of : (es : List (Entry FileNode))
     → filter_map (λ e. e.node.outcome) (map (map_entry keys_alone) es)
     ≡ map (λ u. u.key) (outcome_uses es)
 outcome_keys_of [] = refl
-outcome_keys_of (e ∷ es) =
-    ap (cons_option (option_map (λ u. u.key) e.node.outcome)) (outcome_keys_of es)
-    ∙ keys_of_option e.node.outcome (outcome_uses es)
+outcome_keys_of (e ∷ es) = cc (outcome_keys_of es, keys_of_option e.node.outcome (outcome_uses es))
 
 pub used_sets_are : (t : Tree FileNode)
     → used_sets (map_tree keys_alone t) ≡ map (λ u. u.key) (set_uses (flatten t))
@@ -117,9 +114,7 @@ set_found : (f : FileTree) (g : Game) → IsGameOf f g → (u : Use SetKey Infor
 set_found f g of u h =
     let es = flatten f.tree in
     let keys : map (λ s. s.key) g.sets ≡ first_uses same_set (map (λ u. u.key) (set_uses es)) =
-    of.set_keys
-    ∙ ap (λ t. first_uses same_set (used_sets t)) (sym of.kept.tree)
-    ∙ ap (first_uses same_set) (used_sets_are f.tree) in
+    cc (of.set_keys, of.kept.tree, used_sets_are f.tree) in
     let key = is_used same_set same_set_equality (map (λ u. u.key) (set_uses es)) u.key
     (has_map (λ u. u.key) (set_uses es) u h) in
     let d =

@@ -1,25 +1,25 @@
 -- A file tree of each game: each use has its description.
-use Rattle.std.proofs.Common.{◌≡◌, ◌↔◌, ℕ, Bool, true, false, List, [], ◌∷◌}
-use Rattle.std.proofs.Common.{length, map, Some, None, Option, MatchOption}
-use Rattle.std.proofs.Common.{option_map, refl, sym, ap, subst, ◌∙◌, inl, inr}
+use Rattle.std.proofs.Common.{◌≡◌, ◌↔◌, ℕ, Bool, true, false, List, [], ◌∷◌, length, map, Some, inr}
+use Rattle.std.proofs.Common.{None, Option, MatchOption, option_map, refl, sym, ap, subst, ◌∙◌, inl}
+use Rattle.std.proofs.Common.{arith}
+use Rattle.std.proofs.lemmas.Bool.Decides.{Decides-eqb}
 use Rattle.std.specs.Prelude.{nat_eq}
 use Rattle.std.specs.List.{AllByRecursion, filter_map, cons_option}
-use Rattle.std.proofs.lemmas.Bool.Decides.{Decides-eqb}
 use Rattle.gf_tree.specs.Tree.{Tree, Trees, map_tree, map_trees}
 use Rattle.gf_tree.specs.Tree.Tree.{branch}
 use Rattle.gf_tree.specs.Tree.Trees.{none, more}
 use Rattle.gf_tree.specs.PrefixOrder.{Entry, flatten}
+use Rattle.gf_tree.specs.Game.{outcome_at, Node, Game, HasChildren, IsGame, used_sets}
+use Rattle.gf_tree.specs.Game.{used_outcomes, set_at}
+use Rattle.gf_tree.specs.GameOf.{keys_alone, IsGameOf}
 use Rattle.gf_tree.specs.Description.{SetKey, InformationSet, Outcome, same_set, IsSet, IsOutcome}
 use Rattle.gf_tree.specs.FiniteMap.{Described, description_at, first_uses}
 use Rattle.gf_tree.specs.FileTree.{Use, FileNode, FileTree, set_uses, outcome_uses}
 use Rattle.gf_tree.specs.Consistent.{Describes, AreConsistent, IsConsistent, HasChildrenAsDescribed}
-use Rattle.gf_tree.specs.Game.{Node, Game, HasChildren, IsGame, used_sets}
-use Rattle.gf_tree.specs.Game.{used_outcomes, set_at, outcome_at}
-use Rattle.gf_tree.specs.GameOf.{keys_alone, IsGameOf}
 use Rattle.gf_tree.proofs.lemmas.games.Uses.{Has, IsEquality, has_map, mapped_from, each}
 use Rattle.gf_tree.proofs.lemmas.games.Uses.{all_of_each, contains, has, has_place, differ}
-use Rattle.gf_tree.proofs.lemmas.games.FirstUses.{AreDistinct, Found, found, is_used}
-use Rattle.gf_tree.proofs.lemmas.games.FirstUses.{was_used, first_uses_distinct}
+use Rattle.gf_tree.proofs.lemmas.games.FirstUses.{AreDistinct, Found, found, is_used, was_used}
+use Rattle.gf_tree.proofs.lemmas.games.FirstUses.{first_uses_distinct}
 use Rattle.gf_tree.proofs.lemmas.games.TreesOnce.{same_set_equality, one_game}
 use Rattle.gf_tree.proofs.lemmas.games.Consistent.{map_entry, flatten_map, some_game, is_game}
 
@@ -51,11 +51,9 @@ uses_consistent {K} {D} at ks known = record {
 -- an entry is found by its key
 entry_by : {K D : Type 0} (same : K → K → Bool) → IsEquality same
     → (x s : Described K D) (xs : List (Described K D)) → AreDistinct (map (λ s. s.key) (x ∷ xs))
-    → Has (x ∷ xs) s
-    → (Has xs s → description_at same xs s.key ≡ Some s.description) → (b : Bool)
+    → Has (x ∷ xs) s → (Has xs s → description_at same xs s.key ≡ Some s.description) → (b : Bool)
     → same x.key s.key ≡ b → description_at same (x ∷ xs) s.key ≡ Some s.description
-entry_by {K} {D} same equality x s xs d (inl q) later true e =
-    rw e (ap (λ (y : Described K D). Some y.description) q)
+entry_by {K} {D} same equality x s xs d (inl q) later true e = grind arith
 entry_by {K} {D} same equality x s xs d (inl q) later false e =
     absurd (differ same equality x.key s.key e (ap (λ (y : Described K D). y.key) q))
 entry_by {K} {D} same equality x s xs d (inr m) later true e =
@@ -67,8 +65,7 @@ entry_at : {K D : Type 0} (same : K → K → Bool) → IsEquality same
     → (xs : List (Described K D)) (s : Described K D) → AreDistinct (map (λ s. s.key) xs) → Has xs s
     → description_at same xs s.key ≡ Some s.description
 entry_at same equality [] s d h = absurd h
-entry_at same equality (x ∷ xs) s d h =
-    entry_by same equality x s xs d h (entry_at same equality xs s d.1) (same x.key s.key) refl
+entry_at same equality (x ∷ xs) s d h = grind (arith, entry_at same equality xs s d.1, entry_by)
 
 -- the entries of a map with an entry for each key that is used
 record IsMapOf {K D : Type 0} (same : K → K → Bool) (ks : List K)
@@ -126,8 +123,7 @@ file_of g = record {
 
 key_of_told : {K D : Type 0} (at : K → Option D) (o : Option K)
     → option_map (λ (u : Use K D). u.key) (option_map (use_at at) o) ≡ o
-key_of_told at None = refl
-key_of_told at (Some k) = refl
+key_of_told at o = grind arith
 
 mutual
   keys_again : (g : Game) (t : Tree Node) → map_tree keys_alone (map_tree (told g) t) ≡ t
@@ -144,21 +140,17 @@ mutual
 map_of_option : {K D : Type 0} (at : K → Option D) (o : Option K) (ks : List K)
     → cons_option (option_map (use_at at) o) (map (use_at at) ks)
     ≡ map (use_at at) (cons_option o ks)
-map_of_option at None ks = refl
-map_of_option at (Some k) ks = refl
+map_of_option at o ks = grind arith
 
 sets_told : (g : Game) (es : List (Entry Node)) → set_uses (map (map_entry (told g)) es)
     ≡ map (use_at (set_at g)) (filter_map (λ e. e.node.set) es)
 sets_told g [] = refl
-sets_told g (e ∷ es) = ap (cons_option (option_map (use_at (set_at g)) e.node.set)) (sets_told g es)
-    ∙ map_of_option (set_at g) e.node.set (filter_map (λ e. e.node.set) es)
+sets_told g (e ∷ es) = grind (arith, sets_told g es, map_of_option)
 
 outcomes_told : (g : Game) (es : List (Entry Node)) → outcome_uses (map (map_entry (told g)) es)
     ≡ map (use_at (outcome_at g)) (filter_map (λ e. e.node.outcome) es)
 outcomes_told g [] = refl
-outcomes_told g (e ∷ es) =
-    ap (cons_option (option_map (use_at (outcome_at g)) e.node.outcome)) (outcomes_told g es)
-    ∙ map_of_option (outcome_at g) e.node.outcome (filter_map (λ e. e.node.outcome) es)
+outcomes_told g (e ∷ es) = grind (arith, outcomes_told g es, map_of_option)
 
 children_told : (g : Game) (ks : List SetKey) (name : List ℕ)
     (o : Option SetKey) (outcome : Option (Use ℕ Outcome)) (n : ℕ)
@@ -202,29 +194,19 @@ file_is_of g is =
             (λ k h. let d = sets.known k h in (d.description, d.is_at)));
         outcomes = subst AreConsistent outcome_uses_are (uses_consistent (outcome_at g)
             (used_outcomes g.tree) (λ k h. let d = outcomes.known k h in (d.description, d.is_at)));
-        each_set = subst (λ us. (key : SetKey) (set : InformationSet)
-            → Describes us key set → IsSet (length g.players) key set)
-            set_uses_are
-            (of_told same_set (used_sets g.tree) g.sets sets (IsSet (length g.players))
-            is.each_set);
-        each_outcome = subst (λ us. (number : ℕ) (outcome : Outcome)
-            → Describes us number outcome → IsOutcome (length g.players) number outcome)
-            outcome_uses_are
-            (of_told nat_eq (used_outcomes g.tree) g.outcomes outcomes
-            (IsOutcome (length g.players)) is.each_outcome);
-        children = subst (λ us. AllByRecursion (HasChildrenAsDescribed us) (flatten f.tree))
-            set_uses_are (subst
-            (AllByRecursion (HasChildrenAsDescribed (map (use_at (set_at g)) (used_sets g.tree))))
-            (sym entries) children);
+        each_set = rw (← set_uses_are) (of_told same_set (used_sets g.tree) g.sets sets (IsSet
+            (length g.players)) is.each_set);
+        each_outcome = rw (← outcome_uses_are) (of_told nat_eq (used_outcomes g.tree) g.outcomes
+            outcomes (IsOutcome (length g.players)) is.each_outcome);
+        children = rw (← set_uses_are) (subst (AllByRecursion (HasChildrenAsDescribed (map (use_at
+            (set_at g)) (used_sets g.tree)))) (sym entries) children);
       },
       record {
         kept = record { title = refl; comment = refl; players = refl; tree = keys_again g g.tree };
         set_keys = is.one_entry_each_set;
         outcome_keys = is.one_entry_each_outcome;
-        sets = subst (λ us. AllByRecursion (λ s. Describes us s.key s.description) g.sets)
-            set_uses_are sets.entries;
-        outcomes = subst (λ us. AllByRecursion (λ o. Describes us o.key o.description) g.outcomes)
-            outcome_uses_are outcomes.entries;
+        sets = rw (← set_uses_are) sets.entries;
+        outcomes = rw (← outcome_uses_are) outcomes.entries;
       },
     )
 

@@ -1,12 +1,12 @@
 -- Keys in order of first use, and their numbers.
-use Rattle.std.proofs.Common.{◌≡◌, suc, ◌+◌, ◌<◌, ◌≤◌, Bool, true, false, not}
-use Rattle.std.proofs.Common.{cond, List, [], ◌∷◌, ◌++◌, length, map, get_or, refl}
-use Rattle.std.proofs.Common.{sym, ap, subst, ◌∙◌, arith, inl, inr, length-append}
+use Rattle.std.proofs.Common.{◌≡◌, suc, ◌+◌, ◌<◌, ◌≤◌, Bool, true, false, not, cond, List, [], ◌∷◌}
+use Rattle.std.proofs.Common.{◌++◌, length, map, get_or, refl, sym, ap, subst, ◌∙◌, arith, inl, inr}
+use Rattle.std.proofs.Common.{length-append}
+use Rattle.std.proofs.lemmas.List.{length-map, get_or_at}
 use Rattle.std.specs.Prelude.{◌⊎◌}
 use Rattle.std.specs.List.{filter}
 use Rattle.std.proofs.lemmas.Bool.Decides.{same_from_decides}
 use Rattle.std.proofs.lemmas.Bool.{cases_Bool, both_ways, not_from_false}
-use Rattle.std.proofs.lemmas.List.{length-map, get_or_at}
 use Rattle.gf_tree.specs.FiniteMap.{first_uses}
 use Rattle.gf_tree.specs.FirstUse.{through_first_use, first_use_number}
 use Rattle.gf_tree.proofs.lemmas.games.Members.{filter_of_map, filter_last}
@@ -16,8 +16,7 @@ use Rattle.gf_tree.proofs.lemmas.games.Uses.{Has, IsEquality, has_place}
 -- tests of keys and of their images answer alike if the images are equal only for equal keys
 pub same_tests : {K L : Type 0} (same : K → K → Bool) (same' : L → L → Bool) → IsEquality same
     → IsEquality same' → (f : K → L) (a b : K) → (f a ≡ f b → a ≡ b) → same' (f a) (f b) ≡ same a b
-same_tests same same' t t' f a b apart = same_from_decides (same' (f a) (f b)) (same a b)
-    (λ e. apart ((t' (f a) (f b)).0 e), λ e. (t' (f a) (f b)).1 (ap f e)) (t a b)
+same_tests same same' t t' f a b apart = grind (arith, same_from_decides)
 
 -- ---- images
 
@@ -58,8 +57,7 @@ through_of_map same same' f key (x ∷ ks) h =
   where
     go : {K L : Type 0} (b : Bool) (f : K → L) (ks : List K)
         → map f (cond b [] ks) ≡ cond b [] (map f ks)
-    go true f ks = refl
-    go false f ks = refl
+    go b f ks = grind arith
 
 -- images of keys are used first in the order of the keys
 pub number_kept : {K L : Type 0} (same : K → K → Bool) (same' : L → L → Bool) → IsEquality same
@@ -109,10 +107,8 @@ place {K} same tells (k ∷ ks) key h = elim (cases_Bool (same k key))
         record {
           before = k ∷ others p.before;
           after = others p.after;
-          through = rw e (ap (λ xs. k ∷ xs)
-              (ap others p.through ∙ filter_last (λ x. not (same k x)) p.before key [] passes));
-          all = ap (λ xs. k ∷ xs)
-              (ap others p.all ∙ filter_last (λ x. not (same k x)) p.before key p.after passes);
+          through = rw e (cc (p.through, filter_last (λ x. not (same k x)) p.before key [] passes));
+          all = cc (p.all, filter_last (λ x. not (same k x)) p.before key p.after passes);
         }
 
 -- the number is one more than this many keys before
@@ -153,7 +149,6 @@ one_place : {K : Type 0} (before before' after after' : List K) (key : K)
     → length before ≡ length before'
 one_place [] [] after after' key h e = refl
 one_place [] (y ∷ before') after after' key h e =
-    let first : key ≡ y = cc in
     let rest : after ≡ before' ++ key ∷ after' = cc in
     absurd (h.0 (subst (λ ks. Has ks key) (sym rest) (has_place before' after' key)))
 one_place (x ∷ before) [] after after' key h e =

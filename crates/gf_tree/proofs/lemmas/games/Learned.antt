@@ -1,23 +1,23 @@
 -- A game learned in the order of its file is the game of a consistent file tree.
-use Rattle.std.proofs.Common.{◌≡◌, ◌↔◌, ℕ, Bool, List, length, map, Some, None}
-use Rattle.std.proofs.Common.{Option, MatchOption, option_map, sym, ap, subst, ◌∙◌}
+use Rattle.std.proofs.Common.{◌≡◌, ◌↔◌, ℕ, Bool, List, length, map, Some, None, Option, MatchOption}
+use Rattle.std.proofs.Common.{option_map, sym, ap, subst, ◌∙◌}
 use Rattle.std.specs.Prelude.{nat_eq}
 use Rattle.std.specs.List.{AllByRecursion}
 use Rattle.std.proofs.lemmas.Bool.Decides.{Decides-eqb}
 use Rattle.gf_tree.specs.PrefixOrder.{flatten}
+use Rattle.gf_tree.specs.Learned.{LearnsGame}
+use Rattle.gf_tree.specs.Game.{Game, HasChildren, used_sets, used_outcomes}
+use Rattle.gf_tree.specs.GameOf.{keys_alone, IsGameOf}
 use Rattle.gf_tree.specs.Description.{SetKey, InformationSet, same_set, IsSet, IsOutcome}
 use Rattle.gf_tree.specs.FiniteMap.{Described, description_at, first_uses}
 use Rattle.gf_tree.specs.FileTree.{Use, FileTree, set_uses, outcome_uses}
 use Rattle.gf_tree.specs.Consistent.{Describes, AreConsistent, IsConsistent, HasChildrenAsDescribed}
-use Rattle.gf_tree.specs.Game.{Game, HasChildren, used_sets, used_outcomes}
-use Rattle.gf_tree.specs.GameOf.{keys_alone, IsGameOf}
-use Rattle.gf_tree.specs.Learned.{LearnsGame}
 use Rattle.gf_tree.proofs.lemmas.games.Uses.{Has, IsEquality, has_map, each, all_of_each, has}
 use Rattle.gf_tree.proofs.lemmas.games.FirstUses.{found, is_used}
 use Rattle.gf_tree.proofs.lemmas.games.TreesOnce.{same_set_equality}
+use Rattle.gf_tree.proofs.lemmas.games.Learning.{learned_once}
 use Rattle.gf_tree.proofs.lemmas.games.Consistent.{map_entry, flatten_map, used_sets_are}
 use Rattle.gf_tree.proofs.lemmas.games.Consistent.{used_outcomes_are, is_game}
-use Rattle.gf_tree.proofs.lemmas.games.Learning.{learned_once}
 
 -- a description is the one that is found
 pub told_found : {K D : Type 0} (same : K → K → Bool)
@@ -46,13 +46,11 @@ children_learned : (uses : List (Use SetKey InformationSet)) (g : Game)
     → HasChildren g (record {
       node = record { name = name; set = option_map (λ u. u.key) o; outcome = outcome };
       children = n;
-    })
-    → MatchOption o (n ≡ 0)
+    }) → MatchOption o (n ≡ 0)
     (λ u. (set : InformationSet) → Describes uses u.key set → length set.actions ≡ n)
 children_learned uses g at name None outcome n h = h
 children_learned uses g at name (Some u) outcome n h = λ set told.
-    let same : Some (length set.actions) ≡ Some n =
-    ap (option_map (λ (s : InformationSet). length s.actions)) (sym (at u.key set told)) ∙ h in
+    let same : Some (length set.actions) ≡ Some n = cc (at u.key set told) in
     cc
 
 learned_is : (f : FileTree) (g : Game) → LearnsGame f g → IsConsistent f × IsGameOf f g
@@ -87,12 +85,8 @@ learned_is f g h =
       },
       record {
         kept = h.kept;
-        set_keys = sets.1
-            ∙ ap (first_uses same_set) (sym (used_sets_are f.tree))
-            ∙ ap (λ t. first_uses same_set (used_sets t)) h.kept.tree;
-        outcome_keys = outcomes.1
-            ∙ ap (first_uses nat_eq) (sym (used_outcomes_are f.tree))
-            ∙ ap (λ t. first_uses nat_eq (used_outcomes t)) h.kept.tree;
+        set_keys = cc (sets.1, used_sets_are f.tree, h.kept.tree);
+        outcome_keys = cc (outcomes.1, used_outcomes_are f.tree, h.kept.tree);
         sets = sets.2;
         outcomes = outcomes.2;
       },
@@ -104,8 +98,7 @@ is_learned f g h =
     let ok = h.0 in
     let of = h.1 in
     let game = is_game f g ok of in
-    let set_keys = of.set_keys
-    ∙ ap (λ t. first_uses same_set (used_sets t)) (sym of.kept.tree)
+    let set_keys = of.set_keys ∙ ap (λ t. first_uses same_set (used_sets t)) (sym of.kept.tree)
     ∙ ap (first_uses same_set) (used_sets_are f.tree) in
     let outcome_keys = of.outcome_keys
     ∙ ap (λ t. first_uses nat_eq (used_outcomes t)) (sym of.kept.tree)

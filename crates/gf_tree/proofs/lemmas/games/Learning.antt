@@ -1,35 +1,25 @@
 -- What is learned use by use is what a consistent list describes.
-use Rattle.std.proofs.Common.{◌≡◌, ◌↔◌, Bool, true, false, not, cond, ◌&&◌, is_none, List, []}
-use Rattle.std.proofs.Common.{◌∷◌, ◌++◌, map, Some, None, Option, MatchOption, option_map, filter}
-use Rattle.std.proofs.Common.{find, refl, sym, ap, subst, ◌∙◌, append_assoc, append-nil, inl, inr}
+use Rattle.std.proofs.Common.{◌≡◌, ◌↔◌, Bool, true, false, not, cond, ◌&&◌, is_none, List, [], ◌∷◌}
+use Rattle.std.proofs.Common.{◌++◌, map, Some, None, Option, MatchOption, filter, refl, sym, ap}
+use Rattle.std.proofs.Common.{subst, ◌∙◌, append_assoc, append-nil, inl, inr, arith}
 use Rattle.std.specs.Prelude.{◌⊎◌}
 use Rattle.std.specs.List.{AllByRecursion}
 use Rattle.gf_tree.specs.FiniteMap.{Described, description_at, first_uses}
 use Rattle.gf_tree.specs.FileTree.{Use}
-use Rattle.gf_tree.specs.Consistent.{Describes, AreConsistent}
 use Rattle.gf_tree.specs.Learned.{Learns}
+use Rattle.gf_tree.specs.Consistent.{Describes, AreConsistent}
 use Rattle.gf_tree.proofs.lemmas.games.Uses.{Has, IsEquality, has, contains, all_of_each}
 use Rattle.gf_tree.proofs.lemmas.games.Uses.{described_once}
 use Rattle.gf_tree.proofs.lemmas.Once.{none_or_some}
 use Rattle.std.proofs.lemmas.Option.{same_Some}
+use Rattle.gf_tree.proofs.lemmas.games.Members.{filter_all}
 
 -- ---- filters
 
 filter_twice : {X : Type 0} (p q r : X → Bool) → ((x : X) → r x ≡ (q x && p x)) → (xs : List X)
     → filter p (filter q xs) ≡ filter r xs
 filter_twice p q r same [] = refl
-filter_twice p q r same (x ∷ xs) =
-    by_test (q x) (p x) (r x) (same x) (filter_twice p q r same xs) refl
-  where
-    by_test : (b c d : Bool) → d ≡ (b && c) → filter p (filter q xs) ≡ filter r xs → p x ≡ c
-        → filter p (cond b (x ∷ filter q xs) (filter q xs)) ≡ cond d (x ∷ filter r xs) (filter r xs)
-    by_test true c d e rest t = rw (t, e, rest) refl
-    by_test false c d e rest t = rw (e, rest) refl
-
-filter_all : {X : Type 0} (test : X → Bool) → ((x : X) → test x ≡ true) → (xs : List X)
-    → filter test xs ≡ xs
-filter_all test all [] = refl
-filter_all test all (x ∷ xs) = rw (all x, filter_all test all xs) refl
+filter_twice p q r same (x ∷ xs) = grind (arith, same x, filter_twice p q r same xs)
 
 -- ---- one more description
 
@@ -40,18 +30,7 @@ at_more : {K D : Type 0} (same : K → K → Bool) (known : List (Described K D)
     → description_at same known k ≡ Some c
     → description_at same (known ++ one key d ∷ []) k ≡ Some c
 at_more same [] key k d c e = absurd cc
-at_more {K} {D} same (x ∷ xs) key k d c e = by_test (same x.key k) e (at_more same xs key k d c)
-  where
-    by_test : (b : Bool) → option_map (λ (s : Described K D). s.description)
-        (cond b (Some x) (find (λ s. same s.key k) xs))
-        ≡ Some c
-        → (description_at same xs k ≡ Some c
-        → description_at same (xs ++ one key d ∷ []) k ≡ Some c)
-        → option_map (λ (s : Described K D). s.description)
-        (cond b (Some x) (find (λ s. same s.key k) (xs ++ one key d ∷ [])))
-        ≡ Some c
-    by_test true e later = e
-    by_test false e later = later e
+at_more {K} {D} same (x ∷ xs) key k d c e = grind (arith, at_more same xs key k d c)
 
 at_last : {K D : Type 0} (same : K → K → Bool)
     (known : List (Described K D)) (key k : K) (d : D) (b : Bool)
@@ -59,25 +38,14 @@ at_last : {K D : Type 0} (same : K → K → Bool)
     → description_at same (known ++ one key d ∷ []) k ≡ cond b (Some d) None
 at_last same [] key k d true t e = rw t refl
 at_last same [] key k d false t e = rw t refl
-at_last {K} {D} same (x ∷ xs) key k d b t e = by_test (same x.key k) e (at_last same xs key k d b t)
-  where
-    by_test : (c : Bool) → option_map (λ (s : Described K D). s.description)
-        (cond c (Some x) (find (λ s. same s.key k) xs))
-        ≡ None
-        → (description_at same xs k ≡ None
-        → description_at same (xs ++ one key d ∷ []) k ≡ cond b (Some d) None)
-        → option_map (λ (s : Described K D). s.description)
-        (cond c (Some x) (find (λ s. same s.key k) (xs ++ one key d ∷ [])))
-        ≡ cond b (Some d) None
-    by_test true e later = absurd cc
-    by_test false e later = later e
+at_last {K} {D} same (x ∷ xs) key k d b t e =
+    grind (arith, at_last same xs key k d b t)
 
 abbrev is_new : {K D : Type 0} → (K → K → Bool) → List (Described K D) → K → Bool
 is_new same known k = is_none (description_at same known k)
 
 new_by : {K D : Type 0} (same : K → K → Bool) (known : List (Described K D))
-    (key k : K) (d : D) (b : Bool) (o : Option D)
-    → same key k ≡ b → description_at same known k ≡ o
+    (key k : K) (d : D) (b : Bool) (o : Option D) → same key k ≡ b → description_at same known k ≡ o
     → is_new same (known ++ one key d ∷ []) k ≡ (not b && is_none o)
 new_by same known key k d true (Some c) t e = rw (at_more same known key k d c e) refl
 new_by same known key k d false (Some c) t e = rw (at_more same known key k d c e) refl
@@ -222,8 +190,7 @@ module _ {K D : Type 0} (same : K → K → Bool) (equality : IsEquality same) w
 
   with_new : (u : Use K D) (us : List (Use K D)) (known : List (Described K D)) (d : D)
       → description_at same known u.key ≡ None → u.description ≡ Some d
-      → With same (known ++ one u.key d ∷ []) us
-      → With same known (u ∷ us)
+      → With same (known ++ one u.key d ∷ []) us → With same known (u ∷ us)
   with_new u us known d n t w = record { described = described; alike = alike; as_known = as_known }
     where
       here : (key : K) → u.key ≡ key → description_at same (known ++ one u.key d ∷ []) key ≡ Some d
@@ -265,8 +232,7 @@ module _ {K D : Type 0} (same : K → K → Bool) (equality : IsEquality same) w
 
   with_old : (u : Use K D) (us : List (Use K D)) (known : List (Described K D)) (d : D)
       → description_at same known u.key ≡ Some d → (u.description ≡ None) ⊎ (u.description ≡ Some d)
-      → With same known us
-      → With same known (u ∷ us)
+      → With same known us → With same known (u ∷ us)
   with_old u us known d n t w = record { described = described; alike = alike; as_known = as_known }
     where
       its : (key : K) (a : D) → u ≡ told key a → a ≡ d
@@ -322,8 +288,7 @@ module _ {K D : Type 0} (same : K → K → Bool) (equality : IsEquality same) w
     says : (s : Described K D) → Has rest s → Has us (told s.key s.description)
 
   learned_by : (u : Use K D) (us : List (Use K D)) (known end : List (Described K D)) (o : Option D)
-      → description_at same known u.key ≡ o
-      → MatchOption o
+      → description_at same known u.key ≡ o → MatchOption o
       ((d : D) × (u.description ≡ Some d) × Learns same (known ++ one u.key d ∷ []) us end)
       (λ d. ((u.description ≡ None) ⊎ (u.description ≡ Some d)) × Learns same known us end)
       → ((k : List (Described K D)) → Learns same k us end → IsLearned k us end)
@@ -396,15 +361,14 @@ module _ {K D : Type 0} (same : K → K → Bool) (equality : IsEquality same) w
       × AllByRecursion (λ s. Describes us s.key s.description) end
   is_described us end h =
       let l = learned us [] end h in (
-        ap (map (λ s. s.key)) l.parts ∙ l.keys ∙ filter_all (is_new {D = D} same []) (λ k. refl)
-            (first_uses same (map (λ u. u.key) us)),
+        ap (map (λ s. s.key)) l.parts ∙ l.keys ∙ filter_all (is_new {D = D} same [])
+            (first_uses same (map (λ u. u.key) us)) (λ k m. refl),
         subst (AllByRecursion (λ s. Describes us s.key s.description)) (sym l.parts)
             (all_of_each (λ s. Describes us s.key s.description) l.rest
             (λ s m. contains us (told s.key s.description) (l.says s m))),
       )
 
-  pub learned_once : (us : List (Use K D)) (end : List (Described K D))
-      → Learns same [] us end
+  pub learned_once : (us : List (Use K D)) (end : List (Described K D)) → Learns same [] us end
       ↔ (AreConsistent us × (map (λ s. s.key) end ≡ first_uses same (map (λ u. u.key) us))
       × AllByRecursion (λ s. Describes us s.key s.description) end)
   learned_once us end = (to, from)
@@ -416,8 +380,7 @@ module _ {K D : Type 0} (same : K → K → Bool) (equality : IsEquality same) w
           let d = is_described us end h in (told_by us (learned us [] end h).consistent, d.0, d.1)
 
       from : AreConsistent us × (map (λ s. s.key) end ≡ first_uses same (map (λ u. u.key) us))
-          × AllByRecursion (λ s. Describes us s.key s.description) end
-          → Learns same [] us end
+          × AllByRecursion (λ s. Describes us s.key s.description) end → Learns same [] us end
       from h =
           let l = learns_some us [] (with_nothing us h.0) in
           let d = is_described us l.0 l.1 in

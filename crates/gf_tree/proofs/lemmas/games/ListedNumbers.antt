@@ -1,24 +1,24 @@
 -- Numbers that are listed in the order of first use are new numbers.
-use Rattle.std.proofs.Common.{◌≡◌, ℕ, zero, suc, ◌<◌, ◌≤◌, Bool, true, false}
-use Rattle.std.proofs.Common.{cond, List, [], ◌∷◌, length, get_or, slice_get}
-use Rattle.std.proofs.Common.{Some, inl, inr, refl, sym, ap, subst, ◌∙◌, arith}
+use Rattle.std.proofs.Common.{◌≡◌, ℕ, zero, suc, ◌<◌, ◌≤◌, Bool, true, false, cond, List, [], ◌∷◌}
+use Rattle.std.proofs.Common.{length, get_or, slice_get, Some, inl, inr, refl, sym, ap, subst}
+use Rattle.std.proofs.Common.{arith}
 use Rattle.std.specs.Prelude.{nat_eq}
 use Rattle.std.specs.List.{AllByRecursion}
 use Rattle.std.proofs.lemmas.Bool.{both_ways, false_from_ne_true}
 use Rattle.std.proofs.lemmas.Bool.Decides.{Decides-eqb}
 use Rattle.gf_tree.specs.Description.{SetKey, InformationSet, same_set, set_of, IsSet}
 use Rattle.gf_tree.specs.FiniteMap.{Described}
+use Rattle.gf_tree.specs.Renumbering.{IsRenumbering, HasSet}
 use Rattle.gf_tree.specs.FirstUse.{outcome_numbers, player_keys, sets_of}
 use Rattle.gf_tree.specs.Game.{Game, IsGame, used_sets, used_outcomes}
-use Rattle.gf_tree.specs.Renumbering.{IsRenumbering, HasSet}
 use Rattle.gf_tree.specs.Listed.{AreListed, AreNumbers, listed_numbers, number_listed}
 use Rattle.gf_tree.proofs.lemmas.games.Carried.{in_keys}
-use Rattle.gf_tree.proofs.lemmas.games.FirstUses.{AreDistinct, is_used}
 use Rattle.gf_tree.proofs.lemmas.games.PlayerSets.{sets_by_first_use}
 use Rattle.gf_tree.proofs.lemmas.games.Renumbered.{own_set}
 use Rattle.gf_tree.proofs.lemmas.games.TreesOnce.{same_set_equality}
-use Rattle.gf_tree.proofs.lemmas.games.Uses.{Has, IsEquality, contains, each, has, mapped_from}
+use Rattle.gf_tree.proofs.lemmas.games.FirstUses.{AreDistinct, is_used}
 use Rattle.gf_tree.proofs.lemmas.games.Members.{has_at}
+use Rattle.gf_tree.proofs.lemmas.games.Uses.{Has, IsEquality, contains, each, has, mapped_from}
 
 -- ---- lists of numbers
 
@@ -56,18 +56,11 @@ module _ {K : Type 0} (same : K → K → Bool) (tells : IsEquality same) where
       → (Has ks a → Has ks b → number_listed same ks ns a ≡ number_listed same ks ns b → a ≡ b)
       → (x : Bool) → same k a ≡ x → (y : Bool) → same k b ≡ y
       → cond x n (number_listed same ks ns a) ≡ cond y n (number_listed same ks ns b) → a ≡ b
-  apart_by k ks n ns a b e d i j more true p true q h = sym ((tells k a).0 p) ∙ (tells k b).0 q
-  apart_by k ks n ns a b e d i j more true p false q h =
-      absurd (d.0 (subst (Has ns) (sym h) (has_number ks ns b e (later k ks b j q))))
-  apart_by k ks n ns a b e d i j more false p true q h =
-      absurd (d.0 (subst (Has ns) h (has_number ks ns a e (later k ks a i p))))
-  apart_by k ks n ns a b e d i j more false p false q h =
-      more (later k ks a i p) (later k ks b j q) h
+  apart_by k ks n ns a b h h2 h3 h4 h5 x h6 y h7 h8 = grind (arith, has_number, later)
 
   pub numbers_apart : (ks : List K) (ns : List ℕ) (a b : K) → length ns ≡ length ks
       → AreDistinct ns → Has ks a → Has ks b
-      → number_listed same ks ns a ≡ number_listed same ks ns b
-      → a ≡ b
+      → number_listed same ks ns a ≡ number_listed same ks ns b → a ≡ b
   numbers_apart [] ns a b e d i j h = absurd i
   numbers_apart (k ∷ ks) [] a b e d i j h = absurd (omega (arith, e))
   numbers_apart (k ∷ ks) (n ∷ ns) a b e d i j h =
@@ -81,9 +74,7 @@ module _ {K : Type 0} (same : K → K → Bool) (tells : IsEquality same) where
   number_there [] ns zero key e d h = absurd cc
   number_there [] ns (suc place) key e d h = absurd cc
   number_there (k ∷ ks) [] place key e d h = absurd (omega (arith, e))
-  number_there (k ∷ ks) (n ∷ ns) zero key e d h =
-      let first : k ≡ key = cc in
-      rw ((tells k key).1 first) refl
+  number_there (k ∷ ks) (n ∷ ns) zero key e d h = grind arith
   number_there (k ∷ ks) (n ∷ ns) (suc place) key e d h =
       let other : same k key ≡ false = false_from_ne_true (same k key)
       (λ t. d.0 (subst (Has ks) (sym ((tells k key).0 t)) (has_at ks place key h))) in
@@ -101,9 +92,8 @@ module _ (g : Game) (game : IsGame g) (sets : List (List ℕ)) (outcomes : List 
     (listed : AreListed g sets outcomes) where
   pub own_key : (key : SetKey) → Has (used_sets g.tree) key → Has (player_keys g key.player) key
   own_key key i =
-      subst (λ ks. Has ks key) (sym (sets_by_first_use g key.player game))
-      (is_used same_set same_set_equality (sets_of key.player (used_sets g.tree)) key
-      (own_set g key i))
+      rw (sets_by_first_use g key.player game) (is_used same_set same_set_equality (sets_of
+      key.player (used_sets g.tree)) key (own_set g key i))
 
   pub some_player : (key : SetKey) → Has (used_sets g.tree) key → key.player ≤ length g.players
   some_player key i =

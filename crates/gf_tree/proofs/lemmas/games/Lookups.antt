@@ -1,8 +1,7 @@
 -- Finite maps by their look-ups.
-use Rattle.std.proofs.Common.{ap, subst, ◌≡◌, Bool, true, false, cond, List, []}
-use Rattle.std.proofs.Common.{◌∷◌, map, Option, Some, refl, sym, ◌∙◌, inl, inr}
+use Rattle.std.proofs.Common.{ap, subst, ◌≡◌, Bool, false, cond, List, [], ◌∷◌, map, Option, Some}
+use Rattle.std.proofs.Common.{refl, sym, ◌∙◌, inl, inr, arith}
 use Rattle.std.specs.Prelude.{option_map}
-use Rattle.std.specs.List.{find}
 use Rattle.std.proofs.lemmas.Bool.{false_from_ne_true}
 use Rattle.gf_tree.specs.FiniteMap.{Described, description_at}
 use Rattle.gf_tree.proofs.lemmas.games.FirstUses.{AreDistinct}
@@ -20,8 +19,7 @@ either : {K L D : Type 0} (b : Bool) (k : K) (l : L) (d : D)
     → option_map (λ e. e.description) y ≡ option_map (λ e. e.description) x
     → option_map (λ e. e.description) (cond b (Some (record { key = l; description = d })) y)
     ≡ option_map (λ e. e.description) (cond b (Some (record { key = k; description = d })) x)
-either true k l d x y h = refl
-either false k l d x y h = h
+either b k l d x y h = grind arith
 
 pub lookup_image : {K L D : Type 0} (same : K → K → Bool)
     (same' : L → L → Bool) (f : K → L) (es : List (Described K D)) (key : K)
@@ -29,9 +27,7 @@ pub lookup_image : {K L D : Type 0} (same : K → K → Bool)
     → description_at same' (at_images f es) (f key) ≡ description_at same es key
 lookup_image same same' f [] key h = refl
 lookup_image same same' f (e ∷ es) key h =
-    rw (h e.key (inl refl)) (either (same e.key key) e.key (f e.key) e.description
-    (find (λ d. same d.key key) es) (find (λ d. same' d.key (f key)) (at_images f es))
-    (lookup_image same same' f es key (λ k i. h k (inr i))))
+    grind (arith, lookup_image same same' f es key (λ k i. h k (inr i)), either)
 
 -- if each key occurs once, a map is determined by its keys and by what it gives at each of them
 pub same_map : {K D : Type 0} (same : K → K → Bool)
@@ -42,8 +38,7 @@ same_map same tells [] (f ∷ fs) q d h = absurd cc
 same_map same tells (e ∷ es) [] q d h = absurd cc
 same_map {K} {D} same tells (e ∷ es) (f ∷ fs) q d h =
     let others = same_map same tells es fs rest d.1
-    (λ k i. sym (there e es k (λ p. d.0 (subst (Has (keys es)) (sym p) i)))
-    ∙ h k (inr i)
+    (λ k i. sym (there e es k (λ p. d.0 (subst (Has (keys es)) (sym p) i))) ∙ h k (inr i)
     ∙ there f fs k (λ p. d.0 (subst (Has (keys es)) (sym (first ∙ p)) i))) in
     λ i. record { key = first i; description = described i } ∷ others i
   where

@@ -1,6 +1,5 @@
 -- Trees with other nodes in place of theirs.
-use Rattle.std.proofs.Common.{◌≡◌, List, [], ◌∷◌, map, Option}
-use Rattle.std.proofs.Common.{None, Some, refl, ap, ◌∙◌, inl, inr}
+use Rattle.std.proofs.Common.{◌≡◌, List, [], ◌∷◌, map, Option, Some, refl, ap, ◌∙◌, inl, inr, arith}
 use Rattle.std.specs.Prelude.{option_map}
 use Rattle.std.specs.List.{filter_map, cons_option}
 use Rattle.gf_tree.specs.Tree.{Tree, Trees, count, map_tree, map_trees}
@@ -8,8 +7,8 @@ use Rattle.gf_tree.specs.Tree.Tree.{branch}
 use Rattle.gf_tree.specs.Tree.Trees.{none, more}
 use Rattle.gf_tree.specs.PrefixOrder.{Entry, flatten, flatten_all}
 use Rattle.gf_tree.proofs.lemmas.games.Consistent.{map_entry}
-use Rattle.gf_tree.proofs.lemmas.games.Members.{in_left, in_right}
 use Rattle.gf_tree.proofs.lemmas.games.Uses.{Has, has_later}
+use Rattle.gf_tree.proofs.lemmas.games.Members.{in_left, in_right}
 
 mutual
   pub map_tree_same : {N M : Type 0} (f g : N → M) (t : Tree N)
@@ -58,8 +57,7 @@ held_map f g holds holds' h (e ∷ es) = rw (h e.node, held_map f g holds holds'
   where
     go : {X Y : Type 0} (g : X → Y) (o : Option X) (xs : List X)
         → cons_option (option_map g o) (map g xs) ≡ map g (cons_option o xs)
-    go g None xs = refl
-    go g (Some x) xs = refl
+    go g o xs = grind arith
 
 pub held : {N X : Type 0} (holds : N → Option X) (es : List (Entry N)) (e : Entry N) (x : X)
     → Has es e → holds e.node ≡ Some x → Has (filter_map (λ e. holds e.node) es) x

@@ -1,5 +1,5 @@
 -- Lists, element by element.
-use Rattle.std.proofs.Common.{◌≡◌, Bool, true, false, cond, List, [], ◌∷◌, ◌++◌, map, refl, sym, ap}
+use Rattle.std.proofs.Common.{◌≡◌, Bool, true, cond, List, [], ◌∷◌, ◌++◌, map, refl, sym, ap}
 use Rattle.std.proofs.Common.{inl, inr, ℕ, zero, suc, ◌<◌, length, Some, slice_get, arith}
 use Rattle.std.proofs.lemmas.List.Elements.{filter-append}
 use Rattle.std.specs.List.{filter, AllByRecursion}
@@ -32,8 +32,7 @@ something_there [] place h = absurd (omega (arith, h))
 something_there (y ∷ xs) zero h = (y, refl)
 something_there (y ∷ xs) (suc place) h = something_there xs place (omega (arith, h))
 
-pub has_at : {X : Type 0} (xs : List X) (place : ℕ) (x : X) → slice_get xs place ≡ Some x
-    → Has xs x
+pub has_at : {X : Type 0} (xs : List X) (place : ℕ) (x : X) → slice_get xs place ≡ Some x → Has xs x
 has_at [] zero x h = absurd cc
 has_at [] (suc place) x h = absurd cc
 has_at (y ∷ xs) zero x h = inl cc
@@ -56,8 +55,7 @@ filter_of_map p q f (x ∷ xs) h = rw (h x (inl refl), filter_of_map p q f xs (�
   where
     map_cond : {X Y : Type 0} (b : Bool) (f : X → Y) (x : X) (xs : List X)
         → map f (cond b (x ∷ xs) xs) ≡ cond b (f x ∷ map f xs) (map f xs)
-    map_cond true f x xs = refl
-    map_cond false f x xs = refl
+    map_cond b f x xs = grind arith
 
 -- the filter of these and of one that passes
 pub filter_last : {X : Type 0} (p : X → Bool) (xs : List X) (y : X) (ys : List X) → p y ≡ true
@@ -68,19 +66,10 @@ filter_last p xs y ys e = rw (filter-append, e) refl
 pub filter_swap : {X : Type 0} (p q : X → Bool) (xs : List X)
     → filter p (filter q xs) ≡ filter q (filter p xs)
 filter_swap p q [] = refl
-filter_swap p q (x ∷ xs) = by_tests (p x) (q x) refl refl (filter_swap p q xs)
-  where
-    by_tests : (a b : Bool) → p x ≡ a → q x ≡ b → filter p (filter q xs) ≡ filter q (filter p xs)
-        → filter p (cond b (x ∷ filter q xs) (filter q xs))
-        ≡ filter q (cond a (x ∷ filter p xs) (filter p xs))
-    by_tests true true e f h = rw (e, f) (ap (λ ys. x ∷ ys) h)
-    by_tests true false e f h = rw f h
-    by_tests false true e f h = rw e h
-    by_tests false false e f h = h
+filter_swap p q (x ∷ xs) = grind (arith, filter_swap p q xs)
 
 -- a filter that all of them pass
 pub filter_all : {X : Type 0} (p : X → Bool) (xs : List X) → ((x : X) → Has xs x → p x ≡ true)
     → filter p xs ≡ xs
 filter_all p [] h = refl
-filter_all p (x ∷ xs) h =
-    rw (h x (inl refl)) (ap (λ ys. x ∷ ys) (filter_all p xs (λ y i. h y (inr i))))
+filter_all p (x ∷ xs) h = grind (arith, filter_all p xs (λ y i. h y (inr i)))

@@ -1,11 +1,10 @@
 -- A game has each player's sets in the order of their first use.
-use Rattle.std.proofs.Common.{◌≡◌, ℕ, Bool, true, false, not, cond, inl}
-use Rattle.std.proofs.Common.{inr, List, [], ◌∷◌, refl, sym, ap, ◌∙◌}
-use Rattle.std.specs.Prelude.{◌==◌}
+use Rattle.std.proofs.Common.{◌≡◌, ℕ, Bool, true, false, not, cond, inl, inr, List, [], ◌∷◌, refl}
+use Rattle.std.proofs.Common.{sym, ap, ◌∙◌, arith}
 use Rattle.std.specs.List.{filter}
 use Rattle.std.proofs.lemmas.Bool.{cases_Bool, both_ways, not_from_false}
-use Rattle.gf_tree.specs.Description.{SetKey, InformationSet, same_set}
-use Rattle.gf_tree.specs.FiniteMap.{Described, first_uses}
+use Rattle.gf_tree.specs.Description.{same_set}
+use Rattle.gf_tree.specs.FiniteMap.{first_uses}
 use Rattle.gf_tree.specs.FirstUse.{player_keys, sets_of}
 use Rattle.gf_tree.specs.Game.{Game, IsGame, used_sets}
 use Rattle.gf_tree.proofs.lemmas.games.FirstUses.{was_used, of_filter}
@@ -15,8 +14,7 @@ use Rattle.gf_tree.proofs.lemmas.games.Uses.{Has, IsEquality}
 
 -- keys that pass a test are first used in the order of all keys
 passing_first_uses : {K : Type 0} (same : K → K → Bool) → IsEquality same
-    → (p : K → Bool) (ks : List K)
-    → filter p (first_uses same ks) ≡ first_uses same (filter p ks)
+    → (p : K → Bool) (ks : List K) → filter p (first_uses same ks) ≡ first_uses same (filter p ks)
 passing_first_uses same tells p [] = refl
 passing_first_uses {K} same tells p (k ∷ ks) =
     by_test (passing_first_uses same tells p ks) (p k) refl
@@ -40,15 +38,9 @@ passing_first_uses {K} same tells p (k ∷ ks) =
     by_test : filter p (first_uses same ks) ≡ first_uses same (filter p ks) → (b : Bool) → p k ≡ b
         → filter p (k ∷ filter other (first_uses same ks))
         ≡ first_uses same (cond b (k ∷ filter p ks) (filter p ks))
-    by_test others true e = rw e (ap (λ xs. k ∷ xs) (swapped others))
-    by_test others false e =
-        rw e (swapped others ∙ filter_all other (first_uses same (filter p ks)) (all_other e))
+    by_test h b h2 = grind (arith, swapped, filter_all, other, all_other)
 
 pub sets_by_first_use : (g : Game) (player : ℕ) → IsGame g
     → player_keys g player ≡ first_uses same_set (sets_of player (used_sets g.tree))
 sets_by_first_use g player game =
-    let his = λ (key : SetKey). key.player == player in
-    let key_of = λ (s : Described SetKey InformationSet). s.key in
-    sym (filter_of_map his (λ s. his s.key) key_of g.sets (λ s i. refl))
-    ∙ ap (filter his) game.one_entry_each_set
-    ∙ passing_first_uses same_set same_set_equality his (used_sets g.tree)
+    grind (arith, filter_of_map, passing_first_uses, same_set_equality)

@@ -1,6 +1,6 @@
 -- Trees and their flat lists in prefix order determine each other.
-use Rattle.std.proofs.Common.{◌≡◌, ℕ, zero, suc, ◌+◌, List, [], ◌∷◌, ◌++◌, refl}
-use Rattle.std.proofs.Common.{sym, ap, subst, ◌∙◌, append_assoc, zero-add, arith}
+use Rattle.std.proofs.Common.{◌≡◌, ℕ, zero, suc, ◌+◌, List, [], ◌∷◌, ◌++◌, refl, sym, ap, subst}
+use Rattle.std.proofs.Common.{◌∙◌, append_assoc, zero-add, arith}
 use Rattle.std.proofs.lemmas.List.{append-nil}
 use Rattle.gf_tree.specs.Tree.{Tree, Trees, count}
 use Rattle.gf_tree.specs.Tree.Tree.{branch}
@@ -25,8 +25,7 @@ parts : {N : Type 0} (n : ℕ) (ts : Trees N)
 parts zero ts = refl
 parts (suc n) none = refl
 parts (suc n) (more t ts) =
-    append_assoc (flatten t) (flatten_all (first n ts)) (flatten_all (others n ts))
-    ∙ ap (λ x. flatten t ++ x) (parts n ts)
+    cc (append_assoc (flatten t) (flatten_all (first n ts)) (flatten_all (others n ts)), parts n ts)
 
 count_first : {N : Type 0} (n m : ℕ) (ts : Trees N) → count ts ≡ n + m → count (first n ts) ≡ n
 count_first zero m ts e = refl

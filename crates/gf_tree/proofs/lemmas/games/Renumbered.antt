@@ -5,23 +5,23 @@ use Rattle.std.specs.List.{AllByRecursion}
 use Rattle.std.proofs.lemmas.Bool.{eq-eqb}
 use Rattle.std.proofs.lemmas.Bool.Decides.{Decides-eqb}
 use Rattle.gf_tree.specs.PrefixOrder.{Entry, flatten}
-use Rattle.gf_tree.specs.Description.{SetKey, InformationSet, Outcome}
-use Rattle.gf_tree.specs.Description.{same_set, IsSet, IsOutcome, set_of}
-use Rattle.gf_tree.specs.FiniteMap.{Described, first_uses}
-use Rattle.gf_tree.specs.Game.{Node, Game, IsGame, HasChildren, used_sets}
-use Rattle.gf_tree.specs.Game.{used_outcomes, set_at, outcome_at}
-use Rattle.gf_tree.specs.Renumbering.{Renumbering, IsRenumbering, HasSet}
-use Rattle.gf_tree.specs.Renumbering.{renumbered_set, renumbered_node, renumbered}
+use Rattle.gf_tree.specs.Description.{SetKey, InformationSet, Outcome, same_set, IsSet, IsOutcome}
+use Rattle.gf_tree.specs.Description.{set_of}
+use Rattle.gf_tree.specs.Game.{outcome_at, Node, Game, IsGame, HasChildren, used_sets}
+use Rattle.gf_tree.specs.Game.{used_outcomes, set_at}
+use Rattle.gf_tree.specs.Renumbering.{renumbered_node, renumbered, Renumbering, IsRenumbering}
+use Rattle.gf_tree.specs.Renumbering.{HasSet, renumbered_set}
 use Rattle.gf_tree.specs.FirstUse.{sets_of, first_use_numbers}
+use Rattle.gf_tree.specs.FiniteMap.{Described, first_uses}
 use Rattle.gf_tree.proofs.lemmas.games.FirstUseNumbers.{numbers_apart, number_positive}
 use Rattle.gf_tree.proofs.lemmas.games.Lookups.{at_images}
-use Rattle.gf_tree.proofs.lemmas.games.Carried.{image_keys, image_lookup, entry_used}
 use Rattle.gf_tree.proofs.lemmas.games.MappedTrees.{held}
+use Rattle.gf_tree.proofs.lemmas.games.FirstUses.{in_filter}
+use Rattle.gf_tree.proofs.lemmas.games.Carried.{image_keys, image_lookup, entry_used}
 use Rattle.gf_tree.proofs.lemmas.games.Renumberings.{used_sets_of, used_outcomes_of, sets_apart}
 use Rattle.gf_tree.proofs.lemmas.games.Renumberings.{outcomes_apart}
-use Rattle.gf_tree.proofs.lemmas.games.FirstUses.{in_filter}
-use Rattle.gf_tree.proofs.lemmas.games.Consistent.{map_entry, flatten_map}
 use Rattle.gf_tree.proofs.lemmas.games.TreesOnce.{same_set_equality}
+use Rattle.gf_tree.proofs.lemmas.games.Consistent.{map_entry, flatten_map}
 use Rattle.gf_tree.proofs.lemmas.games.Uses.{Has, has, contains, mapped_from, each, all_of_each}
 
 -- ---- a game by new numbers
@@ -75,13 +75,10 @@ renumbered_is_game g r game h = record {
         each (λ (t : Described SetKey InformationSet). IsSet (length g.players) t.key t.description)
         g.sets k.0 game.each_set k.1 in
         let used = entry_used same_set (used_sets g.tree) g.sets k.0 game.one_entry_each_set k.1 in
-        subst
-        (λ (t : Described SetKey InformationSet). IsSet (length g.players) t.key t.description)
-        k.2
-        (record {
+        rw (← k.2) (record {
           player = was.player;
-          number = h.positive_sets k.0.key.player k.0.key.number
-              (contains (used_sets g.tree) k.0.key used);
+          number = h.positive_sets k.0.key.player
+              k.0.key.number (contains (used_sets g.tree) k.0.key used);
           some_action = was.some_action;
           actions = was.actions;
         })
@@ -98,12 +95,9 @@ renumbered_is_game g r game h = record {
         g.outcomes k.0 game.each_outcome k.1 in
         let used =
         entry_used nat_eq (used_outcomes g.tree) g.outcomes k.0 game.one_entry_each_outcome k.1 in
-        subst
-        (λ (t : Described ℕ Outcome). IsOutcome (length g.players) t.key t.description)
-        k.2
-        (record {
-          number_from_one =
-              h.positive_outcomes k.0.key (contains (used_outcomes g.tree) k.0.key used);
+        rw (← k.2) (record {
+          number_from_one = h.positive_outcomes k.0.key (contains (used_outcomes
+              g.tree) k.0.key used);
           one_payoff_each = was.one_payoff_each;
         })
 

@@ -1,19 +1,21 @@
 -- Trees by their new numbers.
 use Rattle.std.proofs.Common.{◌≡◌, ℕ, ◌<◌, map, Option, None, Some, refl, sym, ap, subst, ◌∙◌}
+use Rattle.std.proofs.Common.{arith}
 use Rattle.std.specs.Prelude.{nat_eq, option_map}
 use Rattle.std.specs.List.{filter_map}
 use Rattle.std.proofs.lemmas.Bool.Decides.{Decides-eqb}
+use Rattle.std.proofs.lemmas.Iterator.Adapters.{option_map_id}
 use Rattle.gf_tree.specs.Tree.{Tree, map_tree}
 use Rattle.gf_tree.specs.PrefixOrder.{Entry, flatten}
 use Rattle.gf_tree.specs.Description.{SetKey, same_set, set_of}
 use Rattle.gf_tree.specs.Game.{Node, Game, IsGame, used_sets, used_outcomes}
-use Rattle.gf_tree.specs.Renumbering.{Renumbering, IsRenumbering, HasSet}
-use Rattle.gf_tree.specs.Renumbering.{renumbered_set, renumbered_node, renumbered}
+use Rattle.gf_tree.specs.Renumbering.{Renumbering, IsRenumbering, HasSet, renumbered_set}
+use Rattle.gf_tree.specs.Renumbering.{renumbered_node, renumbered}
 use Rattle.gf_tree.proofs.lemmas.games.FirstUseNumbers.{AreApart}
-use Rattle.gf_tree.proofs.lemmas.games.Carried.{of_keys, in_keys, at_images_twice, at_images_same}
-use Rattle.gf_tree.proofs.lemmas.games.MappedTrees.{map_tree_same, map_tree_twice}
-use Rattle.gf_tree.proofs.lemmas.games.MappedTrees.{map_tree_itself, held, held_map}
 use Rattle.gf_tree.proofs.lemmas.games.Consistent.{flatten_map}
+use Rattle.gf_tree.proofs.lemmas.games.Carried.{of_keys, in_keys, at_images_twice, at_images_same}
+use Rattle.gf_tree.proofs.lemmas.games.MappedTrees.{map_tree_same, map_tree_twice, map_tree_itself}
+use Rattle.gf_tree.proofs.lemmas.games.MappedTrees.{held, held_map}
 use Rattle.gf_tree.proofs.lemmas.games.TreesOnce.{same_set_equality}
 use Rattle.gf_tree.proofs.lemmas.games.Uses.{Has, has, contains, mapped_from, each}
 
@@ -47,12 +49,7 @@ option_same f g (Some x) h = ap Some (h x refl)
 
 option_twice : {X Y Z : Type 0} (f : X → Y) (g : Y → Z) (o : Option X)
     → option_map g (option_map f o) ≡ option_map (λ x. g (f x)) o
-option_twice f g None = refl
-option_twice f g (Some x) = refl
-
-option_itself : {X : Type 0} (o : Option X) → option_map (λ x. x) o ≡ o
-option_itself None = refl
-option_itself (Some x) = refl
+option_twice f g o = grind arith
 
 pub agreed_trees : (r s : Renumbering) (t : Tree Node) → Agree r s t
     → map_tree (renumbered_node r) t ≡ map_tree (renumbered_node s) t
@@ -91,8 +88,8 @@ identity = record { set = λ player number. number; outcome = λ number. number 
 pub itself_tree : (t : Tree Node) → map_tree (renumbered_node identity) t ≡ t
 itself_tree t = map_tree_same (renumbered_node identity) (λ n. n) t (λ e i j. record {
   name = e.node.name;
-  set = option_itself e.node.set j;
-  outcome = option_itself e.node.outcome j;
+  set = option_map_id e.node.set j;
+  outcome = option_map_id e.node.outcome j;
 }) ∙ map_tree_itself t
 
 -- first r, then s

@@ -1,22 +1,22 @@
 -- Sameness of games: identity, inverse and composition of renumberings.
-use Rattle.std.proofs.Common.{◌≡◌, ℕ, ◌<◌, List, [], ◌∷◌, map, refl, sym, ap, subst, ◌∙◌, inl, inr}
-use Rattle.std.specs.Prelude.{nat_eq}
+use Rattle.std.proofs.Common.{◌≡◌, ℕ, ◌<◌, List, [], ◌∷◌, map, refl, sym, ap, subst, ◌∙◌, arith}
 use Rattle.std.proofs.lemmas.Bool.Decides.{Decides-eqb}
+use Rattle.std.specs.Prelude.{nat_eq}
 use Rattle.gf_tree.specs.Tree.{map_tree}
+use Rattle.gf_tree.specs.Renumbering.{renumbered_node, Renumbering, HasSet, HasOutcome}
+use Rattle.gf_tree.specs.Renumbering.{renumbered_set}
+use Rattle.gf_tree.specs.Game.{Game, IsGame, used_sets, used_outcomes}
+use Rattle.gf_tree.specs.SameGame.{Carries, SameGame}
 use Rattle.gf_tree.specs.Description.{SetKey, same_set, set_of}
-use Rattle.gf_tree.specs.Game.{Game, IsGame, used_sets, used_outcomes, set_at, outcome_at}
-use Rattle.gf_tree.specs.Renumbering.{Renumbering, HasSet, HasOutcome}
-use Rattle.gf_tree.specs.Renumbering.{renumbered_set, renumbered_node}
 use Rattle.gf_tree.proofs.lemmas.games.FirstUseNumbers.{AreApart}
+use Rattle.gf_tree.proofs.lemmas.games.TreesOnce.{same_set_equality}
 use Rattle.gf_tree.proofs.lemmas.games.Carried.{undo, undone, undone_apart, apart_twice}
 use Rattle.gf_tree.proofs.lemmas.games.Renumberings.{used_sets_of, used_outcomes_of, agreed_trees}
 use Rattle.gf_tree.proofs.lemmas.games.Renumberings.{identity, itself_tree, composed}
-use Rattle.gf_tree.proofs.lemmas.games.Renumberings.{composed_trees}
-use Rattle.gf_tree.proofs.lemmas.games.Renumberings.{sets_apart, outcomes_apart, is_renumbering}
-use Rattle.gf_tree.proofs.lemmas.games.Renumberings.{set_number_positive, outcome_number_positive}
-use Rattle.gf_tree.proofs.lemmas.games.TreesOnce.{same_set_equality}
+use Rattle.gf_tree.proofs.lemmas.games.Renumberings.{composed_trees, sets_apart, outcomes_apart}
+use Rattle.gf_tree.proofs.lemmas.games.Renumberings.{is_renumbering, set_number_positive}
+use Rattle.gf_tree.proofs.lemmas.games.Renumberings.{outcome_number_positive}
 use Rattle.gf_tree.proofs.lemmas.games.Uses.{Has, has, contains, has_map, mapped_from}
-use Rattle.gf_tree.specs.SameGame.{Carries, SameGame}
 
 -- ---- what a carried game uses
 
@@ -112,20 +112,15 @@ carries_back r g h game c = record {
   comment = sym c.comment;
   players = sym c.players;
   tree =
-      ap (map_tree (renumbered_node s)) (sym c.tree)
-      ∙ composed_trees r s g.tree
+      ap (map_tree (renumbered_node s)) (sym c.tree) ∙ composed_trees r s g.tree
       ∙ agreed_trees (composed r s) identity g.tree (record { sets = back; outcomes = back' })
       ∙ itself_tree g.tree;
   sets = λ key i.
       let k = of_set key (has (used_sets h.tree) key i) in
-      ap (set_at h) (sym k.2)
-      ∙ sym (c.sets k.0 (contains (used_sets g.tree) k.0 k.1))
-      ∙ ap (set_at g) (sym (back k.0 k.1) ∙ ap (renumbered_set s) k.2);
+      cc (k.2, c.sets k.0 (contains (used_sets g.tree) k.0 k.1), back k.0 k.1);
   outcomes = λ number i.
       let k = of_outcome number (has (used_outcomes h.tree) number i) in
-      ap (outcome_at h) (sym k.2)
-      ∙ sym (c.outcomes k.0 (contains (used_outcomes g.tree) k.0 k.1))
-      ∙ ap (outcome_at g) (sym (back' k.0 k.1) ∙ ap s.outcome k.2);
+      cc (k.2, c.outcomes k.0 (contains (used_outcomes g.tree) k.0 k.1), back' k.0 k.1);
 }
   where
     s : Renumbering
@@ -189,8 +184,7 @@ images_told {X} {Y} f g (y ∷ xs) e x i = go i (images_told f g xs rest x)
     rest = cc
 
     go : Has (y ∷ xs) x → (Has xs x → f x ≡ g x) → f x ≡ g x
-    go (inl q) h = ap f (sym q) ∙ first ∙ ap g q
-    go (inr j) h = h j
+    go h h2 = grind (arith, first)
 
 pub only_sets : (r s : Renumbering) (g h : Game) → Carries r g h → Carries s g h
     → (player number : ℕ) → HasSet g player number → r.set player number ≡ s.set player number

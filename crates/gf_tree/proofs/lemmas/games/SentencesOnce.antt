@@ -1,6 +1,6 @@
 -- A list of tokens says at most one thing, node by node.
-use Rattle.std.proofs.Common.{◌≡◌, ℕ, zero, suc, List, [], ◌∷◌, ◌++◌, length, map, drop}
-use Rattle.std.proofs.Common.{refl, sym, ap, subst, ◌∙◌, append_assoc, arith, inl, inr}
+use Rattle.std.proofs.Common.{◌≡◌, ℕ, zero, suc, List, [], ◌∷◌, ◌++◌, length, map, drop, refl, sym}
+use Rattle.std.proofs.Common.{ap, subst, ◌∙◌, append_assoc, arith, inl, inr}
 use Rattle.std.specs.Prelude.{Option, Some, None, codes}
 use Rattle.std.specs.Str.Parse.{digits_value}
 use Rattle.gf_fraction.specs.Ratio.{Ratio}
@@ -9,14 +9,13 @@ use Rattle.gf_token.specs.Token.Token.{Text, Bare}
 use Rattle.gf_token.specs.Index.{IsIndex}
 use Rattle.gf_token.specs.Grammar.{Each, braced, IsComment}
 use Rattle.gf_tree.specs.PrefixOrder.{flatten}
-use Rattle.gf_tree.specs.Description.{SetKey, InformationSet, Outcome}
 use Rattle.gf_tree.specs.FileTree.{Use, FileNode, FileTree}
-use Rattle.gf_tree.specs.Sentence.{IsAction, IsInformationSet, IsMover, IsStep, IsResult}
-use Rattle.gf_tree.specs.Sentence.{IsNode, IsDescription, Sentence, IsOutcomeDescription}
+use Rattle.gf_tree.specs.Description.{SetKey, InformationSet, Outcome}
+use Rattle.gf_tree.specs.Sentence.{IsAction, IsInformationSet, IsMover, IsStep, IsResult, IsNode}
+use Rattle.gf_tree.specs.Sentence.{IsDescription, Sentence, IsOutcomeDescription}
 use Rattle.gf_tree.proofs.lemmas.fronts.Groups.{Agree, Begun, BeginsText, NoText, in_front}
-use Rattle.gf_tree.proofs.lemmas.fronts.Groups.{closed_once, opened}
-use Rattle.gf_tree.proofs.lemmas.fronts.Groups.{texts_once, numbers_once, descriptions_once}
-use Rattle.gf_tree.proofs.lemmas.fronts.Groups.{payoffs_once}
+use Rattle.gf_tree.proofs.lemmas.fronts.Groups.{closed_once, opened, texts_once, numbers_once}
+use Rattle.gf_tree.proofs.lemmas.fronts.Groups.{descriptions_once, payoffs_once}
 
 -- ---- descriptions
 
@@ -95,10 +94,7 @@ movers_once letter letter' (suc n) (suc m) first first' rest rest' l h k e =
 
 no_mover : (letter : List ℕ) (tokens : List Token) (n : ℕ)
     → letter ≡ codes "t" → IsMover letter tokens n → ⊥
-no_mover letter tokens zero e h =
-    let x : 116 ≡ 99 = one_letter letter 116 99 e h.0 in absurd (omega (arith, x))
-no_mover letter tokens (suc n) e h =
-    let x : 116 ≡ 112 = one_letter letter 116 112 e h.1 in absurd (omega (arith, x))
+no_mover letter tokens n h h2 = grind (arith, one_letter)
 
 steps_once : (letter letter' : List ℕ) (x y : Option (Use SetKey InformationSet))
     (first first' rest rest' : List Token)
@@ -115,9 +111,7 @@ steps_once letter letter' (Some u) (Some v) first first' rest rest' l h k n m e 
     in_front first first' rest rest' (h.0 ++ Bare h.1 ∷ h.2) (k.0 ++ Bare k.1 ∷ k.2) h.3 k.3 e in
     let mover = movers_once letter letter' u.key.player v.key.player h.0 k.0
     (Bare h.1 ∷ (h.2 ++ rest)) (Bare k.1 ∷ (k.2 ++ rest')) l h.4 k.4
-    (sym (append_assoc h.0 (Bare h.1 ∷ h.2) rest)
-    ∙ whole
-    ∙ append_assoc k.0 (Bare k.1 ∷ k.2) rest') in
+    (cc (append_assoc h.0 (Bare h.1 ∷ h.2) rest, whole, append_assoc k.0 (Bare k.1 ∷ k.2) rest')) in
     let behind = mover.1 in
     let bytes : h.1 ≡ k.1 = cc in
     let number = indices_once h.1 k.1 u.key.number v.key.number bytes h.5.0 k.5.0 in
@@ -148,12 +142,10 @@ results_once : (players : ℕ) (x y : Option (Use ℕ Outcome)) (first first' re
 results_once players None None first first' rest rest' h k n m e =
     (refl, ap (drop 1) (in_front first first' rest rest' (Bare h.0 ∷ []) (Bare k.0 ∷ []) h.1 k.1 e))
 results_once players None (Some v) first first' rest rest' h k n m e =
-    let whole = in_front first first' rest rest' (Bare h.0 ∷ []) (Bare k.0 ∷ k.1) h.1 k.2 e in
     let bytes : h.0 ≡ k.0 = cc in
     let zero_is : 0 ≡ v.key = indices_once h.0 k.0 0 v.key bytes h.2 k.3.0 in
     absurd (omega (arith, zero_is, k.3.1))
 results_once players (Some u) None first first' rest rest' h k n m e =
-    let whole = in_front first first' rest rest' (Bare h.0 ∷ h.1) (Bare k.0 ∷ []) h.2 k.1 e in
     let bytes : h.0 ≡ k.0 = cc in
     let is_zero : u.key ≡ 0 = indices_once h.0 k.0 u.key 0 bytes h.3.0 k.2 in
     absurd (omega (arith, is_zero, h.3.1))
@@ -177,8 +169,7 @@ node_once players x y first first' rest rest' h k n m e =
     (Bare k.letter ∷ Text y.name ∷ (k.step ++ k.result)) h.parts k.parts e in
     let letter : h.letter ≡ k.letter = cc in
     let name : x.name ≡ y.name = cc in
-    let behind = sym (append_assoc h.step h.result rest)
-    ∙ ap (drop 2) whole
+    let behind = sym (append_assoc h.step h.result rest) ∙ ap (drop 2) whole
     ∙ append_assoc k.step k.result rest' in
     let step = steps_once h.letter k.letter x.set y.set h.step k.step (h.result ++ rest)
     (k.result ++ rest') letter h.is_step k.is_step
@@ -191,10 +182,7 @@ node_once players x y first first' rest rest' h k n m e =
 pub nodes_no_text : (players : ℕ) (ns : List FileNode) (tokens : List Token)
     → Each (IsNode players) tokens ns → NoText tokens
 nodes_no_text players [] tokens h = λ l others e. let none = sym h ∙ e in cc
-nodes_no_text players (n ∷ ns) tokens h =
-    let node = h.3 in
-    no_text node.letter tokens (Text n.name ∷ ((node.step ++ node.result) ++ h.1))
-    (h.2 ∙ ap (λ (ts : List Token). ts ++ h.1) node.parts)
+nodes_no_text players (n ∷ ns) tokens h = grind (arith, no_text)
 
 nodes_once : (players : ℕ) (ns ms : List FileNode) (tokens tokens' : List Token)
     → Each (IsNode players) tokens ns → Each (IsNode players) tokens' ms → tokens ≡ tokens'

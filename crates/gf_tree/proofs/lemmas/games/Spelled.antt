@@ -1,25 +1,25 @@
 -- What a file means is a game that a file can hold.
-use Rattle.std.proofs.Common.{◌≡◌, ℕ, zero, suc, ◌^◌, ◌<◌, List, [], ◌∷◌, ◌++◌, length, map}
-use Rattle.std.proofs.Common.{Some, None, Option, MatchOption, sym, ap, subst, ◌∙◌, arith}
+use Rattle.std.proofs.Common.{◌≡◌, ℕ, zero, suc, ◌^◌, ◌<◌, List, [], ◌∷◌, ◌++◌, length, map, Some}
+use Rattle.std.proofs.Common.{None, Option, MatchOption, sym, ap, subst, ◌∙◌, arith}
 use Rattle.std.specs.List.{AllByRecursion, cons_option}
 use Rattle.gf_fraction.specs.Ratio.{IsFraction}
 use Rattle.gf_fraction.proofs.AllElements.{all_parts, all_mapped}
 use Rattle.gf_token.specs.Token.{Token}
-use Rattle.gf_token.specs.Token.Token.{Closing, Text, Bare}
-use Rattle.gf_token.specs.Grammar.{Each, IsPayoffInBraces}
 use Rattle.gf_token.specs.LabelSpelling.{IsLabel}
 use Rattle.gf_token.specs.TokenSpelling.{IsSpelled}
+use Rattle.gf_token.specs.Token.Token.{Closing, Text, Bare}
+use Rattle.gf_token.specs.Grammar.{Each, IsPayoffInBraces}
 use Rattle.gf_token.proofs.SpelledTokens.{AllSpelled, all_spelled, braced_spelled, comment_spelled}
 use Rattle.gf_tree.specs.PrefixOrder.{Entry, flatten}
 use Rattle.gf_tree.specs.Description.{Action, SetKey, InformationSet, Outcome}
 use Rattle.gf_tree.specs.FileTree.{Use, FileNode, FileTree, set_uses, outcome_uses}
 use Rattle.gf_tree.specs.Consistent.{Describes}
-use Rattle.gf_tree.specs.Sentence.{IsDescription, IsAction, IsInformationSet, IsMover}
-use Rattle.gf_tree.specs.Sentence.{IsStep, IsResult, IsNode, Sentence, IsOutcomeDescription}
 use Rattle.gf_tree.specs.Game.{Game, IsGame}
+use Rattle.gf_tree.specs.Spellable.{IsSpellable, IsSpellableAction, IsSpellableSet}
+use Rattle.gf_tree.specs.Spellable.{IsSpellableOutcome}
+use Rattle.gf_tree.specs.Sentence.{IsDescription, IsAction, IsInformationSet, IsMover, IsStep}
+use Rattle.gf_tree.specs.Sentence.{IsResult, IsNode, Sentence, IsOutcomeDescription}
 use Rattle.gf_tree.specs.GameOf.{keys_alone, IsGameOf, SpellsGame}
-use Rattle.gf_tree.specs.Spellable.{IsSpellableAction, IsSpellableSet}
-use Rattle.gf_tree.specs.Spellable.{IsSpellableOutcome, IsSpellable}
 use Rattle.gf_tree.proofs.lemmas.games.Uses.{each, all_of_each, has}
 use Rattle.gf_tree.proofs.lemmas.games.Consistent.{map_entry, flatten_map, is_game}
 
@@ -46,8 +46,7 @@ action_spelled (suc player) tokens a h all =
 
 mover_bound : (letter : List ℕ) (tokens : List Token) (player : ℕ) → IsMover letter tokens player
     → player < 2 ^ 32
-mover_bound letter tokens zero h = omega arith
-mover_bound letter tokens (suc player) h = h.3.2
+mover_bound letter tokens player h = grind arith
 
 -- a set's description, or an outcome's, if there is one
 abbrev SetSpelled : Use SetKey InformationSet → Type 0

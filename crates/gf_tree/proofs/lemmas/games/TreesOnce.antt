@@ -1,22 +1,22 @@
 -- Tokens mean at most one consistent file tree, and at most one game.
-use Rattle.std.proofs.Common.{◌≡◌, ℕ, ◌==◌, nat_eq, List, [], ◌∷◌, map, drop}
-use Rattle.std.proofs.Common.{Some, None, Option, refl, sym, ap, subst, ◌∙◌}
+use Rattle.std.proofs.Common.{◌≡◌, ℕ, ◌==◌, nat_eq, List, [], ◌∷◌, map, drop, Some, None, Option}
+use Rattle.std.proofs.Common.{refl, sym, ap, subst, ◌∙◌}
 use Rattle.std.specs.List.{AllByRecursion, filter_map, cons_option}
 use Rattle.std.proofs.lemmas.Bool.Decides.{Decides-eqb, Decides-and}
 use Rattle.gf_token.specs.Token.{Token}
 use Rattle.gf_token.proofs.Spelled.{same_tokens}
 use Rattle.gf_tree.specs.PrefixOrder.{Entry, flatten}
-use Rattle.gf_tree.specs.Description.{SetKey, InformationSet, same_set}
-use Rattle.gf_tree.specs.FileTree.{Use, FileNode, FileTree, set_uses, outcome_uses}
-use Rattle.gf_tree.specs.Consistent.{AreConsistent, IsConsistent, HasChildrenAsDescribed}
 use Rattle.gf_tree.specs.Sentence.{Sentence}
 use Rattle.gf_tree.specs.FiniteMap.{first_uses}
 use Rattle.gf_tree.specs.Game.{Game, used_sets, used_outcomes}
+use Rattle.gf_tree.specs.Description.{SetKey, InformationSet, same_set}
+use Rattle.gf_tree.specs.FileTree.{Use, FileNode, FileTree, set_uses, outcome_uses}
+use Rattle.gf_tree.specs.Consistent.{AreConsistent, IsConsistent, HasChildrenAsDescribed}
 use Rattle.gf_tree.specs.GameOf.{IsGameOf, MeansGame, SpellsGame}
 use Rattle.gf_tree.proofs.lemmas.games.Prefix.{flatten_once}
+use Rattle.gf_tree.proofs.lemmas.games.Uses.{described_once, Has, has_first, has_later, IsEquality}
+use Rattle.gf_tree.proofs.lemmas.games.Uses.{described}
 use Rattle.gf_tree.proofs.lemmas.games.SentencesOnce.{SaysAlike, says_once}
-use Rattle.gf_tree.proofs.lemmas.games.Uses.{Has, has_first, has_later, IsEquality, described}
-use Rattle.gf_tree.proofs.lemmas.games.Uses.{described_once}
 
 pub same_set_equality : IsEquality same_set
 same_set_equality a b =
@@ -30,12 +30,10 @@ same_set_equality a b =
 
 children_by : (uses : List (Use SetKey InformationSet))
     → AreConsistent uses → (o : Option (Use SetKey InformationSet)) (m n : ℕ)
-    → ((u : Use SetKey InformationSet) → o ≡ Some u → Has uses u)
-    → HasChildrenAsDescribed uses
+    → ((u : Use SetKey InformationSet) → o ≡ Some u → Has uses u) → HasChildrenAsDescribed uses
     (record { node = record { name = []; set = o; outcome = None }; children = m })
     → HasChildrenAsDescribed uses
-    (record { node = record { name = []; set = o; outcome = None }; children = n })
-    → m ≡ n
+    (record { node = record { name = []; set = o; outcome = None }; children = n }) → m ≡ n
 children_by uses consistent None m n among h k = h ∙ sym k
 children_by uses consistent (Some u) m n among h k =
     let d = described same_set same_set_equality uses consistent u (among u refl) in
@@ -73,8 +71,7 @@ tree_once : (f g : FileTree) → SaysAlike f g → IsConsistent f → IsConsiste
 tree_once f g h p q =
     let es = flatten f.tree in
     let fs = flatten g.tree in
-    let uses : set_uses fs ≡ set_uses es =
-    uses_of_nodes fs ∙ ap (filter_map (λ n. n.set)) (sym h.nodes) ∙ sym (uses_of_nodes es) in
+    let uses : set_uses fs ≡ set_uses es = cc (uses_of_nodes fs, h.nodes, uses_of_nodes es) in
     let children = subst (λ us. AllByRecursion (HasChildrenAsDescribed us) fs) uses q.children in
     let tree = flatten_once f.tree g.tree
     (entries_once (set_uses es) p.sets es fs (λ u m. m) h.nodes p.children children) in

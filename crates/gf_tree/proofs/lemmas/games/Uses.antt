@@ -73,12 +73,7 @@ differ same equality a b h e = true_or_false (same a b) ((equality a b).1 e) h
 
 pub either_way : {K : Type 0} (same : K → K → Bool) → IsEquality same → (key k : K)
     → same k key ≡ same key k
-either_way same equality key k = by (same k key) refl (same key k) refl
-  where
-    by : (a : Bool) → same k key ≡ a → (b : Bool) → same key k ≡ b → same k key ≡ same key k
-    by true e b f = e ∙ sym ((equality key k).1 (sym ((equality k key).0 e)))
-    by false e true f = (equality k key).1 (sym ((equality key k).0 f)) ∙ sym f
-    by false e false f = e ∙ sym f
+either_way same equality key k = grind arith
 
 -- ---- first uses
 

@@ -1,15 +1,15 @@
 -- The answer of the machine to the tokens of a file is what the file means: the one game that its
 -- bytes spell, or a refusal where one is due.
-use Rattle.std.proofs.Common.{◌≡◌, ℕ, List, [], ◌∷◌, ◌++◌, length, Result, Ok, Err}
-use Rattle.std.proofs.Common.{refl, sym, ap, subst, ◌∙◌}
+use Rattle.std.proofs.Common.{◌≡◌, ℕ, List, [], ◌∷◌, ◌++◌, length, Result, Ok, Err, refl, sym, ap}
+use Rattle.std.proofs.Common.{subst, ◌∙◌}
 use Rattle.gf_token.specs.Token.{Token, Lexeme}
 use Rattle.gf_token.specs.TokenSpelling.{Spells}
 use Rattle.gf_token.specs.Place.{tokens_of, IsSpanOf}
 use Rattle.gf_token.specs.declared.fault.Fault.{Fault}
 use Rattle.gf_token.specs.declared.fault.Span.{Span}
 use Rattle.gf_token.specs.declared.fault.Why.{Why}
-use Rattle.gf_token.specs.declared.fault.Why.TheVariants.{TooLong, UnknownOutcome}
-use Rattle.gf_token.specs.declared.fault.Why.TheVariants.{TooManyProfiles, Memory}
+use Rattle.gf_token.specs.declared.fault.Why.TheVariants.{Memory, TooLong, UnknownOutcome}
+use Rattle.gf_token.specs.declared.fault.Why.TheVariants.{TooManyProfiles}
 use Rattle.gf_token.proofs.Spelled.{same_tokens}
 use Rattle.gf_tree.specs.Description.{SetKey, InformationSet, Outcome}
 use Rattle.gf_tree.specs.FiniteMap.{Described}
@@ -18,20 +18,20 @@ use Rattle.gf_tree.specs.GameOf.{SpellsGame}
 use Rattle.gf_tree.specs.inner.GameParts.{game_with}
 use Rattle.gf_tree.specs.Judgement.{IsJudged, IsRefusal}
 use Rattle.gf_tree.specs.KeptNodes.{Kept, entries_with}
-use Rattle.gf_tree.specs.inner.Machine.{Content, nothing, run}
-use Rattle.gf_tree.specs.inner.Machine.Position.{Format}
 use Rattle.gf_tree.specs.inner.Passed.{HasPassed}
-use Rattle.gf_tree.specs.PrefixOrder.{Entry, Fills}
 use Rattle.gf_tree.specs.inner.ReadGame.{game_of}
 use Rattle.gf_tree.specs.Reason.{IsReason}
+use Rattle.gf_tree.specs.Spellable.{IsSpellable}
+use Rattle.gf_tree.specs.inner.Machine.{Content, nothing, run}
+use Rattle.gf_tree.specs.inner.Machine.Position.{Format}
+use Rattle.gf_tree.specs.PrefixOrder.{Entry, Fills}
 use Rattle.gf_tree.specs.inner.ReaderState.{Answer, Fails, HasPassedPlace, heard}
 use Rattle.gf_tree.specs.inner.ReaderState.Fails.{of_file, of_memory}
-use Rattle.gf_tree.specs.Spellable.{IsSpellable}
 use Rattle.gf_tree.proofs.lemmas.fronts.Judged.{refuses}
+use Rattle.gf_tree.proofs.lemmas.games.Spelled.{spelled_is_spellable}
 use Rattle.gf_tree.proofs.lemmas.runs.Games.{file_found}
 use Rattle.gf_tree.proofs.lemmas.runs.Passed.{accepted}
 use Rattle.gf_tree.proofs.lemmas.runs.Stops.{machine_spells, run_reads}
-use Rattle.gf_tree.proofs.lemmas.games.Spelled.{spelled_is_spellable}
 use Rattle.gf_tree.proofs.lemmas.Once.{one_ok, ok_or_err}
 
 -- ---- what is read
@@ -181,15 +181,13 @@ passed_judged bytes ls span spelled h =
     let p = h.place in
     let same : ls ≡ p.0 ++ p.1 = same_tokens bytes ls (p.0 ++ p.1) spelled p.2 in
     memory_judged bytes p.0 p.1 span p.2 p.3
-    (subst (λ (x : List Lexeme). HasPassed (run (length bytes) Format nothing x) span.start) same
-    h.passed)
+    (rw (← same) h.passed)
 
 pub answer_judged : (bytes : List ℕ) (ls : List Lexeme) (fault : Fault) → Spells 0 bytes ls
     → Fails fault (to_all bytes ls) → IsJudged fault.why bytes fault.span
 answer_judged bytes ls fault spelled (of_file e) = refused_judged bytes ls fault spelled e
 answer_judged bytes ls fault spelled (of_memory is h) =
-    subst (λ why. IsJudged why bytes fault.span) (sym is)
-    (passed_judged bytes ls fault.span spelled h)
+    rw is (passed_judged bytes ls fault.span spelled h)
 
 pub answer_only : (bytes : List ℕ) (ls : List Lexeme) (fault : Fault) (g : Game)
     → Spells 0 bytes ls → Fails fault (to_all bytes ls) → SpellsGame bytes g → fault.why ≡ Memory

@@ -1,56 +1,52 @@
 -- What the reader keeps still stands for the same when more is known.
-use Rattle.std.proofs.Common.{◌≡◌, ◌<◌, ◌≤◌, ℕ, zero, suc, Bool, true, false}
-use Rattle.std.proofs.Common.{List, [], ◌∷◌, ◌++◌, length, map, Option, Some, None}
-use Rattle.std.proofs.Common.{option_map, slice_get, refl, sym, ap, ◌∙◌, arith}
-use Rattle.std.proofs.Common.{subst}
+use Rattle.std.proofs.Common.{◌≡◌, ◌<◌, ◌≤◌, ℕ, zero, suc, Bool, true, false, List, [], ◌∷◌, ◌++◌}
+use Rattle.std.proofs.Common.{length, map, Option, Some, None, option_map, slice_get, refl, sym, ap}
+use Rattle.std.proofs.Common.{◌∙◌, arith, subst}
+use Rattle.std.proofs.lemmas.Bool.Decides.{Decides-eqb}
 use Rattle.std.specs.Prelude.{position, nat_eq, Result, Ok, Err, OnOk, IfErr, IfOk, IfNone}
-use Rattle.std.specs.Prelude.{MatchResult, ◌==◌, if◌then◌else◌}
+use Rattle.std.specs.Prelude.{if◌then◌else◌, MatchResult, ◌==◌}
+use Rattle.std.specs.List.{find}
 use Rattle.std.proofs.lemmas.List.{length-map}
 use Rattle.std.proofs.lemmas.List.Quantifiers.{position-Some}
 use Rattle.gf_tree.specs.KnownSets.{KnownSets, with_pending_set}
 use Rattle.gf_tree.specs.inner.KnownOutcomes.{KnownOutcomes, with_pending_outcome}
 use Rattle.gf_tree.specs.declared.reader.Reader.{Reader}
-use Rattle.std.specs.List.{find}
+use Rattle.gf_tree.specs.Description.{outcome_with, set_with, Action, InformationSet, Outcome}
+use Rattle.gf_tree.specs.Description.{SetKey, same_set, set_of}
+use Rattle.gf_tree.specs.Game.{Game}
+use Rattle.gf_tree.specs.Judgement.{IsReadAs}
+use Rattle.gf_tree.specs.Actions.{actions_of}
 use Rattle.std.proofs.lemmas.Option.{slice_get_within}
-use Rattle.std.proofs.lemmas.Bool.Decides.{Decides-eqb}
 use Rattle.std.proofs.lemmas.Iterator.Adapters.{position_from-zero}
 use Rattle.gf_fraction.specs.Ratio.{Ratio}
 use Rattle.gf_token.specs.Label.{label_of}
 use Rattle.gf_token.specs.Positions.{at_position}
-use Rattle.gf_tree.specs.Description.{Action, InformationSet, Outcome, SetKey, same_set, set_of}
-use Rattle.gf_tree.specs.Description.{outcome_with, set_with}
+use Rattle.gf_token.specs.Indices.{count_of}
 use Rattle.gf_tree.specs.FiniteMap.{Described, description_at}
-use Rattle.gf_tree.specs.Game.{Game}
-use Rattle.gf_tree.specs.Judgement.{IsReadAs}
 use Rattle.gf_tree.proofs.lemmas.runs.Passed.{passed_before}
 use Rattle.gf_token.specs.Remaining.{Remaining, StandsBefore}
 use Rattle.gf_token.specs.declared.fault.Span.{Span}
 use Rattle.gf_token.specs.declared.token.TextToken.{TextToken}
-use Rattle.gf_tree.specs.KeptNodes.{AreAmong, Kept}
-use Rattle.gf_tree.specs.KeptNodes.{actions_counted, entries_with}
-use Rattle.gf_tree.specs.inner.Machine.{Begun, Content, begun, behind_set, nothing, run, set_ends}
-use Rattle.gf_tree.specs.inner.Machine.{set_known, set_number, then_on, with_outcome, with_set}
-use Rattle.gf_tree.specs.inner.Machine.{Position, State, new_set_ends, with_action}
-use Rattle.gf_tree.specs.inner.Machine.Position.{Format, KnownSetName, NewAction}
-use Rattle.gf_tree.specs.inner.Machine.Position.{OutcomeNumber, SetNumber}
-use Rattle.gf_tree.specs.Actions.{actions_of}
-use Rattle.gf_tree.specs.declared.game.action.Action as held
 use Rattle.gf_token.specs.declared.fault.Fault.{Fault}
-use Rattle.gf_token.specs.declared.fault.Why.{Why}
+use Rattle.gf_tree.specs.KeptNodes.{AreAmong, Kept, actions_counted, entries_with}
+use Rattle.gf_tree.specs.inner.Machine.{Begun, Content, begun, behind_set, nothing, run, set_ends}
+use Rattle.gf_tree.specs.inner.Machine.{set_known, then_on, with_outcome, with_set, Position, State}
+use Rattle.gf_tree.specs.inner.Machine.{new_set_ends, with_action}
+use Rattle.gf_tree.specs.inner.Machine.Position.{Format, KnownSetName, NewAction, OutcomeNumber}
+use Rattle.gf_tree.specs.inner.Machine.Position.{SetNumber}
 use Rattle.gf_tree.specs.inner.AddsUp.{adds_up}
-use Rattle.gf_token.specs.Indices.{count_of}
+use Rattle.gf_token.specs.declared.fault.Why.{Why}
+use Rattle.gf_token.specs.declared.fault.Why.TheVariants.{Memory, SumBelowOne}
 use Rattle.gf_token.specs.Token.{Lexeme, lexeme}
 use Rattle.gf_token.specs.Token.Token.{Bare, Closing}
-use Rattle.gf_token.specs.declared.fault.Why.TheVariants.{Memory, SumBelowOne}
 use Rattle.gf_tree.specs.inner.FoundSet.{FoundOutcome, FoundSet}
-use Rattle.gf_tree.specs.inner.ReaderState.{Answer, Fails, Goes, Grows, answer}
-use Rattle.gf_tree.specs.inner.ReaderState.{begun_with}
+use Rattle.gf_tree.specs.inner.ReaderState.{Answer, Fails, Goes, Grows, answer, begun_with}
 use Rattle.gf_tree.specs.inner.ReaderState.{with_text, content_of, heard}
 use Rattle.gf_tree.specs.inner.ReaderState.Fails.{of_memory}
-use Rattle.gf_tree.proofs.lemmas.stores.FoundKeys.{described_at, found_from}
-use Rattle.gf_tree.proofs.lemmas.stores.FoundKeys.{set_in_parts}
+use Rattle.gf_tree.proofs.lemmas.stores.FoundKeys.{described_at, found_from, set_in_parts}
 use Rattle.gf_tree.proofs.lemmas.games.TreesOnce.{same_set_equality}
 use Rattle.gf_tree.proofs.lemmas.games.Uses.{IsEquality}
+use Rattle.gf_tree.specs.declared.game.action.Action as held
 
 -- ---- lists that grow at the end
 
@@ -66,8 +62,7 @@ get_next (y ∷ xs) x = get_next xs x
 
 pub at_before : {A : Type 0} (xs ys : List A) (p : ℕ) → p ≤ length xs
     → at_position (xs ++ ys) p ≡ at_position xs p
-at_before xs ys zero h = refl
-at_before xs ys (suc k) h = get_before xs ys k (omega (arith, h))
+at_before xs ys p h = grind (arith, get_before)
 
 -- ---- nodes when more is known
 
@@ -133,11 +128,7 @@ module _ {K D : Type 0} (same : K → K → Bool) (tells : IsEquality same) (key
   found_more : (e : Described K D) (es : List (Described K D)) (s : Described K D)
       → (find (λ e. same e.key key) es ≡ Some s → s.key ≡ key)
       → (b : Bool) → same e.key key ≡ b → find (λ e. same e.key key) (e ∷ es) ≡ Some s → s.key ≡ key
-  found_more e es s later true is h =
-      let here : Some e ≡ Some s = rw is at h in
-      let one : e ≡ s = cc in
-      ap (λ x. x.key) (sym one) ∙ (tells e.key key).0 is
-  found_more e es s later false is h = later (rw is at h)
+  found_more e es s h b h2 h3 = grind arith
 
   found_is : (es : List (Described K D)) (s : Described K D)
       → find (λ e. same e.key key) es ≡ Some s → s.key ≡ key
@@ -148,11 +139,7 @@ module _ {K D : Type 0} (same : K → K → Bool) (tells : IsEquality same) (key
   pub key_at : (es : List (Described K D)) (place : ℕ) (s : Described K D)
       → position (same key) (map (λ e. e.key) es) ≡ Some place → slice_get es place ≡ Some s
       → s.key ≡ key
-  key_at es place s h is =
-      let r = found_from same tells key es 0 place
-      (sym (position_from-zero (same key) (map (λ e. e.key) es)) ∙ h) in
-      let k : r.0 ≡ place = omega (arith, r.1) in
-      found_is es s (r.2 ∙ ap (slice_get es) k ∙ is)
+  key_at es place s h is = grind (arith, found_from, position_from-zero, found_is)
 
 pub found_set : (known : List (Described SetKey InformationSet)) (key : SetKey) (place : ℕ)
     (name : List ℕ) (actions : List Action)
@@ -167,8 +154,7 @@ found_set known key place name actions at named acts = by (slice_get known place
     by None is = let none : None ≡ Some name = rw is at named in absurd cc
     by (Some s) is =
         let parts = set_in_parts (slice_get known place) name actions named acts in
-        let set : Some s.description ≡ Some (set_with name actions) =
-        ap (option_map (λ x. x.description)) (sym is) ∙ parts in
+        let set : Some s.description ≡ Some (set_with name actions) = cc (is, parts) in
         let one : s.description ≡ set_with name actions = cc in
         let key_is = key_at same_set same_set_equality key known place s at is in
         record {
@@ -177,8 +163,7 @@ found_set known key place name actions at named acts = by (slice_get known place
             name = node;
             set = option_map (λ x. x.key) (is i);
             children = actions_counted (is i);
-          })
-              ∙ (λ i.
+          }) ∙ (λ i.
               record { name = node; set = Some (key_is i); children = length (one i).actions });
           within = slice_get_within known place s is;
         }
@@ -199,8 +184,7 @@ module _ {E : Type 0} (r : Reader) (sets : KnownSets) (key : SetKey) (name : Lis
 
   pub kept_begun : (node : List ℕ) (result : Result ℕ E)
       → OnOk result (sets ≡ with_pending_set r.sets key name)
-      → IfOk result (λ place. place ≡ length r.sets.known)
-      → IfOk result (λ place.
+      → IfOk result (λ place. place ≡ length r.sets.known) → IfOk result (λ place.
       begun_with sets.known node (suc place) ≡ begun node key (set_with name r.sets.pending))
   kept_begun node (Err e) h is = tt
   kept_begun node (Ok place) h is =
@@ -229,16 +213,14 @@ module _ {E : Type 0} (r : Reader) (outcomes : KnownOutcomes) (number : ℕ) (na
 
   pub kept_outcome_key : (result : Result ℕ E)
       → OnOk result (outcomes ≡ with_pending_outcome r.outcomes number name)
-      → IfOk result (λ place. place ≡ length r.outcomes.known)
-      → IfOk result
+      → IfOk result (λ place. place ≡ length r.outcomes.known) → IfOk result
       (λ place. option_map (λ o. o.key) (slice_get outcomes.known place) ≡ Some number)
   kept_outcome_key (Err e) h is = tt
   kept_outcome_key (Ok place) h is =
       ap (λ (k : KnownOutcomes). option_map (λ o. o.key) (slice_get k.known place)) h
       ∙ ap (λ (p : ℕ).
       option_map (λ o. o.key) (slice_get (with_pending_outcome r.outcomes number name).known p))
-      is
-      ∙ ap (option_map (λ o. o.key)) (get_next r.outcomes.known
+      is ∙ ap (option_map (λ o. o.key)) (get_next r.outcomes.known
       (record { key = number; description = outcome_with name r.outcomes.pending }))
 
 pub if_none : {A : Type 0} {P : Type 0} (o : Option A) → P → IfNone o P
@@ -250,8 +232,7 @@ if_none (Some x) p = tt
 pub set_ends_by : (c : Content) (node : List ℕ) (player n : ℕ) (set : InformationSet) (sum : Ratio)
     → set_ends c node player n set sum
     ≡ (if adds_up player sum then Ok (set_known c node (set_of player n) set) else Err SumBelowOne)
-set_ends_by c node zero n set sum = refl
-set_ends_by c node (suc player) n set sum = refl
+set_ends_by c node player n set sum = grind arith
 
 -- ---- a token is taken
 
@@ -268,26 +249,16 @@ pub set_known_again : (c : Content) (node : List ℕ) (key : SetKey) (place : �
     → heard (behind_set node key (description_at same_set c.sets key)) c rest
     ≡ heard (OutcomeNumber (begun_with c.sets node (suc place))) c behind
 set_known_again c node key place rest behind set found goes =
-    ap (λ o. heard (behind_set node key o) c rest) found.described
-    ∙ goes
-    ∙ ap (λ (x : Begun). heard (OutcomeNumber x) c behind) (sym (found.begins node))
+    cc (found.described, goes, found.begins node)
 
 -- its number is read
 pub set_again : (c : Content) (node : List ℕ) (player n a b : ℕ) (t : List ℕ)
     (all rest : Remaining) (after : Answer)
     → all ≡ record { input = rest.input; ahead = lexeme a b (Bare t) ∷ rest.ahead }
-    → Some n ≡ count_of t
-    → heard (behind_set node (set_of player n)
+    → Some n ≡ count_of t → heard (behind_set node (set_of player n)
     (description_at same_set c.sets (set_of player n))) c rest ≡ after
     → heard (SetNumber node player) c all ≡ after
-set_again c node player n a b t all rest after is number goes =
-    ap (heard (SetNumber node player) c) is
-    ∙ ap (λ o. record {
-      input = rest.input;
-      machine = then_on (lexeme a b (Bare t)) (set_number c node player o)
-          (λ s. run (length rest.input) s.position s.content rest.ahead);
-    }) (sym number)
-    ∙ goes
+set_again c node player n a b t all rest after is number goes = cc (is, number, goes)
 
 -- ---- a new set is whole
 
@@ -299,9 +270,7 @@ new_ended : (c : Content) (node : List ℕ) (player n : ℕ) (set : InformationS
 new_ended c node player n set [] actions sum some is adds = absurd cc
 new_ended c node player n set (h ∷ hs) [] sum some is adds = absurd cc
 new_ended c node player n set (h ∷ hs) (a ∷ actions) sum some is adds =
-    set_ends_by c node player n set sum
-    ∙ ap (λ (b : Bool). if b then Ok (set_known c node (set_of player n) set) else Err SumBelowOne)
-    (sym adds)
+    cc (set_ends_by c node player n set sum, adds)
 
 pub set_end : (c d : Content) (node : List ℕ) (player n : ℕ) (name : List ℕ)
     (actions : List Action) (sum : Ratio) (a b : ℕ) (all rest behind : Remaining)
@@ -354,19 +323,16 @@ pub found_outcome : (known : List (Described ℕ Outcome)) (number place : ℕ)
 found_outcome known number place at = by (slice_get known place) refl
   where
     within : place < length known
-    within = subst (λ (n : ℕ). place < n) (length-map known (λ o. o.key))
-        (position-Some (nat_eq number) (map (λ o. o.key) known) place 0 at).0
+    within = grind (arith, length-map, position-Some)
 
     by : (o : Option (Described ℕ Outcome)) → slice_get known place ≡ o
         → FoundOutcome known number place
     by None is = absurd (none_within known place within is)
     by (Some o) is = record {
       outcome = o.description;
-      described = described_at nat_eq Decides-eqb number known place at
-          ∙ ap (option_map (λ x. x.description)) is;
+      described = cc (described_at nat_eq Decides-eqb number known place at, is);
       stands = ap (option_map (λ x. x.description)) is;
-      key = ap (option_map (λ x. x.key)) is
-          ∙ ap Some (key_at nat_eq Decides-eqb number known place o at is);
+      key = cc (is, key_at nat_eq Decides-eqb number known place o at is);
       within = within;
     }
 
@@ -403,5 +369,4 @@ pub labelled : (t : Remaining) (label : TextToken) (c : Content) (node : List �
     (set : InformationSet) (sum : Ratio) → (player ≡ 0 → ⊥)
     → heard (NewAction node (set_of player n) set sum) c (with_text t label)
     ≡ heard (NewAction node (set_of player n) (with_action set (label_of label.label) None) sum) c t
-labelled t label c node zero n set sum some = absurd (some refl)
-labelled t label c node (suc player) n set sum some = refl
+labelled t label c node player n set sum h = grind arith

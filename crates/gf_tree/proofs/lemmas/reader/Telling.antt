@@ -1,34 +1,32 @@
 -- What a reader has told of the nodes of a file, and that the machine goes on after it.
-use Rattle.std.proofs.Common.{◌≡◌, ◌<◌, ◌≤◌, ◌+◌, ◌-◌, ℕ, List, [], ◌∷◌, ◌++◌, length, max}
-use Rattle.std.proofs.Common.{map, take, Option, Some, None, option_map, Result, Ok, Err}
-use Rattle.std.proofs.Common.{refl, sym, ap, subst, ◌∙◌, append_assoc, append-nil, arith}
+use Rattle.std.proofs.Common.{◌≡◌, ◌<◌, ◌≤◌, ◌+◌, ◌-◌, ℕ, List, [], ◌∷◌, ◌++◌, length, max, map}
+use Rattle.std.proofs.Common.{take, Option, Some, None, option_map, Result, Ok, Err, refl, sym, ap}
+use Rattle.std.proofs.Common.{subst, ◌∙◌, append_assoc, append-nil, arith}
 use Rattle.std.proofs.lemmas.List.{length-append, take-append-le}
 use Rattle.gf_token.specs.Positions.{at_position}
 use Rattle.gf_token.specs.declared.fault.Fault.{Fault}
 use Rattle.gf_tree.specs.Description.{InformationSet, Outcome, SetKey, set_of}
 use Rattle.gf_tree.specs.FiniteMap.{Described}
 use Rattle.gf_tree.specs.Game.{Node}
-use Rattle.gf_tree.specs.KeptNodes.{AreAmong, IsAmong, Kept, child_count}
-use Rattle.gf_tree.specs.KeptNodes.{entries_with, entry_with, position_of}
+use Rattle.gf_tree.specs.KeptNodes.{position_of, AreAmong, IsAmong, Kept, child_count, entries_with}
+use Rattle.gf_tree.specs.KeptNodes.{entry_with}
+use Rattle.gf_tree.specs.PrefixOrder.{Entry}
 use Rattle.gf_tree.specs.KnownSets.{KnownSets, known_of}
+use Rattle.gf_tree.specs.declared.reader.Reader.{Reader}
 use Rattle.gf_tree.specs.inner.KnownOutcomes.{KnownOutcomes}
+use Rattle.gf_tree.specs.inner.Passed.{HasPassed}
 use Rattle.gf_tree.specs.inner.Machine.{Content, Position, with_node}
 use Rattle.gf_tree.specs.inner.Machine.Position.{NodeDue}
-use Rattle.gf_tree.specs.PrefixOrder.{Entry}
 use Rattle.std.specs.Prelude.{MatchOption, ⊤}
-use Rattle.gf_tree.specs.inner.ReaderState.{Answer, Fails, Goes, GoesTelling, Grows}
-use Rattle.gf_tree.specs.inner.ReaderState.{HasRead, HasReadAll}
-use Rattle.gf_tree.specs.inner.ReaderState.{HasTold, Tells, TellsNode, answer, begun_with, behind}
-use Rattle.gf_tree.specs.inner.ReaderState.{content_of, content_with, heard, with_nodes}
+use Rattle.gf_tree.specs.inner.ReaderState.{Answer, Fails, Goes, GoesTelling, Grows, HasRead}
+use Rattle.gf_tree.specs.inner.ReaderState.{HasReadAll, HasTold, Tells, TellsNode, answer}
+use Rattle.gf_tree.specs.inner.ReaderState.{begun_with, behind, content_of, content_with, heard}
+use Rattle.gf_tree.specs.inner.ReaderState.{with_nodes}
 use Rattle.gf_tree.specs.inner.ReaderState.Fails.{of_file, of_memory}
-use Rattle.gf_tree.specs.inner.Passed.{HasPassed}
 use Rattle.gf_tree.specs.Told.{Heading, Told, if_next, kept_as, told_from, told_node, told_outcome}
-use Rattle.gf_tree.specs.Told.{told_set}
-use Rattle.gf_tree.specs.Told.{used_outcomes_from, used_sets_from}
-use Rattle.gf_tree.specs.declared.reader.Reader.{Reader}
+use Rattle.gf_tree.specs.Told.{told_set, used_outcomes_from, used_sets_from}
 use Rattle.gf_tree.proofs.lemmas.reader.Steps.{at_before, carried, outcomes_grow, placed_among_more}
-use Rattle.gf_tree.proofs.lemmas.reader.Steps.{placed_one_more}
-use Rattle.gf_tree.proofs.lemmas.reader.Steps.{sets_grow}
+use Rattle.gf_tree.proofs.lemmas.reader.Steps.{placed_one_more, sets_grow}
 use Rattle.gf_tree.proofs.lemmas.runs.Earlier.{heard_more}
 
 -- ---- what was told stays when more is known
@@ -42,8 +40,7 @@ module _ (sets more_sets : List (Described SetKey InformationSet))
         key = set_of s.key.player
             (length (known_of s.key.player (take p (sets ++ more_sets))));
         description = if_next used p s.description;
-      })) (at_before sets more_sets p h)
-      ∙ ap (λ (front : List (Described SetKey InformationSet)).
+      })) (at_before sets more_sets p h) ∙ ap (λ (front : List (Described SetKey InformationSet)).
       option_map (λ (s : Described SetKey InformationSet). record {
         key = set_of s.key.player (length (known_of s.key.player front));
         description = if_next used p s.description;
@@ -55,8 +52,7 @@ module _ (sets more_sets : List (Described SetKey InformationSet))
       record { key = p; description = if_next used p o.description }))
       (at_before outcomes more_outcomes p h)
 
-  node_stays : (used_sets used_outcomes : ℕ) (n : Kept)
-      → IsAmong (length sets) (length outcomes) n
+  node_stays : (used_sets used_outcomes : ℕ) (n : Kept) → IsAmong (length sets) (length outcomes) n
       → told_node (sets ++ more_sets) (outcomes ++ more_outcomes) used_sets used_outcomes n
       ≡ told_node sets outcomes used_sets used_outcomes n
   node_stays used_sets used_outcomes n h = λ i. record {
@@ -89,8 +85,7 @@ module _ (sets : List (Described SetKey InformationSet)) (outcomes : List (Descr
       (used_outcomes_from used_outcomes ns) n ∷ []
   told_more used_sets used_outcomes [] = refl
   told_more used_sets used_outcomes (m ∷ ms) =
-      ap (λ (ts : List Told). told_node sets outcomes used_sets used_outcomes m ∷ ts)
-      (told_more (max used_sets m.set) (max used_outcomes m.outcome) ms)
+      cc (told_more (max used_sets m.set) (max used_outcomes m.outcome) ms)
 
 sets_more : (n : Kept) (used : ℕ) (ns : List Kept)
     → used_sets_from used (ns ++ n ∷ []) ≡ max (used_sets_from used ns) n.set
@@ -107,9 +102,7 @@ entries_more : (sets : List (Described SetKey InformationSet))
     → entries_with sets outcomes (ns ++ n ∷ [])
     ≡ entries_with sets outcomes ns ++ entry_with sets outcomes n ∷ []
 entries_more sets outcomes [] n = refl
-entries_more sets outcomes (m ∷ ms) n =
-    ap (λ (es : List (Entry Node)). entry_with sets outcomes m ∷ es)
-    (entries_more sets outcomes ms n)
+entries_more sets outcomes (m ∷ ms) n = grind (arith, entries_more sets outcomes ms n)
 
 -- ---- answers after nodes
 
@@ -119,9 +112,7 @@ behind_both ns ms a = ap (λ (m : Result Content Fault). record { input = a.inpu
     (by a.machine)
   where
     by : (m : Result Content Fault) → with_nodes ns (with_nodes ms m) ≡ with_nodes (ns ++ ms) m
-    by (Ok c) = ap (λ (es : List (Entry Node)). Ok (record c { nodes = es }))
-        (sym (append_assoc ns ms c.nodes))
-    by (Err fault) = refl
+    by m = grind (arith, append_assoc)
 
 -- what is refused after nodes is refused with them
 pub fails_behind : {f : Fault} {a : Answer} (ns : List (Entry Node)) → Fails f a
@@ -144,10 +135,7 @@ pub grows_same : {A : Type 0} {xs ys : List A} → xs ≡ ys → Grows xs ys
 grows_same {A} {xs} {ys} e = record { more = []; parts = sym e ∙ sym (append-nil xs) }
 
 grows_length : {A : Type 0} {xs ys : List A} → Grows xs ys → length xs ≤ length ys
-grows_length {A} {xs} {ys} h =
-    let size = ap length h.parts in
-    let both = length-append xs h.more in
-    omega (arith, size, both)
+grows_length {A} {xs} {ys} h = grind (arith, length-append)
 
 -- ---- a node that is told
 
@@ -165,8 +153,7 @@ told_goes old new node content tokens sets outcomes q =
     heard_more (entry_with old.sets.known old.outcomes.known node ∷ []) q
     (record (content_of old) {
       due = child_count old.sets.known node.set + (old.due - 1);
-    }) old.tokens
-    ∙ (λ i. behind
+    }) old.tokens ∙ (λ i. behind
     (entry_with (sym sets i).known (sym outcomes i).known node ∷ [])
     (heard q (sym content i) (sym tokens i)))
 
@@ -193,19 +180,14 @@ module _ {T : Type 0} {holds : T → T → Heading → List Told → Type 0} {be
         node = node;
         goes = e ∙ h.goes q ∙ (λ i.
             behind (entry_with (sym ns i).known (sym no i).known node ∷ []) (goes i));
-        placed = subst
-            (λ (k : KnownSets). IsAmong (length k.known) (length new.outcomes.known) node)
-            (sym s)
-            (subst (λ (k : KnownOutcomes). IsAmong (length r.sets.known) (length k.known) node)
-            (sym o) placed);
+        placed = rw s (subst (λ (k : KnownOutcomes). IsAmong (length r.sets.known) (length k.known)
+            node) (sym o) placed);
         told = λ untold heading told holding. subst
             (λ (x : Told). holds untold to heading (told ++ x ∷ []))
             (λ i. told_node (sym s i).known (sym o i).known (told_sets i) (told_outcomes i) node)
             (h.told untold heading told holding);
-        told_sets = ap (λ (x : Reader). x.told_sets) kept ∙ h.told_sets
-            ∙ ap (λ (n : ℕ). max n node.set) told_sets;
-        told_outcomes = ap (λ (x : Reader). x.told_outcomes) kept ∙ h.told_outcomes
-            ∙ ap (λ (n : ℕ). max n node.outcome) told_outcomes;
+        told_sets = cc (kept, h.told_sets);
+        told_outcomes = cc (kept, h.told_outcomes);
         sets = subst (λ (k : KnownSets). Grows old.sets.known k.known) (sym s) sets;
         outcomes = subst (λ (k : KnownOutcomes). Grows old.outcomes.known k.known) (sym o) outcomes;
       }
@@ -256,10 +238,8 @@ module _ {T : Type 0} (holds : T → T → Heading → List Told → Type 0) (un
     told = subst (holds untold to heading) (sym whole)
         (h.told untold heading (told_from new.sets.known new.outcomes.known 0 0 nodes)
         (subst (holds untold from heading) (sym same) k.told));
-    told_sets = h.told_sets ∙ ap (λ (n : ℕ). max n h.node.set) k.told_sets
-        ∙ sym (sets_more h.node 0 nodes);
-    told_outcomes = h.told_outcomes ∙ ap (λ (n : ℕ). max n h.node.outcome) k.told_outcomes
-        ∙ sym (outcomes_more h.node 0 nodes);
+    told_sets = cc (h.told_sets, k.told_sets, sets_more h.node 0 nodes);
+    told_outcomes = cc (h.told_outcomes, k.told_outcomes, outcomes_more h.node 0 nodes);
   }
     where
       same : told_from new.sets.known new.outcomes.known 0 0 nodes
@@ -271,10 +251,7 @@ module _ {T : Type 0} (holds : T → T → Heading → List Told → Type 0) (un
       whole : told_from new.sets.known new.outcomes.known 0 0 (nodes ++ h.node ∷ [])
           ≡ told_from new.sets.known new.outcomes.known 0 0 nodes
           ++ told_node new.sets.known new.outcomes.known old.told_sets old.told_outcomes h.node ∷ []
-      whole = told_more new.sets.known new.outcomes.known h.node 0 0 nodes
-          ∙ (λ i. told_from new.sets.known new.outcomes.known 0 0 nodes
-          ++ told_node new.sets.known new.outcomes.known (sym k.told_sets i)
-          (sym k.told_outcomes i) h.node ∷ [])
+      whole = grind (arith, told_more)
 
   pub read_one_more : {start : Answer} {old new : Reader} {from to : T}
       → HasRead (λ t told. holds untold t heading told) start NodeDue old from
@@ -282,8 +259,7 @@ module _ {T : Type 0} (holds : T → T → Heading → List Told → Type 0) (un
       → HasRead (λ t told. holds untold t heading told) start NodeDue new to
   read_one_more {start} {old} {new} {from} {to} k h = record {
     nodes = k.nodes ++ h.node ∷ [];
-    goes = k.goes
-        ∙ (λ i. behind (entries i) (h.goes i))
+    goes = k.goes ∙ (λ i. behind (entries i) (h.goes i))
         ∙ behind_both (entries_with new.sets.known new.outcomes.known k.nodes)
         (entry_with new.sets.known new.outcomes.known h.node ∷ []) (answer NodeDue new)
         ∙ ap (λ (es : List (Entry Node)). behind es (answer NodeDue new))

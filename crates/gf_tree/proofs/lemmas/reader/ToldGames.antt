@@ -9,20 +9,20 @@ use Rattle.gf_tree.specs.Description.{InformationSet, Outcome, SetKey}
 use Rattle.gf_tree.specs.FiniteMap.{Described}
 use Rattle.gf_tree.specs.Game.{Game}
 use Rattle.gf_tree.specs.GameOf.{SpellsGame}
+use Rattle.gf_tree.specs.inner.ReadGame.{game_of}
+use Rattle.gf_tree.specs.ToldGame.{HasToldGame}
+use Rattle.gf_tree.specs.declared.reader.Reader.{Reader}
 use Rattle.gf_tree.specs.inner.Machine.{Content, nothing, run}
 use Rattle.gf_tree.specs.inner.Machine.Position.{Format, NodeDue}
-use Rattle.gf_tree.specs.inner.ReadGame.{game_of}
 use Rattle.gf_tree.specs.inner.ReaderState.{Answer, HasReadAll, answer, content_of, content_with}
 use Rattle.gf_tree.specs.inner.ReaderState.{heading_read, heard}
 use Rattle.gf_tree.specs.Told.{Heading, Told, heading_in, told_from}
-use Rattle.gf_tree.specs.ToldGame.{HasToldGame}
-use Rattle.gf_tree.specs.declared.reader.Reader.{Reader}
 use Rattle.gf_tree.proofs.lemmas.reader.Games.{read_spells}
+use Rattle.gf_tree.proofs.lemmas.reader.ToldNodes.{told_of_file}
 use Rattle.gf_tree.proofs.lemmas.runs.Files.{nodes_found}
 use Rattle.gf_tree.proofs.lemmas.runs.Results.{AreOutcomes}
 use Rattle.gf_tree.proofs.lemmas.runs.Sets.{AreSets}
 use Rattle.gf_tree.proofs.lemmas.runs.Stops.{run_reads}
-use Rattle.gf_tree.proofs.lemmas.reader.ToldNodes.{told_of_file}
 
 -- the reader has passed the heading, and knows no set and no outcome
 pub record IsBehindHeading (bytes : List ℕ) (ls : List Lexeme) (r : Reader) : Type 0 where
@@ -61,8 +61,7 @@ module _ (bytes : List ℕ) (ls : List Lexeme) (r : Reader) (behind : IsBehindHe
             read_spells bytes ls c behind.spelled e,
             record {
               told = told;
-              holding = subst (λ (heading : Heading). holds to heading told)
-                  (heading_stays c h.whole) h.has_told.told;
+              holding = rw (← heading_stays c h.whole) h.has_told.told;
               nodes = told_of_file bytes ls c h.nodes behind.spelled e refl h.has_told.placed;
             },
           )

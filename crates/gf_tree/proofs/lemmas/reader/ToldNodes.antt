@@ -1,12 +1,11 @@
 -- The nodes that a reader tells are those of the game by its first-use numbers, as a file gives
 -- them.
-use Rattle.std.proofs.Common.{◌≡◌, ℕ, zero, suc, ◌+◌, ◌≤◌, List, [], ◌∷◌, ◌++◌, length, map}
-use Rattle.std.proofs.Common.{take, max, Some, option_map, slice_get, nat_eq, refl}
-use Rattle.std.proofs.Common.{sym, ap, subst, ◌∙◌, arith, length-append}
+use Rattle.std.proofs.Common.{◌≡◌, ℕ, suc, ◌+◌, ◌≤◌, List, [], ◌∷◌, ◌++◌, length, map, take, max}
+use Rattle.std.proofs.Common.{Some, option_map, slice_get, refl, sym, ap, subst, ◌∙◌, arith}
+use Rattle.std.proofs.Common.{length-append}
 use Rattle.std.specs.Prelude.{Bool, true, ◌==◌, Ok}
 use Rattle.std.specs.List.{filter}
 use Rattle.std.proofs.lemmas.Bool.{eq-eqb}
-use Rattle.std.proofs.lemmas.Bool.Decides.{Decides-eqb}
 use Rattle.std.proofs.lemmas.List.{length-map, map-append}
 use Rattle.std.proofs.lemmas.Option.{slice_get-map}
 use Rattle.gf_token.specs.Positions.{at_position}
@@ -14,30 +13,30 @@ use Rattle.gf_token.specs.Token.{Lexeme}
 use Rattle.gf_token.specs.TokenSpelling.{Spells}
 use Rattle.gf_tree.specs.Description.{SetKey, InformationSet, Outcome, same_set}
 use Rattle.gf_tree.specs.FileNodes.{file_nodes}
+use Rattle.gf_tree.specs.Game.{Game, IsGame, used_sets}
+use Rattle.gf_tree.specs.GameCode.{no_node}
+use Rattle.gf_tree.specs.KnownSets.{known_of}
+use Rattle.gf_tree.specs.PrefixOrder.{flatten}
 use Rattle.gf_tree.specs.FiniteMap.{Described, first_uses}
 use Rattle.gf_tree.specs.FirstUse.{first_use_numbers, sets_of}
-use Rattle.gf_tree.specs.Game.{Game, IsGame, used_outcomes, used_sets}
-use Rattle.gf_tree.specs.GameCode.{no_node}
 use Rattle.gf_tree.specs.KeptNodes.{AreAmong, Kept, entries_with}
-use Rattle.gf_tree.specs.KnownSets.{known_of}
 use Rattle.gf_tree.specs.inner.KnownUses.{nodes_given, use_at}
+use Rattle.gf_tree.specs.inner.ReadGame.{game_of}
 use Rattle.gf_tree.specs.inner.Machine.{Content, nothing, run}
 use Rattle.gf_tree.specs.inner.Machine.Position.{Format}
-use Rattle.gf_tree.specs.PrefixOrder.{flatten}
-use Rattle.gf_tree.specs.inner.ReadGame.{game_of}
 use Rattle.gf_tree.specs.Renumbering.{Renumbering, renumbered, renumbered_node}
 use Rattle.gf_tree.specs.Told.{told_from, told_outcome, told_set}
 use Rattle.gf_tree.proofs.lemmas.games.FirstUseNumbers.{number_at}
-use Rattle.gf_tree.proofs.lemmas.stores.GameNodes.{flatten_grown}
-use Rattle.gf_tree.proofs.lemmas.games.Consistent.{map_entry, flatten_map}
-use Rattle.gf_tree.proofs.lemmas.stores.GivenNodes.{nodes_are_given}
-use Rattle.gf_tree.proofs.lemmas.stores.KnownKeys.{around}
-use Rattle.gf_tree.proofs.lemmas.games.Members.{filter_last, something_there}
 use Rattle.gf_tree.proofs.lemmas.games.PlayerSets.{sets_by_first_use}
+use Rattle.gf_tree.proofs.lemmas.stores.GameNodes.{flatten_grown}
+use Rattle.gf_tree.proofs.lemmas.stores.GivenNodes.{nodes_are_given}
+use Rattle.gf_tree.proofs.lemmas.games.Consistent.{map_entry, flatten_map}
+use Rattle.gf_tree.proofs.lemmas.stores.KnownKeys.{around}
+use Rattle.gf_tree.proofs.lemmas.games.TreesOnce.{same_set_equality}
+use Rattle.gf_tree.proofs.lemmas.games.Members.{filter_last, something_there}
 use Rattle.gf_tree.proofs.lemmas.reader.Games.{read_fills, read_is_game}
 use Rattle.gf_tree.proofs.lemmas.games.Renumbered.{first_use_is_renumbering, renumbered_is_game}
 use Rattle.gf_tree.proofs.lemmas.stores.RenumberedKept.{entries_mapped, outcome_image, set_image}
-use Rattle.gf_tree.proofs.lemmas.games.TreesOnce.{same_set_equality}
 
 -- ---- lists
 
@@ -56,8 +55,7 @@ module _ (g : Game) (game : IsGame g) where
   canonical = renumbered numbers g
 
   set_number : (k : ℕ) (s : Described SetKey InformationSet) → slice_get g.sets k ≡ Some s
-      → numbers.set s.key.player s.key.number
-      ≡ length (known_of s.key.player (take (suc k) g.sets))
+      → numbers.set s.key.player s.key.number ≡ length (known_of s.key.player (take (suc k) g.sets))
   set_number k s there =
       let r = around g.sets k s there in
       let his : Described SetKey InformationSet → Bool = λ x. x.key.player == s.key.player in
@@ -65,56 +63,33 @@ module _ (g : Game) (game : IsGame g) where
       let passes : his s ≡ true = eq-eqb s.key.player s.key.player refl in
       let in_order : first_uses same_set (sets_of s.key.player (used_sets g.tree))
       ≡ map key_of (filter his r.0) ++ s.key ∷ map key_of (filter his r.1) =
-      sym (sets_by_first_use g s.key.player game)
-      ∙ ap (λ xs. map key_of (filter his xs)) r.2
+      sym (sets_by_first_use g s.key.player game) ∙ ap (λ xs. map key_of (filter his xs)) r.2
       ∙ ap (map key_of) (filter_last his r.0 s r.1 passes)
       ∙ map-append key_of (filter his r.0) (s ∷ filter his r.1) in
       let taken : length (filter his (take (suc k) g.sets)) ≡ length (filter his r.0) + 1 =
       ap (λ n. length (filter his (take (suc n) g.sets))) (sym r.3)
       ∙ ap (λ xs. length (filter his (take (suc (length r.0)) xs))) r.2
       ∙ ap (λ xs. length (filter his xs)) (taken_through r.0 s r.1)
-      ∙ ap length (filter_last his r.0 s [] passes)
-      ∙ length-append (filter his r.0) (s ∷ []) in
+      ∙ ap length (filter_last his r.0 s [] passes) ∙ length-append (filter his r.0) (s ∷ []) in
       number_at same_set same_set_equality (sets_of s.key.player (used_sets g.tree))
       (map key_of (filter his r.0)) (map key_of (filter his r.1)) s.key in_order
-      ∙ ap (λ n. n + 1) (length-map (filter his r.0) key_of)
-      ∙ sym taken
+      ∙ ap (λ n. n + 1) (length-map (filter his r.0) key_of) ∙ sym taken
 
   outcome_number : (k : ℕ) (o : Described ℕ Outcome) → slice_get g.outcomes k ≡ Some o
       → numbers.outcome o.key ≡ suc k
-  outcome_number k o there =
-      let r = around g.outcomes k o there in
-      let key_of : Described ℕ Outcome → ℕ = λ x. x.key in
-      number_at nat_eq Decides-eqb (used_outcomes g.tree) (map key_of r.0) (map key_of r.1) o.key
-      (sym game.one_entry_each_outcome ∙ ap (map key_of) r.2 ∙ map-append key_of r.0 (o ∷ r.1))
-      ∙ omega (arith, length-map r.0 key_of, r.3)
+  outcome_number k o there = grind (arith, around, number_at, map-append, length-map)
 
   -- ---- what is told of a set and of an outcome
 
   set_told : (p met : ℕ) → p ≤ length g.sets
       → told_set g.sets met p ≡ option_map (use_at met p) (at_position canonical.sets p)
-  set_told zero met within = refl
-  set_told (suc k) met within =
-      let s = something_there g.sets k (omega (arith, within)) in
-      let there : slice_get canonical.sets k ≡ Some (set_image numbers s.0) =
-      slice_get-map (set_image numbers) g.sets k ∙ ap (option_map (set_image numbers)) s.1 in
-      rw (s.1, there) (λ i. Some (use_at met (suc k) (record {
-        key = record { player = s.0.key.player; number = sym (set_number k s.0 s.1) i };
-        description = s.0.description;
-      })))
+  set_told p met h =
+      grind (arith, something_there, slice_get, set_image, slice_get-map, option_map, set_number)
 
   outcome_told : (p met : ℕ) → p ≤ length g.outcomes
       → told_outcome g.outcomes met p ≡ option_map (use_at met p) (at_position canonical.outcomes p)
-  outcome_told zero met within = refl
-  outcome_told (suc k) met within =
-      let o = something_there g.outcomes k (omega (arith, within)) in
-      let there : slice_get canonical.outcomes k ≡ Some (outcome_image numbers o.0) =
-      slice_get-map (outcome_image numbers) g.outcomes k
-      ∙ ap (option_map (outcome_image numbers)) o.1 in
-      rw (o.1, there) (λ i. Some (use_at met (suc k) (record {
-        key = sym (outcome_number k o.0 o.1) i;
-        description = o.0.description;
-      })))
+  outcome_told p met h =
+      grind (arith, something_there, slice_get, outcome_image, slice_get-map, outcome_number)
 
   told_given : (nodes : List Kept) (met_sets met_outcomes : ℕ)
       → AreAmong (length g.sets) (length g.outcomes) nodes
@@ -127,8 +102,7 @@ module _ (g : Game) (game : IsGame g) where
       let others = told_given ns (max met_sets n.set) (max met_outcomes n.outcome) placed.1 in
       λ i. record { name = n.name; set = set i; outcome = outcome i } ∷ others i
 
-  pub told_are_given : (nodes : List Kept)
-      → flatten g.tree ≡ entries_with g.sets g.outcomes nodes
+  pub told_are_given : (nodes : List Kept) → flatten g.tree ≡ entries_with g.sets g.outcomes nodes
       → AreAmong (length g.sets) (length g.outcomes) nodes
       → map (λ t. t.node) (told_from g.sets g.outcomes 0 0 nodes) ≡ file_nodes canonical
   told_are_given nodes flat placed =

@@ -1,10 +1,10 @@
 -- The rows of nodes refuse for reasons, and so does each row after the front of a file.
-use Rattle.std.proofs.Common.{◌≡◌, ◌≢◌, ℕ, ◌<◌, List, [], ◌∷◌, ◌++◌, length}
-use Rattle.std.proofs.Common.{Bool, true, false, Option, Some, None, MatchOption, refl, sym, ap}
-use Rattle.std.proofs.Common.{subst, ◌∙◌, arith}
+use Rattle.std.proofs.Common.{◌≡◌, ◌≢◌, ℕ, ◌<◌, List, [], ◌∷◌, ◌++◌, length, Bool, true, false}
+use Rattle.std.proofs.Common.{Option, Some, None, MatchOption, refl, sym, ap, subst, ◌∙◌, arith}
 use Rattle.std.proofs.Common.{inl, inr}
-use Rattle.std.specs.Prelude.{◌⊎◌}
 use Rattle.std.proofs.lemmas.List.{length-append}
+use Rattle.std.proofs.lemmas.Option.{same_Some}
+use Rattle.std.specs.Prelude.{◌⊎◌}
 use Rattle.gf_fraction.specs.Ratio.{Ratio}
 use Rattle.gf_fraction.specs.NumberSpelling.{IsNumber}
 use Rattle.gf_token.specs.Token.{Token}
@@ -12,38 +12,30 @@ use Rattle.gf_token.specs.Token.Token.{Closing, Text, Bare}
 use Rattle.gf_token.specs.Index.{IsIndex}
 use Rattle.gf_token.specs.NumberWhy.{why_of}
 use Rattle.gf_token.specs.Place.{Begins, MayFollow}
-use Rattle.gf_token.specs.declared.fault.What.TheVariants as what
 use Rattle.gf_token.specs.declared.fault.Why.{Why}
-use Rattle.gf_token.specs.declared.fault.Why.TheVariants.{Expected, BadIndex, UnknownPlayer}
-use Rattle.gf_token.specs.declared.fault.Why.TheVariants.{NotDescribed, Mismatch}
-use Rattle.gf_token.specs.declared.fault.Why.TheVariants.{SumBelowOne, NoEntry}
+use Rattle.gf_token.specs.declared.fault.Why.TheVariants.{NoEntry, Expected, BadIndex}
+use Rattle.gf_token.specs.declared.fault.Why.TheVariants.{UnknownPlayer, NotDescribed, Mismatch}
+use Rattle.gf_token.specs.declared.fault.Why.TheVariants.{SumBelowOne}
 use Rattle.gf_tree.specs.Description.{Action, InformationSet, Outcome, SetKey, set_of, set_with}
-use Rattle.gf_tree.specs.Due.{IsDue, OutcomeIsDue, PayoffIsDue, PlayerIsDue}
-use Rattle.gf_tree.specs.Due.{ProbabilityIsDue, SetIsDue}
+use Rattle.gf_tree.specs.Due.{IsDue, OutcomeIsDue, PayoffIsDue, PlayerIsDue, ProbabilityIsDue}
+use Rattle.gf_tree.specs.Due.{SetIsDue}
 use Rattle.gf_tree.specs.DueRoles.{Role}
 use Rattle.gf_tree.specs.FileTree.{Use}
-use Rattle.gf_tree.specs.Front.{BehindOutcomeNumber, BehindSetNumber, InActions}
-use Rattle.gf_tree.specs.Front.{IsExtensiveFile, IsNewOutcome, IsNewSet, IsSetKnown}
-use Rattle.gf_tree.specs.Front.{KnowsOutcome, ToOutcomeNumber}
-use Rattle.gf_tree.specs.Reason.{DiffersFromOutcome, DiffersFromSet, EndsInFirstUse, ListsActions}
-use Rattle.gf_tree.specs.Reason.{NewProbabilityIsDue, GoesOnWith}
+use Rattle.gf_tree.specs.Reason.{NewProbabilityIsDue, GoesOnWith, DiffersFromOutcome}
+use Rattle.gf_tree.specs.Reason.{DiffersFromSet, EndsInFirstUse, ListsActions}
 use Rattle.gf_tree.specs.RowPlaces.{BehindNode, FileFront}
-use Rattle.gf_tree.specs.Rows.{IsNoNumber, Row, a_closing, a_first_name}
-use Rattle.gf_tree.specs.Rows.{a_new_action, a_new_branch, a_payoff, a_player}
-use Rattle.gf_tree.specs.Rows.{a_probability, a_set}
-use Rattle.gf_tree.specs.Rows.{an_outcome, no_label, or_comma, or_name}
-use Rattle.gf_tree.specs.Rows.{this_label, this_number}
+use Rattle.gf_tree.specs.Front.{BehindOutcomeNumber, BehindSetNumber, InActions, IsExtensiveFile}
+use Rattle.gf_tree.specs.Front.{IsNewOutcome, IsNewSet, IsSetKnown, KnowsOutcome, ToOutcomeNumber}
+use Rattle.gf_tree.specs.Rows.{IsNoNumber, Row, a_closing, a_first_name, a_new_action, a_new_branch}
+use Rattle.gf_tree.specs.Rows.{a_payoff, a_player, a_probability, a_set, an_outcome, no_label}
+use Rattle.gf_tree.specs.Rows.{or_comma, or_name, this_label, this_number}
 use Rattle.gf_tree.specs.SomeRow.{IsBeforeRow, IsInNode}
 use Rattle.gf_tree.proofs.lemmas.fronts.CutFiles.{some_row}
-use Rattle.gf_tree.proofs.lemmas.fronts.Cuts.{first_is, others_are}
-use Rattle.gf_tree.proofs.lemmas.due.Actions as actions
-use Rattle.gf_tree.proofs.lemmas.due.Nodes as nodes
+use Rattle.gf_tree.proofs.lemmas.fronts.Cuts.{first_is}
 use Rattle.gf_tree.proofs.lemmas.due.Nodes.{parts}
-use Rattle.gf_tree.proofs.lemmas.due.Outcomes as outcomes
-use Rattle.gf_tree.proofs.lemmas.due.Outcomes.{GoesOnBehind, GoesOnBehindOr}
-use Rattle.gf_tree.proofs.lemmas.due.Payoffs as payoffs
-use Rattle.gf_tree.proofs.lemmas.due.Payoffs.{Seen, seen_behind, seen_to}
 use Rattle.gf_tree.proofs.lemmas.due.Rows.{Stands, accepted}
+use Rattle.gf_tree.proofs.lemmas.due.Outcomes.{GoesOnBehind, GoesOnBehindOr}
+use Rattle.gf_tree.proofs.lemmas.due.Payoffs.{Seen, seen_behind, seen_to}
 use Rattle.gf_tree.proofs.lemmas.fronts.Codes.{begins_payoffs, known_outcome}
 use Rattle.gf_tree.proofs.lemmas.fronts.WholeNodes.{number_node, whole_node}
 use Rattle.gf_tree.proofs.lemmas.reasons.Rows.{IsOfRole, IsTold, Own, Reasoned, closing, end}
@@ -51,7 +43,12 @@ use Rattle.gf_tree.proofs.lemmas.reasons.Rows.{fault_own, follows, in_heading, n
 use Rattle.gf_tree.proofs.lemmas.reasons.Rows.{name_or_node, no_action, node, number_named, opening}
 use Rattle.gf_tree.proofs.lemmas.reasons.Rows.{reasons, some_text, text, told_by, wrong_own, Given}
 use Rattle.gf_tree.proofs.lemmas.reasons.Rows.{IsFor, for_due}
-use Rattle.std.proofs.lemmas.Option.{same_Some}
+use Rattle.gf_token.specs.declared.fault.What.TheVariants as what
+use Rattle.gf_tree.proofs.lemmas.due.Actions as actions
+use Rattle.gf_tree.proofs.lemmas.due.Nodes as nodes
+use Rattle.gf_tree.proofs.lemmas.due.Outcomes as outcomes
+use Rattle.gf_tree.proofs.lemmas.due.Payoffs as payoffs
+use Rattle.std.proofs.lemmas.List.{append_cancel_left}
 
 -- ---- nodes
 
@@ -70,7 +67,7 @@ known_step front key h = (
 one_next : {A : Type 0} (seen : List A) (x y : A) (xs ys others : List A) → others ≡ seen ++ x ∷ xs
     → others ≡ seen ++ y ∷ ys → x ≡ y
 one_next seen x y xs ys others e h =
-    first_is x y xs ys (others_are seen (x ∷ xs) (y ∷ ys) (sym e ∙ h))
+    first_is x y xs ys (append_cancel_left seen (x ∷ xs) (y ∷ ys) (sym e ∙ h))
 
 none_next : {A : Type 0} (seen : List A) (x : A) (xs : List A) → seen ≡ seen ++ x ∷ xs → ⊥
 none_next seen x xs e =
@@ -80,8 +77,7 @@ none_next seen x xs e =
 
 -- a known outcome has a payoff for each player
 known_fewer : (f : FileFront) (n : ℕ) (ps : List Ratio) (outcome : Outcome) (p : Ratio)
-    (others : List Ratio)
-    → (may : Bool) → Seen f.front n ps may → KnowsOutcome f.nodes n outcome
+    (others : List Ratio) → (may : Bool) → Seen f.front n ps may → KnowsOutcome f.nodes n outcome
     → outcome.payoffs ≡ ps ++ p ∷ others → length ps < length f.players
 known_fewer f n ps outcome p others may h knows values =
     let s = parts f (begins_payoffs f.front n h.outcome h.place) in
@@ -126,8 +122,7 @@ module _ (f : FileFront) where
 
   -- an empty list may not end
   no_entry : (key : SetKey) (set : InformationSet) → InActions f.front key set
-      → IsNewSet f.nodes key
-      → set.actions ≡ [] → (why : Why) (after : List Token) → why ≡ NoEntry
+      → IsNewSet f.nodes key → set.actions ≡ [] → (why : Why) (after : List Token) → why ≡ NoEntry
       → Given f.before (Closing ∷ after) why
   no_entry key set h new none why after e =
       let listed =
@@ -156,8 +151,7 @@ module _ (f : FileFront) where
   known_number : (row : Row) (p : Ratio) → Stands f.before row
       → (ProbabilityIsDue f.before ⊎ PayoffIsDue f.before)
       → ((b : List ℕ) (q : Ratio) → IsNumber b q → q ≢ p
-      → DiffersFromSet f.ends (Bare b) ⊎ DiffersFromOutcome f.ends (Bare b))
-      → IsFor row what.Number
+      → DiffersFromSet f.ends (Bare b) ⊎ DiffersFromOutcome f.ends (Bare b)) → IsFor row what.Number
       → ((b : List ℕ) (why : Why) → row.other_bare b why → (this_number p).other_bare b why)
       → IsOfRole row (Role.KnownNumber p) → Reasoned f.before
   known_number row p s due other is bare same =
@@ -167,8 +161,7 @@ module _ (f : FileFront) where
       by : (b : List ℕ) (why : Why) (after : List Token) → (this_number p).other_bare b why
           → Given f.before (Bare b ∷ after) why
       by b why after (inl k) = (why_of k.0, k.1, fault_own f.before after b k.0 due k.2)
-      by b why after (inr k) =
-          (Mismatch, k.0, differs (Bare b) (other b k.1.0 k.1.1 k.1.2) after)
+      by b why after (inr k) = (Mismatch, k.0, differs (Bare b) (other b k.1.0 k.1.1 k.1.2) after)
 
   -- a payoff of a known outcome
   known_payoff : (row : Row) (n : ℕ) (ps : List Ratio) (outcome : Outcome) (p : Ratio)
@@ -217,8 +210,7 @@ module _ (f : FileFront) where
       for_due f.before a_set what.Index s is (refl, refl, λ why e. e)
       (λ b why after n e. (BadIndex, e, inl (inr due, λ m k. n (m, k))))
       (told_by f.before a_set Role.SetNumber s is (λ b. (λ k. k, λ k. k)))
-  in_node (IsInNode.NewSet key h new) =
-      first_use (inl (key, h, new)) (nodes.new_set f key h new)
+  in_node (IsInNode.NewSet key h new) = first_use (inl (key, h, new)) (nodes.new_set f key h new)
   in_node (IsInNode.KnownSet key set h knows) =
       let row = or_name set.name an_outcome in
       let due = outcome_due (Some (record { key = key; description = None }))

@@ -1,17 +1,17 @@
 -- Each list of bytes spells a game, or is refused at one place with one code.
-use Rattle.std.proofs.Common.{◌≡◌, ℕ, List, ◌++◌, length, Result, Ok, Err, refl, sym, ap, subst}
-use Rattle.std.proofs.Common.{◌∙◌, inl, inr}
-use Rattle.std.specs.Prelude.{◌⊎◌}
+use Rattle.std.proofs.Common.{◌≡◌, ℕ, List, length, Result, Ok, Err, refl, sym, subst, arith, inl}
+use Rattle.std.proofs.Common.{inr}
 use Rattle.std.proofs.lemmas.List.{map-append}
+use Rattle.std.specs.Prelude.{◌⊎◌}
 use Rattle.gf_token.specs.Code.{code_of}
-use Rattle.gf_token.specs.Place.{tokens_of, IsSpanOf}
 use Rattle.gf_token.specs.Token.{Lexeme}
 use Rattle.gf_token.specs.TokenSpelling.{Spells}
+use Rattle.gf_token.specs.Place.{tokens_of}
 use Rattle.gf_token.specs.declared.fault.Fault.{Fault}
 use Rattle.gf_token.specs.declared.fault.Span.{Span}
 use Rattle.gf_token.specs.declared.fault.Why.{Why}
-use Rattle.gf_token.specs.declared.fault.Why.TheVariants.{TooLong, UnknownOutcome, TooManyProfiles}
-use Rattle.gf_token.specs.declared.fault.Why.TheVariants.{Memory}
+use Rattle.gf_token.specs.declared.fault.Why.TheVariants.{Memory, TooLong, UnknownOutcome}
+use Rattle.gf_token.specs.declared.fault.Why.TheVariants.{TooManyProfiles}
 use Rattle.gf_token.proofs.Places.{no_file, one_code, one_offending_place, one_span}
 use Rattle.gf_token.proofs.Spelled.{same_tokens, spelled_once}
 use Rattle.gf_tree.specs.Due.{IsDue}
@@ -19,9 +19,9 @@ use Rattle.gf_tree.specs.Front.{IsExtensiveFile}
 use Rattle.gf_tree.specs.Game.{Game}
 use Rattle.gf_tree.specs.GameOf.{SpellsGame}
 use Rattle.gf_tree.specs.Judgement.{IsRefusal, IsRefused}
+use Rattle.gf_tree.specs.inner.ReadGame.{game_of}
 use Rattle.gf_tree.specs.inner.Machine.{Content, nothing, run}
 use Rattle.gf_tree.specs.inner.Machine.Position.{Format}
-use Rattle.gf_tree.specs.inner.ReadGame.{game_of}
 use Rattle.gf_tree.specs.Reason.{Holds, IsReason}
 use Rattle.gf_tree.proofs.lemmas.reader.Games.{not_memory, read_spells, refused_judged}
 
@@ -54,14 +54,7 @@ refusal _ bytes span h = h.1
 
 pub not_both : (bytes : List ℕ) (g : Game) (why : Why) (span : Span) → SpellsGame bytes g
     → ¬ (IsRefused why bytes span)
-not_both bytes g why span spells h =
-    let place = (refusal why bytes span h).place in
-    let same : spells.0 ≡ place.before ++ place.after =
-    same_tokens bytes spells.0 (place.before ++ place.after) spells.1 place.spelled in
-    let whole : tokens_of spells.0 ≡ tokens_of place.before ++ tokens_of place.after =
-    ap tokens_of same ∙ map-append (λ (l : Lexeme). l.token) place.before place.after in
-    no_file IsExtensiveFile (tokens_of place.before) (tokens_of place.after) place.refused
-    (subst IsExtensiveFile whole (spells.2.0, spells.2.1, spells.2.2))
+not_both bytes g why span spells h = grind (arith, refusal, same_tokens, map-append, no_file)
 
 pub refused_once : (bytes : List ℕ) (why other : Why) (span place : Span)
     → IsRefused why bytes span → IsRefused other bytes place
@@ -71,12 +64,9 @@ refused_once bytes why other span place h k =
     let b = refusal other bytes place k in
     let same = one_offending_place IsExtensiveFile bytes span place a.place b.place in (
       one_span a.place.after (length bytes) span place a.place.place
-          (subst (λ (ls : List Lexeme). IsSpanOf ls (length bytes) place) (sym same.1)
-          b.place.place),
+          (rw same.1 b.place.place),
       one_code (λ code. Holds code (tokens_of a.place.before) (tokens_of a.place.after))
           (λ what. IsDue (tokens_of a.place.before) what) why other a.reason
-          (subst (λ (ls : List Lexeme). IsReason other (tokens_of ls) (tokens_of a.place.after))
-          (sym same.0)
-          (subst (λ (ls : List Lexeme). IsReason other (tokens_of b.place.before) (tokens_of ls))
-          (sym same.1) b.reason)),
+          (rw same.0 (subst (λ (ls : List Lexeme). IsReason other (tokens_of b.place.before)
+          (tokens_of ls)) (sym same.1) b.reason)),
     )

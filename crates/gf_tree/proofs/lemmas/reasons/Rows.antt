@@ -1,37 +1,33 @@
 -- What a row of the table of positions refuses, it refuses for a reason: the code applies there, or
 -- what is named is due.
-use Rattle.std.proofs.Common.{◌≡◌, ◌≢◌, ℕ, ◌<◌, List, [], ◌∷◌, length}
-use Rattle.std.proofs.Common.{refl, sym, subst, arith}
-use Rattle.std.proofs.Common.{inl, inr}
+use Rattle.std.proofs.Common.{◌≡◌, ◌≢◌, ℕ, ◌<◌, List, [], ◌∷◌, length, refl, sym, subst, arith, inl}
+use Rattle.std.proofs.Common.{inr}
 use Rattle.std.specs.Prelude.{codes, ◌⊎◌}
 use Rattle.gf_fraction.specs.Ratio.{Ratio}
-use Rattle.gf_fraction.specs.NumberSpelling.{HasNumberFault, IsNumber}
 use Rattle.gf_fraction.specs.declared.fraction.NumberFault.{NumberFault}
-use Rattle.gf_fraction.specs.declared.fraction.NumberFault.TheVariants as number
+use Rattle.gf_fraction.specs.NumberSpelling.{HasNumberFault, IsNumber}
 use Rattle.gf_token.specs.Token.{Token}
-use Rattle.gf_token.specs.Token.Token.{Opening, Closing, Comma, Text, Bare, Broken}
 use Rattle.gf_token.specs.NumberWhy.{why_of}
 use Rattle.gf_token.specs.Place.{IsAccepted}
+use Rattle.gf_token.specs.Token.Token.{Opening, Closing, Comma, Text, Bare, Broken}
 use Rattle.gf_token.specs.declared.fault.What.{What}
-use Rattle.gf_token.specs.declared.fault.What.TheVariants as what
 use Rattle.gf_token.specs.declared.fault.Why.{Why}
 use Rattle.gf_token.specs.declared.fault.Why.TheVariants.{Expected, UnknownPlayer, Mismatch}
 use Rattle.gf_token.specs.declared.fault.Why.TheVariants.{NegativeProbability, SumAboveOne}
 use Rattle.gf_token.specs.declared.fault.Why.TheVariants.{SumOverflow, Unterminated}
 use Rattle.gf_tree.specs.Description.{Action}
-use Rattle.gf_tree.specs.Due.{IsDue, NodeIsDue, PayoffIsDue}
-use Rattle.gf_tree.specs.Due.{ProbabilityIsDue}
-use Rattle.gf_tree.specs.DueRoles.{OnlySuitedFollow, Role, Suits, what_of}
 use Rattle.gf_tree.specs.Front.{IsExtensiveFile}
-use Rattle.gf_tree.specs.Reason.{Holds, IsNoText, IsWrongBehind, NewProbabilityIsDue, NobodyMoves}
-use Rattle.gf_tree.specs.Rows.{Accepts, Refuses, Row, a_letter}
-use Rattle.gf_tree.specs.Rows.{a_node, a_player_name}
-use Rattle.gf_tree.specs.Rows.{a_text, a_word, an_end, an_opening}
-use Rattle.gf_tree.specs.Rows.{or_name, or_text}
 use Rattle.gf_tree.specs.SomeRow.{IsInHeading}
-use Rattle.gf_tree.proofs.lemmas.due.Heading as heading
+use Rattle.gf_tree.specs.Due.{IsDue, NodeIsDue, PayoffIsDue, ProbabilityIsDue}
+use Rattle.gf_tree.specs.DueRoles.{OnlySuitedFollow, Role, Suits, what_of}
+use Rattle.gf_tree.specs.Reason.{Holds, IsNoText, IsWrongBehind, NewProbabilityIsDue, NobodyMoves}
+use Rattle.gf_tree.specs.Rows.{Accepts, Refuses, Row, a_letter, a_node, a_player_name, a_text}
+use Rattle.gf_tree.specs.Rows.{a_word, an_end, an_opening, or_name, or_text}
 use Rattle.gf_tree.proofs.lemmas.due.Rows.{Stands, accepted}
 use Rattle.gf_tree.proofs.lemmas.fronts.WholeNodes.{behind_comment, behind_players}
+use Rattle.gf_fraction.specs.declared.fraction.NumberFault.TheVariants as number
+use Rattle.gf_token.specs.declared.fault.What.TheVariants as what
+use Rattle.gf_tree.proofs.lemmas.due.Heading as heading
 
 -- the code applies, or what it names is due
 abbrev pub Own : Why → List Token → List Token → Type 0
@@ -192,8 +188,7 @@ module _ (before : List Token) where
         ((same (codes "t")).1 (inr (inl refl)))
 
     by_letter : (row : Row) → Stands before row → IsOfRole row (Role.NodeLetter (length players))
-        → IsFor row what.Node
-        → ((b : List ℕ) (why : Why) → row.other_bare b why
+        → IsFor row what.Node → ((b : List ℕ) (why : Why) → row.other_bare b why
         → (a_node (length players)).other_bare b why) → Reasoned before
     by_letter row s same is bare =
         let due = node_due row s same in
@@ -247,12 +242,10 @@ module _ (before : List Token) where
   pub in_heading : IsInHeading before → Reasoned before
   in_heading (IsInHeading.Format e) =
       word (a_word what.Format (codes "EFG")) Role.Format
-      (subst (λ (ts : List Token). Stands ts (a_word what.Format (codes "EFG"))) (sym e)
-      heading.format) e (λ b. (λ h. h, λ h. h)) (refl, refl, λ why k. k) (λ b why k. k)
+      (rw e heading.format) e (λ b. (λ h. h, λ h. h)) (refl, refl, λ why k. k) (λ b why k. k)
   in_heading (IsInHeading.Version e) =
       word (a_word what.Version (codes "2")) Role.Version
-      (subst (λ (ts : List Token). Stands ts (a_word what.Version (codes "2"))) (sym e)
-      heading.version) e (λ b. (λ h. h, λ h. h)) (refl, refl, λ why k. k) (λ b why k. k)
+      (rw e heading.version) e (λ b. (λ h. h, λ h. h)) (refl, refl, λ why k. k) (λ b why k. k)
   in_heading (IsInHeading.Letter e) = word a_letter Role.Letter
       (subst (λ (ts : List Token). Stands ts a_letter) (sym e) heading.letter) e
       (λ b. (λ h. h, λ h. h)) (refl, refl, λ why k. k) (λ b why k. k)

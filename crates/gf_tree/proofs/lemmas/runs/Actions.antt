@@ -1,22 +1,21 @@
 -- Runs over the actions of a new information set in braces.
-use Rattle.std.proofs.Common.{◌≡◌, ℕ, zero, suc, ◌<◌, List, [], ◌∷◌, ◌++◌, length}
-use Rattle.std.proofs.Common.{map, drop, Option, Some, None, Result, Ok, Err, refl}
-use Rattle.std.proofs.Common.{sym, ap, subst, ◌∙◌, append_assoc, append-nil, arith}
+use Rattle.std.proofs.Common.{◌≡◌, ℕ, zero, suc, ◌<◌, List, [], ◌∷◌, ◌++◌, length, map, drop}
+use Rattle.std.proofs.Common.{Option, Some, None, Result, Ok, Err, refl, sym, ap, subst, ◌∙◌}
+use Rattle.std.proofs.Common.{append_assoc, append-nil, arith}
+use Rattle.std.proofs.lemmas.Int.{ints}
 use Rattle.std.specs.Prelude.{pos, ◌≤ℤ◌}
 use Rattle.std.specs.List.{AllByRecursion}
-use Rattle.std.proofs.lemmas.Int.{ints}
 use Rattle.gf_token.specs.Token.{Token}
-use Rattle.gf_token.specs.Token.Token.{Closing, Text, Bare}
 use Rattle.gf_token.specs.Grammar.{Each}
 use Rattle.gf_token.specs.declared.fault.Why.{Why}
-use Rattle.gf_token.specs.declared.fault.Why.TheVariants.{SumBelowOne}
+use Rattle.gf_token.specs.Token.Token.{Closing, Text, Bare}
 use Rattle.gf_fraction.specs.Ratio.{Ratio, IsFraction, whole}
 use Rattle.gf_fraction.specs.Fits.{AddsTo}
 use Rattle.gf_tree.specs.Description.{Action, InformationSet, SetKey, set_of, AddToOne, AreActions}
-use Rattle.gf_tree.specs.inner.Probability.{Share, is_one, share_of}
+use Rattle.gf_tree.specs.inner.Probability.{Share, share_of}
 use Rattle.gf_tree.specs.Sentence.{IsAction}
-use Rattle.gf_tree.specs.inner.Machine.{Content, at, begun, new_set_ends}
-use Rattle.gf_tree.specs.inner.Machine.{set_ends, shared, with_action, with_set}
+use Rattle.gf_tree.specs.inner.Machine.{with_action, with_set, Content, begun, new_set_ends}
+use Rattle.gf_tree.specs.inner.Machine.{set_ends, shared}
 use Rattle.gf_tree.specs.inner.Machine.Position.{NewAction, OutcomeNumber}
 use Rattle.gf_tree.specs.inner.ReadGame.{run_tokens, then_run}
 use Rattle.gf_tree.proofs.lemmas.runs.Tokens.{Reads, run_on, guard_ok, ratio_is}
@@ -46,8 +45,7 @@ pub no_actions : (set : InformationSet) → with_actions set [] ≡ set
 no_actions set = ap (λ (done : List Action). record set { actions = done }) (append-nil set.actions)
 
 pub more_actions : (set : InformationSet) (label : List ℕ) (p : Option Ratio)
-    (actions : List Action)
-    → with_actions (with_action set label p) actions
+    (actions : List Action) → with_actions (with_action set label p) actions
     ≡ with_actions set (record { label = label; probability = p } ∷ actions)
 more_actions set label p actions = ap (λ (done : List Action). record set { actions = done })
     (append_assoc set.actions (record { label = label; probability = p } ∷ []) actions)
@@ -68,8 +66,7 @@ new_end : (ts : List Token) (name : List ℕ) (player n : ℕ)
     (set : InformationSet) (sum : Ratio) (c r : Content)
     → 0 < length set.actions → AreOthers player sum []
     → Reads (OutcomeNumber (begun name (set_of player n) set))
-    (with_set c (set_of player n) set) ts r
-    → NewActions (Closing ∷ ts) name player n set sum c r
+    (with_set c (set_of player n) set) ts r → NewActions (Closing ∷ ts) name player n set sum c r
 new_end ts name player n set sum c r some are e = record {
   actions = [];
   inner = [];
@@ -84,15 +81,10 @@ new_end ts name player n set sum c r some are e = record {
 }
 
 end_by_player : (ts : List Token) (name : List ℕ) (player n : ℕ)
-    (set : InformationSet) (sum : Ratio) (c r : Content)
-    → 0 < length set.actions
+    (set : InformationSet) (sum : Ratio) (c r : Content) → 0 < length set.actions
     → then_run (set_ends c name player n set sum) (run_on ts) ≡ Ok r
     → NewActions (Closing ∷ ts) name player n set sum c r
-end_by_player ts name zero n set sum c r some e =
-    let h = guard_ok (is_one sum)
-    (at (OutcomeNumber (begun name (set_of 0 n) set)) (with_set c (set_of 0 n) set)) SumBelowOne ts
-    r e in
-    new_end ts name 0 n set sum c r some ([], refl, ratio_is sum (whole (pos 1)) h.0) h.1
+end_by_player ts name zero n set sum c r some e = grind (arith, guard_ok, new_end, ratio_is)
 end_by_player ts name (suc player) n set sum c r some e =
     new_end ts name (suc player) n set sum c r some tt e
 
@@ -142,8 +134,7 @@ shared_found c name key set label (Err why) ts r e = absurd cc
 shared_found c name key set label (Ok s) ts r e = (s, refl, e)
 
 pub new_found : (ts : List Token) (name : List ℕ) (player n : ℕ)
-    (set : InformationSet) (sum : Ratio) (c r : Content)
-    → IsFraction sum
+    (set : InformationSet) (sum : Ratio) (c r : Content) → IsFraction sum
     → Reads (NewAction name (set_of player n) set sum) c ts r
     → NewActions ts name player n set sum c r
 new_found (Closing ∷ ts) name player n set sum c r fraction e =
@@ -178,8 +169,7 @@ record FirstShare (sum p : Ratio) (actions : List Action) : Type 0 where
 -- the first probability, and that the others add up to one with it
 first_share : (a : Action) (actions : List Action) (p sum : Ratio) (ps : List Ratio)
     → a.probability ≡ Some p → a.probability ∷ map (λ b. b.probability) actions ≡ map Some ps
-    → AddToOne sum ps
-    → FirstShare sum p actions
+    → AddToOne sum ps → FirstShare sum p actions
 first_share a actions p sum [] e same h = absurd cc
 first_share a actions p sum (q ∷ ps) e same h =
     let first : a.probability ≡ Some q = cc in
@@ -205,8 +195,7 @@ high (a ∷ actions) inner sum fraction each h =
     s.adds (high actions each.1 s.next s.adds.1 each.4 s.others)
 
 close_by_player : (player : ℕ) (rest : List Token) (name : List ℕ)
-    (n : ℕ) (set : InformationSet) (sum : Ratio) (c : Content)
-    → AreOthers player sum []
+    (n : ℕ) (set : InformationSet) (sum : Ratio) (c : Content) → AreOthers player sum []
     → then_run (set_ends c name player n set sum) (run_on rest) ≡ run_tokens
     (OutcomeNumber (begun name (set_of player n) set)) (with_set c (set_of player n) set) rest
 close_by_player zero rest name n set sum c h = by h.0 h.1 h.2
@@ -228,8 +217,7 @@ close_by_actions (a ∷ actions) player rest name n set sum c some h =
     close_by_player player rest name n set sum c h
 
 pub new_again : (actions : List Action) (player : ℕ) (inner rest : List Token)
-    (name : List ℕ) (n : ℕ) (set : InformationSet) (sum : Ratio) (c : Content)
-    → IsFraction sum
+    (name : List ℕ) (n : ℕ) (set : InformationSet) (sum : Ratio) (c : Content) → IsFraction sum
     → Each (IsAction player) inner actions → AreOthers player sum actions
     → 0 < length (set.actions ++ actions)
     → run_tokens (NewAction name (set_of player n) set sum) c (inner ++ Closing ∷ rest)
@@ -239,8 +227,7 @@ new_again [] player inner rest name n set sum c fraction each h some =
     let filled = subst (λ (s : InformationSet). 0 < length s.actions) (no_actions set) some in
     ap (λ (x : List Token).
     run_tokens (NewAction name (set_of player n) set sum) c (x ++ Closing ∷ rest))
-    each
-    ∙ close_by_actions set.actions player rest name n set sum c filled h
+    each ∙ close_by_actions set.actions player rest name n set sum c filled h
     ∙ ap (λ (s : InformationSet). run_tokens (OutcomeNumber (begun name (set_of player n) s))
     (with_set c (set_of player n) s) rest) (sym (no_actions set))
 new_again (a ∷ actions) zero inner rest name n set sum c fraction each h some =
@@ -256,14 +243,12 @@ new_again (a ∷ actions) zero inner rest name n set sum c fraction each h some 
     let first : inner ++ Closing ∷ rest ≡ Text a.label ∷ Bare b ∷ (each.1 ++ Closing ∷ rest) =
     rw (each.2, each.3.2) refl in
     let more = subst (λ (t : InformationSet). 0 < length t.actions) (sym all) some in
-    ap (run_tokens (NewAction name (set_of 0 n) set sum) c) first
-    ∙ ap
+    ap (run_tokens (NewAction name (set_of 0 n) set sum) c) first ∙ ap
     (λ o. then_run (shared c name (set_of 0 n) set a.label o) (run_on (each.1 ++ Closing ∷ rest)))
     (share_again sum p s.next b fraction each.3.3 s.not_below s.adds
     (high actions each.1 s.next s.adds.1 each.4 s.others))
     ∙ new_again actions 0 each.1 rest name n (with_action set a.label (Some p)) s.next c s.adds.1
-    each.4 s.others more
-    ∙ ap (λ (t : InformationSet).
+    each.4 s.others more ∙ ap (λ (t : InformationSet).
     run_tokens (OutcomeNumber (begun name (set_of 0 n) t)) (with_set c (set_of 0 n) t) rest)
     all
 new_again (a ∷ actions) (suc player) inner rest name n set sum c fraction each h some =

@@ -1,43 +1,38 @@
 -- Nodes that were read before change nothing in what the machine does.
-use Rattle.std.proofs.Common.{◌≡◌, ℕ, zero, suc, Bool, true, false, cond, List, [], ◌∷◌, ◌++◌}
-use Rattle.std.proofs.Common.{length, Option, Some, None, Result, Ok, Err}
-use Rattle.std.proofs.Common.{refl, ap, ◌∙◌, append_assoc, nat_eq}
-use Rattle.std.specs.Prelude.{codes, ◌||◌, nat_le}
+use Rattle.std.proofs.Common.{◌≡◌, ℕ, zero, suc, Bool, cond, List, [], ◌∷◌, ◌++◌, length, Option}
+use Rattle.std.proofs.Common.{Some, Result, Ok, Err, refl, ap, append_assoc, nat_eq, arith}
+use Rattle.std.specs.Prelude.{codes}
 use Rattle.std.specs.Cmp.Lexicographic.{pointwise}
 use Rattle.gf_fraction.specs.Ratio.{Ratio}
 use Rattle.gf_fraction.specs.Computed.{number_of}
 use Rattle.gf_fraction.specs.declared.fraction.NumberFault.{NumberFault}
 use Rattle.gf_token.specs.Remaining.{Remaining}
 use Rattle.gf_token.specs.Token.{Token, Lexeme}
-use Rattle.gf_token.specs.Token.Token.{Opening, Closing, Comma, Text, Bare}
 use Rattle.gf_token.specs.Indices.{count_of, index_of}
 use Rattle.gf_token.specs.declared.fault.Fault.{Fault}
-use Rattle.gf_token.specs.declared.fault.What.TheVariants as what
+use Rattle.gf_token.specs.Token.Token.{Opening, Closing, Comma, Text, Bare}
 use Rattle.gf_token.specs.declared.fault.Why.{Why}
 use Rattle.gf_token.specs.declared.fault.Why.TheVariants.{Expected}
-use Rattle.gf_tree.specs.Description.{Action, InformationSet, Outcome, SetKey, set_of}
-use Rattle.gf_tree.specs.FiniteMap.{description_at}
+use Rattle.gf_tree.specs.Description.{Action, InformationSet, Outcome, SetKey}
 use Rattle.gf_tree.specs.Game.{Node}
 use Rattle.gf_tree.specs.PrefixOrder.{Entry}
-use Rattle.gf_tree.specs.inner.Probability.{Share, share_of, is_one, same_ratio}
-use Rattle.gf_tree.specs.inner.Machine.{Begun, Content, Position, State, after_node, at, begun}
-use Rattle.gf_tree.specs.inner.Machine.{behind_label, behind_outcome, due, may_end, new_set_ends}
-use Rattle.gf_tree.specs.inner.Machine.{node_letter, outcome_ends, outcome_number, paid}
-use Rattle.gf_tree.specs.inner.Machine.{personal_node}
-use Rattle.gf_tree.specs.inner.Machine.{player_number, refused, run, same_number, set_ends}
-use Rattle.gf_tree.specs.inner.Machine.{set_known}
-use Rattle.gf_tree.specs.inner.Machine.{set_number, shared, step, then_on, with_node, new_label}
+use Rattle.gf_tree.specs.inner.Probability.{Share}
+use Rattle.gf_tree.specs.inner.Machine.{Begun, Content, Position, State, after_node, at}
+use Rattle.gf_tree.specs.inner.Machine.{behind_outcome, new_set_ends, node_letter}
+use Rattle.gf_tree.specs.inner.Machine.{outcome_ends, outcome_number, paid, personal_node}
+use Rattle.gf_tree.specs.inner.Machine.{player_number, run, same_number, set_ends, set_number}
+use Rattle.gf_tree.specs.inner.Machine.{shared, step, then_on, with_node, new_label}
 use Rattle.gf_tree.specs.inner.Machine.Position.{Format, Version, Letter, Title, BeforePlayers}
-use Rattle.gf_tree.specs.inner.Machine.Position.{InPlayers}
-use Rattle.gf_tree.specs.inner.Machine.Position.{AfterPlayers, NodeDue, ChanceName, PersonalName}
-use Rattle.gf_tree.specs.inner.Machine.Position.{TerminalName, PlayerNumber, SetNumber, NewSetName}
-use Rattle.gf_tree.specs.inner.Machine.Position.{NewSetOpening, NewAction, NewProbability}
-use Rattle.gf_tree.specs.inner.Machine.Position.{KnownSetName}
-use Rattle.gf_tree.specs.inner.Machine.Position.{KnownSetOpening, KnownAction, KnownProbability}
-use Rattle.gf_tree.specs.inner.Machine.Position.{OutcomeNumber, NewOutcomeName, NewOutcomeOpening}
-use Rattle.gf_tree.specs.inner.Machine.Position.{NewPayoff, AfterNewPayoff, KnownOutcomeName}
+use Rattle.gf_tree.specs.inner.Machine.Position.{InPlayers, AfterPlayers, NodeDue, ChanceName}
+use Rattle.gf_tree.specs.inner.Machine.Position.{PersonalName, TerminalName, PlayerNumber}
+use Rattle.gf_tree.specs.inner.Machine.Position.{SetNumber, NewSetName, NewSetOpening, NewAction}
+use Rattle.gf_tree.specs.inner.Machine.Position.{NewProbability, KnownSetName, KnownSetOpening}
+use Rattle.gf_tree.specs.inner.Machine.Position.{KnownAction, KnownProbability, OutcomeNumber}
+use Rattle.gf_tree.specs.inner.Machine.Position.{NewOutcomeName, NewOutcomeOpening, NewPayoff}
+use Rattle.gf_tree.specs.inner.Machine.Position.{AfterNewPayoff, KnownOutcomeName}
 use Rattle.gf_tree.specs.inner.Machine.Position.{KnownOutcomeOpening, KnownPayoff, AfterKnownPayoff}
 use Rattle.gf_tree.specs.inner.ReaderState.{behind, heard, with_front, with_nodes}
+use Rattle.gf_token.specs.declared.fault.What.TheVariants as what
 
 module _ (ns : List (Entry Node)) where
   abbrev fronted : Result State Why → Result State Why
@@ -46,8 +41,7 @@ module _ (ns : List (Entry Node)) where
 
   by_test : (b : Bool) (q : Position) (c : Content) (why : Why)
       → cond b (Ok (at q (with_front ns c))) (Err why) ≡ fronted (cond b (Ok (at q c)) (Err why))
-  by_test true q c why = refl
-  by_test false q c why = refl
+  by_test b q c why = grind arith
 
   node_more : (c : Content) (b : Begun) (o : Option ℕ)
       → with_node (with_front ns c) b o ≡ with_front ns (with_node c b o)
@@ -59,14 +53,12 @@ module _ (ns : List (Entry Node)) where
 
   same_more : (q : Position) (c : Content) (wanted : Ratio) (o : Result Ratio NumberFault)
       → same_number wanted (at q (with_front ns c)) o ≡ fronted (same_number wanted (at q c) o)
-  same_more q c wanted (Err fault) = refl
-  same_more q c wanted (Ok found) = by_test (same_ratio found wanted) q c _
+  same_more q c wanted o = grind (arith, by_test)
 
   module _ (c : Content) where
     personal_more : (players : List (List ℕ))
         → personal_node (with_front ns c) players ≡ fronted (personal_node c players)
-    personal_more [] = refl
-    personal_more (player ∷ players) = refl
+    personal_more players = grind arith
 
     by_letter : (is_c is_p is_t : Bool)
         → cond is_c (Ok (at ChanceName (with_front ns c))) (cond is_p
@@ -75,71 +67,53 @@ module _ (ns : List (Entry Node)) where
         ≡ fronted (cond is_c (Ok (at ChanceName c)) (cond is_p
         (personal_node c c.players)
         (cond is_t (Ok (at TerminalName c)) (Err (Expected what.Node)))))
-    by_letter true is_p is_t = refl
-    by_letter false true is_t = personal_more c.players
-    by_letter false false true = refl
-    by_letter false false false = refl
+    by_letter is_c is_p is_t = grind (arith, personal_more)
 
     letter_more : (b : List ℕ) → node_letter (with_front ns c) b ≡ fronted (node_letter c b)
-    letter_more b = by_letter (pointwise nat_eq b (codes "c")) (pointwise nat_eq b (codes "p"))
-        (pointwise nat_eq b (codes "t"))
+    letter_more b = grind (arith, by_letter)
 
     due_more : (n : ℕ) (b : List ℕ) → after_node (with_front ns c) n b ≡ fronted (after_node c n b)
-    due_more zero b = refl
-    due_more (suc n) b = letter_more b
+    due_more n b = grind (arith, letter_more)
 
     player_more : (name : List ℕ) (o : Option ℕ)
         → player_number (with_front ns c) name o ≡ fronted (player_number c name o)
-    player_more name None = refl
-    player_more name (Some n) = by_test (nat_le n (length c.players)) (SetNumber name n) c _
+    player_more name o = grind (arith, by_test)
 
     set_more : (name : List ℕ) (player : ℕ) (o : Option ℕ)
         → set_number (with_front ns c) name player o ≡ fronted (set_number c name player o)
-    set_more name player None = refl
-    set_more name player (Some n) = refl
+    set_more name player o = grind arith
 
     label_more : (name : List ℕ) (player n : ℕ) (set : InformationSet) (sum : Ratio)
         (label : List ℕ) → Ok (new_label (with_front ns c) name player n set sum label)
         ≡ fronted (Ok (new_label c name player n set sum label))
-    label_more name zero n set sum label = refl
-    label_more name (suc player) n set sum label = refl
+    label_more name player n set sum label = grind arith
 
     ends_more : (name : List ℕ) (player n : ℕ) (set : InformationSet) (sum : Ratio)
         → set_ends (with_front ns c) name player n set sum
         ≡ fronted (set_ends c name player n set sum)
-    ends_more name zero n set sum = by_test (is_one sum)
-        (set_known c name (set_of 0 n) set).position (set_known c name (set_of 0 n) set).content _
-    ends_more name (suc player) n set sum = refl
+    ends_more name player n set sum = grind (arith, by_test)
 
     new_ends_more : (name : List ℕ) (key : SetKey) (set : InformationSet) (actions : List Action)
         (sum : Ratio) → new_set_ends (with_front ns c) name key set actions sum
         ≡ fronted (new_set_ends c name key set actions sum)
-    new_ends_more name key set [] sum = refl
-    new_ends_more name key set (a ∷ actions) sum = ends_more name key.player key.number set sum
+    new_ends_more name key set actions sum = grind (arith, ends_more)
 
     shared_more : (name : List ℕ) (key : SetKey) (set : InformationSet) (label : List ℕ)
         (o : Result Share Why)
         → shared (with_front ns c) name key set label o ≡ fronted (shared c name key set label o)
-    shared_more name key set label (Err why) = refl
-    shared_more name key set label (Ok s) = refl
+    shared_more name key set label o = grind arith
 
     behind_outcome_more : (b : Begun) (n : ℕ) (o : Option Outcome)
         → Ok (behind_outcome (with_front ns c) b n o) ≡ fronted (Ok (behind_outcome c b n o))
-    behind_outcome_more b n None = refl
-    behind_outcome_more b n (Some outcome) =
-        ap (λ (d : Content). Ok (at (KnownOutcomeName outcome) d)) (node_more c b (Some n))
+    behind_outcome_more b n o = grind (arith, node_more)
 
     outcome_more : (b : Begun) (o : Option ℕ)
         → outcome_number (with_front ns c) b o ≡ fronted (outcome_number c b o)
-    outcome_more b None = refl
-    outcome_more b (Some zero) = ap (λ (d : Content). Ok (at NodeDue d)) (node_more c b None)
-    outcome_more b (Some (suc k)) =
-        behind_outcome_more b (suc k) (description_at nat_eq c.outcomes (suc k))
+    outcome_more b o = grind (arith, node_more, behind_outcome_more, nat_eq)
 
     paid_more : (b : Begun) (n : ℕ) (outcome : Outcome) (left : ℕ) (o : Result Ratio NumberFault)
         → paid (with_front ns c) b n outcome left o ≡ fronted (paid c b n outcome left o)
-    paid_more b n outcome left (Err fault) = refl
-    paid_more b n outcome left (Ok p) = refl
+    paid_more b n outcome left o = grind arith
 
     outcome_ends_more : (b : Begun) (n : ℕ) (outcome : Outcome)
         → Ok (outcome_ends (with_front ns c) b n outcome) ≡ fronted
@@ -153,8 +127,7 @@ module _ (ns : List (Entry Node)) where
       → step q (with_front ns c) t ≡ fronted (step q c t)
   step_more Format c (Bare b) = by_test (pointwise nat_eq b (codes "EFG")) Version c _
   step_more Version c (Bare b) = by_test (pointwise nat_eq b (codes "2")) Letter c _
-  step_more Letter c (Bare b) =
-      by_test (pointwise nat_eq b (codes "R") || pointwise nat_eq b (codes "D")) Title c _
+  step_more Letter c (Bare b) = grind (arith, by_test)
   step_more Title c (Text l) = refl
   step_more BeforePlayers c Opening = refl
   step_more InPlayers c (Text l) = refl
@@ -169,34 +142,25 @@ module _ (ns : List (Entry Node)) where
   step_more (SetNumber name player) c (Bare b) = set_more c name player (count_of b)
   step_more (NewSetName name key) c (Text l) = refl
   step_more (NewSetOpening name key label) c Opening = refl
-  step_more (NewAction name key set sum) c (Text l) =
-      label_more c name key.player key.number set sum l
+  step_more (NewAction name key set sum) c (Text l) = grind (arith, label_more)
   step_more (NewAction name key set sum) c Closing = new_ends_more c name key set set.actions sum
-  step_more (NewProbability name key set sum label) c (Bare b) =
-      shared_more c name key set label (share_of sum b)
-  step_more (KnownSetName name key set) c (Text l) =
-      by_test (pointwise nat_eq l set.name) (KnownSetOpening (begun name key set) set.actions) c _
-  step_more (KnownSetName name key set) c (Bare b) =
-      outcome_more c (begun name key set) (index_of b)
+  step_more (NewProbability name key set sum label) c (Bare b) = grind (arith, shared_more)
+  step_more (KnownSetName name key set) c (Text l) = grind (arith, by_test)
+  step_more (KnownSetName name key set) c (Bare b) = grind (arith, outcome_more)
   step_more (KnownSetOpening b actions) c Opening = refl
   step_more (KnownAction b []) c Closing = refl
-  step_more (KnownAction b (a ∷ actions)) c (Text l) =
-      by_test (pointwise nat_eq l a.label) (behind_label b a.probability actions) c _
-  step_more (KnownProbability b p actions) c (Bare t) =
-      same_more (KnownAction b actions) c p (number_of t)
+  step_more (KnownAction b (a ∷ actions)) c (Text l) = grind (arith, by_test)
+  step_more (KnownProbability b p actions) c (Bare t) = grind (arith, same_more)
   step_more (OutcomeNumber b) c (Bare t) = outcome_more c b (index_of t)
   step_more (NewOutcomeName b n) c (Text l) = refl
   step_more (NewOutcomeOpening b n label) c Opening = refl
   step_more (NewPayoff b n outcome zero) c Closing = outcome_ends_more c b n outcome
-  step_more (NewPayoff b n outcome (suc left)) c (Bare t) =
-      paid_more c b n outcome left (number_of t)
+  step_more (NewPayoff b n outcome (suc left)) c (Bare t) = grind (arith, paid_more)
   step_more (AfterNewPayoff b n outcome zero) c Comma = refl
   step_more (AfterNewPayoff b n outcome zero) c Closing = outcome_ends_more c b n outcome
   step_more (AfterNewPayoff b n outcome (suc left)) c Comma = refl
-  step_more (AfterNewPayoff b n outcome (suc left)) c (Bare t) =
-      paid_more c b n outcome left (number_of t)
-  step_more (KnownOutcomeName outcome) c (Text l) =
-      by_test (pointwise nat_eq l outcome.name) (KnownOutcomeOpening outcome.payoffs) c _
+  step_more (AfterNewPayoff b n outcome (suc left)) c (Bare t) = grind (arith, paid_more)
+  step_more (KnownOutcomeName outcome) c (Text l) = grind (arith, by_test)
   step_more (KnownOutcomeName outcome) c (Bare b) = due_more c c.due b
   step_more (KnownOutcomeOpening ps) c Opening = refl
   step_more (KnownPayoff []) c Closing = refl
@@ -204,25 +168,16 @@ module _ (ns : List (Entry Node)) where
   step_more (AfterKnownPayoff []) c Comma = refl
   step_more (AfterKnownPayoff []) c Closing = refl
   step_more (AfterKnownPayoff (p ∷ ps)) c Comma = refl
-  step_more (AfterKnownPayoff (p ∷ ps)) c (Bare t) =
-      same_more (AfterKnownPayoff ps) c p (number_of t)
+  step_more (AfterKnownPayoff (p ∷ ps)) c (Bare t) = grind (arith, same_more)
   step_more q c t = refl
 
   run_more : (end : ℕ) (q : Position) (c : Content) (ls : List Lexeme)
       → run end q (with_front ns c) ls ≡ with_nodes ns (run end q c ls)
-  run_more end q c [] = by (may_end q c.due)
-    where
-      by : (b : Bool) → cond b (Ok (with_front ns c)) (refused end end (due q c.due))
-          ≡ with_nodes ns (cond b (Ok c) (refused end end (due q c.due)))
-      by true = refl
-      by false = refl
+  run_more end q c [] = grind arith
   run_more end q c (l ∷ ls) =
-      ap (λ (o : Result State Why). then_on l o (λ s. run end s.position s.content ls))
-      (step_more q c l.token)
-      ∙ by (step q c l.token) (λ s. run_more end s.position s.content ls)
+      cc (step_more q c l.token, by (step q c l.token) (λ s. run_more end s.position s.content ls))
     where
-      by : (o : Result State Why)
-          → ((s : State) → run end s.position (with_front ns s.content) ls
+      by : (o : Result State Why) → ((s : State) → run end s.position (with_front ns s.content) ls
           ≡ with_nodes ns (run end s.position s.content ls))
           → then_on l (fronted o) (λ s. run end s.position s.content ls)
           ≡ with_nodes ns (then_on l o (λ s. run end s.position s.content ls))

@@ -1,6 +1,6 @@
 -- Each state that the machine of the reader comes to can be completed.
-use Rattle.std.proofs.Common.{◌≡◌, ℕ, zero, suc, ◌<◌, Bool, true, cond, List, [], ◌∷◌, length}
-use Rattle.std.proofs.Common.{Option, Some, None, MatchOption, Ok, Err, refl, ap, ◌∙◌, arith}
+use Rattle.std.proofs.Common.{◌≡◌, ℕ, zero, suc, ◌<◌, true, List, [], ◌∷◌, length, Option, Some}
+use Rattle.std.proofs.Common.{None, MatchOption, Ok, refl, ap, ◌∙◌, arith}
 use Rattle.std.specs.Prelude.{codes, nat_le, pos}
 use Rattle.std.proofs.lemmas.Bool.{le-leb}
 use Rattle.std.proofs.lemmas.Int.{ints}
@@ -10,26 +10,24 @@ use Rattle.gf_fraction.specs.NumberText.{number_text}
 use Rattle.gf_fraction.specs.Computed.{number_of, lowest_of, gcd_within}
 use Rattle.gf_fraction.proofs.ReadingBack.{written_is_read}
 use Rattle.gf_token.specs.Token.{Token}
-use Rattle.gf_token.specs.Token.Token.{Opening, Closing, Text, Bare}
 use Rattle.gf_token.specs.Indices.{count_of, index_of}
-use Rattle.gf_token.specs.declared.fault.Why.TheVariants.{UnknownPlayer}
+use Rattle.gf_token.specs.Token.Token.{Opening, Closing, Text, Bare}
 use Rattle.gf_tree.specs.Description.{Action, InformationSet, Outcome, SetKey, same_set, set_of}
 use Rattle.gf_tree.specs.FiniteMap.{description_at}
-use Rattle.gf_tree.specs.inner.Machine.{Begun, Content, Position, State, at, begun}
-use Rattle.gf_tree.specs.inner.Machine.{behind_label, behind_set, new_set_ends, outcome_number}
-use Rattle.gf_tree.specs.inner.Machine.{paid, player_number, set_ends, set_known, set_number}
-use Rattle.gf_tree.specs.inner.Machine.{shared, step, with_action, with_node}
-use Rattle.gf_tree.specs.inner.Machine.Position.{Format, Version, Letter, Title, BeforePlayers}
-use Rattle.gf_tree.specs.inner.Machine.Position.{InPlayers}
-use Rattle.gf_tree.specs.inner.Machine.Position.{AfterPlayers, NodeDue, ChanceName, PersonalName}
-use Rattle.gf_tree.specs.inner.Machine.Position.{TerminalName, PlayerNumber, SetNumber, NewSetName}
-use Rattle.gf_tree.specs.inner.Machine.Position.{NewSetOpening, NewAction, NewProbability}
-use Rattle.gf_tree.specs.inner.Machine.Position.{KnownSetName}
-use Rattle.gf_tree.specs.inner.Machine.Position.{KnownSetOpening, KnownAction, KnownProbability}
-use Rattle.gf_tree.specs.inner.Machine.Position.{OutcomeNumber, NewOutcomeName, NewOutcomeOpening}
-use Rattle.gf_tree.specs.inner.Machine.Position.{NewPayoff, AfterNewPayoff, KnownOutcomeName}
-use Rattle.gf_tree.specs.inner.Machine.Position.{KnownOutcomeOpening, KnownPayoff, AfterKnownPayoff}
 use Rattle.gf_tree.specs.inner.ReadGame.{then_run}
+use Rattle.gf_tree.specs.inner.Machine.{Begun, Content, Position, State, at, begun, behind_label}
+use Rattle.gf_tree.specs.inner.Machine.{behind_set, new_set_ends, outcome_number, paid}
+use Rattle.gf_tree.specs.inner.Machine.{player_number, set_ends, set_known, set_number, shared}
+use Rattle.gf_tree.specs.inner.Machine.{step, with_action, with_node}
+use Rattle.gf_tree.specs.inner.Machine.Position.{Format, Version, Letter, Title, BeforePlayers}
+use Rattle.gf_tree.specs.inner.Machine.Position.{InPlayers, AfterPlayers, NodeDue, ChanceName}
+use Rattle.gf_tree.specs.inner.Machine.Position.{PersonalName, TerminalName, PlayerNumber}
+use Rattle.gf_tree.specs.inner.Machine.Position.{SetNumber, NewSetName, NewSetOpening, NewAction}
+use Rattle.gf_tree.specs.inner.Machine.Position.{NewProbability, KnownSetName, KnownSetOpening}
+use Rattle.gf_tree.specs.inner.Machine.Position.{KnownAction, KnownProbability, OutcomeNumber}
+use Rattle.gf_tree.specs.inner.Machine.Position.{NewOutcomeName, NewOutcomeOpening, NewPayoff}
+use Rattle.gf_tree.specs.inner.Machine.Position.{AfterNewPayoff, KnownOutcomeName}
+use Rattle.gf_tree.specs.inner.Machine.Position.{KnownOutcomeOpening, KnownPayoff, AfterKnownPayoff}
 use Rattle.gf_tree.proofs.lemmas.runs.Tokens.{Reads, run_on, text_again}
 use Rattle.gf_tree.proofs.lemmas.runs.Payoffs.{number_same}
 use Rattle.gf_tree.proofs.lemmas.runs.Shares.{share_again}
@@ -128,20 +126,17 @@ new_outcome_ends b n label c =
 closed : (name : List ℕ) (player n : ℕ) (set : InformationSet) (sum : Ratio) (c : Content)
     → sum ≡ whole (pos 1)
     → set_ends c name player n set sum ≡ Ok (set_known c name (set_of player n) set)
-closed name zero n set sum c one = ap (set_ends c name 0 n set) one
-closed name (suc player) n set sum c one = refl
+closed name player n set sum c h = grind arith
 
 -- after an action, if the probabilities add up to one
 actions_end : (name : List ℕ) (key : SetKey) (set : InformationSet)
-    (actions : List Action) (sum : Ratio) (c : Content)
-    → set.actions ≡ actions → 0 < length actions
+    (actions : List Action) (sum : Ratio) (c : Content) → set.actions ≡ actions → 0 < length actions
     → sum ≡ whole (pos 1) → Ends (NewAction name key set sum) c
 actions_end name key set [] sum c is some one = absurd (omega (arith, some))
 actions_end name key set (a ∷ actions) sum c is some one =
     let after = set_known c name key set in
     by (NewAction name key set sum) c Closing after
-    (ap (λ x. new_set_ends c name key set x sum) is
-    ∙ closed name key.player key.number set sum c one)
+    (cc (is, closed name key.player key.number set sum c one))
     (outcome_ends (begun name key set) after.content)
 
 one_more : (set : InformationSet) (label : List ℕ) (p : Option Ratio)
@@ -165,8 +160,7 @@ probability_ends name key set sum label c share =
 
 -- a player's actions have no probabilities
 player_end : (name : List ℕ) (player n : ℕ) (set : InformationSet)
-    (actions : List Action) (sum : Ratio) (c : Content)
-    → set.actions ≡ actions → 0 < length actions
+    (actions : List Action) (sum : Ratio) (c : Content) → set.actions ≡ actions → 0 < length actions
     → Ends (NewAction name (set_of (suc player) n) set sum) c
 player_end name player n set [] sum c is some = absurd (omega (arith, some))
 player_end name player n set (a ∷ actions) sum c is some =
@@ -242,8 +236,7 @@ player_ends : (name : List ℕ) (c : Content) → 0 < length c.players → Ends 
 player_ends name c some =
     let within : nat_le 1 (length c.players) ≡ true =
     le-leb 1 (length c.players) (omega (arith, some)) in
-    let first : player_number c name (Some 1) ≡ Ok (at (SetNumber name 1) c) =
-    ap (λ (b : Bool). cond b (Ok (at (SetNumber name 1) c)) (Err UnknownPlayer)) within in
+    let first : player_number c name (Some 1) ≡ Ok (at (SetNumber name 1) c) = cc within in
     by (PlayerNumber name) c (Bare (codes "1")) (at (SetNumber name 1) c)
     (ap (player_number c name) one_is_count ∙ first) (set_number_ends name 1 c)
 

@@ -1,22 +1,22 @@
 -- Runs over all nodes of a file, in prefix order.
-use Rattle.std.proofs.Common.{◌≡◌, ℕ, zero, suc, ◌+◌, ◌-◌, ◌<◌, ◌==◌, Bool, true, false}
-use Rattle.std.proofs.Common.{cond, List, [], ◌∷◌, ◌++◌, length, map, option_map}
-use Rattle.std.proofs.Common.{Option, Some, None, Ok, Err, refl, sym, ap, subst, ◌∙◌}
-use Rattle.std.proofs.Common.{append_assoc, append-nil, arith, inl, inr, nat_eq}
-use Rattle.std.specs.List.{AllByRecursion, cons_option}
+use Rattle.std.proofs.Common.{◌≡◌, ℕ, zero, suc, ◌+◌, ◌-◌, ◌<◌, ◌==◌, Bool, true, false, cond, List}
+use Rattle.std.proofs.Common.{[], ◌∷◌, ◌++◌, length, map, option_map, Option, Some, None, Ok, Err}
+use Rattle.std.proofs.Common.{refl, sym, ap, subst, ◌∙◌, append_assoc, append-nil, arith, inl, inr}
+use Rattle.std.proofs.Common.{nat_eq}
 use Rattle.std.proofs.lemmas.List.{length-append}
 use Rattle.std.proofs.lemmas.Bool.Decides.{Decides-eqb}
+use Rattle.std.specs.List.{AllByRecursion, cons_option}
 use Rattle.gf_token.specs.Token.{Token}
-use Rattle.gf_token.specs.Token.Token.{Text, Bare}
+use Rattle.gf_token.specs.Token.Token.{Bare}
 use Rattle.gf_token.specs.Grammar.{Each}
 use Rattle.gf_tree.specs.PrefixOrder.{Entry, Fills}
-use Rattle.gf_tree.specs.Description.{InformationSet, SetKey, Outcome, same_set}
-use Rattle.gf_tree.specs.FiniteMap.{Described, description_at}
-use Rattle.gf_tree.specs.FileTree.{Use, FileNode, set_uses, outcome_uses}
 use Rattle.gf_tree.specs.GameOf.{keys_alone}
 use Rattle.gf_tree.specs.Game.{Game, HasChildren, Node}
 use Rattle.gf_tree.specs.Learned.{Learns}
 use Rattle.gf_tree.specs.Sentence.{IsNode}
+use Rattle.gf_tree.specs.Description.{InformationSet, SetKey, Outcome, same_set}
+use Rattle.gf_tree.specs.FiniteMap.{Described, description_at}
+use Rattle.gf_tree.specs.FileTree.{Use, FileNode, set_uses, outcome_uses}
 use Rattle.gf_tree.specs.inner.Machine.{Content, after_node, node_or_end}
 use Rattle.gf_tree.specs.inner.Machine.Position.{NodeDue}
 use Rattle.gf_tree.specs.inner.ReadGame.{run_tokens, then_run, game_of}
@@ -24,12 +24,12 @@ use Rattle.gf_tree.proofs.lemmas.games.Consistent.{map_entry}
 use Rattle.gf_tree.proofs.lemmas.games.TreesOnce.{same_set_equality}
 use Rattle.gf_tree.proofs.lemmas.runs.Tokens.{Reads, run_on, ok_read, ok_is}
 use Rattle.gf_tree.proofs.lemmas.runs.Sets.{AreSets}
+use Rattle.gf_tree.proofs.lemmas.runs.Nodes.{letter_found, node_again, MapOf, HasChildrenBy}
+use Rattle.gf_tree.proofs.lemmas.runs.Nodes.{set_key, behind_node, NodeRead}
 use Rattle.gf_tree.proofs.lemmas.runs.Results.{AreOutcomes}
-use Rattle.gf_tree.proofs.lemmas.runs.Nodes.{MapOf, HasChildrenBy, set_key, behind_node}
-use Rattle.gf_tree.proofs.lemmas.runs.Nodes.{NodeRead, letter_found, node_again}
-use Rattle.gf_tree.proofs.lemmas.runs.Learned.{uses_of, learns_on, learns_split}
-use Rattle.gf_tree.proofs.lemmas.runs.Learned.{kept, all_known, one_use, at_new}
 use Rattle.gf_tree.proofs.lemmas.games.SentencesOnce.{nodes_no_text}
+use Rattle.gf_tree.proofs.lemmas.runs.Learned.{uses_of, learns_on, learns_split, kept, all_known}
+use Rattle.gf_tree.proofs.lemmas.runs.Learned.{one_use, at_new}
 
 -- the nodes without descriptions
 abbrev pub alone : List (Entry FileNode) → List (Entry Node)
@@ -80,23 +80,14 @@ no_nodes c r true due is test sets outcomes e =
 -- the uses of the first node, and the others
 pub more_uses : {K D : Type 0} (o : Option (Use K D)) (us : List (Use K D))
     → uses_of o ++ us ≡ cons_option o us
-more_uses None us = refl
-more_uses (Some u) us = refl
+more_uses o us = grind arith
 
 children_kept : (sets end : MapOf) (o : Option SetKey) (children : ℕ)
     → ((key : SetKey) (d : InformationSet) → description_at same_set sets key ≡ Some d
     → description_at same_set end key ≡ Some d)
     → HasChildrenBy sets o children → HasChildrenBy end o children
 children_kept sets end None children same h = h
-children_kept sets end (Some key) children same h = by (description_at same_set sets key) refl h
-  where
-    by : (o : Option InformationSet) → description_at same_set sets key ≡ o
-        → option_map (λ (set : InformationSet). length set.actions) o ≡ Some children
-        → option_map (λ (set : InformationSet). length set.actions)
-        (description_at same_set end key) ≡ Some children
-    by None is h = absurd cc
-    by (Some d) is h =
-        ap (option_map (λ (set : InformationSet). length set.actions)) (same key d is) ∙ h
+children_kept sets end (Some key) children same h = grind arith
 
 nodes_more : (ts : List Token) (due : ℕ) (c r : Content) → c.due ≡ suc due → (h : NodeRead ts c r)
     → NodesRead h.rest (behind_node c h.node h.children h.sets h.outcomes) r → NodesRead ts c r
@@ -114,13 +105,11 @@ nodes_more ts due c r is h k =
       players = k.players;
       nodes = k.nodes ∙ append_assoc c.nodes (map_entry keys_alone entry ∷ []) (alone k.entries);
       learns_sets =
-          subst (λ us. Learns same_set c.sets us r.sets) (more_uses h.node.set (set_uses k.entries))
-          (learns_on same_set (uses_of h.node.set) (set_uses k.entries) c.sets h.sets r.sets
-          h.learns_sets k.learns_sets);
-      learns_outcomes = subst (λ us. Learns nat_eq c.outcomes us r.outcomes)
-          (more_uses h.node.outcome (outcome_uses k.entries))
-          (learns_on nat_eq (uses_of h.node.outcome) (outcome_uses k.entries) c.outcomes h.outcomes
-          r.outcomes h.learns_outcomes k.learns_outcomes);
+          rw (← more_uses h.node.set (set_uses k.entries)) (learns_on same_set (uses_of h.node.set)
+          (set_uses k.entries) c.sets h.sets r.sets h.learns_sets k.learns_sets);
+      learns_outcomes = rw (← more_uses h.node.outcome (outcome_uses k.entries)) (learns_on nat_eq
+          (uses_of h.node.outcome) (outcome_uses k.entries) c.outcomes h.outcomes r.outcomes
+          h.learns_outcomes k.learns_outcomes);
       children = (
         children_kept h.sets r.sets (set_key h.node) h.children
             (kept same_set (set_uses k.entries) h.sets r.sets k.learns_sets) h.has_children,
@@ -132,13 +121,7 @@ nodes_more ts due c r is h k =
 
 -- a node takes tokens
 shorter : (ts : List Token) (c r : Content) (h : NodeRead ts c r) → length h.rest < length ts
-shorter ts c r h =
-    let behind : List Token = Text h.node.name ∷ (h.is_node.step ++ h.is_node.result) in
-    let whole : ts ≡ Bare h.is_node.letter ∷ (behind ++ h.rest) =
-    h.parts ∙ ap (λ (x : List Token). x ++ h.rest) h.is_node.parts in
-    let size = ap length whole in
-    let sizes = length-append behind h.rest in
-    omega (arith, size, sizes)
+shorter ts c r h = grind (arith, length-append)
 
 pub due_by : (b : List ℕ) (ts : List Token) (due : ℕ) (c r : Content)
     → c.due ≡ due → AreSets (length c.players) c.sets → AreOutcomes (length c.players) c.outcomes
@@ -175,8 +158,7 @@ known_behind : (known mid : MapOf) (u : Use SetKey InformationSet)
 known_behind known mid u learns = elim (one_use same_set known u mid learns) [
   | inl h ↦ (
     h.description,
-    ap (λ x. description_at same_set x u.key) h.more
-        ∙ at_new same_set same_set_equality known u.key h.description h.unknown,
+    cc (h.more, at_new same_set same_set_equality known u.key h.description h.unknown),
   )
   | inr h ↦ (h.description, ap (λ x. description_at same_set x u.key) h.no_more ∙ h.is_known)
 ]
@@ -204,18 +186,10 @@ behind_nodes c es sets outcomes =
 end_again : (c : Content) (sets : MapOf) (outcomes : List (Described ℕ Outcome))
     → c.due ≡ 0 → sets ≡ c.sets → outcomes ≡ c.outcomes
     → run_tokens NodeDue c [] ≡ ok_read (behind_nodes c [] sets outcomes)
-end_again c sets outcomes is same_sets same_outcomes =
-    let whole : c ≡ behind_nodes c [] sets outcomes = λ i. record c {
-      nodes = sym (append-nil c.nodes) i;
-      due = is i;
-      sets = sym same_sets i;
-      outcomes = sym same_outcomes i;
-    } in
-    ap (λ (d : ℕ). cond (d == 0) (ok_read c) (Err (node_or_end d))) is ∙ ap ok_read whole
+end_again c sets outcomes is same_sets same_outcomes = grind (arith, append-nil, ok_read)
 
 pub nodes_again : (es : List (Entry FileNode)) (ts : List Token) (c : Content)
-    (g : Game) (sets : MapOf) (outcomes : List (Described ℕ Outcome))
-    → g.sets ≡ sets
+    (g : Game) (sets : MapOf) (outcomes : List (Described ℕ Outcome)) → g.sets ≡ sets
     → Each (IsNode (length c.players)) ts (nodes_of es)
     → Fills c.due es → Learns same_set c.sets (set_uses es) sets
     → Learns nat_eq c.outcomes (outcome_uses es) outcomes
@@ -226,8 +200,7 @@ nodes_again [] ts c g sets outcomes of each fills learns_sets learns_outcomes ch
     ∙ end_again c sets outcomes (empty c.due fills) learns_sets learns_outcomes
   where
     empty : (due : ℕ) → Fills {N = FileNode} due [] → due ≡ 0
-    empty zero h = refl
-    empty (suc due) h = absurd h
+    empty due h = grind arith
 nodes_again (e ∷ es) ts c g sets outcomes of each fills learns_sets learns_outcomes children are =
     let left = some_due c.due refl fills in
     let us = subst (λ us. Learns same_set c.sets us sets) (sym (more_uses e.node.set (set_uses es)))

@@ -1,22 +1,21 @@
 -- The machine of the reader answers what extensive files mean: exactly the tokens of consistent
 -- files are read, to their games.
-use Rattle.std.proofs.Common.{◌≡◌, ◌↔◌, ℕ, List, [], ◌∷◌, ◌++◌, length}
-use Rattle.std.proofs.Common.{map, refl, sym, ap, subst, ◌∙◌, inl, inr}
-use Rattle.std.specs.Prelude.{codes, nat_eq}
+use Rattle.std.proofs.Common.{◌≡◌, ◌↔◌, ℕ, List, [], ◌∷◌, ◌++◌, length, refl, sym, ap, subst, ◌∙◌}
+use Rattle.std.proofs.Common.{inl, inr, arith}
 use Rattle.std.specs.List.{AllByRecursion}
 use Rattle.gf_token.specs.Token.{Token}
 use Rattle.gf_token.specs.Token.Token.{Text, Bare}
-use Rattle.gf_token.specs.Grammar.{Each, braced, IsComment}
+use Rattle.gf_token.specs.Grammar.{IsComment}
 use Rattle.gf_tree.specs.Tree.{Tree, map_tree}
-use Rattle.gf_tree.specs.PrefixOrder.{Entry, Fills, flatten}
 use Rattle.gf_tree.specs.Grown.{grow, root}
-use Rattle.gf_tree.specs.Description.{same_set, IsSet, IsOutcome}
-use Rattle.gf_tree.specs.FileTree.{FileNode, FileTree, set_uses, outcome_uses}
-use Rattle.gf_tree.specs.Sentence.{IsNode, Sentence}
-use Rattle.gf_tree.specs.Game.{Game, Node, HasChildren}
 use Rattle.gf_tree.specs.GameCode.{no_node}
 use Rattle.gf_tree.specs.GameOf.{keys_alone, MeansGame}
-use Rattle.gf_tree.specs.Learned.{Learns, LearnsGame}
+use Rattle.gf_tree.specs.Learned.{LearnsGame}
+use Rattle.gf_tree.specs.Description.{IsSet}
+use Rattle.gf_tree.specs.FileTree.{FileNode, FileTree}
+use Rattle.gf_tree.specs.Sentence.{Sentence}
+use Rattle.gf_tree.specs.Game.{Game, Node, HasChildren}
+use Rattle.gf_tree.specs.PrefixOrder.{Entry, Fills, flatten}
 use Rattle.gf_tree.specs.inner.Machine.{Content, nothing}
 use Rattle.gf_tree.specs.inner.Machine.Position.{Format, AfterPlayers, NodeDue}
 use Rattle.gf_tree.specs.inner.ReadGame.{run_tokens, game_of}
@@ -24,11 +23,11 @@ use Rattle.gf_tree.proofs.lemmas.games.Prefix.{one_tree, fills_one, grows_again}
 use Rattle.gf_tree.proofs.lemmas.games.Consistent.{flatten_map}
 use Rattle.gf_tree.proofs.lemmas.games.Learned.{game_learned_once}
 use Rattle.gf_tree.proofs.lemmas.fronts.Groups.{NoText}
-use Rattle.gf_tree.proofs.lemmas.runs.Tokens.{Reads}
-use Rattle.gf_tree.proofs.lemmas.runs.Heading.{Heading, heading, heading_found, heading_again}
-use Rattle.gf_tree.proofs.lemmas.runs.Files.{NodesRead, alone, nodes_of, nodes_found}
-use Rattle.gf_tree.proofs.lemmas.runs.Files.{nodes_again, behind_nodes}
 use Rattle.gf_tree.proofs.lemmas.games.SentencesOnce.{nodes_no_text}
+use Rattle.gf_tree.proofs.lemmas.runs.Tokens.{Reads}
+use Rattle.gf_tree.proofs.lemmas.runs.Files.{behind_nodes, NodesRead, alone, nodes_of, nodes_found}
+use Rattle.gf_tree.proofs.lemmas.runs.Files.{nodes_again}
+use Rattle.gf_tree.proofs.lemmas.runs.Heading.{Heading, heading, heading_found, heading_again}
 
 -- ---- the comment
 
@@ -76,21 +75,14 @@ pub comment_again : (comment nodes : List Token) (note title : List ℕ) (player
     → IsComment comment note → NoText nodes
     → run_tokens AfterPlayers (heading title players) (comment ++ nodes)
     ≡ run_tokens NodeDue (headed title note players) nodes
-comment_again comment nodes note title players (inl h) only =
-    ap (λ (x : List Token). run_tokens AfterPlayers (heading title players) (x ++ nodes)) h.0
-    ∙ not_said nodes title players only
-    ∙ ap (λ (x : List ℕ). run_tokens NodeDue (headed title x players) nodes) (sym h.1)
-comment_again comment nodes note title players (inr h) only =
-    ap (λ (x : List Token). run_tokens AfterPlayers (heading title players) (x ++ nodes)) h
+comment_again comment nodes note title players h h2 = grind (arith, not_said, heading)
 
 -- ---- the tree
 
 -- the tree of nodes that fill one place grows from them
 grown_again : (t : Tree FileNode) (nodes : List (Entry Node)) → nodes ≡ alone (flatten t)
     → root no_node (grow nodes) ≡ map_tree keys_alone t
-grown_again t nodes e =
-    ap (λ (es : List (Entry Node)). root no_node (grow es)) (e ∙ sym (flatten_map keys_alone t))
-    ∙ ap (root no_node) (grows_again (map_tree keys_alone t))
+grown_again t nodes e = cc (flatten_map keys_alone t, grows_again (map_tree keys_alone t))
 
 -- ---- what was read is the game of a file
 
@@ -118,13 +110,10 @@ with_tree tokens r h k n t e =
         letter = h.letter;
         comment = k.comment;
         nodes = k.nodes;
-        parts = h.parts ∙ ap (λ (x : List Token). Bare (codes "EFG") ∷ Bare (codes "2")
-            ∷ Bare h.letter ∷ Text h.title ∷ (braced (map Text h.players) ++ x)) k.parts;
+        parts = cc (h.parts, k.parts);
         is_letter = h.is_letter;
         is_comment = k.is_comment;
-        are_nodes = subst
-            (λ (es : List (Entry FileNode)). Each (IsNode (length h.players)) k.nodes (nodes_of es))
-            (sym e) n.are_nodes;
+        are_nodes = rw e n.are_nodes;
       };
       learns = record {
         kept = record {
@@ -133,16 +122,10 @@ with_tree tokens r h k n t e =
           players = sym n.players;
           tree = sym grown;
         };
-        sets = subst (λ (es : List (Entry FileNode)). Learns same_set [] (set_uses es) r.sets)
-            (sym e) n.learns_sets;
-        outcomes =
-            subst (λ (es : List (Entry FileNode)). Learns nat_eq [] (outcome_uses es) r.outcomes)
-            (sym e) n.learns_outcomes;
-        each_set = subst (λ (m : ℕ). AllByRecursion (λ s. IsSet m s.key s.description) r.sets) count
-            n.are_sets;
-        each_outcome =
-            subst (λ (m : ℕ). AllByRecursion (λ o. IsOutcome m o.key o.description) r.outcomes)
-            count n.are_outcomes;
+        sets = rw e n.learns_sets;
+        outcomes = rw e n.learns_outcomes;
+        each_set = rw (← count) n.are_sets;
+        each_outcome = rw (← count) n.are_outcomes;
         children = subst (AllByRecursion (HasChildren (game_of r))) (sym flat) n.children;
       };
       fills = subst (Fills 1) (sym n.nodes) filled;
@@ -168,8 +151,7 @@ pub file_again : (tokens : List Token) (f : FileTree) (g : Game)
     → Sentence tokens f → LearnsGame f g → GameRead tokens g
 file_again tokens f g s l =
     let es = flatten f.tree in
-    let flat : flatten g.tree ≡ alone es =
-    ap flatten (sym l.kept.tree) ∙ flatten_map keys_alone f.tree in
+    let flat : flatten g.tree ≡ alone es = cc (l.kept.tree, flatten_map keys_alone f.tree) in
     let count : length g.players ≡ length f.players = ap length (sym l.kept.players) in
     let children = subst (AllByRecursion (HasChildren g)) flat l.children in
     let are =

@@ -1,14 +1,14 @@
 -- Runs over the heading of an extensive file: its format, title and players.
-use Rattle.std.proofs.Common.{◌≡◌, ℕ, Bool, true, false, List, [], ◌∷◌, ◌++◌, map, refl, sym}
-use Rattle.std.proofs.Common.{ap, subst, ◌∙◌, append_assoc, append-nil, inl, inr, nat_eq}
+use Rattle.std.proofs.Common.{◌≡◌, ℕ, Bool, true, false, List, [], ◌∷◌, ◌++◌, map, refl, sym, ap}
+use Rattle.std.proofs.Common.{subst, ◌∙◌, append_assoc, append-nil, inl, inr, nat_eq, arith}
 use Rattle.std.specs.Prelude.{codes, ◌||◌, ◌⊎◌}
 use Rattle.std.specs.Cmp.Lexicographic.{pointwise}
 use Rattle.gf_token.specs.Token.{Token}
-use Rattle.gf_token.specs.Token.Token.{Opening, Closing, Text, Bare}
 use Rattle.gf_token.specs.Grammar.{braced}
+use Rattle.gf_token.specs.Token.Token.{Opening, Closing, Text, Bare}
 use Rattle.gf_tree.specs.inner.Machine.{Content, at, nothing, with_player}
-use Rattle.gf_tree.specs.inner.Machine.Position.{Format, Version, Letter, Title}
-use Rattle.gf_tree.specs.inner.Machine.Position.{BeforePlayers, InPlayers, AfterPlayers}
+use Rattle.gf_tree.specs.inner.Machine.Position.{Format, Version, Letter, Title, BeforePlayers}
+use Rattle.gf_tree.specs.inner.Machine.Position.{InPlayers, AfterPlayers}
 use Rattle.gf_tree.specs.inner.ReadGame.{run_tokens}
 use Rattle.gf_tree.proofs.lemmas.runs.Tokens.{Reads, guard_ok, same_bytes}
 
@@ -69,8 +69,7 @@ no_players c = ap (λ (ps : List (List ℕ)). record c { players = ps }) (append
 
 more_players : (c : Content) (p : List ℕ) (ps : List (List ℕ))
     → with_players (with_player c p) ps ≡ with_players c (p ∷ ps)
-more_players c p ps =
-    ap (λ (qs : List (List ℕ)). record c { players = qs }) (append_assoc c.players (p ∷ []) ps)
+more_players c p ps = grind (arith, append_assoc)
 
 -- Text* Closing
 players_found : (ts : List Token) (c r : Content) → Reads InPlayers c ts r
@@ -106,10 +105,7 @@ joined : (ts t1 t2 t3 t4 t5 rest : List Token) (letter title : List ℕ) (player
     → t3 ≡ Text title ∷ t4 → t4 ≡ Opening ∷ t5 → t5 ≡ map Text players ++ Closing ∷ rest
     → ts ≡ Bare (codes "EFG") ∷ Bare (codes "2") ∷ Bare letter ∷ Text title
     ∷ (braced (map Text players) ++ rest)
-joined ts t1 t2 t3 t4 t5 rest letter title players e1 e2 e3 e4 e5 e6 =
-    let last : t5 ≡ (map Text players ++ Closing ∷ []) ++ rest =
-    e6 ∙ sym (append_assoc (map Text players) (Closing ∷ []) rest) in
-    rw (e1, e2, e3, e4, e5, last) refl
+joined ts t1 t2 t3 t4 t5 rest letter title players e1 e2 e3 e4 e5 e6 = grind (arith, append_assoc)
 
 pub heading_found : (ts : List Token) (r : Content) → Reads Format nothing ts r → Heading ts r
 heading_found ts r e =
@@ -136,20 +132,17 @@ players_again : (players : List (List ℕ)) (c : Content) (rest : List Token)
     ≡ run_tokens AfterPlayers (with_players c players) rest
 players_again [] c rest = ap (λ (d : Content). run_tokens AfterPlayers d rest) (sym (no_players c))
 players_again (label ∷ players) c rest =
-    players_again players (with_player c label) rest
-    ∙ ap (λ (d : Content). run_tokens AfterPlayers d rest) (more_players c label players)
+    cc (players_again players (with_player c label) rest, more_players c label players)
 
 letter_again : (letter : List ℕ) (c : Content) (rest : List Token)
     → (letter ≡ codes "R") ⊎ (letter ≡ codes "D")
     → run_tokens Letter c (Bare letter ∷ rest) ≡ run_tokens Title c rest
-letter_again letter c rest (inl e) = rw e refl
-letter_again letter c rest (inr e) = rw e refl
+letter_again letter c rest h = grind arith
 
 pub heading_again : (letter title : List ℕ) (players : List (List ℕ)) (rest : List Token)
     → (letter ≡ codes "R") ⊎ (letter ≡ codes "D")
     → run_tokens Format nothing (Bare (codes "EFG") ∷ Bare (codes "2") ∷ Bare letter ∷ Text title
-    ∷ (braced (map Text players) ++ rest))
-    ≡ run_tokens AfterPlayers (heading title players) rest
+    ∷ (braced (map Text players) ++ rest)) ≡ run_tokens AfterPlayers (heading title players) rest
 heading_again letter title players rest h =
     letter_again letter nothing (Text title ∷ (braced (map Text players) ++ rest)) h
     ∙ ap (run_tokens InPlayers (record nothing { title = title }))

@@ -1,20 +1,19 @@
 -- What holds wherever the machine goes on: numbers that it knows are fractions, a sum of
 -- probabilities is at most one, and if a player moves, there is such a player.
-use Rattle.std.proofs.Common.{◌≡◌, ℕ, zero, suc, ◌<◌, Bool, true, false, cond, List}
-use Rattle.std.proofs.Common.{[], ◌∷◌, ◌++◌, length, Option, Some, None}
-use Rattle.std.proofs.Common.{MatchOption, Result, Ok, Err, refl, ap, arith, nat_eq}
+use Rattle.std.proofs.Common.{◌≡◌, ℕ, zero, suc, ◌<◌, Bool, true, false, cond, List, [], ◌∷◌, ◌++◌}
+use Rattle.std.proofs.Common.{length, Option, Some, None, MatchOption, Result, Ok, Err, refl, ap}
+use Rattle.std.proofs.Common.{arith, nat_eq}
+use Rattle.std.proofs.lemmas.Bool.Decides.{Decides-eqb}
 use Rattle.std.specs.Prelude.{codes, ◌||◌, nat_le}
 use Rattle.std.specs.Cmp.Lexicographic.{pointwise}
 use Rattle.std.specs.List.{AllByRecursion}
-use Rattle.std.proofs.lemmas.Bool.Decides.{Decides-eqb}
 use Rattle.gf_fraction.specs.Ratio.{Ratio, IsFraction}
 use Rattle.gf_fraction.specs.Computed.{number_of}
 use Rattle.gf_fraction.specs.declared.fraction.NumberFault.{NumberFault}
 use Rattle.gf_fraction.proofs.ComputedAnswers.{number_is}
 use Rattle.gf_token.specs.Token.{Token}
-use Rattle.gf_token.specs.Token.Token.{Opening, Closing, Comma, Text, Bare}
 use Rattle.gf_token.specs.Indices.{count_of, index_of}
-use Rattle.gf_token.specs.declared.fault.What.TheVariants as what
+use Rattle.gf_token.specs.Token.Token.{Opening, Closing, Comma, Text, Bare}
 use Rattle.gf_token.specs.declared.fault.Why.{Why}
 use Rattle.gf_token.specs.declared.fault.Why.TheVariants.{Expected}
 use Rattle.gf_tree.specs.Description.{Action, InformationSet, Outcome, SetKey, same_set, set_of}
@@ -23,24 +22,23 @@ use Rattle.gf_tree.specs.inner.Probability.{Share, share_of, is_one, same_ratio}
 use Rattle.gf_tree.specs.inner.Machine.{Begun, Content, Position, State, after_node, at, begun}
 use Rattle.gf_tree.specs.inner.Machine.{behind_label, behind_outcome, behind_set, new_label}
 use Rattle.gf_tree.specs.inner.Machine.{new_set_ends, node_letter, outcome_number, paid}
-use Rattle.gf_tree.specs.inner.Machine.{personal_node}
-use Rattle.gf_tree.specs.inner.Machine.{player_number, same_number, set_ends, set_number, shared}
-use Rattle.gf_tree.specs.inner.Machine.{step}
+use Rattle.gf_tree.specs.inner.Machine.{personal_node, player_number, same_number, set_ends}
+use Rattle.gf_tree.specs.inner.Machine.{set_number, shared, step}
 use Rattle.gf_tree.specs.inner.Machine.Position.{Format, Version, Letter, Title, BeforePlayers}
-use Rattle.gf_tree.specs.inner.Machine.Position.{InPlayers}
-use Rattle.gf_tree.specs.inner.Machine.Position.{AfterPlayers, NodeDue, ChanceName, PersonalName}
-use Rattle.gf_tree.specs.inner.Machine.Position.{TerminalName, PlayerNumber, SetNumber, NewSetName}
-use Rattle.gf_tree.specs.inner.Machine.Position.{NewSetOpening, NewAction, NewProbability}
-use Rattle.gf_tree.specs.inner.Machine.Position.{KnownSetName}
-use Rattle.gf_tree.specs.inner.Machine.Position.{KnownSetOpening, KnownAction, KnownProbability}
-use Rattle.gf_tree.specs.inner.Machine.Position.{OutcomeNumber, NewOutcomeName, NewOutcomeOpening}
-use Rattle.gf_tree.specs.inner.Machine.Position.{NewPayoff, AfterNewPayoff, KnownOutcomeName}
+use Rattle.gf_tree.specs.inner.Machine.Position.{InPlayers, AfterPlayers, NodeDue, ChanceName}
+use Rattle.gf_tree.specs.inner.Machine.Position.{PersonalName, TerminalName, PlayerNumber}
+use Rattle.gf_tree.specs.inner.Machine.Position.{SetNumber, NewSetName, NewSetOpening, NewAction}
+use Rattle.gf_tree.specs.inner.Machine.Position.{NewProbability, KnownSetName, KnownSetOpening}
+use Rattle.gf_tree.specs.inner.Machine.Position.{KnownAction, KnownProbability, OutcomeNumber}
+use Rattle.gf_tree.specs.inner.Machine.Position.{NewOutcomeName, NewOutcomeOpening, NewPayoff}
+use Rattle.gf_tree.specs.inner.Machine.Position.{AfterNewPayoff, KnownOutcomeName}
 use Rattle.gf_tree.specs.inner.Machine.Position.{KnownOutcomeOpening, KnownPayoff, AfterKnownPayoff}
 use Rattle.gf_tree.proofs.lemmas.games.TreesOnce.{same_set_equality}
+use Rattle.gf_tree.proofs.lemmas.games.Members.{all_more}
 use Rattle.gf_tree.proofs.lemmas.runs.Learned.{one, found_has}
 use Rattle.gf_tree.proofs.lemmas.runs.Shares.{share_found}
 use Rattle.gf_tree.proofs.lemmas.runs.Remainders.{IsShare, zero_share, sum_low}
-use Rattle.gf_tree.proofs.lemmas.games.Members.{all_more}
+use Rattle.gf_token.specs.declared.fault.What.TheVariants as what
 
 abbrev pub FineActions : List Action → Type 0
 FineActions actions = AllByRecursion (λ a. MatchOption a.probability (Unit {0}) IsFraction) actions

@@ -1,10 +1,10 @@
 -- Runs over the actions of a known information set in braces.
-use Rattle.std.proofs.Common.{◌≡◌, ℕ, zero, suc, List, [], ◌∷◌, ◌++◌, map, drop, Option}
-use Rattle.std.proofs.Common.{Some, None, refl, sym, ap, subst, ◌∙◌, append_assoc}
+use Rattle.std.proofs.Common.{◌≡◌, ℕ, zero, suc, List, [], ◌∷◌, ◌++◌, map, drop, Option, Some, None}
+use Rattle.std.proofs.Common.{refl, sym, ap, subst, ◌∙◌, append_assoc}
 use Rattle.std.specs.List.{AllByRecursion}
 use Rattle.gf_token.specs.Token.{Token}
-use Rattle.gf_token.specs.Token.Token.{Closing, Text, Bare}
 use Rattle.gf_token.specs.Grammar.{Each}
+use Rattle.gf_token.specs.Token.Token.{Closing, Text, Bare}
 use Rattle.gf_fraction.specs.Ratio.{Ratio}
 use Rattle.gf_fraction.specs.NumberSpelling.{IsNumber}
 use Rattle.gf_tree.specs.Description.{Action, AreActions}
@@ -42,14 +42,12 @@ pub record KnownActions (ts : List Token) (player : ℕ) (actions : List Action)
   pub goes_on : Reads (OutcomeNumber b) c rest r
 
 known_more : (first ts : List Token) (player : ℕ) (a : Action)
-    (actions : List Action) (b : Begun) (c r : Content)
-    → IsAction player first a
+    (actions : List Action) (b : Begun) (c r : Content) → IsAction player first a
     → KnownActions ts player actions b c r → KnownActions (first ++ ts) player (a ∷ actions) b c r
 known_more first ts player a actions b c r is h = record {
   inner = first ++ h.inner;
   rest = h.rest;
-  parts = ap (λ (x : List Token). first ++ x) h.parts
-      ∙ sym (append_assoc first h.inner (Closing ∷ h.rest));
+  parts = cc (h.parts, append_assoc first h.inner (Closing ∷ h.rest));
   each = (first, h.inner, refl, is, h.each);
   goes_on = h.goes_on;
 }
@@ -74,8 +72,7 @@ behind_found zero a label actions (Some p) ts b c r is same has e later =
     let h = probability_found b p actions ts c r e in
     let text : Text label ∷ ts ≡ (Text a.label ∷ Bare h.0 ∷ []) ++ h.1 =
     λ i. Text (same i) ∷ h.2 i in
-    subst (λ (x : List Token). KnownActions x 0 (a ∷ actions) b c r) (sym text)
-    (known_more (Text a.label ∷ Bare h.0 ∷ []) h.1 0 a actions b c r (h.0, p, refl, h.3, is)
+    rw text (known_more (Text a.label ∷ Bare h.0 ∷ []) h.1 0 a actions b c r (h.0, p, refl, h.3, is)
     (later h.1 h.4))
 behind_found (suc player) a label actions None ts b c r is same has e later =
     let text : Text label ∷ ts ≡ (Text a.label ∷ []) ++ ts = λ i. Text (same i) ∷ ts in
@@ -96,18 +93,14 @@ known_found (a ∷ actions) player (Text label ∷ ts) b c r has e =
 known_found (a ∷ actions) player _ b c r has e = absurd cc
 
 pub label_again : (a : Action) (actions : List Action)
-    (o : Option Ratio) (ts : List Token) (b : Begun) (c : Content)
-    → a.probability ≡ o
+    (o : Option Ratio) (ts : List Token) (b : Begun) (c : Content) → a.probability ≡ o
     → run_tokens (KnownAction b (a ∷ actions)) c (Text a.label ∷ ts)
     ≡ run_tokens (behind_label b o actions) c ts
 label_again a actions o ts b c is =
-    ap (λ x. then_run x (run_on ts))
-    (text_again a.label (at (behind_label b a.probability actions) c))
-    ∙ ap (λ x. run_tokens (behind_label b x actions) c ts) is
+    cc (text_again a.label (at (behind_label b a.probability actions) c), is)
 
 pub known_again : (actions : List Action) (player : ℕ)
-    (inner rest : List Token) (b : Begun) (c : Content)
-    → Each (IsAction player) inner actions
+    (inner rest : List Token) (b : Begun) (c : Content) → Each (IsAction player) inner actions
     → run_tokens (KnownAction b actions) c (inner ++ Closing ∷ rest)
     ≡ run_tokens (OutcomeNumber b) c rest
 known_again [] player inner rest b c each = rw each refl

@@ -1,6 +1,6 @@
 -- What is learned by one use, and by uses one after another.
-use Rattle.std.proofs.Common.{◌≡◌, Bool, true, false, cond, List, [], ◌∷◌, ◌++◌, Some, None, Option}
-use Rattle.std.proofs.Common.{MatchOption, option_map, find, refl, ap, subst, ◌∙◌, inl, inr}
+use Rattle.std.proofs.Common.{◌≡◌, Bool, List, [], ◌∷◌, ◌++◌, Some, None, Option, MatchOption, refl}
+use Rattle.std.proofs.Common.{ap, subst, ◌∙◌, inl, inr, arith}
 use Rattle.std.specs.Prelude.{◌⊎◌}
 use Rattle.std.specs.List.{AllByRecursion, cons_option}
 use Rattle.gf_tree.specs.FiniteMap.{Described, description_at}
@@ -20,8 +20,7 @@ uses_of o = cons_option o []
 -- ---- one use
 
 pub learns_new : {K D : Type 0} (same : K → K → Bool)
-    (known : List (Described K D)) (key : K) (d : D)
-    → description_at same known key ≡ None
+    (known : List (Described K D)) (key : K) (d : D) → description_at same known key ≡ None
     → Learns same known (use_of key (Some d) ∷ []) (known ++ one key d ∷ [])
 learns_new same known key d e = rw e (d, refl, refl)
 
@@ -48,8 +47,7 @@ pub record IsKnown {K D : Type 0} (same : K → K → Bool) (known : List (Descr
   pub no_more : end ≡ known
 
 by_known : {K D : Type 0} (same : K → K → Bool) (known : List (Described K D))
-    (u : Use K D) (end : List (Described K D)) (o : Option D)
-    → description_at same known u.key ≡ o
+    (u : Use K D) (end : List (Described K D)) (o : Option D) → description_at same known u.key ≡ o
     → MatchOption o ((d : D) × (u.description ≡ Some d) × (end ≡ known ++ one u.key d ∷ []))
     (λ d. ((u.description ≡ None) ⊎ (u.description ≡ Some d)) × (end ≡ known))
     → IsNew same known u end ⊎ IsKnown same known u end
@@ -60,8 +58,7 @@ by_known same known u end (Some d) e h =
 
 pub one_use : {K D : Type 0} (same : K → K → Bool)
     (known : List (Described K D)) (u : Use K D) (end : List (Described K D))
-    → Learns same known (u ∷ []) end
-    → IsNew same known u end ⊎ IsKnown same known u end
+    → Learns same known (u ∷ []) end → IsNew same known u end ⊎ IsKnown same known u end
 one_use same known u end h = by_known same known u end (description_at same known u.key) refl h
 
 -- ---- uses one after another
@@ -74,8 +71,7 @@ learns_on {K} {D} same (u ∷ us) vs known mid end h k =
     by (λ x l. learns_on same us vs x mid end l k) (description_at same known u.key) h
   where
     by : ((x : List (Described K D)) → Learns same x us mid → Learns same x (us ++ vs) end)
-        → (o : Option D)
-        → MatchOption o
+        → (o : Option D) → MatchOption o
         ((d : D) × (u.description ≡ Some d) × Learns same (known ++ one u.key d ∷ []) us mid)
         (λ d. ((u.description ≡ None) ⊎ (u.description ≡ Some d)) × Learns same known us mid)
         → MatchOption o ((d : D) × (u.description ≡ Some d)
@@ -86,8 +82,7 @@ learns_on {K} {D} same (u ∷ us) vs known mid end h k =
     by later (Some d) l = (l.0, later known l.1)
 
 pub learns_split : {K D : Type 0} (same : K → K → Bool)
-    (us vs : List (Use K D)) (known end : List (Described K D))
-    → Learns same known (us ++ vs) end
+    (us vs : List (Use K D)) (known end : List (Described K D)) → Learns same known (us ++ vs) end
     → (mid : List (Described K D)) × Learns same known us mid × Learns same mid vs end
 learns_split same [] vs known end h = (known, refl, h)
 learns_split {K} {D} same (u ∷ us) vs known end h =
@@ -95,13 +90,11 @@ learns_split {K} {D} same (u ∷ us) vs known end h =
   where
     by : ((x : List (Described K D)) → Learns same x (us ++ vs) end
         → (mid : List (Described K D)) × Learns same x us mid × Learns same mid vs end)
-        → (o : Option D)
-        → MatchOption o ((d : D) × (u.description ≡ Some d)
+        → (o : Option D) → MatchOption o ((d : D) × (u.description ≡ Some d)
         × Learns same (known ++ one u.key d ∷ []) (us ++ vs) end)
         (λ d.
         ((u.description ≡ None) ⊎ (u.description ≡ Some d)) × Learns same known (us ++ vs) end)
-        → (mid : List (Described K D))
-        × MatchOption o
+        → (mid : List (Described K D)) × MatchOption o
         ((d : D) × (u.description ≡ Some d) × Learns same (known ++ one u.key d ∷ []) us mid)
         (λ d. ((u.description ≡ None) ⊎ (u.description ≡ Some d)) × Learns same known us mid)
         × Learns same mid vs end
@@ -117,18 +110,8 @@ Kept {K} {D} same known end = (key : K) (d : D) → description_at same known ke
 kept_more : {K D : Type 0} (same : K → K → Bool) (known : List (Described K D)) (x : Described K D)
     → Kept same known (known ++ x ∷ [])
 kept_more same [] x key d e = absurd cc
-kept_more {K} {D} same (y ∷ known) x key d e = by (kept_more same known x key d) (same y.key key) e
-  where
-    by : (description_at same known key ≡ Some d
-        → description_at same (known ++ x ∷ []) key ≡ Some d)
-        → (b : Bool) → option_map (λ (s : Described K D). s.description)
-        (cond b (Some y) (find (λ s. same s.key key) known))
-        ≡ Some d
-        → option_map (λ (s : Described K D). s.description)
-        (cond b (Some y) (find (λ s. same s.key key) (known ++ x ∷ [])))
-        ≡ Some d
-    by later true e = e
-    by later false e = later e
+kept_more {K} {D} same (y ∷ known) x key d e =
+    grind (arith, kept_more same known x key d)
 
 pub kept : {K D : Type 0} (same : K → K → Bool)
     (us : List (Use K D)) (known end : List (Described K D))
@@ -138,9 +121,7 @@ kept {K} {D} same (u ∷ us) known end h key d e =
     by (λ x l. kept same us x end l key d) (description_at same known u.key) h
   where
     by : ((x : List (Described K D)) → Learns same x us end → description_at same x key ≡ Some d
-        → description_at same end key ≡ Some d)
-        → (o : Option D)
-        → MatchOption o
+        → description_at same end key ≡ Some d) → (o : Option D) → MatchOption o
         ((d : D) × (u.description ≡ Some d) × Learns same (known ++ one u.key d ∷ []) us end)
         (λ d. ((u.description ≡ None) ⊎ (u.description ≡ Some d)) × Learns same known us end)
         → description_at same end key ≡ Some d
@@ -154,37 +135,15 @@ pub at_new : {K D : Type 0} (same : K → K → Bool) → IsEquality same
     → description_at same (known ++ one key d ∷ []) key ≡ Some d
 at_new same equality [] key d e = rw ((equality key key).1 refl) refl
 at_new {K} {D} same equality (y ∷ known) key d e =
-    by (at_new same equality known key d) (same y.key key) e
-  where
-    by : (description_at same known key ≡ None
-        → description_at same (known ++ one key d ∷ []) key ≡ Some d)
-        → (b : Bool) → option_map (λ (s : Described K D). s.description)
-        (cond b (Some y) (find (λ s. same s.key key) known))
-        ≡ None
-        → option_map (λ (s : Described K D). s.description)
-        (cond b (Some y) (find (λ s. same s.key key) (known ++ one key d ∷ [])))
-        ≡ Some d
-    by later true e = absurd cc
-    by later false e = later e
+    grind (arith, at_new same equality known key d)
 
 -- what holds for all entries holds for what is found
 pub found_has : {K D : Type 0} (same : K → K → Bool)
     → IsEquality same → (P : K → D → Type 0) (es : List (Described K D)) (key : K) (d : D)
-    → AllByRecursion (λ s. P s.key s.description) es
-    → description_at same es key ≡ Some d → P key d
+    → AllByRecursion (λ s. P s.key s.description) es → description_at same es key ≡ Some d → P key d
 found_has same equality P [] key d all e = absurd cc
 found_has {K} {D} same equality P (x ∷ es) key d all e =
-    by (found_has same equality P es key d all.1) (same x.key key) refl e
-  where
-    by : (description_at same es key ≡ Some d → P key d) → (b : Bool) → same x.key key ≡ b
-        → option_map (λ (s : Described K D). s.description)
-        (cond b (Some x) (find (λ s. same s.key key) es)) ≡ Some d
-        → P key d
-    by later true t e =
-        let k = (equality x.key key).0 t in
-        let is : x.description ≡ d = cc in
-        subst (P key) is (subst (λ y. P y x.description) k all.0)
-    by later false t e = later e
+    grind (arith, found_has same equality P es key d all.1)
 
 pub all_before : {X : Type 0} (P : X → Type 0) (xs : List X) (x : X)
     → AllByRecursion P (xs ++ x ∷ []) → AllByRecursion P xs
@@ -193,8 +152,7 @@ all_before P (y ∷ xs) x h = (h.0, all_before P xs x h.1)
 
 -- what holds for all that is known in the end holds for what was known before
 pub all_known : {K D : Type 0} (same : K → K → Bool) (P : Described K D → Type 0)
-    (us : List (Use K D)) (known end : List (Described K D))
-    → Learns same known us end
+    (us : List (Use K D)) (known end : List (Described K D)) → Learns same known us end
     → AllByRecursion P end → AllByRecursion P known
 all_known same P [] known end h all = subst (AllByRecursion P) h all
 all_known {K} {D} same P (u ∷ us) known end h all =

@@ -10,7 +10,6 @@ use Rattle.gf_token.specs.Token.Token.{Text, Bare}
 use Rattle.gf_token.specs.Indices.{count_of}
 use Rattle.gf_token.specs.Index.{IsIndex}
 use Rattle.gf_token.proofs.ReadingIndices.{count_is, count_again}
-use Rattle.gf_token.specs.declared.fault.What.TheVariants as what
 use Rattle.gf_token.specs.declared.fault.Why.TheVariants.{Expected, UnknownPlayer}
 use Rattle.gf_tree.specs.Description.{InformationSet, SetKey, Outcome, set_of, same_set, IsSet}
 use Rattle.gf_tree.specs.FiniteMap.{Described, description_at}
@@ -18,10 +17,10 @@ use Rattle.gf_tree.specs.FileTree.{Use, FileNode}
 use Rattle.gf_tree.specs.GameOf.{keys_alone}
 use Rattle.gf_tree.specs.Learned.{Learns}
 use Rattle.gf_tree.specs.Sentence.{IsMover, IsStep, IsResult, IsNode}
-use Rattle.gf_tree.specs.inner.Machine.{Content, at, begun, node_letter}
-use Rattle.gf_tree.specs.inner.Machine.{personal_node, player_number, after_node}
-use Rattle.gf_tree.specs.inner.Machine.Position.{NodeDue, ChanceName, PersonalName}
-use Rattle.gf_tree.specs.inner.Machine.Position.{TerminalName, SetNumber, OutcomeNumber}
+use Rattle.gf_tree.specs.inner.Machine.{Content, at, begun, node_letter, personal_node}
+use Rattle.gf_tree.specs.inner.Machine.{player_number, after_node}
+use Rattle.gf_tree.specs.inner.Machine.Position.{NodeDue, ChanceName, PersonalName, TerminalName}
+use Rattle.gf_tree.specs.inner.Machine.Position.{SetNumber, OutcomeNumber}
 use Rattle.gf_tree.specs.inner.ReadGame.{run_tokens, then_run}
 use Rattle.gf_tree.proofs.lemmas.fronts.Groups.{NoText}
 use Rattle.gf_tree.proofs.lemmas.games.TreesOnce.{same_set_equality}
@@ -29,6 +28,7 @@ use Rattle.gf_tree.proofs.lemmas.runs.Tokens.{Reads, run_on, guard_ok, same_byte
 use Rattle.gf_tree.proofs.lemmas.runs.Sets.{AreSets, with_sets, set_found, set_again}
 use Rattle.gf_tree.proofs.lemmas.runs.Results.{AreOutcomes, result_found, result_again}
 use Rattle.gf_tree.proofs.lemmas.runs.Learned.{use_of, uses_of, found_has}
+use Rattle.gf_token.specs.declared.fault.What.TheVariants as what
 
 abbrev pub MapOf : Type 0
 MapOf = List (Described SetKey InformationSet)
@@ -73,8 +73,7 @@ pub record NodeRead (ts : List Token) (c r : Content) : Type 0 where
 mover_found : (letter : List ℕ) (mover ts : List Token) (name : List ℕ) (player : ℕ) (c r : Content)
     → IsMover letter mover player → player ≤ length c.players
     → AreSets (length c.players) c.sets → AreOutcomes (length c.players) c.outcomes
-    → Reads (SetNumber name player) c ts r
-    → NodeRead (Bare letter ∷ Text name ∷ (mover ++ ts)) c r
+    → Reads (SetNumber name player) c ts r → NodeRead (Bare letter ∷ Text name ∷ (mover ++ ts)) c r
 mover_found letter mover ts name player c r moves among sets outcomes e =
     let s = set_found ts name player c r among sets e in
     let key = set_of player s.n in
@@ -186,14 +185,12 @@ letter_by : (b : List ℕ) (is_c is_p is_t : Bool) (ts : List Token) (c r : Cont
     (cond is_t (Ok (at TerminalName c)) (Err (Expected what.Node))))) (run_on ts) ≡ Ok r
     → NodeRead (Bare b ∷ ts) c r
 letter_by b true is_p is_t ts c r ec ep et sets outcomes e =
-    subst (λ (x : List ℕ). NodeRead (Bare x ∷ ts) c r) (sym (same_bytes b (codes "c") ec))
-    (chance_found ts c r sets outcomes e)
+    rw (same_bytes b (codes "c") ec) (chance_found ts c r sets outcomes e)
 letter_by b false true is_t ts c r ec ep et sets outcomes e =
     subst (λ (x : List ℕ). NodeRead (Bare x ∷ ts) c r) (sym (same_bytes b (codes "p") ep))
     (personal_found ts c r sets outcomes (some_player c.players ts c r e))
 letter_by b false false true ts c r ec ep et sets outcomes e =
-    subst (λ (x : List ℕ). NodeRead (Bare x ∷ ts) c r) (sym (same_bytes b (codes "t") et))
-    (terminal_found ts c r sets outcomes e)
+    rw (same_bytes b (codes "t") et) (terminal_found ts c r sets outcomes e)
 letter_by b false false false ts c r ec ep et sets outcomes e = absurd cc
 
 pub letter_found : (b : List ℕ) (ts : List Token) (c r : Content)
@@ -220,8 +217,7 @@ counted (Some set) children e = (set, refl, cc)
 
 pub personal_again : (players : List (List ℕ)) (c : Content) → 0 < length players
     → personal_node c players ≡ Ok (at PersonalName c)
-personal_again [] c some = absurd (omega (arith, some))
-personal_again (player ∷ players) c some = refl
+personal_again players c h = grind arith
 
 pub mover_again : (letter : List ℕ) (mover rest : List Token)
     (name : List ℕ) (player due : ℕ) (c : Content)
@@ -242,18 +238,14 @@ mover_again letter mover rest name (suc player) due c moves among is =
     ∙ ap (λ (d : ℕ). then_run (after_node c d (codes "p")) (run_on (Text name ∷ Bare t ∷ rest))) is
     ∙ ap (λ o. then_run o (run_on (Text name ∷ Bare t ∷ rest))) (personal_again c.players c some)
     ∙ ap (λ o. then_run (player_number c name o) (run_on rest))
-    (count_again t (suc player) (omega arith) moves.3)
-    ∙ ap (λ (b : Bool).
+    (count_again t (suc player) (omega arith) moves.3) ∙ ap (λ (b : Bool).
     then_run (cond b (Ok (at (SetNumber name (suc player)) c)) (Err UnknownPlayer)) (run_on rest))
     within
 
 pub terminal_again : (letter : List ℕ) (rest : List Token) (name : List ℕ) (due : ℕ) (c : Content)
-    → letter ≡ codes "t" → c.due ≡ suc due
-    → run_tokens NodeDue c (Bare letter ∷ Text name ∷ rest)
+    → letter ≡ codes "t" → c.due ≡ suc due → run_tokens NodeDue c (Bare letter ∷ Text name ∷ rest)
     ≡ run_tokens (OutcomeNumber (record { name = name; set = None; children = 0 })) c rest
-terminal_again letter rest name due c e is =
-    ap (λ (x : List ℕ). run_tokens NodeDue c (Bare x ∷ Text name ∷ rest)) e
-    ∙ ap (λ (d : ℕ). then_run (after_node c d (codes "t")) (run_on (Text name ∷ rest))) is
+terminal_again letter rest name due c e is = cc is
 
 step_again : (name letter : List ℕ) (set : Option (Use SetKey InformationSet))
     (outcome : Option (Use ℕ Outcome)) (children due : ℕ) (step result rest : List Token)
@@ -271,14 +263,11 @@ step_again name letter None outcome children due step result rest c sets outcome
     is_result none learns_sets learns_outcomes has are =
     ap
     (λ (x : List Token). run_tokens NodeDue c (Bare letter ∷ Text name ∷ (x ++ (result ++ rest))))
-    is_step.1
-    ∙ terminal_again letter (result ++ rest) name due c is_step.0 is
+    is_step.1 ∙ terminal_again letter (result ++ rest) name due c is_step.0 is
     ∙ result_again outcome result rest (record { name = name; set = None; children = 0 }) outcomes c
-    is_result none learns_outcomes
-    ∙ ap (λ (k : ℕ). run_tokens NodeDue
+    is_result none learns_outcomes ∙ ap (λ (k : ℕ). run_tokens NodeDue
     (behind_node c (record { name = name; set = None; outcome = outcome }) k c.sets outcomes) rest)
-    (sym has)
-    ∙ ap (λ (x : MapOf). run_tokens NodeDue
+    (sym has) ∙ ap (λ (x : MapOf). run_tokens NodeDue
     (behind_node c (record { name = name; set = None; outcome = outcome }) children x outcomes)
     rest) (sym learns_sets)
 step_again name letter (Some u) outcome children due step result rest c sets outcomes is is_step
@@ -294,26 +283,22 @@ step_again name letter (Some u) outcome children due step result rest c sets out
     ap (λ (x : List Token). x ++ rest) b.2 in
     let text : step ++ (result ++ rest)
     ≡ mover ++ (Bare number ∷ (description ++ (result ++ rest))) =
-    ap (λ (x : List Token). x ++ (result ++ rest)) is_step.3
-    ∙ append_assoc mover (Bare number ∷ description) (result ++ rest) in
+    cc (is_step.3, append_assoc mover (Bare number ∷ description) (result ++ rest)) in
     ap (λ (x : List Token). run_tokens NodeDue c (Bare letter ∷ Text name ∷ x)) text
     ∙ mover_again letter mover (Bare number ∷ (description ++ (result ++ rest))) name u.key.player
-    due c is_step.4 good.player is
-    ∙ ap (λ (x : List Token).
+    due c is_step.4 good.player is ∙ ap (λ (x : List Token).
     run_tokens (SetNumber name u.key.player) c (Bare number ∷ (description ++ x)))
     behind
     ∙ set_again number description (b.1 ++ rest) b.0 name u sets s.0 c is_step.5 is_step.6 are s.1
     learns_sets
     ∙ ap (run_tokens (OutcomeNumber (begun name u.key s.0)) (with_sets c sets)) (sym behind)
     ∙ result_again outcome result rest (begun name u.key s.0) outcomes (with_sets c sets) is_result
-    none learns_outcomes
-    ∙ ap (λ (k : ℕ). run_tokens NodeDue
+    none learns_outcomes ∙ ap (λ (k : ℕ). run_tokens NodeDue
     (behind_node c (record { name = name; set = Some u; outcome = outcome }) k sets outcomes) rest)
     s.2
 
 pub node_again : (n : FileNode) (children due : ℕ) (tokens rest : List Token)
-    (c : Content) (sets : MapOf) (outcomes : List (Described ℕ Outcome))
-    → c.due ≡ suc due
+    (c : Content) (sets : MapOf) (outcomes : List (Described ℕ Outcome)) → c.due ≡ suc due
     → IsNode (length c.players) tokens n → NoText rest → Learns same_set c.sets (uses_of n.set) sets
     → Learns nat_eq c.outcomes (uses_of n.outcome) outcomes
     → HasChildrenBy sets (set_key n) children → AreSets (length c.players) sets

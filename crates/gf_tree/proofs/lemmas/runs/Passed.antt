@@ -1,7 +1,6 @@
 -- Where the machine of the reader has refused nothing, some extensive file goes on.
-use Rattle.std.proofs.Common.{◌≡◌, ℕ, ◌+◌, ◌<◌, ◌≤◌, List}
-use Rattle.std.proofs.Common.{[], ◌∷◌, ◌++◌, length, Result, Ok, Err, refl, sym, ap}
-use Rattle.std.proofs.Common.{subst, ◌∙◌, append_assoc, append-nil, arith, inl, inr}
+use Rattle.std.proofs.Common.{◌≡◌, ℕ, ◌+◌, ◌<◌, ◌≤◌, List, [], ◌∷◌, ◌++◌, length, Result, Ok, Err}
+use Rattle.std.proofs.Common.{refl, sym, ap, subst, ◌∙◌, append_assoc, append-nil, arith, inl, inr}
 use Rattle.gf_token.specs.Token.{Lexeme}
 use Rattle.gf_token.specs.TokenSpelling.{Spells}
 use Rattle.gf_token.specs.Place.{tokens_of, IsSpanOf, Begins, IsAccepted, IsAcceptedThrough}
@@ -11,10 +10,9 @@ use Rattle.gf_token.specs.Remaining.{AreInOrder, Remaining, StandsBefore}
 use Rattle.gf_token.proofs.Places.{parts, Parts, tokens_on, begins_front}
 use Rattle.gf_token.proofs.TokensAhead.{in_order}
 use Rattle.gf_tree.specs.Front.{IsExtensiveFile}
-use Rattle.gf_tree.specs.inner.Machine.{Content, Position}
-use Rattle.gf_tree.specs.inner.Machine.{nothing, run}
-use Rattle.gf_tree.specs.inner.Machine.Position.{Format}
 use Rattle.gf_tree.specs.inner.Passed.{HasPassed}
+use Rattle.gf_tree.specs.inner.Machine.{Content, Position, nothing, run}
+use Rattle.gf_tree.specs.inner.Machine.Position.{Format}
 use Rattle.gf_tree.proofs.lemmas.runs.Stops.{Stopped, run_reads, stopped}
 use Rattle.gf_tree.proofs.lemmas.runs.Places.{begins, read_is}
 
@@ -106,10 +104,8 @@ stopped_goes_on : (end from : ℕ) (before after : List Lexeme) (l : Lexeme) (fa
     → Parts before (l ∷ after) h.before h.after → FileGoesOn before l
 stopped_goes_on end from before after l fault order behind h (inl p) =
     let first : l ≡ p.0 = cc_first l p.0 after (p.1 ++ h.after) p.3 in
-    let longer : h.before ≡ before ++ l ∷ p.1 =
-    p.2 ∙ ap (λ (x : Lexeme). before ++ x ∷ p.1) (sym first) in
-    longer_goes_on before p.1 l (subst (λ (x : List Lexeme). Begins IsExtensiveFile (tokens_of x))
-    longer (begins (tokens_of h.before) h.state h.leads))
+    let longer : h.before ≡ before ++ l ∷ p.1 = cc (p.2, first) in
+    longer_goes_on before p.1 l (rw (← longer) (begins (tokens_of h.before) h.state h.leads))
   where
     cc_first : (x y : Lexeme) (xs ys : List Lexeme) → x ∷ xs ≡ y ∷ ys → x ≡ y
     cc_first x y xs ys e = cc

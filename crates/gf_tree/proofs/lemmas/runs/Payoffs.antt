@@ -1,7 +1,7 @@
 -- Runs over the payoffs of an outcome in braces, for a new outcome and for a known one.
-use Rattle.std.proofs.Common.{◌≡◌, ℕ, zero, suc, Bool, true, false, List, [], ◌∷◌}
-use Rattle.std.proofs.Common.{◌++◌, length, Some, Result, Ok, Err, refl, sym, ap}
-use Rattle.std.proofs.Common.{subst, ◌∙◌, append_assoc, append-nil, inl, inr}
+use Rattle.std.proofs.Common.{◌≡◌, ℕ, zero, suc, Bool, true, false, List, [], ◌∷◌, ◌++◌, length}
+use Rattle.std.proofs.Common.{Some, Result, Ok, Err, refl, sym, ap, subst, ◌∙◌, append_assoc}
+use Rattle.std.proofs.Common.{append-nil, inl, inr, arith}
 use Rattle.std.specs.Prelude.{◌⊎◌}
 use Rattle.gf_token.specs.Token.{Token}
 use Rattle.gf_token.specs.Token.Token.{Closing, Comma, Bare}
@@ -13,12 +13,12 @@ use Rattle.gf_fraction.specs.Computed.{number_of}
 use Rattle.gf_fraction.specs.declared.fraction.NumberFault.{NumberFault}
 use Rattle.gf_fraction.proofs.ComputedAnswers.{number_is, number_again}
 use Rattle.gf_tree.specs.Description.{Outcome}
-use Rattle.gf_tree.specs.inner.Probability.{same_ratio}
-use Rattle.gf_tree.specs.inner.Machine.{Begun, Content, Position, State, at, paid}
-use Rattle.gf_tree.specs.inner.Machine.{same_number, with_node, with_outcome, with_payoff}
-use Rattle.gf_tree.specs.inner.Machine.Position.{NodeDue, NewPayoff, AfterNewPayoff}
-use Rattle.gf_tree.specs.inner.Machine.Position.{KnownPayoff, AfterKnownPayoff}
 use Rattle.gf_tree.specs.inner.ReadGame.{run_tokens, then_run}
+use Rattle.gf_tree.specs.inner.Probability.{same_ratio}
+use Rattle.gf_tree.specs.inner.Machine.Position.{AfterKnownPayoff, NodeDue, NewPayoff}
+use Rattle.gf_tree.specs.inner.Machine.Position.{AfterNewPayoff, KnownPayoff}
+use Rattle.gf_tree.specs.inner.Machine.{Begun, Content, Position, State, at, paid, same_number}
+use Rattle.gf_tree.specs.inner.Machine.{with_node, with_outcome, with_payoff}
 use Rattle.gf_tree.proofs.lemmas.runs.Tokens.{Reads, run_on, guard_ok, ratio_is, ratio_same}
 
 -- ---- numbers in braces
@@ -50,8 +50,7 @@ more_numbers : (may : Bool) (b : List ℕ) (p : Ratio) (ts : List Token) (number
 more_numbers may b p ts numbers rest is h = record {
   comma = [];
   inner = (Bare b ∷ h.comma) ++ h.inner;
-  parts = ap (λ (x : List Token). Bare b ∷ x)
-      (h.parts ∙ sym (append_assoc h.comma h.inner (Closing ∷ rest)));
+  parts = cc (h.parts, append_assoc h.comma h.inner (Closing ∷ rest));
   is_comma = no_comma may;
   each = (Bare b ∷ h.comma, h.inner, refl, (b, h.comma, refl, is, h.is_comma), h.each);
 }
@@ -61,8 +60,7 @@ behind_comma : (ts : List Token) (numbers : List Ratio) (rest : List Token)
 behind_comma ts numbers rest h = record {
   comma = Comma ∷ [];
   inner = h.inner;
-  parts = ap (λ (x : List Token). Comma ∷ x)
-      (h.parts ∙ ap (λ (x : List Token). x ++ (h.inner ++ Closing ∷ rest)) h.is_comma);
+  parts = cc (h.parts, h.is_comma);
   is_comma = inr refl;
   each = h.each;
 }
@@ -81,13 +79,11 @@ abbrev pub new_result : Content → Begun → ℕ → Outcome → Content
 new_result c b n outcome = with_node (with_outcome c n outcome) b (Some n)
 
 pub no_payoffs : (outcome : Outcome) → with_payoffs outcome [] ≡ outcome
-no_payoffs outcome =
-    ap (λ (ps : List Ratio). record outcome { payoffs = ps }) (append-nil outcome.payoffs)
+no_payoffs outcome = grind (arith, append-nil)
 
 pub more_payoffs : (outcome : Outcome) (p : Ratio) (ps : List Ratio)
     → with_payoffs (with_payoff outcome p) ps ≡ with_payoffs outcome (p ∷ ps)
-more_payoffs outcome p ps = ap (λ (qs : List Ratio). record outcome { payoffs = qs })
-    (append_assoc outcome.payoffs (p ∷ []) ps)
+more_payoffs outcome p ps = cc (append_assoc outcome.payoffs (p ∷ []) ps)
 
 pub record NewPayoffs (may : Bool) (ts : List Token) (b : Begun) (n : ℕ) (outcome : Outcome)
     (left : ℕ) (c r : Content) : Type 0 where
@@ -117,8 +113,7 @@ new_end may ts b n outcome c r e = record {
 }
 
 new_more : (may : Bool) (t : List ℕ) (p : Ratio) (ts : List Token)
-    (b : Begun) (n : ℕ) (outcome : Outcome) (left : ℕ) (c r : Content)
-    → number_of t ≡ Ok p
+    (b : Begun) (n : ℕ) (outcome : Outcome) (left : ℕ) (c r : Content) → number_of t ≡ Ok p
     → NewPayoffs true ts b n (with_payoff outcome p) left c r
     → NewPayoffs may (Bare t ∷ ts) b n outcome (suc left) c r
 new_more may t p ts b n outcome left c r e h = record {
@@ -126,20 +121,17 @@ new_more may t p ts b n outcome left c r e h = record {
   rest = h.rest;
   are = more_numbers may t p ts h.numbers h.rest (number_is t p e) h.are;
   count = ap suc h.count;
-  goes_on = subst (λ (o : Outcome). Reads NodeDue (new_result c b n o) h.rest r)
-      (more_payoffs outcome p h.numbers) h.goes_on;
+  goes_on = rw (← more_payoffs outcome p h.numbers) h.goes_on;
 }
 
 pub new_comma : (b : Begun) (n : ℕ) (outcome : Outcome) (left : ℕ) (c : Content) (ts : List Token)
     → run_tokens (AfterNewPayoff b n outcome left) c (Comma ∷ ts)
     ≡ run_tokens (NewPayoff b n outcome left) c ts
-new_comma b n outcome zero c ts = refl
-new_comma b n outcome (suc left) c ts = refl
+new_comma b n outcome left c ts = grind arith
 
 pub new_found : (may : Bool) (ts : List Token) (b : Begun)
     (n : ℕ) (outcome : Outcome) (left : ℕ) (c r : Content)
-    → Reads (new_at may b n outcome left) c ts r
-    → NewPayoffs may ts b n outcome left c r
+    → Reads (new_at may b n outcome left) c ts r → NewPayoffs may ts b n outcome left c r
 new_found true (Comma ∷ ts) b n outcome left c r e =
     let h = new_found false ts b n outcome left c r (sym (new_comma b n outcome left c ts) ∙ e) in
     record {
@@ -165,12 +157,10 @@ new_found false _ b n outcome zero c r e = absurd cc
 new_found false _ b n outcome (suc left) c r e = absurd cc
 
 pub new_step : (may : Bool) (t : List ℕ) (p : Ratio) (b : Begun) (n : ℕ)
-    (outcome : Outcome) (left : ℕ) (c : Content) (ts : List Token)
-    → number_of t ≡ Ok p
+    (outcome : Outcome) (left : ℕ) (c : Content) (ts : List Token) → number_of t ≡ Ok p
     → run_tokens (new_at may b n outcome (suc left)) c (Bare t ∷ ts)
     ≡ run_tokens (AfterNewPayoff b n (with_payoff outcome p) left) c ts
-new_step true t p b n outcome left c ts e = rw e refl
-new_step false t p b n outcome left c ts e = rw e refl
+new_step may t p b n outcome left c ts h = grind arith
 
 -- a comma may stand before the rest or not
 pub comma_again : (at_comma : Bool → List Token → Result Content Why)
@@ -184,18 +174,15 @@ comma_again at_comma comma ts o passes (inr e) h = rw e (passes ts ∙ h false)
 first_number : (n : Ratio) (numbers : List Ratio) (inner rest : List Token)
     (h : Each IsPayoffInBraces inner (n ∷ numbers))
     → inner ++ Closing ∷ rest ≡ Bare h.3.0 ∷ (h.3.1 ++ (h.1 ++ Closing ∷ rest))
-first_number n numbers inner rest h = rw (h.2, h.3.2)
-    (ap (λ (x : List Token). Bare h.3.0 ∷ x) (append_assoc h.3.1 h.1 (Closing ∷ rest)))
+first_number n numbers inner rest h = grind (arith, append_assoc)
 
 pub new_again : (numbers : List Ratio) (inner rest : List Token)
     (b : Begun) (n : ℕ) (outcome : Outcome) (c : Content)
     → Each IsPayoffInBraces inner numbers → (may : Bool)
     → run_tokens (new_at may b n outcome (length numbers)) c (inner ++ Closing ∷ rest)
     ≡ run_tokens NodeDue (new_result c b n (with_payoffs outcome numbers)) rest
-new_again [] inner rest b n outcome c h true = rw h
-    (ap (λ (o : Outcome). run_tokens NodeDue (new_result c b n o) rest) (sym (no_payoffs outcome)))
-new_again [] inner rest b n outcome c h false = rw h
-    (ap (λ (o : Outcome). run_tokens NodeDue (new_result c b n o) rest) (sym (no_payoffs outcome)))
+new_again [] inner rest b n outcome c h true = grind (arith, no_payoffs)
+new_again [] inner rest b n outcome c h false = grind (arith, no_payoffs)
 new_again (p ∷ numbers) inner rest b n outcome c h may =
     let first = first_number p numbers inner rest h in
     let passed = with_payoff outcome p in
@@ -238,8 +225,7 @@ number_same p s t is = ap (same_number p s) (number_again t p is) ∙ rw (ratio_
 
 pub known_comma : (ps : List Ratio) (c : Content) (ts : List Token)
     → run_tokens (AfterKnownPayoff ps) c (Comma ∷ ts) ≡ run_tokens (KnownPayoff ps) c ts
-known_comma [] c ts = refl
-known_comma (p ∷ ps) c ts = refl
+known_comma ps c ts = grind arith
 
 pub known_found : (may : Bool) (ts : List Token) (ps : List Ratio) (c r : Content)
     → Reads (known_at may ps) c ts r
@@ -263,13 +249,9 @@ known_found false _ [] c r e = absurd cc
 known_found false _ (p ∷ ps) c r e = absurd cc
 
 pub known_step : (may : Bool) (t : List ℕ) (p : Ratio) (ps : List Ratio) (c : Content)
-    (ts : List Token)
-    → IsNumber t p
+    (ts : List Token) → IsNumber t p
     → run_tokens (known_at may (p ∷ ps)) c (Bare t ∷ ts) ≡ run_tokens (AfterKnownPayoff ps) c ts
-known_step true t p ps c ts is =
-    ap (λ o. then_run o (run_on ts)) (number_same p (at (AfterKnownPayoff ps) c) t is)
-known_step false t p ps c ts is =
-    ap (λ o. then_run o (run_on ts)) (number_same p (at (AfterKnownPayoff ps) c) t is)
+known_step may t p ps c ts h = grind (arith, run_on, number_same)
 
 pub known_again : (ps : List Ratio) (inner rest : List Token) (c : Content)
     → Each IsPayoffInBraces inner ps → (may : Bool)

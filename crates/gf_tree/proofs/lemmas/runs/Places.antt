@@ -1,13 +1,13 @@
 -- Where tokens lead the machine of the reader, and what may follow them: where it goes on, some
 -- extensive file does, and where it refuses, none does.
-use Rattle.std.proofs.Common.{◌≡◌, Bool, true, false, cond, List, [], ◌∷◌, ◌++◌, Result}
-use Rattle.std.proofs.Common.{Ok, Err, refl, sym, ap, subst, ◌∙◌, append_assoc, append-nil}
+use Rattle.std.proofs.Common.{◌≡◌, Bool, true, false, cond, List, [], ◌∷◌, ◌++◌, Result, Ok, Err}
+use Rattle.std.proofs.Common.{refl, sym, ap, subst, ◌∙◌, append_assoc, append-nil}
 use Rattle.gf_token.specs.Token.{Token}
 use Rattle.gf_token.specs.Place.{Begins, MayFollow}
 use Rattle.gf_token.specs.declared.fault.Why.{Why}
 use Rattle.gf_tree.specs.Front.{IsExtensiveFile}
-use Rattle.gf_tree.specs.inner.Machine.{Content, Position, State, at, due, may_end, nothing, step}
 use Rattle.gf_tree.specs.inner.Machine.Position.{Format}
+use Rattle.gf_tree.specs.inner.Machine.{Content, Position, State, at, due, may_end, nothing, step}
 use Rattle.gf_tree.specs.inner.ReadGame.{game_of, run_tokens, then_run}
 use Rattle.gf_tree.proofs.lemmas.games.Consistent.{some_game}
 use Rattle.gf_tree.proofs.lemmas.games.Learned.{game_learned_once}
@@ -58,8 +58,7 @@ walk_more [] t q c s after e h =
     ∙ ap (λ o. then_walk o (λ y. Ok y)) h
 walk_more (u ∷ ts) t q c s after e h =
     let k = walked (step q c u) (λ x. walk x.position x.content ts) s e in
-    ap (λ o. then_walk o (λ x. walk x.position x.content (ts ++ t ∷ []))) k.1
-    ∙ walk_more ts t k.0.position k.0.content s after k.2 h
+    cc (k.1, walk_more ts t k.0.position k.0.content s after k.2 h)
 
 walk_fine : (ts : List Token) (q : Position) (c : Content) (s : State)
     → Fine q c → walk q c ts ≡ Ok s → Fine s.position s.content
@@ -117,8 +116,7 @@ at_end ts s h =
 
 pub is_file : (ts : List Token) (s : State) → Leads ts s → may_end s.position s.content.due ≡ true
     → IsExtensiveFile ts
-is_file ts s h e = read_is ts s.content (at_end ts s h
-    ∙ ap (λ (b : Bool). cond b (ok_read s.content) (Err (due s.position s.content.due))) e)
+is_file ts s h e = read_is ts s.content (cc (at_end ts s h))
 
 pub no_file : (ts : List Token) (s : State) → Leads ts s → may_end s.position s.content.due ≡ false
     → ¬ (IsExtensiveFile ts)

@@ -1,6 +1,6 @@
 -- Each sum of probabilities that the machine goes on with can be completed to one.
-use Rattle.std.proofs.Common.{◌≡◌, ◌<◌, ◌≤◌, ◌*◌, ◌-◌, ℕ, refl, sym, ap, subst, arith}
-use Rattle.std.specs.Prelude.{ℤ, pos, negsuc, ◌≤ℤ◌, ◌*ℤ◌, ◌+ℤ◌}
+use Rattle.std.proofs.Common.{◌≡◌, ◌<◌, ◌≤◌, ◌-◌, ℕ, refl, sym, ap, subst, arith}
+use Rattle.std.specs.Prelude.{ℤ, pos, negsuc, ◌≤ℤ◌, ◌+ℤ◌}
 use Rattle.std.specs.Int.{IsGcd}
 use Rattle.std.proofs.Math.Nat.{one-dvd, dvd-sub_iff_right}
 use Rattle.std.proofs.Math.IntN.{*ℤ_comm}
@@ -8,8 +8,8 @@ use Rattle.std.proofs.lemmas.Int.{ints}
 use Rattle.gf_fraction.specs.Ratio.{Ratio, IsFraction, whole}
 use Rattle.gf_fraction.specs.Fits.{IsSum, AddsTo}
 use Rattle.gf_fraction.proofs.Products.{mul_above}
-use Rattle.gf_fraction.proofs.Sums.{Adding-equal, equal_parts, equal_value, sum_fits}
 use Rattle.gf_fraction.proofs.WholeNumbers.{whole_fraction}
+use Rattle.gf_fraction.proofs.Sums.{Adding-equal, equal_parts, equal_value, sum_fits}
 use Rattle.gf_tree.proofs.lemmas.runs.Shares.{no_sign}
 
 -- a sum of probabilities
@@ -28,15 +28,7 @@ zero_share = record {
 -- numbers not below zero have a sum that is not
 pub sum_low : (x y r : Ratio)
     → 0 < x.den → 0 < y.den → pos 0 ≤ℤ x.num → pos 0 ≤ℤ y.num → IsSum r x y → pos 0 ≤ℤ r.num
-sum_low x y r hx hy lx ly is = by x.num y.num r.num lx ly is
-  where
-    by : (a b z : ℤ) → pos 0 ≤ℤ a → pos 0 ≤ℤ b
-        → z *ℤ pos (x.den * y.den) ≡ (a *ℤ pos y.den +ℤ b *ℤ pos x.den) *ℤ pos r.den → pos 0 ≤ℤ z
-    by (pos a) (pos b) (pos z) la lb e = omega (arith, ints)
-    by (pos a) (pos b) (negsuc z) la lb e =
-        absurd (no_sign z (x.den * y.den) a b y.den x.den r.den (mul_above x.den y.den hx hy) e)
-    by (negsuc a) b z la lb e = absurd (omega (arith, ints))
-    by (pos a) (negsuc b) z la lb e = absurd (omega (arith, ints))
+sum_low x y r hx hy lx ly is = grind (arith, no_sign, mul_above)
 
 -- what is left to one
 pub record Remainder (sum : Ratio) : Type 0 where

@@ -1,35 +1,35 @@
 -- Runs over the outcome of a node: its number, and its description.
-use Rattle.std.proofs.Common.{◌≡◌, ℕ, zero, suc, ◌<◌, false, List, [], ◌∷◌, ◌++◌}
-use Rattle.std.proofs.Common.{length, option_map, Option, Some, None, Ok, refl}
-use Rattle.std.proofs.Common.{sym, ap, ◌∙◌, append_assoc, arith, inl, inr, nat_eq}
+use Rattle.std.proofs.Common.{◌≡◌, ℕ, zero, suc, ◌<◌, false, List, [], ◌∷◌, ◌++◌, length}
+use Rattle.std.proofs.Common.{option_map, Option, Some, None, Ok, refl, sym, ap, ◌∙◌, append_assoc}
+use Rattle.std.proofs.Common.{arith, inl, inr, nat_eq}
 use Rattle.std.specs.Prelude.{◌⊎◌}
 use Rattle.std.specs.List.{AllByRecursion}
 use Rattle.std.proofs.lemmas.Bool.Decides.{Decides-eqb}
 use Rattle.gf_token.specs.Token.{Token}
-use Rattle.gf_token.specs.Token.Token.{Opening, Closing, Text, Bare}
 use Rattle.gf_token.specs.Grammar.{braced}
 use Rattle.gf_token.specs.Index.{IsIndex}
 use Rattle.gf_token.specs.Indices.{index_of}
+use Rattle.gf_token.specs.Token.Token.{Opening, Closing, Text, Bare}
 use Rattle.gf_token.proofs.ReadingIndices.{index_is, index_again}
 use Rattle.gf_fraction.specs.Ratio.{Ratio}
 use Rattle.gf_tree.specs.Description.{Outcome, IsOutcome}
-use Rattle.gf_tree.specs.FiniteMap.{Described, description_at}
 use Rattle.gf_tree.specs.FileTree.{Use}
 use Rattle.gf_tree.specs.Learned.{Learns}
+use Rattle.gf_tree.specs.FiniteMap.{Described, description_at}
 use Rattle.gf_tree.specs.Sentence.{IsDescription, IsOutcomeDescription, IsResult}
 use Rattle.gf_tree.specs.inner.Machine.{Begun, Content, at, behind_outcome, outcome_number}
 use Rattle.gf_tree.specs.inner.Machine.{with_node}
+use Rattle.gf_tree.specs.inner.ReadGame.{run_tokens, then_run}
 use Rattle.gf_tree.specs.inner.Machine.Position.{NodeDue, OutcomeNumber, NewOutcomeName}
 use Rattle.gf_tree.specs.inner.Machine.Position.{NewOutcomeOpening, NewPayoff, KnownOutcomeName}
 use Rattle.gf_tree.specs.inner.Machine.Position.{KnownOutcomeOpening, KnownPayoff}
-use Rattle.gf_tree.specs.inner.ReadGame.{run_tokens, then_run}
 use Rattle.gf_tree.proofs.lemmas.fronts.Groups.{NoText}
+use Rattle.gf_tree.proofs.lemmas.games.Members.{all_more}
 use Rattle.gf_tree.proofs.lemmas.runs.Tokens.{Reads, run_on, text_found, text_again}
-use Rattle.gf_tree.proofs.lemmas.runs.Payoffs.{Numbers, new_result, new_found}
-use Rattle.gf_tree.proofs.lemmas.runs.Payoffs.{new_again, known_found, known_again}
+use Rattle.gf_tree.proofs.lemmas.runs.Payoffs.{Numbers, new_result, new_found, new_again}
+use Rattle.gf_tree.proofs.lemmas.runs.Payoffs.{known_found, known_again}
 use Rattle.gf_tree.proofs.lemmas.runs.Learned.{one, use_of, uses_of, learns_new, learns_again}
 use Rattle.gf_tree.proofs.lemmas.runs.Learned.{one_use, IsNew, IsKnown, found_has}
-use Rattle.gf_tree.proofs.lemmas.games.Members.{all_more}
 
 -- these outcomes are known
 abbrev pub with_outcomes : Content → List (Described ℕ Outcome) → Content
@@ -75,8 +75,7 @@ name_found (Text name ∷ rest) b n c r e = (name, rest, refl, e)
 name_found _ b n c r e = absurd cc
 
 opening_found : (ts : List Token) (b : Begun) (n : ℕ) (name : List ℕ) (c r : Content)
-    → Reads (NewOutcomeOpening b n name) c ts r
-    → (rest : List Token) × (ts ≡ Opening ∷ rest)
+    → Reads (NewOutcomeOpening b n name) c ts r → (rest : List Token) × (ts ≡ Opening ∷ rest)
     × Reads (NewPayoff b n (record { name = name; payoffs = [] }) (length c.players)) c rest r
 opening_found (Opening ∷ rest) b n name c r e = (rest, refl, e)
 opening_found _ b n name c r e = absurd cc
@@ -90,13 +89,8 @@ known_opening_found _ ps c r e = absurd cc
 -- a name, an opening brace, and numbers and the closing brace after it
 described : (ts t1 t2 rest : List Token) (name : List ℕ)
     (numbers : List Ratio) (h : Numbers false t2 numbers rest)
-    → ts ≡ Text name ∷ t1 → t1 ≡ Opening ∷ t2
-    → ts ≡ (Text name ∷ braced h.inner) ++ rest
-described ts t1 t2 rest name numbers h e f =
-    let last : t2 ≡ (h.inner ++ Closing ∷ []) ++ rest = h.parts
-    ∙ ap (λ (x : List Token). x ++ (h.inner ++ Closing ∷ rest)) h.is_comma
-    ∙ sym (append_assoc h.inner (Closing ∷ []) rest) in
-    rw (e, f, last) refl
+    → ts ≡ Text name ∷ t1 → t1 ≡ Opening ∷ t2 → ts ≡ (Text name ∷ braced h.inner) ++ rest
+described ts t1 t2 rest name numbers h e f = grind (arith, append_assoc)
 
 new_behind : (ts : List Token) (b : Begun) (n : ℕ) (c r : Content)
     → 0 < n → AreOutcomes (length c.players) c.outcomes → description_at nat_eq c.outcomes n ≡ None
@@ -225,8 +219,7 @@ behind_again : (tokens rest : List Token) (b : Begun) (u : Use ℕ Outcome)
 behind_again tokens rest b u outcomes c is none (inl h) = by u.description is h.told
   where
     by : (o : Option Outcome) → IsDescription (IsOutcomeDescription (length c.players)) tokens o
-        → o ≡ Some h.description
-        → run_on (tokens ++ rest)
+        → o ≡ Some h.description → run_on (tokens ++ rest)
         (behind_outcome c b u.key (description_at nat_eq c.outcomes u.key))
         ≡ run_tokens NodeDue (with_node (with_outcomes c outcomes) b (Some u.key)) rest
     by None is told = absurd cc
@@ -240,46 +233,36 @@ behind_again tokens rest b u outcomes c is none (inl h) = by u.description is h.
         ∙ ap (λ (k : ℕ). run_tokens (NewPayoff b u.key (record { name = d.name; payoffs = [] }) k) c
         (is.0 ++ Closing ∷ rest)) (sym is.3)
         ∙ new_again d.payoffs is.0 rest b u.key (record { name = d.name; payoffs = [] }) c is.2
-        false
-        ∙ ap (λ (x : Outcome). run_tokens NodeDue (new_result c b u.key x) rest) same
+        false ∙ ap (λ (x : Outcome). run_tokens NodeDue (new_result c b u.key x) rest) same
         ∙ ap (λ (x : List (Described ℕ Outcome)).
         run_tokens NodeDue (with_node (with_outcomes c x) b (Some u.key)) rest)
         (sym h.more)
 behind_again tokens rest b u outcomes c is none (inr h) =
-    ap (λ o. run_on (tokens ++ rest) (behind_outcome c b u.key o)) h.is_known
-    ∙ by u.description is h.told
-    ∙ ap (λ (x : List (Described ℕ Outcome)).
-    run_tokens NodeDue (with_node (with_outcomes c x) b (Some u.key)) rest)
-    (sym h.no_more)
+    cc (h.is_known, by u.description is h.told, h.no_more)
   where
     by : (o : Option Outcome) → IsDescription (IsOutcomeDescription (length c.players)) tokens o
         → (o ≡ None) ⊎ (o ≡ Some h.description)
         → run_tokens (KnownOutcomeName h.description) (with_node c b (Some u.key)) (tokens ++ rest)
         ≡ run_tokens NodeDue (with_node c b (Some u.key)) rest
-    by None is told = ap (λ (x : List Token).
-        run_tokens (KnownOutcomeName h.description) (with_node c b (Some u.key)) (x ++ rest)) is
-        ∙ not_again rest h.description (with_node c b (Some u.key)) none
+    by None is told = cc (is, not_again rest h.description (with_node c b (Some u.key)) none)
     by (Some d) is (inl told) = absurd cc
     by (Some d) is (inr told) =
         let same : d ≡ h.description = cc in
         let text : tokens ++ rest ≡ Text d.name ∷ Opening ∷ (is.0 ++ Closing ∷ rest) =
         ap (λ (x : List Token). x ++ rest) is.1 ∙ ap (λ (x : List Token). Text d.name ∷ Opening ∷ x)
         (append_assoc is.0 (Closing ∷ []) rest) in
-        ap (λ (x : Outcome).
-        run_tokens (KnownOutcomeName x) (with_node c b (Some u.key)) (tokens ++ rest))
-        (sym same)
-        ∙ ap (run_tokens (KnownOutcomeName d) (with_node c b (Some u.key))) text
-        ∙ ap (λ o. then_run o (run_on (Opening ∷ (is.0 ++ Closing ∷ rest))))
-        (text_again d.name (at (KnownOutcomeOpening d.payoffs) (with_node c b (Some u.key))))
-        ∙ known_again d.payoffs is.0 rest (with_node c b (Some u.key)) is.2 false
+        cc (
+          same,
+          text,
+          text_again d.name (at (KnownOutcomeOpening d.payoffs) (with_node c b (Some
+              u.key))),
+          known_again d.payoffs is.0 rest (with_node c b (Some u.key)) is.2 false,
+        )
 
 pub number_again : (t : List ℕ) (k : ℕ) (b : Begun) (c : Content) (ts : List Token) → 0 < k
-    → IsIndex t k
-    → run_tokens (OutcomeNumber b) c (Bare t ∷ ts)
+    → IsIndex t k → run_tokens (OutcomeNumber b) c (Bare t ∷ ts)
     ≡ run_on ts (behind_outcome c b k (description_at nat_eq c.outcomes k))
-number_again t zero b c ts some is = absurd (omega arith)
-number_again t (suc k) b c ts some is =
-    ap (λ o. then_run (outcome_number c b o) (run_on ts)) (index_again t (suc k) is)
+number_again t k b c ts h h2 = grind (arith, run_on, index_again)
 
 pub result_again : (outcome : Option (Use ℕ Outcome)) (tokens rest : List Token) (b : Begun)
     (outcomes : List (Described ℕ Outcome)) (c : Content)
@@ -288,12 +271,11 @@ pub result_again : (outcome : Option (Use ℕ Outcome)) (tokens rest : List Toke
     → run_tokens (OutcomeNumber b) c (tokens ++ rest)
     ≡ run_tokens NodeDue (with_node (with_outcomes c outcomes) b (key_of outcome)) rest
 result_again None tokens rest b outcomes c is none learns =
-    ap (λ (x : List Token). run_tokens (OutcomeNumber b) c (x ++ rest)) is.1
-    ∙ ap (λ o. then_run (outcome_number c b o) (run_on rest)) (index_again is.0 0 is.2)
-    ∙ ap (λ (x : List (Described ℕ Outcome)).
-    run_tokens NodeDue (with_node (with_outcomes c x) b None) rest)
-    (sym learns)
+    cc (is.1, index_again is.0 0 is.2, learns)
 result_again (Some u) tokens rest b outcomes c is none learns =
-    ap (λ (x : List Token). run_tokens (OutcomeNumber b) c (x ++ rest)) is.2
-    ∙ number_again is.0 u.key b c (is.1 ++ rest) is.3.1 is.3.0
-    ∙ behind_again is.1 rest b u outcomes c is.4 none (one_use nat_eq c.outcomes u outcomes learns)
+    cc (
+      is.2,
+      number_again is.0 u.key b c (is.1 ++ rest) is.3.1 is.3.0,
+      behind_again is.1 rest b u
+          outcomes c is.4 none (one_use nat_eq c.outcomes u outcomes learns),
+    )

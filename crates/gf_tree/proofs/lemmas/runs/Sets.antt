@@ -1,12 +1,12 @@
 -- Runs over the information set of a node: its number, and its description.
-use Rattle.std.proofs.Common.{◌≡◌, ℕ, ◌<◌, ◌≤◌, List, [], ◌∷◌, ◌++◌, length, Option, Some, None}
-use Rattle.std.proofs.Common.{Ok, refl, sym, ap, subst, ◌∙◌, append_assoc, arith, inl, inr}
+use Rattle.std.proofs.Common.{◌≡◌, ℕ, ◌<◌, ◌≤◌, List, [], ◌∷◌, ◌++◌, length, Option, Some, None, Ok}
+use Rattle.std.proofs.Common.{refl, sym, ap, subst, ◌∙◌, append_assoc, arith, inl, inr}
 use Rattle.std.specs.Prelude.{◌⊎◌, pos}
 use Rattle.std.specs.List.{AllByRecursion}
 use Rattle.gf_token.specs.Token.{Token}
-use Rattle.gf_token.specs.Token.Token.{Opening, Closing, Text, Bare}
 use Rattle.gf_token.specs.Grammar.{braced}
 use Rattle.gf_token.specs.Indices.{count_of}
+use Rattle.gf_token.specs.Token.Token.{Opening, Closing, Text, Bare}
 use Rattle.gf_token.proofs.ReadingIndices.{count_is, count_again}
 use Rattle.gf_fraction.specs.Ratio.{IsFraction, whole}
 use Rattle.gf_fraction.proofs.WholeNumbers.{whole_fraction}
@@ -14,20 +14,20 @@ use Rattle.gf_tree.specs.Description.{Action, InformationSet, SetKey, set_of, sa
 use Rattle.gf_tree.specs.FiniteMap.{Described, description_at}
 use Rattle.gf_tree.specs.FileTree.{Use}
 use Rattle.gf_tree.specs.Learned.{Learns}
+use Rattle.gf_tree.specs.inner.Machine.Position.{OutcomeNumber, SetNumber, NewSetName}
+use Rattle.gf_tree.specs.inner.Machine.Position.{NewSetOpening, NewAction, KnownSetName}
+use Rattle.gf_tree.specs.inner.Machine.Position.{KnownSetOpening, KnownAction}
 use Rattle.gf_tree.specs.Sentence.{IsPositive, IsDescription, IsInformationSet}
 use Rattle.gf_tree.specs.inner.Machine.{Content, at, begun, behind_set, set_number}
-use Rattle.gf_tree.specs.inner.Machine.Position.{SetNumber, NewSetName, NewSetOpening}
-use Rattle.gf_tree.specs.inner.Machine.Position.{NewAction, KnownSetName, KnownSetOpening}
-use Rattle.gf_tree.specs.inner.Machine.Position.{KnownAction, OutcomeNumber}
 use Rattle.gf_tree.specs.inner.ReadGame.{run_tokens, then_run}
 use Rattle.gf_tree.proofs.lemmas.games.TreesOnce.{same_set_equality}
+use Rattle.gf_tree.proofs.lemmas.games.Members.{all_more}
 use Rattle.gf_tree.proofs.lemmas.runs.Tokens.{Reads, run_on, text_found, text_again}
 use Rattle.gf_tree.proofs.lemmas.runs.Actions.{others_are, are_others, new_found, new_again}
 use Rattle.gf_tree.proofs.lemmas.runs.KnownActions.{probabilities, known_found, known_again}
 use Rattle.gf_tree.proofs.lemmas.runs.Learned.{one, use_of, learns_new, learns_again, one_use}
 use Rattle.gf_tree.proofs.lemmas.runs.Learned.{IsNew, IsKnown, at_new, found_has}
 use Rattle.gf_tree.proofs.lemmas.Once.{one_some}
-use Rattle.gf_tree.proofs.lemmas.games.Members.{all_more}
 
 -- these sets are known
 abbrev pub with_sets : Content → List (Described SetKey InformationSet) → Content
@@ -60,8 +60,7 @@ name_found (Text label ∷ rest) name key c r e = (label, rest, refl, e)
 name_found _ name key c r e = absurd cc
 
 opening_found : (ts : List Token) (name : List ℕ) (key : SetKey) (label : List ℕ) (c r : Content)
-    → Reads (NewSetOpening name key label) c ts r
-    → (rest : List Token) × (ts ≡ Opening ∷ rest)
+    → Reads (NewSetOpening name key label) c ts r → (rest : List Token) × (ts ≡ Opening ∷ rest)
     × Reads (NewAction name key (record { name = label; actions = [] }) (whole (pos 0))) c rest r
 opening_found (Opening ∷ rest) name key label c r e = (rest, refl, e)
 opening_found _ name key label c r e = absurd cc
@@ -75,10 +74,7 @@ known_opening_found _ b actions c r e = absurd cc
 -- a name, an opening brace, and actions and the closing brace after it
 described : (ts t1 t2 inner rest : List Token) (label : List ℕ) → ts ≡ Text label ∷ t1
     → t1 ≡ Opening ∷ t2 → t2 ≡ inner ++ Closing ∷ rest → ts ≡ (Text label ∷ braced inner) ++ rest
-described ts t1 t2 inner rest label e f g =
-    let last : t2 ≡ (inner ++ Closing ∷ []) ++ rest =
-    g ∙ sym (append_assoc inner (Closing ∷ []) rest) in
-    rw (e, f, last) refl
+described ts t1 t2 inner rest label e f g = grind (arith, append_assoc)
 
 zero_fraction : IsFraction (whole (pos 0))
 zero_fraction = whole_fraction 0 (omega arith)
@@ -116,8 +112,7 @@ new_behind ts name player n c r among some are unknown e =
     }
 
 known_behind : (ts : List Token) (name : List ℕ)
-    (player n : ℕ) (set : InformationSet) (c r : Content)
-    → AreSets (length c.players) c.sets
+    (player n : ℕ) (set : InformationSet) (c r : Content) → AreSets (length c.players) c.sets
     → description_at same_set c.sets (set_of player n) ≡ Some set
     → Reads (KnownSetName name (set_of player n) set) c ts r → Behind ts name player n c r
 known_behind (Text label ∷ ts) name player n set c r are known e =
@@ -216,8 +211,7 @@ number_by ts t (Some n) name player c r among are is e =
 
 pub set_found : (ts : List Token) (name : List ℕ) (player : ℕ) (c r : Content)
     → player ≤ length c.players → AreSets (length c.players) c.sets
-    → Reads (SetNumber name player) c ts r
-    → SetRead ts name player c r
+    → Reads (SetNumber name player) c ts r → SetRead ts name player c r
 set_found (Bare t ∷ ts) name player c r among are e =
     number_by ts t (count_of t) name player c r among are refl e
 set_found _ name player c r among are e = absurd cc
@@ -262,17 +256,14 @@ behind_again tokens rest t name u sets set c is good known (inl h) = by u.descri
         (record { name = d.name; actions = [] }) (whole (pos 0)) c zero_fraction is.2
         (are_others u.key.player d.actions good_set.actions) good_set.some_action
         ∙ ap (λ x. run_tokens (OutcomeNumber (begun name u.key d)) (with_sets c x) (Bare t ∷ rest))
-        all
-        ∙ ap (λ (x : InformationSet).
+        all ∙ ap (λ (x : InformationSet).
         run_tokens (OutcomeNumber (begun name u.key x)) (with_sets c sets) (Bare t ∷ rest))
         same
 behind_again tokens rest t name u sets set c is good known (inr h) =
     ap (λ o. run_tokens (behind_set name u.key o) c (tokens ++ Bare t ∷ rest)) h.is_known
-    ∙ by u.description is h.told
-    ∙ ap (λ x.
+    ∙ by u.description is h.told ∙ ap (λ x.
     run_tokens (OutcomeNumber (begun name u.key h.description)) (with_sets c x) (Bare t ∷ rest))
-    (sym h.no_more)
-    ∙ ap (λ (x : InformationSet).
+    (sym h.no_more) ∙ ap (λ (x : InformationSet).
     run_tokens (OutcomeNumber (begun name u.key x)) (with_sets c sets) (Bare t ∷ rest))
     same
   where
@@ -284,27 +275,9 @@ behind_again tokens rest t name u sets set c is good known (inr h) =
         → (o ≡ None) ⊎ (o ≡ Some h.description)
         → run_tokens (KnownSetName name u.key h.description) c (tokens ++ Bare t ∷ rest)
         ≡ run_tokens (OutcomeNumber (begun name u.key h.description)) c (Bare t ∷ rest)
-    by None is told = ap (λ (x : List Token).
-        run_tokens (KnownSetName name u.key h.description) c (x ++ Bare t ∷ rest))
-        is
+    by None is told = grind arith
     by (Some d) is (inl told) = absurd cc
-    by (Some d) is (inr told) =
-        let first : d ≡ h.description = cc in
-        let behind : List Token = is.0 ++ Closing ∷ (Bare t ∷ rest) in
-        let text : tokens ++ Bare t ∷ rest ≡ Text d.name ∷ Opening ∷ behind =
-        ap (λ (x : List Token). x ++ Bare t ∷ rest) is.1
-        ∙ ap (λ (x : List Token). Text d.name ∷ Opening ∷ x)
-        (append_assoc is.0 (Closing ∷ []) (Bare t ∷ rest)) in
-        ap
-        (λ (x : InformationSet). run_tokens (KnownSetName name u.key x) c (tokens ++ Bare t ∷ rest))
-        (sym first)
-        ∙ ap (run_tokens (KnownSetName name u.key d) c) text
-        ∙ ap (λ o. then_run o (run_on (Opening ∷ behind)))
-        (text_again d.name (at (KnownSetOpening (begun name u.key d) d.actions) c))
-        ∙ known_again d.actions u.key.player is.0 (Bare t ∷ rest) (begun name u.key d) c is.2
-        ∙ ap
-        (λ (x : InformationSet). run_tokens (OutcomeNumber (begun name u.key x)) c (Bare t ∷ rest))
-        first
+    by (Some d) is (inr told) = grind (arith, append_assoc, run_on, text_again, known_again)
 
 pub set_again : (number tokens rest : _) (t name : List ℕ) (u : Use SetKey InformationSet)
     (sets : List (Described SetKey InformationSet)) (set : InformationSet) (c : Content)

@@ -1,16 +1,15 @@
 -- Probabilities as the machine adds them: each is judged by itself, and the sums are those of a
 -- lottery.
-use Rattle.std.proofs.Common.{◌≡◌, ◌<◌, ◌≤◌, ◌*◌, ◌+◌, ◌-◌, ℕ, zero, suc, Bool, true, false, cond}
-use Rattle.std.proofs.Common.{List, refl, sym, ap, ◌∙◌, arith, Result, Ok, Err, Option, Some, None}
-use Rattle.std.specs.Prelude.{ℤ, pos, negsuc, neg_ℤ, ◌≤ℤ◌, ◌*ℤ◌, ◌+ℤ◌}
-use Rattle.std.specs.Prelude.{int_lt, MatchOption, unsigned_abs}
+use Rattle.std.proofs.Common.{◌≡◌, ◌<◌, ◌≤◌, ◌*◌, ◌+◌, ℕ, Bool, true, false, cond, List, refl}
+use Rattle.std.proofs.Common.{ap, ◌∙◌, arith, Result, Ok, Err, Option, Some, None}
+use Rattle.std.specs.Prelude.{ℤ, pos, negsuc, ◌≤ℤ◌, ◌*ℤ◌, ◌+ℤ◌, int_lt, MatchOption}
 use Rattle.std.proofs.Math.Nat.{mul-le-mul_right, le_of_mul-le-mul_right}
 use Rattle.std.proofs.lemmas.Int.{ints}
 use Rattle.gf_fraction.specs.Ratio.{Ratio, IsFraction}
 use Rattle.gf_fraction.specs.NumberSpelling.{IsNumber}
 use Rattle.gf_fraction.specs.Fits.{SumFits, IsSum, AddsTo}
-use Rattle.gf_fraction.specs.Computed.{number_of, sum_of}
 use Rattle.gf_fraction.specs.declared.fraction.NumberFault.{NumberFault}
+use Rattle.gf_fraction.specs.Computed.{number_of, sum_of}
 use Rattle.gf_fraction.proofs.ComputedArithmetic.{sum_is_computed, sum_of-some}
 use Rattle.gf_fraction.proofs.ComputedAnswers.{number_is, number_again}
 use Rattle.gf_fraction.proofs.Products.{mul_above}
@@ -49,7 +48,6 @@ by_bound : (sum p next : Ratio) (b : List ℕ) (s : Share) (above : Bool)
     → Shared sum b s
 by_bound sum p next b s true number low adds test e = absurd cc
 by_bound sum p next b s false number low adds test e =
-    let same : ok_share (record { probability = p; sum = next }) ≡ ok_share s = e in
     let is : record { probability = p; sum = next } ≡ s = cc in
     let found : Shared sum b (record { probability = p; sum = next }) =
     record {
@@ -103,13 +101,7 @@ share_again sum p next b fraction number low adds high =
 
 pub no_sign : (k d a b u v e : ℕ)
     → 0 < d → negsuc k *ℤ pos d ≡ (pos a *ℤ pos u +ℤ pos b *ℤ pos v) *ℤ pos e → ⊥
-no_sign k zero a b u v e some h = absurd (omega arith)
-no_sign k (suc d) a b u v e some h =
-    let m : suc k * suc d ≡ suc (suc k * suc d - 1) =
-    omega (arith, mul_above (suc k) (suc d) (omega arith) (omega arith)) in
-    let both : negsuc (suc k * suc d - 1) ≡ pos ((a * u + b * v) * e) =
-    ap (λ (n : ℕ). neg_ℤ (pos n)) (sym m) ∙ h in
-    cc
+no_sign k d a b u v e h h2 = grind (arith, mul_above)
 
 naturals : (z x y a b n : ℕ) → 0 < n → 0 < y → z * (x * y) ≡ (a * y + b * x) * n → z ≤ n → a ≤ x
 naturals z x y a b n some above e high =
@@ -132,8 +124,7 @@ sum_high sum p next above some low adds high = by sum.num p.num next.num low hig
     by (pos a) (pos b) (negsuc z) l h e = absurd (no_sign z (sum.den * p.den) a b p.den sum.den
         next.den (mul_above sum.den p.den some above) e)
     by (pos a) (pos b) (pos z) l h e =
-        let sizes : z * (sum.den * p.den) ≡ (a * p.den + b * sum.den) * next.den =
-        ap unsigned_abs e in
+        let sizes : z * (sum.den * p.den) ≡ (a * p.den + b * sum.den) * next.den = cc in
         let small : z ≤ next.den = omega (arith, ints, h) in
         let least = naturals z sum.den p.den a b next.den adds.1.den_above_zero above sizes small in
         omega (arith, ints, least)

@@ -1,6 +1,6 @@
 -- The machine of the reader over lexemes: what it reads from bytes, and where it refuses them.
-use Rattle.std.proofs.Common.{◌≡◌, ◌↔◌, ℕ, Bool, true, false, cond, List, [], ◌∷◌}
-use Rattle.std.proofs.Common.{◌++◌, length, Result, Ok, Err, refl, ap, subst, ◌∙◌}
+use Rattle.std.proofs.Common.{◌≡◌, ◌↔◌, ℕ, Bool, true, false, cond, List, [], ◌∷◌, ◌++◌, length}
+use Rattle.std.proofs.Common.{Result, Ok, Err, refl, ap, subst, ◌∙◌, arith}
 use Rattle.gf_token.specs.Token.{Token, Lexeme}
 use Rattle.gf_token.specs.TokenSpelling.{Spells}
 use Rattle.gf_token.specs.Place.{tokens_of, IsSpanOf, IsAccepted}
@@ -9,8 +9,8 @@ use Rattle.gf_token.specs.declared.fault.Why.{Why}
 use Rattle.gf_tree.specs.Game.{Game}
 use Rattle.gf_tree.specs.GameOf.{SpellsGame}
 use Rattle.gf_tree.specs.Front.{IsExtensiveFile}
-use Rattle.gf_tree.specs.inner.Machine.{Content, Position, State, at, due, may_end}
-use Rattle.gf_tree.specs.inner.Machine.{nothing, refused, run, step, then_on}
+use Rattle.gf_tree.specs.inner.Machine.{Content, Position, State, at, due, may_end, nothing}
+use Rattle.gf_tree.specs.inner.Machine.{refused, run, step, then_on}
 use Rattle.gf_tree.specs.inner.Machine.Position.{Format}
 use Rattle.gf_tree.specs.inner.ReadGame.{game_of, then_run}
 use Rattle.gf_tree.proofs.lemmas.runs.Tokens.{Reads, run_on, ok_read}
@@ -113,8 +113,7 @@ stopped_at_end end q c fault false is e =
     })
 
 stopped_at_token : (end : ℕ) (q : Position) (c : Content) (l : Lexeme)
-    (ls : List Lexeme) (fault : Fault) (o : Result State Why)
-    → step q c l.token ≡ o
+    (ls : List Lexeme) (fault : Fault) (o : Result State Why) → step q c l.token ≡ o
     → then_on l o (λ s. run end s.position s.content ls) ≡ err_run fault → ((s : State)
     → run end s.position s.content ls ≡ err_run fault → Stopped end s.position s.content ls fault)
     → Stopped end q c (l ∷ ls) fault
@@ -150,5 +149,4 @@ stopped end q c (l ∷ ls) fault e = stopped_at_token end q c l ls fault (step q
 
 pub not_accepted : (before after : List Token) (s : State) (why : Why)
     → Leads before s → StopsAt s after why → ¬ (IsAccepted IsExtensiveFile before after)
-not_accepted before [] s why h k = no_file before s h k.0
-not_accepted before (t ∷ after) s why h k = not_follows before t s why h k
+not_accepted before after s why h h2 = grind (arith, no_file, not_follows)

@@ -10,8 +10,8 @@ use Rattle.gf_fraction.specs.Ratio.{Ratio}
 use Rattle.gf_token.specs.Token.{Token}
 use Rattle.gf_token.specs.declared.fault.Why.{Why}
 use Rattle.gf_tree.specs.inner.Probability.{same_ratio}
-use Rattle.gf_tree.specs.inner.Machine.{Content, Position, State, same_text}
 use Rattle.gf_tree.specs.inner.ReadGame.{run_tokens, then_run}
+use Rattle.gf_tree.specs.inner.Machine.{Content, Position, State, same_text}
 
 -- from a position and what was read before, the tokens to come are read, and this is what was read
 abbrev pub Reads : Position → Content → List Token → Content → Type 0

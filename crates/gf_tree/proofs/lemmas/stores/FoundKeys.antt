@@ -1,12 +1,11 @@
 -- A key's place among descriptions, and what is there.
-use Rattle.std.proofs.Common.{◌≡◌, ℕ, suc, ◌+◌, Bool, true, false, List, [], ◌∷◌, map, Some}
-use Rattle.std.proofs.Common.{None, Option, option_map, slice_get, refl, sym, ap, ◌∙◌, arith}
+use Rattle.std.proofs.Common.{◌≡◌, ℕ, suc, ◌+◌, Bool, true, false, List, [], ◌∷◌, map, Some, None}
+use Rattle.std.proofs.Common.{Option, option_map, slice_get, refl, sym, ◌∙◌, arith}
 use Rattle.std.specs.Prelude.{position}
 use Rattle.std.specs.List.{find, position_from}
 use Rattle.std.proofs.lemmas.Iterator.Adapters.{position_from-zero}
 use Rattle.gf_fraction.specs.Ratio.{Ratio}
-use Rattle.gf_tree.specs.Description.{Action, InformationSet, Outcome}
-use Rattle.gf_tree.specs.Description.{outcome_with, set_with}
+use Rattle.gf_tree.specs.Description.{Action, InformationSet, Outcome, outcome_with, set_with}
 use Rattle.gf_tree.specs.FiniteMap.{Described, description_at}
 use Rattle.gf_tree.proofs.lemmas.games.Uses.{IsEquality, either_way}
 
@@ -18,12 +17,10 @@ module _ {K D : Type 0} (same : K → K → Bool) (tells : IsEquality same) (key
 
   first_of_more : (e : Described K D) (es : List (Described K D)) (start place : ℕ)
       → (position_from (same key) (start + 1) (map (λ e. e.key) es) ≡ Some place
-      → IsFirst es (start + 1) place)
-      → (b : Bool) → same key e.key ≡ b
+      → IsFirst es (start + 1) place) → (b : Bool) → same key e.key ≡ b
       → position_from (same key) start (map (λ e. e.key) (e ∷ es)) ≡ Some place
       → IsFirst (e ∷ es) start place
   first_of_more e es start place later true q h =
-      let first : Some start ≡ Some place = rw q at h in
       let here : start ≡ place = cc in
       (0, omega (arith, here), rw (either_way same tells key e.key, q) refl)
   first_of_more e es start place later false q h =
@@ -38,20 +35,16 @@ module _ {K D : Type 0} (same : K → K → Bool) (tells : IsEquality same) (key
 
   none_of_more : (e : Described K D) (es : List (Described K D)) (start : ℕ)
       → (position_from (same key) (start + 1) (map (λ e. e.key) es) ≡ None
-      → find (λ e. same e.key key) es ≡ None)
-      → (b : Bool) → same key e.key ≡ b
+      → find (λ e. same e.key key) es ≡ None) → (b : Bool) → same key e.key ≡ b
       → position_from (same key) start (map (λ e. e.key) (e ∷ es)) ≡ None
       → find (λ e. same e.key key) (e ∷ es) ≡ None
-  none_of_more e es start later true q h = let no : Some start ≡ None = rw q at h in absurd cc
-  none_of_more e es start later false q h =
-      rw (either_way same tells key e.key, q) (later (rw q at h))
+  none_of_more e es start h b h2 h3 = grind (arith, either_way)
 
   not_found_from : (es : List (Described K D)) (start : ℕ)
       → position_from (same key) start (map (λ e. e.key) es) ≡ None
       → find (λ e. same e.key key) es ≡ None
   not_found_from [] start h = refl
-  not_found_from (e ∷ es) start h =
-      none_of_more e es start (not_found_from es (start + 1)) (same key e.key) refl h
+  not_found_from (e ∷ es) start h = grind (arith, not_found_from es (start + 1), none_of_more)
 
   pub described_at : (es : List (Described K D)) (place : ℕ)
       → position (same key) (map (λ e. e.key) es) ≡ Some place
@@ -60,33 +53,21 @@ module _ {K D : Type 0} (same : K → K → Bool) (tells : IsEquality same) (key
       let r =
       found_from es 0 place (sym (position_from-zero (same key) (map (λ e. e.key) es)) ∙ h) in
       let k : r.0 ≡ place = omega (arith, r.1) in
-      ap (option_map (λ e. e.description)) r.2
-      ∙ ap (λ (n : ℕ). option_map (λ e. e.description) (slice_get es n)) k
+      cc r.2
 
   pub not_described : (es : List (Described K D)) → position (same key) (map (λ e. e.key) es) ≡ None
       → description_at same es key ≡ None
-  not_described es h = ap (option_map (λ e. e.description))
-      (not_found_from es 0 (sym (position_from-zero (same key) (map (λ e. e.key) es)) ∙ h))
+  not_described es h = grind (arith, not_found_from, position_from-zero)
 
 -- what stands at a place, by its parts
 pub set_in_parts : {K : Type 0} (o : Option (Described K InformationSet)) (name : List ℕ)
-    (actions : List Action)
-    → option_map (λ s. s.description.name) o ≡ Some name
+    (actions : List Action) → option_map (λ s. s.description.name) o ≡ Some name
     → option_map (λ s. s.description.actions) o ≡ Some actions
     → option_map (λ s. s.description) o ≡ Some (set_with name actions)
-set_in_parts None name actions e f = absurd cc
-set_in_parts (Some s) name actions e f =
-    let n : s.description.name ≡ name = cc in
-    let a : s.description.actions ≡ actions = cc in
-    λ i. Some (record { name = n i; actions = a i })
+set_in_parts o name actions h h2 = grind arith
 
 pub outcome_in_parts : {K : Type 0} (o : Option (Described K Outcome)) (name : List ℕ)
-    (payoffs : List Ratio)
-    → option_map (λ s. s.description.name) o ≡ Some name
+    (payoffs : List Ratio) → option_map (λ s. s.description.name) o ≡ Some name
     → option_map (λ s. s.description.payoffs) o ≡ Some payoffs
     → option_map (λ s. s.description) o ≡ Some (outcome_with name payoffs)
-outcome_in_parts None name payoffs e f = absurd cc
-outcome_in_parts (Some s) name payoffs e f =
-    let n : s.description.name ≡ name = cc in
-    let p : s.description.payoffs ≡ payoffs = cc in
-    λ i. Some (record { name = n i; payoffs = p i })
+outcome_in_parts o name payoffs h h2 = grind arith

@@ -1,7 +1,6 @@
 -- The nodes of a game as they are kept are those of its tree.
-use Rattle.std.proofs.Common.{◌≡◌, ℕ, zero, suc, ◌+◌, ◌<◌, List, [], ◌∷◌, ◌++◌}
-use Rattle.std.proofs.Common.{length, map, drop, get_or, slice_get}
-use Rattle.std.proofs.Common.{refl, sym, ap, subst, ◌∙◌, arith}
+use Rattle.std.proofs.Common.{◌≡◌, ℕ, zero, suc, ◌+◌, ◌<◌, List, [], ◌∷◌, ◌++◌, length, map, drop}
+use Rattle.std.proofs.Common.{get_or, slice_get, refl, sym, ap, subst, ◌∙◌, arith}
 use Rattle.std.proofs.lemmas.List.{length-map, drop-map, get_or-map, map-append}
 use Rattle.std.proofs.Math.Seq.{drop-cons}
 use Rattle.gf_tree.specs.Tree.{Tree, Trees, count}
@@ -10,19 +9,17 @@ use Rattle.gf_tree.specs.Tree.Trees.{none, more}
 use Rattle.gf_tree.specs.PrefixOrder.{Entry, Fills, flatten, flatten_all}
 use Rattle.gf_tree.specs.Grown.{grow, root}
 use Rattle.gf_tree.specs.GrowsAgain.{root_grows_again}
-use Rattle.gf_tree.specs.Description.{SetKey, InformationSet, Outcome}
 use Rattle.gf_tree.specs.FiniteMap.{Described}
 use Rattle.gf_tree.specs.Game.{Node, IsGame}
 use Rattle.gf_tree.specs.Spellable.{IsSpellable}
-use Rattle.gf_tree.specs.GameCode.{no_node}
-use Rattle.gf_tree.specs.inner.GameParts.{AreNodes, IsHeld, game_with}
-use Rattle.gf_tree.specs.Subtrees.{child_trees, list_of, root_node, subtree_at}
-use Rattle.gf_tree.specs.Subtrees.{subtree_sizes, subtrees, subtrees_all}
+use Rattle.gf_tree.specs.Subtrees.{subtrees, subtrees_all, child_trees, list_of, root_node}
+use Rattle.gf_tree.specs.Subtrees.{subtree_at, subtree_sizes}
 use Rattle.gf_tree.specs.inner.Skipped.{Begin, skipped}
-use Rattle.gf_tree.specs.KeptNodes.{Kept, IsAmong, AreAmong, child_count}
-use Rattle.gf_tree.specs.KeptNodes.{child_counts, entries_with}
-use Rattle.gf_tree.specs.KeptNodes.{kept_of, node_with, sizes_of, tree_with}
 use Rattle.gf_tree.specs.declared.game.kept.Stored.{Stored}
+use Rattle.gf_tree.specs.Description.{SetKey, InformationSet, Outcome}
+use Rattle.gf_tree.specs.inner.GameParts.{AreNodes, IsHeld, game_with}
+use Rattle.gf_tree.specs.KeptNodes.{Kept, IsAmong, AreAmong, child_count, child_counts}
+use Rattle.gf_tree.specs.KeptNodes.{entries_with, kept_of, node_with, sizes_of, tree_with}
 use Rattle.gf_tree.proofs.lemmas.games.Prefix.{one_tree}
 use Rattle.gf_tree.proofs.lemmas.stores.SubtreeSizes.{begin_first, counts_of, drop_suc, skips_to}
 use Rattle.gf_tree.proofs.lemmas.stores.SubtreeSizes.{slice_get_behind, stands, subtrees_counted}
@@ -69,8 +66,7 @@ mutual
 
 -- what is mapped to the same list is the same at each place
 beside : {X Y Z : Type 0} (f : X → Z) (g : Y → Z)
-    (xs : List X) (ys : List Y) (at : ℕ) (d : X) (e : Y)
-    → map f xs ≡ map g ys → at < length xs
+    (xs : List X) (ys : List Y) (at : ℕ) (d : X) (e : Y) → map f xs ≡ map g ys → at < length xs
     → f (get_or xs at d) ≡ g (get_or ys at e)
 beside f g [] ys at d e h i = absurd (omega (arith, i))
 beside f g (x ∷ xs) [] at d e h i = absurd cc
@@ -107,9 +103,7 @@ child_is_there {N} t at i h j =
     let next : at + 1 ≡ suc at = omega arith in
     let sizes : drop (at + 1) (subtree_sizes t)
     ≡ map (λ s. length (flatten s)) (subtrees_all r.below ++ subtrees_all r.others) =
-    ap (λ k. drop k (subtree_sizes t)) next
-    ∙ drop-map (λ (s : Tree N). length (flatten s)) (suc at) (subtrees t)
-    ∙ ap (map (λ (s : Tree N). length (flatten s))) behind in
+    cc (next, drop-map (λ (s : Tree N). length (flatten s)) (suc at) (subtrees t), behind) in
     let less : i < count r.below =
     subst (λ n. i < n) (ap (λ s. length (child_trees s)) tree ∙ length-list_of r.below) j in
     record {
@@ -137,36 +131,27 @@ entries_are : (sets : List (Described SetKey InformationSet))
     (outcomes : List (Described ℕ Outcome)) (nodes : List Stored) (tree : Tree Node)
     → IsTreeOf sets outcomes nodes tree
     → flatten tree ≡ entries_with sets outcomes (map kept_of nodes)
-entries_are sets outcomes nodes tree h = ap flatten (sym h.is)
-    ∙ flatten_grown no_node (entries_with sets outcomes (map kept_of nodes)) h.are.fills
+entries_are sets outcomes nodes tree h = grind (arith, flatten_grown)
 
 pub sizes_beside : (sets : List (Described SetKey InformationSet))
     (outcomes : List (Described ℕ Outcome)) (nodes : List Stored) (tree : Tree Node)
-    → IsTreeOf sets outcomes nodes tree
-    → sizes_of nodes ≡ subtree_sizes tree
+    → IsTreeOf sets outcomes nodes tree → sizes_of nodes ≡ subtree_sizes tree
 sizes_beside sets outcomes nodes tree h = h.are.sizes ∙ ap subtree_sizes h.is
 
 pub as_many : (sets : List (Described SetKey InformationSet))
     (outcomes : List (Described ℕ Outcome)) (nodes : List Stored) (tree : Tree Node)
-    → IsTreeOf sets outcomes nodes tree
-    → length nodes ≡ length (subtrees tree)
-as_many sets outcomes nodes tree h =
-    sym (length-map nodes (λ n. n.size))
-    ∙ ap length (sizes_beside sets outcomes nodes tree h)
-    ∙ length-map (subtrees tree) (λ (s : Tree Node). length (flatten s))
+    → IsTreeOf sets outcomes nodes tree → length nodes ≡ length (subtrees tree)
+as_many sets outcomes nodes tree h = grind (arith, length-map, sizes_beside)
 
 pub node_there : (sets : List (Described SetKey InformationSet))
     (outcomes : List (Described ℕ Outcome)) (nodes : List Stored)
-    (tree : Tree Node) (at : ℕ) (d : Stored)
-    → IsTreeOf sets outcomes nodes tree
+    (tree : Tree Node) (at : ℕ) (d : Stored) → IsTreeOf sets outcomes nodes tree
     → at < length (subtrees tree)
     → root_node (subtree_at tree at) ≡ node_with sets outcomes (kept_of (get_or nodes at d))
 node_there sets outcomes nodes tree at d h i =
     let mapped : map root_node (subtrees tree)
     ≡ map (λ n. node_with sets outcomes (kept_of n)) nodes =
-    nodes_beside tree
-    ∙ ap (map (λ (e : Entry Node). e.node)) (entries_are sets outcomes nodes tree h)
-    ∙ nodes_of sets outcomes nodes in
+    cc (nodes_beside tree, entries_are sets outcomes nodes tree h, nodes_of sets outcomes nodes) in
     beside root_node (λ n. node_with sets outcomes (kept_of n)) (subtrees tree) nodes at tree d
     mapped i
   where
@@ -175,29 +160,24 @@ node_there sets outcomes nodes tree at d h i =
         → map (λ e. e.node) (entries_with sets outcomes (map kept_of ns))
         ≡ map (λ n. node_with sets outcomes (kept_of n)) ns
     nodes_of sets outcomes [] = refl
-    nodes_of sets outcomes (n ∷ ns) =
-        ap (λ xs. node_with sets outcomes (kept_of n) ∷ xs) (nodes_of sets outcomes ns)
+    nodes_of sets outcomes (n ∷ ns) = grind (arith, nodes_of sets outcomes ns)
 
 pub counts_kept : (sets : List (Described SetKey InformationSet))
     (outcomes : List (Described ℕ Outcome)) (ns : List Kept)
     → counts_of (entries_with sets outcomes ns) ≡ child_counts sets ns
 counts_kept sets outcomes [] = refl
-counts_kept sets outcomes (n ∷ ns) =
-    ap (λ xs. child_count sets n.set ∷ xs) (counts_kept sets outcomes ns)
+counts_kept sets outcomes (n ∷ ns) = grind (arith, counts_kept sets outcomes ns)
 
 pub children_there : (sets : List (Described SetKey InformationSet))
     (outcomes : List (Described ℕ Outcome)) (nodes : List Stored)
-    (tree : Tree Node) (at : ℕ) (d : Stored)
-    → IsTreeOf sets outcomes nodes tree
+    (tree : Tree Node) (at : ℕ) (d : Stored) → IsTreeOf sets outcomes nodes tree
     → at < length (subtrees tree)
     → length (child_trees (subtree_at tree at)) ≡ child_count sets (get_or nodes at d).set
 children_there sets outcomes nodes tree at d h i =
     let mapped : map (λ s. length (child_trees s)) (subtrees tree)
     ≡ map (λ n. child_count sets n.set) nodes =
-    counts_beside tree
-    ∙ ap counts_of (entries_are sets outcomes nodes tree h)
-    ∙ counts_kept sets outcomes (map kept_of nodes)
-    ∙ counts_in sets nodes in
+    counts_beside tree ∙ ap counts_of (entries_are sets outcomes nodes tree h)
+    ∙ counts_kept sets outcomes (map kept_of nodes) ∙ counts_in sets nodes in
     beside (λ s. length (child_trees s)) (λ n. child_count sets n.set) (subtrees tree) nodes at tree
     d mapped i
   where
@@ -231,8 +211,7 @@ pub shaped : (sets : List (Described SetKey InformationSet))
     (outcomes : List (Described ℕ Outcome)) (ns : List Kept)
     → Fills 1 (entries_with sets outcomes ns)
     → counts_of (flatten (tree_with sets outcomes ns)) ≡ child_counts sets ns
-shaped sets outcomes ns h = ap counts_of (flatten_grown no_node (entries_with sets outcomes ns) h)
-    ∙ counts_kept sets outcomes ns
+shaped sets outcomes ns h = grind (arith, counts_of, flatten_grown, counts_kept)
 
 pub made_held : (title comment : List ℕ) (players : List (List ℕ))
     (sets : List (Described SetKey InformationSet)) (outcomes : List (Described ℕ Outcome))

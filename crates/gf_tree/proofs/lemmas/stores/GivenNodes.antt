@@ -1,21 +1,21 @@
 -- The nodes of a game as they are kept, given one after another, are those that a file gives.
-use Rattle.std.proofs.Common.{◌≡◌, ℕ, zero, suc, ◌≤◌, List, [], ◌∷◌, ◌++◌, length, map, max}
-use Rattle.std.proofs.Common.{Option, None, Some, option_map, nat_eq, refl, sym, ap, ◌∙◌, arith}
+use Rattle.std.proofs.Common.{◌≡◌, ℕ, zero, suc, ◌≤◌, List, [], ◌∷◌, ◌++◌, length, map, max, Option}
+use Rattle.std.proofs.Common.{None, Some, option_map, nat_eq, refl, sym, ap, ◌∙◌, arith}
 use Rattle.std.proofs.Common.{append_assoc, append-nil}
 use Rattle.std.specs.Prelude.{Bool}
 use Rattle.std.specs.List.{filter_map, cons_option}
 use Rattle.std.proofs.Math.Nat.{max-zero}
+use Rattle.std.proofs.lemmas.List.Elements.{filter_map-append}
 use Rattle.std.proofs.lemmas.Bool.Decides.{Decides-eqb}
 use Rattle.std.proofs.lemmas.List.{map-append}
-use Rattle.std.proofs.lemmas.List.Elements.{filter_map-append}
 use Rattle.gf_token.specs.Positions.{at_position}
 use Rattle.gf_tree.specs.Description.{SetKey, same_set}
 use Rattle.gf_tree.specs.FileNodes.{file_nodes, node_behind, use_behind, with_those_before}
 use Rattle.gf_tree.specs.FiniteMap.{Described, description_at, first_uses}
 use Rattle.gf_tree.specs.Game.{Game, Node, IsGame}
+use Rattle.gf_tree.specs.PrefixOrder.{Entry, flatten}
 use Rattle.gf_tree.specs.KeptNodes.{AreAmong, IsAmong, Kept, entries_with, entry_with}
 use Rattle.gf_tree.specs.inner.KnownUses.{node_given, nodes_given, use_at}
-use Rattle.gf_tree.specs.PrefixOrder.{Entry, flatten}
 use Rattle.gf_tree.proofs.lemmas.stores.KnownKeys.{known_there, use_there}
 use Rattle.gf_tree.proofs.lemmas.games.Members.{map_same, map_twice, something_there}
 use Rattle.gf_tree.proofs.lemmas.games.TreesOnce.{same_set_equality}
@@ -33,8 +33,7 @@ behind_front {A} {B} f front x xs =
     (map (λ (p : List A × A). (x ∷ p.0, p.1)) (with_those_before xs))
     ≡ map (λ (p : List A × A). f ((front ++ x ∷ []) ++ p.0) p.1) (with_those_before xs) =
     map_twice (λ (p : List A × A). f (front ++ p.0) p.1) (λ (p : List A × A). (x ∷ p.0, p.1))
-    (with_those_before xs)
-    ∙ map_same (λ (p : List A × A). f (front ++ x ∷ p.0) p.1)
+    (with_those_before xs) ∙ map_same (λ (p : List A × A). f (front ++ x ∷ p.0) p.1)
     (λ (p : List A × A). f ((front ++ x ∷ []) ++ p.0) p.1) (with_those_before xs)
     (λ p i. ap (λ ys. f ys p.1) (sym (append_assoc front (x ∷ []) p.0))) in
     λ i. first i ∷ others i
@@ -54,25 +53,18 @@ module _ {K D : Type 0} (same : K → K → Bool) (tells : IsEquality same)
   use_given : (position met : ℕ) → IsUse same known before after used position met
       → option_map (use_behind same (description_at same known) before) used
       ≡ option_map (use_at met position) (at_position known position)
-  use_given zero met h = rw h.is refl
-  use_given (suc k) met h =
-      let d = something_there known k (omega (arith, h.within)) in
-      let key : used ≡ Some d.0.key = h.is ∙ ap (option_map (λ (d : Described K D). d.key)) d.1 in
-      rw (key, d.1, h.met_are) (ap Some (use_there same tells known before after k d.0
-      (h.all ∙ ap (λ o. first_uses same (before ++ cons_option o after)) key) d.1))
+  use_given position met h = grind (arith, something_there, option_map, use_there)
 
   met_given : (position met : ℕ) → IsUse same known before after used position met
       → max met position ≡ length (first_uses same (before ++ cons_option used []))
   met_given zero met h =
       let none : used ≡ None = h.is in
-      max-zero met ∙ h.met_are
-      ∙ ap (λ ks. length (first_uses same ks))
+      max-zero met ∙ h.met_are ∙ ap (λ ks. length (first_uses same ks))
       (sym (ap (λ o. before ++ cons_option o []) none ∙ append-nil before))
   met_given (suc k) met h =
       let d = something_there known k (omega (arith, h.within)) in
       let key : used ≡ Some d.0.key = h.is ∙ ap (option_map (λ (d : Described K D). d.key)) d.1 in
-      ap (λ n. max n (suc k)) h.met_are
-      ∙ sym (known_there same tells known before after k d.0
+      ap (λ n. max n (suc k)) h.met_are ∙ sym (known_there same tells known before after k d.0
       (h.all ∙ ap (λ o. first_uses same (before ++ cons_option o after)) key) d.1)
       ∙ ap (λ o. length (first_uses same (before ++ cons_option o []))) (sym key)
 
@@ -99,8 +91,7 @@ module _ (g : Game) (game : IsGame g) (nodes : List Kept)
       (here : IsFront front (n ∷ ns) met_sets met_outcomes)
       (placed : IsAmong (length g.sets) (length g.outcomes) n) where
     split : flatten g.tree ≡ entries front ++ entries (n ∷ ns)
-    split = flat ∙ ap entries here.parts
-        ∙ map-append (entry_with g.sets g.outcomes) front (n ∷ ns)
+    split = flat ∙ ap entries here.parts ∙ map-append (entry_with g.sets g.outcomes) front (n ∷ ns)
 
     set_here : IsUse same_set g.sets (sets_in front) (sets_in ns)
         (entry_with g.sets g.outcomes n).node.set n.set met_sets
@@ -150,16 +141,14 @@ module _ (g : Game) (game : IsGame g) (nodes : List Kept)
           (entries (n ∷ []))));
       outcomes = met_given nat_eq Decides-eqb g.outcomes (outcomes_in front)
           (outcomes_in ns) (entry_with g.sets g.outcomes n).node.outcome n.outcome
-          met_outcomes outcome_here
-          ∙ ap (λ ks. length (first_uses nat_eq ks))
+          met_outcomes outcome_here ∙ ap (λ ks. length (first_uses nat_eq ks))
           (sym (ap (filter_map (λ (e : Entry Node). e.node.outcome)) one_more
           ∙ filter_map-append (λ (e : Entry Node). e.node.outcome) (entries front)
           (entries (n ∷ []))));
     }
 
   given_behind : (front ns : List Kept) (met_sets met_outcomes : ℕ)
-      → IsFront front ns met_sets met_outcomes
-      → AreAmong (length g.sets) (length g.outcomes) ns
+      → IsFront front ns met_sets met_outcomes → AreAmong (length g.sets) (length g.outcomes) ns
       → nodes_given g.sets g.outcomes met_sets met_outcomes ns
       ≡ map (λ p. node_behind g (entries front ++ p.0) p.1.node)
       (with_those_before (entries ns))
@@ -168,8 +157,7 @@ module _ (g : Game) (game : IsGame g) (nodes : List Kept)
       let node = node_here front n ns met_sets met_outcomes here placed.0 in
       let others = given_behind (front ++ n ∷ []) ns (max met_sets n.set)
       (max met_outcomes n.outcome) (goes_on front n ns met_sets met_outcomes here placed.0)
-      placed.1
-      ∙ ap (λ es. map (λ (p : List (Entry Node) × Entry Node).
+      placed.1 ∙ ap (λ es. map (λ (p : List (Entry Node) × Entry Node).
       node_behind g (es ++ p.0) p.1.node) (with_those_before (entries ns)))
       (one_more front n ns met_sets met_outcomes here placed.0) in
       (λ i. node i ∷ others i)
@@ -179,6 +167,4 @@ module _ (g : Game) (game : IsGame g) (nodes : List Kept)
   pub nodes_are_given : AreAmong (length g.sets) (length g.outcomes) nodes
       → nodes_given g.sets g.outcomes 0 0 nodes ≡ file_nodes g
   nodes_are_given placed =
-      given_behind [] nodes 0 0 (record { parts = refl; sets = refl; outcomes = refl }) placed
-      ∙ ap (λ es. map (λ (p : List (Entry Node) × Entry Node). node_behind g p.0 p.1.node)
-      (with_those_before es)) (sym flat)
+      cc (given_behind [] nodes 0 0 (record { parts = refl; sets = refl; outcomes = refl }) placed)

@@ -4,10 +4,10 @@ use Rattle.std.proofs.Common.{map, drop, get_or, refl, sym, ap, subst, ◌∙◌
 use Rattle.std.proofs.lemmas.List.{length-map, map-set, drop-map, get_or-map, drop-set}
 use Rattle.std.proofs.Math.ListN.{set}
 use Rattle.gf_tree.specs.Tree.{Tree, count}
-use Rattle.gf_tree.specs.PrefixOrder.{Entry, flatten, flatten_all}
-use Rattle.gf_tree.specs.Description.{SetKey, InformationSet}
 use Rattle.gf_tree.specs.FiniteMap.{Described}
 use Rattle.gf_tree.specs.Subtrees.{subtree_sizes}
+use Rattle.gf_tree.specs.PrefixOrder.{Entry, flatten, flatten_all}
+use Rattle.gf_tree.specs.Description.{SetKey, InformationSet}
 use Rattle.gf_tree.specs.inner.Skipped.{Begin, skipped, sizes_grown}
 use Rattle.gf_tree.specs.KeptNodes.{AreAmong, child_count, child_counts, kept_of, sizes_of}
 use Rattle.gf_tree.specs.declared.game.kept.Stored.{Stored}
@@ -21,8 +21,7 @@ at_node nodes at (suc left) h b =
     omega (arith, (skips_once (sizes_of nodes) at left b).below, length-map nodes (λ n. n.size))
 
 pub skips_node : (nodes : List Stored) (at left : ℕ) (d : Stored) → 0 < left
-    → Begin left (drop at (sizes_of nodes))
-    → (at + (get_or nodes at d).size ≤ length nodes)
+    → Begin left (drop at (sizes_of nodes)) → (at + (get_or nodes at d).size ≤ length nodes)
     × Begin (left - 1) (drop (at + (get_or nodes at d).size) (sizes_of nodes))
     × (at + (get_or nodes at d).size
     + skipped (left - 1) (drop (at + (get_or nodes at d).size) (sizes_of nodes))
@@ -45,15 +44,12 @@ begin_at {N} t at c rest h e =
     let here : drop at (counts_of (flatten t))
     ≡ count r.below ∷ counts_of (flatten_all r.below ++ flatten_all r.others) =
     drop-map (λ (e : Entry N). e.children) at (flatten t) ∙ ap counts_of r.stands.entries in
-    let same : c ∷ rest
-    ≡ count r.below ∷ counts_of (flatten_all r.below ++ flatten_all r.others) = sym e ∙ here in
     let first : c ≡ count r.below = cc in
     let others : rest ≡ counts_of (flatten_all r.below ++ flatten_all r.others) = cc in
     rw (first, others) (begin_children r.below r.others)
 
 counts_at : (sets : List (Described SetKey InformationSet))
-    (nodes : List Stored) (at : ℕ) (d : Stored)
-    → at < length nodes
+    (nodes : List Stored) (at : ℕ) (d : Stored) → at < length nodes
     → drop at (child_counts sets (map kept_of nodes)) ≡ child_count sets (get_or nodes at d).set
     ∷ drop (suc at) (child_counts sets (map kept_of nodes))
 counts_at sets [] at d h = absurd (omega (arith, h))
@@ -71,14 +67,12 @@ pub record Filled {N : Type 0} (sets : List (Described SetKey InformationSet)) (
   pub counts : counts_of (flatten t) ≡ child_counts sets (map kept_of old)
 
 same_counts : {N : Type 0} (sets : List (Described SetKey InformationSet))
-    (t : Tree N) (old nodes : List Stored) (next : ℕ)
-    → Filled sets t old nodes next
+    (t : Tree N) (old nodes : List Stored) (next : ℕ) → Filled sets t old nodes next
     → counts_of (flatten t) ≡ child_counts sets (map kept_of nodes)
 same_counts sets t old nodes next f = f.counts ∙ ap (child_counts sets) (sym f.kept)
 
 pub filled_begin : {N : Type 0} (sets : List (Described SetKey InformationSet))
-    (t : Tree N) (old nodes : List Stored) (next : ℕ) (d : Stored)
-    → Filled sets t old nodes next
+    (t : Tree N) (old nodes : List Stored) (next : ℕ) (d : Stored) → Filled sets t old nodes next
     → Begin (child_count sets (get_or nodes (next - 1) d).set)
     (drop (next - 1 + 1) (sizes_of nodes))
 filled_begin sets t old nodes zero d f = absurd (omega (arith, f.some))
@@ -88,42 +82,19 @@ filled_begin {N} sets t old nodes (suc at) d f =
     let inside : at < length nodes = omega (arith, f.within) in
     let e = same_counts sets t old nodes (suc at) f in
     let counted : length (flatten t) ≡ length nodes =
-    sym (length-map (flatten t) (λ (e : Entry N). e.children))
-    ∙ ap length e
-    ∙ length-map (map kept_of nodes) (λ n. child_count sets n.set)
-    ∙ length-map nodes kept_of in
+    sym (length-map (flatten t) (λ (e : Entry N). e.children)) ∙ ap length e
+    ∙ length-map (map kept_of nodes) (λ n. child_count sets n.set) ∙ length-map nodes kept_of in
     let begin = begin_at t at (child_count sets (get_or nodes at d).set)
     (drop (suc at) (child_counts sets (map kept_of nodes))) (omega (arith, inside, counted))
     (ap (drop at) e ∙ counts_at sets nodes at d inside) in
     rw (less, more, f.sizes, ← f.kept) begin
 
 pub filled_more : {N : Type 0} (sets : List (Described SetKey InformationSet))
-    (t : Tree N) (old nodes : List Stored) (next : ℕ) (d x : Stored)
-    → Filled sets t old nodes next
+    (t : Tree N) (old nodes : List Stored) (next : ℕ) (d x : Stored) → Filled sets t old nodes next
     → x.size ≡ 1 + skipped (child_count sets (get_or nodes (next - 1) d).set)
-    (drop (next - 1 + 1) (sizes_of nodes))
-    → drop (next - 1) (sizes_of (set nodes (next - 1) x))
+    (drop (next - 1 + 1) (sizes_of nodes)) → drop (next - 1) (sizes_of (set nodes (next - 1) x))
     ≡ sizes_grown (drop (next - 1) (child_counts sets (map kept_of old)))
-filled_more sets t old nodes zero d x f h = absurd (omega (arith, f.some))
-filled_more sets t old nodes (suc at) d x f h =
-    let less : suc at - 1 ≡ at = omega arith in
-    let more : at + 1 ≡ suc at = omega arith in
-    let size : x.size
-    ≡ suc (skipped (child_count sets (get_or nodes at d).set) (drop (suc at) (sizes_of nodes))) =
-    (rw (less, more) at h) ∙ omega arith in
-    let inside : at < length nodes = omega (arith, f.within) in
-    let inside' : at < length (sizes_of nodes) =
-    omega (arith, inside, length-map nodes (λ n. n.size)) in
-    rw (
-      less,
-      map-set (λ n. n.size) nodes at x,
-      drop-set (sizes_of nodes) at x.size,
-      more,
-      size,
-      f.sizes,
-      ← f.kept,
-      counts_at sets nodes at d inside,
-    ) refl
+filled_more sets t old nodes next d x h h2 = grind (arith, length-map, map-set, drop-set, counts_at)
 
 pub filled_all : {N : Type 0} (sets : List (Described SetKey InformationSet))
     (old nodes : List Stored)

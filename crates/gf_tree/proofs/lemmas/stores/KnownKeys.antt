@@ -1,11 +1,9 @@
 -- Which keys are known after some uses, and what the next use says.
-use Rattle.std.proofs.Common.{◌≡◌, ℕ, zero, suc, ◌+◌, ◌<◌, Bool, true, false, not}
-use Rattle.std.proofs.Common.{List, [], ◌∷◌, ◌++◌, length, map, Some}
-use Rattle.std.proofs.Common.{option_map, slice_get, max, refl, sym, ap, subst, ◌∙◌, arith, inl}
-use Rattle.std.proofs.Common.{inr}
-use Rattle.std.proofs.Common.{length-append}
-use Rattle.std.specs.Prelude.{◌==◌, ◌||◌}
-use Rattle.std.specs.List.{filter, list_any}
+use Rattle.std.proofs.Common.{◌≡◌, ℕ, zero, suc, ◌+◌, ◌<◌, Bool, true, false, List, [], ◌∷◌}
+use Rattle.std.proofs.Common.{◌++◌, length, map, Some, slice_get, max, refl, sym, ap, ◌∙◌, arith}
+use Rattle.std.proofs.Common.{inl, inr, length-append}
+use Rattle.std.specs.Prelude.{◌||◌}
+use Rattle.std.specs.List.{list_any}
 use Rattle.std.proofs.Math.Nat.{max-eq_left, max-eq_right}
 use Rattle.std.proofs.lemmas.Bool.{eq-eqb, ne_eqb, not_from_false}
 use Rattle.std.proofs.lemmas.List.{append-nil}
@@ -16,7 +14,7 @@ use Rattle.gf_tree.specs.FirstUse.{through_first_use, first_use_number}
 use Rattle.gf_tree.specs.FileNodes.{use_behind}
 use Rattle.gf_tree.specs.inner.KnownUses.{use_at}
 use Rattle.gf_tree.proofs.lemmas.games.FirstUseNumbers.{number_at, number_at_most}
-use Rattle.gf_tree.proofs.lemmas.games.FirstUses.{AreDistinct, first_uses_distinct}
+use Rattle.gf_tree.proofs.lemmas.games.FirstUses.{first_uses_distinct}
 use Rattle.gf_tree.proofs.lemmas.games.Lookups.{entry_at}
 use Rattle.gf_tree.proofs.lemmas.games.Members.{filter_last, has_at}
 use Rattle.gf_tree.proofs.lemmas.games.Uses.{Has, IsEquality, either_way}
@@ -47,60 +45,32 @@ module _ {K : Type 0} (same : K → K → Bool) (tells : IsEquality same) where
       → through_first_use same key (before ++ after) ≡ through_first_use same key before
   through_again [] after key h = absurd cc
   through_again (b ∷ before) after key h =
-      by (same key b) refl h (through_again before after key)
-    where
-      by : (x : Bool) → same key b ≡ x → (x || list_any (same key) before) ≡ true
-          → (list_any (same key) before ≡ true → through_first_use same key (before ++ after)
-          ≡ through_first_use same key before)
-          → through_first_use same key ((b ∷ before) ++ after)
-          ≡ through_first_use same key (b ∷ before)
-      by true e h more = rw (either_way same tells key b, e) refl
-      by false e h more = rw (either_way same tells key b, e) (ap (λ ks. b ∷ ks) (more h))
+      grind (arith, through_again before after key, either_way)
 
   through_new : (before after : List K) (key : K) → list_any (same key) before ≡ false
       → through_first_use same key (before ++ key ∷ after) ≡ before ++ key ∷ []
   through_new [] after key h = rw ((tells key key).1 refl) refl
-  through_new (b ∷ before) after key h = by (same key b) refl h (through_new before after key)
-    where
-      by : (x : Bool) → same key b ≡ x → (x || list_any (same key) before) ≡ false
-          → (list_any (same key) before ≡ false
-          → through_first_use same key (before ++ key ∷ after) ≡ before ++ key ∷ [])
-          → through_first_use same key ((b ∷ before) ++ key ∷ after) ≡ (b ∷ before) ++ key ∷ []
-      by true e h more = absurd cc
-      by false e h more = rw (either_way same tells key b, e) (ap (λ ks. b ∷ ks) (more h))
+  through_new (b ∷ before) after key h =
+      grind (arith, through_new before after key, either_way)
 
   -- the keys that are known then
   abbrev pub more_known : Bool → List K → K → List K
   more_known true ks key = ks
   more_known false ks key = ks ++ key ∷ []
 
-  pub known_more : (before : List K) (key : K)
-      → first_uses same (before ++ key ∷ [])
+  pub known_more : (before : List K) (key : K) → first_uses same (before ++ key ∷ [])
       ≡ more_known (list_any (same key) before) (first_uses same before) key
   known_more [] key = refl
   known_more (b ∷ before) key =
-      by (same key b) refl (list_any (same key) before) refl (known_more before key)
-    where
-      others : List K → List K
-      others ks = filter (λ k. not (same b k)) ks
-
-      by : (x : Bool) → same key b ≡ x → (y : Bool) → list_any (same key) before ≡ y
-          → first_uses same (before ++ key ∷ [])
-          ≡ more_known (list_any (same key) before) (first_uses same before) key
-          → b ∷ others (first_uses same (before ++ key ∷ []))
-          ≡ more_known (same key b || list_any (same key) before)
-          (b ∷ others (first_uses same before)) key
-      by true e true f rest = rw (e, rest, f) refl
-      by true e false f rest =
-          let first : same b key ≡ true = either_way same tells key b ∙ e in
-          rw (e, rest, f) (ap (λ ks. b ∷ ks) (filter-append (λ k. not (same b k))
-          (first_uses same before) (key ∷ [])
-          ∙ rw first (append-nil (others (first_uses same before)))))
-      by false e true f rest = rw (e, rest, f) refl
-      by false e false f rest =
-          let first : same b key ≡ false = either_way same tells key b ∙ e in
-          rw (e, rest, f) (ap (λ ks. b ∷ ks) (filter_last (λ k. not (same b k))
-          (first_uses same before) key [] (not_from_false (same b key) first)))
+      grind (
+        arith,
+        known_more before key,
+        either_way,
+        filter-append,
+        append-nil,
+        filter_last,
+        not_from_false,
+      )
 
   -- ---- the use at a position
 
@@ -111,34 +81,17 @@ module _ {K : Type 0} (same : K → K → Bool) (tells : IsEquality same) where
     number_there : first_use_number same (before ++ d.key ∷ after) d.key ≡ k + 1
     number_there =
         let r = around (map (λ (e : Described K D). e.key) known) k d.key
-        (slice_get-map (λ (e : Described K D). e.key) known k
-        ∙ ap (option_map (λ (e : Described K D). e.key)) there) in
-        number_at same tells (before ++ d.key ∷ after) r.0 r.1 d.key (sym all ∙ r.2)
-        ∙ ap (λ n. n + 1) r.3
+        (cc (slice_get-map (λ (e : Described K D). e.key) known k, there)) in
+        cc (number_at same tells (before ++ d.key ∷ after) r.0 r.1 d.key (sym all ∙ r.2), r.3)
 
     number_again : list_any (same d.key) before ≡ true → k < length (first_uses same before)
-    number_again h =
-        let most = number_at_most same tells before d.key (used_before before d.key h) in
-        let number = number_there in
-        let is : first_use_number same (before ++ d.key ∷ after) d.key
-        ≡ first_use_number same before d.key =
-        ap (λ ks. length (first_uses same ks)) (through_again before (d.key ∷ after) d.key h) in
-        omega (arith, most, number, is)
+    number_again h = grind (arith, number_at_most, used_before, number_there, through_again)
 
     number_new : list_any (same d.key) before ≡ false → k ≡ length (first_uses same before)
-    number_new h =
-        let number = number_there in
-        let is : first_use_number same (before ++ d.key ∷ after) d.key
-        ≡ length (first_uses same before ++ d.key ∷ []) =
-        ap (λ ks. length (first_uses same ks)) (through_new before after d.key h)
-        ∙ ap length (known_more before d.key)
-        ∙ ap (λ b. length (more_known b (first_uses same before) d.key)) h in
-        omega (arith, number, is, length-append (first_uses same before) (d.key ∷ []))
+    number_new h = grind (arith, number_there, through_new, known_more, length-append)
 
     description_there : description_at same known d.key ≡ Some d.description
-    description_there = entry_at same tells known d
-        (subst AreDistinct (sym all) (first_uses_distinct same tells (before ++ d.key ∷ after)))
-        (has_at known k d there)
+    description_there = grind (arith, entry_at, first_uses_distinct, has_at)
 
     pub use_there : use_behind same (description_at same known) before d.key
         ≡ use_at (length (first_uses same before)) (suc k) d
@@ -147,16 +100,7 @@ module _ {K : Type 0} (same : K → K → Bool) (tells : IsEquality same) where
         by : (b : Bool) → list_any (same d.key) before ≡ b
             → use_behind same (description_at same known) before d.key
             ≡ use_at (length (first_uses same before)) (suc k) d
-        by true h =
-            let less = number_again h in
-            let other : (suc k == suc (length (first_uses same before))) ≡ false =
-            ne_eqb (suc k) (suc (length (first_uses same before)))
-            (λ e. omega (arith, less, e)) in
-            rw (h, other) refl
-        by false h =
-            let next : (suc k == suc (length (first_uses same before))) ≡ true =
-            eq-eqb (suc k) (suc (length (first_uses same before))) (ap suc (number_new h)) in
-            rw (h, next) (λ i. record { key = d.key; description = description_there i })
+        by b h = grind (arith, number_again, ne_eqb, eq-eqb, number_new, description_there)
 
     pub known_there : length (first_uses same (before ++ d.key ∷ []))
         ≡ max (length (first_uses same before)) (suc k)
@@ -165,8 +109,7 @@ module _ {K : Type 0} (same : K → K → Bool) (tells : IsEquality same) where
         then : (b : Bool) → list_any (same d.key) before ≡ b
             → length (first_uses same (before ++ d.key ∷ []))
             ≡ length (more_known b (first_uses same before) d.key)
-        then b h = ap length (known_more before d.key)
-            ∙ ap (λ x. length (more_known x (first_uses same before) d.key)) h
+        then b h = cc (known_more before d.key)
 
         by : (b : Bool) → list_any (same d.key) before ≡ b
             → length (first_uses same (before ++ d.key ∷ []))

@@ -22,8 +22,7 @@ sums_once (a ∷ actions) sum total machine some h k =
 
 pub same_sum : (set : InformationSet) (total machine : Ratio) → HasSum set total
     → HaveSumFrom 0 (whole (pos 0)) set.actions machine → machine ≡ total
-same_sum set total machine h k =
-    sums_once set.actions (whole (pos 0)) total machine (omega arith) h k
+same_sum set total machine h k = grind (arith, sums_once)
 
 pub adds_up : (actions : List Action) (sum total : Ratio) → AddShares sum actions total
     → AddUpTo sum actions total

@@ -6,8 +6,8 @@ use Rattle.gf_token.specs.Token.{Lexeme, Token, lexeme}
 use Rattle.gf_token.specs.Token.Token.{Bare, Broken, Closing, Comma, Opening, Text}
 use Rattle.gf_tree.specs.Description.{InformationSet, Outcome, SetKey}
 use Rattle.gf_tree.specs.inner.Machine.{Content, Position, begun}
-use Rattle.gf_tree.specs.inner.Machine.Position.{KnownOutcomeName, KnownSetName, NodeDue}
-use Rattle.gf_tree.specs.inner.Machine.Position.{OutcomeNumber}
+use Rattle.gf_tree.specs.inner.Machine.Position.{OutcomeNumber, KnownOutcomeName, KnownSetName}
+use Rattle.gf_tree.specs.inner.Machine.Position.{NodeDue}
 use Rattle.gf_tree.specs.inner.ReaderState.{heard}
 
 abbrev remaining : List ℕ → List Lexeme → Remaining

@@ -1,6 +1,5 @@
 -- The places of numbers, after each call.
-use Rattle.std.proofs.Common.{◌≡◌, ℕ, ◌-◌, ◌<◌, zero, suc, List, [], ◌∷◌, ◌++◌, map, None, nat_eq}
-use Rattle.std.proofs.Common.{refl, ap, ◌∙◌, arith}
+use Rattle.std.proofs.Common.{◌≡◌, ℕ, ◌-◌, ◌<◌, List, [], ◌∷◌, ◌++◌, map, None, nat_eq, arith}
 use Rattle.std.specs.Prelude.{slice_get, option_map}
 use Rattle.std.proofs.lemmas.Option.{slice_get-map}
 use Rattle.indexmap.specs.IndexMap.{IndexMap, get, insert_entry}
@@ -14,15 +13,12 @@ goes_last m number place none = insert_entry-new nat_eq m number place none
 -- from 1 on, a position is one more than an index
 pub at_index : {A : Type 0} (items : List A) (i : ℕ) → 0 < i
     → at_position items i ≡ slice_get items (i - 1)
-at_index items zero some = absurd (omega arith)
-at_index items (suc k) some = ap (slice_get items) (omega arith)
+at_index items i h = grind arith
 
 -- the number of the pair at a position
 pub number_at_index : (pairs : List (ℕ × ℕ)) (i : ℕ) → 0 < i
     → at_position (map (λ p. p.0) pairs) i ≡ option_map (λ p. p.0) (slice_get pairs (i - 1))
-number_at_index pairs i some = at_index (map (λ (p : ℕ × ℕ). p.0) pairs) i some
-    ∙ slice_get-map (λ (p : ℕ × ℕ). p.0) pairs (i - 1)
+number_at_index pairs i some = grind (arith, at_index, slice_get-map)
 
 pub none_at : (i : ℕ) → None ≡ at_position {A = ℕ} [] i
-none_at zero = refl
-none_at (suc k) = refl
+none_at i = grind arith

@@ -1,21 +1,20 @@
 -- The nodes that are kept, by new numbers of their sets and outcomes.
-use Rattle.std.proofs.Common.{◌≡◌, ℕ, zero, suc, ◌+◌, List, [], ◌∷◌, map}
-use Rattle.std.proofs.Common.{Option, None, Some, option_map, refl, sym, ap, ◌∙◌}
+use Rattle.std.proofs.Common.{◌≡◌, ℕ, zero, suc, ◌+◌, List, [], ◌∷◌, map, Option, option_map, refl}
+use Rattle.std.proofs.Common.{ap, ◌∙◌, arith}
 use Rattle.std.proofs.lemmas.Option.{slice_get-map}
 use Rattle.gf_token.specs.Positions.{at_position}
 use Rattle.gf_tree.specs.Tree.{Tree, Trees, map_tree, map_trees}
 use Rattle.gf_tree.specs.Tree.Trees.{none, more}
 use Rattle.gf_tree.specs.PrefixOrder.{Entry, Fills, flatten}
 use Rattle.gf_tree.specs.Grown.{first, others, grow, root}
-use Rattle.gf_tree.specs.Description.{SetKey, InformationSet, Outcome}
 use Rattle.gf_tree.specs.FiniteMap.{Described}
 use Rattle.gf_tree.specs.Game.{Node}
 use Rattle.gf_tree.specs.GameCode.{no_node}
+use Rattle.gf_tree.specs.Subtrees.{subtree_sizes}
 use Rattle.gf_tree.specs.inner.GameParts.{game_with}
+use Rattle.gf_tree.specs.Description.{SetKey, InformationSet, Outcome}
 use Rattle.gf_tree.specs.KeptNodes.{Kept, actions_counted, entries_with, tree_with}
 use Rattle.gf_tree.specs.Renumbering.{Renumbering, renumbered, renumbered_node, renumbered_set}
-use Rattle.gf_tree.specs.inner.Skipped.{sizes_grown}
-use Rattle.gf_tree.specs.Subtrees.{subtree_sizes}
 use Rattle.gf_tree.proofs.lemmas.games.Consistent.{map_entry, flatten_map}
 use Rattle.gf_tree.proofs.lemmas.stores.SubtreeSizes.{counts_of, sizes_are}
 
@@ -40,11 +39,9 @@ grow_mapped f (e ∷ es) =
     rw (grow_mapped f es, first_mapped f e.children (grow es), others_mapped f e.children (grow es))
     refl
 
-root_mapped : (r : Renumbering) (ts : Trees Node)
-    → root no_node (map_trees (renumbered_node r) ts)
+root_mapped : (r : Renumbering) (ts : Trees Node) → root no_node (map_trees (renumbered_node r) ts)
     ≡ map_tree (renumbered_node r) (root no_node ts)
-root_mapped r none = refl
-root_mapped r (more t ts) = refl
+root_mapped r ts = grind arith
 
 pub fills_mapped : {N M : Type 0} (f : N → M) (due : ℕ) (es : List (Entry N)) → Fills due es
     → Fills due (map (map_entry f) es)
@@ -61,15 +58,13 @@ counts_mapped f (e ∷ es) = ap (λ xs. e.children ∷ xs) (counts_mapped f es)
 pub sizes_mapped : {N M : Type 0} (f : N → M) (t : Tree N)
     → subtree_sizes (map_tree f t) ≡ subtree_sizes t
 sizes_mapped f t =
-    sym (sizes_are (map_tree f t)) ∙ ap (λ es. sizes_grown (counts_of es)) (flatten_map f t)
-    ∙ ap sizes_grown (counts_mapped f (flatten t)) ∙ sizes_are t
+    cc (sizes_are (map_tree f t), flatten_map f t, counts_mapped f (flatten t), sizes_are t)
 
 -- ---- the entries by new numbers
 
 at_position_map : {X Y : Type 0} (f : X → Y) (xs : List X) (k : ℕ)
     → at_position (map f xs) k ≡ option_map f (at_position xs k)
-at_position_map f xs zero = refl
-at_position_map f xs (suc k) = slice_get-map f xs k
+at_position_map f xs k = grind (arith, slice_get-map)
 
 -- ---- the sets and the outcomes by new numbers
 
@@ -83,19 +78,16 @@ outcome_image r o = record { key = r.outcome o.key; description = o.description 
 key_image : (r : Renumbering) (o : Option (Described SetKey InformationSet))
     → option_map (λ s. s.key) (option_map (set_image r) o)
     ≡ option_map (renumbered_set r) (option_map (λ s. s.key) o)
-key_image r None = refl
-key_image r (Some s) = refl
+key_image r o = grind arith
 
 number_image : (r : Renumbering) (o : Option (Described ℕ Outcome))
     → option_map (λ s. s.key) (option_map (outcome_image r) o)
     ≡ option_map r.outcome (option_map (λ s. s.key) o)
-number_image r None = refl
-number_image r (Some s) = refl
+number_image r o = grind arith
 
 counted_image : (r : Renumbering) (o : Option (Described SetKey InformationSet))
     → actions_counted (option_map (set_image r) o) ≡ actions_counted o
-counted_image r None = refl
-counted_image r (Some s) = refl
+counted_image r o = grind arith
 
 module _ (r : Renumbering) (sets : List (Described SetKey InformationSet))
     (outcomes : List (Described ℕ Outcome)) where
@@ -119,10 +111,7 @@ module _ (r : Renumbering) (sets : List (Described SetKey InformationSet))
   pub tree_mapped : (ns : List Kept)
       → tree_with (map (set_image r) sets) (map (outcome_image r) outcomes) ns
       ≡ map_tree (renumbered_node r) (tree_with sets outcomes ns)
-  tree_mapped ns =
-      ap (λ es. root no_node (grow es)) (entries_mapped ns)
-      ∙ ap (root no_node) (grow_mapped (renumbered_node r) (entries_with sets outcomes ns))
-      ∙ root_mapped r (grow (entries_with sets outcomes ns))
+  tree_mapped ns = grind (arith, entries_mapped, grow_mapped, root_mapped)
 
   pub game_mapped : (title comment : List ℕ) (players : List (List ℕ)) (ns : List Kept)
       → game_with title comment players (map (set_image r) sets) (map (outcome_image r) outcomes) ns

@@ -1,32 +1,31 @@
 -- Sets and outcomes that are known, renumbered one after another.
-use Rattle.std.proofs.Common.{◌≡◌, ℕ, zero, suc, ◌+◌, ◌-◌, ◌<◌, ◌≤◌, ◌^◌, Bool, true}
-use Rattle.std.proofs.Common.{false, List, [], ◌∷◌, ◌++◌, length, map, take}
-use Rattle.std.proofs.Common.{get_or, slice_get, Some, None, MatchOption}
-use Rattle.std.proofs.Common.{option_map, inl, inr, refl, sym, ap, subst, ◌∙◌, arith}
+use Rattle.std.proofs.Common.{◌≡◌, ℕ, zero, suc, ◌+◌, ◌-◌, ◌<◌, ◌≤◌, ◌^◌, Bool, true, false, List}
+use Rattle.std.proofs.Common.{[], ◌∷◌, ◌++◌, length, map, take, get_or, slice_get, Some, None}
+use Rattle.std.proofs.Common.{MatchOption, option_map, inl, inr, refl, sym, ap, subst, ◌∙◌, arith}
 use Rattle.std.proofs.Common.{Vec, Global}
-use Rattle.std.proofs.lemmas.List.{get_or-map}
+use Rattle.std.proofs.lemmas.Option.{same_Some, get_or_from_slice_get, slice_get-map}
+use Rattle.std.proofs.lemmas.Option.{slice_get_within}
+use Rattle.std.proofs.lemmas.List.{get_or-map, take-map}
+use Rattle.std.proofs.lemmas.Iterator.Adapters.{position_from-zero}
 use Rattle.std.specs.Prelude.{nat_eq, position, ◌==◌, ⊤}
 use Rattle.std.specs.List.{AllByRecursion, position_from}
 use Rattle.std.proofs.lemmas.Bool.{eq-eqb, false_from_ne_true}
 use Rattle.std.proofs.lemmas.Bool.Decides.{Decides-eqb}
-use Rattle.std.proofs.lemmas.Iterator.Adapters.{position_from-zero}
-use Rattle.std.proofs.lemmas.Option.{get_or_from_slice_get, slice_get-map, slice_get_within}
-use Rattle.std.proofs.lemmas.Option.{same_Some}
 use Rattle.gf_tree.specs.Description.{SetKey, InformationSet, Outcome, same_set, set_of}
 use Rattle.gf_tree.specs.FiniteMap.{Described}
+use Rattle.gf_tree.specs.KnownSets.{known_of, number_among}
 use Rattle.gf_tree.specs.FirstUse.{outcome_numbers, player_keys, sets_of}
 use Rattle.gf_tree.specs.Game.{Game, IsGame, used_sets, used_outcomes}
-use Rattle.gf_tree.specs.KnownSets.{known_of, number_among}
 use Rattle.gf_tree.specs.Listed.{AreListed, listed_numbers, number_listed}
 use Rattle.gf_tree.specs.Renumbering.{Renumbering, renumbered}
 use Rattle.gf_tree.proofs.lemmas.games.Carried.{entry_used}
-use Rattle.gf_tree.proofs.lemmas.games.FirstUses.{AreDistinct, first_uses_distinct}
-use Rattle.gf_tree.proofs.lemmas.games.ListedNumbers.{as_long, listed_is_renumbering, number_there}
-use Rattle.gf_tree.proofs.lemmas.games.ListedNumbers.{some_player}
+use Rattle.gf_tree.proofs.lemmas.games.ListedNumbers.{some_player, as_long, listed_is_renumbering}
+use Rattle.gf_tree.proofs.lemmas.games.ListedNumbers.{number_there}
 use Rattle.gf_tree.proofs.lemmas.games.PlayerSets.{sets_by_first_use}
 use Rattle.gf_tree.proofs.lemmas.games.Renumbered.{renumbered_is_game}
 use Rattle.gf_tree.proofs.lemmas.games.TreesOnce.{same_set_equality}
 use Rattle.gf_tree.proofs.lemmas.games.Uses.{Has, IsEquality}
+use Rattle.gf_tree.proofs.lemmas.games.FirstUses.{AreDistinct, first_uses_distinct}
 use Rattle.gf_tree.proofs.lemmas.games.Members.{all_more, has_at, something_there}
 
 -- ---- a key that has not stood yet
@@ -36,28 +35,19 @@ absent_from : {K : Type 0} (same : K → K → Bool) → IsEquality same
     → (Has ks key → ⊥) → position_from (same key) start ks ≡ None
 absent_from same tells key [] start h = refl
 absent_from same tells key (k ∷ ks) start h =
-    let other : same key k ≡ false =
-    false_from_ne_true (same key k) (λ t. h (inl (sym ((tells key k).0 t)))) in
-    rw other (absent_from same tells key ks (start + 1) (λ m. h (inr m)))
+    grind (arith, absent_from same tells key ks (start + 1) (λ m. h (inr m)), false_from_ne_true)
 
 pub absent : {K : Type 0} (same : K → K → Bool) → IsEquality same → (key : K) (ks : List K)
     → (Has ks key → ⊥) → position (same key) ks ≡ None
 absent same tells key ks h = position_from-zero (same key) ks ∙ absent_from same tells key ks 0 h
 
 not_yet : {K : Type 0} (ks : List K) (place : ℕ) (key : K) → AreDistinct ks
-    → slice_get ks place ≡ Some key
-    → Has (take place ks) key → ⊥
+    → slice_get ks place ≡ Some key → Has (take place ks) key → ⊥
 not_yet [] zero key d h i = absurd i
 not_yet [] (suc place) key d h i = absurd i
 not_yet (k ∷ ks) zero key d h i = absurd i
-not_yet (k ∷ ks) (suc place) key d h (inl e) =
-    d.0 (subst (Has ks) (sym e) (has_at ks place key h))
+not_yet (k ∷ ks) (suc place) key d h (inl e) = d.0 (subst (Has ks) (sym e) (has_at ks place key h))
 not_yet (k ∷ ks) (suc place) key d h (inr m) = not_yet ks place key d.1 h m
-
-map_take : {X Y : Type 0} (f : X → Y) (n : ℕ) (xs : List X) → map f (take n xs) ≡ take n (map f xs)
-map_take f zero xs = refl
-map_take f (suc n) [] = refl
-map_take f (suc n) (x ∷ xs) = ap (λ ys. f x ∷ ys) (map_take f n xs)
 
 -- the key of the next entry has not stood before it
 pub next_absent : {K D : Type 0} (same : K → K → Bool) → IsEquality same
@@ -66,9 +56,8 @@ pub next_absent : {K D : Type 0} (same : K → K → Bool) → IsEquality same
     → position (same e.key) (map (λ e. e.key) (take place es)) ≡ None
 next_absent {K} {D} same tells es place e d h =
     let key : slice_get (map (λ (e : Described K D). e.key) es) place ≡ Some e.key =
-    slice_get-map (λ (e : Described K D). e.key) es place
-    ∙ ap (option_map (λ (e : Described K D). e.key)) h in
-    rw (map_take (λ (e : Described K D). e.key) place es)
+    cc (slice_get-map (λ (e : Described K D). e.key) es place) in
+    rw (← take-map (λ (e : Described K D). e.key) place es)
     (absent same tells e.key (take place (map (λ e. e.key) es))
     (not_yet (map (λ e. e.key) es) place e.key d key))
 
@@ -160,8 +149,7 @@ module _ (g : Game) (game : IsGame g) (lists : List (List ℕ)) (outcomes : List
       let before : n - 1 ≡ a.before = omega (arith, among) in
       let key : slice_get (player_keys g player) a.before ≡ Some s.key =
       slice_get-map (λ (x : Described SetKey InformationSet). x.key) (known_of player g.sets)
-      a.before
-      ∙ ap (option_map (λ (x : Described SetKey InformationSet). x.key)) a.stands in
+      a.before ∙ ap (option_map (λ (x : Described SetKey InformationSet). x.key)) a.stands in
       let used = key_used place s t.1 in
       let long = as_long g game lists outcomes listed s.key used in
       let distinct : AreDistinct (player_keys g player) =
@@ -183,14 +171,12 @@ module _ (g : Game) (game : IsGame g) (lists : List (List ℕ)) (outcomes : List
   pub record IsFound (place n : ℕ) (items : List ℕ) : Type 0 where
     pub positive : 1 ≤ n
     pub within : n - 1 < length items
-    pub number : (x : ℕ) → x ≡ get_or items (n - 1) x
-        → MatchOption (slice_get g.sets place) ⊤ (λ s.
+    pub number : (x : ℕ) → x ≡ get_or items (n - 1) x → MatchOption (slice_get g.sets place) ⊤ (λ s.
         x
         ≡ number_listed same_set (player_keys g s.key.player) (get_or lists s.key.player []) s.key)
 
   pub found_in : (known : List (Described SetKey InformationSet))
-      (place n player number : ℕ) (items : List ℕ)
-      → known ≡ g.sets → place < length g.sets
+      (place n player number : ℕ) (items : List ℕ) → known ≡ g.sets → place < length g.sets
       → option_map (λ s. s.key) (slice_get known place) ≡ Some (set_of player number)
       → number_among known place ≡ Some n
       → (player < length lists → items ≡ get_or lists player []) → IsFound place n items
@@ -209,8 +195,7 @@ module _ (g : Game) (game : IsGame g) (lists : List (List ℕ)) (outcomes : List
       record {
         positive = r.positive;
         within = rw items_are r.within;
-        number = λ x q. rw r.stands (q
-            ∙ ap (λ (ns : List ℕ). get_or ns (n - 1) x) items_are
+        number = λ x q. rw r.stands (q ∙ ap (λ (ns : List ℕ). get_or ns (n - 1) x) items_are
             ∙ get_or_from_slice_get (own r.set) (n - 1) _ x r.number);
       }
 
@@ -235,8 +220,7 @@ module _ (g : Game) (game : IsGame g) (lists : List (List ℕ)) (outcomes : List
   image_there place s h = slice_get-map image g.sets place ∙ ap (option_map image) h
 
   pub set_absent : (from now : List (Described SetKey InformationSet)) (place number : ℕ)
-      → from ≡ g.sets → now ≡ take place (renumbered by_list g).sets
-      → place < length g.sets
+      → from ≡ g.sets → now ≡ take place (renumbered by_list g).sets → place < length g.sets
       → MatchOption (slice_get g.sets place) ⊤ (λ s. number ≡ by_list.set s.key.player s.key.number)
       → MatchOption (slice_get from place) ⊤
       (λ s. position (same_set (set_of s.key.player number)) (map (λ t. t.key) now) ≡ None)
@@ -250,8 +234,7 @@ module _ (g : Game) (game : IsGame g) (lists : List (List ℕ)) (outcomes : List
       → from ≡ g.sets → now ≡ take place (renumbered by_list g).sets
       → place < length g.sets → number < 2 ^ 32
       → MatchOption (slice_get g.sets place) ⊤ (λ s. number ≡ by_list.set s.key.player s.key.number)
-      → AllByRecursion (λ s. s.key.number < 2 ^ 32) now
-      → MatchOption (slice_get from place) ⊤ (λ s.
+      → AllByRecursion (λ s. s.key.number < 2 ^ 32) now → MatchOption (slice_get from place) ⊤ (λ s.
       new ≡ now ++ record { key = set_of s.key.player number; description = s.description } ∷ [])
       → (new ≡ take (place + 1) (renumbered by_list g).sets)
       × AllByRecursion (λ s. s.key.number < 2 ^ 32) new
@@ -297,11 +280,7 @@ module _ (g : Game) (game : IsGame g) (lists : List (List ℕ)) (outcomes : List
       → slice_get g.outcomes place ≡ Some o → slice_get outcomes place ≡ Some number
       → number ≡ outcomes_by_list.outcome o.key
   listed_outcome place number o h e =
-      let key = slice_get-map (λ (x : Described ℕ Outcome). x.key) g.outcomes place
-      ∙ ap (option_map (λ (x : Described ℕ Outcome). x.key)) h in
-      same_Some _ _
-      (sym e ∙ number_there nat_eq Decides-eqb (outcome_numbers g) outcomes place o.key
-      listed.each_outcome distinct_keys key)
+      grind (arith, slice_get-map, same_Some, number_there, distinct_keys)
 
   pub outcome_absent : (now : List (Described ℕ Outcome)) (place number : ℕ)
       → now ≡ take place (renumbered outcomes_by_list g).outcomes
@@ -316,8 +295,7 @@ module _ (g : Game) (game : IsGame g) (lists : List (List ℕ)) (outcomes : List
   pub outcome_added : (from now new : List (Described ℕ Outcome)) (place number : ℕ)
       → from ≡ g.outcomes → now ≡ take place (renumbered outcomes_by_list g).outcomes
       → place < length g.outcomes → number < 2 ^ 32 → slice_get outcomes place ≡ Some number
-      → AllByRecursion (λ o. o.key < 2 ^ 32) now
-      → MatchOption (slice_get from place) ⊤
+      → AllByRecursion (λ o. o.key < 2 ^ 32) now → MatchOption (slice_get from place) ⊤
       (λ o. new ≡ now ++ record { key = number; description = o.description } ∷ [])
       → (new ≡ take (place + 1) (renumbered outcomes_by_list g).outcomes)
       × AllByRecursion (λ o. o.key < 2 ^ 32) new
@@ -335,8 +313,5 @@ module _ (g : Game) (game : IsGame g) (lists : List (List ℕ)) (outcomes : List
 -- ---- lists of lists
 
 pub own_items : (vs : List (Vec ℕ Global)) (player : ℕ) (v : Vec ℕ Global) → v ≡ get_or vs player v
-    → player < length vs
-    → v.items ≡ get_or (map (λ own. own.items) vs) player []
-own_items vs player v e h =
-    ap (λ (own : Vec ℕ Global). own.items) e
-    ∙ sym (get_or-map (λ (own : Vec ℕ Global). own.items) vs player v [] h)
+    → player < length vs → v.items ≡ get_or (map (λ own. own.items) vs) player []
+own_items vs player v e h = cc (get_or-map (λ (own : Vec ℕ Global). own.items) vs player v [] h)

@@ -33,13 +33,9 @@ module _ {A B : Type 0} (f : A → B) where
   pub same_more : (xs ys : List A) (k : ℕ) (x y : A) → k < length xs → length xs ≡ length ys
       → x ≡ get_or xs k x → y ≡ get_or ys k y → f x ≡ f y
       → take k (map f xs) ≡ take k (map f ys) → take (k + 1) (map f xs) ≡ take (k + 1) (map f ys)
-  same_more xs ys k x y h n at_x at_y e s =
-      let next : k + 1 ≡ suc k = omega arith in
-      rw next (one_further xs ys k x y h n (ap f (sym at_x) ∙ e ∙ ap f at_y) s)
+  same_more xs ys k x y h n at_x at_y e s = grind (arith, one_further)
 
   -- at the end
   pub same_all : (xs ys : List A) (k : ℕ) → length xs ≤ k → length xs ≡ length ys
       → take k (map f xs) ≡ take k (map f ys) → map f xs ≡ map f ys
-  same_all xs ys k h n s =
-      sym (take_all k (map f xs) (omega (arith, h, length-map xs f))) ∙ s
-      ∙ take_all k (map f ys) (omega (arith, h, n, length-map ys f))
+  same_all xs ys k h n s = grind (arith, take_all, length-map)

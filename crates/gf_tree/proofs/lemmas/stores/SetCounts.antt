@@ -1,15 +1,15 @@
 -- How many actions each set has, as it is kept separately.
-use Rattle.std.proofs.Common.{◌≡◌, ℕ, zero, suc, ◌-◌, ◌<◌, ◌≤◌, List, [], ◌∷◌, ◌++◌, length, map}
-use Rattle.std.proofs.Common.{drop, Some, sym, ap, ◌∙◌, arith}
+use Rattle.std.proofs.Common.{◌≡◌, ℕ, zero, suc, ◌<◌, ◌≤◌, List, [], ◌∷◌, ◌++◌, length, map}
+use Rattle.std.proofs.Common.{Some, sym, ap, ◌∙◌, arith}
 use Rattle.std.specs.Prelude.{get_or, option_map, slice_get, slice_range}
 use Rattle.std.specs.List.{AllByRecursion}
 use Rattle.std.proofs.lemmas.List.{length-drop, length-map, length-take-le, map-append}
 use Rattle.gf_tree.specs.declared.game.action.Action.{Action as Held}
 use Rattle.gf_tree.specs.declared.game.sets.Entry.{Entry}
-use Rattle.gf_tree.specs.Actions.{action_of, actions_of}
+use Rattle.gf_tree.specs.Actions.{actions_of}
 use Rattle.gf_tree.specs.KnownSets.{KnownSets}
-use Rattle.gf_tree.specs.inner.StoredSets.{described, end_of, stored_sets}
 use Rattle.gf_tree.specs.inner.Stretches.{AreStretches}
+use Rattle.gf_tree.specs.inner.StoredSets.{described, end_of, stored_sets}
 
 abbrev pub counts_of : List Entry → List ℕ
 counts_of entries = map (λ e. e.count) entries
@@ -17,12 +17,7 @@ counts_of entries = map (λ e. e.count) entries
 module _ (actions : List Held) (from : ℕ) (within : from ≤ length actions) where
   as_many : (e : Entry) → e.start ≤ end_of e → end_of e ≤ from
       → length (actions_of (slice_range actions e.start (end_of e))) ≡ e.count
-  as_many e ordered ends =
-      let room : end_of e - e.start ≤ length (drop e.start actions) =
-      omega (arith, within, ordered, ends, length-drop e.start actions) in
-      let size : end_of e - e.start ≡ e.count = omega arith in
-      length-map (slice_range actions e.start (end_of e)) action_of
-      ∙ length-take-le (end_of e - e.start) (drop e.start actions) room ∙ size
+  as_many e ordered ends = grind (arith, length-drop, length-map, length-take-le)
 
   counted : (entries : List Entry) (place n : ℕ)
       → AllByRecursion (λ e. (e.start ≤ end_of e) × (end_of e ≤ from)) entries
@@ -30,10 +25,8 @@ module _ (actions : List Held) (from : ℕ) (within : from ≤ length actions) w
       → option_map (λ s. length s.description.actions)
       (slice_get (map (described actions) entries) place) ≡ Some n
   counted [] place n all is there = absurd (omega (arith, there))
-  counted (e ∷ es) zero n all is there =
-      ap (λ (k : ℕ). Some k) (as_many e all.0.0 all.0.1 ∙ sym is)
-  counted (e ∷ es) (suc place) n all is there =
-      counted es place n all.1 is (omega (arith, there))
+  counted (e ∷ es) zero n all is there = ap (λ (k : ℕ). Some k) (as_many e all.0.0 all.0.1 ∙ sym is)
+  counted (e ∷ es) (suc place) n all is there = counted es place n all.1 is (omega (arith, there))
 
 pub is_counted : (entries : List Entry) (actions : List Held) (from : ℕ) (counts : List ℕ)
     (place n : ℕ) (whole : KnownSets) → AreStretches (λ e. e.start) end_of entries actions from
@@ -43,15 +36,11 @@ pub is_counted : (entries : List Entry) (actions : List Held) (from : ℕ) (coun
 is_counted entries actions from counts place n whole stretches each view within is =
     let as_long : length whole.known ≡ length entries =
     ap (λ (k : KnownSets). length k.known) (sym view) ∙ length-map entries (described actions) in
-    ap (λ (k : KnownSets). option_map (λ s. length s.description.actions) (slice_get k.known place))
-    (sym view)
-    ∙ counted actions from stretches.within entries place n stretches.ordered
-    (is ∙ ap (λ (ns : List ℕ). get_or ns place n) each) (omega (arith, within, as_long))
+    cc (counted actions from stretches.within entries place n stretches.ordered (is ∙ ap (λ (ns :
+    List ℕ). get_or ns place n) each) (omega (arith, within, as_long)))
 
 -- one more set
 pub counts_then : (entries stored : List Entry) (counts after : List ℕ) (new : Entry)
     → counts ≡ counts_of entries → stored ≡ entries ++ new ∷ [] → after ≡ counts ++ new.count ∷ []
     → after ≡ counts_of stored
-counts_then entries stored counts after new each is more =
-    more ∙ ap (λ (ns : List ℕ). ns ++ new.count ∷ []) each
-    ∙ sym (map-append (λ (e : Entry). e.count) entries (new ∷ [])) ∙ ap counts_of (sym is)
+counts_then entries stored counts after new each is more = grind (arith, map-append)

@@ -2,6 +2,7 @@
 use Rattle.std.proofs.Common.{◌≡◌, ℕ, ◌+◌, ◌<◌, ◌≤◌, Bool, true, false, List, [], ◌∷◌, ◌++◌, length}
 use Rattle.std.proofs.Common.{map, take, Some, nat_lt, refl, sym, ap, subst, ◌∙◌, arith}
 use Rattle.std.proofs.Common.{length-append}
+use Rattle.std.proofs.Math.Seq.{get_or-append_seam}
 use Rattle.std.specs.Prelude.{◌==◌, get_or, slice_get, option_map}
 use Rattle.std.specs.List.{filter}
 use Rattle.std.proofs.lemmas.Bool.{eq-eqb, ltb-true, ltb-false}
@@ -9,7 +10,6 @@ use Rattle.std.proofs.lemmas.List.{take-append-le, length-map, take_all, take-ma
 use Rattle.std.proofs.lemmas.List.{get_or_append_left}
 use Rattle.std.proofs.lemmas.List.Elements.{filter-append}
 use Rattle.std.proofs.lemmas.Option.{slice_get-map, slice_get-get_or, slice_get_within}
-use Rattle.std.proofs.Math.Seq.{get_or-append_seam}
 use Rattle.gf_tree.specs.declared.game.action.Action.{Action as Held}
 use Rattle.gf_tree.specs.declared.game.sets.Entry.{Entry}
 use Rattle.gf_tree.specs.KnownSets.{KnownSets, known_of, number_among}
@@ -21,14 +21,7 @@ of_player player entries = filter (λ x. x.player == player) entries
 pub as_many : (actions : List Held) (player : ℕ) (entries : List Entry)
     → length (known_of player (map (described actions) entries)) ≡ length (of_player player entries)
 as_many actions player [] = refl
-as_many actions player (e ∷ es) = by (e.player == player) refl (as_many actions player es)
-  where
-    by : (b : Bool) → (e.player == player) ≡ b
-        → length (known_of player (map (described actions) es)) ≡ length (of_player player es)
-        → length (known_of player (map (described actions) (e ∷ es)))
-        ≡ length (of_player player (e ∷ es))
-    by true his rest = rw his (omega (arith, rest))
-    by false his rest = rw his rest
+as_many actions player (e ∷ es) = grind (arith, as_many actions player es)
 
 pub is_among : (entries : List Entry) (actions : List Held) (from place : ℕ) (e : Entry)
     (whole : KnownSets) → AreNumbered entries
@@ -54,10 +47,7 @@ is_among entries actions from place e whole numbered view within is =
 module _ (entries : List Entry) (new : Entry) (numbered : AreNumbered entries)
     (next : new.among ≡ length (of_player new.player entries) + 1) where
   one_more : length (of_player new.player (entries ++ new ∷ [])) ≡ new.among
-  one_more =
-      ap length (filter-append (λ x. x.player == new.player) entries (new ∷ []))
-      ∙ rw (eq-eqb new.player new.player refl)
-      (length-append (of_player new.player entries) (new ∷ []) ∙ sym next)
+  one_more = grind (arith, filter-append, eq-eqb, length-append)
 
   pub numbered_behind : AreNumbered (entries ++ new ∷ [])
   numbered_behind place e at = by (nat_lt place (length entries)) refl
@@ -67,8 +57,7 @@ module _ (entries : List Entry) (new : Entry) (numbered : AreNumbered entries)
       by true is =
           let within : place < length entries = ltb-true place (length entries) is in
           let before : slice_get entries place ≡ Some e =
-          slice_get-get_or entries place new within
-          ∙ ap (λ (x : Entry). Some x) (sym
+          slice_get-get_or entries place new within ∙ ap (λ (x : Entry). Some x) (sym
           (get_or_append_left entries (new ∷ []) new place within))
           ∙ sym (slice_get-get_or (entries ++ new ∷ []) place new
           (omega (arith, within, length-append entries (new ∷ [])))) ∙ at in

@@ -1,8 +1,7 @@
 -- What is stored of sets, once the description of one more is complete.
-use Rattle.std.proofs.Common.{◌≡◌, ◌≢◌, ℕ, ◌+◌, ◌<◌, ◌≤◌, ◌^◌, Bool, true, false, List, [], ◌∷◌}
+use Rattle.std.proofs.Common.{◌≡◌, ◌≢◌, ℕ, ◌+◌, ◌<◌, ◌≤◌, ◌^◌, Bool, List, [], ◌∷◌}
 use Rattle.std.proofs.Common.{◌++◌, length, map, take, drop, None, nat_eq, refl, sym, ap, subst}
-use Rattle.std.proofs.Common.{◌∙◌, arith}
-use Rattle.std.proofs.Common.{append-nil, length-append}
+use Rattle.std.proofs.Common.{◌∙◌, arith, append-nil, length-append}
 use Rattle.std.specs.Prelude.{◌==◌, get_or, max, position, slice_range, if◌then◌else◌}
 use Rattle.std.specs.Map.{lookup}
 use Rattle.std.proofs.Math.ListN.{drop_of_length-le}
@@ -13,36 +12,24 @@ use Rattle.gf_tree.specs.declared.game.action.Action.{Action as Held}
 use Rattle.gf_tree.specs.declared.game.sets.Entry.{Entry}
 use Rattle.gf_tree.specs.Description.{same_set, set_of}
 use Rattle.gf_tree.specs.Actions.{actions_of}
+use Rattle.gf_tree.specs.inner.StoredSets.{HoldActions, described, end_of, stored_sets, places_from}
+use Rattle.gf_tree.specs.inner.StoredSets.{AreSets}
 use Rattle.gf_tree.specs.KnownSets.{KnownSets, with_pending_set}
-use Rattle.gf_tree.specs.inner.StoredSets.{described, end_of, stored_sets, places_from}
-use Rattle.gf_tree.specs.inner.StoredSets.{AreSets, HoldActions}
 use Rattle.gf_tree.proofs.lemmas.stores.SetPlaces.{found}
-use Rattle.gf_tree.proofs.lemmas.stores.SetNumbers.{of_player, numbered_behind}
 use Rattle.gf_tree.proofs.lemmas.stores.StoredActions.{set_made}
+use Rattle.gf_tree.proofs.lemmas.stores.SetNumbers.{of_player, numbered_behind}
 use Rattle.gf_tree.proofs.lemmas.stores.Stretching.{entry_within, items_until, part_until}
 
 -- a player has as many places as sets
 places_long : (player : ℕ) (entries : List Entry) (place : ℕ)
     → length (places_from place player entries) ≡ length (of_player player entries)
 places_long player [] place = refl
-places_long player (e ∷ es) place = by (e.player == player) refl (places_long player es (place + 1))
-  where
-    by : (b : Bool) → (e.player == player) ≡ b
-        → length (places_from (place + 1) player es) ≡ length (of_player player es)
-        → length (places_from place player (e ∷ es)) ≡ length (of_player player (e ∷ es))
-    by true his rest = rw his (omega (arith, rest))
-    by false his rest = rw his rest
+places_long player (e ∷ es) place = grind (arith, places_long player es (place + 1))
 
 places_fit : (player : ℕ) (entries : List Entry) (place : ℕ)
     → length (places_from place player entries) ≤ length entries
 places_fit player [] place = omega arith
-places_fit player (e ∷ es) place = by (e.player == player) refl (places_fit player es (place + 1))
-  where
-    by : (b : Bool) → (e.player == player) ≡ b
-        → length (places_from (place + 1) player es) ≤ length es
-        → length (places_from place player (e ∷ es)) ≤ length (e ∷ es)
-    by true his rest = rw his (omega (arith, rest))
-    by false his rest = rw his (omega (arith, rest))
+places_fit player (e ∷ es) place = grind (arith, places_fit player es (place + 1))
 
 -- the place of an entry, if it is this player's
 abbrev place_of : ℕ → Entry → ℕ → List (ℕ × ℕ)
@@ -53,18 +40,7 @@ places_behind : (player : ℕ) (entries : List Entry) (new : Entry) (place : ℕ
     → places_from place player (entries ++ new ∷ [])
     ≡ places_from place player entries ++ place_of player new (place + length entries)
 places_behind player [] new place = ap (place_of player new) (omega arith)
-places_behind player (e ∷ es) new place =
-    by (e.player == player) refl
-    (places_behind player es new (place + 1)
-    ∙ ap (λ (k : ℕ). places_from (place + 1) player es ++ place_of player new k) (omega arith))
-  where
-    by : (b : Bool) → (e.player == player) ≡ b
-        → places_from (place + 1) player (es ++ new ∷ [])
-        ≡ places_from (place + 1) player es ++ place_of player new (place + length (e ∷ es))
-        → places_from place player (e ∷ es ++ new ∷ [])
-        ≡ places_from place player (e ∷ es) ++ place_of player new (place + length (e ∷ es))
-    by true his rest = rw his (ap (λ (ps : List (ℕ × ℕ)). (e.number, place) ∷ ps) rest)
-    by false his rest = rw his rest
+places_behind player (e ∷ es) new place = grind (arith, places_behind player es new (place + 1))
 
 module _ (players : List (List (ℕ × ℕ))) (entries : List Entry) (actions : List Held) (from : ℕ)
     (are : AreSets players entries actions from) where
@@ -77,9 +53,7 @@ module _ (players : List (List (ℕ × ℕ))) (entries : List Entry) (actions : 
   pub absent : (player number : ℕ) (whole : KnownSets) → stored_sets entries actions from ≡ whole
       → position (same_set (set_of player number)) (map (λ s. s.key) whole.known) ≡ None
       → lookup (nat_eq number) (get_or players player []) ≡ None
-  absent player number whole view none =
-      found players entries actions from player whole are view
-      (get_or players player []) players refl refl number ∙ none
+  absent player number whole view none = grind (arith, found)
 
   -- an entry of this set, with the actions from here on, and the actions that are kept
   module _ (new : Entry) (last : ℕ) (holds : HoldActions actions from new.start (end_of new))
@@ -95,8 +69,7 @@ module _ (players : List (List (ℕ × ℕ))) (entries : List Entry) (actions : 
 
     pub view_then : (whole : KnownSets) → stored_sets entries actions from ≡ whole
         → (stored : List Entry) → stored ≡ entries ++ new ∷ []
-        → (kept : List Held) → kept ≡ take last actions
-        → stored_sets stored kept last
+        → (kept : List Held) → kept ≡ take last actions → stored_sets stored kept last
         ≡ with_pending_set whole (set_of new.player new.number) (label_of new.name)
     view_then whole view stored is kept cut =
         let those : map (described (take last actions)) entries ≡ map (described actions) entries =
@@ -104,8 +77,7 @@ module _ (players : List (List (ℕ × ℕ))) (entries : List Entry) (actions : 
         behind within in
         let this : actions_of (slice_range (take last actions) new.start (end_of new))
         ≡ actions_of (drop from actions) =
-        ap actions_of (part_until actions new.start (end_of new) last holds.ordered ends within)
-        ∙ holds.same in
+        cc (part_until actions new.start (end_of new) last holds.ordered ends within, holds.same) in
         let none : actions_of (drop last (take last actions)) ≡ [] =
         ap actions_of (drop_of_length-le (take last actions)
         (omega (arith, length-take-le last actions within))) in
@@ -117,18 +89,12 @@ module _ (players : List (List (ℕ × ℕ))) (entries : List Entry) (actions : 
             actions = actions_of (drop from actions);
           };
         } ∷ [] =
-        map-append (described (take last actions)) entries (new ∷ [])
-        ∙ (λ i. those i ++ record {
+        map-append (described (take last actions)) entries (new ∷ []) ∙ (λ i. those i ++ record {
           key = set_of new.player new.number;
           description = record { name = label_of new.name; actions = this i };
         } ∷ []) in
-        let made : stored_sets (entries ++ new ∷ []) (take last actions) last
-        ≡ with_pending_set (stored_sets entries actions from) (set_of new.player new.number)
-        (label_of new.name) =
-        λ i. record { known = known i; pending = none i } in
         rw (is, cut)
-        (made ∙ ap (λ (k : KnownSets). with_pending_set k (set_of new.player new.number)
-        (label_of new.name)) view)
+        (cc)
 
     module _ (after : List (List (ℕ × ℕ)))
         (others : (other : ℕ)
@@ -139,22 +105,11 @@ module _ (players : List (List (ℕ × ℕ))) (entries : List Entry) (actions : 
         (room : length entries + 1 < 2 ^ 32) where
       places_then : (player : ℕ)
           → get_or after player [] ≡ places_from 0 player (entries ++ new ∷ [])
-      places_then player =
-          by (new.player == player) refl ∙ sym (places_behind player entries new 0)
+      places_then player = by (new.player == player) refl ∙ sym (places_behind player entries new 0)
         where
-          by : (b : Bool) → (new.player == player) ≡ b
-              → get_or after player []
+          by : (b : Bool) → (new.player == player) ≡ b → get_or after player []
               ≡ places_from 0 player entries ++ place_of player new (0 + length entries)
-          by true his =
-              let it : new.player ≡ player = eqb-true new.player player his in
-              rw his (ap (λ (p : ℕ). get_or after p []) (sym it) ∙ own
-              ∙ ap (λ (p : ℕ). get_or players p [] ++ (new.number, length entries) ∷ []) it
-              ∙ ap (λ (ps : List (ℕ × ℕ)). ps ++ (new.number, length entries) ∷ [])
-              (are.places player)
-              ∙ ap (λ (k : ℕ). places_from 0 player entries ++ (new.number, k) ∷ []) (omega arith))
-          by false his =
-              rw his (others player (λ e. eqb-false new.player player his (sym e))
-              ∙ are.places player ∙ sym (append-nil (places_from 0 player entries)))
+          by b h = grind (arith, eqb-true, eqb-false, append-nil)
 
       are_then : AreSets after (entries ++ new ∷ []) (take last actions) last
       are_then = record {
@@ -162,8 +117,7 @@ module _ (players : List (List (ℕ × ℕ))) (entries : List Entry) (actions : 
             are.stretches behind within holds.ordered ends;
         places = places_then;
         numbered = numbered_behind entries new are.numbered
-            (among ∙ ap (λ (ns : List (ℕ × ℕ)). length ns + 1) (are.places new.player)
-            ∙ ap (λ (n : ℕ). n + 1) (places_long new.player entries 0));
+            (cc (among, are.places new.player, places_long new.player entries 0));
         few = omega (arith, room, length-append entries (new ∷ []));
       }
 
@@ -175,9 +129,4 @@ module _ (players : List (List (ℕ × ℕ))) (entries : List Entry) (actions : 
         → get_or after new.player [] ≡ get_or players new.player [] ++ (new.number, place) ∷ []
         → new.among ≡ length (get_or players new.player []) + 1 → place + 1 < 2 ^ 32
         → AreSets after stored kept last
-    are_stored after stored kept place is cut at others own among room =
-        let own_then = own ∙ ap (λ (k : ℕ). get_or players new.player [] ++ (new.number, k) ∷ []) at
-        in
-        let are : AreSets after (entries ++ new ∷ []) (take last actions) last =
-        are_then after others own_then among (omega (arith, room, at)) in
-        rw (is, cut) are
+    are_stored after stored kept place is cut at others own among room = grind (arith, are_then)

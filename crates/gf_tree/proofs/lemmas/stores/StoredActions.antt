@@ -21,10 +21,8 @@ set_made e actions = record {
 pub action_pushed : (players : List (List (ℕ × ℕ))) (entries : List Entry)
     (actions after : List Held) (from : ℕ) (action : Held) (whole : KnownSets)
     → AreSets players entries actions from → stored_sets entries actions from ≡ whole
-    → after ≡ actions ++ action ∷ []
-    → stored_sets entries after from ≡ record whole {
-      pending =
-          whole.pending ++ action_of action ∷ [];
+    → after ≡ actions ++ action ∷ [] → stored_sets entries after from ≡ record whole {
+      pending = whole.pending ++ action_of action ∷ [];
     }
 action_pushed players entries actions after from action whole are view is =
     let known : map (described (actions ++ action ∷ [])) entries ≡ map (described actions) entries =
@@ -34,12 +32,9 @@ action_pushed players entries actions after from action whole are view is =
     ≡ actions_of (drop from actions) ++ action_of action ∷ [] =
     ap actions_of (drop-append-le from actions (action ∷ []) are.stretches.within)
     ∙ map-append action_of (drop from actions) (action ∷ []) in
-    let more : stored_sets entries (actions ++ action ∷ []) from
-    ≡ record {
+    let more : stored_sets entries (actions ++ action ∷ []) from ≡ record {
       known = map (described actions) entries;
-      pending =
-          actions_of (drop from actions) ++ action_of action ∷ [];
+      pending = actions_of (drop from actions) ++ action_of action ∷ [];
     } =
     λ i. record { known = known i; pending = rest i } in
-    ap (λ (xs : List Held). stored_sets entries xs from) is ∙ more
-    ∙ ap (λ (k : KnownSets). record k { pending = k.pending ++ action_of action ∷ [] }) view
+    cc (is, more)

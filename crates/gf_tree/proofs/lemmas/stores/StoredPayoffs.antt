@@ -1,6 +1,6 @@
 -- What is stored of outcomes, once one more payoff is pending or one more outcome is complete.
-use Rattle.std.proofs.Common.{◌≡◌, ℕ, ◌+◌, ◌<◌, ◌^◌, List, [], ◌∷◌, ◌++◌, length, map, drop, ap}
-use Rattle.std.proofs.Common.{◌∙◌, arith, length-append}
+use Rattle.std.proofs.Common.{◌≡◌, ℕ, ◌+◌, ◌<◌, ◌^◌, List, [], ◌∷◌, ◌++◌, length, map, drop, ◌∙◌}
+use Rattle.std.proofs.Common.{arith, length-append}
 use Rattle.std.proofs.lemmas.List.{drop-append-le}
 use Rattle.gf_fraction.specs.Ratio.{Ratio}
 use Rattle.gf_token.specs.Label.{label_of}
@@ -31,15 +31,12 @@ module _ (ns : List (ℕ × ℕ)) (entries : List Entry) (payoffs : List Ratio) 
       (payoff ∷ []) from are.stretches in
       let rest : drop from (payoffs ++ payoff ∷ []) ≡ drop from payoffs ++ payoff ∷ [] =
       drop-append-le from payoffs (payoff ∷ []) are.stretches.within in
-      let more : stored_outcomes entries (payoffs ++ payoff ∷ []) from
-      ≡ record {
+      let more : stored_outcomes entries (payoffs ++ payoff ∷ []) from ≡ record {
         known = map (described payoffs) entries;
-        pending =
-            drop from payoffs ++ payoff ∷ [];
+        pending = drop from payoffs ++ payoff ∷ [];
       } =
       λ i. record { known = known i; pending = rest i } in
-      ap (λ (xs : List Ratio). stored_outcomes entries xs from) is ∙ more
-      ∙ ap (λ (k : KnownOutcomes). record k { pending = k.pending ++ payoff ∷ [] }) view
+      cc (is, more)
 
   -- one more outcome, with the payoffs from here on
   module _ (new : Entry) (stored : List Entry) (is : stored ≡ entries ++ new ∷ []) (place last : ℕ)
@@ -51,8 +48,7 @@ module _ (ns : List (ℕ × ℕ)) (entries : List Entry) (payoffs : List Ratio) 
         let are_then : AreOutcomes after (entries ++ new ∷ []) payoffs (length payoffs) = record {
           stretches = entry_behind (λ e. e.start)
               end_of entries payoffs from new are.stretches starts (ends ∙ all);
-          places = own ∙ ap (λ (k : ℕ). ns ++ (new.number, k) ∷ []) at
-              ∙ places_then ns entries new are.places;
+          places = cc (own, places_then ns entries new are.places);
           few = omega (arith, room, at, length-append entries (new ∷ []));
         } in
         rw (is, all) are_then

@@ -1,25 +1,22 @@
 -- Stretches of a list of items, if items or entries are appended.
-use Rattle.std.proofs.Common.{◌≡◌, ℕ, ◌-◌, ◌≤◌, List, [], ◌∷◌, ◌++◌, length, map, take, drop, refl}
+use Rattle.std.proofs.Common.{◌≡◌, ℕ, ◌≤◌, List, [], ◌∷◌, ◌++◌, length, map, take, drop, refl}
 use Rattle.std.proofs.Common.{sym, ap, ◌∙◌, arith}
+use Rattle.std.proofs.lemmas.List.{length-take-le, take-append-le, take-append-drop, drop-append-le}
+use Rattle.std.proofs.lemmas.List.{length-drop}
 use Rattle.std.specs.Prelude.{slice_range}
 use Rattle.std.specs.List.{AllByRecursion}
-use Rattle.std.proofs.lemmas.List.{take-append-le, take-append-drop, drop-append-le}
-use Rattle.std.proofs.lemmas.List.{length-drop, length-take-le}
 use Rattle.gf_tree.specs.inner.Stretches.{AreStretches}
 use Rattle.gf_tree.proofs.lemmas.games.Members.{all_more}
 
 same_part : {T : Type 0} (items more : List T) (i j : ℕ) → i ≤ j → j ≤ length items
     → slice_range (items ++ more) i j ≡ slice_range items i j
-same_part items more i j ordered within =
-    ap (take (j - i)) (drop-append-le i items more (omega arith))
-    ∙ take-append-le (j - i) (drop i items) more (omega (arith, length-drop i items))
+same_part items more i j ordered within = grind (arith, drop-append-le, take-append-le, length-drop)
 
 abbrev Ends : {E : Type 0} → (E → ℕ) → (E → ℕ) → ℕ → E → Type 0
 Ends start end from e = (start e ≤ end e) × (end e ≤ from)
 
 up_to : {E : Type 0} (start end : E → ℕ) (entries : List E) (from to : ℕ) → from ≤ to
-    → AllByRecursion (Ends start end from) entries
-    → AllByRecursion (Ends start end to) entries
+    → AllByRecursion (Ends start end from) entries → AllByRecursion (Ends start end to) entries
 up_to start end [] from to more all = all
 up_to start end (e ∷ es) from to more all =
     ((all.0.0, omega (arith, all.0.1)), up_to start end es from to more all.1)
@@ -45,13 +42,11 @@ module _ {E T : Type 0} (start end : E → ℕ) where
       → D) (entries : List E) (items more : List T) (from : ℕ)
       → AreStretches start end entries items from
       → map (made make (items ++ more)) entries ≡ map (made make items) entries
-  items_behind make entries items more from are =
-      same_made make entries items more from are.ordered are.within
+  items_behind make entries items more from are = grind (arith, same_made)
 
   -- the items so far become the stretch of a new entry
   pub entry_behind : (entries : List E) (items : List T) (from : ℕ) (e : E)
-      → AreStretches start end entries items from
-      → start e ≡ from → end e ≡ length items
+      → AreStretches start end entries items from → start e ≡ from → end e ≡ length items
       → AreStretches start end (entries ++ e ∷ []) items (length items)
   entry_behind entries items from e are starts ends = record {
     within = omega arith;

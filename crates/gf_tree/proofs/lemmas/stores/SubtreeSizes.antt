@@ -1,15 +1,15 @@
 -- The sizes of subtrees, and what they skip.
-use Rattle.std.proofs.Common.{◌≡◌, ℕ, zero, suc, ◌+◌, ◌<◌, ◌≤◌, List, [], ◌∷◌, ◌++◌}
-use Rattle.std.proofs.Common.{length, map, drop, get_or, slice_get, refl, sym, ap}
-use Rattle.std.proofs.Common.{◌∙◌, append_assoc, arith, length-append, zero-add}
+use Rattle.std.proofs.Common.{◌≡◌, ℕ, zero, suc, ◌+◌, ◌<◌, ◌≤◌, List, [], ◌∷◌, ◌++◌, length, map}
+use Rattle.std.proofs.Common.{drop, get_or, slice_get, refl, sym, ap, ◌∙◌, append_assoc, arith}
+use Rattle.std.proofs.Common.{length-append, zero-add}
+use Rattle.std.proofs.Math.Seq.{drop-append_seam}
 use Rattle.std.proofs.lemmas.List.{append-nil, length-map, map-append, drop-map}
 use Rattle.gf_tree.specs.Tree.{Tree, Trees, count}
 use Rattle.gf_tree.specs.Tree.Tree.{branch}
 use Rattle.gf_tree.specs.Tree.Trees.{none, more}
 use Rattle.gf_tree.specs.PrefixOrder.{Entry, flatten, flatten_all}
 use Rattle.gf_tree.specs.GrowsAgain.{join}
-use Rattle.gf_tree.specs.Subtrees.{list_of, subtrees}
-use Rattle.gf_tree.specs.Subtrees.{subtrees_all, subtree_sizes}
+use Rattle.gf_tree.specs.Subtrees.{list_of, subtrees, subtrees_all, subtree_sizes}
 use Rattle.gf_tree.specs.inner.Skipped.{Begin, skipped, sizes_grown}
 
 abbrev size_of : {N : Type 0} → Tree N → ℕ
@@ -19,10 +19,6 @@ abbrev pub counts_of : {N : Type 0} → List (Entry N) → List ℕ
 counts_of es = map (λ e. e.children) es
 
 -- ---- a list after its first part
-
-drop_all : {X : Type 0} (xs ys : List X) → drop (length xs) (xs ++ ys) ≡ ys
-drop_all [] ys = refl
-drop_all (x ∷ xs) ys = drop_all xs ys
 
 -- what comes after the element at a place
 pub drop_suc : {X : Type 0} (xs ys : List X) (at : ℕ) (x : X) → drop at xs ≡ x ∷ ys
@@ -59,7 +55,7 @@ sizes ss = map (λ s. length (flatten s)) ss
 -- the subtrees after those of a tree
 behind_tree : {N : Type 0} (t : Tree N) (ss : List (Tree N))
     → drop (size_of t) (subtrees t ++ ss) ≡ ss
-behind_tree t ss = rw (← subtrees_counted t) (drop_all (subtrees t) ss)
+behind_tree t ss = rw (← subtrees_counted t) (drop-append_seam (subtrees t) ss)
 
 sizes_behind : {N : Type 0} (t : Tree N) (ss : List (Tree N))
     → drop (size_of t) (sizes (subtrees t ++ ss)) ≡ sizes ss
@@ -79,9 +75,7 @@ begins (branch n ts) ss = record {
 }
   where
     enough : suc (length (flatten_all ts)) ≤ suc (length (sizes (subtrees_all ts ++ ss)))
-    enough =
-        let mapped = length-map (subtrees_all ts ++ ss) (λ s. length (flatten s)) in
-        omega (arith, mapped, length-append (subtrees_all ts) ss, all_counted ts)
+    enough = grind (arith, length-map, length-append, all_counted)
 
 pub begin_first : {N : Type 0} (n : ℕ) (ts : Trees N) (ss : List (Tree N)) → n ≤ count ts
     → Begin n (sizes (subtrees_all ts ++ ss))
@@ -112,8 +106,7 @@ skips_to (suc n) (more t ts) ss h =
     (slice_get_behind (subtrees t ++ (subtrees_all ts ++ ss)) (size_of t)
     (skipped n (sizes (subtrees_all ts ++ ss)))
     ∙ ap (λ xs. slice_get xs (skipped n (sizes (subtrees_all ts ++ ss))))
-    (behind_tree t (subtrees_all ts ++ ss))
-    ∙ skips_to n ts ss (omega (arith, h)))
+    (behind_tree t (subtrees_all ts ++ ss)) ∙ skips_to n ts ss (omega (arith, h)))
 
 -- ---- the sizes grow from numbers of children
 
@@ -140,9 +133,7 @@ mutual
 
 pub sizes_are : {N : Type 0} (t : Tree N) → sizes_grown (counts_of (flatten t)) ≡ subtree_sizes t
 sizes_are t =
-    ap sizes_grown (sym (append-nil (counts_of (flatten t))))
-    ∙ grown_tree t [] [] refl
-    ∙ ap sizes (append-nil (subtrees t))
+    cc (append-nil (counts_of (flatten t)), grown_tree t [] [] refl, append-nil (subtrees t))
 
 -- ---- the nodes from a place on
 
@@ -248,9 +239,7 @@ pub begin_children : {N : Type 0} (ts us : Trees N)
 begin_children ts us =
     let behind = grown_trees us [] [] refl in
     let others : sizes_grown (counts_of (flatten_all us)) ≡ sizes (subtrees_all us) =
-    ap sizes_grown (sym (append-nil (counts_of (flatten_all us))))
-    ∙ behind
-    ∙ ap sizes (append-nil (subtrees_all us)) in
+    cc (append-nil (counts_of (flatten_all us)), behind, append-nil (subtrees_all us)) in
     rw (
       map-append (λ e. e.children) (flatten_all ts) (flatten_all us),
       grown_trees ts (subtrees_all us) (counts_of (flatten_all us)) others,

@@ -1,7 +1,7 @@
 -- A file for each game that a file can hold.
-use Rattle.std.proofs.Common.{◌≡◌, ◌↔◌, Bool, ℕ, zero, suc, ◌^◌, ◌<◌, List, [], ◌∷◌}
-use Rattle.std.proofs.Common.{◌++◌, length, map, Some, None, Option, MatchOption}
-use Rattle.std.proofs.Common.{option_map, refl, sym, ap, subst, ◌∙◌, arith, inl, inr}
+use Rattle.std.proofs.Common.{◌≡◌, ◌↔◌, Bool, ℕ, zero, suc, ◌^◌, ◌<◌, List, [], ◌∷◌, ◌++◌, length}
+use Rattle.std.proofs.Common.{map, Some, None, Option, MatchOption, option_map, refl, sym, ap}
+use Rattle.std.proofs.Common.{subst, ◌∙◌, arith, inl, inr}
 use Rattle.std.specs.Prelude.{codes, decimal, nat_eq}
 use Rattle.std.specs.List.{AllByRecursion, filter_map, flat_map}
 use Rattle.std.specs.Option.{option_to_list}
@@ -10,32 +10,32 @@ use Rattle.gf_fraction.specs.Ratio.{Ratio, IsFraction}
 use Rattle.gf_fraction.specs.NumberText.{number_text}
 use Rattle.gf_fraction.proofs.AllElements.{all_weaker, all_both, all_images}
 use Rattle.gf_token.specs.Token.{Token}
-use Rattle.gf_token.specs.Token.Token.{Closing, Text, Bare}
 use Rattle.gf_token.specs.Grammar.{braced}
 use Rattle.gf_token.specs.LabelSpelling.{IsLabel}
+use Rattle.gf_token.specs.Token.Token.{Closing, Text, Bare}
 use Rattle.gf_token.proofs.SpelledNumbers.{number_spelled, index_spelled}
 use Rattle.gf_tree.specs.PrefixOrder.{Entry, flatten}
 use Rattle.gf_tree.specs.Description.{Action, SetKey, InformationSet, Outcome, same_set, IsSet}
-use Rattle.gf_tree.specs.Description as description
 use Rattle.gf_tree.specs.FileTree.{Use, FileNode, FileTree}
 use Rattle.gf_tree.specs.FiniteMap.{Described, description_at, first_uses}
 use Rattle.gf_tree.specs.Sentence.{Sentence}
-use Rattle.gf_tree.specs.Game.{Game, IsGame, used_sets, used_outcomes, set_at, outcome_at}
 use Rattle.gf_tree.specs.GameOf.{SpellsGame}
-use Rattle.gf_tree.specs.Spellable.{IsSpellableAction, IsSpellableSet}
-use Rattle.gf_tree.specs.Spellable.{IsSpellableOutcome, IsSpellable}
-use Rattle.gf_tree.proofs.lemmas.games.Uses.{Has, IsEquality, each, all_of_each}
-use Rattle.gf_tree.proofs.lemmas.games.Uses.{has_first, has_later, mapped_from}
+use Rattle.gf_tree.specs.Spellable.{IsSpellable, IsSpellableAction, IsSpellableSet}
+use Rattle.gf_tree.specs.Spellable.{IsSpellableOutcome}
+use Rattle.gf_tree.specs.Game.{Game, IsGame, used_sets, used_outcomes, set_at, outcome_at}
+use Rattle.gf_tree.proofs.lemmas.games.Uses.{Has, IsEquality, each, all_of_each, has_first}
+use Rattle.gf_tree.proofs.lemmas.games.Uses.{has_later, mapped_from}
 use Rattle.gf_tree.proofs.lemmas.games.FirstUses.{found, is_used}
 use Rattle.gf_tree.proofs.lemmas.games.TreesOnce.{same_set_equality}
+use Rattle.gf_tree.proofs.lemmas.games.Spelled.{spelled_is_spellable}
 use Rattle.gf_tree.proofs.lemmas.games.Consistent.{map_entry, flatten_map}
 use Rattle.gf_tree.proofs.lemmas.games.Files.{use_at, told, file_of, file_is_of}
-use Rattle.gf_tree.proofs.lemmas.games.Spelled.{spelled_is_spellable}
 use Rattle.gf_tree.proofs.lemmas.written.Nodes.{action_tokens, set_tokens, outcome_tokens}
 use Rattle.gf_tree.proofs.lemmas.written.Nodes.{mover_letter, mover_tokens, letter, step_tokens}
-use Rattle.gf_tree.proofs.lemmas.written.Nodes.{result_tokens, node_tokens, IsSetUse}
-use Rattle.gf_tree.proofs.lemmas.written.Nodes.{IsOutcomeUse, IsWritable, nodes_written}
+use Rattle.gf_tree.proofs.lemmas.written.Nodes.{result_tokens, node_tokens, IsSetUse, IsOutcomeUse}
+use Rattle.gf_tree.proofs.lemmas.written.Nodes.{IsWritable, nodes_written}
 use Rattle.gf_tree.proofs.lemmas.written.Tokens.{IsWhole, bytes_of, spell}
+use Rattle.gf_tree.specs.Description as description
 
 -- ---- the descriptions of a game
 
@@ -71,9 +71,7 @@ set_use g is can (Some k) among =
       above = d.2.0.number;
       player = d.2.1.player;
       number = d.2.1.number;
-      set = subst (λ o. MatchOption o (Unit {0}) (λ x.
-          IsSet (length g.players) k x × IsSpellableSet (record { key = k; description = x })))
-          (sym d.1) d.2;
+      set = rw d.1 d.2;
     }
 
 outcome_use : (g : Game) → IsGame g → IsSpellable g → (o : Option ℕ)
@@ -90,10 +88,7 @@ outcome_use g is can (Some k) among =
     record {
       above = d.2.0.number_from_one;
       number = d.2.1.number;
-      outcome =
-          subst (λ o. MatchOption o (Unit {0}) (λ x. description.IsOutcome (length g.players) k x
-          × IsSpellableOutcome (record { key = k; description = x })))
-          (sym d.1) d.2;
+      outcome = rw d.1 d.2;
     }
 
 -- the keys of an entry are among those that are used
@@ -132,8 +127,7 @@ whole_mover : (player : ℕ) → player < 2 ^ 32 → AllWhole (mover_tokens play
 whole_mover zero h = tt
 whole_mover (suc player) h = (index_spelled (suc player) h, tt)
 
-whole_set : (players : ℕ) (key : SetKey) (o : Option InformationSet)
-    → MatchOption o (Unit {0})
+whole_set : (players : ℕ) (key : SetKey) (o : Option InformationSet) → MatchOption o (Unit {0})
     (λ d. IsSet players key d × IsSpellableSet (record { key = key; description = d }))
     → AllWhole (flat_map set_tokens (option_to_list o))
 whole_set players key None h = tt
@@ -225,8 +219,7 @@ nodes_of_game g is can =
     set_use g is can y.0.node.set (λ k q. among_options (λ e. e.node.set) es y.0 k y.1 q) in
     let outcome = outcome_use g is can y.0.node.outcome
     (λ k q. among_options (λ e. e.node.outcome) es y.0 k y.1 q) in
-    subst (λ z. IsLabel z.name × IsWritable (length g.players) z) node
-    (name, record { set = set; outcome = outcome }))
+    rw (← node) (name, record { set = set; outcome = outcome }))
 
 whole_nodes : (players : ℕ) (ns : List FileNode)
     → AllByRecursion (λ n. IsLabel n.name × IsWritable players n) ns

@@ -1,6 +1,6 @@
 -- The tokens of a node in the spelling of canonical text, and that they say this node.
-use Rattle.std.proofs.Common.{◌≡◌, ℕ, zero, suc, ◌^◌, ◌<◌, List, [], ◌∷◌, ◌++◌, length, map}
-use Rattle.std.proofs.Common.{drop, Some, None, Option, MatchOption, refl, ap, arith, inl}
+use Rattle.std.proofs.Common.{◌≡◌, ℕ, zero, suc, ◌^◌, ◌<◌, List, [], ◌∷◌, ◌++◌, length, map, drop}
+use Rattle.std.proofs.Common.{Some, None, Option, MatchOption, refl, ap, arith, inl}
 use Rattle.std.specs.Prelude.{codes, decimal}
 use Rattle.std.specs.List.{AllByRecursion, flat_map}
 use Rattle.std.specs.Option.{option_to_list}
@@ -14,11 +14,11 @@ use Rattle.gf_token.specs.Grammar.{Each, braced, IsPayoffInBraces}
 use Rattle.gf_token.proofs.Grammar.{each_group}
 use Rattle.gf_token.proofs.SpelledNumbers.{decimal_is_index}
 use Rattle.gf_tree.specs.Description.{Action, SetKey, InformationSet, Outcome, IsSet, AreActions}
-use Rattle.gf_tree.specs.Description as description
 use Rattle.gf_tree.specs.FileTree.{Use, FileNode}
-use Rattle.gf_tree.specs.Sentence.{IsDescription, IsAction, IsInformationSet, IsMover}
-use Rattle.gf_tree.specs.Sentence.{IsStep, IsResult, IsNode, IsOutcomeDescription}
+use Rattle.gf_tree.specs.Sentence.{IsDescription, IsAction, IsInformationSet, IsMover, IsStep}
+use Rattle.gf_tree.specs.Sentence.{IsResult, IsNode, IsOutcomeDescription}
 use Rattle.gf_tree.specs.Spellable.{IsSpellableAction, IsSpellableSet, IsSpellableOutcome}
+use Rattle.gf_tree.specs.Description as description
 
 -- ---- tokens
 

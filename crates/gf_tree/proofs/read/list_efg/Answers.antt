@@ -1,7 +1,7 @@
 use Rattle.std.proofs.Common.{[], ◌∙◌, ap, rules, subst, sym}
 use Rattle.gf_tree.specs.GameOf.{SpellsGame}
-use Rattle.gf_tree.specs.inner.ReaderState.{Answer, answer, content_with}
 use Rattle.gf_tree.specs.inner.Machine.Position.{NodeDue}
+use Rattle.gf_tree.specs.inner.ReaderState.{Answer, answer, content_with}
 use Rattle.gf_tree.proofs.lemmas.reader.Games.{answer_judged, answer_only, read_only, read_spells}
 use Rattle.gf_tree.proofs.lemmas.reader.Steps.{carried, heard_begun, refused_only, refused_why}
 use Rattle.gf_tree.proofs.lemmas.reader.Telling.{all_placed, all_read}

@@ -1,7 +1,7 @@
 use Rattle.std.proofs.Common.{◌∙◌, ap, rules}
 use Rattle.gf_tree.specs.inner.KnownOutcomes.{KnownOutcomes}
-use Rattle.gf_tree.specs.KnownSets.{KnownSets}
 use Rattle.gf_tree.specs.inner.Machine.{Content}
+use Rattle.gf_tree.specs.KnownSets.{KnownSets}
 use Rattle.gf_tree.proofs.lemmas.reader.Games.{answer_judged, answer_only}
 use Rattle.gf_tree.proofs.lemmas.reader.Steps.{carried, heard_begun, refused_why}
 use Rattle.gf_tree.proofs.lemmas.reader.ToldGames.{if_err, on_ok, told_game}

@@ -1,30 +1,17 @@
-use Rattle.std.proofs.Common.{ap}
+use Rattle.std.proofs.Common.{ap, arith, length}
 use Rattle.gf_tree.specs.Game.{Game}
-use Rattle.gf_tree.proofs.lemmas.games.Made.{its_game}
-use Rattle.gf_tree.proofs.lemmas.stores.NodeParts.{are_actions, kept_there, no_actions, set_below}
+use Rattle.gf_tree.proofs.lemmas.stores.NodeParts.{are_actions, no_actions, set_below}
 use Rattle.gf_tree.proofs.game.Game.actions.Goals as goal
 
 pub returns-then-set-eq0 : goal.returns-then-set-eq0
-returns-then-set-eq0 c =
-    no_actions _ _ _ _
-    (kept_there c.self.inside.sets.known c.self.inside.outcomes.known c.self.inside.nodes.items
-    c.args.self.now.tree c.args.at c.index.result.now c.self.invariant.nodes_are
-    (ap (λ (g : Game). g.tree) c.self.view_is) c.requires c.index.ensures)
-    c.args.self.now c.if-set-eq0.true
+returns-then-set-eq0 c = no_actions _ _ _ c.kept-set.ensures.kept c.if-set-eq0.true
 
 pub actions-requires : goal.actions-requires
 actions-requires c =
-    set_below _ _ _ _
-    (kept_there c.self.inside.sets.known c.self.inside.outcomes.known c.self.inside.nodes.items
-    c.args.self.now.tree c.args.at c.index.result.now c.self.invariant.nodes_are
-    (ap (λ (g : Game). g.tree) c.self.view_is) c.requires c.index.ensures)
-    c.if-set-eq0.false
+    let below = set_below _ _ _ c.kept-set.ensures.kept c.if-set-eq0.false in
+    omega (arith, below, ap (λ (g : Game). length g.sets) c.self.view_is)
 
 pub returns : goal.returns
 returns c =
-    are_actions _ _ _ _
-    (kept_there c.self.inside.sets.known c.self.inside.outcomes.known c.self.inside.nodes.items
-    c.args.self.now.tree c.args.at c.index.result.now c.self.invariant.nodes_are
-    (ap (λ (g : Game). g.tree) c.self.view_is) c.requires c.index.ensures)
-    c.args.self.now _ (its_game _ _ c.self.invariant.is_game c.self.view_is)
-    (ap (λ (g : Game). g.sets) c.self.view_is) c.if-set-eq0.false c.actions.ensures
+    are_actions _ _ _ c.kept-set.ensures.kept _ c.kept-set.ensures.is_game
+    c.if-set-eq0.false (rw (ap (λ (g : Game). g.sets) c.self.view_is) at c.actions.ensures)

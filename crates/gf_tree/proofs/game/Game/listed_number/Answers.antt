@@ -1,13 +1,11 @@
-use Rattle.std.proofs.Common.{ℕ, ap, arith, map}
-use Rattle.std.proofs.Common.{Vec, Global}
+use Rattle.std.proofs.Common.{ℕ, ap, arith, map, Vec, Global}
 use Rattle.std.proofs.lemmas.List.{length-map}
 use Rattle.gf_tree.specs.Game.{Game, IsGame}
 use Rattle.gf_tree.proofs.lemmas.games.Made.{its_game}
 use Rattle.gf_tree.proofs.lemmas.stores.RenumberedStores.{IsFound, found_in, own_items}
 use Rattle.gf_tree.proofs.game.Game.listed_number.Goals as goal
 
-found : (c : goal.After-first_use_number)
-    → (game : IsGame c.args.self.now)
+found : (c : goal.After-first_use_number) → (game : IsGame c.args.self.now)
     → IsFound c.args.self.now game (map (λ own. own.items) c.args.sets.now) c.requires.listed.0
     c.requires.listed.1 c.args.place c.first_use_number.result c.index-sets-player.result.items
 found c game =

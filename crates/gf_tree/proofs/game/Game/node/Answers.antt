@@ -4,28 +4,17 @@ use Rattle.gf_token.specs.Positions.{at_position}
 use Rattle.gf_tree.specs.Description.{Outcome, IsOutcome}
 use Rattle.gf_tree.specs.FiniteMap.{Described}
 use Rattle.gf_tree.specs.Game.{Game}
-use Rattle.gf_tree.specs.declared.game.kept.Stored.{Stored}
-use Rattle.gf_tree.proofs.lemmas.stores.GameNodes.{IsTreeOf, as_many, node_there, placed_there}
 use Rattle.gf_tree.proofs.lemmas.games.Uses.{all_of_each, each}
 use Rattle.gf_tree.proofs.game.Game.node.Goals as goal
 
 pub step-requires : goal.step-requires
 step-requires c =
-    let tree : IsTreeOf c.self.inside.sets.known c.self.inside.outcomes.known
-    c.self.inside.nodes.items c.args.self.now.tree =
-    record { are = c.self.invariant.nodes_are; is = ap (λ (g : Game). g.tree) c.self.view_is } in
-    let placed = placed_there _ _ c.self.inside.nodes.items c.args.at c.index-node.result.now
-    c.self.invariant.nodes_are.placed (omega (arith, c.requires, as_many _ _ _ _ tree)) in
-    omega (arith, ap (λ (n : Stored). n.set) c.index-node.ensures, placed.set)
+    omega (arith, c.kept-node.ensures.kept.placed.set, ap (λ (g : Game). length g.sets) c.self.view_is)
 
 pub outcome_number-requires-clause-within : goal.outcome_number-requires-clause-within
 outcome_number-requires-clause-within c =
-    let tree : IsTreeOf c.self.inside.sets.known c.self.inside.outcomes.known
-    c.self.inside.nodes.items c.args.self.now.tree =
-    record { are = c.self.invariant.nodes_are; is = ap (λ (g : Game). g.tree) c.self.view_is } in
-    let placed = placed_there _ _ c.self.inside.nodes.items c.args.at c.index-node.result.now
-    c.self.invariant.nodes_are.placed (omega (arith, c.requires, as_many _ _ _ _ tree)) in
-    omega (arith, ap (λ (n : Stored). n.outcome) c.index-node.ensures, placed.outcome)
+    let all = ap (λ (g : Game). length g.outcomes) c.self.view_is in
+    omega (arith, c.kept-node.ensures.kept.placed.outcome, all)
 
 pub outcome_number-requires-clause-positive : goal.outcome_number-requires-clause-positive
 outcome_number-requires-clause-positive c =
@@ -37,15 +26,11 @@ outcome_number-requires-clause-positive c =
 
 pub returns : goal.returns
 returns c =
-    let tree : IsTreeOf c.self.inside.sets.known c.self.inside.outcomes.known
-    c.self.inside.nodes.items c.args.self.now.tree =
-    record { are = c.self.invariant.nodes_are; is = ap (λ (g : Game). g.tree) c.self.view_is } in
-    let name = ap (λ (n : Stored). label_of n.name) c.index-node.ensures in
+    let n = c.kept-node.result in
     let set = c.step.ensures.set
-    ∙ ap (λ (n : Stored). option_map (λ s. s.key) (at_position c.self.inside.sets.known n.set))
-    c.index-node.ensures in
-    let outcome = c.outcome_number.ensures ∙ ap
-    (λ (n : Stored). option_map (λ o. o.key) (at_position c.self.inside.outcomes.known n.outcome))
-    c.index-node.ensures in
-    (λ i. record { name = name i; set = set i; outcome = outcome i })
-    ∙ sym (node_there _ _ _ _ c.args.at c.index-node.result.now tree c.requires)
+    ∙ ap (λ (g : Game). option_map (λ s. s.key) (at_position g.sets n.set)) c.self.view_is in
+    let outcome = c.outcome_number.ensures
+    ∙ ap (λ (g : Game). option_map (λ o. o.key) (at_position g.outcomes n.outcome))
+    c.self.view_is in
+    (λ i. record { name = label_of n.name; set = set i; outcome = outcome i })
+    ∙ sym c.kept-node.ensures.kept.node

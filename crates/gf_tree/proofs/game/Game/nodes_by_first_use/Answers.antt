@@ -17,11 +17,9 @@ returns c =
     let outcomes = c.self.inside.outcomes.known in
     let nodes = map kept_of c.self.inside.nodes.items in
     let held = c.self.invariant in
-    c.new.ensures
-    ∙ ap (λ (stored : List Stored). map (λ t. t.node)
+    c.new.ensures ∙ ap (λ (stored : List Stored). map (λ t. t.node)
     (told_from sets outcomes 0 0 (map kept_of stored)))
-    (c.iter.ensures.rest ∙ c.deref.ensures.value)
-    ∙ told_are_given _ held.is_game nodes
+    (c.iter.ensures.rest ∙ c.deref.ensures.value) ∙ told_are_given _ held.is_game nodes
     (flatten_grown no_node (entries_with sets outcomes nodes) held.nodes_are.fills)
     held.nodes_are.placed
     ∙ ap (λ (g : Game). file_nodes (renumbered (first_use_numbers g) g)) c.self.view_is

@@ -1,6 +1,5 @@
 use Rattle.gf_tree.proofs.lemmas.due.Heading.{format, version, letter, title, before_players}
-use Rattle.gf_tree.proofs.lemmas.due.Heading.{player_names}
-use Rattle.gf_tree.proofs.lemmas.due.Heading.{after_players, after_comment}
+use Rattle.gf_tree.proofs.lemmas.due.Heading.{player_names, after_players, after_comment}
 use Rattle.gf_tree.proofs.lemmas.fronts.Judged.{obeys}
 use Rattle.gf_tree.proofs.laws.rows.heading.Goals as goal
 

@@ -1,6 +1,6 @@
 use Rattle.gf_tree.proofs.lemmas.due.Nodes.{node_name, player}
-use Rattle.gf_tree.proofs.lemmas.due.Payoffs.{nodes_due, after_last_node}
 use Rattle.gf_tree.proofs.lemmas.fronts.Judged.{obeys}
+use Rattle.gf_tree.proofs.lemmas.due.Payoffs.{nodes_due, after_last_node}
 use Rattle.gf_tree.proofs.laws.rows.nodes.Goals as goal
 
 pub returns-clause-after_node : goal.returns-clause-after_node

@@ -1,11 +1,9 @@
-use Rattle.std.proofs.Common.{◌≡◌, ◌≤◌, length}
+use Rattle.std.proofs.Common.{◌≡◌, ◌≤◌, length, ℕ, List}
 use Rattle.gf_fraction.specs.Ratio.{IsFraction}
 use Rattle.gf_token.specs.Label.{label_of}
-use Rattle.std.proofs.Common.{ℕ, List}
-use Rattle.gf_tree.specs.Description.{set_of}
-use Rattle.gf_tree.specs.Description.{set_with}
-use Rattle.gf_tree.specs.inner.Machine.Position.{NewSetName, NewAction}
+use Rattle.gf_tree.specs.Description.{set_of, set_with}
 use Rattle.gf_tree.specs.inner.ReaderState.{answer}
+use Rattle.gf_tree.specs.inner.Machine.Position.{NewSetName, NewAction}
 use Rattle.gf_tree.proofs.reader.Reader.new_set.Given as goal
 
 abbrev pub invariant-loop-label : goal.invariant-loop-label

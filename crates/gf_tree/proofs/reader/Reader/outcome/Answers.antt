@@ -1,15 +1,14 @@
-use Rattle.std.proofs.Common.{◌≡◌, ◌∙◌, ap, sym, false, Some, None, length, refl, rules}
+use Rattle.std.proofs.Common.{◌≡◌, ap, false, Some, None, length, refl, rules}
 use Rattle.gf_token.specs.Label.{label_of}
+use Rattle.gf_token.specs.Next.{is_quoted, starts}
 use Rattle.gf_tree.specs.KeptNodes.{position_of}
+use Rattle.gf_tree.specs.declared.reader.Reader.{Reader}
 use Rattle.gf_tree.specs.inner.Machine.{with_node}
 use Rattle.gf_tree.specs.inner.Machine.Position.{KnownOutcomeName, NodeDue}
 use Rattle.gf_tree.specs.inner.ReaderState.{begun_with, content_of}
 use Rattle.gf_tree.proofs.lemmas.reader.Steps.{wants_memory}
 use Rattle.gf_tree.proofs.lemmas.stores.PassedBy.{outcome_passed_by}
 use Rattle.gf_tree.proofs.lemmas.reader.Telling.{grows_none, placed_at, tells}
-use Rattle.gf_tree.specs.declared.reader.Reader.{Reader}
-use Rattle.gf_token.specs.Next.{is_quoted, starts}
-use Rattle.gf_token.specs.Remaining.{Remaining}
 use Rattle.gf_tree.proofs.reader.Reader.outcome.Goals as goal
 
 pub returns-in_default-tell-clause-machine : goal.returns-in_default-tell-clause-machine
@@ -43,8 +42,7 @@ returns-clause-machine g c =
     let now = c.tell-2.new.self in
     let same : now.tokens ≡ c.index.new.self = ap (λ (r : Reader). r.tokens) told.kept in
     let none : starts is_quoted now.tokens.ahead ≡ false =
-    ap (λ (t : Remaining). starts is_quoted t.ahead) same
-    ∙ sym c.is_quoted.ensures ∙ c.if-is_quoted.false in
+    cc (same, c.is_quoted.ensures, c.if-is_quoted.false) in
     tells (KnownOutcomeName known.outcome) {old = c.args.self.now}
     {r = record c.args.self.now { tokens = c.index.new.self }}
     refl refl (grows_none c.args.self.now.sets.known) (grows_none c.args.self.now.outcomes.known)

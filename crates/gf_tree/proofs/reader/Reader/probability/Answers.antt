@@ -1,10 +1,9 @@
 use Rattle.std.proofs.Common.{Some, rules}
 use Rattle.gf_token.specs.Label.{label_of}
-use Rattle.gf_tree.specs.Description.{set_of}
-use Rattle.gf_tree.specs.Description.{set_with}
+use Rattle.gf_tree.specs.Description.{set_of, set_with}
+use Rattle.gf_tree.specs.inner.ReaderState.{content_of}
 use Rattle.gf_tree.specs.inner.Machine.{with_action}
 use Rattle.gf_tree.specs.inner.Machine.Position.{NewAction}
-use Rattle.gf_tree.specs.inner.ReaderState.{content_of}
 use Rattle.gf_tree.proofs.lemmas.reader.Steps.{wants_memory}
 use Rattle.gf_tree.proofs.reader.Reader.probability.Goals as goal
 

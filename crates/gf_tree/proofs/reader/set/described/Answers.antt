@@ -3,8 +3,8 @@ use Rattle.gf_token.specs.Label.{label_of}
 use Rattle.gf_tree.specs.Actions.{actions_of}
 use Rattle.gf_tree.specs.Description.{same_set, set_of}
 use Rattle.gf_tree.proofs.lemmas.stores.FoundKeys.{not_described}
-use Rattle.gf_tree.proofs.lemmas.reader.Steps.{found_set, if_none}
 use Rattle.gf_tree.proofs.lemmas.games.TreesOnce.{same_set_equality}
+use Rattle.gf_tree.proofs.lemmas.reader.Steps.{found_set, if_none}
 use Rattle.gf_tree.proofs.reader.set.described.Goals as goal
 
 pub returns-in_err-place-clause-unknown : goal.returns-in_err-place-clause-unknown

@@ -1,4 +1,4 @@
-use Rattle.std.proofs.Common.{ap, arith, length, map, rules}
+use Rattle.std.proofs.Common.{arith, map, rules}
 use Rattle.std.proofs.Math.ListN.{drop_of_length-le}
 use Rattle.gf_tree.specs.PrefixOrder.{Entry, flatten}
 use Rattle.gf_tree.specs.Game.{Node}
@@ -25,5 +25,4 @@ returns-clause-goes c =
     let tree = c.args.self.now.game.now.tree in
     let next =
     next_node tree c.args.self.now.next_place (omega (arith, c.if-self-len.false, c.len.ensures)) in
-    let shorter = ap length next in
     search rules
