@@ -20,5 +20,6 @@ pub mod ReachedValues
 pub mod RowsMade
 pub mod SettledRows
 pub mod ShareSums
+pub mod SummedNodes
 pub mod UnmetShares
 pub mod ValuedNodes

@@ -12,3 +12,4 @@ pub mod ProfileRows
 pub mod ReachedNodes
 pub mod SettledRows
 pub mod Shares
+pub mod SummedNodes

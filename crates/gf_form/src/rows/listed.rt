@@ -1,14 +1,13 @@
 //! The terms of the nodes that choices can reach.
 
-ghost use Rattle.std.specs.Prelude.{◌≡◌, ◌<◌, ◌≤◌, ℕ, IfOk, IfSome, IsTrue, List, OnOk, length};
+ghost use Rattle.std.specs.Prelude.{◌≡◌, ◌<◌, ◌≤◌, ℕ, IfOk, IsTrue, List, OnOk, length};
 ghost use Rattle.std.specs.Prelude.{map};
 ghost use Rattle.std.specs.Int.{◌∣◌};
 ghost use Rattle.std.specs.List.Sorted.{IsNonDecreasingBy};
-ghost use Rattle.gf_fraction.specs.Ratio.{IsWithin};
 ghost use Rattle.gf_tree.specs.Game.{Game};
 ghost use Rattle.gf_form.specs.inner.rows.Entries.{AreOrdered, EndsBelow, IsShaped, entries};
 ghost use Rattle.gf_form.specs.inner.rows.KeptNodes.{paid_reached};
-ghost use Rattle.gf_form.specs.inner.rows.ListedNodes.{AreTermsOf, IsShareIn, IsTermMore};
+ghost use Rattle.gf_form.specs.inner.rows.ListedNodes.{AreTermsOf, IsTermMore};
 ghost use Rattle.gf_form.specs.inner.values.PaidRows.{rows_of};
 ghost use Rattle.gf_form.specs.inner.rows.Paying.{FitOver};
 ghost use Rattle.gf_form.specs.inner.values.Rows.{ArePaid};
@@ -17,8 +16,8 @@ ghost use Rattle.gf_form.specs.declared.rows.paths.Reached.{Reached};
 
 use crate::rows::digits::Digits;
 use crate::rows::paths::{Path, Reached};
-use crate::rows::share::{Share, payoff_at, share_of};
-use crate::rows::shares::paid_nodes;
+use crate::rows::share::{payoff_at, share_of};
+use crate::rows::shares::paid_sums;
 use crate::rows::sums::multiple;
 use crate::rows::terms::{Head, Terms};
 use crate::values::payoffs::Payoffs;
@@ -34,7 +33,7 @@ const LARGEST: u128 = i128::MAX as u128;
 fn served(den: u128, common: u128) -> u128
     ensures { den ∣ result }
 {
-    if den == 0 || common % den != 0 {
+    if den == 0 || den == common || common % den != 0 {
         return den;
     }
     common
@@ -72,23 +71,6 @@ fn common_denominator(nodes: &[Reached], payoffs: &Payoffs<'_>) -> Option<u128> 
     Some(common)
 }
 
-/// What a path adds to a payoff over a denominator that serves the path; `None` if that is 0, or if
-/// there is a remainder or something is too large.
-fn share_in(path: Path, payoff: Fraction, den: u128) -> Option<Share>
-    requires { path.den ∣ den }
-    ensures share { IfSome result (IsShareIn path payoff den) }
-    ensures within { IfSome result (λ share. IsWithin share.amount) }
-{
-    if den == 0 {
-        return None;
-    }
-    let share = share_of(path, payoff, den)?;
-    if share.amount == i128::MIN {
-        return None;
-    }
-    Some(share)
-}
-
 /// Appends the term of a node, over this denominator if it serves.
 fn push_node(
     terms: &mut Terms,
@@ -102,14 +84,13 @@ fn push_node(
     ensures players { terms.new.players ≡ terms.old.players }
 {
     let den = denominator(node.path, payoffs.at(node.outcome), common);
+    let times = if den == 0 { 0 } else { den / node.path.den };
     let mut fits = true;
-    let mut size = 0;
+    let mut size: u128 = 0;
     for place in 0..terms.players {
         let payoff = payoff_at(payoffs, node.outcome, place);
-        if let Some(share) = share_in(node.path, payoff, den) {
-            if share.bound > size {
-                size = share.bound;
-            }
+        if let Some(share) = share_of(node.path, payoff, times) {
+            size = size.max(share.bound);
             terms.numbers.push(share.amount)?;
         } else {
             fits = false;
@@ -232,7 +213,6 @@ pub(crate) fn game_terms(
     ensures players { IfOk result (λ terms. terms.players ≡ length game.now.players) }
 {
     let players = game.players().len();
-    let mut nodes = paid_nodes(alloc, game, digits, payoffs)?;
-    nodes.sort_unstable_by_key(|node| node.path.demands);
+    let nodes = paid_sums(alloc, game, digits, payoffs)?;
     listed(alloc, &nodes, payoffs, players)
 }

@@ -1,11 +1,13 @@
 //! What a node adds to a player's payoff, over a denominator.
 
-ghost use Rattle.std.specs.Prelude.{◌≡◌, ◌<◌, IfSome};
+ghost use Rattle.std.specs.Prelude.{◌≡◌, IfSome};
+ghost use Rattle.gf_fraction.specs.Ratio.{IsWithin};
 ghost use Rattle.gf_form.specs.inner.values.PaidRows.{rows_of};
 ghost use Rattle.gf_form.specs.inner.values.Rows.{at_place, row_at};
 ghost use Rattle.gf_form.specs.inner.rows.Shares.{IsShare};
 
 use crate::rows::paths::Path;
+use crate::rows::sums::factor;
 use crate::values::payoffs::Payoffs;
 use gf_fraction::Fraction;
 
@@ -27,11 +29,12 @@ pub(crate) fn payoff_at(payoffs: &Payoffs<'_>, outcome: u32, place: usize) -> Fr
     }
 }
 
-/// What a path adds to a payoff over a common denominator; `None` if that is not a whole number, or
-/// is too large.
-pub(crate) fn share_of(path: Path, payoff: Fraction, den: u128) -> Option<Share>
-    requires { 0 < path.den }
-    ensures { IfSome result (IsShare path payoff den) }
+/// What a path adds to a payoff over a denominator that is so many times its own; `None` if that is
+/// not a whole number, or is too large.
+#[inline]
+pub(crate) fn share_of(path: Path, payoff: Fraction, times: u128) -> Option<Share>
+    ensures share { IfSome result (IsShare path payoff times) }
+    ensures within { IfSome result (λ share. IsWithin share.amount) }
 {
     if payoff == Fraction::zero() {
         return Some(Share {
@@ -39,19 +42,19 @@ pub(crate) fn share_of(path: Path, payoff: Fraction, den: u128) -> Option<Share>
             bound: 0,
         });
     }
-    let scale = den / path.den;
-    if scale % payoff.den() != 0 {
-        return None;
-    }
-    let Ok(factor) = i128::try_from(scale / payoff.den()) else {
+    let Ok(scale) = i128::try_from(factor(times, payoff.den())?) else {
         return None;
     };
-    let over = payoff.num().checked_mul(factor)?;
+    let over = payoff.num().checked_mul(scale)?;
     let Ok(weight) = i128::try_from(path.weight) else {
         return None;
     };
-    Some(Share {
+    let share = Share {
         amount: weight.checked_mul(over)?,
         bound: path.bound.checked_mul(over.unsigned_abs())?,
-    })
+    };
+    if share.amount == i128::MIN {
+        return None;
+    }
+    Some(share)
 }

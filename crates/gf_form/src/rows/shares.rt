@@ -1,18 +1,58 @@
 //! The nodes that pay somebody something, among those that choices can reach.
 
-ghost use Rattle.std.specs.Prelude.{◌≡◌, IfOk, map};
+ghost use Rattle.std.specs.Prelude.{◌≡◌, IfOk, IfSome, map};
+ghost use Rattle.std.specs.List.Sorted.{IsNonDecreasingBy};
 ghost use Rattle.gf_form.specs.inner.rows.KeptNodes.{paid_reached};
+ghost use Rattle.gf_form.specs.inner.rows.SummedNodes.{HaveSharesOf, IsNodeSum, order_of};
 ghost use Rattle.gf_form.specs.inner.values.PaidRows.{rows_of};
 ghost use Rattle.gf_form.specs.Strategies.{choices_by};
+ghost use Rattle.gf_form.specs.declared.rows.paths.Reached.{Reached};
 
 use crate::rows::digits::Digits;
-use crate::rows::paths::{Paths, Reached};
+use crate::rows::paths::{Path, Paths, Reached};
 use crate::values::payoffs::Payoffs;
 use gf_tree::Game;
 use std::alloc::{AllocError, Global};
 
+/// Above each outcome.
+const RADIX: u128 = 1 << 32;
+
+impl Reached {
+    /// A number that orders nodes by demands, those with the same demands by outcome, and those
+    /// with the same outcome by denominator, as far as its last digits go.
+    fn order(self) -> u128
+        ensures { result ≡ order_of self }
+    {
+        let demands = self.path.demands as u128;
+        let outcome = self.outcome as u128;
+        (demands * RADIX + outcome) * RADIX + self.path.den % RADIX
+    }
+
+    /// Both as one node, if they differ in weight alone; `None` if its weight is too large.
+    fn joined(self, other: Reached) -> Option<Reached>
+        ensures { IfSome result (IsNodeSum self other) }
+    {
+        let path = self.path;
+        let alike = path.den == other.path.den && path.demands == other.path.demands;
+        if !alike || self.outcome != other.outcome {
+            return None;
+        }
+        let weight = path.weight.checked_add(other.path.weight)?;
+        let bound = path.bound.checked_add(other.path.bound)?;
+        Some(Reached {
+            path: Path {
+                weight,
+                bound,
+                den: path.den,
+                demands: path.demands,
+            },
+            outcome: self.outcome,
+        })
+    }
+}
+
 /// These nodes in prefix order.
-pub(crate) fn paid_nodes(
+fn paid_nodes(
     alloc: Global,
     game: &Game<'_>,
     digits: &Digits,
@@ -29,4 +69,47 @@ pub(crate) fn paid_nodes(
         }
     }
     Ok(nodes)
+}
+
+/// Nodes in order of demands, with neighbours that differ in weight alone as one.
+fn summed(alloc: Global, nodes: &[Reached]) -> Result<Vec<Reached>, AllocError>
+    requires { IsNonDecreasingBy (λ (r : Reached). r.path.demands) nodes.now }
+    ensures shares { IfOk result (λ sums. HaveSharesOf nodes.now sums.items) }
+    ensures ordered { IfOk result
+        (λ sums. IsNonDecreasingBy (λ (r : Reached). r.path.demands) sums.items) }
+{
+    let mut sums = Vec::new(alloc);
+    if nodes.is_empty() {
+        return Ok(sums);
+    }
+    let mut last = nodes[0];
+    for place in 1..nodes.len() {
+        let node = nodes[place];
+        match last.joined(node) {
+            Some(sum) => last = sum,
+            None => {
+                sums.push(last)?;
+                last = node;
+            }
+        }
+    }
+    sums.push(last)?;
+    Ok(sums)
+}
+
+/// These nodes in order of demands, with those that differ in weight alone as one.
+pub(crate) fn paid_sums(
+    alloc: Global,
+    game: &Game<'_>,
+    digits: &Digits,
+    payoffs: &Payoffs<'_>,
+) -> Result<Vec<Reached>, AllocError>
+    ensures shares { IfOk result (λ nodes. HaveSharesOf (paid_reached (rows_of payoffs.now) game.now
+        (choices_by game.now (map (λ own. own.items) digits.now.steps.items))) nodes.items) }
+    ensures ordered { IfOk result
+        (λ nodes. IsNonDecreasingBy (λ (r : Reached). r.path.demands) nodes.items) }
+{
+    let mut nodes = paid_nodes(alloc, game, digits, payoffs)?;
+    nodes.sort_unstable_by_key(|node| node.order());
+    summed(alloc, &nodes)
 }

@@ -27,13 +27,21 @@ pub(crate) fn multiple(a: u128, b: u128) -> Option<u128> {
 
 /// What a denominator has to be multiplied by to become another; `None` if that is not a whole
 /// number.
-fn factor(den: u128, from: u128) -> Option<u128>
+#[inline]
+pub(crate) fn factor(den: u128, from: u128) -> Option<u128>
     ensures { IfSome result (IsFactor from den) }
 {
-    if from == 0 || den % from != 0 {
+    if from == 1 {
+        return Some(den);
+    }
+    if from == 0 {
         return None;
     }
-    Some(den / from)
+    let factor = den / from;
+    if factor * from != den {
+        return None;
+    }
+    Some(factor)
 }
 
 /// How two terms are brought over one denominator; `None` if that does not fit.

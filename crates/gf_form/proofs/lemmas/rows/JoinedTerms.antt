@@ -52,6 +52,14 @@ last_two (x ∷ y ∷ xs) (suc n) d two =
 
 -- ---- the sum of the last two
 
+-- the terms say no less, and are in order as before
+pub record Joined (old after : Terms) : Type 0 where
+  pub terms : (g : Game) (players : ℕ) (nodes : List Reached)
+      → AreTermsOf g players nodes (entries old) → AreTermsOf g players nodes (entries after)
+  pub ordered : AreOrdered old → AreOrdered after
+  pub last : (demands : ℕ) → EndsBelow old.heads.items demands
+      → EndsBelow after.heads.items demands
+
 module _ (old spare sums after : Terms) (n last : ℕ) (two : length old.heads.items ≡ n + 2)
     (next : last ≡ n + 1)
     (same : (head_at old n).demands ≡ (head_at old last).demands)
@@ -78,7 +86,7 @@ module _ (old spare sums after : Terms) (n last : ℕ) (two : length old.heads.i
   first : has.sum.head.demands ≡ (head_at old n).demands
   first = has.demands ∙ ap (λ (h : Head). h.demands) (entry_head old n (omega (arith, two)))
 
-  pub joined_terms : (g : Game) (players : ℕ) (nodes : List Reached)
+  joined_terms : (g : Game) (players : ℕ) (nodes : List Reached)
       → AreTermsOf g players nodes (entries old) → AreTermsOf g players nodes (entries after)
   joined_terms g players nodes before =
       subst (AreTermsOf g players nodes) (sym all_are)
@@ -93,7 +101,7 @@ module _ (old spare sums after : Terms) (n last : ℕ) (two : length old.heads.i
       ∙ ap (λ (k : ℕ). take n (entries old) ++ entry_at old n ∷ entry_at old k ∷ []) (sym next))
       before))
 
-  pub joined_ordered : AreOrdered old → AreOrdered after
+  joined_ordered : AreOrdered old → AreOrdered after
   joined_ordered sorted =
       ordered_more (take n old.heads.items) after.heads.items has.sum.head heads_are
       (IsNonDecreasingBy-take (λ (h : Head). h.demands) n old.heads.items sorted) below
@@ -110,7 +118,7 @@ module _ (old spare sums after : Terms) (n last : ℕ) (two : length old.heads.i
           get_or_default old.heads.items (n - 1) d no_head (omega (arith, two)) in
           omega (arith, there, ap (λ (h : Head). h.demands) other, up, first)
 
-  pub joined_last : (demands : ℕ) → EndsBelow old.heads.items demands
+  joined_last : (demands : ℕ) → EndsBelow old.heads.items demands
       → EndsBelow after.heads.items demands
   joined_last demands ends =
       let least = ends no_head (omega (arith, two)) in
@@ -120,3 +128,6 @@ module _ (old spare sums after : Terms) (n last : ℕ) (two : length old.heads.i
       ap (λ (k : ℕ). (get_or old.heads.items k no_head).demands) place in
       below_more (take n old.heads.items) after.heads.items has.sum.head demands heads_are
       (omega (arith, first, same, there, least))
+
+  pub joined : Joined old after
+  joined = record { terms = joined_terms; ordered = joined_ordered; last = joined_last }

@@ -28,10 +28,6 @@ use Rattle.gf_form.specs.declared.rows.paths.Reached.{Reached}
 use Rattle.gf_form.proofs.lemmas.rows.MergedEntries.{both_size, both_sum, exact_first, exact_second}
 use Rattle.gf_form.proofs.lemmas.rows.MergedEntries.{size_append, sum_append}
 use Rattle.gf_form.proofs.lemmas.rows.OverOneDenominator.{quotient_above, quotient_through}
-use Rattle.std.proofs.lemmas.List.Elements.{All-from_recursion, recursion_from_All}
-use Rattle.std.specs.List.Sorted.{IsPermutation}
-use Rattle.std.proofs.lemmas.List.Sorted.{All-permutation, IsPermutation-sym}
-use Rattle.gf_form.proofs.lemmas.rows.OrderedShares.{bounds_permuted, shares_permuted}
 use Rattle.gf_form.proofs.lemmas.rows.ShareSums.{bounds_append, shares_append}
 
 -- ---- shares over a multiple of a denominator
@@ -262,17 +258,4 @@ one_term_less g players rs es a b sum first second adds before k less den steps 
         size_append den steps choices es (sum ∷ []),
         both_size den steps choices a b sum first second adds known,
       );
-    }
-
--- the order of the nodes does not matter
-pub terms_permuted : (g : Game) (players : ℕ) (rs ss : List Reached) (es : List Entry)
-    → IsPermutation rs ss → AreTermsOf g players ss es → AreTermsOf g players rs es
-terms_permuted g players rs ss es order told k less den steps choices exact =
-    let h = told k less den steps choices exact in
-    let P = IsExactIfMet g (suc k) den steps choices in record {
-      exact = recursion_from_All P rs (All-permutation P ss rs (IsPermutation-sym rs ss order)
-          (All-from_recursion P ss h.exact));
-      sums = sym (shares_permuted g (suc k) den steps choices rs ss order) ∙ h.sums;
-      bounds = let same = bounds_permuted g (suc k) den steps choices rs ss order in
-          let most = h.bounds in omega (arith, same, most);
     }

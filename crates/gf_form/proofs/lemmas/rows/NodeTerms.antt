@@ -13,7 +13,7 @@ use Rattle.std.proofs.Math.Nat.{one-dvd}
 use Rattle.gf_fraction.specs.Ratio.{IsWithin, Ratio, whole}
 use Rattle.gf_tree.specs.Game.{Game}
 use Rattle.gf_form.specs.inner.rows.Entries.{Entry}
-use Rattle.gf_form.specs.inner.rows.ListedNodes.{HasShare, IsShareIn, IsTermOf}
+use Rattle.gf_form.specs.inner.rows.ListedNodes.{HasShare, IsTermOf}
 use Rattle.gf_form.specs.inner.values.Rows.{ArePaid, at_place, row_at}
 use Rattle.gf_form.specs.inner.rows.Shares.{IsShare, over, share_bound}
 use Rattle.gf_form.specs.declared.rows.share.Share.{Share}
@@ -21,49 +21,48 @@ use Rattle.gf_form.specs.declared.rows.paths.Path.{Path}
 use Rattle.gf_form.specs.declared.rows.paths.Reached.{Reached}
 
 -- nothing is added to a payoff of zero
-pub zero_share : (path : Path) (pay : Ratio) (den : ℕ) (s : Share) → pay ≡ whole (pos 0)
-    → s.amount ≡ pos 0 → s.bound ≡ 0 → IsShare path pay den s
-zero_share path pay den s nothing amount_is bound_is =
-    let scale = den / path.den in
-    let none : 0 * (scale / 1) ≡ 0 = omega arith in
-    let weighed : 0 ≡ path.weight * (0 * (scale / 1)) = omega (arith, none) in
-    let bounded : 0 ≡ path.bound * (0 * (scale / 1)) = omega (arith, none) in
-    subst (λ (pay : Ratio). IsShare path pay den s) (sym nothing) (record {
-      exact = one-dvd scale;
+pub zero_share : (path : Path) (pay : Ratio) (times : ℕ) (s : Share) → pay ≡ whole (pos 0)
+    → s.amount ≡ pos 0 → s.bound ≡ 0 → IsShare path pay times s
+zero_share path pay times s nothing amount_is bound_is =
+    let none : 0 * (times / 1) ≡ 0 = omega arith in
+    let weighed : 0 ≡ path.weight * (0 * (times / 1)) = omega (arith, none) in
+    let bounded : 0 ≡ path.bound * (0 * (times / 1)) = omega (arith, none) in
+    subst (λ (pay : Ratio). IsShare path pay times s) (sym nothing) (record {
+      exact = one-dvd times;
       amount_is = amount_is ∙ ap pos weighed;
       bound_is = bound_is ∙ bounded;
     })
 
 -- what a path adds to a payoff is this number, and its bound is at most so much
-pub record IsNumber (path : Path) (pay : Ratio) (den size : ℕ) (number : ℤ) : Type 0 where
+pub record IsNumber (path : Path) (pay : Ratio) (times size : ℕ) (number : ℤ) : Type 0 where
   pub share : Share
-  pub is : IsShareIn path pay den share
+  pub is : IsShare path pay times share
   pub amount : share.amount ≡ number
   pub bound : share.bound ≤ size
 
-pub is_number : (path : Path) (pay other : Ratio) (den size : ℕ) (s : Share) → pay ≡ other
-    → IsShareIn path pay den s → s.bound ≤ size → IsNumber path other den size s.amount
-is_number path pay other den size s same is most = record {
+pub is_number : (path : Path) (pay other : Ratio) (times size : ℕ) (s : Share) → pay ≡ other
+    → IsShare path pay times s → s.bound ≤ size → IsNumber path other times size s.amount
+is_number path pay other times size s same is most = record {
   share = s;
-  is = subst (λ (p : Ratio). IsShareIn path p den s) same is;
+  is = subst (λ (p : Ratio). IsShare path p times s) same is;
   amount = refl;
   bound = most;
 }
 
 -- this many more numbers of a row
-pub record Filling (path : Path) (pays : ℕ → Ratio) (den size place : ℕ) (fits : Bool)
+pub record Filling (path : Path) (pays : ℕ → Ratio) (times size place : ℕ) (fits : Bool)
     (old new : List ℤ) : Type 0 where
   pub row : List ℤ
   pub is : new ≡ old ++ row
   pub one_each : length row ≡ place
   pub within : AllByRecursion IsWithin row
   pub numbers : fits ≡ true → (k : ℕ) → k < place
-      → IsNumber path (pays k) den size (get_or row k (pos 0))
+      → IsNumber path (pays k) times size (get_or row k (pos 0))
 
-module _ (path : Path) (pays : ℕ → Ratio) (den size place : ℕ) (fits : Bool)
+module _ (path : Path) (pays : ℕ → Ratio) (times size place : ℕ) (fits : Bool)
     (old new after : List ℤ) (number : ℤ) (small : IsWithin number)
     (is : after ≡ new ++ number ∷ [])
-    (before : Filling path pays den size place fits old new) where
+    (before : Filling path pays times size place fits old new) where
   abbrev more : List ℤ
   more = before.row ++ number ∷ []
 
@@ -78,8 +77,8 @@ module _ (path : Path) (pays : ℕ → Ratio) (den size place : ℕ) (fits : Boo
   more_within : AllByRecursion IsWithin more
   more_within = all_both IsWithin before.row (number ∷ []) before.within (small, tt)
 
-  pub one_filled : (next : ℕ) → size ≤ next → IsNumber path (pays place) den next number
-      → Filling path pays den next (place + 1) fits old after
+  pub one_filled : (next : ℕ) → size ≤ next → IsNumber path (pays place) times next number
+      → Filling path pays times next (place + 1) fits old after
   one_filled next up here = record {
     row = more;
     is = more_is;
@@ -89,7 +88,7 @@ module _ (path : Path) (pays : ℕ → Ratio) (den size place : ℕ) (fits : Boo
   }
     where
       at : fits ≡ true → (k : ℕ) → k < place + 1 → (k < place) ⊎ (place ≤ k)
-          → IsNumber path (pays k) den next (get_or more k (pos 0))
+          → IsNumber path (pays k) times next (get_or more k (pos 0))
       at known k less (inl h) =
           let n = before.numbers known k h in record {
             share = n.share;
@@ -102,12 +101,12 @@ module _ (path : Path) (pays : ℕ → Ratio) (den size place : ℕ) (fits : Boo
       at known k less (inr h) =
           let last : k ≡ length before.row = omega (arith, h, less, before.one_each) in
           let there : k ≡ place = omega (arith, h, less) in
-          subst (λ (n : ℕ). IsNumber path (pays n) den next (get_or more k (pos 0))) (sym there)
-          (subst (IsNumber path (pays place) den next)
+          subst (λ (n : ℕ). IsNumber path (pays n) times next (get_or more k (pos 0))) (sym there)
+          (subst (IsNumber path (pays place) times next)
           (sym (ap (λ (n : ℕ). get_or more n (pos 0)) last
           ∙ get_or-append_seam before.row number [] (pos 0))) here)
 
-  pub none_known : (next : ℕ) → Filling path pays den next (place + 1) false old after
+  pub none_known : (next : ℕ) → Filling path pays times next (place + 1) false old after
   none_known next = record {
     row = more;
     is = more_is;
@@ -127,11 +126,12 @@ module _ (g : Game) (rows : List (List Ratio)) (are : ArePaid g rows) (r : Reach
   }
 
   has_share : (k : ℕ)
-      → IsNumber r.path (at_place (row_at rows r.outcome) k) den size (get_or row k (pos 0))
+      → IsNumber r.path (at_place (row_at rows r.outcome) k) (den / r.path.den) size
+      (get_or row k (pos 0))
       → HasShare g r (term den) k
   has_share k n =
       let paid = are.paid_is r.outcome k in
-      let is = n.is.is in
+      let is = n.is in
       let bound : n.share.bound ≡ share_bound g (suc k) den r =
       is.bound_is
       ∙ ap (λ (p : Ratio). r.path.bound * unsigned_abs (over (den / r.path.den) p)) paid in record {
@@ -146,7 +146,8 @@ module _ (g : Game) (rows : List (List Ratio)) (are : ArePaid g rows) (r : Reach
 
   pub is_term : (players known : ℕ)
       → (0 < known → (known ≡ den) × ((k : ℕ) → k < players
-      → IsNumber r.path (at_place (row_at rows r.outcome) k) den size (get_or row k (pos 0))))
+      → IsNumber r.path (at_place (row_at rows r.outcome) k) (den / r.path.den) size
+      (get_or row k (pos 0))))
       → IsTermOf g players r (term known)
   is_term players known all = record {
     demands = refl;

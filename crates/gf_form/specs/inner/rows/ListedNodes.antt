@@ -5,19 +5,11 @@ use Rattle.gf_fraction.specs.Ratio.{Ratio}
 use Rattle.gf_tree.specs.Game.{Game}
 use Rattle.gf_form.specs.inner.rows.Entries.{AreExactAt, Entry, entries, number_at, size_of_entries}
 use Rattle.gf_form.specs.inner.rows.Entries.{sum_of_entries}
-use Rattle.gf_form.specs.inner.rows.Shares.{IsShare}
 use Rattle.gf_form.specs.inner.values.Rows.{ArePaid}
 use Rattle.gf_form.specs.inner.rows.Shares.{IsExact, IsExactIfMet, met_bounds, share, share_bound}
 use Rattle.gf_form.specs.inner.rows.Shares.{sum_of_shares}
-use Rattle.gf_form.specs.declared.rows.share.Share.{Share}
-use Rattle.gf_form.specs.declared.rows.paths.Path.{Path}
 use Rattle.gf_form.specs.declared.rows.paths.Reached.{Reached}
 use Rattle.gf_form.specs.declared.rows.terms.Terms.{Terms}
-
--- what a path adds to a payoff over a denominator above zero
-pub record IsShareIn (path : Path) (pay : Ratio) (den : ℕ) (s : Share) : Type 0 where
-  pub above : 0 < den
-  pub is : IsShare path pay den s
 
 -- the player, by his place from 0, has the share of this node as his number
 pub record HasShare (g : Game) (r : Reached) (e : Entry) (k : ℕ) : Type 0 where

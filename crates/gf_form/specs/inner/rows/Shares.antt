@@ -24,11 +24,11 @@ scale den r = den / r.path.den
 abbrev pub over : ℕ → Ratio → ℤ
 over den pay = pay.num *ℤ pos (den / pay.den)
 
--- what a path adds to a payoff over a common denominator, if there is no remainder
-pub record IsShare (path : Path) (pay : Ratio) (den : ℕ) (s : Share) : Type 0 where
-  pub exact : pay.den ∣ den / path.den
-  pub amount_is : s.amount ≡ pos path.weight *ℤ over (den / path.den) pay
-  pub bound_is : s.bound ≡ path.bound * unsigned_abs (over (den / path.den) pay)
+-- what a path adds to a payoff over so many times its denominator, if there is no remainder
+pub record IsShare (path : Path) (pay : Ratio) (times : ℕ) (s : Share) : Type 0 where
+  pub exact : pay.den ∣ times
+  pub amount_is : s.amount ≡ pos path.weight *ℤ over times pay
+  pub bound_is : s.bound ≡ path.bound * unsigned_abs (over times pay)
 
 -- what the node's outcome pays the player
 abbrev pub pay_at : Game → ℕ → Reached → Ratio

@@ -1,7 +1,6 @@
-use Rattle.std.proofs.Common.{◌∙◌, ℕ, List, ap, length, map, rules, subst, sym}
-use Rattle.std.specs.List.Sorted.{IsNonDecreasingBy, IsPermutation}
+use Rattle.std.proofs.Common.{◌∙◌, ℕ, List, ap, length, map, subst, sym}
+use Rattle.std.specs.List.Sorted.{IsNonDecreasingBy}
 use Rattle.std.proofs.lemmas.List.{length-map}
-use Rattle.std.proofs.lemmas.List.Sorted.{IsNonDecreasingBy-from_sort_by_key}
 use Rattle.std.proofs.lemmas.Result.{IfOk-weaker}
 use Rattle.gf_token.specs.Label.{label_of}
 use Rattle.gf_tree.specs.Game.{Game}
@@ -13,20 +12,17 @@ use Rattle.gf_form.specs.inner.values.Rows.{ArePaid}
 use Rattle.gf_form.specs.Strategies.{choices_by}
 use Rattle.gf_form.specs.declared.rows.paths.Reached.{Reached}
 use Rattle.gf_form.specs.declared.rows.terms.Terms.{Terms}
-use Rattle.gf_form.proofs.lemmas.rows.ListedEntries.{terms_permuted}
+use Rattle.gf_form.proofs.lemmas.rows.SummedNodes.{demands_of, terms_of_sums}
 use Rattle.gf_form.proofs.rows.listed.game_terms.Goals as goal
 
 pub listed-requires : goal.listed-requires
 listed-requires c =
-    subst (IsNonDecreasingBy (λ (r : Reached). r.path.demands)) (sym c.deref.ensures.value)
-    (IsNonDecreasingBy-from_sort_by_key (λ (r : Reached). r.path.demands)
-    c.sort_unstable_by_key.new.self.items c.sort_unstable_by_key.ensures.sorted
-    (λ a r f k. search rules))
+    subst (IsNonDecreasingBy demands_of) (sym c.deref.ensures.value) c.in_ok-nodes.ensures.ordered
 
 pub returns-clause-terms : goal.returns-clause-terms
 returns-clause-terms c =
     let g = c.args.game.now in
-    let sorted = c.sort_unstable_by_key.new.self.items in
+    let nodes = c.in_ok-nodes.nodes.items in
     let rows = rows_of c.args.payoffs.now in
     let players = c.players-players.result.now in
     IfOk-weaker c.listed.result
@@ -34,11 +30,10 @@ returns-clause-terms c =
     → AreTermsOf h (length players) c.deref.result.now (entries terms))
     (λ (terms : Terms). AreTermsOf g (length g.players) (paid_reached rows g
     (choices_by g (map (λ own. own.items) c.args.digits.now.steps.items))) (entries terms))
-    (λ terms told. terms_permuted g (length g.players) (paid_reached rows g
-    (choices_by g (map (λ own. own.items) c.args.digits.now.steps.items))) sorted (entries terms)
-    (subst (λ (rs : List Reached). IsPermutation rs sorted) c.in_ok-nodes.ensures
-    c.sort_unstable_by_key.ensures.permutation)
-    (subst (λ (n : ℕ). AreTermsOf g n sorted (entries terms))
+    (λ terms told. terms_of_sums g (length g.players) (paid_reached rows g
+    (choices_by g (map (λ own. own.items) c.args.digits.now.steps.items))) nodes (entries terms)
+    c.in_ok-nodes.ensures.shares
+    (subst (λ (n : ℕ). AreTermsOf g n nodes (entries terms))
     (sym (length-map players label_of) ∙ ap length c.players-players.ensures.names)
     (subst (λ (rs : List Reached). AreTermsOf g (length players) rs (entries terms))
     c.deref.ensures.value (told g c.requires.payoffs))))

@@ -1,7 +1,8 @@
 use Rattle.std.proofs.Common.{◌≡◌, ◌∙◌, ◌*◌, ◌<◌, ◌∷◌, ◌++◌, [], ℕ, ℤ, ap, arith, get_or, length}
-use Rattle.std.proofs.Common.{refl}
+use Rattle.std.proofs.Common.{◌/◌, refl, subst}
 use Rattle.std.proofs.Common.{lit<, of_z, pos, sym, to_z, Vec, Global}
 use Rattle.std.specs.Int.{w128}
+use Rattle.std.proofs.Math.Nat.{pos_of_dvd_of_pos}
 use Rattle.std.proofs.lemmas.Int.{fits_signed_from_abs, to_z-of_z}
 use Rattle.gf_fraction.specs.Ratio.{IsWithin}
 use Rattle.gf_form.specs.inner.rows.Entries.{entries_of}
@@ -12,52 +13,47 @@ use Rattle.gf_form.proofs.lemmas.rows.FlatRows.{is_pushed}
 use Rattle.gf_form.proofs.lemmas.rows.NodeTerms.{IsNumber, is_number, is_term, none_known}
 use Rattle.gf_form.proofs.lemmas.rows.NodeTerms.{one_filled}
 use Rattle.gf_form.proofs.rows.listed.push_node.Goals as goal
-use Rattle.gf_form.proofs.rows.listed.push_node.Goals.{in-Some+in_ok-push, then-share-size}
-use Rattle.gf_form.proofs.rows.listed.push_node.Goals.{else-share-size, in_default+in_ok-push-2}
-use Rattle.gf_form.proofs.rows.listed.push_node.Goals.{then-fits, else-fits}
+use Rattle.gf_form.proofs.rows.listed.push_node.Goals.{in-Some+in_ok-push, in_default+in_ok-push-2}
+use Rattle.gf_form.proofs.rows.listed.push_node.Goals.{then-fits, else-fits, then-den-eq0}
+use Rattle.gf_form.proofs.rows.listed.push_node.Goals.{else-den-eq0}
 
 in_bits : (z : ℤ) → IsWithin z → to_z w128 (of_z w128 z) ≡ z
 in_bits z small = to_z-of_z w128 z (fits_signed_from_abs w128 z small)
+
+pub nonzero_div-times : goal.nonzero_div-times
+nonzero_div-times c =
+    let some =
+    pos_of_dvd_of_pos c.denominator-den.ensures (omega (arith, c.if-den-eq0.false)) in
+    omega (arith, some)
 
 pub loop-place-preserved : goal.loop-place-preserved
 loop-place-preserved c =
     let path = c.args.node.path in
     let pays = λ (k : ℕ). at_place (row_at (rows_of c.args.payoffs.now) c.args.node.outcome) k in
-    let den = c.denominator-den.result in
+    let times = c.if-den-eq0.times in
     let place = c.loop-place.place in
     let size = c.loop-place.size in
     let fits = c.loop-place.fits in
     let old = c.args.terms.now.numbers.items in
     let now = c.loop-place.terms.numbers.items in
     let inv = c.loop-place.invariant in
-    elim c.match-share_in.branch [
+    elim c.match-share_of.branch [
       | in-Some+in_ok-push w ↦
           let share = w.in-Some.share in
           let small = w.in-Some.ensures.within in
           let is = w.in_ok-push.ensures.items
           ∙ ap (λ (z : ℤ). now ++ z ∷ []) (in_bits share.amount small) in
-          elim w.if-share-size.branch [
-            | then-share-size v ↦ rw (w.terms-is, w.fits-is, w.size-is, v.size-is) (record {
-              filling = one_filled path pays den size place fits old now w.push.new.self.items
-                  share.amount small is inv.filling share.bound
-                  (omega (arith, v.if-share-size.true))
-                  (is_number path c.payoff_at-payoff.result (pays place) den share.bound share
-                  c.payoff_at-payoff.ensures w.in-Some.ensures.share (omega arith));
-              heads = inv.heads;
-              players = inv.players;
-            })
-            | else-share-size v ↦ rw (w.terms-is, w.fits-is, w.size-is, v.size-is) (record {
-              filling = one_filled path pays den size place fits old now w.push.new.self.items
-                  share.amount small is inv.filling size (omega arith)
-                  (is_number path c.payoff_at-payoff.result (pays place) den size share
-                  c.payoff_at-payoff.ensures w.in-Some.ensures.share
-                  (omega (arith, v.if-share-size.false)));
-              heads = inv.heads;
-              players = inv.players;
-            })
-          ]
+          let next = w.max-size.result in
+          rw (w.terms-is, w.fits-is, w.size-is) (record {
+            filling = one_filled path pays times size place fits old now w.push.new.self.items
+                share.amount small is inv.filling next (omega (arith, w.max-size.ensures))
+                (is_number path c.payoff_at-payoff.result (pays place) times next share
+                c.payoff_at-payoff.ensures w.in-Some.ensures.share (omega (arith, w.max-size.ensures)));
+            heads = inv.heads;
+            players = inv.players;
+          })
       | in_default+in_ok-push-2 w ↦ rw (w.terms-is, w.fits-is, w.size-is) (record {
-        filling = none_known path pays den size place fits old now w.push-in_default.new.self.items
+        filling = none_known path pays times size place fits old now w.push-in_default.new.self.items
             (pos 0) (lit< tt) w.in_ok-push-2.ensures.items inv.filling size;
         heads = inv.heads;
         players = inv.players;
@@ -79,12 +75,20 @@ returns-clause-term c =
     omega (arith, c.loop-place-test.false, c.loop-place.auto.place-end) in
     let heads : c.push-2.new.self.items ≡ old.heads.items ++ head ∷ [] =
     c.in_ok-push-3.ensures.items ∙ ap (λ (v : Vec Head Global). v.items ++ head ∷ []) inv.heads in
+    let times_is : 0 < den → c.if-den-eq0.times ≡ den / node.path.den =
+    elim c.if-den-eq0.branch [
+      | then-den-eq0 w ↦ λ some. absurd (omega (arith, some, w.if-den-eq0.true))
+      | else-den-eq0 w ↦ λ some. w.times-is
+    ] in
     let told : 0 < known → (known ≡ den) × ((k : ℕ) → k < old.players → IsNumber node.path
-    (at_place (row_at rows node.outcome) k) den c.loop-place.size (get_or row k (pos 0))) =
+    (at_place (row_at rows node.outcome) k) (den / node.path.den) c.loop-place.size
+    (get_or row k (pos 0))) =
     elim c.if-fits.branch [
       | then-fits w ↦ λ above. (
         w.den-is,
-        λ k less. inv.filling.numbers w.if-fits.true k (omega (arith, less, all)),
+        λ k less. subst (λ (n : ℕ). IsNumber node.path (at_place (row_at rows node.outcome) k) n
+            c.loop-place.size (get_or row k (pos 0))) (times_is (omega (arith, above, w.den-is)))
+            (inv.filling.numbers w.if-fits.true k (omega (arith, less, all))),
       )
       | else-fits w ↦ λ above. absurd (omega (arith, above, w.den-is))
     ] in record {

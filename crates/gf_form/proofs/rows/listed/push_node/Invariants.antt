@@ -7,7 +7,7 @@ use Rattle.gf_form.proofs.rows.listed.push_node.Given as goal
 abbrev pub invariant-loop-place : goal.invariant-loop-place
 invariant-loop-place l = record {
   filling : Filling l.node.path
-      (λ (k : ℕ). at_place (row_at (rows_of l.payoffs) l.node.outcome) k) l.den l.size l.place
+      (λ (k : ℕ). at_place (row_at (rows_of l.payoffs) l.node.outcome) k) l.times l.size l.place
       l.fits l.fn.terms.numbers.items l.terms.numbers.items;
   heads : l.terms.heads ≡ l.fn.terms.heads;
   players : l.terms.players ≡ l.fn.terms.players;

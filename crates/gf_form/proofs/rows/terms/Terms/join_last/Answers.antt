@@ -2,11 +2,11 @@ use Rattle.std.proofs.Common.{◌≡◌, ◌∙◌, ◌+◌, ◌-◌, ◌≤◌,
 use Rattle.gf_form.specs.inner.rows.Entries.{entries_of, entry_at, lowered}
 use Rattle.gf_form.specs.declared.rows.terms.Head.{Head}
 use Rattle.gf_form.proofs.lemmas.rows.FlatRows.{head_at, head_read}
-use Rattle.gf_form.proofs.lemmas.rows.JoinedTerms.{joined_last, joined_ordered, joined_terms}
+use Rattle.gf_form.proofs.lemmas.rows.JoinedTerms.{Joined, joined}
 use Rattle.gf_form.proofs.rows.terms.Terms.join_last.Goals as goal
 
-pub returns-clause-terms : goal.returns-clause-terms
-returns-clause-terms c =
+all : (c : goal.In_ok-push) → Joined c.args.self.now c.push.new.self
+all c =
     let old = c.args.self.now in
     let count = c.len-count.result in
     let some : 2 ≤ count = omega (arith, c.if-count-lt2.false) in
@@ -26,56 +26,15 @@ returns-clause-terms c =
     let heads = c.in_ok-push.ensures.heads
     ∙ ap (λ (hs : List Head). hs ++ (lowered 0 (entry_at c.push_sum.new.self 0)).head ∷ [])
     c.truncate.ensures.items in
-    joined_terms old c.clear.new.self c.push_sum.new.self c.push.new.self (count - 2) (count - 1)
+    joined old c.clear.new.self c.push_sum.new.self c.push.new.self (count - 2) (count - 1)
     two next
     same c.clear.ensures.none c.in_ok-push_sum.ensures.sum is heads
+
+pub returns-clause-terms : goal.returns-clause-terms
+returns-clause-terms c = (all c).terms
 
 pub returns-clause-ordered : goal.returns-clause-ordered
-returns-clause-ordered c =
-    let old = c.args.self.now in
-    let count = c.len-count.result in
-    let some : 2 ≤ count = omega (arith, c.if-count-lt2.false) in
-    let two : length old.heads.items ≡ count - 2 + 2 =
-    omega (arith, some, c.len-count.ensures, old.heads.ok.0) in
-    let next : count - 1 ≡ count - 2 + 1 = omega (arith, some) in
-    let first = head_read old (count - 2) c.index-else-count-lt2.result.now
-    (omega (arith, two)) c.index-else-count-lt2.ensures in
-    let other = head_read old (count - 1) c.index.result.now (omega (arith, two, next))
-    c.index.ensures in
-    let same : (head_at old (count - 2)).demands ≡ (head_at old (count - 1)).demands =
-    sym (ap (λ (h : Head). h.demands) first) ∙ sym c.if-index.false
-    ∙ ap (λ (h : Head). h.demands) other in
-    let is = c.in_ok-push.ensures.pushed
-    ∙ (λ i. entries_of old.players (c.truncate.ensures.items i) (c.truncate-2.ensures.items i)
-    ++ lowered 0 (entry_at c.push_sum.new.self 0) ∷ []) in
-    let heads = c.in_ok-push.ensures.heads
-    ∙ ap (λ (hs : List Head). hs ++ (lowered 0 (entry_at c.push_sum.new.self 0)).head ∷ [])
-    c.truncate.ensures.items in
-    joined_ordered old c.clear.new.self c.push_sum.new.self c.push.new.self (count - 2) (count - 1)
-    two next
-    same c.clear.ensures.none c.in_ok-push_sum.ensures.sum is heads
+returns-clause-ordered c = (all c).ordered
 
 pub returns-clause-last : goal.returns-clause-last
-returns-clause-last c =
-    let old = c.args.self.now in
-    let count = c.len-count.result in
-    let some : 2 ≤ count = omega (arith, c.if-count-lt2.false) in
-    let two : length old.heads.items ≡ count - 2 + 2 =
-    omega (arith, some, c.len-count.ensures, old.heads.ok.0) in
-    let next : count - 1 ≡ count - 2 + 1 = omega (arith, some) in
-    let first = head_read old (count - 2) c.index-else-count-lt2.result.now
-    (omega (arith, two)) c.index-else-count-lt2.ensures in
-    let other = head_read old (count - 1) c.index.result.now (omega (arith, two, next))
-    c.index.ensures in
-    let same : (head_at old (count - 2)).demands ≡ (head_at old (count - 1)).demands =
-    sym (ap (λ (h : Head). h.demands) first) ∙ sym c.if-index.false
-    ∙ ap (λ (h : Head). h.demands) other in
-    let is = c.in_ok-push.ensures.pushed
-    ∙ (λ i. entries_of old.players (c.truncate.ensures.items i) (c.truncate-2.ensures.items i)
-    ++ lowered 0 (entry_at c.push_sum.new.self 0) ∷ []) in
-    let heads = c.in_ok-push.ensures.heads
-    ∙ ap (λ (hs : List Head). hs ++ (lowered 0 (entry_at c.push_sum.new.self 0)).head ∷ [])
-    c.truncate.ensures.items in
-    joined_last old c.clear.new.self c.push_sum.new.self c.push.new.self (count - 2) (count - 1) two
-    next
-    same c.clear.ensures.none c.in_ok-push_sum.ensures.sum is heads
+returns-clause-last c = (all c).last
