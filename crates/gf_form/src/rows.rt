@@ -9,6 +9,7 @@ use crate::fault::EvalFault;
 use gf_fraction::Fraction;
 use std::alloc::AllocError;
 
+pub(crate) mod chosen;
 pub(crate) mod digits;
 pub(crate) mod full;
 pub(crate) mod listed;

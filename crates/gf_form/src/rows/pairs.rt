@@ -3,12 +3,11 @@
 
 ghost use Rattle.std.specs.Prelude.{◌≡◌, ◌+◌, ◌<◌, ◌≤◌, ◌^◌, ◌+ℤ◌, ◌*ℤ◌, ℕ, IfOk, IfSome, get_or};
 ghost use Rattle.std.specs.Prelude.{[], ◌∷◌, false, length, pos, true};
-ghost use Rattle.std.specs.List.Sorted.{IsNonDecreasingBy};
 ghost use Rattle.gf_fraction.specs.Ratio.{HasValue, IsFraction, IsWithin};
-ghost use Rattle.gf_form.specs.inner.rows.Entries.{CountsBelow, IsShaped, entries, part};
+ghost use Rattle.gf_form.specs.inner.rows.Entries.{AreChosen, AreWithin, IsShaped, entries, part};
 ghost use Rattle.gf_form.specs.inner.rows.Pairs.{ComeToPair, HasPairRow, IsOnly};
-ghost use Rattle.gf_form.specs.declared.rows.terms.Head.{Head};
 
+use crate::rows::chosen::Chosen;
 use crate::rows::sums::{Scale, combined, scale_of};
 use crate::rows::terms::{Head, Terms};
 use gf_fraction::Fraction;
@@ -33,22 +32,6 @@ pub(crate) struct Pair<'t> {
     /// such term.
     pub first: &'t [i128],
     pub second: &'t [i128],
-}
-
-/// How many of these terms, in order of demands, come before a number. Quick if a guess is close.
-pub(crate) fn count_near(heads: &[Head], number: u64, guess: usize) -> usize
-    requires ordered { IsNonDecreasingBy (λ (h : Head). h.demands) heads.now }
-    requires within { guess ≤ length heads.now }
-    ensures { CountsBelow heads.now number result }
-{
-    let mut count = guess;
-    while count > 0 && heads[count - 1].demands >= number {
-        count -= 1;
-    }
-    while count < heads.len() && heads[count].demands < number {
-        count += 1;
-    }
-    count
 }
 
 /// The number at a place, from 0; zero if there is none.
@@ -126,30 +109,26 @@ impl Terms {
         })
     }
 
-    /// What these terms come to at an action of the fastest digit: the first of them, up to `free`,
-    /// which demand nothing, and those from one place up to another, which demand the action.
+    /// What these terms come to at an action of the fastest digit, by those that count there.
     /// `None` if that is not known to fit.
-    pub(crate) fn pair(&self, free: usize, start: usize, end: usize) -> Option<Pair<'_>>
+    pub(crate) fn pair(&self, chosen: Chosen) -> Option<Pair<'_>>
         requires shaped { IsShaped self.now }
-        requires free { free ≤ length self.now.heads.items }
-        requires end { end ≤ length self.now.heads.items }
+        requires within { AreWithin self.now.heads.items chosen }
         ensures last { IfSome result (λ pair. (action : ℕ) → 1 ≤ action
-            → CountsBelow self.now.heads.items 1 free
-            → CountsBelow self.now.heads.items action start
-            → CountsBelow self.now.heads.items (action + 1) end
+            → AreChosen self.now.heads.items 1 action chosen
             → ComeToPair (1 ∷ []) (action ∷ []) (entries self.now) pair) }
-        ensures all { IfSome result (λ pair. free ≡ length self.now.heads.items → end ≤ start
-            → ComeToPair [] [] (entries self.now) pair) }
+        ensures all { IfSome result (λ pair. chosen.free ≡ length self.now.heads.items
+            → chosen.end ≤ chosen.start → ComeToPair [] [] (entries self.now) pair) }
     {
-        let den = if start < end {
-            self.heads[start].den
-        } else if free > 0 {
+        let den = if chosen.start < chosen.end {
+            self.heads[chosen.start].den
+        } else if chosen.free > 0 {
             self.heads[0].den
         } else {
             1
         };
-        let first = self.only(0, free, den)?;
-        let second = self.only(start, end, den)?;
+        let first = self.only(0, chosen.free, den)?;
+        let second = self.only(chosen.start, chosen.end, den)?;
         let scale = scale_of(first.head, second.head)?;
         if scale.den == 0 || scale.den > LARGEST || scale.size > LARGEST {
             return None;

@@ -5,20 +5,22 @@ ghost use Rattle.std.specs.Prelude.{IsErrOf, OnOk};
 ghost use Rattle.std.specs.Prelude.{get_or, length, map, true};
 ghost use Rattle.gf_nfg.specs.Profiles.{product};
 ghost use Rattle.gf_form.specs.inner.rows.Demands.{spans};
-ghost use Rattle.gf_form.specs.inner.rows.Entries.{AreOrdered, IsShaped};
+ghost use Rattle.gf_form.specs.inner.rows.Entries.{AreOrdered, AreWithin, IsShaped};
 ghost use Rattle.gf_form.specs.inner.values.PaidRows.{rows_of};
 ghost use Rattle.gf_form.specs.inner.strategies.Picked.{IsPicked, numbers_in, picked_profiles};
-ghost use Rattle.gf_form.specs.Refusal.{HasValues, IsFirstWithout};
+ghost use Rattle.gf_form.specs.Refusal.{HasValues};
 ghost use Rattle.gf_form.specs.inner.values.Rows.{ArePaid};
 ghost use Rattle.gf_form.specs.inner.rows.Pairs.{IsPaidPair};
-ghost use Rattle.gf_form.specs.inner.rows.SettledRows.{AreWritten, IsAsked, SettleRows};
+ghost use Rattle.gf_form.specs.inner.rows.SettledRows.{AreDue, AreTermsFor, AreWritten};
+ghost use Rattle.gf_form.specs.inner.rows.SettledRows.{IsAsked, IsRightlyRefused, SettleRows};
 ghost use Rattle.gf_form.specs.StrategicForm.{ArePayoffsAt};
 ghost use Rattle.gf_form.specs.Strategies.{strategies_at};
 ghost use Rattle.gf_form.specs.inner.rows.GameDigits.{HaveSteps, actions_at};
 
 use crate::fault::{EvalFault, FormFault};
+use crate::rows::chosen::Chosen;
 use crate::rows::digits::Digit;
-use crate::rows::pairs::{Pair, count_near};
+use crate::rows::pairs::Pair;
 use crate::rows::terms::Terms;
 use crate::strategies::counts::Counts;
 use crate::strategies::picked::Picked;
@@ -119,10 +121,7 @@ impl Written {
         requires within { before < length (picked_profiles (numbers_in asked.now.picked.now)) }
         requires written { AreWritten asked.now before self.old }
         ensures written { OnOk result (AreWritten asked.now (before + 1) self.new) }
-        ensures few { IsErrOf result FormFault.TooManyProfiles → ⊥ }
-        ensures overflow { (position : ℕ) → IsErrOf result (FormFault.Overflow position)
-            → IsFirstWithout (HasValues asked.now.game.now)
-            (picked_profiles (numbers_in asked.now.picked.now)) position }
+        ensures refused { IsRightlyRefused asked.now result }
     {
         let _players = asked.game.players();
         write_strategies(asked.counts, asked.picked, before, &mut self.strategies)?;
@@ -159,10 +158,7 @@ impl Written {
         requires within { to ≤ length (picked_profiles (numbers_in asked.now.picked.now)) }
         requires written { AreWritten asked.now from self.old }
         ensures written { OnOk result (AreWritten asked.now to self.new) }
-        ensures few { IsErrOf result FormFault.TooManyProfiles → ⊥ }
-        ensures overflow { (position : ℕ) → IsErrOf result (FormFault.Overflow position)
-            → IsFirstWithout (HasValues asked.now.game.now)
-            (picked_profiles (numbers_in asked.now.picked.now)) position }
+        ensures refused { IsRightlyRefused asked.now result }
     {
         for before in from..to {
             self.push_walked(asked, before)?;
@@ -186,10 +182,7 @@ impl Written {
         requires paid { IfSome pair
             (IsPaidPair asked.now.game.now (get_or asked.now.numbers.now before 0)) }
         ensures written { OnOk result (AreWritten asked.now (before + 1) self.new) }
-        ensures few { IsErrOf result FormFault.TooManyProfiles → ⊥ }
-        ensures overflow { (position : ℕ) → IsErrOf result (FormFault.Overflow position)
-            → IsFirstWithout (HasValues asked.now.game.now)
-            (picked_profiles (numbers_in asked.now.picked.now)) position }
+        ensures refused { IsRightlyRefused asked.now result }
     {
         let _players = asked.game.players();
         if let Some(pair) = pair {
@@ -207,22 +200,20 @@ impl Written {
         terms: &Terms,
         run: Run,
     ) -> Result<(), FormFault>
-        requires asked { IsAsked asked.now }
-        requires places { run.from ≤ run.to }
-        requires within { run.to ≤ length (picked_profiles (numbers_in asked.now.picked.now)) }
-        requires written { AreWritten asked.now run.from self.old }
-        requires shaped { IsShaped terms.now }
-        requires players { terms.now.players ≡ length asked.now.game.now.players }
+        requires due { AreDue asked.now run self.old }
+        requires terms { AreTermsFor asked.now terms.now }
         requires settles { SettleRows asked.now [] terms.now run }
         ensures written { OnOk result (AreWritten asked.now run.to self.new) }
-        ensures few { IsErrOf result FormFault.TooManyProfiles → ⊥ }
-        ensures overflow { (position : ℕ) → IsErrOf result (FormFault.Overflow position)
-            → IsFirstWithout (HasValues asked.now.game.now)
-            (picked_profiles (numbers_in asked.now.picked.now)) position }
+        ensures refused { IsRightlyRefused asked.now result }
     {
         let all = terms.heads.len();
+        let alone = Chosen {
+            free: all,
+            start: all,
+            end: all,
+        };
         for before in run.from..run.to {
-            self.push_row(asked, terms.pair(all, all, all), terms.players, before)?;
+            self.push_row(asked, terms.pair(alone), terms.players, before)?;
         }
         Ok(())
     }
@@ -235,28 +226,17 @@ impl Written {
         terms: &Terms,
         run: Run,
     ) -> Result<(), FormFault>
-        requires asked { IsAsked asked.now }
-        requires places { run.from ≤ run.to }
-        requires within { run.to ≤ length (picked_profiles (numbers_in asked.now.picked.now)) }
-        requires written { AreWritten asked.now run.from self.old }
-        requires shaped { IsShaped terms.now }
-        requires ordered { AreOrdered terms.now }
-        requires players { terms.now.players ≡ length asked.now.game.now.players }
+        requires due { AreDue asked.now run self.old }
+        requires terms { AreTermsFor asked.now terms.now }
         requires settles { (actions : ℕ) × SettleRows asked.now (actions ∷ []) terms.now run }
         ensures written { OnOk result (AreWritten asked.now run.to self.new) }
-        ensures few { IsErrOf result FormFault.TooManyProfiles → ⊥ }
-        ensures overflow { (position : ℕ) → IsErrOf result (FormFault.Overflow position)
-            → IsFirstWithout (HasValues asked.now.game.now)
-            (picked_profiles (numbers_in asked.now.picked.now)) position }
+        ensures refused { IsRightlyRefused asked.now result }
     {
-        let free = count_near(&terms.heads, 1, 0);
-        let mut end = free;
+        let mut chosen = Chosen::none();
         for before in run.from..run.to {
             let action = u64::from(asked.numbers[before as usize] - run.first) + 1;
-            let start = count_near(&terms.heads, action, end);
-            end = count_near(&terms.heads, action + 1, start);
-            let pair = terms.pair(free, start, end);
-            self.push_row(asked, pair, terms.players, before)?;
+            chosen = chosen.next(&terms.heads, 1, action);
+            self.push_row(asked, terms.pair(chosen), terms.players, before)?;
         }
         Ok(())
     }
@@ -285,22 +265,14 @@ impl Written {
         digits: &[Digit],
         run: Run,
     ) -> Result<(), FormFault>
-        requires asked { IsAsked asked.now }
-        requires places { run.from ≤ run.to }
-        requires within { run.to ≤ length (picked_profiles (numbers_in asked.now.picked.now)) }
-        requires written { AreWritten asked.now run.from self.old }
-        requires shaped { IsShaped terms.now }
-        requires ordered { AreOrdered terms.now }
-        requires players { terms.now.players ≡ length asked.now.game.now.players }
+        requires due { AreDue asked.now run self.old }
+        requires terms { AreTermsFor asked.now terms.now }
         requires steps { HaveSteps digits.now }
         requires spans { product (spans (actions_at digits.now)) < 2 ^ 64 }
         requires count { run.count ≡ product (actions_at digits.now) }
         requires settles { SettleRows asked.now (actions_at digits.now) terms.now run }
         ensures written { OnOk result (AreWritten asked.now run.to self.new) }
-        ensures few { IsErrOf result FormFault.TooManyProfiles → ⊥ }
-        ensures overflow { (position : ℕ) → IsErrOf result (FormFault.Overflow position)
-            → IsFirstWithout (HasValues asked.now.game.now)
-            (picked_profiles (numbers_in asked.now.picked.now)) position }
+        ensures refused { IsRightlyRefused asked.now result }
     {
         let [slowest, faster @ ..] = digits else {
             return self.push_alike(asked, terms, run);
@@ -310,8 +282,10 @@ impl Written {
         }
         let mut level = self.list(terms.players);
         let mut rest = run;
+        let mut chosen = Chosen::none();
         while rest.from < rest.to {
-            let next = level.choose(asked, terms, *slowest, faster, rest)?;
+            let (next, now) = level.choose(asked, terms, *slowest, faster, rest, chosen)?;
+            chosen = now;
             self.push_rows(asked, &level, faster, next)?;
             rest.from = next.to;
         }
@@ -323,7 +297,7 @@ impl Written {
 impl Terms {
     /// Replaces these terms by what they come to at the choice of the first of these profiles at
     /// the slowest digit. Returns those profiles, from the first on, at which the choice is the
-    /// same.
+    /// same, and the terms that count there. Quick if those of the choice before it are given.
     fn choose(
         &mut self,
         asked: &Asked<'_, '_, '_>,
@@ -331,9 +305,11 @@ impl Terms {
         slowest: Digit,
         faster: &[Digit],
         run: Run,
-    ) -> Result<Run, AllocError>
+        near: Chosen,
+    ) -> Result<(Run, Chosen), AllocError>
         requires asked { IsAsked asked.now }
         requires some { run.from < run.to }
+        requires near { AreWithin terms.now.heads.items near }
         requires within { run.to ≤ length asked.now.numbers.now }
         requires shaped { IsShaped terms.now }
         requires ordered { AreOrdered terms.now }
@@ -346,26 +322,30 @@ impl Terms {
         ensures shaped { OnOk result (IsShaped self.new) }
         ensures ordered { OnOk result (AreOrdered self.new) }
         ensures players { self.new.players ≡ self.old.players }
-        ensures from { IfOk result (λ next. next.from ≡ run.from) }
-        ensures onward { IfOk result (λ next. run.from < next.to) }
-        ensures to { IfOk result (λ next. next.to ≤ run.to) }
-        ensures count { IfOk result (λ next. next.count ≡ product (actions_at faster.now)) }
+        ensures from { IfOk result (λ next. next.0.from ≡ run.from) }
+        ensures onward { IfOk result (λ next. run.from < next.0.to) }
+        ensures to { IfOk result (λ next. next.0.to ≤ run.to) }
+        ensures count { IfOk result (λ next. next.0.count ≡ product (actions_at faster.now)) }
         ensures settles { IfOk result
-            (SettleRows asked.now (actions_at faster.now) self.new) }
+            (λ next. SettleRows asked.now (actions_at faster.now) self.new next.0) }
+        ensures near { IfOk result (λ next. AreWithin terms.now.heads.items next.1) }
     {
         let count = run.count / slowest.actions;
         let before = (asked.numbers[run.from as usize] - run.first) / count;
         let first = run.first + before * count;
-        self.merge(terms, slowest.step, before + 1)?;
+        let action = u64::from(before) + 1;
+        let chosen = near.next(&terms.heads, slowest.step, action);
+        self.merge(terms, chosen, slowest.step, action)?;
         let from = run.from;
         let are_places = asked.picked.are_all;
         let to = run_end(asked.numbers, are_places, from + 1, run.to, first, count);
-        Ok(Run {
+        let alike = Run {
             first,
             count,
             from,
             to,
-        })
+        };
+        Ok((alike, chosen))
     }
 }
 

@@ -11,10 +11,10 @@ use Rattle.std.proofs.lemmas.List.{drop-drop, length-append, take-append-drop}
 use Rattle.std.proofs.lemmas.List.{take_rest}
 use Rattle.std.proofs.lemmas.List.Sorted.{IsNonDecreasingBy-push, IsNonDecreasingBy-short}
 use Rattle.gf_fraction.specs.Ratio.{IsWithin}
-use Rattle.gf_form.specs.inner.rows.Entries.{AreMerged, AreOrdered, Entry, HasSum, IsShaped}
-use Rattle.gf_form.specs.inner.rows.Entries.{entries, entry_at, part}
-use Rattle.gf_form.specs.inner.rows.Entries.{CountsBelow, EndsBelow, entries_of, lowered, no_entry}
-use Rattle.gf_form.specs.inner.rows.Entries.{no_head}
+use Rattle.gf_form.specs.inner.rows.Entries.{AreChosen, AreMerged, AreOrdered, CountsBelow}
+use Rattle.gf_form.specs.inner.rows.Entries.{EndsBelow, Entry, HasSum, IsShaped, entries}
+use Rattle.gf_form.specs.inner.rows.Entries.{entries_of, entry_at, lowered, no_entry, no_head, part}
+use Rattle.gf_form.specs.declared.rows.chosen.Chosen.{Chosen}
 use Rattle.gf_form.specs.declared.rows.terms.Head.{Head}
 use Rattle.gf_form.specs.declared.rows.terms.Terms.{Terms}
 use Rattle.gf_form.proofs.lemmas.rows.FlatRows.{entries_count, entry_head, head_at}
@@ -70,76 +70,74 @@ before_it heads low high m n le first second less =
     let up = second.above n (omega arith) (omega (arith, less, first.bound)) in
     let down = first.below n less in omega (arith, le, up, down)
 
-module _ (from : Terms) (step action : ℕ) (some : 1 ≤ action) (free start end : ℕ)
-    (frees : CountsBelow from.heads.items step free)
-    (starts : CountsBelow from.heads.items (action * step) start)
-    (ends : CountsBelow from.heads.items (action * step + step) end) where
+module _ (from : Terms) (step action : ℕ) (some : 1 ≤ action) (chosen : Chosen)
+    (are : AreChosen from.heads.items step action chosen) where
   abbrev es : List Entry
   es = entries from
 
-  count : length (entries from) ≡ length from.heads.items
+  count : length es ≡ length from.heads.items
   count = entries_count from.players from.heads.items from.numbers.items
 
   least : 1 * step ≤ action * step
   least = mul-le-mul_right step some
 
-  free_le : free ≤ start
+  free_le : chosen.free ≤ chosen.start
   free_le =
-      let no = before_it from.heads.items step (action * step) free start
-      (omega (arith, least)) frees starts in omega (arith, no)
+      let no = before_it from.heads.items step (action * step) chosen.free chosen.start
+      (omega (arith, least)) are.free are.start in omega (arith, no)
 
-  start_le : start ≤ end
+  start_le : chosen.start ≤ chosen.end
   start_le =
-      let no = before_it from.heads.items (action * step) (action * step + step) start end
-      (omega arith) starts ends in omega (arith, no)
+      let no = before_it from.heads.items (action * step) (action * step + step) chosen.start
+      chosen.end (omega arith) are.start are.end in omega (arith, no)
 
   by_head : (P : Entry → Type 0) (Q : ℕ → Type 0) → ((e : Entry) → Q e.head.demands → P e)
       → (k : ℕ) → k < length from.heads.items → Q (head_at from k).demands → P (entry_at from k)
   by_head P Q f k less q =
       f (entry_at from k) (subst (λ (h : Head). Q h.demands) (sym (entry_head from k less)) q)
 
-  pub ranges : Ranges step action (entries from) (take free (entries from))
-      (part free start (entries from)) (part start end (entries from)) (drop end (entries from))
+  pub ranges : Ranges step action es (take chosen.free es) (part chosen.free chosen.start es)
+      (part chosen.start chosen.end es) (drop chosen.end es)
   ranges = record {
-    joined = sym (take-append-drop free (entries from))
-        ∙ ap (λ (xs : List Entry). take free (entries from) ++ xs)
-        (cut (entries from) free start free_le
-        ∙ ap (λ (xs : List Entry). part free start (entries from) ++ xs)
-        (cut (entries from) start end start_le));
-    are_free = all_in (IsFree step) (entries from) free 0 (omega (arith, count, frees.bound))
+    joined = sym (take-append-drop chosen.free es)
+        ∙ ap (λ (xs : List Entry). take chosen.free es ++ xs)
+        (cut es chosen.free chosen.start free_le
+        ∙ ap (λ (xs : List Entry). part chosen.free chosen.start es ++ xs)
+        (cut es chosen.start chosen.end start_le));
+    are_free = all_in (IsFree step) es chosen.free 0 (omega (arith, count, are.free.bound))
         (λ k at less. by_head (IsFree step) (λ n. n < step) (λ e q. q) k
-        (omega (arith, less, frees.bound)) (frees.below k (omega (arith, less))));
-    are_between = all_in (IsOther step action) (entries from) (start - free) free
-        (omega (arith, count, starts.bound, free_le))
+        (omega (arith, less, are.free.bound)) (are.free.below k (omega (arith, less))));
+    are_between = all_in (IsOther step action) es (chosen.start - chosen.free) chosen.free
+        (omega (arith, count, are.start.bound, free_le))
         (λ k at less. by_head (IsOther step action)
         (λ n. (step ≤ n) × (n < action * step)) (λ e q. (q.0, inl q.1)) k
-        (omega (arith, less, starts.bound, free_le)) (
-          frees.above k at (omega (arith, less, starts.bound, free_le)),
-          starts.below k (omega (arith, less, free_le)),
+        (omega (arith, less, are.start.bound, free_le)) (
+          are.free.above k at (omega (arith, less, are.start.bound, free_le)),
+          are.start.below k (omega (arith, less, free_le)),
         ));
-    are_own = all_in (IsOwn step action) (entries from) (end - start) start
-        (omega (arith, count, ends.bound, start_le))
+    are_own = all_in (IsOwn step action) es (chosen.end - chosen.start) chosen.start
+        (omega (arith, count, are.end.bound, start_le))
         (λ k at less. by_head (IsOwn step action)
         (λ n. (action * step ≤ n) × (n < action * step + step)) (λ e q. q) k
-        (omega (arith, less, ends.bound, start_le)) (
-          starts.above k at (omega (arith, less, ends.bound, start_le)),
-          ends.below k (omega (arith, less, start_le)),
+        (omega (arith, less, are.end.bound, start_le)) (
+          are.start.above k at (omega (arith, less, are.end.bound, start_le)),
+          are.end.below k (omega (arith, less, start_le)),
         ));
     are_rest = subst (AllByRecursion (IsOther step action)) rest_is
-        (all_in (IsOther step action) (entries from) (length (entries from) - end) end
-        (omega (arith, count, ends.bound))
+        (all_in (IsOther step action) es (length es - chosen.end) chosen.end
+        (omega (arith, count, are.end.bound))
         (λ k at less. by_head (IsOther step action)
         (λ n. (step ≤ n) × (action * step + step ≤ n)) (λ e q. (q.0, inr q.1)) k
-        (omega (arith, less, count, ends.bound)) (
-          frees.above k (omega (arith, at, free_le, start_le))
-              (omega (arith, less, count, ends.bound)),
-          ends.above k at (omega (arith, less, count, ends.bound)),
+        (omega (arith, less, count, are.end.bound)) (
+          are.free.above k (omega (arith, at, free_le, start_le))
+              (omega (arith, less, count, are.end.bound)),
+          are.end.above k at (omega (arith, less, count, are.end.bound)),
         )));
   }
     where
-      rest_is : take (length (entries from) - end) (drop end (entries from))
-          ≡ drop end (entries from)
-      rest_is = take_rest (entries from) end
+      rest_is : take (length es - chosen.end) (drop chosen.end es)
+          ≡ drop chosen.end es
+      rest_is = take_rest es chosen.end
 
 -- ---- while they are merged
 
@@ -157,30 +155,26 @@ pub record Merges (from : Terms) (step action lowest free_end own_end : ℕ) (fr
   pub free_within : free_end ≤ length from.heads.items
   pub own_within : own_end ≤ length from.heads.items
 
-pub first_merge : (from : Terms) (step action lowest : ℕ) → 1 ≤ action → lowest ≡ action * step
-    → (free start end : ℕ) → CountsBelow from.heads.items step free
-    → CountsBelow from.heads.items lowest start
-    → CountsBelow from.heads.items (lowest + step) end
-    → (to : Terms) → to.heads.items ≡ [] → to.numbers.items ≡ [] → to.players ≡ from.players
-    → Merges from step action lowest free end 0 start to
-first_merge from step action lowest some is free start end frees starts ends to none no_numbers
-    players =
+pub first_merge : (from : Terms) (step action : ℕ) (chosen : Chosen) → 1 ≤ action
+    → AreChosen from.heads.items step action chosen → (to : Terms) → to.heads.items ≡ []
+    → to.numbers.items ≡ [] → to.players ≡ from.players
+    → Merges from step action (action * step) chosen.free chosen.end 0 chosen.start to
+first_merge from step action chosen some are to none no_numbers players =
+    let es = entries from in
+    let free = chosen.free in
+    let start = chosen.start in
+    let end = chosen.end in
     let all : free - 0 ≡ free = omega arith in
-    let starts_at = subst (λ (n : ℕ). CountsBelow from.heads.items n start) is starts in
-    let ends_at = subst (λ (n : ℕ). CountsBelow from.heads.items (n + step) end) is ends in
     let nothing : entries to ≡ [] =
     ap (λ (hs : List Head). entries_of to.players hs to.numbers.items) none in
-    let parts = first_parts step action (entries from) (take free (entries from))
-    (part free start (entries from)) (part start end (entries from)) (drop end (entries from)) some
-    (ranges from step action some free start end frees starts_at ends_at) in
+    let length_is : length to.heads.items ≡ 0 = ap length none in
+    let own = map (lowered (action * step)) (part start end es) in
+    let parts = first_parts step action es (take free es) (part free start es) (part start end es)
+    (drop end es) some (ranges from step action some chosen are) in
     record {
-      merging = subst (λ (left : List Entry). Merging step action (entries from) left
-          (part 0 free (entries from)) (map (lowered lowest) (part start end (entries from))))
+      merging = subst (λ (left : List Entry). Merging step action es left (part 0 free es) own)
           (sym nothing)
-          (subst (λ (n : ℕ). Merging step action (entries from) []
-          (part 0 free (entries from)) (map (lowered n) (part start end (entries from)))) (sym is)
-          (subst (λ (n : ℕ). Merging step action (entries from) [] (take n (entries from))
-          (map (lowered (action * step)) (part start end (entries from)))) (sym all) parts));
+          (subst (λ (n : ℕ). Merging step action es [] (take n es) own) (sym all) parts);
       shaped = record {
         count = ap length no_numbers ∙ sym (ap (λ (hs : List Head). length hs * to.players) none
             ∙ (let zero_rows : 0 * to.players ≡ 0 = omega arith in zero_rows));
@@ -188,14 +182,12 @@ first_merge from step action lowest some is free start end frees starts ends to 
       };
       players = players;
       ordered = IsNonDecreasingBy-short (λ (h : Head). h.demands) to.heads.items
-          (let l : length to.heads.items ≡ 0 = ap length none in omega (arith, l));
-      free_next = λ less d some. absurd
-          (let l : length to.heads.items ≡ 0 = ap length none in omega (arith, l, some));
-      own_next = λ less d some. absurd
-          (let l : length to.heads.items ≡ 0 = ap length none in omega (arith, l, some));
-      own_least = λ k at less. starts.above k at (omega (arith, less, ends.bound));
-      free_within = frees.bound;
-      own_within = ends.bound;
+          (omega (arith, length_is));
+      free_next = λ less d some. absurd (omega (arith, length_is, some));
+      own_next = λ less d some. absurd (omega (arith, length_is, some));
+      own_least = λ k at less. are.start.above k at (omega (arith, less, are.end.bound));
+      free_within = are.free.bound;
+      own_within = are.end.bound;
     }
 
 pub below_more : (heads new : List Head) (h : Head) (n : ℕ) → new ≡ heads ++ h ∷ []

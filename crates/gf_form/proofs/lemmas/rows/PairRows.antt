@@ -19,7 +19,7 @@ use Rattle.gf_tree.specs.Spellable.{IsSpellable}
 use Rattle.gf_form.specs.Refusal.{HasValues}
 use Rattle.gf_form.specs.StrategicForm.{ArePayoffsAt}
 use Rattle.gf_form.specs.Strategies.{all_choices, choices_by, full_profiles, strategies_at}
-use Rattle.gf_form.specs.inner.rows.Entries.{AreExactAt, CountsBelow, Entry, IsScale, entries}
+use Rattle.gf_form.specs.inner.rows.Entries.{AreChosen, AreExactAt, Entry, IsScale, entries}
 use Rattle.gf_form.specs.inner.rows.Entries.{entry_at, lowered, number_at, part}
 use Rattle.gf_form.specs.inner.rows.Entries.{size_of_entries, sum_of_entries}
 use Rattle.gf_form.specs.inner.rows.Pairs.{ComeToOne, ComeToPair, HasPairRow, IsOnly, IsPaidPair}
@@ -28,6 +28,7 @@ use Rattle.gf_form.specs.inner.rows.GameDigits.{actions_at}
 use Rattle.gf_form.specs.inner.rows.SettledRows.{PaysOver, SettleRows, Settles, SettlesAt}
 use Rattle.gf_form.specs.inner.values.Rows.{at_place}
 use Rattle.gf_form.specs.inner.values.Values.{value}
+use Rattle.gf_form.specs.declared.rows.chosen.Chosen.{Chosen}
 use Rattle.gf_form.specs.declared.rows.digits.Digit.{Digit}
 use Rattle.gf_form.specs.declared.rows.pairs.Only.{Only}
 use Rattle.gf_form.specs.declared.rows.pairs.Pair.{Pair}
@@ -96,28 +97,27 @@ module _ (den less : ℕ) where
   low_size [] = refl
   low_size (e ∷ es) = ap (λ (n : ℕ). e.head.size * (den / e.head.den) + n) (low_size es)
 
-pub come_to_pair : (from : Terms) (action free start end : ℕ) → 1 ≤ action
-    → CountsBelow from.heads.items 1 free → CountsBelow from.heads.items action start
-    → CountsBelow from.heads.items (action + 1) end
-    → (first second : Only) (s : Scale) → IsOnly (part 0 free (entries from)) first
-    → IsOnly (part start end (entries from)) second → IsScale first.head second.head s
+pub come_to_pair : (from : Terms) (action : ℕ) (chosen : Chosen) → 1 ≤ action
+    → AreChosen from.heads.items 1 action chosen → (first second : Only) (s : Scale)
+    → IsOnly (part 0 chosen.free (entries from)) first
+    → IsOnly (part chosen.start chosen.end (entries from)) second → IsScale first.head second.head s
     → 0 < s.den → s.den < 2 ^ 127 → s.size < 2 ^ 127
     → ComeToPair (1 ∷ []) (action ∷ []) (entries from)
     (record { scale = s; first = first.numbers; second = second.numbers })
-come_to_pair from action free start end some frees starts ends first second s only_first only_second
-    is above within small =
+come_to_pair from action chosen some are first second s only_first only_second is above within
+    small =
     let es = entries from in
     let den = s.den in
-    let once : action * 1 ≡ action = omega arith in
-    let starts_at = subst (λ (n : ℕ). CountsBelow from.heads.items n start) (sym once) starts in
-    let ends_at = subst (λ (n : ℕ). CountsBelow from.heads.items (n + 1) end) (sym once) ends in
+    let free = chosen.free in
+    let start = chosen.start in
+    let end = chosen.end in
     let whole : free - 0 ≡ free = omega arith in
     let a = subst (λ (n : ℕ). ComeToOne (take n es) (entry_of first) den) whole
     (only_first den is.first.above is.first.divides) in
     let b = only_second den is.second.above is.second.divides in
     let own = part start end es in
     let parts = first_parts 1 action es (take free es) (part free start es) own (drop end es) some
-    (ranges from 1 action some free start end frees starts_at ends_at) den [] [] tt a.exact
+    (ranges from 1 action some chosen are) den [] [] tt a.exact
     (low_exact den (action * 1) own b.exact) in
     record {
       above = above;
@@ -144,23 +144,25 @@ come_to_pair from action free start end some frees starts ends first second s on
     }
 
 -- all terms, if there is at most one, and none beside them
-pub come_alone : (from : Terms) (free start end : ℕ) → free ≡ length from.heads.items
-    → end ≤ start → (first second : Only) (s : Scale) → IsOnly (part 0 free (entries from)) first
-    → IsOnly (part start end (entries from)) second → IsScale first.head second.head s
+pub come_alone : (from : Terms) (chosen : Chosen) → chosen.free ≡ length from.heads.items
+    → chosen.end ≤ chosen.start → (first second : Only) (s : Scale)
+    → IsOnly (part 0 chosen.free (entries from)) first
+    → IsOnly (part chosen.start chosen.end (entries from)) second → IsScale first.head second.head s
     → 0 < s.den → s.den < 2 ^ 127 → s.size < 2 ^ 127
     → ComeToPair [] [] (entries from)
     (record { scale = s; first = first.numbers; second = second.numbers })
-come_alone from free start end whole none first second s only_first only_second is above within
+come_alone from chosen whole none first second s only_first only_second is above within
     small =
     let es = entries from in
     let den = s.den in
     let count = entries_count from.players from.heads.items from.numbers.items in
-    let all : free - 0 ≡ length es = omega (arith, whole, count) in
+    let all : chosen.free - 0 ≡ length es = omega (arith, whole, count) in
     let a = subst (λ (xs : List Entry). ComeToOne xs (entry_of first) den)
     (ap (λ (n : ℕ). take n es) all ∙ take-length es)
     (only_first den is.first.above is.first.divides) in
     let b = subst (λ (xs : List Entry). ComeToOne xs (entry_of second) den)
-    (part_past es start end none) (only_second den is.second.above is.second.divides) in
+    (part_past es chosen.start chosen.end none)
+    (only_second den is.second.above is.second.divides) in
     record {
       above = above;
       within = within;

@@ -104,6 +104,11 @@ module _ (asked : Asked) (n : ℕ) (ns : List ℕ) (terms : Terms) (run : Run)
       let turned : run.count ≡ product ns * n = omega (arith, count) in
       ap (λ (c : ℕ). c / n) turned ∙ mul-div_cancel (product ns) parts.0
 
+  pub some_stride : 0 < run.count / n
+  some_stride =
+      let parts = positive_parts n (product ns) (number run.from - run.first) here.to in
+      let above = parts.1 in omega (arith, above, stride_is)
+
   abbrev before : ℕ
   before = (number run.from - run.first) / (run.count / n)
 

@@ -6,6 +6,7 @@ use Rattle.std.specs.List.{AllByRecursion}
 use Rattle.std.specs.List.Sorted.{IsNonDecreasingBy}
 use Rattle.gf_fraction.specs.Ratio.{IsWithin}
 use Rattle.gf_form.specs.inner.rows.Demands.{meets}
+use Rattle.gf_form.specs.declared.rows.chosen.Chosen.{Chosen}
 use Rattle.gf_form.specs.declared.rows.terms.Head.{Head}
 use Rattle.gf_form.specs.declared.rows.terms.Terms.{Terms}
 use Rattle.gf_form.specs.declared.rows.sums.Scale.{Scale}
@@ -45,6 +46,15 @@ pub record CountsBelow (heads : List Head) (number count : ℕ) : Type 0 where
   pub bound : count ≤ length heads
   pub below : (k : ℕ) → k < count → (get_or heads k no_head).demands < number
   pub above : (k : ℕ) → count ≤ k → k < length heads → number ≤ (get_or heads k no_head).demands
+
+-- those that demand nothing at the slowest digit, with this step, and those that demand the action
+pub record AreChosen (heads : List Head) (step action : ℕ) (chosen : Chosen) : Type 0 where
+  pub free : CountsBelow heads step chosen.free
+  pub start : CountsBelow heads (action * step) chosen.start
+  pub end : CountsBelow heads (action * step + step) chosen.end
+
+abbrev pub AreWithin : List Head → Chosen → Type 0
+AreWithin heads chosen = (chosen.free ≤ length heads) × (chosen.end ≤ length heads)
 
 -- the last of these, if there is one, demands no more
 abbrev pub EndsBelow : List Head → ℕ → Type 0

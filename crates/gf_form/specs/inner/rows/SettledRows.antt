@@ -1,22 +1,24 @@
 -- Payoffs at profiles, by the terms of which they are sums.
 use Rattle.std.specs.Prelude.{◌≡◌, ℕ, ℤ, suc, ◌-◌, ◌<◌, ◌≤◌, ◌^◌, List, []}
-use Rattle.std.specs.Prelude.{Some, get_or, length, take, true}
+use Rattle.std.specs.Prelude.{IsErrOf, Result, Some, get_or, length, take, true}
 use Rattle.std.specs.List.{AllByRecursion}
 use Rattle.gf_fraction.specs.Ratio.{HasValue, IsFraction, Ratio}
 use Rattle.gf_nfg.specs.Profiles.{product}
 use Rattle.gf_tree.specs.Game.{Game}
 use Rattle.gf_form.specs.inner.strategies.Counted.{AreCounts}
 use Rattle.gf_form.specs.inner.rows.Demands.{steps_of}
-use Rattle.gf_form.specs.inner.rows.Entries.{AreExactAt, Entry, entries, size_of_entries}
-use Rattle.gf_form.specs.inner.rows.Entries.{sum_of_entries}
+use Rattle.gf_form.specs.inner.rows.Entries.{AreExactAt, AreOrdered, Entry, IsShaped, entries}
+use Rattle.gf_form.specs.inner.rows.Entries.{size_of_entries, sum_of_entries}
 use Rattle.gf_form.specs.inner.values.PaidRows.{rows_of}
 use Rattle.gf_form.specs.inner.strategies.Picked.{IsPicked, numbers_in, picked_profiles}
 use Rattle.gf_form.specs.inner.rows.ProfileRows.{AreRowsAt}
-use Rattle.gf_form.specs.Refusal.{HasValues}
+use Rattle.gf_form.specs.Refusal.{HasValues, IsFirstWithout}
 use Rattle.gf_form.specs.inner.values.Rows.{ArePaid}
 use Rattle.gf_form.specs.StrategicForm.{ArePayoffsAt}
 use Rattle.gf_form.specs.Strategies.{all_choices, choices_by, full_profiles, strategies_at}
 use Rattle.gf_form.specs.inner.values.Values.{value}
+use Rattle.gf_form.specs.declared.fault.FormFault.{FormFault}
+use Rattle.gf_form.specs.declared.fault.FormFault.TheVariants.{Overflow, TooManyProfiles}
 use Rattle.gf_form.specs.declared.strategies.picked.Picked.{Picked}
 use Rattle.gf_form.specs.declared.rows.terms.Terms.{Terms}
 use Rattle.gf_form.specs.declared.rows.written.Asked.{Asked}
@@ -74,3 +76,21 @@ pub record AreWritten (asked : Asked) (count : ℕ) (written : Written) : Type 0
 abbrev pub SettleRows : Asked → List ℕ → Terms → Run → Type 0
 SettleRows asked actions terms run = (i : ℕ) → run.from ≤ i → i < run.to
     → SettlesAt asked.game.now actions terms run.first (get_or asked.numbers.now i 0)
+
+-- the rows of the profiles of a run come next
+abbrev pub AreDue : Asked → Run → Written → Type 0
+AreDue asked run written = IsAsked asked × (run.from ≤ run.to)
+    × (run.to ≤ length (picked_profiles (numbers_in asked.picked.now)))
+    × AreWritten asked run.from written
+
+-- terms in order, with a number for each player
+abbrev pub AreTermsFor : Asked → Terms → Type 0
+AreTermsFor asked terms = IsShaped terms × AreOrdered terms
+    × (terms.players ≡ length asked.game.now.players)
+
+-- refused for want of memory, or at the first profile without values
+abbrev pub IsRightlyRefused : {A : Type 0} → Asked → Result A FormFault → Type 0
+IsRightlyRefused asked result = (IsErrOf result TooManyProfiles → ⊥)
+    × ((position : ℕ) → IsErrOf result (Overflow position)
+    → IsFirstWithout (HasValues asked.game.now)
+    (picked_profiles (numbers_in asked.picked.now)) position)

@@ -1,12 +1,36 @@
+use Rattle.std.proofs.Common.{◌+◌, ◌*◌, ◌<◌, ◌^◌, ℕ, List, subst, sym}
+use Rattle.gf_form.specs.inner.rows.Entries.{AreChosen, AreMerged, entries}
 use Rattle.gf_form.specs.inner.rows.GameDigits.{actions_at}
-use Rattle.gf_form.proofs.lemmas.rows.SettledRows.{settled_next, step_within, stride_is}
+use Rattle.gf_form.specs.declared.rows.terms.Head.{Head}
+use Rattle.gf_form.proofs.lemmas.rows.SettledRows.{settled_next, some_stride, step_within}
+use Rattle.gf_form.proofs.lemmas.rows.SettledRows.{stride_is}
 use Rattle.gf_form.proofs.rows.terms.Terms.choose.Goals as goal
+
+pub nonzero_div-before : goal.nonzero_div-before
+nonzero_div-before c =
+    some_stride c.args.asked.now c.args.slowest.actions (actions_at c.args.faster.now)
+    c.args.terms.now c.args.run c.requires.some c.requires.count c.requires.settles
+
+pub next-chosen-requires-clause-fits : goal.next-chosen-requires-clause-fits
+next-chosen-requires-clause-fits c =
+    let step = c.args.slowest.step in
+    subst (λ (n : ℕ). (n + 1) * step + step < 2 ^ 64) (sym c.from-action.ensures)
+    (step_within c.args.asked.now c.args.slowest.actions (actions_at c.args.faster.now)
+    c.args.terms.now c.args.run c.requires.some c.requires.count c.requires.settles
+    step c.requires.spans)
 
 pub merge-requires-clause-within : goal.merge-requires-clause-within
 merge-requires-clause-within c =
-    step_within c.args.asked.now c.args.slowest.actions (actions_at c.args.faster.now)
+    let step = c.args.slowest.step in
+    subst (λ (n : ℕ). (n + 1) * step + step < 2 ^ 64) (sym c.from-action.ensures)
+    (step_within c.args.asked.now c.args.slowest.actions (actions_at c.args.faster.now)
     c.args.terms.now c.args.run c.requires.some c.requires.count c.requires.settles
-    c.args.slowest.step c.requires.spans
+    step c.requires.spans)
+
+pub merge-requires-clause-chosen : goal.merge-requires-clause-chosen
+merge-requires-clause-chosen c =
+    subst (λ (hs : List Head). AreChosen hs c.args.slowest.step (c.from-action.result + 1)
+    c.next-chosen.result) c.deref.ensures.value c.next-chosen.ensures.chosen
 
 pub returns-clause-count : goal.returns-clause-count
 returns-clause-count c =
@@ -18,7 +42,9 @@ returns-clause-settles c =
     settled_next c.args.asked.now c.args.slowest.actions (actions_at c.args.faster.now)
     c.args.terms.now c.args.run c.requires.some c.requires.count c.requires.settles
     c.args.slowest.step c.run_end-to.result c.merge.new.self c.requires.step
-    c.in_ok-merge.ensures.merged c.run_end-to.ensures.within c.run_end-to.ensures.run
+    (subst (λ (n : ℕ). AreMerged c.args.slowest.step (n + 1) (entries c.args.terms.now)
+    (entries c.merge.new.self)) c.from-action.ensures c.in_ok-merge.ensures.merged)
+    c.run_end-to.ensures.within c.run_end-to.ensures.run
 
 pub run_end-to-requires-clause-places : goal.run_end-to-requires-clause-places
 run_end-to-requires-clause-places c = c.requires.asked.numbers.places

@@ -1,5 +1,4 @@
-use Rattle.std.proofs.Common.{◌+◌, ◌*◌, ◌∙◌, List, ap, arith, subst}
-use Rattle.gf_form.specs.inner.rows.Entries.{CountsBelow}
+use Rattle.std.proofs.Common.{◌*◌, ◌∙◌, ap, arith}
 use Rattle.gf_form.specs.declared.rows.terms.Head.{Head}
 use Rattle.gf_form.proofs.lemmas.rows.FlatRows.{entry_head, head_read}
 use Rattle.gf_form.proofs.lemmas.rows.Merges.{both_go, first_merge, free_goes, last_merge, own_goes}
@@ -7,25 +6,16 @@ use Rattle.gf_form.proofs.rows.terms.Terms.merge.Goals as goal
 
 pub loop-free-init : goal.loop-free-init
 loop-free-init c =
-    let lowest = c.from.result * c.args.step in
-    first_merge c.args.from.now c.args.step c.args.action lowest c.requires.some
-    (ap (λ n. n * c.args.step) c.from.ensures) c.count_below-free_end.result
-    c.count_below-own.result c.count_below-own_end.result
-    (subst (λ (hs : List Head). CountsBelow hs c.args.step c.count_below-free_end.result)
-    c.deref.ensures.value c.count_below-free_end.ensures)
-    (subst (λ (hs : List Head). CountsBelow hs lowest c.count_below-own.result)
-    c.deref-3.ensures.value c.count_below-own.ensures)
-    (subst (λ (hs : List Head). CountsBelow hs (lowest + c.args.step) c.count_below-own_end.result)
-    c.deref-2.ensures.value c.count_below-own_end.ensures)
-    c.clear.new.self c.clear.ensures.none c.clear.ensures.no_numbers
+    first_merge c.args.from.now c.args.step c.args.action c.args.chosen c.requires.some
+    c.requires.chosen c.clear.new.self c.clear.ensures.none c.clear.ensures.no_numbers
     (c.clear.ensures.players ∙ c.requires.players)
 
 pub overflow_sub-goes : goal.overflow_sub-goes
 overflow_sub-goes c =
     let inv = c.loop-free.invariant in
-    let least = inv.own_least c.loop-free.own (omega arith) c.if-own-own_end.true in
+    let least = inv.own_least c.loop-free.own (omega arith) c.if-own-chosen.true in
     let own = head_read c.args.from.now c.loop-free.own c.index-in-loop-free.result.now
-    (omega (arith, c.if-own-own_end.true, inv.own_within)) c.index-in-loop-free.ensures in
+    (omega (arith, c.if-own-chosen.true, inv.own_within)) c.index-in-loop-free.ensures in
     omega (arith, least, ap (λ (h : Head). h.demands) own)
 
 pub loop-free-preserved-then-stays-goes : goal.loop-free-preserved-then-stays-goes
@@ -35,12 +25,12 @@ loop-free-preserved-then-stays-goes c =
     let free = head_read c.args.from.now c.loop-free.free c.index.result.now
     (omega (arith, c.loop-free-test.true, inv.free_within)) c.index.ensures in
     let own = head_read c.args.from.now c.loop-free.own c.index-in-loop-free.result.now
-    (omega (arith, c.if-own-own_end.true, inv.own_within)) c.index-in-loop-free.ensures in
-    both_go c.args.from.now c.args.step c.args.action (c.from.result * c.args.step)
-    c.count_below-free_end.result c.count_below-own_end.result
+    (omega (arith, c.if-own-chosen.true, inv.own_within)) c.index-in-loop-free.ensures in
+    both_go c.args.from.now c.args.step c.args.action (c.args.action * c.args.step)
+    c.args.chosen.free c.args.chosen.end
     c.loop-free.free c.loop-free.own c.loop-free.self c.push_sum.new.self c.requires.ordered inv
     c.in_ok-push_sum.ensures.players c.in_ok-push_sum.ensures.shaped c.loop-free-test.true
-    c.if-own-own_end.true
+    c.if-own-chosen.true
     (omega (
       arith,
       c.if-stays-goes.true,
@@ -55,9 +45,9 @@ loop-free-preserved-then-stays-goes-2 c =
     let free = head_read c.args.from.now c.loop-free.free c.index.result.now
     (omega (arith, c.loop-free-test.true, inv.free_within)) c.index.ensures in
     let own = head_read c.args.from.now c.loop-free.own c.index-in-loop-free.result.now
-    (omega (arith, c.if-own-own_end.true, inv.own_within)) c.index-in-loop-free.ensures in
-    free_goes c.args.from.now c.args.step c.args.action (c.from.result * c.args.step)
-    c.count_below-free_end.result c.count_below-own_end.result
+    (omega (arith, c.if-own-chosen.true, inv.own_within)) c.index-in-loop-free.ensures in
+    free_goes c.args.from.now c.args.step c.args.action (c.args.action * c.args.step)
+    c.args.chosen.free c.args.chosen.end
     c.loop-free.free c.loop-free.own c.loop-free.self c.push.new.self c.requires.ordered inv
     c.in_ok-push.ensures.players c.in_ok-push.ensures.shaped c.loop-free-test.true
     (λ _. omega (
@@ -71,9 +61,9 @@ loop-free-preserved-then-stays-goes-2 c =
 pub push-requires-else-stays-goes-2-clause-less : goal.push-requires-else-stays-goes-2-clause-less
 push-requires-else-stays-goes-2-clause-less c =
     let inv = c.loop-free.invariant in
-    let least = inv.own_least c.loop-free.own (omega arith) c.if-own-own_end.true in
+    let least = inv.own_least c.loop-free.own (omega arith) c.if-own-chosen.true in
     let own = entry_head c.args.from.now c.loop-free.own
-    (omega (arith, c.if-own-own_end.true, inv.own_within)) in
+    (omega (arith, c.if-own-chosen.true, inv.own_within)) in
     omega (arith, least, ap (λ (h : Head). h.demands) own)
 
 pub loop-free-preserved : goal.loop-free-preserved
@@ -82,12 +72,12 @@ loop-free-preserved c =
     let free = head_read c.args.from.now c.loop-free.free c.index.result.now
     (omega (arith, c.loop-free-test.true, inv.free_within)) c.index.ensures in
     let own = head_read c.args.from.now c.loop-free.own c.index-in-loop-free.result.now
-    (omega (arith, c.if-own-own_end.true, inv.own_within)) c.index-in-loop-free.ensures in
-    own_goes c.args.from.now c.args.step c.args.action (c.from.result * c.args.step)
-    c.count_below-free_end.result c.count_below-own_end.result
+    (omega (arith, c.if-own-chosen.true, inv.own_within)) c.index-in-loop-free.ensures in
+    own_goes c.args.from.now c.args.step c.args.action (c.args.action * c.args.step)
+    c.args.chosen.free c.args.chosen.end
     c.loop-free.free c.loop-free.own c.loop-free.self c.push-else-stays-goes-2.new.self
     c.requires.ordered inv c.in_ok-push-2.ensures.players c.in_ok-push-2.ensures.shaped
-    c.if-own-own_end.true
+    c.if-own-chosen.true
     (λ _. omega (
       arith,
       c.if-stays-goes-2.false,
@@ -100,8 +90,8 @@ pub loop-free-2-preserved : goal.loop-free-2-preserved
 loop-free-2-preserved c =
     let inv = c.loop-free-2.invariant.0 in
     let past = c.loop-free-2.invariant.1 c.loop-free-2-test.true in (
-      free_goes c.args.from.now c.args.step c.args.action (c.from.result * c.args.step)
-          c.count_below-free_end.result c.count_below-own_end.result
+      free_goes c.args.from.now c.args.step c.args.action (c.args.action * c.args.step)
+          c.args.chosen.free c.args.chosen.end
           c.loop-free-2.free c.loop-free.own c.loop-free-2.self c.push-in-loop-free-2.new.self
           c.requires.ordered inv c.in_ok-push-3.ensures.players c.in_ok-push-3.ensures.shaped
           c.loop-free-2-test.true
@@ -121,8 +111,8 @@ push-requires-in-loop-own-clause-less c =
 pub loop-own-preserved : goal.loop-own-preserved
 loop-own-preserved c =
     let inv = c.loop-own.invariant in
-    own_goes c.args.from.now c.args.step c.args.action (c.from.result * c.args.step)
-    c.count_below-free_end.result c.count_below-own_end.result
+    own_goes c.args.from.now c.args.step c.args.action (c.args.action * c.args.step)
+    c.args.chosen.free c.args.chosen.end
     c.loop-free-2.free c.loop-own.own c.loop-own.self c.push-in-loop-own.new.self
     c.requires.ordered inv c.in_ok-push-4.ensures.players c.in_ok-push-4.ensures.shaped
     c.loop-own-test.true
@@ -131,7 +121,7 @@ loop-own-preserved c =
 
 pub returns-clause-merged : goal.returns-clause-merged
 returns-clause-merged c =
-    last_merge c.args.from.now c.args.step c.args.action (c.from.result * c.args.step)
-    c.count_below-free_end.result c.count_below-own_end.result
+    last_merge c.args.from.now c.args.step c.args.action (c.args.action * c.args.step)
+    c.args.chosen.free c.args.chosen.end
     c.loop-free-2.free c.loop-own.own c.loop-own.self c.loop-own.invariant
     c.loop-free-2-test.false c.loop-own-test.false

@@ -1,4 +1,5 @@
 use Rattle.std.proofs.Common.{◌-◌, ◌≡◌, ◌≤◌, length}
+use Rattle.gf_form.specs.inner.rows.Entries.{AreWithin}
 use Rattle.gf_form.specs.inner.rows.SettledRows.{AreWritten}
 use Rattle.gf_form.proofs.rows.written.Written.+push_rows.Given as goal
 
@@ -9,6 +10,7 @@ abbrev pub invariant-loop-rest : goal.invariant-loop-rest
 invariant-loop-rest l = (l.fn.run.from ≤ l.rest.from) × (l.rest.from ≤ l.fn.run.to)
     × (l.rest.to ≡ l.fn.run.to) × (l.rest.first ≡ l.fn.run.first) × (l.rest.count ≡ l.fn.run.count)
     × (l.level.players ≡ l.terms.players) × AreWritten l.asked l.rest.from l.self
+    × AreWithin l.terms.heads.items l.chosen
 
 abbrev pub decreases-loop-rest : goal.decreases-loop-rest
 decreases-loop-rest l = l.fn.run.to - l.rest.from

@@ -1,5 +1,5 @@
 use Rattle.std.proofs.Common.{◌+◌, List, ap, arith, get_or, subst}
-use Rattle.gf_form.specs.inner.rows.Entries.{CountsBelow}
+use Rattle.gf_form.specs.inner.rows.Entries.{AreChosen}
 use Rattle.gf_form.specs.declared.rows.terms.Head.{Head}
 use Rattle.gf_form.proofs.lemmas.rows.PairRows.{paid_pair, some_weaker}
 use Rattle.gf_form.proofs.rows.written.Written.push_last.Goals as goal
@@ -11,17 +11,13 @@ push_row-requires-clause-paid c =
     let number = get_or asked.numbers.now before 0 in
     let action = c.from-action.result + 1 in
     let settles = c.requires.settles in
-    some_weaker c.pair-pair.result _ _
+    some_weaker c.pair.result _ _
     (λ pair come. paid_pair asked.game.now settles.0 c.args.terms.now c.args.run.first number action
     pair
     (settles.1 before (omega (arith, c.loop-before.auto.before))
     (omega (arith, c.loop-before-test.true)))
     (ap (λ n. n + 1) c.from-action.ensures)
     (come action (omega arith)
-    (subst (λ (hs : List Head). CountsBelow hs 1 c.count_near-free.result) c.deref.ensures.value
-    c.count_near-free.ensures)
-    (subst (λ (hs : List Head). CountsBelow hs action c.count_near-start.result)
-    c.deref-in-loop-before.ensures.value c.count_near-start.ensures)
-    (subst (λ (hs : List Head). CountsBelow hs (action + 1) c.count_near-end.result)
-    c.deref-in-loop-before-2.ensures.value c.count_near-end.ensures)))
-    c.pair-pair.ensures.last
+    (subst (λ (hs : List Head). AreChosen hs 1 action c.next-chosen.result)
+    c.deref.ensures.value c.next-chosen.ensures.chosen)))
+    c.pair.ensures.last

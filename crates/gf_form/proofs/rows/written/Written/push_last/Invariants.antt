@@ -1,7 +1,7 @@
-use Rattle.std.proofs.Common.{◌≤◌, length}
+use Rattle.gf_form.specs.inner.rows.Entries.{AreWithin}
 use Rattle.gf_form.specs.inner.rows.SettledRows.{AreWritten}
 use Rattle.gf_form.proofs.rows.written.Written.push_last.Given as goal
 
 abbrev pub invariant-loop-before : goal.invariant-loop-before
 invariant-loop-before l = AreWritten l.asked l.before l.self
-    × (l.end ≤ length l.terms.heads.items)
+    × AreWithin l.terms.heads.items l.chosen

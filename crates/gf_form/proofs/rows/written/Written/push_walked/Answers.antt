@@ -25,12 +25,15 @@ returns-in_ok-give_back-in-Ok-clause-written c =
       as_long = c.in_ok-write_strategies.ensures.as_long;
     }
 
-pub returns-in-Err-Overflow-clause-overflow : goal.returns-in-Err-Overflow-clause-overflow
-returns-in-Err-Overflow-clause-overflow c position is =
-    let g = c.args.asked.now.game.now in
-    let before = c.args.before in
-    let all = picked_profiles (numbers_in c.args.asked.now.picked.now) in
-    let same : before + 1 ≡ position = cc in
-    subst (IsFirstWithout (HasValues g) all) same
-    (first_without (HasValues g) all before c.requires.within c.requires.written.values
-    (c.in-Err-Overflow.ensures.overflow (ap Err c.in-Err-Overflow.field-0-is)))
+pub returns-in-Err-Overflow-clause-refused : goal.returns-in-Err-Overflow-clause-refused
+returns-in-Err-Overflow-clause-refused c = (
+  (λ is. cc),
+  λ position is.
+      let g = c.args.asked.now.game.now in
+      let before = c.args.before in
+      let all = picked_profiles (numbers_in c.args.asked.now.picked.now) in
+      let same : before + 1 ≡ position = cc in
+      subst (IsFirstWithout (HasValues g) all) same
+      (first_without (HasValues g) all before c.requires.within c.requires.written.values
+      (c.in-Err-Overflow.ensures.overflow (ap Err c.in-Err-Overflow.field-0-is))),
+)

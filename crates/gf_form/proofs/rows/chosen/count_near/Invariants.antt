@@ -1,6 +1,6 @@
 use Rattle.std.proofs.Common.{◌≤◌, ◌<◌, ◌-◌, get_or, length}
 use Rattle.gf_form.specs.inner.rows.Entries.{no_head}
-use Rattle.gf_form.proofs.rows.pairs.count_near.Given as goal
+use Rattle.gf_form.proofs.rows.chosen.count_near.Given as goal
 
 abbrev pub invariant-loop-count : goal.invariant-loop-count
 invariant-loop-count l = l.count ≤ length l.heads
