@@ -15,7 +15,7 @@ use crate::reduced::first::all_reduced;
 use crate::rows::profile::profile_rows;
 use crate::strategic_form::table_with;
 use crate::strategies::counts::Counts;
-use crate::strategies::picked::Picked;
+use crate::strategies::profile_numbers::profile_numbers;
 use gf_fraction::Fraction;
 use gf_nfg::{Labels, Table};
 use gf_tree::Game;
@@ -27,11 +27,11 @@ fn reduced_rows(
     alloc: Global,
     game: &Game<'_>,
     counts: &Counts,
-    firsts: Vec<Vec<u32>>,
+    firsts: &[Vec<u32>],
 ) -> Result<Vec<Fraction>, FormFault>
     requires players { length game.now.players ≤ 4294967295 }
     requires counts { AreCounts game.now counts.now }
-    requires firsts { AreFirsts game.now (map (λ own. own.items) firsts.items) }
+    requires firsts { AreFirsts game.now (map (λ own. own.items) firsts.now) }
     ensures rows { IfOk result (λ rows.
         AreRowsAt (IsPaidAt game.now) (reduced_profiles game.now) rows.items) }
     ensures values { OnOk result
@@ -41,10 +41,8 @@ fn reduced_rows(
         → ReducedOverflowsAt game.now position }
 {
     let _players = game.players();
-    let Some(picked) = Picked::of_numbers(firsts) else {
-        return Err(FormFault::TooManyProfiles);
-    };
-    profile_rows(alloc, game, counts, &picked)
+    let numbers = profile_numbers(alloc, &counts.strategies, firsts)?;
+    profile_rows(alloc, game, counts, &numbers)
 }
 
 /// The reduced form of a game, with these labels of its reduced strategies, and these payoffs at
@@ -97,7 +95,7 @@ pub fn table_reduced(alloc: Global, game: &Game<'_>) -> Result<Table, FormFault>
         return Err(FormFault::TooManyProfiles);
     };
     let (firsts, labels) = all_reduced(alloc, game, &counts)?;
-    let rows = match reduced_rows(alloc, game, &counts, firsts) {
+    let rows = match reduced_rows(alloc, game, &counts, &firsts) {
         Ok(rows) => rows,
         Err(fault) => return Err(fault),
     };

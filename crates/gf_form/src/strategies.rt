@@ -3,6 +3,6 @@
 pub(crate) mod counts;
 pub(crate) mod labels;
 pub(crate) mod numbered;
-pub(crate) mod picked;
 pub(crate) mod profile;
+pub(crate) mod profile_numbers;
 pub(crate) mod valid;

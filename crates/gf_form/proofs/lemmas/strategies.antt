@@ -3,7 +3,6 @@ pub mod Choices
 pub mod Chosen
 pub mod CountedActions
 pub mod CountsGiven
-pub mod FullNumbers
 pub mod JoinedTexts
 pub mod KnownSets
 pub mod LabelsJoined

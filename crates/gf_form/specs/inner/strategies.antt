@@ -1,4 +1,3 @@
 pub mod Counted
-pub mod FullNumbers
 pub mod LabelTexts
-pub mod Picked
+pub mod ProfileNumbers

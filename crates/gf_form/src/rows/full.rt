@@ -11,7 +11,7 @@ ghost use Rattle.gf_form.specs.Strategies.{full_profiles};
 use crate::fault::FormFault;
 use crate::rows::profile::profile_rows;
 use crate::strategies::counts::Counts;
-use crate::strategies::picked::Picked;
+use crate::strategies::profile_numbers::numbers_below;
 use gf_fraction::Fraction;
 use gf_tree::Game;
 use std::alloc::Global;
@@ -32,6 +32,6 @@ pub(crate) fn full_rows(
     ensures overflow { (position : ℕ) → IsErrOf result (FormFault.Overflow position)
         → OverflowsAt game.now position }
 {
-    let picked = Picked::all(alloc, counts)?;
-    profile_rows(alloc, game, counts, &picked)
+    let numbers = numbers_below(alloc, counts.profiles.count)?;
+    profile_rows(alloc, game, counts, &numbers)
 }

@@ -7,14 +7,13 @@ ghost use Rattle.gf_nfg.specs.Profiles.{product};
 ghost use Rattle.gf_form.specs.inner.rows.Demands.{spans};
 ghost use Rattle.gf_form.specs.inner.rows.Entries.{AreOrdered, AreWithin, IsShaped};
 ghost use Rattle.gf_form.specs.inner.values.PaidRows.{rows_of};
-ghost use Rattle.gf_form.specs.inner.strategies.Picked.{IsPicked, numbers_in, picked_profiles};
 ghost use Rattle.gf_form.specs.Refusal.{HasValues};
 ghost use Rattle.gf_form.specs.inner.values.Rows.{ArePaid};
 ghost use Rattle.gf_form.specs.inner.rows.Pairs.{IsPaidPair};
 ghost use Rattle.gf_form.specs.inner.rows.SettledRows.{AreDue, AreTermsFor, AreWritten};
 ghost use Rattle.gf_form.specs.inner.rows.SettledRows.{IsAsked, IsRightlyRefused, SettleRows};
 ghost use Rattle.gf_form.specs.StrategicForm.{ArePayoffsAt};
-ghost use Rattle.gf_form.specs.Strategies.{strategies_at};
+ghost use Rattle.gf_form.specs.Strategies.{full_profiles, strategies_at};
 ghost use Rattle.gf_form.specs.inner.rows.GameDigits.{HaveSteps, actions_at};
 
 use crate::fault::{EvalFault, FormFault};
@@ -23,7 +22,6 @@ use crate::rows::digits::Digit;
 use crate::rows::pairs::Pair;
 use crate::rows::terms::Terms;
 use crate::strategies::counts::Counts;
-use crate::strategies::picked::Picked;
 use crate::strategies::profile::{no_actions, write_strategies};
 use crate::values::expectation::expected_with;
 use crate::values::payoffs::Payoffs;
@@ -32,15 +30,16 @@ use gf_fraction::Fraction;
 use gf_tree::Game;
 use std::alloc::{AllocError, Global};
 
-/// The profiles of the strategies that are picked from a game.
+/// Profiles of a game.
 #[derive(Drop)]
 pub(crate) struct Asked<'q, 'g, 'a> {
     pub game: &'q Game<'a>,
     pub counts: &'q Counts,
     pub payoffs: &'q Payoffs<'g>,
-    pub picked: &'q Picked,
     /// The number of each profile among all, from 0.
     pub numbers: &'q [u32],
+    /// Whether each is known to be its place.
+    pub are_places: bool,
 }
 
 /// Profiles in turn, whose numbers among all are in a range.
@@ -72,22 +71,20 @@ fn row_by_walk(
     alloc: Global,
     game: &Game<'_>,
     payoffs: &Payoffs<'_>,
-    picked: &Picked,
     profile: u32,
     strategies: &[Vec<u32>],
     values: &mut Values,
 ) -> Result<Vec<Fraction>, EvalFault>
-    requires within { profile < picked.now.profiles.count }
+    requires within { profile < length (full_profiles game.now) }
     requires payoffs { ArePaid game.now (rows_of payoffs.now) }
-    requires picked { IsPicked game.now picked.now }
     requires strategies { map (λ own. own.items) strategies.now
-        ≡ strategies_at game.now (get_or (picked_profiles (numbers_in picked.now)) profile []) }
+        ≡ strategies_at game.now (get_or (full_profiles game.now) profile []) }
     ensures payoffs { IfOk result (λ row. ArePayoffsAt game.now
-        (get_or (picked_profiles (numbers_in picked.now)) profile []) row.items) }
+        (get_or (full_profiles game.now) profile []) row.items) }
     ensures values { OnOk result
-        (HasValues game.now (get_or (picked_profiles (numbers_in picked.now)) profile [])) }
+        (HasValues game.now (get_or (full_profiles game.now) profile [])) }
     ensures overflow { IsErrOf result EvalFault.Overflow
-        → ¬ (HasValues game.now (get_or (picked_profiles (numbers_in picked.now)) profile [])) }
+        → ¬ (HasValues game.now (get_or (full_profiles game.now) profile [])) }
 {
     let _players = game.players();
     expected_with(alloc, game, payoffs, strategies, values)
@@ -118,19 +115,19 @@ impl Written {
     /// Appends the row of the profile at this place, from 0, by a walk.
     fn push_walked(&mut self, asked: &Asked<'_, '_, '_>, before: u32) -> Result<(), FormFault>
         requires asked { IsAsked asked.now }
-        requires within { before < length (picked_profiles (numbers_in asked.now.picked.now)) }
+        requires within { before < length asked.now.numbers.now }
         requires written { AreWritten asked.now before self.old }
         ensures written { OnOk result (AreWritten asked.now (before + 1) self.new) }
         ensures refused { IsRightlyRefused asked.now result }
     {
         let _players = asked.game.players();
-        write_strategies(asked.counts, asked.picked, before, &mut self.strategies)?;
+        let number = asked.numbers[before as usize];
+        write_strategies(asked.counts, number, &mut self.strategies)?;
         match row_by_walk(
             self.alloc,
             asked.game,
             asked.payoffs,
-            asked.picked,
-            before,
+            number,
             &self.strategies,
             &mut self.values,
         ) {
@@ -155,7 +152,7 @@ impl Written {
     ) -> Result<(), FormFault>
         requires asked { IsAsked asked.now }
         requires places { from ≤ to }
-        requires within { to ≤ length (picked_profiles (numbers_in asked.now.picked.now)) }
+        requires within { to ≤ length asked.now.numbers.now }
         requires written { AreWritten asked.now from self.old }
         ensures written { OnOk result (AreWritten asked.now to self.new) }
         ensures refused { IsRightlyRefused asked.now result }
@@ -176,7 +173,7 @@ impl Written {
         before: u32,
     ) -> Result<(), FormFault>
         requires asked { IsAsked asked.now }
-        requires within { before < length (picked_profiles (numbers_in asked.now.picked.now)) }
+        requires within { before < length asked.now.numbers.now }
         requires written { AreWritten asked.now before self.old }
         requires players { players ≡ length asked.now.game.now.players }
         requires paid { IfSome pair
@@ -337,7 +334,7 @@ impl Terms {
         let chosen = near.next(&terms.heads, slowest.step, action);
         self.merge(terms, chosen, slowest.step, action)?;
         let from = run.from;
-        let are_places = asked.picked.are_all;
+        let are_places = asked.are_places;
         let to = run_end(asked.numbers, are_places, from + 1, run.to, first, count);
         let alike = Run {
             first,

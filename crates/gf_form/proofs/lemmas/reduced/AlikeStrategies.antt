@@ -26,6 +26,7 @@ use Rattle.gf_form.proofs.lemmas.reduced.FirstStrategies.{keys_counted}
 use Rattle.gf_form.proofs.lemmas.reduced.FirstNumbers.{AreFirst, first_left}
 use Rattle.gf_form.proofs.lemmas.strategies.KnownSets.{own_set}
 use Rattle.gf_form.proofs.lemmas.reduced.Reducing.{relevance_same}
+use Rattle.gf_form.proofs.lemmas.strategies.PickedProfiles.{no_less}
 use Rattle.gf_form.proofs.lemmas.strategies.StrategiesByNumber.{all_at, positive_parts}
 
 -- the first action at each place from this one on
@@ -113,15 +114,6 @@ in_block (c ∷ counts) (suc from) (a ∷ s) (b ∷ t) m hs ht e less ones =
     let same : a ≡ b = omega (arith, parts.0, hs.0.0, ht.0.0) in
     let rest = in_block counts from s t m hs.1 ht.1 parts.1 less others in
     (agree_on a b from s t same rest.0, λ all. rest.1 (behind c b from counts t all))
-
-pub no_less : (counts : List ℕ) (i : ℕ) → 0 < product counts
-    → product (drop i counts) ≤ product counts
-no_less counts zero some = omega arith
-no_less [] (suc i) some = omega arith
-no_less (c ∷ counts) (suc i) some =
-    let parts = positive_parts c (product counts) 0 some in
-    let one : 1 * product counts ≤ c * product counts = mul-le-mul_right (product counts) parts.0 in
-    omega (arith, no_less counts i parts.1, one)
 
 -- ---- how many
 

@@ -21,7 +21,6 @@ use Rattle.gf_nfg.proofs.lemmas.tables.NumbersInTurn.{get_or-numbers_from, lengt
 use Rattle.gf_tree.specs.Game.{Game, IsGame}
 use Rattle.gf_tree.proofs.lemmas.games.Uses.{Has, all_of_each, contains, each, has_map}
 use Rattle.gf_form.specs.inner.reduced.Firsts.{AreFirsts, AreFirstsOf, IsPaidAt}
-use Rattle.gf_form.specs.inner.strategies.Picked.{AreNumbers, full_at, picked_profiles}
 use Rattle.gf_form.specs.inner.rows.ProfileRows.{AreRowsAt}
 use Rattle.gf_form.specs.Reduced.{AreReducedPayoffsAt, IsReducedForm, reduced, reduced_at}
 use Rattle.gf_form.specs.Reduced.{reduced_by, reduced_label}
@@ -30,12 +29,13 @@ use Rattle.gf_form.specs.Refusal.{HasBottomUpValue, HasReducedValues, HasValues}
 use Rattle.gf_form.specs.Refusal.{IsFirstWithout, ReducedOverflowsAt}
 use Rattle.gf_form.specs.StrategicForm.{ArePayoffsAt, IsFormBy}
 use Rattle.gf_form.specs.Strategies.{full_profiles, players_of, strategies, strategy_at}
-use Rattle.gf_form.proofs.lemmas.strategies.CountedActions.{ArePositive, strategy_counts}
+use Rattle.gf_form.proofs.lemmas.strategies.CountedActions.{strategy_counts}
 use Rattle.gf_form.proofs.lemmas.reduced.FirstStrategies.{fewer_reduced}
 use Rattle.gf_form.proofs.lemmas.form.FormMade.{full_row, row_fractions}
 use Rattle.gf_form.proofs.lemmas.form.Forms.{form_profiles}
 use Rattle.gf_form.proofs.lemmas.strategies.Lookups.{strategy_before}
-use Rattle.gf_form.proofs.lemmas.strategies.PickedProfiles.{picked_full}
+use Rattle.gf_form.proofs.lemmas.strategies.PickedProfiles.{AreNumbers, full_at, picked_full}
+use Rattle.gf_form.proofs.lemmas.strategies.PickedProfiles.{picked_profiles}
 use Rattle.gf_form.proofs.lemmas.reduced.ReducedForms.{counts_are, same_row}
 use Rattle.gf_form.proofs.lemmas.reduced.ReducedTables.{some_reduced_strategy}
 use Rattle.gf_form.proofs.lemmas.reduced.ReducedValues.{reduced_value}
@@ -71,16 +71,6 @@ counted_of g (player ∷ players) (own ∷ firsts) h =
 pub firsts_counted : (g : Game) (firsts : List (List ℕ)) → AreFirsts g firsts
     → map length firsts ≡ map (λ player. length (reduced_strategies g player)) (players_of g)
 firsts_counted g firsts h = counted_of g (players_of g) firsts h
-
-some_of : (g : Game) → IsGame g → (players : List ℕ)
-    → ArePositive (map (λ player. length (reduced_strategies g player)) players)
-some_of g game [] = tt
-some_of g game (player ∷ players) = (some_reduced_strategy g game player, some_of g game players)
-
-pub some_first_each : (g : Game) → IsGame g → (firsts : List (List ℕ)) → AreFirsts g firsts
-    → ArePositive (map length firsts)
-some_first_each g game firsts h =
-    subst ArePositive (sym (firsts_counted g firsts h)) (some_of g game (players_of g))
 
 fewer_of : (g : Game) → IsGame g → (players : List ℕ)
     → product (map (λ player. length (reduced_strategies g player)) players)

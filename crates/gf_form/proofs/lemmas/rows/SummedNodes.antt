@@ -1,7 +1,7 @@
 -- Nodes that differ in weight alone have the shares of their sum.
-use Rattle.std.proofs.Common.{◌≡◌, ℕ, ℤ, pos, ◌+◌, ◌-◌, ◌*◌, ◌<◌, ◌≤◌, ◌*ℤ◌, Bool, true, false, List}
-use Rattle.std.proofs.Common.{[], ◌∷◌, ◌++◌, arith, refl, ap, sym, subst, ◌∙◌, get_or, length, suc}
-use Rattle.std.proofs.Common.{take}
+use Rattle.std.proofs.Common.{◌≡◌, ℕ, ℤ, pos, ◌+◌, ◌-◌, ◌*◌, ◌<◌, ◌≤◌, ◌*ℤ◌, Bool, true, false}
+use Rattle.std.proofs.Common.{List, [], ◌∷◌, ◌++◌, arith, refl, ap, sym, subst, ◌∙◌, get_or, length}
+use Rattle.std.proofs.Common.{suc, take}
 use Rattle.std.specs.Prelude.{◌+ℤ◌, if◌then◌else◌, unsigned_abs}
 use Rattle.std.specs.List.Sorted.{IsNonDecreasingBy, IsPermutation}
 use Rattle.std.proofs.Math.Nat.{mod-lt}

@@ -1,63 +1,79 @@
--- The strategies of a profile with a number, if some of each player are picked: those of one player
--- after another, each by what is left of the number.
-use Rattle.std.proofs.Common.{◌≡◌, ℕ, zero, suc, ◌+◌, ◌-◌, ◌*◌, ◌/◌, ◌%◌, ◌<◌, ◌≤◌, List, [], ◌∷◌}
-use Rattle.std.proofs.Common.{length, map, get_or, refl, sym, ap, subst, ◌∙◌}
-use Rattle.std.proofs.Common.{arith, Vec, Global}
-use Rattle.std.specs.List.{AllByRecursion, AllZip, Contains}
-use Rattle.std.specs.Prelude.{vec_len}
+-- The profiles of some strategies of each player, and their numbers among all profiles.
+use Rattle.std.proofs.Common.{◌≡◌, ℕ, suc, ◌+◌, ◌-◌, ◌*◌, ◌/◌, ◌%◌, ◌<◌, ◌≤◌, List, [], ◌∷◌, ◌++◌}
+use Rattle.std.proofs.Common.{length, map, get_or, refl, sym, ap, subst, ◌∙◌, arith, zero, drop}
+use Rattle.std.specs.Prelude.{zip}
+use Rattle.std.specs.List.{AllByRecursion, AllZip, Contains, flat_map}
 use Rattle.std.proofs.Math.Nat.{div-lt_iff_lt-mul, mod-add-div, mod-lt, mul_comm}
-use Rattle.std.proofs.lemmas.Grind.{get_or_default_zero}
-use Rattle.std.proofs.lemmas.List.{get_or_default, get_or-map, length-map}
-use Rattle.gf_nfg.specs.Profiles.{numbers_from, product, profiles}
+use Rattle.std.proofs.Math.Nat.{mul-le-mul_left, mul-le-mul_right}
+use Rattle.std.proofs.lemmas.List.{get_or-map, get_or_default, length-map, map-append}
+use Rattle.std.proofs.lemmas.List.Folds.{flat_map-map}
+use Rattle.gf_fraction.proofs.AllElements.{all_both, all_weaker}
+use Rattle.gf_nfg.specs.Profiles.{numbers_from, positions, product, profiles}
 use Rattle.gf_nfg.specs.ProfilePlaces.{IsProfile, place}
 use Rattle.gf_nfg.proofs.lemmas.tables.Profiles.{are_profiles, every_profile, length-profiles}
 use Rattle.gf_nfg.proofs.lemmas.tables.Profiles.{place_at}
-use Rattle.gf_nfg.proofs.lemmas.tables.NumbersInTurn.{get_or-numbers_from, length-numbers_from}
 use Rattle.gf_tree.specs.Game.{Game}
-use Rattle.gf_form.specs.inner.strategies.Counted.{AreCounts}
-use Rattle.gf_form.specs.inner.strategies.Picked.{AreNumbers, IsPicked, full_at, numbers_in}
-use Rattle.gf_form.specs.inner.strategies.Picked.{picked_profiles}
+use Rattle.gf_form.specs.inner.strategies.ProfileNumbers.{AreBelow, AreProfileNumbers}
+use Rattle.gf_form.specs.inner.strategies.ProfileNumbers.{numbered_profiles, numbers_with}
 use Rattle.gf_form.specs.Strategies.{AreStrategies, action_counts, full_profiles}
 use Rattle.gf_form.specs.Strategies.{players_of, strategies, strategies_at}
-use Rattle.gf_form.specs.declared.strategies.counts.Counts.{Counts}
-use Rattle.gf_form.specs.declared.strategies.picked.Picked.{Picked}
 use Rattle.gf_form.proofs.lemmas.strategies.Choices.{IsChoice, every_choice}
 use Rattle.gf_form.proofs.lemmas.strategies.Chosen.{profile_strategies}
 use Rattle.gf_form.proofs.lemmas.strategies.CountedActions.{strategy_counts}
-use Rattle.gf_form.proofs.lemmas.strategies.CountsGiven.{all_counted}
-use Rattle.gf_form.proofs.lemmas.form.FormTables.{as_many}
 use Rattle.gf_form.proofs.lemmas.strategies.StrategiesByNumber.{all_at, positive_parts}
 
+-- for each player, the numbers of some of his strategies, from 0
+abbrev pub AreNumbers : Game → List (List ℕ) → Type 0
+AreNumbers g numbers = AllZip (λ own player.
+    AllByRecursion (λ number. number < length (strategies g player)) own) numbers (players_of g)
+
+-- the strategies of a profile of these, by their positions among all, from 1
+abbrev pub full_at : List (List ℕ) → List ℕ → List ℕ
+full_at numbers profile = map (λ p. get_or p.0 (p.1 - 1) 0 + 1) (zip numbers profile)
+
+-- the profiles, by such positions
+abbrev pub picked_profiles : List (List ℕ) → List (List ℕ)
+picked_profiles numbers = map (full_at numbers) (profiles (map length numbers))
+
+pub counted_profiles : (picked : List (List ℕ))
+    → length (picked_profiles picked) ≡ product (map length picked)
+counted_profiles picked =
+    length-map (profiles (map length picked)) (full_at picked) ∙ length-profiles (map length picked)
+
 -- ---- the profile with a number
+
+profile_at : (count : ℕ) (counts : List ℕ) (number rest : ℕ) → number < count
+    → rest < product counts
+    → get_or (profiles (count ∷ counts)) (number + count * rest) []
+    ≡ (number + 1) ∷ get_or (profiles counts) rest []
+profile_at count counts number rest less below =
+    let all = profiles (count ∷ counts) in
+    let others = get_or (profiles counts) rest [] in
+    let profile = (number + 1) ∷ others in
+    let inside : rest < length (profiles counts) = omega (arith, below, length-profiles counts) in
+    let above : 1 ≤ number + 1 = omega arith in
+    let upto : number + 1 ≤ count = omega (arith, less) in
+    let there = (every_profile (count ∷ counts) profile).1 (
+      (above, upto),
+      all_at (IsProfile counts) (profiles counts) rest [] (are_profiles counts) inside,
+    ) in
+    let here : number + 1 - 1 ≡ number = omega arith in
+    let at : number + count * rest ≡ there.0 =
+    sym (λ i. here i + count * place_at counts rest [] inside i)
+    ∙ sym (ap (place (count ∷ counts)) there.2)
+    ∙ place_at (count ∷ counts) there.0 profile there.1 in
+    ap (λ (n : ℕ). get_or all n []) at ∙ get_or_default all there.0 [] profile there.1 ∙ there.2
 
 pub profiles_next : (count : ℕ) (counts : List ℕ) (rest : ℕ) → 0 < count
     → rest < count * product counts
     → get_or (profiles (count ∷ counts)) rest []
     ≡ (rest % count + 1) ∷ get_or (profiles counts) (rest / count) []
 profiles_next count counts rest some below =
-    let all = profiles (count ∷ counts) in
-    let others = get_or (profiles counts) (rest / count) [] in
-    let profile = (rest % count + 1) ∷ others in
     let swapped : rest < product counts * count =
     subst (λ (n : ℕ). rest < n) (mul_comm count (product counts)) below in
-    let first : rest / count < product counts = (div-lt_iff_lt-mul some).1 swapped in
-    let inside : rest / count < length (profiles counts) =
-    omega (arith, first, length-profiles counts) in
-    let above : 1 ≤ rest % count + 1 = omega arith in
-    let upto : rest % count + 1 ≤ count = omega (arith, mod-lt rest some) in
-    let there = (every_profile (count ∷ counts) profile).1 (
-      (above, upto),
-      all_at (IsProfile counts) (profiles counts) (rest / count) []
-          (are_profiles counts) inside,
-    ) in
-    let less : rest % count + 1 - 1 ≡ rest % count = omega arith in
-    let placed : place (count ∷ counts) profile ≡ rest =
-    (λ i. less i + count * place_at counts (rest / count) [] inside i) ∙ mod-add-div rest count in
-    let at : there.0 ≡ rest =
-    sym (place_at (count ∷ counts) there.0 profile there.1) ∙ ap (place (count ∷ counts)) there.2
-    ∙ placed in
-    ap (λ (n : ℕ). get_or all n []) (sym at)
-    ∙ get_or_default all there.0 [] profile there.1 ∙ there.2
+    ap (λ (n : ℕ). get_or (profiles (count ∷ counts)) n []) (sym (mod-add-div rest count))
+    ∙ profile_at count counts (rest % count) (rest / count) (mod-lt rest some)
+    ((div-lt_iff_lt-mul some).1 swapped)
 
 -- what the factors of a number that is above another are
 pub some_factor : (counts : List ℕ) (number i : ℕ) → number < product counts → i < length counts
@@ -66,14 +82,6 @@ some_factor [] number i h less = absurd (omega (arith, less))
 some_factor (c ∷ counts) number zero h less = (positive_parts c (product counts) number h).0
 some_factor (c ∷ counts) number (suc i) h less =
     some_factor counts 0 i (positive_parts c (product counts) number h).1 (omega (arith, less))
-
--- the profile with a number
-pub number_at : (picked : List (List ℕ)) (number : ℕ) → number < product (map length picked)
-    → get_or (picked_profiles picked) number []
-    ≡ full_at picked (get_or (profiles (map length picked)) number [])
-number_at picked number less =
-    get_or-map (full_at picked) (profiles (map length picked)) number [] []
-    (omega (arith, less, length-profiles (map length picked)))
 
 -- ---- full profiles
 
@@ -111,160 +119,219 @@ chosen g (strategy ∷ all) [] h = absurd h
 chosen g (strategy ∷ all) (player ∷ players) h =
     ((every_choice (action_counts g player) strategy).0 h.0, chosen g all players h.1)
 
-pub are_strategies : (g : Game) (picked : List (List ℕ)) → AreNumbers g picked → (number : ℕ)
-    → number < product (map length picked)
-    → AreStrategies g (strategies_at g (get_or (picked_profiles picked) number []))
-are_strategies g picked numbers number within =
-    let all = profiles (map length picked) in
-    let profile = get_or all number [] in
-    let full = full_at picked profile in
-    let inside : number < length all = omega (arith, within, length-profiles (map length picked)) in
-    subst (λ (full : List ℕ). AreStrategies g (strategies_at g full))
-    (sym (number_at picked number within))
-    (chosen g (strategies_at g full) (players_of g) (profile_strategies g full
-    (picked_full g picked numbers profile
-    (number, inside, get_or_default all number profile [] inside))))
+pub are_strategies : (g : Game) (number : ℕ) → number < length (full_profiles g)
+    → AreStrategies g (strategies_at g (get_or (full_profiles g) number []))
+are_strategies g number within =
+    let profile = get_or (full_profiles g) number [] in
+    chosen g (strategies_at g profile) (players_of g) (profile_strategies g profile
+    (number, within, get_or_default (full_profiles g) number profile [] within))
 
-pub counted_profiles : (picked : List (List ℕ))
-    → length (picked_profiles picked) ≡ product (map length picked)
-counted_profiles picked =
-    length-map (profiles (map length picked)) (full_at picked) ∙ length-profiles (map length picked)
+-- ---- their numbers
 
--- ---- if all are picked
+sum_below : (count rest size number : ℕ) → rest < size → number < count
+    → number + count * rest < count * size
+sum_below count rest size number less below =
+    let room : count * suc rest ≤ count * size = mul-le-mul_left count (omega (arith, less)) in
+    let more : count * suc rest ≡ count * rest + count = omega arith in
+    omega (arith, below, room, more)
 
-abbrev pub all_numbers : List ℕ → List (List ℕ)
-all_numbers counts = map (numbers_from 0) counts
+sums_below : (count rest size : ℕ) (own : List ℕ) → rest < size
+    → AllByRecursion (λ number. number < count) own
+    → AllByRecursion (λ number. number < count * size) (map (λ number. number + count * rest) own)
+sums_below count rest size [] less h = tt
+sums_below count rest size (number ∷ own) less h =
+    (sum_below count rest size number less h.0, sums_below count rest size own less h.1)
 
-below : (first n : ℕ) → AllByRecursion (λ number. number < first + n) (numbers_from first n)
-below first zero = tt
-below first (suc n) =
-    let next : first + 1 + n ≡ first + suc n = omega arith in (
-      omega arith,
-      subst (λ (m : ℕ). AllByRecursion (λ number. number < m) (numbers_from (first + 1) n)) next
-          (below (first + 1) n),
-    )
+all_sums_below : (count size : ℕ) (own rests : List ℕ)
+    → AllByRecursion (λ number. number < count) own → AllByRecursion (λ rest. rest < size) rests
+    → AllByRecursion (λ number. number < count * size)
+    (flat_map (λ rest. map (λ number. number + count * rest) own) rests)
+all_sums_below count size own [] h k = tt
+all_sums_below count size own (rest ∷ rests) h k =
+    all_both (λ number. number < count * size) (map (λ number. number + count * rest) own)
+    (flat_map (λ rest. map (λ number. number + count * rest) own) rests)
+    (sums_below count rest size own k.0 h) (all_sums_below count size own rests h k.1)
 
-pub numbers_below : (n : ℕ) → AllByRecursion (λ number. number < n) (numbers_from 0 n)
-numbers_below n =
-    let here : 0 + n ≡ n = omega arith in
-    subst (λ (m : ℕ). AllByRecursion (λ number. number < m) (numbers_from 0 n)) here (below 0 n)
+pub numbers_within : (counts : List ℕ) (picked : List (List ℕ)) → AreBelow counts picked
+    → AllByRecursion (λ number. number < product counts) (numbers_with counts picked)
+numbers_within [] [] h = (omega arith, tt)
+numbers_within [] (own ∷ picked) h = absurd h
+numbers_within (count ∷ counts) [] h = absurd h
+numbers_within (count ∷ counts) (own ∷ picked) h =
+    all_sums_below count (product counts) own (numbers_with counts picked) h.0
+    (numbers_within counts picked h.1)
 
-pub all_are_numbers : (g : Game) (players : List ℕ)
+-- the profiles of one player more
+
+abbrev joined : List ℕ → List ℕ → List (List ℕ)
+joined own others = map (λ number. (number + 1) ∷ others) own
+
+by_sums : (count : ℕ) (counts : List ℕ) (rest : ℕ) (own : List ℕ) → rest < product counts
+    → AllByRecursion (λ number. number < count) own
+    → map (λ number. get_or (profiles (count ∷ counts)) number [])
+    (map (λ number. number + count * rest) own)
+    ≡ joined own (get_or (profiles counts) rest [])
+by_sums count counts rest [] less h = refl
+by_sums count counts rest (number ∷ own) less h =
+    λ i. profile_at count counts number rest h.0 less i ∷ by_sums count counts rest own less h.1 i
+
+by_all_sums : (count : ℕ) (counts own rests : List ℕ)
+    → AllByRecursion (λ number. number < count) own
+    → AllByRecursion (λ rest. rest < product counts) rests
+    → map (λ number. get_or (profiles (count ∷ counts)) number [])
+    (flat_map (λ rest. map (λ number. number + count * rest) own) rests)
+    ≡ flat_map (λ rest. joined own (get_or (profiles counts) rest [])) rests
+by_all_sums count counts own [] h k = refl
+by_all_sums count counts own (rest ∷ rests) h k =
+    map-append (λ number. get_or (profiles (count ∷ counts)) number [])
+    (map (λ number. number + count * rest) own)
+    (flat_map (λ rest. map (λ number. number + count * rest) own) rests)
+    ∙ (λ i. by_sums count counts rest own k.0 h i ++ by_all_sums count counts own rests h k.1 i)
+
+by_positions : (all : List ℕ) (picked : List (List ℕ)) (others own : List ℕ) (k : ℕ)
+    → ((i : ℕ) → get_or all (k + i) 0 ≡ get_or own i 0)
+    → map (full_at (all ∷ picked)) (map (λ s. s ∷ others) (numbers_from (k + 1) (length own)))
+    ≡ joined own (full_at picked others)
+by_positions all picked others [] k h = refl
+by_positions all picked others (number ∷ own) k h =
+    let here : k + 1 - 1 ≡ k + 0 = omega arith in
+    let first : get_or all (k + 1 - 1) 0 ≡ number =
+    ap (λ (n : ℕ). get_or all n 0) here ∙ h 0 in
+    λ i. ((first i + 1) ∷ full_at picked others)
+    ∷ by_positions all picked others own (k + 1)
+    (λ j. let next : k + 1 + j ≡ k + suc j = omega arith in
+    ap (λ (n : ℕ). get_or all n 0) next ∙ h (suc j)) i
+
+by_all_positions : (own : List ℕ) (picked tails : List (List ℕ))
+    → map (full_at (own ∷ picked))
+    (flat_map (λ others. map (λ s. s ∷ others) (positions (length own))) tails)
+    ≡ flat_map (λ others. joined own (full_at picked others)) tails
+by_all_positions own picked [] = refl
+by_all_positions own picked (others ∷ tails) =
+    map-append (full_at (own ∷ picked)) (map (λ s. s ∷ others) (positions (length own)))
+    (flat_map (λ others. map (λ s. s ∷ others) (positions (length own))) tails)
+    ∙ (λ i. by_positions own picked others own 0
+    (λ j. let same : 0 + j ≡ j = omega arith in ap (λ (n : ℕ). get_or own n 0) same) i
+    ++ by_all_positions own picked tails i)
+
+by_numbers : (counts : List ℕ) (picked : List (List ℕ)) → AreBelow counts picked
+    → map (λ number. get_or (profiles counts) number []) (numbers_with counts picked)
+    ≡ picked_profiles picked
+by_numbers [] [] h = refl
+by_numbers [] (own ∷ picked) h = absurd h
+by_numbers (count ∷ counts) [] h = absurd h
+by_numbers (count ∷ counts) (own ∷ picked) h =
+    let rests = numbers_with counts picked in
+    by_all_sums count counts own rests h.0 (numbers_within counts picked h.1)
+    ∙ sym (flat_map-map (joined own) (λ rest. get_or (profiles counts) rest []) rests)
+    ∙ ap (flat_map (joined own)) (by_numbers counts picked h.1)
+    ∙ flat_map-map (joined own) (full_at picked) (profiles (map length picked))
+    ∙ sym (by_all_positions own picked (profiles (map length picked)))
+
+are_below : (g : Game) (players : List ℕ) (picked : List (List ℕ))
     → AllZip (λ own player. AllByRecursion (λ number. number < length (strategies g player)) own)
-    (all_numbers (map (λ player. length (strategies g player)) players)) players
-all_are_numbers g [] = tt
-all_are_numbers g (player ∷ players) =
-    (numbers_below (length (strategies g player)), all_are_numbers g players)
+    picked players
+    → AreBelow (map (λ player. length (strategies g player)) players) picked
+are_below g [] [] h = tt
+are_below g [] (own ∷ picked) h = absurd h
+are_below g (player ∷ players) [] h = absurd h
+are_below g (player ∷ players) (own ∷ picked) h = (h.0, are_below g players picked h.1)
 
-pub lengths_of_all : (counts : List ℕ) → map length (all_numbers counts) ≡ counts
-lengths_of_all [] = refl
-lengths_of_all (count ∷ counts) = λ i. length-numbers_from 0 count i ∷ lengths_of_all counts i
+-- ---- one player after another
 
-full_itself : (counts profile : List ℕ) → IsProfile counts profile
-    → full_at (all_numbers counts) profile ≡ profile
-full_itself [] [] h = refl
-full_itself [] (s ∷ profile) h = absurd h
-full_itself (count ∷ counts) [] h = absurd h
-full_itself (count ∷ counts) (s ∷ profile) h =
-    let number = get_or-numbers_from 0 count (s - 1) 0 (omega (arith, h.0.0, h.0.1)) in
-    let first : get_or (numbers_from 0 count) (s - 1) 0 + 1 ≡ s = omega (arith, number, h.0.0) in
-    λ i. first i ∷ full_itself counts profile h.1 i
+pub player_at : (counts : List ℕ) (picked : List (List ℕ)) (i : ℕ) → AreBelow counts picked
+    → i < length counts
+    → AllByRecursion (λ number. number < get_or counts i 0) (get_or picked i [])
+    × AreBelow (drop (suc i) counts) (drop (suc i) picked)
+player_at [] picked i h less = absurd (omega (arith, less))
+player_at (count ∷ counts) [] i h less = absurd h
+player_at (count ∷ counts) (own ∷ picked) zero h less = h
+player_at (count ∷ counts) (own ∷ picked) (suc i) h less =
+    player_at counts picked i h.1 (omega (arith, less))
 
-each_itself : (f : List ℕ → List ℕ) (P : List ℕ → Type 0) (profiles : List (List ℕ))
-    → ((profile : List ℕ) → P profile → f profile ≡ profile) → AllByRecursion P profiles
-    → map f profiles ≡ profiles
-each_itself f P [] same h = refl
-each_itself f P (profile ∷ profiles) same h =
-    λ i. same profile h.0 i ∷ each_itself f P profiles same h.1 i
+pub numbers_next : (counts : List ℕ) (picked : List (List ℕ)) (i : ℕ) → AreBelow counts picked
+    → i < length counts
+    → flat_map (λ rest. map (λ number. number + get_or counts i 0 * rest) (get_or picked i []))
+    (numbers_with (drop (suc i) counts) (drop (suc i) picked))
+    ≡ numbers_with (drop i counts) (drop i picked)
+numbers_next [] picked i h less = absurd (omega (arith, less))
+numbers_next (count ∷ counts) [] i h less = absurd h
+numbers_next (count ∷ counts) (own ∷ picked) zero h less = refl
+numbers_next (count ∷ counts) (own ∷ picked) (suc i) h less =
+    numbers_next counts picked i h.1 (omega (arith, less))
 
-pub all_full : (counts : List ℕ) → picked_profiles (all_numbers counts) ≡ profiles counts
-all_full counts =
-    ap (λ (own : List ℕ). map (full_at (all_numbers counts)) (profiles own)) (lengths_of_all counts)
-    ∙ each_itself (full_at (all_numbers counts)) (IsProfile counts) (profiles counts)
-    (full_itself counts) (are_profiles counts)
+pub no_less : (counts : List ℕ) (i : ℕ) → 0 < product counts
+    → product (drop i counts) ≤ product counts
+no_less counts zero some = omega arith
+no_less [] (suc i) some = omega arith
+no_less (c ∷ counts) (suc i) some =
+    let parts = positive_parts c (product counts) 0 some in
+    let one : 1 * product counts ≤ c * product counts = mul-le-mul_right (product counts) parts.0 in
+    omega (arith, no_less counts i parts.1, one)
 
-pub all_picked : (g : Game) (c : Counts) → AreCounts g c → (numbers : List (List ℕ))
-    → numbers ≡ all_numbers c.strategies.items
-    → AreNumbers g numbers × (c.profiles.count ≡ length (picked_profiles numbers))
-    × (picked_profiles numbers ≡ full_profiles g)
-all_picked g c counts numbers is =
-    let own = strategy_counts g in
-    let are : numbers ≡ all_numbers own = is ∙ ap all_numbers counts.strategies in
-    let full : picked_profiles numbers ≡ full_profiles g =
-    ap picked_profiles are ∙ all_full own in (
-      subst (AreNumbers g) (sym are) (all_are_numbers g (players_of g)),
-      counts.profiles ∙ sym (ap length full),
-      full,
-    )
+pub sums_fit : (count rest size most : ℕ) (own : List ℕ) → rest < size → count * size < most
+    → AllByRecursion (λ number. number < count) own
+    → AllByRecursion (λ number. number + count * rest < most) own
+sums_fit count rest size most own less fits h =
+    all_weaker (λ number. number < count) (λ number. number + count * rest < most)
+    (λ number below. omega (arith, sum_below count rest size number less below, fits)) own h
 
--- ---- how many are picked
+-- ---- of a game
 
-abbrev pub lengths_in : List (Vec ℕ Global) → List ℕ
-lengths_in numbers = map length (map (λ own. own.items) numbers)
+module _ (g : Game) (counts : List ℕ) (picked : List (List ℕ)) (are : AreNumbers g picked)
+    (counts_are : counts ≡ strategy_counts g) where
+  pub below : AreBelow counts picked
+  below = subst (λ (own : List ℕ). AreBelow own picked) (sym counts_are)
+      (are_below g (players_of g) picked are)
 
--- of the vector that is read at a place of these
-pub one_length : (numbers given : List (Vec ℕ Global)) (i n : ℕ) (own : Vec ℕ Global)
-    → given ≡ numbers → i < length given → own ≡ get_or given i own → n ≡ vec_len own
-    → (i < length (lengths_in numbers)) × (n ≡ get_or (lengths_in numbers) i 0)
-one_length numbers given i n own are less own_is is =
-    let here : i < length numbers =
-    subst (λ (all : List (Vec ℕ Global)). i < length all) are less in
-    let lists = map (λ (own : Vec ℕ Global). own.items) numbers in
-    let inside : i < length lists =
-    omega (arith, here, length-map numbers (λ (own : Vec ℕ Global). own.items)) in (
-      omega (arith, inside, length-map lists length),
-      is ∙ own.ok.0
-          ∙ ap (λ (own : Vec ℕ Global). length own.items)
-          (own_is ∙ ap (λ (all : List (Vec ℕ Global)). get_or all i own) are)
-          ∙ sym (ap length (get_or-map (λ (own : Vec ℕ Global). own.items) numbers i own [] here))
-          ∙ sym (get_or-map length lists i [] 0 inside),
-    )
+  pub are_profile_numbers : AreProfileNumbers g (numbers_with counts picked)
+  are_profile_numbers =
+      subst (λ (n : ℕ). AllByRecursion (λ number. number < n) (numbers_with counts picked))
+      (ap product counts_are ∙ sym (length-profiles (strategy_counts g)))
+      (numbers_within counts picked below)
 
--- ---- what is read of the player at a place
+  pub profiles_are : numbered_profiles g (numbers_with counts picked) ≡ picked_profiles picked
+  profiles_are =
+      ap (λ (own : List ℕ). numbered_profiles g (numbers_with own picked)) counts_are
+      ∙ by_numbers (strategy_counts g) picked (are_below g (players_of g) picked are)
 
--- his numbers, and how many they are
-pub record ReadNumbers (p : Picked) (i : ℕ) (own : Vec ℕ Global) (count : ℕ) : Type 0 where
-  pub own_is : own ≡ get_or p.numbers.items i own
-  pub count_is : count ≡ vec_len own
+-- ---- all
 
-module _ (g : Game) (c : Counts) (p : Picked) (counts : AreCounts g c) (picked : IsPicked g p)
-  where
-    pub one_each : length (numbers_in p) ≡ length g.players
-    one_each =
-        as_many _ (numbers_in p) (players_of g) picked.numbers
-        ∙ length-numbers_from 1 (length g.players)
+all_from : (profiles : List (List ℕ)) (k : ℕ) (rest : List (List ℕ))
+    → ((i : ℕ) → get_or profiles (k + i) [] ≡ get_or rest i [])
+    → map (λ number. get_or profiles number []) (numbers_from k (length rest)) ≡ rest
+all_from profiles k [] h = refl
+all_from profiles k (profile ∷ rest) h =
+    let here : k ≡ k + 0 = omega arith in
+    let first : get_or profiles k [] ≡ profile =
+    ap (λ (n : ℕ). get_or profiles n []) here ∙ h 0 in
+    λ i. first i ∷ all_from profiles (k + 1) rest
+    (λ j. let next : k + 1 + j ≡ k + suc j = omega arith in
+    ap (λ (n : ℕ). get_or profiles n []) next ∙ h (suc j)) i
 
-    module _ (i : ℕ) (less : i < length c.actions.items) where
-      pub numbers_within : i < length (numbers_in p)
-      numbers_within = omega (arith, less, one_each, all_counted g c counts)
+pub all_numbered : (g : Game) → numbered_profiles g (numbers_from 0 (length (full_profiles g)))
+    ≡ full_profiles g
+all_numbered g =
+    all_from (full_profiles g) 0 (full_profiles g)
+    (λ i. let same : 0 + i ≡ i = omega arith in
+    ap (λ (n : ℕ). get_or (full_profiles g) n []) same)
 
-      module _ (own : Vec ℕ Global) (count : ℕ) (read : ReadNumbers p i own count) where
-        pub are_read : own.items ≡ get_or (numbers_in p) i []
-        are_read =
-            ap (λ (own : Vec ℕ Global). own.items) read.own_is
-            ∙ sym (get_or-map (λ own. own.items) p.numbers.items i own []
-            (omega (arith, numbers_within, length-map p.numbers.items (λ own. own.items))))
+all_below : (first n last : ℕ) → first + n ≤ last
+    → AllByRecursion (λ number. number < last) (numbers_from first n)
+all_below first zero last h = tt
+all_below first (suc n) last h =
+    (omega (arith, h), all_below (first + 1) n last (omega (arith, h)))
 
-        pub count_read : count ≡ length own.items
-        count_read = read.count_is ∙ own.ok.0
+pub all_are_numbers : (g : Game)
+    → AreProfileNumbers g (numbers_from 0 (length (full_profiles g)))
+all_are_numbers g =
+    all_below 0 (length (full_profiles g)) (length (full_profiles g)) (omega arith)
 
-        module _ (profile : ℕ) (below : profile < p.profiles.count) where
-          pub some_number : 0 < count
-          some_number =
-              subst (λ (n : ℕ). 0 < n)
-              (get_or-map length (numbers_in p) i [] 0 numbers_within
-              ∙ sym (count_read ∙ ap length are_read))
-              (some_factor (map length (numbers_in p)) profile i
-              (omega (arith, below, picked.profiles, counted_profiles (numbers_in p)))
-              (omega (arith, numbers_within, length-map (numbers_in p) length)))
-
-          pub rest_within : (rest : ℕ) → rest % count < length own.items
-          rest_within rest = omega (arith, mod-lt rest some_number, count_read)
-
-          -- the one that is left of the number of a profile is that of a strategy
-          module _ (rest number : ℕ)
-              (number_is : number ≡ get_or own.items (rest % count) number) where
-            pub number_read : number ≡ get_or own.items (rest % count) 0
-            number_read =
-                number_is
-                ∙ get_or_default_zero own.items (rest % count) number (rest_within rest)
+-- the profile at a place
+pub numbered_at : (g : Game) (numbers : List ℕ) (i : ℕ) → i < length numbers
+    → (i < length (numbered_profiles g numbers))
+    × (get_or (numbered_profiles g numbers) i []
+    ≡ get_or (full_profiles g) (get_or numbers i 0) [])
+numbered_at g numbers i less =
+    let f = λ (number : ℕ). get_or (full_profiles g) number [] in
+    (omega (arith, less, length-map numbers f), get_or-map f numbers i 0 [] less)

@@ -1,54 +1,144 @@
-use Rattle.std.proofs.Common.{◌∙◌, ℕ, Vec, Global, arith, map, subst, sym}
-use Rattle.std.proofs.lemmas.Bool.{false≢true}
+use Rattle.std.proofs.Common.{◌≡◌, ◌∙◌, ◌≤◌, ◌<◌, ℕ, [], List, Vec, Global, ap, arith, get_or}
+use Rattle.std.proofs.Common.{length, map, subst, sym}
+use Rattle.std.proofs.lemmas.List.{length-map}
 use Rattle.std.proofs.lemmas.Result.{IfOk-weaker, on_ok_weaker}
+use Rattle.std.specs.List.{AllByRecursion}
+use Rattle.gf_nfg.specs.Limit.{profile_limit}
+use Rattle.gf_tree.specs.Game.{Game, IsGame}
 use Rattle.gf_form.specs.inner.reduced.Firsts.{AreFirsts}
-use Rattle.gf_form.specs.inner.strategies.Picked.{numbers_in}
+use Rattle.gf_form.specs.inner.rows.ProfileRows.{AreRowsAt}
+use Rattle.gf_form.specs.inner.strategies.Counted.{AreCounts}
+use Rattle.gf_nfg.specs.Profiles.{product}
+use Rattle.gf_nfg.proofs.lemmas.tables.Profiles.{length-profiles}
+use Rattle.gf_form.specs.inner.strategies.ProfileNumbers.{AreBelow, AreProfileNumbers}
+use Rattle.gf_form.specs.inner.strategies.ProfileNumbers.{numbered_profiles, numbers_with}
+use Rattle.gf_form.specs.Strategies.{full_profiles, players_of, strategies}
+use Rattle.gf_form.proofs.lemmas.form.FormTables.{as_many}
+use Rattle.gf_form.proofs.lemmas.strategies.CountedActions.{product_positive, strategies_positive}
+use Rattle.gf_form.proofs.lemmas.strategies.CountedActions.{strategy_counts}
+use Rattle.gf_form.proofs.lemmas.strategies.PickedProfiles.{below}
+use Rattle.gf_form.specs.Refusal.{HasValues, IsFirstWithout}
+use Rattle.gf_form.specs.StrategicForm.{ArePayoffsAt}
+use Rattle.gf_form.specs.declared.strategies.counts.Counts.{Counts}
 use Rattle.gf_form.proofs.lemmas.reduced.FirstsPicked.{are_numbers, few_firsts, reduced_overflow}
-use Rattle.gf_form.proofs.lemmas.reduced.FirstsPicked.{reduced_rows}
-use Rattle.gf_form.proofs.lemmas.reduced.FirstsPicked.{reduced_values, some_first_each}
-use Rattle.gf_form.proofs.lemmas.strategies.PickedProfiles.{counted_profiles}
+use Rattle.gf_form.proofs.lemmas.reduced.FirstsPicked.{reduced_rows, reduced_values}
+use Rattle.gf_form.proofs.lemmas.strategies.PickedProfiles.{are_profile_numbers, counted_profiles}
+use Rattle.gf_form.proofs.lemmas.strategies.PickedProfiles.{picked_profiles, profiles_are}
 use Rattle.gf_form.proofs.reduced_form.reduced_rows.Goals as goal
 
-pub of_numbers-requires : goal.of_numbers-requires
-of_numbers-requires c =
-    some_first_each c.args.game.now c.players-players.ensures.is_game
-    (map (λ (own : Vec ℕ Global). own.items) c.args.firsts.items) c.requires.firsts
+abbrev lists : List (Vec ℕ Global) → List (List ℕ)
+lists all = map (λ own. own.items) all
 
-pub returns-in_default-clause-few : goal.returns-in_default-clause-few
-returns-in_default-clause-few c h =
-    let few = few_firsts c.args.game.now c.players-players.ensures.is_game
-    (map (λ (own : Vec ℕ Global). own.items) c.args.firsts.items) c.requires.firsts
-    c.requires.counts.within in
-    omega (arith, few, c.in_default.ensures)
+-- the numbers are those of the profiles of the first strategies
+record AreTheirs (g : Game) (firsts : List (List ℕ)) (numbers : List ℕ) : Type 0 where
+  are : AreProfileNumbers g numbers
+  profiles : numbered_profiles g numbers ≡ picked_profiles firsts
+  few : length numbers ≤ profile_limit
 
-pub profile_rows-requires-clause-picked : goal.profile_rows-requires-clause-picked
-profile_rows-requires-clause-picked c =
+theirs : (g : Game) → IsGame g → (counts : Counts) → AreCounts g counts
+    → (firsts : List (List ℕ)) → AreFirsts g firsts → (held given numbers : List ℕ)
+    → held ≡ counts.strategies.items → given ≡ numbers → numbers ≡ numbers_with held firsts
+    → AreTheirs g firsts given
+theirs g game counts h firsts are held given numbers held_is same is =
+    let own = are_numbers g firsts are in
+    let all = held_is ∙ h.strategies in
+    let profiles = ap (numbered_profiles g) (same ∙ is) ∙ profiles_are g held firsts own all in
     record {
-      numbers = are_numbers c.args.game.now (numbers_in c.in-Some.picked)
-          (subst (AreFirsts c.args.game.now) (sym c.in-Some.ensures.0) c.requires.firsts);
-      profiles = c.in-Some.ensures.1 ∙ sym (counted_profiles (numbers_in c.in-Some.picked));
-      all = λ yes. absurd (false≢true (sym c.in-Some.ensures.2 ∙ yes));
+      are = subst (AreProfileNumbers g) (sym (same ∙ is))
+          (are_profile_numbers g held firsts own all);
+      profiles = profiles;
+      few = omega (
+        arith,
+        ap length profiles,
+        length-map given (λ (number : ℕ). get_or (full_profiles g) number []),
+        counted_profiles firsts,
+        few_firsts g game firsts are h.within,
+      );
     }
+
+pub profile_numbers-requires-clause-below : goal.profile_numbers-requires-clause-below
+profile_numbers-requires-clause-below c =
+    let g = c.args.game.now in
+    let firsts = lists c.args.firsts.now in
+    subst (λ (counts : List ℕ). AreBelow counts firsts) (sym c.deref.ensures.value)
+    (below g c.args.counts.now.strategies.items firsts (are_numbers g firsts c.requires.firsts)
+    c.requires.counts.strategies)
+
+pub profile_numbers-requires-clause-as_many : goal.profile_numbers-requires-clause-as_many
+profile_numbers-requires-clause-as_many c =
+    let g = c.args.game.now in
+    let firsts = lists c.args.firsts.now in
+    sym (length-map c.args.firsts.now (λ (own : Vec ℕ Global). own.items))
+    ∙ as_many _ firsts (players_of g) (are_numbers g firsts c.requires.firsts)
+    ∙ sym (ap length (c.deref.ensures.value ∙ c.requires.counts.strategies)
+    ∙ length-map (players_of g) (λ player. length (strategies g player)))
+
+pub profile_numbers-requires-clause-some : goal.profile_numbers-requires-clause-some
+profile_numbers-requires-clause-some c =
+    let g = c.args.game.now in
+    subst (λ (counts : List ℕ). 0 < product counts)
+    (sym (c.deref.ensures.value ∙ c.requires.counts.strategies))
+    (product_positive (strategy_counts g)
+    (strategies_positive g c.players-players.ensures.is_game))
+
+pub profile_numbers-requires-clause-few : goal.profile_numbers-requires-clause-few
+profile_numbers-requires-clause-few c =
+    omega (
+      arith,
+      ap product (c.deref.ensures.value ∙ c.requires.counts.strategies),
+      length-profiles (strategy_counts c.args.game.now),
+      c.requires.counts.within,
+    )
+
+pub profile_rows-requires-clause-numbers : goal.profile_rows-requires-clause-numbers
+profile_rows-requires-clause-numbers c =
+    let g = c.args.game.now in
+    let firsts = lists c.args.firsts.now in
+    let h = theirs g c.players-players.ensures.is_game c.args.counts.now c.requires.counts firsts
+    c.requires.firsts c.deref.result.now c.deref-2.result.now c.in_ok-numbers.numbers.items
+    c.deref.ensures.value c.deref-2.ensures.value c.in_ok-numbers.ensures in
+    h.are
+
+pub profile_rows-requires-clause-few : goal.profile_rows-requires-clause-few
+profile_rows-requires-clause-few c =
+    let g = c.args.game.now in
+    let firsts = lists c.args.firsts.now in
+    let h = theirs g c.players-players.ensures.is_game c.args.counts.now c.requires.counts firsts
+    c.requires.firsts c.deref.result.now c.deref-2.result.now c.in_ok-numbers.numbers.items
+    c.deref.ensures.value c.deref-2.ensures.value c.in_ok-numbers.ensures in
+    h.few
 
 pub returns-clause-rows : goal.returns-clause-rows
 returns-clause-rows c =
     let g = c.args.game.now in
+    let firsts = lists c.args.firsts.now in
+    let h = theirs g c.players-players.ensures.is_game c.args.counts.now c.requires.counts firsts
+    c.requires.firsts c.deref.result.now c.deref-2.result.now c.in_ok-numbers.numbers.items
+    c.deref.ensures.value c.deref-2.ensures.value c.in_ok-numbers.ensures in
     IfOk-weaker c.profile_rows.result _ _
-    (λ rows right. reduced_rows g (numbers_in c.in-Some.picked)
-    (subst (AreFirsts g) (sym c.in-Some.ensures.0) c.requires.firsts) rows.items right)
+    (λ rows right. reduced_rows g firsts c.requires.firsts rows.items
+    (subst (λ (ps : List (List ℕ)). AreRowsAt (ArePayoffsAt g) ps rows.items) h.profiles right))
     c.profile_rows.ensures.rows
 
 pub returns-clause-values : goal.returns-clause-values
 returns-clause-values c =
     let g = c.args.game.now in
+    let firsts = lists c.args.firsts.now in
+    let h = theirs g c.players-players.ensures.is_game c.args.counts.now c.requires.counts firsts
+    c.requires.firsts c.deref.result.now c.deref-2.result.now c.in_ok-numbers.numbers.items
+    c.deref.ensures.value c.deref-2.ensures.value c.in_ok-numbers.ensures in
     on_ok_weaker c.profile_rows.result
-    (reduced_values g (numbers_in c.in-Some.picked)
-    (subst (AreFirsts g) (sym c.in-Some.ensures.0) c.requires.firsts))
+    (λ values. reduced_values g firsts c.requires.firsts
+    (subst (AllByRecursion (HasValues g)) h.profiles values))
     c.profile_rows.ensures.values
 
 pub returns-clause-overflow : goal.returns-clause-overflow
-returns-clause-overflow c position h =
+returns-clause-overflow c position is =
     let g = c.args.game.now in
-    reduced_overflow g (numbers_in c.in-Some.picked)
-    (subst (AreFirsts g) (sym c.in-Some.ensures.0) c.requires.firsts) position
-    (c.profile_rows.ensures.overflow position h)
+    let firsts = lists c.args.firsts.now in
+    let h = theirs g c.players-players.ensures.is_game c.args.counts.now c.requires.counts firsts
+    c.requires.firsts c.deref.result.now c.deref-2.result.now c.in_ok-numbers.numbers.items
+    c.deref.ensures.value c.deref-2.ensures.value c.in_ok-numbers.ensures in
+    reduced_overflow g firsts c.requires.firsts position
+    (subst (λ (ps : List (List ℕ)). IsFirstWithout (HasValues g) ps position) h.profiles
+    (c.profile_rows.ensures.overflow position is))

@@ -3,6 +3,7 @@ use Rattle.std.specs.Prelude.{◌≡◌, ℕ, ℤ, suc, ◌-◌, ◌<◌, ◌≤
 use Rattle.std.specs.Prelude.{IsErrOf, Result, Some, get_or, length, take, true}
 use Rattle.std.specs.List.{AllByRecursion}
 use Rattle.gf_fraction.specs.Ratio.{HasValue, IsFraction, Ratio}
+use Rattle.gf_nfg.specs.Limit.{profile_limit}
 use Rattle.gf_nfg.specs.Profiles.{product}
 use Rattle.gf_tree.specs.Game.{Game}
 use Rattle.gf_form.specs.inner.strategies.Counted.{AreCounts}
@@ -10,7 +11,7 @@ use Rattle.gf_form.specs.inner.rows.Demands.{steps_of}
 use Rattle.gf_form.specs.inner.rows.Entries.{AreExactAt, AreOrdered, Entry, IsShaped, entries}
 use Rattle.gf_form.specs.inner.rows.Entries.{size_of_entries, sum_of_entries}
 use Rattle.gf_form.specs.inner.values.PaidRows.{rows_of}
-use Rattle.gf_form.specs.inner.strategies.Picked.{IsPicked, numbers_in, picked_profiles}
+use Rattle.gf_form.specs.inner.strategies.ProfileNumbers.{AreProfileNumbers, numbered_profiles}
 use Rattle.gf_form.specs.inner.rows.ProfileRows.{AreRowsAt}
 use Rattle.gf_form.specs.Refusal.{HasValues, IsFirstWithout}
 use Rattle.gf_form.specs.inner.values.Rows.{ArePaid}
@@ -19,7 +20,6 @@ use Rattle.gf_form.specs.Strategies.{all_choices, choices_by, full_profiles, str
 use Rattle.gf_form.specs.inner.values.Values.{value}
 use Rattle.gf_form.specs.declared.fault.FormFault.{FormFault}
 use Rattle.gf_form.specs.declared.fault.FormFault.TheVariants.{Overflow, TooManyProfiles}
-use Rattle.gf_form.specs.declared.strategies.picked.Picked.{Picked}
 use Rattle.gf_form.specs.declared.rows.terms.Terms.{Terms}
 use Rattle.gf_form.specs.declared.rows.written.Asked.{Asked}
 use Rattle.gf_form.specs.declared.rows.written.Run.{Run}
@@ -50,26 +50,23 @@ pub record SettlesAt (g : Game) (actions : List ℕ) (terms : Terms) (least numb
 
 -- ---- what is asked
 
--- for each profile of the strategies that are picked, its number among all, from 0
-pub record AreFullNumbers (g : Game) (picked : Picked) (numbers : List ℕ) : Type 0 where
-  pub as_many : length numbers ≡ length (picked_profiles (numbers_in picked))
-  pub each : (i : ℕ) → i < length numbers → (get_or numbers i 0 < length (full_profiles g))
-      × (get_or (full_profiles g) (get_or numbers i 0) []
-      ≡ get_or (picked_profiles (numbers_in picked)) i [])
-  pub places : picked.are_all ≡ true → (i : ℕ) → i < length numbers → get_or numbers i 0 ≡ i
+abbrev pub asked_profiles : Asked → List (List ℕ)
+asked_profiles asked = numbered_profiles asked.game.now asked.numbers.now
 
 pub record IsAsked (asked : Asked) : Type 0 where
   pub counts : AreCounts asked.game.now asked.counts.now
   pub payoffs : ArePaid asked.game.now (rows_of asked.payoffs.now)
-  pub picked : IsPicked asked.game.now asked.picked.now
-  pub numbers : AreFullNumbers asked.game.now asked.picked.now asked.numbers.now
+  pub numbers : AreProfileNumbers asked.game.now asked.numbers.now
+  pub few : length asked.numbers.now ≤ profile_limit
+  pub places : asked.are_places ≡ true → (i : ℕ) → i < length asked.numbers.now
+      → get_or asked.numbers.now i 0 ≡ i
 
 -- this many of the first rows
 pub record AreWritten (asked : Asked) (count : ℕ) (written : Written) : Type 0 where
   pub rows : AreRowsAt (ArePayoffsAt asked.game.now)
-      (take count (picked_profiles (numbers_in asked.picked.now))) written.rows.items
+      (take count (asked_profiles asked)) written.rows.items
   pub values : AllByRecursion (HasValues asked.game.now)
-      (take count (picked_profiles (numbers_in asked.picked.now)))
+      (take count (asked_profiles asked))
   pub as_long : length written.strategies.items ≡ length asked.counts.now.actions.items
 
 -- the terms settle the rows of these profiles
@@ -80,7 +77,7 @@ SettleRows asked actions terms run = (i : ℕ) → run.from ≤ i → i < run.to
 -- the rows of the profiles of a run come next
 abbrev pub AreDue : Asked → Run → Written → Type 0
 AreDue asked run written = IsAsked asked × (run.from ≤ run.to)
-    × (run.to ≤ length (picked_profiles (numbers_in asked.picked.now)))
+    × (run.to ≤ length asked.numbers.now)
     × AreWritten asked run.from written
 
 -- terms in order, with a number for each player
@@ -88,9 +85,8 @@ abbrev pub AreTermsFor : Asked → Terms → Type 0
 AreTermsFor asked terms = IsShaped terms × AreOrdered terms
     × (terms.players ≡ length asked.game.now.players)
 
--- refused for want of memory, or at the first profile without values
+-- if it is refused, then at the first profile without values, or because memory is refused
 abbrev pub IsRightlyRefused : {A : Type 0} → Asked → Result A FormFault → Type 0
 IsRightlyRefused asked result = (IsErrOf result TooManyProfiles → ⊥)
     × ((position : ℕ) → IsErrOf result (Overflow position)
-    → IsFirstWithout (HasValues asked.game.now)
-    (picked_profiles (numbers_in asked.picked.now)) position)
+    → IsFirstWithout (HasValues asked.game.now) (asked_profiles asked) position)

@@ -48,13 +48,14 @@ loop-place-preserved c =
             filling = one_filled path pays times size place fits old now w.push.new.self.items
                 share.amount small is inv.filling next (omega (arith, w.max-size.ensures))
                 (is_number path c.payoff_at-payoff.result (pays place) times next share
-                c.payoff_at-payoff.ensures w.in-Some.ensures.share (omega (arith, w.max-size.ensures)));
+                c.payoff_at-payoff.ensures w.in-Some.ensures.share
+                (omega (arith, w.max-size.ensures)));
             heads = inv.heads;
             players = inv.players;
           })
       | in_default+in_ok-push-2 w ↦ rw (w.terms-is, w.fits-is, w.size-is) (record {
-        filling = none_known path pays times size place fits old now w.push-in_default.new.self.items
-            (pos 0) (lit< tt) w.in_ok-push-2.ensures.items inv.filling size;
+        filling = none_known path pays times size place fits old now
+            w.push-in_default.new.self.items (pos 0) (lit< tt) w.in_ok-push-2.ensures.items inv.filling size;
         heads = inv.heads;
         players = inv.players;
       })

@@ -1,4 +1,4 @@
-use Rattle.std.proofs.Common.{List, ℕ, arith, get_or, subst, sym}
+use Rattle.std.proofs.Common.{List, arith, get_or, subst, sym}
 use Rattle.std.specs.Prelude.{IfSome}
 use Rattle.gf_tree.specs.Game.{Game, IsGame}
 use Rattle.gf_form.specs.inner.strategies.Counted.{AreCounts}
@@ -14,22 +14,18 @@ use Rattle.gf_form.proofs.rows.profile.profile_rows.Goals as goal
 pub push_rows-requires-clause-settles : goal.push_rows-requires-clause-settles
 push_rows-requires-clause-settles c =
     let g = c.args.game.now in
-    let picked = c.args.picked.now in
     let d = c.in-Some.digits in
     let listed = c.in_ok-listed.listed in
     let terms = c.in_ok-terms.terms in
     let is_game = c.players-players.ensures.is_game in
-    let full = c.in_ok-numbers.ensures g c.requires.counts c.requires.picked in
     let digits = subst (λ o. IfSome o (λ d. (h : Game) → IsGame h → AreCounts h c.args.counts.now
     → HasDigits h d)) c.in-Some.is c.in_ok-digits.ensures g is_game c.requires.counts in
     λ i from less.
     subst (λ (ds : List Digit). SettlesAt g (actions_at ds) terms 0
-    (get_or c.deref.result.now i 0)) (sym c.deref-2.ensures.value)
-    (subst (λ (ns : List ℕ). SettlesAt g (digit_actions d) terms 0 (get_or ns i 0))
-    (sym c.deref.ensures.value)
-    (settled_at g (digit_actions d) listed terms 0 (get_or c.in_ok-numbers.numbers.items i 0)
+    (get_or c.args.numbers.now i 0)) (sym c.deref.ensures.value)
+    (settled_at g (digit_actions d) listed terms 0 (get_or c.args.numbers.now i 0)
     c.in_ok-terms.ensures.settle
     (settle_all g is_game c.players-players.ensures.spellable
-    (rows_of c.in_ok-payoffs.payoffs) c.in_ok-payoffs.ensures picked
-    c.in_ok-numbers.numbers.items full d digits listed c.in_ok-listed.ensures.terms i
-    (omega (arith, less, full.as_many, c.requires.picked.profiles)))))
+    (rows_of c.in_ok-payoffs.payoffs) c.in_ok-payoffs.ensures
+    c.args.numbers.now c.requires.numbers d digits listed c.in_ok-listed.ensures.terms i
+    (omega (arith, less))))

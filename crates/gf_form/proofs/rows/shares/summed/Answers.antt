@@ -14,8 +14,8 @@ loop-place-preserved c =
     let sums = c.loop-place.sums.items in
     let last = c.loop-place.last in
     elim c.match-joined.branch [
-      | in-Some w ↦ rw (w.sums-is, w.last-is) (one_added rs c.requires at c.loop-place-test.true sums
-          last c.loop-place.invariant w.in-Some.sum w.in-Some.ensures)
+      | in-Some w ↦ rw (w.sums-is, w.last-is) (one_added rs c.requires at c.loop-place-test.true
+          sums last c.loop-place.invariant w.in-Some.sum w.in-Some.ensures)
       | in-None+in_ok-push-in-None w ↦ rw (w.sums-is, w.last-is) (subst
           (λ (ns : List Reached). Summing rs (at + 1) ns (node_at rs at))
           (sym w.in_ok-push-in-None.ensures.items)

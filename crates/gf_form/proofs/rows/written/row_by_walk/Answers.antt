@@ -1,24 +1,16 @@
-use Rattle.std.proofs.Common.{List, ℕ, arith, subst, sym}
+use Rattle.std.proofs.Common.{List, ℕ, subst, sym}
 use Rattle.std.specs.Prelude.{IfOk, OnOk}
-use Rattle.gf_form.specs.inner.strategies.Picked.{numbers_in}
 use Rattle.gf_form.specs.Refusal.{HasValuesBy}
 use Rattle.gf_form.specs.StrategicForm.{ArePayoffs}
 use Rattle.gf_form.specs.Strategies.{AreStrategies, choices_by}
-use Rattle.gf_form.proofs.lemmas.strategies.PickedProfiles.{are_strategies, counted_profiles}
+use Rattle.gf_form.proofs.lemmas.strategies.PickedProfiles.{are_strategies}
 use Rattle.gf_form.proofs.rows.written.row_by_walk.Goals as goal
 
 pub expected_with-requires-clause-strategies : goal.expected_with-requires-clause-strategies
 expected_with-requires-clause-strategies c =
     let g = c.args.game.now in
-    subst (AreStrategies g)
-    (sym c.requires.strategies)
-    (are_strategies g (numbers_in c.args.picked.now) c.requires.picked.numbers c.args.profile
-    (omega (
-      arith,
-      c.requires.within,
-      c.requires.picked.profiles,
-      counted_profiles (numbers_in c.args.picked.now),
-    )))
+    subst (AreStrategies g) (sym c.requires.strategies)
+    (are_strategies g c.args.profile c.requires.within)
 
 pub returns-clause-payoffs : goal.returns-clause-payoffs
 returns-clause-payoffs c =

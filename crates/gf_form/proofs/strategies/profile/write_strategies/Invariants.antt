@@ -4,5 +4,5 @@ use Rattle.gf_form.proofs.lemmas.strategies.WrittenStrategies.{Written}
 use Rattle.gf_form.proofs.strategies.profile.write_strategies.Given as goal
 
 abbrev pub invariant-loop-place : goal.invariant-loop-place
-invariant-loop-place l = Written (actions_in l.counts) l.full l.place l.rest
+invariant-loop-place l = Written (actions_in l.counts) l.profile l.place l.rest
     (map (λ own. own.items) l.all.items)

@@ -47,4 +47,4 @@ returns-clause-settles c =
     c.run_end-to.ensures.within c.run_end-to.ensures.run
 
 pub run_end-to-requires-clause-places : goal.run_end-to-requires-clause-places
-run_end-to-requires-clause-places c = c.requires.asked.numbers.places
+run_end-to-requires-clause-places c = c.requires.asked.places

@@ -1,7 +1,8 @@
-use Rattle.std.proofs.Common.{◌<◌, [], arith, get_or, length, subst}
+use Rattle.std.proofs.Common.{[], get_or, subst, sym}
 use Rattle.std.specs.Prelude.{IfSome}
 use Rattle.gf_form.specs.inner.rows.Pairs.{IsPaidPair}
-use Rattle.gf_form.specs.inner.strategies.Picked.{numbers_in, picked_profiles}
+use Rattle.gf_form.specs.inner.rows.SettledRows.{asked_profiles}
+use Rattle.gf_form.proofs.lemmas.strategies.PickedProfiles.{numbered_at}
 use Rattle.gf_form.specs.Refusal.{HasValues}
 use Rattle.gf_form.specs.StrategicForm.{ArePayoffsAt}
 use Rattle.gf_form.proofs.lemmas.rows.PairRows.{row_settled}
@@ -13,20 +14,18 @@ returns-then-branch-clause-written c =
     let asked = c.args.asked.now in
     let g = asked.game.now in
     let before = c.args.before in
-    let all = picked_profiles (numbers_in asked.picked.now) in
-    let less = c.requires.within in
-    let there : before < length asked.numbers.now =
-    omega (arith, less, c.requires.asked.numbers.as_many) in
+    let all = asked_profiles asked in
+    let at = numbered_at g asked.numbers.now before c.requires.within in
     let number = get_or asked.numbers.now before 0 in
     let paid = subst (λ o. IfSome o (IsPaidPair g number)) c.in-Some.is c.requires.paid in
     let more = c.in_ok-push_to.ensures.row c.if-branch.true in
     let right = row_settled g c.players-players.ensures.is_game c.players-players.ensures.spellable
     number c.args.players (get_or all before []) c.in-Some.pair c.args.self.now.rows.items
-    c.push_to.new.rows.items (c.requires.asked.numbers.each before there).1 c.requires.players paid
+    c.push_to.new.rows.items (sym at.1) c.requires.players paid
     more in
     record {
       rows = one_row_more (ArePayoffsAt g) all before c.args.self.now.rows.items
-          c.push_to.new.rows.items more.row less c.requires.written.rows right.0 more.is;
-      values = all_more (HasValues g) all before [] less c.requires.written.values right.1;
+          c.push_to.new.rows.items more.row at.0 c.requires.written.rows right.0 more.is;
+      values = all_more (HasValues g) all before [] at.0 c.requires.written.values right.1;
       as_long = c.requires.written.as_long;
     }

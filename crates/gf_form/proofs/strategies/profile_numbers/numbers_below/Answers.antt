@@ -1,7 +1,7 @@
 use Rattle.std.proofs.Common.{◌≡◌, ◌+◌, ◌++◌, ◌∷◌, ◌∙◌, [], ℕ, List, ap, arith}
 use Rattle.gf_nfg.specs.Profiles.{numbers_from}
 use Rattle.gf_nfg.proofs.lemmas.tables.NumbersInTurn.{numbers_joined}
-use Rattle.gf_form.proofs.strategies.picked.numbers_below.Goals as goal
+use Rattle.gf_form.proofs.strategies.profile_numbers.numbers_below.Goals as goal
 
 pub loop-number-preserved : goal.loop-number-preserved
 loop-number-preserved c =
