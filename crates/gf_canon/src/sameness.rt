@@ -123,6 +123,7 @@ fn same_as_told_table(
 
 /// Whether a file means the same as a table. `AllocError` if it is accepted, and memory to compare
 /// it is refused.
+#[tactic(auto, using(crate::proofs::lemmas::files::Refused::refused_at_first))]
 fn same_as_table(
     alloc: Global,
     t: &ListedTable,

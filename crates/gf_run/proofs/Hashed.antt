@@ -1,5 +1,5 @@
 -- How the run over many files goes on.
-use Rattle.std.proofs.Common.{◌≡◌, ◌≢◌, ◌<◌, ◌+◌, ◌∷◌, ℕ, List, Option, Result, Ok, Err, IfErr}
+use Rattle.std.proofs.Common.{◌≡◌, ◌<◌, ◌+◌, ◌∷◌, ℕ, List, Option, Result, Ok, Err, IfErr}
 use Rattle.std.proofs.Common.{ap, drop, get_or, inr, length, subst, sym, ◌∙◌}
 use Rattle.std.proofs.lemmas.List.{drop_more}
 use Rattle.std.specs.declared.io.Error.{Error}

@@ -2,7 +2,7 @@
 use Rattle.std.proofs.Common.{◌≡◌, ◌↔◌, ◌∙◌, ℕ, List, map, refl, sym, subst}
 use Rattle.std.specs.List.{Contains}
 use Rattle.gf_tree.proofs.lemmas.games.FirstUses.{in_filter, is_used, of_filter}
-use Rattle.gf_tree.proofs.lemmas.games.Uses.{Has, contains, has, has_map, mapped_from}
+use Rattle.gf_tree.proofs.lemmas.games.Uses.{contains, has, has_map, mapped_from}
 use Rattle.gf_run.specs.Duplicates.{AreInOneGroup, HashedFile, groups_of, hashes_of, having}
 use Rattle.gf_run.specs.Duplicates.{same_hash}
 use Rattle.gf_run.proofs.Grouped.{same_hash_equality}

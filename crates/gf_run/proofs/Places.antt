@@ -1,10 +1,10 @@
 -- The place after a text, byte after byte.
-use Rattle.std.proofs.Common.{◌≡◌, ◌∙◌, ℕ, ◌+◌, nat_eq, true, false, cond, List, [], ◌∷◌, ◌++◌}
-use Rattle.std.proofs.Common.{length, refl, sym, ap, inl, inr, arith}
+use Rattle.std.proofs.Common.{◌≡◌, ◌∙◌, ℕ, ◌+◌, nat_eq, false, cond, List, [], ◌∷◌, ◌++◌}
+use Rattle.std.proofs.Common.{length, refl, sym, ap, inr, arith}
 use Rattle.std.proofs.lemmas.Bool.{ne_eqb}
 use Rattle.std.proofs.lemmas.List.{append-nil, append_assoc, length-append}
 use Rattle.std.proofs.lemmas.List.Sums.{sum_by-append}
-use Rattle.gf_run.specs.Place.{IsLastLine, IsPlaceAfter, line_feed, line_feeds}
+use Rattle.gf_run.specs.Place.{IsPlaceAfter, line_feed, line_feeds}
 use Rattle.gf_run.specs.declared.explain.place.Place.{Place}
 
 plus_zero : (n m : ℕ) → n + (0 + m) ≡ n + m

@@ -15,9 +15,9 @@ use Rattle.gf_run.specs.declared.asked.Job.{Job}
 use Rattle.gf_run.specs.declared.asked.Job.TheVariants.{Canon, Check, Table, Same}
 use Rattle.gf_run.specs.declared.explain.place.Place.{Place}
 use Rattle.gf_run.specs.declared.fault.RunFault.{RunFault}
-use Rattle.gf_run.specs.declared.fault.RunFault.TheVariants.{Refused, Read, Write, Form, Memory}
+use Rattle.gf_run.specs.declared.fault.RunFault.TheVariants.{Refused, Read}
 use Rattle.gf_run.specs.declared.fault.Which.{Which}
-use Rattle.gf_run.specs.declared.fault.Which.TheVariants.{Only, First, Second}
+use Rattle.gf_run.specs.declared.fault.Which.TheVariants.{Second}
 
 -- the name of a file, and a line and a column in it
 abbrev pub placed_text : List ℕ → Place → List ℕ

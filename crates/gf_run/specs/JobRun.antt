@@ -19,7 +19,6 @@ use Rattle.gf_run.specs.SameText.{IsAnswer, IsLine, IsLineAndMap}
 use Rattle.gf_run.specs.declared.jobs.check.FileKind.{FileKind}
 use Rattle.gf_run.specs.declared.fault.RunFault.{RunFault}
 use Rattle.gf_run.specs.declared.fault.RunFault.TheVariants.{Read, Write}
-use Rattle.gf_run.specs.declared.fault.Which.{Which}
 use Rattle.gf_run.specs.declared.fault.Which.TheVariants.{Only, First, Second}
 use Rattle.gf_run.specs.declared.asked.Input.{Input}
 use Rattle.gf_run.specs.declared.asked.Input.TheVariants.{File}

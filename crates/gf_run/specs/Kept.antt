@@ -1,5 +1,5 @@
 -- What is behind an input that is noted.
-use Rattle.std.specs.Prelude.{ℕ, Result, Ok, Err}
+use Rattle.std.specs.Prelude.{Result, Ok, Err}
 use Rattle.std.specs.declared.io.Error.{Error}
 use Rattle.gf_run.specs.declared.opening.kept.Kept.{Kept}
 use Rattle.gf_run.specs.declared.opening.kept.KeptInput.{KeptInput}

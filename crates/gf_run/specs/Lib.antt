@@ -1,3 +1,4 @@
+pub mod AnswerText
 pub mod Counted
 pub mod Duplicates
 pub mod DuplicatesRun

@@ -1,7 +1,7 @@
 //! The run that says which files are the same game.
 
 ghost use Rattle.std.specs.Prelude.{◌≡◌, List, [], IfErr, IfOk, OnErr};
-ghost use Rattle.gf_run.specs.Duplicates.{HashedFile, IsKeptOf, duplicates};
+ghost use Rattle.gf_run.specs.Duplicates.{HashedFile, IsKeptOf};
 ghost use Rattle.gf_run.specs.DuplicatesRun.{Closes, Finds, HasHash, Reads};
 ghost use Rattle.gf_run.specs.Hashes.{IsNotHashed};
 

@@ -1,7 +1,6 @@
 //! The run that writes the hashes of many files.
 
-ghost use Rattle.std.specs.Prelude.{◌≡◌, ◌≢◌, ◌++◌, IfErr, IfOk, OnErr, OnOk, codes};
-ghost use Rattle.gf_run.specs.FaultLine.{fault_line};
+ghost use Rattle.std.specs.Prelude.{◌≡◌, ◌≢◌, IfErr, IfOk, OnErr, OnOk};
 ghost use Rattle.gf_run.specs.Hashes.{IsHashed, IsNotHashed, IsToldOf, Runs, Step};
 ghost use Rattle.gf_run.specs.Hashes.{name_of, named_line};
 ghost use Rattle.gf_run.specs.Output.{IsWriteFault, IsWritten};

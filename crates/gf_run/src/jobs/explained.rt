@@ -1,9 +1,9 @@
 //! What the program does for a job whose fault is explained in words.
 
-ghost use Rattle.std.specs.Prelude.{◌≡◌, ◌⊎◌, List, ℕ, Bool, IfOk};
+ghost use Rattle.std.specs.Prelude.{◌≡◌, List, ℕ};
 ghost use Rattle.gf_run.specs.Ending.{IsTold};
 ghost use Rattle.gf_run.specs.Explained.{EndsInWords, IsToldInWords, called, called_input};
-ghost use Rattle.gf_run.specs.Explained.{is_of_second, is_second};
+ghost use Rattle.gf_run.specs.Explained.{is_of_second};
 ghost use Rattle.gf_run.specs.FaultStatus.{status_of};
 ghost use Rattle.gf_run.specs.JobRun.{Does, Fails};
 ghost use Rattle.gf_run.specs.Output.{IsWriteFault, IsWritten};

@@ -1,27 +1,24 @@
 //! What the program does for a job.
 
-ghost use Rattle.std.specs.Prelude.{◌≡◌, ◌≢◌, Bool, Ok, Err, IfErr, IfOk, MatchResult, OnOk};
+ghost use Rattle.std.specs.Prelude.{◌≡◌, Ok, Err, MatchResult};
 ghost use Rattle.std.specs.declared.io.Error.{Error};
 ghost use Rattle.gf_run.specs.Ending.{EndsBy};
-ghost use Rattle.gf_run.specs.FormText.{IsFormText, ReadsFormUntil};
-ghost use Rattle.gf_run.specs.Input.{IsReadWhole};
-ghost use Rattle.gf_run.specs.JobRun.{Does, Fails, HasEnded, IsAnswerBy, strategies_of};
+ghost use Rattle.gf_run.specs.JobRun.{Does, Fails, HasEnded, strategies_of};
 ghost use Rattle.gf_run.specs.Opening.{IsNotOpened, IsOpened};
 ghost use Rattle.gf_run.specs.Output.{IsWriteFault, IsWritten};
-ghost use Rattle.gf_run.specs.Run.{Answers};
-ghost use Rattle.gf_run.specs.RunOfTwo.{AnswersTwo, ReadsTwoUntil};
 
 use crate::asked::{Input, Job};
 use crate::fault::{RunFault, Which, answer_status};
 use crate::jobs::check::run_check;
 use crate::jobs::ending::tell;
 use crate::jobs::run::run_canon;
-use crate::jobs::same::{run_same, run_same_by, run_same_map};
-use crate::jobs::table::{run_table, run_table_reduced};
+use crate::jobs::same::run_compare;
+use crate::jobs::table::run_form;
 use crate::opening::inputs::Inputs;
 use crate::streams::sink::Sink;
 use crate::streams::source::Source;
 use gf_canon::Names;
+use gf_form::Strategies;
 use std::alloc::Global;
 
 /// Opens a file. If it cannot be opened, that is a read fault of this input.
@@ -50,56 +47,14 @@ pub(crate) fn open_input<I: Inputs>(inputs: &I, input: &Input) -> Result<I::Open
     }
 }
 
-/// The run over a tree or a table that writes its form, or the reduced form if `reduced` is true.
-fn write_form<R: Source, W: Sink>(
-    alloc: Global,
-    input: &mut R,
-    reduced: bool,
-    output: &mut W,
-) -> Result<(), RunFault>
-    ensures done { OnOk result (Answers (IsFormText (strategies_of reduced))
-        (IsReadWhole R.remaining R.pull_gives input.old input.new)
-        (IsWritten W.contents W.push_gives output.old output.new)) }
-    ensures refused { IfErr result (λ fault. ReadsFormUntil
-        R.remaining R.count R.pull_gives (strategies_of reduced) fault input.old input.new) }
-    ensures untouched { IfErr result (λ fault. fault ≢ RunFault.Write → output.new ≡ output.old) }
-    ensures cut_off { result ≡ Err RunFault.Write → Answers (IsFormText (strategies_of reduced))
-        (IsReadWhole R.remaining R.pull_gives input.old input.new)
-        (IsWriteFault W.contents W.count W.push_gives output.old output.new) }
+/// All pure strategies, or the reduced ones.
+fn strategies_of(reduced: bool) -> Strategies
+    ensures { result ≡ strategies_of reduced }
 {
     if reduced {
-        run_table_reduced(alloc, input, output)
+        Strategies::Reduced
     } else {
-        run_table(alloc, input, output)
-    }
-}
-
-/// The run that compares two files: with the renumbering if `map` is true, otherwise by `names`.
-fn compare<R: Source, S: Source, W: Sink>(
-    alloc: Global,
-    a: &mut R,
-    b: &mut S,
-    map: bool,
-    names: Names,
-    output: &mut W,
-) -> Result<bool, RunFault>
-    ensures done { IfOk result (λ same. AnswersTwo (IsAnswerBy map names same)
-        (IsReadWhole R.remaining R.pull_gives a.old a.new)
-        (IsReadWhole S.remaining S.pull_gives b.old b.new)
-        (IsWritten W.contents W.push_gives output.old output.new)) }
-    ensures refused { IfErr result (λ fault. ReadsTwoUntil R.remaining R.count R.pull_gives
-        S.remaining S.count S.pull_gives fault a.old a.new b.old b.new) }
-    ensures untouched { IfErr result (λ fault. fault ≢ RunFault.Write → output.new ≡ output.old) }
-    ensures cut_off { result ≡ Err RunFault.Write → (same : Bool)
-        × AnswersTwo (IsAnswerBy map names same)
-        (IsReadWhole R.remaining R.pull_gives a.old a.new)
-        (IsReadWhole S.remaining S.pull_gives b.old b.new)
-        (IsWriteFault W.contents W.count W.push_gives output.old output.new) }
-{
-    match (map, names) {
-        (true, _) => run_same_map(alloc, a, b, output),
-        (false, Names::Kept) => run_same(alloc, a, b, output),
-        (false, Names::Aside) => run_same_by(alloc, a, b, Names::Aside, output),
+        Strategies::Pure
     }
 }
 
@@ -146,7 +101,7 @@ fn table<I: Inputs, W: Sink>(
         (Job.Table input.now reduced) output.old output.new result }
 {
     let mut input = open_input(inputs, input)?;
-    write_form(alloc, &mut input, reduced, output)?;
+    run_form(alloc, &mut input, output, strategies_of(reduced))?;
     Ok(0)
 }
 
@@ -165,7 +120,7 @@ fn same<I: Inputs, W: Sink>(
 {
     let mut first = open_file(inputs, a.as_str(), Which::First)?;
     let mut second = open_file(inputs, b.as_str(), Which::Second)?;
-    let same = compare(alloc, &mut first, &mut second, map, names, output)?;
+    let same = run_compare(alloc, &mut first, &mut second, map, names, output)?;
     Ok(answer_status(same))
 }
 

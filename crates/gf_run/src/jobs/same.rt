@@ -4,6 +4,7 @@ ghost use Rattle.std.specs.Prelude.{◌≡◌, ◌≢◌, Bool, IfErr, IfOk};
 ghost use Rattle.gf_canon.specs.GameFile.{SameFile};
 ghost use Rattle.gf_canon.specs.SameBy.{SameBy};
 ghost use Rattle.gf_run.specs.Input.{IsReadWhole};
+ghost use Rattle.gf_run.specs.JobRun.{IsAnswerBy};
 ghost use Rattle.gf_run.specs.Output.{IsWriteFault, IsWritten};
 ghost use Rattle.gf_run.specs.RunOfTwo.{AnswersTwo, ReadsTwoUntil};
 ghost use Rattle.gf_run.specs.SameText.{IsAnswer, IsLine, IsLineAndMap};
@@ -11,9 +12,38 @@ ghost use Rattle.gf_run.specs.SameText.{IsAnswer, IsLine, IsLineAndMap};
 use crate::fault::{RunFault, Which};
 use crate::streams::sink::{Sink, push_all};
 use crate::streams::source::{Source, load};
-use crate::texts::comparison::{answer_line, answer_with_map};
-use gf_canon::{Names, same_by};
+use crate::texts::comparison::answer_by;
+use gf_canon::Names;
 use std::alloc::Global;
+
+/// The run that compares two files: with their renumbering if `map` is true, otherwise by `names`.
+pub(crate) fn run_compare<R: Source, S: Source, W: Sink>(
+    alloc: Global,
+    a: &mut R,
+    b: &mut S,
+    map: bool,
+    names: Names,
+    output: &mut W,
+) -> Result<bool, RunFault>
+    ensures done { IfOk result (λ same. AnswersTwo (IsAnswerBy map names same)
+        (IsReadWhole R.remaining R.pull_gives a.old a.new)
+        (IsReadWhole S.remaining S.pull_gives b.old b.new)
+        (IsWritten W.contents W.push_gives output.old output.new)) }
+    ensures refused { IfErr result (λ fault. ReadsTwoUntil R.remaining R.count R.pull_gives
+        S.remaining S.count S.pull_gives fault a.old a.new b.old b.new) }
+    ensures untouched { IfErr result (λ fault. fault ≢ RunFault.Write → output.new ≡ output.old) }
+    ensures cut_off { result ≡ Err RunFault.Write → (same : Bool)
+        × AnswersTwo (IsAnswerBy map names same)
+        (IsReadWhole R.remaining R.pull_gives a.old a.new)
+        (IsReadWhole S.remaining S.pull_gives b.old b.new)
+        (IsWriteFault W.contents W.count W.push_gives output.old output.new) }
+{
+    let first = load(alloc, a, Which::First)?;
+    let second = load(alloc, b, Which::Second)?;
+    let answer = answer_by(alloc, &first, &second, map, names)?;
+    push_all(output, answer.text())?;
+    Ok(answer.same)
+}
 
 /// Returns whether the two files that it reads mean the same, with names or without, as `same_by`
 /// says; writes `same` or `different` and a line feed.
@@ -51,11 +81,7 @@ pub fn run_same_by<R: Source, S: Source, W: Sink>(
         (IsReadWhole S.remaining S.pull_gives b.old b.new)
         (IsWriteFault W.contents W.count W.push_gives output.old output.new) }
 {
-    let first = load(alloc, a, Which::First)?;
-    let second = load(alloc, b, Which::Second)?;
-    let same = same_by(alloc, &first, &second, names)?;
-    push_all(output, answer_line(same))?;
-    Ok(same)
+    run_compare(alloc, a, b, false, names, output)
 }
 
 /// Returns whether the two files that it reads mean the same, as `same` says; writes `same` or
@@ -85,7 +111,7 @@ pub fn run_same<R: Source, S: Source, W: Sink>(
         (IsReadWhole S.remaining S.pull_gives b.old b.new)
         (IsWriteFault W.contents W.count W.push_gives output.old output.new) }
 {
-    run_same_by(alloc, a, b, Names::Kept, output)
+    run_compare(alloc, a, b, false, Names::Kept, output)
 }
 
 /// Returns whether the two files that it reads mean the same, as `same` says; writes `same` or
@@ -122,9 +148,5 @@ pub fn run_same_map<R: Source, S: Source, W: Sink>(
         (IsReadWhole S.remaining S.pull_gives b.old b.new)
         (IsWriteFault W.contents W.count W.push_gives output.old output.new) }
 {
-    let first = load(alloc, a, Which::First)?;
-    let second = load(alloc, b, Which::Second)?;
-    let answer = answer_with_map(alloc, &first, &second)?;
-    push_all(output, answer.text.as_slice())?;
-    Ok(answer.same)
+    run_compare(alloc, a, b, true, Names::Kept, output)
 }

@@ -58,7 +58,7 @@ fn form_text(alloc: Global, bytes: &[u8], strategies: Strategies) -> Result<Vec<
 }
 
 /// Writes the form by these strategies of the tree that it reads, or the table of a strategic file.
-fn run_form<R: Source, W: Sink>(
+pub(crate) fn run_form<R: Source, W: Sink>(
     alloc: Global,
     input: &mut R,
     output: &mut W,

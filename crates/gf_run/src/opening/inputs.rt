@@ -1,6 +1,6 @@
 //! How the inputs of a job are opened.
 
-ghost use Rattle.std.specs.Prelude.{◌≡◌, ℕ, List, Result, ⊤};
+ghost use Rattle.std.specs.Prelude.{ℕ, List, Result, ⊤};
 ghost use Rattle.std.specs.declared.io.Error.{Error};
 
 use crate::streams::source::Source;

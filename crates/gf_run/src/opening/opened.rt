@@ -1,6 +1,6 @@
 //! The inputs of the program: standard input, and files.
 
-ghost use Rattle.std.specs.Prelude.{◌≡◌, IfOk};
+ghost use Rattle.std.specs.Prelude.{IfOk};
 ghost use Rattle.gf_run.specs.Counted.{inner_of};
 ghost use Rattle.gf_run.specs.Opened.{IsFile, IsStandard, remaining_of};
 

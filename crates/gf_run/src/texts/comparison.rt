@@ -1,25 +1,54 @@
 //! What is written about two files that are compared.
 
-ghost use Rattle.std.specs.Prelude.{◌≡◌, ◌↔◌, ℕ, IfErr, IfOk, IsTrue, List, false, true};
+ghost use Rattle.std.specs.Prelude.{◌≡◌, ◌↔◌, ℕ, IfErr, IfOk, IsTrue, List, true};
 ghost use Rattle.gf_canon.specs.GameFile.{SameFile};
 ghost use Rattle.gf_canon.specs.Judgement.{SpellsWithin};
 ghost use Rattle.gf_canon.specs.MeaningOf.{file_of};
 ghost use Rattle.gf_canon.specs.Sameness.{AreRefusedWith};
+ghost use Rattle.gf_run.specs.AnswerText.{text_of};
+ghost use Rattle.gf_run.specs.JobRun.{IsAnswerBy};
 ghost use Rattle.gf_run.specs.SameText.{IsAnswer, IsLineAndMap, answer_line};
 
 use crate::texts::renumbering::pair_line;
-use gf_canon::{Meaning, NumberPair, ReceivePairs, SameFault, pairs_between, read_file};
+use gf_canon::{
+    Meaning, Names, NumberPair, ReceivePairs, SameFault, pairs_between, read_file, same_by,
+};
 use std::alloc::{AllocError, Global};
 
 /// Whether two files are the same, and what is written about it.
 #[derive(Drop)]
 pub struct Answer {
     pub same: bool,
-    pub text: Vec<u8>,
+    /// What is written, if it is more than a line.
+    lines: Vec<u8>,
+}
+
+impl Answer {
+    /// An answer of one line.
+    fn line(alloc: Global, same: bool) -> Answer
+        ensures same { result.same ≡ same }
+        ensures text { text_of result ≡ answer_line same }
+    {
+        Answer {
+            same,
+            lines: Vec::new(alloc),
+        }
+    }
+
+    /// What is written.
+    pub fn text(&self) -> &[u8]
+        ensures { result.now ≡ text_of self.now }
+    {
+        if self.lines.is_empty() {
+            answer_line(self.same)
+        } else {
+            self.lines.as_slice()
+        }
+    }
 }
 
 /// The line of an answer.
-pub fn answer_line(same: bool) -> &'static [u8]
+fn answer_line(same: bool) -> &'static [u8]
     ensures { result.now ≡ answer_line same }
 {
     if same { b"same\n" } else { b"different\n" }
@@ -56,30 +85,21 @@ impl ReceivePairs for PairLines {
     }
 }
 
-/// The answer that two files are not the same.
-fn different(alloc: Global) -> Result<Answer, AllocError>
-    ensures same { IfOk result (λ answer. answer.same ≡ false) }
-    ensures text { IfOk result (λ answer. answer.text.items ≡ answer_line false) }
-{
-    let text = Vec::from_slice(alloc, answer_line(false))?;
-    Ok(Answer { same: false, text })
-}
-
 /// The answer about two files that were read.
 fn answer_of(alloc: Global, a: &Meaning<'_>, b: &Meaning<'_>) -> Result<Answer, AllocError>
     ensures same { IfOk result (λ answer.
         IsTrue answer.same ↔ SameFile (file_of a.now) (file_of b.now)) }
     ensures text { IfOk result (λ answer.
-        IsLineAndMap (file_of a.now) (file_of b.now) answer.same answer.text.items) }
+        IsLineAndMap (file_of a.now) (file_of b.now) answer.same (text_of answer)) }
 {
     let mut lines = PairLines::new(alloc)?;
     if pairs_between(alloc, a, b, &mut lines)? {
         Ok(Answer {
             same: true,
-            text: lines.text,
+            lines: lines.text,
         })
     } else {
-        different(alloc)
+        Ok(Answer::line(alloc, false))
     }
 }
 
@@ -88,7 +108,7 @@ fn answer_at_end(alloc: Global, a: &Meaning<'_>, b: Meaning<'_>) -> Result<Answe
     ensures same { IfOk result (λ answer.
         IsTrue answer.same ↔ SameFile (file_of a.now) (file_of b.entry)) }
     ensures text { IfOk result (λ answer.
-        IsLineAndMap (file_of a.now) (file_of b.entry) answer.same answer.text.items) }
+        IsLineAndMap (file_of a.now) (file_of b.entry) answer.same (text_of answer)) }
 {
     answer_of(alloc, a, &b)
 }
@@ -96,7 +116,7 @@ fn answer_at_end(alloc: Global, a: &Meaning<'_>, b: Meaning<'_>) -> Result<Answe
 /// The answer about bytes whose meaning was read, and those of the second file.
 fn answer_beside(alloc: Global, first: &Meaning<'_>, b: &[u8]) -> Result<Answer, SameFault>
     ensures answer { IfOk result (λ answer. (a : List ℕ) → SpellsWithin a (file_of first.now)
-        → IsAnswer SameFile IsLineAndMap answer.same a b.now answer.text.items) }
+        → IsAnswer SameFile IsLineAndMap answer.same a b.now (text_of answer)) }
     ensures refused { IfErr result (λ fault. (a : List ℕ) → SpellsWithin a (file_of first.now)
         → AreRefusedWith a b.now fault) }
 {
@@ -114,13 +134,36 @@ fn answer_beside(alloc: Global, first: &Meaning<'_>, b: &[u8]) -> Result<Answer,
 /// carries the first to the second.
 ///
 /// Refused as by `same`.
-pub fn answer_with_map(alloc: Global, a: &[u8], b: &[u8]) -> Result<Answer, SameFault>
+fn answer_with_map(alloc: Global, a: &[u8], b: &[u8]) -> Result<Answer, SameFault>
     ensures answer { IfOk result (λ answer.
-        IsAnswer SameFile IsLineAndMap answer.same a.now b.now answer.text.items) }
+        IsAnswer SameFile IsLineAndMap answer.same a.now b.now (text_of answer)) }
     ensures refused { IfErr result (AreRefusedWith a.now b.now) }
 {
     match read_file(alloc, a) {
         Ok(first) => answer_beside(alloc, &first, b),
         Err(fault) => Err(SameFault::First(fault)),
+    }
+}
+
+/// Whether two files are the same, with their renumbering if `map` is true, otherwise by `names`.
+///
+/// Refused as by `same_by`.
+pub fn answer_by(
+    alloc: Global,
+    a: &[u8],
+    b: &[u8],
+    map: bool,
+    names: Names,
+) -> Result<Answer, SameFault>
+    ensures answer { IfOk result (λ answer.
+        IsAnswerBy map names answer.same a.now b.now (text_of answer)) }
+    ensures refused { IfErr result (AreRefusedWith a.now b.now) }
+{
+    if map {
+        return answer_with_map(alloc, a, b);
+    }
+    match same_by(alloc, a, b, names) {
+        Ok(same) => Ok(Answer::line(alloc, same)),
+        Err(fault) => Err(fault),
     }
 }

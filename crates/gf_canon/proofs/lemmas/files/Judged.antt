@@ -1,6 +1,6 @@
 -- What the bytes of a file are answered with: its canonical text, or out of memory.
-use Rattle.std.proofs.Common.{◌≡◌, ℕ, List, Result, Ok, Err, IfOk, IfErr, IsErrAnd}
-use Rattle.std.proofs.Common.{MatchResult, sym, ap, subst, ◌∙◌}
+use Rattle.std.proofs.Common.{◌≡◌, ℕ, List, Result, Ok, Err, IfOk, IfErr}
+use Rattle.std.proofs.Common.{MatchResult, sym, ap, ◌∙◌}
 use Rattle.std.specs.Prelude.{codes}
 use Rattle.gf_token.specs.declared.fault.Fault.{Fault}
 use Rattle.gf_token.specs.declared.fault.Why.TheVariants.{Memory}
@@ -18,11 +18,6 @@ use Rattle.gf_canon.proofs.lemmas.files.Texts.{spells_one_file}
 use Rattle.gf_canon.proofs.lemmas.files.Formats.{named_by_word, none_without_format, two_words}
 
 -- ---- what is answered
-
-pub refused_with : {A : Type 0} (P : Fault → Type 0) (r : Result A Fault) (fault : Fault)
-    → IsErrAnd r (λ e. e ≡ fault) → P fault → IfErr r P
-refused_with P (Ok a) fault is h = absurd is
-refused_with P (Err e) fault is h = subst P (sym is) h
 
 -- items : what the text of an answer has
 module _ {A : Type 0} (items : A → List ℕ) (names : Names) where

@@ -1,12 +1,11 @@
 -- How a file is refused, by the refusal of its format.
 use Rattle.std.proofs.Common.{◌≡◌, ℕ, List, ◌∷◌, Err, subst, sym, ◌⊎◌, inl, inr}
-use Rattle.std.specs.Prelude.{codes}
 use Rattle.gf_token.specs.Place.{tokens_of}
 use Rattle.gf_token.specs.Token.{Token}
 use Rattle.gf_token.specs.Token.Token.{Broken}
 use Rattle.gf_token.specs.declared.fault.Fault.{Fault}
 use Rattle.gf_token.specs.declared.fault.Span.{Span}
-use Rattle.gf_token.specs.declared.fault.What.TheVariants.{Format}
+use Rattle.gf_token.specs.declared.fault.What.TheVariants as due
 use Rattle.gf_token.specs.declared.fault.Why.{Why}
 use Rattle.gf_token.specs.declared.fault.Why.TheVariants.{Expected, Memory, Unterminated}
 use Rattle.gf_nfg.specs.Judgement as strategic_file
@@ -19,7 +18,10 @@ use Rattle.gf_tree.specs.Judgement as extensive_file
 use Rattle.gf_canon.specs.Judgement.{BeginsWithWord, IsFormatReason, IsPlaced, IsRefusedWith}
 use Rattle.gf_canon.specs.Judgement.{IsWithoutFormat}
 use Rattle.gf_canon.specs.Judgement.IsJudged.{of_extensive, of_neither, of_strategic}
+use Rattle.gf_canon.specs.declared.format.Format.{Format}
+use Rattle.gf_canon.specs.declared.format.Format.TheVariants.{Extensive, Strategic}
 use Rattle.gf_canon.specs.declared.sameness.Names.TheVariants.{Kept}
+use Rattle.gf_canon.specs.inner.FormatWord.{word_of}
 use Rattle.gf_canon.proofs.lemmas.files.EitherFormat.{extensive_placed, strategic_placed}
 use Rattle.gf_canon.proofs.lemmas.files.Judged.{only_game, only_table}
 use Rattle.gf_canon.proofs.lemmas.files.Formats.{none_without_format}
@@ -27,7 +29,7 @@ use Rattle.gf_canon.proofs.lemmas.files.Formats.{none_without_format}
 -- for its format
 
 pub reason_at_first : (why : Why) (ts : List Token) → IsFormatReason why ts
-    → (why ≡ Unterminated) ⊎ (why ≡ Expected Format)
+    → (why ≡ Unterminated) ⊎ (why ≡ Expected due.Format)
 reason_at_first why (Broken ∷ after) e = inl e
 reason_at_first why _ e = inr e
 
@@ -35,7 +37,7 @@ pub placed_at_first : (why : Why) (bytes : List ℕ) (span : Span) → IsWithout
     → IsPlaced why bytes span
 placed_at_first why bytes span h = by (reason_at_first why (tokens_of h.place.after) h.reason)
   where
-    by : (why ≡ Unterminated) ⊎ (why ≡ Expected Format) → IsPlaced why bytes span
+    by : (why ≡ Unterminated) ⊎ (why ≡ Expected due.Format) → IsPlaced why bytes span
     by (inl e) = subst (λ (w : Why). IsPlaced w bytes span) (sym e) h.place
     by (inr e) = subst (λ (w : Why). IsPlaced w bytes span) (sym e) h.place
 
@@ -50,21 +52,25 @@ refused_at_first bytes fault h = record {
 
 -- in its format
 
-pub refused_game : (bytes : List ℕ) (fault : Fault) → BeginsWithWord (codes "EFG") bytes
+pub refused_game : (bytes : List ℕ) (fault : Fault) (format : Format) → format ≡ Extensive
+    → BeginsWithWord (word_of format) bytes
     → extensive_file.IsJudged fault.why bytes fault.span
     → ((g : Game) → SpellsGame bytes g → fault.why ≡ Memory) → IsRefusedWith bytes fault
-refused_game bytes fault named judged memory = record {
+refused_game bytes fault Extensive is named judged memory = record {
   judged = of_extensive named judged;
   placed = extensive_placed fault.why bytes fault.span named judged;
   unless_memory = λ x spells.
       only_game {A = List ℕ} (λ text. text) Kept bytes (Err fault) x named tt memory spells;
 }
+refused_game bytes fault Strategic is named judged memory = absurd cc
 
-pub refused_table : (bytes : List ℕ) (fault : Fault) → BeginsWithWord (codes "NFG") bytes
+pub refused_table : (bytes : List ℕ) (fault : Fault) (format : Format) → format ≡ Strategic
+    → BeginsWithWord (word_of format) bytes
     → strategic_file.IsJudged fault.why bytes fault.span
     → ((t : Table) → SpellsTable bytes t → IsWithinLimit t → fault.why ≡ Memory)
     → IsRefusedWith bytes fault
-refused_table bytes fault named judged memory = record {
+refused_table bytes fault Extensive is named judged memory = absurd cc
+refused_table bytes fault Strategic is named judged memory = record {
   judged = of_strategic named judged;
   placed = strategic_placed fault.why bytes fault.span named judged;
   unless_memory = λ x spells.

@@ -1,19 +1,7 @@
-use Rattle.std.proofs.Common.{subst}
-use Rattle.gf_canon.specs.inner.FormatWord.{word_of}
 use Rattle.gf_canon.specs.GameFile.GameFile.{extensive, strategic}
-use Rattle.gf_canon.specs.Judgement.{BeginsWithWord, IsRefusedWith}
-use Rattle.gf_canon.specs.declared.format.Format.{Format}
 use Rattle.gf_canon.proofs.lemmas.sameness.ComparedTrees.{no_game}
-use Rattle.gf_canon.proofs.lemmas.files.Judged.{refused_with}
-use Rattle.gf_canon.proofs.lemmas.files.Refused.{refused_at_first, refused_game, refused_table}
+use Rattle.gf_canon.proofs.lemmas.files.Refused.{refused_game, refused_table}
 use Rattle.gf_canon.proofs.sameness.same_as_table.Goals as goal
-
-pub returns-in_err-format_of-clause-refused : goal.returns-in_err-format_of-clause-refused
-returns-in_err-format_of-clause-refused c =
-    refused_with (IsRefusedWith c.args.b.now) c.from_residual.result
-    c.in_err-format_of.field-0.0 c.from_residual.ensures.1
-    (refused_at_first c.args.b.now c.in_err-format_of.field-0.0
-    c.in_err-format_of.ensures.refused)
 
 pub returns-in-Ok-clause-same : goal.returns-in-Ok-clause-same
 returns-in-Ok-clause-same c =
@@ -22,9 +10,7 @@ returns-in-Ok-clause-same c =
 
 pub returns-in-Err-clause-refused : goal.returns-in-Err-clause-refused
 returns-in-Err-clause-refused c =
-    refused_game c.args.b.now c.in-Err.fault
-    (subst (λ (f : Format). BeginsWithWord (word_of f) c.args.b.now) c.in-Extensive.is
-    c.in_ok-format_of.ensures.named)
+    refused_game c.args.b.now _ _ c.in-Extensive.is c.in_ok-format_of.ensures.named
     c.in-Err.ensures.judged c.in-Err.ensures.only
 
 pub returns-in-Ok-same_as_told_table-clause-same : goal.returns-in-Ok-same_as_told_table-clause-same
@@ -35,7 +21,5 @@ returns-in-Ok-same_as_told_table-clause-same c =
 pub returns-in-Err-same_as_told_table-clause-refused :
     goal.returns-in-Err-same_as_told_table-clause-refused
 returns-in-Err-same_as_told_table-clause-refused c =
-    refused_table c.args.b.now c.in-Err-same_as_told_table.fault
-    (subst (λ (f : Format). BeginsWithWord (word_of f) c.args.b.now) c.in-Strategic.is
-    c.in_ok-format_of.ensures.named)
+    refused_table c.args.b.now _ _ c.in-Strategic.is c.in_ok-format_of.ensures.named
     c.in-Err-same_as_told_table.ensures.judged c.in-Err-same_as_told_table.ensures.memory

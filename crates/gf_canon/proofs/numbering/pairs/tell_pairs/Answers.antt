@@ -1,8 +1,6 @@
-use Rattle.std.proofs.Common.{List, [], ◌+◌, ◌++◌, ap, length, ◌∙◌, arith, refl, subst}
-use Rattle.std.specs.List.{flat_map}
+use Rattle.std.proofs.Common.{List, [], ap, length, arith, refl, subst}
 use Rattle.std.proofs.lemmas.List.{length-map}
 use Rattle.std.proofs.lemmas.Result.{on_ok_weaker}
-use Rattle.gf_nfg.specs.Profiles.{numbers_from}
 use Rattle.gf_token.specs.Label.{label_of}
 use Rattle.gf_canon.specs.Pairs.{renumbering_pairs, set_pairs}
 use Rattle.gf_canon.specs.declared.numbering.pairs.NumberPair.{NumberPair}

@@ -1,5 +1,4 @@
 use Rattle.std.proofs.Common.{ℕ, List, [], ◌∷◌, ◌++◌, ap, refl, subst}
-use Rattle.gf_run.specs.Duplicates.{HashedFile}
 use Rattle.gf_run.specs.DuplicatesRun.{failed, hashed}
 use Rattle.gf_run.specs.Hashes.{IsToldOf}
 use Rattle.gf_run.proofs.collections.duplicates.read_next.Goals as goal

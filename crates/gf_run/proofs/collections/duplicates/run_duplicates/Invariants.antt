@@ -1,6 +1,6 @@
-use Rattle.std.proofs.Common.{◌≡◌, [], List, drop}
+use Rattle.std.proofs.Common.{[], List, drop}
 use Rattle.gf_run.specs.Duplicates.{HashedFile, IsKeptOf}
-use Rattle.gf_run.specs.DuplicatesRun.{Finds, Reading}
+use Rattle.gf_run.specs.DuplicatesRun.{Finds}
 use Rattle.gf_run.specs.Hashes.{Standing}
 use Rattle.gf_run.proofs.collections.duplicates.run_duplicates.Given as goal
 

@@ -1,4 +1,4 @@
-use Rattle.std.proofs.Common.{◌≡◌, drop}
+use Rattle.std.proofs.Common.{drop}
 use Rattle.gf_run.specs.Hashes.{Runs, Standing}
 use Rattle.gf_run.proofs.collections.hashes.run_hashes.Given as goal
 

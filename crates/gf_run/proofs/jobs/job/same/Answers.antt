@@ -15,9 +15,9 @@ returns-in_err-same g c =
     c.in_err-same.field-0.0 run.untouched
     (inr (inr (record {
       first_old = c.in_ok-first.first;
-      first_new = c.compare.new.a;
+      first_new = c.run_compare.new.a;
       second_old = c.in_ok-second.second;
-      second_new = c.compare.new.b;
+      second_new = c.run_compare.new.b;
       first_opened = rw c.as_str.ensures.value at c.in_ok-first.ensures;
       second_opened = rw c.as_str-2.ensures.value at c.in_ok-second.ensures;
       run = run.refused;
@@ -29,9 +29,9 @@ returns-in_err-same g c =
         refl,
         record {
           first_old = c.in_ok-first.first;
-          first_new = c.compare.new.a;
+          first_new = c.run_compare.new.a;
           second_old = c.in_ok-second.second;
-          second_new = c.compare.new.b;
+          second_new = c.run_compare.new.b;
           first_opened = rw c.as_str.ensures.value at c.in_ok-first.ensures;
           second_opened = rw c.as_str-2.ensures.value at c.in_ok-second.ensures;
           run = cut.1;

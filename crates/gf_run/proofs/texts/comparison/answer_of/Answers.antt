@@ -10,10 +10,9 @@ returns-then-branch-clause-text c =
     (says.same.0 c.if-branch.true) told.0 told.1 told.2
 
 pub returns-else-branch-clause-same : goal.returns-else-branch-clause-same
-returns-else-branch-clause-same c = differs (file_of c.args.a.now) (file_of c.args.b.now) _
-    c.in_ok-pairs_between.ensures.same c.if-branch.false c.different.result
-    c.different.ensures.same
+returns-else-branch-clause-same c = differs (file_of c.args.a.now) (file_of c.args.b.now) _ _
+    c.in_ok-pairs_between.ensures.same c.if-branch.false c.line.ensures.same
 
 pub returns-else-branch-clause-text : goal.returns-else-branch-clause-text
 returns-else-branch-clause-text c = different_text (file_of c.args.a.now) (file_of c.args.b.now)
-    c.different.result c.different.ensures.same c.different.ensures.text
+    _ _ c.line.ensures.same c.line.ensures.text

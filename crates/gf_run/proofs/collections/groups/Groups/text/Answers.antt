@@ -1,4 +1,4 @@
-use Rattle.std.proofs.Common.{◌≡◌, ◌++◌, ℕ, List, map, length, filter, sym, subst, ap, ◌∙◌, arith}
+use Rattle.std.proofs.Common.{◌++◌, ℕ, List, map, length, filter, sym, ap, ◌∙◌, arith}
 use Rattle.std.proofs.lemmas.List.{length-map, take_all}
 use Rattle.gf_run.specs.Duplicates.{KeptNames, empty_line, groups_text, has_two, name_lines}
 use Rattle.gf_run.proofs.GroupsText.{with_item, without_item}
