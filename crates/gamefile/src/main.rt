@@ -89,6 +89,3 @@ fn main(rt: HostRuntime) -> ExitCode {
         Err(fault) => answer(&fault, &mut output, &mut errors),
     })
 }
-
-#[cfg(test)]
-mod tests;

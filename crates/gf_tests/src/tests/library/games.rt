@@ -1,7 +1,6 @@
 //! Games that were read: their sets, outcomes and nodes.
 
-use crate::tests::again::read_tree;
-use crate::tests::trees::FIVE;
+use crate::tests::trees::{FIVE, read_tree};
 use gf_fraction::Fraction;
 use gf_tree::{Branch, Game, Step};
 use std::process::Abort;

@@ -1,7 +1,6 @@
 //! Jobs, hashes and duplicates of files that are texts, on their happy paths.
 
-use super::hash::FIVE_HASH;
-use super::trees::{FIVE, FIVE_BY_OTHER_NUMBERS};
+use super::trees::{FIVE, FIVE_BY_OTHER_NUMBERS, FIVE_HASH_LINE};
 use gf_canon::Names;
 use gf_run::{
     Counted, Input, Inputs, Job, Kept, Notes, Progress, perform, perform_explained, run_duplicates,
@@ -10,7 +9,6 @@ use gf_run::{
 use std::alloc::{AllocError, Global};
 use std::io;
 use std::io::ErrorKind;
-use std::process::Abort;
 use std::test::Fail;
 
 /// Standard input and two files, which are the same game.
@@ -56,13 +54,8 @@ fn file(alloc: Global, name: &str) -> Result<Input, AllocError> {
     Ok(Input::File(String::from_str(alloc, name)?))
 }
 
-/// Asserts what a run ends with, and what it writes. It writes no errors.
-fn assert_ends(rt: &impl Abort, ended: (u8, Vec<u8>, Vec<u8>), status: u8, text: &[u8]) {
-    assert!(rt; ended.0 == status && ended.1.as_slice() == text && ended.2.is_empty());
-}
-
 #[test]
-fn performs_jobs(rt: HostRuntime) -> Result<(), Fail> {
+fn performs_a_job(rt: HostRuntime) -> Result<(), Fail> {
     let alloc = rt.alloc();
     let job = Job::Check(file(alloc, "a.efg")?);
     let (mut output, mut errors) = (Vec::new(alloc), Vec::new(alloc));
@@ -73,8 +66,14 @@ fn performs_jobs(rt: HostRuntime) -> Result<(), Fail> {
         &mut Counted::new(&mut output),
         &mut Counted::new(&mut errors),
     );
-    assert_ends(&rt, (status, output, errors), 0, b"tree\n");
+    assert!(rt; status == 0 && output.as_slice() == b"tree\n".as_slice() && errors.is_empty());
+    Ok(())
+}
 
+#[test]
+fn performs_a_job_whose_fault_is_explained(rt: HostRuntime) -> Result<(), Fail> {
+    let alloc = rt.alloc();
+    let job = Job::Check(file(alloc, "a.efg")?);
     let notes = Notes::new(alloc);
     let (mut output, mut errors) = (Vec::new(alloc), Vec::new(alloc));
     let status = perform_explained(
@@ -85,14 +84,14 @@ fn performs_jobs(rt: HostRuntime) -> Result<(), Fail> {
         &mut Counted::new(&mut output),
         &mut Counted::new(&mut errors),
     );
-    assert_ends(&rt, (status, output, errors), 0, b"tree\n");
+    assert!(rt; status == 0 && output.as_slice() == b"tree\n".as_slice() && errors.is_empty());
     Ok(())
 }
 
 #[test]
-fn hashes_files_and_groups_them(rt: HostRuntime) -> Result<(), Fail> {
+fn writes_hashes(rt: HostRuntime) -> Result<(), Fail> {
     let alloc = rt.alloc();
-    let files = [file(alloc, "a.efg")?, file(alloc, "b.efg")?];
+    let files = [file(alloc, "a.efg")?];
     let mut done = Done { files: 0, runs: 0 };
     let (mut output, mut errors) = (Vec::new(alloc), Vec::new(alloc));
     let status = run_hashes(
@@ -104,9 +103,16 @@ fn hashes_files_and_groups_them(rt: HostRuntime) -> Result<(), Fail> {
         &mut Counted::new(&mut output),
         &mut Counted::new(&mut errors),
     );
-    let lines = format!(in alloc; "{FIVE_HASH}  a.efg\n{FIVE_HASH}  b.efg\n")?;
-    assert_ends(&rt, (status, output, errors), 0, lines.as_bytes());
+    assert!(rt; status == 0 && output.as_slice() == FIVE_HASH_LINE && errors.is_empty());
+    assert!(rt; (done.files, done.runs) == (1, 1));
+    Ok(())
+}
 
+#[test]
+fn finds_duplicates(rt: HostRuntime) -> Result<(), Fail> {
+    let alloc = rt.alloc();
+    let files = [file(alloc, "a.efg")?, file(alloc, "b.efg")?];
+    let mut done = Done { files: 0, runs: 0 };
     let (mut output, mut errors) = (Vec::new(alloc), Vec::new(alloc));
     let status = run_duplicates(
         alloc,
@@ -117,7 +123,7 @@ fn hashes_files_and_groups_them(rt: HostRuntime) -> Result<(), Fail> {
         &mut Counted::new(&mut output),
         &mut Counted::new(&mut errors),
     );
-    assert_ends(&rt, (status, output, errors), 1, b"a.efg\nb.efg\n");
-    assert!(rt; (done.files, done.runs) == (4, 2));
+    assert!(rt; status == 1 && output.as_slice() == b"a.efg\nb.efg\n".as_slice());
+    assert!(rt; errors.is_empty() && (done.files, done.runs) == (2, 1));
     Ok(())
 }

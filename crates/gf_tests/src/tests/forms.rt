@@ -1,7 +1,7 @@
 //! What the players are paid at worked games, and which choices have no payoffs. A call that is out
 //! of memory is made again.
 
-use super::again::read_tree;
+use super::trees::read_tree;
 use gf_form::{EvalFault, are_strategies, expected};
 use gf_fraction::Fraction;
 use std::alloc::{AllocError, Global};

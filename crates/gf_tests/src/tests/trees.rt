@@ -1,4 +1,14 @@
-//! Worked extensive files.
+//! Worked extensive files, and how they are read.
+
+use crate::again;
+use gf_tree::Game;
+use std::alloc::Global;
+use std::process::Abort;
+
+/// Reads a tree. A call that is out of memory is made again.
+pub(super) fn read_tree<'a>(rt: &impl Abort, alloc: Global, file: &'a [u8]) -> Game<'a> {
+    again::read_tree(alloc, file).expect(rt, "an extensive file")
+}
 
 /// A set of chance met twice on a path, each number in another spelling.
 pub(super) const FIVE: &[u8] = b"EFG 2 R \"five\" { \"A\" }
@@ -33,3 +43,7 @@ t \"\" 0
 p \"\" 1 2 \"j\" { \"R\" } 1 \"w\" { 1/10 }
 t \"\" 1
 ";
+
+/// The line of its hash, by `sha256sum` of `FIVE_TEXT`, if it is in the file `a.efg`.
+pub(super) const FIVE_HASH_LINE: &[u8] =
+    b"45d17d8787029197e0ed15a3bcf5fc5a4110bfa3e798ca81a24543f7b429871b  a.efg\n";

@@ -1,7 +1,7 @@
 //! Strategic forms of games, and games that have none. Tables of other games are files.
 
-use super::{BONUS, OVERFLOWING};
-use crate::tests::again::read_tree;
+use super::OVERFLOWING;
+use crate::tests::trees::read_tree;
 use gf_form::{FormFault, table, table_reduced};
 use gf_nfg::{Table, write_nfg};
 use std::alloc::{AllocError, Global};
@@ -50,30 +50,8 @@ fn assert_text(
     Ok(())
 }
 
-/// Asserts that a game has neither table, for these reasons.
-fn assert_refused(
-    rt: &impl Abort,
-    alloc: Global,
-    file: &[u8],
-    full: FormFault,
-    reduced: FormFault,
-) {
-    let found = tables(rt, alloc, file);
-    assert!(rt; found.0.err() == Some(full) && found.1.err() == Some(reduced));
-}
-
 #[test]
 fn makes_tables(rt: HostRuntime) -> Result<(), Fail> {
-    let text =
-        b"NFG 1 R \"g\" { \"A\" \"B\" }\n{ { \"1\" \"2\" } { \"\" } }\n\"\"\n\n3/2 0\n2 1/2\n";
-    let (full, reduced) = tables(&rt, rt.alloc(), BONUS);
-    assert_text(&rt, rt.alloc(), full, text)?;
-    assert_text(&rt, rt.alloc(), reduced, text)?;
-    Ok(())
-}
-
-#[test]
-fn reduces_tables(rt: HostRuntime) -> Result<(), Fail> {
     let (full, reduced) = tables(&rt, rt.alloc(), ENDING);
     let text =
         b"NFG 1 R \"r\" { \"A\" }\n{ { \"1-1\" \"1-2\" \"2-1\" \"2-2\" } }\n\"\"\n\n1\n1\n2\n3\n";
@@ -86,18 +64,6 @@ fn reduces_tables(rt: HostRuntime) -> Result<(), Fail> {
 #[test]
 fn names_the_first_profile_that_overflows(rt: HostRuntime) {
     let fault = FormFault::Overflow { profile: 2 };
-    assert_refused(&rt, rt.alloc(), OVERFLOWING, fault, fault);
-}
-
-#[test]
-fn has_no_table_of_too_many_profiles(rt: HostRuntime) -> Result<(), Fail> {
-    let mut file = Vec::from_slice(rt.alloc(), b"EFG 2 R \"\" { \"A\" }\n")?;
-    for number in 1..22u32 {
-        let set = format!(in rt.alloc(); "p \"\" 1 {number} \"\" {{ \"a\" \"b\" }} 0 t \"\" 0\n")?;
-        file.extend_from_slice(set.as_bytes())?;
-    }
-    file.extend_from_slice(b"t \"\" 0\n")?;
-    let fault = FormFault::TooManyProfiles;
-    assert_refused(&rt, rt.alloc(), &file, fault, fault);
-    Ok(())
+    let (full, reduced) = tables(&rt, rt.alloc(), OVERFLOWING);
+    assert!(rt; full.err() == Some(fault) && reduced.err() == Some(fault));
 }

@@ -1,8 +1,7 @@
 //! Games by other numbers, and the renumbering between two games. A call that is out of memory is
 //! made again.
 
-use crate::tests::again::read_tree;
-use crate::tests::trees::{FIVE, FIVE_TEXT};
+use crate::tests::trees::{FIVE, FIVE_TEXT, read_tree};
 use gf_canon::{Renumbering, renumber, renumbering, write_efg};
 use gf_tree::Game;
 use std::alloc::{AllocError, Global};

@@ -1,0 +1,9 @@
+//! Tests by what is called. Each test is proved, so each is small.
+
+mod faults;
+mod forms;
+mod jobs;
+mod library;
+mod runs;
+mod same;
+mod trees;
