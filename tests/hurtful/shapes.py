@@ -67,21 +67,21 @@ class Tree:
         # What of each player has a number so far, and of the outcomes.
         counts = {}
 
-        def use(owner, key, description):
+        def use(owner, key, described):
             if key in known:
                 return known[key]
             counts[owner] = counts.get(owner, 0) + 1
             known[key] = str(counts[owner])
-            return f'{known[key]} "" {description}'
+            return f'{known[key]} "" {braced(described)}'
 
         for owned, outcome in self.nodes:
             line = 't ""'
             if owned:
                 labels = ('""' if side is None else f'"" {side}' for side in self.sets[owned])
                 owner = owned[0]
-                used = use(owner, owned, braced(labels))
+                used = use(owner, owned, labels)
                 line = f'p "" {owner} {used}' if owner else f'c "" {used}'
-            paid = use("outcome", ("outcome", outcome), braced(map(str, self.outcomes[outcome]))) if outcome else 0
+            paid = use("outcome", ("outcome", outcome), map(str, self.outcomes[outcome])) if outcome else 0
             lines.append(f"{line} {paid}\n")
         return tree_text("s", self.players, "".join(lines))
 
@@ -232,11 +232,12 @@ def payoff_that_never_comes(sets, *payoffs):
 def many_players(players, width):
     """Many leaves that pay many players."""
     tree = Tree(players)
+    tree.pays(1, *range(players))
     tree.toss(1, [f"1/{width}"] * width)
     for _ in range(width):
         tree.toss(2, [f"1/{width}"] * width)
         for _ in range(width):
-            tree.end(1, *range(players))
+            tree.end(1)
     return tree.game(relevant=True)
 
 
@@ -458,6 +459,18 @@ SHAPES = {
         partial(sums_of_denominators, 8, primes(32, 1000)),
         partial(sums_of_denominators, 8, [7] * 32),
     ),
+    "many players": (partial(many_players, 1000, 300), partial(many_players, 1, 300)),
+    "many actions": (partial(actions, 2**17), partial(side_by_side, 17)),
+    "many actions paid apart": (partial(actions, 2**17, True), partial(side_by_side, 17)),
+    "a matrix": (partial(matrix, 1000, few_outcomes), MOST_ROWS),
+    "primes at a slow set": (
+        partial(branches_with_denominators, 300, 15, True, primes(5, 10**9)),
+        partial(branches_with_denominators, 300, 15, True, [7] * 5),
+    ),
+    "primes at a fast set": (
+        partial(branches_with_denominators, 300, 15, False, primes(5, 10**9)),
+        partial(branches_with_denominators, 300, 15, False, [7] * 5),
+    ),
     "overflow at the last profile": (partial(overflow_at_the_last, 20), MOST_ROWS),
     "overflow at half of them": (partial(overflow_at_half, 20), MOST_ROWS),
     "a deep payoff": (partial(deep_payoff, 14), partial(side_by_side, 14)),
@@ -478,18 +491,6 @@ KNOWN = {
     "a move that never comes": (
         partial(payoff_that_never_comes, 17, Fraction(1, 10**20 + 39), Fraction(1, 10**28 + 27)),
         partial(payoff_that_never_comes, 17, Fraction(1, 7), Fraction(1, 49)),
-    ),
-    "many players": (partial(many_players, 1000, 60), partial(many_players, 1, 60)),
-    "many actions": (partial(actions, 2**13), partial(side_by_side, 13)),
-    "many actions paid apart": (partial(actions, 2**13, True), partial(side_by_side, 13)),
-    "a matrix": (partial(matrix, 200, few_outcomes), partial(side_by_side, 15)),
-    "primes at a slow set": (
-        partial(branches_with_denominators, 60, 9, True, primes(5, 10**9)),
-        partial(branches_with_denominators, 60, 9, True, [7] * 5),
-    ),
-    "primes at a fast set": (
-        partial(branches_with_denominators, 60, 9, False, primes(5, 10**9)),
-        partial(branches_with_denominators, 60, 9, False, [7] * 5),
     ),
     "a wide tree": (partial(wide_tree, 500, 8, 20, without=["reduced"]), MOST_ROWS),
 }
