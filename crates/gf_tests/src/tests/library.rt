@@ -3,6 +3,7 @@
 
 mod due;
 mod games;
+mod numbers;
 mod parts;
 mod renumbered;
 mod strategic;
