@@ -4,9 +4,9 @@ use Rattle.gf_token.specs.Token.{Token}
 use Rattle.gf_token.specs.Token.Token.{Closing, Text, Bare, Broken}
 use Rattle.gf_token.specs.Index.{IsIndex}
 use Rattle.gf_token.specs.declared.fault.Why.{Why}
-use Rattle.gf_token.specs.declared.fault.Why.TheVariants.{Unterminated, NotANumber}
-use Rattle.gf_token.specs.declared.fault.Why.TheVariants.{ZeroDenominator, NumberTooLarge}
-use Rattle.gf_token.specs.declared.fault.Why.TheVariants.{BadIndex, NoEntry, UnknownOutcome}
+use Rattle.gf_token.specs.declared.fault.Why.TheVariants.{Unterminated, NotANumber, ZeroDenominator}
+use Rattle.gf_token.specs.declared.fault.Why.TheVariants.{NumberTooLarge, BadIndex, NoEntry}
+use Rattle.gf_token.specs.declared.fault.Why.TheVariants.{UnknownOutcome}
 use Rattle.gf_fraction.specs.NumberSpelling.{HasNumberFault}
 use Rattle.gf_fraction.specs.declared.fraction.NumberFault.{NumberFault}
 use Rattle.gf_fraction.specs.declared.fraction.NumberFault.TheVariants as number

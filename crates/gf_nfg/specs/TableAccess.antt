@@ -1,8 +1,7 @@
 -- What the accessors of a table give.
-use Rattle.std.specs.Prelude.{◌≡◌, ℕ, List, [], ◌∷◌, Option, Some, None, if◌then◌else◌}
+use Rattle.std.specs.Prelude.{◌≡◌, ℕ, List, [], ◌∷◌, Option, Some, None, if◌then◌else◌, nat_eq}
 use Rattle.std.specs.List.{flat_map}
 use Rattle.std.specs.Cmp.Lexicographic.{pointwise}
-use Rattle.std.specs.Prelude.{nat_eq}
 use Rattle.gf_fraction.specs.Ratio.{Ratio}
 pub use Rattle.gf_token.specs.Positions.{at_position}
 use Rattle.gf_nfg.specs.Table.{Entry, Table, IsTable, rows}

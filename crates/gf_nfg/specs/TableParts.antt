@@ -1,7 +1,7 @@
 -- How the parts of a table are kept.
-use Rattle.std.specs.Prelude.{◌≡◌, ℕ, zero, suc, pos, ◌+◌, ◌-◌, ◌*◌, ◌<◌, ◌≤◌, List, [], ◌++◌}
-use Rattle.std.specs.Prelude.{◌∷◌, take, drop, length, slice_get, replicate, Option, Some}
-use Rattle.std.specs.Prelude.{None, option_map, unwrap_or, map, nat_lt, if◌then◌else◌}
+use Rattle.std.specs.Prelude.{◌≡◌, ℕ, zero, suc, pos, ◌+◌, ◌-◌, ◌*◌, ◌<◌, ◌≤◌, List, [], ◌++◌, ◌∷◌}
+use Rattle.std.specs.Prelude.{take, drop, length, slice_get, replicate, Option, Some, None}
+use Rattle.std.specs.Prelude.{option_map, unwrap_or, map, nat_lt, if◌then◌else◌}
 use Rattle.std.specs.List.{AllByRecursion, flat_map}
 use Rattle.gf_fraction.specs.Ratio.{IsFraction, Ratio, whole}
 use Rattle.gf_token.specs.LabelSpelling.{IsLabel}

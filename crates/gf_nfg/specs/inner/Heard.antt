@@ -1,19 +1,17 @@
 -- What the machine answers to the tokens of an input, refusals with their places. Here it also
 -- refuses what its steps do not: an unterminated text, and profiles past their limit.
-use Rattle.std.specs.Prelude.{◌≡◌, ◌<◌, ℕ, Bool, false, nat_lt, List, [], ◌∷◌, length}
-use Rattle.std.specs.Prelude.{Result, Ok, Err, if◌then◌else◌}
+use Rattle.std.specs.Prelude.{◌≡◌, ◌<◌, ℕ, Bool, false, nat_lt, List, [], ◌∷◌, length, Result, Ok}
+use Rattle.std.specs.Prelude.{Err, if◌then◌else◌}
 use Rattle.gf_token.specs.Next.{is_broken}
 use Rattle.gf_token.specs.Remaining.{IsPlaceIn, Remaining}
 use Rattle.gf_token.specs.Token.{Token, Lexeme}
 use Rattle.gf_token.specs.declared.fault.Fault.{Fault}
 use Rattle.gf_token.specs.declared.fault.Span.{Span}
 use Rattle.gf_token.specs.declared.fault.Why.{Why}
-use Rattle.gf_token.specs.declared.fault.Why.TheVariants.{Memory, TooManyProfiles}
-use Rattle.gf_token.specs.declared.fault.Why.TheVariants.{Unterminated}
+use Rattle.gf_token.specs.declared.fault.Why.TheVariants.{Memory, TooManyProfiles, Unterminated}
 use Rattle.gf_nfg.specs.Limit.{profile_limit}
 use Rattle.gf_nfg.specs.inner.Machine.{Content, State, finish, step}
-use Rattle.gf_nfg.specs.inner.Position.{Position}
-use Rattle.gf_nfg.specs.inner.Position.{Position as p}
+use Rattle.gf_nfg.specs.inner.Position.{Position, Position as p}
 
 -- the profiles pass their limit, after the strategies of one more player were read
 abbrev pub is_past : Position → ℕ → Bool

@@ -1,11 +1,11 @@
 -- The reader of strategic files as a machine: one token at a time. Sentence says what it means; no
 -- public contract cites this file.
-use Rattle.std.specs.Prelude.{ℕ, zero, suc, ◌+◌, ◌-◌, ◌*◌, ◌^◌, ◌||◌, min}
-use Rattle.std.specs.Prelude.{List, [], ◌∷◌, ◌++◌, length, codes, Option, Some, None}
-use Rattle.std.specs.Prelude.{Result, Ok, Err, nat_eq, nat_le, ◌==◌, if◌then◌else◌}
+use Rattle.std.specs.Prelude.{ℕ, zero, suc, ◌+◌, ◌-◌, ◌*◌, ◌^◌, ◌||◌, min, List, [], ◌∷◌, ◌++◌}
+use Rattle.std.specs.Prelude.{length, codes, Option, Some, None, Result, Ok, Err, nat_eq, nat_le}
+use Rattle.std.specs.Prelude.{◌==◌, if◌then◌else◌}
 use Rattle.std.specs.Cmp.Lexicographic.{pointwise}
 use Rattle.gf_token.specs.Token.{Token}
-use Rattle.gf_token.specs.Token.Token.{Opening, Closing, Comma, Text, Bare, Broken}
+use Rattle.gf_token.specs.Token.Token.{Opening, Closing, Comma, Text, Bare}
 use Rattle.gf_token.specs.declared.fault.What.{What}
 use Rattle.gf_token.specs.declared.fault.What.TheVariants as what
 use Rattle.gf_token.specs.declared.fault.Why.{Why}
@@ -16,8 +16,7 @@ use Rattle.gf_fraction.specs.declared.fraction.NumberFault.{NumberFault}
 use Rattle.gf_fraction.specs.Computed.{number_of}
 use Rattle.gf_token.specs.NumberWhy.{why_of}
 use Rattle.gf_token.specs.Indices.{count_of, index_of}
-use Rattle.gf_nfg.specs.inner.Position.{Position}
-use Rattle.gf_nfg.specs.inner.Position.{Position as p}
+use Rattle.gf_nfg.specs.inner.Position.{Position, Position as p}
 
 -- What was read so far. `counts` says how many strategies each player has, `profiles` is the
 -- product of the counts, and `labels` has the labels, or none if the file gives only counts.
@@ -191,20 +190,12 @@ at_flat_payoffs s t = if s.due == 0 then Err (Expected what.End) else at_payoff 
 
 abbrev pub at_after_comment : State → Token → Result State Why
 at_after_comment s Opening = Ok (at p.InOutcomes 0 s.list_start s.outcomes s.content)
-at_after_comment s Closing = at_flat_payoffs s Closing
-at_after_comment s Comma = at_flat_payoffs s Comma
-at_after_comment s (Text label) = at_flat_payoffs s (Text label)
-at_after_comment s (Bare b) = at_flat_payoffs s (Bare b)
-at_after_comment s Broken = at_flat_payoffs s Broken
+at_after_comment s t = at_flat_payoffs s t
 
 abbrev pub at_after_strategies : State → Token → Result State Why
 at_after_strategies s (Text label) =
     Ok (at p.AfterComment s.due s.list_start s.outcomes (with_comment s.content label))
-at_after_strategies s Opening = at_after_comment s Opening
-at_after_strategies s Closing = at_after_comment s Closing
-at_after_strategies s Comma = at_after_comment s Comma
-at_after_strategies s (Bare b) = at_after_comment s (Bare b)
-at_after_strategies s Broken = at_after_comment s Broken
+at_after_strategies s t = at_after_comment s t
 
 -- after the outcomes, an outcome number is due for each profile
 abbrev pub at_outcomes : State → Token → Result State Why
@@ -232,11 +223,7 @@ at_braced_payoff s t = if s.due == 0 then at_outcome_end s t else at_payoff p.Af
 
 abbrev pub at_after_braced_payoff : State → Token → Result State Why
 at_after_braced_payoff s Comma = Ok (to p.BracedPayoff s)
-at_after_braced_payoff s Opening = at_braced_payoff s Opening
-at_after_braced_payoff s Closing = at_braced_payoff s Closing
-at_after_braced_payoff s (Text label) = at_braced_payoff s (Text label)
-at_after_braced_payoff s (Bare b) = at_braced_payoff s (Bare b)
-at_after_braced_payoff s Broken = at_braced_payoff s Broken
+at_after_braced_payoff s t = at_braced_payoff s t
 
 -- an outcome number was due, and these bytes stood there
 abbrev pub chosen : State → Option ℕ → Result State Why

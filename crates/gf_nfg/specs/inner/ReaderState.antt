@@ -8,8 +8,7 @@ use Rattle.gf_token.specs.declared.fault.Span.{Span}
 use Rattle.gf_token.specs.Remaining.{Remaining}
 use Rattle.gf_nfg.specs.inner.Heard.{Answer, Fails, heard, read_on, then_on, within}
 use Rattle.gf_nfg.specs.inner.Machine.{Content, at, settled}
-use Rattle.gf_nfg.specs.inner.Position.{Position}
-use Rattle.gf_nfg.specs.inner.Position.{Position as p}
+use Rattle.gf_nfg.specs.inner.Position.{Position, Position as p}
 use Rattle.gf_nfg.specs.inner.Told.{Told}
 use Rattle.gf_nfg.specs.declared.table.heading.Heading.{Heading}
 use Rattle.gf_nfg.specs.declared.table.parts.Parts.{Parts}

@@ -1,6 +1,6 @@
 -- The limit place is where all files that begin with the tokens through it are above the limit.
-use Rattle.std.proofs.Common.{◌≡◌, ℕ, ◌<◌, List, [], ◌∷◌, ◌++◌, length, map}
-use Rattle.std.proofs.Common.{refl, sym, ap, subst, ◌∙◌, append_assoc, arith, inl, inr}
+use Rattle.std.proofs.Common.{◌≡◌, ℕ, ◌<◌, List, [], ◌∷◌, ◌++◌, length, map, sym, ap, subst, ◌∙◌}
+use Rattle.std.proofs.Common.{append_assoc, arith, inl, inr}
 use Rattle.std.specs.Prelude.{codes, ◌↔◌}
 use Rattle.std.proofs.lemmas.List.{length-append, length-map}
 use Rattle.gf_token.specs.Token.{Token}
@@ -9,7 +9,7 @@ use Rattle.gf_token.specs.Grammar.{braced}
 use Rattle.gf_token.specs.declared.fault.Span.{Span}
 use Rattle.gf_nfg.specs.Limit.{profile_limit}
 use Rattle.gf_nfg.specs.Table.{Table}
-use Rattle.gf_nfg.specs.Sentence.{Sentence, IsCount, IsLabelList}
+use Rattle.gf_nfg.specs.Sentence.{Sentence}
 use Rattle.gf_token.specs.Place.{tokens_of}
 use Rattle.gf_nfg.specs.LimitByFiles.{StaysWithinLimit, IsLimitByFiles}
 use Rattle.gf_nfg.specs.LimitPlace.{GivesCounts, IsLimitPlace}
@@ -33,17 +33,11 @@ record Found (tokens : List Token) : Type 0 where
 
 group_parts : (xs ys : Strategies) (ts : List Token) → AreGroups ts (xs ++ ys)
     → (front : List Token) × (rest : List Token) × (ts ≡ front ++ rest) × AreGroups front xs
-group_parts xs ys ts (inl h) =
-    let k = each_parts IsCount xs ys ts h in (k.0, k.1, k.2, inl k.3)
-group_parts xs ys ts (inr h) =
-    let k = each_parts IsLabelList xs ys ts h in (k.0, k.1, k.2, inr k.3)
+group_parts xs ys ts h = grind (arith, each_parts)
 
 braced_parts : (front rest others : List Token)
     → braced (front ++ rest) ++ others ≡ Opening ∷ (front ++ (rest ++ Closing ∷ others))
-braced_parts front rest others =
-    let close = append_assoc (front ++ rest) (Closing ∷ []) others in
-    let behind = append_assoc front rest (Closing ∷ others) in
-    ap (λ (ts : List Token). Opening ∷ ts) (close ∙ behind)
+braced_parts front rest others = grind (arith, append_assoc)
 
 found : (tokens : List Token) (t : Table) → Sentence tokens t → profile_limit < length t.entries
     → Found tokens
@@ -59,7 +53,7 @@ found tokens t s over =
     let through = headed s.letter t.title t.players (Opening ∷ i.0) in
     let strategies_are = s.is_strategies.1 ∙ ap braced i.2 in
     let parts : s.strategies ++ others ≡ (Opening ∷ i.0) ++ behind =
-    ap (λ (ts : List Token). ts ++ others) strategies_are ∙ braced_parts i.0 i.1 others in
+    cc (braced_parts i.0 i.1 others) in
     let whole : tokens ≡ through ++ behind =
     s.parts ∙ ap (headed s.letter t.title t.players) parts
     ∙ sym (headed_on s.letter t.title t.players (Opening ∷ i.0) behind) in
@@ -75,21 +69,8 @@ found tokens t s over =
       last = l.last;
       rest = behind;
       counts = map length first;
-      parts = whole ∙ ap (λ (ts : List Token). ts ++ behind) l.parts
-          ∙ append_assoc l.front (l.last ∷ []) behind;
-      gives = record {
-        letter = s.letter;
-        title = t.title;
-        players = t.players;
-        inner = i.0;
-        strategies = first;
-        parts = sym l.parts;
-        is_letter = s.is_letter;
-        is_inner = i.3;
-        are_counts = refl;
-        some_strategy = (by_counts c.front c.labels c.passes).some;
-        first_players = omega (arith, all, more, same, one_each);
-      };
+      parts = cc (append_assoc l.front (l.last ∷ []) behind);
+      gives = grind (arith, by_counts);
       passes = by_counts c.front c.labels c.passes;
     }
 
@@ -142,11 +123,7 @@ place_by_files bytes span h =
 files_at_place : (bytes : List ℕ) (span : Span) → IsLimitPlace bytes span
     → IsLimitByFiles bytes span
 files_at_place bytes span h =
-    let passes : PassesAtLast h.counts = record {
-      some = h.gives.some_strategy;
-      passes = h.passes;
-      nowhere_before = h.nowhere_before;
-    } in
+    let passes : PassesAtLast h.counts = grind arith in
     let l = limit_by_last (tokens_of h.before) h.lexeme.token h.counts h.gives passes in
     record {
       before = h.before;

@@ -1,6 +1,6 @@
 -- Where the profiles pass their limit, and where they stay within it.
-use Rattle.std.proofs.Common.{◌≡◌, ℕ, ◌<◌, List, [], ◌∷◌, ◌++◌}
-use Rattle.std.proofs.Common.{sym, ap, subst, ◌∙◌, append_assoc, arith, inl, inr}
+use Rattle.std.proofs.Common.{◌≡◌, ℕ, ◌<◌, List, [], ◌∷◌, ◌++◌, sym, ap, subst, ◌∙◌, append_assoc}
+use Rattle.std.proofs.Common.{arith, inl, inr}
 use Rattle.gf_token.specs.Token.{Lexeme}
 use Rattle.gf_token.specs.TokenSpelling.{Spells}
 use Rattle.gf_token.specs.Place.{tokens_of, Begins, IsAccepted, IsOffendingPlace}
@@ -20,9 +20,8 @@ overrun : (before after longer vs : List Lexeme) (l : Lexeme)
     → PartsBefore before (l ∷ after) longer vs → StaysWithinLimit (tokens_of longer) → ⊥
 overrun before after longer vs l past grows h stays =
     let is : l ≡ h.0 = (first_and_rest l h.0 after (h.1 ++ vs) h.3).0 in
-    let whole : tokens_of longer ≡ tokens_of before ++ l.token ∷ tokens_of h.1 = ap tokens_of h.2
-    ∙ tokens_on before h.1 h.0
-    ∙ ap (λ (x : Lexeme). tokens_of before ++ x.token ∷ tokens_of h.1) (sym is) in
+    let whole : tokens_of longer ≡ tokens_of before ++ l.token ∷ tokens_of h.1 =
+    cc (tokens_on before h.1 h.0) in
     let b = stays (tokens_of before) (tokens_of h.1) l.token whole grows in
     let over = past.past b.0 b.1 b.2 in
     let within = b.3 in
@@ -57,9 +56,7 @@ later bytes seen rest l spelled stays limit is_limit =
     let h = (limit_by_files bytes limit).0 is_limit in
     let through = seen ++ l ∷ [] in
     let seam : through ++ rest ≡ seen ++ l ∷ rest = append_assoc seen (l ∷ []) rest in
-    let same : h.before ++ h.lexeme ∷ h.after ≡ through ++ rest =
-    same_tokens bytes (h.before ++ h.lexeme ∷ h.after) (seen ++ l ∷ rest) h.spelled spelled
-    ∙ sym seam in
+    let same : h.before ++ h.lexeme ∷ h.after ≡ through ++ rest = grind (arith, same_tokens) in
     let starts = λ (between : List Lexeme) (e : h.before ≡ seen ++ l ∷ between).
     starts_later seen between h.after l h.lexeme 0 bytes
     (subst (λ (ls : List Lexeme). Spells 0 bytes ls)

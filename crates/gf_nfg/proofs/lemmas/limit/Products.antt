@@ -1,7 +1,6 @@
 -- Products of counts, and with which count they pass the limit.
-use Rattle.std.proofs.Common.{◌≡◌, ℕ, zero, suc, ◌*◌, ◌<◌, ◌≤◌, List, [], ◌∷◌, ◌++◌}
-use Rattle.std.proofs.Common.{length, map, take, refl, sym, ap, subst, ◌∙◌, append_assoc, arith}
-use Rattle.std.proofs.Common.{inl, inr}
+use Rattle.std.proofs.Common.{◌≡◌, ℕ, zero, suc, ◌*◌, ◌<◌, ◌≤◌, List, [], ◌∷◌, ◌++◌, length, map}
+use Rattle.std.proofs.Common.{take, refl, sym, ap, subst, ◌∙◌, append_assoc, arith, inl, inr}
 use Rattle.std.specs.List.{AllByRecursion}
 use Rattle.std.proofs.Math.Nat.{mul-one, mul_assoc, mul-le-mul_left}
 use Rattle.std.proofs.Math.Seq.{take-append_seam}
@@ -38,8 +37,7 @@ pub record PassesWith (front : Strategies) (labels : List (List ℕ)) : Type 0 w
 
 product_snoc : (ns : List ℕ) (n : ℕ) → product (ns ++ n ∷ []) ≡ product ns * n
 product_snoc [] n = omega arith
-product_snoc (m ∷ ns) n =
-    ap (λ (k : ℕ). m * k) (product_snoc ns n) ∙ sym (mul_assoc m (product ns) n)
+product_snoc (m ∷ ns) n = grind (arith, mul_assoc, product_snoc ns n)
 
 -- of fewer counts it is no greater
 product_take : (k : ℕ) (ns : List ℕ) → AllPositive ns → product (take k ns) ≤ product ns
@@ -49,12 +47,7 @@ product_take (suc k) (n ∷ ns) h = mul-le-mul_left n (product_take k ns h.1)
 
 within_before : (ns : List ℕ) (n k : ℕ) → AllPositive ns → product ns ≤ profile_limit
     → k < length (ns ++ n ∷ []) → product (take k (ns ++ n ∷ [])) ≤ profile_limit
-within_before ns n k h within less =
-    let size = length-append ns (n ∷ []) in
-    let front = take-append-le k ns (n ∷ []) (omega (arith, size, less)) in
-    let same : product (take k (ns ++ n ∷ [])) ≡ product (take k ns) = ap product front in
-    let fewer = product_take k ns h in
-    omega (arith, fewer, same, within)
+within_before ns n k h within less = grind (arith, length-append, take-append-le, product_take)
 
 abbrev counts_with : Strategies → List (List ℕ) → List ℕ
 counts_with front labels = map length front ++ length labels ∷ []
@@ -101,11 +94,9 @@ by_strategies front labels h =
 -- ---- a table above the limit
 
 -- it has as many entries as the product of its players' numbers of strategies
-pub entries_counted : (t : Table) → IsTable t
-    → length t.entries ≡ product (map length t.strategies)
+pub entries_counted : (t : Table) → IsTable t → length t.entries ≡ product (map length t.strategies)
 entries_counted t h =
-    sym (length-map t.entries (λ e. e.profile)) ∙ ap length h.one_entry_each
-    ∙ length-profiles (map length t.strategies)
+    cc (length-map t.entries (λ e. e.profile), length-profiles (map length t.strategies))
 
 -- this many profiles, and the first of these strategies with which they are too many
 record Crossed (base : ℕ) (strategies : Strategies) : Type 0 where

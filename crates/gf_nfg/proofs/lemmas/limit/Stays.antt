@@ -1,33 +1,30 @@
 -- No token makes the number of profiles smaller, so above their limit they stay there.
-use Rattle.std.proofs.Common.{◌≡◌, ℕ, zero, suc, ◌-◌, ◌*◌, ◌<◌, ◌≤◌, Bool, true, false}
-use Rattle.std.proofs.Common.{cond, List, [], ◌∷◌, ◌++◌, length, Option, Some, None}
-use Rattle.std.proofs.Common.{Result, Ok, Err, refl, sym, ap, subst, ◌∙◌, arith, nat_eq}
-use Rattle.std.specs.Prelude.{nat_le, nat_lt}
-use Rattle.std.proofs.lemmas.Bool.Decides.{nat_tests}
+use Rattle.std.proofs.Common.{◌≡◌, ℕ, zero, suc, ◌-◌, ◌*◌, ◌<◌, ◌≤◌, Bool, true, false, cond, List}
+use Rattle.std.proofs.Common.{[], ◌∷◌, ◌++◌, length, Option, Some, None, Result, Ok, Err, refl, sym}
+use Rattle.std.proofs.Common.{subst, ◌∙◌, arith}
+use Rattle.std.specs.Prelude.{◌==◌, nat_le}
 use Rattle.gf_nfg.specs.inner.Heard.{is_past}
 use Rattle.gf_token.specs.Token.{Token}
-use Rattle.gf_token.specs.Token.Token.{Opening, Closing, Comma, Text, Bare, Broken}
+use Rattle.gf_token.specs.Token.Token.{Opening, Closing, Comma, Text, Bare}
 use Rattle.gf_token.specs.declared.fault.What.{What}
 use Rattle.gf_token.specs.declared.fault.Why.{Why}
 use Rattle.gf_fraction.specs.Ratio.{Ratio}
 use Rattle.gf_fraction.specs.declared.fraction.NumberFault.{NumberFault}
-use Rattle.gf_nfg.specs.inner.Position.{Position}
-use Rattle.gf_nfg.specs.inner.Position.{Position as p}
+use Rattle.gf_nfg.specs.inner.Position.{Position, Position as p}
 use Rattle.gf_fraction.specs.Computed.{number_of}
 use Rattle.gf_token.specs.Indices.{index_of, count_of}
 use Rattle.gf_nfg.specs.Table.{Table}
 use Rattle.gf_nfg.specs.Sentence.{Sentence}
-use Rattle.gf_nfg.specs.inner.Machine.{State, Content, at, step, run, start, counted, listed}
-use Rattle.gf_nfg.specs.inner.Machine.{settled, paid, chosen, at_strategies_end, at_first}
+use Rattle.gf_nfg.specs.inner.Machine.{State, Content, step, step_at, to, run, start, counted}
+use Rattle.gf_nfg.specs.inner.Machine.{listed, settled, paid, chosen, at_strategies_end, at_first}
 use Rattle.gf_nfg.specs.inner.Machine.{at_count, at_list_opening, at_payoff, at_flat_payoffs}
-use Rattle.gf_nfg.specs.inner.Machine.{at_after_comment, at_outcome_end, at_braced_payoff}
-use Rattle.gf_nfg.specs.inner.Machine.{at_outcome_number, due_at, ended, ◌>>=◌}
+use Rattle.gf_nfg.specs.inner.Machine.{at_after_comment, at_braced_payoff, at_outcome_number}
+use Rattle.gf_nfg.specs.inner.Machine.{due_at, ended, ◌>>=◌}
 use Rattle.gf_nfg.specs.inner.Meaning.{table_of}
 use Rattle.gf_nfg.specs.Limit.{profile_limit}
 use Rattle.gf_nfg.specs.LimitByFiles.{BeginsWithinLimit, StaysWithinLimit, IsBareOrClosing}
 use Rattle.gf_token.proofs.ReadingIndices.{count_is}
 use Rattle.gf_nfg.proofs.lemmas.tables.Meaning.{length-entries}
-use Rattle.gf_nfg.proofs.lemmas.runs.Common.{ok_is}
 use Rattle.gf_nfg.proofs.lemmas.runs.Sentence.{sentence_found, sentence_again}
 use Rattle.gf_nfg.proofs.lemmas.runs.Ends.{IsSettled, settled_ends}
 use Rattle.gf_nfg.proofs.lemmas.places.Walk.{Leads, walk, walk_split, walk_step, leads_more}
@@ -43,11 +40,6 @@ same_at : (q : Position) (n : ℕ) → GrownAt q n n
 same_at p.Counts n = omega arith
 same_at p.BeforeList n = omega arith
 same_at _ n = refl
-
-no_fewer_at : (q : Position) (m n : ℕ) → GrownAt q m n → m ≤ n
-no_fewer_at p.Counts m n h = h
-no_fewer_at p.BeforeList m n h = h
-no_fewer_at _ m n h = omega (arith, h)
 
 -- what a token does to the profiles: a bare one or a closing brace makes them no fewer and leaves
 -- no list open, and another keeps them
@@ -65,9 +57,6 @@ Grows t s (Err why) = Unit {0}
 same : (n : ℕ) → n ≤ n
 same n = omega arith
 
-not_past : (n : ℕ) → nat_lt profile_limit n ≡ false → n ≤ profile_limit
-not_past n e = grind (arith, nat_tests)
-
 by_test : (t : Token) (s : State) (b : Bool) (x y : Result State Why) → Grows t s x → Grows t s y
     → Grows t s (cond b x y)
 by_test t s true x y h k = h
@@ -79,9 +68,7 @@ tested s next b true why grown = grown
 tested s next b false why grown = tt
 
 times : (m n : ℕ) → 0 < n → m ≤ m * n
-times zero n h = omega arith
-times (suc m) zero h = absurd (omega arith)
-times (suc m) (suc n) h = omega arith
+times m n h = grind arith
 
 counts : (s : State) (b : List ℕ) (o : Option ℕ) → count_of b ≡ o → Grows (Bare b) s (counted s o)
 counts s b None e = tt
@@ -122,108 +109,61 @@ payoffs q settled s (Bare b) = pays q settled s b (number_of b)
 payoffs q settled s _ = tt
 
 flats : (s : State) (t : Token) → Grows t s (at_flat_payoffs s t)
-flats s t = by_test t s (nat_eq s.due 0) _ _ tt (payoffs p.FlatPayoffs tt s t)
+flats s t = by_test t s (s.due == 0) _ _ tt (payoffs p.FlatPayoffs tt s t)
 
 bodies : (s : State) (t : Token) → Grows t s (at_after_comment s t)
 bodies s Opening = refl
-bodies s Closing = flats s Closing
-bodies s Comma = flats s Comma
-bodies s (Text label) = flats s (Text label)
-bodies s (Bare b) = flats s (Bare b)
-bodies s Broken = flats s Broken
-
-ends_outcome : (s : State) (t : Token) → Grows t s (at_outcome_end s t)
-ends_outcome s Closing = (refl, tt)
-ends_outcome s _ = tt
+bodies s t = flats s t
 
 braced_payoffs : (s : State) (t : Token) → Grows t s (at_braced_payoff s t)
-braced_payoffs s t =
-    by_test t s (nat_eq s.due 0) _ _ (ends_outcome s t) (payoffs p.AfterBracedPayoff tt s t)
+braced_payoffs s t = grind arith
 
 numbers : (s : State) (t : Token) → Grows t s (at_outcome_number s t)
 numbers s (Bare b) = chooses s b (index_of b)
 numbers s _ = tt
 
-grows_at : (q : Position) (due from outcomes : ℕ) (c : Content) (t : Token)
-    → Grows t (at q due from outcomes c) (step (at q due from outcomes c) t)
-grows_at p.Format due from outcomes c (Bare b) = tested (at p.Format due from outcomes c)
-    (at p.Version due from outcomes c) b _ _ (refl, tt)
-grows_at p.Format due from outcomes c _ = tt
-grows_at p.Version due from outcomes c (Bare b) = tested (at p.Version due from outcomes c)
-    (at p.Letter due from outcomes c) b _ _ (refl, tt)
-grows_at p.Version due from outcomes c _ = tt
-grows_at p.Letter due from outcomes c (Bare b) = tested (at p.Letter due from outcomes c)
-    (at p.Title due from outcomes c) b _ _ (refl, tt)
-grows_at p.Letter due from outcomes c _ = tt
-grows_at p.Title due from outcomes c (Text label) = refl
-grows_at p.Title due from outcomes c _ = tt
-grows_at p.BeforePlayers due from outcomes c Opening = refl
-grows_at p.BeforePlayers due from outcomes c _ = tt
-grows_at p.InPlayers due from outcomes c (Text label) = refl
-grows_at p.InPlayers due from outcomes c Closing = (refl, tt)
-grows_at p.InPlayers due from outcomes c _ = tt
-grows_at p.BeforeStrategies due from outcomes c Opening = refl
-grows_at p.BeforeStrategies due from outcomes c _ = tt
-grows_at p.FirstStrategies due from outcomes c t =
-    by_test t (at p.FirstStrategies due from outcomes c) (nat_eq due 0)
-    _ _ (ends_strategies (at p.FirstStrategies due from outcomes c) t)
-    (firsts (at p.FirstStrategies due from outcomes c) t)
-grows_at p.Counts due from outcomes c t = by_test t (at p.Counts due from outcomes c)
-    (nat_eq due 0) _ _ (ends_strategies (at p.Counts due from outcomes c) t)
-    (later_counts (at p.Counts due from outcomes c) t)
-grows_at p.BeforeList due from outcomes c t = by_test t (at p.BeforeList due from outcomes c)
-    (nat_eq due 0) _ _ (ends_strategies (at p.BeforeList due from outcomes c) t)
-    (opens (at p.BeforeList due from outcomes c) t)
-grows_at p.InList due from outcomes c (Text label) = refl
-grows_at p.InList due from outcomes c Closing =
-    lists (at p.InList due from outcomes c) (length c.labels - from)
-grows_at p.InList due from outcomes c _ = tt
-grows_at p.AfterStrategies due from outcomes c (Text label) = refl
-grows_at p.AfterStrategies due from outcomes c Opening =
-    bodies (at p.AfterStrategies due from outcomes c) Opening
-grows_at p.AfterStrategies due from outcomes c Closing =
-    bodies (at p.AfterStrategies due from outcomes c) Closing
-grows_at p.AfterStrategies due from outcomes c Comma =
-    bodies (at p.AfterStrategies due from outcomes c) Comma
-grows_at p.AfterStrategies due from outcomes c (Bare b) =
-    bodies (at p.AfterStrategies due from outcomes c) (Bare b)
-grows_at p.AfterStrategies due from outcomes c Broken =
-    bodies (at p.AfterStrategies due from outcomes c) Broken
-grows_at p.AfterComment due from outcomes c t = bodies (at p.AfterComment due from outcomes c) t
-grows_at p.FlatPayoffs due from outcomes c t = flats (at p.FlatPayoffs due from outcomes c) t
-grows_at p.InOutcomes due from outcomes c Opening = refl
-grows_at p.InOutcomes due from outcomes c Closing = (refl, tt)
-grows_at p.InOutcomes due from outcomes c _ = tt
-grows_at p.OutcomeName due from outcomes c (Text label) = refl
-grows_at p.OutcomeName due from outcomes c _ = tt
-grows_at p.BracedPayoff due from outcomes c t =
-    braced_payoffs (at p.BracedPayoff due from outcomes c) t
-grows_at p.AfterBracedPayoff due from outcomes c Comma = refl
-grows_at p.AfterBracedPayoff due from outcomes c Opening =
-    braced_payoffs (at p.AfterBracedPayoff due from outcomes c) Opening
-grows_at p.AfterBracedPayoff due from outcomes c Closing =
-    braced_payoffs (at p.AfterBracedPayoff due from outcomes c) Closing
-grows_at p.AfterBracedPayoff due from outcomes c (Text label) =
-    braced_payoffs (at p.AfterBracedPayoff due from outcomes c) (Text label)
-grows_at p.AfterBracedPayoff due from outcomes c (Bare b) =
-    braced_payoffs (at p.AfterBracedPayoff due from outcomes c) (Bare b)
-grows_at p.AfterBracedPayoff due from outcomes c Broken =
-    braced_payoffs (at p.AfterBracedPayoff due from outcomes c) Broken
-grows_at p.OutcomeNumbers due from outcomes c t =
-    by_test t (at p.OutcomeNumbers due from outcomes c) (nat_eq due 0) _ _ tt
-    (numbers (at p.OutcomeNumbers due from outcomes c) t)
+grows_at : (q : Position) (s : State) (t : Token) → Grows t s (step_at q s t)
+grows_at p.Format s (Bare b) = tested s (to p.Version s) b _ _ (refl, tt)
+grows_at p.Format s _ = tt
+grows_at p.Version s (Bare b) = tested s (to p.Letter s) b _ _ (refl, tt)
+grows_at p.Version s _ = tt
+grows_at p.Letter s (Bare b) = tested s (to p.Title s) b _ _ (refl, tt)
+grows_at p.Letter s _ = tt
+grows_at p.Title s (Text label) = refl
+grows_at p.Title s _ = tt
+grows_at p.BeforePlayers s Opening = refl
+grows_at p.BeforePlayers s _ = tt
+grows_at p.InPlayers s (Text label) = refl
+grows_at p.InPlayers s Closing = (refl, tt)
+grows_at p.InPlayers s _ = tt
+grows_at p.BeforeStrategies s Opening = refl
+grows_at p.BeforeStrategies s _ = tt
+grows_at p.FirstStrategies s t = by_test t s (s.due == 0) _ _ (ends_strategies s t) (firsts s t)
+grows_at p.Counts s t = by_test t s (s.due == 0) _ _ (ends_strategies s t) (later_counts s t)
+grows_at p.BeforeList s t = by_test t s (s.due == 0) _ _ (ends_strategies s t) (opens s t)
+grows_at p.InList s (Text label) = refl
+grows_at p.InList s Closing = lists s (length s.content.labels - s.list_start)
+grows_at p.InList s _ = tt
+grows_at p.AfterStrategies s (Text label) = refl
+grows_at p.AfterStrategies s t = bodies s t
+grows_at p.AfterComment s t = bodies s t
+grows_at p.FlatPayoffs s t = flats s t
+grows_at p.InOutcomes s Opening = refl
+grows_at p.InOutcomes s Closing = (refl, tt)
+grows_at p.InOutcomes s _ = tt
+grows_at p.OutcomeName s (Text label) = refl
+grows_at p.OutcomeName s _ = tt
+grows_at p.BracedPayoff s t = braced_payoffs s t
+grows_at p.AfterBracedPayoff s Comma = refl
+grows_at p.AfterBracedPayoff s t = braced_payoffs s t
+grows_at p.OutcomeNumbers s t = by_test t s (s.due == 0) _ _ tt (numbers s t)
 
 grows : (s after : State) (t : Token) → step s t ≡ Ok after → Grown t s after
-grows s after t e =
-    subst (Grows t s) e (grows_at s.position s.due s.list_start s.outcomes s.content t)
+grows s after t e = subst (Grows t s) e (grows_at s.position s t)
 
 no_fewer : (s after : State) (t : Token) → Grown t s after
     → s.content.profiles ≤ after.content.profiles
-no_fewer s after (Bare b) h =
-    no_fewer_at after.position s.content.profiles after.content.profiles h.0
-no_fewer s after Closing h =
-    no_fewer_at after.position s.content.profiles after.content.profiles h.0
-no_fewer s after _ h = omega (arith, h)
+no_fewer s after t h = grind arith
 
 more_by : (s after : State) (t : Token)
     → Grown t s after → s.content.profiles < after.content.profiles → IsBareOrClosing t
@@ -237,21 +177,9 @@ settled_by s after (Bare b) h k = h.1
 settled_by s after Closing h k = h.1
 settled_by s after _ h k = absurd k
 
--- the profiles pass their limit at a count or a list that was read, or nowhere
-bounded_at : (q : Position) (m n : ℕ) → GrownAt q m n → m ≤ profile_limit → is_past q n ≡ false
-    → n ≤ profile_limit
-bounded_at p.Counts m n h within e = not_past n e
-bounded_at p.BeforeList m n h within e = not_past n e
-bounded_at _ m n h within e = omega (arith, h, within)
-
-bounded_by : (s after : State) (t : Token) → Grown t s after
-    → s.content.profiles ≤ profile_limit
+bounded_by : (s after : State) (t : Token) → Grown t s after → s.content.profiles ≤ profile_limit
     → is_past after.position after.content.profiles ≡ false → after.content.profiles ≤ profile_limit
-bounded_by s after (Bare b) h within e =
-    bounded_at after.position s.content.profiles after.content.profiles h.0 within e
-bounded_by s after Closing h within e =
-    bounded_at after.position s.content.profiles after.content.profiles h.0 within e
-bounded_by s after _ h within e = omega (arith, h, within)
+bounded_by s after t h h2 h3 = grind arith
 
 pub bounded : (s after : State) (t : Token) → step s t ≡ Ok after
     → s.content.profiles ≤ profile_limit
@@ -259,9 +187,7 @@ pub bounded : (s after : State) (t : Token) → step s t ≡ Ok after
 bounded s after t e within not = bounded_by s after t (grows s after t e) within not
 
 pub past : (q : Position) (n : ℕ) → is_past q n ≡ true → profile_limit < n
-past p.Counts n e = grind (arith, nat_tests)
-past p.BeforeList n e = grind (arith, nat_tests)
-past _ n e = absurd cc
+past q n h = grind arith
 
 -- if it increases their number, it is one of these
 pub makes_more : (s after : State) (t : Token)
@@ -275,10 +201,7 @@ settles s after t e h = settled_by s after t (grows s after t e) h
 
 ended_keeps : (c : Content) (o : Option What) (r : Content) → ended c o ≡ Ok r
     → c.profiles ≤ r.profiles
-ended_keeps c None r e =
-    let is : c ≡ r = ok_is c r e in
-    subst (λ (x : Content). c.profiles ≤ x.profiles) is (omega arith)
-ended_keeps c (Some what) r e = absurd cc
+ended_keeps c o r h = grind arith
 
 -- a run that ends well has read no fewer profiles than there were
 
@@ -302,9 +225,7 @@ run_grows (t ∷ ts) s r e =
 -- a walk makes them no fewer
 walk_grows : (ts : List Token) (s after : State) → walk s ts ≡ Ok after
     → s.content.profiles ≤ after.content.profiles
-walk_grows [] s after e =
-    let is : s ≡ after = ok_is s after e in
-    subst (λ (x : State). s.content.profiles ≤ x.content.profiles) is (same s.content.profiles)
+walk_grows [] s after e = grind arith
 walk_grows (t ∷ ts) s after e =
     let h = walk_step t ts s after e in
     let first = no_fewer s h.0 t (grows s h.0 t h.1) in
@@ -321,8 +242,7 @@ pub read_past : (ts : List Token) (s : State) → Leads ts s → (more : List To
 read_past ts s h more t sentence =
     let p = sentence_again (ts ++ more) t sentence in
     let grown = run_grows more s p.content (sym (leads_run ts more s h) ∙ p.read) in
-    let size : length t.entries ≡ p.content.profiles =
-    ap (λ (u : Table). length u.entries) (sym p.means) ∙ size_read (ts ++ more) p.content p.read in
+    let size : length t.entries ≡ p.content.profiles = grind (arith, size_read) in
     omega (arith, grown, size)
 
 begins_within : (ts : List Token) (s : State)
@@ -331,12 +251,8 @@ begins_within ts s h settled within =
     let e = settled_ends s settled in
     let all : run start (ts ++ e.0) ≡ Ok e.1 = leads_run ts e.0 s h ∙ e.2 in
     let size = size_read (ts ++ e.0) e.1 all in
-    let same_profiles = e.3 in (
-      e.0,
-      table_of e.1,
-      (sentence_found (ts ++ e.0) e.1 all).sentence,
-      omega (arith, size, same_profiles, within),
-    )
+    let same_profiles = e.3 in
+    grind (arith, sentence_found)
 
 -- up to there the limit was not passed
 pub stays_within : (ts : List Token) (s : State) → Leads ts s → s.content.profiles ≤ profile_limit

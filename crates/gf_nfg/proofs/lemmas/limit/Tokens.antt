@@ -1,15 +1,13 @@
 -- If counts pass the limit, the profiles of all files with them pass it.
-use Rattle.std.proofs.Common.{◌≡◌, ℕ, suc, ◌+◌, ◌-◌, ◌*◌, ◌<◌, ◌≤◌, List, [], ◌∷◌, ◌++◌}
-use Rattle.std.proofs.Common.{length, map, Ok, refl, sym, ap, subst, ◌∙◌, append_assoc, arith}
-use Rattle.std.proofs.Common.{inl, inr}
+use Rattle.std.proofs.Common.{◌≡◌, ℕ, suc, ◌+◌, ◌-◌, ◌*◌, ◌<◌, ◌≤◌, List, [], ◌∷◌, ◌++◌, length}
+use Rattle.std.proofs.Common.{map, Ok, refl, sym, ap, subst, ◌∙◌, append_assoc, arith, inl, inr}
 use Rattle.std.specs.Prelude.{codes, ◌⊎◌}
 use Rattle.std.proofs.lemmas.List.{append-nil, length-append, length-map}
 use Rattle.gf_token.specs.Token.{Token}
 use Rattle.gf_token.specs.Token.Token.{Opening}
 use Rattle.gf_token.specs.Grammar.{Each}
 use Rattle.gf_fraction.proofs.AllElements.{all_parts}
-use Rattle.gf_nfg.specs.inner.Position.{Position}
-use Rattle.gf_nfg.specs.inner.Position.{Position as p}
+use Rattle.gf_nfg.specs.inner.Position.{Position, Position as p}
 use Rattle.gf_nfg.specs.Limit.{profile_limit}
 use Rattle.gf_nfg.specs.Profiles.{product}
 use Rattle.gf_nfg.specs.Sentence.{IsCount, IsLabelList}
@@ -18,11 +16,9 @@ use Rattle.gf_nfg.specs.LimitPlace.{GivesCounts}
 use Rattle.gf_nfg.specs.inner.Machine.{State, step}
 use Rattle.gf_nfg.proofs.lemmas.places.Walk.{Leads, leads_on, leads_more, begins}
 use Rattle.gf_nfg.proofs.lemmas.limit.Stays.{makes_more, read_past, stays_within}
-use Rattle.gf_nfg.proofs.lemmas.limit.Products.{Strategies, PassesAtLast, PassesWith}
-use Rattle.gf_nfg.proofs.lemmas.limit.Products.{by_strategies}
-use Rattle.gf_nfg.proofs.lemmas.limit.Walks.{headed, headed_on, opening_leads}
-use Rattle.gf_nfg.proofs.lemmas.limit.Walks.{AreTaken, TakesCounts, counts_taken, TakesLists}
-use Rattle.gf_nfg.proofs.lemmas.limit.Walks.{lists_taken}
+use Rattle.gf_nfg.proofs.lemmas.limit.Products.{Strategies, PassesAtLast, PassesWith, by_strategies}
+use Rattle.gf_nfg.proofs.lemmas.limit.Walks.{headed, headed_on, opening_leads, AreTaken}
+use Rattle.gf_nfg.proofs.lemmas.limit.Walks.{TakesCounts, counts_taken, TakesLists, lists_taken}
 use Rattle.gf_nfg.proofs.lemmas.limit.Walks.{Reaches, groups_lead}
 
 -- ---- lists by their last items
@@ -65,12 +61,7 @@ parted (z ∷ xs) x ys (w ∷ us) u vs e =
 none_behind : (xs : List Token) (x : Token) (us : List Token) (u : Token)
     → xs ++ x ∷ [] ≡ us ++ u ∷ [] → StandsIn xs x us → ⊥
 none_behind xs x us u e h =
-    let size : length (xs ++ x ∷ []) ≡ length (us ++ u ∷ []) = ap length e in
-    let longer : length us ≡ length (xs ++ x ∷ h.0) = ap length h.1 in
-    let a = length-append xs (x ∷ []) in
-    let b = length-append us (u ∷ []) in
-    let c = length-append xs (x ∷ h.0) in
-    omega (arith, size, longer, a, b, c)
+    grind (arith, length-append xs (x ∷ []), length-append us (u ∷ []), length-append xs (x ∷ h.0))
 
 same_last : (xs : List Token) (x : Token) (us : List Token) (u : Token)
     → xs ++ x ∷ [] ≡ us ++ u ∷ [] → (xs ≡ us) × (x ≡ u)
@@ -121,23 +112,18 @@ pub each_parts : (P : List Token → List (List ℕ) → Type 0) (xs ys : Strate
     × Each P front xs × Each P rest ys
 each_parts P [] ys ts h = ([], ts, refl, refl, h)
 each_parts P (x ∷ xs) ys ts h =
-    let k = each_parts P xs ys h.1 h.4 in
-    let whole = ap (λ (us : List Token). h.0 ++ us) k.2 ∙ sym (append_assoc h.0 k.0 k.1) in
-    (h.0 ++ k.0, k.1, h.2 ∙ whole, (h.0, k.0, refl, h.3, k.3), k.4)
+    grind (arith, append_assoc h.0 (each_parts P xs ys h.1 h.4).0 (each_parts P xs ys h.1 h.4).1)
 
 each_one : (P : List Token → List (List ℕ) → Type 0) (labels : List (List ℕ)) (ts : List Token)
     → Each P ts (labels ∷ []) → P ts labels
-each_one P labels ts h =
-    let whole : ts ≡ h.0 = h.2 ∙ ap (λ (us : List Token). h.0 ++ us) h.4 ∙ append-nil h.0 in
-    subst (λ (us : List Token). P us labels) (sym whole) h.3
+each_one P labels ts h = grind (arith, append-nil)
 
 -- after tokens from which groups of this kind are taken, one for each player
-passes_by : (P : List Token → List (List ℕ) → Type 0) (Takes : Position → Type 0)
-    → AreTaken P Takes
+passes_by : (P : List Token → List (List ℕ) → Type 0) (Takes : Position → Type 0) → AreTaken P Takes
     → (before inner : List Token) (players : ℕ) (front : Strategies) (labels : List (List ℕ))
-    → Reaches Takes before players 1 → Each P inner (front ++ labels ∷ [])
-    → PassesWith front labels → length (front ++ labels ∷ []) ≤ players
-    → (ts : List Token) (t : Token) → ts ++ t ∷ [] ≡ before ++ inner → Passes ts t
+    → Reaches Takes before players 1 → Each P inner (front ++ labels ∷ []) → PassesWith front labels
+    → length (front ++ labels ∷ []) ≤ players → (ts : List Token) (t : Token)
+    → ts ++ t ∷ [] ≡ before ++ inner → Passes ts t
 passes_by P Takes taken before inner players front labels r each h enough ts t e =
     let n = length labels in
     let due = players - length (front ++ labels ∷ []) in
@@ -151,8 +137,7 @@ passes_by P Takes taken before inner players front labels r each h enough ts t e
     let k = taken w.state due i.1 labels w.takes w.due_is last own.1.0 in
     let others = (before ++ i.0) ++ k.front in
     let inner_is = i.2 ∙ ap (λ (us : List Token). i.0 ++ us) k.parts in
-    let whole : ts ++ t ∷ [] ≡ others ++ k.last ∷ [] =
-    e ∙ ap (λ (us : List Token). before ++ us) inner_is ∙ simp append_assoc in
+    let whole : ts ++ t ∷ [] ≡ others ++ k.last ∷ [] = grind (arith, append_assoc) in
     let same = same_last ts t others k.last whole in
     let leads = leads_on (before ++ i.0) k.front w.state k.mid w.leads k.walks in
     let grown = w.grown in
@@ -182,8 +167,7 @@ passes_headed : (P : List Token → List (List ℕ) → Type 0) (Takes : Positio
 passes_headed P Takes taken takes letter title players inner front labels is each h enough ts t e =
     let before = headed letter title players (Opening ∷ []) in
     let leads = opening_leads letter title players is in
-    let r : Reaches Takes before (length players) 1 =
-    record { state = _; leads = leads; takes = takes; due_is = refl; grown = refl } in
+    let r : Reaches Takes before (length players) 1 = grind arith in
     let whole = e ∙ sym (headed_on letter title players (Opening ∷ []) inner) in
     passes_by P Takes taken before inner (length players) front labels r each h enough ts t whole
 
@@ -212,13 +196,11 @@ pub limit_by_last : (ts : List Token) (t : Token) (counts : List ℕ)
 limit_by_last ts t counts g h =
     let all = subst PassesAtLast g.are_counts h in
     let l = some_given g.strategies all.passes in
-    let with_last : PassesAtLast (map length (l.front ++ l.last ∷ [])) =
-    subst (λ (ss : Strategies). PassesAtLast (map length ss)) l.parts all in
+    let with_last : PassesAtLast (map length (l.front ++ l.last ∷ [])) = rw (← l.parts) all in
     let passes = by_strategies l.front l.last with_last in
     let groups = subst (AreGroups g.inner) l.parts g.is_inner in
     let many : length counts ≡ length (l.front ++ l.last ∷ []) =
-    ap length g.are_counts ∙ length-map g.strategies length ∙ ap length l.parts in
+    cc (length-map g.strategies length) in
     let first_players = g.first_players in
-    let enough : length (l.front ++ l.last ∷ []) ≤ length g.players =
-    omega (arith, many, first_players) in
+    let enough : length (l.front ++ l.last ∷ []) ≤ length g.players = grind arith in
     limit_token ts t (passes_given ts t counts g l.front l.last groups passes enough)

@@ -1,20 +1,19 @@
 -- Where a heading leads the machine, and the counts or lists of labels after it.
-use Rattle.std.proofs.Common.{◌≡◌, ℕ, zero, suc, ◌+◌, ◌-◌, ◌*◌, ◌<◌, List, [], ◌∷◌, ◌++◌}
-use Rattle.std.proofs.Common.{length, map, Some, Ok, refl, sym, ap, subst, ◌∙◌, append_assoc, arith}
-use Rattle.std.proofs.Common.{inl, inr}
+use Rattle.std.proofs.Common.{◌≡◌, ℕ, zero, suc, ◌+◌, ◌-◌, ◌*◌, ◌<◌, List, [], ◌∷◌, ◌++◌, length}
+use Rattle.std.proofs.Common.{map, Some, Ok, refl, sym, ap, subst, ◌∙◌, append_assoc, arith, inl}
+use Rattle.std.proofs.Common.{inr}
 use Rattle.std.specs.Prelude.{codes, ◌⊎◌}
 use Rattle.std.proofs.Math.Nat.{mul-one, mul_assoc}
 use Rattle.std.proofs.lemmas.List.{append-nil, length-append}
 use Rattle.gf_token.specs.Token.{Token}
 use Rattle.gf_token.specs.Token.Token.{Opening, Closing, Text, Bare}
 use Rattle.gf_token.specs.Grammar.{Each, braced}
-use Rattle.gf_nfg.specs.inner.Position.{Position}
-use Rattle.gf_nfg.specs.inner.Position.{Position as p}
+use Rattle.gf_nfg.specs.inner.Position.{Position, Position as p}
 use Rattle.gf_nfg.specs.Profiles.{product}
 use Rattle.gf_token.specs.Indices.{count_of}
 use Rattle.gf_nfg.specs.Sentence.{IsCount, IsLabelList}
-use Rattle.gf_nfg.specs.inner.Machine.{State, Content, at, step, nothing, listed}
-use Rattle.gf_nfg.specs.inner.Machine.{with_title, with_players, with_labels, with_count}
+use Rattle.gf_nfg.specs.inner.Machine.{State, Content, at, step, nothing, listed, with_title}
+use Rattle.gf_nfg.specs.inner.Machine.{with_players, with_labels, with_count}
 use Rattle.gf_token.proofs.ReadingIndices.{count_again}
 use Rattle.gf_nfg.proofs.lemmas.tables.Lists.{length-counted_labels}
 use Rattle.gf_nfg.proofs.lemmas.runs.Common.{not_zero, pred_suc, with_no_players, with_more_players}
@@ -34,9 +33,7 @@ headed letter title players tokens =
 pub headed_on : (letter title : List ℕ) (players : List (List ℕ)) (tokens more : List Token)
     → headed letter title players tokens ++ more ≡ headed letter title players (tokens ++ more)
 headed_on letter title players tokens more =
-    let first : List Token → List Token = λ ts.
-    Bare (codes "NFG") ∷ Bare (codes "1") ∷ Bare letter ∷ Text title ∷ ts in
-    ap first (append_assoc (braced (map Text players)) tokens more)
+    grind (arith, append_assoc (braced (map Text players)) tokens more)
 
 abbrev title_line : List ℕ → List ℕ → List Token
 title_line letter title =
@@ -54,8 +51,7 @@ players_walk : (players : List (List ℕ)) (c : Content)
     → walk (in_players c) (map Text players) ≡ Ok (in_players (with_players c players))
 players_walk [] c = ap (λ (d : Content). Ok (in_players d)) (sym (with_no_players c))
 players_walk (label ∷ players) c =
-    players_walk players (with_players c (label ∷ []))
-    ∙ ap (λ (d : Content). Ok (in_players d)) (with_more_players c label players)
+    grind (arith, with_more_players, players_walk players (with_players c (label ∷ [])))
 
 -- the brace that opens the strategies of these players
 pub opening_leads : (letter title : List ℕ) (players : List (List ℕ))
@@ -101,8 +97,7 @@ due_in s due = at s.position due s.list_start s.outcomes s.content
 taken_at : (Takes : Position → Type 0) (s : State) (group : List Token) (due count : ℕ)
     → s.due ≡ suc due → Taken Takes (due_in s (suc due)) group due count
     → Taken Takes s group due count
-taken_at Takes s group due count e h =
-    subst (λ (n : ℕ). Taken Takes (due_in s n) group due count) (sym e) h
+taken_at Takes s group due count e h = rw e h
 
 -- ---- a count
 
@@ -157,19 +152,14 @@ open_step _ h due from outcomes c = absurd h
 labels_walk : (labels : List (List ℕ)) (due from outcomes : ℕ) (c : Content)
     → walk (at p.InList due from outcomes c) (map Text labels)
     ≡ Ok (at p.InList due from outcomes (with_labels c labels))
-labels_walk [] due from outcomes c =
-    ap (λ (d : Content). Ok (at p.InList due from outcomes d)) (sym (with_no_labels c))
-labels_walk (label ∷ labels) due from outcomes c =
-    labels_walk labels due from outcomes (with_labels c (label ∷ []))
-    ∙ ap (λ (d : Content). Ok (at p.InList due from outcomes d))
-    (with_more_labels c (label ∷ []) labels)
+labels_walk [] due from outcomes c = cc (with_no_labels c)
+labels_walk (label ∷ labels) due from outcomes c = grind (arith, with_more_labels, labels_walk
+    labels due from outcomes (with_labels c (label ∷ [])))
 
 close_step : (s : State) (n k : ℕ) → n ≡ k → 0 < k
-    → listed s n
-    ≡ Ok (at p.BeforeList s.due 0 s.outcomes (with_count s.content k))
+    → listed s n ≡ Ok (at p.BeforeList s.due 0 s.outcomes (with_count s.content k))
 close_step s zero k e some = absurd (omega (arith, e, some))
-close_step s (suc n) k e some =
-    ap (λ (m : ℕ). Ok (at p.BeforeList s.due 0 s.outcomes (with_count s.content m))) e
+close_step s (suc n) k e some = cc
 
 pub lists_taken : AreTaken IsLabelList TakesLists
 lists_taken s due group labels takes e h some =
@@ -208,8 +198,7 @@ pub record Reaches (Takes : Position → Type 0) (ts : List Token) (due profiles
 -- tokens in groups after others
 behind : (before first others inner : List Token) → inner ≡ first ++ others
     → (before ++ first) ++ others ≡ before ++ inner
-behind before first others inner e =
-    append_assoc before first others ∙ ap (λ (ts : List Token). before ++ ts) (sym e)
+behind before first others inner e = grind (arith, append_assoc)
 
 reaches_more : (P : List Token → List (List ℕ) → Type 0) (Takes : Position → Type 0)
     → AreTaken P Takes → (before group : List Token) (labels : List (List ℕ)) (due profiles : ℕ)

@@ -1,29 +1,22 @@
--- Each state of the machine belongs to a row of the table, and what the row names is due there.
-use Rattle.std.proofs.Common.{◌≡◌, ℕ, zero, suc, ◌-◌, true, false, List, [], ◌∷◌, length, map}
-use Rattle.std.proofs.Common.{Option, Some, Result, Ok, Err, refl, sym, subst, ◌∙◌, inl, inr}
-use Rattle.std.specs.Prelude.{◌⊎◌, ◌↔◌, not}
+-- What a row names is due there, and no other token may follow than those that it accepts.
+use Rattle.std.proofs.Common.{◌≡◌, ℕ, zero, suc, Bool, true, false, List, [], ◌∷◌, length, map}
+use Rattle.std.proofs.Common.{arith, Option, Some, None, Result, Ok, Err, refl, subst, ap, inl, inr}
+use Rattle.std.specs.Prelude.{◌⊎◌, ◌↔◌, ◌==◌, if◌then◌else◌, not}
 use Rattle.gf_token.specs.Token.{Token}
-use Rattle.gf_token.specs.Token.Token.{Opening, Closing, Text, Bare}
+use Rattle.gf_token.specs.Token.Token.{Opening, Closing, Text, Bare, Broken}
 use Rattle.gf_token.specs.declared.fault.What.{What}
 use Rattle.gf_token.specs.declared.fault.What.TheVariants as what
 use Rattle.gf_token.specs.declared.fault.Why.{Why}
 use Rattle.gf_token.specs.declared.fault.Why.TheVariants.{Expected}
-use Rattle.gf_nfg.specs.inner.Position.{Position}
-use Rattle.gf_nfg.specs.inner.Position.{Position as p}
+use Rattle.gf_nfg.specs.inner.Position.{Position, Position as p}
 use Rattle.gf_token.specs.Place.{MayFollow}
 use Rattle.gf_nfg.specs.Sentence.{IsStrategicFile}
 use Rattle.gf_nfg.specs.Due.{Role, RoleIsDue, IsDue}
 use Rattle.gf_nfg.specs.Due.Role.{Format, Version, Letter, Count, Payoff, OutcomeNumber}
-use Rattle.gf_nfg.specs.inner.Machine.{State, Content, at, step, finish, with_labels, ◌>>=◌}
-use Rattle.gf_nfg.specs.inner.Meaning.{table_of}
-use Rattle.gf_nfg.proofs.lemmas.runs.Common.{not_zero}
+use Rattle.gf_nfg.specs.inner.Machine.{State, Content, at, to, due_at, ended, step, with_labels}
 use Rattle.gf_nfg.proofs.lemmas.places.Walk.{Leads, walk, follows, refused, is_file}
-use Rattle.gf_nfg.proofs.lemmas.places.DueRows.{Row, Accepts, AcceptsBare, Answers, Law, no, only}
-use Rattle.gf_nfg.proofs.lemmas.places.DueRows.{none, has_some, a_text, texts, an_opening}
-use Rattle.gf_nfg.proofs.lemmas.places.DueRows.{a_closing}
-use Rattle.gf_nfg.proofs.lemmas.places.DueRows.{first_row, list_row, a_body, an_empty_body}
-use Rattle.gf_nfg.proofs.lemmas.places.DueRows.{a_payoff}
-use Rattle.gf_nfg.proofs.lemmas.places.DueRows as rows
+use Rattle.gf_nfg.proofs.lemmas.places.DueRows.{Row, Accepts, AcceptsBare, Answers, answers, no}
+use Rattle.gf_nfg.proofs.lemmas.places.DueRows.{row_at, unfilled, has_some, listed_in}
 
 -- what a row names it accepts
 abbrev pub Names : Row → What → Type 0
@@ -40,58 +33,47 @@ Names row what.Strategies = (row.bare ≡ Some Count) × (row.opening ≡ true)
 Names row what.Node = ⊥
 Names row what.End = Unit {0}
 
--- the answer at the end, by what is expected
-abbrev pub EndsAs : What → State → Type 0
-EndsAs what.End s = finish s ≡ Ok s.content
-EndsAs expected s = finish s ≡ Err (Expected expected)
+-- what is expected, unless it is the end
+abbrev pub unless_end : What → Option What
+unless_end what.End = None
+unless_end expected = Some expected
 
-abbrev pub two_texts : List Token
-two_texts = Text [] ∷ Text [] ∷ []
+-- a row accepts what it names, and this is expected there
+abbrev Named : Row → Option What → Type 0
+Named row expected = Names row row.expected × (expected ≡ unless_end row.expected)
 
--- The row of a state. If its brace would leave a list empty, any labels may follow; otherwise, if
--- it has no brace, no two labels may follow.
-pub record Stands (s : State) : Type 0 where
-  pub row : Row
-  pub law : Law s row
-  pub names : Names row row.expected
-  pub ends : EndsAs row.expected s
-  pub labels : row.unfilled ≡ true → (labels : List (List ℕ))
-      → (after : State) × (walk s (map Text labels) ≡ Ok after)
-  pub no_labels : row.closing ≡ false → row.unfilled ≡ false
-      → (why : Why) × (walk s two_texts ≡ Err why)
+either : (b : Bool) (row other : Row) (o e : Option What) → Named row o → Named other e
+    → Named (if b then row else other) (if b then o else e)
+either true row other o e h k = h
+either false row other o e h k = k
 
-filled : (s : State) → false ≡ true → (labels : List (List ℕ))
-    → (after : State) × (walk s (map Text labels) ≡ Ok after)
-filled s e = absurd (no e)
+named_at : (q : Position) (s : State) → Named (row_at q s) (due_at q s.due)
+named_at p.FirstStrategies s = either (s.due == 0) _ _ _ _ (refl, refl) ((refl, refl), refl)
+named_at p.Counts s = either (s.due == 0) _ _ _ _ (refl, refl) (inl refl, refl)
+named_at p.BeforeList s = either (s.due == 0) _ _ _ _ (refl, refl) (refl, refl)
+named_at p.AfterStrategies s = either (s.due == 0) _ _ _ _ (tt, refl) (refl, refl)
+named_at p.AfterComment s = either (s.due == 0) _ _ _ _ (tt, refl) (refl, refl)
+named_at p.FlatPayoffs s = either (s.due == 0) _ _ _ _ (tt, refl) (refl, refl)
+named_at p.BracedPayoff s = either (s.due == 0) _ _ _ _ (refl, refl) (refl, refl)
+named_at p.AfterBracedPayoff s = either (s.due == 0) _ _ _ _ (refl, refl) (refl, refl)
+named_at p.OutcomeNumbers s = grind arith
+named_at _ s = (refl, refl)
 
-no_text_by : (row : Row) (o : Result State Why) → row.text ≡ false → Answers row (Text []) o
-    → (why : Why) × ((o >>= λ after. walk after (Text [] ∷ [])) ≡ Err why)
-no_text_by row (Ok after) e a = absurd (no (sym e ∙ a))
-no_text_by row (Err why) e a = (why, refl)
+abbrev pub row_of : State → Row
+row_of s = row_at s.position s
 
--- a row without text
-plain : (s : State) (row : Row) → Law s row → Names row row.expected → EndsAs row.expected s
-    → row.text ≡ false → row.unfilled ≡ false → Stands s
-plain s row law names ends text unfilled = record {
-  row = row;
-  law = law;
-  names = names;
-  ends = ends;
-  labels = λ e. absurd (no (sym unfilled ∙ e));
-  no_labels = λ _ _. no_text_by row (step s (Text [])) text (law (Text []));
-}
+-- ---- an unterminated text is refused in each state
 
--- a row with one text
-one_text : (s : State) (row : Row) → Law s row → Names row row.expected → EndsAs row.expected s
-    → row.unfilled ≡ false → (why : Why) × (walk s two_texts ≡ Err why) → Stands s
-one_text s row law names ends unfilled two = record {
-  row = row;
-  law = law;
-  names = names;
-  ends = ends;
-  labels = λ e. absurd (no (sym unfilled ∙ e));
-  no_labels = λ _ _. two;
-}
+broken_by : (unfilled : Bool) (row : Row) (o : Result State Why) → Answers unfilled row Broken o
+    → (why : Why) × (o ≡ Err why)
+broken_by unfilled row (Ok after) h = absurd (no h)
+broken_by unfilled row (Err why) h = (why, refl)
+
+pub broken_refused : (s : State) → (why : Why) × (step s Broken ≡ Err why)
+broken_refused s =
+    broken_by (unfilled s.position s) (row_of s) (step s Broken) (answers s.position s Broken)
+
+-- ---- texts after a refused brace
 
 fill : (labels : List (List ℕ)) (due from outcomes : ℕ) (c : Content)
     → (after : State) × (walk (at p.InList due from outcomes c) (map Text labels) ≡ Ok after)
@@ -99,128 +81,69 @@ fill [] due from outcomes c = (at p.InList due from outcomes c, refl)
 fill (label ∷ labels) due from outcomes c =
     fill labels due from outcomes (with_labels c (label ∷ []))
 
+-- if a brace would leave a list empty, any labels may follow
+pub labels_follow : (q : Position) (s : State) → unfilled q s ≡ true → (labels : List (List ℕ))
+    → (after : State) × (walk (to q s) (map Text labels) ≡ Ok after)
+labels_follow p.InList s e labels = fill labels s.due s.list_start s.outcomes s.content
+labels_follow _ s e labels = absurd (no e)
+
+abbrev pub two_texts : List Token
+two_texts = Text [] ∷ Text [] ∷ []
+
 some_or_unfilled : (n : ℕ) → has_some n ≡ false → not (has_some n) ≡ false → ⊥
 some_or_unfilled zero e f = absurd cc
 some_or_unfilled (suc n) e f = absurd cc
 
-name_twice : (players from outcomes : ℕ) (c : Content)
-    → (why : Why) × (walk (at p.BracedPayoff players from outcomes c) (Text [] ∷ []) ≡ Err why)
-name_twice zero from outcomes c = (Expected what.Closing, refl)
-name_twice (suc players) from outcomes c = (Expected what.Number, rw not_zero refl)
-
-stands_at : (q : Position) (due from outcomes : ℕ) (c : Content) → Stands (at q due from outcomes c)
-stands_at p.Format due from outcomes c =
-    plain _ (only Format what.Format) (rows.format due from outcomes c) refl refl refl refl
-stands_at p.Version due from outcomes c =
-    plain _ (only Version what.Version) (rows.version due from outcomes c) refl refl refl refl
-stands_at p.Letter due from outcomes c =
-    plain _ (only Letter what.Letter) (rows.letter due from outcomes c) refl refl refl refl
-stands_at p.Title due from outcomes c =
-    one_text _ a_text (rows.title due from outcomes c) refl refl refl (Expected what.Opening, refl)
-stands_at p.BeforePlayers due from outcomes c =
-    plain _ an_opening (rows.before_players due from outcomes c) refl refl refl refl
-stands_at p.InPlayers due from outcomes c = record {
-  row = texts;
-  law = rows.in_players due from outcomes c;
-  names = refl;
-  ends = refl;
-  labels = filled _;
-  no_labels = λ e. absurd cc;
-}
-stands_at p.BeforeStrategies due from outcomes c =
-    plain _ an_opening (rows.before_strategies due from outcomes c) refl refl refl refl
-stands_at p.FirstStrategies zero from outcomes c =
-    plain _ a_closing (rows.no_strategies from outcomes c) refl refl refl refl
-stands_at p.FirstStrategies (suc due) from outcomes c = plain _ first_row
-    (rows.first_strategies due from outcomes c) (refl, refl) (rw not_zero refl) refl refl
-stands_at p.Counts zero from outcomes c =
-    plain _ a_closing (rows.after_counts from outcomes c) refl refl refl refl
-stands_at p.Counts (suc due) from outcomes c = plain _ (only Count what.Index)
-    (rows.later_count due from outcomes c) (inl refl) (rw not_zero refl) refl refl
-stands_at p.BeforeList zero from outcomes c =
-    plain _ a_closing (rows.after_lists from outcomes c) refl refl refl refl
-stands_at p.BeforeList (suc due) from outcomes c =
-    plain _ an_opening (rows.later_list due from outcomes c) refl (rw not_zero refl) refl refl
-stands_at p.InList due from outcomes c = record {
-  row = list_row (length c.labels - from);
-  law = rows.in_list due from outcomes c;
-  names = refl;
-  ends = refl;
-  labels = λ _ labels. fill labels due from outcomes c;
-  no_labels = λ e f. absurd (some_or_unfilled (length c.labels - from) e f);
-}
-stands_at p.AfterStrategies zero from outcomes c = one_text _ (record an_empty_body { text = true })
-    (rows.after_no_strategies from outcomes c) tt refl refl (Expected what.End, refl)
-stands_at p.AfterStrategies (suc due) from outcomes c =
-    one_text _ (record a_body { text = true }) (rows.after_strategies due from outcomes c) refl
-    (rw not_zero refl) refl (Expected what.Number, rw not_zero refl)
-stands_at p.AfterComment zero from outcomes c =
-    plain _ an_empty_body (rows.after_comment_of_none from outcomes c) tt refl refl refl
-stands_at p.AfterComment (suc due) from outcomes c =
-    plain _ a_body (rows.after_comment due from outcomes c) refl (rw not_zero refl) refl refl
-stands_at p.FlatPayoffs zero from outcomes c =
-    plain _ (none what.End) (rows.after_flat_payoffs from outcomes c) tt refl refl refl
-stands_at p.FlatPayoffs (suc due) from outcomes c =
-    plain _ a_payoff (rows.flat_payoff due from outcomes c) refl (rw not_zero refl) refl refl
-stands_at p.InOutcomes due from outcomes c = plain _ (record an_opening { closing = true })
-    (rows.in_outcomes due from outcomes c) refl refl refl refl
-stands_at p.OutcomeName due from outcomes c =
-    one_text _ a_text (rows.outcome_name due from outcomes c) refl refl refl
-    (name_twice (length c.players) from outcomes c)
-stands_at p.BracedPayoff zero from outcomes c =
-    plain _ a_closing (rows.no_payoff from outcomes c) refl refl refl refl
-stands_at p.BracedPayoff (suc due) from outcomes c =
-    plain _ a_payoff (rows.braced_payoff due from outcomes c) refl (rw not_zero refl) refl refl
-stands_at p.AfterBracedPayoff zero from outcomes c = plain _ (record a_closing { comma = true })
-    (rows.after_last_payoff from outcomes c) refl refl refl refl
-stands_at p.AfterBracedPayoff (suc due) from outcomes c = plain _ (record a_payoff { comma = true })
-    (rows.after_braced_payoff due from outcomes c) refl (rw not_zero refl) refl refl
-stands_at p.OutcomeNumbers zero from outcomes c =
-    plain _ (none what.End) (rows.after_outcome_numbers from outcomes c) tt refl refl refl
-stands_at p.OutcomeNumbers (suc due) from outcomes c =
-    plain _ (only (OutcomeNumber outcomes) what.Index) (rows.outcome_number due from outcomes c)
-    (inr (outcomes, refl)) (rw not_zero refl) refl refl
-
-pub stands : (s : State) → Stands s
-stands s = stands_at s.position s.due s.list_start s.outcomes s.content
+-- otherwise, no two texts may follow
+pub no_texts_follow : (q : Position) (s : State) → (row_at q s).closing ≡ false
+    → unfilled q s ≡ false → (why : Why) × (walk (to q s) two_texts ≡ Err why)
+no_texts_follow p.Title s e f = (Expected what.Opening, refl)
+no_texts_follow p.InPlayers s e f = absurd cc
+no_texts_follow p.InList s e f = absurd (some_or_unfilled (listed_in s) e f)
+no_texts_follow p.AfterStrategies s e f = grind (arith, broken_refused (to p.AfterComment s))
+no_texts_follow p.OutcomeName s e f = grind (arith, broken_refused (at p.BracedPayoff (length
+    s.content.players) s.list_start s.outcomes s.content))
+no_texts_follow q s e f = let b = broken_refused (to q s) in (b.0, rw b.1 refl)
 
 -- ---- what may follow
 
-by_step : (ts : List Token) (s : State) (row : Row) (token : Token) (o : Result State Why)
-    → Leads ts s → step s token ≡ o → Answers row token o
-    → MayFollow IsStrategicFile ts token ↔ Accepts row token
-by_step ts s row token (Ok after) h e a = (λ _. a, λ _. follows ts token s after h e)
-by_step ts s row token (Err why) h e a =
+by_step : (ts : List Token) (s : State) (unfilled : Bool) (token : Token) (o : Result State Why)
+    → Leads ts s → step s token ≡ o → Answers unfilled (row_of s) token o
+    → MayFollow IsStrategicFile ts token ↔ Accepts (row_of s) token
+by_step ts s unfilled token (Ok after) h e a = (λ _. a, λ _. follows ts token s after h e)
+by_step ts s unfilled token (Err why) h e a =
     (λ f. absurd (refused ts token s why h e f), λ accepted. absurd (a.0 accepted))
 
 -- limits aside, a token may follow exactly if its row accepts it
-pub may_follow : (ts : List Token) (s : State) (row : Row) → Leads ts s → Law s row
-    → (token : Token) → MayFollow IsStrategicFile ts token ↔ Accepts row token
-may_follow ts s row h law token = by_step ts s row token (step s token) h refl (law token)
+pub may_follow : (ts : List Token) (s : State) → Leads ts s → (token : Token)
+    → MayFollow IsStrategicFile ts token ↔ Accepts (row_of s) token
+may_follow ts s h token = by_step ts s (unfilled s.position s) token (step s token) h refl
+    (answers s.position s token)
 
-pub role_is_due : (ts : List Token) (s : State) (row : Row) (role : Role)
-    → Leads ts s → Law s row → row.bare ≡ Some role → RoleIsDue ts role
-role_is_due ts s row role h law e = λ bytes.
-    let f = may_follow ts s row h law (Bare bytes) in
-    subst (λ (o : Option Role). MayFollow IsStrategicFile ts (Bare bytes) ↔ AcceptsBare o bytes) e f
+pub role_is_due : (ts : List Token) (s : State) (role : Role) → Leads ts s
+    → (row_of s).bare ≡ Some role → RoleIsDue ts role
+role_is_due ts s role h e = λ bytes. subst
+    (λ (o : Option Role). MayFollow IsStrategicFile ts (Bare bytes) ↔ AcceptsBare o bytes) e
+    (may_follow ts s h (Bare bytes))
 
-named_is_due : (ts : List Token) (s : State) (row : Row) (expected : What)
-    → Leads ts s → Law s row → Names row expected → EndsAs expected s → IsDue ts expected
-named_is_due ts s row what.Format h law n e = role_is_due ts s row Format h law n
-named_is_due ts s row what.Version h law n e = role_is_due ts s row Version h law n
-named_is_due ts s row what.Letter h law n e = role_is_due ts s row Letter h law n
-named_is_due ts s row what.Text h law n e = ([], (may_follow ts s row h law (Text [])).1 n)
-named_is_due ts s row what.Opening h law n e = (may_follow ts s row h law Opening).1 n
-named_is_due ts s row what.Closing h law n e = (may_follow ts s row h law Closing).1 n
-named_is_due ts s row what.Number h law n e = role_is_due ts s row Payoff h law n
-named_is_due ts s row what.Index h law (inl n) e = inl (role_is_due ts s row Count h law n)
-named_is_due ts s row what.Index h law (inr n) e =
-    inr (n.0, role_is_due ts s row (OutcomeNumber n.0) h law n.1)
-named_is_due ts s row what.Strategies h law n e =
-    (role_is_due ts s row Count h law n.0, (may_follow ts s row h law Opening).1 n.1)
-named_is_due ts s row what.Node h law n e = absurd n
-named_is_due ts s row what.End h law n e = (table_of s.content, is_file ts s s.content h e)
+named_is_due : (ts : List Token) (s : State) (expected : What) → Leads ts s
+    → Names (row_of s) expected → due_at s.position s.due ≡ unless_end expected → IsDue ts expected
+named_is_due ts s what.Format h n e = role_is_due ts s Format h n
+named_is_due ts s what.Version h n e = role_is_due ts s Version h n
+named_is_due ts s what.Letter h n e = role_is_due ts s Letter h n
+named_is_due ts s what.Text h n e = ([], (may_follow ts s h (Text [])).1 n)
+named_is_due ts s what.Opening h n e = (may_follow ts s h Opening).1 n
+named_is_due ts s what.Closing h n e = (may_follow ts s h Closing).1 n
+named_is_due ts s what.Number h n e = role_is_due ts s Payoff h n
+named_is_due ts s what.Index h (inl n) e = inl (role_is_due ts s Count h n)
+named_is_due ts s what.Index h (inr n) e = grind (arith, role_is_due ts s (OutcomeNumber n.0) h n.1)
+named_is_due ts s what.Strategies h n e =
+    (role_is_due ts s Count h n.0, (may_follow ts s h Opening).1 n.1)
+named_is_due ts s what.Node h n e = absurd n
+named_is_due ts s what.End h n e = grind (arith, is_file ts s s.content h (ap (ended s.content) e))
 
-pub expected_is_due : (ts : List Token) (s : State) (k : Stands s) → Leads ts s
-    → IsDue ts k.row.expected
-expected_is_due ts s k h = named_is_due ts s k.row k.row.expected h k.law k.names k.ends
+pub expected_is : (s : State) → due_at s.position s.due ≡ unless_end (row_of s).expected
+expected_is s = (named_at s.position s).1
+
+pub expected_is_due : (ts : List Token) (s : State) → Leads ts s → IsDue ts (row_of s).expected
+expected_is_due ts s h = grind (arith, named_is_due, named_at, expected_is)

@@ -6,7 +6,7 @@ use Rattle.std.specs.Prelude.{IfErr, if◌then◌else◌}
 use Rattle.gf_token.specs.Place.{tokens_of, IsSpanOf}
 use Rattle.gf_token.specs.Remaining.{AreInOrder, Remaining, StandsBefore}
 use Rattle.gf_token.specs.Token.{Token, Lexeme, lexeme}
-use Rattle.gf_token.specs.Token.Token.{Opening, Closing, Comma, Text, Bare, Broken}
+use Rattle.gf_token.specs.Token.Token.{Broken}
 use Rattle.gf_token.specs.TokenSpelling.{Spells}
 use Rattle.gf_token.specs.declared.fault.Fault.{Fault}
 use Rattle.gf_token.specs.declared.fault.Span.{Span}
@@ -17,15 +17,13 @@ use Rattle.gf_token.specs.declared.fault.Why.TheVariants.{Unterminated}
 use Rattle.gf_token.proofs.Spelled.{same_tokens}
 use Rattle.gf_token.proofs.TokensAhead.{in_order}
 use Rattle.gf_nfg.specs.inner.Heard.{Answer, Fails, HasPassed, HasPassedPlace, at_end, heard}
-use Rattle.gf_nfg.specs.inner.Heard.{is_past}
-use Rattle.gf_nfg.specs.inner.Heard.{read_on, taken, then_on, within}
+use Rattle.gf_nfg.specs.inner.Heard.{is_past, read_on, taken, then_on, within}
 use Rattle.gf_nfg.specs.inner.Heard.Fails.{of_file, of_memory}
 use Rattle.gf_nfg.specs.Judgement.{IsAcceptedWithinLimit, IsJudged, IsRefusal, IsRefused}
 use Rattle.gf_nfg.specs.Limit.{profile_limit}
 use Rattle.gf_nfg.specs.inner.Machine.{Content, State, at, due_at, ended, finish, nothing, start}
 use Rattle.gf_nfg.specs.inner.Machine.{step}
 use Rattle.gf_nfg.specs.inner.Position.{Position as p}
-use Rattle.gf_nfg.specs.Reason.{IsReason}
 use Rattle.gf_nfg.specs.inner.ReaderState.{answer, content_in}
 use Rattle.gf_nfg.specs.declared.reader.Reader.{Reader}
 use Rattle.gf_nfg.proofs.lemmas.places.Judged.{accepted, broken, end_of, err, limit, only_expected}
@@ -38,20 +36,11 @@ use Rattle.gf_nfg.proofs.lemmas.runs.Sentence.{Read}
 
 -- ---- reasons
 
--- no reason is lack of memory or a limit
-no_reason : (before after : List Token) → ¬ (IsReason Memory before after)
-    × ¬ (IsReason TooManyProfiles before after) × ¬ (IsReason TooLong before after)
-no_reason before [] = (λ h. h.0, λ h. h.0, λ h. h.0)
-no_reason before (t ∷ after) = (λ h. h.0, λ h. h.0, λ h. h.0)
-
 refused_by : (why : Why) (bytes : List ℕ) (span : Span) → IsRefusal why bytes span
     → IsRefused why bytes span
-refused_by Memory bytes span h =
-    absurd ((no_reason (tokens_of h.place.before) (tokens_of h.place.after)).0 h.reason)
-refused_by TooManyProfiles bytes span h =
-    absurd ((no_reason (tokens_of h.place.before) (tokens_of h.place.after)).1 h.reason)
-refused_by TooLong bytes span h =
-    absurd ((no_reason (tokens_of h.place.before) (tokens_of h.place.after)).2 h.reason)
+refused_by Memory bytes span h = grind arith
+refused_by TooManyProfiles bytes span h = grind arith
+refused_by TooLong bytes span h = grind arith
 refused_by why bytes span h = (λ e. absurd cc, h)
 
 -- ---- a token
@@ -92,11 +81,7 @@ module _ (bytes : List ℕ) (all : List Lexeme) (spelled : Spells 0 bytes all) w
   took s start end Broken ls h few =
       refuses Unterminated refl
       (refused_by Unterminated bytes _ (broken bytes all ls start end s spelled h few))
-  took s start end Opening ls h few = took_step s _ ls (step s Opening) h few tt refl
-  took s start end Closing ls h few = took_step s _ ls (step s Closing) h few tt refl
-  took s start end Comma ls h few = took_step s _ ls (step s Comma) h few tt refl
-  took s start end (Text label) ls h few = took_step s _ ls (step s (Text label)) h few tt refl
-  took s start end (Bare b) ls h few = took_step s _ ls (step s (Bare b)) h few tt refl
+  took s start end t ls h few = took_step s _ ls (step s t) h few tt refl
 
 -- ---- all tokens
 
@@ -131,11 +116,8 @@ module _ (bytes : List ℕ) (all : List Lexeme) (spelled : Spells 0 bytes all) w
       → ((after : State) → Led all ls after → after.content.profiles ≤ profile_limit
       → IsAnswered bytes all (read_on (length bytes) after ls))
       → IsAnswered bytes all (answer_at (length bytes) ls l o)
-  token_answered l ls o (goes_on after is led more accepted) later =
-      subst (λ x. IsAnswered bytes all (answer_at (length bytes) ls l x)) (sym is)
-      (later after led more)
-  token_answered l ls o (refuses why is refused) later =
-      subst (λ x. IsAnswered bytes all (answer_at (length bytes) ls l x)) (sym is) refused
+  token_answered l ls o (goes_on after is led more accepted) later = rw is (later after led more)
+  token_answered l ls o (refuses why is refused) later = grind arith
 
   answered_on : (s : State) (ls : List Lexeme) → Led all ls s → s.content.profiles ≤ profile_limit
       → IsAnswered bytes all (read_on (length bytes) s ls)
@@ -191,9 +173,7 @@ module _ (bytes : List ℕ) (all : List Lexeme) (spelled : Spells 0 bytes all) w
   begins_later : (end from : ℕ) (before after : List Lexeme) (l : Lexeme)
       → AreInOrder end from (before ++ l ∷ after) → from ≤ l.start
   begins_later end from [] after l h = h.0
-  begins_later end from (z ∷ zs) after l h =
-      let far = begins_later end z.end zs after l h.2 in
-      let near = h.0 in let some = h.1 in omega (arith, far, near, some)
+  begins_later end from (z ∷ zs) after l h = omega (arith, begins_later end z.end zs after l h.2)
 
   abbrev Accepted : Lexeme → Type 0
   Accepted l = IsAcceptedWithinLimit bytes (span_of l)
@@ -201,22 +181,14 @@ module _ (bytes : List ℕ) (all : List Lexeme) (spelled : Spells 0 bytes all) w
   last_token : (l : Lexeme) (ls : List Lexeme) (o : Result State Why) → Took bytes all ls l o
       → HasPassed (answer_at (length bytes) ls l o) l.start → Accepted l
   last_token l ls o (goes_on after is led more accepted) passed = accepted
-  last_token l ls o (refuses why is judged) passed =
-      let p : HasPassed (answer_at (length bytes) ls l (Err why)) l.start =
-      subst (λ x. HasPassed (answer_at (length bytes) ls l x) l.start) is passed in
-      absurd (omega (arith, p))
+  last_token l ls o (refuses why is judged) passed = grind arith
 
   first_token : (z l : Lexeme) (ls : List Lexeme) (o : Result State Why) → z.start < l.start
       → Took bytes all ls z o → HasPassed (answer_at (length bytes) ls z o) l.start
-      → ((after : State) → Led all ls after → after.content.profiles ≤ profile_limit
-      → HasPassed (read_on (length bytes) after ls) l.start → Accepted l)
-      → Accepted l
-  first_token z l ls o less (goes_on after is led more accepted) passed later = later after led more
-      (subst (λ x. HasPassed (answer_at (length bytes) ls z x) l.start) is passed)
-  first_token z l ls o less (refuses why is judged) passed later =
-      let p : HasPassed (answer_at (length bytes) ls z (Err why)) l.start =
-      subst (λ x. HasPassed (answer_at (length bytes) ls z x) l.start) is passed in
-      absurd (omega (arith, less, p))
+      → ((after : State) → Led all ls after → after.content.profiles ≤ profile_limit → HasPassed
+      (read_on (length bytes) after ls) l.start → Accepted l) → Accepted l
+  first_token z l ls o less (goes_on after is led more accepted) passed later = grind arith
+  first_token z l ls o less (refuses why is judged) passed later = grind arith
 
   passed_token : (from : ℕ) (s : State) (before after : List Lexeme) (l : Lexeme)
       → AreInOrder (length bytes) from (before ++ l ∷ after) → Led all (before ++ l ∷ after) s
@@ -268,22 +240,16 @@ to_all bytes all = heard start (record { input = bytes; ahead = all })
 
 pub answer_judged : (bytes : List ℕ) (all : List Lexeme) (fault : Fault) → Spells 0 bytes all
     → Fails fault (to_all bytes all) → IsJudged fault.why bytes fault.span
-answer_judged bytes all fault spelled (of_file e) =
-    (subst (IsAnswered bytes all) e (all_answered bytes all spelled)).1
-answer_judged bytes all fault spelled (of_memory is h) =
-    subst (λ why. IsJudged why bytes fault.span) (sym is)
-    (memory_judged bytes all spelled fault.span h)
+answer_judged bytes all fault spelled (of_file e) = grind (arith, all_answered)
+answer_judged bytes all fault spelled (of_memory is h) = grind (arith, memory_judged)
 
 pub answer_read : (bytes : List ℕ) (all : List Lexeme) (c : Content) → Spells 0 bytes all
     → (to_all bytes all).machine ≡ Ok c → Read (tokens_of all) c
-answer_read bytes all c spelled e =
-    (subst (IsAnswered bytes all) e (all_answered bytes all spelled)).0
+answer_read bytes all c spelled e = grind (arith, all_answered)
 
 pub heard_begun : (r : Reader) (bytes : List ℕ) → r.tokens.input ≡ bytes
     → content_in r.heading ≡ nothing → to_all bytes r.tokens.ahead ≡ answer p.Format 0 0 r
-heard_begun r bytes input none =
-    λ i. heard (at p.Format 0 0 0 (sym none i))
-    (record { input = sym input i; ahead = r.tokens.ahead })
+heard_begun r bytes input none = grind arith
 
 pub refused_why : {A : Type 0} (f : Fault) (P : Fault → Type 0) (result : Result A Fault)
     → result ≡ Err f → P f → IfErr result P

@@ -1,7 +1,6 @@
 -- Where the reader refuses, no file goes on, or each file that does is above the limit.
-use Rattle.std.proofs.Common.{◌≡◌, ℕ, ◌<◌, ◌≤◌, List, [], ◌∷◌, ◌++◌, length}
-use Rattle.std.proofs.Common.{Option, None, Some, Result, Ok, Err}
-use Rattle.std.proofs.Common.{refl, sym, subst, ◌∙◌, append_assoc, arith}
+use Rattle.std.proofs.Common.{◌≡◌, ℕ, ◌<◌, ◌≤◌, List, [], ◌∷◌, ◌++◌, length, Option, None, Some}
+use Rattle.std.proofs.Common.{Result, Ok, Err, refl, sym, subst, ◌∙◌, append_assoc, arith}
 use Rattle.std.proofs.lemmas.List.{append-nil, map-append}
 use Rattle.gf_token.specs.Token.{Token, Lexeme, lexeme}
 use Rattle.gf_token.specs.Token.Token.{Broken}
@@ -10,8 +9,8 @@ use Rattle.gf_token.specs.declared.fault.Fault.{Fault}
 use Rattle.gf_token.specs.declared.fault.Span.{Span}
 use Rattle.gf_token.specs.declared.fault.What.{What}
 use Rattle.gf_token.specs.declared.fault.Why.{Why}
-use Rattle.gf_token.specs.declared.fault.Why.TheVariants.{TooLong, Unterminated, Expected}
-use Rattle.gf_token.specs.declared.fault.Why.TheVariants.{Memory, TooManyProfiles}
+use Rattle.gf_token.specs.declared.fault.Why.TheVariants.{TooLong, Unterminated, Expected, Memory}
+use Rattle.gf_token.specs.declared.fault.Why.TheVariants.{TooManyProfiles}
 use Rattle.gf_nfg.specs.Limit.{profile_limit}
 use Rattle.gf_nfg.specs.Table.{Table}
 use Rattle.gf_nfg.specs.Sentence.{Sentence, IsStrategicFile}
@@ -23,7 +22,7 @@ use Rattle.gf_nfg.specs.Judgement.{IsRefusal, IsAcceptedWithinLimit, IsJudged}
 use Rattle.gf_token.proofs.Places.{no_file as refused_no_file}
 use Rattle.gf_nfg.proofs.lemmas.limit.Counts.{limit_by_files}
 use Rattle.gf_nfg.proofs.lemmas.limit.Passed.{later, nowhere}
-use Rattle.gf_nfg.proofs.lemmas.runs.Ends.{broken_refused}
+use Rattle.gf_nfg.proofs.lemmas.places.DueTable.{broken_refused}
 use Rattle.gf_nfg.proofs.lemmas.places.Led.{Led, spelled_as}
 use Rattle.gf_nfg.proofs.lemmas.limit.Stays.{makes_more, read_past, stays_within}
 use Rattle.gf_nfg.proofs.lemmas.places.Walk.{leads_more, begins, refused, no_file}
@@ -123,14 +122,8 @@ pub refusal_end : (bytes : List ℕ) (all : List Lexeme) (s : State) (expected :
     → finish s ≡ Err (Expected expected)
     → IsRefusal (Expected expected) bytes (end_of (length bytes))
 refusal_end bytes all s expected spelled h within e =
-    let off : IsOffendingPlace IsStrategicFile bytes (end_of (length bytes)) = record {
-      before = h.seen;
-      after = [];
-      spelled = subst (λ (ls : List Lexeme). Spells 0 bytes ls) h.parts spelled;
-      place = (refl, refl);
-      begins = begins (tokens_of h.seen) s h.leads;
-      refused = no_file (tokens_of h.seen) s (Expected expected) h.leads e;
-    } in
+    let off : IsOffendingPlace IsStrategicFile bytes (end_of (length bytes)) =
+    grind (arith, begins, refused, no_file) in
     record {
       place = off;
       reason = end_reason (tokens_of h.seen) s expected h.leads e;
@@ -178,8 +171,7 @@ pub memory_at_end : (bytes : List ℕ) (t : Table) (fault : Fault) (why : Why) �
     → IsJudged fault.why bytes fault.span
 memory_at_end bytes t fault why h within is memory =
     let P : Why → Type 0 = λ w. IsJudged w bytes (end_of (length bytes)) in
-    subst (λ (f : Fault). IsJudged f.why bytes f.span) (sym is)
-    (subst P (sym memory) (accepted_whole bytes t h within))
+    rw is (subst P (sym memory) (accepted_whole bytes t h within))
 
 -- ---- no table within the limit is refused but for lack of memory
 

@@ -1,6 +1,6 @@
 -- What the tokens so far have led the machine to, and what follows from it for the whole input.
-use Rattle.std.proofs.Common.{◌≡◌, ℕ, List, [], ◌∷◌, ◌++◌, Result, Ok}
-use Rattle.std.proofs.Common.{refl, sym, ap, subst, ◌∙◌, append_assoc}
+use Rattle.std.proofs.Common.{◌≡◌, ℕ, List, [], ◌∷◌, ◌++◌, Result, Ok, arith, refl, sym, ap, subst}
+use Rattle.std.proofs.Common.{◌∙◌, append_assoc}
 use Rattle.std.proofs.lemmas.List.{map-append}
 use Rattle.gf_token.specs.Token.{Token, Lexeme}
 use Rattle.gf_token.specs.TokenSpelling.{Spells}
@@ -11,7 +11,6 @@ use Rattle.gf_nfg.specs.Sentence.{Sentence}
 use Rattle.gf_nfg.specs.TableText.{SpellsTable}
 use Rattle.gf_token.specs.Place.{tokens_of}
 use Rattle.gf_nfg.specs.inner.Machine.{State, Content, run, step, finish, start}
-use Rattle.gf_nfg.specs.inner.Meaning.{table_of}
 use Rattle.gf_nfg.proofs.lemmas.runs.Sentence.{Read, sentence_found, one_table}
 use Rattle.gf_nfg.proofs.lemmas.places.Walk.{Leads, leads_more, leads_run}
 
@@ -49,14 +48,8 @@ read_whole all s r h e = sentence_found (tokens_of all) r (all_read all s (Ok r)
 -- and so one table at most
 pub spelled_as : (bytes : List ℕ) (all : List Lexeme) (t : Table)
     → Spells 0 bytes all → SpellsTable bytes t → Sentence (tokens_of all) t
-spelled_as bytes all t h k =
-    subst (λ (ls : List Lexeme). Sentence (tokens_of ls) t) (same_tokens bytes k.0 all k.1 h) k.2
+spelled_as bytes all t h k = grind (arith, same_tokens)
 
 pub spells_one_table : (bytes : List ℕ) (t u : Table) → SpellsTable bytes t → SpellsTable bytes u
     → t ≡ u
 spells_one_table bytes t u h k = one_table (tokens_of h.0) t u h.2 (spelled_as bytes h.0 u h.1 k)
-
-pub only_table : (bytes : List ℕ) (all : List Lexeme) (r : Content) (t : Table)
-    → Spells 0 bytes all → Read (tokens_of all) r → SpellsTable bytes t → table_of r ≡ t
-only_table bytes all r t h read k =
-    one_table (tokens_of all) (table_of r) t read.sentence (spelled_as bytes all t h k)

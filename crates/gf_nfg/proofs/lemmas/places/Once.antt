@@ -1,6 +1,5 @@
 -- A strategic file is refused at one place, with one code.
-use Rattle.std.proofs.Common.{◌≡◌, ℕ, List, length}
-use Rattle.std.proofs.Common.{refl, sym, ap, subst, ◌∙◌, inl, inr}
+use Rattle.std.proofs.Common.{◌≡◌, ℕ, List, length, refl, sym, ap, subst, ◌∙◌, inl, inr}
 use Rattle.std.specs.Prelude.{◌⊎◌}
 use Rattle.gf_token.specs.Token.{Lexeme}
 use Rattle.gf_token.specs.Code.{code_of}

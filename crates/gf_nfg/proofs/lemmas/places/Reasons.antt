@@ -1,7 +1,6 @@
 -- The code of each refusal is the reason for it.
-use Rattle.std.proofs.Common.{◌≡◌, ℕ, ◌≤◌, Bool, true, false, List, [], ◌∷◌}
-use Rattle.std.proofs.Common.{◌++◌, map, Option, Some, None, Result, Ok, Err}
-use Rattle.std.proofs.Common.{refl, sym, ap, subst, ◌∙◌, arith, inl, inr}
+use Rattle.std.proofs.Common.{◌≡◌, ℕ, ◌≤◌, Bool, true, false, List, [], ◌∷◌, ◌++◌, map, Option}
+use Rattle.std.proofs.Common.{Some, None, Ok, Err, refl, sym, subst, arith, inl, inr}
 use Rattle.std.specs.Prelude.{codes, nat_eq}
 use Rattle.std.specs.Cmp.Lexicographic.{pointwise}
 use Rattle.gf_token.specs.Token.{Token}
@@ -13,8 +12,8 @@ use Rattle.gf_token.specs.declared.fault.What.{What}
 use Rattle.gf_token.specs.declared.fault.What.TheVariants as what
 use Rattle.gf_token.specs.declared.fault.Why.{Why}
 use Rattle.gf_token.specs.declared.fault.Why.TheVariants.{Unterminated, Expected, NotANumber}
-use Rattle.gf_token.specs.declared.fault.Why.TheVariants.{ZeroDenominator, NumberTooLarge}
-use Rattle.gf_token.specs.declared.fault.Why.TheVariants.{BadIndex, NoEntry, UnknownOutcome}
+use Rattle.gf_token.specs.declared.fault.Why.TheVariants.{ZeroDenominator, NumberTooLarge, BadIndex}
+use Rattle.gf_token.specs.declared.fault.Why.TheVariants.{NoEntry, UnknownOutcome}
 use Rattle.gf_fraction.specs.NumberSpelling.{HasNumberFault}
 use Rattle.gf_fraction.specs.Computed.{number_of, lowest_of, gcd_within}
 use Rattle.gf_fraction.specs.declared.fraction.NumberFault.{NumberFault}
@@ -27,14 +26,15 @@ use Rattle.gf_nfg.specs.Due.{Role, Suits, RoleIsDue, IsDue}
 use Rattle.gf_nfg.specs.Due.Role.{Format, Version, Letter, Count, Payoff, OutcomeNumber}
 use Rattle.gf_nfg.specs.Reason.{Applies, IsReason}
 use Rattle.gf_token.specs.Indices.{index_of, count_of}
-use Rattle.gf_nfg.specs.inner.Machine.{State, step, finish}
+use Rattle.gf_nfg.specs.inner.Machine.{Content, State, ended, finish, step}
 use Rattle.gf_token.proofs.ReadingIndices.{index_is, index_again, count_is, count_again}
 use Rattle.gf_nfg.proofs.lemmas.runs.Ends.{zero_text, zero_number, zero_is_number, zero_is_index}
 use Rattle.gf_nfg.proofs.lemmas.places.Walk.{Leads, leads_on, begins, stops}
-use Rattle.gf_nfg.proofs.lemmas.places.DueRows.{Accepts, AcceptsBare, RefusesBare}
-use Rattle.gf_nfg.proofs.lemmas.places.DueRows.{RefusesClosing, Refuses, Answers, no}
-use Rattle.gf_nfg.proofs.lemmas.places.DueTable.{Stands, EndsAs, stands, may_follow}
-use Rattle.gf_nfg.proofs.lemmas.places.DueTable.{role_is_due, expected_is_due, two_texts}
+use Rattle.gf_nfg.proofs.lemmas.places.DueRows.{Accepts, AcceptsBare, RefusesBare, RefusesClosing}
+use Rattle.gf_nfg.proofs.lemmas.places.DueRows.{Refuses, Answers, answers, no, unfilled}
+use Rattle.gf_nfg.proofs.lemmas.places.DueTable.{row_of, unless_end, may_follow, role_is_due}
+use Rattle.gf_nfg.proofs.lemmas.places.DueTable.{expected_is, expected_is_due, labels_follow}
+use Rattle.gf_nfg.proofs.lemmas.places.DueTable.{no_texts_follow, two_texts}
 
 -- ---- no two roles of numbers are due at one place
 
@@ -95,8 +95,7 @@ abbrev Lowest : Why → List Token → Token → Type 0
 Lowest why ts t = (other : Why) → Applies other ts t → code_of why ≤ code_of other
 
 number_code : (f g : NumberFault) → f ≡ g → code_of (why_of f) ≤ code_of (why_of g)
-number_code f g e =
-    subst (λ (x : NumberFault). code_of (why_of f) ≤ code_of (why_of x)) e (omega arith)
+number_code f g e = grind arith
 
 lowest_number : (ts : List Token) (b : List ℕ) (fault : NumberFault)
     → RoleIsDue ts Payoff → HasNumberFault b fault → Lowest (why_of fault) ts (Bare b)
@@ -104,8 +103,7 @@ lowest_number ts b fault h k NotANumber g =
     number_code fault number.NotANumber (same_fault b fault number.NotANumber k g.1)
 lowest_number ts b fault h k ZeroDenominator g =
     number_code fault number.ZeroDenominator (same_fault b fault number.ZeroDenominator k g.1)
-lowest_number ts b fault h k NumberTooLarge g =
-    number_code fault number.TooLarge (same_fault b fault number.TooLarge k g.1)
+lowest_number ts b fault h k NumberTooLarge g = grind arith
 lowest_number ts b fault h k BadIndex (inl g) = absurd (not_payoff_and_count ts h g.0)
 lowest_number ts b fault h k BadIndex (inr g) = absurd (not_payoff_and_outcome ts g.0 h g.1.0)
 lowest_number ts b fault h k UnknownOutcome g = absurd (not_payoff_and_outcome ts g.0 h g.1.0)
@@ -123,12 +121,9 @@ lowest_index ts b h _ g = absurd g
 lowest_outcome : (ts : List Token) (b : List ℕ) (outcomes n : ℕ)
     → RoleIsDue ts (OutcomeNumber outcomes) → IsIndex b n → Lowest UnknownOutcome ts (Bare b)
 lowest_outcome ts b outcomes n h k NotANumber g = absurd (not_payoff_and_outcome ts outcomes g.0 h)
-lowest_outcome ts b outcomes n h k ZeroDenominator g =
-    absurd (not_payoff_and_outcome ts outcomes g.0 h)
-lowest_outcome ts b outcomes n h k NumberTooLarge g =
-    absurd (not_payoff_and_outcome ts outcomes g.0 h)
-lowest_outcome ts b outcomes n h k BadIndex (inl g) =
-    absurd (not_outcome_and_count ts outcomes h g.0)
+lowest_outcome ts b outcomes n h k ZeroDenominator g = grind (arith, not_payoff_and_outcome)
+lowest_outcome ts b outcomes n h k NumberTooLarge g = grind (arith, not_payoff_and_outcome)
+lowest_outcome ts b outcomes n h k BadIndex (inl g) = grind (arith, not_outcome_and_count)
 lowest_outcome ts b outcomes n h k BadIndex (inr g) = absurd (g.1.1 n k)
 lowest_outcome ts b outcomes n h k UnknownOutcome g = omega arith
 lowest_outcome ts b outcomes n h k _ g = absurd g
@@ -176,96 +171,69 @@ number_reason ts after b number.TooLarge h k = ((h, k), lowest_number ts b numbe
 
 differs : (bytes word : List ℕ)
     → pointwise nat_eq bytes word ≡ false → pointwise nat_eq word word ≡ true → ¬ (bytes ≡ word)
-differs bytes word differ same e =
-    no (sym differ ∙ ap (λ (x : List ℕ). pointwise nat_eq x word) e ∙ same)
+differs bytes word differ same e = grind arith
 
 no_letter : (bytes : List ℕ) → ¬ (bytes ≡ codes "R") → ¬ (bytes ≡ codes "D")
     → ¬ (Suits Letter bytes)
 no_letter bytes r d (inl e) = r e
 no_letter bytes r d (inr e) = d e
 
--- what was read, and its position
-record Place (ts : List Token) (s : State) : Type 0 where
-  leads : Leads ts s
-  stands : Stands s
+follows_as : (ts : List Token) (s : State) (h : Leads ts s) (o : Option Role) (b : List ℕ)
+    → (row_of s).bare ≡ o → MayFollow IsStrategicFile ts (Bare b) → AcceptsBare o b
+follows_as ts s h o b e f = grind (arith, may_follow ts s h (Bare b))
 
-follows_as : (ts : List Token) (s : State) (h : Place ts s) (o : Option Role) (b : List ℕ)
-    → h.stands.row.bare ≡ o → MayFollow IsStrategicFile ts (Bare b) → AcceptsBare o b
-follows_as ts s h o b e f = subst (λ (x : Option Role). AcceptsBare x b) e
-    ((may_follow ts s h.stands.row h.leads h.stands.law (Bare b)).0 f)
-
-is_due : (ts : List Token) (s : State) (h : Place ts s) (role : Role)
-    → h.stands.row.bare ≡ Some role → RoleIsDue ts role
-is_due ts s h role e = role_is_due ts s h.stands.row role h.leads h.stands.law e
-
-expected_reason : (ts after : List Token) (t : Token) (s : State) (h : Place ts s) (why : Why)
-    → why ≡ Expected h.stands.row.expected → NoneApplies ts t → Reason ts after t why
-expected_reason ts after t s h why e none = subst (λ (x : Why). IsReason x ts (t ∷ after)) (sym e)
-    (expected_is_due ts s h.stands h.leads, none)
+expected_reason : (ts after : List Token) (t : Token) (s : State) (h : Leads ts s) (why : Why)
+    → why ≡ Expected (row_of s).expected → NoneApplies ts t → Reason ts after t why
+expected_reason ts after t s h why e none = grind (arith, expected_is_due)
 
 -- in a row that expects no number
-word_reason : (ts after : List Token) (b : List ℕ) (s : State)
-    (h : Place ts s) (why : Why) (o : Option Role)
-    → h.stands.row.bare ≡ o → ¬ (AcceptsBare o zero_text) → ¬ (AcceptsBare o two_text)
-    → why ≡ Expected h.stands.row.expected → Reason ts after (Bare b) why
+word_reason : (ts after : List Token) (b : List ℕ) (s : State) (h : Leads ts s) (why : Why)
+    (o : Option Role) → (row_of s).bare ≡ o → ¬ (AcceptsBare o zero_text)
+    → ¬ (AcceptsBare o two_text) → why ≡ Expected (row_of s).expected → Reason ts after (Bare b) why
 word_reason ts after b s h why o e z t is =
     expected_reason ts after (Bare b) s h why is (none_of_bare ts b
     (λ f. z (follows_as ts s h o zero_text e f)) (λ f. t (follows_as ts s h o two_text e f)))
 
-bare_reason : (ts after : List Token) (b : List ℕ) (s : State)
-    (h : Place ts s) (why : Why) (o : Option Role)
-    → h.stands.row.bare ≡ o → ¬ (AcceptsBare o b) → RefusesBare o h.stands.row.expected b why
-    → Reason ts after (Bare b) why
+bare_reason : (ts after : List Token) (b : List ℕ) (s : State) (h : Leads ts s) (why : Why)
+    (o : Option Role) → (row_of s).bare ≡ o → ¬ (AcceptsBare o b)
+    → RefusesBare o (row_of s).expected b why → Reason ts after (Bare b) why
 bare_reason ts after b s h why None e n r = word_reason ts after b s h why None e no no r
-bare_reason ts after b s h why (Some Format) e n r = word_reason ts after b s h why (Some Format) e
-    (differs zero_text (codes "NFG") refl refl) (differs two_text (codes "NFG") refl refl) r
+bare_reason ts after b s h why (Some Format) e n r = search (arith, word_reason, differs, zero_text)
 bare_reason ts after b s h why (Some Version) e n r = word_reason ts after b s h why (Some Version)
     e (differs zero_text (codes "1") refl refl) (differs two_text (codes "1") refl refl) r
 bare_reason ts after b s h why (Some Letter) e n r =
-    word_reason ts after b s h why (Some Letter) e
-    (no_letter zero_text (differs zero_text (codes "R") refl refl)
-    (differs zero_text (codes "D") refl refl))
-    (no_letter two_text (differs two_text (codes "R") refl refl)
-    (differs two_text (codes "D") refl refl))
-    r
+    search (arith, word_reason, no_letter, zero_text, differs)
 bare_reason ts after b s h why (Some Count) e n r =
-    let due = is_due ts s h Count e in
-    subst (λ (x : Why). IsReason x ts (Bare b ∷ after)) (sym r)
-    (inl (due, n), lowest_index ts b (λ payoff. not_payoff_and_count ts payoff due))
+    let due = role_is_due ts s Count h e in
+    rw r (inl (due, n), lowest_index ts b (λ payoff. not_payoff_and_count ts payoff due))
 bare_reason ts after b s h why (Some Payoff) e n r =
-    subst (λ (x : Why). IsReason x ts (Bare b ∷ after)) (sym r.1)
-    (number_reason ts after b r.0 (is_due ts s h Payoff e) r.2)
+    rw r.1 (number_reason ts after b r.0 (role_is_due ts s Payoff h e) r.2)
 bare_reason ts after b s h why (Some (OutcomeNumber outcomes)) e n (inl r) =
-    let due = is_due ts s h (OutcomeNumber outcomes) e in
+    let due = role_is_due ts s (OutcomeNumber outcomes) h e in
     subst (λ (x : Why). IsReason x ts (Bare b ∷ after)) (sym r.0) (
       inr (outcomes, (due, r.1)),
       lowest_index ts b (λ payoff. not_payoff_and_outcome ts outcomes payoff due),
     )
 bare_reason ts after b s h why (Some (OutcomeNumber outcomes)) e n (inr r) =
-    let due = is_due ts s h (OutcomeNumber outcomes) e in
-    subst (λ (x : Why). IsReason x ts (Bare b ∷ after)) (sym r.0)
-    ((outcomes, (due, r.1)), lowest_outcome ts b outcomes r.1.0 due r.1.1)
+    let due = role_is_due ts s (OutcomeNumber outcomes) h e in
+    rw r.0 ((outcomes, (due, r.1)), lowest_outcome ts b outcomes r.1.0 due r.1.1)
 
 is_false : (b : Bool) → ¬ (b ≡ true) → b ≡ false
 is_false true h = absurd (h refl)
 is_false false h = refl
 
-closing_reason : (ts after : List Token) (s : State) (h : Place ts s) (why : Why) (unfilled : Bool)
-    → h.stands.row.unfilled ≡ unfilled → ¬ (h.stands.row.closing ≡ true)
-    → RefusesClosing unfilled h.stands.row.expected why → Reason ts after Closing why
+closing_reason : (ts after : List Token) (s : State) (h : Leads ts s) (why : Why) (empty : Bool)
+    → unfilled s.position s ≡ empty → ¬ ((row_of s).closing ≡ true)
+    → RefusesClosing empty (row_of s).expected why → Reason ts after Closing why
 closing_reason ts after s h why true e n r =
     let labels : (labels : List (List ℕ)) → Begins IsStrategicFile (ts ++ map Text labels) =
     λ labels.
-    let w = h.stands.labels e labels in
-    begins (ts ++ map Text labels) w.0 (leads_on ts (map Text labels) s w.0 h.leads w.1) in
-    let refused : ¬ (MayFollow IsStrategicFile ts Closing) =
-    λ f. n ((may_follow ts s h.stands.row h.leads h.stands.law Closing).0 f) in
-    subst (λ (x : Why). IsReason x ts (Closing ∷ after)) (sym r)
-    ((labels, refused), lowest_entry ts)
+    let w = labels_follow s.position s e labels in
+    begins (ts ++ map Text labels) w.0 (leads_on ts (map Text labels) s w.0 h w.1) in
+    grind (arith, may_follow ts s h Closing, lowest_entry ts)
 closing_reason ts after s h why false e n r =
-    let w = h.stands.no_labels (is_false h.stands.row.closing n) e in
-    expected_reason ts after Closing s h why r
-    (none_of_closing ts (stops ts two_texts s w.0 h.leads w.1))
+    let w = no_texts_follow s.position s (is_false (row_of s).closing n) e in
+    expected_reason ts after Closing s h why r (none_of_closing ts (stops ts two_texts s w.0 h w.1))
 
 -- no code applies to these tokens
 abbrev IsOther : Token → Type 0
@@ -288,27 +256,22 @@ abbrev pub IsWhole : Token → Type 0
 IsWhole Broken = ⊥
 IsWhole token = Unit {0}
 
-refused_reason : (ts after : List Token) (t : Token) (s : State) (h : Place ts s) (why : Why)
-    → IsWhole t → ¬ (Accepts h.stands.row t) → Refuses h.stands.row t why → Reason ts after t why
-refused_reason ts after Opening s h why w n r =
-    expected_reason ts after Opening s h why r (none_of_other ts Opening tt)
-refused_reason ts after Comma s h why w n r =
-    expected_reason ts after Comma s h why r (none_of_other ts Comma tt)
-refused_reason ts after (Text label) s h why w n r =
-    expected_reason ts after (Text label) s h why r (none_of_other ts (Text label) tt)
-refused_reason ts after Closing s h why w n r =
-    closing_reason ts after s h why h.stands.row.unfilled refl n r
-refused_reason ts after (Bare b) s h why w n r =
-    bare_reason ts after b s h why h.stands.row.bare refl n r
+refused_reason : (ts after : List Token) (t : Token) (s : State) (h : Leads ts s) (why : Why)
+    → IsWhole t → ¬ (Accepts (row_of s) t) → Refuses (unfilled s.position s) (row_of s) t why
+    → Reason ts after t why
+refused_reason ts after Opening s h why w n r = grind (arith, expected_reason, none_of_other)
+refused_reason ts after Comma s h why w n r = grind (arith, expected_reason, none_of_other)
+refused_reason ts after (Text label) s h why w n r = grind (arith, expected_reason, none_of_other)
+refused_reason ts after Closing s h why w n r = grind (arith, closing_reason, unfilled)
+refused_reason ts after (Bare b) s h why w n r = grind (arith, bare_reason, row_of)
 refused_reason ts after Broken s h why w n r = absurd w
 
 pub reason : (ts after : List Token) (t : Token) (s : State) (why : Why)
     → Leads ts s → IsWhole t → step s t ≡ Err why → IsReason why ts (t ∷ after)
 reason ts after t s why leads whole e =
-    let k = stands s in
-    let a : Answers k.row t (Err why) =
-    subst (λ (o : Result State Why). Answers k.row t o) e (k.law t) in
-    refused_reason ts after t s (record { leads = leads; stands = k }) why whole a.0 a.1
+    let a : Answers (unfilled s.position s) (row_of s) t (Err why) =
+    subst (Answers (unfilled s.position s) (row_of s) t) e (answers s.position s t) in
+    refused_reason ts after t s leads why whole a.0 a.1
 
 -- ---- an unterminated text
 
@@ -317,15 +280,15 @@ broken_reason ts after = (tt, lowest_broken ts)
 
 -- ---- the end
 
-end_names : (s : State) (expected named : What)
-    → EndsAs expected s → finish s ≡ Err (Expected named) → expected ≡ named
-end_names s what.End named e f = absurd cc
-end_names s _ named e f = cc
+end_names : (c : Content) (expected named : What)
+    → ended c (unless_end expected) ≡ Err (Expected named) → expected ≡ named
+end_names c what.End named e = absurd cc
+end_names c _ named e = cc
 
 pub end_reason : (ts : List Token) (s : State) (named : What)
     → Leads ts s → finish s ≡ Err (Expected named) → IsReason (Expected named) ts []
-end_reason ts s named h e =
-    let k = stands s in (
-      subst (IsDue ts) (end_names s k.row.expected named k.ends e) (expected_is_due ts s k h),
-      λ why g. g,
-    )
+end_reason ts s named h e = (
+  subst (IsDue ts) (end_names s.content (row_of s).expected named (rw (← expected_is s) e))
+      (expected_is_due ts s h),
+  λ why g. g,
+)

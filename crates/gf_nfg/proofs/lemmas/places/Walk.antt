@@ -1,6 +1,6 @@
 -- Where tokens lead the machine, and what may follow them.
-use Rattle.std.proofs.Common.{◌≡◌, List, [], ◌∷◌, ◌++◌, Result, Ok}
-use Rattle.std.proofs.Common.{Err, refl, sym, ap, ◌∙◌, append_assoc}
+use Rattle.std.proofs.Common.{◌≡◌, List, [], ◌∷◌, ◌++◌, Result, Ok, Err, refl, sym, ap, ◌∙◌}
+use Rattle.std.proofs.Common.{append_assoc}
 use Rattle.std.proofs.lemmas.List.{append-nil}
 use Rattle.gf_token.specs.Token.{Token}
 use Rattle.gf_token.specs.declared.fault.Why.{Why}
@@ -104,8 +104,7 @@ stops ts us s why h e = λ b.
     absurd cc
 
 pub refused : (ts : List Token) (t : Token) (s : State) (why : Why) → Leads ts s
-    → step s t ≡ Err why
-    → ¬ (MayFollow IsStrategicFile ts t)
+    → step s t ≡ Err why → ¬ (MayFollow IsStrategicFile ts t)
 refused ts t s why h e = stops ts (t ∷ []) s why h (rw e refl)
 
 pub is_file : (ts : List Token) (s : State) (r : Content) → Leads ts s → finish s ≡ Ok r

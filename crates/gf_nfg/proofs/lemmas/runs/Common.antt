@@ -8,8 +8,8 @@ use Rattle.std.proofs.lemmas.Bool.Decides.{Decides-eqb}
 use Rattle.gf_token.specs.Token.{Token}
 use Rattle.gf_token.specs.declared.fault.Why.{Why}
 use Rattle.gf_fraction.specs.Ratio.{Ratio}
-use Rattle.gf_nfg.specs.inner.Machine.{State, Content, run, with_players, with_labels}
-use Rattle.gf_nfg.specs.inner.Machine.{with_payoffs, with_choices, ◌>>=◌}
+use Rattle.gf_nfg.specs.inner.Machine.{State, Content, run, with_players, with_labels, with_payoffs}
+use Rattle.gf_nfg.specs.inner.Machine.{with_choices, ◌>>=◌}
 
 pub not_zero : (d : ℕ) → nat_eq (suc d) 0 ≡ false
 not_zero d = search (tests, rules)
@@ -39,29 +39,25 @@ with_no_players c = ap (λ (ps : List (List ℕ)). record c { players = ps }) (a
 
 pub with_more_players : (c : Content) (p : List ℕ) (ps : List (List ℕ))
     → with_players (with_players c (p ∷ [])) ps ≡ with_players c (p ∷ ps)
-with_more_players c p ps =
-    ap (λ (qs : List (List ℕ)). record c { players = qs }) (append_assoc c.players (p ∷ []) ps)
+with_more_players c p ps = grind (arith, append_assoc)
 
 pub with_no_labels : (c : Content) → with_labels c [] ≡ c
 with_no_labels c = ap (λ (ls : List (List ℕ)). record c { labels = ls }) (append-nil c.labels)
 
 pub with_more_labels : (c : Content) (ls ms : List (List ℕ))
     → with_labels (with_labels c ls) ms ≡ with_labels c (ls ++ ms)
-with_more_labels c ls ms =
-    ap (λ (ns : List (List ℕ)). record c { labels = ns }) (append_assoc c.labels ls ms)
+with_more_labels c ls ms = grind (arith, append_assoc)
 
 pub with_no_payoffs : (c : Content) → with_payoffs c [] ≡ c
 with_no_payoffs c = ap (λ (ns : List Ratio). record c { payoffs = ns }) (append-nil c.payoffs)
 
 pub with_more_payoffs : (c : Content) (ms ns : List Ratio)
     → with_payoffs (with_payoffs c ms) ns ≡ with_payoffs c (ms ++ ns)
-with_more_payoffs c ms ns =
-    ap (λ (ls : List Ratio). record c { payoffs = ls }) (append_assoc c.payoffs ms ns)
+with_more_payoffs c ms ns = grind (arith, append_assoc)
 
 pub with_no_choices : (c : Content) → with_choices c [] ≡ c
 with_no_choices c = ap (λ (ks : List ℕ). record c { choices = ks }) (append-nil c.choices)
 
 pub with_more_choices : (c : Content) (k : ℕ) (ks : List ℕ)
     → with_choices (with_choices c (k ∷ [])) ks ≡ with_choices c (k ∷ ks)
-with_more_choices c k ks =
-    ap (λ (ls : List ℕ). record c { choices = ls }) (append_assoc c.choices (k ∷ []) ks)
+with_more_choices c k ks = grind (arith, append_assoc)

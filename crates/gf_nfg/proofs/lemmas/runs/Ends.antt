@@ -1,24 +1,19 @@
 -- Each state of the machine can be completed.
-use Rattle.std.proofs.Common.{◌≡◌, ℕ, zero, suc, ◌+◌, ◌-◌, ◌*◌, ◌<◌, Bool, true}
-use Rattle.std.proofs.Common.{false, cond, List, [], ◌∷◌, length, Some, Result, Ok}
-use Rattle.std.proofs.Common.{Err, refl, sym, ap, subst, ◌∙◌, arith, nat_eq, inl, inr}
-use Rattle.std.specs.Prelude.{◌⊎◌, codes, pos, nat_le}
+use Rattle.std.proofs.Common.{true, ◌≡◌, ℕ, zero, suc, ◌+◌, ◌-◌, ◌*◌, ◌<◌, List, [], ◌∷◌, length}
+use Rattle.std.proofs.Common.{Some, Ok, refl, ap, subst, ◌∙◌, arith, inl, inr}
+use Rattle.std.specs.Prelude.{nat_le, ◌⊎◌, codes, pos}
 use Rattle.std.proofs.Math.Nat.{mul-one}
 use Rattle.std.proofs.lemmas.Bool.{le-leb}
 use Rattle.std.proofs.lemmas.List.{length-append}
 use Rattle.gf_token.specs.Token.{Token}
-use Rattle.gf_token.specs.Token.Token.{Opening, Closing, Text, Bare, Broken}
-use Rattle.gf_token.specs.declared.fault.What.TheVariants as what
-use Rattle.gf_token.specs.declared.fault.Why.{Why}
-use Rattle.gf_token.specs.declared.fault.Why.TheVariants.{Expected}
+use Rattle.gf_token.specs.Token.Token.{Opening, Closing, Text, Bare}
 use Rattle.gf_fraction.specs.Ratio.{Ratio, whole}
-use Rattle.gf_nfg.specs.inner.Position.{Position}
-use Rattle.gf_nfg.specs.inner.Position.{Position as p}
+use Rattle.gf_nfg.specs.inner.Position.{Position, Position as p}
 use Rattle.gf_fraction.specs.Computed.{number_of, lowest_of, gcd_within}
 use Rattle.gf_token.specs.Indices.{index_of, count_of}
 use Rattle.gf_nfg.specs.inner.Machine.{State, Content, at, step, run, listed, with_title}
-use Rattle.gf_nfg.specs.inner.Machine.{with_labels}
-use Rattle.gf_nfg.specs.inner.Machine.{with_count, with_payoffs, with_choices, next_outcome}
+use Rattle.gf_nfg.specs.inner.Machine.{with_labels, with_count, with_payoffs, with_choices}
+use Rattle.gf_nfg.specs.inner.Machine.{next_outcome}
 use Rattle.gf_nfg.proofs.lemmas.runs.Common.{not_zero, pred_suc}
 
 -- it can be completed, to this many profiles
@@ -55,77 +50,55 @@ one_is_count = refl
 
 -- ---- bodies
 
-flat_step : (due from outcomes : ℕ) (c : Content)
-    → step (at p.FlatPayoffs (suc due) from outcomes c) (Bare zero_text)
-    ≡ Ok (at p.FlatPayoffs due from outcomes (with_payoffs c (zero_number ∷ [])))
-flat_step due from outcomes c = rw (not_zero, zero_is_number, pred_suc) refl
+-- a payoff of zero was read
+abbrev paid : Content → Content
+paid c = with_payoffs c (zero_number ∷ [])
 
 flat_ends : (due from outcomes : ℕ) (c : Content) → Ends (at p.FlatPayoffs due from outcomes c)
 flat_ends zero from outcomes c = ([], c, refl, refl)
-flat_ends (suc due) from outcomes c = then _ _ (Bare zero_text) (flat_step due from outcomes c)
-    (flat_ends due from outcomes (with_payoffs c (zero_number ∷ [])))
-
-comment_step : (due from outcomes : ℕ) (c : Content)
-    → step (at p.AfterComment (suc due) from outcomes c) (Bare zero_text)
-    ≡ Ok (at p.FlatPayoffs due from outcomes (with_payoffs c (zero_number ∷ [])))
-comment_step due from outcomes c = rw (not_zero, zero_is_number, pred_suc) refl
+flat_ends (suc due) from outcomes c =
+    then _ (at p.FlatPayoffs due from outcomes (paid c)) (Bare zero_text)
+    (rw (not_zero, zero_is_number, pred_suc) refl) (flat_ends due from outcomes (paid c))
 
 comment_ends : (due from outcomes : ℕ) (c : Content) → Ends (at p.AfterComment due from outcomes c)
 comment_ends zero from outcomes c = ([], c, refl, refl)
 comment_ends (suc due) from outcomes c =
-    then _ _ (Bare zero_text) (comment_step due from outcomes c)
-    (flat_ends due from outcomes (with_payoffs c (zero_number ∷ [])))
-
-body_step : (due from outcomes : ℕ) (c : Content)
-    → step (at p.AfterStrategies (suc due) from outcomes c) (Bare zero_text)
-    ≡ Ok (at p.FlatPayoffs due from outcomes (with_payoffs c (zero_number ∷ [])))
-body_step due from outcomes c = rw (not_zero, zero_is_number, pred_suc) refl
+    then _ (at p.FlatPayoffs due from outcomes (paid c)) (Bare zero_text)
+    (rw (not_zero, zero_is_number, pred_suc) refl) (flat_ends due from outcomes (paid c))
 
 body_ends : (due from outcomes : ℕ) (c : Content) → Ends (at p.AfterStrategies due from outcomes c)
 body_ends zero from outcomes c = ([], c, refl, refl)
-body_ends (suc due) from outcomes c = then _ _ (Bare zero_text) (body_step due from outcomes c)
-    (flat_ends due from outcomes (with_payoffs c (zero_number ∷ [])))
-
-number_step : (due from outcomes : ℕ) (c : Content)
-    → step (at p.OutcomeNumbers (suc due) from outcomes c) (Bare zero_text)
-    ≡ Ok (at p.OutcomeNumbers due from outcomes (with_choices c (0 ∷ [])))
-number_step due from outcomes c =
-    let known : nat_le 0 outcomes ≡ true = le-leb 0 outcomes (omega arith) in
-    rw (not_zero, zero_is_index, known, pred_suc) refl
+body_ends (suc due) from outcomes c =
+    then _ (at p.FlatPayoffs due from outcomes (paid c)) (Bare zero_text)
+    (rw (not_zero, zero_is_number, pred_suc) refl) (flat_ends due from outcomes (paid c))
 
 numbers_ends : (due from outcomes : ℕ) (c : Content)
     → Ends (at p.OutcomeNumbers due from outcomes c)
 numbers_ends zero from outcomes c = ([], c, refl, refl)
-numbers_ends (suc due) from outcomes c = then _ _ (Bare zero_text) (number_step due from outcomes c)
+numbers_ends (suc due) from outcomes c =
+    let known : nat_le 0 outcomes ≡ true = le-leb 0 outcomes (omega arith) in
+    then _ (at p.OutcomeNumbers due from outcomes (with_choices c (0 ∷ []))) (Bare zero_text)
+    (rw (not_zero, zero_is_index, known, pred_suc) refl)
     (numbers_ends due from outcomes (with_choices c (0 ∷ [])))
 
 outcomes_ends : (due from outcomes : ℕ) (c : Content) → Ends (at p.InOutcomes due from outcomes c)
 outcomes_ends due from outcomes c = then _ (at p.OutcomeNumbers c.profiles from outcomes c) Closing
     refl (numbers_ends c.profiles from outcomes c)
 
-after_braced_step : (due from outcomes : ℕ) (c : Content)
-    → step (at p.AfterBracedPayoff (suc due) from outcomes c) (Bare zero_text)
-    ≡ Ok (at p.AfterBracedPayoff due from outcomes (with_payoffs c (zero_number ∷ [])))
-after_braced_step due from outcomes c = rw (not_zero, zero_is_number, pred_suc) refl
-
 after_braced_ends : (due from outcomes : ℕ) (c : Content)
     → Ends (at p.AfterBracedPayoff due from outcomes c)
 after_braced_ends zero from outcomes c = then _ (at p.InOutcomes 0 from (next_outcome outcomes) c)
     Closing refl (outcomes_ends 0 from (next_outcome outcomes) c)
 after_braced_ends (suc due) from outcomes c =
-    then _ _ (Bare zero_text) (after_braced_step due from outcomes c)
-    (after_braced_ends due from outcomes (with_payoffs c (zero_number ∷ [])))
-
-braced_step : (due from outcomes : ℕ) (c : Content)
-    → step (at p.BracedPayoff (suc due) from outcomes c) (Bare zero_text)
-    ≡ Ok (at p.AfterBracedPayoff due from outcomes (with_payoffs c (zero_number ∷ [])))
-braced_step due from outcomes c = rw (not_zero, zero_is_number, pred_suc) refl
+    then _ (at p.AfterBracedPayoff due from outcomes (paid c)) (Bare zero_text)
+    (rw (not_zero, zero_is_number, pred_suc) refl) (after_braced_ends due from outcomes (paid c))
 
 braced_ends : (due from outcomes : ℕ) (c : Content) → Ends (at p.BracedPayoff due from outcomes c)
 braced_ends zero from outcomes c = then _ (at p.InOutcomes 0 from (next_outcome outcomes) c) Closing
     refl (outcomes_ends 0 from (next_outcome outcomes) c)
-braced_ends (suc due) from outcomes c = then _ _ (Bare zero_text) (braced_step due from outcomes c)
-    (after_braced_ends due from outcomes (with_payoffs c (zero_number ∷ [])))
+braced_ends (suc due) from outcomes c =
+    then _ (at p.AfterBracedPayoff due from outcomes (paid c)) (Bare zero_text)
+    (rw (not_zero, zero_is_number, pred_suc) refl) (after_braced_ends due from outcomes (paid c))
 
 name_ends : (due from outcomes : ℕ) (c : Content) → Ends (at p.OutcomeName due from outcomes c)
 name_ends due from outcomes c = then _ (at p.BracedPayoff (length c.players) from outcomes c)
@@ -137,29 +110,23 @@ name_ends due from outcomes c = then _ (at p.BracedPayoff (length c.players) fro
 by_one : (s : State) (profiles n : ℕ) → n ≡ 1 → EndsWith s (profiles * n) → EndsWith s profiles
 by_one s profiles n e h = subst (EndsWith s) (ap (λ (k : ℕ). profiles * k) e ∙ mul-one profiles) h
 
-count_step : (due from outcomes : ℕ) (c : Content)
-    → step (at p.Counts (suc due) from outcomes c) (Bare (codes "1"))
-    ≡ Ok (at p.Counts due from outcomes (with_count c 1))
-count_step due from outcomes c = rw (not_zero, one_is_count, pred_suc) refl
-
 counts_ends : (due from outcomes : ℕ) (c : Content) → Ends (at p.Counts due from outcomes c)
 counts_ends zero from outcomes c =
     then _ (at p.AfterStrategies (length c.players * c.profiles) from outcomes c) Closing refl
     (body_ends (length c.players * c.profiles) from outcomes c)
-counts_ends (suc due) from outcomes c = then _ _ (Bare (codes "1")) (count_step due from outcomes c)
+counts_ends (suc due) from outcomes c =
+    then _ (at p.Counts due from outcomes (with_count c 1)) (Bare (codes "1"))
+    (rw (not_zero, one_is_count, pred_suc) refl)
     (by_one (at p.Counts due from outcomes (with_count c 1)) c.profiles 1 refl
     (counts_ends due from outcomes (with_count c 1)))
-
-first_step : (due from outcomes : ℕ) (c : Content)
-    → step (at p.FirstStrategies (suc due) from outcomes c) (Bare (codes "1"))
-    ≡ Ok (at p.Counts due from outcomes (with_count c 1))
-first_step due from outcomes c = rw (not_zero, one_is_count, pred_suc) refl
 
 first_ends : (due from outcomes : ℕ) (c : Content) → Ends (at p.FirstStrategies due from outcomes c)
 first_ends zero from outcomes c =
     then _ (at p.AfterStrategies (length c.players * c.profiles) from outcomes c) Closing refl
     (body_ends (length c.players * c.profiles) from outcomes c)
-first_ends (suc due) from outcomes c = then _ _ (Bare (codes "1")) (first_step due from outcomes c)
+first_ends (suc due) from outcomes c =
+    then _ (at p.Counts due from outcomes (with_count c 1)) (Bare (codes "1"))
+    (rw (not_zero, one_is_count, pred_suc) refl)
     (by_one (at p.Counts due from outcomes (with_count c 1)) c.profiles 1 refl
     (counts_ends due from outcomes (with_count c 1)))
 
@@ -167,15 +134,6 @@ listed_step : (s : State) (n : ℕ) → 0 < n
     → listed s n ≡ Ok (at p.BeforeList s.due 0 s.outcomes (with_count s.content n))
 listed_step s zero some = absurd (omega arith)
 listed_step s (suc n) some = refl
-
-open_step : (due from outcomes : ℕ) (c : Content)
-    → step (at p.BeforeList (suc due) from outcomes c) Opening
-    ≡ Ok (at p.InList due (length c.labels) outcomes c)
-open_step due from outcomes c = rw (not_zero, pred_suc) refl
-
-text_step : (due from outcomes : ℕ) (c : Content) → step (at p.InList due from outcomes c) (Text [])
-    ≡ Ok (at p.InList due from outcomes (with_labels c ([] ∷ [])))
-text_step due from outcomes c = refl
 
 longer : (c : Content) → length (with_labels c ([] ∷ [])).labels ≡ length c.labels + 1
 longer c = length-append c.labels ([] ∷ [])
@@ -190,8 +148,8 @@ lists_ends (suc due) from outcomes c =
     let n = length d.labels - length c.labels in
     let one : n ≡ 1 = let more = longer c in omega (arith, more) in
     let some : 0 < n = omega (arith, one) in
-    then _ _ Opening (open_step due from outcomes c)
-    (then _ _ (Text []) (text_step due (length c.labels) outcomes c)
+    then _ (at p.InList due (length c.labels) outcomes c) Opening (rw (not_zero, pred_suc) refl)
+    (then _ (at p.InList due (length c.labels) outcomes d) (Text []) refl
     (then _ _ Closing (listed_step (at p.InList due (length c.labels) outcomes d) n some)
     (by_one (at p.BeforeList due 0 outcomes (with_count d n)) c.profiles n one
     (lists_ends due 0 outcomes (with_count d n)))))
@@ -205,9 +163,9 @@ list_ends zero due from outcomes c h =
           (lists_ends due 0 outcomes (with_count c n)),
     )
 list_ends (suc n) due from outcomes c h =
-    let h = list_ends n due from outcomes (with_labels c ([] ∷ []))
-    (let more = longer c in omega (arith, more)) in
-    (h.0, then _ _ (Text []) (text_step due from outcomes c) h.1)
+    let d = with_labels c ([] ∷ []) in
+    let h = list_ends n due from outcomes d (let more = longer c in omega (arith, more)) in
+    (h.0, then _ (at p.InList due from outcomes d) (Text []) refl h.1)
 
 -- ---- headings
 
@@ -278,54 +236,8 @@ settled_or_not _ = inl tt
 ends_by : (s : State) → IsSettled s.position ⊎ (s.position ≡ p.InList)
     → (more : List Token) × (r : Content) × (run s more ≡ Ok r)
 ends_by s (inl h) = let e = settled_ends s h in (e.0, e.1, e.2)
-ends_by s (inr h) =
-    let P : Position → Type 0 = λ q. (more : List Token) × (r : Content)
-    × (run (at q s.due s.list_start s.outcomes s.content) more ≡ Ok r) in
-    let e = list_ends (s.list_start + 1) s.due s.list_start s.outcomes s.content (omega arith) in
-    subst P (sym h) (e.1.0, e.1.1, e.1.2)
+ends_by s (inr h) = grind (arith, list_ends (s.list_start + 1) s.due s.list_start s.outcomes
+    s.content (omega arith))
 
 pub ends : (s : State) → (more : List Token) × (r : Content) × (run s more ≡ Ok r)
 ends s = ends_by s (settled_or_not s.position)
-
--- ---- an unterminated text is refused in each state
-
-abbrev refused : Why → Result State Why
-refused why = Err why
-
-either : (b : Bool) (c d : Why) → (x : Why) × (cond b (refused c) (refused d) ≡ Err x)
-either true c d = (c, refl)
-either false c d = (d, refl)
-
-broken_at : (q : Position) (due from outcomes : ℕ) (c : Content)
-    → (why : Why) × (step (at q due from outcomes c) Broken ≡ Err why)
-broken_at p.Format due from outcomes c = (Expected what.Format, refl)
-broken_at p.Version due from outcomes c = (Expected what.Version, refl)
-broken_at p.Letter due from outcomes c = (Expected what.Letter, refl)
-broken_at p.Title due from outcomes c = (Expected what.Text, refl)
-broken_at p.BeforePlayers due from outcomes c = (Expected what.Opening, refl)
-broken_at p.InPlayers due from outcomes c = (Expected what.Text, refl)
-broken_at p.BeforeStrategies due from outcomes c = (Expected what.Opening, refl)
-broken_at p.FirstStrategies due from outcomes c =
-    either (nat_eq due 0) (Expected what.Closing) (Expected what.Strategies)
-broken_at p.Counts due from outcomes c =
-    either (nat_eq due 0) (Expected what.Closing) (Expected what.Index)
-broken_at p.BeforeList due from outcomes c =
-    either (nat_eq due 0) (Expected what.Closing) (Expected what.Opening)
-broken_at p.InList due from outcomes c = (Expected what.Text, refl)
-broken_at p.AfterStrategies due from outcomes c =
-    either (nat_eq due 0) (Expected what.End) (Expected what.Number)
-broken_at p.AfterComment due from outcomes c =
-    either (nat_eq due 0) (Expected what.End) (Expected what.Number)
-broken_at p.FlatPayoffs due from outcomes c =
-    either (nat_eq due 0) (Expected what.End) (Expected what.Number)
-broken_at p.InOutcomes due from outcomes c = (Expected what.Opening, refl)
-broken_at p.OutcomeName due from outcomes c = (Expected what.Text, refl)
-broken_at p.BracedPayoff due from outcomes c =
-    either (nat_eq due 0) (Expected what.Closing) (Expected what.Number)
-broken_at p.AfterBracedPayoff due from outcomes c =
-    either (nat_eq due 0) (Expected what.Closing) (Expected what.Number)
-broken_at p.OutcomeNumbers due from outcomes c =
-    either (nat_eq due 0) (Expected what.End) (Expected what.Index)
-
-pub broken_refused : (s : State) → (why : Why) × (step s Broken ≡ Err why)
-broken_refused s = broken_at s.position s.due s.list_start s.outcomes s.content

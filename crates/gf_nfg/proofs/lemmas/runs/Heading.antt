@@ -1,6 +1,6 @@
 -- Runs over the heading of a strategic file: its format, title and players.
-use Rattle.std.proofs.Common.{◌≡◌, ℕ, Bool, true, false, List, [], ◌∷◌, ◌++◌, length, map}
-use Rattle.std.proofs.Common.{Ok, refl, sym, ap, subst, ◌∙◌, append_assoc, inl, inr, nat_eq}
+use Rattle.std.proofs.Common.{◌≡◌, ℕ, Bool, true, List, [], ◌∷◌, ◌++◌, length, map, Ok, refl, sym}
+use Rattle.std.proofs.Common.{ap, subst, append_assoc, arith, inl, inr, nat_eq}
 use Rattle.std.specs.Prelude.{codes, ◌||◌, ◌⊎◌}
 use Rattle.std.specs.Cmp.Lexicographic.{pointwise}
 use Rattle.gf_token.specs.Token.{Token}
@@ -36,23 +36,14 @@ only_version _ r e = absurd cc
 either_letter : (b : List ℕ) (is_r is_d : Bool) → pointwise nat_eq b (codes "R") ≡ is_r
     → pointwise nat_eq b (codes "D") ≡ is_d → (is_r || is_d) ≡ true
     → (b ≡ codes "R") ⊎ (b ≡ codes "D")
-either_letter b true is_d er ed h = inl (same_bytes b (codes "R") er)
-either_letter b false true er ed h = inr (same_bytes b (codes "D") ed)
-either_letter b false false er ed h = absurd cc
+either_letter b is_r is_d h h2 h3 = grind (arith, same_bytes)
 
 only_letter : (ts : List Token) (r : Content) → run (at p.Letter 0 0 0 nothing) ts ≡ Ok r
     → (letter : List ℕ) × (rest : List Token) × (ts ≡ Bare letter ∷ rest)
     × ((letter ≡ codes "R") ⊎ (letter ≡ codes "D")) × (run (at p.Title 0 0 0 nothing) rest ≡ Ok r)
-only_letter (Bare b ∷ rest) r e =
-    let h = guard_ok (pointwise nat_eq b (codes "R") || pointwise nat_eq b (codes "D"))
-    (at p.Title 0 0 0 nothing) (Expected what.Letter) rest r e in (
-      b,
-      rest,
-      refl,
-      either_letter b (pointwise nat_eq b (codes "R"))
-          (pointwise nat_eq b (codes "D")) refl refl h.0,
-      h.1,
-    )
+only_letter (Bare b ∷ rest) r e = grind (arith, either_letter b (pointwise nat_eq b (codes "R"))
+    (pointwise nat_eq b (codes "D")) refl refl (guard_ok (pointwise nat_eq b (codes "R") ||
+    pointwise nat_eq b (codes "D")) (at p.Title 0 0 0 nothing) (Expected what.Letter) rest r e).0)
 only_letter _ r e = absurd cc
 
 only_title : (ts : List Token) (r : Content) → run (at p.Title 0 0 0 nothing) ts ≡ Ok r
@@ -107,10 +98,7 @@ joined : (ts t1 t2 t3 t4 t5 rest : List Token) (letter title : List ℕ) (player
     → t3 ≡ Text title ∷ t4 → t4 ≡ Opening ∷ t5 → t5 ≡ map Text players ++ Closing ∷ rest
     → ts ≡ Bare (codes "NFG") ∷ Bare (codes "1") ∷ Bare letter ∷ Text title
     ∷ (braced (map Text players) ++ rest)
-joined ts t1 t2 t3 t4 t5 rest letter title players e1 e2 e3 e4 e5 e6 =
-    let last : t5 ≡ (map Text players ++ Closing ∷ []) ++ rest =
-    e6 ∙ sym (append_assoc (map Text players) (Closing ∷ []) rest) in
-    rw (e1, e2, e3, e4, e5, last) refl
+joined ts t1 t2 t3 t4 t5 rest letter title players e1 e2 e3 e4 e5 e6 = grind (arith, append_assoc)
 
 pub heading_found : (ts : List Token) (r : Content) → run start ts ≡ Ok r → Heading ts r
 heading_found ts r e =
@@ -135,13 +123,9 @@ heading_found ts r e =
 players_again : (players : List (List ℕ)) (c : Content) (rest : List Token)
     → run (at p.InPlayers 0 0 0 c) (map Text players ++ Closing ∷ rest)
     ≡ run (at p.BeforeStrategies (length (c.players ++ players)) 0 0 (with_players c players)) rest
-players_again [] c rest =
-    ap (λ (d : Content). run (at p.BeforeStrategies (length d.players) 0 0 d) rest)
-    (sym (with_no_players c))
+players_again [] c rest = cc (with_no_players c)
 players_again (label ∷ players) c rest =
-    players_again players (with_players c (label ∷ [])) rest
-    ∙ ap (λ (d : Content). run (at p.BeforeStrategies (length d.players) 0 0 d) rest)
-    (with_more_players c label players)
+    grind (arith, with_more_players, players_again players (with_players c (label ∷ [])) rest)
 
 letter_again : (letter : List ℕ) (rest : List Token) → (letter ≡ codes "R") ⊎ (letter ≡ codes "D")
     → run (at p.Letter 0 0 0 nothing) (Bare letter ∷ rest) ≡ run (at p.Title 0 0 0 nothing) rest
@@ -154,7 +138,5 @@ pub heading_again : (letter title : List ℕ) (players : List (List ℕ)) (rest 
     ∷ Text title ∷ (braced (map Text players) ++ rest))
     ≡ run (at p.BeforeStrategies (length players) 0 0 (heading title players)) rest
 heading_again letter title players rest h =
-    letter_again letter (Text title ∷ (braced (map Text players) ++ rest)) h
-    ∙ ap (run (at p.InPlayers 0 0 0 (with_title nothing title)))
-    (append_assoc (map Text players) (Closing ∷ []) rest)
-    ∙ players_again players (with_title nothing title) rest
+    cc (letter_again letter (Text title ∷ (braced (map Text players) ++ rest)) h, append_assoc
+    (map Text players) (Closing ∷ []) rest, players_again players (with_title nothing title) rest)

@@ -1,20 +1,16 @@
 -- What the methods of the reader rest on: answers carried back, and steps with a test of what is
 -- due.
-use Rattle.std.proofs.Common.{◌≡◌, ℕ, zero, suc, ◌<◌, ◌-◌, ◌*◌, false, List, [], ◌∷◌, length}
-use Rattle.std.proofs.Common.{Result, Ok, Err}
-use Rattle.std.proofs.Common.{refl, sym, ap, subst, ◌∙◌, arith}
-use Rattle.std.proofs.lemmas.Bool.Decides.{nat_tests}
-use Rattle.std.specs.Prelude.{MatchResult, ◌==◌}
-use Rattle.gf_token.specs.Label.{label_of}
+use Rattle.std.proofs.Common.{◌≡◌, ℕ, ◌<◌, ◌-◌, ◌*◌, List, [], ◌∷◌, length, Result, Ok, Err, refl}
+use Rattle.std.proofs.Common.{sym, ap, subst, ◌∙◌, arith}
+use Rattle.std.specs.Prelude.{MatchResult}
 use Rattle.gf_token.specs.declared.label.Label.{Label}
 use Rattle.gf_token.specs.Remaining.{Remaining}
 use Rattle.gf_token.specs.Token.{Lexeme, lexeme}
 use Rattle.gf_token.specs.Token.Token.{Opening, Closing, Text}
 use Rattle.gf_token.specs.declared.fault.Fault.{Fault}
 use Rattle.gf_token.specs.declared.fault.Span.{Span}
-use Rattle.gf_token.specs.declared.fault.Why.{Why}
 use Rattle.gf_nfg.specs.inner.Heard.{Answer, Fails, Goes, heard, read_on, then_on, within}
-use Rattle.gf_nfg.specs.inner.Machine.{Content, State, at, listed, settled}
+use Rattle.gf_nfg.specs.inner.Machine.{Content, State, at, settled}
 use Rattle.gf_nfg.specs.inner.Position.{Position as p}
 use Rattle.gf_nfg.specs.inner.ReaderState.{HasToldAll, body_answer, content_in, content_told}
 use Rattle.gf_nfg.specs.inner.ReaderState.{labels_of, told_answer}
@@ -49,41 +45,21 @@ pub first_opens : (due : ℕ) (c : Content) (t new : Remaining) (s : Span) → 0
     → t.ahead ≡ lexeme s.start s.end Opening ∷ new.ahead → new.input ≡ t.input
     → heard (at p.FirstStrategies due 0 0 c) t
     ≡ heard (at p.InList (due - 1) (length c.labels) 0 c) new
-first_opens due c t new s some next input =
-    let e : (due == 0) ≡ false = grind (arith, nat_tests) in
-    (λ i. heard (at p.FirstStrategies due 0 0 c) (record { input = sym input i; ahead = next i }))
-    ∙ rw e refl
+first_opens due c t new s some next input = grind arith
 
 pub later_opens : (due : ℕ) (c : Content) (t new : Remaining) (s : Span) → 0 < due
     → t.ahead ≡ lexeme s.start s.end Opening ∷ new.ahead → new.input ≡ t.input
     → heard (at p.BeforeList due 0 0 c) t ≡ heard (at p.InList (due - 1) (length c.labels) 0 c) new
-later_opens due c t new s some next input =
-    let e : (due == 0) ≡ false = grind (arith, nat_tests) in
-    (λ i. heard (at p.BeforeList due 0 0 c) (record { input = sym input i; ahead = next i }))
-    ∙ rw e refl
-
-listed_settled : (s : State) (n : ℕ) → 0 < n
-    → listed s n ≡ settled (at p.BeforeList s.due 0 s.outcomes s.content) n
-listed_settled s zero some = absurd (omega (arith, some))
-listed_settled s (suc n) some = refl
+later_opens due c t new s some next input = grind arith
 
 -- the closing brace of a list shows how many labels it has
-pub list_closes : (due before n : ℕ) (c : Content) (t new : Remaining) (s : Span)
-    → 0 < n → n ≡ length c.labels - before
-    → t.ahead ≡ lexeme s.start s.end Closing ∷ new.ahead → new.input ≡ t.input
-    → heard (at p.InList due before 0 c) t ≡ record {
-      input = new.input;
-      machine = then_on s.start s.end (within (settled (at p.BeforeList due 0 0 c) n))
-          (λ after. read_on (length new.input) after new.ahead);
-    }
-list_closes due before n c t new s some is next input =
-    (λ i. heard (at p.InList due before 0 c) (record { input = sym input i; ahead = next i }))
-    ∙ ap (λ (o : Result State Why). record {
-      input = new.input;
-      machine = then_on s.start s.end (within o)
-          (λ after. read_on (length new.input) after new.ahead);
-    }) (ap (listed (at p.InList due before 0 c)) (sym is)
-    ∙ listed_settled (at p.InList due before 0 c) n some)
+pub list_closes : (due before n : ℕ) (c : Content) (t new : Remaining) (s : Span) → 0 < n
+    → n ≡ length c.labels - before → t.ahead ≡ lexeme s.start s.end Closing ∷ new.ahead
+    → new.input ≡ t.input
+    → heard (at p.InList due before 0 c) t ≡ record { input = new.input; machine = then_on s.start
+    s.end (within (settled (at p.BeforeList due 0 0 c) n))
+    (λ after. read_on (length new.input) after new.ahead); }
+list_closes due before n c t new s some is next input = grind arith
 
 -- ---- outcomes
 
@@ -93,10 +69,7 @@ pub outcome_named : (told : Told) (outcomes players : ℕ) (t new : Remaining) (
     → length (content_told told).players ≡ players
     → told_answer p.OutcomeName 0 outcomes t told ≡ told_answer p.BracedPayoff players outcomes new
     told
-outcome_named told outcomes players t new start end label next input size =
-    (λ i. told_answer p.OutcomeName 0 outcomes (record { input = sym input i; ahead = next i })
-    told)
-    ∙ ap (λ n. told_answer p.BracedPayoff n outcomes new told) size
+outcome_named told outcomes players t new start end label next input size = grind arith
 
 -- ---- after the last of the strategies
 
@@ -121,10 +94,7 @@ counts_end c t = ap (λ o. record { input = t.input; machine = o }) (by t.ahead)
 -- how many labels were read
 pub label_count : (now before : List Label) (n m k : ℕ) → n ≡ length now → m ≡ length before
     → k ≡ n - m → k ≡ length (labels_of now) - length (labels_of before)
-label_count now before n m k e f g =
-    let a = length-map now label_of in
-    let b = length-map before label_of in
-    omega (arith, e, f, g, a, b)
+label_count now before n m k e f g = grind (arith, length-map)
 
 -- ---- the body
 

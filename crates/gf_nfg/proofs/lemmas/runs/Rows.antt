@@ -1,7 +1,7 @@
 -- The rows of both bodies: as the grammar has them, and as they were read.
-use Rattle.std.proofs.Common.{◌≡◌, ℕ, zero, suc, ◌*◌, ◌<◌, ◌≤◌, ◌^◌, List, []}
-use Rattle.std.proofs.Common.{◌∷◌, ◌++◌, length, map, take, drop, Some, refl, sym}
-use Rattle.std.proofs.Common.{ap, subst, ◌∙◌, append_assoc, arith, length-drop}
+use Rattle.std.proofs.Common.{◌≡◌, ℕ, zero, suc, ◌*◌, ◌<◌, ◌≤◌, ◌^◌, List, [], ◌∷◌, ◌++◌, length}
+use Rattle.std.proofs.Common.{map, take, drop, refl, sym, ap, subst, ◌∙◌, append_assoc, arith}
+use Rattle.std.proofs.Common.{length-drop}
 use Rattle.std.specs.List.{AllByRecursion}
 use Rattle.std.proofs.Math.Nat.{mul-suc}
 use Rattle.std.proofs.lemmas.Option.{slice_get_within}
@@ -47,8 +47,7 @@ rows_each size zero [] tokens e h = h
 rows_each size zero (x ∷ numbers) tokens e h = absurd (omega arith)
 rows_each size (suc n) numbers tokens e h =
     let s = split size numbers tokens h in
-    let rest : length (drop size numbers) ≡ size * n =
-    omega (arith, e, length-drop size numbers, mul-suc size n) in
+    let rest : length (drop size numbers) ≡ size * n = grind (arith, length-drop, mul-suc) in
     (s.first, s.others, s.parts, s.row, rows_each size n (drop size numbers) s.others rest s.rest)
 
 Each-append : {A : Type 0} (P : List Token → A → Type 0)
@@ -102,13 +101,7 @@ module _ (players : ℕ) (outcomes : List (List Ratio))
 
   paid : (k : ℕ) (row : List Ratio) → k < 2 ^ 32 → Pays players outcomes k row
       → (k ≤ greatest (length outcomes)) × (row_of players (joined outcomes) k ≡ row)
-  paid zero row small h = (omega arith, sym h)
-  paid (suc k) row small h =
-      let less : k < length outcomes = slice_get_within outcomes k row h in
-      let found = get-joined players outcomes k full less in
-      let same : Some (take players (drop (k * players) (joined outcomes))) ≡ Some row = sym found
-      ∙ h in
-      (omega (arith, less, small), cc)
+  paid k row h h2 = grind (arith, slice_get_within, get-joined)
 
   pub choices_chosen : (rs : List (List Ratio)) (tokens : List Token)
       → Each (IsOutcomeNumber players outcomes) tokens rs → Chosen tokens rs

@@ -1,6 +1,6 @@
 -- A run of the machine that succeeds has read a sentence, and each sentence is read.
-use Rattle.std.proofs.Common.{◌≡◌, ℕ, ◌*◌, ◌<◌, ◌≤◌, List, [], ◌∷◌, ◌++◌, length, map, Ok}
-use Rattle.std.proofs.Common.{refl, sym, ap, subst, ◌∙◌, append_assoc, arith, inl, inr}
+use Rattle.std.proofs.Common.{◌≡◌, ℕ, ◌*◌, ◌<◌, ◌≤◌, List, [], ◌∷◌, ◌++◌, length, map, Ok, refl}
+use Rattle.std.proofs.Common.{sym, ap, subst, ◌∙◌, append_assoc, arith, inl, inr}
 use Rattle.std.specs.Prelude.{codes, ◌⊎◌, sum}
 use Rattle.std.specs.List.{AllByRecursion}
 use Rattle.std.proofs.lemmas.List.{length-map}
@@ -10,15 +10,14 @@ use Rattle.gf_token.specs.Grammar.{Each, braced, IsComment}
 use Rattle.gf_fraction.specs.Ratio.{Ratio}
 use Rattle.gf_fraction.proofs.AllElements.{all_images}
 use Rattle.gf_nfg.specs.inner.Position.{Position as p}
-use Rattle.gf_nfg.specs.Profiles.{positions, profiles, product}
+use Rattle.gf_nfg.specs.Profiles.{profiles, product}
 use Rattle.gf_nfg.specs.Table.{Table, IsTable, rows}
-use Rattle.gf_nfg.specs.Sentence.{Sentence, IsStrategies, IsPayoff, IsOutcomeInBraces}
-use Rattle.gf_nfg.specs.Sentence.{IsPayoffBody, IsOutcomeBody, IsOutcomeNumber}
-use Rattle.gf_nfg.specs.Sentence.{IsCount, IsLabelList, counted_labels}
+use Rattle.gf_nfg.specs.Sentence.{Sentence, IsStrategies, IsPayoff, IsOutcomeInBraces, IsPayoffBody}
+use Rattle.gf_nfg.specs.Sentence.{IsOutcomeBody, IsCount, IsLabelList, counted_labels}
 use Rattle.gf_nfg.specs.inner.Machine.{Content, at, run, start}
-use Rattle.gf_nfg.specs.TableParts.{entries_of, row_of}
-use Rattle.gf_nfg.specs.inner.Meaning.{strategies_of, rows_by, table_of}
-use Rattle.gf_nfg.specs.inner.Meaning.{HasPayoffs, HasLabels, IsComplete}
+use Rattle.gf_nfg.specs.TableParts.{row_of}
+use Rattle.gf_nfg.specs.inner.Meaning.{strategies_of, rows_by, table_of, HasPayoffs, HasLabels}
+use Rattle.gf_nfg.specs.inner.Meaning.{IsComplete}
 use Rattle.gf_nfg.proofs.lemmas.tables.Lists.{joined, length-counted_labels, length-joined}
 use Rattle.gf_nfg.proofs.lemmas.tables.Lists.{length-joined_rows, product_above_zero}
 use Rattle.gf_nfg.proofs.lemmas.tables.Meaning.{is_table, rows-table_of, strategies_of-joined}
@@ -30,8 +29,8 @@ use Rattle.gf_nfg.proofs.lemmas.runs.Heading.{heading, heading_found, heading_ag
 use Rattle.gf_nfg.proofs.lemmas.runs.Strategies.{with_counts, ended, first_found}
 use Rattle.gf_nfg.proofs.lemmas.runs.Strategies.{first_counts_again, first_lists_again}
 use Rattle.gf_nfg.proofs.lemmas.runs.Outcomes.{IsChoice, greatest}
-use Rattle.gf_nfg.proofs.lemmas.runs.Rows.{rows_each, rows_joined, outcomes_full}
-use Rattle.gf_nfg.proofs.lemmas.runs.Rows.{choices_pay, choices_chosen}
+use Rattle.gf_nfg.proofs.lemmas.runs.Rows.{rows_each, rows_joined, outcomes_full, choices_pay}
+use Rattle.gf_nfg.proofs.lemmas.runs.Rows.{choices_chosen}
 use Rattle.gf_nfg.proofs.lemmas.runs.Body.{Body, comment_found, flat_body_again, outcome_body_again}
 
 -- ---- what was read
@@ -56,13 +55,12 @@ record Strategies (ts : List Token) (title : List ℕ) (players : List (List ℕ
   rest : List Token
   counts : List ℕ
   labels : List (List ℕ)
-  from : ℕ
   parts : ts ≡ braced inner ++ rest
   spelled : IsStrategies (braced inner) (strategies_of counts labels)
   count : length counts ≡ length players
   positive : AllByRecursion (λ n. 0 < n) counts
   has_labels : HasLabels counts labels
-  goes_on : run (ended from 0 (with_counts (heading title players) counts labels)) rest ≡ Ok r
+  goes_on : run (ended (with_counts (heading title players) counts labels)) rest ≡ Ok r
 
 labels_fit : (counts : List ℕ) (labels : List (List ℕ)) → length labels ≡ sum counts
     → HasLabels counts labels
@@ -74,15 +72,13 @@ strategies_found : (ts : List Token) (title : List ℕ) (players : List (List �
     → Strategies ts title players r
 strategies_found ts title players r e =
     let a = only_opening ts (length players) (heading title players) r e in
-    elim (first_found a.0 (length players) 0 0 (heading title players) r a.2) [
+    elim (first_found a.0 (length players) (heading title players) r a.2) [
       | inl h ↦ record {
         inner = h.inner;
         rest = h.rest;
         counts = h.more;
         labels = [];
-        from = 0;
-        parts = a.1 ∙ ap (λ (x : List Token). Opening ∷ x)
-            (h.parts ∙ sym (append_assoc h.inner (Closing ∷ []) h.rest));
+        parts = cc (a.1, h.parts, append_assoc h.inner (Closing ∷ []) h.rest);
         spelled = (h.inner, refl, inl h.each);
         count = h.count;
         positive = h.positive;
@@ -94,9 +90,7 @@ strategies_found ts title players r e =
         rest = h.rest;
         counts = map length h.more;
         labels = joined h.more;
-        from = h.from;
-        parts = a.1 ∙ ap (λ (x : List Token). Opening ∷ x)
-            (h.parts ∙ sym (append_assoc h.inner (Closing ∷ []) h.rest));
+        parts = cc (a.1, h.parts, append_assoc h.inner (Closing ∷ []) h.rest);
         spelled = (
           h.inner,
           refl,
@@ -177,16 +171,7 @@ outcome_read list numbers title comment players counts labels outcomes choices l
       has_rows = has_chosen c (length outcomes) choices some
           (length-joined_rows (length players) outcomes full) count
           (known_all (length outcomes) choices known);
-      spelled = inr (record {
-        list = list;
-        numbers = numbers;
-        outcomes = outcomes;
-        parts = refl;
-        listed = listed;
-        chosen = subst (λ (rs : List (List Ratio)).
-            Each (IsOutcomeNumber (length players) outcomes) numbers rs)
-            (sym (rows_chosen c choices some)) pay;
-      });
+      spelled = grind arith;
     }
 
 read_of : (ts : List Token) (letter title said : List ℕ) (players : List (List ℕ))
@@ -203,13 +188,7 @@ read_of : (ts : List Token) (letter title said : List ℕ) (players : List (List
 read_of ts letter title said players inner comment body counts labels payoffs choices parts
     is_letter spelled count positive has_labels is_comment b =
     let c : Content = whole title said players counts labels payoffs choices in
-    let complete : IsComplete c = record {
-      one_count_each = count;
-      some_strategy = positive;
-      profiles_are = omega arith;
-      has_labels = has_labels;
-      has_rows = b.has_rows;
-    } in
+    let complete : IsComplete c = grind arith in
     record {
       sentence = record {
         letter = letter;
@@ -248,26 +227,20 @@ with_body ts letter title said players inner comment body counts labels r parts 
     count positive has_labels is_comment (inr h) =
     let b = outcome_read h.list h.numbers title said players counts labels h.outcomes
     h.choices.choices h.each h.choices.each h.choices.known h.choices.count positive in
-    subst (Read ts) (sym h.choices.got)
-    (read_of ts letter title said players inner comment body counts labels (joined h.outcomes)
-    h.choices.choices parts is_letter spelled count positive has_labels is_comment
-    (subst (λ (x : List Token).
-    BodyRead x (whole title said players counts labels (joined h.outcomes) h.choices.choices))
-    (sym h.parts) b))
+    rw h.choices.got (read_of ts letter title said players inner comment body counts labels
+    (joined h.outcomes) h.choices.choices parts is_letter spelled count positive has_labels
+    is_comment (subst (λ (x : List Token). BodyRead x (whole title said players counts labels
+    (joined h.outcomes) h.choices.choices)) (sym h.parts) b))
 
 pub sentence_found : (ts : List Token) (r : Content) → run start ts ≡ Ok r → Read ts r
 sentence_found ts r e =
     let a = heading_found ts r e in
     let b = strategies_found a.rest a.title a.players r a.goes_on in
-    let d = comment_found b.rest b.from (with_counts (heading a.title a.players) b.counts b.labels)
+    let d = comment_found b.rest (with_counts (heading a.title a.players) b.counts b.labels)
     r refl b.goes_on in
-    let rest : a.rest ≡ braced b.inner ++ (d.comment ++ d.body) =
-    b.parts ∙ ap (λ (x : List Token). braced b.inner ++ x) d.parts in
-    let parts : ts ≡ Bare (codes "NFG") ∷ Bare (codes "1") ∷ Bare a.letter ∷ Text a.title
-    ∷ (braced (map Text a.players) ++ (braced b.inner ++ (d.comment ++ d.body))) =
-    a.parts ∙ ap (λ (x : List Token). Bare (codes "NFG") ∷ Bare (codes "1")
-    ∷ Bare a.letter ∷ Text a.title ∷ (braced (map Text a.players) ++ x))
-    rest in
+    let rest : a.rest ≡ braced b.inner ++ (d.comment ++ d.body) = cc in
+    let parts : ts ≡ Bare (codes "NFG") ∷ Bare (codes "1") ∷ Bare a.letter ∷ Text a.title ∷ (braced
+    (map Text a.players) ++ (braced b.inner ++ (d.comment ++ d.body))) = cc in
     with_body ts a.letter a.title d.said a.players b.inner d.comment d.body b.counts b.labels r
     parts a.is_letter b.spelled b.count b.positive b.has_labels d.is_comment d.is_body
 
@@ -283,46 +256,37 @@ pub record Parts (ts : List Token) (t : Table) : Type 0 where
 record Kept (t : Table) (inner rest : List Token) : Type 0 where
   counts : List ℕ
   labels : List (List ℕ)
-  from : ℕ
   lengths : counts ≡ map length t.strategies
   means : strategies_of counts labels ≡ t.strategies
   goes_on : run (at p.FirstStrategies (length t.strategies) 0 0 (heading t.title t.players))
       (inner ++ Closing ∷ rest)
-      ≡ run (ended from 0 (with_counts (heading t.title t.players) counts labels)) rest
+      ≡ run (ended (with_counts (heading t.title t.players) counts labels)) rest
 
 counts_mean : (strategies : List (List (List ℕ))) (inner : List Token)
     → Each IsCount inner strategies → map counted_labels (map length strategies) ≡ strategies
 counts_mean [] inner h = refl
 counts_mean (labels ∷ strategies) inner h =
-    let n = h.3.1 in
-    let first : counted_labels (length labels) ≡ labels =
-    ap counted_labels (ap length h.3.4 ∙ length-counted_labels n) ∙ sym h.3.4 in
-    let rest = counts_mean strategies h.1 h.4 in
-    (λ i. first i ∷ rest i)
+    cc (length-counted_labels (h.3.1), counts_mean strategies h.1 h.4)
 
 kept : (t : Table) (inner rest : List Token) → IsTable t
     → Each IsCount inner t.strategies ⊎ Each IsLabelList inner t.strategies → Kept t inner rest
 kept t inner rest h (inl each) = record {
   counts = map length t.strategies;
   labels = [];
-  from = 0;
   lengths = refl;
   means = counts_mean t.strategies inner each;
-  goes_on = first_counts_again t.strategies inner rest 0 0 (heading t.title t.players) each
+  goes_on = first_counts_again t.strategies inner rest (heading t.title t.players) each
       h.some_strategy;
 }
-kept t inner rest h (inr each) =
-    let k = first_lists_again t.strategies inner rest 0 0 (heading t.title t.players) each
-    h.some_strategy in
-    record {
-      counts = map length t.strategies;
-      labels = joined t.strategies;
-      from = k.from;
-      lengths = refl;
-      means = strategies_of-joined t.strategies
-          (all_images (λ n. 0 < n) length t.strategies h.some_strategy);
-      goes_on = k.goes_on;
-    }
+kept t inner rest h (inr each) = record {
+  counts = map length t.strategies;
+  labels = joined t.strategies;
+  lengths = refl;
+  means = strategies_of-joined t.strategies
+      (all_images (λ n. 0 < n) length t.strategies h.some_strategy);
+  goes_on =
+      first_lists_again t.strategies inner rest (heading t.title t.players) each h.some_strategy;
+}
 
 -- the table has as many rows as there are profiles
 rows_count : (t : Table) → IsTable t → length (rows t) ≡ 1 * product (map length t.strategies)
@@ -336,38 +300,32 @@ rows_count t h =
 
 -- the body's places in the parts
 record BodyKept (t : Table) (comment body : List Token) (counts : List ℕ) (labels : List (List ℕ))
-    (from : ℕ) : Type 0 where
+    : Type 0 where
   payoffs : List Ratio
   choices : List ℕ
   means : rows_by (whole t.title t.comment t.players counts labels payoffs choices) choices ≡ rows t
-  goes_on : run (ended from 0 (with_counts (heading t.title t.players) counts labels))
+  goes_on : run (ended (with_counts (heading t.title t.players) counts labels))
       (comment ++ body)
       ≡ Ok (whole t.title t.comment t.players counts labels payoffs choices)
 
-body_kept : (t : Table) (comment body : List Token)
-    (counts : List ℕ) (labels : List (List ℕ)) (from : ℕ)
+body_kept : (t : Table) (comment body : List Token) (counts : List ℕ) (labels : List (List ℕ))
     → IsTable t → counts ≡ map length t.strategies → IsComment comment t.comment
     → IsPayoffBody body (rows t) ⊎ IsOutcomeBody (length t.players) body (rows t)
-    → BodyKept t comment body counts labels from
-body_kept t comment body counts labels from h lengths is_comment (inl each) =
-    let all : length (rows t) ≡ 1 * product counts =
-    rows_count t h ∙ ap (λ ns. 1 * product ns) (sym lengths) in
+    → BodyKept t comment body counts labels
+body_kept t comment body counts labels h lengths is_comment (inl each) =
+    let all : length (rows t) ≡ 1 * product counts = cc (rows_count t h) in
     let size : length (joined (rows t)) ≡ length t.players * (1 * product counts) =
-    length-joined_rows (length t.players) (rows t) h.one_payoff_each
-    ∙ ap (λ (n : ℕ). length t.players * n) all in
+    cc (length-joined_rows (length t.players) (rows t) h.one_payoff_each) in
     record {
       payoffs = joined (rows t);
       choices = [];
-      means =
-          ap (λ (n : ℕ). map (row_of (length t.players) (joined (rows t))) (positions n)) (sym all)
-          ∙ rows_again (length t.players) (rows t) h.one_payoff_each;
-      goes_on = flat_body_again comment body t.comment from
+      means = cc (rows_again (length t.players) (rows t) h.one_payoff_each);
+      goes_on = flat_body_again comment body t.comment
           (with_counts (heading t.title t.players) counts labels) (joined (rows t)) refl is_comment
           (rows_joined (rows t) body each) size;
     }
-body_kept t comment body counts labels from h lengths is_comment (inr b) =
-    let all : length (rows t) ≡ 1 * product counts =
-    rows_count t h ∙ ap (λ ns. 1 * product ns) (sym lengths) in
+body_kept t comment body counts labels h lengths is_comment (inr b) =
+    let all : length (rows t) ≡ 1 * product counts = cc (rows_count t h) in
     let full = outcomes_full (length t.players) b.outcomes b.list b.listed in
     let k = choices_chosen (length t.players) b.outcomes full (rows t) b.numbers b.chosen in
     let positive : AllByRecursion (λ n. 0 < n) (map length t.strategies) =
@@ -381,53 +339,29 @@ body_kept t comment body counts labels from h lengths is_comment (inr b) =
       payoffs = joined b.outcomes;
       choices = k.choices;
       means = rows_chosen c k.choices some ∙ k.rows;
-      goes_on = ap (λ (x : List Token).
-          run (ended from 0 (with_counts (heading t.title t.players) counts labels)) (comment ++ x))
-          b.parts
-          ∙ outcome_body_again comment b.list b.numbers b.outcomes k.choices t.comment from
+      goes_on = cc (outcome_body_again comment b.list b.numbers b.outcomes k.choices t.comment
           (with_counts (heading t.title t.players) counts labels) refl is_comment b.listed k.each
-          k.known (k.count ∙ all);
+          k.known (k.count ∙ all));
     }
 
-table_again : (t : Table) (counts : List ℕ) (labels : List (List ℕ))
-    (payoffs : List Ratio) (choices : List ℕ)
-    → IsTable t → strategies_of counts labels ≡ t.strategies
+table_again : (t : Table) (counts : List ℕ) (labels : List (List ℕ)) (payoffs : List Ratio)
+    (choices : List ℕ) → IsTable t → strategies_of counts labels ≡ t.strategies
     → rows_by (whole t.title t.comment t.players counts labels payoffs choices) choices ≡ rows t
     → table_of (whole t.title t.comment t.players counts labels payoffs choices) ≡ t
-table_again t counts labels payoffs choices h strategies means =
-    let entries : entries_of (profiles (map length (strategies_of counts labels)))
-    (rows_by (whole t.title t.comment t.players counts labels payoffs choices) choices)
-    ≡ t.entries =
-    (λ i. entries_of (profiles (map length (strategies i))) (means i))
-    ∙ ap (λ (ps : List (List ℕ)). entries_of ps (rows t)) (sym h.one_entry_each)
-    ∙ entries_again t.entries in
-    (λ i. record {
-      title = t.title;
-      comment = t.comment;
-      players = t.players;
-      strategies = strategies i;
-      entries = entries i;
-    })
+table_again t counts labels payoffs choices h strategies means = grind (arith, entries_again)
 
 parts_of : (ts : List Token) (t : Table) (letter : List ℕ) (inner comment body : List Token)
     → ts ≡ Bare (codes "NFG") ∷ Bare (codes "1") ∷ Bare letter ∷ Text t.title
     ∷ (braced (map Text t.players) ++ (braced inner ++ (comment ++ body)))
     → (letter ≡ codes "R") ⊎ (letter ≡ codes "D") → IsTable t → Kept t inner (comment ++ body)
-    → ((k : Kept t inner (comment ++ body)) → BodyKept t comment body k.counts k.labels k.from)
+    → ((k : Kept t inner (comment ++ body)) → BodyKept t comment body k.counts k.labels)
     → Parts ts t
 parts_of ts t letter inner comment body parts is_letter h k body_of =
     let b = body_of k in
     record {
       content = whole t.title t.comment t.players k.counts k.labels b.payoffs b.choices;
-      read = ap (run start) parts
-          ∙ heading_again letter t.title t.players (braced inner ++ (comment ++ body)) is_letter
-          ∙ ap (run (at p.FirstStrategies (length t.players) 0 0 (heading t.title t.players)))
-          (append_assoc inner (Closing ∷ []) (comment ++ body))
-          ∙ ap (λ (n : ℕ). run (at p.FirstStrategies n 0 0 (heading t.title t.players))
-          (inner ++ Closing ∷ (comment ++ body)))
-          (sym h.one_list_each)
-          ∙ k.goes_on
-          ∙ b.goes_on;
+      read = cc (heading_again letter t.title t.players (braced inner ++ (comment ++ body))
+          is_letter, append_assoc inner (Closing ∷ []) (comment ++ body));
       means = table_again t k.counts k.labels b.payoffs b.choices h k.means b.means;
     }
 
@@ -439,7 +373,7 @@ sentence_again ts t s =
     s.is_strategies.1 in
     parts_of ts t s.letter inner s.comment s.body parts s.is_letter s.is_table
     (kept t inner (s.comment ++ s.body) s.is_table s.is_strategies.2)
-    (λ k. body_kept t s.comment s.body k.counts k.labels k.from s.is_table k.lengths s.is_comment
+    (λ k. body_kept t s.comment s.body k.counts k.labels s.is_table k.lengths s.is_comment
     s.is_body)
 
 -- tokens mean one table at most

@@ -1,6 +1,6 @@
 -- Lists that agree up to a place.
-use Rattle.std.proofs.Common.{◌≡◌, ℕ, zero, suc, ◌+◌, ◌≤◌, List, [], ◌∷◌, length}
-use Rattle.std.proofs.Common.{take, Some, slice_get, refl, sym, ap, ◌∙◌, arith}
+use Rattle.std.proofs.Common.{◌≡◌, ℕ, zero, suc, ◌+◌, ◌≤◌, List, [], ◌∷◌, length, take, Some}
+use Rattle.std.proofs.Common.{slice_get, refl, sym, ap, ◌∙◌, arith}
 use Rattle.std.proofs.lemmas.List.{take_all}
 use Rattle.std.specs.Prelude.{Bool, ◌&&◌, map, not, nat_eq, true, false}
 use Rattle.std.proofs.lemmas.Slice.Eq.{slice_eq-Decides}
@@ -27,8 +27,7 @@ same_next (a ∷ xs) (b ∷ ys) (suc k) x y h g e s =
 -- one more place
 pub same_more : {A : Type 0} (xs ys : List A) (k : ℕ) (x y : A) → slice_get xs k ≡ Some x
     → slice_get ys k ≡ Some y → x ≡ y → take k xs ≡ take k ys → take (k + 1) xs ≡ take (k + 1) ys
-same_more xs ys k x y h g e s =
-    let n : k + 1 ≡ suc k = omega arith in rw n (same_next xs ys k x y h g e s)
+same_more xs ys k x y h g e s = grind (arith, same_next)
 
 -- at the end
 pub same_all : {A : Type 0} (xs ys : List A) (k : ℕ)
@@ -41,8 +40,7 @@ passed true h = refl
 passed false h = absurd (cc)
 
 pub same_labels : (xs ys : List ℕ) → not (pointwise nat_eq xs ys) ≡ false → xs ≡ ys
-same_labels xs ys h = (slice_eq-Decides Decides-eqb xs ys (pointwise nat_eq xs ys) refl).0
-    (passed (pointwise nat_eq xs ys) h)
+same_labels xs ys h = grind (arith, slice_eq-Decides, passed)
 
 both_pass : (p q : Bool) → p && q ≡ true → (p ≡ true) × (q ≡ true)
 both_pass true q h = (refl, h)

@@ -1,10 +1,9 @@
 -- Places in classes that are merged, and the rows at them.
 use Rattle.std.proofs.Common.{◌≡◌, ◌≢◌, ℕ, ◌+◌, ◌-◌, ◌<◌, ◌≤◌, List, length, get_or, set, take}
-use Rattle.std.proofs.Common.{Option, Some, slice_get, option_map, refl, sym, ap, subst, ◌∙◌, arith}
-use Rattle.std.proofs.Common.{inl, inr}
+use Rattle.std.proofs.Common.{Some, slice_get, refl, sym, ap, subst, ◌∙◌, arith, inl, inr}
 use Rattle.std.specs.Prelude.{if◌then◌else◌, max, min, nat_lt}
 use Rattle.std.specs.List.{range_with_len}
-use Rattle.std.proofs.lemmas.Bool.{cases_eq, cases_lt, lt-ltb, le-ltb}
+use Rattle.std.proofs.lemmas.Bool.{cases_eq, cases_lt, lt-ltb}
 use Rattle.std.proofs.lemmas.Grind.{get_or-set_at, get_or_default_zero}
 use Rattle.std.proofs.lemmas.List.{get_or-set_other, get_or_past, length-set}
 use Rattle.std.proofs.lemmas.List.FromFn.{get_or-range_with_len, length-range_with_len}
@@ -65,9 +64,7 @@ way_begun begin parents place e back there = record {
 -- what is read at a place
 parent_at : (parents : List ℕ) (at parent : ℕ) → LeadBack parents → at < length parents
     → parent ≡ get_or parents at parent → (parent ≡ get_or parents at 0) × (parent ≤ at)
-parent_at parents at parent back there e =
-    let is : parent ≡ get_or parents at 0 = e ∙ get_or_default_zero parents at parent there in
-    (is, let h = back at in omega (arith, h, is))
+parent_at parents at parent back there e = grind (arith, get_or_default_zero)
 
 -- it goes on above its parent, below which it is hung
 pub way_on : (begin parents : List ℕ) (place at parent above : ℕ)
@@ -79,8 +76,7 @@ way_on begin parents place at parent above way first second =
     let nearer = parent_at parents parent above way.back parent_there second in
     let size = length-set parents at above in
     let above_at : above ≤ at = omega (arith, below.1, nearer.1) in
-    let same : (row : ℕ → List Ratio) → ShareRows row parents → row above ≡ row at = λ row rows.
-    ap row nearer.0 ∙ rows parent parent_there ∙ ap row below.0 ∙ rows at way.there in
+    let same : (row : ℕ → List Ratio) → ShareRows row parents → row above ≡ row at = grind arith in
     record {
       back = back_hung parents at above way.there above_at way.back;
       places = size ∙ way.places;
@@ -97,11 +93,7 @@ pub nearer : (begin parents : List ℕ) (place at looked parent above : ℕ)
     → IsOnWay begin parents place at → looked ≡ get_or parents at looked → looked ≢ at
     → parent ≡ get_or parents at parent → above ≡ get_or parents parent above → above < at
 nearer begin parents place at looked parent above way seen ne first second =
-    let here = parent_at parents at looked way.back way.there seen in
-    let below = parent_at parents at parent way.back way.there first in
-    let parent_there : parent < length parents = omega (arith, below.1, way.there) in
-    let above_it = parent_at parents parent above way.back parent_there second in
-    omega (arith, here.0, below.0, below.1, above_it.1, ne)
+    grind (arith, parent_at)
 
 -- ---- two classes become one
 
@@ -129,12 +121,8 @@ row_of_first : (first : ℕ) (f g : ℕ → List Ratio) (n : ℕ) → n < first
     → row_of_both first f g n ≡ f n
 row_of_first first f g n h = rw (lt-ltb n first h) refl
 
-row_of_second : (first : ℕ) (f g : ℕ → List Ratio) (n : ℕ)
-    → row_of_both first f g (first + n) ≡ g n
-row_of_second first f g n =
-    let behind : first ≤ first + n = omega arith in
-    let back : (first + n) - first ≡ n = omega arith in
-    rw (le-ltb (first + n) first behind) (ap g back)
+row_of_second : (first : ℕ) (f g : ℕ → List Ratio) (n : ℕ) → row_of_both first f g (first + n) ≡ g n
+row_of_second first f g n = grind arith
 
 -- the row of a profile by its number
 pub record IsRowAt (rows : List (List Ratio)) (players : ℕ) (payoffs zeros : List Ratio)
@@ -143,16 +131,13 @@ pub record IsRowAt (rows : List (List Ratio)) (players : ℕ) (payoffs zeros : L
   pub below : number < bound
 
 pub row_at : (rows : List (List Ratio)) (numbers : List ℕ) (players : ℕ)
-    (payoffs zeros : List Ratio)
-    (bound at : ℕ) → AreShared rows numbers players payoffs zeros bound → at < length numbers
-    → IsRowAt rows players payoffs zeros bound at (get_or numbers at 0)
+    (payoffs zeros : List Ratio) (bound at : ℕ) → AreShared rows numbers players payoffs zeros bound
+    → at < length numbers → IsRowAt rows players payoffs zeros bound at (get_or numbers at 0)
 row_at rows numbers players payoffs zeros bound at shared h =
     let number = get_or numbers at 0 in
     let found = slice_get-get_or numbers at 0 h in
     record {
-      row = ap (λ (rs : List (List Ratio)). slice_get rs at) shared.rows_are
-          ∙ slice_get-map (kept_row players payoffs zeros) numbers at
-          ∙ ap (λ (o : Option ℕ). option_map (kept_row players payoffs zeros) o) found;
+      row = grind (arith, slice_get-map);
       below = all_at (λ number. number < bound) numbers at number shared.below found;
     }
 
@@ -166,8 +151,7 @@ pub record IsCompared (f g : ℕ → List Ratio) (first second : ℕ) (xs ys : L
 -- two places of one class
 pub same_class : (first : ℕ) (f g : ℕ → List Ratio) (m n : ℕ) → m < first
     → row_of_both first f g m ≡ row_of_both first f g (first + n) → f m ≡ g n
-same_class first f g m n h e =
-    sym (row_of_first first f g m h) ∙ e ∙ row_of_second first f g n
+same_class first f g m n h e = grind arith
 
 pub compared_more : (first second : ℕ) (f g : ℕ → List Ratio) (xs ys : List (List Ratio))
     (old parents : List ℕ) (at m n : ℕ) → IsCompared f g first second xs ys old at → m < first

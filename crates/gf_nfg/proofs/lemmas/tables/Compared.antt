@@ -1,20 +1,20 @@
 -- A file that was told whole is the same as a table exactly if no difference was found.
-use Rattle.std.proofs.Common.{◌≡◌, ℕ, ◌*◌, Bool, false, List, [], ◌∷◌, ◌++◌, length, map}
-use Rattle.std.proofs.Common.{refl, sym, ap, subst, ◌∙◌, append-nil, arith}
-use Rattle.std.proofs.Common.{◌+◌, Result, Ok, Err, IfOk, Some, drop, slice_get}
+use Rattle.std.proofs.Common.{◌≡◌, ℕ, Bool, false, List, [], ◌∷◌, ◌++◌, length, map, refl, sym, ap}
+use Rattle.std.proofs.Common.{◌∙◌, append-nil, arith, ◌+◌, Result, Ok, Err, IfOk, Some, drop}
+use Rattle.std.proofs.Common.{slice_get}
 use Rattle.std.specs.Prelude.{◌↔◌, IsTrue}
 use Rattle.std.proofs.Math.Nat.{mul_comm}
 use Rattle.std.proofs.lemmas.List.{length-map}
 use Rattle.gf_fraction.specs.Ratio.{Ratio}
 use Rattle.gf_nfg.specs.inner.ComparedTable.{ComparesBody, IsCompared}
 use Rattle.gf_nfg.specs.inner.Machine.{Content}
-use Rattle.gf_nfg.specs.inner.Meaning.{HasPayoffs, IsComplete, rows_by, table_of}
+use Rattle.gf_nfg.specs.inner.Meaning.{IsComplete, rows_by, table_of}
 use Rattle.gf_nfg.specs.inner.Meaning as meaning
-use Rattle.gf_nfg.specs.Profiles.{positions, profiles}
+use Rattle.gf_nfg.specs.Profiles.{profiles}
 use Rattle.gf_nfg.specs.inner.ReaderState.{content_in, content_of, content_told, content_with}
 use Rattle.gf_nfg.specs.SameTable.{SameTable}
 use Rattle.gf_nfg.specs.Table.{IsTable, Table, rows}
-use Rattle.gf_nfg.specs.TableParts.{Names, entries_of, row_of, table_with}
+use Rattle.gf_nfg.specs.TableParts.{Names, table_with}
 use Rattle.gf_nfg.specs.TableText.{named_by}
 use Rattle.gf_nfg.specs.inner.TextParts.{names_by}
 use Rattle.gf_nfg.specs.inner.ToldTable.{HasToldTable}
@@ -46,61 +46,33 @@ named_table named t h = record {
 }
 
 table_again : (t : Table) → IsTable t → table_with (names_in t) (rows t) ≡ t
-table_again t h =
-    let entries : entries_of (profiles (map length t.strategies)) (rows t) ≡ t.entries =
-    ap (λ ps. entries_of ps (rows t)) (sym h.one_entry_each) ∙ entries_again t.entries in
-    λ i. record t { entries = entries i }
+table_again t h = grind (arith, entries_again)
 
 pub same_by_parts : (named : Bool) (t u : Table) (m n : Names) (rs qs : List (List Ratio))
     → IsTable t → IsTable u → m ≡ names_in t → n ≡ names_in u → rs ≡ rows t → qs ≡ rows u
     → SameTable (named_by named t) (named_by named u)
     ↔ ((names_by named m ≡ names_by named n) × (rs ≡ qs))
 same_by_parts named t u m n rs qs ht hu of_t of_u rows_t rows_u =
-    let x = named_by named t in
-    let y = named_by named u in
-    let hx = named_table named t ht in
-    let hy = named_table named u hu in
-    let equal = same_is_equal x y hx hy in (
-      λ s.
-          let e = equal.0 s in (
-            ap (names_by named) of_t ∙ ap names_in e ∙ sym (ap (names_by named) of_u),
-            rows_t ∙ ap rows e ∙ sym rows_u,
-          ),
-      λ e.
-          let names = sym (ap (names_by named) of_t) ∙ e.0 ∙ ap (names_by named) of_u in
-          let same = sym rows_t ∙ e.1 ∙ rows_u in
-          equal.1 (sym (table_again x hx) ∙ (λ i. table_with (names i) (same i))
-          ∙ table_again y hy),
-    )
+    grind (arith, same_is_equal (named_by named t) (named_by named u) (named_table named t ht)
+    (named_table named u hu), table_again (named_by named t) (named_table named t ht), table_again
+    (named_by named u) (named_table named u hu))
 
 -- ---- the whole
 
 rows_counted : (t : Table) → IsTable t
     → length (rows t) ≡ length (profiles (map length t.strategies))
-rows_counted t h =
-    length-map t.entries (λ e. e.payoffs) ∙ sym (length-map t.entries (λ e. e.profile))
-    ∙ ap length h.one_entry_each
+rows_counted t h = cc (length-map t.entries (λ e. e.payoffs), length-map t.entries (λ e. e.profile))
 
 -- payoffs of as many players and profiles are in the same rows
 rows_parted : (t u : Table) → IsTable t → IsTable u → t.players ≡ u.players
     → t.strategies ≡ u.strategies → joined (rows t) ≡ joined (rows u) → rows t ≡ rows u
 rows_parted t u ht hu players strategies same =
-    let count : length (rows t) ≡ length (rows u) =
-    rows_counted t ht
-    ∙ ap (λ (ss : List (List (List ℕ))). length (profiles (map length ss))) strategies
-    ∙ sym (rows_counted u hu) in
-    sym (rows_again (length t.players) (rows t) ht.one_payoff_each)
-    ∙ (λ i. map (row_of (length (players i)) (same i)) (positions (count i)))
-    ∙ rows_again (length u.players) (rows u) hu.one_payoff_each
+    cc (rows_counted t ht, rows_counted u hu, rows_again (length t.players) (rows t)
+    ht.one_payoff_each, rows_again (length u.players) (rows u) hu.one_payoff_each)
 
 payoffs_told : (c : Content) → IsComplete c → c.choices ≡ []
     → joined (rows (table_of c)) ≡ c.payoffs
-payoffs_told c h none =
-    let count : length c.payoffs ≡ length c.players * c.profiles =
-    subst (HasPayoffs c) none h.has_rows in
-    ap joined (rows-table_of c h) ∙ ap (λ ks. joined (rows_by c ks)) none
-    ∙ rows_in_turn (length c.players) c.profiles c.payoffs
-    (count ∙ mul_comm (length c.players) c.profiles)
+payoffs_told c h none = grind (arith, rows-table_of, rows_in_turn, mul_comm)
 
 -- what was told with this heading, beside a table with these names
 module _ (named : Bool) (t : Table) (m n : Names) (bytes : List ℕ) (heading : Heading)
@@ -129,30 +101,26 @@ module _ (named : Bool) (t : Table) (m n : Names) (bytes : List ℕ) (heading : 
       → IsTrue answer ↔ (rs ≡ qs)
       → IsTrue answer ↔ SameTable (named_by named t) (named_by named told)
   rows_compared rs qs answer names rows_t rows_u is =
-      let parts = same_by_parts named t told m n rs qs ht is_told of_t of_told rows_t rows_u in
-      (λ x. parts.1 (names, is.0 x), λ s. is.1 (parts.0 s).1)
+      grind (arith, same_by_parts named t told m n rs qs ht is_told of_t of_told rows_t rows_u)
 
   pub in_turn_compared : (answer : Bool) → names_by named m ≡ names_by named n
       → IsTrue answer ↔ (joined (rows t) ≡ joined (rows told))
       → IsTrue answer ↔ SameTable (named_by named t) (named_by named told)
   in_turn_compared answer names is =
-      let both : names_by named (names_in t) ≡ names_by named (names_in told) =
-      sym (ap (names_by named) of_t) ∙ names ∙ ap (names_by named) of_told in
+      let both : names_by named (names_in t) ≡ names_by named (names_in told) = cc in
       rows_compared (rows t) (rows told) answer names refl refl (
         λ yes. rows_parted t told ht is_told (ap (λ (x : Names). x.players) both)
             (ap (λ (x : Names). x.strategies) both) (is.0 yes),
         λ same. is.1 (ap joined same),
       )
 
-  pub payoffs_compared : (answer : Bool) → c.version ≡ Payoffs
-      → names_by named m ≡ names_by named n
+  pub payoffs_compared : (answer : Bool) → c.version ≡ Payoffs → names_by named m ≡ names_by named n
       → IsTrue answer ↔ (IsTrue c.same × (c.left ≡ []))
       → IsTrue answer ↔ SameTable (named_by named t) (named_by named told)
   payoffs_compared answer version names is =
       let x = h.holding in
       let told_version = sym x.version_is ∙ version in
-      let compared : Compares (joined (rows t)) c.same c.left h.told.payoffs =
-      subst (λ v. ComparesBody v (joined (rows t)) c h.told) told_version x.compares in
+      let compared : Compares (joined (rows t)) c.same c.left h.told.payoffs = grind arith in
       let payoffs = payoffs_told (content_told h.told) h.complete (h.unnumbered told_version) in
       in_turn_compared answer names (
         λ yes. (compared []).1 (is.0 yes) ∙ append-nil h.told.payoffs ∙ sym payoffs,

@@ -1,6 +1,6 @@
 -- Numbers as labels.
-use Rattle.std.proofs.Common.{◌≡◌, ℕ, suc, ◌+◌, ◌-◌, ◌<◌, ◌^◌, true, false, List, []}
-use Rattle.std.proofs.Common.{◌∷◌, ◌++◌, map, refl, sym, ap, ◌∙◌, arith, append_assoc}
+use Rattle.std.proofs.Common.{◌≡◌, ℕ, ◌+◌, ◌-◌, ◌<◌, ◌^◌, true, false, List, [], ◌∷◌, ◌++◌, map}
+use Rattle.std.proofs.Common.{refl, arith, append_assoc}
 use Rattle.std.proofs.lemmas.Bool.Decides.{nat_tests}
 use Rattle.std.specs.Prelude.{decimal, ◌==◌}
 use Rattle.std.specs.Str.Parse.{AllDigits}
@@ -24,24 +24,12 @@ decimal_label n h = digits_label 34 (decimal n) refl (decimal_is_IsNumeral_wide 
 abbrev pub counted_rest : ℕ → ℕ → List (List ℕ)
 counted_rest before count = map decimal (numbers_from (before + 1) (count - before))
 
-counted_step : (before count n : ℕ) → count - before ≡ suc n
-    → counted_rest before count ≡ decimal (before + 1) ∷ counted_rest (before + 1) count
-counted_step before count n e =
-    let f : count - (before + 1) ≡ n = omega (arith, e) in
-    rw (e, f) refl
-
 pub counted_more : (before count : ℕ) → before < count
     → counted_rest before count ≡ decimal (before + 1) ∷ counted_rest (before + 1) count
-counted_more before count h =
-    let e : count - before ≡ suc (count - before - 1) = omega (arith, h) in
-    counted_step before count (count - before - 1) e
+counted_more before count h = grind arith
 
 pub counted_appended : (old labels labels' : List (List ℕ)) (label : List ℕ) (before count : ℕ)
     → before < count → label ≡ decimal (before + 1) → labels' ≡ labels ++ label ∷ []
     → labels ++ counted_rest before count ≡ old → labels' ++ counted_rest (before + 1) count ≡ old
 counted_appended old labels labels' label before count h is e f =
-    ap (λ (ls : List (List ℕ)). ls ++ counted_rest (before + 1) count)
-    (e ∙ ap (λ (l : List ℕ). labels ++ l ∷ []) is)
-    ∙ append_assoc labels (decimal (before + 1) ∷ []) (counted_rest (before + 1) count)
-    ∙ ap (λ (ls : List (List ℕ)). labels ++ ls) (sym (counted_more before count h))
-    ∙ f
+    grind (arith, append_assoc, counted_more)

@@ -1,7 +1,6 @@
 -- Labels that are put together: one after another, or joined to one.
-use Rattle.std.proofs.Common.{◌≡◌, ◌∙◌, ℕ, ◌+◌, ◌-◌, ◌<◌, true, List, [], ◌∷◌, ◌++◌, map, length}
-use Rattle.std.proofs.Common.{subst, Some, slice_get, take, drop, get_or, refl, sym, ap, arith}
-use Rattle.std.proofs.Common.{append_assoc}
+use Rattle.std.proofs.Common.{◌≡◌, ℕ, ◌+◌, ◌-◌, ◌<◌, true, List, [], ◌∷◌, ◌++◌, map, length, subst}
+use Rattle.std.proofs.Common.{Some, slice_get, take, drop, get_or, refl, sym, arith, append_assoc}
 use Rattle.std.specs.Prelude.{Result, Ok, Err, OnOk, is_ok, sum}
 use Rattle.std.specs.List.{AllByRecursion, join_with_byte}
 use Rattle.std.proofs.lemmas.Bool.{and_from, and_parts}
@@ -23,22 +22,8 @@ pieces_size : {A : Type 0} (from : ℕ) (ends : List ℕ) (items : List A)
     → RisesTo (length items) from ends
     → from + sum (map length (pieces from ends items)) ≡ length items
 pieces_size from [] items h = omega (arith, h)
-pieces_size from (end ∷ ends) items h =
-    let first = take (end - from) (drop from items) in
-    let size : length first ≡ end - from =
-    length-take (end - from) (drop from items) ∙ omega (
-      arith,
-      length-drop from items,
-      h.0,
-      rises_within (length items) end ends h.1,
-    ) in
-    omega (
-      arith,
-      size,
-      h.0,
-      sum-cons (length first) (map length (pieces end ends items)),
-      pieces_size end ends items h.1,
-    )
+pieces_size from (end ∷ ends) items h = grind (arith, length-take, drop, length-drop, rises_within,
+    sum-cons, take, pieces_size end ends items h.1)
 
 pub labels_size : (ends bytes : List ℕ) → RisesTo (length bytes) 0 ends
     → sum (map length (pieces 0 ends bytes)) ≡ length bytes
@@ -78,29 +63,22 @@ pub joined_label : (labels : List (List ℕ)) → AreSpellings labels
     → IsLabel (join_with_byte 45 labels)
 joined_label [] h = refl
 joined_label (x ∷ []) h = h.0
-joined_label (x ∷ y ∷ labels) h =
-    joined_behind 34 x (join_with_byte 45 (y ∷ labels)) h.0 (joined_label (y ∷ labels) h.1)
+joined_label (x ∷ y ∷ labels) h = grind (arith, joined_behind, joined_label (y ∷ labels) h.1)
 
 pub one_joined_more : (labels : List (List ℕ)) (x : List ℕ) → 0 < length labels
     → join_with_byte 45 (labels ++ x ∷ []) ≡ join_with_byte 45 labels ++ 45 ∷ x
 one_joined_more [] x some = absurd (omega arith)
 one_joined_more (y ∷ []) x some = refl
 one_joined_more (y ∷ z ∷ labels) x some =
-    ap (λ (bs : List ℕ). y ++ 45 ∷ bs) (one_joined_more (z ∷ labels) x (omega arith))
-    ∙ sym (append_assoc y (45 ∷ join_with_byte 45 (z ∷ labels)) (45 ∷ x))
+    grind (arith, append_assoc, one_joined_more (z ∷ labels) x (omega arith))
 
 -- ---- one more label
 
 pub one_added : (old labels next others : List (List ℕ)) (at : ℕ) (x : List ℕ)
     → at < length others → slice_get others at ≡ Some x → labels ≡ old ++ take at others
     → next ≡ labels ++ x ∷ [] → next ≡ old ++ take (at + 1) others
-one_added old labels next others at x within found h e =
-    e
-    ∙ ap (λ (ls : List (List ℕ)). ls ++ x ∷ []) h
-    ∙ append_assoc old (take at others) (x ∷ [])
-    ∙ ap (λ (l : List ℕ). old ++ (take at others ++ l ∷ []))
-    (sym (get_or_from_slice_get others at x x found))
-    ∙ ap (λ (ls : List (List ℕ)). old ++ ls) (sym (take_more others at x within))
+one_added old labels next others at x within found h e = grind (arith, append_assoc old
+    (take at others) (x ∷ []), take, get_or_from_slice_get others, take_more others)
 
 pub where_ok : {T E P : Type 0} (r : Result T E) → is_ok r ≡ true → OnOk r P → P
 where_ok (Ok x) e h = h
@@ -110,24 +88,14 @@ one_taken : (labels : List Label) (at : ℕ) (x d : Label) → x ≡ get_or labe
     → at < length labels
     → map label_of (take (at + 1) labels) ≡ map label_of (take at labels) ++ label_of x ∷ []
 one_taken labels at x d is within =
-    ap (map label_of) (take_more labels at d within)
-    ∙ map_push label_of (take at labels) (get_or labels at d)
-    ∙ ap (λ (l : Label). map label_of (take at labels) ++ label_of l ∷ []) (sym is)
+    grind (arith, take_more labels, map_push label_of (take at labels) (get_or labels at d), take)
 
 pub first_joined : (old bytes next more : List ℕ) (labels : List Label) (at : ℕ) (x d : Label)
     → at ≡ 0 → x ≡ get_or labels at d → at < length labels
-    → bytes ≡ old ++ join_with_byte 45 (map label_of (take at labels))
-    → more ≡ label_of x → next ≡ bytes ++ more
-    → next ≡ old ++ join_with_byte 45 (map label_of (take (at + 1) labels))
+    → bytes ≡ old ++ join_with_byte 45 (map label_of (take at labels)) → more ≡ label_of x
+    → next ≡ bytes ++ more → next ≡ old ++ join_with_byte 45 (map label_of (take (at + 1) labels))
 first_joined old bytes next more labels at x d none is within h m e =
-    let taken = one_taken labels at x d is within in
-    let before : bytes ≡ old = h
-    ∙ ap (λ (n : ℕ). old ++ join_with_byte 45 (map label_of (take n labels))) none
-    ∙ append-nil old in
-    let first : label_of x ≡ join_with_byte 45 (map label_of (take (at + 1) labels)) =
-    ap (λ (n : ℕ). join_with_byte 45 (map label_of (take n labels) ++ label_of x ∷ [])) (sym none)
-    ∙ ap (join_with_byte 45) (sym taken) in
-    e ∙ (λ i. before i ++ (m ∙ first) i)
+    grind (arith, one_taken, append-nil)
 
 pub more_joined : (old bytes dashed next more : List ℕ) (labels : List Label) (at : ℕ) (x d : Label)
     → 0 < at → x ≡ get_or labels at d → at < length labels
@@ -136,12 +104,7 @@ pub more_joined : (old bytes dashed next more : List ℕ) (labels : List Label) 
     → next ≡ old ++ join_with_byte 45 (map label_of (take (at + 1) labels))
 more_joined old bytes dashed next more labels at x d some is within h dash m e =
     let before = map label_of (take at labels) in
-    let counted : length before ≡ at =
-    length-map (take at labels) label_of ∙ length-take at labels ∙ omega (arith, within) in
-    e
-    ∙ (λ i. (dash ∙ ap (λ (bs : List ℕ). bs ++ 45 ∷ []) h) i ++ m i)
-    ∙ append_assoc (old ++ join_with_byte 45 before) (45 ∷ []) (label_of x)
-    ∙ append_assoc old (join_with_byte 45 before) (45 ∷ label_of x)
-    ∙ ap (λ (bs : List ℕ). old ++ bs) (sym (one_joined_more before (label_of x)
-    (omega (arith, some, counted)))
-    ∙ ap (join_with_byte 45) (sym (one_taken labels at x d is within)))
+    let counted : length before ≡ at = grind (arith, length-map, take, length-take) in
+    grind (arith, append_assoc (old ++ join_with_byte 45 before) (45 ∷ []) (label_of x),
+    append_assoc old (join_with_byte 45 before) (45 ∷ label_of x), one_joined_more before
+    (label_of x) (omega (arith, some, counted)), one_taken labels)

@@ -1,6 +1,6 @@
 -- Tables that are only compared: what is kept of their payoffs, and that it means the table.
-use Rattle.std.proofs.Common.{◌≡◌, ℕ, ℤ, ◌*◌, ◌<◌, List, [], ◌∷◌, length, map}
-use Rattle.std.proofs.Common.{refl, sym, ap, arith, subst, ◌∙◌}
+use Rattle.std.proofs.Common.{◌≡◌, ℕ, ℤ, ◌*◌, ◌<◌, List, [], ◌∷◌, length, map, refl, sym, ap, arith}
+use Rattle.std.proofs.Common.{subst, ◌∙◌}
 use Rattle.std.specs.Prelude.{Vec}
 use Rattle.std.specs.Global.{Global}
 use Rattle.std.proofs.Math.Nat.{mul_comm}
@@ -8,11 +8,11 @@ use Rattle.gf_fraction.specs.Ratio.{Ratio}
 use Rattle.gf_nfg.specs.Profiles.{positions, product}
 use Rattle.gf_nfg.specs.Table.{IsTable, Table, rows}
 use Rattle.gf_nfg.specs.TableParts.{IsHeld, Names, row_of, table_with}
-use Rattle.gf_nfg.specs.inner.ListedTable.{IsFull, IsListed, IsListing, listed_rows}
+use Rattle.gf_nfg.specs.inner.ListedTable.{IsListed, IsListing, listed_rows}
 use Rattle.gf_nfg.specs.inner.Machine.{Content}
 use Rattle.gf_nfg.specs.inner.Meaning.{HasPayoffs, IsComplete, names_in, rows_by, table_of}
 use Rattle.gf_nfg.specs.inner.PayoffLists.{payoffs_in}
-use Rattle.gf_nfg.specs.inner.ReaderState.{content_in, content_of, content_told, content_with}
+use Rattle.gf_nfg.specs.inner.ReaderState.{content_in, content_of, content_told}
 use Rattle.gf_nfg.specs.inner.ToldTable.{HasToldTable}
 use Rattle.gf_nfg.specs.declared.reader.receive.Version.{Version}
 use Rattle.gf_nfg.specs.declared.reader.receive.Version.TheVariants.{Outcomes, Payoffs}
@@ -30,19 +30,14 @@ use Rattle.gf_nfg.proofs.lemmas.tables.Spelled.{spelled_is_spellable}
 module _ (t : Table) (names : Names) (body : Body)
     (view : table_with names (listed_rows names body) ≡ t) (listed : IsListed names body) where
   pub rows_are : listed_rows names body ≡ rows t
-  rows_are = sym (rows-table_with names (listed_rows names body) listed.held.named.counted)
-      ∙ ap rows view
+  rows_are = cc (rows-table_with names (listed_rows names body) listed.held.named.counted)
 
   pub table_listed : IsTable t
   table_listed = rw (← view) (is_table _ _ listed.held.named listed.held.one_payoff_each)
 
   pub payoffs_are : (numbers : Vec ℤ Global) (others : Vec Ratio Global)
-      → body ≡ InTurn numbers others
-      → payoffs_in numbers.items others.items ≡ joined (rows t)
-  payoffs_are numbers others is =
-      sym (rows_in_turn (length names.players) (product (map length names.strategies))
-      (payoffs_in numbers.items others.items) (subst (IsFull names) is listed.full))
-      ∙ ap joined (ap (listed_rows names) (sym is) ∙ rows_are)
+      → body ≡ InTurn numbers others → payoffs_in numbers.items others.items ≡ joined (rows t)
+  payoffs_are numbers others is = grind (arith, rows_in_turn, rows_are)
 
 -- ---- the table that was told
 
@@ -71,11 +66,7 @@ module _ (bytes : List ℕ) (heading : Heading) (l : Listing)
 
   pub parts_told : ¬ (l.kept.numbers.items ≡ [])
       → told ≡ content_of (record { heading = heading; kept = l.kept })
-  parts_told some =
-      let none : l.whole.items ≡ [] = (h.holding.none_small (shared some)).1 in
-      let payoffs : l.kept.payoffs.items ≡ h.told.payoffs =
-      ap (λ ns. payoffs_in ns l.kept.payoffs.items) (sym none) ∙ h.holding.payoffs_are in
-      (λ i. content_with (h.same i) (sym payoffs i) (sym h.holding.numbers_are i))
+  parts_told some = grind arith
 
   pub shared_rows : ¬ (l.kept.numbers.items ≡ [])
       → rows_by (content_of (record { heading = heading; kept = l.kept })) l.kept.numbers.items

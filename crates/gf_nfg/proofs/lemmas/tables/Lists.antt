@@ -1,6 +1,6 @@
 -- Lists that stand one after another, and their lengths.
-use Rattle.std.proofs.Common.{◌≡◌, ℕ, zero, suc, ◌+◌, ◌*◌, ◌<◌, List, [], ◌∷◌, ◌++◌, length}
-use Rattle.std.proofs.Common.{map, take, drop, Some, refl, sym, ap, subst, ◌∙◌, arith}
+use Rattle.std.proofs.Common.{◌≡◌, ℕ, zero, suc, ◌+◌, ◌*◌, ◌<◌, List, [], ◌∷◌, ◌++◌, length, map}
+use Rattle.std.proofs.Common.{take, drop, Some, refl, ap, subst, ◌∙◌, arith}
 use Rattle.std.specs.Prelude.{decimal, sum, slice_get}
 use Rattle.std.specs.List.{AllByRecursion, flat_map}
 use Rattle.std.proofs.Math.Nat.{mul-suc, one-le-mul}
@@ -59,34 +59,23 @@ groups-joined (xs ∷ lists) =
 pub length-joined : {A : Type 0} (lists : List (List A))
     → length (joined lists) ≡ sum (map length lists)
 length-joined [] = refl
-length-joined (xs ∷ lists) = length-append xs (joined lists)
-    ∙ ap (λ n. length xs + n) (length-joined lists)
-    ∙ sym (sum-cons (length xs) (map length lists))
+length-joined (xs ∷ lists) = grind (arith, length-append, sum-cons, length-joined lists)
 
 -- of one length each
 pub length-joined_rows : {A : Type 0} (size : ℕ) (lists : List (List A))
     → AllByRecursion (λ xs. length xs ≡ size) lists → length (joined lists) ≡ size * length lists
 length-joined_rows size [] h = omega arith
 length-joined_rows size (xs ∷ lists) h =
-    let first = length-append xs (joined lists) in
-    let rest = length-joined_rows size lists h.1 in
-    omega (arith, first, rest, h.0, mul-suc size (length lists))
+    grind (arith, length-append, mul-suc, length-joined_rows size lists h.1)
 
 -- the k-th of them
 pub get-joined : {A : Type 0} (size : ℕ) (lists : List (List A)) (k : ℕ)
     → AllByRecursion (λ xs. length xs ≡ size) lists → k < length lists
     → slice_get lists k ≡ Some (take size (drop (k * size) (joined lists)))
 get-joined size [] k h less = absurd (omega arith)
-get-joined size (xs ∷ lists) zero h less =
-    let none : zero * size ≡ 0 = omega arith in
-    let whole : take size (drop (zero * size) (xs ++ joined lists)) ≡ xs =
-    ap (λ n. take size (drop n (xs ++ joined lists))) none ∙ take-by size xs (joined lists) h.0 in
-    ap Some (sym whole)
+get-joined size (xs ∷ lists) zero h less = grind (arith, take-by)
 get-joined size (xs ∷ lists) (suc k) h less =
-    let more : suc k * size ≡ size + k * size = omega arith in
-    let same : drop (suc k * size) (xs ++ joined lists) ≡ drop (k * size) (joined lists) =
-    ap (λ n. drop n (xs ++ joined lists)) more ∙ drop-more size (k * size) xs (joined lists) h.0 in
-    get-joined size lists k h.1 (omega arith) ∙ ap (λ ys. Some (take size ys)) (sym same)
+    grind (arith, drop-more, get-joined size lists k h.1 (omega arith))
 
 -- of positive counts there are some
 pub product_above_zero : (counts : List ℕ) → AllByRecursion (λ n. 0 < n) counts → 0 < product counts

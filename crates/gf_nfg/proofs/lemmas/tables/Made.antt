@@ -1,6 +1,6 @@
 -- A table that is made from labels and fractions.
-use Rattle.std.proofs.Common.{◌≡◌, ℕ, ◌*◌, ◌/◌, ◌<◌, ◌≤◌, List, [], ◌∷◌}
-use Rattle.std.proofs.Common.{length, map, refl, sym, ap, subst, ◌∙◌, arith}
+use Rattle.std.proofs.Common.{◌≡◌, ℕ, ◌*◌, ◌/◌, ◌<◌, ◌≤◌, List, [], ◌∷◌, length, map, refl, sym, ap}
+use Rattle.std.proofs.Common.{subst, ◌∙◌, arith}
 use Rattle.std.specs.Prelude.{Option, SomeIff, Vec, unwrap_or, vec_len}
 use Rattle.std.specs.List.{AllByRecursion, AllZip, flat_map}
 use Rattle.std.proofs.lemmas.List.{length-map}
@@ -17,8 +17,8 @@ use Rattle.gf_nfg.specs.TableParts.{AreParts, AreSpellings, IsHeld, IsNamed, Nam
 use Rattle.gf_nfg.specs.TableParts.{table_with}
 use Rattle.gf_nfg.proofs.lemmas.tables.LabelsJoined.{labels_spelled}
 use Rattle.gf_nfg.proofs.lemmas.tables.Rows.{counts_of_lists, full_rows, length-kept, made_of_parts}
-use Rattle.gf_nfg.proofs.lemmas.tables.Rows.{positions_have_rows, some_in_lists}
-use Rattle.gf_nfg.proofs.lemmas.tables.Rows.{profiles_counted, rows-table_with, rows_in_turn}
+use Rattle.gf_nfg.proofs.lemmas.tables.Rows.{positions_have_rows, some_in_lists, profiles_counted}
+use Rattle.gf_nfg.proofs.lemmas.tables.Rows.{rows-table_with, rows_in_turn}
 
 lists_spelled : {Z : Type 0} (lists : List (Vec Label Z)) → AllByRecursion
     (λ own. AreSpellings own) (map (λ own. map label_of own.items) lists)
@@ -96,11 +96,10 @@ pub record IsMade (names : Names) (payoffs : List Ratio) (players size : ℕ) (q
 module _ (names : Names) (payoffs : List Ratio) (players size : ℕ) (quotient : Option ℕ)
     (count : ℕ) (m : IsMade names payoffs players size quotient count) where
   pub made_counted : count ≡ product (map length names.strategies)
-  made_counted =
-      m.counted ∙ profiles_counted size players (map length names.strategies) quotient m.divided
-      (length-map names.strategies length ∙ m.parts.one_list_each ∙ sym m.players_are)
-      (m.size_is ∙ m.parts.one_row_each
-      ∙ ap (λ (n : ℕ). product (map length names.strategies) * n) (sym m.players_are))
+  made_counted = cc (profiles_counted size players (map length names.strategies) quotient m.divided
+      (length-map names.strategies length ∙ m.parts.one_list_each ∙ sym m.players_are) (m.size_is
+      ∙ m.parts.one_row_each ∙ ap (λ (n : ℕ). product (map length names.strategies) * n) (sym
+      m.players_are)))
 
   pub made_whole : length payoffs ≡ count * players
   made_whole = m.parts.one_row_each ∙ (λ i. sym made_counted i * sym m.players_are i)
@@ -123,8 +122,7 @@ module _ (names : Names) (payoffs : List Ratio) (players size : ℕ) (quotient :
   made_full : AllByRecursion (λ row. length row ≡ length names.players) rs
   made_full =
       let kept = positions_have_rows players count payoffs [] made_whole in
-      subst (λ (n : ℕ). AllByRecursion (λ row. length row ≡ n) rs) m.players_are
-      (full_rows players payoffs (positions count) kept.rows_kept)
+      rw (← m.players_are) (full_rows players payoffs (positions count) kept.rows_kept)
 
   made_in_turn : flat_map (λ row. row) rs ≡ payoffs
   made_in_turn = rows_in_turn players count payoffs made_whole

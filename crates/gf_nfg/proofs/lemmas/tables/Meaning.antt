@@ -1,10 +1,8 @@
 -- What was read in full means a table, and a table can be recovered from its parts.
-use Rattle.std.proofs.Common.{◌≡◌, ℕ, zero, suc, ◌+◌, ◌*◌, ◌<◌, ◌≤◌, List, []}
-use Rattle.std.proofs.Common.{Bool, true, false}
-use Rattle.std.proofs.Common.{◌∷◌, ◌++◌, length, map, take, drop, refl, sym}
-use Rattle.std.proofs.Common.{ap, subst, ◌∙◌, arith, length-take, length-drop}
+use Rattle.std.proofs.Common.{◌≡◌, ℕ, zero, suc, ◌+◌, ◌*◌, ◌<◌, ◌≤◌, List, [], Bool, true, false}
+use Rattle.std.proofs.Common.{◌∷◌, ◌++◌, length, map, take, drop, refl, sym, ap, subst, ◌∙◌, arith}
+use Rattle.std.proofs.Common.{length-take, length-drop}
 use Rattle.std.specs.Prelude.{◌==◌, sum, replicate, pos}
-use Rattle.std.proofs.lemmas.Bool.Decides.{nat_tests}
 use Rattle.std.specs.List.{AllByRecursion}
 use Rattle.std.proofs.Math.Nat.{mul_comm, mul-le-mul_right}
 use Rattle.std.proofs.lemmas.List.{drop-drop, length-map}
@@ -16,10 +14,10 @@ use Rattle.gf_nfg.specs.LimitPlace.{IsWithinLimit}
 use Rattle.gf_nfg.specs.Table.{IsSpellable, IsTable, rows}
 use Rattle.gf_nfg.specs.TableParts.{Names, groups, numbers_of, row_of, IsHeld, IsNamed, HasRows}
 use Rattle.gf_nfg.specs.inner.Machine.{Content}
-use Rattle.gf_nfg.specs.inner.Meaning.{names_in, choices_of, strategies_of, rows_by}
-use Rattle.gf_nfg.specs.inner.Meaning.{table_of, HasPayoffs, HasLabels, IsComplete}
-use Rattle.gf_nfg.proofs.lemmas.tables.Lists.{joined, sum-cons, counts_back}
-use Rattle.gf_nfg.proofs.lemmas.tables.Lists.{groups-joined, take-by, drop-by}
+use Rattle.gf_nfg.specs.inner.Meaning.{names_in, choices_of, strategies_of, rows_by, table_of}
+use Rattle.gf_nfg.specs.inner.Meaning.{HasPayoffs, HasLabels, IsComplete}
+use Rattle.gf_nfg.proofs.lemmas.tables.Lists.{joined, sum-cons, counts_back, groups-joined, take-by}
+use Rattle.gf_nfg.proofs.lemmas.tables.Lists.{drop-by}
 use Rattle.gf_nfg.proofs.lemmas.tables.Rows as kept
 
 -- ---- strategies
@@ -27,11 +25,8 @@ use Rattle.gf_nfg.proofs.lemmas.tables.Rows as kept
 length-groups : {A : Type 0} (sizes : List ℕ) (items : List A) → length items ≡ sum sizes
     → map length (groups sizes items) ≡ sizes
 length-groups [] items e = refl
-length-groups (n ∷ sizes) items e =
-    let all = sum-cons n sizes in
-    let first : length (take n items) ≡ n = omega (arith, e, all, length-take n items) in
-    let rest = length-groups sizes (drop n items) (omega (arith, e, all, length-drop n items)) in
-    (λ i. first i ∷ rest i)
+length-groups (n ∷ sizes) items e = grind (arith, sum-cons, length-take, drop, length-drop,
+    length-groups sizes (drop n items) (omega (arith, e, (sum-cons n sizes), length-drop n items)))
 
 -- the strategies are as many as the counts say
 pub counts-strategies_of : (counts : List ℕ) (labels : List (List ℕ)) → HasLabels counts labels
@@ -58,31 +53,20 @@ numbered_rows : (players k n : ℕ) (payoffs : List Ratio)
     ≡ rows_of players n (drop (k * players) payoffs)
 numbered_rows players k zero payoffs = refl
 numbered_rows players k (suc n) payoffs =
-    let next : suc k + 1 ≡ suc (suc k) = omega arith in
-    let more : suc k * players ≡ k * players + players = omega arith in
-    let rest : map (row_of players payoffs) (numbers_from (suc k + 1) n)
-    ≡ rows_of players n (drop players (drop (k * players) payoffs)) =
-    ap (λ (m : ℕ). map (row_of players payoffs) (numbers_from m n)) next
-    ∙ numbered_rows players (suc k) n payoffs
-    ∙ ap (λ (m : ℕ). rows_of players n (drop m payoffs)) more
-    ∙ ap (rows_of players n) (sym (drop-drop players (k * players) payoffs)) in
-    ap (λ (rs : List (List Ratio)). take players (drop (k * players) payoffs) ∷ rs) rest
+    grind (arith, drop-drop, take, drop, numbered_rows players (suc k) n payoffs)
 
 -- rows with the numbers from 1 are the rows in turn
 pub rows_in_turn : (players n : ℕ) (payoffs : List Ratio)
     → map (row_of players payoffs) (positions n) ≡ rows_of players n payoffs
-rows_in_turn players n payoffs =
-    let none : 0 * players ≡ 0 = omega arith in
-    numbered_rows players 0 n payoffs ∙ ap (λ (m : ℕ). rows_of players n (drop m payoffs)) none
+rows_in_turn players n payoffs = grind (arith, numbered_rows)
 
 -- rows one after another are parted again
 rows_of-joined : (players : ℕ) (rs : List (List Ratio))
     → AllByRecursion (λ row. length row ≡ players) rs → rows_of players (length rs) (joined rs) ≡ rs
 rows_of-joined players [] h = refl
 rows_of-joined players (row ∷ rs) h =
-    let rest : rows_of players (length rs) (drop players (row ++ joined rs)) ≡ rs =
-    ap (rows_of players (length rs)) (drop-by players row (joined rs) h.0)
-    ∙ rows_of-joined players rs h.1 in
+    let rest : rows_of players (length rs) (drop players (row ++ joined rs)) ≡ rs = cc (drop-by
+    players row (joined rs) h.0, rows_of-joined players rs h.1) in
     (λ i. take-by players row (joined rs) h.0 i ∷ rest i)
 
 pub rows_again : (players : ℕ) (rs : List (List Ratio))
@@ -127,9 +111,7 @@ pub named : (c : Content) → IsComplete c → IsNamed (names_in c) c.profiles
 named c h =
     let same = counts-strategies_of c.counts c.labels h.has_labels in
     record {
-      one_list_each = sym (length-map (strategies_of c.counts c.labels) length)
-          ∙ ap length same
-          ∙ h.one_count_each;
+      one_list_each = cc (length-map (strategies_of c.counts c.labels) length);
       some_strategy = all_mapped (λ n. 0 < n) length (strategies_of c.counts c.labels)
           (subst (λ ns. AllByRecursion (λ n. 0 < n) ns) (sym same) h.some_strategy);
       counted = h.profiles_are ∙ ap product (sym same);
@@ -163,13 +145,11 @@ within_limit c h within = let count = length-entries c h in omega (arith, count,
 
 pub present : (size count : ℕ) (empty : Bool) → empty ≡ (size == 0) → empty ≡ false
     → size ≡ count → 0 < count
-present size count empty is given same =
-    let test : (size == 0) ≡ false = sym is ∙ given in grind (arith, nat_tests, test, same)
+present size count empty is given same = grind arith
 
 pub lacking : (size count : ℕ) (empty : Bool) → empty ≡ (size == 0) → empty ≡ true
     → size ≡ count → count ≡ 0
-lacking size count empty is none same =
-    let test : (size == 0) ≡ true = sym is ∙ none in grind (arith, nat_tests, test, same)
+lacking size count empty is none same = grind arith
 
 -- ---- the table as it is made
 
@@ -208,6 +188,4 @@ count_chosen c (k ∷ choices) h some = h.2
 pub rows_chosen : (c : Content) (choices : List ℕ) → HasPayoffs c choices → 0 < length choices
     → AllByRecursion (λ number. number * length c.players ≤ length c.payoffs) choices
 rows_chosen c choices h some =
-    subst (λ (ns : List ℕ).
-    AllByRecursion (λ number. number * length c.players ≤ length c.payoffs) ns)
-    (some_chosen c.profiles choices some) (has_rows c choices h).rows_kept
+    rw (← some_chosen c.profiles choices some) (has_rows c choices h).rows_kept

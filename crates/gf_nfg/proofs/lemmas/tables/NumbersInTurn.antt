@@ -1,14 +1,13 @@
 -- Numbers in turn, and the place of an element in a list.
-use Rattle.std.proofs.Common.{◌≡◌, ℕ, zero, suc, ◌+◌, ◌-◌, ◌<◌, ◌≤◌, List, ◌∷◌, ◌++◌}
-use Rattle.std.proofs.Common.{length, get_or, refl, sym, ap, ◌∙◌, arith, length-append}
+use Rattle.std.proofs.Common.{◌≡◌, ℕ, zero, suc, ◌+◌, ◌-◌, ◌<◌, ◌≤◌, List, ◌∷◌, ◌++◌, length}
+use Rattle.std.proofs.Common.{get_or, refl, ap, ◌∙◌, arith, length-append}
 use Rattle.std.specs.List.{Contains}
 use Rattle.std.proofs.lemmas.List.{get_or_at}
 use Rattle.gf_nfg.specs.Profiles.{numbers_from}
 
 pub numbers_joined : (first m n : ℕ)
     → numbers_from first m ++ numbers_from (first + m) n ≡ numbers_from first (m + n)
-numbers_joined first zero n =
-    let e : first + 0 ≡ first = omega arith in let f : 0 + n ≡ n = omega arith in rw (e, f) refl
+numbers_joined first zero n = grind arith
 numbers_joined first (suc m) n =
     let e : first + suc m ≡ first + 1 + m = omega arith in
     let f : suc m + n ≡ suc (m + n) = omega arith in
@@ -32,19 +31,9 @@ pub number_in : (first n s : ℕ) → first ≤ s → s < first + n → IsIn (nu
 number_in first n s h k =
     let a = s - first in
     let e : n ≡ a + suc (n - a - 1) = omega arith in
-    let f : first + a ≡ s = omega arith in (
-      numbers_from first a,
-      numbers_from (s + 1) (n - a - 1),
-      ap (numbers_from first) e
-          ∙ sym (numbers_joined first a (suc (n - a - 1)))
-          ∙ ap (λ (i : ℕ). numbers_from first a ++ numbers_from i (suc (n - a - 1))) f,
-    )
+    let f : first + a ≡ s = omega arith in
+    grind (arith, numbers_joined first a (suc (n - a - 1)))
 
 pub contains_in : {X : Type 0} (xs : List X) (x : X) → IsIn xs x → Contains xs x
 contains_in xs x h =
-    let n = length-append h.0 (x ∷ h.1) in
-    let m : length xs ≡ length (h.0 ++ x ∷ h.1) = ap length h.2 in (
-      length h.0,
-      omega (arith, n, m),
-      ap (λ ys. get_or ys (length h.0) x) h.2 ∙ get_or_at h.0 x h.1 x (length h.0) refl,
-    )
+    grind (arith, length-append h.0 (x ∷ h.1), get_or_at h.0 x h.1 x (length h.0) refl)

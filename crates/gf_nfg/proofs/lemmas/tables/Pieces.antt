@@ -1,8 +1,8 @@
 -- Lists that are cut into pieces.
 use Rattle.std.proofs.Common.{◌≡◌, ℕ, zero, suc, ◌+◌, ◌-◌, ◌<◌, ◌≤◌, List, [], ◌∷◌, ◌++◌, length}
-use Rattle.std.proofs.Common.{take, drop, get_or, Some, slice_get, refl, sym, ap, ◌∙◌, arith, true}
-use Rattle.std.proofs.lemmas.List.{take-append-le, drop-append-le, length-drop}
-use Rattle.std.proofs.lemmas.List.{length-append, take_all, drop_at}
+use Rattle.std.proofs.Common.{take, drop, get_or, Some, slice_get, refl, ap, arith, true}
+use Rattle.std.proofs.lemmas.List.{take-append-le, drop-append-le, length-drop, length-append}
+use Rattle.std.proofs.lemmas.List.{take_all, drop_at}
 use Rattle.gf_fraction.proofs.AllElements.{all_both}
 use Rattle.gf_token.specs.LabelSpelling.{is_spelling, IsLabel}
 use Rattle.gf_nfg.specs.TableParts.{pieces, start_of, RisesTo, IsCut}
@@ -46,24 +46,16 @@ end_within whole from (end ∷ ends) (suc k) d r h =
 
 pub take_part : {A : Type 0} (n m : ℕ) (xs ys : List A) → m + n ≤ length xs
     → take n (drop m (xs ++ ys)) ≡ take n (drop m xs)
-take_part n m xs ys h =
-    let inside : n ≤ length (drop m xs) = omega (arith, length-drop m xs) in
-    rw (drop-append-le m xs ys (omega (arith, h))) (take-append-le n (drop m xs) ys inside)
+take_part n m xs ys h = grind (arith, length-drop, drop-append-le, take-append-le)
 
 -- a piece more at the end
 pub pieces-push : {A : Type 0} (from : ℕ) (ends : List ℕ) (items more : List A)
     → RisesTo (length items) from ends
     → pieces from (ends ++ (length items + length more) ∷ []) (items ++ more)
     ≡ pieces from ends items ++ more ∷ []
-pieces-push from [] items more h =
-    let size : length items + length more - from ≡ length more = omega (arith, h) in
-    let rest : drop from (items ++ more) ≡ more = drop_at items more from (sym h) in
-    rw (size, rest, take_all (length more) more (omega arith)) refl
-pieces-push from (end ∷ ends) items more h =
-    let within = rises_within (length items) end ends h.1 in
-    let part : take (end - from) (drop from (items ++ more)) ≡ take (end - from) (drop from items) =
-    take_part (end - from) from items more (omega (arith, h.0, within)) in
-    rw (part, pieces-push end ends items more h.1) refl
+pieces-push from [] items more h = grind (arith, drop_at, take_all)
+pieces-push from (end ∷ ends) items more h = cc (take_part (end - from) from items more (omega
+    (arith, h.0, (rises_within (length items) end ends h.1))), pieces-push end ends items more h.1)
 
 pub rises-push : (from : ℕ) (ends : List ℕ) (whole more : ℕ) → RisesTo whole from ends
     → RisesTo (whole + more) from (ends ++ (whole + more) ∷ [])
@@ -79,20 +71,13 @@ pub record IsMore (ends bytes more ends' bytes' : List ℕ) : Type 0 where
 
 pub pieces-more : (ends bytes more ends' bytes' : List ℕ) → IsMore ends bytes more ends' bytes'
     → pieces 0 ends' bytes' ≡ pieces 0 ends bytes ++ more ∷ []
-pieces-more ends bytes more ends' bytes' m =
-    let e : ends' ≡ ends ++ (length bytes + length more) ∷ [] = m.ends_are
-    ∙ ap (λ (bs : List ℕ). ends ++ length bs ∷ []) m.bytes_are
-    ∙ ap (λ (n : ℕ). ends ++ n ∷ []) (length-append bytes more) in
-    rw (e, m.bytes_are) (pieces-push 0 ends bytes more m.is_cut.rises)
+pieces-more ends bytes more ends' bytes' m = grind (arith, length-append, pieces-push)
 
 pub cut_more : (ends bytes more ends' bytes' : List ℕ) → IsMore ends bytes more ends' bytes'
     → IsCut ends' bytes'
 cut_more ends bytes more ends' bytes' m =
-    let e : ends' ≡ ends ++ (length bytes + length more) ∷ [] = m.ends_are
-    ∙ ap (λ (bs : List ℕ). ends ++ length bs ∷ []) m.bytes_are
-    ∙ ap (λ (n : ℕ). ends ++ n ∷ []) (length-append bytes more) in
-    let whole : length bytes' ≡ length bytes + length more =
-    ap length m.bytes_are ∙ length-append bytes more in
+    let e : ends' ≡ ends ++ (length bytes + length more) ∷ [] = cc (length-append bytes more) in
+    let whole : length bytes' ≡ length bytes + length more = cc (length-append bytes more) in
     record {
       rises = rw (whole, e) (rises-push 0 ends (length bytes) (length more) m.is_cut.rises);
       spelled = rw (pieces-more ends bytes more ends' bytes' m) (all_both IsLabel
@@ -101,6 +86,4 @@ cut_more ends bytes more ends' bytes' m =
 
 pub within_ends : (ends bytes : List ℕ) (labels : List (List ℕ)) (at : ℕ)
     → pieces 0 ends bytes ≡ labels → at < length labels → at < length ends
-within_ends ends bytes labels at v h =
-    let e : length labels ≡ length ends = ap length (sym v) ∙ length-pieces 0 ends bytes in
-    omega (arith, h, e)
+within_ends ends bytes labels at v h = grind (arith, length-pieces)

@@ -1,8 +1,7 @@
 -- The places of profiles.
 use Rattle.std.proofs.Common.{◌≡◌, ℕ, zero, suc, ◌+◌, ◌-◌, ◌*◌, ◌<◌, ◌≤◌, Bool, true, false, nat_eq}
-use Rattle.std.proofs.Common.{nat_lt, List, [], ◌∷◌, length, map, drop, get_or, Option, Some}
-use Rattle.std.proofs.Common.{None, slice_get, option_map, refl, sym, ap, subst, ◌∙◌, arith, inl}
-use Rattle.std.proofs.Common.{inr}
+use Rattle.std.proofs.Common.{nat_lt, List, [], ◌∷◌, length, map, drop, get_or, Option, Some, None}
+use Rattle.std.proofs.Common.{slice_get, option_map, refl, sym, ap, subst, ◌∙◌, arith, inl, inr}
 use Rattle.std.specs.Prelude.{◌⊎◌, cond, option_and_then}
 use Rattle.std.specs.List.{AllByRecursion}
 use Rattle.std.specs.Cmp.Lexicographic.{pointwise}
@@ -45,9 +44,7 @@ pub payoffs_at_position : (profile : List ℕ) (ps : List (List ℕ)) (rs : List
 payoffs_at_position profile [] rs h = refl
 payoffs_at_position profile (p ∷ ps) [] h = absurd (omega (arith, h))
 payoffs_at_position profile (p ∷ ps) (r ∷ rs) h =
-    let later =
-    payoffs_at_position profile ps rs (omega (arith, h)) ∙ next_row r rs (position_of profile ps) in
-    elim (true_or_false (pointwise nat_eq p profile)) [ inl e ↦ rw e refl | inr e ↦ rw e later ]
+    grind (arith, next_row, true_or_false, payoffs_at_position profile ps rs (omega (arith, h)))
 
 -- ---- where a profile is found among all
 
@@ -81,9 +78,7 @@ not_found : (profile : List ℕ) (ps : List (List ℕ)) (i : ℕ) (d : List ℕ)
     → get_or ps i d ≡ profile → position_of profile ps ≡ None → ⊥
 not_found profile [] i d h e none = absurd (omega (arith, h))
 not_found profile (p ∷ ps) zero d h e none =
-    let same : pointwise nat_eq p profile ≡ true =
-    (slice_eq-Decides Decides-eqb p profile (pointwise nat_eq p profile) refl).1 e in
-    let some : Some 0 ≡ None = rw same at none in absurd (cc)
+    grind (arith, slice_eq-Decides Decides-eqb p profile (pointwise nat_eq p profile) refl)
 not_found profile (p ∷ ps) (suc i) d h e none =
     elim (true_or_false (pointwise nat_eq p profile)) [
       | inl t ↦ let some : Some 0 ≡ None = rw t at none in absurd (cc)
@@ -102,21 +97,7 @@ placed [] [] = inl (tt, refl)
 placed [] (s ∷ ss) = inr (λ p. p, refl)
 placed (n ∷ counts) [] = inr (λ p. p, refl)
 placed (n ∷ counts) (zero ∷ ss) = inr (λ p. let low = p.0.0 in omega (arith, low), refl)
-placed (n ∷ counts) (suc k ∷ ss) =
-    elim (true_or_false (nat_lt k n)) [
-      | inl e ↦
-          let l : k < n = grind (arith, nat_tests, e) in
-          elim (placed counts ss) [
-            | inl h ↦
-                let order : place counts ss * n + k ≡ suc k - 1 + n * place counts ss =
-                omega (arith, mul_comm n (place counts ss)) in
-                inl (((omega arith, omega (arith, l)), h.0), rw (e, h.1) (ap Some order))
-            | inr h ↦ inr (λ p. h.0 p.1, rw (e, h.1) refl)
-          ]
-      | inr e ↦
-          let l : n ≤ k = grind (arith, nat_tests, e) in
-          inr (λ p. let high = p.0.1 in omega (arith, high, l), rw e refl)
-    ]
+placed (n ∷ counts) (suc k ∷ ss) = grind (arith, true_or_false, mul_comm, placed counts ss)
 
 -- each profile is found at its place
 pub position_of-profiles : (profile counts : List ℕ)
@@ -151,21 +132,12 @@ pub place_more : (counts profile : List ℕ) (at count strategy place : ℕ) →
     → place_of (drop (at + 1) counts) (drop (at + 1) profile) ≡ Some place
     → place_of (drop at counts) (drop at profile) ≡ Some (place * count + (strategy - 1))
 place_more counts profile at count strategy place h l c s above within found =
-    let e : strategy ≡ suc (strategy - 1) = omega (arith, above) in
-    let small : nat_lt (strategy - 1) count ≡ true = grind (arith, nat_tests, above, within) in
-    place_at counts profile at h l ∙ rw (sym c, sym s)
-    (ap (λ (n : ℕ). place_of (count ∷ drop (at + 1) counts) (n ∷ drop (at + 1) profile)) e
-    ∙ rw (small, found) refl)
+    grind (arith, place_at)
 
 pub place_none : (counts profile : List ℕ) (at count strategy : ℕ) → at < length counts
     → at < length profile → count ≡ get_or counts at 0 → strategy ≡ get_or profile at 0
     → (strategy ≡ 0) ⊎ (count < strategy) → place_of (drop at counts) (drop at profile) ≡ None
-place_none counts profile at count zero h l c s out =
-    place_at counts profile at h l ∙ rw (sym c, sym s) refl
-place_none counts profile at count (suc k) h l c s out =
-    let large : nat_lt k count ≡ false =
-    elim out [ inl e ↦ absurd (omega (arith, e)) | inr m ↦ grind (arith, nat_tests, m) ] in
-    place_at counts profile at h l ∙ rw (sym c, sym s, large) refl
+place_none counts profile at count strategy h h2 h3 h4 h5 = grind (arith, place_at)
 
 pub none_before : (counts profile : List ℕ) (at : ℕ) → at ≤ length counts → at ≤ length profile
     → place_of (drop at counts) (drop at profile) ≡ None → place_of counts profile ≡ None
@@ -174,8 +146,7 @@ none_before [] profile (suc at) h l none = absurd (omega (arith, h))
 none_before (n ∷ counts) [] (suc at) h l none = refl
 none_before (n ∷ counts) (zero ∷ profile) (suc at) h l none = refl
 none_before (n ∷ counts) (suc k ∷ profile) (suc at) h l none =
-    let later = none_before counts profile at (omega (arith, h)) (omega (arith, l)) none in
-    elim (true_or_false (nat_lt k n)) [ inl e ↦ rw (e, later) refl | inr e ↦ rw e refl ]
+    grind (arith, true_or_false, none_before counts profile)
 
 pub none_by_length : (counts profile : List ℕ) → (length counts ≡ length profile → ⊥)
     → place_of counts profile ≡ None
@@ -190,11 +161,7 @@ none_by_length (n ∷ counts) (suc k ∷ ss) h =
 place_below_by : (n k product : ℕ) (o : Option ℕ) (place : ℕ)
     → k < n → ((m : ℕ) → o ≡ Some m → m < product) → option_map (λ m. m * n + k) o ≡ Some place
     → place < n * product
-place_below_by n k product None place l below h = absurd (cc)
-place_below_by n k product (Some m) place l below h =
-    let is : m * n + k ≡ place = cc in
-    let more : suc m * n ≤ product * n = mul-le-mul_right n (below m refl) in
-    omega (arith, is, more, l)
+place_below_by n k product o place h h2 h3 = grind arith
 
 pub place_below : (counts profile : List ℕ) (place : ℕ) → place_of counts profile ≡ Some place
     → place < product counts
@@ -216,9 +183,7 @@ pub product_drop : (counts : List ℕ) (at : ℕ) → AllByRecursion (λ n. 0 < 
 product_drop counts zero h = omega arith
 product_drop [] (suc at) h = omega arith
 product_drop (n ∷ counts) (suc at) h =
-    let below = product_drop counts at h.1 in
-    let more : 1 * product counts ≤ n * product counts = mul-le-mul_right (product counts) h.0 in
-    omega (arith, below, more)
+    grind (arith, product_drop counts, mul-le-mul_right (product counts) h.0)
 
 -- what is known of a player whose strategy is looked at
 pub record AtPlayer (names : Names) (profile : List ℕ) (at place count : ℕ) : Type 0 where
@@ -257,31 +222,22 @@ at_count : {names : Names} {profile : List ℕ} {at place count : ℕ}
     × (count ≡ get_or (map length names.strategies) at 0)
 at_count {names} {profile} {at} {place} {count} a =
     let here : slice_get (map length names.strategies) at ≡ Some count =
-    slice_get-map length names.strategies at ∙ a.count_is in (
-      slice_get_within (map length names.strategies) at count here,
-      sym (get_or_from_slice_get (map length names.strategies) at count 0 here),
-    )
+    grind (arith, slice_get-map) in
+    grind (arith, slice_get_within, get_or_from_slice_get)
 
 pub strategy_out : {names : Names} {profile : List ℕ} {at place count : ℕ}
     → AtPlayer names profile at place count
     → (get_or profile at 0 ≡ 0) ⊎ (count < get_or profile at 0)
     → place_of (map length names.strategies) profile ≡ None
-strategy_out {names} {profile} {at} {place} {count} a out =
-    let here = at_count a in
-    let long : at < length profile = omega (arith, a.player, a.one_number_each) in
-    none_before (map length names.strategies) profile at (omega (arith, here.0))
-    (omega (arith, long)) (place_none (map length names.strategies) profile at count
-    (get_or profile at 0) here.0 long here.1 refl out)
+strategy_out {names} {profile} {at} {place} {count} a out = grind (arith, at_count a, none_before
+    (map length names.strategies) profile, place_none (map length names.strategies) profile)
 
 pub strategy_in : {names : Names} {profile : List ℕ} {at place count : ℕ}
     → AtPlayer names profile at place count → 0 < get_or profile at 0 → get_or profile at 0 ≤ count
     → place_of (drop at (map length names.strategies)) (drop at profile)
     ≡ Some (place * count + (get_or profile at 0 - 1))
 strategy_in {names} {profile} {at} {place} {count} a above within =
-    let here = at_count a in
-    let long : at < length profile = omega (arith, a.player, a.one_number_each) in
-    place_more (map length names.strategies) profile at count (get_or profile at 0) place here.0
-    long here.1 refl above within a.found
+    grind (arith, at_count a, place_more (map length names.strategies) profile)
 
 pub strategy_fits : {names : Names} {profile : List ℕ} {at place count : ℕ}
     → AtPlayer names profile at place count → 0 < get_or profile at 0 → get_or profile at 0 ≤ count
@@ -298,8 +254,5 @@ pub payoffs_found : (names : Names) (rs : List (List Ratio)) (t : Table) (profil
     → payoffs_at profile t.entries
     ≡ option_and_then (λ k. slice_get rs k) (place_of (map length names.strategies) profile)
 payoffs_found names rs t profile one view =
-    let counts = map length names.strategies in
-    ap (λ (u : Table). payoffs_at profile u.entries) (sym view)
-    ∙ payoffs_at_position profile (profiles counts) rs (matched names rs one)
-    ∙ ap (λ (o : Option ℕ). option_and_then (λ j. slice_get rs j) o)
-    (position_of-profiles profile counts)
+    cc (payoffs_at_position profile (profiles (map length names.strategies)) rs
+    (matched names rs one), position_of-profiles profile (map length names.strategies))

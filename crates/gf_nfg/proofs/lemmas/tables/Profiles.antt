@@ -1,7 +1,7 @@
 -- Each choice of one strategy for each player is among the profiles once, and at its place.
-use Rattle.std.proofs.Common.{◌≡◌, ℕ, zero, suc, ◌+◌, ◌-◌, ◌*◌, ◌<◌, ◌≤◌, List}
-use Rattle.std.proofs.Common.{[], ◌∷◌, ◌++◌, length, map, drop, get_or, refl}
-use Rattle.std.proofs.Common.{sym, ap, ◌∙◌, append_assoc, arith, length-append}
+use Rattle.std.proofs.Common.{◌≡◌, ℕ, zero, suc, ◌+◌, ◌-◌, ◌*◌, ◌<◌, ◌≤◌, List, [], ◌∷◌, ◌++◌}
+use Rattle.std.proofs.Common.{length, map, drop, get_or, refl, ap, ◌∙◌, append_assoc, arith}
+use Rattle.std.proofs.Common.{length-append}
 use Rattle.std.specs.Prelude.{◌↔◌}
 use Rattle.std.specs.List.{AllByRecursion, Contains, flat_map}
 use Rattle.std.proofs.Math.Nat.{mul-suc}
@@ -26,9 +26,7 @@ places_first : (count : ℕ) (counts others : List ℕ) (k n s : ℕ) → place 
     ≡ numbers_from (s - 1 + count * k) n
 places_first count counts others k zero s e h = refl
 places_first count counts others k (suc n) s e h =
-    let f : s + 1 - 1 + count * k ≡ s - 1 + count * k + 1 = omega arith in
-    let rest = places_first count counts others k n (s + 1) e (omega arith) in
-    rw (e, rest, f) refl
+    grind (arith, places_first count counts others k n (s + 1) e (omega arith))
 
 places_all : (count : ℕ) (counts : List ℕ) (tails : List (List ℕ)) (k : ℕ)
     → map (place counts) tails ≡ numbers_from k (length tails)
@@ -40,15 +38,9 @@ places_all count counts (others ∷ tails) k e =
     let first = places_first count counts others k count 1 here (omega arith) in
     let start : 1 - 1 + count * k ≡ count * k = omega arith in
     let on : count * (k + 1) ≡ count * k + count = omega (arith, mul-suc count k) in
-    let all : count + count * length tails ≡ count * suc (length tails) =
-    omega (arith, mul-suc count (length tails)) in
+    let all : count + count * length tails ≡ count * suc (length tails) = omega arith in
     let rest = places_all count counts tails (k + 1) (ap (drop 1) e) in
-    map-append (place (count ∷ counts)) (firsts count others) (flat_map (firsts count) tails)
-    ∙ ap (λ (ns : List ℕ). ns ++ map (place (count ∷ counts)) (flat_map (firsts count) tails))
-    (first ∙ ap (λ (n : ℕ). numbers_from n count) start)
-    ∙ ap (λ (ns : List ℕ). numbers_from (count * k) count ++ ns)
-    (rest ∙ ap (λ (n : ℕ). numbers_from n (count * length tails)) on)
-    ∙ numbers_joined (count * k) count (count * length tails) ∙ ap (numbers_from (count * k)) all
+    grind (arith, map-append, numbers_joined)
 
 length-firsts : (count : ℕ) (tails : List (List ℕ))
     → length (flat_map (firsts count) tails) ≡ count * length tails
@@ -62,17 +54,13 @@ length-firsts count (others ∷ tails) =
 
 pub length-profiles : (counts : List ℕ) → length (profiles counts) ≡ product counts
 length-profiles [] = refl
-length-profiles (count ∷ counts) =
-    length-firsts count (profiles counts) ∙ ap (λ (n : ℕ). count * n) (length-profiles counts)
+length-profiles (count ∷ counts) = grind (arith, length-firsts, length-profiles counts)
 
 places_are : (counts : List ℕ)
     → map (place counts) (profiles counts) ≡ numbers_from 0 (length (profiles counts))
 places_are [] = refl
-places_are (count ∷ counts) =
-    let e : count * 0 ≡ 0 = omega arith in
-    places_all count counts (profiles counts) 0 (places_are counts)
-    ∙ ap (λ (n : ℕ). numbers_from n (count * length (profiles counts))) e
-    ∙ ap (numbers_from 0) (sym (length-firsts count (profiles counts)))
+places_are (count ∷ counts) = grind (arith, places_all count counts (profiles counts) 0
+    (places_are counts), length-firsts count (profiles counts))
 
 pub profiles_in_order : (counts : List ℕ)
     → map (place counts) (profiles counts) ≡ numbers_from 0 (product counts)
@@ -80,18 +68,14 @@ profiles_in_order counts = places_are counts ∙ ap (numbers_from 0) (length-pro
 
 pub place_at : (counts : List ℕ) (i : ℕ) (d : List ℕ) → i < length (profiles counts)
     → place counts (get_or (profiles counts) i d) ≡ i
-place_at counts i d h =
-    sym (get_or-map (place counts) (profiles counts) i d 0 h)
-    ∙ ap (λ (ns : List ℕ). get_or ns i 0) (places_are counts)
-    ∙ get_or-numbers_from 0 (length (profiles counts)) i 0 h
-    ∙ (let e : 0 + i ≡ i = omega arith in e)
+place_at counts i d h = grind (arith, get_or-map (place counts) (profiles counts) i d 0 h,
+    places_are counts, get_or-numbers_from 0 (length (profiles counts)) i 0 h)
 
 -- no profile stands twice
 pub profiles_distinct : (counts : List ℕ) (i j : ℕ) (d : List ℕ) → i < length (profiles counts)
     → j < length (profiles counts) → get_or (profiles counts) i d ≡ get_or (profiles counts) j d
     → i ≡ j
-profiles_distinct counts i j d hi hj e =
-    sym (place_at counts i d hi) ∙ ap (place counts) e ∙ place_at counts j d hj
+profiles_distinct counts i j d hi hj e = cc (place_at counts i d hi, place_at counts j d hj)
 
 -- ---- all choices
 
@@ -105,16 +89,10 @@ profile_in (count ∷ counts) (s ∷ others) h =
     let f = λ (i : ℕ). i ∷ others in
     let g = flat_map (firsts count) in
     let first : firsts count others ≡ map f n.0 ++ (s ∷ others) ∷ map f n.1 =
-    ap (map f) n.2 ∙ map-append f n.0 (s ∷ n.1) in (
-      g r.0 ++ map f n.0,
-      map f n.1 ++ g r.1,
-      ap g r.2
-          ∙ flat_map-append (firsts count) r.0 (others ∷ r.1)
-          ∙ ap (λ (ps : List (List ℕ)). g r.0 ++ (ps ++ g r.1)) first
-          ∙ ap (λ (ps : List (List ℕ)). g r.0 ++ ps)
-          (append_assoc (map f n.0) ((s ∷ others) ∷ map f n.1) (g r.1))
-          ∙ sym (append_assoc (g r.0) (map f n.0) ((s ∷ others) ∷ (map f n.1 ++ g r.1))),
-    )
+    grind (arith, map-append) in
+    grind (arith, flat_map-append (firsts count) r.0 (others ∷ r.1), append_assoc (map f n.0)
+    ((s ∷ others) ∷ map f n.1) (g r.1), append_assoc (g r.0) (map f n.0)
+    ((s ∷ others) ∷ (map f n.1 ++ g r.1)))
 
 all_first : (count : ℕ) (counts others : List ℕ)
     → IsProfile counts others → (s n : ℕ) → 1 ≤ s → s + n ≤ count + 1

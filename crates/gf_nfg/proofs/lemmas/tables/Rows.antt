@@ -1,11 +1,11 @@
 -- The rows of a table.
-use Rattle.std.proofs.Common.{◌≡◌, ℕ, zero, suc, ◌+◌, ◌*◌, ◌<◌, ◌≤◌, List, [], ◌∷◌}
-use Rattle.std.proofs.Common.{◌++◌, length, map, take, drop, Option, Some, None}
-use Rattle.std.proofs.Common.{slice_get, option_map, refl, sym, ap, ◌∙◌, arith}
+use Rattle.std.proofs.Common.{◌≡◌, ℕ, zero, suc, ◌+◌, ◌*◌, ◌<◌, ◌≤◌, List, [], ◌∷◌, ◌++◌, length}
+use Rattle.std.proofs.Common.{map, take, drop, Option, Some, None, slice_get, option_map, refl, sym}
+use Rattle.std.proofs.Common.{ap, ◌∙◌, arith}
 use Rattle.std.specs.Prelude.{pos, replicate, IsSome, SomeIff, unwrap_or, vec_len, Vec, ◌/◌}
 use Rattle.std.specs.List.{AllByRecursion, flat_map}
-use Rattle.std.proofs.lemmas.List.{length-take, length-drop, length-map}
-use Rattle.std.proofs.lemmas.List.{length-replicate, take_all, drop-drop}
+use Rattle.std.proofs.lemmas.List.{length-take, length-drop, length-map, length-replicate, take_all}
+use Rattle.std.proofs.lemmas.List.{drop-drop}
 use Rattle.std.proofs.Math.Nat.{mul-div_cancel, mul-le-mul_left, mul-le-mul_right, one-le-mul}
 use Rattle.std.proofs.lemmas.Option.{slice_get-map}
 use Rattle.gf_nfg.proofs.lemmas.tables.Profiles.{length-profiles}
@@ -16,8 +16,8 @@ use Rattle.gf_nfg.specs.Limit.{profile_limit}
 use Rattle.gf_nfg.specs.Profiles.{numbers_from, positions, product, profiles}
 use Rattle.gf_nfg.specs.Table.{Entry, Table, IsTable, rows}
 use Rattle.gf_nfg.specs.TableAccess.{IsTableOf}
-use Rattle.gf_nfg.specs.TableParts.{Names, entries_of, kept_row, table_with, row_of}
-use Rattle.gf_nfg.specs.TableParts.{number_in, numbers_of, IsNamed, HasRows}
+use Rattle.gf_nfg.specs.TableParts.{Names, entries_of, kept_row, table_with, row_of, number_in}
+use Rattle.gf_nfg.specs.TableParts.{numbers_of, IsNamed, HasRows}
 
 pub length-entries_of : (ps : List (List ℕ)) (rs : List (List Ratio)) → length ps ≡ length rs
     → length (entries_of ps rs) ≡ length rs
@@ -31,16 +31,14 @@ pub profiles-entries_of : (ps : List (List ℕ)) (rs : List (List Ratio)) → le
 profiles-entries_of [] [] h = refl
 profiles-entries_of [] (r ∷ rs) h = refl
 profiles-entries_of (p ∷ ps) [] h = absurd (omega (arith, h))
-profiles-entries_of (p ∷ ps) (r ∷ rs) h =
-    ap (λ qs. p ∷ qs) (profiles-entries_of ps rs (omega (arith, h)))
+profiles-entries_of (p ∷ ps) (r ∷ rs) h = cc (profiles-entries_of ps rs (omega (arith, h)))
 
 pub payoffs-entries_of : (ps : List (List ℕ)) (rs : List (List Ratio)) → length ps ≡ length rs
     → map (λ e. e.payoffs) (entries_of ps rs) ≡ rs
 payoffs-entries_of [] [] h = refl
 payoffs-entries_of [] (r ∷ rs) h = absurd (omega (arith, h))
 payoffs-entries_of (p ∷ ps) [] h = refl
-payoffs-entries_of (p ∷ ps) (r ∷ rs) h =
-    ap (λ qs. r ∷ qs) (payoffs-entries_of ps rs (omega (arith, h)))
+payoffs-entries_of (p ∷ ps) (r ∷ rs) h = cc (payoffs-entries_of ps rs (omega (arith, h)))
 
 -- entries are found again from their profiles and their payoffs
 pub entries_again : (entries : List Entry)
@@ -83,10 +81,7 @@ is_table names rs named full = record {
 length-row_of : (players : ℕ) (payoffs : List Ratio) (number : ℕ)
     → number * players ≤ length payoffs → length (row_of players payoffs number) ≡ players
 length-row_of players payoffs zero h = length-replicate players (whole (pos 0))
-length-row_of players payoffs (suc k) h =
-    let more : suc k * players ≡ k * players + players = omega arith in
-    length-take players (drop (k * players) payoffs)
-    ∙ omega (arith, length-drop (k * players) payoffs, h, more)
+length-row_of players payoffs (suc k) h = grind (arith, length-take, length-drop)
 
 pub full_rows : (players : ℕ) (payoffs : List Ratio) (numbers : List ℕ)
     → AllByRecursion (λ number. number * players ≤ length payoffs) numbers
@@ -98,8 +93,7 @@ full_rows players payoffs (number ∷ numbers) h =
 pub length-kept : (players count : ℕ) (payoffs zeros : List Ratio) (numbers : List ℕ)
     → HasRows players count payoffs zeros numbers
     → length (map (row_of players payoffs) numbers) ≡ count
-length-kept players count payoffs zeros numbers kept =
-    length-map numbers (row_of players payoffs) ∙ kept.one_number_each
+length-kept players count payoffs zeros numbers kept = grind (arith, length-map)
 
 -- ---- rows of the profiles in turn
 
@@ -107,8 +101,7 @@ positions_kept : (players whole first n : ℕ) → (first + n) * players ≤ who
     → AllByRecursion (λ number. number * players ≤ whole) (numbers_from first n)
 positions_kept players whole first zero h = tt
 positions_kept players whole first (suc n) h =
-    let here : (first + 1) * players ≤ (first + suc n) * players =
-    mul-le-mul_right players (omega arith) in
+    let here : (first + 1) * players ≤ (first + suc n) * players = omega arith in
     let split : (first + 1) * players ≡ first * players + players = omega arith in
     let moved : first + 1 + n ≡ first + suc n = omega arith in
     (omega (arith, here, split, h), positions_kept players whole (first + 1) n (rw moved h))
@@ -116,8 +109,7 @@ positions_kept players whole first (suc n) h =
 positions_above : (A : Type 0) (first n : ℕ) → 0 < first
     → AllByRecursion (λ number. number ≡ 0 → A) (numbers_from first n)
 positions_above A first zero h = tt
-positions_above A first (suc n) h =
-    (λ e. absurd (omega (arith, h, e)), positions_above A (first + 1) n (omega arith))
+positions_above A first (suc n) h = grind (arith, positions_above A (first + 1) n (omega arith))
 
 pub positions_have_rows : (players count : ℕ) (payoffs zeros : List Ratio)
     → length payoffs ≡ count * players → HasRows players count payoffs zeros (positions count)
@@ -135,8 +127,7 @@ take-nil (suc n) = refl
 
 take_two : {A : Type 0} (m n : ℕ) (xs : List A) → take m xs ++ take n (drop m xs) ≡ take (m + n) xs
 take_two zero n xs = let e : 0 + n ≡ n = omega arith in ap (λ (k : ℕ). take k xs) (sym e)
-take_two (suc m) n [] =
-    let e : suc m + n ≡ suc (m + n) = omega arith in take-nil n ∙ ap (λ (k : ℕ). take k []) (sym e)
+take_two (suc m) n [] = grind (arith, take-nil)
 take_two (suc m) n (x ∷ xs) =
     let e : suc m + n ≡ suc (m + n) = omega arith in
     ap (λ ys. x ∷ ys) (take_two m n xs) ∙ ap (λ (k : ℕ). take k (x ∷ xs)) (sym e)
@@ -145,32 +136,15 @@ numbered_from : (players : ℕ) (payoffs : List Ratio) (k n : ℕ)
     → flat_map (λ row. row) (map (row_of players payoffs) (numbers_from (suc k) n))
     ≡ take (n * players) (drop (k * players) payoffs)
 numbered_from players payoffs k zero = let none : 0 * players ≡ 0 = omega arith in rw none refl
-numbered_from players payoffs k (suc n) =
-    let next : suc k + 1 ≡ suc (suc k) = omega arith in
-    let more : suc k * players ≡ k * players + players = omega arith in
-    let all : suc n * players ≡ players + n * players = omega arith in
-    ap (λ (m : ℕ). take players (drop (k * players) payoffs)
-    ++ flat_map (λ row. row) (map (row_of players payoffs) (numbers_from m n)))
-    next
-    ∙ ap (λ (rest : List Ratio). take players (drop (k * players) payoffs) ++ rest)
-    (numbered_from players payoffs (suc k) n)
-    ∙ ap
-    (λ (m : ℕ). take players (drop (k * players) payoffs) ++ take (n * players) (drop m payoffs))
-    more
-    ∙ ap
-    (λ (rest : List Ratio). take players (drop (k * players) payoffs) ++ take (n * players) rest)
-    (sym (drop-drop players (k * players) payoffs))
-    ∙ take_two players (n * players) (drop (k * players) payoffs)
-    ∙ ap (λ (m : ℕ). take m (drop (k * players) payoffs)) (sym all)
+numbered_from players payoffs k (suc n) = grind (arith, take players (drop (k * players) payoffs),
+    numbered_from players payoffs (suc k) n, drop-drop players (k * players) payoffs, take_two
+    players (n * players) (drop (k * players) payoffs))
 
 -- rows of the profiles in turn are the payoffs
 pub rows_in_turn : (players count : ℕ) (payoffs : List Ratio) → length payoffs ≡ count * players
     → flat_map (λ row. row) (map (row_of players payoffs) (positions count)) ≡ payoffs
-rows_in_turn players count payoffs h =
-    let none : 0 * players ≡ 0 = omega arith in
-    numbered_from players payoffs 0 count
-    ∙ ap (λ (m : ℕ). take (count * players) (drop m payoffs)) none
-    ∙ take_all (count * players) payoffs (omega (arith, h))
+rows_in_turn players count payoffs h = grind (arith, numbered_from players payoffs 0 count, take_all
+    (count * players) payoffs (omega (arith, h)))
 
 -- ---- one row
 
@@ -202,24 +176,18 @@ kept_row_is players payoffs zeros (suc k) h = refl
 pub row_is : (players count : ℕ) (payoffs zeros : List Ratio) (numbers : List ℕ)
     (place number : ℕ) → IsNumber players count payoffs zeros numbers place number
     → slice_get (map (row_of players payoffs) numbers) place ≡ Some (row_of players payoffs number)
-row_is players count payoffs zeros numbers place number h =
-    slice_get-map (row_of players payoffs) numbers place
-    ∙ ap (λ (o : Option ℕ). option_map (row_of players payoffs) o) h.number_is
+row_is players count payoffs zeros numbers place number h = grind (arith, slice_get-map)
 
 slice_get-numbers_from : (first n k : ℕ) → k < n
     → slice_get (numbers_from first n) k ≡ Some (first + k)
 slice_get-numbers_from first zero k h = absurd (omega (arith, h))
 slice_get-numbers_from first (suc n) zero h = let e : first ≡ first + 0 = omega arith in ap Some e
 slice_get-numbers_from first (suc n) (suc k) h =
-    let e : first + 1 + k ≡ first + suc k = omega arith in
-    slice_get-numbers_from (first + 1) n k (omega (arith, h)) ∙ ap Some e
+    grind (arith, slice_get-numbers_from (first + 1) n k (omega (arith, h)))
 
 pub number_found : (count : ℕ) (choices : Option (List ℕ)) (place : ℕ) → place < count
     → number_in choices place ≡ slice_get (numbers_of count choices) place
-number_found count None place h =
-    let e : place + 1 ≡ 1 + place = omega arith in
-    ap Some e ∙ sym (slice_get-numbers_from 1 count place h)
-number_found count (Some choices) place h = refl
+number_found count choices place h = grind (arith, slice_get-numbers_from)
 
 pub some_from : {A : Type 0} (xs : List A) (k : ℕ) → k < length xs → IsSome (slice_get xs k)
 some_from [] k h = absurd (omega (arith, h))
@@ -239,23 +207,16 @@ pub count_at_most : (strategies : List (List (List ℕ))) (k : ℕ) (own : List 
     → length own ≤ product (map length strategies)
 count_at_most [] k own h e = absurd (cc)
 count_at_most (first ∷ others) zero own h e =
-    let same : first ≡ own = cc in
-    let some = product_above others h.1 in
-    let more = mul-le-mul_left (length first) some in
-    omega (arith, ap length same, more)
-count_at_most (first ∷ others) (suc k) own h e =
-    let below = count_at_most others k own h.1 e in
-    let more = mul-le-mul_right (product (map length others)) h.0 in
-    omega (arith, below, more)
+    grind (arith, mul-le-mul_left (length first) (product_above others h.1))
+count_at_most (first ∷ others) (suc k) own h e = grind (arith, count_at_most others k own h.1 e,
+    mul-le-mul_right (product (map length others)) h.0)
 
 -- ---- a table made from its parts
 
 pub counts_of_lists : {A B Z : Type 0} (f : A → B) (lists : List (Vec A Z))
     → map length (map (λ own. map f own.items) lists) ≡ map vec_len lists
 counts_of_lists f [] = refl
-counts_of_lists f (own ∷ lists) =
-    let size : length (map f own.items) ≡ vec_len own = length-map own.items f ∙ sym own.ok.0 in
-    rw (size, counts_of_lists f lists) refl
+counts_of_lists f (own ∷ lists) = cc (length-map own.items f, counts_of_lists f lists)
 
 pub some_in_lists : {A B Z : Type 0} (f : A → B) (lists : List (Vec A Z))
     → AllByRecursion (λ own. 0 < vec_len own) lists
@@ -270,14 +231,12 @@ some_in_lists f (own ∷ lists) h = (
 -- as many rows as there are profiles
 pub profiles_counted : (rows players : ℕ) (counts : List ℕ) (quotient : Option ℕ)
     → SomeIff quotient (0 < players) (rows / players) → length counts ≡ players
-    → rows ≡ product counts * players
-    → unwrap_or quotient 1 ≡ product counts
+    → rows ≡ product counts * players → unwrap_or quotient 1 ≡ product counts
 profiles_counted rows zero [] None is one h = refl
 profiles_counted rows zero [] (Some q) is one h = absurd (omega (arith, is.0))
 profiles_counted rows zero (count ∷ counts) quotient is one h = absurd (omega (arith, one))
 profiles_counted rows (suc n) counts None is one h = absurd (is (omega arith))
-profiles_counted rows (suc n) counts (Some q) is one h =
-    is.1 ∙ ap (λ (m : ℕ). m / suc n) h ∙ mul-div_cancel (product counts) (omega arith)
+profiles_counted rows (suc n) counts (Some q) is one h = grind (arith, mul-div_cancel)
 
 pub counted_own : (o : Option (List (List ℕ))) (n : ℕ) → option_map length o ≡ Some n
     → (own : List (List ℕ)) × (o ≡ Some own) × (length own ≡ n)
@@ -286,18 +245,12 @@ counted_own (Some own) n e = let same : length own ≡ n = cc in (own, refl, sam
 
 pub own_count_within : (names : Names) (count k n : ℕ) → IsNamed names count → count ≤ profile_limit
     → option_map length (slice_get names.strategies k) ≡ Some n → n ≤ profile_limit
-own_count_within names count k n h within e =
-    let own = counted_own (slice_get names.strategies k) n e in
-    omega
-    (arith, own.2, h.counted, within, count_at_most names.strategies k own.0 h.some_strategy own.1)
+own_count_within names count k n h within e = grind (arith, counted_own, count_at_most)
 
 pub place_within : (players count : ℕ) (payoffs zeros : List Ratio) (numbers : List ℕ)
     (rs : List (List Ratio)) (place : ℕ) → HasRows players count payoffs zeros numbers
     → map (row_of players payoffs) numbers ≡ rs → place < length rs → place < count
-place_within players count payoffs zeros numbers rs place kept view h =
-    let size : length rs ≡ count =
-    ap length (sym view) ∙ length-kept players count payoffs zeros numbers kept in
-    omega (arith, h, size)
+place_within players count payoffs zeros numbers rs place kept view h = grind (arith, length-kept)
 
 pub numbered : (players count : ℕ) (payoffs zeros : List Ratio) (choices : Option (List ℕ))
     (rs : List (List Ratio)) (place number : ℕ)
@@ -312,21 +265,16 @@ numbered players count payoffs zeros choices rs place number kept view h e =
 
 pub made_of_parts : (t : Table) (names : Names) (title comment : List ℕ) (players : List (List ℕ))
     (strategies : List (List (List ℕ))) (rs : List (List Ratio)) (given : List Ratio)
-    → names
-    ≡ record { title = title; comment = comment; players = players; strategies = strategies }
-    → IsNamed names (length rs) → AllByRecursion (λ row. length row ≡ length names.players) rs
+    → names ≡ record { title = title; comment = comment; players = players; strategies = strategies
+    } → IsNamed names (length rs) → AllByRecursion (λ row. length row ≡ length names.players) rs
     → flat_map (λ row. row) rs ≡ given → t ≡ table_with names rs
     → IsTableOf t title comment players strategies given
-made_of_parts t names title comment players strategies rs given is named full in_turn
-    made = record {
+made_of_parts t names title comment players strategies rs given is named full in_turn made =
+    record {
       title_is = ap (λ (u : Table). u.title) made ∙ ap (λ (n : Names). n.title) is;
       comment_is = ap (λ (u : Table). u.comment) made ∙ ap (λ (n : Names). n.comment) is;
       players_are = ap (λ (u : Table). u.players) made ∙ ap (λ (n : Names). n.players) is;
       strategies_are = ap (λ (u : Table). u.strategies) made ∙ ap (λ (n : Names). n.strategies) is;
-      payoffs_are =
-          ap (λ (u : Table). flat_map (λ row. row) (rows u)) made
-          ∙ ap (λ (xs : List (List Ratio)). flat_map (λ row. row) xs)
-          (rows-table_with names rs named.counted)
-          ∙ in_turn;
+      payoffs_are = cc (rows-table_with names rs named.counted);
       is_table = rw made (is_table names rs named full);
     }

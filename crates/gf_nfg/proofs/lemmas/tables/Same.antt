@@ -1,6 +1,6 @@
 -- Tables that are the same are equal.
-use Rattle.std.proofs.Common.{◌≡◌, ℕ, ◌<◌, List, [], length, map}
-use Rattle.std.proofs.Common.{get_or, sym, ap, subst, ◌∙◌, arith}
+use Rattle.std.proofs.Common.{◌≡◌, ℕ, ◌<◌, List, [], length, map, get_or, sym, ap, subst, ◌∙◌}
+use Rattle.std.proofs.Common.{arith}
 use Rattle.std.specs.Prelude.{◌↔◌, Bool, IsTrue}
 use Rattle.std.specs.List.{Contains}
 use Rattle.std.proofs.lemmas.List.{length-map, get_or-map, get_or_default, same_lists}
@@ -86,12 +86,7 @@ pub same_play_as_kept : (t u : Table) (m n : Names) (xs ys : List (List Ratio)) 
     → (m.players ≡ n.players) × (m.strategies ≡ n.strategies) → xs ≡ rows t → ys ≡ rows u
     → IsTrue answer ↔ (xs ≡ ys) → IsTrue answer ↔ SamePlay t u
 same_play_as_kept t u m n xs ys answer ht hu left right both mine others same =
-    let players = sym (ap (λ n. n.players) left) ∙ both.0 ∙ ap (λ n. n.players) right in
-    let strategies = sym (ap (λ n. n.strategies) left) ∙ both.1 ∙ ap (λ n. n.strategies) right in
-    let by_rows = same_play_by_rows t u ht hu in (
-      λ h. by_rows.1 (players, strategies, sym mine ∙ same.0 h ∙ others),
-      λ play. same.1 (mine ∙ (by_rows.0 play).2 ∙ sym others),
-    )
+    grind (arith, same_play_by_rows)
 
 pub same_is_equal : (t u : Table) → IsTable t → IsTable u → SameTable t u ↔ (t ≡ u)
 same_is_equal t u ht hu = (to, from)

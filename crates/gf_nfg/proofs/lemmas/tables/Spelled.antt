@@ -1,6 +1,6 @@
 -- What a file means is a table that a file can hold.
-use Rattle.std.proofs.Common.{ℕ, zero, suc, pos, ◌+◌, ◌^◌, ◌<◌, List, [], ◌∷◌, ◌++◌}
-use Rattle.std.proofs.Common.{length, map, replicate, sym, ap, subst, ◌∙◌, arith, inl, inr}
+use Rattle.std.proofs.Common.{ℕ, zero, suc, pos, ◌+◌, ◌^◌, ◌<◌, List, [], ◌∷◌, ◌++◌, length, map}
+use Rattle.std.proofs.Common.{replicate, sym, ap, subst, ◌∙◌, arith, inl, inr}
 use Rattle.std.specs.Prelude.{◌⊎◌, decimal}
 use Rattle.std.specs.List.{AllByRecursion, flat_map}
 use Rattle.gf_token.specs.LabelSpelling.{IsLabel}
@@ -44,10 +44,7 @@ label_lists_spelled (names ∷ strategies) inner h all =
 
 count_spelled : (tokens : List Token) (names : List (List ℕ)) → IsCount tokens names
     → AllByRecursion IsLabel names
-count_spelled tokens names h =
-    let small : 1 + h.1 < 10 ^ 64 =
-    let wide : 2 ^ 32 < 10 ^ 64 = omega arith in omega (arith, wide, h.3.2) in
-    subst (λ ls. AllByRecursion IsLabel ls) (sym h.4) (counted_labels 1 h.1 small)
+count_spelled tokens names h = grind (arith, counted_labels)
 
 -- what holds for each group's value holds for each
 each_value : {A : Type 0} (P : List Token → A → Type 0) (Q : A → Type 0)

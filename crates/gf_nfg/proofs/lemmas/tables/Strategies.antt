@@ -4,9 +4,8 @@ use Rattle.std.proofs.Common.{take, drop, get_or, Option, Some, None, slice_get,
 use Rattle.std.proofs.Common.{refl, sym, ap, ◌∙◌, arith, append_assoc}
 use Rattle.std.specs.Prelude.{IsSomeAnd, option_and_then}
 use Rattle.std.proofs.lemmas.List.{length-take, length-drop, length-append, drop_more, drop_min}
-use Rattle.std.proofs.lemmas.List.{drop-drop, length-map}
-use Rattle.std.proofs.lemmas.List.{take-map, take_min, drop-map}
-use Rattle.std.proofs.lemmas.List.{get_or-take, get_or-drop}
+use Rattle.std.proofs.lemmas.List.{drop-drop, length-map, take-map, take_min, drop-map, get_or-take}
+use Rattle.std.proofs.lemmas.List.{get_or-drop}
 use Rattle.std.proofs.lemmas.Option.{slice_get-get_or, slice_get_within}
 use Rattle.gf_nfg.specs.Sentence.{counted_labels}
 use Rattle.gf_nfg.specs.inner.Meaning.{strategies_of}
@@ -23,18 +22,15 @@ pub record AreKept (labels : List (List ℕ)) (ends : List ℕ) (lists : List (L
   pub are : pieces 0 ends labels ≡ lists
 
 pub one_more : (labels labels' own : List (List ℕ)) (ends ends' : List ℕ)
-    (lists : List (List (List ℕ)))
-    → AreKept labels ends lists → labels' ≡ labels ++ own → ends' ≡ ends ++ length labels' ∷ []
-    → AreKept labels' ends' (lists ++ own ∷ [])
+    (lists : List (List (List ℕ))) → AreKept labels ends lists → labels' ≡ labels ++ own
+    → ends' ≡ ends ++ length labels' ∷ [] → AreKept labels' ends' (lists ++ own ∷ [])
 one_more labels labels' own ends ends' lists a e f =
     let whole : length labels' ≡ length labels + length own =
     ap length e ∙ length-append labels own in
-    let g : ends' ≡ ends ++ (length labels + length own) ∷ [] =
-    f ∙ ap (λ (n : ℕ). ends ++ n ∷ []) whole in
+    let g : ends' ≡ ends ++ (length labels + length own) ∷ [] = cc in
     record {
       rises = rw (whole, g) (rises-push 0 ends (length labels) (length own) a.rises);
-      are = rw (e, g) (pieces-push 0 ends labels own a.rises)
-          ∙ ap (λ (ls : List (List (List ℕ))). ls ++ own ∷ []) a.are;
+      are = cc (pieces-push 0 ends labels own a.rises);
     }
 
 pub kept_by : {labels : List (List ℕ)} {ends items : List ℕ} {lists : List (List (List ℕ))}
@@ -77,26 +73,17 @@ pub next_group : {A B : Type 0} (f : A → B) (all all' : List (List B)) (sizes 
 next_group f all all' sizes items own i size start end h is stop cut m g =
     let left = drop start items in
     let behind = groups (drop (i + 1) sizes) (map f (drop end items)) in
-    let part : end - start ≡ min size (length left) =
-    omega (arith, stop, m.within, length-drop start items) in
+    let part : end - start ≡ min size (length left) = omega (arith, length-drop start items) in
     let first : map f own ≡ take size (map f left) =
-    ap (map f) (cut ∙ ap (λ n. take n left) part ∙ take_min size left)
-    ∙ sym (take-map f size left) in
+    cc (take_min size left, take-map f size left) in
     let back : start + (end - start) ≡ end = omega (arith, stop, m.within) in
     let rest : map f (drop end items) ≡ drop size (map f left) =
-    ap (map f) (ap (λ n. drop n items) (sym back) ∙ sym (drop-drop (end - start) start items)
-    ∙ ap (λ n. drop n left) part ∙ drop_min size left)
-    ∙ sym (drop-map f size left) in
+    grind (arith, drop-drop, drop_min, drop-map) in
     let now : groups (drop i sizes) (map f left) ≡ map f own ∷ behind =
-    ap (λ ns. groups ns (map f left)) (drop_more sizes i 0 h)
-    ∙ ap (λ n. take n (map f left) ∷ groups (drop (i + 1) sizes) (drop n (map f left))) (sym is)
-    ∙ (λ j. sym first j ∷ groups (drop (i + 1) sizes) (sym rest j)) in
+    grind (arith, drop_more, drop) in
     record {
       within = omega (arith, stop);
-      are = ap (λ xs. xs ++ behind) g
-          ∙ append_assoc all (map f own ∷ []) behind
-          ∙ ap (λ xs. all ++ xs) (sym now)
-          ∙ m.are;
+      are = cc (append_assoc all (map f own ∷ []) behind);
     }
 
 -- ---- one of the lists
@@ -117,22 +104,17 @@ stands_at {labels} {ends} {lists} {at} a less s e =
     record {
       ordered = omega (arith, s, e, start_before_end (length labels) 0 ends at 0 a.rises h);
       within = omega (arith, e, end_within (length labels) 0 ends at 0 a.rises h);
-      is = ap (λ (ls : List (List (List ℕ))). slice_get ls at) (sym a.are)
-          ∙ piece_at 0 ends labels at 0 h
-          ∙ (λ j. Some (take (sym e j - sym s j) (drop (sym s j) labels)));
+      is = grind (arith, piece_at);
     }
 
 length-own : (labels : List (List ℕ)) (start end : ℕ) → start ≤ end → end ≤ length labels
     → length (take (end - start) (drop start labels)) ≡ end - start
-length-own labels start end ordered within =
-    length-take (end - start) (drop start labels)
-    ∙ omega (arith, length-drop start labels, ordered, within)
+length-own labels start end ordered within = grind (arith, length-take, length-drop)
 
 pub length-list : {labels : List (List ℕ)} {lists : List (List (List ℕ))} {at start end : ℕ}
     → StandsAt labels lists at start end
     → option_map length (slice_get lists at) ≡ Some (end - start)
-length-list {labels} {lists} {at} {start} {end} s =
-    ap (option_map length) s.is ∙ ap Some (length-own labels start end s.ordered s.within)
+length-list {labels} {lists} {at} {start} {end} s = grind (arith, length-own)
 
 -- the list at this place has a label at that one
 abbrev HasLabel : List (List (List ℕ)) → ℕ → ℕ → Type 0
@@ -164,9 +146,7 @@ label_at {labels} {lists} {at} {k} {start} {end} s h =
     record {
       before = omega (arith, some, size);
       within = inside;
-      is = ap (option_and_then (λ own. slice_get own k)) s.is
-          ∙ slice_get-get_or own k [] some
-          ∙ ap Some (get_or-take (end - start) (drop start labels) k [] (omega (arith, some, size))
-          ∙ get_or-drop start labels k [])
-          ∙ sym (slice_get-get_or labels (start + k) [] inside);
+      is = cc (slice_get-get_or own k [] some, get_or-take (end - start) (drop start labels) k []
+          (omega (arith, some, size)), get_or-drop start labels k [], slice_get-get_or labels
+          (start + k) [] inside);
     }

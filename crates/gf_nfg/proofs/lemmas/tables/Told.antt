@@ -1,9 +1,9 @@
 -- What was told of a file, and was kept or written, means its table.
-use Rattle.std.proofs.Common.{◌≡◌, ℕ, List, subst, sym}
+use Rattle.std.proofs.Common.{◌≡◌, ℕ, List, subst}
 use Rattle.gf_nfg.specs.LimitPlace.{IsWithinLimit}
 use Rattle.gf_nfg.specs.inner.Machine.{Content}
 use Rattle.gf_nfg.specs.inner.Meaning.{IsComplete, table_of}
-use Rattle.gf_nfg.specs.inner.ReaderState.{content_of, content_told, content_with}
+use Rattle.gf_nfg.specs.inner.ReaderState.{content_of, content_told}
 use Rattle.gf_nfg.specs.TableText.{SpellsTable}
 use Rattle.gf_nfg.specs.inner.Told.{Told}
 use Rattle.gf_nfg.specs.inner.ToldTable.{HasToldTable}
@@ -22,8 +22,7 @@ pub kept_means : (bytes : List ℕ) (heading : Heading) (kept : Kept)
     × (k.numbers.items ≡ told.numbers)) bytes heading kept
     → MeansTable bytes (content_of (record { heading = heading; kept = kept }))
 kept_means bytes heading kept h =
-    let same : content_told h.told ≡ content_of (record { heading = heading; kept = kept }) =
-    (λ i. content_with (h.same i) (sym h.holding.0 i) (sym h.holding.1 i)) in
+    let same : content_told h.told ≡ content_of (record { heading = heading; kept = kept }) = cc in
     subst (MeansTable bytes) same (record {
       spelled = h.spelled;
       complete = h.complete;

@@ -1,6 +1,6 @@
 -- Worked tables, each computed: the machine of the reader reads their files to them; and their
 -- texts.
-use Rattle.std.proofs.Common.{◌≡◌, ℕ, List, map, Result, Ok, Err, refl, subst}
+use Rattle.std.proofs.Common.{◌≡◌, ℕ, List, map, Result, Ok, Err, refl, arith}
 use Rattle.std.specs.Fmt.{digits}
 use Rattle.gf_fraction.specs.Computed.{gcd_within, lowest_of, number_of}
 use Rattle.gf_fraction.specs.NumberText.{number_text}
@@ -12,11 +12,10 @@ use Rattle.gf_token.specs.declared.fault.Why.{Why}
 use Rattle.gf_token.proofs.Spelled.{found}
 use Rattle.gf_nfg.specs.inner.Machine.{Content, run, start}
 use Rattle.gf_nfg.specs.inner.Meaning.{table_of}
-use Rattle.gf_nfg.specs.Sentence.{Sentence}
 use Rattle.gf_nfg.specs.Table.{Table}
 use Rattle.gf_nfg.specs.TableText.{table_text, SpellsTable}
-use Rattle.gf_nfg.specs.WorkedTables.{selten, selten_by_counts, selten_by_outcomes}
-use Rattle.gf_nfg.specs.WorkedTables.{selten_text, no_players, no_players_text}
+use Rattle.gf_nfg.specs.WorkedTables.{selten, selten_by_counts, selten_by_outcomes, selten_text}
+use Rattle.gf_nfg.specs.WorkedTables.{no_players, no_players_text}
 use Rattle.gf_nfg.proofs.lemmas.runs.Sentence.{sentence_found}
 
 -- ---- texts
@@ -42,12 +41,7 @@ tokens_in bytes = map (λ l. l.token) (lex Gap 0 bytes)
 
 meant_by : (bytes : List ℕ) (t : Table) (o : Result Content Why) → run start (tokens_in bytes) ≡ o
     → table_read o ≡ ok_table t → SpellsTable bytes t
-meant_by bytes t (Ok c) read means =
-    let same : table_of c ≡ t = cc in (
-      lex Gap 0 bytes,
-      found bytes 0,
-      subst (Sentence (tokens_in bytes)) same (sentence_found (tokens_in bytes) c read).sentence,
-    )
+meant_by bytes t (Ok c) read means = grind (arith, found, sentence_found)
 meant_by bytes t (Err why) read means = absurd cc
 
 meant : (bytes : List ℕ) (t : Table) → table_read (run start (tokens_in bytes)) ≡ ok_table t

@@ -1,12 +1,10 @@
 -- Lines of payoffs that come one after another.
-use Rattle.std.proofs.Common.{◌≡◌, ℕ, zero, suc, ◌+◌, ◌-◌, ◌*◌, ◌/◌, ◌%◌, ◌<◌, List, [], ◌∷◌, ◌++◌}
-use Rattle.std.proofs.Common.{length, map}
+use Rattle.std.proofs.Common.{◌≡◌, ℕ, ◌+◌, ◌-◌, ◌*◌, ◌%◌, ◌<◌, List, [], ◌∷◌, ◌++◌, length, map}
 use Rattle.std.proofs.Common.{refl, sym, ap, ◌∙◌, append_assoc, arith}
 use Rattle.std.specs.List.{AllByRecursion}
-use Rattle.std.proofs.Math.Nat.{mul_comm}
 use Rattle.std.proofs.lemmas.Grind.{flat_map-append}
 use Rattle.std.proofs.lemmas.List.{append-nil, length-append, map-append}
-use Rattle.std.proofs.lemmas.Nat.{div-mul-add, mod-mul-add}
+use Rattle.std.proofs.lemmas.Nat.{mod-mul-add}
 use Rattle.gf_fraction.specs.Ratio.{Ratio}
 use Rattle.gf_fraction.specs.NumberText.{number_text}
 use Rattle.gf_nfg.specs.Profiles.{positions}
@@ -21,15 +19,8 @@ use Rattle.gf_nfg.proofs.lemmas.tables.Meaning.{rows_again}
 row_end : (part : List Ratio) (n : Ratio)
     → begun_text part ++ (number_text n ++ 10 ∷ []) ≡ row_text (part ++ n ∷ []) ++ 10 ∷ []
 row_end [] n = refl
-row_end (m ∷ []) n =
-    append_assoc (number_text m ++ 32 ∷ []) [] (number_text n ++ 10 ∷ [])
-    ∙ append_assoc (number_text m) (32 ∷ []) (number_text n ++ 10 ∷ [])
-    ∙ sym (append_assoc (number_text m) (32 ∷ number_text n) (10 ∷ []))
-row_end (m ∷ k ∷ part) n =
-    append_assoc (number_text m ++ 32 ∷ []) (begun_text (k ∷ part)) (number_text n ++ 10 ∷ [])
-    ∙ append_assoc (number_text m) (32 ∷ []) (begun_text (k ∷ part) ++ (number_text n ++ 10 ∷ []))
-    ∙ ap (λ (bs : List ℕ). number_text m ++ 32 ∷ bs) (row_end (k ∷ part) n)
-    ∙ sym (append_assoc (number_text m) (32 ∷ row_text (k ∷ (part ++ n ∷ []))) (10 ∷ []))
+row_end (m ∷ []) n = grind (arith, append_assoc)
+row_end (m ∷ k ∷ part) n = grind (arith, append_assoc, row_end (k ∷ part) n)
 
 all_more : (P : List Ratio → Type 0) (rows : List (List Ratio)) (row : List Ratio)
     → AllByRecursion P rows → P row → AllByRecursion P (rows ++ row ∷ [])
@@ -41,11 +32,8 @@ line_more : (full : List (List Ratio)) (row : List Ratio)
     → lines_text (map row_text full) ++ (row_text row ++ 10 ∷ [])
     ≡ lines_text (map row_text (full ++ row ∷ []))
 line_more full row =
-    ap (λ (bs : List ℕ). lines_text (map row_text full) ++ bs)
-    (sym (append-nil (row_text row ++ 10 ∷ [])))
-    ∙ sym (flat_map-append (λ (line : List ℕ). line ++ 10 ∷ []) (map row_text full)
-    (row_text row ∷ []))
-    ∙ ap lines_text (sym (map-append row_text full (row ∷ [])))
+    cc (append-nil (row_text row ++ 10 ∷ []), flat_map-append (λ (line : List ℕ). line ++ 10 ∷ [])
+    (map row_text full) (row_text row ∷ []), map-append row_text full (row ∷ []))
 
 module _ (players left : ℕ) (bytes out : List ℕ) (payoffs : List Ratio) (n : Ratio) where
   -- a row gets longer
@@ -60,22 +48,17 @@ module _ (players left : ℕ) (bytes out : List ℕ) (payoffs : List Ratio) (n :
       record {
         full = l.full;
         part = l.part ++ n ∷ [];
-        parts = ap (λ (ns : List Ratio). ns ++ n ∷ []) l.parts
-            ∙ append_assoc (joined l.full) l.part (n ∷ []);
+        parts = cc (append_assoc (joined l.full) l.part (n ∷ []));
         are_full = l.are_full;
         left_is = omega (arith, size, fits, more);
         some = omega (arith, more);
-        bytes_are = e ∙ ap (λ (bs : List ℕ). bs ++ last) l.bytes_are
-            ∙ append_assoc before (begun_text l.part) last
-            ∙ ap (λ (bs : List ℕ). before ++ (begun_text l.part ++ bs)) (sym (append-nil last))
-            ∙ ap (λ (bs : List ℕ). before ++ bs)
-            (sym (flat_map-append (λ (p : Ratio). number_text p ++ 32 ∷ []) l.part (n ∷ [])));
+        bytes_are = cc (append_assoc before (begun_text l.part) last, append-nil last,
+            flat_map-append (λ (p : Ratio). number_text p ++ 32 ∷ []) l.part (n ∷ []));
       }
 
   -- a row ends
   pub laid_line : AreLaid players left bytes payoffs → left ≡ 1
-      → out ≡ bytes ++ (number_text n ++ 10 ∷ [])
-      → AreLaid players players out (payoffs ++ n ∷ [])
+      → out ≡ bytes ++ (number_text n ++ 10 ∷ []) → AreLaid players players out (payoffs ++ n ∷ [])
   laid_line l last e =
       let before = lines_text (map row_text l.full) in
       let row = l.part ++ n ∷ [] in
@@ -85,19 +68,13 @@ module _ (players left : ℕ) (bytes out : List ℕ) (payoffs : List Ratio) (n :
       record {
         full = l.full ++ row ∷ [];
         part = [];
-        parts = ap (λ (ns : List Ratio). ns ++ n ∷ []) l.parts
-            ∙ append_assoc (joined l.full) l.part (n ∷ [])
-            ∙ ap (λ (ns : List Ratio). joined l.full ++ ns) (sym (append-nil row))
-            ∙ sym (flat_map-append (λ (row : List Ratio). row) l.full (row ∷ []))
-            ∙ sym (append-nil (joined (l.full ++ row ∷ [])));
+        parts = cc (append_assoc (joined l.full) l.part (n ∷ []), append-nil row, flat_map-append
+            (λ (row : List Ratio). row) l.full (row ∷ []), append-nil
+            (joined (l.full ++ row ∷ [])));
         are_full = all_more (λ row. length row ≡ players) l.full row l.are_full whole;
         left_is = omega arith;
         some = omega (arith, fits, last);
-        bytes_are = e ∙ ap (λ (bs : List ℕ). bs ++ (number_text n ++ 10 ∷ [])) l.bytes_are
-            ∙ append_assoc before (begun_text l.part) (number_text n ++ 10 ∷ [])
-            ∙ ap (λ (bs : List ℕ). before ++ bs) (row_end l.part n)
-            ∙ line_more l.full row
-            ∙ sym (append-nil (lines_text (map row_text (l.full ++ row ∷ []))));
+        bytes_are = grind (arith, append_assoc, row_end, line_more, append-nil);
       }
 
 -- ---- the whole
@@ -118,39 +95,18 @@ laid_whole players left n bytes payoffs l count =
     let some : 0 < players = omega (arith, below) in
     let size = ap length l.parts ∙ length-append (joined l.full) l.part in
     let rows = length-joined_rows players l.full l.are_full in
-    let even : length l.full * players + k ≡ n * players + 0 = omega (
-      arith,
-      count,
-      size,
-      rows,
-      mul_comm players n,
-      mul_comm players (length l.full),
-    ) in
-    let all : length l.full ≡ n =
-    sym (div-mul-add (length l.full) players k below) ∙ ap (λ m. m / players) even
-    ∙ div-mul-add n players 0 some in
+    let even : length l.full * players + k ≡ n * players + 0 = omega arith in
+    let all : length l.full ≡ n = grind arith in
     let no_part : l.part ≡ [] =
     none l.part (sym (mod-mul-add (length l.full) players k below) ∙ ap (λ m. m % players) even
     ∙ mod-mul-add n players 0 some) in
-    let are : payoffs ≡ joined l.full =
-    l.parts ∙ ap (λ ns. joined l.full ++ ns) no_part ∙ append-nil (joined l.full) in
+    let are : payoffs ≡ joined l.full = cc (append-nil (joined l.full)) in
     let same : map (row_of players payoffs) (positions n) ≡ l.full =
-    ap (λ ns. map (row_of players ns) (positions n)) are
-    ∙ ap (λ m. map (row_of players (joined l.full)) (positions m)) (sym all)
-    ∙ rows_again players l.full l.are_full in
-    l.bytes_are ∙ ap (λ row. lines_text (map row_text l.full) ++ begun_text row) no_part
-    ∙ append-nil (lines_text (map row_text l.full))
-    ∙ ap (λ rs. lines_text (map row_text rs)) (sym same)
+    grind (arith, joined, rows_again) in
+    cc (append-nil (lines_text (map row_text l.full)))
 
 -- all lines, with somebody or with nobody
 pub lines_whole : (players left n : ℕ) (bytes : List ℕ) (payoffs : List Ratio)
     → AreLines players left bytes payoffs → length payoffs ≡ players * n → (players ≡ 0 → n ≡ 1)
     → bytes ≡ lines_text (map row_text (map (row_of players payoffs) (positions n)))
-lines_whole zero left n bytes payoffs l count one =
-    let nothing : payoffs ≡ [] = none payoffs (omega (arith, count)) in
-    l.of_nobody refl nothing
-    ∙ ap (λ (ns : List Ratio). lines_text (map row_text (map (row_of 0 ns) (positions 1))))
-    (sym nothing)
-    ∙ ap (λ m. lines_text (map row_text (map (row_of 0 payoffs) (positions m)))) (sym (one refl))
-lines_whole (suc players) left n bytes payoffs l count one =
-    laid_whole (suc players) left n bytes payoffs (l.of_some (omega arith)) count
+lines_whole players left n bytes payoffs h h2 h3 = grind (arith, none, laid_whole)

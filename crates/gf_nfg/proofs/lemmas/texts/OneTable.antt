@@ -1,5 +1,6 @@
 -- The canonical text of a table spells that table, so different tables have different texts.
 use Rattle.std.proofs.Common.{◌≡◌, ℕ, List, [], ◌∷◌, ◌++◌, map, refl, sym, ap, subst, inl, inr}
+use Rattle.std.proofs.Common.{arith}
 use Rattle.std.specs.Prelude.{◌↔◌, codes}
 use Rattle.std.specs.List.{AllByRecursion, flat_map}
 use Rattle.std.proofs.lemmas.List.Concat.{flat_map_single}
@@ -127,8 +128,7 @@ tells_table t h =
 pub are_label_lists : (strategies : List (List (List ℕ)))
     → Each IsLabelList (strategies_tokens strategies) strategies
 are_label_lists [] = refl
-are_label_lists (names ∷ strategies) =
-    (names_tokens names, strategies_tokens strategies, refl, refl, are_label_lists strategies)
+are_label_lists (names ∷ strategies) = grind (arith, are_label_lists strategies)
 
 is_sentence : (t : Table) → IsTable t → IsSpellable t → Sentence (table_tokens t) t
 is_sentence t table h = record {

@@ -1,17 +1,16 @@
 -- Canonical text, piece by piece.
-use Rattle.std.proofs.Common.{◌≡◌, ℕ, zero, suc, ◌+◌, ◌<◌, ◌≤◌, List, [], ◌∷◌, ◌++◌, length}
-use Rattle.std.proofs.Common.{map, drop, get_or, Option, Some, slice_get, option_map, refl}
-use Rattle.std.proofs.Common.{sym, ap, ◌∙◌, append_assoc, arith, length-take, subst}
-use Rattle.std.specs.Prelude.{codes, option_and_then, unwrap_or, Err, Ok, OnErr, Result}
-use Rattle.std.proofs.lemmas.List.{at_drop_more, append-nil, drop_all}
-use Rattle.std.proofs.lemmas.List.{take-append-le, take-append-drop, take_all}
+use Rattle.std.proofs.Common.{◌≡◌, ℕ, zero, suc, ◌+◌, ◌<◌, ◌≤◌, List, [], ◌∷◌, ◌++◌, length, map}
+use Rattle.std.proofs.Common.{drop, get_or, Some, slice_get, option_map, refl, sym, ap}
+use Rattle.std.proofs.Common.{append_assoc, arith, length-take}
+use Rattle.std.specs.Prelude.{codes, option_and_then, Err, Ok, OnErr, Result}
+use Rattle.std.proofs.lemmas.List.{at_drop_more, append-nil, drop_all, take-append-le}
+use Rattle.std.proofs.lemmas.List.{take-append-drop, take_all}
 use Rattle.std.proofs.lemmas.Option.{slice_get-get_or, unwrap_or-slice_get}
 use Rattle.gf_fraction.specs.Ratio.{Ratio}
 use Rattle.gf_fraction.specs.NumberText.{number_text}
 use Rattle.gf_nfg.specs.TableParts.{Names, own_of}
 use Rattle.gf_nfg.specs.TableText.{list_text, spaced, lines_text}
 use Rattle.gf_nfg.specs.inner.TextParts.{Keeps, others_text, row_text}
-use Rattle.gf_nfg.proofs.lemmas.tables.Rows.{counted_own}
 
 -- each item and a space, and the closing brace
 abbrev pub items_text : List (List ℕ) → List ℕ
@@ -35,26 +34,18 @@ pub drop_from : {A : Type 0} (xs : List A) (at : ℕ) (x : A) → slice_get xs a
     → drop at xs ≡ x ∷ drop (at + 1) xs
 drop_from [] at x h = absurd (cc)
 drop_from (y ∷ xs) zero x h = let e : y ≡ x = cc in ap (λ z. z ∷ xs) e
-drop_from (y ∷ xs) (suc at) x h =
-    let e : suc at + 1 ≡ suc (at + 1) = omega arith in rw e (drop_from xs at x h)
+drop_from (y ∷ xs) (suc at) x h = grind (arith, drop_from xs)
 
 pub kept_more : (old new more : List ℕ) → Keeps old new → Keeps old (new ++ more)
-kept_more old new more kept =
-    let within : length old ≤ length new =
-    omega (arith, length-take (length old) new, ap length kept) in
-    take-append-le (length old) new more within ∙ kept
+kept_more old new more kept = grind (arith, length-take, take-append-le)
 
 pub kept_twice : (old out out1 out2 x y : List ℕ)
     → out1 ≡ out ++ x → out2 ≡ out1 ++ y → Keeps old out → Keeps old out2
-kept_twice old out out1 out2 x y e1 e2 kept =
-    rw (e2, e1) (kept_more old (out ++ x) y (kept_more old out x kept))
+kept_twice old out out1 out2 x y e1 e2 kept = grind (arith, kept_more)
 
 kept_past : (old out new : List ℕ) → Keeps old out → Keeps out new → Keeps old new
 kept_past old out new kept h =
-    let rest = drop (length out) new in
-    let whole : out ++ rest ≡ new =
-    ap (λ (bs : List ℕ). bs ++ rest) (sym h) ∙ take-append-drop (length out) new in
-    subst (Keeps old) whole (kept_more old out rest kept)
+    grind (arith, take-append-drop (length out) new, kept_more old out (drop (length out) new) kept)
 
 -- what was there before is kept if more was written and then nothing more could be
 pub kept_behind : (old out1 out2 new x y : List ℕ)
@@ -70,9 +61,7 @@ kept_through (Err e) old out new kept h = kept_past old out new kept h
 
 pub kept_thrice : (old out out1 out2 x y z : List ℕ)
     → out ≡ old ++ x → out1 ≡ out ++ y → out2 ≡ out1 ++ z → Keeps old out2
-kept_thrice old out out1 out2 x y z e e1 e2 =
-    kept_twice old out out1 out2 y z e1 e2
-    (rw e (kept_more old old x (take_all (length old) old (omega arith))))
+kept_thrice old out out1 out2 x y z e e1 e2 = grind (arith, kept_twice, kept_more, take_all)
 
 -- what is written of a list in braces, and what is still to come
 abbrev pub rest_text : {A : Type 0} → (A → List ℕ) → List A → ℕ → List ℕ
@@ -83,11 +72,7 @@ pub item_written : {A : Type 0} (f : A → List ℕ) (xs : List A)
     → slice_get xs at ≡ Some x → out1 ≡ out ++ f x → out2 ≡ out1 ++ 32 ∷ []
     → out ++ rest_text f xs at ≡ total → out2 ++ rest_text f xs (at + 1) ≡ total
 item_written {A = A} f xs at x out out1 out2 total here e1 e2 h =
-    let rest = rest_text f xs (at + 1) in
-    let k : ((out ++ f x) ++ 32 ∷ []) ++ rest ≡ out ++ (f x ++ 32 ∷ rest) =
-    append_assoc (out ++ f x) (32 ∷ []) rest ∙ append_assoc out (f x) (32 ∷ rest) in
-    rw (e2, e1)
-    (k ∙ ap (λ (ys : List A). out ++ items_text (map f ys)) (sym (drop_from xs at x here)) ∙ h)
+    grind (arith, append_assoc, drop_from)
 
 -- the whole list, of which nothing is left
 pub list_closed : {A : Type 0} (f : A → List ℕ) (xs : List A) (at : ℕ) (old opened out : List ℕ)
@@ -95,10 +80,7 @@ pub list_closed : {A : Type 0} (f : A → List ℕ) (xs : List A) (at : ℕ) (ol
     → out ++ rest_text f xs at ≡ opened ++ rest_text f xs 0
     → out ++ codes "}" ≡ old ++ list_text (map f xs)
 list_closed {A = A} f xs at old opened out e all h =
-    ap (λ (ys : List A). out ++ items_text (map f ys)) (sym (drop_all at xs all)) ∙ h
-    ∙ ap (λ (bs : List ℕ). bs ++ items_text (map f xs)) e
-    ∙ append_assoc old (codes "{ ") (items_text (map f xs))
-    ∙ ap (λ (bs : List ℕ). old ++ bs) (sym (list_text_is (map f xs)))
+    grind (arith, drop_all, append_assoc, list_text_is)
 
 abbrev pub payoffs_rest : List Ratio → List ℕ
 payoffs_rest payoffs = others_text (map number_text payoffs)
@@ -111,10 +93,7 @@ others_more payoffs i d h = at_drop_more payoffs_rest payoffs i d h
 pub row_written : (payoffs others : List Ratio) (first : Ratio) (old out1 out2 : List ℕ)
     → payoffs ≡ first ∷ others → out1 ≡ old ++ number_text first
     → out2 ≡ out1 ++ others_text (map number_text others) → out2 ≡ old ++ row_text payoffs
-row_written payoffs others first old out1 out2 e f g =
-    rw (g, f, e) (append_assoc old (number_text first) (others_text (map number_text others))
-    ∙ ap (λ (bs : List ℕ). old ++ bs)
-    (sym (spaced_is (number_text first) (map number_text others))))
+row_written payoffs others first old out1 out2 e f g = grind (arith, append_assoc, spaced_is)
 
 -- the lines of the rows still to come
 abbrev pub lines_rest : List (List Ratio) → ℕ → List ℕ
@@ -124,37 +103,21 @@ pub line_written : (rs : List (List Ratio)) (at : ℕ)
     (row : List Ratio) (out out1 out2 total : List ℕ)
     → slice_get rs at ≡ Some row → out1 ≡ out ++ row_text row → out2 ≡ out1 ++ 10 ∷ []
     → out ++ lines_rest rs at ≡ total → out2 ++ lines_rest rs (at + 1) ≡ total
-line_written rs at row out out1 out2 total here e1 e2 h =
-    let rest = lines_rest rs (at + 1) in
-    let line = row_text row in
-    let k : ((out ++ line) ++ 10 ∷ []) ++ rest ≡ out ++ ((line ++ 10 ∷ []) ++ rest) =
-    ap (λ (bs : List ℕ). bs ++ rest) (append_assoc out line (10 ∷ []))
-    ∙ append_assoc out (line ++ 10 ∷ []) rest in
-    rw (e2, e1) (k ∙ ap (λ (ys : List (List Ratio)). out ++ lines_text (map row_text ys))
-    (sym (drop_from rs at row here)) ∙ h)
+line_written rs at row out out1 out2 total here e1 e2 h = grind (arith, append_assoc, drop_from)
 
 -- ---- a player's own strategies
 
 pub own_some : (names : Names) (at : ℕ) (n : ℕ)
     → option_map length (slice_get names.strategies at) ≡ Some n
     → (slice_get names.strategies at ≡ Some (own_of names at)) × (length (own_of names at) ≡ n)
-own_some names at n h =
-    let own = counted_own (slice_get names.strategies at) n h in
-    let is : own_of names at ≡ own.0 = ap (λ (o : Option (List (List ℕ))). unwrap_or o []) own.1 in
-    (own.1 ∙ ap Some (sym is), ap length is ∙ own.2)
+own_some names at n h = grind arith
 
 pub own_there : (names : Names) (at : ℕ) → at < length names.strategies
     → slice_get names.strategies at ≡ Some (own_of names at)
-own_there names at h =
-    let e = slice_get-get_or names.strategies at [] h in
-    e ∙ ap Some (sym (unwrap_or-slice_get names.strategies at []))
+own_there names at h = grind (arith, slice_get-get_or, unwrap_or-slice_get)
 
 pub own_strategy : (names : Names) (at n strategy : ℕ) (label : List ℕ)
     → option_map length (slice_get names.strategies at) ≡ Some n
     → option_and_then (λ own. slice_get own strategy) (slice_get names.strategies at) ≡ Some label
     → slice_get (own_of names at) strategy ≡ Some label
-own_strategy names at n strategy label h e =
-    let own = own_some names at n h in
-    sym (ap (λ (o : Option (List (List ℕ))). option_and_then (λ own. slice_get own strategy) o)
-    own.0)
-    ∙ e
+own_strategy names at n strategy label h e = grind arith

@@ -1,7 +1,7 @@
 -- Lines of rows that profiles share.
-use Rattle.std.proofs.Common.{◌≡◌, ℕ, ◌+◌, ◌*◌, ◌/◌, ◌<◌, ◌≤◌, List, [], ◌∷◌, ◌++◌}
-use Rattle.std.proofs.Common.{length, map, drop, get_or, Some, slice_get, append_assoc}
-use Rattle.std.proofs.Common.{refl, sym, ap, ◌∙◌, subst, arith, length-append}
+use Rattle.std.proofs.Common.{◌≡◌, ℕ, ◌+◌, ◌*◌, ◌/◌, ◌<◌, ◌≤◌, List, [], ◌∷◌, ◌++◌, length, map}
+use Rattle.std.proofs.Common.{drop, get_or, Some, slice_get, append_assoc, refl, sym, ap, ◌∙◌}
+use Rattle.std.proofs.Common.{arith, length-append}
 use Rattle.std.specs.List.{AllByRecursion}
 use Rattle.std.proofs.Math.Nat.{le-div_iff_mul-le}
 use Rattle.std.proofs.lemmas.List.{drop_more, get_or-map, length-map, map-append}
@@ -21,8 +21,7 @@ pub rows_below : (players size : ℕ) (numbers : List ℕ) → 0 < players
     → AllByRecursion (λ number. number < size / players + 1) numbers
 rows_below players size [] some h = tt
 rows_below players size (number ∷ numbers) some h =
-    let below : number ≤ size / players = (le-div_iff_mul-le some).1 h.0 in
-    (omega (arith, below), rows_below players size numbers some h.1)
+    grind (arith, le-div_iff_mul-le, rows_below players size numbers some h.1)
 
 pub rows_kept : (players size : ℕ) → 0 < players → (number : ℕ) → number < size / players + 1
     → number * players ≤ size
@@ -34,8 +33,7 @@ pub kept_rows_are : (players : ℕ) (payoffs zeros : List Ratio) (numbers : List
     → map (row_of players payoffs) numbers ≡ map (kept_row players payoffs zeros) numbers
 kept_rows_are players payoffs zeros [] h = refl
 kept_rows_are players payoffs zeros (number ∷ numbers) h =
-    let first = kept_row_is players payoffs zeros number h.0 in
-    rw (first, kept_rows_are players payoffs zeros numbers h.1) refl
+    grind (arith, kept_row_is, kept_rows_are players payoffs zeros numbers h.1)
 
 -- ---- the lines
 
@@ -53,8 +51,7 @@ line_more row text ends number m =
     let size : length (text ++ more) ≡ length text + length more = length-append text more in
     let from : 0 + number ≡ number = omega arith in
     let next : numbers_from 0 (number + 1) ≡ numbers_from 0 number ++ number ∷ [] =
-    sym (numbers_joined 0 number 1)
-    ∙ ap (λ (n : ℕ). numbers_from 0 number ++ n ∷ []) from in
+    cc (numbers_joined 0 number 1) in
     record {
       rises = rw size (rises-push 0 ends (length text) (length more) m.rises);
       lines = rw (size, next) (pieces-push 0 ends text more m.rises
@@ -67,13 +64,7 @@ pub line_made : (row : ℕ → List Ratio) (text text1 text2 ends ends' : List �
     → end ≡ length text2 → ends' ≡ ends ++ end ∷ [] → AreMade row text ends number
     → AreMade row text2 ends' (number + 1)
 line_made row text text1 text2 ends ends' number end r is e1 e2 here e3 m =
-    let added : text2 ≡ text ++ line_text (row number) =
-    e2 ∙ ap (λ (bs : List ℕ). bs ++ 10 ∷ []) e1 ∙ append_assoc text (row_text r) (10 ∷ [])
-    ∙ ap (λ (x : List Ratio). text ++ line_text x) is in
-    let grown : ends' ≡ ends ++ length (text ++ line_text (row number)) ∷ [] =
-    e3 ∙ ap (λ (n : ℕ). ends ++ n ∷ []) (here ∙ ap length added) in
-    subst (λ (p : List ℕ × List ℕ). AreMade row p.0 p.1 (number + 1))
-    (λ i. (sym added i, sym grown i)) (line_more row text ends number m)
+    grind (arith, append_assoc text (row_text r) (10 ∷ []), line_more row text ends number m)
 
 -- ---- chosen lines
 
@@ -81,17 +72,13 @@ line_made row text text1 text2 ends ends' number end r is e1 e2 here e3 m =
 pub chosen_next : (lines : List (List ℕ)) (numbers : List ℕ) (at : ℕ) (line : List ℕ)
     → at < length numbers → slice_get lines (get_or numbers at 0) ≡ Some line
     → lines_with lines (drop at numbers) ≡ line ++ lines_with lines (drop (at + 1) numbers)
-chosen_next lines numbers at line h found =
-    let here = get_or_from_slice_get lines (get_or numbers at 0) line [] found in
-    let rest = lines_with lines (drop (at + 1) numbers) in
-    rw (drop_more numbers at 0 h) (ap (λ (l : List ℕ). l ++ rest) here)
+chosen_next lines numbers at line h found = grind (arith, get_or_from_slice_get, drop_more)
 
 line_there : (row : ℕ → List Ratio) (bound number : ℕ) → number < bound
     → get_or (map (λ n. line_text (row n)) (numbers_from 0 bound)) number []
     ≡ line_text (row number)
 line_there row bound number h =
-    let within : number < length (numbers_from 0 bound) =
-    omega (arith, length-numbers_from 0 bound, h) in
+    let within : number < length (numbers_from 0 bound) = omega (arith, length-numbers_from) in
     let from : 0 + number ≡ number = omega arith in
     get_or-map (λ n. line_text (row n)) (numbers_from 0 bound) number 0 [] within
     ∙ ap (λ n. line_text (row n)) (get_or-numbers_from 0 bound number 0 h ∙ from)
@@ -99,8 +86,7 @@ line_there row bound number h =
 pub lines_counted : (row : ℕ → List Ratio) (bound : ℕ) (lines : List (List ℕ))
     → lines ≡ map (λ n. line_text (row n)) (numbers_from 0 bound) → length lines ≡ bound
 lines_counted row bound lines are =
-    ap length are ∙ length-map (numbers_from 0 bound) (λ n. line_text (row n))
-    ∙ length-numbers_from 0 bound
+    cc (length-map (numbers_from 0 bound) (λ n. line_text (row n)), length-numbers_from 0 bound)
 
 -- the lines of all profiles
 pub lines_chosen : (row : ℕ → List Ratio) (bound : ℕ) (numbers : List ℕ)

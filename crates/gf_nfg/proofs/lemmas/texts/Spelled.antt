@@ -1,6 +1,6 @@
 -- Which tokens a text spells that consists of pieces with whitespace between them.
-use Rattle.std.proofs.Common.{◌≡◌, ℕ, ◌+◌, true, false, List, [], ◌∷◌, ◌++◌}
-use Rattle.std.proofs.Common.{length, map, refl, ap, append_assoc, arith}
+use Rattle.std.proofs.Common.{◌≡◌, ℕ, ◌+◌, true, false, List, [], ◌∷◌, ◌++◌, length, map, refl, ap}
+use Rattle.std.proofs.Common.{append_assoc, arith}
 use Rattle.std.specs.Prelude.{codes}
 use Rattle.std.specs.List.{AllByRecursion, flat_map}
 use Rattle.gf_token.specs.Byte.{is_space, is_bare}
@@ -92,8 +92,7 @@ pub says_spaced : {X : Type 0} (f : X → List ℕ) (g : X → List Token) (xs :
 says_spaced f g [] h = λ rest others apart told. told
 says_spaced f g (x ∷ []) h =
     λ rest others apart told. rw (append_assoc (g x) [] others) (h.0 rest others apart told)
-says_spaced f g (x ∷ y ∷ xs) h = says_both (f x) (spaced (map f (y ∷ xs))) (g x)
-    (flat_map g (y ∷ xs)) h.0 (says_spaced f g (y ∷ xs) h.1)
+says_spaced f g (x ∷ y ∷ xs) h = grind (arith, says_both, says_spaced f g (y ∷ xs) h.1)
 
 -- the items of a list, and its closing brace
 spaced_more : (item : List ℕ) (items : List (List ℕ))
@@ -129,5 +128,4 @@ tells_line line lines tokens others h k = rw (append_assoc line (10 ∷ []) (lin
 pub tells_lines : {X : Type 0} (f : X → List ℕ) (g : X → List Token) (xs : List X)
     → AllByRecursion (λ x. Says (f x) (g x)) xs → Tells (lines_text (map f xs)) (flat_map g xs)
 tells_lines f g [] h = tells_nothing
-tells_lines f g (x ∷ xs) h =
-    tells_line (f x) (map f xs) (g x) (flat_map g xs) h.0 (tells_lines f g xs h.1)
+tells_lines f g (x ∷ xs) h = grind (arith, tells_line, tells_lines f g xs h.1)

@@ -1,15 +1,15 @@
 -- What a text has of a file that is being told, and that it is the canonical text at the end.
-use Rattle.std.proofs.Common.{◌≡◌, ℕ, ◌-◌, ◌*◌, ◌<◌, ◌≤◌, Bool, List, [], ◌∷◌, ◌++◌}
-use Rattle.std.proofs.Common.{length, map, refl, sym, ap, subst, ◌∙◌, append_assoc, arith}
+use Rattle.std.proofs.Common.{◌≡◌, ℕ, ◌-◌, ◌*◌, ◌<◌, ◌≤◌, Bool, List, [], ◌∷◌, ◌++◌, length, map}
+use Rattle.std.proofs.Common.{refl, sym, ap, subst, ◌∙◌, append_assoc, arith}
 use Rattle.std.proofs.lemmas.Grind.{flat_map-append}
 use Rattle.std.proofs.lemmas.List.{append-nil}
 use Rattle.gf_fraction.specs.Ratio.{Ratio}
 use Rattle.gf_fraction.specs.NumberText.{number_text}
 use Rattle.gf_nfg.specs.inner.Machine.{Content}
-use Rattle.gf_nfg.specs.inner.Meaning.{HasPayoffs, IsComplete, names_in, rows_by, table_of}
+use Rattle.gf_nfg.specs.inner.Meaning.{IsComplete, names_in, rows_by, table_of}
 use Rattle.gf_nfg.specs.Profiles.{product}
 use Rattle.gf_nfg.specs.LimitPlace.{IsWithinLimit}
-use Rattle.gf_nfg.specs.inner.ReaderState.{content_of, content_told, content_with}
+use Rattle.gf_nfg.specs.inner.ReaderState.{content_of, content_told}
 use Rattle.gf_nfg.specs.Table.{Table, rows}
 use Rattle.gf_nfg.specs.TableText.{SpellsTable, lines_text, list_text, named_by, quoted, table_text}
 use Rattle.gf_nfg.specs.inner.TextParts.{first_line, heading_text, names_by, row_text}
@@ -27,8 +27,7 @@ use Rattle.gf_nfg.proofs.lemmas.tables.Told.{MeansTable}
 
 pub longer : (bytes heading before out : List ℕ) (more : List ℕ) → before ≡ heading ++ bytes
     → out ≡ before ++ more → out ≡ heading ++ (bytes ++ more)
-longer bytes heading before out more e f =
-    f ∙ ap (λ (bs : List ℕ). bs ++ more) e ∙ append_assoc heading bytes more
+longer bytes heading before out more e f = grind (arith, append_assoc)
 
 pub is_payoffs : (v w : Version) → v ≡ w → ¬ (v ≡ Outcomes) → Payoffs ≡ w
 is_payoffs v w same not = by v same not
@@ -44,8 +43,7 @@ is_outcomes v w same not = by v same not
     by Payoffs same not = absurd (not refl)
     by Outcomes same not = same
 
-nobody : (players : ℕ) (payoffs : List Ratio) (n : Ratio) {P : Type 0}
-    → payoffs ++ n ∷ [] ≡ [] → P
+nobody : (players : ℕ) (payoffs : List Ratio) (n : Ratio) {P : Type 0} → payoffs ++ n ∷ [] ≡ [] → P
 nobody players [] n e = absurd cc
 nobody players (m ∷ payoffs) n e = absurd cc
 
@@ -81,12 +79,9 @@ text_parts named c =
 
 -- with these lines after its heading it is the canonical text
 pub text_with : (named : Bool) (c : Content) (out : List ℕ) → IsComplete c
-    → out ≡ heading_text (names_by named (names_in c))
-    ++ lines_text (map row_text (rows_by c c.choices))
-    → out ≡ table_text (named_by named (table_of c))
-text_with named c out h e =
-    e ∙ ap (λ rs. heading_text (names_by named (names_in c)) ++ lines_text (map row_text rs))
-    (sym (rows-table_of c h)) ∙ sym (text_parts named c)
+    → out ≡ heading_text (names_by named (names_in c)) ++ lines_text
+    (map row_text (rows_by c c.choices)) → out ≡ table_text (named_by named (table_of c))
+text_with named c out h e = grind (arith, rows-table_of, text_parts)
 
 no_counts : (counts : List ℕ) → length counts ≡ 0 → product counts ≡ 1
 no_counts [] e = refl
@@ -97,8 +92,7 @@ pub lines_are : (c : Content) (left : ℕ) (bytes : List ℕ) → IsComplete c �
     → AreLines (length c.players) left bytes c.payoffs
     → bytes ≡ lines_text (map row_text (rows_by c c.choices))
 lines_are c left bytes h none l =
-    let count : length c.payoffs ≡ length c.players * c.profiles =
-    subst (HasPayoffs c) none h.has_rows in
+    let count : length c.payoffs ≡ length c.players * c.profiles = grind arith in
     lines_whole (length c.players) left c.profiles bytes c.payoffs l count
     (λ nobody. h.profiles_are ∙ no_counts c.counts (h.one_count_each ∙ nobody))
     ∙ ap (λ ks. lines_text (map row_text (rows_by c ks))) (sym none)
@@ -132,15 +126,13 @@ pub record BeginsText (bytes : List ℕ) (named : Bool) (c : Content) (text : Li
 
 pub outcomes_begin : (bytes : List ℕ) (heading : Heading) (named : Bool) (t : Text)
     → ¬ (t.version ≡ Payoffs) → HasToldTable (HasText named) bytes heading t
-    → BeginsText bytes named (content_of (record { heading = heading; kept = t.kept }))
-    t.text.items
+    → BeginsText bytes named (content_of (record { heading = heading; kept = t.kept })) t.text.items
 outcomes_begin bytes heading named t not h =
     let x = h.holding in
     let is = is_outcomes t.version h.told.version x.version_is not in
-    let body : (x.bytes ≡ []) × (t.kept.payoffs.items ≡ h.told.payoffs) =
-    subst (λ v. HasBody v t h.told x.bytes) (sym is) x.has_body in
+    let body : (x.bytes ≡ []) × (t.kept.payoffs.items ≡ h.told.payoffs) = grind arith in
     let same : content_told h.told ≡ content_of (record { heading = heading; kept = t.kept }) =
-    (λ i. content_with (h.same i) (sym body.1 i) (sym x.numbers_are i)) in
+    grind arith in
     subst (λ c. BeginsText bytes named c t.text.items) same (record {
       means = record {
         spelled = h.spelled;

@@ -1,4 +1,4 @@
-use Rattle.std.proofs.Common.{◌∙◌}
+use Rattle.std.proofs.Common.{arith, ◌∙◌}
 use Rattle.gf_nfg.specs.inner.Meaning.{table_of}
 use Rattle.gf_nfg.specs.inner.ReaderState.{content_of}
 use Rattle.gf_nfg.proofs.lemmas.places.Judged.{memory_at_end}
@@ -8,9 +8,7 @@ use Rattle.gf_nfg.proofs.lemmas.tables.Told.{kept_means}
 use Rattle.gf_nfg.proofs.read.read_nfg.Goals as goal
 
 pub into_table-requires-clause-complete : goal.into_table-requires-clause-complete
-into_table-requires-clause-complete c =
-    (kept_means c.args.input.now c.in_ok-heading.heading c.tell_nfg.new.to
-    c.in_ok-heading.ensures.told).complete
+into_table-requires-clause-complete c = grind (arith, kept_means)
 
 pub into_table-requires-clause-spellable : goal.into_table-requires-clause-spellable
 into_table-requires-clause-spellable c =
@@ -19,14 +17,10 @@ into_table-requires-clause-spellable c =
     c.in_ok-heading.ensures.told).spelled).1
 
 pub returns-in-Ok-clause-spelled : goal.returns-in-Ok-clause-spelled
-returns-in-Ok-clause-spelled c =
-    rw c.in-Ok.ensures (kept_means c.args.input.now c.in_ok-heading.heading c.tell_nfg.new.to
-    c.in_ok-heading.ensures.told).spelled
+returns-in-Ok-clause-spelled c = grind (arith, kept_means, c.in-Ok.ensures)
 
 pub returns-in-Ok-clause-within : goal.returns-in-Ok-clause-within
-returns-in-Ok-clause-within c =
-    rw c.in-Ok.ensures (kept_means c.args.input.now c.in_ok-heading.heading c.tell_nfg.new.to
-    c.in_ok-heading.ensures.told).within
+returns-in-Ok-clause-within c = grind (arith, kept_means, c.in-Ok.ensures)
 
 pub returns-in-Ok-clause-only : goal.returns-in-Ok-clause-only
 returns-in-Ok-clause-only c = λ t spells within.

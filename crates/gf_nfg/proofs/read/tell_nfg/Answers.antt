@@ -1,4 +1,4 @@
-use Rattle.std.proofs.Common.{rules, ◌∙◌, ap, sym}
+use Rattle.std.proofs.Common.{arith, ◌∙◌, ap, sym}
 use Rattle.gf_nfg.specs.inner.Heard.{Answer}
 use Rattle.gf_nfg.specs.inner.ReaderState.{content_told}
 use Rattle.gf_nfg.proofs.lemmas.places.Heard.{answer_judged, answer_read, carried, heard_begun}
@@ -8,23 +8,11 @@ use Rattle.gf_nfg.proofs.read.tell_nfg.Goals as goal
 
 pub returns-in_err-tell-clause-only : goal.returns-in_err-tell-clause-only
 returns-in_err-tell-clause-only g c =
-    let n = c.new-reader.ensures in
-    refused_why c.in_err-tell.field-0.0 _ c.from_residual.result (search rules)
-    (λ t spells within. only_memory c.in_err-tell.field-0.0.why c.args.input.now
-    c.in_err-tell.field-0.0.span t
-    (answer_judged c.args.input.now c.new-reader.result.tokens.ahead c.in_err-tell.field-0.0
-    n.spelled (carried c.in_err-tell.ensures
-    (heard_begun c.new-reader.result c.args.input.now n.input n.content)))
-    spells within)
+    grind (arith, refused_why, only_memory, answer_judged, carried, heard_begun)
 
 pub returns-in_err-tell-clause-judged : goal.returns-in_err-tell-clause-judged
 returns-in_err-tell-clause-judged g c =
-    let n = c.new-reader.ensures in
-    refused_why c.in_err-tell.field-0.0 _ c.from_residual.result (search rules)
-    (answer_judged c.args.input.now c.new-reader.result.tokens.ahead c.in_err-tell.field-0.0
-    n.spelled
-    (carried c.in_err-tell.ensures
-    (heard_begun c.new-reader.result c.args.input.now n.input n.content)))
+    grind (arith, refused_why, answer_judged, carried, heard_begun)
 
 pub returns-clause-told : goal.returns-clause-told
 returns-clause-told g c =

@@ -6,8 +6,7 @@ use Rattle.gf_nfg.specs.SameTable.{SameTable}
 use Rattle.gf_nfg.specs.TableText.{named_by}
 use Rattle.gf_nfg.specs.declared.reader.receive.Version.TheVariants.{Payoffs}
 use Rattle.gf_nfg.proofs.lemmas.tables.Compared.{if_ok, in_turn_compared, payoffs_compared}
-use Rattle.gf_nfg.proofs.lemmas.tables.Compared.{rows_compared}
-use Rattle.gf_nfg.proofs.lemmas.tables.Compared.{rows_kept}
+use Rattle.gf_nfg.proofs.lemmas.tables.Compared.{rows_compared, rows_kept}
 use Rattle.gf_nfg.proofs.lemmas.tables.Lists.{joined}
 use Rattle.gf_nfg.proofs.comparison.Comparison.is_same.Goals as goal
 

@@ -1,4 +1,4 @@
-use Rattle.std.proofs.Common.{◌∙◌, refl, rules, arith}
+use Rattle.std.proofs.Common.{◌∙◌, refl, arith}
 use Rattle.std.proofs.lemmas.List.{length-map}
 use Rattle.gf_token.specs.Label.{label_of}
 use Rattle.gf_nfg.specs.inner.ReaderState.{content_told}
@@ -9,19 +9,12 @@ use Rattle.gf_nfg.proofs.lemmas.runs.ReaderSteps.{all_told, ends_back, no_payoff
 use Rattle.gf_nfg.proofs.reader.Reader.tell_outcomes.Goals as goal
 
 pub returns-in_err-outcomes : goal.returns-in_err-outcomes
-returns-in_err-outcomes g c = λ untold holding.
-    let from = told_heading Outcomes c.args.self.now.heading in
-    let size = length-map c.args.self.now.heading.players.items label_of in
-    ends_back {r = c.from_residual.result} _ (search rules)
-    (c.in_err-outcomes.ensures untold from (omega (arith, size, c.len.ensures)) holding)
+returns-in_err-outcomes g c = grind (arith, length-map, ends_back, c.in_err-outcomes.ensures)
 
 pub returns-in_err-numbers : goal.returns-in_err-numbers
-returns-in_err-numbers g c = λ untold holding.
-    let from = told_heading Outcomes c.args.self.now.heading in
-    let size = length-map c.args.self.now.heading.players.items label_of in
-    let h = c.in_ok-outcomes.ensures untold from (omega (arith, size, c.len.ensures)) holding in
-    ends_back {r = c.from_residual-in_err-numbers.result} _ (search rules)
-    (carried (c.in_err-numbers.ensures untold (paying from h.told) h.holding) h.goes)
+returns-in_err-numbers g c =
+    grind (arith, length-map, ends_back, carried, c.in_ok-outcomes.ensures,
+    c.in_err-numbers.ensures)
 
 pub returns : goal.returns
 returns g c = λ untold holding.

@@ -1,4 +1,4 @@
-use Rattle.std.proofs.Common.{◌∙◌, ap, refl, rules, sym}
+use Rattle.std.proofs.Common.{arith, ◌∙◌, ap, refl, sym}
 use Rattle.gf_nfg.specs.inner.Position.Position.{FlatPayoffs}
 use Rattle.gf_nfg.specs.inner.ReaderState.{content_told, told_answer}
 use Rattle.gf_nfg.specs.inner.Told.{paying, told_heading}
@@ -8,12 +8,7 @@ use Rattle.gf_nfg.proofs.lemmas.runs.ReaderSteps.{all_told, ends_back}
 use Rattle.gf_nfg.proofs.reader.Reader.tell_payoffs.Goals as goal
 
 pub returns-in_err-payoffs : goal.returns-in_err-payoffs
-returns-in_err-payoffs g c = λ untold holding.
-    let from = told_heading Payoffs c.args.self.now.heading in
-    let goes = ap (λ n. told_answer FlatPayoffs n 0 c.args.self.now.tokens from)
-    c.all_payoffs-due.ensures in
-    ends_back {r = c.from_residual.result} _ (search rules)
-    (carried (c.in_err-payoffs.ensures untold from holding) (sym goes))
+returns-in_err-payoffs g c = grind (arith, ends_back, carried, c.in_err-payoffs.ensures)
 
 pub returns : goal.returns
 returns g c = λ untold holding.

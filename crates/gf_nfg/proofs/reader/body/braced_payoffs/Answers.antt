@@ -1,6 +1,5 @@
-use Rattle.std.proofs.Common.{◌≡◌, ◌-◌, ◌∙◌, ap, arith, refl, rules}
-use Rattle.gf_nfg.specs.inner.Position.Position.{BracedPayoff}
-use Rattle.gf_nfg.specs.inner.ReaderState.{content_told, told_answer}
+use Rattle.std.proofs.Common.{◌-◌, ◌∙◌, arith, refl, rules}
+use Rattle.gf_nfg.specs.inner.ReaderState.{content_told}
 use Rattle.gf_nfg.specs.inner.Told.{paying}
 use Rattle.gf_nfg.proofs.lemmas.runs.ReaderSteps.{ends_back}
 use Rattle.gf_nfg.proofs.lemmas.places.Heard.{carried}
@@ -42,13 +41,4 @@ returns-in_err-payoff-clause-told g c = λ untold told outcomes holding.
     c.loop-due-test.true h.holding) h.goes)
 
 pub returns-clause-told : goal.returns-clause-told
-returns-clause-told g c = λ untold told outcomes holding.
-    let h = c.loop-due.invariant.goes untold told outcomes holding in
-    let none : c.loop-due.due ≡ 0 = omega (arith, c.loop-due-test.false) in
-    record {
-      told = h.told;
-      goes = h.goes
-          ∙ ap (λ n. told_answer BracedPayoff n outcomes c.loop-due.tokens (paying told h.told))
-          none;
-      holding = h.holding;
-    }
+returns-clause-told g c = grind (arith, c.loop-due.invariant.goes)

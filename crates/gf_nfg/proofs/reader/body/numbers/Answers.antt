@@ -1,6 +1,4 @@
-use Rattle.std.proofs.Common.{◌≡◌, ◌∙◌, ap, arith, refl, rules}
-use Rattle.gf_nfg.specs.inner.Position.Position.{OutcomeNumbers}
-use Rattle.gf_nfg.specs.inner.ReaderState.{told_answer}
+use Rattle.std.proofs.Common.{◌∙◌, arith, refl, rules}
 use Rattle.gf_nfg.specs.inner.Told.{choosing}
 use Rattle.gf_nfg.proofs.lemmas.runs.ReaderSteps.{ends_back}
 use Rattle.gf_nfg.proofs.lemmas.places.Heard.{carried}
@@ -25,13 +23,4 @@ returns-in_err-number g c = λ untold told holding.
     c.loop-due-test.true h.holding) h.goes)
 
 pub returns : goal.returns
-returns g c = λ untold told holding.
-    let h = c.loop-due.invariant untold told holding in
-    let none : c.loop-due.due ≡ 0 = omega (arith, c.loop-due-test.false) in
-    record {
-      told = h.told;
-      goes = h.goes
-          ∙ ap (λ n. told_answer OutcomeNumbers n c.args.outcomes c.loop-due.tokens
-          (choosing told h.told)) none;
-      holding = h.holding;
-    }
+returns g c = grind (arith, c.loop-due.invariant)

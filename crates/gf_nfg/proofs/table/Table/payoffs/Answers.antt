@@ -1,14 +1,10 @@
-use Rattle.std.proofs.Common.{◌∙◌, sym, ap, arith, length, map, ℕ, Option, slice_get}
+use Rattle.std.proofs.Common.{◌∙◌, sym, ap, arith, ℕ, Option, slice_get}
 use Rattle.std.specs.Prelude.{option_and_then}
 use Rattle.gf_nfg.proofs.lemmas.tables.Places.{payoffs_found, place_below}
 use Rattle.gf_nfg.proofs.table.Table.payoffs.Goals as goal
 
 pub row-requires : goal.row-requires
-row-requires c =
-    let counts = map length c.self.inside.names.strategies in
-    let below = place_below counts c.args.profile.now c.in-Some.place
-    (sym c.place_of.ensures ∙ c.in-Some.is) in
-    omega (arith, below, c.self.invariant.named.counted)
+row-requires c = grind (arith, place_below)
 
 pub returns-in-Some : goal.returns-in-Some
 returns-in-Some c =

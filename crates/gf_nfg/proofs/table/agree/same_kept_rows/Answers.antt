@@ -1,4 +1,4 @@
-use Rattle.std.proofs.Common.{◌≡◌, ◌∙◌, arith, get_or, map, refl, rules, sym}
+use Rattle.std.proofs.Common.{◌≡◌, ◌∙◌, arith, get_or, refl, rules, sym}
 use Rattle.std.specs.Prelude.{IsTrue}
 use Rattle.gf_nfg.specs.TableParts.{kept_row}
 use Rattle.gf_nfg.proofs.lemmas.tables.Classes.{compared_more, row_at, row_of_both, rows_differ}
@@ -8,14 +8,7 @@ use Rattle.gf_nfg.proofs.table.agree.same_kept_rows.Goals.{else-unite-via-then-u
 use Rattle.gf_nfg.proofs.table.agree.same_kept_rows.Goals as goal
 
 pub returns-then-same_shared : goal.returns-then-same_shared
-returns-then-same_shared c =
-    let a = c.in-Some-Some.ensures.shared in
-    let b = c.in-Some-Some.ensures'.shared in
-    let e = c.same_shared.ensures c.if-same_shared.true in (
-      λ _. a.rows_are
-          ∙ (λ i. map (kept_row (e.1 i) (e.2 i) (e.3 i)) (e.0 i)) ∙ sym b.rows_are,
-      λ _. refl,
-    )
+returns-then-same_shared c = grind (arith, c.same_shared.ensures)
 
 pub loop-place-init : goal.loop-place-init
 loop-place-init c = record {

@@ -1,4 +1,4 @@
-use Rattle.std.proofs.Common.{◌≡◌, ◌∙◌, ◌++◌, List, ℕ, Bool, ap, map, refl, rules, subst}
+use Rattle.std.proofs.Common.{arith, ◌≡◌, ◌∙◌, ◌++◌, List, ℕ, Bool, ap, map, refl, rules, subst}
 use Rattle.gf_token.specs.declared.fault.Why.TheVariants.{Memory}
 use Rattle.gf_nfg.specs.inner.Meaning.{rows_by, table_of}
 use Rattle.gf_nfg.specs.inner.ReaderState.{content_of}
@@ -19,11 +19,7 @@ returns-then-eq-clause-text c =
     c.tell_nfg.new.to) c.new-text.ensures.named c.in_ok-heading.ensures.told)
 
 pub with_lines-requires : goal.with_lines-requires
-with_lines-requires c =
-    (outcomes_begin c.args.input.now c.in_ok-heading.heading c.args.named c.tell_nfg.new.to
-    (search rules)
-    (subst (λ (named : Bool). HasToldTable (HasText named) c.args.input.now c.in_ok-heading.heading
-    c.tell_nfg.new.to) c.new-text.ensures.named c.in_ok-heading.ensures.told)).means.complete
+with_lines-requires c = grind (arith, outcomes_begin)
 
 pub returns-in-Ok-clause-text : goal.returns-in-Ok-clause-text
 returns-in-Ok-clause-text c =

@@ -1,9 +1,9 @@
-use Rattle.std.proofs.Common.{◌++◌, ◌∙◌, arith}
+use Rattle.std.proofs.Common.{◌++◌, arith}
 use Rattle.gf_token.specs.Label.{label_of}
 use Rattle.gf_nfg.specs.TableParts.{own_of}
 use Rattle.gf_nfg.specs.TableText.{quoted}
-use Rattle.gf_nfg.proofs.lemmas.texts.Pieces.{item_written, kept_twice, list_closed}
-use Rattle.gf_nfg.proofs.lemmas.texts.Pieces.{own_some, own_strategy, rest_text}
+use Rattle.gf_nfg.proofs.lemmas.texts.Pieces.{item_written, kept_twice, list_closed, own_some}
+use Rattle.gf_nfg.proofs.lemmas.texts.Pieces.{own_strategy, rest_text}
 use Rattle.gf_nfg.proofs.text.write.write_own.Goals as goal
 
 pub loop-strategy-preserved : goal.loop-strategy-preserved
@@ -22,11 +22,4 @@ loop-strategy-preserved c =
     )
 
 pub returns-clause-text : goal.returns-clause-text
-returns-clause-text c =
-    let own = own_of c.args.names.now c.args.at in
-    let size = own_some c.args.names.now c.args.at c.strategies-strategy-end.result
-    c.strategies-strategy-end.ensures in
-    c.in_ok-push-2.ensures.items ∙ list_closed quoted own c.loop-strategy.strategy
-    c.args.out.now.items c.extend_from_slice.new.self.items c.loop-strategy.out.items
-    c.in_ok-extend_from_slice.ensures.items
-    (omega (arith, c.loop-strategy-test.false, size.1)) c.loop-strategy.invariant.0
+returns-clause-text c = grind (arith, own_some, list_closed)

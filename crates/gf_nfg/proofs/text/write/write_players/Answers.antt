@@ -1,4 +1,4 @@
-use Rattle.std.proofs.Common.{◌++◌, ◌∙◌, arith}
+use Rattle.std.proofs.Common.{◌++◌, arith}
 use Rattle.gf_token.specs.Label.{label_of}
 use Rattle.gf_nfg.specs.TableText.{quoted}
 use Rattle.gf_nfg.proofs.lemmas.texts.Pieces.{item_written, kept_twice, list_closed, rest_text}
@@ -17,8 +17,4 @@ loop-at-preserved c = (
 )
 
 pub returns-clause-text : goal.returns-clause-text
-returns-clause-text c =
-    c.in_ok-push-2.ensures.items
-    ∙ list_closed quoted c.args.names.now.players c.loop-at.at c.args.out.now.items
-    c.extend_from_slice.new.self.items c.loop-at.out.items c.in_ok-extend_from_slice.ensures.items
-    (omega (arith, c.loop-at-test.false, c.players-at-end.ensures.players)) c.loop-at.invariant.0
+returns-clause-text c = grind (arith, list_closed)

@@ -1,4 +1,4 @@
-use Rattle.std.proofs.Common.{◌++◌, ◌∙◌, arith, map, List, ℕ}
+use Rattle.std.proofs.Common.{◌++◌, arith, map, List, ℕ}
 use Rattle.gf_nfg.specs.TableParts.{own_of}
 use Rattle.gf_nfg.specs.TableText.{list_text, quoted}
 use Rattle.gf_nfg.proofs.lemmas.texts.Pieces.{item_written, kept_twice, list_closed, own_there}
@@ -24,14 +24,4 @@ loop-at-preserved c =
     )
 
 pub returns-clause-text : goal.returns-clause-text
-returns-clause-text c =
-    let line : List (List ℕ) → List ℕ = λ own. list_text (map quoted own) in
-    c.in_ok-push-2.ensures.items
-    ∙ list_closed line c.args.names.now.strategies c.loop-at.at c.args.out.now.items
-    c.extend_from_slice.new.self.items c.loop-at.out.items c.in_ok-extend_from_slice.ensures.items
-    (omega (
-      arith,
-      c.loop-at-test.false,
-      c.players-at-end.ensures.players,
-      c.players-at-end.ensures.one_list_each,
-    )) c.loop-at.invariant.0
+returns-clause-text c = grind (arith, list_closed)

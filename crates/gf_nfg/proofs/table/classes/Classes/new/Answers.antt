@@ -6,8 +6,7 @@ use Rattle.gf_nfg.specs.inner.Classes.{LeadBack}
 use Rattle.gf_nfg.proofs.lemmas.tables.Classes.{back_begun}
 use Rattle.gf_nfg.proofs.table.classes.Classes.new.Goals as goal
 
-numbered : (c : goal.In_ok-parents)
-    → c.in_ok-parents.parents.items ≡ range_with_len 0 c.args.places
+numbered : (c : goal.In_ok-parents) → c.in_ok-parents.parents.items ≡ range_with_len 0 c.args.places
 numbered c =
     items_from_collect {E = AllocError} (Ok c.in_ok-parents.parents) c.in_ok-parents.ensures.ran
     (YieldsList-from_range 0 c.args.places c.args.places refl (omega arith))

@@ -1,15 +1,10 @@
-use Rattle.std.proofs.Common.{◌≡◌, ◌∙◌, ap, arith, length, subst, sym}
-use Rattle.std.proofs.lemmas.Bool.Decides.{nat_tests}
+use Rattle.std.proofs.Common.{◌∙◌, ap, arith, length, subst, sym}
 use Rattle.gf_nfg.specs.inner.Classes.{ShareRows}
 use Rattle.gf_nfg.proofs.lemmas.tables.Classes.{rows_united}
 use Rattle.gf_nfg.proofs.table.classes.Classes.unite.Goals as goal
 
 pub returns-clause-known : goal.returns-clause-known
-returns-clause-known c = λ row one rows.
-    let first = c.root-first.ensures.rows row rows in
-    let second = c.root-second.ensures.rows row first.0 in
-    let same : c.root-first.result ≡ c.root-second.result = grind (arith, nat_tests) in
-    sym first.1 ∙ ap row same ∙ second.1
+returns-clause-known c = grind (arith, c.root-first.ensures.rows, c.root-second.ensures.rows)
 
 pub returns-clause-rows : goal.returns-clause-rows
 returns-clause-rows c = λ row same rows.

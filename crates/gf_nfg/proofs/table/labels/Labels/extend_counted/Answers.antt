@@ -1,16 +1,11 @@
-use Rattle.std.proofs.Common.{◌≡◌, ◌∙◌, ◌++◌, ◌+◌, ◌<◌, ◌≤◌, ◌^◌, arith}
+use Rattle.std.proofs.Common.{◌≡◌, ◌∙◌, ◌++◌, ◌+◌, arith}
 use Rattle.std.specs.Prelude.{decimal}
 use Rattle.gf_token.specs.Label.{label_of}
 use Rattle.gf_nfg.proofs.lemmas.tables.LabelsCounted.{decimal_label, counted_appended, counted_rest}
 use Rattle.gf_nfg.proofs.table.labels.Labels.extend_counted.Goals as goal
 
 pub of_spelling-requires : goal.of_spelling-requires
-of_spelling-requires c =
-    let small : c.loop-before.before + 1 < 2 ^ 64 = omega (arith, c.ranges.count.fits) in
-    let wide : 2 ^ 64 ≤ 10 ^ 64 = omega arith in
-    let number : c.as_bytes-number.result.now ≡ decimal (c.loop-before.before + 1) =
-    c.as_bytes-number.ensures.value ∙ c.format.ensures.text in
-    rw number (decimal_label (c.loop-before.before + 1) (omega (arith, small, wide)))
+of_spelling-requires c = grind (arith, decimal_label)
 
 pub loop-before-preserved : goal.loop-before-preserved
 loop-before-preserved c =

@@ -1,4 +1,4 @@
-use Rattle.std.proofs.Common.{◌∙◌, ap, map, ◌++◌, ◌∷◌, [], ℕ}
+use Rattle.std.proofs.Common.{arith, ◌∙◌, ap, map, ◌++◌, ◌∷◌, [], ℕ}
 use Rattle.std.specs.List.{join_with_byte}
 use Rattle.gf_token.specs.Label.{label_of}
 use Rattle.gf_nfg.proofs.lemmas.tables.LabelsJoined.{where_ok}
@@ -24,6 +24,4 @@ pub invariant_of-self-2 : goal.invariant_of-self-2
 invariant_of-self-2 c = cut_more _ _ _ _ _ (pushed c)
 
 pub returns-clause-ok : goal.returns-clause-ok
-returns-clause-ok c =
-    pieces-more _ _ _ _ _ (pushed c)
-    ∙ ap (λ ls. ls ++ join_with_byte 45 (map label_of c.args.parts.now) ∷ []) c.self.view_is
+returns-clause-ok c = grind (arith, pieces-more)

@@ -1,7 +1,7 @@
-use Rattle.std.proofs.Common.{◌∙◌}
+use Rattle.std.proofs.Common.{arith, ◌∙◌}
 use Rattle.gf_nfg.proofs.lemmas.tables.Listed.{empty_is, in_turn_full, listed_in_turn}
-use Rattle.gf_nfg.proofs.lemmas.tables.Listed.{parts_complete}
-use Rattle.gf_nfg.proofs.lemmas.tables.Listed.{rows_held, shared_rows, some_is, table_is}
+use Rattle.gf_nfg.proofs.lemmas.tables.Listed.{parts_complete, rows_held, shared_rows, some_is}
+use Rattle.gf_nfg.proofs.lemmas.tables.Listed.{table_is}
 use Rattle.gf_nfg.proofs.lemmas.tables.Meaning.{lacking, present}
 use Rattle.gf_nfg.proofs.table.listed.ListedTable.told.Goals as goal
 
@@ -34,9 +34,7 @@ invariant_of-result-2 c =
     }
 
 pub rows-requires : goal.rows-requires
-rows-requires c =
-    parts_complete c.requires.0 _ _ c.requires.1 (some_is _
-    (present _ _ _ c.is_empty.ensures c.if-is_empty.false c.args.listing.kept.numbers.ok.0))
+rows-requires c = grind (arith, parts_complete, some_is, present)
 
 pub returns : goal.returns
 returns c = λ bytes h.

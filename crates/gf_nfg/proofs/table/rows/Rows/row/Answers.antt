@@ -1,18 +1,10 @@
 use Rattle.std.proofs.Common.{◌∙◌, sym, ap, arith, slice_get, Some, option_map}
-use Rattle.gf_nfg.specs.TableParts.{numbers_of}
 use Rattle.gf_nfg.proofs.lemmas.tables.Rows.{kept_row_is, number_found, some_from, number_within}
 use Rattle.gf_nfg.proofs.lemmas.tables.Rows.{number_zero, row_is, place_within, numbered}
 use Rattle.gf_nfg.proofs.table.rows.Rows.row.Goals as goal
 
 pub number_in-number-requires : goal.number_in-number-requires
-number_in-number-requires c =
-    let r = c.self.inside in
-    let choices = option_map (λ v. v.items) r.choices in
-    let numbers = numbers_of r.profiles choices in
-    let within = place_within r.players r.profiles r.payoffs.items r.zeros.items numbers
-    c.args.self.now c.args.place c.self.invariant c.self.view_is c.requires in
-    rw (number_found r.profiles choices c.args.place within)
-    (some_from numbers c.args.place (omega (arith, within, c.self.invariant.one_number_each)))
+number_in-number-requires c = grind (arith, place_within, number_found, some_from)
 
 pub row_at-requires : goal.row_at-requires
 row_at-requires c =

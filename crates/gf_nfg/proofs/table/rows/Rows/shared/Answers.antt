@@ -1,5 +1,5 @@
-use Rattle.std.proofs.Common.{◌≡◌, ◌∙◌, ◌+◌, ◌/◌, arith, subst}
-use Rattle.std.proofs.Common.{sym, ap, length, option_map, List, ℕ}
+use Rattle.std.proofs.Common.{◌≡◌, ◌∙◌, ◌+◌, ◌/◌, arith, subst, sym, ap, length, option_map, List}
+use Rattle.std.proofs.Common.{ℕ}
 use Rattle.gf_fraction.specs.Ratio.{Ratio}
 use Rattle.gf_nfg.specs.TableParts.{AreShared, numbers_of}
 use Rattle.gf_nfg.proofs.lemmas.texts.SharedLines.{kept_rows_are, rows_below, rows_kept}

@@ -1,5 +1,5 @@
-use Rattle.std.proofs.Common.{◌+◌, ◌∙◌, ◌++◌, sym, ap, arith, length}
-use Rattle.std.proofs.Common.{drop, length-append, append_assoc, List, ℕ}
+use Rattle.std.proofs.Common.{◌+◌, ◌∙◌, ◌++◌, sym, ap, arith, length, drop, length-append}
+use Rattle.std.proofs.Common.{append_assoc, List, ℕ}
 use Rattle.gf_nfg.specs.inner.TextParts.{lines_with}
 use Rattle.gf_nfg.proofs.lemmas.texts.SharedLines.{chosen_next}
 use Rattle.gf_nfg.proofs.text.lines.Lines.append.Goals as goal
