@@ -15,8 +15,9 @@ sources := crates.txt $(shell find crates -name out -prune -o -type f -print)
 
 all: gamefile
 
-gamefile: $(sources) prove
-	./prove gamefile
+gamefile: $(sources)
+	cd crates/gamefile && $(RT) run --jobs $$(nproc) -- --version
+	cp crates/gamefile/out/gamefile .
 
 run: gamefile
 	./gamefile canon examples/battle-of-the-sexes.nfg
