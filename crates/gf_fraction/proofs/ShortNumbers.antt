@@ -13,9 +13,12 @@ use Rattle.gf_fraction.specs.Steps.{IsLowest}
 use Rattle.gf_fraction.specs.NumberSpelling.{HasShape, IsNumber, IsSign, size_of, den_of}
 use Rattle.gf_fraction.specs.NumberSpelling.{scaled_digits, power_of_ten}
 use Rattle.gf_fraction.specs.NumberSpelling.Reading.{decimal, rational}
-use Rattle.gf_fraction.specs.NumberSpelling.IsPlain.{whole, pointed}
+use Rattle.gf_fraction.specs.NumberSpelling.{IsPlain}
 use Rattle.gf_fraction.specs.NumberSpelling.HasShape.{plain, fraction}
 use Rattle.gf_fraction.specs.NumberScan.{AreRead, Completes, after_sign}
+use Rattle.gf_fraction.specs.ShortNumber.{EndsDigits, IsLeft, IsReadOn}
+use Rattle.gf_fraction.specs.ShortNumber.IsReadOn.{whole}
+use Rattle.gf_fraction.specs.ShortNumber.IsLeft.{no_denominator, many_places}
 use Rattle.gf_fraction.proofs.Divisors.{IsGcd-one_right}
 use Rattle.gf_fraction.proofs.FoundIsSpelled.{has_sign}
 use Rattle.gf_fraction.proofs.LowestTerms.{value_from}
@@ -52,14 +55,25 @@ first_and_more (c ∷ cs) b some first =
     ap (λ k. take k cs) n ∙ take_all (length cs) cs (omega arith) in
     (λ i. first i ∷ sym all i)
 
-pub whole_completes : (n : ℕ) (text : List ℕ) → n < 2 ^ 64 → Completes n text n 1 text
-whole_completes n text short = record {
+pub no_byte : (text : List ℕ) → length text < 1 → EndsDigits text
+no_byte [] none = tt
+no_byte (c ∷ cs) none = absurd (omega arith)
+
+pub other_byte : (text : List ℕ) → ¬ (get_or text 0 0 ≡ 47) → ¬ (get_or text 0 0 ≡ 46)
+    → EndsDigits text
+other_byte [] slash point = tt
+other_byte (c ∷ cs) slash point = (slash, point)
+
+pub whole_completes : (n : ℕ) (text : List ℕ) → n < 2 ^ 64 → EndsDigits text
+    → Completes n text n 1 text
+whole_completes n text short ends = record {
   more = [];
   reading = decimal n 0 (pos 0);
   spelled = refl;
+  read_on = whole text ends;
   has_shape =
       λ digits numeral value. subst (λ (t : List ℕ × ℕ). HasShape t.0 (decimal t.1 0 (pos 0)))
-      (λ i. (sym (append-nil digits) i, value i)) (plain digits digits 0 (whole digits numeral));
+      (λ i. (sym (append-nil digits) i, value i)) (plain digits digits 0 (IsPlain.whole digits numeral));
   den_above_zero = lit< tt;
   bounded = record {
     digits_within = omega arith;
@@ -83,10 +97,11 @@ ratio_completes n d p q text under rest num_short den_short slash h above low = 
   more = 47 ∷ h.digits;
   reading = rational n d;
   spelled = slash ∙ ap (λ t. 47 ∷ t) h.spelled;
+  read_on = IsReadOn.rational h.digits rest h.run (subst (λ k. 0 < k) h.is above);
   has_shape =
       λ digits numeral value. subst (λ (t : List ℕ × (ℕ × ℕ)). HasShape t.0 (rational t.1.0 t.1.1))
       (λ i. (append_assoc digits (47 ∷ []) h.digits i, (value i, sym h.is i)))
-      (fraction digits h.digits numeral (some_digits d h.digits h.is above, h.all));
+      (fraction digits h.digits numeral (some_digits d h.digits h.is above, h.run.all));
   den_above_zero = above;
   bounded = (omega arith, omega arith);
   lowest = low;
@@ -104,6 +119,7 @@ decimal_completes n v p q places text behind rest short point h count few low =
       more = 46 ∷ h.digits;
       reading = decimal v places (pos 0);
       spelled = point ∙ ap (λ t. 46 ∷ t) h.spelled;
+      read_on = IsReadOn.pointed h.digits rest h.run (omega (arith, same, few));
       has_shape =
           λ digits numeral value.
           let all : digits_value 10 (digits ++ h.digits) ≡ v =
@@ -112,11 +128,11 @@ decimal_completes n v p q places text behind rest short point h count few low =
           ∙ sym h.is in
           let numeral' : IsNumeral 10 (digits ++ h.digits) = (
             omega (arith, numeral.0, length-append digits h.digits),
-            AllDigits-append digits h.digits numeral.1 h.all,
+            AllDigits-append digits h.digits numeral.1 h.run.all,
           ) in
           subst (λ (t : List ℕ × (ℕ × ℕ)). HasShape t.0 (decimal t.1.0 t.1.1 (pos 0)))
           (λ i. (append_assoc digits (46 ∷ []) h.digits i, (all i, sym same i)))
-          (plain _ _ _ (pointed digits h.digits numeral'));
+          (plain _ _ _ (IsPlain.pointed digits h.digits numeral'));
       den_above_zero = power_of_ten-above (pos places -ℤ pos 0);
       bounded = record {
         digits_within = omega arith;
@@ -128,6 +144,22 @@ decimal_completes n v p q places text behind rest short point h count few low =
       };
       lowest = subst (λ z. IsLowest (scaled_digits v z) (power_of_ten z) p q) (sym whole) low;
     }
+
+-- ---- what is left
+
+pub ratio_left : (n d : ℕ) (text under rest : List ℕ) → text ≡ 47 ∷ under → AreRead 0 under d rest
+    → d ≡ 0 → IsLeft n text
+ratio_left n d text under rest slash h zero =
+    subst (IsLeft n) (sym (slash ∙ ap (λ t. 47 ∷ t) h.spelled))
+    (no_denominator h.digits rest h.run (sym h.is ∙ zero))
+
+pub decimal_left : (n v places : ℕ) (text behind rest : List ℕ) → text ≡ 46 ∷ behind
+    → AreRead n behind v rest → places ≡ length behind - length rest → 19 < places → IsLeft n text
+decimal_left n v places text behind rest point h count many =
+    let long : length behind ≡ length h.digits + length rest =
+    ap length h.spelled ∙ length-append h.digits rest in
+    subst (IsLeft n) (sym (point ∙ ap (λ t. 46 ∷ t) h.spelled))
+    (many_places h.digits rest h.run (omega (arith, long, count, many)))
 
 -- ---- the number
 

@@ -5,4 +5,5 @@ pub mod NumberSpelling
 pub mod NumberText
 pub mod Ratio
 pub mod Rational
+pub mod ShortNumber
 pub mod Steps

@@ -4,12 +4,13 @@ use Rattle.std.specs.Prelude.{◌≡◌, ◌<◌, ℕ, ℤ, Bool, true, false, L
 use Rattle.std.specs.Prelude.{length, Option, Some, None, pos, ◌==◌, ◌||◌, ◌&&◌}
 use Rattle.std.specs.Prelude.{nat_lt, min, ◌^◌, option_map, if◌then◌else◌}
 use Rattle.std.specs.Char.{is_ascii_digit}
-use Rattle.std.specs.Str.Parse.{AllDigits, IsNumeral, digits_value, digits_value_after}
+use Rattle.std.specs.Str.Parse.{IsNumeral, digits_value, digits_value_after}
 use Rattle.gf_fraction.specs.Ratio.{Ratio, IsFraction, HasValue, signed}
 use Rattle.gf_fraction.specs.Steps.{IsLowest}
 use Rattle.gf_fraction.specs.NumberSpelling.{Reading, HasShape, size_of, den_of}
 use Rattle.gf_fraction.specs.NumberSpelling.{scaled_digits, power_of_ten, IsBounded}
 use Rattle.gf_fraction.specs.NumberSpelling.Reading.{decimal, rational}
+use Rattle.gf_fraction.specs.ShortNumber.{IsReadOn, IsRun}
 use Rattle.gf_fraction.specs.declared.fraction.NumberFault.{NumberFault}
 use Rattle.gf_fraction.specs.declared.fraction.NumberFault.TheVariants.{NotANumber}
 use Rattle.gf_fraction.specs.declared.fraction.NumberFault.TheVariants.{ZeroDenominator, TooLarge}
@@ -94,11 +95,12 @@ abbrev pub reading_of : Spelling → Reading
 reading_of (Decimal digits places exponent) = decimal digits places exponent
 reading_of (Rational num den) = rational num den
 
--- a text begins with digits, which have this value after digits of value n, and this follows them
+-- a text begins with a run of digits, which have this value after digits of value n, and this
+-- follows them
 pub record AreRead (n : ℕ) (text : List ℕ) (value : ℕ) (rest : List ℕ) : Type 0 where
   pub digits : List ℕ
   pub spelled : text ≡ digits ++ rest
-  pub all : AllDigits 10 digits
+  pub run : IsRun n digits rest
   pub is : value ≡ digits_value_after 10 n digits
 
 -- after digits of value n, a text begins with what completes a number within the bounds, p over q
@@ -107,6 +109,7 @@ pub record Completes (n : ℕ) (text : List ℕ) (p q : ℕ) (rest : List ℕ) :
   pub more : List ℕ
   pub reading : Reading
   pub spelled : text ≡ more ++ rest
+  pub read_on : IsReadOn n more rest
   pub has_shape : (digits : List ℕ) → IsNumeral 10 digits → digits_value 10 digits ≡ n
       → HasShape (digits ++ more) reading
   pub den_above_zero : 0 < den_of reading

@@ -1,10 +1,11 @@
 //! The texts of numbers.
 
-ghost use Rattle.std.specs.Prelude.{◌≡◌, ◌≤◌, ◌<◌, ◌^◌, ◌++◌, ℕ, List, length, take, unsigned_abs};
-ghost use Rattle.std.specs.Prelude.{IfSome, MatchResult};
+ghost use Rattle.std.specs.Prelude.{◌≡◌, ◌≤◌, ◌<◌, ◌^◌, ◌++◌, ℕ, List, length, take, drop};
+ghost use Rattle.std.specs.Prelude.{unsigned_abs, IfSome, MatchOption, MatchResult};
 ghost use Rattle.std.specs.Str.Parse.{IsNumeral, digits_value};
 ghost use Rattle.gf_fraction.specs.NumberSpelling.{IsNumber, IsSign, Reads, scaled_digits};
 ghost use Rattle.gf_fraction.specs.NumberSpelling.Reading.{decimal, rational};
+ghost use Rattle.gf_fraction.specs.ShortNumber.{IsLeft, IsReadOn};
 ghost use Rattle.gf_fraction.specs.NumberScan.{AreRead, Completes, HasReadingFault, IsScaled};
 ghost use Rattle.gf_fraction.specs.NumberScan.{IsValueOf, after_sign, behind, capped, is_minus};
 ghost use Rattle.gf_fraction.specs.NumberScan.{leading, leading_value, reading_of, scan};
@@ -81,10 +82,11 @@ fn word_digits(from: u64, text: &[u8]) -> (u64, &[u8])
 
 /// What follows the first digits of a short number, which have the value `num`: nothing, a
 /// denominator, or more digits after a point. Gives the numerator and the denominator in lowest
-/// terms, and what stands behind the number.
+/// terms, and what comes after the number.
 #[inline(always)]
 fn short_end(num: u64, text: &[u8]) -> Option<(u64, u64, &[u8])>
-    ensures { IfSome result (λ r. Completes num text.entry.now r.0 r.1 r.2.now) }
+    ensures { MatchOption result (IsLeft num text.entry.now)
+        (λ r. Completes num text.entry.now r.0 r.1 r.2.now) }
 {
     match text {
         [b'/', under @ ..] => {
@@ -352,6 +354,8 @@ impl Fraction {
         ensures number { IfSome result (λ r. (sign digits : List ℕ) → IsSign sign negative
             → IsNumeral 10 digits → digits_value 10 digits ≡ num
             → IsNumber (sign ++ digits ++ take r.1 text.now) r.0) }
+        ensures end { MatchOption result (IsLeft num text.now)
+            (λ r. IsReadOn num (take r.1 text.now) (drop r.1 text.now)) }
         ensures within { IfSome result (λ r. r.1 ≤ length text.now) }
     {
         let (num, den, rest) = short_end(num, text)?;

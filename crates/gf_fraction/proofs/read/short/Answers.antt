@@ -21,4 +21,4 @@ returns-then-len-rest c =
     subst (λ t. IsNumber t c.in_ok-number.number)
     (parts_of text rest n c.in_ok-number.len d c.if-len-rest.true)
     (c.in_ok-number.ensures.number s.sign d.digits
-    (subst (IsSign s.sign) (sym sign.ensures.negative) s.is_sign) (some, d.all) (sym d.is))
+    (subst (IsSign s.sign) (sym sign.ensures.negative) s.is_sign) (some, d.run.all) (sym d.is))

@@ -1,6 +1,7 @@
-use Rattle.std.proofs.Common.{◌≡◌, ◌<◌, ◌∙◌, sym, true, length, get_or, arith}
+use Rattle.std.proofs.Common.{◌≡◌, ◌<◌, ◌∙◌, sym, true, length, get_or, arith, inr}
 use Rattle.std.specs.Char.{is_ascii_digit}
 use Rattle.gf_fraction.proofs.LeadingDigits.{digit_value-ascii}
+use Rattle.gf_fraction.proofs.SpelledIsFound.{digit_from_ascii}
 use Rattle.gf_fraction.proofs.ShortNumbers.{digits_more, value_more}
 use Rattle.gf_fraction.proofs.read.word_digits.Goals as goal
 
@@ -14,8 +15,10 @@ loop-len-preserved c =
     sym c.is_ascii_digit.ensures.value ∙ c.if-is_ascii_digit.true in
     let more = value_more text len within digit c.args.from in
     let value = digit_value-ascii (get_or text len 0) digit in
+    let small = digit_from_ascii (get_or text len 0) digit in
     record {
       within = omega (arith, within);
       all = digits_more text len within digit i.all;
       value = omega (arith, more, value, i.value, c.from.ensures);
+      short = inr (omega (arith, value, small, c.from.ensures));
     }

@@ -1,5 +1,7 @@
 use Rattle.std.proofs.Common.{◌≡◌, ◌≤◌, ◌-◌, length, take}
+use Rattle.std.specs.Prelude.{◌⊎◌, []}
 use Rattle.std.specs.Str.Parse.{AllDigits, digits_value_after}
+use Rattle.gf_fraction.specs.ShortNumber.{IsShort}
 use Rattle.gf_fraction.proofs.read.word_digits.Given as goal
 
 abbrev pub invariant-loop-len : goal.invariant-loop-len
@@ -7,6 +9,7 @@ invariant-loop-len l = record {
   within : l.len ≤ length l.text;
   all : AllDigits 10 (take l.len l.text);
   value : l.value ≡ digits_value_after 10 l.fn.from (take l.len l.text);
+  short : (take l.len l.text ≡ []) ⊎ (IsShort l.value);
 }
 
 abbrev pub decreases-loop-len : goal.decreases-loop-len
