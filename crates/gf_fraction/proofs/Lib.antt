@@ -4,6 +4,7 @@ pub mod LeadingDigits
 pub mod Divisors
 pub mod OddParts
 pub mod LowestDecimals
+pub mod SmallFactors
 pub mod LowestTerms
 pub mod EqualRatios
 pub mod FractionFields

@@ -26,7 +26,7 @@ five_and_less (suc (suc (suc zero))) above below =
 five_and_less (suc (suc (suc (suc zero)))) above below = IsGcd-from_mod 5 4 1 (IsGcd-one_right 4)
 five_and_less (suc (suc (suc (suc (suc r))))) above below = absurd (omega arith)
 
-coprime_five : (n : ℕ) → 0 < n % 5 → IsGcd n 5 1
+pub coprime_five : (n : ℕ) → 0 < n % 5 → IsGcd n 5 1
 coprime_five n h = IsGcd-from_mod n 5 1 (five_and_less (n % 5) h (omega arith))
 
 -- p over q is n over d, and q is fives times what has no common divisor with p
@@ -101,7 +101,7 @@ of_zero p t zero parts is short = IsGcd-one_right (0 / 2 ^ t)
 of_zero p t (suc k) parts is short =
     let z = trailing_of_zero 64 in absurd (omega (arith, parts, is, z))
 
-of_some : (n p t k : ℕ) → 0 < n → n < 2 ^ 64 → t + k ≡ p → t ≡ min (trailing_zeros w64 n) p
+pub of_some : (n p t k : ℕ) → 0 < n → n < 2 ^ 64 → t + k ≡ p → t ≡ min (trailing_zeros w64 n) p
     → IsGcd (n / 2 ^ t) (2 ^ k) 1
 of_some n p t zero some fits parts is = IsGcd-one_right (n / 2 ^ t)
 of_some n p t (suc k) some fits parts is =

@@ -73,7 +73,8 @@ whole_completes n text short ends = record {
   read_on = whole text ends;
   has_shape =
       λ digits numeral value. subst (λ (t : List ℕ × ℕ). HasShape t.0 (decimal t.1 0 (pos 0)))
-      (λ i. (sym (append-nil digits) i, value i)) (plain digits digits 0 (IsPlain.whole digits numeral));
+      (λ i. (sym (append-nil digits) i, value i))
+      (plain digits digits 0 (IsPlain.whole digits numeral));
   den_above_zero = lit< tt;
   bounded = record {
     digits_within = omega arith;

@@ -1,6 +1,6 @@
 -- What the steps of an addition and a multiplication give. Only contracts inside this crate cite
 -- this file.
-use Rattle.std.specs.Prelude.{◌≡◌, ℕ, ℤ, pos, ◌+ℤ◌, ◌*ℤ◌, ◌*◌, ◌^◌, ◌<◌}
+use Rattle.std.specs.Prelude.{◌≡◌, ℕ, ℤ, pos, ◌+ℤ◌, ◌*ℤ◌, ◌*◌, ◌%◌, ◌^◌, ◌<◌}
 use Rattle.std.specs.Int.{IsGcd, ◌∣◌}
 use Rattle.gf_fraction.specs.Ratio.{IsWithin}
 
@@ -16,6 +16,18 @@ pub record IsLowest (n d p q : ℕ) : Type 0 where
   pub num : p * by ≡ n
   pub den : q * by ≡ d
   pub apart : IsGcd p q 1
+
+-- p is prime: a number that it does not divide has no common divisor with it except 1
+pub record IsPrime (p : ℕ) : Type 0 where
+  pub above_one : 1 < p
+  pub apart : (n : ℕ) → 0 < n % p → IsGcd n p 1
+
+-- p over q is n over d, and each common divisor of p and q divides k
+pub record IsReduced (n d p q k : ℕ) : Type 0 where
+  pub by : ℕ
+  pub num : p * by ≡ n
+  pub den : q * by ≡ d
+  pub held : HoldsCommon p q k
 
 -- the denominator b * p, the numerators a * p and c * q, and their sum are at most 2^127 - 1 in
 -- size

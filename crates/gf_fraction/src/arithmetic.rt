@@ -4,7 +4,7 @@ ghost use Rattle.std.specs.Prelude.{◌≡◌, ℤ, pos, ◌+◌, ◌*◌, ◌/�
 ghost use Rattle.std.specs.Prelude.{◌≤◌, ◌+ℤ◌, ◌*ℤ◌, unsigned_abs, MatchResult};
 ghost use Rattle.std.specs.Int.{IsGcd};
 ghost use Rattle.gf_fraction.specs.Ratio.{IsWithin, signed};
-ghost use Rattle.gf_fraction.specs.Steps.{HoldsCommon, IsLowest, PartsFit};
+ghost use Rattle.gf_fraction.specs.Steps.{HoldsCommon, IsLowest, IsPrime, IsReduced, PartsFit};
 
 /// The result does not fit.
 #[derive(Clone, Copy)]
@@ -133,8 +133,40 @@ pub fn lowest(size: u128, den: u128, common: u128) -> (u128, u128)
     (quotient(size, shared), quotient(den, shared))
 }
 
-/// The same for numbers of 64 bits. Common twos need no division.
-pub fn lowest_words(size: u64, den: u64, common: u64) -> (u64, u64)
+/// Divides out common twos, and leaves no twos in `common`.
+#[inline(always)]
+fn without_twos(size: u64, den: u64, common: u64) -> (u64, u64, u64)
+    requires some { 0 < size }
+    requires held { HoldsCommon size den common }
+    ensures { IsReduced size den result.0 result.1 result.2 }
+{
+    let all = common.trailing_zeros();
+    let twos = size.trailing_zeros().min(all);
+    (size >> twos, den >> twos, common >> all)
+}
+
+/// Divides out a prime as often as all three numbers have it, and leaves none of it in `common`.
+#[inline(always)]
+fn without(prime: u64, size: u64, den: u64, common: u64) -> (u64, u64, u64)
+    requires prime { IsPrime prime }
+    requires held { HoldsCommon size den common }
+    ensures { IsReduced size den result.0 result.1 result.2 }
+{
+    let mut size = size;
+    let mut den = den;
+    let mut common = common;
+    while common % prime == 0 {
+        if size % prime == 0 {
+            size /= prime;
+            den /= prime;
+        }
+        common /= prime;
+    }
+    (size, den, common)
+}
+
+/// Divides out the greatest common divisor.
+fn without_shared(size: u64, den: u64, common: u64) -> (u64, u64)
     requires { HoldsCommon size den common }
     ensures { IsLowest size den result.0 result.1 }
 {
@@ -151,6 +183,28 @@ pub fn lowest_words(size: u64, den: u64, common: u64) -> (u64, u64)
         return (size, den);
     }
     (size / odd, den / odd)
+}
+
+/// `lowest` for numbers of 64 bits. Most denominators are products of twos, threes and fives, for
+/// which shifts and divisions by a constant are enough.
+#[tactic(auto, using(crate::proofs::SmallFactors::small_primes))]
+pub fn lowest_words(size: u64, den: u64, common: u64) -> (u64, u64)
+    requires { HoldsCommon size den common }
+    ensures { IsLowest size den result.0 result.1 }
+{
+    if common == 1 {
+        return (size, den);
+    }
+    if size == 0 {
+        return (0, 1);
+    }
+    let (size, den, common) = without_twos(size, den, common);
+    if common == 1 {
+        return (size, den);
+    }
+    let (size, den, common) = without(3, size, den, common);
+    let (size, den, common) = without(5, size, den, common);
+    without_shared(size, den, common)
 }
 
 /// Digits over ten to a power, in lowest terms. Common factors are only twos and fives, and these

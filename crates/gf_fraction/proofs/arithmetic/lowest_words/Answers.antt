@@ -1,5 +1,5 @@
-use Rattle.gf_fraction.proofs.Divisors.{IsLowest-same, IsLowest-zero, IsLowest-div_both}
-use Rattle.gf_fraction.proofs.Divisors.{IsLowest-div_one, factor_above_zero}
+use Rattle.gf_fraction.proofs.Divisors.{IsLowest-same, IsLowest-zero}
+use Rattle.gf_fraction.proofs.SmallFactors.{lowest_after}
 use Rattle.gf_fraction.proofs.arithmetic.lowest_words.Goals as goal
 
 pub returns-then-common-eq1 : goal.returns-then-common-eq1
@@ -9,22 +9,13 @@ returns-then-common-eq1 c =
 pub returns-then-size-eq0 : goal.returns-then-size-eq0
 returns-then-size-eq0 c = IsLowest-zero c.args.size c.args.den c.if-size-eq0.true
 
-pub returns-then-odd-eq1 : goal.returns-then-odd-eq1
-returns-then-odd-eq1 c =
-    IsLowest-div_one c.args.size c.args.den c.args.common _ _ c.requires c.shared-odd.ensures.shared
-    c.if-odd-eq1.true
+pub returns-then-common-eq1-2 : goal.returns-then-common-eq1-2
+returns-then-common-eq1-2 c =
+    let h = c.without_twos-size.ensures in
+    lowest_after _ _ _ _ _ _ _ h (IsLowest-same _ _ _ h.held c.if-common-eq1-2.true)
 
 pub returns : goal.returns
 returns c =
-    IsLowest-div_both c.args.size c.args.den c.args.common _ _ c.requires
-    c.shared-odd.ensures.shared
-
-pub nonzero_div-result : goal.nonzero_div-result
-nonzero_div-result c =
-    factor_above_zero c.args.size c.args.common _ _ c.requires.above_zero
-    c.shared-odd.ensures.shared
-
-pub nonzero_div-result-2 : goal.nonzero_div-result-2
-nonzero_div-result-2 c =
-    factor_above_zero c.args.size c.args.common _ _ c.requires.above_zero
-    c.shared-odd.ensures.shared
+    lowest_after _ _ _ _ _ _ _ c.without_twos-size.ensures
+    (lowest_after _ _ _ _ _ _ _ c.without-size.ensures
+    (lowest_after _ _ _ _ _ _ _ c.without-size-2.ensures c.without_shared.ensures))
