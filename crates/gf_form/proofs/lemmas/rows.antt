@@ -5,6 +5,7 @@ pub mod DigitsMade
 pub mod FlatRows
 pub mod GameDigits
 pub mod GameRows
+pub mod IdlePaths
 pub mod JoinedTerms
 pub mod KeptShares
 pub mod ListedEntries

@@ -1,15 +1,19 @@
 //! The nodes that choices can reach, one after another, each with what the path to it demands.
+//!
+//! Below a child of probability 0, nothing counts but whether its value is defined. That of a leaf
+//! always is, and that of a player's node without an outcome is the value of a child. So a path is
+//! idle there: it starts anew at the next node whose value is a sum, if there is one.
 
 ghost use Rattle.std.specs.Prelude.{◌≡◌, ◌≤◌, ◌++◌, [], ◌∷◌, None, length, map, unwrap_or};
 ghost use Rattle.std.specs.Prelude.{IfOk, MatchOption, OnErr, OnOk, vec_capacity, vec_len};
 ghost use Rattle.gf_token.specs.Positions.{at_position};
 ghost use Rattle.gf_tree.specs.Branches.{game_of, tree_of};
 ghost use Rattle.gf_tree.specs.Subtrees.{child_trees, root_node};
-ghost use Rattle.gf_form.specs.inner.rows.PathsLeft.{branch_nodes, nodes_behind, nodes_by};
+ghost use Rattle.gf_form.specs.inner.rows.PathsLeft.{nodes_behind, nodes_beneath, nodes_by};
 ghost use Rattle.gf_form.specs.inner.rows.PathsLeft.{nodes_left};
 ghost use Rattle.gf_form.specs.inner.rows.PathsLeft.{open_nodes, steps_of_paths, taken, turns_left};
-ghost use Rattle.gf_form.specs.inner.values.Program.{paid_at_node};
-ghost use Rattle.gf_form.specs.inner.rows.ReachedNodes.{by_chance, by_choice, reached, root_path};
+ghost use Rattle.gf_form.specs.inner.rows.ReachedNodes.{by_chance, by_choice, is_sum, met_node};
+ghost use Rattle.gf_form.specs.inner.rows.ReachedNodes.{reached, root_path};
 ghost use Rattle.gf_form.specs.Strategies.{choices_by, strategy_at};
 
 use crate::rows::digits::Digits;
@@ -23,9 +27,10 @@ use std::alloc::{AllocError, Global};
 pub(crate) struct Path {
     /// The product of the numerators of its probabilities.
     pub weight: u128,
-    /// The same, with 1 in place of each numerator that is zero.
+    /// The same from where it started anew last; 0 if it is idle.
     pub bound: u128,
-    /// The product of the denominators of its probabilities; 0 if a product does not fit.
+    /// The product of the denominators of its probabilities, from there on as well; 0 if a product
+    /// does not fit.
     pub den: u128,
     /// The choices that it demands, by their digits.
     pub demands: u64,
@@ -57,9 +62,8 @@ impl Path {
         ensures { result ≡ by_chance self chance }
     {
         let size = chance.num().unsigned_abs();
-        let least = if size == 0 { 1 } else { size };
         let weight = self.weight.checked_mul(size);
-        let bound = self.bound.checked_mul(least);
+        let bound = self.bound.checked_mul(size);
         let den = self.den.checked_mul(chance.den());
         match (weight, bound, den) {
             (Some(weight), Some(bound), Some(den)) => Path {
@@ -91,6 +95,33 @@ impl Path {
         }
     }
 
+    /// The node at the end of this path, which is the root of this branch. The path starts anew
+    /// there if it was idle and the node's value is a sum.
+    fn met_node(self, branch: &Branch<'_, '_>) -> Reached
+        ensures { result ≡ met_node (game_of branch.now) self (root_node (tree_of branch.now)) }
+    {
+        let outcome = branch.outcome_position();
+        if self.bound > 0 {
+            return Reached {
+                path: self,
+                outcome,
+            };
+        }
+        if !is_sum(branch) {
+            return Reached {
+                path: self,
+                outcome: 0,
+            };
+        }
+        let path = Path {
+            weight: self.weight,
+            bound: 1,
+            den: 1,
+            demands: self.demands,
+        };
+        Reached { path, outcome }
+    }
+
     /// The action that is taken at a set whose digit has this step, by its position among this
     /// many; 0 if any will do.
     fn taken(self, step: u64, actions: usize) -> u64
@@ -104,6 +135,16 @@ impl Path {
             Some(span) => demand % span,
             None => demand,
         }
+    }
+}
+
+/// Whether the value at the root of a branch is a sum.
+fn is_sum(branch: &Branch<'_, '_>) -> bool
+    ensures { result ≡ is_sum (game_of branch.now) (root_node (tree_of branch.now)) }
+{
+    match branch.mover() {
+        None => false,
+        Some((player, _)) => player == 0 || branch.outcome_position() > 0,
     }
 }
 
@@ -241,12 +282,9 @@ impl<'d, 'g, 'a> Paths<'d, 'g, 'a> {
     fn enter(&mut self, branch: Branch<'g, 'a>, path: Path) -> Result<(), AllocError>
         requires { self.old.next ≡ None }
         ensures same { steps_of_paths self.new ≡ steps_of_paths self.old }
-        ensures left { OnOk result (branch_nodes (steps_of_paths self.old) path branch.entry
-            ++ nodes_behind self.old
-            ≡ record {
-              path = path;
-              outcome = paid_at_node (game_of branch.entry) (root_node (tree_of branch.entry));
-            } ∷ nodes_left self.new) }
+        ensures left { OnOk result (nodes_beneath (game_of branch.entry)
+            (choices_by (game_of branch.entry) (steps_of_paths self.old)) path
+            (tree_of branch.entry) ++ nodes_behind self.old ≡ nodes_left self.new) }
 
         // It fails only if there was no room.
         ensures full { OnErr result (vec_capacity self.old.«open» ≤ vec_len self.old.«open») }
@@ -275,9 +313,9 @@ impl<'d, 'g, 'a> Paths<'d, 'g, 'a> {
     {
         loop {
             if let Some((branch, path)) = self.next.take() {
-                let outcome = branch.outcome_position();
-                self.enter(branch, path)?;
-                return Ok(Some(Reached { path, outcome }));
+                let node = path.met_node(&branch);
+                self.enter(branch, node.path)?;
+                return Ok(Some(node));
             }
             match self.open.pop() {
                 None => return Ok(None),

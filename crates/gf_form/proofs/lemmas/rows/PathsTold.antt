@@ -14,9 +14,8 @@ use Rattle.gf_tree.specs.Game.{Game, Node}
 use Rattle.gf_tree.specs.Subtrees.{child_trees, list_of, root_node}
 use Rattle.gf_tree.specs.declared.game.branch.Branch.{Branch}
 use Rattle.gf_form.specs.inner.rows.PathsLeft.{any_nodes, below, lot_nodes, next_nodes, open_nodes}
-use Rattle.gf_form.specs.inner.rows.PathsLeft.{option_nodes}
+use Rattle.gf_form.specs.inner.rows.PathsLeft.{nodes_beneath, option_nodes}
 use Rattle.gf_form.specs.inner.rows.PathsLeft.{taken}
-use Rattle.gf_form.specs.inner.values.Program.{paid_at_node}
 use Rattle.gf_form.specs.inner.rows.ReachedNodes.{by_action, by_any, by_chance, by_choice, by_lot}
 use Rattle.gf_form.specs.inner.rows.ReachedNodes.{demanded}
 use Rattle.gf_form.specs.inner.rows.ReachedNodes.{over_set, reached}
@@ -31,10 +30,6 @@ use Rattle.gf_form.specs.declared.rows.paths.Reached.{Reached}
 length-list_of : {N : Type 0} (ts : Trees N) → length (list_of ts) ≡ count ts
 length-list_of none = refl
 length-list_of (more t ts) = ap suc (length-list_of ts)
-
--- the node itself
-abbrev pub told : Game → Path → Tree Node → Reached
-told g path t = record { path = path; outcome = paid_at_node g (root_node t) }
 
 module _ (g : Game) (steps : SetKey → ℕ) (path : Path) where
   lot_list : (ts : Trees Node) (chances : ℕ → Ratio) (k : ℕ)
@@ -63,19 +58,18 @@ module _ (g : Game) (steps : SetKey → ℕ) (path : Path) where
   over_some None nodes key is = absurd cc
   over_some (Some k) nodes key is = let same : k ≡ key = cc in ap nodes same
 
-  pub lot_reached : (t : Tree Node) (key : SetKey) → (root_node t).set ≡ Some key → key.player ≡ 0
-      → reached g steps path t ≡ told g path t
-      ∷ lot_nodes g steps path (chances_at g (root_node t)) 1 (child_trees t)
-  lot_reached (branch n ts) key is chance =
-      ap (λ rs. told g path (branch n ts) ∷ rs)
-      (over_some n.set _ key is
+  pub lot_beneath : (t : Tree Node) (key : SetKey) → (root_node t).set ≡ Some key → key.player ≡ 0
+      → nodes_beneath g steps path t
+      ≡ lot_nodes g steps path (chances_at g (root_node t)) 1 (child_trees t)
+  lot_beneath (branch n ts) key is chance =
+      over_some n.set _ key is
       ∙ ap (λ b. if b then by_lot g steps path (chances_at g n) 1 ts
       else if steps key == 0 then by_action g steps path 1 ts
       else if demanded path.demands (steps key) (count ts) == 0
       then by_any g steps path (steps key) 1 ts
       else by_action g steps path (demanded path.demands (steps key) (count ts)) ts)
       (eq-eqb key.player 0 chance)
-      ∙ lot_list ts (chances_at g n) 1)
+      ∙ lot_list ts (chances_at g n) 1
 
   -- the nodes below a player's node, if this action is taken
   abbrev pub below_by : ℕ → ℕ → List (Tree Node) → List Reached
@@ -105,13 +99,12 @@ module _ (g : Game) (steps : SetKey → ℕ) (path : Path) where
       at false = free (demanded path.demands step (count ts) == 0)
           (demanded path.demands step (count ts))
 
-  pub choice_reached : (t : Tree Node) (key : SetKey) (step : ℕ) → (root_node t).set ≡ Some key
+  pub choice_beneath : (t : Tree Node) (key : SetKey) (step : ℕ) → (root_node t).set ≡ Some key
       → ¬ (key.player ≡ 0) → steps key ≡ step
-      → reached g steps path t ≡ told g path t
-      ∷ below_by step (taken path step (length (child_trees t))) (child_trees t)
-  choice_reached (branch n ts) key step is personal here =
-      ap (λ rs. told g path (branch n ts) ∷ rs)
-      (over_some n.set _ key is
+      → nodes_beneath g steps path t
+      ≡ below_by step (taken path step (length (child_trees t))) (child_trees t)
+  choice_beneath (branch n ts) key step is personal here =
+      over_some n.set _ key is
       ∙ ap (λ b. if b then by_lot g steps path (chances_at g n) 1 ts
       else if steps key == 0 then by_action g steps path 1 ts
       else if demanded path.demands (steps key) (count ts) == 0
@@ -119,7 +112,7 @@ module _ (g : Game) (steps : SetKey → ℕ) (path : Path) where
       else by_action g steps path (demanded path.demands (steps key) (count ts)) ts)
       (false_from_ne_true (key.player == 0) (λ t. personal (eqb-true key.player 0 t)))
       ∙ by_taken ts (steps key) (length (list_of ts)) (length-list_of ts)
-      ∙ ap (λ (s : ℕ). below_by s (taken path s (length (list_of ts))) (list_of ts)) here)
+      ∙ ap (λ (s : ℕ). below_by s (taken path s (length (list_of ts))) (list_of ts)) here
 
 -- ---- what is open
 

@@ -1,12 +1,12 @@
 -- The value of a tree is the sum of the shares of the nodes that choices reach.
 use Rattle.std.proofs.Common.{◌≡◌, ℕ, ℤ, zero, suc, pos, ◌+◌, ◌*◌, ◌/◌, ◌^◌, ◌<◌, ◌≤◌, Bool, true}
 use Rattle.std.proofs.Common.{false, List, ◌∷◌, ◌++◌, Option, Some, None, MatchOption, length}
-use Rattle.std.proofs.Common.{get_or, set, refl, sym, subst, ◌∙◌, arith, inr}
-use Rattle.std.specs.Prelude.{◌*ℤ◌, ◌+ℤ◌, ◌==◌, ◌&&◌, unsigned_abs, option_map, if◌then◌else◌}
+use Rattle.std.proofs.Common.{get_or, set, refl, ap, sym, subst, ◌∙◌, arith, inr}
+use Rattle.std.specs.Prelude.{◌*ℤ◌, ◌+ℤ◌, ◌==◌, ◌&&◌, unsigned_abs}
+use Rattle.std.specs.Prelude.{option_map, if◌then◌else◌}
 use Rattle.std.specs.List.{AllByRecursion}
 use Rattle.std.proofs.lemmas.Bool.{and_from, eq-eqb, eqb-false, eqb-true, ne_eqb}
 use Rattle.std.proofs.Math.IntN.{*ℤ_comm}
-use Rattle.std.proofs.Math.Nat.{le-mul_of_pos_right}
 use Rattle.gf_fraction.proofs.AllElements.{all_parts}
 use Rattle.gf_fraction.proofs.Integers.{*ℤ-one}
 use Rattle.gf_fraction.specs.Ratio.{HasValue, IsFraction, Ratio}
@@ -20,21 +20,21 @@ use Rattle.gf_tree.specs.Game.{Game, HasChildren, IsGame, Node, set_at}
 use Rattle.gf_tree.specs.Spellable.{IsSpellable}
 use Rattle.gf_form.specs.inner.rows.Demands.{meets, steps_of}
 use Rattle.gf_form.specs.Payoff.{payoff_at}
-use Rattle.gf_form.specs.inner.values.Program.{paid_at_node}
-use Rattle.gf_form.specs.inner.rows.ReachedNodes.{at_least_one, by_action, by_any, by_chance}
-use Rattle.gf_form.specs.inner.rows.ReachedNodes.{by_choice}
-use Rattle.gf_form.specs.inner.rows.ReachedNodes.{by_lot, demanded, has_room, over_set, reached}
-use Rattle.gf_form.specs.inner.rows.ReachedNodes.{root_path}
+use Rattle.gf_form.specs.inner.values.Program.{paid, paid_at_node}
+use Rattle.gf_form.specs.inner.rows.ReachedNodes.{below_set, by_action, by_any, by_chance}
+use Rattle.gf_form.specs.inner.rows.ReachedNodes.{by_choice, by_lot, demanded, has_room, is_sum}
+use Rattle.gf_form.specs.inner.rows.ReachedNodes.{is_sum_at, over_set, reached, root_path}
 use Rattle.gf_form.specs.inner.rows.Shares.{AreDigits, FitsAt, IsExactIfMet, met_bounds}
 use Rattle.gf_form.specs.inner.rows.Shares.{sum_of_shares}
 use Rattle.gf_form.specs.inner.values.Values.{chance_value, chances_at, child_value, value}
-use Rattle.gf_form.specs.inner.values.Values.{value_over}
+use Rattle.gf_form.specs.inner.values.Values.{plus_of, times_of, value_over}
 use Rattle.gf_form.specs.declared.rows.paths.Path.{Path}
 use Rattle.gf_form.specs.declared.rows.paths.Reached.{Reached}
 use Rattle.gf_form.proofs.lemmas.values.ChanceSigns.{chance_size}
 use Rattle.gf_form.proofs.lemmas.rows.DemandDigits.{met, met_digit, no_demands, none_met, none_pack}
 use Rattle.gf_form.proofs.lemmas.rows.DemandDigits.{none_within}
 use Rattle.gf_form.proofs.lemmas.rows.DemandDigits.{within_length}
+use Rattle.gf_form.proofs.lemmas.rows.IdlePaths.{idle_weightless, unpaid_move, weightless}
 use Rattle.gf_form.proofs.lemmas.values.Denominators.{payoff_fraction, probability_fraction}
 use Rattle.gf_form.proofs.lemmas.values.ProgramRuns.{paid_is}
 use Rattle.gf_form.proofs.lemmas.rows.ShareSums.{bounds_append}
@@ -42,25 +42,12 @@ use Rattle.gf_form.proofs.lemmas.rows.UnmetShares.{HasDigits, IsFree, any_unmet,
 use Rattle.gf_form.proofs.lemmas.rows.UnmetShares.{digit_of}
 use Rattle.gf_form.proofs.lemmas.rows.UnmetShares.{digit_there, meets_digits, met_with, set_there}
 use Rattle.gf_form.proofs.lemmas.rows.UnmetShares.{unmet}
-use Rattle.gf_form.proofs.lemmas.rows.ValuedNodes.{IsAdded, IsPart, IsValued, at_least, child_added}
-use Rattle.gf_form.proofs.lemmas.rows.ValuedNodes.{from_nothing, leaf_valued, move_valued}
-use Rattle.gf_form.proofs.lemmas.rows.ValuedNodes.{next_limit}
-use Rattle.gf_form.proofs.lemmas.rows.ValuedNodes.{next_sum, no_child, part_value, valued_before}
-use Rattle.gf_form.proofs.lemmas.rows.ValuedNodes.{valued_behind}
-use Rattle.gf_form.proofs.lemmas.rows.ValuedNodes.{valued_known}
+use Rattle.gf_form.proofs.lemmas.rows.ValuedNodes.{IsAdded, IsPart, IsValued, child_added}
+use Rattle.gf_form.proofs.lemmas.rows.ValuedNodes.{from_nothing, idle_leaf, idle_move, idle_sum}
+use Rattle.gf_form.proofs.lemmas.rows.ValuedNodes.{leaf_valued, move_valued, next_limit, next_sum}
+use Rattle.gf_form.proofs.lemmas.rows.ValuedNodes.{no_child, none_added, part_value, same_sum}
+use Rattle.gf_form.proofs.lemmas.rows.ValuedNodes.{valued_before, valued_behind, valued_known}
 use Rattle.gf_form.proofs.lemmas.values.ValuesComputed.{zero_fraction}
-
-product_above : (m n : ℕ) → 1 ≤ m → 1 ≤ n → 1 ≤ m * n
-product_above m n h k = omega (arith, h, le-mul_of_pos_right m k)
-
-bound_above : (path : Path) (c : Ratio) → 1 ≤ path.bound → 1 ≤ (by_chance path c).bound
-bound_above path c some = by (has_room path c)
-  where
-    by : (room : Bool)
-        → 1 ≤ (if room then path.bound * at_least_one (unsigned_abs c.num) else 1)
-    by true = product_above path.bound (at_least_one (unsigned_abs c.num)) some
-        (at_least (unsigned_abs c.num)).1
-    by false = omega arith
 
 module _ (g : Game) (game : IsGame g) (spellable : IsSpellable g) (steps choose : SetKey → ℕ)
     (actions choices : List ℕ) (digits : AreDigits g steps choose actions choices)
@@ -87,7 +74,7 @@ module _ (g : Game) (game : IsGame g) (spellable : IsSpellable g) (steps choose 
   pub record IsMet (path : Path) (ds : List ℕ) : Type 0 where
     pub has : HasDigits actions path ds
     pub met : met choices ds ≡ true
-    pub bound_above : 1 ≤ path.bound
+    pub weightless : path.bound ≡ 0 → path.weight ≡ 0
 
   demands_met : (path : Path) (ds : List ℕ) → IsMet path ds
       → meets (steps_of actions) choices path.demands ≡ true
@@ -176,9 +163,16 @@ module _ (g : Game) (game : IsGame g) (spellable : IsSpellable g) (steps choose 
           by_demand (eqb-false (steps key) 0 several)
           (demanded path.demands (steps key) (count ts) == 0) refl
 
-  -- a node of this set, with what is below it
-  node_valued : (n : Node) (ts : Trees Node) (path : Path) (ds : List ℕ) → IsMet path ds
-      → ((key : SetKey) → n.set ≡ Some key → key.player ≡ 0
+  abbrev value_below : Node → Trees Node → SetKey → Option Ratio
+  value_below n ts key =
+      if key.player == 0
+      then chance_value g choose player (chances_at g n) 1 (Some zero_ratio) ts
+      else child_value g choose player (choose key) ts
+
+  -- below a node of this set
+  below_valued : (n : Node) (ts : Trees Node) (path : Path) (ds : List ℕ) (key : SetKey)
+      → IsMet path ds → option_map (λ set. length set.actions) (set_at g key) ≡ Some (count ts)
+      → (key.player ≡ 0
       → IfFits (chance_value g choose player (chances_at g n) 1 (Some zero_ratio) ts) path
       (by_lot g steps path (chances_at g n) 1 ts))
       → ((position : ℕ) → 1 ≤ position → position ≤ count ts
@@ -187,29 +181,8 @@ module _ (g : Game) (game : IsGame g) (spellable : IsSpellable g) (steps choose 
       → ((step place choice : ℕ) → IsFree actions ds step (count ts) place
       → get_or choices place 0 ≡ choice → 1 ≤ choice → choice ≤ count ts
       → IfFits (child_value g choose player choice ts) path (by_any g steps path step 1 ts))
-      → (o : Option SetKey) → n.set ≡ o → MatchOption o (count ts ≡ 0)
-      (λ key. option_map (λ set. length set.actions) (set_at g key) ≡ Some (count ts))
-      → IfFits (value_over (payoff_at g player n) o (λ key. if key.player == 0
-      then chance_value g choose player (chances_at g n) 1 (Some zero_ratio) ts
-      else child_value g choose player (choose key) ts)) path
-      (record { path = path; outcome = paid_at_node g n } ∷ over_set o
-      (λ key. if key.player == 0 then by_lot g steps path (chances_at g n) 1 ts
-      else if steps key == 0 then by_action g steps path 1 ts
-      else if demanded path.demands (steps key) (count ts) == 0
-      then by_any g steps path (steps key) 1 ts
-      else by_action g steps path (demanded path.demands (steps key) (count ts)) ts))
-  node_valued n ts path ds is lot action any None at h exact limit =
-      leaf_valued g player den den_above den_within (steps_of actions) choices
-      (record { path = path; outcome = paid_at_node g n }) (payoff_at g player n)
-      (paid_is g player n) (own_fraction n) (exact.0 (demands_met path ds is))
-      (demands_met path ds is)
-  node_valued n ts path ds is lot action any (Some key) at h exact limit =
-      move_valued g player den den_above den_within (steps_of actions) choices
-      (record { path = path; outcome = paid_at_node g n }) (payoff_at g player n)
-      (paid_is g player n) (own_fraction n) (exact.0 (demands_met path ds is))
-      (demands_met path ds is)
-      _ _ is.bound_above limit
-      (by (key.player == 0) refl exact.1 (omega (arith, limit)))
+      → IfFits (value_below n ts key) path (below_set g steps path n ts key)
+  below_valued n ts path ds key is h lot action any = by (key.player == 0) refl
     where
       by : (b : Bool) → (key.player == 0) ≡ b
           → IfFits (if b
@@ -220,7 +193,7 @@ module _ (g : Game) (game : IsGame g) (spellable : IsSpellable g) (steps choose 
           else if demanded path.demands (steps key) (count ts) == 0
           then by_any g steps path (steps key) 1 ts
           else by_action g steps path (demanded path.demands (steps key) (count ts)) ts)
-      by true chance = lot key at (eqb-true key.player 0 chance)
+      by true chance = lot (eqb-true key.player 0 chance)
       by false other =
           let personal = eqb-false key.player 0 other in
           let set = set_there g key (count ts) h in
@@ -228,6 +201,125 @@ module _ (g : Game) (game : IsGame g) (spellable : IsSpellable g) (steps choose 
           personal_valued n ts path ds key is personal h action
           (λ step place free choice.
           any step place (choose key) free choice chosen.0 (omega (arith, chosen.1, set.2)))
+
+  -- what is below a node, on any path that is not idle where chance moves
+  abbrev Below : Node → Trees Node → List ℕ → Type 0
+  Below n ts ds = (path : Path) → IsMet path ds → (key : SetKey) → n.set ≡ Some key
+      → (key.player ≡ 0 → 1 ≤ path.bound)
+      → IfFits (value_below n ts key) path (below_set g steps path n ts key)
+
+  awake_valued : (n : Node) (ts : Trees Node) (path : Path) (ds : List ℕ) → IsMet path ds
+      → 1 ≤ path.bound → Below n ts ds → (o : Option SetKey) → n.set ≡ o
+      → IfFits (value_over (payoff_at g player n) o (value_below n ts)) path
+      (record { path = path; outcome = paid_at_node g n } ∷ over_set o
+      (below_set g steps path n ts))
+  awake_valued n ts path ds is some below None at exact limit =
+      leaf_valued g player den den_above den_within (steps_of actions) choices
+      (record { path = path; outcome = paid_at_node g n }) (payoff_at g player n)
+      (paid_is g player n) (own_fraction n) (exact.0 (demands_met path ds is))
+      (demands_met path ds is)
+  awake_valued n ts path ds is some below (Some key) at exact limit =
+      move_valued g player den den_above den_within (steps_of actions) choices
+      (record { path = path; outcome = paid_at_node g n }) (payoff_at g player n)
+      (paid_is g player n) (own_fraction n) (exact.0 (demands_met path ds is))
+      (demands_met path ds is)
+      _ _ some limit (below path is key at (λ chance. some) exact.1 (omega (arith, limit)))
+
+  -- the node at the end of a path that is idle or is not, and at which something is added or is not
+  abbrev met_if : Bool → Bool → Path → ℕ → Reached
+  met_if idle sum path own = record {
+    path = record {
+      weight = path.weight;
+      bound = if idle && sum then 1 else path.bound;
+      den = if idle && sum then 1 else path.den;
+      demands = path.demands;
+    };
+    outcome = if idle then (if sum then own else 0) else own;
+  }
+
+  node_valued : (n : Node) (ts : Trees Node) (path : Path) (ds : List ℕ) → IsMet path ds
+      → Below n ts ds → (o : Option SetKey) → n.set ≡ o
+      → (idle : Bool) → (path.bound == 0) ≡ idle
+      → (sum : Bool) → is_sum_at (paid_at_node g n) o ≡ sum
+      → IfFits (value_over (payoff_at g player n) o (value_below n ts)) path
+      (met_if idle sum path (paid_at_node g n) ∷ over_set o
+      (below_set g steps (met_if idle sum path (paid_at_node g n)).path n ts))
+  node_valued n ts path ds is below o at false idle sum adds =
+      let some : 1 ≤ path.bound =
+      let above = eqb-false path.bound 0 idle in omega (arith, above) in
+      awake_valued n ts path ds is some below o at
+  node_valued n ts path ds is below None at true idle true adds = absurd cc
+  node_valued n ts path ds is below None at true idle false adds = λ exact limit.
+      let unbound = eqb-true path.bound 0 idle in
+      idle_leaf g player den den_above den_within (steps_of actions) choices
+      (record { path = path; outcome = 0 }) (is.weightless unbound) unbound (payoff_at g player n)
+      (own_fraction n)
+  node_valued n ts path ds is below (Some key) at true idle true adds = λ exact limit.
+      let anew : Path =
+      record { weight = path.weight; bound = 1; den = 1; demands = path.demands } in
+      let on = awake_valued n ts anew ds (record {
+        has = is.has;
+        met = is.met;
+        weightless = λ nothing. absurd (omega (arith, nothing));
+      }) (omega arith) below (Some key) at exact limit in
+      idle_sum g player den den_above den_within (steps_of actions) choices _ path.weight
+      path.bound 1 path.den _ (eqb-true path.bound 0 idle) on
+  node_valued n ts path ds is below (Some key) at true idle false adds = λ exact limit.
+      let unbound = eqb-true path.bound 0 idle in
+      let move = unpaid_move key (paid_at_node g n) adds in
+      let pay : payoff_at g player n ≡ zero_ratio =
+      sym (paid_is g player n) ∙ ap (paid g player) move.1 in
+      subst (λ (r : Ratio). Valued (plus_of (Some r) (value_below n ts key)) path
+      (record { path = path; outcome = 0 } ∷ below_set g steps path n ts key)) (sym pay)
+      (idle_move g player den den_above den_within (steps_of actions) choices
+      (record { path = path; outcome = 0 }) (is.weightless unbound) unbound (value_below n ts key)
+      (below_set g steps path n ts key)
+      (below path is key at (λ chance. absurd (move.0 chance)) exact.1 (omega (arith, limit))))
+
+  -- the next child of a node of chance, with those after it
+  child_valued : (c : Ratio) → IsFraction c → c.num ≡ pos (unsigned_abs c.num) → (path : Path)
+      → 1 ≤ path.bound → (sum : Ratio) (start : ℤ) → IsFraction sum
+      → IsPart den den_above den_within path.den sum start
+      → (value : Option Ratio) (total : Option Ratio → Option Ratio) (xs ys : List Reached)
+      → Valued value (by_chance path c) xs
+      → unsigned_abs start * path.bound + bounds (xs ++ ys) < 2 ^ 127
+      → ((next : Ratio) (from : ℤ) → IsFraction next
+      → IsPart den den_above den_within path.den next from
+      → unsigned_abs from * path.bound + bounds ys < 2 ^ 127
+      → Added (total (Some next)) from path ys)
+      → Added (total (plus_of (Some sum) (times_of c value))) start path (xs ++ ys)
+  child_valued c fc sign path some sum start f starts value total xs ys child limit later =
+      by (unsigned_abs c.num == 0) refl
+    where
+      by : (b : Bool) → (unsigned_abs c.num == 0) ≡ b
+          → Added (total (plus_of (Some sum) (times_of c value))) start path (xs ++ ys)
+      by true is =
+          let unlikely = eqb-true (unsigned_abs c.num) 0 is in
+          let lists = bounds_append g player den (steps_of actions) choices xs ys in
+          let zero : c.num ≡ pos 0 = sign ∙ ap pos unlikely in
+          let on = by_chance path c in
+          subst (λ (o : Option Ratio). Added (total o) start path (xs ++ ys))
+          (sym (same_sum g player den den_above den_within (steps_of actions) choices c fc zero sum
+          f value on.weight on.bound on.den xs child (weightless path c unlikely)))
+          (none_added g player den den_above den_within (steps_of actions) choices c fc zero sum f
+          value on.weight on.bound on.den xs child (weightless path c unlikely) (total (Some sum))
+          start path.weight path.bound path.den ys
+          (later sum start f starts (omega (arith, limit, lists))))
+      by false is =
+          let above = eqb-false (unsigned_abs c.num) 0 is in
+          let likely : 1 ≤ unsigned_abs c.num = omega (arith, above) in
+          let known = valued_known g player den den_above den_within (steps_of actions) choices
+          (has_room path c) value (path.weight * unsigned_abs c.num)
+          (path.bound * unsigned_abs c.num) (path.den * c.den) xs child in
+          let next = next_sum g player den den_above den_within (steps_of actions) choices c fc
+          likely sign sum start f path.weight path.bound path.den starts some value xs ys known
+          limit in
+          let rest = next_limit g player den den_above den_within (steps_of actions) choices c fc
+          likely sign sum start f path.weight path.bound path.den starts some value xs ys known
+          limit in
+          child_added g player den den_above den_within (steps_of actions) choices c fc likely sign
+          sum start f path.weight path.bound path.den starts some value xs ys known limit _
+          (rw next.1 (later next.0 (start +ℤ c.num *ℤ known.amount) next.2 next.3 rest))
 
   -- another action than the one that is chosen
   not_chosen : (path : Path) (ds : List ℕ) (step m place j : ℕ) → IsMet path ds
@@ -245,30 +337,37 @@ module _ (g : Game) (game : IsGame g) (spellable : IsSpellable g) (steps choose 
         → IfFits (value g choose player t) path (reached g steps path t)
     valued (branch n ts) path ds children is =
         node_valued n ts path ds is
-        (λ key at chance exact limit.
-        from_nothing g player den den_above den_within (steps_of actions) choices _ path.weight
-        path.bound path.den _
-        (lot_valued ts n key 1 zero_ratio (pos 0) path ds at chance children.1 is zero_fraction
-        (inr (refl, refl)) exact (omega (arith, limit))))
-        (λ position some fits. action_valued ts position path ds some fits children.1 is)
-        (λ step place choice free chosen some fits.
-        any_valued ts 1 choice path ds step (count ts) place choice some fits chosen
-        (omega arith) (omega arith) (omega arith) free children.1 is)
-        n.set refl children.0
+        (λ p met key at some.
+        below_valued n ts p ds key met
+        (subst (λ (o : Option SetKey). MatchOption o (count ts ≡ 0)
+        (λ key. option_map (λ set. length set.actions) (set_at g key) ≡ Some (count ts))) at
+        children.0)
+        (λ chance exact limit.
+        from_nothing g player den den_above den_within (steps_of actions) choices _ p.weight
+        p.bound p.den _
+        (lot_valued ts n key 1 zero_ratio (pos 0) p ds at chance children.1 met (some chance)
+        zero_fraction (inr (refl, refl)) exact (omega (arith, limit))))
+        (λ position first fits. action_valued ts position p ds first fits children.1 met)
+        (λ step place choice free chosen first fits.
+        any_valued ts 1 choice p ds step (count ts) place choice first fits chosen
+        (omega arith) (omega arith) (omega arith) free children.1 met))
+        n.set refl (path.bound == 0) refl (is_sum g n) refl
 
     lot_valued : (ts : Trees Node) (n : Node) (key : SetKey) (k : ℕ) (sum : Ratio) (start : ℤ)
         (path : Path) (ds : List ℕ)
         → n.set ≡ Some key → key.player ≡ 0 → AllByRecursion (HasChildren g) (flatten_all ts)
-        → IsMet path ds → IsFraction sum → IsPart den den_above den_within path.den sum start
+        → IsMet path ds → 1 ≤ path.bound → IsFraction sum
+        → IsPart den den_above den_within path.den sum start
         → AreExact (by_lot g steps path (chances_at g n) k ts)
         → unsigned_abs start * path.bound + bounds (by_lot g steps path (chances_at g n) k ts)
         < 2 ^ 127
         → Added (chance_value g choose player (chances_at g n) k (Some sum) ts) start path
         (by_lot g steps path (chances_at g n) k ts)
-    lot_valued none n key k sum start path ds at chance children is f starts exact limit =
+    lot_valued none n key k sum start path ds at chance children is some f starts exact limit =
         no_child g player den den_above den_within (steps_of actions) choices sum start path.weight
         path.bound path.den f starts
-    lot_valued (more t ts) n key k sum start path ds at chance children is f starts exact limit =
+    lot_valued (more t ts) n key k sum start path ds at chance children is some f starts exact
+        limit =
         let c = chances_at g n k in
         let on = by_chance path c in
         let xs = reached g steps on t in
@@ -276,28 +375,16 @@ module _ (g : Game) (game : IsGame g) (spellable : IsSpellable g) (steps choose 
         let both = all_parts (HasChildren g) (flatten t) (flatten_all ts) children in
         let exacts = parts xs ys exact in
         let lists = bounds_append g player den (steps_of actions) choices xs ys in
-        let child = valued_known g player den den_above den_within (steps_of actions) choices
-        (has_room path c) (value g choose player t) (path.weight * unsigned_abs c.num)
-        (path.bound * at_least_one (unsigned_abs c.num)) (path.den * c.den) xs
-        (valued t on ds both.0 (record {
+        let child = valued t on ds both.0 (record {
           has = is.has;
           met = is.met;
-          bound_above = bound_above path c is.bound_above;
-        }) exacts.0 (omega (arith, limit, lists))) in
-        let fc = chance_fraction n k in
-        let sign = chance_size g game n key k at chance in
-        let next = next_sum g player den den_above den_within (steps_of actions) choices c fc sign
-        sum start f path.weight path.bound path.den starts is.bound_above (value g choose player t)
-        xs ys child limit in
-        let rest = next_limit g player den den_above den_within (steps_of actions) choices c fc sign
-        sum start f path.weight path.bound path.den starts is.bound_above (value g choose player t)
-        xs ys child limit in
-        let later = lot_valued ts n key (k + 1) next.0 (start +ℤ c.num *ℤ child.amount) path ds at
-        chance both.1 is next.2 next.3 exacts.1 rest in
-        child_added g player den den_above den_within (steps_of actions) choices c fc sign sum start
-        f path.weight path.bound path.den starts is.bound_above (value g choose player t) xs ys
-        child
-        limit _ (rw next.1 later)
+          weightless = idle_weightless path c some;
+        }) exacts.0 (omega (arith, limit, lists)) in
+        child_valued c (chance_fraction n k) (chance_size g game n key k at chance) path some sum
+        start f starts (value g choose player t)
+        (λ next. chance_value g choose player (chances_at g n) (k + 1) next ts) xs ys child limit
+        (λ next from fraction is_part rest. lot_valued ts n key (k + 1) next from path ds at chance
+        both.1 is some fraction is_part exacts.1 rest)
 
     action_valued : (ts : Trees Node) (position : ℕ) (path : Path) (ds : List ℕ) → 1 ≤ position
         → position ≤ count ts → AllByRecursion (HasChildren g) (flatten_all ts) → IsMet path ds
@@ -342,7 +429,7 @@ module _ (g : Game) (game : IsGame g) (spellable : IsSpellable g) (steps choose 
               (omega (arith, all));
           met = with ∙ and_from (met choices ds) (k == get_or choices place 0) is.met
               (eq-eqb k (get_or choices place 0) same);
-          bound_above = is.bound_above;
+          weightless = is.weightless;
         }) exacts.0 (omega (arith, limit, lists)) in
         valued_before g player den den_above den_within (steps_of actions) choices _ path.weight
         path.bound path.den xs ys child
@@ -381,7 +468,7 @@ reached_value g game spellable steps choose actions choices digits player den fi
     (record {
       has = (sym (none_pack actions), none_within actions);
       met = none_met choices actions;
-      bound_above = omega arith;
+      weightless = λ unbound. absurd (omega (arith, unbound));
     }) fits.exact fits.within in
     let sum : whole.amount
     ≡ sum_of_shares g player den (steps_of actions) choices (reached g steps root_path g.tree) =
@@ -392,5 +479,5 @@ reached_value g game spellable steps choose actions choices digits player den fi
       whole.fraction,
       subst (λ n. HasValue whole.ratio n den) sum
           (subst (HasValue whole.ratio whole.amount) over (part_value den fits.den_above_zero
-          fits.den_within 1 whole.ratio whole.amount whole.amount_is)),
+          fits.den_within 1 whole.ratio whole.amount (whole.amount_is (omega arith)))),
     )

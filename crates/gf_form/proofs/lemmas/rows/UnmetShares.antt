@@ -17,10 +17,9 @@ use Rattle.gf_tree.specs.Description.{InformationSet, SetKey}
 use Rattle.gf_tree.specs.Game.{Game, HasChildren, Node, set_at}
 use Rattle.gf_nfg.specs.Profiles.{product}
 use Rattle.gf_form.specs.inner.rows.Demands.{meets, spans, steps_of}
-use Rattle.gf_form.specs.inner.values.Program.{paid_at_node}
-use Rattle.gf_form.specs.inner.rows.ReachedNodes.{by_action, by_any, by_chance, by_choice, by_lot}
-use Rattle.gf_form.specs.inner.rows.ReachedNodes.{demanded}
-use Rattle.gf_form.specs.inner.rows.ReachedNodes.{over_set, reached}
+use Rattle.gf_form.specs.inner.rows.ReachedNodes.{below_set, by_action, by_any, by_chance}
+use Rattle.gf_form.specs.inner.rows.ReachedNodes.{by_choice, by_lot, demanded, met_node, over_set}
+use Rattle.gf_form.specs.inner.rows.ReachedNodes.{reached}
 use Rattle.gf_form.specs.inner.rows.Shares.{AreDigits, IsDigitOf, sum_of_shares}
 use Rattle.gf_form.specs.inner.values.Values.{chances_at}
 use Rattle.gf_form.specs.declared.rows.paths.Path.{Path}
@@ -121,12 +120,7 @@ module _ (g : Game) (steps choose : SetKey → ℕ) (actions choices : List ℕ)
         → AddsNothing (by_any g steps path step 1 ts))
         → (o : Option SetKey) → MatchOption o (count ts ≡ 0)
         (λ key. option_map (λ set. length set.actions) (set_at g key) ≡ Some (count ts))
-        → AddsNothing (over_set o (λ key. if key.player == 0
-        then by_lot g steps path (chances_at g n) 1 ts
-        else if steps key == 0 then by_action g steps path 1 ts
-        else if demanded path.demands (steps key) (count ts) == 0
-        then by_any g steps path (steps key) 1 ts
-        else by_action g steps path (demanded path.demands (steps key) (count ts)) ts))
+        → AddsNothing (over_set o (below_set g steps path n ts))
     nothing_below n ts path ds has missed lot action any None h = refl
     nothing_below n ts path ds has missed lot action any (Some key) h =
         by_player (key.player == 0) refl
@@ -172,14 +166,14 @@ module _ (g : Game) (steps choose : SetKey → ℕ) (actions choices : List ℕ)
           → HasDigits actions path ds → met choices ds ≡ false
           → AddsNothing (reached g steps path t)
       unmet (branch n ts) path ds children has missed =
-          unmet_first g player den (steps_of actions) choices
-          (record { path = path; outcome = paid_at_node g n }) _
+          let met = met_node g path n in
+          unmet_first g player den (steps_of actions) choices met _
           (meets_digits path ds has ∙ missed)
-          ∙ nothing_below n ts path ds has missed
-          (λ chances. lot_unmet ts chances 1 path ds children.1 has missed)
-          (λ position. action_unmet ts position path ds children.1 has missed)
+          ∙ nothing_below n ts met.path ds has missed
+          (λ chances. lot_unmet ts chances 1 met.path ds children.1 has missed)
+          (λ position. action_unmet ts position met.path ds children.1 has missed)
           (λ step place free.
-          any_unmet ts 1 path ds step (count ts) place children.1 has free (omega arith)
+          any_unmet ts 1 met.path ds step (count ts) place children.1 has free (omega arith)
           (omega arith)
           (λ j from.
           met_with ds step (count ts) place j has.1 free from

@@ -1,13 +1,12 @@
 -- A value over the common denominator, with the shares that it is the sum of: at a leaf, at a move,
 -- and as the children of a chance move are added.
-use Rattle.std.proofs.Common.{◌≡◌, ◌⊎◌, inl, inr, ℕ, ℤ, zero, suc, pos, ◌+◌, ◌*◌, ◌/◌, ◌^◌, ◌<◌}
+use Rattle.std.proofs.Common.{◌≡◌, ◌⊎◌, inl, inr, ℕ, ℤ, pos, ◌+◌, ◌*◌, ◌/◌, ◌^◌, ◌<◌}
 use Rattle.std.proofs.Common.{◌≤◌, Bool, true, false, List, [], ◌∷◌, ◌++◌, Option, Some, arith}
 use Rattle.std.proofs.Common.{refl, ap, sym, subst, ◌∙◌}
 use Rattle.std.specs.Bool.{Decides}
 use Rattle.std.specs.Int.{◌∣◌}
 use Rattle.std.specs.Ordering.{int_eq}
 use Rattle.std.specs.Prelude.{◌+ℤ◌, ◌*ℤ◌, ◌&&◌, nat_eq, unsigned_abs, if◌then◌else◌}
-use Rattle.std.proofs.lemmas.Bool.{ne_eqb}
 use Rattle.std.proofs.lemmas.Int.{unsigned_abs-mul}
 use Rattle.std.proofs.Math.IntN.{*ℤ_comm, *ℤ-zero, zero-*ℤ, +ℤ_assoc, +ℤ_comm, +ℤ_idl}
 use Rattle.std.proofs.Math.Nat.{dvd-mul_right, eq-zero_of_zero-dvd, le-mul_of_pos_right}
@@ -20,7 +19,6 @@ use Rattle.gf_fraction.proofs.EqualRatios.{Decides-ratio}
 use Rattle.gf_fraction.proofs.Integers.{*ℤ_assoc, add-*ℤ}
 use Rattle.gf_tree.specs.Game.{Game}
 use Rattle.gf_form.specs.inner.rows.Demands.{meets}
-use Rattle.gf_form.specs.inner.rows.ReachedNodes.{at_least_one}
 use Rattle.gf_form.specs.inner.rows.Shares.{IsExact, met_bounds, over, pay_at, share, share_bound}
 use Rattle.gf_form.specs.inner.rows.Shares.{sum_of_shares}
 use Rattle.gf_form.specs.inner.values.Values.{plus_of, times_of}
@@ -31,19 +29,15 @@ use Rattle.gf_form.proofs.lemmas.rows.OverOneDenominator.{quotient_of_product, s
 use Rattle.gf_form.proofs.lemmas.rows.ShareSums.{bound_first, bounds_append, met_first}
 use Rattle.gf_form.proofs.lemmas.rows.ShareSums.{shares_append}
 use Rattle.gf_form.proofs.lemmas.values.ValuesComputed.{zero_fraction}
-use Rattle.gf_form.proofs.lemmas.values.Zeros.{plus_zero, times_zero, zero_plus}
+use Rattle.gf_form.proofs.lemmas.values.Zeros.{none_times, plus_zero, times_zero, zero_plus}
 
 -- ---- integers
 
 mul-plus : (a b c : ℤ) → a *ℤ (b +ℤ c) ≡ a *ℤ b +ℤ a *ℤ c
 mul-plus a b c = *ℤ_comm a (b +ℤ c) ∙ add-*ℤ b c a ∙ (λ i. *ℤ_comm b a i +ℤ *ℤ_comm c a i)
 
-pub at_least : (a : ℕ) → (a ≤ at_least_one a) × (1 ≤ at_least_one a)
-at_least zero = (omega arith, omega arith)
-at_least (suc a) =
-    let e : at_least_one (suc a) ≡ suc a =
-    ap (λ b. if b then 1 else suc a) (ne_eqb (suc a) 0 (λ z. omega (arith, z))) in
-    (omega (arith, e), omega (arith, e))
+pub product_above : (m n : ℕ) → 1 ≤ m → 1 ≤ n → 1 ≤ m * n
+product_above m n h k = omega (arith, h, le-mul_of_pos_right m k)
 
 -- a size times a number above zero
 size_below : (m b limit : ℕ) → 1 ≤ b → m * b < limit → m < limit
@@ -54,13 +48,11 @@ sum_below : (x y : ℤ) (b : ℕ)
 sum_below x y b = omega (arith, mul-le-mul_right b (sum_size x y))
 
 -- a share of chance, in size
-chance_below : (a b : ℕ) (x : ℤ)
-    → unsigned_abs (pos a *ℤ x) * b ≤ unsigned_abs x * (b * at_least_one a)
+chance_below : (a b : ℕ) (x : ℤ) → unsigned_abs (pos a *ℤ x) * b ≤ unsigned_abs x * (b * a)
 chance_below a b x =
     let size : unsigned_abs (pos a *ℤ x) ≡ a * unsigned_abs x = unsigned_abs-mul (pos a) x in
     let times = ap (λ k. k * b) size in
-    let le = mul-le-mul_right (unsigned_abs x * b) (at_least a).0 in
-    omega (arith, times, le)
+    omega (arith, times)
 
 -- ---- parts of the common denominator
 
@@ -131,14 +123,15 @@ module _ (g : Game) (player den : ℕ) (den_above : 0 < den) (den_within : den <
   IsOver by r n = IsPart den den_above den_within by r n
 
   -- The value is that of an amount over what is left of the denominator; the shares of these nodes,
-  -- which come after a path, are the path's weight times the amount.
+  -- which come after a path, are the path's weight times the amount. On an idle path, any amount
+  -- will do.
   pub record IsValued (value : Option Ratio) (weight bound by : ℕ) (rs : List Reached)
       : Type 0 where
     pub ratio : Ratio
     pub value_is : value ≡ Some ratio
     pub fraction : IsFraction ratio
     pub amount : ℤ
-    pub amount_is : IsOver by ratio amount
+    pub amount_is : 1 ≤ bound → IsOver by ratio amount
     pub shares_are : shares rs ≡ pos weight *ℤ amount
     pub size : unsigned_abs amount * bound ≤ bounds rs
 
@@ -160,7 +153,7 @@ module _ (g : Game) (player den : ℕ) (den_above : 0 < den) (den_within : den <
     value_is = h.value_is;
     fraction = h.fraction;
     amount = h.amount;
-    amount_is = subst (IsOver by h.ratio) (+ℤ_idl h.amount) h.amount_is;
+    amount_is = λ some. subst (IsOver by h.ratio) (+ℤ_idl h.amount) h.amount_is;
     shares_are = h.shares_are;
     size = h.size;
   }
@@ -170,7 +163,7 @@ module _ (g : Game) (player den : ℕ) (den_above : 0 < den) (den_within : den <
       → IsValued value (if room then weight else 0) (if room then bound else 1)
       (if room then by else 0) rs → IsValued value weight bound by rs
   valued_known true value weight bound by rs h = h
-  valued_known false value weight bound by rs h = nothing h.amount_is
+  valued_known false value weight bound by rs h = nothing (h.amount_is (omega arith))
     where
       nothing : IsOver 0 h.ratio h.amount → IsValued value weight bound by rs
       nothing (inl over) = absurd (omega (arith, den_above, eq-zero_of_zero-dvd over.0))
@@ -181,7 +174,7 @@ module _ (g : Game) (player den : ℕ) (den_above : 0 < den) (den_within : den <
             value_is = h.value_is;
             fraction = h.fraction;
             amount = h.amount;
-            amount_is = inr none;
+            amount_is = λ some. inr none;
             shares_are = h.shares_are ∙ zero-*ℤ h.amount ∙ sym (*ℤ-zero (pos weight))
                 ∙ ap (λ (z : ℤ). pos weight *ℤ z) (sym none.1);
             size = omega (arith, ap (λ (z : ℤ). unsigned_abs z * bound) none.1, small);
@@ -258,7 +251,7 @@ module _ (g : Game) (player den : ℕ) (den_above : 0 < den) (den_within : den <
       value_is = refl;
       fraction = f;
       amount = amount;
-      amount_is = amount_is;
+      amount_is = λ some. amount_is;
       shares_are = met_first g player den steps choices own [] met
           ∙ right_zero (share g player den own);
       size = omega (arith, bound_is, bound_first g player den steps choices own [] met);
@@ -282,18 +275,73 @@ module _ (g : Game) (player den : ℕ) (den_above : 0 < den) (den_within : den <
         size_below (unsigned_abs (amount +ℤ h.amount)) own.path.bound (2 ^ 127) some
         (omega (arith, both, bound_is, h.size, all, limit)) in
         let sum = sum_part den den_above den_within own.path.den pay h.ratio amount h.amount f
-        h.fraction amount_is h.amount_is first second whole in
+        h.fraction amount_is (h.amount_is some) first second whole in
         record {
           ratio = sum.0;
           value_is = ap (plus_of (Some pay)) h.value_is ∙ sum.1;
           fraction = sum.2;
           amount = amount +ℤ h.amount;
-          amount_is = sum.3;
+          amount_is = λ some. sum.3;
           shares_are = met_first g player den steps choices own rs met
               ∙ ap (λ z. share g player den own +ℤ z) h.shares_are
               ∙ sym (mul-plus (pos own.path.weight) amount h.amount);
           size = omega (arith, both, bound_is, h.size, all);
         }
+
+  -- ---- a node on an idle path
+
+  module _ (own : Reached) (weightless : own.path.weight ≡ 0) (idle : own.path.bound ≡ 0) where
+    no_share : share g player den own ≡ pos 0
+    no_share =
+        ap (λ n. pos n *ℤ over (den / own.path.den) (pay_at g player own)) weightless
+        ∙ zero-*ℤ (over (den / own.path.den) (pay_at g player own))
+
+    none_first : (rs : List Reached) → shares (own ∷ rs) ≡ shares rs
+    none_first rs = by (meets steps choices own.path.demands)
+      where
+        by : (b : Bool) → (if b then share g player den own else pos 0) +ℤ shares rs ≡ shares rs
+        by true = ap (λ z. z +ℤ shares rs) no_share ∙ +ℤ_idl (shares rs)
+        by false = +ℤ_idl (shares rs)
+
+    pub idle_leaf : (pay : Ratio) → IsFraction pay
+        → IsValued (Some pay) own.path.weight own.path.bound own.path.den (own ∷ [])
+    idle_leaf pay f = record {
+      ratio = pay;
+      value_is = refl;
+      fraction = f;
+      amount = pos 0;
+      amount_is = λ some. absurd (omega (arith, some, idle));
+      shares_are = none_first [] ∙ sym (*ℤ-zero (pos own.path.weight));
+      size = omega arith;
+    }
+
+    -- it adds nothing to the value of a child
+    pub idle_move : (below : Option Ratio) (rs : List Reached)
+        → IsValued below own.path.weight own.path.bound own.path.den rs
+        → IsValued (plus_of (Some zero_ratio) below) own.path.weight own.path.bound own.path.den
+        (own ∷ rs)
+    idle_move below rs h = record {
+      ratio = h.ratio;
+      value_is = ap (plus_of (Some zero_ratio)) h.value_is ∙ zero_plus h.ratio h.fraction;
+      fraction = h.fraction;
+      amount = h.amount;
+      amount_is = h.amount_is;
+      shares_are = none_first rs ∙ h.shares_are;
+      size = omega (arith, ap (λ n. unsigned_abs h.amount * n) idle);
+    }
+
+  -- on a path that started anew there
+  pub idle_sum : (value : Option Ratio) (weight bound other by : ℕ) (rs : List Reached)
+      → bound ≡ 0 → IsValued value weight 1 other rs → IsValued value weight bound by rs
+  idle_sum value weight bound other by rs idle h = record {
+    ratio = h.ratio;
+    value_is = h.value_is;
+    fraction = h.fraction;
+    amount = h.amount;
+    amount_is = λ some. absurd (omega (arith, some, idle));
+    shares_are = h.shares_are;
+    size = omega (arith, ap (λ n. unsigned_abs h.amount * n) idle);
+  }
 
   -- ---- the children of a chance move
 
@@ -309,12 +357,38 @@ module _ (g : Game) (player den : ℕ) (den_above : 0 < den) (den_within : den <
     size = omega arith;
   }
 
-  module _ (chance : Ratio) (fc : IsFraction chance)
+  -- a child of probability 0
+  module _ (chance : Ratio) (fc : IsFraction chance) (none : chance.num ≡ pos 0) (sum : Ratio)
+      (fs : IsFraction sum) (value : Option Ratio) (other more part : ℕ) (xs : List Reached)
+      (h : IsValued value other more part xs) (weightless : other ≡ 0) where
+    pub same_sum : plus_of (Some sum) (times_of chance value) ≡ Some sum
+    same_sum =
+        ap (λ o. plus_of (Some sum) (times_of chance o)) h.value_is
+        ∙ ap (plus_of (Some sum)) (none_times chance fc none h.ratio h.fraction)
+        ∙ plus_zero sum fs
+
+    pub none_added : (total : Option Ratio) (start : ℤ) (weight bound by : ℕ)
+        (ys : List Reached) → IsAdded total start weight bound by ys
+        → IsAdded total start weight bound by (xs ++ ys)
+    none_added total start weight bound by ys later = record {
+      ratio = later.ratio;
+      value_is = later.value_is;
+      fraction = later.fraction;
+      amount = later.amount;
+      amount_is = later.amount_is;
+      shares_are = shares_append g player den steps choices xs ys
+          ∙ (λ i. (h.shares_are ∙ ap (λ n. pos n *ℤ h.amount) weightless ∙ zero-*ℤ h.amount) i
+          +ℤ later.shares_are i)
+          ∙ +ℤ_idl (pos weight *ℤ later.amount);
+      size = omega (arith, later.size, bounds_append g player den steps choices xs ys);
+    }
+
+  module _ (chance : Ratio) (fc : IsFraction chance) (likely : 1 ≤ unsigned_abs chance.num)
       (sign : chance.num ≡ pos (unsigned_abs chance.num)) (sum : Ratio) (start : ℤ)
       (fs : IsFraction sum) (weight bound by : ℕ) (starts : IsOver by sum start)
       (some : 1 ≤ bound) (value : Option Ratio) (xs ys : List Reached)
       (h : IsValued value (weight * unsigned_abs chance.num)
-      (bound * at_least_one (unsigned_abs chance.num)) (by * chance.den) xs)
+      (bound * unsigned_abs chance.num) (by * chance.den) xs)
       (limit : unsigned_abs start * bound + bounds (xs ++ ys) < 2 ^ 127) where
     abbrev a : ℕ
     a = unsigned_abs chance.num
@@ -349,7 +423,7 @@ module _ (g : Game) (player den : ℕ) (den_above : 0 < den) (den_within : den <
         × IsFraction next × IsOver by next (start +ℤ chance.num *ℤ h.amount)
     next_sum =
         let times = product_part den den_above den_within by chance h.ratio h.amount fc h.fraction
-        h.amount_is part_within in
+        (h.amount_is (product_above bound a some likely)) part_within in
         let sums = sum_part den den_above den_within by sum times.0 start part fs times.2 starts
         times.3 start_within part_within next_within in (
           sums.0,

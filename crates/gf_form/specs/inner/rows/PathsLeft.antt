@@ -9,9 +9,11 @@ use Rattle.gf_tree.specs.Description.{SetKey}
 use Rattle.gf_tree.specs.Game.{Game, Node}
 use Rattle.gf_tree.specs.Subtrees.{child_trees}
 use Rattle.gf_tree.specs.Tree.{Tree}
+use Rattle.gf_tree.specs.Tree.Tree.{branch}
 use Rattle.gf_tree.specs.declared.game.branch.Branch.{Branch}
 use Rattle.gf_form.specs.inner.values.CodeLeft.{branch_chances}
-use Rattle.gf_form.specs.inner.rows.ReachedNodes.{by_chance, by_choice, demanded, reached}
+use Rattle.gf_form.specs.inner.rows.ReachedNodes.{below_set, by_chance, by_choice, demanded}
+use Rattle.gf_form.specs.inner.rows.ReachedNodes.{over_set, reached}
 use Rattle.gf_form.specs.Strategies.{choices_by}
 use Rattle.gf_form.specs.declared.rows.paths.Open.{Open}
 use Rattle.gf_form.specs.declared.rows.paths.Open.TheVariants.{Chance, Choice}
@@ -22,6 +24,10 @@ use Rattle.gf_form.specs.declared.rows.paths.Reached.{Reached}
 -- the nodes of a branch, if these are the steps of the digits of each player's sets
 abbrev pub branch_nodes : List (List ℕ) → Path → Branch → List Reached
 branch_nodes all path b = reached (game_of b) (choices_by (game_of b) all) path (tree_of b)
+
+-- those below the root of a tree
+abbrev pub nodes_beneath : Game → (SetKey → ℕ) → Path → Tree Node → List Reached
+nodes_beneath g steps path (branch n ts) = over_set n.set (below_set g steps path n ts)
 
 -- those of these children of a node of chance; the first one has position k
 abbrev pub lot_nodes : Game → (SetKey → ℕ) → Path → (ℕ → Ratio) → ℕ → List (Tree Node)

@@ -1,8 +1,9 @@
 -- The nodes of a tree that choices can reach, in prefix order, each with what the path to it
 -- demands. At a set that is met again below itself, play goes on with the action that is demanded
--- there.
-use Rattle.std.specs.Prelude.{ℕ, suc, zero, ◌+◌, ◌*◌, ◌/◌, ◌%◌, ◌^◌, ◌==◌, ◌&&◌, Bool, List, []}
-use Rattle.std.specs.Prelude.{◌∷◌}
+-- there. Below a child of probability 0, nothing counts but whether its value is defined; so what a
+-- leaf pays is left out there, and where something is added, the path starts anew.
+use Rattle.std.specs.Prelude.{ℕ, suc, zero, ◌+◌, ◌*◌, ◌/◌, ◌%◌, ◌^◌, ◌==◌, ◌&&◌, ◌||◌, Bool, List}
+use Rattle.std.specs.Prelude.{[], ◌∷◌, false}
 use Rattle.std.specs.Prelude.{◌++◌, Option, Some, None, nat_lt, unsigned_abs, if◌then◌else◌}
 use Rattle.gf_fraction.specs.Ratio.{Ratio}
 use Rattle.gf_tree.specs.Tree.{Tree, Trees, count}
@@ -15,14 +16,11 @@ use Rattle.gf_form.specs.inner.values.Values.{chances_at}
 use Rattle.gf_form.specs.declared.rows.paths.Path.{Path}
 use Rattle.gf_form.specs.declared.rows.paths.Reached.{Reached}
 
-abbrev pub at_least_one : ℕ → ℕ
-at_least_one n = if n == 0 then 1 else n
-
 -- whether the numbers of a path still fit after an action of this probability
 abbrev pub has_room : Path → Ratio → Bool
 has_room path chance =
     nat_lt (path.weight * unsigned_abs chance.num) (2 ^ 128)
-    && nat_lt (path.bound * at_least_one (unsigned_abs chance.num)) (2 ^ 128)
+    && nat_lt (path.bound * unsigned_abs chance.num) (2 ^ 128)
     && nat_lt (path.den * chance.den) (2 ^ 128)
 
 -- one step further, by an action of this probability; if the numbers do not fit, they are not
@@ -30,7 +28,7 @@ has_room path chance =
 abbrev pub by_chance : Path → Ratio → Path
 by_chance path chance = record {
   weight = if has_room path chance then path.weight * unsigned_abs chance.num else 0;
-  bound = if has_room path chance then path.bound * at_least_one (unsigned_abs chance.num) else 1;
+  bound = if has_room path chance then path.bound * unsigned_abs chance.num else 1;
   den = if has_room path chance then path.den * chance.den else 0;
   demands = path.demands;
 }
@@ -53,6 +51,39 @@ demanded demands step actions = demands / step % (actions + 1)
 abbrev pub root_path : Path
 root_path = record { weight = 1; bound = 1; den = 1; demands = 0 }
 
+-- whether the value at a node of this set is a sum, if it pays this outcome
+abbrev pub is_sum_at : ℕ → Option SetKey → Bool
+is_sum_at own None = false
+is_sum_at own (Some key) = key.player == 0 || nat_lt 0 own
+
+abbrev pub is_sum : Game → Node → Bool
+is_sum g n = is_sum_at (paid_at_node g n) n.set
+
+-- whether a path is below a child of probability 0, with no sum since
+abbrev pub is_idle : Path → Bool
+is_idle path = path.bound == 0
+
+-- whether a path starts anew at a node
+abbrev pub starts_anew : Game → Path → Node → Bool
+starts_anew g path n = is_idle path && is_sum g n
+
+-- a path from its last node on
+abbrev pub onward : Game → Path → Node → Path
+onward g path n = record {
+  weight = path.weight;
+  bound = if starts_anew g path n then 1 else path.bound;
+  den = if starts_anew g path n then 1 else path.den;
+  demands = path.demands;
+}
+
+-- the node at the end of a path
+abbrev pub met_node : Game → Path → Node → Reached
+met_node g path n = record {
+  path = onward g path n;
+  outcome =
+      if is_idle path then (if is_sum g n then paid_at_node g n else 0) else paid_at_node g n;
+}
+
 abbrev pub over_set : Option SetKey → (SetKey → List Reached) → List Reached
 over_set None below = []
 over_set (Some key) below = below key
@@ -61,12 +92,12 @@ abbrev mutual
   -- Each set has the step of its digit, or 0 if it has only one action.
   pub reached : Game → (SetKey → ℕ) → Path → Tree Node → List Reached
   reached g steps path (branch n ts) =
-      record { path = path; outcome = paid_at_node g n } ∷ over_set n.set
-      (λ key. if key.player == 0 then by_lot g steps path (chances_at g n) 1 ts
-      else if steps key == 0 then by_action g steps path 1 ts
+      met_node g path n ∷ over_set n.set
+      (λ key. if key.player == 0 then by_lot g steps (onward g path n) (chances_at g n) 1 ts
+      else if steps key == 0 then by_action g steps (onward g path n) 1 ts
       else if demanded path.demands (steps key) (count ts) == 0
-      then by_any g steps path (steps key) 1 ts
-      else by_action g steps path (demanded path.demands (steps key) (count ts)) ts)
+      then by_any g steps (onward g path n) (steps key) 1 ts
+      else by_action g steps (onward g path n) (demanded path.demands (steps key) (count ts)) ts)
 
   -- below these children of a node of chance; the first one has position k
   pub by_lot : Game → (SetKey → ℕ) → Path → (ℕ → Ratio) → ℕ → Trees Node → List Reached
@@ -87,3 +118,12 @@ abbrev mutual
   by_action g steps path (suc zero) (more t ts) = reached g steps path t
   by_action g steps path (suc (suc position)) (more t ts) =
       by_action g steps path (suc position) ts
+
+-- those below a node of this set, where the path goes on so
+abbrev pub below_set : Game → (SetKey → ℕ) → Path → Node → Trees Node → SetKey → List Reached
+below_set g steps path n ts key =
+    if key.player == 0 then by_lot g steps path (chances_at g n) 1 ts
+    else if steps key == 0 then by_action g steps path 1 ts
+    else if demanded path.demands (steps key) (count ts) == 0
+    then by_any g steps path (steps key) 1 ts
+    else by_action g steps path (demanded path.demands (steps key) (count ts)) ts

@@ -1,4 +1,4 @@
-use Rattle.std.proofs.Common.{◌∙◌, ◌≡◌, ◌++◌, ◌∷◌, List, ap, map, sym, Global, Vec, ℕ}
+use Rattle.std.proofs.Common.{◌∙◌, ◌≡◌, ◌++◌, List, ap, map, sym, Global, Vec, ℕ}
 use Rattle.std.specs.Prelude.{unwrap_or}
 use Rattle.std.proofs.lemmas.Result.{on_ok_weaker}
 use Rattle.gf_token.specs.Positions.{at_position}
@@ -10,8 +10,8 @@ use Rattle.gf_form.specs.inner.rows.PathsLeft.{nodes_behind, steps_of_paths}
 use Rattle.gf_form.specs.Strategies.{choices_by, strategy_at}
 use Rattle.gf_form.specs.declared.rows.paths.Open.TheVariants.{Chance}
 use Rattle.gf_form.specs.declared.rows.paths.Reached.{Reached}
-use Rattle.gf_form.proofs.lemmas.rows.PathsTold.{choice_reached, first_drawn, last_pushed}
-use Rattle.gf_form.proofs.lemmas.rows.PathsTold.{lot_reached, told}
+use Rattle.gf_form.proofs.lemmas.rows.PathsTold.{choice_beneath, first_drawn, last_pushed}
+use Rattle.gf_form.proofs.lemmas.rows.PathsTold.{lot_beneath}
 use Rattle.gf_form.proofs.lemmas.values.Walks.{choice_is}
 use Rattle.gf_form.proofs.rows.paths.Paths.enter.Goals as goal
 
@@ -25,14 +25,13 @@ returns-then-player-eq0-clause-left c =
     let rest = c.child_branches-rest.result in
     let m = c.in-Some.ensures.mover in
     ap (λ (rs : List Reached). rs ++ nodes_behind w)
-    (lot_reached g (choices_by g all) path (tree_of b) m.0 m.1 (m.2 ∙ c.if-player-eq0.true))
-    ∙ ap (λ (rs : List Reached). told g path (tree_of b) ∷ (rs ++ nodes_behind w))
+    (lot_beneath g (choices_by g all) path (tree_of b) m.0 m.1 (m.2 ∙ c.if-player-eq0.true))
+    ∙ ap (λ (rs : List Reached). rs ++ nodes_behind w)
     (first_drawn all g (game_of_branches rest) (branch_chances b) path (branches_given rest)
     (child_trees (tree_of b)) (branches_left rest) c.child_branches-rest.ensures.game
     c.child_branches-rest.ensures.trees c.child_branches-rest.ensures.none)
-    ∙ ap (λ (rs : List Reached). told g path (tree_of b) ∷ rs)
-    (last_pushed all w.next w.open.items c.push.new.self.items (Chance b rest path) c.requires
-    c.in_ok-push.ensures.items)
+    ∙ last_pushed all w.next w.open.items c.push.new.self.items (Chance b rest path) c.requires
+    c.in_ok-push.ensures.items
 
 pub returns-clause-left : goal.returns-clause-left
 returns-clause-left c =
@@ -49,6 +48,6 @@ returns-clause-left c =
     (sym c.deref.ensures.value) ∙ sym c.step_at-step.ensures in
     on_ok_weaker c.follow.result (λ left.
     ap (λ (rs : List Reached). rs ++ nodes_behind w)
-    (choice_reached g (choices_by g all) path (tree_of b) m.0 c.step_at-step.result m.1
+    (choice_beneath g (choices_by g all) path (tree_of b) m.0 c.step_at-step.result m.1
     (λ e. c.if-player-eq0.false (sym m.2 ∙ e)) here)
-    ∙ ap (λ (rs : List Reached). told g path (tree_of b) ∷ rs) left) c.follow.ensures.left
+    ∙ left) c.follow.ensures.left
