@@ -50,6 +50,17 @@ def payoff_that_never_comes(sets, *payoffs):
     return tree.game(relevant=True)
 
 
+def toss_that_never_comes(sets, *payoffs):
+    """After a side that never comes up, a toss for two payoffs."""
+    tree = Tree(1)
+    tree.toss(1, [1, 0])
+    paid_sets(tree, sets)
+    tree.toss(3, ["1/2", "1/2"])
+    for outcome, payoff in enumerate(payoffs, 900):
+        tree.end(outcome, payoff)
+    return tree.game(relevant=True)
+
+
 def many_players(players, width):
     """Many leaves that pay many players."""
     tree = Tree(players)
@@ -304,6 +315,14 @@ SOME_ROWS = partial(side_by_side, 12)
 # Names with what makes the tree and what makes its twin.
 SHAPES = {
     "tosses that pay nobody": (partial(tosses_that_pay_nobody, 20, 1000), MOST_ROWS),
+    "a payoff that never comes": (
+        partial(payoff_that_never_comes, 20, LARGEST),
+        partial(payoff_that_never_comes, 20, 7),
+    ),
+    "a move that never comes": (
+        partial(payoff_that_never_comes, 20, Fraction(1, 10**20 + 39), Fraction(1, 10**28 + 27)),
+        partial(payoff_that_never_comes, 20, Fraction(1, 7), Fraction(1, 49)),
+    ),
     "fractions apart": (partial(matrix, 300, fractions_apart), partial(side_by_side, 16)),
     "sums of prime denominators": (
         partial(sums_of_denominators, 8, primes(32, 1000)),
@@ -334,13 +353,9 @@ SHAPES = {
 
 # The same of shapes that are too slow at full size, which docs/DECISIONS.md lists: at a size that passes.
 KNOWN = {
-    "a payoff that never comes": (
-        partial(payoff_that_never_comes, 17, LARGEST),
-        partial(payoff_that_never_comes, 17, 7),
-    ),
-    "a move that never comes": (
-        partial(payoff_that_never_comes, 17, Fraction(1, 10**20 + 39), Fraction(1, 10**28 + 27)),
-        partial(payoff_that_never_comes, 17, Fraction(1, 7), Fraction(1, 49)),
+    "a toss that never comes": (
+        partial(toss_that_never_comes, 17, LARGEST, -1),
+        partial(toss_that_never_comes, 17, 7, -1),
     ),
     "a wide tree": (partial(wide_tree, 500, 8, 20, without=["reduced"]), MOST_ROWS),
 }
