@@ -285,6 +285,7 @@ impl<'a> Game<'a> {
     {
         skip(&self.nodes, at + 1, child)
     }
+
     /// The place of the first node below the node at this place, if there is one.
     pub(crate) fn place_below(&self, at: usize) -> usize
         requires { at < length (subtrees self.now.tree) }

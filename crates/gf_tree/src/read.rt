@@ -18,6 +18,10 @@ use std::alloc::Global;
 
 /// Reads the game of an extensive file from its bytes, as `read_efg` does, into a list of its
 /// nodes.
+///
+/// # Errors
+///
+/// Those of `read_efg`.
 pub fn list_efg<'a>(alloc: Global, input: &'a [u8]) -> Result<ListedGame<'a>, Fault>
     ensures spelled { IfOk result (λ g. SpellsGame input.entry.now g) }
     ensures only { (g : game) → SpellsGame input.entry.now g → IsReadAs result g }

@@ -1,5 +1,5 @@
 -- A test, an option and a result have one value.
-use Rattle.std.proofs.Common.{◌≡◌, Bool, true, false, Option, Some, None, Result, Ok, Err}
+use Rattle.gf_tree.proofs.Common.{◌≡◌, Bool, true, false, Option, Some, None, Result, Ok, Err}
 
 pub true_or_false : (b : Bool) → b ≡ true → b ≡ false → ⊥
 true_or_false b h k = cc

@@ -76,6 +76,7 @@ impl<'g, 'a> Branch<'g, 'a> {
             at: game.child_place(self.at, i - 1),
         })
     }
+
     /// The branches of its children, from the first to the last.
     pub fn child_branches(&self) -> Branches<'g, 'a>
         ensures game { game_of_branches result ≡ game_of self.now }

@@ -126,14 +126,14 @@ impl<'a> Outcomes<'a> {
         self.numbers.number(i)
     }
 
-    /// A description begins.
+    /// Begins the description of an outcome.
     pub(crate) fn begin(&mut self)
         ensures { self.new ≡ record self.old { pending = [] } }
     {
         self.from = self.payoffs.len();
     }
 
-    /// It has one more payoff. After an `Err` nothing has changed.
+    /// Adds a payoff to the description. After an `Err` nothing has changed.
     pub(crate) fn push(&mut self, payoff: Fraction) -> Result<(), AllocError>
         ensures ok { OnOk result (self.new ≡ with_pending_payoff self.old payoff) }
         ensures err { OnErr result (self.new ≡ self.old) }
@@ -144,8 +144,8 @@ impl<'a> Outcomes<'a> {
         Ok(())
     }
 
-    /// The description is complete, and belongs to this outcome, which was not known. Returns the
-    /// outcome's place. After an `Err` nothing has changed.
+    /// Ends the description: it is that of this outcome, which was not known. Returns the outcome's
+    /// place. After an `Err` nothing has changed.
     pub(crate) fn end(
         &mut self,
         indexing: &mut Indexing<'_>,

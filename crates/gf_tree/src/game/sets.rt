@@ -67,7 +67,7 @@ fn reach(players: &mut Vec<Numbers>, player: u32) -> Result<(), AllocError>
 }
 
 /// Adds a number to those of a player, and returns how many he then has.
-fn note(
+fn add_number(
     players: &mut Vec<Numbers>,
     alloc: Global,
     indexing: &mut Indexing<'_>,
@@ -263,14 +263,14 @@ impl<'a> Sets<'a> {
         }
     }
 
-    /// A description begins.
+    /// Begins the description of a set.
     pub(crate) fn begin(&mut self)
         ensures { self.new ≡ record self.old { pending = [] } }
     {
         self.from = self.actions.len();
     }
 
-    /// It has one more action. After an `Err` nothing has changed.
+    /// Adds an action to the description. After an `Err` nothing has changed.
     pub(crate) fn push(
         &mut self,
         label: Label<'a>,
@@ -286,15 +286,15 @@ impl<'a> Sets<'a> {
         Ok(())
     }
 
-    /// Its actions so far.
+    /// The actions of the description so far.
     pub(crate) fn pending(&self) -> &[Action<'a>]
         ensures { actions_of result.now ≡ self.now.pending }
     {
         &self.actions[self.from..]
     }
 
-    /// The description is complete, and belongs to this set, which was not known. Returns the set's
-    /// place. After an `Err` nothing has changed.
+    /// Ends the description: it is that of this set, which was not known. Returns the set's place.
+    /// After an `Err` nothing has changed.
     pub(crate) fn end(
         &mut self,
         indexing: &mut Indexing<'_>,
@@ -314,7 +314,7 @@ impl<'a> Sets<'a> {
         self.counts.reserve(1)?;
         let like = last_place(&self.players, player);
         let (start, count) = stretch_like(&self.entries, &self.actions, self.from, like)?;
-        let among = note(
+        let among = add_number(
             &mut self.players,
             self.alloc,
             indexing,

@@ -27,7 +27,7 @@ use std::alloc::AllocError;
 
 /// The place of an outcome, if it is known.
 #[inline(always)]
-fn found(outcomes: &Outcomes<'_>, number: u32) -> Option<u32>
+fn known_outcome(outcomes: &Outcomes<'_>, number: u32) -> Option<u32>
     ensures absent { IfNone result (position (nat_eq number) (map (λ o. o.key) outcomes.now.known)
         ≡ None) }
     ensures unknown { IfNone result (description_at nat_eq outcomes.now.known number ≡ None) }
@@ -40,7 +40,7 @@ fn found(outcomes: &Outcomes<'_>, number: u32) -> Option<u32>
 }
 
 impl<'a> Reader<'a> {
-    /// The description of an outcome that was not known is complete. Returns its place.
+    /// Keeps an outcome that was not known, whose description is complete. Returns its place.
     fn keep_outcome(&mut self, number: u32, name: Label<'a>) -> Result<u32, AllocError>
         requires absent { position (nat_eq number) (map (λ o. o.key) self.old.outcomes.known)
             ≡ None }
@@ -187,7 +187,7 @@ impl<'a> Reader<'a> {
         ensures room { OnOk result (HasRoom 0 self.new) }
         ensures shorter { OnOk result (IsNoLonger self.old self.new) }
     {
-        let Some(place) = found(&self.outcomes, number) else {
+        let Some(place) = known_outcome(&self.outcomes, number) else {
             self.new_outcome(node, set, number, to)?;
             return Ok(());
         };
@@ -230,7 +230,7 @@ impl<'a> Reader<'a> {
             self.described_outcome(node, set, number, word.span, to)?;
             return Ok(());
         }
-        let Some(place) = found(&self.outcomes, number) else {
+        let Some(place) = known_outcome(&self.outcomes, number) else {
             return Err(self.tokens.refusal(Why::NotDescribed));
         };
         let Ok(()) = self.tell(node, set, Some(place), to) else {

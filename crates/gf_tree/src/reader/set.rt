@@ -90,6 +90,7 @@ impl<'a> Reader<'a> {
             Err(why) => Err(Fault::at(word.span, why)),
         }
     }
+
     /// Reads what follows the label of an action of a new set, which is a probability if chance
     /// moves. Returns the sum of the probabilities through this action.
     fn action(
@@ -125,7 +126,7 @@ impl<'a> Reader<'a> {
         }
     }
 
-    /// The description of a set that was not known is complete. Returns the set's place.
+    /// Keeps a set that was not known, whose description is complete. Returns the set's place.
     fn keep_set(&mut self, player: u32, number: u32, name: Label<'a>) -> Result<u32, AllocError>
         requires absent { position (same_set (set_of player number))
             (map (λ s. s.key) self.old.sets.known) ≡ None }

@@ -1,39 +1,26 @@
 -- The rows of the actions of a set, for a new set and for a known one.
-use Rattle.std.proofs.Common.{◌≡◌, ℕ, zero, suc, ◌<◌, Bool, true, false, cond, List, [], ◌∷◌}
-use Rattle.std.proofs.Common.{Option, Some, None, MatchOption, Result, Ok, Err, refl, sym, ap}
-use Rattle.std.proofs.Common.{subst, ◌∙◌, append-nil, arith, inl, inr}
-use Rattle.std.specs.Prelude.{ℤ, pos, int_lt, ◌<ℤ◌, ◌≤ℤ◌, ◌*ℤ◌, ◌⊎◌, ◌≢◌}
+use Rattle.gf_tree.proofs.Common.{◌≡◌, ℕ, zero, suc, ◌<◌, Bool, true, false, cond, List, [], ◌∷◌}
+use Rattle.gf_tree.proofs.Common.{Option, Some, None, MatchOption, Result, Ok, Err, refl, sym, ap}
+use Rattle.gf_tree.proofs.Common.{subst, ◌∙◌, append-nil, arith, inl, inr, pos, ◌≤ℤ◌, ◌⊎◌, ints}
+use Rattle.gf_tree.proofs.Common.{same_Some, Ratio, IsFraction, whole, IsSum, IsNumber, NumberFault}
+use Rattle.gf_tree.proofs.Common.{number_again, number_is, whole_fraction, Token, Closing, Text}
+use Rattle.gf_tree.proofs.Common.{Bare, Why, Mismatch, NegativeProbability, Action, InformationSet}
+use Rattle.gf_tree.proofs.Common.{SetKey, same_set, set_of, description_at, FileFront, InActions}
+use Rattle.gf_tree.proofs.Common.{IsNewSet, KnowsSet, Begun, Content, State, at, new_set_ends}
+use Rattle.gf_tree.proofs.Common.{shared, step, KnownProbability, NewAction, NewProbability}
+use Rattle.gf_tree.proofs.Common.{KnownAction, Share, share_of, IsNoNumber, Row, this_number}
+use Rattle.std.specs.Prelude.{ℤ, int_lt, ◌<ℤ◌, ◌*ℤ◌, ◌≢◌}
 use Rattle.std.proofs.Math.IntN.{*ℤ_comm}
-use Rattle.std.proofs.lemmas.Int.{ints}
-use Rattle.std.proofs.lemmas.Option.{same_Some}
-use Rattle.gf_fraction.specs.Ratio.{Ratio, IsFraction, whole}
-use Rattle.gf_fraction.specs.Computed.{number_of, sum_of}
-use Rattle.gf_fraction.specs.Fits.{IsSum, SumFits}
-use Rattle.gf_fraction.specs.NumberSpelling.{IsNumber}
-use Rattle.gf_fraction.specs.declared.fraction.NumberFault.{NumberFault}
-use Rattle.gf_fraction.proofs.ComputedAnswers.{number_again, number_is}
+use Rattle.gf_fraction.specs.Computed.{number_of}
+use Rattle.gf_fraction.specs.Fits.{SumFits}
 use Rattle.gf_fraction.proofs.ComputedArithmetic.{sum_is_computed}
 use Rattle.gf_fraction.proofs.LowestTerms.{one_fraction}
-use Rattle.gf_fraction.proofs.WholeNumbers.{whole_fraction}
-use Rattle.gf_token.specs.Token.{Token}
-use Rattle.gf_token.specs.Token.Token.{Closing, Text, Bare}
-use Rattle.gf_token.specs.declared.fault.Why.{Why}
-use Rattle.gf_token.specs.declared.fault.Why.TheVariants.{SumAboveOne, SumBelowOne, Mismatch}
-use Rattle.gf_token.specs.declared.fault.Why.TheVariants.{NegativeProbability}
-use Rattle.gf_tree.specs.Description.{Action, InformationSet, SetKey, same_set, set_of}
-use Rattle.gf_tree.specs.FiniteMap.{description_at}
-use Rattle.gf_tree.specs.RowPlaces.{FileFront}
-use Rattle.gf_tree.specs.Front.{InActions, IsNewSet, KnowsSet, ToProbability}
-use Rattle.gf_tree.specs.inner.Machine.{Begun, Content, State, at, new_set_ends, same_number}
-use Rattle.gf_tree.specs.inner.Machine.{set_known, shared, step}
-use Rattle.gf_tree.specs.inner.Machine.Position.{KnownProbability, NewAction, NewProbability}
-use Rattle.gf_tree.specs.inner.Machine.Position.{KnownAction}
-use Rattle.gf_tree.specs.inner.Probability.{Share, is_one, same_ratio, share_by, share_of}
-use Rattle.gf_tree.specs.inner.Probability.{up_to_one}
-use Rattle.gf_tree.specs.inner.ReadGame.{run_tokens}
+use Rattle.gf_tree.specs.Front.{ToProbability}
+use Rattle.gf_tree.specs.inner.Machine.{same_number}
+use Rattle.gf_tree.specs.inner.Probability.{same_ratio, share_by, up_to_one}
 use Rattle.gf_tree.specs.Reason.{GoesOnWith, HasSum, IsWrongBehind}
-use Rattle.gf_tree.specs.Rows.{IsNoNumber, Row, a_new_action, a_new_branch, a_probability}
-use Rattle.gf_tree.specs.Rows.{a_known_action, no_label, this_label, this_number}
+use Rattle.gf_tree.specs.Rows.{a_new_action, a_new_branch, a_probability, a_known_action, no_label}
+use Rattle.gf_tree.specs.Rows.{this_label}
 use Rattle.gf_tree.proofs.lemmas.fronts.Cuts.{first_is}
 use Rattle.gf_tree.proofs.lemmas.fronts.Lists.{to_probability}
 use Rattle.gf_tree.proofs.lemmas.fronts.Runs.{in_actions}
@@ -43,24 +30,17 @@ use Rattle.gf_tree.proofs.lemmas.due.Nodes.{name_by, stands_in, parts, reads_on}
 use Rattle.gf_tree.proofs.lemmas.due.Rows.{Stands, StandsFor, Answers, Law, stands_by}
 use Rattle.gf_tree.proofs.lemmas.fronts.Codes.{begins_actions, begins_probability, known_left}
 use Rattle.gf_tree.proofs.lemmas.runs.Shares.{share_again, share_found}
-use Rattle.gf_tree.proofs.lemmas.runs.Tokens.{ratio_is, ratio_same}
-use Rattle.gf_tree.proofs.lemmas.Once.{true_or_false, one_ok, ok_or_err, none_or_some, one_some}
+use Rattle.gf_tree.proofs.lemmas.runs.Tokens.{ratio_is}
+use Rattle.gf_tree.proofs.lemmas.Once.{one_ok, ok_or_err, none_or_some, one_some}
 use Rattle.std.proofs.lemmas.List.{append_cancel_left}
 
 -- ---- a new set of a player
-
-player_ends : (c : Content) (name : List ℕ) (player n : ℕ) (set : InformationSet) (sum : Ratio)
-    (actions : List Action) → Answers (a_new_action actions) Closing
-    (new_set_ends c name (set_of (suc player) n) set actions sum)
-player_ends c name player n set sum [] = (λ some. omega (arith, some), refl)
-player_ends c name player n set sum (a ∷ actions) = omega arith
 
 action_law : (c : Content) (name : List ℕ) (player n : ℕ) (set : InformationSet) (sum : Ratio)
     → 0 < player → Law (NewAction name (set_of player n) set sum) c (a_new_action set.actions)
 action_law c name zero n set sum some token = absurd (omega (arith, some))
 action_law c name (suc player) n set sum some (Text label) = tt
-action_law c name (suc player) n set sum some Closing =
-    player_ends c name player n set sum set.actions
+action_law c name (suc player) n set sum some Closing = grind arith
 action_law c name (suc player) n set sum some _ = (λ a. a, refl)
 
 pub new_action : (f : FileFront) (key : SetKey) (set : InformationSet) → InActions f.front key set
@@ -77,20 +57,11 @@ new_action f key set h new some =
 
 -- ---- a new set of chance
 
-ends_at : (s : State) (a : Action) (actions : List Action) (sum : Ratio) (t : Bool) → is_one sum ≡ t
-    → Answers (a_new_branch (a ∷ actions) sum) Closing (cond t (Ok s) (Err SumBelowOne))
-ends_at s a actions sum true e = (omega arith, ratio_is sum (whole (pos 1)) e)
-ends_at s a actions sum false e = (
-  λ h. true_or_false (is_one sum) (subst (λ (x : Ratio). is_one x ≡ true) (sym h.1) refl) e,
-  inr (refl, omega arith),
-)
-
 branch_ends : (c : Content) (name : List ℕ) (n : ℕ) (set : InformationSet) (sum : Ratio)
     (actions : List Action) → Answers (a_new_branch actions sum) Closing
     (new_set_ends c name (set_of 0 n) set actions sum)
 branch_ends c name n set sum [] = (λ h. let some = h.0 in omega (arith, some), inl (refl, refl))
-branch_ends c name n set sum (a ∷ actions) =
-    ends_at (set_known c name (set_of 0 n) set) a actions sum (is_one sum) refl
+branch_ends c name n set sum (a ∷ actions) = grind arith
 
 branch_law : (c : Content) (name : List ℕ) (n : ℕ) (set : InformationSet) (sum : Ratio)
     → Law (NewAction name (set_of 0 n) set sum) c (a_new_branch set.actions sum)
@@ -124,11 +95,7 @@ equal z d h e = let low : pos d ≤ℤ z = grind (arith, ints, e) in omega (arit
 
 below : (sum : Ratio) → IsFraction sum → sum.num ≤ℤ pos sum.den → sum ≢ whole (pos 1)
     → sum.num <ℤ pos sum.den
-below sum is high other = by (int_lt sum.num (pos sum.den)) refl
-  where
-    by : (b : Bool) → int_lt sum.num (pos sum.den) ≡ b → sum.num <ℤ pos sum.den
-    by true t = grind (arith, ints, t)
-    by false t = absurd (other (one_is sum is (equal sum.num sum.den high t)))
+below sum is high other = grind (arith, one_is, equal)
 
 -- the sum of a list that is open is at most one
 pub sum_below : (f : FileFront) (n : ℕ) (set : InformationSet) (sum : Ratio)
@@ -164,27 +131,12 @@ wrong_sum : (sum p : Ratio) (b : List ℕ) (o : Option Ratio) → IsNumber b p �
     → MatchOption o (¬ (SumFits sum p)) (λ r. SumFits sum p × IsFraction r × IsSum r sum p)
     → WrongShare sum b (up_to_one p o)
 wrong_sum sum p b None is low h = inr (p, is, h, inr low)
-wrong_sum sum p b (Some total) is low h = by (int_lt (pos total.den) total.num) refl
-  where
-    by : (t : Bool) → int_lt (pos total.den) total.num ≡ t
-        → WrongShare sum b (cond t (Err SumAboveOne)
-        (Ok (record { probability = p; sum = total })))
-    by true e = inr (p, is, (total, h, grind (arith, ints, e)), inr low)
-    by false e = tt
+wrong_sum sum p b (Some total) is low h = grind arith
 
 wrong_share : (sum : Ratio) (b : List ℕ) (o : Result Ratio NumberFault) → IsFraction sum
     → number_of b ≡ o → WrongShare sum b (share_by sum o)
 wrong_share sum b (Err fault) fraction e = inl (fault, refl, spells_fault b fault e)
-wrong_share sum b (Ok p) fraction e = by (int_lt p.num (pos 0)) refl
-  where
-    is : IsNumber b p
-    is = number_is b p e
-
-    by : (t : Bool) → int_lt p.num (pos 0) ≡ t
-        → WrongShare sum b (cond t (Err NegativeProbability) (up_to_one p (sum_of sum p)))
-    by true h = inr (p, is, grind (arith, ints, h), inl refl)
-    by false h = wrong_sum sum p b (sum_of sum p) is (grind (arith, ints, h))
-        (sum_is_computed sum p fraction is.fraction)
+wrong_share sum b (Ok p) fraction e = grind (arith, number_is, wrong_sum, sum_is_computed)
 
 share_answers : (c : Content) (name : List ℕ) (key : SetKey) (set : InformationSet)
     (label : List ℕ) (sum : Ratio) (b : List ℕ) (o : Result Share Why) → IsFraction sum
@@ -201,9 +153,7 @@ share_answers c name key set label sum b (Err why) fraction e wrong = (
 
 share_law : (c : Content) (name : List ℕ) (key : SetKey) (set : InformationSet) (sum : Ratio)
     (label : List ℕ) → IsFraction sum → Law (NewProbability name key set sum label) c (a_share sum)
-share_law c name key set sum label fraction (Bare b) =
-    share_answers c name key set label sum b (share_of sum b) fraction refl
-    (wrong_share sum b (number_of b) fraction refl)
+share_law c name key set sum label fraction (Bare b) = grind (arith, share_answers, wrong_share)
 share_law c name key set sum label fraction _ = (λ a. a, refl)
 
 without_order : (sum : Ratio) (t : Token) (o : Result State Why) → Answers (a_share sum) t o
@@ -278,8 +228,7 @@ known_action f key known seen next h knows more =
     let l = known_left f.before f.ends key known seen (reads_on f) knows h in
     let left = append_cancel_left seen.actions l.others (next ∷ more.0) (sym l.parts ∙ more.1) in
     stands_by f.before (KnownAction l.b (next ∷ more.0)) l.content (this_label next.label) f.begins
-    (λ us. l.answers us
-    ∙ ap (λ (xs : List Action). run_tokens (KnownAction l.b xs) l.content us) left)
+    (λ us. cc (l.answers us))
     (known_law l.content l.b next more.0) (λ a. a, refl)
 
 known_end_law : (c : Content) (b : Begun) → Law (KnownAction b []) c no_label
@@ -295,8 +244,7 @@ no_action_left f key known seen h knows same =
     let left = append_cancel_left seen.actions l.others []
     (sym l.parts ∙ same ∙ sym (append-nil seen.actions)) in
     stands_by f.before (KnownAction l.b []) l.content no_label f.begins
-    (λ us. l.answers us
-    ∙ ap (λ (xs : List Action). run_tokens (KnownAction l.b xs) l.content us) left)
+    (λ us. cc (l.answers us))
     (known_end_law l.content l.b) (λ a. a, refl)
 
 -- ---- a known number
@@ -305,8 +253,7 @@ number_at : (p found : Ratio) (b : List ℕ) (s : State) (t : Bool) → number_o
     → same_ratio found p ≡ t → Answers (this_number p) (Bare b) (cond t (Ok s) (Err Mismatch))
 number_at p found b s true e h = subst (IsNumber b) (ratio_is found p h) (number_is b found e)
 number_at p found b s false e h =
-    let other : found ≢ p = λ q. true_or_false (same_ratio found p)
-    (subst (λ (x : Ratio). same_ratio found x ≡ true) q (ratio_same found)) h in (
+    let other : found ≢ p = grind arith in (
       λ a. other (one_ok (number_of b) found p e (number_again b p a)),
       inr (refl, (found, number_is b found e, other)),
     )

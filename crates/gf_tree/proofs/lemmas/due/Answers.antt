@@ -1,31 +1,23 @@
 -- The answers of the machine of the reader in the heading and at nodes, by the rows of the table of
 -- positions.
-use Rattle.std.proofs.Common.{◌≡◌, ℕ, suc, Bool, true, false, cond, List, [], ◌∷◌, length, Result}
-use Rattle.std.proofs.Common.{Ok, Err, refl, sym, subst, arith, None, inl, inr, nat_eq}
-use Rattle.std.specs.Prelude.{codes, ◌||◌, ◌≢◌}
-use Rattle.std.specs.Cmp.Lexicographic.{pointwise}
+use Rattle.gf_tree.proofs.Common.{◌≡◌, ℕ, suc, Bool, true, false, cond, List, [], ◌∷◌, length, Ok}
+use Rattle.gf_tree.proofs.Common.{Err, refl, sym, subst, arith, None, inl, inr, nat_eq, codes}
+use Rattle.gf_tree.proofs.Common.{pointwise, NumberFault, Opening, Closing, Text, Bare, Broken}
+use Rattle.gf_tree.proofs.Common.{Expected, IsIndex, count_of, count_again, index_again, Content}
+use Rattle.gf_tree.proofs.Common.{State, after_node, at, node_letter, personal_node, Format}
+use Rattle.gf_tree.proofs.Common.{Version, Letter, Title, BeforePlayers, InPlayers, AfterPlayers}
+use Rattle.gf_tree.proofs.Common.{NodeDue, ChanceName, PersonalName, TerminalName, a_letter, a_node}
+use Rattle.gf_tree.proofs.Common.{a_text, a_word, an_end, an_opening, IsPositive}
+use Rattle.std.specs.Prelude.{◌||◌, ◌≢◌}
 use Rattle.gf_fraction.specs.Computed.{number_of}
-use Rattle.gf_fraction.specs.declared.fraction.NumberFault.{NumberFault}
 use Rattle.gf_fraction.specs.NumberSpelling.{HasNumberFault, Reads as Spelled}
 use Rattle.gf_fraction.proofs.ComputedAnswers.{number_is_computed}
-use Rattle.gf_token.specs.Token.Token.{Opening, Closing, Text, Bare, Broken}
 use Rattle.gf_token.specs.declared.fault.What.{What}
-use Rattle.gf_token.specs.declared.fault.Why.{Why}
-use Rattle.gf_token.specs.declared.fault.Why.TheVariants.{Expected}
-use Rattle.gf_token.specs.Index.{IsIndex}
-use Rattle.gf_token.specs.Indices.{count_of, index_of}
-use Rattle.gf_token.proofs.ReadingIndices.{count_again, index_again}
-use Rattle.gf_tree.specs.inner.Machine.{Content, State, after_node, at, node_letter, personal_node}
-use Rattle.gf_tree.specs.inner.Machine.Position.{Format, Version, Letter, Title, BeforePlayers}
-use Rattle.gf_tree.specs.inner.Machine.Position.{InPlayers, AfterPlayers, NodeDue, ChanceName}
-use Rattle.gf_tree.specs.inner.Machine.Position.{PersonalName, TerminalName}
-use Rattle.gf_tree.specs.Rows.{a_letter, a_node, a_player_name, a_text, a_word, an_end, an_opening}
-use Rattle.gf_tree.specs.Rows.{or_text}
-use Rattle.gf_tree.specs.Sentence.{IsPositive}
+use Rattle.gf_token.specs.Indices.{index_of}
+use Rattle.gf_tree.specs.Rows.{a_player_name, or_text}
 use Rattle.gf_tree.proofs.lemmas.due.Rows.{Answers, Law}
 use Rattle.gf_tree.proofs.lemmas.runs.Tokens.{bytes_same, same_bytes}
 use Rattle.gf_tree.proofs.lemmas.Once.{true_or_false}
-use Rattle.gf_tree.proofs.lemmas.games.SentencesOnce.{one_letter}
 use Rattle.gf_token.specs.declared.fault.What.TheVariants as what
 
 -- ---- numbers
@@ -63,13 +55,7 @@ letter_by : (b : List ℕ) (s : State) (r d : Bool) → pointwise nat_eq b (code
     → Answers a_letter (Bare b) (cond (r || d) (Ok s) (Err (Expected what.Letter)))
 letter_by b s true d er ed = inl (same_bytes b (codes "R") er)
 letter_by b s false true er ed = inr (same_bytes b (codes "D") ed)
-letter_by b s false false er ed = (
-  λ a. elim a [
-    | inl e ↦ other_word b (codes "R") er e
-    | inr e ↦ other_word b (codes "D") ed e
-  ],
-  refl,
-)
+letter_by b s false false er ed = grind arith
 
 pub letter : (c : Content) → Law Letter c a_letter
 letter c (Bare b) = letter_by b (at Title c) (pointwise nat_eq b (codes "R"))
@@ -93,14 +79,7 @@ in_players c _ = (λ a. a, refl)
 
 personal_by : (c : Content) (players : List (List ℕ)) (b : List ℕ) → c.players ≡ players
     → b ≡ codes "p" → Answers (a_node (length players)) (Bare b) (personal_node c players)
-personal_by c [] b e is = (
-  λ a. elim a [
-    | inl q ↦ let x : 112 ≡ 99 = one_letter b 112 99 is q in omega (arith, x)
-    | inr (inl q) ↦ let x : 112 ≡ 116 = one_letter b 112 116 is q in omega (arith, x)
-    | inr (inr q) ↦ let some = q.1 in omega (arith, some)
-  ],
-  inl (refl, is, refl),
-)
+personal_by c [] b e is = grind arith
 personal_by c (player ∷ players) b e is = inr (inr (is, omega arith))
 
 letter_of : (c : Content) (b : List ℕ) (is_c is_p is_t : Bool)
@@ -112,14 +91,7 @@ letter_of c b true is_p is_t ec ep et = inl (same_bytes b (codes "c") ec)
 letter_of c b false true is_t ec ep et =
     personal_by c c.players b refl (same_bytes b (codes "p") ep)
 letter_of c b false false true ec ep et = inr (inl (same_bytes b (codes "t") et))
-letter_of c b false false false ec ep et = (
-  λ a. elim a [
-    | inl q ↦ other_word b (codes "c") ec q
-    | inr (inl q) ↦ other_word b (codes "t") et q
-    | inr (inr q) ↦ other_word b (codes "p") ep q.0
-  ],
-  inr (refl, other_word b (codes "p") ep),
-)
+letter_of c b false false false ec ep et = grind arith
 
 pub node_by : (c : Content) (b : List ℕ)
     → Answers (a_node (length c.players)) (Bare b) (node_letter c b)
@@ -129,12 +101,7 @@ node_by c b = letter_of c b (pointwise nat_eq b (codes "c")) (pointwise nat_eq b
 -- the comment, or the first node
 pub after_players : (c : Content) → Law AfterPlayers c (or_text (a_node (length c.players)))
 after_players c (Text label) = tt
-after_players c (Bare b) = or_text_by (node_letter c b) (node_by c b)
-  where
-    or_text_by : (o : Result State Why) → Answers (a_node (length c.players)) (Bare b) o
-        → Answers (or_text (a_node (length c.players))) (Bare b) o
-    or_text_by (Ok s) h = h
-    or_text_by (Err why) h = h
+after_players c (Bare b) = grind (arith, node_by)
 after_players c _ = (λ a. a, refl)
 
 -- a node is due

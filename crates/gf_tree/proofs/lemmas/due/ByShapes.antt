@@ -1,29 +1,20 @@
 -- What is due, by what stands before, has a role: exactly those bare tokens may follow that suit
 -- it. Conversely, what a role names is due if exactly those may follow that suit it.
-use Rattle.std.proofs.Common.{◌≡◌, ℕ, ◌<◌, List, [], ◌∷◌, ◌++◌, length, Option, Some, None, refl}
-use Rattle.std.proofs.Common.{sym, ap, subst, ◌∙◌, arith, inl, inr, nat_eq}
-use Rattle.std.specs.Prelude.{codes, ◌⊎◌, pos}
-use Rattle.std.proofs.lemmas.List.{length-append}
-use Rattle.gf_fraction.specs.Ratio.{Ratio, whole}
-use Rattle.gf_fraction.specs.NumberSpelling.{IsNumber}
-use Rattle.gf_token.specs.Token.{Token}
-use Rattle.gf_token.specs.Token.Token.{Text, Bare}
-use Rattle.gf_token.specs.Place.{Begins}
+use Rattle.gf_tree.proofs.Common.{◌≡◌, ℕ, ◌<◌, List, [], ◌∷◌, ◌++◌, length, Option, Some, None}
+use Rattle.gf_tree.proofs.Common.{refl, sym, ap, subst, ◌∙◌, arith, inl, inr, nat_eq, codes, ◌⊎◌}
+use Rattle.gf_tree.proofs.Common.{pos, length-append, Ratio, whole, IsNumber, Token, Text, Bare}
+use Rattle.gf_tree.proofs.Common.{Begins, Why, InformationSet, Outcome, SetKey, same_set, set_of}
+use Rattle.gf_tree.proofs.Common.{IsDue, Use, description_at, ToOutcomeNumber, BehindSetNumber}
+use Rattle.gf_tree.proofs.Common.{EndsInNode, IsExtensiveFile, IsNewOutcome, IsDescription}
+use Rattle.gf_tree.proofs.Common.{IsInformationSet, Role, FileFront, IsNoNumber, Row, a_letter}
+use Rattle.gf_tree.proofs.Common.{a_word, an_outcome, or_comma, or_name, this_number}
 use Rattle.gf_token.specs.declared.fault.What.{What}
-use Rattle.gf_token.specs.declared.fault.Why.{Why}
 use Rattle.gf_token.specs.declared.fault.Why.TheVariants.{BadIndex}
-use Rattle.gf_tree.specs.Description.{InformationSet, Outcome, SetKey, same_set, set_of}
-use Rattle.gf_tree.specs.Due.{IsDue, OutcomeIsDue, PayoffIsDue, PlayerIsDue, ProbabilityIsDue}
-use Rattle.gf_tree.specs.Due.{SetIsDue}
-use Rattle.gf_tree.specs.FileTree.{Use}
-use Rattle.gf_tree.specs.FiniteMap.{description_at}
-use Rattle.gf_tree.specs.Front.{IsSetKnown, ToOutcomeNumber, BehindSetNumber, EndsInNode}
-use Rattle.gf_tree.specs.Front.{IsExtensiveFile, IsNewOutcome}
-use Rattle.gf_tree.specs.Sentence.{IsDescription, IsInformationSet}
-use Rattle.gf_tree.specs.DueRoles.{IsToldByRole, OnlySuitedFollow, Role, Suits, what_of}
-use Rattle.gf_tree.specs.RowPlaces.{BehindPayoff, BehindSet, FileFront, ToPayoff}
-use Rattle.gf_tree.specs.Rows.{IsNoNumber, Row, a_letter, a_payoff, a_player, a_probability, a_set}
-use Rattle.gf_tree.specs.Rows.{a_word, an_outcome, or_comma, or_name, this_number}
+use Rattle.gf_tree.specs.Due.{OutcomeIsDue, PayoffIsDue, PlayerIsDue, ProbabilityIsDue, SetIsDue}
+use Rattle.gf_tree.specs.Front.{IsSetKnown}
+use Rattle.gf_tree.specs.DueRoles.{IsToldByRole, OnlySuitedFollow, Suits, what_of}
+use Rattle.gf_tree.specs.RowPlaces.{BehindPayoff, BehindSet, ToPayoff}
+use Rattle.gf_tree.specs.Rows.{a_payoff, a_player, a_probability, a_set}
 use Rattle.gf_tree.proofs.lemmas.fronts.CutPlaces.{payoff_place}
 use Rattle.gf_tree.proofs.lemmas.fronts.Lists.{to_probability}
 use Rattle.gf_tree.proofs.lemmas.due.Actions.{known_probability, new_probability}

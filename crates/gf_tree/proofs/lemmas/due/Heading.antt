@@ -1,16 +1,14 @@
 -- The rows of the heading of an extensive file.
-use Rattle.std.proofs.Common.{◌≡◌, ℕ, List, [], ◌∷◌, ◌++◌, length, map, Result, Ok, refl, sym, ap}
-use Rattle.std.proofs.Common.{subst, ◌∙◌, append_assoc, append-nil, inl, inr}
-use Rattle.std.specs.Prelude.{codes, ◌⊎◌}
-use Rattle.gf_token.specs.Token.{Token}
-use Rattle.gf_token.specs.declared.fault.Why.{Why}
-use Rattle.gf_token.specs.Token.Token.{Opening, Closing, Text, Bare}
-use Rattle.gf_tree.specs.inner.Machine.{Content, Position, State, at, nothing, step, with_player}
-use Rattle.gf_tree.specs.inner.Machine.Position.{Format, Version, Letter, Title, BeforePlayers}
-use Rattle.gf_tree.specs.inner.Machine.Position.{InPlayers as Players, AfterPlayers, NodeDue}
+use Rattle.gf_tree.proofs.Common.{◌≡◌, ℕ, List, [], ◌∷◌, ◌++◌, length, map, Result, Ok, refl, sym}
+use Rattle.gf_tree.proofs.Common.{ap, subst, ◌∙◌, append_assoc, append-nil, inl, inr, codes, ◌⊎◌}
+use Rattle.gf_tree.proofs.Common.{Token, Why, Opening, Closing, Text, Bare, Content, Position}
+use Rattle.gf_tree.proofs.Common.{State, at, nothing, step, Format, Version, Letter, Title}
+use Rattle.gf_tree.proofs.Common.{BeforePlayers, AfterPlayers, NodeDue, Row, a_letter, a_node}
+use Rattle.gf_tree.proofs.Common.{a_text, a_word, an_opening}
+use Rattle.gf_tree.specs.inner.Machine.{with_player}
+use Rattle.gf_tree.specs.inner.Machine.Position.{InPlayers as Players}
 use Rattle.gf_tree.specs.RowPlaces.{BehindComment, BehindPlayers, InPlayers, ToPlayers, ToTitle}
-use Rattle.gf_tree.specs.Rows.{Row, a_letter, a_node, a_player_name, a_text, a_word, an_opening}
-use Rattle.gf_tree.specs.Rows.{or_text}
+use Rattle.gf_tree.specs.Rows.{a_player_name, or_text}
 use Rattle.gf_tree.proofs.lemmas.due.Rows.{Stands, EndLaw, Law, stands_by}
 use Rattle.gf_tree.proofs.lemmas.runs.Heading.{heading}
 use Rattle.gf_tree.proofs.lemmas.runs.Places.{walk_run, walked, Leads, begins, state_is, walk}
@@ -28,8 +26,7 @@ stands_led before q c row l law end =
 
 more_leads : (before first : List Token) (t : Token) (s after : State) → Leads first s
     → step s.position s.content t ≡ Ok after → before ≡ first ++ t ∷ [] → Leads before after
-more_leads before first t s after l e parts =
-    rw parts (walk_more first t Format nothing s after l e)
+more_leads before first t s after l e parts = cc (walk_more first t Format nothing s after l e)
 
 to_title : (before : List Token) → ToTitle before → Leads before (at Title nothing)
 to_title before h = by h.1

@@ -1,32 +1,26 @@
 -- The rows of a node up to the braces of its set.
-use Rattle.std.proofs.Common.{◌≡◌, ℕ, zero, suc, ◌<◌, Bool, true, false, cond, List, [], ◌∷◌, ◌++◌}
-use Rattle.std.proofs.Common.{length, Option, Some, None, Result, Ok, Err, refl, sym, ap, ◌∙◌}
-use Rattle.std.proofs.Common.{arith, inl, inr, nat_eq}
-use Rattle.std.specs.Prelude.{codes, nat_le}
-use Rattle.std.specs.Cmp.Lexicographic.{pointwise}
+use Rattle.gf_tree.proofs.Common.{◌≡◌, ℕ, zero, suc, ◌<◌, Bool, true, false, cond, List, [], ◌∷◌}
+use Rattle.gf_tree.proofs.Common.{◌++◌, length, Option, Some, None, Result, Ok, Err, refl, sym, ap}
+use Rattle.gf_tree.proofs.Common.{◌∙◌, arith, inl, inr, nat_eq, codes, pointwise, Token, count_of}
+use Rattle.gf_tree.proofs.Common.{Why, Opening, Text, Bare, Expected, UnknownPlayer, count_again}
+use Rattle.gf_tree.proofs.Common.{InformationSet, SetKey, same_set, description_at, or_name, Row}
+use Rattle.gf_tree.proofs.Common.{a_first_name, a_text, an_opening, an_outcome, BehindSetNumber}
+use Rattle.gf_tree.proofs.Common.{IsNewSet, KnowsSet, Begun, Content, Position, State, at, begun}
+use Rattle.gf_tree.proofs.Common.{behind_set, node_letter, outcome_number, personal_node}
+use Rattle.gf_tree.proofs.Common.{player_number, set_number, NodeDue, ChanceName, PersonalName}
+use Rattle.gf_tree.proofs.Common.{TerminalName, PlayerNumber, SetNumber, NewSetName, NewSetOpening}
+use Rattle.gf_tree.proofs.Common.{KnownSetName, KnownSetOpening, run_tokens, then_run, FileFront}
+use Rattle.std.specs.Prelude.{nat_le}
 use Rattle.std.proofs.lemmas.Bool.Decides.{nat_tests}
-use Rattle.gf_token.specs.Token.{Token}
-use Rattle.gf_token.specs.Indices.{count_of, index_of}
-use Rattle.gf_token.specs.declared.fault.Why.{Why}
-use Rattle.gf_token.specs.Token.Token.{Opening, Text, Bare}
-use Rattle.gf_token.specs.declared.fault.Why.TheVariants.{Expected, UnknownPlayer}
-use Rattle.gf_token.proofs.ReadingIndices.{count_again, count_is, index_is}
-use Rattle.gf_tree.specs.Description.{InformationSet, SetKey, same_set}
-use Rattle.gf_tree.specs.FiniteMap.{description_at}
-use Rattle.gf_tree.specs.Rows.{or_name, Row, a_first_name, a_player, a_set, a_text, an_opening}
-use Rattle.gf_tree.specs.Rows.{an_outcome}
-use Rattle.gf_tree.specs.Front.{BehindSetNumber, IsNewSet, KnowsSet, ToPlayerNumber, ToSetNumber}
-use Rattle.gf_tree.specs.inner.Machine.{Begun, Content, Position, State, after_node, at, begun}
-use Rattle.gf_tree.specs.inner.Machine.{behind_set, node_letter, outcome_number, personal_node}
-use Rattle.gf_tree.specs.inner.Machine.{player_number, same_text, set_number}
-use Rattle.gf_tree.specs.inner.Machine.Position.{NodeDue, ChanceName, PersonalName, TerminalName}
-use Rattle.gf_tree.specs.inner.Machine.Position.{PlayerNumber, SetNumber, NewSetName, NewSetOpening}
-use Rattle.gf_tree.specs.inner.Machine.Position.{KnownSetName, KnownSetOpening}
-use Rattle.gf_tree.specs.inner.ReadGame.{run_tokens, then_run}
-use Rattle.gf_tree.specs.RowPlaces.{BehindLetter, BehindSetName, FileFront}
+use Rattle.gf_token.specs.Indices.{index_of}
+use Rattle.gf_token.proofs.ReadingIndices.{count_is, index_is}
+use Rattle.gf_tree.specs.Rows.{a_player, a_set}
+use Rattle.gf_tree.specs.Front.{ToPlayerNumber, ToSetNumber}
+use Rattle.gf_tree.specs.inner.Machine.{same_text}
+use Rattle.gf_tree.specs.RowPlaces.{BehindLetter, BehindSetName}
 use Rattle.gf_tree.proofs.lemmas.due.Answers.{chance_name, no_index, no_positive, other_word}
 use Rattle.gf_tree.proofs.lemmas.due.Answers.{personal_name, terminal_name}
-use Rattle.gf_tree.proofs.lemmas.due.Rows.{Stands, Answers, EndLaw, Law, stands_by}
+use Rattle.gf_tree.proofs.lemmas.due.Rows.{Stands, Answers, EndLaw, Law}
 use Rattle.gf_tree.proofs.lemmas.fronts.Codes.{BeginsBare, ReadsOn, Split, begins_number, begins_on}
 use Rattle.gf_tree.proofs.lemmas.fronts.Codes.{new_is, split}
 use Rattle.gf_tree.proofs.lemmas.fronts.Runs.{to_player, behind_number, due_is, goes_before}
@@ -53,8 +47,7 @@ parts f bare = split f.before f.ends bare (reads_on f)
 pub stands_in : (f : FileFront) (s : Parts f) (q : Position) (c : Content) (row : Row)
     → ((us : List Token) → run_tokens NodeDue s.content (f.front ++ us) ≡ run_tokens q c us)
     → Law q c row → EndLaw q c row → Stands f.before row
-stands_in f s q c row answers law end =
-    stands_by f.before q c row f.begins (λ us. s.answers us ∙ answers us) law end
+stands_in f s q c row answers law end = grind arith
 
 -- ---- the name of a node
 
@@ -98,9 +91,7 @@ node_name f h =
     let g = s.goes_on in
     let due = due_is c f.front [] h.0 g h.1 in
     let letter : (us : List Token) → run_tokens NodeDue c (f.front ++ us)
-    ≡ then_run (node_letter c h.0) (run_on us) =
-    λ us. ap (λ (ts : List Token). run_tokens NodeDue c (ts ++ us)) h.1
-    ∙ ap (λ (n : ℕ). then_run (after_node c n h.0) (run_on us)) due.1 in
+    ≡ then_run (node_letter c h.0) (run_on us) = grind arith in
     let k = node_named c g.read h.0 g.more (sym (letter g.more) ∙ g.reads) in
     stands_in f s k.q c a_text (λ us. letter us ∙ k.answers us) k.law k.end
 
@@ -195,9 +186,7 @@ outcome_by c b t (Some (suc k)) e = (suc k, index_is t (suc k) e)
 known_name_law : (c : Content) (name : List ℕ) (key : SetKey) (set : InformationSet)
     → Law (KnownSetName name key set) c (or_name set.name an_outcome)
 known_name_law c name key set (Text label) = name_by set.name an_outcome label _
-known_name_law c name key set (Bare b) =
-    named_bare set.name an_outcome b (outcome_number c (begun name key set) (index_of b))
-    (outcome_by c (begun name key set) b (index_of b) refl)
+known_name_law c name key set (Bare b) = grind (arith, named_bare, outcome_by)
 known_name_law c name key set _ = (λ a. a, refl)
 
 pub known_set : (f : FileFront) (key : SetKey) (set : InformationSet) → BehindSetNumber f.front key

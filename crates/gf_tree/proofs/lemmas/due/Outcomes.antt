@@ -1,23 +1,17 @@
 -- The rows of the outcome of a node up to its braces, and those after a whole node.
-use Rattle.std.proofs.Common.{◌≡◌, ℕ, zero, suc, List, [], ◌∷◌, ◌++◌, length, Option, Some, None}
-use Rattle.std.proofs.Common.{refl, sym, ap, subst, ◌∙◌, inl, inr, nat_eq, false, tests, rules}
-use Rattle.std.specs.Prelude.{◌⊎◌}
-use Rattle.gf_fraction.specs.Ratio.{Ratio}
-use Rattle.gf_token.specs.Token.{Token}
+use Rattle.gf_tree.proofs.Common.{◌≡◌, ℕ, zero, suc, List, [], ◌∷◌, ◌++◌, length, Option, Some}
+use Rattle.gf_tree.proofs.Common.{None, refl, sym, ap, subst, ◌∙◌, inl, inr, nat_eq, false, ◌⊎◌}
+use Rattle.gf_tree.proofs.Common.{Ratio, Token, Opening, Text, Bare, Broken, index_again, Outcome}
+use Rattle.gf_tree.proofs.Common.{description_at, BehindOutcomeNumber, IsNewOutcome, KnowsOutcome}
+use Rattle.gf_tree.proofs.Common.{ToOutcomeNumber, Begun, Content, after_node, at, behind_outcome}
+use Rattle.gf_tree.proofs.Common.{with_node, KnownOutcomeOpening, NodeDue, OutcomeNumber}
+use Rattle.gf_tree.proofs.Common.{NewOutcomeName, NewOutcomeOpening, KnownOutcomeName, run_tokens}
+use Rattle.gf_tree.proofs.Common.{then_run, FileFront, a_first_name, a_node, an_end, an_opening}
+use Rattle.gf_tree.proofs.Common.{an_outcome, or_name}
+use Rattle.std.proofs.Common.{tests, rules}
 use Rattle.gf_token.specs.Indices.{index_of}
-use Rattle.gf_token.specs.Token.Token.{Opening, Text, Bare, Broken}
-use Rattle.gf_token.proofs.ReadingIndices.{index_again}
-use Rattle.gf_tree.specs.Description.{Outcome}
-use Rattle.gf_tree.specs.FiniteMap.{description_at}
-use Rattle.gf_tree.specs.Front.{BehindOutcomeNumber, IsNewOutcome, KnowsOutcome, ToOutcomeNumber}
-use Rattle.gf_tree.specs.inner.Machine.{Begun, Content, after_node, at, behind_outcome, same_text}
-use Rattle.gf_tree.specs.inner.Machine.{with_node}
-use Rattle.gf_tree.specs.inner.Machine.Position.{KnownOutcomeOpening, NodeDue, OutcomeNumber}
-use Rattle.gf_tree.specs.inner.Machine.Position.{NewOutcomeName, NewOutcomeOpening}
-use Rattle.gf_tree.specs.inner.Machine.Position.{KnownOutcomeName}
-use Rattle.gf_tree.specs.inner.ReadGame.{run_tokens, then_run}
-use Rattle.gf_tree.specs.RowPlaces.{BehindOutcomeName, BehindSet, BehindZero, FileFront}
-use Rattle.gf_tree.specs.Rows.{a_first_name, a_node, an_end, an_opening, an_outcome, or_name}
+use Rattle.gf_tree.specs.inner.Machine.{same_text}
+use Rattle.gf_tree.specs.RowPlaces.{BehindOutcomeName, BehindSet, BehindZero}
 use Rattle.gf_tree.proofs.lemmas.due.Answers.{after_last_node, node_by, node_due}
 use Rattle.gf_tree.proofs.lemmas.due.Nodes.{Parts, name_by, named_bare, stands_in, outcome_by}
 use Rattle.gf_tree.proofs.lemmas.due.Nodes.{parts}

@@ -1,27 +1,19 @@
 -- The rows of the payoffs of an outcome, for a new outcome and for a known one.
-use Rattle.std.proofs.Common.{◌≡◌, ℕ, zero, suc, ◌<◌, Bool, true, false, List, [], ◌∷◌, ◌++◌}
-use Rattle.std.proofs.Common.{length, Result, Ok, Err, refl, sym, ap, subst, ◌∙◌, append_assoc}
-use Rattle.std.proofs.Common.{arith, inl, inr, nat_eq}
+use Rattle.gf_tree.proofs.Common.{◌≡◌, ℕ, zero, suc, ◌<◌, Bool, true, false, List, [], ◌∷◌, ◌++◌}
+use Rattle.gf_tree.proofs.Common.{length, Result, Ok, Err, refl, sym, ap, subst, ◌∙◌, append_assoc}
+use Rattle.gf_tree.proofs.Common.{arith, inl, inr, nat_eq, length-append, Ratio, NumberFault}
+use Rattle.gf_tree.proofs.Common.{number_again, number_is, Token, Why, Opening, Closing, Comma}
+use Rattle.gf_tree.proofs.Common.{Text, Bare, Each, IsPayoffInBraces, Outcome, description_at}
+use Rattle.gf_tree.proofs.Common.{run_tokens, FileFront, InPayoffs, IsExtensiveFile, IsNewOutcome}
+use Rattle.gf_tree.proofs.Common.{KnowsOutcome, Begun, Content, State, at, paid, NodeDue}
+use Rattle.gf_tree.proofs.Common.{AfterKnownPayoff, Row, a_node, an_end, or_comma, this_number}
 use Rattle.std.specs.Prelude.{not}
-use Rattle.std.proofs.lemmas.List.{length-append, append_cancel_left}
-use Rattle.gf_fraction.specs.Ratio.{Ratio}
+use Rattle.std.proofs.lemmas.List.{append_cancel_left}
 use Rattle.gf_fraction.specs.Computed.{number_of}
-use Rattle.gf_fraction.specs.declared.fraction.NumberFault.{NumberFault}
-use Rattle.gf_fraction.proofs.ComputedAnswers.{number_again, number_is}
-use Rattle.gf_token.specs.Token.{Token}
 use Rattle.gf_token.specs.Next.{is_comma}
-use Rattle.gf_token.specs.declared.fault.Why.{Why}
-use Rattle.gf_token.specs.Token.Token.{Opening, Closing, Comma, Text, Bare}
-use Rattle.gf_token.specs.Grammar.{Each, IsPayoffInBraces}
-use Rattle.gf_tree.specs.Description.{Outcome}
-use Rattle.gf_tree.specs.FiniteMap.{description_at}
-use Rattle.gf_tree.specs.inner.ReadGame.{run_tokens}
 use Rattle.gf_tree.specs.RowPlaces.{ToPayoff, BehindComma, BehindNode, BehindPayoff, BehindPayoffs}
-use Rattle.gf_tree.specs.RowPlaces.{FileFront}
-use Rattle.gf_tree.specs.Front.{InPayoffs, IsExtensiveFile, IsNewOutcome, KnowsOutcome}
-use Rattle.gf_tree.specs.inner.Machine.{Begun, Content, State, at, outcome_ends, paid, same_number}
-use Rattle.gf_tree.specs.inner.Machine.Position.{NodeDue, AfterKnownPayoff}
-use Rattle.gf_tree.specs.Rows.{Row, a_closing, a_node, a_payoff, an_end, or_comma, this_number}
+use Rattle.gf_tree.specs.inner.Machine.{outcome_ends}
+use Rattle.gf_tree.specs.Rows.{a_closing, a_payoff}
 use Rattle.gf_tree.proofs.lemmas.fronts.Cuts.{each_more}
 use Rattle.gf_tree.proofs.lemmas.Once.{none_or_some, one_some}
 use Rattle.gf_tree.proofs.lemmas.due.Actions.{same_answers}
@@ -61,8 +53,7 @@ seen_behind front n ps h =
       place = (
         k.0,
         k.1 ++ Bare h.2 ∷ [],
-        h.6 ∙ (λ i. k.2 i ++ Bare h.2 ∷ [])
-            ∙ append_assoc k.0 (Text seen.name ∷ Opening ∷ k.1) (Bare h.2 ∷ []),
+        cc (append_assoc k.0 (Text seen.name ∷ Opening ∷ k.1) (Bare h.2 ∷ [])),
         k.3,
         subst (λ (qs : List Ratio). Each IsPayoffInBraces (k.1 ++ Bare h.2 ∷ []) qs) (sym h.7)
             (each_more IsPayoffInBraces k.1 (Bare h.2 ∷ []) seen.payoffs h.3 k.4
@@ -136,9 +127,7 @@ with_comma false row = row
 new_law : (may : Bool) (c : Content) (b : Begun) (n : ℕ) (outcome : Outcome) (left : ℕ)
     → Law (new_at may b n outcome (suc left)) c (with_comma may a_payoff)
 new_law true c b n outcome left Comma = tt
-new_law true c b n outcome left (Bare t) =
-    comma_bare a_payoff t (paid c b n outcome left (number_of t))
-    (paid_by c b n outcome left t (number_of t) refl)
+new_law true c b n outcome left (Bare t) = grind (arith, comma_bare, paid_by)
 new_law true c b n outcome left _ = (λ a. a, refl)
 new_law false c b n outcome left (Bare t) = paid_by c b n outcome left t (number_of t) refl
 new_law false c b n outcome left _ = (λ a. a, refl)
@@ -154,9 +143,7 @@ new_closing false c b n outcome _ = (λ a. a, refl)
 known_law : (may : Bool) (c : Content) (p : Ratio) (ps : List Ratio)
     → Law (known_at may (p ∷ ps)) c (with_comma may (this_number p))
 known_law true c p ps Comma = tt
-known_law true c p ps (Bare t) =
-    comma_bare (this_number p) t (same_number p (at (AfterKnownPayoff ps) c) (number_of t))
-    (same_answers p t (at (AfterKnownPayoff ps) c) (number_of t) refl)
+known_law true c p ps (Bare t) = grind (arith, comma_bare, same_answers)
 known_law true c p ps _ = (λ a. a, refl)
 known_law false c p ps (Bare t) = same_answers p t (at (AfterKnownPayoff ps) c) (number_of t) refl
 known_law false c p ps _ = (λ a. a, refl)
@@ -196,23 +183,17 @@ module _ (f : FileFront) (n : ℕ) (payoffs : List Ratio) (may : Bool)
   new_answers : (s : Parts f) (k : AtNewPayoff s.content f.front h.place.1 n h.outcome) (left : ℕ)
       → k.left ≡ left → (us : List Token) → run_tokens NodeDue s.content (f.front ++ us)
       ≡ run_tokens (new_at may k.b n h.outcome left) k.content us
-  new_answers s k left e us = k.answers us
-      ∙ (λ i. run_tokens (new_at ((k.may_is ∙ h.may_is) i) k.b n h.outcome (e i)) k.content us)
+  new_answers s k left e us = grind arith
 
   known_answers : (s : Parts f) (k : AtKnownPayoff s.content f.front h.place.1 n h.outcome)
       (others : List Ratio) → k.others ≡ others → (us : List Token)
       → run_tokens NodeDue s.content (f.front ++ us) ≡ run_tokens (known_at may others) k.content us
-  known_answers s k others e us = k.answers us
-      ∙ (λ i. run_tokens (known_at ((k.may_is ∙ h.may_is) i) (e i)) k.content us)
+  known_answers s k others e us = grind arith
 
   new_by : (s : Parts f) (k : AtNewPayoff s.content f.front h.place.1 n h.outcome) (left : ℕ)
       → length payoffs < length f.players → k.left ≡ left
       → Stands f.before (with_comma may a_payoff)
-  new_by s k zero fewer e =
-      let count = k.count in
-      let size = ap length h.are in
-      let players = ap length s.same_players in
-      absurd (omega (arith, e, count, size, players, fewer))
+  new_by s k zero fewer e = grind arith
   new_by s k (suc left) fewer e =
       stands_in f s (new_at may k.b n h.outcome (suc left)) k.content (with_comma may a_payoff)
       (new_answers s k (suc left) e) (new_law may k.content k.b n h.outcome left)
@@ -254,11 +235,7 @@ module _ (f : FileFront) (n : ℕ) (payoffs : List Ratio) (may : Bool)
         stands_in f s (new_at may k.b n h.outcome 0) k.content (with_comma may a_closing)
         (new_answers s k 0 e) (new_closing may k.content k.b n h.outcome)
         (new_closing_end may k.content k.b n h.outcome)
-    last_new k (suc left) e =
-        let count = k.count in
-        let size = ap length h.are in
-        let players = ap length s.same_players in
-        absurd (omega (arith, e, count, size, players, all))
+    last_new k (suc left) e = grind arith
 
     last_known : (k : AtKnownPayoff s.content f.front h.place.1 n h.outcome) (others : List Ratio)
         → k.others ≡ others → Stands f.before (with_comma may a_closing)

@@ -1,20 +1,14 @@
 -- If the machine of the reader stands for the tokens before a place, exactly what a row accepts may
 -- follow, and everything else is refused as the row says, provided that the machine answers so.
-use Rattle.std.proofs.Common.{◌≡◌, ◌↔◌, ℕ, Bool, true, false, cond, List, [], ◌∷◌, ◌++◌, Result, Ok}
-use Rattle.std.proofs.Common.{Err, refl, sym, ap, subst, ◌∙◌, arith}
-use Rattle.gf_token.specs.Token.{Token}
-use Rattle.gf_token.specs.Token.Token.{Broken}
-use Rattle.gf_token.specs.Place.{Begins, IsAccepted}
-use Rattle.gf_token.specs.declared.fault.Why.{Why}
+use Rattle.gf_tree.proofs.Common.{◌≡◌, ◌↔◌, ℕ, Bool, true, false, cond, List, [], ◌∷◌, ◌++◌, Result}
+use Rattle.gf_tree.proofs.Common.{Ok, Err, refl, sym, subst, ◌∙◌, arith, Token, Broken, Begins}
+use Rattle.gf_tree.proofs.Common.{IsAccepted, Why, IsExtensiveFile, run_tokens, then_run, Content}
+use Rattle.gf_tree.proofs.Common.{Position, State, at, nothing, step, Format, Row}
 use Rattle.gf_token.specs.declared.fault.Why.TheVariants.{Unterminated}
-use Rattle.gf_tree.specs.Front.{IsExtensiveFile}
-use Rattle.gf_tree.specs.inner.ReadGame.{run_tokens, then_run}
-use Rattle.gf_tree.specs.inner.Machine.{Content, Position, State, at, due, may_end, node_or_end}
-use Rattle.gf_tree.specs.inner.Machine.{nothing, step}
-use Rattle.gf_tree.specs.inner.Machine.Position.{Format}
-use Rattle.gf_tree.specs.Rows.{Row, Accepts, Refuses, RefusesFor, Takes}
+use Rattle.gf_tree.specs.inner.Machine.{due, may_end, node_or_end}
+use Rattle.gf_tree.specs.Rows.{Accepts, Refuses, RefusesFor, Takes}
 use Rattle.gf_tree.proofs.lemmas.runs.Places.{Leads, follows, is_file, is_read, no_file}
-use Rattle.gf_tree.proofs.lemmas.runs.Places.{not_follows, then_walk, walk, walk_run}
+use Rattle.gf_tree.proofs.lemmas.runs.Places.{not_follows, walk, walk_run}
 use Rattle.gf_tree.proofs.lemmas.runs.Stops.{StopsAt, not_accepted}
 use Rattle.gf_tree.proofs.lemmas.runs.Tokens.{Reads, run_on}
 
@@ -51,14 +45,7 @@ pub record Stands (before : List Token) (row : Row) : Type 0 where
 pub stands_by : (before : List Token) (q : Position) (c : Content) (row : Row)
     → Begins IsExtensiveFile before → StandsFor before q c → Law q c row → EndLaw q c row
     → Stands before row
-stands_by before q c row begins answers law end = record {
-  begins = begins;
-  position = q;
-  content = c;
-  answers = answers;
-  law = law;
-  end = end;
-}
+stands_by before q c row begins answers law end = grind arith
 
 -- ---- some tokens lead to a state
 
@@ -67,9 +54,7 @@ first_leads : (o : Result State Why) (t : Token) (ts more : List Token) (q : Pos
     → ((s : State) → Reads s.position s.content (ts ++ more) r
     → (end : State) × (walk s.position s.content ts ≡ Ok end))
     → (end : State) × (walk q c (t ∷ ts) ≡ Ok end)
-first_leads (Ok s) t ts more q c r is e later =
-    let h = later s e in
-    (h.0, ap (λ o. then_walk o (λ x. walk x.position x.content ts)) is ∙ h.1)
+first_leads (Ok s) t ts more q c r is e later = grind arith
 first_leads (Err why) t ts more q c r is e later = absurd cc
 
 leads_on : (ts more : List Token) (q : Position) (c r : Content) → Reads q c (ts ++ more) r
@@ -140,11 +125,7 @@ module _ (before : List Token) (s : State) (l : Leads before s) (row : Row) wher
   at_last true true c why e alike a = ((λ f. a, λ h. is_file before s l e), λ n. absurd (n a))
   at_last true false c why e alike a = absurd cc
   at_last false true c why e alike a = absurd cc
-  at_last false false c why e alike a =
-      let same = one_refusal (due s.position s.content.due) why alike in (
-        (λ f. absurd (no_file before s l e f), λ h. absurd (a.0 h)),
-        λ n. (due s.position s.content.due, same ∙ a.1, (e, refl)),
-      )
+  at_last false false c why e alike a = grind (arith, one_refusal, no_file)
 
 by_state : (before after : List Token) (q : Position) (c : Content) (row : Row) (s : State)
     → Leads before s → ((us : List Token) → run_on us s ≡ run_tokens q c us) → Law q c row

@@ -1,15 +1,12 @@
 -- The tokens that suit a role determine what a refusal names there.
-use Rattle.std.proofs.Common.{◌≡◌, ℕ, List, Some, None, Err, refl, ◌∙◌, arith, inl, inr}
-use Rattle.std.specs.Prelude.{codes}
-use Rattle.gf_fraction.specs.Ratio.{Ratio}
-use Rattle.gf_fraction.specs.NumberSpelling.{IsNumber}
+use Rattle.gf_tree.proofs.Common.{◌≡◌, ℕ, List, Some, None, Err, refl, ◌∙◌, arith, inl, inr, codes}
+use Rattle.gf_tree.proofs.Common.{Ratio, IsNumber, number_again, number_is, IsIndex, index_again}
+use Rattle.gf_tree.proofs.Common.{Role}
 use Rattle.gf_fraction.specs.Computed.{number_of, lowest_of, gcd_within}
 use Rattle.gf_fraction.specs.declared.fraction.NumberFault.TheVariants.{NotANumber}
-use Rattle.gf_fraction.proofs.ComputedAnswers.{number_again, number_is}
-use Rattle.gf_token.specs.Index.{IsIndex}
 use Rattle.gf_token.specs.Indices.{index_of}
-use Rattle.gf_token.proofs.ReadingIndices.{index_again, index_is}
-use Rattle.gf_tree.specs.DueRoles.{Role, Suits, what_of}
+use Rattle.gf_token.proofs.ReadingIndices.{index_is}
+use Rattle.gf_tree.specs.DueRoles.{Suits, what_of}
 use Rattle.gf_tree.specs.DueRoles.Role.{Format, Version, Letter, NodeLetter, PlayerNumber}
 use Rattle.gf_tree.specs.DueRoles.Role.{SetNumber, OutcomeNumber, Probability, Payoff, KnownNumber}
 use Rattle.gf_tree.proofs.lemmas.due.Answers.{other_word, no_index}
@@ -144,8 +141,7 @@ version_only Letter (inl s) lacks = absurd (other_word (codes "2") (codes "R") r
 version_only Letter (inr s) lacks = absurd (other_word (codes "2") (codes "D") refl s)
 version_only (NodeLetter n) (inl s) lacks = absurd (other_word (codes "2") (codes "c") refl s)
 version_only (NodeLetter n) (inr (inl s)) lacks = absurd (other_word (codes "2") (codes "t") refl s)
-version_only (NodeLetter n) (inr (inr s)) lacks =
-    absurd (other_word (codes "2") (codes "p") refl s.0)
+version_only (NodeLetter n) (inr (inr s)) lacks = grind arith
 version_only (PlayerNumber n) s lacks = absurd (lacks (s.0, (two_index s.0 s.1.0, s.1.1), s.2))
 version_only SetNumber s lacks = absurd (lacks (s.0, (two_index s.0 s.1.0, s.1.1)))
 version_only OutcomeNumber s lacks = absurd (lacks (s.0, two_index s.0 s.1))
@@ -185,9 +181,7 @@ module _ (r q : Role) (same : (x : List ℕ) → (Suits r x → Suits q x) × (S
     is_index one point = grind (arith, index_only)
 
     pointed : TakesNumbers q → Suits r (codes "1") → Suits r (codes "1.0")
-    pointed numbers one =
-        let k = numbers (codes "1") ((same (codes "1")).0 one) in
-        (same (codes "1.0")).1 (k.2 (codes "1.0") (one_again k.0 k.1))
+    pointed numbers one = grind (arith, one_again)
 
 -- the role of q is a number's: so is that of r
 number_by : (r q : Role)

@@ -1,26 +1,19 @@
 -- The front of a node after whole nodes: the machine of the reader reads it from what was learned
 -- in them, expects in the braces of a known set what is left of it, and refuses a player if there
 -- are none.
-use Rattle.std.proofs.Common.{◌≡◌, ℕ, ◌≤◌, List, [], ◌∷◌, ◌++◌, length, Option, Some, None, Result}
-use Rattle.std.proofs.Common.{Err, refl, sym, ap, ◌∙◌, nat_eq, inl, inr, append_assoc, subst}
-use Rattle.std.specs.List.{filter_map}
-use Rattle.std.specs.Prelude.{codes}
-use Rattle.std.proofs.lemmas.Bool.Decides.{Decides-eqb}
-use Rattle.gf_token.specs.Token.{Token}
+use Rattle.gf_tree.proofs.Common.{◌≡◌, ℕ, ◌≤◌, List, [], ◌∷◌, ◌++◌, length, Option, Some, None}
+use Rattle.gf_tree.proofs.Common.{Result, Err, refl, sym, ap, ◌∙◌, nat_eq, inl, inr, append_assoc}
+use Rattle.gf_tree.proofs.Common.{subst, filter_map, codes, Decides-eqb, Token, Opening, Text, Bare}
+use Rattle.gf_tree.proofs.Common.{Why, Expected, UnknownPlayer, InformationSet, IsOutcome, Outcome}
+use Rattle.gf_tree.proofs.Common.{SetKey, same_set, set_of, Action, description_at, run_tokens}
+use Rattle.gf_tree.proofs.Common.{then_run, BehindOutcomeNumber, BehindSetNumber, EndsInNode}
+use Rattle.gf_tree.proofs.Common.{InActions, InPayoffs, KnowsOutcome, KnowsSet, Content, nothing}
+use Rattle.gf_tree.proofs.Common.{Begun, after_node, begun, personal_node, Format, NodeDue}
+use Rattle.gf_tree.proofs.Common.{KnownAction}
 use Rattle.gf_token.specs.Code.{code_of}
-use Rattle.gf_token.specs.Token.Token.{Opening, Text, Bare}
-use Rattle.gf_token.specs.declared.fault.Why.{Why}
-use Rattle.gf_token.specs.declared.fault.Why.TheVariants.{Expected, UnknownPlayer}
-use Rattle.gf_tree.specs.Description.{InformationSet, IsOutcome, Outcome, SetKey, same_set, set_of}
-use Rattle.gf_tree.specs.Description.{Action}
-use Rattle.gf_tree.specs.FiniteMap.{description_at}
-use Rattle.gf_tree.specs.inner.ReadGame.{run_tokens, then_run}
 use Rattle.gf_tree.specs.Due.{NodeIsDue}
 use Rattle.gf_tree.specs.Reason.{NobodyMoves}
-use Rattle.gf_tree.specs.Front.{BehindOutcomeNumber, BehindSetNumber, EndsInNode, InActions}
-use Rattle.gf_tree.specs.Front.{InPayoffs, KnowsOutcome, KnowsSet, ToProbability}
-use Rattle.gf_tree.specs.inner.Machine.{Content, nothing, Begun, after_node, begun, personal_node}
-use Rattle.gf_tree.specs.inner.Machine.Position.{Format, NodeDue, KnownAction}
+use Rattle.gf_tree.specs.Front.{ToProbability}
 use Rattle.gf_tree.proofs.lemmas.fronts.Nodes.{learned_at, parted}
 use Rattle.gf_tree.proofs.lemmas.runs.Tokens.{Reads, run_on}
 use Rattle.gf_tree.proofs.lemmas.Once.{none_or_some, one_some}
@@ -145,8 +138,7 @@ no_player before t h file is =
     let r = is_read ((before ++ Bare (codes "t") ∷ []) ++ file.0) file.1 in
     let more = Bare (codes "t") ∷ file.0 in
     let text : Reads Format nothing (before ++ more) r.0 =
-    ap (run_tokens Format nothing) (sym (append_assoc before (Bare (codes "t") ∷ []) file.0))
-    ∙ r.1 in
+    cc (append_assoc before (Bare (codes "t") ∷ []) file.0) in
     let p = parted before more h.0 r.0 (plain (codes "t") file.0) text in
     let c = p.content in
     let answers = λ (b : List ℕ) (us : List Token). p.answers (Bare b ∷ us) (plain b us)

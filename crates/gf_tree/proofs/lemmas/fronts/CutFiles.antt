@@ -1,23 +1,17 @@
 -- Tokens that some file begins with stand before a row of the table of positions: the sentence is
 -- cut where they end.
-use Rattle.std.proofs.Common.{◌≡◌, ℕ, zero, suc, List, [], ◌∷◌, ◌++◌, drop, length, map, Option}
-use Rattle.std.proofs.Common.{Some, None, MatchOption, refl, sym, ap, subst, ◌∙◌, append_assoc}
-use Rattle.std.proofs.Common.{append-nil, inl, inr}
-use Rattle.std.specs.Prelude.{codes}
-use Rattle.std.specs.List.{cons_option, filter_map}
+use Rattle.gf_tree.proofs.Common.{◌≡◌, ℕ, zero, suc, List, [], ◌∷◌, ◌++◌, drop, length, map, Option}
+use Rattle.gf_tree.proofs.Common.{Some, None, MatchOption, refl, sym, ap, subst, ◌∙◌, append_assoc}
+use Rattle.gf_tree.proofs.Common.{append-nil, inl, inr, codes, cons_option, filter_map, Token}
+use Rattle.gf_tree.proofs.Common.{braced, IsComment, Begins, Opening, Closing, Text, Bare}
+use Rattle.gf_tree.proofs.Common.{AreConsistent, Describes, InformationSet, IsOutcome, IsSet}
+use Rattle.gf_tree.proofs.Common.{Outcome, SetKey, set_of, Use, FileNode, FileTree, outcome_uses}
+use Rattle.gf_tree.proofs.Common.{set_uses, BehindSetNumber, IsExtensiveFile, Entry, flatten}
+use Rattle.gf_tree.proofs.Common.{FileFront, IsDescription, IsInformationSet, IsMover, IsNode}
+use Rattle.gf_tree.proofs.Common.{IsPositive, IsResult, IsStep}
 use Rattle.std.proofs.lemmas.List.Elements.{filter_map-append}
-use Rattle.gf_token.specs.Token.{Token}
-use Rattle.gf_token.specs.Grammar.{braced, IsComment}
-use Rattle.gf_token.specs.Place.{Begins}
-use Rattle.gf_token.specs.Token.Token.{Opening, Closing, Text, Bare}
-use Rattle.gf_tree.specs.Consistent.{AreConsistent, Describes}
-use Rattle.gf_tree.specs.Description.{InformationSet, IsOutcome, IsSet, Outcome, SetKey, set_of}
-use Rattle.gf_tree.specs.FileTree.{Use, FileNode, FileTree, outcome_uses, set_uses}
-use Rattle.gf_tree.specs.Front.{BehindSetNumber, IsExtensiveFile}
-use Rattle.gf_tree.specs.PrefixOrder.{Entry, flatten}
-use Rattle.gf_tree.specs.RowPlaces.{FileFront, InPlayers, BehindPlayers}
-use Rattle.gf_tree.specs.Sentence.{IsDescription, IsInformationSet, IsMover, IsNode, IsPositive}
-use Rattle.gf_tree.specs.Sentence.{IsResult, IsStep, Says}
+use Rattle.gf_tree.specs.RowPlaces.{InPlayers, BehindPlayers}
+use Rattle.gf_tree.specs.Sentence.{Says}
 use Rattle.gf_tree.specs.SomeRow.{IsBeforeRow, IsInHeading, IsInNode}
 use Rattle.gf_tree.proofs.lemmas.fronts.CutPlaces.{AllHere, IsOutcomeHere, IsSetHere, actions_place}
 use Rattle.gf_tree.proofs.lemmas.fronts.CutPlaces.{result_place, set_place}
@@ -99,8 +93,7 @@ module _ (f : FileFront) (letter name : List ℕ) (more result : List Token)
           (mover, number, [], refl, moves, positive, refl),
         ) e (parts ∙ ap (λ (us : List Token). us ++ result) is) is_result outcome_here
     numbered (t ∷ []) description (Some d) is e parts here =
-        let whole : t ∷ more ≡ Text d.name ∷ ((Opening ∷ (is.0 ++ Closing ∷ [])) ++ result) =
-        parts ∙ ap (λ (us : List Token). us ++ result) is.1 in
+        let whole : t ∷ more ≡ Text d.name ∷ ((Opening ∷ (is.0 ++ Closing ∷ [])) ++ result) = cc in
         let first = first_is t (Text d.name) more _ whole in
         IsInNode.SetOpening (set_of player n) (
           behind,
@@ -113,8 +106,7 @@ module _ (f : FileFront) (letter name : List ℕ) (more result : List Token)
         ≡ Text d.name ∷ Opening ∷ ((is.0 ++ Closing ∷ []) ++ result) = cc (parts, is.1) in
         let first = first_is t (Text d.name) (u ∷ (ts ++ more)) _ whole in
         let second = first_is u Opening (ts ++ more) _ (ap (drop 1) whole) in
-        let opened : f.front ≡ behind ++ Text d.name ∷ Opening ∷ ts =
-        e ∙ (λ i. behind ++ first i ∷ second i ∷ ts) in
+        let opened : f.front ≡ behind ++ Text d.name ∷ Opening ∷ ts = cc in
         elim (cut ts more is.0 (Closing ∷ result)
         (ap (drop 2) whole ∙ append_assoc is.0 (Closing ∷ []) result)) [
           | inl k ↦ actions_place f bare behind ts k.0 is.0 player n d behind_is opened (sym k.1)
@@ -131,9 +123,7 @@ module _ (f : FileFront) (letter name : List ℕ) (more result : List Token)
             let third = first_is v Closing (vs ++ more) result m in
             described (Text d.name ∷ Opening ∷ (is.0 ++ Closing ∷ [])) (Some d) vs
             (is.0, refl, is.2)
-            (opened ∙ (λ i. behind ++ Text d.name ∷ Opening ∷ k i)
-            ∙ (λ i. behind ++ Text d.name ∷ Opening ∷ (is.0 ++ third i ∷ vs))
-            ∙ (λ i. behind ++ Text d.name ∷ Opening ∷ sym (append_assoc is.0 (Closing ∷ []) vs) i))
+            (cc (append_assoc is.0 (Closing ∷ []) vs))
             (ap (drop 1) m) (d, refl)
 
     -- from the mover on
@@ -152,8 +142,7 @@ module _ (f : FileFront) (letter name : List ℕ) (more result : List Token)
     to_number (t ∷ ts) description o is e parts here =
         let first = first_is t (Bare number) (ts ++ more) _ parts in
         numbered ts description o is
-        (e ∙ (λ i. Bare letter ∷ Text name ∷ (mover ++ first i ∷ ts))
-        ∙ (λ i. Bare letter ∷ Text name ∷ sym (append_assoc mover (Bare number ∷ []) ts) i))
+        (cc (append_assoc mover (Bare number ∷ []) ts))
         (ap (drop 1) parts) here
 
   -- from the name of the node on
@@ -292,11 +281,10 @@ module _ (before more : List Token) (file : IsExtensiveFile (before ++ more)) wh
           nodes = w.earlier;
           whole = headed says.letter tree.title (braced names ++ (comment ++ w.whole));
           front = w.first ∷ w.front;
-          parts = e ∙ (λ i. headed says.letter tree.title (braced names ++ (comment ++ w.parts i)))
-              ∙ (λ i. headed says.letter tree.title
-              (braced names ++ sym (append_assoc comment w.whole (w.first ∷ w.front)) i))
-              ∙ (λ i. headed says.letter tree.title
-              (sym (append_assoc (braced names) (comment ++ w.whole) (w.first ∷ w.front)) i));
+          parts = cc (
+            append_assoc comment w.whole (w.first ∷ w.front),
+            append_assoc (braced names) (comment ++ w.whole) (w.first ∷ w.front),
+          );
           says = record {
             letter = says.letter;
             comment = comment;
@@ -388,10 +376,7 @@ module _ (before more : List Token) (file : IsExtensiveFile (before ++ more)) wh
       all (t ∷ r) k m =
           let first = first_is t Closing (r ++ more) (says.comment ++ says.nodes) m in
           behind_players r says.comment says.is_comment
-          (e ∙ (λ i. headed says.letter tree.title (Opening ∷ k i))
-          ∙ (λ i. headed says.letter tree.title (Opening ∷ (names ++ first i ∷ r)))
-          ∙ (λ i. headed says.letter tree.title
-          (Opening ∷ sym (append_assoc names (Closing ∷ []) r) i))) (ap (drop 1) m)
+          (cc (append_assoc names (Closing ∷ []) r)) (ap (drop 1) m)
 
 some_of : (before more : List Token) → IsExtensiveFile (before ++ more) → IsBeforeRow before
 some_of [] more file = inl (IsInHeading.Format refl)

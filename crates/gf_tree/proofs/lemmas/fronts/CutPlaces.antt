@@ -1,24 +1,19 @@
 -- If the front of a file ends in a node, it stands before a row of the table of positions: the node
 -- is cut there.
-use Rattle.std.proofs.Common.{◌≡◌, ℕ, zero, suc, ◌<◌, List, [], ◌∷◌, ◌++◌, drop, length, map}
-use Rattle.std.proofs.Common.{Option, Some, None, MatchOption, refl, sym, ap, subst, ◌∙◌}
-use Rattle.std.proofs.Common.{append_assoc, append-nil, arith, inl, inr, nat_eq}
-use Rattle.std.specs.Prelude.{pos, ◌⊎◌}
-use Rattle.std.proofs.lemmas.List.{length-append}
-use Rattle.gf_fraction.specs.Ratio.{Ratio, whole}
-use Rattle.gf_token.specs.Token.{Token}
-use Rattle.gf_token.specs.Grammar.{Each, IsPayoffInBraces}
-use Rattle.gf_token.specs.Token.Token.{Opening, Closing, Comma, Text, Bare}
-use Rattle.gf_tree.specs.Description.{Action, AddToOne, AreActions, InformationSet, IsOutcome}
-use Rattle.gf_tree.specs.Description.{IsSet, Outcome, SetKey, same_set, set_of, set_with}
-use Rattle.gf_tree.specs.FileTree.{Use}
-use Rattle.gf_tree.specs.FiniteMap.{description_at}
+use Rattle.gf_tree.proofs.Common.{◌≡◌, ℕ, zero, suc, ◌<◌, List, [], ◌∷◌, ◌++◌, drop, length, map}
+use Rattle.gf_tree.proofs.Common.{Option, Some, None, MatchOption, refl, sym, ap, subst, ◌∙◌}
+use Rattle.gf_tree.proofs.Common.{append_assoc, append-nil, arith, inl, inr, nat_eq, pos, ◌⊎◌}
+use Rattle.gf_tree.proofs.Common.{length-append, Ratio, whole, Token, Each, IsPayoffInBraces}
+use Rattle.gf_tree.proofs.Common.{Opening, Closing, Comma, Text, Bare, Action, AreActions}
+use Rattle.gf_tree.proofs.Common.{InformationSet, IsOutcome, IsSet, Outcome, SetKey, same_set}
+use Rattle.gf_tree.proofs.Common.{set_of, set_with, Use, description_at, BehindOutcomeNumber}
+use Rattle.gf_tree.proofs.Common.{BehindSetNumber, InActions, IsNewSet, KnowsOutcome, KnowsSet}
+use Rattle.gf_tree.proofs.Common.{ToOutcomeNumber, FileFront, IsAction, IsDescription}
+use Rattle.gf_tree.proofs.Common.{IsOutcomeDescription, IsResult}
+use Rattle.gf_tree.specs.Description.{AddToOne}
 use Rattle.gf_tree.specs.SomeRow.{IsInNode}
-use Rattle.gf_tree.specs.Front.{BehindOutcomeNumber, BehindSetNumber, InActions, IsNewSet}
-use Rattle.gf_tree.specs.Front.{KnowsOutcome, KnowsSet, ToOutcomeNumber}
 use Rattle.gf_tree.specs.Reason.{HasSum, AddUpTo}
-use Rattle.gf_tree.specs.RowPlaces.{BehindPayoff, FileFront, ToPayoff}
-use Rattle.gf_tree.specs.Sentence.{IsAction, IsDescription, IsOutcomeDescription, IsResult}
+use Rattle.gf_tree.specs.RowPlaces.{BehindPayoff, ToPayoff}
 use Rattle.gf_tree.proofs.lemmas.fronts.Cuts.{Last, Within, cut, each_last, each_more, first_is}
 use Rattle.gf_tree.proofs.lemmas.fronts.Cuts.{none_left, within}
 use Rattle.gf_tree.proofs.lemmas.fronts.Codes.{BeginsBare}
@@ -64,18 +59,8 @@ AllHere Is o =
 
 payoff_front : (t : Token) (front rest : List Token) (p : Ratio)
     → IsPayoffInBraces (t ∷ (front ++ rest)) p → IsPayoffInBraces (t ∷ front) p
-payoff_front t [] rest p h =
-    (h.0, [], ap (λ x. x ∷ []) (first_is t (Bare h.0) rest h.1 h.2), h.3, inl refl)
-payoff_front t (u ∷ front) rest p h = by h.4
-  where
-    by : ((h.1 ≡ []) ⊎ (h.1 ≡ Comma ∷ [])) → IsPayoffInBraces (t ∷ u ∷ front) p
-    by (inl e) = let none : u ∷ (front ++ rest) ≡ [] = ap (drop 1) h.2 ∙ e in absurd cc
-    by (inr e) =
-        let comma : u ∷ (front ++ rest) ≡ Comma ∷ [] = ap (drop 1) h.2 ∙ e in
-        let first = first_is t (Bare h.0) (u ∷ (front ++ rest)) h.1 h.2 in
-        let second = first_is u Comma (front ++ rest) [] comma in
-        let end = none_left front rest (ap (drop 1) comma) in
-        (h.0, Comma ∷ [], (λ i. first i ∷ second i ∷ end i), h.3, inr refl)
+payoff_front t [] rest p h = grind arith
+payoff_front t (u ∷ front) rest p h = grind (arith, first_is, none_left)
 
 -- the payoffs that stand in the front of some
 record PayoffsRead (front : List Token) (ps : List Ratio) : Type 0 where
@@ -108,8 +93,7 @@ payoff_place front behind inner n name payoffs h e each =
         (
           behind ++ Text name ∷ [],
           (behind, name, h, refl),
-          e ∙ ap (λ (ts : List Token). behind ++ Text name ∷ Opening ∷ ts) k.1
-              ∙ sym (append_assoc behind (Text name ∷ []) (Opening ∷ [])),
+          cc (append_assoc behind (Text name ∷ []) (Opening ∷ [])),
         ),
         k.0,
       ))
@@ -138,15 +122,15 @@ payoff_place front behind inner n name payoffs h e each =
         → ((k.is_last.1 ≡ []) ⊎ (k.is_last.1 ≡ Comma ∷ []))
         → ToPayoff front n payoffs ⊎ BehindPayoff front n payoffs
     by k (inl c) = inr (subst (λ (ts : List Token). BehindPayoff ts n payoffs)
-        (sym (whole k ∙ ap (λ (ts : List Token).
-        (behind ++ Text name ∷ Opening ∷ k.front) ++ Bare k.is_last.0 ∷ ts) c)) (paid k))
+        (cc (whole k)) (paid k))
     by k (inr c) = inl (inr (
       (behind ++ Text name ∷ Opening ∷ k.front) ++ Bare k.is_last.0 ∷ [],
       paid k,
-      whole k ∙ ap (λ (ts : List Token).
-          (behind ++ Text name ∷ Opening ∷ k.front) ++ Bare k.is_last.0 ∷ ts) c
-          ∙ sym (append_assoc (behind ++ Text name ∷ Opening ∷ k.front) (Bare k.is_last.0 ∷ [])
-          (Comma ∷ [])),
+      cc (
+        whole k,
+        append_assoc (behind ++ Text name ∷ Opening ∷ k.front) (Bare k.is_last.0 ∷ [])
+            (Comma ∷ []),
+      ),
     ))
 
 module _ (f : FileFront) (bare : BeginsBare f.front) where
@@ -204,18 +188,15 @@ module _ (f : FileFront) (bare : BeginsBare f.front) where
       → MatchOption o (Unit {0}) (λ d. IsOutcomeHere f n d) → IsInNode f
   outcome_place behind [] more description n o h e parts is here =
       number_place n (rw (e ∙ append-nil behind) h)
-  outcome_place behind (t ∷ ts) more description n None h e parts is here =
-      let none : t ∷ (ts ++ more) ≡ [] = parts ∙ is in absurd cc
+  outcome_place behind (t ∷ ts) more description n None h e parts is here = grind arith
   outcome_place behind (t ∷ []) more description n (Some d) h e parts is here =
       let first = first_is t (Text d.name) more _ (parts ∙ is.1) in
       IsInNode.OutcomeOpening n (behind, d.name, h, e ∙ (λ i. behind ++ first i ∷ []))
   outcome_place behind (t ∷ u ∷ ts) more description n (Some d) h e parts is here =
-      let whole : t ∷ u ∷ (ts ++ more) ≡ Text d.name ∷ Opening ∷ (is.0 ++ Closing ∷ []) =
-      parts ∙ is.1 in
+      let whole : t ∷ u ∷ (ts ++ more) ≡ Text d.name ∷ Opening ∷ (is.0 ++ Closing ∷ []) = cc in
       let first = first_is t (Text d.name) (u ∷ (ts ++ more)) _ whole in
       let second = first_is u Opening (ts ++ more) _ (ap (drop 1) whole) in
-      let opened : f.front ≡ behind ++ Text d.name ∷ Opening ∷ ts =
-      e ∙ (λ i. behind ++ first i ∷ second i ∷ ts) in
+      let opened : f.front ≡ behind ++ Text d.name ∷ Opening ∷ ts = cc in
       elim (cut ts more is.0 (Closing ∷ []) (ap (drop 2) whole)) [
         | inl k ↦ payoffs_place behind ts k.0 is.0 n d h opened (sym k.1) is.2 here
         | inr k ↦ by opened k.0 k.1 k.2
@@ -234,9 +215,7 @@ module _ (f : FileFront) (bare : BeginsBare f.front) where
             n,
             d,
             (behind, is.0, refl, h, is.2),
-            opened ∙ (λ i. behind ++ Text d.name ∷ Opening ∷ k i)
-                ∙ (λ i. behind ++ Text d.name ∷ Opening ∷ (is.0 ++ third i ∷ end i))
-                ∙ sym (append_assoc behind (Text d.name ∷ Opening ∷ is.0) (Closing ∷ [])),
+            cc (append_assoc behind (Text d.name ∷ Opening ∷ is.0) (Closing ∷ [])),
           ))
 
   -- from the number of the outcome on
@@ -244,11 +223,7 @@ module _ (f : FileFront) (bare : BeginsBare f.front) where
       (ts more result : List Token) (outcome : Option (Use ℕ Outcome)) → ToOutcomeNumber to set
       → f.front ≡ to ++ t ∷ ts → (t ∷ ts) ++ more ≡ result
       → IsResult (length f.players) result outcome → AllHere (IsOutcomeHere f) outcome → IsInNode f
-  result_place to set t ts more result None h e parts is here =
-      let whole : t ∷ (ts ++ more) ≡ Bare is.0 ∷ [] = parts ∙ is.1 in
-      let first = first_is t (Bare is.0) (ts ++ more) [] whole in
-      let end = none_left ts more (ap (drop 1) whole) in
-      IsInNode.AfterNode (inl (to, set, is.0, h, is.2, e ∙ (λ i. to ++ first i ∷ end i)))
+  result_place to set t ts more result None h e parts is here = grind (arith, first_is, none_left)
   result_place to set t ts more result (Some u) h e parts is here =
       let whole : t ∷ (ts ++ more) ≡ Bare is.0 ∷ is.1 = parts ∙ is.2 in
       let first = first_is t (Bare is.0) (ts ++ more) is.1 whole in
@@ -266,8 +241,7 @@ prefix_sum : (seen left : List Action) (ps : List Ratio) (sum : Ratio)
 prefix_sum [] left ps sum e h = (sum, refl)
 prefix_sum (a ∷ seen) left [] sum e h = absurd cc
 prefix_sum (a ∷ seen) left (p ∷ ps) sum e h =
-    let k = prefix_sum seen left ps h.1.0 (ap (drop 1) e) h.1.2 in
-    (k.0, (p, h.1.0, first_is a.probability (Some p) _ _ e, h.1.1, k.1))
+    grind (arith, first_is, prefix_sum seen left ps h.1.0 (ap (drop 1) e) h.1.2)
 
 some_sum : (name : List ℕ) (actions seen left : List Action) → actions ≡ seen ++ left
     → AreActions 0 actions → (sum : Ratio) × HasSum (set_with name seen) sum
@@ -278,16 +252,9 @@ some_sum name actions seen left e h = prefix_sum seen left h.0 (whole (pos 0))
 action_front : (player : ℕ) (t : Token) (front rest : List Token) (a : Action)
     → IsAction player (t ∷ (front ++ rest)) a → IsAction player (t ∷ front) a
     ⊎ ((player ≡ 0) × (t ∷ front ≡ Text a.label ∷ []) × ((p : Ratio) × (a.probability ≡ Some p)))
-action_front zero t [] rest a h =
-    inr (refl, ap (λ x. x ∷ []) (first_is t (Text a.label) rest _ h.2), (h.1, h.4))
-action_front zero t (u ∷ front) rest a h =
-    let none : front ++ rest ≡ [] = ap (drop 2) h.2 in
-    let end = none_left front rest none ∙ sym none in
-    inl (h.0, h.1, ap (λ (ts : List Token). t ∷ u ∷ ts) end ∙ h.2, h.3, h.4)
-action_front (suc player) t front rest a h =
-    let none : front ++ rest ≡ [] = ap (drop 1) h.0 in
-    let end = none_left front rest none ∙ sym none in
-    inl (ap (λ (ts : List Token). t ∷ ts) end ∙ h.0, h.1)
+action_front zero t [] rest a h = grind arith
+action_front zero t (u ∷ front) rest a h = grind (arith, none_left)
+action_front (suc player) t front rest a h = grind (arith, none_left)
 
 module _ (f : FileFront) (bare : BeginsBare f.front) where
   pub set_place : (key : SetKey) → BehindSetNumber f.front key → IsInNode f
@@ -352,8 +319,7 @@ module _ (f : FileFront) (bare : BeginsBare f.front) where
   actions_by behind tokens zero n d w h e is chance last has =
       shared n d w.earlier (w.last ∷ w.later) w.values w.last w.later has.0
       (behind ++ Text d.name ∷ Opening ∷ w.whole) is (behind, w.whole, refl, h, w.each)
-      (e ∙ (λ i. behind ++ Text d.name ∷ Opening ∷ (w.whole ++ last i))
-      ∙ sym (append_assoc behind (Text d.name ∷ Opening ∷ w.whole) (Text w.last.label ∷ [])))
+      (cc (append_assoc behind (Text d.name ∷ Opening ∷ w.whole) (Text w.last.label ∷ [])))
       refl has.1
 
   pub actions_place : (behind front more inner : List Token) (player n : ℕ) (d : InformationSet)

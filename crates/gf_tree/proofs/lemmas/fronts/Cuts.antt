@@ -1,9 +1,6 @@
 -- Where a prefix of several lists ends: in which of them, and in which group.
-use Rattle.std.proofs.Common.{◌≡◌, List, [], ◌∷◌, ◌++◌, drop, refl, sym, ap, subst, ◌∙◌}
-use Rattle.std.proofs.Common.{append_assoc, append-nil, inl, inr}
-use Rattle.std.specs.Prelude.{◌⊎◌}
-use Rattle.gf_token.specs.Token.{Token}
-use Rattle.gf_token.specs.Grammar.{Each}
+use Rattle.gf_tree.proofs.Common.{◌≡◌, List, [], ◌∷◌, ◌++◌, drop, refl, sym, ap, subst, ◌∙◌}
+use Rattle.gf_tree.proofs.Common.{append_assoc, append-nil, inl, inr, ◌⊎◌, Token, Each}
 
 pub first_is : {A : Type 0} (x y : A) (xs ys : List A) → x ∷ xs ≡ y ∷ ys → x ≡ y
 first_is x y xs ys e = cc

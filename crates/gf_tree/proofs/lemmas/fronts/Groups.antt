@@ -1,14 +1,9 @@
 -- Groups of tokens at the front of a list: they say only one thing, and leave only one rest.
-use Rattle.std.proofs.Common.{◌≡◌, ℕ, List, [], ◌∷◌, ◌++◌, map, drop, Ok, refl, sym, ap, subst, ◌∙◌}
-use Rattle.std.proofs.Common.{append_assoc, arith}
-use Rattle.std.specs.Prelude.{◌⊎◌, Option, Some, None}
-use Rattle.gf_fraction.specs.Ratio.{Ratio}
-use Rattle.gf_fraction.specs.NumberSpelling.{IsNumber}
+use Rattle.gf_tree.proofs.Common.{◌≡◌, ℕ, List, [], ◌∷◌, ◌++◌, map, drop, Ok, refl, sym, ap, subst}
+use Rattle.gf_tree.proofs.Common.{◌∙◌, append_assoc, arith, ◌⊎◌, Ratio, IsNumber, Token, Closing}
+use Rattle.gf_tree.proofs.Common.{Comma, Text, Bare, Each, braced, IsPayoffInBraces, IsDescription}
+use Rattle.std.specs.Prelude.{Option, Some, None}
 use Rattle.gf_fraction.proofs.ReadingBack.{one_answer}
-use Rattle.gf_token.specs.Token.{Token}
-use Rattle.gf_token.specs.Token.Token.{Closing, Comma, Text, Bare}
-use Rattle.gf_token.specs.Grammar.{Each, braced, IsPayoffInBraces}
-use Rattle.gf_tree.specs.Sentence.{IsDescription}
 
 -- what P says of the front of one list is one thing, and leaves one rest
 abbrev pub Agree : {A : Type 0} → (List Token → A → Type 0) → Type 0
@@ -41,16 +36,13 @@ pub closed_once : {A : Type 0} (P : List Token → A → Type 0) → Agree P →
     → (xs ys : List A) (inner inner' rest rest' : List Token)
     → Each P inner xs → Each P inner' ys → inner ++ Closing ∷ rest ≡ inner' ++ Closing ∷ rest'
     → (xs ≡ ys) × (rest ≡ rest')
-closed_once P agree begun [] [] inner inner' rest rest' h k e =
-    (refl, ap (drop 1) (in_front inner inner' (Closing ∷ rest) (Closing ∷ rest') [] [] h k e))
+closed_once P agree begun [] [] inner inner' rest rest' h k e = grind arith
 closed_once P agree begun [] (y ∷ ys) inner inner' rest rest' h k e =
     absurd (begun k.0 (k.1 ++ Closing ∷ rest') rest y k.3
-    (sym (regroup inner' k.0 k.1 (Closing ∷ rest') k.2) ∙ sym e
-    ∙ ap (λ (ts : List Token). ts ++ Closing ∷ rest) h))
+    (cc (regroup inner' k.0 k.1 (Closing ∷ rest') k.2)))
 closed_once P agree begun (x ∷ xs) [] inner inner' rest rest' h k e =
     absurd (begun h.0 (h.1 ++ Closing ∷ rest) rest' x h.3
-    (sym (regroup inner h.0 h.1 (Closing ∷ rest) h.2) ∙ e
-    ∙ ap (λ (ts : List Token). ts ++ Closing ∷ rest') k))
+    (cc (regroup inner h.0 h.1 (Closing ∷ rest) h.2)))
 closed_once P agree begun (x ∷ xs) (y ∷ ys) inner inner' rest rest' h k e =
     let a = agree h.0 k.0 (h.1 ++ Closing ∷ rest) (k.1 ++ Closing ∷ rest') x y h.3 k.3
     (sym (regroup inner h.0 h.1 (Closing ∷ rest) h.2) ∙ e
@@ -69,9 +61,7 @@ texts_once [] [] rest rest' e = (refl, ap (drop 1) e)
 texts_once [] (y ∷ ys) rest rest' e = absurd cc
 texts_once (x ∷ xs) [] rest rest' e = absurd cc
 texts_once (x ∷ xs) (y ∷ ys) rest rest' e =
-    let same : x ≡ y = cc in
-    let b = texts_once xs ys rest rest' (ap (drop 1) e) in
-    (λ i. same i ∷ b.0 i, b.1)
+    grind (arith, texts_once xs ys rest rest' (ap (drop 1) e))
 
 pub numbers_once : (bytes bytes' : List ℕ) (x y : Ratio)
     → bytes ≡ bytes' → IsNumber bytes x → IsNumber bytes' y → x ≡ y
@@ -83,17 +73,14 @@ pub descriptions_once : {D : Type 0} (P : List Token → D → Type 0) → Agree
     → (x y : Option D) (first first' rest rest' : List Token)
     → IsDescription P first x → IsDescription P first' y → NoText rest → NoText rest'
     → first ++ rest ≡ first' ++ rest' → (x ≡ y) × (rest ≡ rest')
-descriptions_once P agree text None None first first' rest rest' h k n m e =
-    (refl, in_front first first' rest rest' [] [] h k e)
+descriptions_once P agree text None None first first' rest rest' h k n m e = grind arith
 descriptions_once P agree text None (Some y) first first' rest rest' h k n m e =
     let t = text first' rest' y k in
     absurd (n t.0 t.1 (in_front first first' rest rest' [] first' h refl e ∙ t.2))
 descriptions_once P agree text (Some x) None first first' rest rest' h k n m e =
     let t = text first rest x h in
     absurd (m t.0 t.1 (in_front first' first rest' rest [] first k refl (sym e) ∙ t.2))
-descriptions_once P agree text (Some x) (Some y) first first' rest rest' h k n m e =
-    let a = agree first first' rest rest' x y h k e in
-    (λ i. Some (a.0 i), a.1)
+descriptions_once P agree text (Some x) (Some y) first first' rest rest' h k n m e = grind arith
 
 -- ---- payoffs
 
@@ -108,40 +95,21 @@ comma_gone comma comma' rest rest' h h2 h3 h4 h5 = grind (arith, in_front)
 -- no comma comes where a payoff or the closing brace is due
 no_comma : (xs : List Ratio) (inner rest : List Token) → Each IsPayoffInBraces inner xs
     → NoComma (inner ++ Closing ∷ rest)
-no_comma [] inner rest h = λ others e. let whole : Closing ∷ rest ≡ Comma ∷ others =
-    ap (λ (ts : List Token). ts ++ Closing ∷ rest) (sym h) ∙ e in
-    absurd cc
-no_comma (x ∷ xs) inner rest h = λ others e.
-    let whole = ap (λ (ts : List Token). ts ++ (h.1 ++ Closing ∷ rest)) (sym h.3.2)
-    ∙ sym (regroup inner h.0 h.1 (Closing ∷ rest) h.2) ∙ e in
-    absurd cc
-
-payoffs_begun : Begun IsPayoffInBraces
-payoffs_begun first rest others x h e =
-    let whole = ap (λ (ts : List Token). ts ++ rest) (sym h.2) ∙ e in absurd cc
+no_comma [] inner rest h = grind arith
+no_comma (x ∷ xs) inner rest h = grind arith
 
 pub payoffs_once : (xs ys : List Ratio) (inner inner' rest rest' : List Token)
     → Each IsPayoffInBraces inner xs → Each IsPayoffInBraces inner' ys
     → inner ++ Closing ∷ rest ≡ inner' ++ Closing ∷ rest' → (xs ≡ ys) × (rest ≡ rest')
-payoffs_once [] [] inner inner' rest rest' h k e =
-    (refl, ap (drop 1) (in_front inner inner' (Closing ∷ rest) (Closing ∷ rest') [] [] h k e))
-payoffs_once [] (y ∷ ys) inner inner' rest rest' h k e =
-    absurd (payoffs_begun k.0 (k.1 ++ Closing ∷ rest') rest y k.3
-    (sym (regroup inner' k.0 k.1 (Closing ∷ rest') k.2) ∙ sym e
-    ∙ ap (λ (ts : List Token). ts ++ Closing ∷ rest) h))
-payoffs_once (x ∷ xs) [] inner inner' rest rest' h k e =
-    absurd (payoffs_begun h.0 (h.1 ++ Closing ∷ rest) rest' x h.3
-    (sym (regroup inner h.0 h.1 (Closing ∷ rest) h.2) ∙ e
-    ∙ ap (λ (ts : List Token). ts ++ Closing ∷ rest') k))
+payoffs_once [] [] inner inner' rest rest' h k e = grind arith
+payoffs_once [] (y ∷ ys) inner inner' rest rest' h k e = grind arith
+payoffs_once (x ∷ xs) [] inner inner' rest rest' h k e = grind arith
 payoffs_once (x ∷ xs) (y ∷ ys) inner inner' rest rest' h k e =
     let p = h.3 in
     let q = k.3 in
     let more = h.1 ++ Closing ∷ rest in
     let more' = k.1 ++ Closing ∷ rest' in
-    let whole : Bare p.0 ∷ (p.1 ++ more) ≡ Bare q.0 ∷ (q.1 ++ more') =
-    in_front h.0 k.0 more more' (Bare p.0 ∷ p.1) (Bare q.0 ∷ q.1) p.2 q.2
-    (sym (regroup inner h.0 h.1 (Closing ∷ rest) h.2) ∙ e
-    ∙ regroup inner' k.0 k.1 (Closing ∷ rest') k.2) in
+    let whole : Bare p.0 ∷ (p.1 ++ more) ≡ Bare q.0 ∷ (q.1 ++ more') = grind arith in
     let bytes : p.0 ≡ q.0 = cc in
     let first = numbers_once p.0 q.0 x y bytes p.3 q.3 in
     let on = comma_gone p.1 q.1 more more' p.4 q.4 (no_comma xs h.1 rest h.4)

@@ -1,32 +1,24 @@
 -- The machine of the reader refuses for the reason at the place.
-use Rattle.std.proofs.Common.{◌≡◌, ℕ, zero, suc, List, [], ◌∷◌, ◌++◌, length, Err, sym, ap, subst}
-use Rattle.std.proofs.Common.{◌∙◌, arith, inl, inr, refl, append-nil}
-use Rattle.std.specs.Prelude.{pos, ◌⊎◌, ◌≤ℤ◌}
-use Rattle.std.proofs.lemmas.Int.{ints}
-use Rattle.gf_token.specs.Token.{Token, Lexeme}
-use Rattle.gf_token.specs.Token.Token.{Closing, Text, Bare, Broken}
-use Rattle.gf_token.specs.TokenSpelling.{Spells}
+use Rattle.gf_tree.proofs.Common.{◌≡◌, ℕ, zero, suc, List, [], ◌∷◌, ◌++◌, length, Err, sym, ap}
+use Rattle.gf_tree.proofs.Common.{subst, ◌∙◌, arith, inl, inr, refl, append-nil, pos, ◌⊎◌, ◌≤ℤ◌}
+use Rattle.gf_tree.proofs.Common.{ints, Token, Lexeme, Closing, Text, Bare, Broken, Spells}
+use Rattle.gf_tree.proofs.Common.{tokens_of, Begins, Fault, Why, Expected, UnknownPlayer, Mismatch}
+use Rattle.gf_tree.proofs.Common.{NegativeProbability, IsRefusal, or_name, this_number, Row}
+use Rattle.gf_tree.proofs.Common.{IsNoNumber, a_first_name, a_node, an_end, an_outcome, or_comma}
+use Rattle.gf_tree.proofs.Common.{run_tokens, then_run, FileFront, State, nothing, run, Format}
+use Rattle.gf_tree.proofs.Common.{Ratio, whole, IsNumber, NumberFault, number_again, Action}
+use Rattle.gf_tree.proofs.Common.{InformationSet, SetKey, set_of, set_with, InActions}
+use Rattle.gf_tree.proofs.Common.{IsExtensiveFile, KnowsSet, EndsInNode}
 use Rattle.gf_token.specs.Code.{code_of}
-use Rattle.gf_token.specs.Place.{tokens_of, Begins}
-use Rattle.gf_token.specs.declared.fault.Fault.{Fault}
-use Rattle.gf_token.specs.declared.fault.Why.{Why}
 use Rattle.gf_token.specs.NumberWhy.{why_of}
-use Rattle.gf_token.specs.declared.fault.Why.TheVariants.{Unterminated, Expected, NotANumber}
-use Rattle.gf_token.specs.declared.fault.Why.TheVariants.{ZeroDenominator, NumberTooLarge, BadIndex}
-use Rattle.gf_token.specs.declared.fault.Why.TheVariants.{UnknownPlayer, NotDescribed, Mismatch}
-use Rattle.gf_token.specs.declared.fault.Why.TheVariants.{NegativeProbability, SumAboveOne}
-use Rattle.gf_token.specs.declared.fault.Why.TheVariants.{SumBelowOne, SumOverflow, NoEntry}
-use Rattle.gf_tree.specs.Judgement.{IsRefusal}
-use Rattle.gf_tree.specs.Rows.{or_name, this_label, this_number, a_new_action, a_new_branch, Obeys}
-use Rattle.gf_tree.specs.Rows.{Row, IsNoNumber, Refuses, a_first_name, a_node, an_end, an_outcome}
-use Rattle.gf_tree.specs.Rows.{no_label, or_comma}
-use Rattle.gf_tree.specs.inner.ReadGame.{run_tokens, then_run}
-use Rattle.gf_tree.specs.RowPlaces.{FileFront}
+use Rattle.gf_token.specs.declared.fault.Why.TheVariants.{Unterminated, NotANumber, ZeroDenominator}
+use Rattle.gf_token.specs.declared.fault.Why.TheVariants.{NumberTooLarge, BadIndex, NotDescribed}
+use Rattle.gf_token.specs.declared.fault.Why.TheVariants.{SumAboveOne, SumBelowOne, SumOverflow}
+use Rattle.gf_token.specs.declared.fault.Why.TheVariants.{NoEntry}
+use Rattle.gf_tree.specs.Rows.{this_label, a_new_action, a_new_branch, Obeys, Refuses, no_label}
 use Rattle.gf_tree.specs.Reason.{StaysBelowOne, Holds, IsReason, DiffersFromOutcome, DiffersFromSet}
 use Rattle.gf_tree.specs.Reason.{IsBadIndex, EndsInFirstUse, IsMismatch, IsNoText, IsWrongBehind}
 use Rattle.gf_tree.specs.Reason.{IsWrongProbability, ListsActions, IsFaultyNumber, IsUnknownPlayer}
-use Rattle.gf_tree.specs.inner.Machine.{State, nothing, run}
-use Rattle.gf_tree.specs.inner.Machine.Position.{Format}
 use Rattle.gf_tree.proofs.lemmas.due.Rows.{Stands, accepted, answers_at, leads, refused_by}
 use Rattle.gf_tree.proofs.lemmas.fronts.Codes.{IsUpTo, no_player, known_left}
 use Rattle.gf_tree.proofs.lemmas.reasons.Nodes.{reasoned}
@@ -37,14 +29,10 @@ use Rattle.gf_tree.proofs.lemmas.due.ByShapes.{front_of, asks_number, asks_outco
 use Rattle.gf_tree.proofs.lemmas.due.ByShapes.{asks_set}
 use Rattle.gf_tree.proofs.lemmas.runs.Places.{Leads, begins, walk_run}
 use Rattle.gf_tree.proofs.lemmas.runs.Stops.{StopsAt, not_accepted, stopped}
-use Rattle.gf_fraction.specs.Ratio.{Ratio, whole}
 use Rattle.gf_fraction.specs.Computed.{number_of}
 use Rattle.gf_fraction.specs.Fits.{SumFits}
-use Rattle.gf_fraction.specs.NumberSpelling.{HasNumberFault, IsNumber}
-use Rattle.gf_fraction.specs.declared.fraction.NumberFault.{NumberFault}
-use Rattle.gf_fraction.proofs.ComputedAnswers.{answer_is, number_again}
-use Rattle.gf_tree.specs.Description.{Action, InformationSet, SetKey, set_of, set_with}
-use Rattle.gf_tree.specs.Front.{InActions, IsExtensiveFile, KnowsSet, EndsInNode}
+use Rattle.gf_fraction.specs.NumberSpelling.{HasNumberFault}
+use Rattle.gf_fraction.proofs.ComputedAnswers.{answer_is}
 use Rattle.gf_tree.proofs.lemmas.due.Actions.{a_share, known_action, known_share, new_action}
 use Rattle.gf_tree.proofs.lemmas.due.Actions.{new_branch, new_share, no_action_left}
 use Rattle.gf_tree.proofs.lemmas.due.Nodes.{known_set, new_set, reads_on}
@@ -257,9 +245,7 @@ module _ (before : List Token) (s : State) (why : Why) (l : Leads before s) wher
 
   lower_at : (after : List Token) (t : Token) → StopsAt s (t ∷ after) why
       → Lower before (t ∷ after) why
-  lower_at after Broken h Unterminated k =
-      let r = reasoned before file in
-      up_to Unterminated 2 (told (Broken ∷ after) h r.row r.stands) (omega arith)
+  lower_at after Broken h Unterminated k = grind arith
   lower_at after (Bare b) h NotANumber k =
       up_to NotANumber 4 (no_number after b h number.NotANumber k) (omega arith)
   lower_at after (Bare b) h ZeroDenominator k =

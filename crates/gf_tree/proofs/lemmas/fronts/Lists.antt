@@ -1,25 +1,17 @@
 -- What the machine of the reader answers after the front of a node, from a probability up to the
 -- number of the outcome: the shape of the front determines this too.
-use Rattle.std.proofs.Common.{◌≡◌, ℕ, zero, suc, Bool, List, [], ◌∷◌, ◌++◌, length, Option, Some}
-use Rattle.std.proofs.Common.{None, MatchOption, Ok, Err, cond, refl, sym, ap, subst, ◌∙◌}
-use Rattle.std.proofs.Common.{append_assoc, inl, inr, nat_eq, arith}
-use Rattle.std.specs.Prelude.{pos, ◌⊎◌}
-use Rattle.std.specs.List.{AllByRecursion}
-use Rattle.gf_fraction.specs.Ratio.{Ratio, IsFraction, whole}
-use Rattle.gf_token.specs.Token.{Token}
-use Rattle.gf_token.specs.declared.fault.Why.TheVariants.{SumBelowOne}
-use Rattle.gf_token.specs.Token.Token.{Opening, Closing, Text, Bare}
-use Rattle.gf_tree.specs.Description.{Action, InformationSet, SetKey, same_set, set_of, IsSet}
-use Rattle.gf_tree.specs.FiniteMap.{description_at}
-use Rattle.gf_tree.specs.FileTree.{Use}
-use Rattle.gf_tree.specs.inner.Probability.{is_one}
-use Rattle.gf_tree.specs.Front.{BehindOutcomeNumber, InActions, ToOutcomeNumber, ToProbability}
-use Rattle.gf_tree.specs.inner.Machine.{Begun, Content, at, begun, behind_label, behind_outcome}
-use Rattle.gf_tree.specs.inner.Machine.{set_known, behind_set, new_set_ends, set_ends, with_set}
-use Rattle.gf_tree.specs.inner.Machine.Position.{NodeDue, NewAction, NewProbability, KnownAction}
-use Rattle.gf_tree.specs.inner.Machine.Position.{KnownProbability, OutcomeNumber}
-use Rattle.gf_tree.specs.inner.ReadGame.{run_tokens, then_run}
-use Rattle.gf_tree.specs.Sentence.{IsDescription, IsInformationSet, IsMover, IsPositive}
+use Rattle.gf_tree.proofs.Common.{◌≡◌, ℕ, List, [], ◌∷◌, ◌++◌, length, Option, Some, None}
+use Rattle.gf_tree.proofs.Common.{MatchOption, Ok, refl, sym, ap, subst, ◌∙◌, inl, inr, nat_eq}
+use Rattle.gf_tree.proofs.Common.{arith, pos, ◌⊎◌, AllByRecursion, Ratio, IsFraction, whole, Token}
+use Rattle.gf_tree.proofs.Common.{Opening, Closing, Text, Bare, Action, InformationSet, SetKey}
+use Rattle.gf_tree.proofs.Common.{same_set, set_of, IsSet, description_at, Use, BehindOutcomeNumber}
+use Rattle.gf_tree.proofs.Common.{InActions, ToOutcomeNumber, Begun, Content, at, begun}
+use Rattle.gf_tree.proofs.Common.{behind_label, behind_outcome, behind_set, new_set_ends, NodeDue}
+use Rattle.gf_tree.proofs.Common.{NewAction, NewProbability, KnownAction, KnownProbability}
+use Rattle.gf_tree.proofs.Common.{OutcomeNumber, run_tokens, then_run, IsDescription}
+use Rattle.gf_tree.proofs.Common.{IsInformationSet, IsMover, IsPositive}
+use Rattle.gf_tree.specs.Front.{ToProbability}
+use Rattle.gf_tree.specs.inner.Machine.{with_set}
 use Rattle.gf_tree.proofs.lemmas.fronts.Runs.{GoesOn, HaveSumFrom, behind_number, due_is}
 use Rattle.gf_tree.proofs.lemmas.fronts.Runs.{goes_before, in_actions}
 use Rattle.gf_tree.proofs.lemmas.fronts.Groups.{regroup}
@@ -27,7 +19,7 @@ use Rattle.gf_tree.proofs.lemmas.runs.KnownActions.{HasProbability, label_again,
 use Rattle.gf_tree.proofs.lemmas.runs.Learned.{found_has}
 use Rattle.gf_tree.proofs.lemmas.runs.Nodes.{terminal_again}
 use Rattle.gf_tree.proofs.lemmas.runs.Results.{number_again as outcome_again}
-use Rattle.gf_tree.proofs.lemmas.runs.Tokens.{Reads, guard_ok, run_on, text_found}
+use Rattle.gf_tree.proofs.lemmas.runs.Tokens.{Reads, run_on, text_found}
 use Rattle.gf_tree.proofs.lemmas.games.TreesOnce.{same_set_equality}
 
 -- ---- a probability
@@ -93,8 +85,7 @@ to_probability front number set c h g =
         sum = n.sum;
         fraction = n.fraction;
         have_sum = n.have_sum;
-        answers = λ us.
-            ap (run_tokens NodeDue c) (first us) ∙ n.answers (Text h.1 ∷ us);
+        answers = λ us. cc (first us, n.answers (Text h.1 ∷ us));
       })
       | inr k ↦
           let is = found_has same_set same_set_equality (IsSet (length c.players)) c.sets
@@ -139,25 +130,13 @@ pub record AtOutcome (c : Content) (front : List Token) : Type 0 where
   pub answers : (t : List ℕ) (us : List Token) → run_tokens NodeDue c (front ++ Bare t ∷ us)
       ≡ run_tokens (OutcomeNumber b) content (Bare t ∷ us)
 
-ended_by : (player : ℕ) (name : List ℕ) (n : ℕ) (set : InformationSet) (sum : Ratio) (c r : Content)
-    (more : List Token) → then_run (set_ends c name player n set sum) (run_on more) ≡ Ok r
-    → ((us : List Token) → then_run (set_ends c name player n set sum) (run_on us)
-    ≡ run_tokens (OutcomeNumber (begun name (set_of player n) set))
-    (with_set c (set_of player n) set) us)
-ended_by zero name n set sum c r more e =
-    let h = guard_ok (is_one sum) (set_known c name (set_of 0 n) set) SumBelowOne more r e in
-    λ us. ap (λ (t : Bool). then_run (cond t (Ok (set_known c name (set_of 0 n) set))
-    (Err SumBelowOne)) (run_on us)) h.0
-ended_by (suc player) name n set sum c r more e = λ us. refl
-
 ended : (actions : List Action) (name : List ℕ) (key : SetKey) (set : InformationSet) (sum : Ratio)
     (c r : Content) (more : List Token) → set.actions ≡ actions
     → then_run (new_set_ends c name key set actions sum) (run_on more) ≡ Ok r
     → (us : List Token) → run_tokens (NewAction name key set sum) c (Closing ∷ us)
     ≡ run_tokens (OutcomeNumber (begun name key set)) (with_set c key set) us
 ended [] name key set sum c r more is e us = absurd cc
-ended (a ∷ actions) name key set sum c r more is e us =
-    cc (is, ended_by key.player name key.number set sum c r more e us)
+ended (a ∷ actions) name key set sum c r more is e us = grind arith
 
 known_ended : (others : List Action) (b : Begun) (c r : Content) (more : List Token)
     → Reads (KnownAction b others) c (Closing ∷ more) r
@@ -182,8 +161,7 @@ described_step front u d c behind inner e h g =
             content = with_set c u.key d;
             players = refl;
             outcomes = refl;
-            answers = λ us.
-                ap (run_tokens NodeDue c) (first us) ∙ n.answers (Closing ∷ us) ∙ f us;
+            answers = λ us. cc (first us, n.answers (Closing ∷ us), f us);
           }
       | inr k ↦
           let b = begun k.name u.key k.known in
@@ -194,8 +172,7 @@ described_step front u d c behind inner e h g =
             content = c;
             players = refl;
             outcomes = refl;
-            answers = λ us.
-                ap (run_tokens NodeDue c) (first us) ∙ k.answers (Closing ∷ us) ∙ f us;
+            answers = λ us. cc (first us, k.answers (Closing ∷ us), f us);
           }
     ]
 
@@ -208,10 +185,7 @@ described_by front u d c letter name mover description number e moves positive h
     let to_set = Bare letter ∷ Text name ∷ mover in
     let behind = to_set ++ Bare number ∷ [] in
     let listed = behind ++ Text d.name ∷ Opening ∷ h.0 in
-    let whole : front ≡ listed ++ Closing ∷ [] = e
-    ∙ ap (λ (ts : List Token). to_set ++ Bare number ∷ ts) h.1
-    ∙ sym (append_assoc to_set (Bare number ∷ []) (Text d.name ∷ Opening ∷ (h.0 ++ Closing ∷ [])))
-    ∙ sym (append_assoc behind (Text d.name ∷ Opening ∷ h.0) (Closing ∷ [])) in
+    let whole : front ≡ listed ++ Closing ∷ [] = grind arith in
     described_step front u d c behind h.0 whole (
       behind,
       h.0,
@@ -244,13 +218,7 @@ to_told front (Some u) c h told g =
     (subst (IsDescription (IsInformationSet u.key.player) h.4.2) told.1 h.4.6) g
 
 told_outcome : (c : Content) (front : List Token) → AtTold c front → AtOutcome c front
-told_outcome c front h = record {
-  b = h.b;
-  content = h.content;
-  players = h.players;
-  outcomes = h.outcomes;
-  answers = λ t us. h.answers (Bare t ∷ us);
-}
+told_outcome c front h = grind arith
 
 -- after a set without a description, a bare token comes only if the set is known
 known_by : (name : List ℕ) (key : SetKey) (o : Option InformationSet) (c r : Content) (t : List ℕ)
@@ -279,8 +247,7 @@ module _ (front whole : List Token) (t : List ℕ) (f : whole ≡ front ++ Bare 
       ) (goes_before c whole front (Bare t ∷ []) g f) in
       let known = known_by k.name u.key (description_at same_set c.sets u.key) c g.read t g.more
       refl
-      (sym (ap (run_tokens NodeDue c) (regroup whole front (Bare t ∷ []) g.more f)
-      ∙ k.answers (Bare t ∷ g.more)) ∙ g.reads) in
+      (cc (regroup whole front (Bare t ∷ []) g.more f, k.answers (Bare t ∷ g.more))) in
       record {
         b = begun k.name u.key known.0;
         content = c;

@@ -1,21 +1,9 @@
 -- What the machine of the reader answers after whole nodes: what they say determines this.
-use Rattle.std.proofs.Common.{◌≡◌, ℕ, suc, Bool, List, [], ◌∷◌, ◌++◌, length, map, Some, refl, sym}
-use Rattle.std.proofs.Common.{ap, subst, ◌∙◌, append_assoc, nat_eq}
-use Rattle.std.specs.Prelude.{codes}
-use Rattle.std.specs.List.{filter_map}
-use Rattle.gf_token.specs.Token.{Token}
-use Rattle.gf_token.specs.Token.Token.{Text, Bare}
-use Rattle.gf_token.specs.Grammar.{Each, braced}
-use Rattle.gf_tree.specs.Consistent.{Describes}
-use Rattle.gf_tree.specs.Description.{same_set}
-use Rattle.gf_tree.specs.FileTree.{Use, FileNode}
-use Rattle.gf_tree.specs.Front.{EndsInNode}
-use Rattle.gf_tree.specs.Learned.{Learns}
-use Rattle.gf_tree.specs.Sentence.{IsNode}
-use Rattle.gf_tree.specs.FiniteMap.{Described, description_at}
-use Rattle.gf_tree.specs.inner.Machine.{Content, nothing}
-use Rattle.gf_tree.specs.inner.ReadGame.{run_tokens}
-use Rattle.gf_tree.specs.inner.Machine.Position.{Format, AfterPlayers, NodeDue}
+use Rattle.gf_tree.proofs.Common.{◌≡◌, ℕ, suc, Bool, List, [], ◌∷◌, ◌++◌, length, map, Some, refl}
+use Rattle.gf_tree.proofs.Common.{sym, ap, subst, ◌∙◌, append_assoc, nat_eq, filter_map, Token}
+use Rattle.gf_tree.proofs.Common.{Text, Bare, Each, braced, Describes, same_set, Use, FileNode}
+use Rattle.gf_tree.proofs.Common.{EndsInNode, Learns, IsNode, Described, description_at, Content}
+use Rattle.gf_tree.proofs.Common.{nothing, run_tokens, Format, NodeDue}
 use Rattle.gf_tree.proofs.lemmas.fronts.Groups.{NoText}
 use Rattle.gf_tree.proofs.lemmas.games.SentencesOnce.{node_once}
 use Rattle.gf_tree.proofs.lemmas.games.Learned.{told_found}
@@ -23,7 +11,7 @@ use Rattle.gf_tree.proofs.lemmas.games.Learning.{learned_once}
 use Rattle.gf_tree.proofs.lemmas.games.Uses.{IsEquality}
 use Rattle.gf_tree.proofs.lemmas.runs.Files.{due_by, more_uses}
 use Rattle.gf_tree.proofs.lemmas.runs.Games.{comment_again, headed}
-use Rattle.gf_tree.proofs.lemmas.runs.Heading.{heading, heading_again}
+use Rattle.gf_tree.proofs.lemmas.runs.Heading.{heading_again}
 use Rattle.gf_tree.proofs.lemmas.runs.Results.{AreOutcomes}
 use Rattle.gf_tree.proofs.lemmas.runs.Sets.{AreSets}
 use Rattle.gf_tree.proofs.lemmas.runs.Tokens.{Reads}
@@ -79,8 +67,7 @@ nodes_plain players [] tokens us h plain l others e =
     plain l others (ap (λ (ts : List Token). ts ++ us) (sym h) ∙ e)
 nodes_plain players (n ∷ nodes) tokens us h plain l others e =
     let whole : tokens ++ us
-    ≡ Bare h.3.letter ∷ (Text n.name ∷ ((h.3.step ++ h.3.result) ++ h.1)) ++ us =
-    ap (λ (ts : List Token). ts ++ us) (h.2 ∙ ap (λ (ts : List Token). ts ++ h.1) h.3.parts) in
+    ≡ Bare h.3.letter ∷ (Text n.name ∷ ((h.3.step ++ h.3.result) ++ h.1)) ++ us = cc in
     absurd cc
 
 module _ (n : FileNode) (nodes : List FileNode) (tokens first others rest : List Token)
@@ -153,8 +140,7 @@ walked_nodes (n ∷ nodes) tokens rest c r each plain sets outcomes reads =
     let first = each.0 in
     let others = each.1 in
     let behind = Text n.name ∷ ((each.3.step ++ each.3.result) ++ (others ++ rest)) in
-    let whole : tokens ++ rest ≡ first ++ (others ++ rest) =
-    ap (λ (ts : List Token). ts ++ rest) each.2 ∙ append_assoc first others rest in
+    let whole : tokens ++ rest ≡ first ++ (others ++ rest) = cc (append_assoc first others rest) in
     begun_walked n nodes tokens first others rest each.3.letter behind c r
     (ap (λ (ts : List Token). ts ++ (others ++ rest)) each.3.parts) each.3 each.2 each.4 plain sets
     outcomes (subst (λ (ts : List Token). Reads NodeDue c ts r) whole reads)
@@ -183,14 +169,13 @@ heading_answers : (before us : List Token) (e : EndsInNode before) → NoText us
     ≡ run_tokens NodeDue (headed e.title e.note e.players) (e.says.nodes ++ us)
 heading_answers before us e plain =
     let h = e.says in
-    ap (λ (ts : List Token). run_tokens Format nothing (ts ++ us)) h.parts
-    ∙ ap (λ (ts : List Token). run_tokens Format nothing
-    (Bare (codes "EFG") ∷ Bare (codes "2") ∷ Bare h.letter ∷ Text e.title ∷ ts))
-    (append_assoc (braced (map Text e.players)) (h.comment ++ h.nodes) us)
-    ∙ heading_again h.letter e.title e.players ((h.comment ++ h.nodes) ++ us) h.is_letter
-    ∙ ap (run_tokens AfterPlayers (heading e.title e.players)) (append_assoc h.comment h.nodes us)
-    ∙ comment_again h.comment (h.nodes ++ us) e.note e.title e.players h.is_comment
-    (nodes_plain (length e.players) e.nodes h.nodes us h.are_nodes plain)
+    let none = nodes_plain (length e.players) e.nodes h.nodes us h.are_nodes plain in
+    cc (
+      append_assoc (braced (map Text e.players)) (h.comment ++ h.nodes) us,
+      heading_again h.letter e.title e.players ((h.comment ++ h.nodes) ++ us) h.is_letter,
+      append_assoc h.comment h.nodes us,
+      comment_again h.comment (h.nodes ++ us) e.note e.title e.players h.is_comment none,
+    )
 
 pub parted : (before more : List Token) (e : EndsInNode before) (r : Content)
     → NoText (e.front ++ more) → Reads Format nothing (before ++ more) r → Parted before e

@@ -1,28 +1,20 @@
 -- What the machine of the reader answers after the front of a node, among the payoffs of its
 -- outcome: the shape of the front determines this too.
-use Rattle.std.proofs.Common.{◌≡◌, ℕ, zero, suc, ◌+◌, Bool, true, false, List, [], ◌∷◌, ◌++◌}
-use Rattle.std.proofs.Common.{length, Option, Some, None, refl, sym, ap, subst, ◌∙◌, arith, inl}
-use Rattle.std.proofs.Common.{inr, nat_eq}
-use Rattle.std.specs.Prelude.{not, ◌⊎◌}
-use Rattle.gf_fraction.specs.Ratio.{Ratio}
-use Rattle.gf_fraction.specs.NumberSpelling.{IsNumber}
-use Rattle.gf_fraction.proofs.ComputedAnswers.{number_again}
-use Rattle.gf_token.specs.Token.{Token}
+use Rattle.gf_tree.proofs.Common.{◌≡◌, ℕ, zero, suc, ◌+◌, Bool, true, false, List, [], ◌∷◌, ◌++◌}
+use Rattle.gf_tree.proofs.Common.{length, Option, Some, None, refl, sym, ap, subst, ◌∙◌, arith, inl}
+use Rattle.gf_tree.proofs.Common.{inr, nat_eq, ◌⊎◌, Ratio, IsNumber, number_again, Token, Each}
+use Rattle.gf_tree.proofs.Common.{IsPayoffInBraces, Opening, Comma, Text, Bare, Outcome}
+use Rattle.gf_tree.proofs.Common.{description_at, InPayoffs, Begun, Content, at, behind_outcome}
+use Rattle.gf_tree.proofs.Common.{with_node, NodeDue, AfterKnownPayoff, KnownOutcomeName}
+use Rattle.gf_tree.proofs.Common.{KnownOutcomeOpening, run_tokens, then_run}
+use Rattle.std.specs.Prelude.{not}
 use Rattle.gf_token.specs.Next.{is_comma}
-use Rattle.gf_token.specs.Grammar.{Each, IsPayoffInBraces}
-use Rattle.gf_token.specs.Token.Token.{Opening, Comma, Text, Bare}
-use Rattle.gf_tree.specs.Description.{Outcome}
-use Rattle.gf_tree.specs.FiniteMap.{description_at}
-use Rattle.gf_tree.specs.Front.{InPayoffs}
-use Rattle.gf_tree.specs.inner.Machine.{Begun, Content, at, behind_outcome, with_node, with_payoff}
-use Rattle.gf_tree.specs.inner.Machine.Position.{NodeDue, AfterKnownPayoff, KnownOutcomeName}
-use Rattle.gf_tree.specs.inner.Machine.Position.{KnownOutcomeOpening}
-use Rattle.gf_tree.specs.inner.ReadGame.{run_tokens, then_run}
+use Rattle.gf_tree.specs.inner.Machine.{with_payoff}
 use Rattle.gf_tree.proofs.lemmas.fronts.Runs.{GoesOn, goes_before}
 use Rattle.gf_tree.proofs.lemmas.fronts.Groups.{numbers_once, regroup}
-use Rattle.gf_tree.proofs.lemmas.runs.Payoffs.{known_at, known_comma, known_step, more_payoffs}
-use Rattle.gf_tree.proofs.lemmas.runs.Payoffs.{new_at, new_comma, new_step, no_payoffs}
-use Rattle.gf_tree.proofs.lemmas.runs.Payoffs.{number_found, with_payoffs}
+use Rattle.gf_tree.proofs.lemmas.runs.Payoffs.{known_at, known_comma, more_payoffs, new_at}
+use Rattle.gf_tree.proofs.lemmas.runs.Payoffs.{new_comma, new_step, no_payoffs, number_found}
+use Rattle.gf_tree.proofs.lemmas.runs.Payoffs.{with_payoffs}
 use Rattle.gf_tree.proofs.lemmas.runs.Tokens.{Reads, run_on, text_again, text_found}
 use Rattle.gf_tree.proofs.lemmas.fronts.Lists.{BehindOutcome, behind_outcome_number}
 
@@ -56,16 +48,8 @@ behind_comma : {A : Type 0} (answers : Bool → List Token → A) (comma : List 
     → ((comma ≡ []) ⊎ (comma ≡ Comma ∷ []))
     → (may : Bool) × ((us : List Token) → answers true (comma ++ us) ≡ answers may us)
     × ((ts : List Token) → ends_number true (comma ++ ts) ≡ ends_number may ts)
-behind_comma answers comma h (inl e) = (
-  true,
-  λ us. ap (λ (ts : List Token). answers true (ts ++ us)) e,
-  λ ts. ap (λ (us : List Token). ends_number true (us ++ ts)) e,
-)
-behind_comma answers comma h (inr e) = (
-  false,
-  λ us. ap (λ (ts : List Token). answers true (ts ++ us)) e ∙ h us,
-  λ ts. ap (λ (us : List Token). ends_number true (us ++ ts)) e,
-)
+behind_comma answers comma h (inl e) = grind arith
+behind_comma answers comma h (inr e) = grind arith
 
 new_paid : (payoffs : List Ratio) (may : Bool) (b : Begun) (n : ℕ) (outcome : Outcome) (left : ℕ)
     (inner more : List Token) (c r : Content) → Each IsPayoffInBraces inner payoffs
@@ -137,42 +121,20 @@ known_next false (q ∷ rest) t p us c r is e =
 known_paid : (payoffs known : List Ratio) (may : Bool) (inner more : List Token) (c r : Content)
     → Each IsPayoffInBraces inner payoffs → Reads (known_at may known) c (inner ++ more) r
     → KnownPaid may known payoffs inner c
-known_paid [] known may inner more c r each e = record {
-  behind = may;
-  behind_is = ap (ends_number may) (sym each);
-  others = known;
-  parts = refl;
-  answers = λ us.
-      ap (λ (ts : List Token). run_tokens (known_at may known) c (ts ++ us)) each;
-}
+known_paid [] known may inner more c r each e = grind arith
 known_paid (p ∷ payoffs) known may inner more c r each e =
     let t = each.3.0 in
     let comma = each.3.1 in
     let first : (us : List Token) → inner ++ us ≡ Bare t ∷ (comma ++ (each.1 ++ us)) =
-    λ us. regroup inner each.0 each.1 us each.2
-    ∙ ap (λ (ts : List Token). ts ++ (each.1 ++ us)) each.3.2 in
+    grind arith in
     let s = known_next may known t p (comma ++ (each.1 ++ more)) c r each.3.3
     (subst (λ (ts : List Token). Reads (known_at may known) c ts r) (first more) e) in
     let k = behind_comma (λ (behind : Bool). run_tokens (known_at behind s.0) c) comma
     (known_comma s.0 c) each.3.4 in
     let one : (us : List Token) → run_tokens (known_at may known) c (inner ++ us)
-    ≡ run_tokens (known_at k.0 s.0) c (each.1 ++ us) =
-    λ us. cc (
-      first us,
-      s.1,
-      known_step may t p s.0 c (comma ++ (each.1 ++ us)) each.3.3,
-      k.1
-          (each.1 ++ us),
-    ) in
+    ≡ run_tokens (known_at k.0 s.0) c (each.1 ++ us) = grind arith in
     let f = known_paid payoffs s.0 k.0 each.1 more c r each.4 (sym (one more) ∙ e) in
-    record {
-      behind = f.behind;
-      behind_is = f.behind_is ∙ sym (k.2 each.1)
-          ∙ ap (ends_number may) (sym (each.2 ∙ ap (λ (ts : List Token). ts ++ each.1) each.3.2));
-      others = f.others;
-      parts = s.1 ∙ ap (λ (ps : List Ratio). p ∷ ps) f.parts;
-      answers = λ us. one us ∙ f.answers us;
-    }
+    grind arith
 
 pub record AtNewPayoff (c : Content) (front inner : List Token) (n : ℕ) (outcome : Outcome)
     : Type 0 where
@@ -212,17 +174,7 @@ paid_by front n outcome c h None unknown k g =
     let f = new_paid outcome.payoffs false k.b n (record { name = outcome.name; payoffs = [] })
     (length k.content.players) h.1 g.more k.content g.read h.4
     (sym (behind g.more) ∙ g.reads) in
-    inl (record {
-      b = k.b;
-      content = k.content;
-      players = k.players;
-      may = f.behind;
-      may_is = f.behind_is;
-      left = f.rest;
-      unknown = unknown;
-      count = f.count ∙ ap length k.players;
-      answers = λ us. behind us ∙ f.answers us;
-    })
+    grind arith
 paid_by front n outcome c h (Some known) is_known k g =
     let content = with_node k.content k.b (Some n) in
     let us_of = λ (us : List Token). Text outcome.name ∷ Opening ∷ (h.1 ++ us) in
@@ -250,7 +202,4 @@ paid_by front n outcome c h (Some known) is_known k g =
 pub in_payoffs : (front : List Token) (n : ℕ) (outcome : Outcome) (c : Content)
     → (h : InPayoffs front n outcome) → GoesOn c front
     → AtNewPayoff c front h.1 n outcome ⊎ AtKnownPayoff c front h.1 n outcome
-in_payoffs front n outcome c h g =
-    paid_by front n outcome c h (description_at nat_eq c.outcomes n) refl
-    (behind_outcome_number h.0 n c h.3
-    (goes_before c front h.0 (Text outcome.name ∷ Opening ∷ h.1) g h.2)) g
+in_payoffs front n outcome c h g = grind (arith, paid_by, behind_outcome_number, goes_before)

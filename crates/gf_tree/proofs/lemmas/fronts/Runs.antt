@@ -1,43 +1,28 @@
 -- What the machine of the reader answers after the front of a node: the shape of the front
 -- determines this.
-use Rattle.std.proofs.Common.{◌≡◌, ℕ, zero, suc, ◌<◌, ◌≤◌, List, [], ◌∷◌, ◌++◌, length, Option}
-use Rattle.std.proofs.Common.{Some, None, Ok, refl, sym, ap, subst, ◌∙◌, arith, inl, inr}
-use Rattle.std.specs.Prelude.{codes, pos, ◌⊎◌, ◌≤ℤ◌}
-use Rattle.std.specs.List.{AllByRecursion}
-use Rattle.std.proofs.lemmas.Int.{ints}
-use Rattle.gf_fraction.specs.Ratio.{Ratio, IsFraction, whole}
-use Rattle.gf_fraction.specs.Fits.{AddsTo}
-use Rattle.gf_fraction.specs.NumberSpelling.{IsNumber}
-use Rattle.gf_fraction.proofs.WholeNumbers.{whole_fraction}
-use Rattle.gf_token.specs.Token.{Token}
-use Rattle.gf_token.specs.Indices.{count_of}
-use Rattle.gf_token.specs.Grammar.{Each}
-use Rattle.gf_token.specs.Token.Token.{Opening, Text, Bare}
-use Rattle.gf_token.proofs.ReadingIndices.{count_again}
-use Rattle.gf_tree.specs.Description.{Action, InformationSet, SetKey, same_set, set_of, IsSet}
-use Rattle.gf_tree.specs.FiniteMap.{description_at}
-use Rattle.gf_tree.specs.Sentence.{IsAction, IsMover}
-use Rattle.gf_tree.specs.Front.{BehindSetNumber, InActions, ToPlayerNumber, ToSetNumber}
-use Rattle.gf_tree.specs.inner.Machine.{Begun, Content, after_node, at, begun, behind_label}
-use Rattle.gf_tree.specs.inner.Machine.{behind_set, personal_node, set_number, shared, with_action}
-use Rattle.gf_tree.specs.inner.Machine.Position.{NodeDue, PlayerNumber, SetNumber, NewAction}
-use Rattle.gf_tree.specs.inner.Machine.Position.{KnownAction, KnownProbability, KnownSetName}
-use Rattle.gf_tree.specs.inner.Machine.Position.{KnownSetOpening}
-use Rattle.gf_tree.specs.inner.Probability.{share_of}
-use Rattle.gf_tree.specs.inner.ReadGame.{run_tokens, then_run}
+use Rattle.gf_tree.proofs.Common.{◌≡◌, ℕ, zero, suc, ◌≤◌, List, [], ◌∷◌, ◌++◌, length, Option, Some}
+use Rattle.gf_tree.proofs.Common.{None, Ok, refl, sym, ap, subst, ◌∙◌, arith, codes, pos, ◌⊎◌, ◌≤ℤ◌}
+use Rattle.gf_tree.proofs.Common.{AllByRecursion, ints, Ratio, IsFraction, whole, AddsTo, IsNumber}
+use Rattle.gf_tree.proofs.Common.{whole_fraction, Token, count_of, Each, Opening, Text, Bare}
+use Rattle.gf_tree.proofs.Common.{count_again, Action, InformationSet, SetKey, same_set, set_of}
+use Rattle.gf_tree.proofs.Common.{IsSet, description_at, IsAction, IsMover, BehindSetNumber}
+use Rattle.gf_tree.proofs.Common.{InActions, Begun, Content, at, begun, behind_label, behind_set}
+use Rattle.gf_tree.proofs.Common.{personal_node, set_number, shared, with_action, NodeDue}
+use Rattle.gf_tree.proofs.Common.{PlayerNumber, SetNumber, NewAction, KnownAction, KnownProbability}
+use Rattle.gf_tree.proofs.Common.{KnownSetOpening, share_of, run_tokens, then_run}
+use Rattle.gf_tree.specs.Front.{ToPlayerNumber, ToSetNumber}
 use Rattle.gf_tree.proofs.lemmas.fronts.Groups.{numbers_once, regroup}
 use Rattle.gf_tree.proofs.lemmas.Once.{one_some}
 use Rattle.gf_tree.proofs.lemmas.runs.Actions.{more_actions, no_actions, shared_found, with_actions}
-use Rattle.gf_tree.proofs.lemmas.runs.Files.{due_by}
 use Rattle.gf_tree.proofs.lemmas.runs.Learned.{found_has}
-use Rattle.gf_tree.proofs.lemmas.runs.Payoffs.{number_found, number_same}
+use Rattle.gf_tree.proofs.lemmas.runs.Payoffs.{number_found}
 use Rattle.gf_tree.proofs.lemmas.runs.Results.{AreOutcomes}
 use Rattle.gf_tree.proofs.lemmas.runs.Sets.{AreSets}
-use Rattle.gf_tree.proofs.lemmas.runs.KnownActions.{HasProbability, label_again, probabilities}
-use Rattle.gf_tree.proofs.lemmas.runs.Nodes.{mover_again, personal_again, player_by, some_player}
+use Rattle.gf_tree.proofs.lemmas.runs.KnownActions.{HasProbability, probabilities}
+use Rattle.gf_tree.proofs.lemmas.runs.Nodes.{mover_again, player_by, some_player}
 use Rattle.gf_tree.proofs.lemmas.runs.Shares.{share_found}
 use Rattle.gf_tree.proofs.lemmas.games.TreesOnce.{same_set_equality}
-use Rattle.gf_tree.proofs.lemmas.runs.Tokens.{Reads, run_on, text_again, text_found}
+use Rattle.gf_tree.proofs.lemmas.runs.Tokens.{Reads, run_on, text_found}
 
 -- from this content some tokens that begin with these are read
 pub record GoesOn (c : Content) (front : List Token) : Type 0 where
@@ -59,21 +44,14 @@ goes_before c front first others g e = record {
 
 pub due_is : (c : Content) (front rest : List Token) (letter : List ℕ) → GoesOn c front
     → front ≡ Bare letter ∷ rest → (left : ℕ) × (c.due ≡ suc left)
-due_is c front rest letter g e =
-    (due_by letter (rest ++ g.more) c.due c g.read refl g.are_sets g.are_outcomes
-    (subst (λ (ts : List Token). Reads NodeDue c (ts ++ g.more) g.read) e g.reads)).1
+due_is c front rest letter g e = grind arith
 
 -- ---- the number of a player
 
 personal_reads : (c r : Content) (ts : List Token) (left : ℕ) → c.due ≡ suc left
     → Reads NodeDue c (Bare (codes "p") ∷ ts) r
     → then_run (personal_node c c.players) (run_on ts) ≡ Ok r
-personal_reads c r ts left is e =
-    subst (λ (d : ℕ). then_run (after_node c d (codes "p")) (run_on ts) ≡ Ok r) is e
-
-some_players : (players : List (List ℕ)) (c r : Content) (ts : List Token)
-    → then_run (personal_node c players) (run_on ts) ≡ Ok r → 0 < length players
-some_players players c r ts h = grind arith
+personal_reads c r ts left is e = cc
 
 pub record AtPlayer (c : Content) (front : List Token) : Type 0 where
   pub name : List ℕ
@@ -82,17 +60,7 @@ pub record AtPlayer (c : Content) (front : List Token) : Type 0 where
 
 pub to_player : (front : List Token) (c : Content) → ToPlayerNumber front → GoesOn c front
     → AtPlayer c front
-to_player front c h g =
-    let due = due_is c front (Text h.0 ∷ []) (codes "p") g h.1 in
-    let reads = personal_reads c g.read (Text h.0 ∷ g.more) due.0 due.1
-    (subst (λ (ts : List Token). Reads NodeDue c (ts ++ g.more) g.read) h.1 g.reads) in
-    let some = some_players c.players c g.read (Text h.0 ∷ g.more) reads in
-    record {
-      name = h.0;
-      answers = λ us. ap (λ (ts : List Token). run_tokens NodeDue c (ts ++ us)) h.1
-          ∙ ap (λ (d : ℕ). then_run (after_node c d (codes "p")) (run_on (Text h.0 ∷ us))) due.1
-          ∙ ap (λ o. then_run o (run_on (Text h.0 ∷ us))) (personal_again c.players c some);
-    }
+to_player front c h g = grind arith
 
 -- ---- the number of a set
 
@@ -102,8 +70,7 @@ among_players : (letter mover name more : _) (player left : ℕ) (c r : Content)
 among_players letter mover name more zero left c r h is e = omega arith
 among_players letter mover name more (suc player) left c r h is e =
     let whole : Bare letter ∷ Text name ∷ (mover ++ more)
-    ≡ Bare (codes "p") ∷ Text name ∷ Bare h.0 ∷ more =
-    λ i. Bare (h.1 i) ∷ Text name ∷ (h.2 i ++ more) in
+    ≡ Bare (codes "p") ∷ Text name ∷ Bare h.0 ∷ more = cc in
     let reads = personal_reads c r (Text name ∷ Bare h.0 ∷ more) left is
     (subst (λ (ts : List Token). Reads NodeDue c ts r) whole e) in
     let k = player_by name h.0 (count_of h.0) more c r refl
@@ -197,8 +164,7 @@ new_front (a ∷ actions) zero inner more name n set sum c r fraction high each 
     let first = λ (us : List Token). regroup inner each.0 each.1 us each.2
     ∙ ap (λ (ts : List Token). ts ++ (each.1 ++ us)) each.3.2 in
     let reads : then_run (shared c name key set a.label (share_of sum b)) (run_on (each.1 ++ more))
-    ≡ Ok r =
-    subst (λ (ts : List Token). Reads (NewAction name key set sum) c ts r) (first more) e in
+    ≡ Ok r = cc (first more) in
     let k = shared_found c name key set a.label (share_of sum b) (each.1 ++ more) r reads in
     let s = k.0 in
     let found = share_found sum b s fraction k.1 in
@@ -210,13 +176,7 @@ new_front (a ∷ actions) zero inner more name n set sum c r fraction high each 
     ≡ with_actions set (a ∷ actions) =
     cc (more_actions set a.label (Some s.probability) actions, same, is) in
     let given : a.probability ≡ Some s.probability = cc (each.3.4, same) in
-    record {
-      total = f.total;
-      fraction = f.fraction;
-      high = f.high;
-      have_sum = (s.probability, s.sum, given, found.adds, found.number.fraction, f.have_sum);
-      answers = λ us. cc (first us, k.1, f.answers us, all);
-    }
+    grind arith
 new_front (a ∷ actions) (suc player) inner more name n set sum c r fraction high each e =
     let key = set_of (suc player) n in
     let is : a ≡ record { label = a.label; probability = None } =
@@ -228,13 +188,7 @@ new_front (a ∷ actions) (suc player) inner more name n set sum c r fraction hi
     let f = new_front actions (suc player) each.1 more name n (with_action set a.label None) sum c r
     fraction high each.4
     (subst (λ (ts : List Token). Reads (NewAction name key set sum) c ts r) (first more) e) in
-    record {
-      total = f.total;
-      fraction = f.fraction;
-      high = f.high;
-      have_sum = tt;
-      answers = λ us. cc (first us, f.answers us, all);
-    }
+    grind arith
 
 -- ---- the actions of a known set
 
@@ -266,19 +220,9 @@ chance_next : (a k : Action) (t : List ℕ) (p : Ratio) (known : List Action) (b
 chance_next a k t p known b c r us has is number e =
     let h = text_found k.label a.label (at (behind_label b k.probability known) c) (Bare t ∷ us) r
     e in
-    let reads : Reads (KnownProbability b has.0 known) c (Bare t ∷ us) r =
-    subst (λ o. Reads (behind_label b o known) c (Bare t ∷ us) r) has.1 h.1 in
+    let reads : Reads (KnownProbability b has.0 known) c (Bare t ∷ us) r = cc in
     let n = number_found has.0 (at (KnownAction b known) c) t us r reads in
-    let same = numbers_once t t p has.0 refl number n.0 in (
-      λ i. record {
-        label = h.0 i;
-        probability = (is ∙ ap (λ (x : Ratio). Some x) same ∙ sym has.1) i;
-      },
-      n.1,
-      λ vs. ap (λ (l : List ℕ). run_tokens (KnownAction b (k ∷ known)) c (Text l ∷ Bare t ∷ vs)) h.0
-          ∙ label_again k known (Some has.0) (Bare t ∷ vs) b c has.1
-          ∙ ap (λ o. then_run o (run_on vs)) (number_same has.0 (at (KnownAction b known) c) t n.0),
-    )
+    let same = numbers_once t t p has.0 refl number n.0 in grind arith
 
 player_next : (a k : Action) (known : List Action) (b : Begun) (c r : Content) (us : List Token)
     → k.probability ≡ None → a.probability ≡ None
@@ -287,30 +231,16 @@ player_next : (a k : Action) (known : List Action) (b : Begun) (c r : Content) (
     × ((vs : List Token) → run_tokens (KnownAction b (k ∷ known)) c (Text a.label ∷ vs)
     ≡ run_tokens (KnownAction b known) c vs)
 player_next a k known b c r us has is e =
-    let h = text_found k.label a.label (at (behind_label b k.probability known) c) us r e in (
-      λ i. record { label = h.0 i; probability = (is ∙ sym has) i },
-      subst (λ o. Reads (behind_label b o known) c us r) has h.1,
-      λ vs. cc (h.0, label_again k known None vs b c has),
-    )
+    let h = text_found k.label a.label (at (behind_label b k.probability known) c) us r e in
+    grind arith
 
 known_front : (actions known : List Action) (player : ℕ) (inner more : List Token) (b : Begun)
     (c r : Content) → AllByRecursion (HasProbability player) known
     → Each (IsAction player) inner actions → Reads (KnownAction b known) c (inner ++ more) r
     → KnownFront b known actions inner c
-known_front [] known player inner more b c r has each e = record {
-  others = known;
-  parts = refl;
-  answers = λ us.
-      ap (λ (ts : List Token). run_tokens (KnownAction b known) c (ts ++ us)) each;
-}
-known_front (a ∷ actions) [] zero inner more b c r has each e =
-    let first = regroup inner each.0 each.1 more each.2
-    ∙ ap (λ (ts : List Token). ts ++ (each.1 ++ more)) each.3.2 in
-    absurd cc
-known_front (a ∷ actions) [] (suc player) inner more b c r has each e =
-    let first = regroup inner each.0 each.1 more each.2
-    ∙ ap (λ (ts : List Token). ts ++ (each.1 ++ more)) each.3.0 in
-    absurd cc
+known_front [] known player inner more b c r has each e = grind arith
+known_front (a ∷ actions) [] zero inner more b c r has each e = grind arith
+known_front (a ∷ actions) [] (suc player) inner more b c r has each e = grind arith
 known_front (a ∷ actions) (k ∷ known) zero inner more b c r has each e =
     let t = each.3.0 in
     let first = λ (us : List Token). regroup inner each.0 each.1 us each.2
@@ -367,15 +297,7 @@ in_braces front key set c h None unknown at_set g =
     let f = new_front set.actions key.player h.1 g.more at_set.name key.number
     (record { name = set.name; actions = [] }) (whole (pos 0)) c g.read
     (whole_fraction 0 (omega arith)) (omega (arith, ints)) h.4 (sym (behind g.more) ∙ g.reads) in
-    inl (record {
-      name = at_set.name;
-      unknown = unknown;
-      sum = f.total;
-      fraction = f.fraction;
-      high = f.high;
-      have_sum = f.have_sum;
-      answers = λ us. behind us ∙ f.answers us;
-    })
+    grind arith
 in_braces front key set c h (Some known) is_known at_set g =
     let first = λ (us : List Token).
     regroup front h.0 (Text set.name ∷ Opening ∷ h.1) us h.2 in
@@ -391,19 +313,7 @@ in_braces front key set c h (Some known) is_known at_set g =
     is_known in
     let f = known_front set.actions known.actions key.player h.1 g.more b c g.read
     (probabilities key.player known.actions is.actions) h.4 name.1 in
-    inr (record {
-      name = at_set.name;
-      known = known;
-      is_known = is_known;
-      same_name = name.0;
-      others = f.others;
-      parts = f.parts;
-      answers = λ us. behind us
-          ∙ ap (λ (l : List ℕ). run_tokens (KnownSetName at_set.name key known) c
-          (Text l ∷ Opening ∷ (h.1 ++ us))) name.0
-          ∙ ap (λ o. then_run o (run_on (Opening ∷ (h.1 ++ us))))
-          (text_again known.name (at (KnownSetOpening b known.actions) c)) ∙ f.answers us;
-    })
+    grind arith
 
 pub in_actions : (front : List Token) (key : SetKey) (set : InformationSet) (c : Content)
     → InActions front key set → GoesOn c front → AtNew c front key set ⊎ AtKnown c front key set

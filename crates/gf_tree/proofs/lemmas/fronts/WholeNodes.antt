@@ -1,17 +1,11 @@
 -- After a heading, and after a whole node, there are only whole nodes.
-use Rattle.std.proofs.Common.{◌≡◌, ℕ, ◌≤◌, List, [], ◌∷◌, ◌++◌, length, map, Some, None, refl, sym}
-use Rattle.std.proofs.Common.{ap, ◌∙◌, append_assoc, append-nil, arith, inl, inr}
-use Rattle.std.specs.Prelude.{codes, ◌⊎◌}
-use Rattle.std.proofs.lemmas.List.{length-append}
-use Rattle.gf_token.specs.Token.{Token}
-use Rattle.gf_token.specs.Grammar.{braced, IsComment}
-use Rattle.gf_token.specs.Token.Token.{Opening, Closing, Text, Bare}
-use Rattle.gf_tree.specs.Description.{Outcome}
-use Rattle.gf_tree.specs.FileTree.{FileNode}
-use Rattle.gf_tree.specs.Front.{BehindOutcomeNumber, InPayoffs}
-use Rattle.gf_tree.specs.Sentence.{IsNode}
+use Rattle.gf_tree.proofs.Common.{◌≡◌, ℕ, ◌≤◌, List, [], ◌∷◌, ◌++◌, length, map, Some, None, refl}
+use Rattle.gf_tree.proofs.Common.{sym, ap, ◌∙◌, append_assoc, append-nil, arith, inl, inr, codes}
+use Rattle.gf_tree.proofs.Common.{◌⊎◌, length-append, Token, braced, IsComment, Opening, Closing}
+use Rattle.gf_tree.proofs.Common.{Text, Bare, Outcome, FileNode, BehindOutcomeNumber, InPayoffs}
+use Rattle.gf_tree.proofs.Common.{IsNode, FileFront}
 use Rattle.gf_tree.specs.Reason.{NobodyMoves}
-use Rattle.gf_tree.specs.RowPlaces.{BehindComment, BehindNode, BehindPlayers, FileFront}
+use Rattle.gf_tree.specs.RowPlaces.{BehindComment, BehindNode, BehindPlayers}
 use Rattle.gf_tree.proofs.lemmas.fronts.CutFiles.{headed}
 use Rattle.gf_tree.proofs.lemmas.fronts.Cuts.{each_more}
 use Rattle.gf_tree.proofs.lemmas.fronts.Payoffs.{in_payoffs}
@@ -42,8 +36,7 @@ heading_ends letter title note players comment before is is_comment e none = (
       letter = letter;
       comment = comment;
       nodes = [];
-      parts = e
-          ∙ (λ i. headed letter title (braced (map Text players) ++ sym (append-nil comment) i));
+      parts = cc (append-nil comment);
       is_letter = is;
       is_comment = is_comment;
       are_nodes = refl;
@@ -61,8 +54,7 @@ pub behind_players : (before : List Token) (players : List (List ℕ)) → Behin
     → length players ≡ 0 → NobodyMoves before
 behind_players before players h =
     heading_ends h.1.1.2.0 h.1.1.1 [] players [] before h.1.1.2.1 (inl (refl, refl))
-    (heading_is before players h
-    ∙ (λ i. headed h.1.1.2.0 h.1.1.1 (sym (append-nil (braced (map Text players))) i)))
+    (cc (heading_is before players h, append-nil (braced (map Text players))))
 
 pub behind_comment : (before : List Token) (players : List (List ℕ)) → BehindComment before players
     → length players ≡ 0 → NobodyMoves before

@@ -1,18 +1,16 @@
 -- The canonical game: it is a game, the same as the first, and there is one for all games that are
 -- the same.
-use Rattle.std.proofs.Common.{◌≡◌, ℕ, Bool, List, map, filter, refl, sym, ap, subst, ◌∙◌}
+use Rattle.gf_tree.proofs.Common.{◌≡◌, ℕ, Bool, List, map, refl, sym, ap, subst, ◌∙◌, eqb-true}
+use Rattle.gf_tree.proofs.Common.{Decides-eqb, InformationSet, Outcome, SetKey, same_set, set_of}
+use Rattle.gf_tree.proofs.Common.{Described, first_uses, outcome_numbers, sets_of, player_keys}
+use Rattle.gf_tree.proofs.Common.{Game, IsGame, used_sets, used_outcomes, Renumbering}
+use Rattle.gf_tree.proofs.Common.{IsRenumbering, HasSet, renumbered_set, renumbered}
+use Rattle.std.proofs.Common.{filter}
 use Rattle.std.specs.Prelude.{nat_eq, ◌↔◌}
-use Rattle.std.proofs.lemmas.Bool.{eqb-true}
-use Rattle.std.proofs.lemmas.Bool.Decides.{Decides-eqb}
-use Rattle.gf_tree.specs.Description.{InformationSet, Outcome, SetKey, same_set, set_of}
-use Rattle.gf_tree.specs.FiniteMap.{Described, first_uses}
-use Rattle.gf_tree.specs.FirstUse.{outcome_numbers, first_use_number, sets_of, first_use_numbers}
-use Rattle.gf_tree.specs.FirstUse.{player_keys}
+use Rattle.gf_tree.specs.FirstUse.{first_use_number, first_use_numbers}
 use Rattle.gf_tree.specs.SameGame.{Carries, SameGame}
 use Rattle.gf_tree.specs.CanonicalGame.{canonical_game}
-use Rattle.gf_tree.specs.Game.{Game, IsGame, used_sets, used_outcomes}
-use Rattle.gf_tree.specs.Renumbering.{Renumbering, IsRenumbering, HasSet, HasOutcome}
-use Rattle.gf_tree.specs.Renumbering.{renumbered_set, renumbered}
+use Rattle.gf_tree.specs.Renumbering.{HasOutcome}
 use Rattle.gf_tree.proofs.lemmas.games.Members.{filter_of_map, map_same, map_twice}
 use Rattle.gf_tree.proofs.lemmas.games.FirstUseNumbers.{number_kept}
 use Rattle.gf_tree.proofs.lemmas.games.Carried.{carried_map}
@@ -97,8 +95,7 @@ set_numbers_carried r g h game game' c player =
     ∙ map_twice (λ (key : SetKey). key.number) (λ s. s.key) (map moved own)
     ∙ map_twice (λ s. s.key.number) moved own
     ∙ map_same (λ s. r.set s.key.player s.key.number) (λ s. r.set player s.key.number) own
-    (λ s i. ap (λ p. r.set p s.key.number)
-    (eqb-true s.key.player player (of_filter mine g.sets s i).1))
+    (λ s i. cc (eqb-true s.key.player player (of_filter mine g.sets s i).1))
     ∙ sym (map_twice (λ (key : SetKey). r.set player key.number) (λ s. s.key) own)
   where
     mine : Described SetKey InformationSet → Bool
@@ -131,13 +128,10 @@ set_number_kept r g h c player number i =
     let carried : sets_of player (used_sets h.tree) ≡ map (renumbered_set r) own =
     ap (sets_of player) (carried_sets r g h c)
     ∙ filter_of_map mine mine (renumbered_set r) (used_sets g.tree) (λ k j. refl) in
-    cc (
-      carried,
-      number_kept same_set same_set same_set_equality same_set_equality (renumbered_set
-          r) own key (λ a b j k e. sets_apart g r c.renumbering a b (of_filter mine (used_sets g.tree) a
-          j).0 (of_filter mine (used_sets g.tree) b k).0 e) (own_set g key (has (used_sets g.tree) key
-          i)),
-    )
+    let kept = number_kept same_set same_set same_set_equality same_set_equality (renumbered_set r)
+    own key (λ a b j k e. sets_apart g r c.renumbering a b (of_filter mine (used_sets g.tree) a j).0
+    (of_filter mine (used_sets g.tree) b k).0 e) (own_set g key (has (used_sets g.tree) key i)) in
+    cc
 
 pub outcome_number_kept : (r : Renumbering) (g h : Game)
     → Carries r g h → (number : ℕ) → HasOutcome g number
@@ -164,12 +158,10 @@ canonical_is_same g game = (first_use_numbers g, carries_to_canonical g game)
 pub same_canonical : (g h : Game) → IsGame g → IsGame h → SameGame g h
     → canonical_game g ≡ canonical_game h
 same_canonical g h game game' (r, c) =
-    sym (
-    ap canonical_game (sym (carried_is_renumbered r g h game game' c))
-    ∙ ap (λ s. renumbered s (renumbered r g))
-    (ap first_use_numbers (carried_is_renumbered r g h game game' c))
-    ∙ composed_games r (first_use_numbers h) g
-    ∙ agreed_games (composed r (first_use_numbers h)) (first_use_numbers g) g game agree
+    cc (
+      carried_is_renumbered r g h game game' c,
+      composed_games r (first_use_numbers h) g,
+      agreed_games (composed r (first_use_numbers h)) (first_use_numbers g) g game agree,
     )
   where
     agree : Agree (composed r (first_use_numbers h)) (first_use_numbers g) g.tree

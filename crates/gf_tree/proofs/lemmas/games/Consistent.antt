@@ -1,21 +1,14 @@
 -- The game of a consistent file tree: there is one, and it is a game.
-use Rattle.std.proofs.Common.{◌≡◌, ℕ, suc, ◌++◌, List, [], ◌∷◌, length, map, Some, None, Option}
-use Rattle.std.proofs.Common.{Bool, MatchOption, option_map, refl, sym, ap, subst, ◌∙◌, inl, inr}
-use Rattle.std.proofs.Common.{arith}
-use Rattle.std.proofs.lemmas.Bool.Decides.{Decides-eqb}
-use Rattle.std.proofs.lemmas.List.{map-append}
+use Rattle.gf_tree.proofs.Common.{◌≡◌, ℕ, suc, ◌++◌, List, [], ◌∷◌, length, map, Some, None, Option}
+use Rattle.gf_tree.proofs.Common.{Bool, MatchOption, option_map, refl, sym, ap, subst, ◌∙◌, inl}
+use Rattle.gf_tree.proofs.Common.{inr, arith, Decides-eqb, map-append, AllByRecursion, filter_map}
+use Rattle.gf_tree.proofs.Common.{cons_option, Tree, Trees, count, map_tree, map_trees, branch}
+use Rattle.gf_tree.proofs.Common.{none, more, Entry, flatten, flatten_all, SetKey, InformationSet}
+use Rattle.gf_tree.proofs.Common.{same_set, IsSet, IsOutcome, first_uses, keys_alone, IsGameOf, Use}
+use Rattle.gf_tree.proofs.Common.{FileNode, FileTree, set_uses, outcome_uses, Describes}
+use Rattle.gf_tree.proofs.Common.{AreConsistent, IsConsistent, HasChildrenAsDescribed, Game}
+use Rattle.gf_tree.proofs.Common.{HasChildren, IsGame, used_sets, used_outcomes, set_at}
 use Rattle.std.specs.Prelude.{nat_eq}
-use Rattle.std.specs.List.{AllByRecursion, filter_map, cons_option}
-use Rattle.gf_tree.specs.Tree.{Tree, Trees, count, map_tree, map_trees}
-use Rattle.gf_tree.specs.Tree.Tree.{branch}
-use Rattle.gf_tree.specs.Tree.Trees.{none, more}
-use Rattle.gf_tree.specs.PrefixOrder.{Entry, flatten, flatten_all}
-use Rattle.gf_tree.specs.Description.{SetKey, InformationSet, same_set, IsSet, IsOutcome}
-use Rattle.gf_tree.specs.FiniteMap.{first_uses}
-use Rattle.gf_tree.specs.GameOf.{keys_alone, IsGameOf}
-use Rattle.gf_tree.specs.FileTree.{Use, FileNode, FileTree, set_uses, outcome_uses}
-use Rattle.gf_tree.specs.Consistent.{Describes, AreConsistent, IsConsistent, HasChildrenAsDescribed}
-use Rattle.gf_tree.specs.Game.{Game, HasChildren, IsGame, used_sets, used_outcomes, set_at}
 use Rattle.gf_tree.proofs.lemmas.games.Uses.{Has, IsEquality, has_map, mapped_from, each}
 use Rattle.gf_tree.proofs.lemmas.games.Uses.{all_of_each, has_first, has_later, described}
 use Rattle.gf_tree.proofs.lemmas.games.FirstUses.{is_used, was_used, describe_all, found}
@@ -62,13 +55,11 @@ outcome_keys_of (e ∷ es) = cc (outcome_keys_of es, keys_of_option e.node.outco
 
 pub used_sets_are : (t : Tree FileNode)
     → used_sets (map_tree keys_alone t) ≡ map (λ u. u.key) (set_uses (flatten t))
-used_sets_are t =
-    ap (filter_map (λ e. e.node.set)) (flatten_map keys_alone t) ∙ set_keys_of (flatten t)
+used_sets_are t = cc (flatten_map keys_alone t, set_keys_of (flatten t))
 
 pub used_outcomes_are : (t : Tree FileNode)
     → used_outcomes (map_tree keys_alone t) ≡ map (λ u. u.key) (outcome_uses (flatten t))
-used_outcomes_are t =
-    ap (filter_map (λ e. e.node.outcome)) (flatten_map keys_alone t) ∙ outcome_keys_of (flatten t)
+used_outcomes_are t = cc (flatten_map keys_alone t, outcome_keys_of (flatten t))
 
 -- ---- there is a game
 

@@ -1,23 +1,18 @@
 -- A file tree of each game: each use has its description.
-use Rattle.std.proofs.Common.{◌≡◌, ◌↔◌, ℕ, Bool, true, false, List, [], ◌∷◌, length, map, Some, inr}
-use Rattle.std.proofs.Common.{None, Option, MatchOption, option_map, refl, sym, ap, subst, ◌∙◌, inl}
-use Rattle.std.proofs.Common.{arith}
-use Rattle.std.proofs.lemmas.Bool.Decides.{Decides-eqb}
+use Rattle.gf_tree.proofs.Common.{◌≡◌, ◌↔◌, ℕ, Bool, true, false, List, [], ◌∷◌, length, map, Some}
+use Rattle.gf_tree.proofs.Common.{inr, None, Option, MatchOption, option_map, refl, sym, ap, subst}
+use Rattle.gf_tree.proofs.Common.{◌∙◌, inl, arith, Decides-eqb, AllByRecursion, filter_map}
+use Rattle.gf_tree.proofs.Common.{cons_option, Tree, Trees, map_tree, map_trees, branch, none, more}
+use Rattle.gf_tree.proofs.Common.{Entry, flatten, Node, Game, HasChildren, IsGame, used_sets}
+use Rattle.gf_tree.proofs.Common.{used_outcomes, set_at, keys_alone, IsGameOf, SetKey}
+use Rattle.gf_tree.proofs.Common.{InformationSet, Outcome, same_set, IsSet, IsOutcome, Described}
+use Rattle.gf_tree.proofs.Common.{description_at, first_uses, Use, FileNode, FileTree, set_uses}
+use Rattle.gf_tree.proofs.Common.{outcome_uses, Describes, AreConsistent, IsConsistent}
+use Rattle.gf_tree.proofs.Common.{HasChildrenAsDescribed}
 use Rattle.std.specs.Prelude.{nat_eq}
-use Rattle.std.specs.List.{AllByRecursion, filter_map, cons_option}
-use Rattle.gf_tree.specs.Tree.{Tree, Trees, map_tree, map_trees}
-use Rattle.gf_tree.specs.Tree.Tree.{branch}
-use Rattle.gf_tree.specs.Tree.Trees.{none, more}
-use Rattle.gf_tree.specs.PrefixOrder.{Entry, flatten}
-use Rattle.gf_tree.specs.Game.{outcome_at, Node, Game, HasChildren, IsGame, used_sets}
-use Rattle.gf_tree.specs.Game.{used_outcomes, set_at}
-use Rattle.gf_tree.specs.GameOf.{keys_alone, IsGameOf}
-use Rattle.gf_tree.specs.Description.{SetKey, InformationSet, Outcome, same_set, IsSet, IsOutcome}
-use Rattle.gf_tree.specs.FiniteMap.{Described, description_at, first_uses}
-use Rattle.gf_tree.specs.FileTree.{Use, FileNode, FileTree, set_uses, outcome_uses}
-use Rattle.gf_tree.specs.Consistent.{Describes, AreConsistent, IsConsistent, HasChildrenAsDescribed}
+use Rattle.gf_tree.specs.Game.{outcome_at}
 use Rattle.gf_tree.proofs.lemmas.games.Uses.{Has, IsEquality, has_map, mapped_from, each}
-use Rattle.gf_tree.proofs.lemmas.games.Uses.{all_of_each, contains, has, has_place, differ}
+use Rattle.gf_tree.proofs.lemmas.games.Uses.{all_of_each, contains, has, has_place}
 use Rattle.gf_tree.proofs.lemmas.games.FirstUses.{AreDistinct, Found, found, is_used, was_used}
 use Rattle.gf_tree.proofs.lemmas.games.FirstUses.{first_uses_distinct}
 use Rattle.gf_tree.proofs.lemmas.games.TreesOnce.{same_set_equality, one_game}
@@ -54,8 +49,7 @@ entry_by : {K D : Type 0} (same : K → K → Bool) → IsEquality same
     → Has (x ∷ xs) s → (Has xs s → description_at same xs s.key ≡ Some s.description) → (b : Bool)
     → same x.key s.key ≡ b → description_at same (x ∷ xs) s.key ≡ Some s.description
 entry_by {K} {D} same equality x s xs d (inl q) later true e = grind arith
-entry_by {K} {D} same equality x s xs d (inl q) later false e =
-    absurd (differ same equality x.key s.key e (ap (λ (y : Described K D). y.key) q))
+entry_by {K} {D} same equality x s xs d (inl q) later false e = grind arith
 entry_by {K} {D} same equality x s xs d (inr m) later true e =
     absurd (d.0 (subst (Has (map (λ (y : Described K D). y.key) xs))
     (sym ((equality x.key s.key).0 e)) (has_map (λ (y : Described K D). y.key) xs s m)))
@@ -177,8 +171,7 @@ file_is_of g is =
     let set_uses_are : map (use_at (set_at g)) (used_sets g.tree) ≡ set_uses (flatten f.tree) =
     sym (ap set_uses entries ∙ sets_told g es) in
     let outcome_uses_are : map (use_at (outcome_at g)) (used_outcomes g.tree)
-    ≡ outcome_uses (flatten f.tree) =
-    sym (ap outcome_uses entries ∙ outcomes_told g es) in
+    ≡ outcome_uses (flatten f.tree) = cc (outcomes_told g es) in
     let children :
     AllByRecursion (HasChildrenAsDescribed (map (use_at (set_at g)) (used_sets g.tree)))
     (map (map_entry (told g)) es) =

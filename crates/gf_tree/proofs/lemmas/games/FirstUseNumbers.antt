@@ -1,13 +1,11 @@
 -- Keys in order of first use, and their numbers.
-use Rattle.std.proofs.Common.{◌≡◌, suc, ◌+◌, ◌<◌, ◌≤◌, Bool, true, false, not, cond, List, [], ◌∷◌}
-use Rattle.std.proofs.Common.{◌++◌, length, map, get_or, refl, sym, ap, subst, ◌∙◌, arith, inl, inr}
+use Rattle.gf_tree.proofs.Common.{◌≡◌, suc, ◌+◌, ◌<◌, ◌≤◌, Bool, true, false, not, cond, List, []}
+use Rattle.gf_tree.proofs.Common.{◌∷◌, ◌++◌, length, map, get_or, refl, sym, ap, subst, ◌∙◌, arith}
+use Rattle.gf_tree.proofs.Common.{inl, inr, length-map, ◌⊎◌, filter, both_ways, first_uses}
 use Rattle.std.proofs.Common.{length-append}
-use Rattle.std.proofs.lemmas.List.{length-map, get_or_at}
-use Rattle.std.specs.Prelude.{◌⊎◌}
-use Rattle.std.specs.List.{filter}
+use Rattle.std.proofs.lemmas.List.{get_or_at}
 use Rattle.std.proofs.lemmas.Bool.Decides.{same_from_decides}
-use Rattle.std.proofs.lemmas.Bool.{cases_Bool, both_ways, not_from_false}
-use Rattle.gf_tree.specs.FiniteMap.{first_uses}
+use Rattle.std.proofs.lemmas.Bool.{cases_Bool, not_from_false}
 use Rattle.gf_tree.specs.FirstUse.{through_first_use, first_use_number}
 use Rattle.gf_tree.proofs.lemmas.games.Members.{filter_of_map, filter_last}
 use Rattle.gf_tree.proofs.lemmas.games.FirstUses.{was_used, first_uses_distinct, AreDistinct}
@@ -52,12 +50,7 @@ through_of_map : {K L : Type 0} (same : K → K → Bool)
     → through_first_use same' (f key) (map f ks) ≡ map f (through_first_use same key ks)
 through_of_map same same' f key [] h = refl
 through_of_map same same' f key (x ∷ ks) h =
-    rw (h x (inl refl), through_of_map same same' f key ks (λ y i. h y (inr i)))
-    (ap (λ ls. f x ∷ ls) (sym (go (same x key) f (through_first_use same key ks))))
-  where
-    go : {K L : Type 0} (b : Bool) (f : K → L) (ks : List K)
-        → map f (cond b [] ks) ≡ cond b [] (map f ks)
-    go b f ks = grind arith
+    grind (arith, through_of_map same same' f key ks (λ y i. h y (inr i)))
 
 -- images of keys are used first in the order of the keys
 pub number_kept : {K L : Type 0} (same : K → K → Bool) (same' : L → L → Bool) → IsEquality same
@@ -148,12 +141,8 @@ one_place : {K : Type 0} (before before' after after' : List K) (key : K)
     → AreDistinct (before ++ key ∷ after) → before ++ key ∷ after ≡ before' ++ key ∷ after'
     → length before ≡ length before'
 one_place [] [] after after' key h e = refl
-one_place [] (y ∷ before') after after' key h e =
-    let rest : after ≡ before' ++ key ∷ after' = cc in
-    absurd (h.0 (subst (λ ks. Has ks key) (sym rest) (has_place before' after' key)))
-one_place (x ∷ before) [] after after' key h e =
-    let first : x ≡ key = cc in
-    absurd (h.0 (subst (Has (before ++ key ∷ after)) (sym first) (has_place before after key)))
+one_place [] (y ∷ before') after after' key h e = grind (arith, has_place)
+one_place (x ∷ before) [] after after' key h e = grind (arith, has_place)
 one_place (x ∷ before) (y ∷ before') after after' key h e =
     let rest : before ++ key ∷ after ≡ before' ++ key ∷ after' = cc in
     ap suc (one_place before before' after after' key h.1 rest)

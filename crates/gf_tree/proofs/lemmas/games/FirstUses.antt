@@ -1,11 +1,8 @@
 -- Keys in order of first use, and their descriptions.
-use Rattle.std.proofs.Common.{◌≡◌, Bool, true, false, not, cond, List, [], ◌∷◌, map, Some, filter}
-use Rattle.std.proofs.Common.{refl, sym, ap, ◌∙◌, inl, inr}
-use Rattle.std.specs.List.{AllByRecursion}
-use Rattle.std.specs.Prelude.{◌⊎◌}
-use Rattle.gf_tree.specs.FiniteMap.{Described, description_at, first_uses}
-use Rattle.gf_tree.specs.FileTree.{Use}
-use Rattle.gf_tree.specs.Consistent.{Describes}
+use Rattle.gf_tree.proofs.Common.{◌≡◌, Bool, true, false, not, cond, List, [], ◌∷◌, map, Some, refl}
+use Rattle.gf_tree.proofs.Common.{sym, ap, ◌∙◌, inl, inr, AllByRecursion, ◌⊎◌, Described}
+use Rattle.gf_tree.proofs.Common.{description_at, first_uses, Use, Describes}
+use Rattle.std.proofs.Common.{filter}
 use Rattle.gf_tree.proofs.lemmas.games.Uses.{Has, IsEquality, differ}
 
 -- ---- filters

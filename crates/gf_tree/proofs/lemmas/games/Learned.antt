@@ -1,17 +1,13 @@
 -- A game learned in the order of its file is the game of a consistent file tree.
-use Rattle.std.proofs.Common.{◌≡◌, ◌↔◌, ℕ, Bool, List, length, map, Some, None, Option, MatchOption}
-use Rattle.std.proofs.Common.{option_map, sym, ap, subst, ◌∙◌}
+use Rattle.gf_tree.proofs.Common.{◌≡◌, ◌↔◌, ℕ, Bool, List, length, map, Some, None, Option}
+use Rattle.gf_tree.proofs.Common.{MatchOption, option_map, sym, ap, subst, ◌∙◌, AllByRecursion}
+use Rattle.gf_tree.proofs.Common.{Decides-eqb, flatten, Game, HasChildren, used_sets, used_outcomes}
+use Rattle.gf_tree.proofs.Common.{keys_alone, IsGameOf, SetKey, InformationSet, same_set, IsSet}
+use Rattle.gf_tree.proofs.Common.{IsOutcome, Described, description_at, first_uses, Use, FileTree}
+use Rattle.gf_tree.proofs.Common.{set_uses, outcome_uses, Describes, AreConsistent, IsConsistent}
+use Rattle.gf_tree.proofs.Common.{HasChildrenAsDescribed}
 use Rattle.std.specs.Prelude.{nat_eq}
-use Rattle.std.specs.List.{AllByRecursion}
-use Rattle.std.proofs.lemmas.Bool.Decides.{Decides-eqb}
-use Rattle.gf_tree.specs.PrefixOrder.{flatten}
 use Rattle.gf_tree.specs.Learned.{LearnsGame}
-use Rattle.gf_tree.specs.Game.{Game, HasChildren, used_sets, used_outcomes}
-use Rattle.gf_tree.specs.GameOf.{keys_alone, IsGameOf}
-use Rattle.gf_tree.specs.Description.{SetKey, InformationSet, same_set, IsSet, IsOutcome}
-use Rattle.gf_tree.specs.FiniteMap.{Described, description_at, first_uses}
-use Rattle.gf_tree.specs.FileTree.{Use, FileTree, set_uses, outcome_uses}
-use Rattle.gf_tree.specs.Consistent.{Describes, AreConsistent, IsConsistent, HasChildrenAsDescribed}
 use Rattle.gf_tree.proofs.lemmas.games.Uses.{Has, IsEquality, has_map, each, all_of_each, has}
 use Rattle.gf_tree.proofs.lemmas.games.FirstUses.{found, is_used}
 use Rattle.gf_tree.proofs.lemmas.games.TreesOnce.{same_set_equality}

@@ -1,17 +1,13 @@
 -- What is learned use by use is what a consistent list describes.
-use Rattle.std.proofs.Common.{◌≡◌, ◌↔◌, Bool, true, false, not, cond, ◌&&◌, is_none, List, [], ◌∷◌}
-use Rattle.std.proofs.Common.{◌++◌, map, Some, None, Option, MatchOption, filter, refl, sym, ap}
-use Rattle.std.proofs.Common.{subst, ◌∙◌, append_assoc, append-nil, inl, inr, arith}
-use Rattle.std.specs.Prelude.{◌⊎◌}
-use Rattle.std.specs.List.{AllByRecursion}
-use Rattle.gf_tree.specs.FiniteMap.{Described, description_at, first_uses}
-use Rattle.gf_tree.specs.FileTree.{Use}
-use Rattle.gf_tree.specs.Learned.{Learns}
-use Rattle.gf_tree.specs.Consistent.{Describes, AreConsistent}
+use Rattle.gf_tree.proofs.Common.{◌≡◌, ◌↔◌, Bool, true, false, not, cond, List, [], ◌∷◌, ◌++◌, map}
+use Rattle.gf_tree.proofs.Common.{Some, None, Option, MatchOption, refl, sym, ap, subst, ◌∙◌}
+use Rattle.gf_tree.proofs.Common.{append_assoc, append-nil, inl, inr, arith, ◌⊎◌, AllByRecursion}
+use Rattle.gf_tree.proofs.Common.{Described, description_at, first_uses, Use, Learns, Describes}
+use Rattle.gf_tree.proofs.Common.{AreConsistent, same_Some}
+use Rattle.std.proofs.Common.{◌&&◌, is_none, filter}
 use Rattle.gf_tree.proofs.lemmas.games.Uses.{Has, IsEquality, has, contains, all_of_each}
 use Rattle.gf_tree.proofs.lemmas.games.Uses.{described_once}
 use Rattle.gf_tree.proofs.lemmas.Once.{none_or_some}
-use Rattle.std.proofs.lemmas.Option.{same_Some}
 use Rattle.gf_tree.proofs.lemmas.games.Members.{filter_all}
 
 -- ---- filters
@@ -62,8 +58,7 @@ old_by : {K D : Type 0} (same : K → K → Bool)
     → IsEquality same → (known : List (Described K D)) (key k : K) (d : D)
     → description_at same known key ≡ Some d → (b : Bool) → same key k ≡ b
     → is_new same known k ≡ (not b && is_new same known k)
-old_by same equality known key k d e true t =
-    ap is_none (ap (description_at same known) (sym ((equality key k).0 t)) ∙ e)
+old_by same equality known key k d e true t = grind arith
 old_by same equality known key k d e false t = refl
 
 -- ---- uses after what is known
@@ -97,33 +92,13 @@ module _ {K D : Type 0} (same : K → K → Bool) (equality : IsEquality same) w
   at_other : (known : List (Described K D)) (key k : K) (d : D)
       → description_at same (known ++ one key d ∷ []) k ≡ None
       → (key ≡ k → ⊥) × (description_at same known k ≡ None)
-  at_other known key k d e = by_option (description_at same known k) refl
-    where
-      by_option : (o : Option D) → description_at same known k ≡ o
-          → (key ≡ k → ⊥) × (description_at same known k ≡ None)
-      by_option None p = (
-        λ q. none_or_some (description_at same (known ++ one key d ∷ []) k)
-            d e (at_key known key k d p q),
-        p,
-      )
-      by_option (Some c) p =
-          absurd (none_or_some (description_at same (known ++ one key d ∷ []) k) c e
-          (at_more same known key k d c p))
+  at_other known key k d e = grind (arith, none_or_some, at_key, at_more)
 
   -- what is found after one more is that one, or was known
   at_either : (known : List (Described K D)) (key k : K) (d c : D)
       → description_at same (known ++ one key d ∷ []) k ≡ Some c
       → ((key ≡ k) × (c ≡ d)) ⊎ (description_at same known k ≡ Some c)
-  at_either known key k d c e = by_option (description_at same known k) refl (same key k) refl
-    where
-      by_option : (o : Option D) → description_at same known k ≡ o → (b : Bool) → same key k ≡ b
-          → ((key ≡ k) × (c ≡ d)) ⊎ (description_at same known k ≡ Some c)
-      by_option None p true t =
-          inl ((equality key k).0 t, same_Some c d (sym e ∙ at_last same known key k d true t p))
-      by_option None p false t =
-          absurd (none_or_some (description_at same (known ++ one key d ∷ []) k)
-          c (at_last same known key k d false t p) e)
-      by_option (Some a) p b t = inr (p ∙ sym (at_more same known key k d a p) ∙ e)
+  at_either known key k d c e = grind (arith, same_Some, at_last, none_or_some, at_more)
 
   rest_new : (u : Use K D) (us : List (Use K D)) (known : List (Described K D)) (d : D)
       → description_at same known u.key ≡ None → u.description ≡ Some d → With same known (u ∷ us)
@@ -226,8 +201,7 @@ module _ {K D : Type 0} (same : K → K → Bool) (equality : IsEquality same) w
 
       as_known : (key : K) (c a : D)
           → description_at same known key ≡ Some c → Has (u ∷ us) (told key a) → a ≡ c
-      as_known key c a f (inl p) = absurd (none_or_some (description_at same known u.key) c n
-          (ap (description_at same known) (key_is u key a p) ∙ f))
+      as_known key c a f (inl p) = grind arith
       as_known key c a f (inr p) = w.as_known key c a (at_more same known u.key key d c f) p
 
   with_old : (u : Use K D) (us : List (Use K D)) (known : List (Described K D)) (d : D)
@@ -236,10 +210,7 @@ module _ {K D : Type 0} (same : K → K → Bool) (equality : IsEquality same) w
   with_old u us known d n t w = record { described = described; alike = alike; as_known = as_known }
     where
       its : (key : K) (a : D) → u ≡ told key a → a ≡ d
-      its key a e = elim t [
-        | inl z ↦ absurd (none_or_some u.description a z (description_is u key a e))
-        | inr z ↦ same_Some a d (sym (description_is u key a e) ∙ z)
-      ]
+      its key a e = grind arith
 
       here : (key : K) (a : D) → u ≡ told key a → description_at same known key ≡ Some d
       here key a e = ap (description_at same known) (sym (key_is u key a e)) ∙ n
@@ -247,10 +218,7 @@ module _ {K D : Type 0} (same : K → K → Bool) (equality : IsEquality same) w
       described : (before after : List (Use K D)) (v : Use K D) → u ∷ us ≡ before ++ v ∷ after
           → AllByRecursion (λ x. ¬ (x.key ≡ v.key)) before → description_at same known v.key ≡ None
           → (a : D) × (v.description ≡ Some a)
-      described [] after v e first f =
-          let q : u ≡ v = cc in
-          absurd (none_or_some (description_at same known u.key) d
-          (ap (λ (x : Use K D). description_at same known x.key) q ∙ f) n)
+      described [] after v e first f = grind (arith, none_or_some)
       described (x ∷ before) after v e first f =
           let r : us ≡ before ++ v ∷ after = cc in w.described before after v r first.1 f
 
@@ -294,24 +262,7 @@ module _ {K D : Type 0} (same : K → K → Bool) (equality : IsEquality same) w
       → ((k : List (Described K D)) → Learns same k us end → IsLearned k us end)
       → IsLearned known (u ∷ us) end
   learned_by u us known end None e h later =
-      let d = h.0 in
-      let r = later (known ++ one u.key d ∷ []) h.2 in
-      let firsts = first_uses same (map (λ (v : Use K D). v.key) us) in
-      let keys : filter (is_new same (known ++ one u.key d ∷ [])) firsts
-      ≡ filter (is_new same known) (filter (λ k. not (same u.key k)) firsts) =
-      sym (filter_twice (is_new same known) (λ k. not (same u.key k))
-      (is_new same (known ++ one u.key d ∷ [])) (λ k. new_more same known u.key k d) firsts) in
-      record {
-        consistent = with_new u us known d e h.1 r.consistent;
-        rest = one u.key d ∷ r.rest;
-        parts = r.parts ∙ append_assoc known (one u.key d ∷ []) r.rest;
-        keys = rw e (ap (λ ks. u.key ∷ ks) (r.keys ∙ keys));
-        says = λ s m. elim m [
-          | inl q ↦ inl ((λ i. record { key = u.key; description = h.1 i })
-              ∙ ap (λ (x : Described K D). told x.key x.description) q)
-          | inr n ↦ inr (r.says s n)
-        ];
-      }
+      grind (arith, filter_twice, new_more, with_new, append_assoc)
   learned_by u us known end (Some d) e h later =
       let r = later known h.1 in
       let firsts = first_uses same (map (λ (v : Use K D). v.key) us) in
@@ -329,13 +280,7 @@ module _ {K D : Type 0} (same : K → K → Bool) (equality : IsEquality same) w
 
   learned : (us : List (Use K D)) (known end : List (Described K D)) → Learns same known us end
       → IsLearned known us end
-  learned [] known end h = record {
-    consistent = with_none known;
-    rest = [];
-    parts = h ∙ sym (append-nil known);
-    keys = refl;
-    says = λ s m. absurd m;
-  }
+  learned [] known end h = grind (arith, with_none, append-nil)
   learned (u ∷ us) known end h =
       learned_by u us known end (description_at same known u.key) refl h (λ k l. learned us k end l)
 
@@ -359,14 +304,7 @@ module _ {K D : Type 0} (same : K → K → Bool) (equality : IsEquality same) w
   is_described : (us : List (Use K D)) (end : List (Described K D)) → Learns same [] us end
       → (map (λ s. s.key) end ≡ first_uses same (map (λ u. u.key) us))
       × AllByRecursion (λ s. Describes us s.key s.description) end
-  is_described us end h =
-      let l = learned us [] end h in (
-        ap (map (λ s. s.key)) l.parts ∙ l.keys ∙ filter_all (is_new {D = D} same [])
-            (first_uses same (map (λ u. u.key) us)) (λ k m. refl),
-        subst (AllByRecursion (λ s. Describes us s.key s.description)) (sym l.parts)
-            (all_of_each (λ s. Describes us s.key s.description) l.rest
-            (λ s m. contains us (told s.key s.description) (l.says s m))),
-      )
+  is_described us end h = grind (arith, learned, filter_all, all_of_each, contains)
 
   pub learned_once : (us : List (Use K D)) (end : List (Described K D)) → Learns same [] us end
       ↔ (AreConsistent us × (map (λ s. s.key) end ≡ first_uses same (map (λ u. u.key) us))

@@ -1,16 +1,11 @@
 -- Numbers that are listed in the order of first use are new numbers.
-use Rattle.std.proofs.Common.{◌≡◌, ℕ, zero, suc, ◌<◌, ◌≤◌, Bool, true, false, cond, List, [], ◌∷◌}
-use Rattle.std.proofs.Common.{length, get_or, slice_get, Some, inl, inr, refl, sym, ap, subst}
-use Rattle.std.proofs.Common.{arith}
+use Rattle.gf_tree.proofs.Common.{◌≡◌, ℕ, zero, suc, ◌<◌, ◌≤◌, Bool, true, false, cond, List, []}
+use Rattle.gf_tree.proofs.Common.{◌∷◌, length, get_or, slice_get, Some, inl, inr, refl, sym, ap}
+use Rattle.gf_tree.proofs.Common.{subst, arith, AllByRecursion, both_ways, false_from_ne_true}
+use Rattle.gf_tree.proofs.Common.{Decides-eqb, SetKey, InformationSet, same_set, set_of, IsSet}
+use Rattle.gf_tree.proofs.Common.{Described, IsRenumbering, HasSet, outcome_numbers, player_keys}
+use Rattle.gf_tree.proofs.Common.{Game, IsGame, used_sets, used_outcomes}
 use Rattle.std.specs.Prelude.{nat_eq}
-use Rattle.std.specs.List.{AllByRecursion}
-use Rattle.std.proofs.lemmas.Bool.{both_ways, false_from_ne_true}
-use Rattle.std.proofs.lemmas.Bool.Decides.{Decides-eqb}
-use Rattle.gf_tree.specs.Description.{SetKey, InformationSet, same_set, set_of, IsSet}
-use Rattle.gf_tree.specs.FiniteMap.{Described}
-use Rattle.gf_tree.specs.Renumbering.{IsRenumbering, HasSet}
-use Rattle.gf_tree.specs.FirstUse.{outcome_numbers, player_keys, sets_of}
-use Rattle.gf_tree.specs.Game.{Game, IsGame, used_sets, used_outcomes}
 use Rattle.gf_tree.specs.Listed.{AreListed, AreNumbers, listed_numbers, number_listed}
 use Rattle.gf_tree.proofs.lemmas.games.Carried.{in_keys}
 use Rattle.gf_tree.proofs.lemmas.games.PlayerSets.{sets_by_first_use}
@@ -64,8 +59,7 @@ module _ {K : Type 0} (same : K → K → Bool) (tells : IsEquality same) where
   numbers_apart [] ns a b e d i j h = absurd i
   numbers_apart (k ∷ ks) [] a b e d i j h = absurd (omega (arith, e))
   numbers_apart (k ∷ ks) (n ∷ ns) a b e d i j h =
-      apart_by k ks n ns a b (omega (arith, e)) d i j
-      (numbers_apart ks ns a b (omega (arith, e)) d.1) (same k a) refl (same k b) refl h
+      grind (arith, apart_by, numbers_apart ks ns a b (omega (arith, e)) d.1)
 
   -- it stands at the key's place
   pub number_there : (ks : List K) (ns : List ℕ) (place : ℕ) (key : K) → length ns ≡ length ks
@@ -91,9 +85,7 @@ all_at P (x ∷ xs) (suc k) d h i = all_at P xs k d h.1 (omega (arith, i))
 module _ (g : Game) (game : IsGame g) (sets : List (List ℕ)) (outcomes : List ℕ)
     (listed : AreListed g sets outcomes) where
   pub own_key : (key : SetKey) → Has (used_sets g.tree) key → Has (player_keys g key.player) key
-  own_key key i =
-      rw (sets_by_first_use g key.player game) (is_used same_set same_set_equality (sets_of
-      key.player (used_sets g.tree)) key (own_set g key i))
+  own_key key i = grind (arith, sets_by_first_use, is_used, same_set_equality, own_set)
 
   pub some_player : (key : SetKey) → Has (used_sets g.tree) key → key.player ≤ length g.players
   some_player key i =
@@ -106,9 +98,7 @@ module _ (g : Game) (game : IsGame g) (sets : List (List ℕ)) (outcomes : List 
       omega (arith, is.player, ap (λ (k : SetKey). k.player) s.2)
 
   own_numbers : (key : SetKey) → Has (used_sets g.tree) key → AreNumbers (get_or sets key.player [])
-  own_numbers key i =
-      all_at AreNumbers sets key.player [] listed.set_numbers
-      (omega (arith, listed.one_list_each, some_player key i))
+  own_numbers key i = grind (arith, all_at, some_player)
 
   pub as_long : (key : SetKey) → Has (used_sets g.tree) key
       → length (get_or sets key.player []) ≡ length (player_keys g key.player)

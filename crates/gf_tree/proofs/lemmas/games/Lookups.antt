@@ -1,9 +1,8 @@
 -- Finite maps by their look-ups.
-use Rattle.std.proofs.Common.{ap, subst, ◌≡◌, Bool, false, cond, List, [], ◌∷◌, map, Option, Some}
-use Rattle.std.proofs.Common.{refl, sym, ◌∙◌, inl, inr, arith}
+use Rattle.gf_tree.proofs.Common.{subst, ◌≡◌, Bool, false, cond, List, [], ◌∷◌, map, Option, Some}
+use Rattle.gf_tree.proofs.Common.{refl, sym, ◌∙◌, inl, inr, arith, false_from_ne_true, Described}
+use Rattle.gf_tree.proofs.Common.{description_at}
 use Rattle.std.specs.Prelude.{option_map}
-use Rattle.std.proofs.lemmas.Bool.{false_from_ne_true}
-use Rattle.gf_tree.specs.FiniteMap.{Described, description_at}
 use Rattle.gf_tree.proofs.lemmas.games.FirstUses.{AreDistinct}
 use Rattle.gf_tree.proofs.lemmas.games.Uses.{Has, IsEquality, has_map}
 
@@ -38,8 +37,7 @@ same_map same tells [] (f ∷ fs) q d h = absurd cc
 same_map same tells (e ∷ es) [] q d h = absurd cc
 same_map {K} {D} same tells (e ∷ es) (f ∷ fs) q d h =
     let others = same_map same tells es fs rest d.1
-    (λ k i. sym (there e es k (λ p. d.0 (subst (Has (keys es)) (sym p) i))) ∙ h k (inr i)
-    ∙ there f fs k (λ p. d.0 (subst (Has (keys es)) (sym (first ∙ p)) i))) in
+    (grind arith) in
     λ i. record { key = first i; description = described i } ∷ others i
   where
     first : e.key ≡ f.key
@@ -67,9 +65,7 @@ pub entry_at : {K D : Type 0} (same : K → K → Bool) → IsEquality same
     → (es : List (Described K D)) (e : Described K D) → AreDistinct (keys es) → Has es e
     → description_at same es e.key ≡ Some e.description
 entry_at same tells [] e d h = absurd h
-entry_at same tells (f ∷ es) e d (inl q) =
-    rw ((tells f.key e.key).1 (ap (λ (x : Described _ _). x.key) q))
-    (ap (λ (x : Described _ _). Some x.description) q)
+entry_at same tells (f ∷ es) e d (inl q) = grind arith
 entry_at same tells (f ∷ es) e d (inr h) =
     let other : same f.key e.key ≡ false =
     false_from_ne_true (same f.key e.key) (λ t. d.0 (subst (Has (keys es))

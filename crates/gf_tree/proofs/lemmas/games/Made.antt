@@ -1,19 +1,13 @@
 -- Games that are made from others by new numbers.
-use Rattle.std.proofs.Common.{◌≡◌, ℕ, ◌<◌, ◌^◌, List, [], ◌∷◌, length, map, sym, ap, subst, ◌∙◌}
-use Rattle.std.specs.List.{AllByRecursion}
-use Rattle.std.proofs.lemmas.List.{length-map}
+use Rattle.gf_tree.proofs.Common.{◌≡◌, ℕ, ◌<◌, ◌^◌, List, [], ◌∷◌, length, map, sym, ap, subst, ◌∙◌}
+use Rattle.gf_tree.proofs.Common.{AllByRecursion, length-map, Entry, flatten, SetKey}
+use Rattle.gf_tree.proofs.Common.{InformationSet, Outcome, Described, Node, Game, IsGame}
+use Rattle.gf_tree.proofs.Common.{subtree_sizes, Stored, game_with, entries_with, kept_of}
+use Rattle.gf_tree.proofs.Common.{tree_with, Renumbering, IsRenumbering, renumbered}
+use Rattle.gf_tree.proofs.Common.{renumbered_node, IsSpellable, IsSpellableOutcome, IsSpellableSet}
 use Rattle.gf_token.specs.LabelSpelling.{IsLabel}
-use Rattle.gf_tree.specs.PrefixOrder.{Entry, flatten}
-use Rattle.gf_tree.specs.Description.{SetKey, InformationSet, Outcome}
-use Rattle.gf_tree.specs.FiniteMap.{Described}
-use Rattle.gf_tree.specs.Game.{Node, Game, IsGame}
 use Rattle.gf_tree.specs.Listed.{AreListed}
-use Rattle.gf_tree.specs.Subtrees.{subtree_sizes}
-use Rattle.gf_tree.specs.declared.game.kept.Stored.{Stored}
-use Rattle.gf_tree.specs.inner.GameParts.{AreNodes, IsHeld, game_with}
-use Rattle.gf_tree.specs.KeptNodes.{entries_with, kept_of, tree_with}
-use Rattle.gf_tree.specs.Renumbering.{Renumbering, IsRenumbering, renumbered, renumbered_node}
-use Rattle.gf_tree.specs.Spellable.{IsSpellable, IsSpellableOutcome, IsSpellableSet}
+use Rattle.gf_tree.specs.inner.GameParts.{AreNodes, IsHeld}
 use Rattle.gf_tree.proofs.lemmas.games.Consistent.{map_entry, flatten_map}
 use Rattle.gf_tree.proofs.lemmas.games.Renumbered.{renumbered_is_game}
 use Rattle.gf_tree.proofs.lemmas.stores.RenumberedKept.{entries_mapped, fills_mapped, game_mapped}

@@ -1,11 +1,8 @@
 -- Trees with other nodes in place of theirs.
-use Rattle.std.proofs.Common.{◌≡◌, List, [], ◌∷◌, map, Option, Some, refl, ap, ◌∙◌, inl, inr, arith}
+use Rattle.gf_tree.proofs.Common.{◌≡◌, List, [], ◌∷◌, map, Option, Some, refl, ap, inl, inr, arith}
+use Rattle.gf_tree.proofs.Common.{filter_map, Tree, Trees, count, map_tree, map_trees, branch, none}
+use Rattle.gf_tree.proofs.Common.{more, Entry, flatten, flatten_all}
 use Rattle.std.specs.Prelude.{option_map}
-use Rattle.std.specs.List.{filter_map, cons_option}
-use Rattle.gf_tree.specs.Tree.{Tree, Trees, count, map_tree, map_trees}
-use Rattle.gf_tree.specs.Tree.Tree.{branch}
-use Rattle.gf_tree.specs.Tree.Trees.{none, more}
-use Rattle.gf_tree.specs.PrefixOrder.{Entry, flatten, flatten_all}
 use Rattle.gf_tree.proofs.lemmas.games.Consistent.{map_entry}
 use Rattle.gf_tree.proofs.lemmas.games.Uses.{Has, has_later}
 use Rattle.gf_tree.proofs.lemmas.games.Members.{in_left, in_right}
@@ -52,17 +49,11 @@ pub held_map : {N M X Y : Type 0} (f : N → M) (g : X → Y)
     → filter_map (λ e. holds' e.node) (map (map_entry f) es)
     ≡ map g (filter_map (λ e. holds e.node) es)
 held_map f g holds holds' h [] = refl
-held_map f g holds holds' h (e ∷ es) = rw (h e.node, held_map f g holds holds' h es)
-    (go g (holds e.node) (filter_map (λ e. holds e.node) es))
-  where
-    go : {X Y : Type 0} (g : X → Y) (o : Option X) (xs : List X)
-        → cons_option (option_map g o) (map g xs) ≡ map g (cons_option o xs)
-    go g o xs = grind arith
+held_map f g holds holds' h (e ∷ es) = grind (arith, held_map f g holds holds' h es)
 
 pub held : {N X : Type 0} (holds : N → Option X) (es : List (Entry N)) (e : Entry N) (x : X)
     → Has es e → holds e.node ≡ Some x → Has (filter_map (λ e. holds e.node) es) x
 held holds [] e x i h = absurd i
-held holds (d ∷ es) e x (inl q) h =
-    let s : holds d.node ≡ Some x = ap (λ (c : Entry _). holds c.node) q ∙ h in rw s (inl refl)
+held holds (d ∷ es) e x (inl q) h = grind arith
 held holds (d ∷ es) e x (inr i) h =
     has_later (holds d.node) (filter_map (λ e. holds e.node) es) x (held holds es e x i h)

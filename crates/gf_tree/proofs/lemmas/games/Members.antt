@@ -1,8 +1,8 @@
 -- Lists, element by element.
-use Rattle.std.proofs.Common.{◌≡◌, Bool, true, cond, List, [], ◌∷◌, ◌++◌, map, refl, sym, ap}
-use Rattle.std.proofs.Common.{inl, inr, ℕ, zero, suc, ◌<◌, length, Some, slice_get, arith}
+use Rattle.gf_tree.proofs.Common.{◌≡◌, Bool, true, List, [], ◌∷◌, ◌++◌, map, refl, ap, inl, inr, ℕ}
+use Rattle.gf_tree.proofs.Common.{zero, suc, ◌<◌, length, Some, slice_get, arith, filter}
+use Rattle.gf_tree.proofs.Common.{AllByRecursion}
 use Rattle.std.proofs.lemmas.List.Elements.{filter-append}
-use Rattle.std.specs.List.{filter, AllByRecursion}
 use Rattle.gf_tree.proofs.lemmas.games.Uses.{Has}
 
 pub map_same : {X Y : Type 0} (f g : X → Y) (xs : List X) → ((x : X) → Has xs x → f x ≡ g x)
@@ -50,12 +50,7 @@ all_more P (y ∷ xs) x h k = (h.0, all_more P xs x h.1 k)
 pub filter_of_map : {X Y : Type 0} (p : Y → Bool) (q : X → Bool) (f : X → Y) (xs : List X)
     → ((x : X) → Has xs x → p (f x) ≡ q x) → filter p (map f xs) ≡ map f (filter q xs)
 filter_of_map p q f [] h = refl
-filter_of_map p q f (x ∷ xs) h = rw (h x (inl refl), filter_of_map p q f xs (λ y k. h y (inr k)))
-    (sym (map_cond (q x) f x (filter q xs)))
-  where
-    map_cond : {X Y : Type 0} (b : Bool) (f : X → Y) (x : X) (xs : List X)
-        → map f (cond b (x ∷ xs) xs) ≡ cond b (f x ∷ map f xs) (map f xs)
-    map_cond b f x xs = grind arith
+filter_of_map p q f (x ∷ xs) h = grind (arith, filter_of_map p q f xs (λ y k. h y (inr k)))
 
 -- the filter of these and of one that passes
 pub filter_last : {X : Type 0} (p : X → Bool) (xs : List X) (y : X) (ys : List X) → p y ≡ true

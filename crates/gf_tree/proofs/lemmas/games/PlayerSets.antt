@@ -1,12 +1,8 @@
 -- A game has each player's sets in the order of their first use.
-use Rattle.std.proofs.Common.{◌≡◌, ℕ, Bool, true, false, not, cond, inl, inr, List, [], ◌∷◌, refl}
-use Rattle.std.proofs.Common.{sym, ap, ◌∙◌, arith}
-use Rattle.std.specs.List.{filter}
-use Rattle.std.proofs.lemmas.Bool.{cases_Bool, both_ways, not_from_false}
-use Rattle.gf_tree.specs.Description.{same_set}
-use Rattle.gf_tree.specs.FiniteMap.{first_uses}
-use Rattle.gf_tree.specs.FirstUse.{player_keys, sets_of}
-use Rattle.gf_tree.specs.Game.{Game, IsGame, used_sets}
+use Rattle.gf_tree.proofs.Common.{◌≡◌, ℕ, Bool, true, false, not, cond, List, [], ◌∷◌, refl, ap}
+use Rattle.gf_tree.proofs.Common.{◌∙◌, arith, filter, both_ways, same_set, first_uses, player_keys}
+use Rattle.gf_tree.proofs.Common.{sets_of, Game, IsGame, used_sets}
+use Rattle.std.proofs.lemmas.Bool.{cases_Bool, not_from_false}
 use Rattle.gf_tree.proofs.lemmas.games.FirstUses.{was_used, of_filter}
 use Rattle.gf_tree.proofs.lemmas.games.Members.{filter_of_map, filter_swap, filter_all}
 use Rattle.gf_tree.proofs.lemmas.games.TreesOnce.{same_set_equality}
@@ -28,12 +24,7 @@ passing_first_uses {K} same tells p (k ∷ ks) =
     swapped others = filter_swap p other (first_uses same ks) ∙ ap (filter other) others
 
     all_other : p k ≡ false → (x : K) → Has (first_uses same (filter p ks)) x → other x ≡ true
-    all_other e x i =
-        let passes = (of_filter p ks x (was_used same (filter p ks) x i)).1 in
-        elim (cases_Bool (same k x)) [
-          | inl q ↦ absurd (both_ways (p x) (ap p (sym ((tells k x).0 q)) ∙ e) passes)
-          | inr q ↦ not_from_false (same k x) q
-        ]
+    all_other e x i = grind (arith, of_filter, was_used, cases_Bool, both_ways, not_from_false)
 
     by_test : filter p (first_uses same ks) ≡ first_uses same (filter p ks) → (b : Bool) → p k ≡ b
         → filter p (k ∷ filter other (first_uses same ks))

@@ -1,12 +1,10 @@
 -- Trees and their flat lists in prefix order determine each other.
-use Rattle.std.proofs.Common.{◌≡◌, ℕ, zero, suc, ◌+◌, List, [], ◌∷◌, ◌++◌, refl, sym, ap, subst}
-use Rattle.std.proofs.Common.{◌∙◌, append_assoc, zero-add, arith}
+use Rattle.gf_tree.proofs.Common.{◌≡◌, ℕ, zero, suc, ◌+◌, List, [], ◌∷◌, ◌++◌, refl, sym, ap, subst}
+use Rattle.gf_tree.proofs.Common.{◌∙◌, append_assoc, arith, Tree, Trees, count, branch, none, more}
+use Rattle.gf_tree.proofs.Common.{Entry, flatten, flatten_all, Fills, grow}
+use Rattle.std.proofs.Common.{zero-add}
 use Rattle.std.proofs.lemmas.List.{append-nil}
-use Rattle.gf_tree.specs.Tree.{Tree, Trees, count}
-use Rattle.gf_tree.specs.Tree.Tree.{branch}
-use Rattle.gf_tree.specs.Tree.Trees.{none, more}
-use Rattle.gf_tree.specs.PrefixOrder.{Entry, flatten, flatten_all, Fills}
-use Rattle.gf_tree.specs.Grown.{first, others, grow}
+use Rattle.gf_tree.specs.Grown.{first, others}
 pub use Rattle.gf_tree.specs.GrowsAgain.{grows_again}
 
 -- ---- what was flattened grows again

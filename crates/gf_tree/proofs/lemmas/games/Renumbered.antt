@@ -1,18 +1,13 @@
 -- A game by new numbers is a game; first-use numbers are new numbers.
-use Rattle.std.proofs.Common.{◌≡◌, ℕ, map, length, Option, None, Some, refl, sym, ap, subst, ◌∙◌}
+use Rattle.gf_tree.proofs.Common.{◌≡◌, ℕ, map, length, Option, None, Some, refl, sym, ap, subst}
+use Rattle.gf_tree.proofs.Common.{◌∙◌, AllByRecursion, eq-eqb, Decides-eqb, Entry, flatten, SetKey}
+use Rattle.gf_tree.proofs.Common.{InformationSet, Outcome, same_set, IsSet, IsOutcome, set_of, Node}
+use Rattle.gf_tree.proofs.Common.{Game, IsGame, HasChildren, used_sets, used_outcomes, set_at}
+use Rattle.gf_tree.proofs.Common.{renumbered_node, renumbered, Renumbering, IsRenumbering, HasSet}
+use Rattle.gf_tree.proofs.Common.{renumbered_set, sets_of, Described, first_uses}
 use Rattle.std.specs.Prelude.{nat_eq, option_map, MatchOption}
-use Rattle.std.specs.List.{AllByRecursion}
-use Rattle.std.proofs.lemmas.Bool.{eq-eqb}
-use Rattle.std.proofs.lemmas.Bool.Decides.{Decides-eqb}
-use Rattle.gf_tree.specs.PrefixOrder.{Entry, flatten}
-use Rattle.gf_tree.specs.Description.{SetKey, InformationSet, Outcome, same_set, IsSet, IsOutcome}
-use Rattle.gf_tree.specs.Description.{set_of}
-use Rattle.gf_tree.specs.Game.{outcome_at, Node, Game, IsGame, HasChildren, used_sets}
-use Rattle.gf_tree.specs.Game.{used_outcomes, set_at}
-use Rattle.gf_tree.specs.Renumbering.{renumbered_node, renumbered, Renumbering, IsRenumbering}
-use Rattle.gf_tree.specs.Renumbering.{HasSet, renumbered_set}
-use Rattle.gf_tree.specs.FirstUse.{sets_of, first_use_numbers}
-use Rattle.gf_tree.specs.FiniteMap.{Described, first_uses}
+use Rattle.gf_tree.specs.Game.{outcome_at}
+use Rattle.gf_tree.specs.FirstUse.{first_use_numbers}
 use Rattle.gf_tree.proofs.lemmas.games.FirstUseNumbers.{numbers_apart, number_positive}
 use Rattle.gf_tree.proofs.lemmas.games.Lookups.{at_images}
 use Rattle.gf_tree.proofs.lemmas.games.MappedTrees.{held}
@@ -43,8 +38,7 @@ children_kept : (g h : Game) (f : SetKey → SetKey) (o : Option SetKey) (n : �
     → MatchOption (option_map f o) (n ≡ 0)
     (λ key. option_map (λ set. length set.actions) (set_at h key) ≡ Some n)
 children_kept g h f None n same c = c
-children_kept g h f (Some key) n same c =
-    ap (option_map (λ set. length set.actions)) (same key refl) ∙ c
+children_kept g h f (Some key) n same c = cc (same key refl)
 
 pub renumbered_is_game : (g : Game) (r : Renumbering) → IsGame g → IsRenumbering g r
     → IsGame (renumbered r g)

@@ -1,16 +1,11 @@
 -- Trees by their new numbers.
-use Rattle.std.proofs.Common.{◌≡◌, ℕ, ◌<◌, map, Option, None, Some, refl, sym, ap, subst, ◌∙◌}
-use Rattle.std.proofs.Common.{arith}
+use Rattle.gf_tree.proofs.Common.{◌≡◌, ℕ, ◌<◌, map, Option, None, Some, refl, ap, subst, ◌∙◌, arith}
+use Rattle.gf_tree.proofs.Common.{filter_map, Decides-eqb, Tree, map_tree, Entry, flatten, SetKey}
+use Rattle.gf_tree.proofs.Common.{same_set, set_of, Node, Game, IsGame, used_sets, used_outcomes}
+use Rattle.gf_tree.proofs.Common.{Renumbering, IsRenumbering, renumbered_set, renumbered_node}
+use Rattle.gf_tree.proofs.Common.{renumbered}
 use Rattle.std.specs.Prelude.{nat_eq, option_map}
-use Rattle.std.specs.List.{filter_map}
-use Rattle.std.proofs.lemmas.Bool.Decides.{Decides-eqb}
 use Rattle.std.proofs.lemmas.Iterator.Adapters.{option_map_id}
-use Rattle.gf_tree.specs.Tree.{Tree, map_tree}
-use Rattle.gf_tree.specs.PrefixOrder.{Entry, flatten}
-use Rattle.gf_tree.specs.Description.{SetKey, same_set, set_of}
-use Rattle.gf_tree.specs.Game.{Node, Game, IsGame, used_sets, used_outcomes}
-use Rattle.gf_tree.specs.Renumbering.{Renumbering, IsRenumbering, HasSet, renumbered_set}
-use Rattle.gf_tree.specs.Renumbering.{renumbered_node, renumbered}
 use Rattle.gf_tree.proofs.lemmas.games.FirstUseNumbers.{AreApart}
 use Rattle.gf_tree.proofs.lemmas.games.Consistent.{flatten_map}
 use Rattle.gf_tree.proofs.lemmas.games.Carried.{of_keys, in_keys, at_images_twice, at_images_same}
@@ -46,10 +41,6 @@ option_same : {X Y : Type 0} (f g : X → Y) (o : Option X) → ((x : X) → o �
     → option_map f o ≡ option_map g o
 option_same f g None h = refl
 option_same f g (Some x) h = ap Some (h x refl)
-
-option_twice : {X Y Z : Type 0} (f : X → Y) (g : Y → Z) (o : Option X)
-    → option_map g (option_map f o) ≡ option_map (λ x. g (f x)) o
-option_twice f g o = grind arith
 
 pub agreed_trees : (r s : Renumbering) (t : Tree Node) → Agree r s t
     → map_tree (renumbered_node r) t ≡ map_tree (renumbered_node s) t
@@ -107,11 +98,7 @@ composed_trees r s t = map_tree_twice (renumbered_node s) (renumbered_node r) t 
   where
     node : (e : Entry Node) → Has (flatten t) e
         → renumbered_node s (renumbered_node r e.node) ≡ renumbered_node (composed r s) e.node
-    node e i = λ j. record {
-      name = e.node.name;
-      set = option_twice (renumbered_set r) (renumbered_set s) e.node.set j;
-      outcome = option_twice r.outcome s.outcome e.node.outcome j;
-    }
+    node e i = grind arith
 
 pub composed_games : (r s : Renumbering) (g : Game)
     → renumbered s (renumbered r g) ≡ renumbered (composed r s) g
@@ -128,13 +115,7 @@ composed_games r s g = λ i. record {
 
 pub sets_apart : (g : Game) (r : Renumbering) → IsRenumbering g r
     → AreApart (renumbered_set r) (used_sets g.tree)
-sets_apart g r h a b i j e =
-    let player : a.player ≡ b.player = ap (λ (k : SetKey). k.player) e in
-    let there : HasSet g a.player b.number =
-    subst (λ p. HasSet g p b.number) (sym player) (contains (used_sets g.tree) b j) in
-    let number = h.sets_apart a.player a.number b.number (contains (used_sets g.tree) a i) there
-    (ap (λ (k : SetKey). k.number) e ∙ ap (λ p. r.set p b.number) (sym player)) in
-    λ k. record { player = player k; number = number k }
+sets_apart g r h a b i j e = grind (arith, contains)
 
 pub outcomes_apart : (g : Game) (r : Renumbering) → IsRenumbering g r
     → AreApart r.outcome (used_outcomes g.tree)

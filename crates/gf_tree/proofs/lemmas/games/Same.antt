@@ -1,13 +1,11 @@
 -- Sameness of games: identity, inverse and composition of renumberings.
-use Rattle.std.proofs.Common.{◌≡◌, ℕ, ◌<◌, List, [], ◌∷◌, map, refl, sym, ap, subst, ◌∙◌, arith}
-use Rattle.std.proofs.lemmas.Bool.Decides.{Decides-eqb}
+use Rattle.gf_tree.proofs.Common.{◌≡◌, ℕ, ◌<◌, List, [], ◌∷◌, map, refl, sym, ap, subst, ◌∙◌, arith}
+use Rattle.gf_tree.proofs.Common.{Decides-eqb, map_tree, renumbered_node, Renumbering, HasSet}
+use Rattle.gf_tree.proofs.Common.{renumbered_set, Game, IsGame, used_sets, used_outcomes, SetKey}
+use Rattle.gf_tree.proofs.Common.{same_set, set_of}
 use Rattle.std.specs.Prelude.{nat_eq}
-use Rattle.gf_tree.specs.Tree.{map_tree}
-use Rattle.gf_tree.specs.Renumbering.{renumbered_node, Renumbering, HasSet, HasOutcome}
-use Rattle.gf_tree.specs.Renumbering.{renumbered_set}
-use Rattle.gf_tree.specs.Game.{Game, IsGame, used_sets, used_outcomes}
+use Rattle.gf_tree.specs.Renumbering.{HasOutcome}
 use Rattle.gf_tree.specs.SameGame.{Carries, SameGame}
-use Rattle.gf_tree.specs.Description.{SetKey, same_set, set_of}
 use Rattle.gf_tree.proofs.lemmas.games.FirstUseNumbers.{AreApart}
 use Rattle.gf_tree.proofs.lemmas.games.TreesOnce.{same_set_equality}
 use Rattle.gf_tree.proofs.lemmas.games.Carried.{undo, undone, undone_apart, apart_twice}

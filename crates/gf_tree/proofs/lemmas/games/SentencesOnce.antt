@@ -1,18 +1,12 @@
 -- A list of tokens says at most one thing, node by node.
-use Rattle.std.proofs.Common.{◌≡◌, ℕ, zero, suc, List, [], ◌∷◌, ◌++◌, length, map, drop, refl, sym}
-use Rattle.std.proofs.Common.{ap, subst, ◌∙◌, append_assoc, arith, inl, inr}
-use Rattle.std.specs.Prelude.{Option, Some, None, codes}
+use Rattle.gf_tree.proofs.Common.{◌≡◌, ℕ, zero, suc, List, [], ◌∷◌, ◌++◌, length, map, drop, refl}
+use Rattle.gf_tree.proofs.Common.{sym, ap, subst, ◌∙◌, append_assoc, arith, inl, inr, Ratio, Token}
+use Rattle.gf_tree.proofs.Common.{Text, Bare, IsIndex, Each, braced, IsComment, flatten, Use}
+use Rattle.gf_tree.proofs.Common.{FileNode, FileTree, SetKey, InformationSet, Outcome, IsAction}
+use Rattle.gf_tree.proofs.Common.{IsInformationSet, IsMover, IsStep, IsResult, IsNode}
+use Rattle.gf_tree.proofs.Common.{IsDescription, Sentence, IsOutcomeDescription}
+use Rattle.std.specs.Prelude.{Option, Some, None}
 use Rattle.std.specs.Str.Parse.{digits_value}
-use Rattle.gf_fraction.specs.Ratio.{Ratio}
-use Rattle.gf_token.specs.Token.{Token}
-use Rattle.gf_token.specs.Token.Token.{Text, Bare}
-use Rattle.gf_token.specs.Index.{IsIndex}
-use Rattle.gf_token.specs.Grammar.{Each, braced, IsComment}
-use Rattle.gf_tree.specs.PrefixOrder.{flatten}
-use Rattle.gf_tree.specs.FileTree.{Use, FileNode, FileTree}
-use Rattle.gf_tree.specs.Description.{SetKey, InformationSet, Outcome}
-use Rattle.gf_tree.specs.Sentence.{IsAction, IsInformationSet, IsMover, IsStep, IsResult, IsNode}
-use Rattle.gf_tree.specs.Sentence.{IsDescription, Sentence, IsOutcomeDescription}
 use Rattle.gf_tree.proofs.lemmas.fronts.Groups.{Agree, Begun, BeginsText, NoText, in_front}
 use Rattle.gf_tree.proofs.lemmas.fronts.Groups.{closed_once, opened, texts_once, numbers_once}
 use Rattle.gf_tree.proofs.lemmas.fronts.Groups.{descriptions_once, payoffs_once}
@@ -28,18 +22,11 @@ actions_agree zero first first' rest rest' x y h k e =
     let number = numbers_once h.0 k.0 h.1 k.1 bytes h.3 k.3 in
     let probability = h.4 ∙ ap (λ (p : Ratio). Some p) number ∙ sym k.4 in
     (λ i. record { label = label i; probability = probability i }, ap (drop 2) whole)
-actions_agree (suc player) first first' rest rest' x y h k e =
-    let whole =
-    in_front first first' rest rest' (Text x.label ∷ []) (Text y.label ∷ []) h.0 k.0 e in
-    let label : x.label ≡ y.label = cc in
-    let probability = h.1 ∙ sym k.1 in
-    (λ i. record { label = label i; probability = probability i }, ap (drop 1) whole)
+actions_agree (suc player) first first' rest rest' x y h k e = grind arith
 
 actions_begun : (player : ℕ) → Begun (IsAction player)
-actions_begun zero first rest others x h e =
-    let whole = ap (λ (ts : List Token). ts ++ rest) (sym h.2) ∙ e in absurd cc
-actions_begun (suc player) first rest others x h e =
-    let whole = ap (λ (ts : List Token). ts ++ rest) (sym h.0) ∙ e in absurd cc
+actions_begun zero first rest others x h e = grind arith
+actions_begun (suc player) first rest others x h e = grind arith
 
 sets_agree : (player : ℕ) → Agree (IsInformationSet player)
 sets_agree player first first' rest rest' x y h k e =
@@ -74,38 +61,21 @@ indices_once : (bytes bytes' : List ℕ) (n m : ℕ)
     → bytes ≡ bytes' → IsIndex bytes n → IsIndex bytes' m → n ≡ m
 indices_once bytes bytes' n m e h k = sym h.1 ∙ ap (digits_value 10) e ∙ k.1
 
--- the first byte of a letter
-pub one_letter : (letter : List ℕ) (a b : ℕ) → letter ≡ a ∷ [] → letter ≡ b ∷ [] → a ≡ b
-one_letter letter a b h k = let e = sym h ∙ k in cc
-
 movers_once : (letter letter' : List ℕ) (n m : ℕ) (first first' rest rest' : List Token)
     → letter ≡ letter' → IsMover letter first n → IsMover letter' first' m
     → first ++ rest ≡ first' ++ rest' → (n ≡ m) × (rest ≡ rest')
-movers_once letter letter' zero zero first first' rest rest' l h k e =
-    (refl, in_front first first' rest rest' [] [] h.1 k.1 e)
-movers_once letter letter' zero (suc m) first first' rest rest' l h k e =
-    let x : 99 ≡ 112 = one_letter letter 99 112 h.0 (l ∙ k.1) in absurd (omega (arith, x))
-movers_once letter letter' (suc n) zero first first' rest rest' l h k e =
-    let x : 112 ≡ 99 = one_letter letter 112 99 h.1 (l ∙ k.0) in absurd (omega (arith, x))
-movers_once letter letter' (suc n) (suc m) first first' rest rest' l h k e =
-    let whole = in_front first first' rest rest' (Bare h.0 ∷ []) (Bare k.0 ∷ []) h.2 k.2 e in
-    let bytes : h.0 ≡ k.0 = cc in
-    (indices_once h.0 k.0 (suc n) (suc m) bytes h.3 k.3, ap (drop 1) whole)
-
-no_mover : (letter : List ℕ) (tokens : List Token) (n : ℕ)
-    → letter ≡ codes "t" → IsMover letter tokens n → ⊥
-no_mover letter tokens n h h2 = grind (arith, one_letter)
+movers_once letter letter' zero zero first first' rest rest' l h k e = grind arith
+movers_once letter letter' zero (suc m) first first' rest rest' l h k e = grind arith
+movers_once letter letter' (suc n) zero first first' rest rest' l h k e = grind arith
+movers_once letter letter' (suc n) (suc m) first first' rest rest' l h k e = grind arith
 
 steps_once : (letter letter' : List ℕ) (x y : Option (Use SetKey InformationSet))
     (first first' rest rest' : List Token)
     → letter ≡ letter' → IsStep letter first x → IsStep letter' first' y
     → NoText rest → NoText rest' → first ++ rest ≡ first' ++ rest' → (x ≡ y) × (rest ≡ rest')
-steps_once letter letter' None None first first' rest rest' l h k n m e =
-    (refl, in_front first first' rest rest' [] [] h.1 k.1 e)
-steps_once letter letter' None (Some v) first first' rest rest' l h k n m e =
-    absurd (no_mover letter' k.0 v.key.player (sym l ∙ h.0) k.4)
-steps_once letter letter' (Some u) None first first' rest rest' l h k n m e =
-    absurd (no_mover letter h.0 u.key.player (l ∙ k.0) h.4)
+steps_once letter letter' None None first first' rest rest' l h k n m e = grind arith
+steps_once letter letter' None (Some v) first first' rest rest' l h k n m e = grind arith
+steps_once letter letter' (Some u) None first first' rest rest' l h k n m e = grind arith
 steps_once letter letter' (Some u) (Some v) first first' rest rest' l h k n m e =
     let whole =
     in_front first first' rest rest' (h.0 ++ Bare h.1 ∷ h.2) (k.0 ++ Bare k.1 ∷ k.2) h.3 k.3 e in
@@ -118,11 +88,7 @@ steps_once letter letter' (Some u) (Some v) first first' rest rest' l h k n m e 
     let described = subst (λ p. IsDescription (IsInformationSet p) h.2 u.description) mover.0 h.6 in
     let d = descriptions_once (IsInformationSet v.key.player) (sets_agree v.key.player)
     (sets_begin v.key.player) u.description v.description h.2 k.2 rest rest' described k.6 n m
-    (ap (drop 1) behind) in (
-      λ i. Some
-          (record { key = record { player = mover.0 i; number = number i }; description = d.0 i }),
-      d.1,
-    )
+    (ap (drop 1) behind) in grind arith
 
 -- ---- outcomes
 
@@ -131,24 +97,15 @@ no_text bytes tokens rest e l others f = let whole = sym e ∙ f in cc
 
 pub results_no_text : (players : ℕ) (x : Option (Use ℕ Outcome)) (tokens rest : List Token)
     → IsResult players tokens x → NoText (tokens ++ rest)
-results_no_text players None tokens rest h =
-    no_text h.0 (tokens ++ rest) rest (ap (λ (ts : List Token). ts ++ rest) h.1)
-results_no_text players (Some u) tokens rest h =
-    no_text h.0 (tokens ++ rest) (h.1 ++ rest) (ap (λ (ts : List Token). ts ++ rest) h.2)
+results_no_text players None tokens rest h = grind arith
+results_no_text players (Some u) tokens rest h = grind arith
 
 results_once : (players : ℕ) (x y : Option (Use ℕ Outcome)) (first first' rest rest' : List Token)
     → IsResult players first x → IsResult players first' y
     → NoText rest → NoText rest' → first ++ rest ≡ first' ++ rest' → (x ≡ y) × (rest ≡ rest')
-results_once players None None first first' rest rest' h k n m e =
-    (refl, ap (drop 1) (in_front first first' rest rest' (Bare h.0 ∷ []) (Bare k.0 ∷ []) h.1 k.1 e))
-results_once players None (Some v) first first' rest rest' h k n m e =
-    let bytes : h.0 ≡ k.0 = cc in
-    let zero_is : 0 ≡ v.key = indices_once h.0 k.0 0 v.key bytes h.2 k.3.0 in
-    absurd (omega (arith, zero_is, k.3.1))
-results_once players (Some u) None first first' rest rest' h k n m e =
-    let bytes : h.0 ≡ k.0 = cc in
-    let is_zero : u.key ≡ 0 = indices_once h.0 k.0 u.key 0 bytes h.3.0 k.2 in
-    absurd (omega (arith, is_zero, h.3.1))
+results_once players None None first first' rest rest' h k n m e = grind arith
+results_once players None (Some v) first first' rest rest' h k n m e = grind arith
+results_once players (Some u) None first first' rest rest' h k n m e = grind arith
 results_once players (Some u) (Some v) first first' rest rest' h k n m e =
     let whole = in_front first first' rest rest' (Bare h.0 ∷ h.1) (Bare k.0 ∷ k.1) h.2 k.2 e in
     let bytes : h.0 ≡ k.0 = cc in
@@ -164,20 +121,7 @@ pub node_once : (players : ℕ) (x y : FileNode) (first first' rest rest' : List
     → IsNode players first x → IsNode players first' y → NoText rest → NoText rest'
     → first ++ rest ≡ first' ++ rest' → (x ≡ y) × (rest ≡ rest')
 node_once players x y first first' rest rest' h k n m e =
-    let whole =
-    in_front first first' rest rest' (Bare h.letter ∷ Text x.name ∷ (h.step ++ h.result))
-    (Bare k.letter ∷ Text y.name ∷ (k.step ++ k.result)) h.parts k.parts e in
-    let letter : h.letter ≡ k.letter = cc in
-    let name : x.name ≡ y.name = cc in
-    let behind = sym (append_assoc h.step h.result rest) ∙ ap (drop 2) whole
-    ∙ append_assoc k.step k.result rest' in
-    let step = steps_once h.letter k.letter x.set y.set h.step k.step (h.result ++ rest)
-    (k.result ++ rest') letter h.is_step k.is_step
-    (results_no_text players x.outcome h.result rest h.is_result)
-    (results_no_text players y.outcome k.result rest' k.is_result) behind in
-    let result = results_once players x.outcome y.outcome h.result k.result rest rest' h.is_result
-    k.is_result n m step.1 in
-    (λ i. record { name = name i; set = step.0 i; outcome = result.0 i }, result.1)
+    grind (arith, in_front, append_assoc, steps_once, results_no_text, results_once)
 
 pub nodes_no_text : (players : ℕ) (ns : List FileNode) (tokens : List Token)
     → Each (IsNode players) tokens ns → NoText tokens
@@ -188,10 +132,8 @@ nodes_once : (players : ℕ) (ns ms : List FileNode) (tokens tokens' : List Toke
     → Each (IsNode players) tokens ns → Each (IsNode players) tokens' ms → tokens ≡ tokens'
     → ns ≡ ms
 nodes_once players [] [] tokens tokens' h k e = refl
-nodes_once players [] (m ∷ ms) tokens tokens' h k e =
-    let none = sym h ∙ e ∙ k.2 ∙ ap (λ (ts : List Token). ts ++ k.1) k.3.parts in absurd cc
-nodes_once players (n ∷ ns) [] tokens tokens' h k e =
-    let none = sym k ∙ sym e ∙ h.2 ∙ ap (λ (ts : List Token). ts ++ h.1) h.3.parts in absurd cc
+nodes_once players [] (m ∷ ms) tokens tokens' h k e = grind arith
+nodes_once players (n ∷ ns) [] tokens tokens' h k e = grind arith
 nodes_once players (n ∷ ns) (m ∷ ms) tokens tokens' h k e =
     let a = node_once players n m h.0 k.0 h.1 k.1 h.3 k.3 (nodes_no_text players ns h.1 h.4)
     (nodes_no_text players ms k.1 k.4) (sym h.2 ∙ e ∙ k.2) in
@@ -203,15 +145,10 @@ nodes_once players (n ∷ ns) (m ∷ ms) tokens tokens' h k e =
 comments_once : (x y : List ℕ) (first first' rest rest' : List Token) → IsComment first x
     → IsComment first' y → NoText rest → NoText rest' → first ++ rest ≡ first' ++ rest'
     → (x ≡ y) × (rest ≡ rest')
-comments_once x y first first' rest rest' (inl h) (inl k) n m e =
-    (h.1 ∙ sym k.1, in_front first first' rest rest' [] [] h.0 k.0 e)
-comments_once x y first first' rest rest' (inl h) (inr k) n m e =
-    absurd (n y rest' (in_front first first' rest rest' [] (Text y ∷ []) h.0 k e))
-comments_once x y first first' rest rest' (inr h) (inl k) n m e =
-    absurd (m x rest (sym (in_front first first' rest rest' (Text x ∷ []) [] h k.0 e)))
-comments_once x y first first' rest rest' (inr h) (inr k) n m e =
-    let whole = in_front first first' rest rest' (Text x ∷ []) (Text y ∷ []) h k e in
-    (cc, ap (drop 1) whole)
+comments_once x y first first' rest rest' (inl h) (inl k) n m e = grind arith
+comments_once x y first first' rest rest' (inl h) (inr k) n m e = grind arith
+comments_once x y first first' rest rest' (inr h) (inl k) n m e = grind arith
+comments_once x y first first' rest rest' (inr h) (inr k) n m e = grind arith
 
 -- all that a file tree says but for the numbers of children
 pub record SaysAlike (f g : FileTree) : Type 0 where

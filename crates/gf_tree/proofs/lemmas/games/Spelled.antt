@@ -1,25 +1,18 @@
 -- What a file means is a game that a file can hold.
-use Rattle.std.proofs.Common.{◌≡◌, ℕ, zero, suc, ◌^◌, ◌<◌, List, [], ◌∷◌, ◌++◌, length, map, Some}
-use Rattle.std.proofs.Common.{None, Option, MatchOption, sym, ap, subst, ◌∙◌, arith}
-use Rattle.std.specs.List.{AllByRecursion, cons_option}
-use Rattle.gf_fraction.specs.Ratio.{IsFraction}
+use Rattle.gf_tree.proofs.Common.{◌≡◌, ℕ, zero, suc, ◌^◌, ◌<◌, List, [], ◌∷◌, ◌++◌, length, map}
+use Rattle.gf_tree.proofs.Common.{Some, None, Option, MatchOption, sym, ap, subst, ◌∙◌, arith}
+use Rattle.gf_tree.proofs.Common.{AllByRecursion, cons_option, IsFraction, Token, Closing, Text}
+use Rattle.gf_tree.proofs.Common.{Each, IsPayoffInBraces, Entry, flatten, Action, SetKey}
+use Rattle.gf_tree.proofs.Common.{InformationSet, Outcome, Use, FileNode, FileTree, set_uses}
+use Rattle.gf_tree.proofs.Common.{outcome_uses, Describes, Game, IsGame, IsSpellable}
+use Rattle.gf_tree.proofs.Common.{IsSpellableSet, IsSpellableOutcome, IsDescription, IsAction}
+use Rattle.gf_tree.proofs.Common.{IsInformationSet, IsMover, IsStep, IsResult, IsNode, Sentence}
+use Rattle.gf_tree.proofs.Common.{IsOutcomeDescription, keys_alone, IsGameOf, SpellsGame}
 use Rattle.gf_fraction.proofs.AllElements.{all_parts, all_mapped}
-use Rattle.gf_token.specs.Token.{Token}
 use Rattle.gf_token.specs.LabelSpelling.{IsLabel}
 use Rattle.gf_token.specs.TokenSpelling.{IsSpelled}
-use Rattle.gf_token.specs.Token.Token.{Closing, Text, Bare}
-use Rattle.gf_token.specs.Grammar.{Each, IsPayoffInBraces}
 use Rattle.gf_token.proofs.SpelledTokens.{AllSpelled, all_spelled, braced_spelled, comment_spelled}
-use Rattle.gf_tree.specs.PrefixOrder.{Entry, flatten}
-use Rattle.gf_tree.specs.Description.{Action, SetKey, InformationSet, Outcome}
-use Rattle.gf_tree.specs.FileTree.{Use, FileNode, FileTree, set_uses, outcome_uses}
-use Rattle.gf_tree.specs.Consistent.{Describes}
-use Rattle.gf_tree.specs.Game.{Game, IsGame}
-use Rattle.gf_tree.specs.Spellable.{IsSpellable, IsSpellableAction, IsSpellableSet}
-use Rattle.gf_tree.specs.Spellable.{IsSpellableOutcome}
-use Rattle.gf_tree.specs.Sentence.{IsDescription, IsAction, IsInformationSet, IsMover, IsStep}
-use Rattle.gf_tree.specs.Sentence.{IsResult, IsNode, Sentence, IsOutcomeDescription}
-use Rattle.gf_tree.specs.GameOf.{keys_alone, IsGameOf, SpellsGame}
+use Rattle.gf_tree.specs.Spellable.{IsSpellableAction}
 use Rattle.gf_tree.proofs.lemmas.games.Uses.{each, all_of_each, has}
 use Rattle.gf_tree.proofs.lemmas.games.Consistent.{map_entry, flatten_map, is_game}
 
@@ -37,12 +30,8 @@ each_spelled P Q f (x ∷ xs) tokens h all =
 
 action_spelled : (player : ℕ) (tokens : List Token) (a : Action)
     → IsAction player tokens a → AllSpelled tokens → IsSpellableAction a
-action_spelled zero tokens a h all = (
-  (subst AllSpelled h.2 all).0,
-  subst (λ p. MatchOption p (Unit {0}) IsFraction) (sym h.4) h.3.fraction,
-)
-action_spelled (suc player) tokens a h all =
-    ((subst AllSpelled h.0 all).0, subst (λ p. MatchOption p (Unit {0}) IsFraction) (sym h.1) tt)
+action_spelled zero tokens a h all = grind arith
+action_spelled (suc player) tokens a h all = grind arith
 
 mover_bound : (letter : List ℕ) (tokens : List Token) (player : ℕ) → IsMover letter tokens player
     → player < 2 ^ 32
@@ -75,9 +64,7 @@ set_spelled key (Some d) tokens p n h all =
 step_spelled : (letter : List ℕ) (tokens : List Token) (o : Option (Use SetKey InformationSet))
     → IsStep letter tokens o → AllSpelled tokens → MatchOption o (Unit {0}) SetSpelled
 step_spelled letter tokens None h all = tt
-step_spelled letter tokens (Some u) h all =
-    let k = all_parts IsSpelled h.0 (Bare h.1 ∷ h.2) (subst AllSpelled h.3 all) in
-    set_spelled u.key u.description h.2 (mover_bound letter h.0 u.key.player h.4) h.5.0.2 h.6 k.1.1
+step_spelled letter tokens (Some u) h all = grind (arith, all_parts, set_spelled, mover_bound)
 
 outcome_spelled : (players key : ℕ) (o : Option Outcome) (tokens : List Token)
     → key < 2 ^ 32 → IsDescription (IsOutcomeDescription players) tokens o → AllSpelled tokens
@@ -156,8 +143,7 @@ is_spellable tokens f g all h of =
     let outcomes = outcomes_spelled es nodes in
     record {
       title = subst IsLabel of.kept.title whole.1.1.1.0;
-      comment =
-          subst IsLabel of.kept.comment (comment_spelled h.comment f.comment h.is_comment more.0);
+      comment = cc (comment_spelled h.comment f.comment h.is_comment more.0);
       players = subst (AllByRecursion IsLabel) of.kept.players
           (all_mapped IsSpelled Text f.players heading.0);
       nodes = subst (AllByRecursion (λ e. IsLabel e.node.name)) entries (names_of_nodes es nodes);

@@ -1,18 +1,15 @@
 -- Tokens mean at most one consistent file tree, and at most one game.
-use Rattle.std.proofs.Common.{◌≡◌, ℕ, ◌==◌, nat_eq, List, [], ◌∷◌, map, drop, Some, None, Option}
-use Rattle.std.proofs.Common.{refl, sym, ap, subst, ◌∙◌}
-use Rattle.std.specs.List.{AllByRecursion, filter_map, cons_option}
-use Rattle.std.proofs.lemmas.Bool.Decides.{Decides-eqb, Decides-and}
-use Rattle.gf_token.specs.Token.{Token}
+use Rattle.gf_tree.proofs.Common.{◌≡◌, ℕ, nat_eq, List, [], ◌∷◌, map, drop, Some, None, Option}
+use Rattle.gf_tree.proofs.Common.{refl, sym, ap, subst, ◌∙◌, AllByRecursion, filter_map}
+use Rattle.gf_tree.proofs.Common.{cons_option, Decides-eqb, Token, Entry, flatten, Sentence}
+use Rattle.gf_tree.proofs.Common.{first_uses, Game, used_sets, used_outcomes, SetKey}
+use Rattle.gf_tree.proofs.Common.{InformationSet, same_set, Use, FileNode, FileTree, set_uses}
+use Rattle.gf_tree.proofs.Common.{outcome_uses, AreConsistent, IsConsistent, HasChildrenAsDescribed}
+use Rattle.gf_tree.proofs.Common.{IsGameOf, SpellsGame}
+use Rattle.std.proofs.Common.{◌==◌}
+use Rattle.std.proofs.lemmas.Bool.Decides.{Decides-and}
 use Rattle.gf_token.proofs.Spelled.{same_tokens}
-use Rattle.gf_tree.specs.PrefixOrder.{Entry, flatten}
-use Rattle.gf_tree.specs.Sentence.{Sentence}
-use Rattle.gf_tree.specs.FiniteMap.{first_uses}
-use Rattle.gf_tree.specs.Game.{Game, used_sets, used_outcomes}
-use Rattle.gf_tree.specs.Description.{SetKey, InformationSet, same_set}
-use Rattle.gf_tree.specs.FileTree.{Use, FileNode, FileTree, set_uses, outcome_uses}
-use Rattle.gf_tree.specs.Consistent.{AreConsistent, IsConsistent, HasChildrenAsDescribed}
-use Rattle.gf_tree.specs.GameOf.{IsGameOf, MeansGame, SpellsGame}
+use Rattle.gf_tree.specs.GameOf.{MeansGame}
 use Rattle.gf_tree.proofs.lemmas.games.Prefix.{flatten_once}
 use Rattle.gf_tree.proofs.lemmas.games.Uses.{described_once, Has, has_first, has_later, IsEquality}
 use Rattle.gf_tree.proofs.lemmas.games.Uses.{described}

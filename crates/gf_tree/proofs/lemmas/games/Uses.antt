@@ -1,12 +1,9 @@
 -- Uses of keys: where each key is first used, and which descriptions a consistent list gives.
-use Rattle.std.proofs.Common.{◌≡◌, ◌↔◌, ℕ, zero, suc, ◌<◌, Bool, true, false, List, [], ◌∷◌, ◌++◌}
-use Rattle.std.proofs.Common.{length, map, drop, get_or, Some, None, Option, refl, sym, ap, subst}
-use Rattle.std.proofs.Common.{◌∙◌, arith, inl, inr}
-use Rattle.std.specs.Prelude.{◌⊎◌}
-use Rattle.std.specs.List.{AllByRecursion, Contains, cons_option}
-use Rattle.gf_tree.specs.FiniteMap.{Described}
-use Rattle.gf_tree.specs.FileTree.{Use}
-use Rattle.gf_tree.specs.Consistent.{Describes, AreConsistent}
+use Rattle.gf_tree.proofs.Common.{◌≡◌, ◌↔◌, ℕ, zero, suc, ◌<◌, Bool, true, false, List, [], ◌∷◌}
+use Rattle.gf_tree.proofs.Common.{◌++◌, length, map, drop, get_or, Some, None, Option, refl, sym}
+use Rattle.gf_tree.proofs.Common.{ap, subst, ◌∙◌, arith, inl, inr, ◌⊎◌, AllByRecursion, cons_option}
+use Rattle.gf_tree.proofs.Common.{Described, Use, Describes, AreConsistent}
+use Rattle.std.specs.List.{Contains}
 use Rattle.gf_tree.proofs.lemmas.Once.{true_or_false}
 
 -- ---- an element of a list, by recursion

@@ -1,20 +1,13 @@
 -- Worked files: what the machine of the reader answers to them is computed.
-use Rattle.std.proofs.Common.{◌≡◌, ℕ, List, length, Result, Ok, Err, refl}
+use Rattle.gf_tree.proofs.Common.{◌≡◌, ℕ, List, length, Result, Ok, Err, refl, Fault, Span, Why}
+use Rattle.gf_tree.proofs.Common.{Game, SpellsGame, IsRefusal, game_of, Content, nothing, run}
+use Rattle.gf_tree.proofs.Common.{Format}
 use Rattle.std.specs.Fmt.{digits}
 use Rattle.gf_fraction.specs.Computed.{gcd_within, lowest_of, number_of, sum_of}
 use Rattle.gf_token.specs.Indices.{index_of}
 use Rattle.gf_token.specs.inner.Lexing.{lex}
 use Rattle.gf_token.specs.inner.Lexing.Mode.{Gap}
-use Rattle.gf_token.specs.declared.fault.Fault.{Fault}
-use Rattle.gf_token.specs.declared.fault.Span.{Span}
-use Rattle.gf_token.specs.declared.fault.Why.{Why}
 use Rattle.gf_token.proofs.Spelled.{found}
-use Rattle.gf_tree.specs.Game.{Game}
-use Rattle.gf_tree.specs.GameOf.{SpellsGame}
-use Rattle.gf_tree.specs.Judgement.{IsRefusal}
-use Rattle.gf_tree.specs.inner.ReadGame.{game_of}
-use Rattle.gf_tree.specs.inner.Machine.{Content, nothing, run}
-use Rattle.gf_tree.specs.inner.Machine.Position.{Format}
 use Rattle.gf_tree.specs.WorkedTrees.{five, five_file}
 use Rattle.gf_tree.proofs.lemmas.fronts.Judged.{refuses}
 use Rattle.gf_tree.proofs.lemmas.runs.Stops.{machine_spells}

@@ -1,31 +1,18 @@
 -- The answer of the machine to the tokens of a file is what the file means: the one game that its
 -- bytes spell, or a refusal where one is due.
-use Rattle.std.proofs.Common.{◌≡◌, ℕ, List, [], ◌∷◌, ◌++◌, length, Result, Ok, Err, refl, sym, ap}
-use Rattle.std.proofs.Common.{subst, ◌∙◌}
-use Rattle.gf_token.specs.Token.{Token, Lexeme}
-use Rattle.gf_token.specs.TokenSpelling.{Spells}
-use Rattle.gf_token.specs.Place.{tokens_of, IsSpanOf}
-use Rattle.gf_token.specs.declared.fault.Fault.{Fault}
-use Rattle.gf_token.specs.declared.fault.Span.{Span}
-use Rattle.gf_token.specs.declared.fault.Why.{Why}
+use Rattle.gf_tree.proofs.Common.{◌≡◌, ℕ, List, [], ◌∷◌, ◌++◌, length, Ok, Err, refl, sym, ap}
+use Rattle.gf_tree.proofs.Common.{subst, ◌∙◌, Token, Lexeme, Spells, tokens_of, Fault, Span, Why}
+use Rattle.gf_tree.proofs.Common.{SetKey, InformationSet, Outcome, Described, Game, IsGame, Node}
+use Rattle.gf_tree.proofs.Common.{SpellsGame, game_with, IsRefusal, Kept, entries_with, game_of}
+use Rattle.gf_tree.proofs.Common.{IsSpellable, Content, nothing, run, Format, Entry, Fills, heard}
+use Rattle.gf_token.specs.Place.{IsSpanOf}
 use Rattle.gf_token.specs.declared.fault.Why.TheVariants.{Memory, TooLong, UnknownOutcome}
 use Rattle.gf_token.specs.declared.fault.Why.TheVariants.{TooManyProfiles}
 use Rattle.gf_token.proofs.Spelled.{same_tokens}
-use Rattle.gf_tree.specs.Description.{SetKey, InformationSet, Outcome}
-use Rattle.gf_tree.specs.FiniteMap.{Described}
-use Rattle.gf_tree.specs.Game.{Game, IsGame, Node}
-use Rattle.gf_tree.specs.GameOf.{SpellsGame}
-use Rattle.gf_tree.specs.inner.GameParts.{game_with}
-use Rattle.gf_tree.specs.Judgement.{IsJudged, IsRefusal}
-use Rattle.gf_tree.specs.KeptNodes.{Kept, entries_with}
+use Rattle.gf_tree.specs.Judgement.{IsJudged}
 use Rattle.gf_tree.specs.inner.Passed.{HasPassed}
-use Rattle.gf_tree.specs.inner.ReadGame.{game_of}
 use Rattle.gf_tree.specs.Reason.{IsReason}
-use Rattle.gf_tree.specs.Spellable.{IsSpellable}
-use Rattle.gf_tree.specs.inner.Machine.{Content, nothing, run}
-use Rattle.gf_tree.specs.inner.Machine.Position.{Format}
-use Rattle.gf_tree.specs.PrefixOrder.{Entry, Fills}
-use Rattle.gf_tree.specs.inner.ReaderState.{Answer, Fails, HasPassedPlace, heard}
+use Rattle.gf_tree.specs.inner.ReaderState.{Answer, Fails, HasPassedPlace}
 use Rattle.gf_tree.specs.inner.ReaderState.Fails.{of_file, of_memory}
 use Rattle.gf_tree.proofs.lemmas.fronts.Judged.{refuses}
 use Rattle.gf_tree.proofs.lemmas.games.Spelled.{spelled_is_spellable}
@@ -57,9 +44,6 @@ read_is_spellable bytes ls c spelled e =
     (spelled_is_spellable bytes (game_of c) (read_spells bytes ls c spelled e)).1
 
 -- ---- no other game is spelled
-
-abbrev ok_run : Content → Result Content Fault
-ok_run c = Ok c
 
 -- the machine reads these tokens to each game that the bytes spell
 spelled_read : (bytes : List ℕ) (ls : List Lexeme) (g : Game)

@@ -1,48 +1,35 @@
 -- What the reader keeps still stands for the same when more is known.
-use Rattle.std.proofs.Common.{◌≡◌, ◌<◌, ◌≤◌, ℕ, zero, suc, Bool, true, false, List, [], ◌∷◌, ◌++◌}
-use Rattle.std.proofs.Common.{length, map, Option, Some, None, option_map, slice_get, refl, sym, ap}
-use Rattle.std.proofs.Common.{◌∙◌, arith, subst}
-use Rattle.std.proofs.lemmas.Bool.Decides.{Decides-eqb}
-use Rattle.std.specs.Prelude.{position, nat_eq, Result, Ok, Err, OnOk, IfErr, IfOk, IfNone}
-use Rattle.std.specs.Prelude.{if◌then◌else◌, MatchResult, ◌==◌}
+use Rattle.gf_tree.proofs.Common.{◌≡◌, ◌<◌, ◌≤◌, ℕ, zero, suc, Bool, true, false, List, [], ◌∷◌}
+use Rattle.gf_tree.proofs.Common.{◌++◌, length, map, Option, Some, None, option_map, slice_get}
+use Rattle.gf_tree.proofs.Common.{refl, sym, ap, ◌∙◌, arith, subst, Decides-eqb, position, ◌==◌}
+use Rattle.gf_tree.proofs.Common.{length-map, KnownSets, set_with, Action, InformationSet, Outcome}
+use Rattle.gf_tree.proofs.Common.{SetKey, same_set, set_of, Game, actions_of, slice_get_within}
+use Rattle.gf_tree.proofs.Common.{position_from-zero, Ratio, label_of, at_position, count_of}
+use Rattle.gf_tree.proofs.Common.{Described, description_at, Remaining, Span, Fault, AreAmong, Kept}
+use Rattle.gf_tree.proofs.Common.{entries_with, Begun, Content, begun, behind_set, nothing, run}
+use Rattle.gf_tree.proofs.Common.{set_ends, Position, State, new_set_ends, with_action, Format}
+use Rattle.gf_tree.proofs.Common.{KnownSetName, NewAction, OutcomeNumber, SetNumber, Why, Lexeme}
+use Rattle.gf_tree.proofs.Common.{Bare, Closing, heard}
+use Rattle.std.specs.Prelude.{nat_eq, Result, Ok, Err, OnOk, IfErr, IfOk, IfNone, if◌then◌else◌}
+use Rattle.std.specs.Prelude.{MatchResult}
 use Rattle.std.specs.List.{find}
-use Rattle.std.proofs.lemmas.List.{length-map}
 use Rattle.std.proofs.lemmas.List.Quantifiers.{position-Some}
-use Rattle.gf_tree.specs.KnownSets.{KnownSets, with_pending_set}
+use Rattle.gf_tree.specs.KnownSets.{with_pending_set}
 use Rattle.gf_tree.specs.inner.KnownOutcomes.{KnownOutcomes, with_pending_outcome}
 use Rattle.gf_tree.specs.declared.reader.Reader.{Reader}
-use Rattle.gf_tree.specs.Description.{outcome_with, set_with, Action, InformationSet, Outcome}
-use Rattle.gf_tree.specs.Description.{SetKey, same_set, set_of}
-use Rattle.gf_tree.specs.Game.{Game}
+use Rattle.gf_tree.specs.Description.{outcome_with}
 use Rattle.gf_tree.specs.Judgement.{IsReadAs}
-use Rattle.gf_tree.specs.Actions.{actions_of}
-use Rattle.std.proofs.lemmas.Option.{slice_get_within}
-use Rattle.std.proofs.lemmas.Iterator.Adapters.{position_from-zero}
-use Rattle.gf_fraction.specs.Ratio.{Ratio}
-use Rattle.gf_token.specs.Label.{label_of}
-use Rattle.gf_token.specs.Positions.{at_position}
-use Rattle.gf_token.specs.Indices.{count_of}
-use Rattle.gf_tree.specs.FiniteMap.{Described, description_at}
 use Rattle.gf_tree.proofs.lemmas.runs.Passed.{passed_before}
-use Rattle.gf_token.specs.Remaining.{Remaining, StandsBefore}
-use Rattle.gf_token.specs.declared.fault.Span.{Span}
+use Rattle.gf_token.specs.Remaining.{StandsBefore}
 use Rattle.gf_token.specs.declared.token.TextToken.{TextToken}
-use Rattle.gf_token.specs.declared.fault.Fault.{Fault}
-use Rattle.gf_tree.specs.KeptNodes.{AreAmong, Kept, actions_counted, entries_with}
-use Rattle.gf_tree.specs.inner.Machine.{Begun, Content, begun, behind_set, nothing, run, set_ends}
-use Rattle.gf_tree.specs.inner.Machine.{set_known, then_on, with_outcome, with_set, Position, State}
-use Rattle.gf_tree.specs.inner.Machine.{new_set_ends, with_action}
-use Rattle.gf_tree.specs.inner.Machine.Position.{Format, KnownSetName, NewAction, OutcomeNumber}
-use Rattle.gf_tree.specs.inner.Machine.Position.{SetNumber}
+use Rattle.gf_tree.specs.KeptNodes.{actions_counted}
+use Rattle.gf_tree.specs.inner.Machine.{set_known, then_on, with_outcome, with_set}
 use Rattle.gf_tree.specs.inner.AddsUp.{adds_up}
-use Rattle.gf_token.specs.declared.fault.Why.{Why}
 use Rattle.gf_token.specs.declared.fault.Why.TheVariants.{Memory, SumBelowOne}
-use Rattle.gf_token.specs.Token.{Lexeme, lexeme}
-use Rattle.gf_token.specs.Token.Token.{Bare, Closing}
+use Rattle.gf_token.specs.Token.{lexeme}
 use Rattle.gf_tree.specs.inner.FoundSet.{FoundOutcome, FoundSet}
 use Rattle.gf_tree.specs.inner.ReaderState.{Answer, Fails, Goes, Grows, answer, begun_with}
-use Rattle.gf_tree.specs.inner.ReaderState.{with_text, content_of, heard}
-use Rattle.gf_tree.specs.inner.ReaderState.Fails.{of_memory}
+use Rattle.gf_tree.specs.inner.ReaderState.{with_text, content_of}
 use Rattle.gf_tree.proofs.lemmas.stores.FoundKeys.{described_at, found_from, set_in_parts}
 use Rattle.gf_tree.proofs.lemmas.games.TreesOnce.{same_set_equality}
 use Rattle.gf_tree.proofs.lemmas.games.Uses.{IsEquality}
@@ -100,12 +87,7 @@ pub placed_among_more : (sets outcomes more_sets more_outcomes : ℕ) (nodes : L
     → sets ≤ more_sets → outcomes ≤ more_outcomes
     → AreAmong sets outcomes nodes → AreAmong more_sets more_outcomes nodes
 placed_among_more s o t p [] hs ho h = tt
-placed_among_more s o t p (n ∷ ns) hs ho h =
-    let set = h.0.set in
-    let outcome = h.0.outcome in (
-      record { set = omega (arith, set, hs); outcome = omega (arith, outcome, ho) },
-      placed_among_more s o t p ns hs ho h.1,
-    )
+placed_among_more s o t p (n ∷ ns) hs ho h = grind (arith, placed_among_more s o t p ns hs ho h.1)
 
 pub placed_one_more : (sets outcomes : ℕ) (nodes : List Kept) (n : Kept)
     → AreAmong sets outcomes nodes → n.set ≤ sets → n.outcome ≤ outcomes
@@ -118,11 +100,7 @@ placed_one_more s o (m ∷ ms) n h set outcome = (h.0, placed_one_more s o ms n 
 pub new_begun : (known : List (Described SetKey InformationSet))
     (s : Described SetKey InformationSet) (node : List ℕ)
     → begun_with (known ++ s ∷ []) node (suc (length known)) ≡ begun node s.key s.description
-new_begun known s node = λ i. record {
-  name = node;
-  set = option_map (λ x. x.key) (get_next known s i);
-  children = actions_counted (get_next known s i);
-}
+new_begun known s node = grind (arith, get_next)
 
 module _ {K D : Type 0} (same : K → K → Bool) (tells : IsEquality same) (key : K) where
   found_more : (e : Described K D) (es : List (Described K D)) (s : Described K D)
@@ -159,12 +137,7 @@ found_set known key place name actions at named acts = by (slice_get known place
         let key_is = key_at same_set same_set_equality key known place s at is in
         record {
           described = described_at same_set same_set_equality key known place at ∙ parts;
-          begins = λ node. (λ i. record {
-            name = node;
-            set = option_map (λ x. x.key) (is i);
-            children = actions_counted (is i);
-          }) ∙ (λ i.
-              record { name = node; set = Some (key_is i); children = length (one i).actions });
+          begins = λ node. cc;
           within = slice_get_within known place s is;
         }
 
@@ -188,10 +161,8 @@ module _ {E : Type 0} (r : Reader) (sets : KnownSets) (key : SetKey) (name : Lis
       begun_with sets.known node (suc place) ≡ begun node key (set_with name r.sets.pending))
   kept_begun node (Err e) h is = tt
   kept_begun node (Ok place) h is =
-      ap (λ (k : KnownSets). begun_with k.known node (suc place)) h
-      ∙ ap (λ (p : ℕ). begun_with (with_pending_set r.sets key name).known node (suc p)) is
-      ∙ new_begun r.sets.known (record { key = key; description = set_with name r.sets.pending })
-      node
+      cc (new_begun r.sets.known (record { key = key; description = set_with name r.sets.pending })
+      node)
 
 -- ---- an outcome that is kept
 
@@ -201,27 +172,20 @@ module _ {E : Type 0} (r : Reader) (outcomes : KnownOutcomes) (number : ℕ) (na
       → OnOk result (content_of (record r { outcomes = outcomes })
       ≡ with_outcome (content_of r) number (outcome_with name r.outcomes.pending))
   kept_outcome_content (Err e) h = tt
-  kept_outcome_content (Ok place) h =
-      ap (λ (k : KnownOutcomes). content_of (record r { outcomes = k })) h
+  kept_outcome_content (Ok place) h = cc
 
   pub kept_outcome_grows : (result : Result ℕ E)
       → OnOk result (outcomes ≡ with_pending_outcome r.outcomes number name)
       → OnOk result (Grows r.outcomes.known outcomes.known)
   kept_outcome_grows (Err e) h = tt
-  kept_outcome_grows (Ok place) h =
-      record { more = _; parts = ap (λ (k : KnownOutcomes). k.known) h }
+  kept_outcome_grows (Ok place) h = grind arith
 
   pub kept_outcome_key : (result : Result ℕ E)
       → OnOk result (outcomes ≡ with_pending_outcome r.outcomes number name)
       → IfOk result (λ place. place ≡ length r.outcomes.known) → IfOk result
       (λ place. option_map (λ o. o.key) (slice_get outcomes.known place) ≡ Some number)
   kept_outcome_key (Err e) h is = tt
-  kept_outcome_key (Ok place) h is =
-      ap (λ (k : KnownOutcomes). option_map (λ o. o.key) (slice_get k.known place)) h
-      ∙ ap (λ (p : ℕ).
-      option_map (λ o. o.key) (slice_get (with_pending_outcome r.outcomes number name).known p))
-      is ∙ ap (option_map (λ o. o.key)) (get_next r.outcomes.known
-      (record { key = number; description = outcome_with name r.outcomes.pending }))
+  kept_outcome_key (Ok place) h is = grind (arith, get_next)
 
 pub if_none : {A : Type 0} {P : Type 0} (o : Option A) → P → IfNone o P
 if_none None p = p
@@ -269,8 +233,7 @@ new_ended : (c : Content) (node : List ℕ) (player n : ℕ) (set : InformationS
     ≡ Ok (set_known c node (set_of player n) set)
 new_ended c node player n set [] actions sum some is adds = absurd cc
 new_ended c node player n set (h ∷ hs) [] sum some is adds = absurd cc
-new_ended c node player n set (h ∷ hs) (a ∷ actions) sum some is adds =
-    cc (set_ends_by c node player n set sum, adds)
+new_ended c node player n set (h ∷ hs) (a ∷ actions) sum some is adds = grind arith
 
 pub set_end : (c d : Content) (node : List ℕ) (player n : ℕ) (name : List ℕ)
     (actions : List Action) (sum : Ratio) (a b : ℕ) (all rest behind : Remaining)
@@ -341,8 +304,7 @@ found_outcome known number place at = by (slice_get known place) refl
 -- a reader before the first token stands for the machine before it
 pub heard_begun : (r : Reader) (bytes : List ℕ) → r.tokens.input ≡ bytes → content_of r ≡ nothing
     → heard Format nothing (record { input = bytes; ahead = r.tokens.ahead }) ≡ answer Format r
-heard_begun r bytes input none =
-    λ i. heard Format (sym none i) (record { input = sym input i; ahead = r.tokens.ahead })
+heard_begun r bytes input none = cc
 
 -- if the file is refused
 pub refused_only : (f : Fault) (g : Game) (result : Result Game Fault) → result ≡ Err f
@@ -359,10 +321,7 @@ refused_why f P result e h = subst (λ r. IfErr r P) (sym e) h
 pub wants_memory : {f : Fault} {span : Span} {t : Remaining} {a : Answer} → StandsBefore t span
     → f ≡ record { span = span; why = Memory } → (q : Position) (c : Content) → a ≡ heard q c t
     → Fails f a
-wants_memory {f} {span} {t} {a} stands is q c goes =
-    subst (λ g. Fails g a) (sym is) (carried
-    (of_memory refl (record { place = stands.place; passed = passed_before t span stands q c }))
-    goes)
+wants_memory {f} {span} {t} {a} stands is q c goes = grind (arith, carried, passed_before)
 
 -- at the label of a player's action
 pub labelled : (t : Remaining) (label : TextToken) (c : Content) (node : List ℕ) (player n : ℕ)

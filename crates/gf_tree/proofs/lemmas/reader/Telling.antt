@@ -1,31 +1,20 @@
 -- What a reader has told of the nodes of a file, and that the machine goes on after it.
-use Rattle.std.proofs.Common.{◌≡◌, ◌<◌, ◌≤◌, ◌+◌, ◌-◌, ℕ, List, [], ◌∷◌, ◌++◌, length, max, map}
-use Rattle.std.proofs.Common.{take, Option, Some, None, option_map, Result, Ok, Err, refl, sym, ap}
-use Rattle.std.proofs.Common.{subst, ◌∙◌, append_assoc, append-nil, arith}
-use Rattle.std.proofs.lemmas.List.{length-append, take-append-le}
-use Rattle.gf_token.specs.Positions.{at_position}
-use Rattle.gf_token.specs.declared.fault.Fault.{Fault}
-use Rattle.gf_tree.specs.Description.{InformationSet, Outcome, SetKey, set_of}
-use Rattle.gf_tree.specs.FiniteMap.{Described}
-use Rattle.gf_tree.specs.Game.{Node}
-use Rattle.gf_tree.specs.KeptNodes.{position_of, AreAmong, IsAmong, Kept, child_count, entries_with}
-use Rattle.gf_tree.specs.KeptNodes.{entry_with}
-use Rattle.gf_tree.specs.PrefixOrder.{Entry}
-use Rattle.gf_tree.specs.KnownSets.{KnownSets, known_of}
+use Rattle.gf_tree.proofs.Common.{◌≡◌, ◌<◌, ◌≤◌, ◌+◌, ◌-◌, ℕ, List, [], ◌∷◌, ◌++◌, length, max, map}
+use Rattle.gf_tree.proofs.Common.{Option, option_map, Result, Ok, Err, refl, sym, ap, subst, ◌∙◌}
+use Rattle.gf_tree.proofs.Common.{append_assoc, append-nil, arith, length-append, at_position}
+use Rattle.gf_tree.proofs.Common.{Fault, InformationSet, Outcome, SetKey, Described, Node, AreAmong}
+use Rattle.gf_tree.proofs.Common.{IsAmong, Kept, entries_with, Entry, Position, with_node, NodeDue}
+use Rattle.gf_tree.proofs.Common.{heard}
+use Rattle.std.proofs.lemmas.List.{take-append-le}
+use Rattle.gf_tree.specs.KeptNodes.{position_of, child_count, entry_with}
 use Rattle.gf_tree.specs.declared.reader.Reader.{Reader}
-use Rattle.gf_tree.specs.inner.KnownOutcomes.{KnownOutcomes}
-use Rattle.gf_tree.specs.inner.Passed.{HasPassed}
-use Rattle.gf_tree.specs.inner.Machine.{Content, Position, with_node}
-use Rattle.gf_tree.specs.inner.Machine.Position.{NodeDue}
 use Rattle.std.specs.Prelude.{MatchOption, ⊤}
-use Rattle.gf_tree.specs.inner.ReaderState.{Answer, Fails, Goes, GoesTelling, Grows, HasRead}
-use Rattle.gf_tree.specs.inner.ReaderState.{HasReadAll, HasTold, Tells, TellsNode, answer}
-use Rattle.gf_tree.specs.inner.ReaderState.{begun_with, behind, content_of, content_with, heard}
-use Rattle.gf_tree.specs.inner.ReaderState.{with_nodes}
-use Rattle.gf_tree.specs.inner.ReaderState.Fails.{of_file, of_memory}
-use Rattle.gf_tree.specs.Told.{Heading, Told, if_next, kept_as, told_from, told_node, told_outcome}
-use Rattle.gf_tree.specs.Told.{told_set, used_outcomes_from, used_sets_from}
-use Rattle.gf_tree.proofs.lemmas.reader.Steps.{at_before, carried, outcomes_grow, placed_among_more}
+use Rattle.gf_tree.specs.inner.ReaderState.{Answer, Goes, GoesTelling, Grows, HasRead, HasReadAll}
+use Rattle.gf_tree.specs.inner.ReaderState.{HasTold, Tells, TellsNode, answer, begun_with, behind}
+use Rattle.gf_tree.specs.inner.ReaderState.{content_of, content_with}
+use Rattle.gf_tree.specs.Told.{Heading, Told, kept_as, told_from, told_node, told_outcome, told_set}
+use Rattle.gf_tree.specs.Told.{used_outcomes_from, used_sets_from}
+use Rattle.gf_tree.proofs.lemmas.reader.Steps.{at_before, outcomes_grow, placed_among_more}
 use Rattle.gf_tree.proofs.lemmas.reader.Steps.{placed_one_more, sets_grow}
 use Rattle.gf_tree.proofs.lemmas.runs.Earlier.{heard_more}
 
@@ -35,35 +24,16 @@ module _ (sets more_sets : List (Described SetKey InformationSet))
     (outcomes more_outcomes : List (Described ℕ Outcome)) where
   set_stays : (used p : ℕ) → p ≤ length sets
       → told_set (sets ++ more_sets) used p ≡ told_set sets used p
-  set_stays used p h =
-      ap (option_map (λ (s : Described SetKey InformationSet). record {
-        key = set_of s.key.player
-            (length (known_of s.key.player (take p (sets ++ more_sets))));
-        description = if_next used p s.description;
-      })) (at_before sets more_sets p h) ∙ ap (λ (front : List (Described SetKey InformationSet)).
-      option_map (λ (s : Described SetKey InformationSet). record {
-        key = set_of s.key.player (length (known_of s.key.player front));
-        description = if_next used p s.description;
-      }) (at_position sets p)) (take-append-le p sets more_sets h)
+  set_stays used p h = grind (arith, at_before, take-append-le)
 
   outcome_stays : (used p : ℕ) → p ≤ length outcomes
       → told_outcome (outcomes ++ more_outcomes) used p ≡ told_outcome outcomes used p
-  outcome_stays used p h = ap (option_map (λ (o : Described ℕ Outcome).
-      record { key = p; description = if_next used p o.description }))
-      (at_before outcomes more_outcomes p h)
+  outcome_stays used p h = grind (arith, at_before)
 
   node_stays : (used_sets used_outcomes : ℕ) (n : Kept) → IsAmong (length sets) (length outcomes) n
       → told_node (sets ++ more_sets) (outcomes ++ more_outcomes) used_sets used_outcomes n
       ≡ told_node sets outcomes used_sets used_outcomes n
-  node_stays used_sets used_outcomes n h = λ i. record {
-    node = record {
-      name = n.name;
-      set = set_stays used_sets n.set h.set i;
-      outcome = outcome_stays used_outcomes n.outcome h.outcome i;
-    };
-    set = n.set;
-    outcome = n.outcome;
-  }
+  node_stays used_sets used_outcomes n h = grind (arith, set_stays, outcome_stays)
 
   told_stays : (used_sets used_outcomes : ℕ) (ns : List Kept)
       → AreAmong (length sets) (length outcomes) ns
@@ -108,23 +78,7 @@ entries_more sets outcomes (m ∷ ms) n = grind (arith, entries_more sets outcom
 
 behind_both : (ns ms : List (Entry Node)) (a : Answer)
     → behind ns (behind ms a) ≡ behind (ns ++ ms) a
-behind_both ns ms a = ap (λ (m : Result Content Fault). record { input = a.input; machine = m })
-    (by a.machine)
-  where
-    by : (m : Result Content Fault) → with_nodes ns (with_nodes ms m) ≡ with_nodes (ns ++ ms) m
-    by m = grind (arith, append_assoc)
-
--- what is refused after nodes is refused with them
-pub fails_behind : {f : Fault} {a : Answer} (ns : List (Entry Node)) → Fails f a
-    → Fails f (behind ns a)
-fails_behind {f} {a} ns (of_file e) = of_file (ap (with_nodes ns) e)
-fails_behind {f} {a} ns (of_memory is h) =
-    of_memory is (record { place = h.place; passed = by a.machine h.passed })
-  where
-    by : (m : Result Content Fault) → HasPassed m f.span.start
-        → HasPassed (with_nodes ns m) f.span.start
-    by (Ok c) p = tt
-    by (Err fault) p = p
+behind_both ns ms a = grind (arith, append_assoc)
 
 -- ---- lists that grow
 
@@ -150,12 +104,8 @@ pub told_goes : (old new : Reader) (node : Kept)
     (option_map (λ o. o.key) (at_position old.outcomes.known node.outcome))) old.tokens
     ≡ behind (entry_with new.sets.known new.outcomes.known node ∷ []) (answer q new)
 told_goes old new node content tokens sets outcomes q =
-    heard_more (entry_with old.sets.known old.outcomes.known node ∷ []) q
-    (record (content_of old) {
-      due = child_count old.sets.known node.set + (old.due - 1);
-    }) old.tokens ∙ (λ i. behind
-    (entry_with (sym sets i).known (sym outcomes i).known node ∷ [])
-    (heard q (sym content i) (sym tokens i)))
+    cc (heard_more (entry_with old.sets.known old.outcomes.known node ∷ []) q (record (content_of
+    old) { due = child_count old.sets.known node.set + (old.due - 1) }) old.tokens)
 
 module _ {T : Type 0} {holds : T → T → Heading → List Told → Type 0} {before : Answer}
     {from to : T} where
@@ -170,27 +120,7 @@ module _ {T : Type 0} {holds : T → T → Heading → List Told → Type 0} {be
       → new ≡ record m { tokens = new.tokens } → answer q m ≡ answer NodeDue new
       → Tells holds before old new from to
   tells q {old} {r} {m} {new} {node} told_sets told_outcomes sets outcomes placed h e kept goes =
-      let ms : m.sets ≡ r.sets = ap (λ (x : Reader). x.sets) h.kept in
-      let mo : m.outcomes ≡ r.outcomes = ap (λ (x : Reader). x.outcomes) h.kept in
-      let ns : new.sets ≡ m.sets = ap (λ (x : Reader). x.sets) kept in
-      let no : new.outcomes ≡ m.outcomes = ap (λ (x : Reader). x.outcomes) kept in
-      let s = ns ∙ ms in
-      let o = no ∙ mo in
-      record {
-        node = node;
-        goes = e ∙ h.goes q ∙ (λ i.
-            behind (entry_with (sym ns i).known (sym no i).known node ∷ []) (goes i));
-        placed = rw s (subst (λ (k : KnownOutcomes). IsAmong (length r.sets.known) (length k.known)
-            node) (sym o) placed);
-        told = λ untold heading told holding. subst
-            (λ (x : Told). holds untold to heading (told ++ x ∷ []))
-            (λ i. told_node (sym s i).known (sym o i).known (told_sets i) (told_outcomes i) node)
-            (h.told untold heading told holding);
-        told_sets = cc (kept, h.told_sets);
-        told_outcomes = cc (kept, h.told_outcomes);
-        sets = subst (λ (k : KnownSets). Grows old.sets.known k.known) (sym s) sets;
-        outcomes = subst (λ (k : KnownOutcomes). Grows old.outcomes.known k.known) (sym o) outcomes;
-      }
+      grind arith
 
   -- the same if a description that is repeated comes after it
   pub tells_again : {A : Type 0} (q : Position) (old r m new : Reader) (node : Kept)
@@ -206,8 +136,7 @@ module _ {T : Type 0} {holds : T → T → Heading → List Told → Type 0} {be
   tells_again q old r m new node (Ok x) told_sets told_outcomes sets outcomes placed h e kept goes =
       tells q told_sets told_outcomes sets outcomes placed h e kept goes
   tells_again q old r m new node (Err f) told_sets told_outcomes sets outcomes placed h e kept
-      goes = carried (fails_behind (entry_with m.sets.known m.outcomes.known node ∷ []) goes)
-      (e ∙ h.goes q)
+      goes = grind arith
 
 pub placed_at : (sets outcomes : ℕ) (name : List ℕ) (set outcome : Option ℕ)
     → MatchOption set ⊤ (λ place. place < sets) → MatchOption outcome ⊤ (λ place. place < outcomes)
@@ -216,11 +145,7 @@ pub placed_at : (sets outcomes : ℕ) (name : List ℕ) (set outcome : Option �
       set = position_of set;
       outcome = position_of outcome;
     })
-placed_at sets outcomes name set outcome s o = record { set = by set s; outcome = by outcome o }
-  where
-    by : {n : ℕ} (place : Option ℕ) → MatchOption place ⊤ (λ p. p < n) → position_of place ≤ n
-    by {n} None h = omega arith
-    by {n} (Some p) h = omega (arith, h)
+placed_at sets outcomes name set outcome s o = grind arith
 
 -- ---- the nodes of a file
 
@@ -244,9 +169,7 @@ module _ {T : Type 0} (holds : T → T → Heading → List Told → Type 0) (un
     where
       same : told_from new.sets.known new.outcomes.known 0 0 nodes
           ≡ told_from old.sets.known old.outcomes.known 0 0 nodes
-      same = (λ i. told_from (h.sets.parts i) (h.outcomes.parts i) 0 0 nodes)
-          ∙ told_stays old.sets.known h.sets.more old.outcomes.known h.outcomes.more 0 0 nodes
-          k.placed
+      same = grind (arith, told_stays)
 
       whole : told_from new.sets.known new.outcomes.known 0 0 (nodes ++ h.node ∷ [])
           ≡ told_from new.sets.known new.outcomes.known 0 0 nodes
@@ -259,23 +182,20 @@ module _ {T : Type 0} (holds : T → T → Heading → List Told → Type 0) (un
       → HasRead (λ t told. holds untold t heading told) start NodeDue new to
   read_one_more {start} {old} {new} {from} {to} k h = record {
     nodes = k.nodes ++ h.node ∷ [];
-    goes = k.goes ∙ (λ i. behind (entries i) (h.goes i))
-        ∙ behind_both (entries_with new.sets.known new.outcomes.known k.nodes)
-        (entry_with new.sets.known new.outcomes.known h.node ∷ []) (answer NodeDue new)
-        ∙ ap (λ (es : List (Entry Node)). behind es (answer NodeDue new))
-        (sym (entries_more new.sets.known new.outcomes.known k.nodes h.node));
+    goes = cc (
+      k.goes,
+      entries,
+      h.goes,
+      behind_both (entries_with new.sets.known new.outcomes.known
+          k.nodes) (entry_with new.sets.known new.outcomes.known h.node ∷ []) (answer NodeDue new),
+      entries_more new.sets.known new.outcomes.known k.nodes h.node,
+    );
     has_told = told_one_more k.has_told h;
   }
     where
       entries : entries_with old.sets.known old.outcomes.known k.nodes
           ≡ entries_with new.sets.known new.outcomes.known k.nodes
-      entries = sym ((λ i. entries_with (h.sets.parts i) (h.outcomes.parts i) k.nodes)
-          ∙ outcomes_grow (old.sets.known ++ h.sets.more) old.outcomes.known h.outcomes.more k.nodes
-          (placed_among_more (length old.sets.known) (length old.outcomes.known)
-          (length (old.sets.known ++ h.sets.more)) (length old.outcomes.known) k.nodes
-          (grows_length (record { more = h.sets.more; parts = refl })) (omega arith)
-          k.has_told.placed)
-          ∙ sets_grow old.sets.known h.sets.more old.outcomes.known k.nodes k.has_told.placed)
+      entries = grind (arith, outcomes_grow, placed_among_more, grows_length, sets_grow)
 
 -- ---- nodes that are kept
 

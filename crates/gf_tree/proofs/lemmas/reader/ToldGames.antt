@@ -1,21 +1,13 @@
 -- What a receiver holds after the end of a file is the game that the file means.
-use Rattle.std.proofs.Common.{◌≡◌, ℕ, List, [], length, Result, Ok, Err, refl, sym, ap, subst, ◌∙◌}
+use Rattle.gf_tree.proofs.Common.{◌≡◌, ℕ, List, [], length, Result, Ok, Err, refl, sym, subst}
+use Rattle.gf_tree.proofs.Common.{tokens_of, Lexeme, Spells, Fault, InformationSet, Outcome, SetKey}
+use Rattle.gf_tree.proofs.Common.{Described, Game, SpellsGame, game_of, Content, nothing, run}
+use Rattle.gf_tree.proofs.Common.{Format, NodeDue, heard}
 use Rattle.std.specs.Prelude.{IfErr, MatchResult, OnOk}
-use Rattle.gf_token.specs.Place.{tokens_of}
-use Rattle.gf_token.specs.Token.{Lexeme}
-use Rattle.gf_token.specs.TokenSpelling.{Spells}
-use Rattle.gf_token.specs.declared.fault.Fault.{Fault}
-use Rattle.gf_tree.specs.Description.{InformationSet, Outcome, SetKey}
-use Rattle.gf_tree.specs.FiniteMap.{Described}
-use Rattle.gf_tree.specs.Game.{Game}
-use Rattle.gf_tree.specs.GameOf.{SpellsGame}
-use Rattle.gf_tree.specs.inner.ReadGame.{game_of}
 use Rattle.gf_tree.specs.ToldGame.{HasToldGame}
 use Rattle.gf_tree.specs.declared.reader.Reader.{Reader}
-use Rattle.gf_tree.specs.inner.Machine.{Content, nothing, run}
-use Rattle.gf_tree.specs.inner.Machine.Position.{Format, NodeDue}
-use Rattle.gf_tree.specs.inner.ReaderState.{Answer, HasReadAll, answer, content_of, content_with}
-use Rattle.gf_tree.specs.inner.ReaderState.{heading_read, heard}
+use Rattle.gf_tree.specs.inner.ReaderState.{HasReadAll, answer, content_of, content_with}
+use Rattle.gf_tree.specs.inner.ReaderState.{heading_read}
 use Rattle.gf_tree.specs.Told.{Heading, Told, heading_in, told_from}
 use Rattle.gf_tree.proofs.lemmas.reader.Games.{read_spells}
 use Rattle.gf_tree.proofs.lemmas.reader.ToldNodes.{told_of_file}
@@ -43,11 +35,7 @@ module _ (bytes : List ℕ) (ls : List Lexeme) (r : Reader) (behind : IsBehindHe
         AreOutcomes (length (content_of r).players) known) (sym behind.outcomes) tt in
         let n = nodes_found (tokens_of r.tokens.ahead) (content_of r) c sets outcomes
         ((run_reads (length r.tokens.input) NodeDue (content_of r) r.tokens.ahead c).0 e) in
-        λ i. record {
-          title = sym n.title i;
-          comment = sym n.comment i;
-          players = sym n.players i;
-        }
+        cc
 
     module _ {T : Type 0} (holds : T → Heading → List Told → Type 0) (new : Reader) (to : T) where
       pub told_game : HasReadAll (λ t told. holds t (heading_read r) told) (answer NodeDue r) new to
@@ -55,8 +43,7 @@ module _ (bytes : List ℕ) (ls : List Lexeme) (r : Reader) (behind : IsBehindHe
       told_game h =
           let c = content_with new h.nodes in
           let told = told_from new.sets.known new.outcomes.known 0 0 h.nodes in
-          let e : run (length bytes) Format nothing ls ≡ Ok c =
-          ap (λ (a : Answer). a.machine) behind.goes ∙ h.whole in (
+          let e : run (length bytes) Format nothing ls ≡ Ok c = cc in (
             game_of c,
             read_spells bytes ls c behind.spelled e,
             record {

@@ -1,30 +1,19 @@
 -- The nodes that a reader tells are those of the game by its first-use numbers, as a file gives
 -- them.
-use Rattle.std.proofs.Common.{◌≡◌, ℕ, suc, ◌+◌, ◌≤◌, List, [], ◌∷◌, ◌++◌, length, map, take, max}
-use Rattle.std.proofs.Common.{Some, option_map, slice_get, refl, sym, ap, subst, ◌∙◌, arith}
+use Rattle.gf_tree.proofs.Common.{◌≡◌, ℕ, suc, ◌+◌, ◌≤◌, List, [], ◌∷◌, ◌++◌, length, map, take}
+use Rattle.gf_tree.proofs.Common.{max, Some, option_map, slice_get, refl, sym, ap, subst, ◌∙◌}
+use Rattle.gf_tree.proofs.Common.{arith, ◌==◌, filter, eq-eqb, length-map, map-append}
+use Rattle.gf_tree.proofs.Common.{slice_get-map, at_position, Lexeme, Spells, SetKey}
+use Rattle.gf_tree.proofs.Common.{InformationSet, Outcome, same_set, Game, IsGame, used_sets}
+use Rattle.gf_tree.proofs.Common.{known_of, flatten, Described, first_uses, sets_of, AreAmong, Kept}
+use Rattle.gf_tree.proofs.Common.{entries_with, game_of, Content, nothing, run, Format, Renumbering}
+use Rattle.gf_tree.proofs.Common.{renumbered, renumbered_node}
 use Rattle.std.proofs.Common.{length-append}
-use Rattle.std.specs.Prelude.{Bool, true, ◌==◌, Ok}
-use Rattle.std.specs.List.{filter}
-use Rattle.std.proofs.lemmas.Bool.{eq-eqb}
-use Rattle.std.proofs.lemmas.List.{length-map, map-append}
-use Rattle.std.proofs.lemmas.Option.{slice_get-map}
-use Rattle.gf_token.specs.Positions.{at_position}
-use Rattle.gf_token.specs.Token.{Lexeme}
-use Rattle.gf_token.specs.TokenSpelling.{Spells}
-use Rattle.gf_tree.specs.Description.{SetKey, InformationSet, Outcome, same_set}
+use Rattle.std.specs.Prelude.{Bool, true, Ok}
 use Rattle.gf_tree.specs.FileNodes.{file_nodes}
-use Rattle.gf_tree.specs.Game.{Game, IsGame, used_sets}
 use Rattle.gf_tree.specs.GameCode.{no_node}
-use Rattle.gf_tree.specs.KnownSets.{known_of}
-use Rattle.gf_tree.specs.PrefixOrder.{flatten}
-use Rattle.gf_tree.specs.FiniteMap.{Described, first_uses}
-use Rattle.gf_tree.specs.FirstUse.{first_use_numbers, sets_of}
-use Rattle.gf_tree.specs.KeptNodes.{AreAmong, Kept, entries_with}
+use Rattle.gf_tree.specs.FirstUse.{first_use_numbers}
 use Rattle.gf_tree.specs.inner.KnownUses.{nodes_given, use_at}
-use Rattle.gf_tree.specs.inner.ReadGame.{game_of}
-use Rattle.gf_tree.specs.inner.Machine.{Content, nothing, run}
-use Rattle.gf_tree.specs.inner.Machine.Position.{Format}
-use Rattle.gf_tree.specs.Renumbering.{Renumbering, renumbered, renumbered_node}
 use Rattle.gf_tree.specs.Told.{told_from, told_outcome, told_set}
 use Rattle.gf_tree.proofs.lemmas.games.FirstUseNumbers.{number_at}
 use Rattle.gf_tree.proofs.lemmas.games.PlayerSets.{sets_by_first_use}

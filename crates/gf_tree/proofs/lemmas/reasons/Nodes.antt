@@ -1,34 +1,25 @@
 -- The rows of nodes refuse for reasons, and so does each row after the front of a file.
-use Rattle.std.proofs.Common.{◌≡◌, ◌≢◌, ℕ, ◌<◌, List, [], ◌∷◌, ◌++◌, length, Bool, true, false}
-use Rattle.std.proofs.Common.{Option, Some, None, MatchOption, refl, sym, ap, subst, ◌∙◌, arith}
-use Rattle.std.proofs.Common.{inl, inr}
-use Rattle.std.proofs.lemmas.List.{length-append}
-use Rattle.std.proofs.lemmas.Option.{same_Some}
-use Rattle.std.specs.Prelude.{◌⊎◌}
-use Rattle.gf_fraction.specs.Ratio.{Ratio}
-use Rattle.gf_fraction.specs.NumberSpelling.{IsNumber}
-use Rattle.gf_token.specs.Token.{Token}
-use Rattle.gf_token.specs.Token.Token.{Closing, Text, Bare}
-use Rattle.gf_token.specs.Index.{IsIndex}
+use Rattle.gf_tree.proofs.Common.{◌≡◌, ℕ, ◌<◌, List, [], ◌∷◌, ◌++◌, length, Bool, true, false}
+use Rattle.gf_tree.proofs.Common.{Option, Some, None, MatchOption, refl, sym, ap, subst, ◌∙◌, arith}
+use Rattle.gf_tree.proofs.Common.{inl, inr, length-append, same_Some, ◌⊎◌, Ratio, IsNumber, Token}
+use Rattle.gf_tree.proofs.Common.{Closing, Text, Bare, IsIndex, Begins, Why, Expected}
+use Rattle.gf_tree.proofs.Common.{UnknownPlayer, Mismatch, Action, InformationSet, Outcome, SetKey}
+use Rattle.gf_tree.proofs.Common.{set_of, set_with, IsDue, Role, Use, FileFront}
+use Rattle.gf_tree.proofs.Common.{BehindOutcomeNumber, BehindSetNumber, InActions, IsExtensiveFile}
+use Rattle.gf_tree.proofs.Common.{IsNewOutcome, IsNewSet, KnowsOutcome, ToOutcomeNumber, IsNoNumber}
+use Rattle.gf_tree.proofs.Common.{Row, a_first_name, an_outcome, or_comma, or_name, this_number}
+use Rattle.std.proofs.Common.{◌≢◌}
+use Rattle.std.proofs.lemmas.List.{append_cancel_left}
 use Rattle.gf_token.specs.NumberWhy.{why_of}
-use Rattle.gf_token.specs.Place.{Begins, MayFollow}
-use Rattle.gf_token.specs.declared.fault.Why.{Why}
-use Rattle.gf_token.specs.declared.fault.Why.TheVariants.{NoEntry, Expected, BadIndex}
-use Rattle.gf_token.specs.declared.fault.Why.TheVariants.{UnknownPlayer, NotDescribed, Mismatch}
-use Rattle.gf_token.specs.declared.fault.Why.TheVariants.{SumBelowOne}
-use Rattle.gf_tree.specs.Description.{Action, InformationSet, Outcome, SetKey, set_of, set_with}
-use Rattle.gf_tree.specs.Due.{IsDue, OutcomeIsDue, PayoffIsDue, PlayerIsDue, ProbabilityIsDue}
-use Rattle.gf_tree.specs.Due.{SetIsDue}
-use Rattle.gf_tree.specs.DueRoles.{Role}
-use Rattle.gf_tree.specs.FileTree.{Use}
+use Rattle.gf_token.specs.Place.{MayFollow}
+use Rattle.gf_token.specs.declared.fault.Why.TheVariants.{NoEntry, BadIndex, SumBelowOne}
+use Rattle.gf_tree.specs.Due.{OutcomeIsDue, PayoffIsDue, PlayerIsDue, ProbabilityIsDue, SetIsDue}
 use Rattle.gf_tree.specs.Reason.{NewProbabilityIsDue, GoesOnWith, DiffersFromOutcome}
 use Rattle.gf_tree.specs.Reason.{DiffersFromSet, EndsInFirstUse, ListsActions}
-use Rattle.gf_tree.specs.RowPlaces.{BehindNode, FileFront}
-use Rattle.gf_tree.specs.Front.{BehindOutcomeNumber, BehindSetNumber, InActions, IsExtensiveFile}
-use Rattle.gf_tree.specs.Front.{IsNewOutcome, IsNewSet, IsSetKnown, KnowsOutcome, ToOutcomeNumber}
-use Rattle.gf_tree.specs.Rows.{IsNoNumber, Row, a_closing, a_first_name, a_new_action, a_new_branch}
-use Rattle.gf_tree.specs.Rows.{a_payoff, a_player, a_probability, a_set, an_outcome, no_label}
-use Rattle.gf_tree.specs.Rows.{or_comma, or_name, this_label, this_number}
+use Rattle.gf_tree.specs.RowPlaces.{BehindNode}
+use Rattle.gf_tree.specs.Front.{IsSetKnown}
+use Rattle.gf_tree.specs.Rows.{a_closing, a_new_action, a_new_branch, a_payoff, a_player}
+use Rattle.gf_tree.specs.Rows.{a_probability, a_set, no_label, this_label}
 use Rattle.gf_tree.specs.SomeRow.{IsBeforeRow, IsInNode}
 use Rattle.gf_tree.proofs.lemmas.fronts.CutFiles.{some_row}
 use Rattle.gf_tree.proofs.lemmas.fronts.Cuts.{first_is}
@@ -48,20 +39,13 @@ use Rattle.gf_tree.proofs.lemmas.due.Actions as actions
 use Rattle.gf_tree.proofs.lemmas.due.Nodes as nodes
 use Rattle.gf_tree.proofs.lemmas.due.Outcomes as outcomes
 use Rattle.gf_tree.proofs.lemmas.due.Payoffs as payoffs
-use Rattle.std.proofs.lemmas.List.{append_cancel_left}
 
 -- ---- nodes
 
 -- the number of the outcome is due after a known set without a description
 known_step : (front : List Token) (key : SetKey) → BehindSetNumber front key
     → ToOutcomeNumber front (Some (record { key = key; description = None }))
-known_step front key h = (
-  h.3.0,
-  h.3.1,
-  h.3.2 ++ Bare h.1 ∷ [],
-  h.2 ∙ (λ i. h.3.3 i ++ Bare h.1 ∷ []),
-  (h.3.2, h.1, [], refl, h.3.4, h.4, refl),
-)
+known_step front key h = grind arith
 
 -- what is left after some is the same
 one_next : {A : Type 0} (seen : List A) (x y : A) (xs ys others : List A) → others ≡ seen ++ x ∷ xs
@@ -94,9 +78,7 @@ module _ (f : FileFront) where
       → Stands f.before a_first_name → Reasoned f.before
   first_use h s =
       let first : EndsInFirstUse f.before = (f.ends, h) in
-      reasons f.before a_first_name (λ after plain. (first, plain)) (λ l after n. absurd (n tt))
-      (λ b why after n e. (NotDescribed, e, (first, tt)))
-      (λ why after n e. (NotDescribed, e, (first, tt))) s (λ b h. absurd h)
+      grind arith
 
   outcome_index : OutcomeIsDue f.before → (b : List ℕ) (why : Why) (after : List Token)
       → ¬ ((n : ℕ) × IsIndex b n) → why ≡ BadIndex → Given f.before (Bare b ∷ after) why

@@ -1,27 +1,14 @@
 -- Each list of bytes spells a game, or is refused at one place with one code.
-use Rattle.std.proofs.Common.{◌≡◌, ℕ, List, length, Result, Ok, Err, refl, sym, subst, arith, inl}
-use Rattle.std.proofs.Common.{inr}
-use Rattle.std.proofs.lemmas.List.{map-append}
-use Rattle.std.specs.Prelude.{◌⊎◌}
+use Rattle.gf_tree.proofs.Common.{◌≡◌, ℕ, List, length, Result, Ok, Err, refl, sym, subst, arith}
+use Rattle.gf_tree.proofs.Common.{inl, inr, map-append, ◌⊎◌, Lexeme, Spells, tokens_of, Fault, Span}
+use Rattle.gf_tree.proofs.Common.{Why, IsDue, IsExtensiveFile, Game, SpellsGame, IsRefusal, game_of}
+use Rattle.gf_tree.proofs.Common.{Content, nothing, run, Format}
 use Rattle.gf_token.specs.Code.{code_of}
-use Rattle.gf_token.specs.Token.{Lexeme}
-use Rattle.gf_token.specs.TokenSpelling.{Spells}
-use Rattle.gf_token.specs.Place.{tokens_of}
-use Rattle.gf_token.specs.declared.fault.Fault.{Fault}
-use Rattle.gf_token.specs.declared.fault.Span.{Span}
-use Rattle.gf_token.specs.declared.fault.Why.{Why}
 use Rattle.gf_token.specs.declared.fault.Why.TheVariants.{Memory, TooLong, UnknownOutcome}
 use Rattle.gf_token.specs.declared.fault.Why.TheVariants.{TooManyProfiles}
 use Rattle.gf_token.proofs.Places.{no_file, one_code, one_offending_place, one_span}
 use Rattle.gf_token.proofs.Spelled.{same_tokens, spelled_once}
-use Rattle.gf_tree.specs.Due.{IsDue}
-use Rattle.gf_tree.specs.Front.{IsExtensiveFile}
-use Rattle.gf_tree.specs.Game.{Game}
-use Rattle.gf_tree.specs.GameOf.{SpellsGame}
-use Rattle.gf_tree.specs.Judgement.{IsRefusal, IsRefused}
-use Rattle.gf_tree.specs.inner.ReadGame.{game_of}
-use Rattle.gf_tree.specs.inner.Machine.{Content, nothing, run}
-use Rattle.gf_tree.specs.inner.Machine.Position.{Format}
+use Rattle.gf_tree.specs.Judgement.{IsRefused}
 use Rattle.gf_tree.specs.Reason.{Holds, IsReason}
 use Rattle.gf_tree.proofs.lemmas.reader.Games.{not_memory, read_spells, refused_judged}
 

@@ -1,28 +1,21 @@
 -- What a row of the table of positions refuses, it refuses for a reason: the code applies there, or
 -- what is named is due.
-use Rattle.std.proofs.Common.{◌≡◌, ◌≢◌, ℕ, ◌<◌, List, [], ◌∷◌, length, refl, sym, subst, arith, inl}
-use Rattle.std.proofs.Common.{inr}
-use Rattle.std.specs.Prelude.{codes, ◌⊎◌}
-use Rattle.gf_fraction.specs.Ratio.{Ratio}
-use Rattle.gf_fraction.specs.declared.fraction.NumberFault.{NumberFault}
-use Rattle.gf_fraction.specs.NumberSpelling.{HasNumberFault, IsNumber}
-use Rattle.gf_token.specs.Token.{Token}
+use Rattle.gf_tree.proofs.Common.{◌≡◌, ℕ, ◌<◌, List, [], ◌∷◌, length, refl, sym, subst, arith, inl}
+use Rattle.gf_tree.proofs.Common.{inr, codes, ◌⊎◌, Ratio, NumberFault, IsNumber, Token, IsAccepted}
+use Rattle.gf_tree.proofs.Common.{Opening, Closing, Comma, Text, Bare, Broken, Why, Expected}
+use Rattle.gf_tree.proofs.Common.{UnknownPlayer, Mismatch, NegativeProbability, Action}
+use Rattle.gf_tree.proofs.Common.{IsExtensiveFile, IsDue, Role, Row, a_letter, a_node, a_text}
+use Rattle.gf_tree.proofs.Common.{a_word, an_end, an_opening, or_name}
+use Rattle.std.proofs.Common.{◌≢◌}
+use Rattle.gf_fraction.specs.NumberSpelling.{HasNumberFault}
 use Rattle.gf_token.specs.NumberWhy.{why_of}
-use Rattle.gf_token.specs.Place.{IsAccepted}
-use Rattle.gf_token.specs.Token.Token.{Opening, Closing, Comma, Text, Bare, Broken}
 use Rattle.gf_token.specs.declared.fault.What.{What}
-use Rattle.gf_token.specs.declared.fault.Why.{Why}
-use Rattle.gf_token.specs.declared.fault.Why.TheVariants.{Expected, UnknownPlayer, Mismatch}
-use Rattle.gf_token.specs.declared.fault.Why.TheVariants.{NegativeProbability, SumAboveOne}
-use Rattle.gf_token.specs.declared.fault.Why.TheVariants.{SumOverflow, Unterminated}
-use Rattle.gf_tree.specs.Description.{Action}
-use Rattle.gf_tree.specs.Front.{IsExtensiveFile}
+use Rattle.gf_token.specs.declared.fault.Why.TheVariants.{SumAboveOne, SumOverflow, Unterminated}
 use Rattle.gf_tree.specs.SomeRow.{IsInHeading}
-use Rattle.gf_tree.specs.Due.{IsDue, NodeIsDue, PayoffIsDue, ProbabilityIsDue}
-use Rattle.gf_tree.specs.DueRoles.{OnlySuitedFollow, Role, Suits, what_of}
+use Rattle.gf_tree.specs.Due.{NodeIsDue, PayoffIsDue, ProbabilityIsDue}
+use Rattle.gf_tree.specs.DueRoles.{OnlySuitedFollow, Suits, what_of}
 use Rattle.gf_tree.specs.Reason.{Holds, IsNoText, IsWrongBehind, NewProbabilityIsDue, NobodyMoves}
-use Rattle.gf_tree.specs.Rows.{Accepts, Refuses, Row, a_letter, a_node, a_player_name, a_text}
-use Rattle.gf_tree.specs.Rows.{a_word, an_end, an_opening, or_name, or_text}
+use Rattle.gf_tree.specs.Rows.{Accepts, Refuses, a_player_name, or_text}
 use Rattle.gf_tree.proofs.lemmas.due.Rows.{Stands, accepted}
 use Rattle.gf_tree.proofs.lemmas.fronts.WholeNodes.{behind_comment, behind_players}
 use Rattle.gf_fraction.specs.declared.fraction.NumberFault.TheVariants as number

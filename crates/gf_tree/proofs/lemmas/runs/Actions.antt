@@ -1,37 +1,21 @@
 -- Runs over the actions of a new information set in braces.
-use Rattle.std.proofs.Common.{◌≡◌, ℕ, zero, suc, ◌<◌, List, [], ◌∷◌, ◌++◌, length, map, drop}
-use Rattle.std.proofs.Common.{Option, Some, None, Result, Ok, Err, refl, sym, ap, subst, ◌∙◌}
-use Rattle.std.proofs.Common.{append_assoc, append-nil, arith}
-use Rattle.std.proofs.lemmas.Int.{ints}
-use Rattle.std.specs.Prelude.{pos, ◌≤ℤ◌}
-use Rattle.std.specs.List.{AllByRecursion}
-use Rattle.gf_token.specs.Token.{Token}
-use Rattle.gf_token.specs.Grammar.{Each}
-use Rattle.gf_token.specs.declared.fault.Why.{Why}
-use Rattle.gf_token.specs.Token.Token.{Closing, Text, Bare}
-use Rattle.gf_fraction.specs.Ratio.{Ratio, IsFraction, whole}
-use Rattle.gf_fraction.specs.Fits.{AddsTo}
-use Rattle.gf_tree.specs.Description.{Action, InformationSet, SetKey, set_of, AddToOne, AreActions}
-use Rattle.gf_tree.specs.inner.Probability.{Share, share_of}
-use Rattle.gf_tree.specs.Sentence.{IsAction}
-use Rattle.gf_tree.specs.inner.Machine.{with_action, with_set, Content, begun, new_set_ends}
-use Rattle.gf_tree.specs.inner.Machine.{set_ends, shared}
-use Rattle.gf_tree.specs.inner.Machine.Position.{NewAction, OutcomeNumber}
-use Rattle.gf_tree.specs.inner.ReadGame.{run_tokens, then_run}
+use Rattle.gf_tree.proofs.Common.{◌≡◌, ℕ, zero, suc, ◌<◌, List, [], ◌∷◌, ◌++◌, length, map, Option}
+use Rattle.gf_tree.proofs.Common.{Some, None, Result, Ok, Err, refl, sym, ap, subst, ◌∙◌}
+use Rattle.gf_tree.proofs.Common.{append_assoc, append-nil, arith, ints, pos, ◌≤ℤ◌, AllByRecursion}
+use Rattle.gf_tree.proofs.Common.{Token, Each, Why, Closing, Text, Bare, Ratio, IsFraction, whole}
+use Rattle.gf_tree.proofs.Common.{AddsTo, Action, InformationSet, SetKey, set_of, AreActions, Share}
+use Rattle.gf_tree.proofs.Common.{share_of, IsAction, with_action, Content, begun, new_set_ends}
+use Rattle.gf_tree.proofs.Common.{set_ends, shared, NewAction, OutcomeNumber, run_tokens, then_run}
+use Rattle.gf_tree.specs.Description.{AddToOne}
+use Rattle.gf_tree.specs.inner.Machine.{with_set}
 use Rattle.gf_tree.proofs.lemmas.runs.Tokens.{Reads, run_on, guard_ok, ratio_is}
 use Rattle.gf_tree.proofs.lemmas.runs.Shares.{share_found, share_again, sum_high}
-use Rattle.gf_tree.proofs.lemmas.Once.{one_some}
 
 -- the probabilities of chance after this sum add up to one; a player's actions have none
 abbrev pub AreOthers : ℕ → Ratio → List Action → Type 0
 AreOthers zero sum actions =
     (ps : List Ratio) × (map (λ a. a.probability) actions ≡ map Some ps) × AddToOne sum ps
 AreOthers (suc player) sum actions = AllByRecursion (λ a. a.probability ≡ None) actions
-
-pub others_are : (player : ℕ) (actions : List Action) → AreOthers player (whole (pos 0)) actions
-    → AreActions player actions
-others_are zero actions h = h
-others_are (suc player) actions h = h
 
 pub are_others : (player : ℕ) (actions : List Action) → AreActions player actions
     → AreOthers player (whole (pos 0)) actions
@@ -75,9 +59,7 @@ new_end ts name player n set sum c r some are e = record {
   each = refl;
   some = subst (λ (s : InformationSet). 0 < length s.actions) (sym (no_actions set)) some;
   are = are;
-  goes_on = subst (λ (s : InformationSet).
-      Reads (OutcomeNumber (begun name (set_of player n) s)) (with_set c (set_of player n) s) ts r)
-      (sym (no_actions set)) e;
+  goes_on = cc (no_actions set);
 }
 
 end_by_player : (ts : List Token) (name : List ℕ) (player n : ℕ)
@@ -111,15 +93,11 @@ new_more first ts name label player n set p sum next c r is are h =
       actions = action ∷ h.actions;
       inner = first ++ h.inner;
       rest = h.rest;
-      parts = ap (λ (x : List Token). first ++ x) h.parts
-          ∙ sym (append_assoc first h.inner (Closing ∷ h.rest));
+      parts = cc (append_assoc first h.inner (Closing ∷ h.rest));
       each = (first, h.inner, refl, is, h.each);
       some = subst (λ (s : InformationSet). 0 < length s.actions) all h.some;
       are = are h.actions h.are;
-      goes_on =
-          subst (λ (s : InformationSet). Reads (OutcomeNumber (begun name (set_of player n) s))
-          (with_set c (set_of player n) s) h.rest r)
-          all h.goes_on;
+      goes_on = cc;
     }
 
 abbrev pub ok_share : Share → Result Share Why
@@ -171,13 +149,7 @@ first_share : (a : Action) (actions : List Action) (p sum : Ratio) (ps : List Ra
     → a.probability ≡ Some p → a.probability ∷ map (λ b. b.probability) actions ≡ map Some ps
     → AddToOne sum ps → FirstShare sum p actions
 first_share a actions p sum [] e same h = absurd cc
-first_share a actions p sum (q ∷ ps) e same h =
-    let first : a.probability ≡ Some q = cc in
-    let is : q ≡ p = one_some a.probability q p first e in
-    let k = subst
-    (λ (x : Ratio). (pos 0 ≤ℤ x.num) × ((next : Ratio) × AddsTo sum x next × AddToOne next ps)) is
-    h in
-    record { not_below = k.0; next = k.1.0; adds = k.1.1; others = (ps, ap (drop 1) same, k.1.2) }
+first_share a actions p sum (q ∷ ps) e same h = grind arith
 
 -- the sum of the probabilities so far is at most one, if the others add up to one with it
 high : (actions : List Action) (inner : List Token) (sum : Ratio) → IsFraction sum
@@ -225,11 +197,7 @@ pub new_again : (actions : List Action) (player : ℕ) (inner rest : List Token)
     (with_set c (set_of player n) (with_actions set actions)) rest
 new_again [] player inner rest name n set sum c fraction each h some =
     let filled = subst (λ (s : InformationSet). 0 < length s.actions) (no_actions set) some in
-    ap (λ (x : List Token).
-    run_tokens (NewAction name (set_of player n) set sum) c (x ++ Closing ∷ rest))
-    each ∙ close_by_actions set.actions player rest name n set sum c filled h
-    ∙ ap (λ (s : InformationSet). run_tokens (OutcomeNumber (begun name (set_of player n) s))
-    (with_set c (set_of player n) s) rest) (sym (no_actions set))
+    cc (close_by_actions set.actions player rest name n set sum c filled h, no_actions set)
 new_again (a ∷ actions) zero inner rest name n set sum c fraction each h some =
     let b = each.3.0 in
     let p = each.3.1 in
@@ -237,11 +205,8 @@ new_again (a ∷ actions) zero inner rest name n set sum c fraction each h some 
     let is : a ≡ record { label = a.label; probability = Some p } =
     λ i. record { label = a.label; probability = each.3.4 i } in
     let all : with_actions (with_action set a.label (Some p)) actions
-    ≡ with_actions set (a ∷ actions) =
-    more_actions set a.label (Some p) actions
-    ∙ ap (λ (x : Action). with_actions set (x ∷ actions)) (sym is) in
-    let first : inner ++ Closing ∷ rest ≡ Text a.label ∷ Bare b ∷ (each.1 ++ Closing ∷ rest) =
-    rw (each.2, each.3.2) refl in
+    ≡ with_actions set (a ∷ actions) = cc (more_actions set a.label (Some p) actions) in
+    let first : inner ++ Closing ∷ rest ≡ Text a.label ∷ Bare b ∷ (each.1 ++ Closing ∷ rest) = cc in
     let more = subst (λ (t : InformationSet). 0 < length t.actions) (sym all) some in
     ap (run_tokens (NewAction name (set_of 0 n) set sum) c) first ∙ ap
     (λ o. then_run (shared c name (set_of 0 n) set a.label o) (run_on (each.1 ++ Closing ∷ rest)))
@@ -255,14 +220,8 @@ new_again (a ∷ actions) (suc player) inner rest name n set sum c fraction each
     let is : a ≡ record { label = a.label; probability = None } =
     λ i. record { label = a.label; probability = each.3.1 i } in
     let all : with_actions (with_action set a.label None) actions ≡ with_actions set (a ∷ actions) =
-    more_actions set a.label None actions
-    ∙ ap (λ (x : Action). with_actions set (x ∷ actions)) (sym is) in
-    let first : inner ++ Closing ∷ rest ≡ Text a.label ∷ (each.1 ++ Closing ∷ rest) =
-    rw (each.2, each.3.0) refl in
+    cc (more_actions set a.label None actions) in
+    let first : inner ++ Closing ∷ rest ≡ Text a.label ∷ (each.1 ++ Closing ∷ rest) = cc in
     let more = subst (λ (t : InformationSet). 0 < length t.actions) (sym all) some in
-    ap (run_tokens (NewAction name (set_of (suc player) n) set sum) c) first
-    ∙ new_again actions (suc player) each.1 rest name n (with_action set a.label None) sum c
-    fraction each.4 h.1 more
-    ∙ ap (λ (t : InformationSet). run_tokens (OutcomeNumber (begun name (set_of (suc player) n) t))
-    (with_set c (set_of (suc player) n) t) rest)
-    all
+    cc (new_again actions (suc player) each.1 rest name n (with_action set a.label None) sum c
+    fraction each.4 h.1 more)

@@ -1,37 +1,23 @@
 -- Nodes that were read before change nothing in what the machine does.
-use Rattle.std.proofs.Common.{◌≡◌, ℕ, zero, suc, Bool, cond, List, [], ◌∷◌, ◌++◌, length, Option}
-use Rattle.std.proofs.Common.{Some, Result, Ok, Err, refl, ap, append_assoc, nat_eq, arith}
-use Rattle.std.specs.Prelude.{codes}
-use Rattle.std.specs.Cmp.Lexicographic.{pointwise}
-use Rattle.gf_fraction.specs.Ratio.{Ratio}
+use Rattle.gf_tree.proofs.Common.{◌≡◌, ℕ, zero, suc, Bool, cond, List, [], ◌∷◌, length, Option}
+use Rattle.gf_tree.proofs.Common.{Result, Ok, Err, refl, append_assoc, nat_eq, arith, codes}
+use Rattle.gf_tree.proofs.Common.{pointwise, Ratio, NumberFault, Remaining, Token, Lexeme, count_of}
+use Rattle.gf_tree.proofs.Common.{Opening, Closing, Comma, Text, Bare, Why, Expected, Action}
+use Rattle.gf_tree.proofs.Common.{InformationSet, Outcome, SetKey, Node, Entry, Share, Begun}
+use Rattle.gf_tree.proofs.Common.{Content, Position, State, after_node, at, behind_outcome}
+use Rattle.gf_tree.proofs.Common.{new_set_ends, node_letter, outcome_number, paid, personal_node}
+use Rattle.gf_tree.proofs.Common.{player_number, run, set_ends, set_number, shared, step, with_node}
+use Rattle.gf_tree.proofs.Common.{Format, Version, Letter, Title, BeforePlayers, InPlayers}
+use Rattle.gf_tree.proofs.Common.{AfterPlayers, NodeDue, ChanceName, PersonalName, TerminalName}
+use Rattle.gf_tree.proofs.Common.{PlayerNumber, SetNumber, NewSetName, NewSetOpening, NewAction}
+use Rattle.gf_tree.proofs.Common.{NewProbability, KnownSetName, KnownSetOpening, KnownAction}
+use Rattle.gf_tree.proofs.Common.{KnownProbability, OutcomeNumber, NewOutcomeName}
+use Rattle.gf_tree.proofs.Common.{NewOutcomeOpening, NewPayoff, AfterNewPayoff, KnownOutcomeName}
+use Rattle.gf_tree.proofs.Common.{KnownOutcomeOpening, KnownPayoff, AfterKnownPayoff, heard}
 use Rattle.gf_fraction.specs.Computed.{number_of}
-use Rattle.gf_fraction.specs.declared.fraction.NumberFault.{NumberFault}
-use Rattle.gf_token.specs.Remaining.{Remaining}
-use Rattle.gf_token.specs.Token.{Token, Lexeme}
-use Rattle.gf_token.specs.Indices.{count_of, index_of}
-use Rattle.gf_token.specs.declared.fault.Fault.{Fault}
-use Rattle.gf_token.specs.Token.Token.{Opening, Closing, Comma, Text, Bare}
-use Rattle.gf_token.specs.declared.fault.Why.{Why}
-use Rattle.gf_token.specs.declared.fault.Why.TheVariants.{Expected}
-use Rattle.gf_tree.specs.Description.{Action, InformationSet, Outcome, SetKey}
-use Rattle.gf_tree.specs.Game.{Node}
-use Rattle.gf_tree.specs.PrefixOrder.{Entry}
-use Rattle.gf_tree.specs.inner.Probability.{Share}
-use Rattle.gf_tree.specs.inner.Machine.{Begun, Content, Position, State, after_node, at}
-use Rattle.gf_tree.specs.inner.Machine.{behind_outcome, new_set_ends, node_letter}
-use Rattle.gf_tree.specs.inner.Machine.{outcome_ends, outcome_number, paid, personal_node}
-use Rattle.gf_tree.specs.inner.Machine.{player_number, run, same_number, set_ends, set_number}
-use Rattle.gf_tree.specs.inner.Machine.{shared, step, then_on, with_node, new_label}
-use Rattle.gf_tree.specs.inner.Machine.Position.{Format, Version, Letter, Title, BeforePlayers}
-use Rattle.gf_tree.specs.inner.Machine.Position.{InPlayers, AfterPlayers, NodeDue, ChanceName}
-use Rattle.gf_tree.specs.inner.Machine.Position.{PersonalName, TerminalName, PlayerNumber}
-use Rattle.gf_tree.specs.inner.Machine.Position.{SetNumber, NewSetName, NewSetOpening, NewAction}
-use Rattle.gf_tree.specs.inner.Machine.Position.{NewProbability, KnownSetName, KnownSetOpening}
-use Rattle.gf_tree.specs.inner.Machine.Position.{KnownAction, KnownProbability, OutcomeNumber}
-use Rattle.gf_tree.specs.inner.Machine.Position.{NewOutcomeName, NewOutcomeOpening, NewPayoff}
-use Rattle.gf_tree.specs.inner.Machine.Position.{AfterNewPayoff, KnownOutcomeName}
-use Rattle.gf_tree.specs.inner.Machine.Position.{KnownOutcomeOpening, KnownPayoff, AfterKnownPayoff}
-use Rattle.gf_tree.specs.inner.ReaderState.{behind, heard, with_front, with_nodes}
+use Rattle.gf_token.specs.Indices.{index_of}
+use Rattle.gf_tree.specs.inner.Machine.{outcome_ends, same_number, then_on, new_label}
+use Rattle.gf_tree.specs.inner.ReaderState.{behind, with_front, with_nodes}
 use Rattle.gf_token.specs.declared.fault.What.TheVariants as what
 
 module _ (ns : List (Entry Node)) where
@@ -45,11 +31,7 @@ module _ (ns : List (Entry Node)) where
 
   node_more : (c : Content) (b : Begun) (o : Option ℕ)
       → with_node (with_front ns c) b o ≡ with_front ns (with_node c b o)
-  node_more c b o = ap (λ (es : List (Entry Node)). record (with_node c b o) { nodes = es })
-      (append_assoc ns c.nodes (record {
-        node = record { name = b.name; set = b.set; outcome = o };
-        children = b.children;
-      } ∷ []))
+  node_more c b o = grind (arith, append_assoc)
 
   same_more : (q : Position) (c : Content) (wanted : Ratio) (o : Result Ratio NumberFault)
       → same_number wanted (at q (with_front ns c)) o ≡ fronted (same_number wanted (at q c) o)
@@ -118,10 +100,7 @@ module _ (ns : List (Entry Node)) where
     outcome_ends_more : (b : Begun) (n : ℕ) (outcome : Outcome)
         → Ok (outcome_ends (with_front ns c) b n outcome) ≡ fronted
         (Ok (outcome_ends c b n outcome))
-    outcome_ends_more b n outcome = ap (λ (d : Content). Ok (at NodeDue d))
-        (node_more (record c {
-          outcomes = c.outcomes ++ record { key = n; description = outcome } ∷ [];
-        }) b (Some n))
+    outcome_ends_more b n outcome = grind (arith, node_more)
 
   step_more : (q : Position) (c : Content) (t : Token)
       → step q (with_front ns c) t ≡ fronted (step q c t)
@@ -187,5 +166,4 @@ module _ (ns : List (Entry Node)) where
   -- so the machine answers with those nodes before its own
   pub heard_more : (q : Position) (c : Content) (t : Remaining)
       → heard q (with_front ns c) t ≡ behind ns (heard q c t)
-  heard_more q c t = ap (λ (m : Result Content Fault). record { input = t.input; machine = m })
-      (run_more (length t.input) q c t.ahead)
+  heard_more q c t = cc (run_more (length t.input) q c t.ahead)

@@ -1,33 +1,26 @@
 -- Each state that the machine of the reader comes to can be completed.
-use Rattle.std.proofs.Common.{◌≡◌, ℕ, zero, suc, ◌<◌, true, List, [], ◌∷◌, length, Option, Some}
-use Rattle.std.proofs.Common.{None, MatchOption, Ok, refl, ap, ◌∙◌, arith}
-use Rattle.std.specs.Prelude.{codes, nat_le, pos}
+use Rattle.gf_tree.proofs.Common.{◌≡◌, ℕ, zero, suc, ◌<◌, true, List, [], ◌∷◌, length, Option, Some}
+use Rattle.gf_tree.proofs.Common.{None, MatchOption, Ok, refl, ap, ◌∙◌, arith, codes, pos, ints}
+use Rattle.gf_tree.proofs.Common.{length-append, Ratio, IsFraction, whole, Token, count_of, Opening}
+use Rattle.gf_tree.proofs.Common.{Closing, Text, Bare, Action, InformationSet, Outcome, SetKey}
+use Rattle.gf_tree.proofs.Common.{same_set, set_of, description_at, then_run, Begun, Content}
+use Rattle.gf_tree.proofs.Common.{Position, State, at, begun, behind_label, behind_set}
+use Rattle.gf_tree.proofs.Common.{new_set_ends, outcome_number, paid, player_number, set_ends}
+use Rattle.gf_tree.proofs.Common.{set_number, shared, step, with_action, with_node, Format, Version}
+use Rattle.gf_tree.proofs.Common.{Letter, Title, BeforePlayers, InPlayers, AfterPlayers, NodeDue}
+use Rattle.gf_tree.proofs.Common.{ChanceName, PersonalName, TerminalName, PlayerNumber, SetNumber}
+use Rattle.gf_tree.proofs.Common.{NewSetName, NewSetOpening, NewAction, NewProbability}
+use Rattle.gf_tree.proofs.Common.{KnownSetName, KnownSetOpening, KnownAction, KnownProbability}
+use Rattle.gf_tree.proofs.Common.{OutcomeNumber, NewOutcomeName, NewOutcomeOpening, NewPayoff}
+use Rattle.gf_tree.proofs.Common.{AfterNewPayoff, KnownOutcomeName, KnownOutcomeOpening}
+use Rattle.gf_tree.proofs.Common.{KnownPayoff, AfterKnownPayoff}
+use Rattle.std.specs.Prelude.{nat_le}
 use Rattle.std.proofs.lemmas.Bool.{le-leb}
-use Rattle.std.proofs.lemmas.Int.{ints}
-use Rattle.std.proofs.lemmas.List.{length-append}
-use Rattle.gf_fraction.specs.Ratio.{Ratio, IsFraction, whole}
 use Rattle.gf_fraction.specs.NumberText.{number_text}
 use Rattle.gf_fraction.specs.Computed.{number_of, lowest_of, gcd_within}
 use Rattle.gf_fraction.proofs.ReadingBack.{written_is_read}
-use Rattle.gf_token.specs.Token.{Token}
-use Rattle.gf_token.specs.Indices.{count_of, index_of}
-use Rattle.gf_token.specs.Token.Token.{Opening, Closing, Text, Bare}
-use Rattle.gf_tree.specs.Description.{Action, InformationSet, Outcome, SetKey, same_set, set_of}
-use Rattle.gf_tree.specs.FiniteMap.{description_at}
-use Rattle.gf_tree.specs.inner.ReadGame.{then_run}
-use Rattle.gf_tree.specs.inner.Machine.{Begun, Content, Position, State, at, begun, behind_label}
-use Rattle.gf_tree.specs.inner.Machine.{behind_set, new_set_ends, outcome_number, paid}
-use Rattle.gf_tree.specs.inner.Machine.{player_number, set_ends, set_known, set_number, shared}
-use Rattle.gf_tree.specs.inner.Machine.{step, with_action, with_node}
-use Rattle.gf_tree.specs.inner.Machine.Position.{Format, Version, Letter, Title, BeforePlayers}
-use Rattle.gf_tree.specs.inner.Machine.Position.{InPlayers, AfterPlayers, NodeDue, ChanceName}
-use Rattle.gf_tree.specs.inner.Machine.Position.{PersonalName, TerminalName, PlayerNumber}
-use Rattle.gf_tree.specs.inner.Machine.Position.{SetNumber, NewSetName, NewSetOpening, NewAction}
-use Rattle.gf_tree.specs.inner.Machine.Position.{NewProbability, KnownSetName, KnownSetOpening}
-use Rattle.gf_tree.specs.inner.Machine.Position.{KnownAction, KnownProbability, OutcomeNumber}
-use Rattle.gf_tree.specs.inner.Machine.Position.{NewOutcomeName, NewOutcomeOpening, NewPayoff}
-use Rattle.gf_tree.specs.inner.Machine.Position.{AfterNewPayoff, KnownOutcomeName}
-use Rattle.gf_tree.specs.inner.Machine.Position.{KnownOutcomeOpening, KnownPayoff, AfterKnownPayoff}
+use Rattle.gf_token.specs.Indices.{index_of}
+use Rattle.gf_tree.specs.inner.Machine.{set_known}
 use Rattle.gf_tree.proofs.lemmas.runs.Tokens.{Reads, run_on, text_again}
 use Rattle.gf_tree.proofs.lemmas.runs.Payoffs.{number_same}
 use Rattle.gf_tree.proofs.lemmas.runs.Shares.{share_again}
@@ -141,9 +134,7 @@ actions_end name key set (a ∷ actions) sum c is some one =
 
 one_more : (set : InformationSet) (label : List ℕ) (p : Option Ratio)
     → 0 < length (with_action set label p).actions
-one_more set label p =
-    let size = length-append set.actions (record { label = label; probability = p } ∷ []) in
-    omega (arith, size)
+one_more set label p = grind (arith, length-append)
 
 probability_ends : (name : List ℕ) (key : SetKey)
     (set : InformationSet) (sum : Ratio) (label : List ℕ) (c : Content)
@@ -242,32 +233,25 @@ player_ends name c some =
 
 -- ---- headings
 
-after_players_ends : (c : Content) → Ends AfterPlayers c
-after_players_ends c = by AfterPlayers c (Text []) _ refl (node_ends _)
-
-players_end : (c : Content) → Ends InPlayers c
-players_end c = by InPlayers c Closing (at AfterPlayers c) refl (after_players_ends c)
-
-before_players_ends : (c : Content) → Ends BeforePlayers c
-before_players_ends c = by BeforePlayers c Opening (at InPlayers c) refl (players_end c)
+after_players_end : (c : Content) → Ends AfterPlayers c
+after_players_end c = let k = node_ends (record c { comment = [] }) in (Text [] ∷ k.0, k.1, k.2)
 
 title_ends : (c : Content) → Ends Title c
-title_ends c = by Title c (Text []) _ refl (before_players_ends _)
-
-letter_ends : (c : Content) → Ends Letter c
-letter_ends c = by Letter c (Bare (codes "R")) (at Title c) refl (title_ends c)
-
-version_ends : (c : Content) → Ends Version c
-version_ends c = by Version c (Bare (codes "2")) (at Letter c) refl (letter_ends c)
+title_ends c =
+    let k = node_ends (record c { title = []; comment = [] }) in
+    (Text [] ∷ Opening ∷ Closing ∷ Text [] ∷ k.0, k.1, k.2)
 
 pub ends : (q : Position) (c : Content) → Fine q c → Ends q c
-ends Format c h = by Format c (Bare (codes "EFG")) (at Version c) refl (version_ends c)
-ends Version c h = version_ends c
-ends Letter c h = letter_ends c
+ends Format c h =
+    let k = title_ends c in
+    (Bare (codes "EFG") ∷ Bare (codes "2") ∷ Bare (codes "R") ∷ k.0, k.1, k.2)
+ends Version c h =
+    let k = title_ends c in (Bare (codes "2") ∷ Bare (codes "R") ∷ k.0, k.1, k.2)
+ends Letter c h = let k = title_ends c in (Bare (codes "R") ∷ k.0, k.1, k.2)
 ends Title c h = title_ends c
-ends BeforePlayers c h = before_players_ends c
-ends InPlayers c h = players_end c
-ends AfterPlayers c h = after_players_ends c
+ends BeforePlayers c h = let k = after_players_end c in (Opening ∷ Closing ∷ k.0, k.1, k.2)
+ends InPlayers c h = let k = after_players_end c in (Closing ∷ k.0, k.1, k.2)
+ends AfterPlayers c h = after_players_end c
 ends NodeDue c h = node_ends c
 ends ChanceName c h =
     by ChanceName c (Text []) (at (SetNumber [] 0) c) refl (set_number_ends [] 0 c)

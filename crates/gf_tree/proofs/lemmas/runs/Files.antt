@@ -1,25 +1,14 @@
 -- Runs over all nodes of a file, in prefix order.
-use Rattle.std.proofs.Common.{◌≡◌, ℕ, zero, suc, ◌+◌, ◌-◌, ◌<◌, ◌==◌, Bool, true, false, cond, List}
-use Rattle.std.proofs.Common.{[], ◌∷◌, ◌++◌, length, map, option_map, Option, Some, None, Ok, Err}
-use Rattle.std.proofs.Common.{refl, sym, ap, subst, ◌∙◌, append_assoc, append-nil, arith, inl, inr}
-use Rattle.std.proofs.Common.{nat_eq}
-use Rattle.std.proofs.lemmas.List.{length-append}
-use Rattle.std.proofs.lemmas.Bool.Decides.{Decides-eqb}
-use Rattle.std.specs.List.{AllByRecursion, cons_option}
-use Rattle.gf_token.specs.Token.{Token}
-use Rattle.gf_token.specs.Token.Token.{Bare}
-use Rattle.gf_token.specs.Grammar.{Each}
-use Rattle.gf_tree.specs.PrefixOrder.{Entry, Fills}
-use Rattle.gf_tree.specs.GameOf.{keys_alone}
-use Rattle.gf_tree.specs.Game.{Game, HasChildren, Node}
-use Rattle.gf_tree.specs.Learned.{Learns}
-use Rattle.gf_tree.specs.Sentence.{IsNode}
-use Rattle.gf_tree.specs.Description.{InformationSet, SetKey, Outcome, same_set}
-use Rattle.gf_tree.specs.FiniteMap.{Described, description_at}
-use Rattle.gf_tree.specs.FileTree.{Use, FileNode, set_uses, outcome_uses}
-use Rattle.gf_tree.specs.inner.Machine.{Content, after_node, node_or_end}
-use Rattle.gf_tree.specs.inner.Machine.Position.{NodeDue}
-use Rattle.gf_tree.specs.inner.ReadGame.{run_tokens, then_run, game_of}
+use Rattle.gf_tree.proofs.Common.{◌≡◌, ℕ, zero, suc, ◌+◌, ◌-◌, ◌<◌, Bool, true, false, cond, List}
+use Rattle.gf_tree.proofs.Common.{[], ◌∷◌, ◌++◌, length, map, option_map, Option, Some, None, Ok}
+use Rattle.gf_tree.proofs.Common.{Err, refl, sym, subst, ◌∙◌, append_assoc, append-nil, arith}
+use Rattle.gf_tree.proofs.Common.{nat_eq, length-append, AllByRecursion, cons_option, Token, Bare}
+use Rattle.gf_tree.proofs.Common.{Each, Entry, Fills, keys_alone, Game, HasChildren, Node, Learns}
+use Rattle.gf_tree.proofs.Common.{IsNode, InformationSet, SetKey, Outcome, same_set, Described}
+use Rattle.gf_tree.proofs.Common.{description_at, Use, FileNode, set_uses, outcome_uses, Content}
+use Rattle.gf_tree.proofs.Common.{after_node, NodeDue, run_tokens, then_run, game_of}
+use Rattle.std.proofs.Common.{◌==◌}
+use Rattle.gf_tree.specs.inner.Machine.{node_or_end}
 use Rattle.gf_tree.proofs.lemmas.games.Consistent.{map_entry}
 use Rattle.gf_tree.proofs.lemmas.games.TreesOnce.{same_set_equality}
 use Rattle.gf_tree.proofs.lemmas.runs.Tokens.{Reads, run_on, ok_read, ok_is}
@@ -59,23 +48,7 @@ no_nodes : (c r : Content) (none : Bool) (due : ℕ) → c.due ≡ due → due =
     → AreSets (length c.players) c.sets → AreOutcomes (length c.players) c.outcomes
     → cond none (Ok c) (Err (node_or_end due)) ≡ ok_read r → NodesRead [] c r
 no_nodes c r false due is test sets outcomes e = absurd cc
-no_nodes c r true due is test sets outcomes e =
-    let zero_is : due ≡ 0 = (Decides-eqb due 0).0 test in
-    let same : c ≡ r = ok_is c r e in
-    subst (NodesRead [] c) same (record {
-      entries = [];
-      are_nodes = refl;
-      fills = rw (is, zero_is) tt;
-      title = refl;
-      comment = refl;
-      players = refl;
-      nodes = sym (append-nil c.nodes);
-      learns_sets = refl;
-      learns_outcomes = refl;
-      children = tt;
-      are_sets = sets;
-      are_outcomes = outcomes;
-    })
+no_nodes c r true due is test sets outcomes e = grind (arith, ok_is, append-nil)
 
 -- the uses of the first node, and the others
 pub more_uses : {K D : Type 0} (o : Option (Use K D)) (us : List (Use K D))
@@ -155,13 +128,7 @@ nodes_found ts c r sets outcomes e = nodes_by (suc (length ts)) ts c r (omega ar
 known_behind : (known mid : MapOf) (u : Use SetKey InformationSet)
     → Learns same_set known (u ∷ []) mid
     → (d : InformationSet) × (description_at same_set mid u.key ≡ Some d)
-known_behind known mid u learns = elim (one_use same_set known u mid learns) [
-  | inl h ↦ (
-    h.description,
-    cc (h.more, at_new same_set same_set_equality known u.key h.description h.unknown),
-  )
-  | inr h ↦ (h.description, ap (λ x. description_at same_set x u.key) h.no_more ∙ h.is_known)
-]
+known_behind known mid u learns = grind (arith, one_use, at_new, same_set_equality)
 
 -- a node has its children by what is known after it
 children_then : (known mid end : MapOf) (o : Option (Use SetKey InformationSet)) (children : ℕ)
@@ -171,11 +138,7 @@ children_then : (known mid end : MapOf) (o : Option (Use SetKey InformationSet))
     → HasChildrenBy end (option_map (λ u. u.key) o) children
     → HasChildrenBy mid (option_map (λ u. u.key) o) children
 children_then known mid end None children learns same h = h
-children_then known mid end (Some u) children learns same h =
-    let k = known_behind known mid u learns in
-    let counts =
-    λ (o : Option InformationSet). option_map (λ (set : InformationSet). length set.actions) o in
-    ap counts k.1 ∙ ap counts (sym (same u.key k.0 k.1)) ∙ h
+children_then known mid end (Some u) children learns same h = grind (arith, known_behind)
 
 -- all that is read after this content
 abbrev pub behind_nodes : Content → List (Entry FileNode) → MapOf → List (Described ℕ Outcome)
@@ -196,11 +159,7 @@ pub nodes_again : (es : List (Entry FileNode)) (ts : List Token) (c : Content)
     → AllByRecursion (HasChildren g) (alone es) → AreSets (length c.players) sets
     → run_tokens NodeDue c ts ≡ ok_read (behind_nodes c es sets outcomes)
 nodes_again [] ts c g sets outcomes of each fills learns_sets learns_outcomes children are =
-    ap (run_tokens NodeDue c) each
-    ∙ end_again c sets outcomes (empty c.due fills) learns_sets learns_outcomes
-  where
-    empty : (due : ℕ) → Fills {N = FileNode} due [] → due ≡ 0
-    empty due h = grind arith
+    grind (arith, end_again)
 nodes_again (e ∷ es) ts c g sets outcomes of each fills learns_sets learns_outcomes children are =
     let left = some_due c.due refl fills in
     let us = subst (λ us. Learns same_set c.sets us sets) (sym (more_uses e.node.set (set_uses es)))
@@ -215,13 +174,12 @@ nodes_again (e ∷ es) ts c g sets outcomes of each fills learns_sets learns_out
     let has = children_then c.sets s.0 sets e.node.set e.children s.1
     (kept same_set (set_uses es) s.0 sets s.2) counted in
     let behind = behind_node c e.node e.children s.0 o.0 in
-    ap (run_tokens NodeDue c) each.2
-    ∙ node_again e.node e.children left.0 each.0 each.1 c s.0 o.0 left.1 each.3
-    (nodes_no_text (length c.players) (nodes_of es) each.1 each.4) s.1 o.1 has mid_are
-    ∙ nodes_again es each.1 behind g sets outcomes of each.4 left.2 s.2 o.2 children.1 are
-    ∙ ap (λ (ns : List (Entry Node)).
-    ok_read (record c { nodes = ns; due = 0; sets = sets; outcomes = outcomes }))
-    (append_assoc c.nodes (map_entry keys_alone e ∷ []) (alone es))
+    cc (
+      node_again e.node e.children left.0 each.0 each.1 c s.0 o.0 left.1 each.3 (nodes_no_text
+          (length c.players) (nodes_of es) each.1 each.4) s.1 o.1 has mid_are,
+      nodes_again es each.1 behind g sets outcomes of each.4 left.2 s.2 o.2 children.1 are,
+      append_assoc c.nodes (map_entry keys_alone e ∷ []) (alone es),
+    )
   where
     some_due : (due : ℕ) → c.due ≡ due → Fills due (e ∷ es)
         → (left : ℕ) × (c.due ≡ suc left) × Fills (e.children + (c.due - 1)) es

@@ -1,24 +1,15 @@
 -- The machine of the reader answers what extensive files mean: exactly the tokens of consistent
 -- files are read, to their games.
-use Rattle.std.proofs.Common.{◌≡◌, ◌↔◌, ℕ, List, [], ◌∷◌, ◌++◌, length, refl, sym, ap, subst, ◌∙◌}
-use Rattle.std.proofs.Common.{inl, inr, arith}
-use Rattle.std.specs.List.{AllByRecursion}
-use Rattle.gf_token.specs.Token.{Token}
-use Rattle.gf_token.specs.Token.Token.{Text, Bare}
-use Rattle.gf_token.specs.Grammar.{IsComment}
-use Rattle.gf_tree.specs.Tree.{Tree, map_tree}
-use Rattle.gf_tree.specs.Grown.{grow, root}
+use Rattle.gf_tree.proofs.Common.{◌≡◌, ◌↔◌, ℕ, List, [], ◌∷◌, ◌++◌, length, refl, sym, ap, subst}
+use Rattle.gf_tree.proofs.Common.{◌∙◌, inl, inr, arith, AllByRecursion, Token, Text, Bare}
+use Rattle.gf_tree.proofs.Common.{IsComment, Tree, map_tree, grow, keys_alone, IsSet, FileNode}
+use Rattle.gf_tree.proofs.Common.{FileTree, Sentence, Game, Node, HasChildren, Entry, Fills}
+use Rattle.gf_tree.proofs.Common.{flatten, Content, nothing, Format, AfterPlayers, NodeDue}
+use Rattle.gf_tree.proofs.Common.{run_tokens, game_of}
+use Rattle.gf_tree.specs.Grown.{root}
 use Rattle.gf_tree.specs.GameCode.{no_node}
-use Rattle.gf_tree.specs.GameOf.{keys_alone, MeansGame}
+use Rattle.gf_tree.specs.GameOf.{MeansGame}
 use Rattle.gf_tree.specs.Learned.{LearnsGame}
-use Rattle.gf_tree.specs.Description.{IsSet}
-use Rattle.gf_tree.specs.FileTree.{FileNode, FileTree}
-use Rattle.gf_tree.specs.Sentence.{Sentence}
-use Rattle.gf_tree.specs.Game.{Game, Node, HasChildren}
-use Rattle.gf_tree.specs.PrefixOrder.{Entry, Fills, flatten}
-use Rattle.gf_tree.specs.inner.Machine.{Content, nothing}
-use Rattle.gf_tree.specs.inner.Machine.Position.{Format, AfterPlayers, NodeDue}
-use Rattle.gf_tree.specs.inner.ReadGame.{run_tokens, game_of}
 use Rattle.gf_tree.proofs.lemmas.games.Prefix.{one_tree, fills_one, grows_again}
 use Rattle.gf_tree.proofs.lemmas.games.Consistent.{flatten_map}
 use Rattle.gf_tree.proofs.lemmas.games.Learned.{game_learned_once}

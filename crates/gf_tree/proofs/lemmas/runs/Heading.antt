@@ -1,15 +1,11 @@
 -- Runs over the heading of an extensive file: its format, title and players.
-use Rattle.std.proofs.Common.{◌≡◌, ℕ, Bool, true, false, List, [], ◌∷◌, ◌++◌, map, refl, sym, ap}
-use Rattle.std.proofs.Common.{subst, ◌∙◌, append_assoc, append-nil, inl, inr, nat_eq, arith}
-use Rattle.std.specs.Prelude.{codes, ◌||◌, ◌⊎◌}
-use Rattle.std.specs.Cmp.Lexicographic.{pointwise}
-use Rattle.gf_token.specs.Token.{Token}
-use Rattle.gf_token.specs.Grammar.{braced}
-use Rattle.gf_token.specs.Token.Token.{Opening, Closing, Text, Bare}
-use Rattle.gf_tree.specs.inner.Machine.{Content, at, nothing, with_player}
-use Rattle.gf_tree.specs.inner.Machine.Position.{Format, Version, Letter, Title, BeforePlayers}
-use Rattle.gf_tree.specs.inner.Machine.Position.{InPlayers, AfterPlayers}
-use Rattle.gf_tree.specs.inner.ReadGame.{run_tokens}
+use Rattle.gf_tree.proofs.Common.{◌≡◌, ℕ, Bool, true, false, List, [], ◌∷◌, ◌++◌, map, refl, sym}
+use Rattle.gf_tree.proofs.Common.{ap, subst, ◌∙◌, append_assoc, append-nil, inl, inr, nat_eq, arith}
+use Rattle.gf_tree.proofs.Common.{codes, ◌⊎◌, pointwise, Token, braced, Opening, Closing, Text}
+use Rattle.gf_tree.proofs.Common.{Bare, Content, at, nothing, Format, Version, Letter, Title}
+use Rattle.gf_tree.proofs.Common.{BeforePlayers, InPlayers, AfterPlayers, run_tokens}
+use Rattle.std.specs.Prelude.{◌||◌}
+use Rattle.gf_tree.specs.inner.Machine.{with_player}
 use Rattle.gf_tree.proofs.lemmas.runs.Tokens.{Reads, guard_ok, same_bytes}
 
 -- ---- what was read
@@ -76,12 +72,7 @@ players_found : (ts : List Token) (c r : Content) → Reads InPlayers c ts r
     → (players : List (List ℕ)) × (rest : List Token) × (ts ≡ map Text players ++ Closing ∷ rest)
     × Reads AfterPlayers (with_players c players) rest r
 players_found (Text label ∷ ts) c r e =
-    let h = players_found ts (with_player c label) r e in (
-      label ∷ h.0,
-      h.1,
-      ap (λ (x : List Token). Text label ∷ x) h.2,
-      subst (λ (d : Content). Reads AfterPlayers d h.1 r) (more_players c label h.0) h.3,
-    )
+    grind (arith, more_players, players_found ts (with_player c label) r e)
 players_found (Closing ∷ ts) c r e =
     ([], ts, refl, subst (λ (d : Content). Reads AfterPlayers d ts r) (sym (no_players c)) e)
 players_found _ c r e = absurd cc

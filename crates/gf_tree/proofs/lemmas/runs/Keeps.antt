@@ -1,44 +1,31 @@
 -- What holds wherever the machine goes on: numbers that it knows are fractions, a sum of
 -- probabilities is at most one, and if a player moves, there is such a player.
-use Rattle.std.proofs.Common.{◌≡◌, ℕ, zero, suc, ◌<◌, Bool, true, false, cond, List, [], ◌∷◌, ◌++◌}
-use Rattle.std.proofs.Common.{length, Option, Some, None, MatchOption, Result, Ok, Err, refl, ap}
-use Rattle.std.proofs.Common.{arith, nat_eq}
-use Rattle.std.proofs.lemmas.Bool.Decides.{Decides-eqb}
-use Rattle.std.specs.Prelude.{codes, ◌||◌, nat_le}
-use Rattle.std.specs.Cmp.Lexicographic.{pointwise}
-use Rattle.std.specs.List.{AllByRecursion}
-use Rattle.gf_fraction.specs.Ratio.{Ratio, IsFraction}
+use Rattle.gf_tree.proofs.Common.{◌≡◌, ℕ, zero, suc, ◌<◌, Bool, true, false, cond, List, [], ◌∷◌}
+use Rattle.gf_tree.proofs.Common.{◌++◌, length, Option, Some, None, MatchOption, Result, Ok, Err}
+use Rattle.gf_tree.proofs.Common.{refl, arith, nat_eq, Decides-eqb, codes, pointwise}
+use Rattle.gf_tree.proofs.Common.{AllByRecursion, Ratio, IsFraction, NumberFault, number_is, Token}
+use Rattle.gf_tree.proofs.Common.{count_of, Opening, Closing, Comma, Text, Bare, Why, Action}
+use Rattle.gf_tree.proofs.Common.{InformationSet, Outcome, SetKey, same_set, set_of, Described}
+use Rattle.gf_tree.proofs.Common.{description_at, Share, share_of, Begun, Content, Position, State}
+use Rattle.gf_tree.proofs.Common.{after_node, at, begun, behind_outcome, behind_set, new_set_ends}
+use Rattle.gf_tree.proofs.Common.{node_letter, outcome_number, paid, player_number, set_ends}
+use Rattle.gf_tree.proofs.Common.{set_number, shared, step, Format, Version, Letter, Title}
+use Rattle.gf_tree.proofs.Common.{BeforePlayers, InPlayers, AfterPlayers, NodeDue, ChanceName}
+use Rattle.gf_tree.proofs.Common.{PersonalName, TerminalName, PlayerNumber, SetNumber, NewSetName}
+use Rattle.gf_tree.proofs.Common.{NewSetOpening, NewAction, NewProbability, KnownSetName}
+use Rattle.gf_tree.proofs.Common.{KnownSetOpening, KnownAction, KnownProbability, OutcomeNumber}
+use Rattle.gf_tree.proofs.Common.{NewOutcomeName, NewOutcomeOpening, NewPayoff, AfterNewPayoff}
+use Rattle.gf_tree.proofs.Common.{KnownOutcomeName, KnownOutcomeOpening, KnownPayoff}
+use Rattle.gf_tree.proofs.Common.{AfterKnownPayoff}
 use Rattle.gf_fraction.specs.Computed.{number_of}
-use Rattle.gf_fraction.specs.declared.fraction.NumberFault.{NumberFault}
-use Rattle.gf_fraction.proofs.ComputedAnswers.{number_is}
-use Rattle.gf_token.specs.Token.{Token}
-use Rattle.gf_token.specs.Indices.{count_of, index_of}
-use Rattle.gf_token.specs.Token.Token.{Opening, Closing, Comma, Text, Bare}
-use Rattle.gf_token.specs.declared.fault.Why.{Why}
-use Rattle.gf_token.specs.declared.fault.Why.TheVariants.{Expected}
-use Rattle.gf_tree.specs.Description.{Action, InformationSet, Outcome, SetKey, same_set, set_of}
-use Rattle.gf_tree.specs.FiniteMap.{Described, description_at}
-use Rattle.gf_tree.specs.inner.Probability.{Share, share_of, is_one, same_ratio}
-use Rattle.gf_tree.specs.inner.Machine.{Begun, Content, Position, State, after_node, at, begun}
-use Rattle.gf_tree.specs.inner.Machine.{behind_label, behind_outcome, behind_set, new_label}
-use Rattle.gf_tree.specs.inner.Machine.{new_set_ends, node_letter, outcome_number, paid}
-use Rattle.gf_tree.specs.inner.Machine.{personal_node, player_number, same_number, set_ends}
-use Rattle.gf_tree.specs.inner.Machine.{set_number, shared, step}
-use Rattle.gf_tree.specs.inner.Machine.Position.{Format, Version, Letter, Title, BeforePlayers}
-use Rattle.gf_tree.specs.inner.Machine.Position.{InPlayers, AfterPlayers, NodeDue, ChanceName}
-use Rattle.gf_tree.specs.inner.Machine.Position.{PersonalName, TerminalName, PlayerNumber}
-use Rattle.gf_tree.specs.inner.Machine.Position.{SetNumber, NewSetName, NewSetOpening, NewAction}
-use Rattle.gf_tree.specs.inner.Machine.Position.{NewProbability, KnownSetName, KnownSetOpening}
-use Rattle.gf_tree.specs.inner.Machine.Position.{KnownAction, KnownProbability, OutcomeNumber}
-use Rattle.gf_tree.specs.inner.Machine.Position.{NewOutcomeName, NewOutcomeOpening, NewPayoff}
-use Rattle.gf_tree.specs.inner.Machine.Position.{AfterNewPayoff, KnownOutcomeName}
-use Rattle.gf_tree.specs.inner.Machine.Position.{KnownOutcomeOpening, KnownPayoff, AfterKnownPayoff}
+use Rattle.gf_token.specs.Indices.{index_of}
+use Rattle.gf_tree.specs.inner.Probability.{is_one}
+use Rattle.gf_tree.specs.inner.Machine.{new_label}
 use Rattle.gf_tree.proofs.lemmas.games.TreesOnce.{same_set_equality}
 use Rattle.gf_tree.proofs.lemmas.games.Members.{all_more}
 use Rattle.gf_tree.proofs.lemmas.runs.Learned.{one, found_has}
 use Rattle.gf_tree.proofs.lemmas.runs.Shares.{share_found}
 use Rattle.gf_tree.proofs.lemmas.runs.Remainders.{IsShare, zero_share, sum_low}
-use Rattle.gf_token.specs.declared.fault.What.TheVariants as what
 
 abbrev pub FineActions : List Action → Type 0
 FineActions actions = AllByRecursion (λ a. MatchOption a.probability (Unit {0}) IsFraction) actions
@@ -84,28 +71,9 @@ by_test : (b : Bool) (s : State) (why : Why) → Fine s.position s.content
 by_test true s why f = f
 by_test false s why f = tt
 
-same_keeps : (wanted : Ratio) (s : State) (o : Result Ratio NumberFault) → Fine s.position s.content
-    → LeadsFine (same_number wanted s o)
-same_keeps wanted s (Err fault) f = tt
-same_keeps wanted s (Ok found) f = by_test (same_ratio found wanted) s _ f
-
 module _ (c : Content) (sets : FineSets c.sets) (outcomes : FineOutcomes c.outcomes) where
-  personal_keeps : (players : List (List ℕ)) → c.players ≡ players
-      → LeadsFine (personal_node c players)
-  personal_keeps [] e = tt
-  personal_keeps (player ∷ players) e =
-      (let size = ap length e in omega (arith, size), sets, outcomes)
-
-  by_letter : (is_c is_p is_t : Bool) → LeadsFine (cond is_c (Ok (at ChanceName c)) (cond is_p
-      (personal_node c c.players) (cond is_t (Ok (at TerminalName c)) (Err (Expected what.Node)))))
-  by_letter true is_p is_t = (tt, sets, outcomes)
-  by_letter false true is_t = personal_keeps c.players refl
-  by_letter false false true = (tt, sets, outcomes)
-  by_letter false false false = tt
-
   letter_keeps : (b : List ℕ) → LeadsFine (node_letter c b)
-  letter_keeps b = by_letter (pointwise nat_eq b (codes "c")) (pointwise nat_eq b (codes "p"))
-      (pointwise nat_eq b (codes "t"))
+  letter_keeps b = grind arith
 
   due_keeps : (due : ℕ) (b : List ℕ) → LeadsFine (after_node c due b)
   due_keeps zero b = tt
@@ -113,8 +81,7 @@ module _ (c : Content) (sets : FineSets c.sets) (outcomes : FineOutcomes c.outco
 
   player_keeps : (name : List ℕ) (o : Option ℕ) → LeadsFine (player_number c name o)
   player_keeps name None = tt
-  player_keeps name (Some n) =
-      by_test (nat_le n (length c.players)) (at (SetNumber name n) c) _ (tt, sets, outcomes)
+  player_keeps name (Some n) = grind arith
 
   behind_set_keeps : (name : List ℕ) (key : SetKey) (o : Option InformationSet)
       → description_at same_set c.sets key ≡ o → Fine (behind_set name key o) c
@@ -135,15 +102,7 @@ module _ (c : Content) (sets : FineSets c.sets) (outcomes : FineOutcomes c.outco
       → Fine (new_label c name player n set sum label).position
       (new_label c name player n set sum label).content
   label_keeps name zero n set sum label share fine = ((share, fine), sets, outcomes)
-  label_keeps name (suc player) n set sum label share fine = (
-    (
-      share,
-      all_more (λ a. MatchOption a.probability (Unit {0}) IsFraction)
-          set.actions (record { label = label; probability = None }) fine tt,
-    ),
-    sets,
-    outcomes,
-  )
+  label_keeps name (suc player) n set sum label share fine = grind (arith, all_more)
 
   known_keeps : (key : SetKey) (set : InformationSet) → FineActions set.actions
       → FineSets (c.sets ++ one key set ∷ [])
@@ -183,12 +142,6 @@ module _ (c : Content) (sets : FineSets c.sets) (outcomes : FineOutcomes c.outco
         outcomes,
       )
 
-  behind_label_fine : (b : Begun) (o : Option Ratio) (actions : List Action)
-      → MatchOption o (Unit {0}) IsFraction → FineActions actions
-      → Fine (behind_label b o actions) c
-  behind_label_fine b None actions p fine = (fine, sets, outcomes)
-  behind_label_fine b (Some p) actions is fine = ((is, fine), sets, outcomes)
-
   behind_outcome_keeps : (b : Begun) (n : ℕ) (o : Option Outcome)
       → description_at nat_eq c.outcomes n ≡ o
       → Fine (behind_outcome c b n o).position (behind_outcome c b n o).content
@@ -220,12 +173,9 @@ module _ (c : Content) (sets : FineSets c.sets) (outcomes : FineOutcomes c.outco
 -- ---- each step keeps it
 
 pub keeps : (q : Position) (c : Content) (t : Token) → Fine q c → LeadsFine (step q c t)
-keeps Format c (Bare b) f =
-    by_test (pointwise nat_eq b (codes "EFG")) (at Version c) _ (tt, f.1, f.2)
+keeps Format c (Bare b) f = grind arith
 keeps Version c (Bare b) f = by_test (pointwise nat_eq b (codes "2")) (at Letter c) _ (tt, f.1, f.2)
-keeps Letter c (Bare b) f =
-    by_test (pointwise nat_eq b (codes "R") || pointwise nat_eq b (codes "D")) (at Title c) _
-    (tt, f.1, f.2)
+keeps Letter c (Bare b) f = grind arith
 keeps Title c (Text l) f = (tt, f.1, f.2)
 keeps BeforePlayers c Opening f = (tt, f.1, f.2)
 keeps InPlayers c (Text l) f = (tt, f.1, f.2)
@@ -246,17 +196,13 @@ keeps (NewAction name key set sum) c Closing f =
     new_ends_keeps c f.1 f.2 name key set set.actions sum f.0.1
 keeps (NewProbability name key set sum label) c (Bare b) f =
     shared_keeps c f.1 f.2 name key set sum label b (share_of sum b) f.0.0 f.0.1 refl
-keeps (KnownSetName name key set) c (Text l) f = by_test (pointwise nat_eq l set.name)
-    (at (KnownSetOpening (begun name key set) set.actions) c) _ f
+keeps (KnownSetName name key set) c (Text l) f = grind arith
 keeps (KnownSetName name key set) c (Bare b) f =
     outcome_keeps c f.1 f.2 (begun name key set) (index_of b)
 keeps (KnownSetOpening b actions) c Opening f = f
 keeps (KnownAction b []) c Closing f = (tt, f.1, f.2)
-keeps (KnownAction b (a ∷ actions)) c (Text l) f =
-    by_test (pointwise nat_eq l a.label) (at (behind_label b a.probability actions) c) _
-    (behind_label_fine c f.1 f.2 b a.probability actions f.0.0 f.0.1)
-keeps (KnownProbability b p actions) c (Bare t) f =
-    same_keeps p (at (KnownAction b actions) c) (number_of t) (f.0.1, f.1, f.2)
+keeps (KnownAction b (a ∷ actions)) c (Text l) f = grind arith
+keeps (KnownProbability b p actions) c (Bare t) f = grind arith
 keeps (OutcomeNumber b) c (Bare t) f = outcome_keeps c f.1 f.2 b (index_of t)
 keeps (NewOutcomeName b n) c (Text l) f = (tt, f.1, f.2)
 keeps (NewOutcomeOpening b n label) c Opening f = (tt, f.1, f.2)
@@ -269,16 +215,13 @@ keeps (AfterNewPayoff b n outcome zero) c Closing f =
 keeps (AfterNewPayoff b n outcome (suc left)) c Comma f = f
 keeps (AfterNewPayoff b n outcome (suc left)) c (Bare t) f =
     paid_keeps c f.1 f.2 b n outcome left t (number_of t) f.0 refl
-keeps (KnownOutcomeName outcome) c (Text l) f =
-    by_test (pointwise nat_eq l outcome.name) (at (KnownOutcomeOpening outcome.payoffs) c) _ f
+keeps (KnownOutcomeName outcome) c (Text l) f = grind arith
 keeps (KnownOutcomeName outcome) c (Bare b) f = due_keeps c f.1 f.2 c.due b
 keeps (KnownOutcomeOpening ps) c Opening f = f
 keeps (KnownPayoff []) c Closing f = (tt, f.1, f.2)
-keeps (KnownPayoff (p ∷ ps)) c (Bare t) f =
-    same_keeps p (at (AfterKnownPayoff ps) c) (number_of t) (f.0.1, f.1, f.2)
+keeps (KnownPayoff (p ∷ ps)) c (Bare t) f = grind arith
 keeps (AfterKnownPayoff []) c Comma f = f
 keeps (AfterKnownPayoff []) c Closing f = (tt, f.1, f.2)
 keeps (AfterKnownPayoff (p ∷ ps)) c Comma f = f
-keeps (AfterKnownPayoff (p ∷ ps)) c (Bare t) f =
-    same_keeps p (at (AfterKnownPayoff ps) c) (number_of t) (f.0.1, f.1, f.2)
+keeps (AfterKnownPayoff (p ∷ ps)) c (Bare t) f = grind arith
 keeps q c t f = tt

@@ -1,18 +1,10 @@
 -- Runs over the actions of a known information set in braces.
-use Rattle.std.proofs.Common.{◌≡◌, ℕ, zero, suc, List, [], ◌∷◌, ◌++◌, map, drop, Option, Some, None}
-use Rattle.std.proofs.Common.{refl, sym, ap, subst, ◌∙◌, append_assoc}
-use Rattle.std.specs.List.{AllByRecursion}
-use Rattle.gf_token.specs.Token.{Token}
-use Rattle.gf_token.specs.Grammar.{Each}
-use Rattle.gf_token.specs.Token.Token.{Closing, Text, Bare}
-use Rattle.gf_fraction.specs.Ratio.{Ratio}
-use Rattle.gf_fraction.specs.NumberSpelling.{IsNumber}
-use Rattle.gf_tree.specs.Description.{Action, AreActions}
-use Rattle.gf_tree.specs.Sentence.{IsAction}
-use Rattle.gf_tree.specs.inner.Machine.{Begun, Content, at, behind_label}
-use Rattle.gf_tree.specs.inner.Machine.Position.{OutcomeNumber, KnownAction, KnownProbability}
-use Rattle.gf_tree.specs.inner.ReadGame.{run_tokens, then_run}
-use Rattle.gf_tree.proofs.lemmas.runs.Tokens.{Reads, run_on, text_found, text_again}
+use Rattle.gf_tree.proofs.Common.{◌≡◌, ℕ, zero, suc, List, [], ◌∷◌, ◌++◌, map, drop, Option, Some}
+use Rattle.gf_tree.proofs.Common.{None, refl, sym, ap, subst, ◌∙◌, append_assoc, AllByRecursion}
+use Rattle.gf_tree.proofs.Common.{Token, Each, Closing, Text, Bare, Ratio, IsNumber, Action}
+use Rattle.gf_tree.proofs.Common.{AreActions, IsAction, Begun, Content, at, behind_label}
+use Rattle.gf_tree.proofs.Common.{OutcomeNumber, KnownAction, KnownProbability, run_tokens}
+use Rattle.gf_tree.proofs.lemmas.runs.Tokens.{Reads, text_found, text_again}
 use Rattle.gf_tree.proofs.lemmas.runs.Payoffs.{number_found, number_same}
 
 -- each of chance has a probability, and none of a player has one
@@ -70,8 +62,7 @@ behind_found : (player : ℕ) (a : Action) (label : List ℕ) (actions : List Ac
 behind_found zero a label actions None ts b c r is same has e later = let f = has.1 in absurd cc
 behind_found zero a label actions (Some p) ts b c r is same has e later =
     let h = probability_found b p actions ts c r e in
-    let text : Text label ∷ ts ≡ (Text a.label ∷ Bare h.0 ∷ []) ++ h.1 =
-    λ i. Text (same i) ∷ h.2 i in
+    let text : Text label ∷ ts ≡ (Text a.label ∷ Bare h.0 ∷ []) ++ h.1 = cc in
     rw text (known_more (Text a.label ∷ Bare h.0 ∷ []) h.1 0 a actions b c r (h.0, p, refl, h.3, is)
     (later h.1 h.4))
 behind_found (suc player) a label actions None ts b c r is same has e later =
@@ -107,13 +98,12 @@ known_again [] player inner rest b c each = rw each refl
 known_again (a ∷ actions) zero inner rest b c each =
     let t = each.3.0 in
     let p = each.3.1 in
-    let first : inner ++ Closing ∷ rest ≡ Text a.label ∷ Bare t ∷ (each.1 ++ Closing ∷ rest) =
-    rw (each.2, each.3.2) refl in
-    ap (run_tokens (KnownAction b (a ∷ actions)) c) first
-    ∙ label_again a actions (Some p) (Bare t ∷ (each.1 ++ Closing ∷ rest)) b c each.3.4
-    ∙ ap (λ o. then_run o (run_on (each.1 ++ Closing ∷ rest)))
-    (number_same p (at (KnownAction b actions) c) t each.3.3)
-    ∙ known_again actions 0 each.1 rest b c each.4
+    let first : inner ++ Closing ∷ rest ≡ Text a.label ∷ Bare t ∷ (each.1 ++ Closing ∷ rest) = cc in
+    cc (
+      label_again a actions (Some p) (Bare t ∷ (each.1 ++ Closing ∷ rest)) b c each.3.4,
+      number_same p (at (KnownAction b actions) c) t each.3.3,
+      known_again actions 0 each.1 rest b c each.4,
+    )
 known_again (a ∷ actions) (suc player) inner rest b c each =
     let first : inner ++ Closing ∷ rest ≡ Text a.label ∷ (each.1 ++ Closing ∷ rest) =
     rw (each.2, each.3.0) refl in

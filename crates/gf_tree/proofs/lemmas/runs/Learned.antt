@@ -1,11 +1,7 @@
 -- What is learned by one use, and by uses one after another.
-use Rattle.std.proofs.Common.{◌≡◌, Bool, List, [], ◌∷◌, ◌++◌, Some, None, Option, MatchOption, refl}
-use Rattle.std.proofs.Common.{ap, subst, ◌∙◌, inl, inr, arith}
-use Rattle.std.specs.Prelude.{◌⊎◌}
-use Rattle.std.specs.List.{AllByRecursion, cons_option}
-use Rattle.gf_tree.specs.FiniteMap.{Described, description_at}
-use Rattle.gf_tree.specs.FileTree.{Use}
-use Rattle.gf_tree.specs.Learned.{Learns}
+use Rattle.gf_tree.proofs.Common.{◌≡◌, Bool, List, [], ◌∷◌, ◌++◌, Some, None, Option, MatchOption}
+use Rattle.gf_tree.proofs.Common.{refl, ap, subst, ◌∙◌, arith, ◌⊎◌, AllByRecursion, cons_option}
+use Rattle.gf_tree.proofs.Common.{Described, description_at, Use, Learns}
 use Rattle.gf_tree.proofs.lemmas.games.Uses.{IsEquality}
 
 abbrev pub one : {K D : Type 0} → K → D → Described K D
@@ -51,10 +47,8 @@ by_known : {K D : Type 0} (same : K → K → Bool) (known : List (Described K D
     → MatchOption o ((d : D) × (u.description ≡ Some d) × (end ≡ known ++ one u.key d ∷ []))
     (λ d. ((u.description ≡ None) ⊎ (u.description ≡ Some d)) × (end ≡ known))
     → IsNew same known u end ⊎ IsKnown same known u end
-by_known same known u end None e h =
-    inl (record { description = h.0; unknown = e; told = h.1; more = h.2 })
-by_known same known u end (Some d) e h =
-    inr (record { description = d; is_known = e; told = h.0; no_more = h.1 })
+by_known same known u end None e h = grind arith
+by_known same known u end (Some d) e h = grind arith
 
 pub one_use : {K D : Type 0} (same : K → K → Bool)
     (known : List (Described K D)) (u : Use K D) (end : List (Described K D))

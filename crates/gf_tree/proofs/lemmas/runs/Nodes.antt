@@ -1,30 +1,21 @@
 -- Runs over one node: its letter, its name, its set and its outcome.
-use Rattle.std.proofs.Common.{◌≡◌, ℕ, zero, suc, ◌+◌, ◌-◌, ◌<◌, ◌≤◌, Bool, true, false, cond, List}
-use Rattle.std.proofs.Common.{[], ◌∷◌, ◌++◌, length, option_map, Option, Some, None, MatchOption}
-use Rattle.std.proofs.Common.{Ok, Err, refl, sym, ap, subst, ◌∙◌, append_assoc, arith, nat_eq}
-use Rattle.std.specs.Prelude.{codes, nat_le}
-use Rattle.std.specs.Cmp.Lexicographic.{pointwise}
-use Rattle.std.proofs.lemmas.Bool.{leb-true, le-leb}
-use Rattle.gf_token.specs.Token.{Token}
-use Rattle.gf_token.specs.Token.Token.{Text, Bare}
-use Rattle.gf_token.specs.Indices.{count_of}
-use Rattle.gf_token.specs.Index.{IsIndex}
-use Rattle.gf_token.proofs.ReadingIndices.{count_is, count_again}
-use Rattle.gf_token.specs.declared.fault.Why.TheVariants.{Expected, UnknownPlayer}
-use Rattle.gf_tree.specs.Description.{InformationSet, SetKey, Outcome, set_of, same_set, IsSet}
-use Rattle.gf_tree.specs.FiniteMap.{Described, description_at}
-use Rattle.gf_tree.specs.FileTree.{Use, FileNode}
-use Rattle.gf_tree.specs.GameOf.{keys_alone}
-use Rattle.gf_tree.specs.Learned.{Learns}
-use Rattle.gf_tree.specs.Sentence.{IsMover, IsStep, IsResult, IsNode}
-use Rattle.gf_tree.specs.inner.Machine.{Content, at, begun, node_letter, personal_node}
-use Rattle.gf_tree.specs.inner.Machine.{player_number, after_node}
-use Rattle.gf_tree.specs.inner.Machine.Position.{NodeDue, ChanceName, PersonalName, TerminalName}
-use Rattle.gf_tree.specs.inner.Machine.Position.{SetNumber, OutcomeNumber}
-use Rattle.gf_tree.specs.inner.ReadGame.{run_tokens, then_run}
+use Rattle.gf_tree.proofs.Common.{◌≡◌, ℕ, zero, suc, ◌+◌, ◌-◌, ◌<◌, ◌≤◌, Bool, true, false, cond}
+use Rattle.gf_tree.proofs.Common.{List, [], ◌∷◌, ◌++◌, length, option_map, Option, Some, None}
+use Rattle.gf_tree.proofs.Common.{MatchOption, Ok, Err, refl, sym, ap, subst, ◌∙◌, append_assoc}
+use Rattle.gf_tree.proofs.Common.{arith, nat_eq, codes, pointwise, Token, Text, Bare, count_of}
+use Rattle.gf_tree.proofs.Common.{IsIndex, count_again, Expected, UnknownPlayer, InformationSet}
+use Rattle.gf_tree.proofs.Common.{SetKey, Outcome, set_of, same_set, IsSet, Described}
+use Rattle.gf_tree.proofs.Common.{description_at, Use, FileNode, keys_alone, Learns, IsMover}
+use Rattle.gf_tree.proofs.Common.{IsStep, IsResult, IsNode, Content, at, begun, node_letter}
+use Rattle.gf_tree.proofs.Common.{personal_node, player_number, after_node, NodeDue, ChanceName}
+use Rattle.gf_tree.proofs.Common.{PersonalName, TerminalName, SetNumber, OutcomeNumber, run_tokens}
+use Rattle.gf_tree.proofs.Common.{then_run}
+use Rattle.std.specs.Prelude.{nat_le}
+use Rattle.std.proofs.lemmas.Bool.{le-leb}
+use Rattle.gf_token.proofs.ReadingIndices.{count_is}
 use Rattle.gf_tree.proofs.lemmas.fronts.Groups.{NoText}
 use Rattle.gf_tree.proofs.lemmas.games.TreesOnce.{same_set_equality}
-use Rattle.gf_tree.proofs.lemmas.runs.Tokens.{Reads, run_on, guard_ok, same_bytes}
+use Rattle.gf_tree.proofs.lemmas.runs.Tokens.{Reads, run_on, same_bytes}
 use Rattle.gf_tree.proofs.lemmas.runs.Sets.{AreSets, with_sets, set_found, set_again}
 use Rattle.gf_tree.proofs.lemmas.runs.Results.{AreOutcomes, result_found, result_again}
 use Rattle.gf_tree.proofs.lemmas.runs.Learned.{use_of, uses_of, found_has}
@@ -80,8 +71,8 @@ mover_found letter mover ts name player c r moves among sets outcomes e =
     let o = result_found s.rest (begun name key s.set) (with_sets c s.sets) r outcomes s.goes_on in
     let step : List Token = mover ++ Bare s.number ∷ s.tokens in
     let behind : mover ++ ts ≡ (step ++ o.tokens) ++ o.rest =
-    ap (λ (x : List Token). mover ++ x)
-    (s.parts ∙ ap (λ (x : List Token). Bare s.number ∷ (s.tokens ++ x)) o.parts)
+    ap (λ (x : List Token). mover ++ x) (s.first ∙ ap (λ (x : List Token). Bare s.number ∷ x)
+    (s.behind.parts ∙ ap (λ (x : List Token). s.tokens ++ x) o.parts))
     ∙ sym (append_assoc mover (Bare s.number ∷ s.tokens) (o.tokens ++ o.rest))
     ∙ sym (append_assoc step o.tokens o.rest) in
     record {
@@ -102,8 +93,8 @@ mover_found letter mover ts name player c r moves among sets outcomes e =
       };
       learns_sets = s.learns;
       learns_outcomes = o.learns;
-      has_children = ap (option_map (λ (set : InformationSet). length set.actions)) s.is_known;
-      are_sets = s.are;
+      has_children = cc (s.behind.is_known);
+      are_sets = s.behind.are;
       are_outcomes = o.are;
       goes_on = o.goes_on;
     }
@@ -119,9 +110,7 @@ pub player_by : (name : List ℕ) (t : List ℕ) (o : Option ℕ) (ts : List Tok
     → count_of t ≡ o → then_run (player_number c name o) (run_on ts) ≡ Ok r
     → (n : ℕ) × (count_of t ≡ Some n) × (n ≤ length c.players) × Reads (SetNumber name n) c ts r
 player_by name t None ts c r is e = absurd cc
-player_by name t (Some n) ts c r is e =
-    let h = guard_ok (nat_le n (length c.players)) (at (SetNumber name n) c) UnknownPlayer ts r e in
-    (n, is, leb-true n (length c.players) h.0, h.1)
+player_by name t (Some n) ts c r is e = grind arith
 
 counted_found : (name t : List ℕ) (n : ℕ) (ts : List Token) (c r : Content) → 0 < n → IsIndex t n
     → n ≤ length c.players
@@ -136,9 +125,7 @@ personal_found : (ts : List Token) (c r : Content) → AreSets (length c.players
     → AreOutcomes (length c.players) c.outcomes → Reads PersonalName c ts r
     → NodeRead (Bare (codes "p") ∷ ts) c r
 personal_found (Text name ∷ Bare t ∷ ts) c r sets outcomes e =
-    let h = player_by name t (count_of t) ts c r refl e in
-    let k = count_is t h.0 h.1 in
-    counted_found name t h.0 ts c r k.0 k.1 h.2 sets outcomes h.3
+    grind (arith, player_by, count_is, counted_found)
 personal_found (Text name ∷ _) c r sets outcomes e = absurd cc
 personal_found _ c r sets outcomes e = absurd cc
 
@@ -196,9 +183,7 @@ letter_by b false false false ts c r ec ep et sets outcomes e = absurd cc
 pub letter_found : (b : List ℕ) (ts : List Token) (c r : Content)
     → AreSets (length c.players) c.sets → AreOutcomes (length c.players) c.outcomes
     → then_run (node_letter c b) (run_on ts) ≡ Ok r → NodeRead (Bare b ∷ ts) c r
-letter_found b ts c r sets outcomes e =
-    letter_by b (pointwise nat_eq b (codes "c")) (pointwise nat_eq b (codes "p"))
-    (pointwise nat_eq b (codes "t")) ts c r refl refl refl sets outcomes e
+letter_found b ts c r sets outcomes e = grind (arith, letter_by)
 
 -- ---- each node is read
 
@@ -224,10 +209,7 @@ pub mover_again : (letter : List ℕ) (mover rest : List Token)
     → IsMover letter mover player → player ≤ length c.players → c.due ≡ suc due
     → run_tokens NodeDue c (Bare letter ∷ Text name ∷ (mover ++ rest))
     ≡ run_tokens (SetNumber name player) c rest
-mover_again letter mover rest name zero due c moves among is =
-    ap (λ (x : List Token). run_tokens NodeDue c (Bare letter ∷ Text name ∷ (x ++ rest))) moves.1
-    ∙ ap (λ (x : List ℕ). run_tokens NodeDue c (Bare x ∷ Text name ∷ rest)) moves.0
-    ∙ ap (λ (d : ℕ). then_run (after_node c d (codes "c")) (run_on (Text name ∷ rest))) is
+mover_again letter mover rest name zero due c moves among is = cc
 mover_again letter mover rest name (suc player) due c moves among is =
     let t = moves.0 in
     let some : 0 < length c.players = omega (arith, among) in
@@ -261,15 +243,12 @@ step_again : (name letter : List ℕ) (set : Option (Use SetKey InformationSet))
     rest
 step_again name letter None outcome children due step result rest c sets outcomes is is_step
     is_result none learns_sets learns_outcomes has are =
-    ap
-    (λ (x : List Token). run_tokens NodeDue c (Bare letter ∷ Text name ∷ (x ++ (result ++ rest))))
-    is_step.1 ∙ terminal_again letter (result ++ rest) name due c is_step.0 is
-    ∙ result_again outcome result rest (record { name = name; set = None; children = 0 }) outcomes c
-    is_result none learns_outcomes ∙ ap (λ (k : ℕ). run_tokens NodeDue
-    (behind_node c (record { name = name; set = None; outcome = outcome }) k c.sets outcomes) rest)
-    (sym has) ∙ ap (λ (x : MapOf). run_tokens NodeDue
-    (behind_node c (record { name = name; set = None; outcome = outcome }) children x outcomes)
-    rest) (sym learns_sets)
+    cc (
+      terminal_again letter (result ++ rest) name due c is_step.0 is,
+      result_again outcome result
+          rest (record { name = name; set = None; children = 0 }) outcomes c is_result none
+          learns_outcomes,
+    )
 step_again name letter (Some u) outcome children due step result rest c sets outcomes is is_step
     is_result none learns_sets learns_outcomes has are =
     let mover = is_step.0 in
@@ -284,18 +263,14 @@ step_again name letter (Some u) outcome children due step result rest c sets out
     let text : step ++ (result ++ rest)
     ≡ mover ++ (Bare number ∷ (description ++ (result ++ rest))) =
     cc (is_step.3, append_assoc mover (Bare number ∷ description) (result ++ rest)) in
-    ap (λ (x : List Token). run_tokens NodeDue c (Bare letter ∷ Text name ∷ x)) text
-    ∙ mover_again letter mover (Bare number ∷ (description ++ (result ++ rest))) name u.key.player
-    due c is_step.4 good.player is ∙ ap (λ (x : List Token).
-    run_tokens (SetNumber name u.key.player) c (Bare number ∷ (description ++ x)))
-    behind
-    ∙ set_again number description (b.1 ++ rest) b.0 name u sets s.0 c is_step.5 is_step.6 are s.1
-    learns_sets
-    ∙ ap (run_tokens (OutcomeNumber (begun name u.key s.0)) (with_sets c sets)) (sym behind)
-    ∙ result_again outcome result rest (begun name u.key s.0) outcomes (with_sets c sets) is_result
-    none learns_outcomes ∙ ap (λ (k : ℕ). run_tokens NodeDue
-    (behind_node c (record { name = name; set = Some u; outcome = outcome }) k sets outcomes) rest)
-    s.2
+    cc (
+      mover_again letter mover (Bare number ∷ (description ++ (result ++ rest))) name u.key.player
+          due c is_step.4 good.player is,
+      set_again number description (b.1 ++ rest) b.0 name u sets s.0 c
+          is_step.5 is_step.6 are s.1 learns_sets,
+      result_again outcome result rest (begun name u.key s.0)
+          outcomes (with_sets c sets) is_result none learns_outcomes,
+    )
 
 pub node_again : (n : FileNode) (children due : ℕ) (tokens rest : List Token)
     (c : Content) (sets : MapOf) (outcomes : List (Described ℕ Outcome)) → c.due ≡ suc due

@@ -1,18 +1,14 @@
 -- Where the machine of the reader has refused nothing, some extensive file goes on.
-use Rattle.std.proofs.Common.{◌≡◌, ℕ, ◌+◌, ◌<◌, ◌≤◌, List, [], ◌∷◌, ◌++◌, length, Result, Ok, Err}
-use Rattle.std.proofs.Common.{refl, sym, ap, subst, ◌∙◌, append_assoc, append-nil, arith, inl, inr}
-use Rattle.gf_token.specs.Token.{Lexeme}
-use Rattle.gf_token.specs.TokenSpelling.{Spells}
-use Rattle.gf_token.specs.Place.{tokens_of, IsSpanOf, Begins, IsAccepted, IsAcceptedThrough}
-use Rattle.gf_token.specs.declared.fault.Fault.{Fault}
-use Rattle.gf_token.specs.declared.fault.Span.{Span}
-use Rattle.gf_token.specs.Remaining.{AreInOrder, Remaining, StandsBefore}
+use Rattle.gf_tree.proofs.Common.{◌≡◌, ℕ, ◌<◌, ◌≤◌, List, [], ◌∷◌, ◌++◌, length, Result, Ok}
+use Rattle.gf_tree.proofs.Common.{Err, sym, subst, ◌∙◌, append_assoc, append-nil, arith, inl, inr}
+use Rattle.gf_tree.proofs.Common.{Lexeme, Spells, tokens_of, Begins, IsAccepted, Fault, Span}
+use Rattle.gf_tree.proofs.Common.{Remaining, IsExtensiveFile, Content, Position, nothing, run}
+use Rattle.gf_tree.proofs.Common.{Format}
+use Rattle.gf_token.specs.Place.{IsSpanOf, IsAcceptedThrough}
+use Rattle.gf_token.specs.Remaining.{AreInOrder, StandsBefore}
 use Rattle.gf_token.proofs.Places.{parts, Parts, tokens_on, begins_front}
 use Rattle.gf_token.proofs.TokensAhead.{in_order}
-use Rattle.gf_tree.specs.Front.{IsExtensiveFile}
 use Rattle.gf_tree.specs.inner.Passed.{HasPassed}
-use Rattle.gf_tree.specs.inner.Machine.{Content, Position, nothing, run}
-use Rattle.gf_tree.specs.inner.Machine.Position.{Format}
 use Rattle.gf_tree.proofs.lemmas.runs.Stops.{Stopped, run_reads, stopped}
 use Rattle.gf_tree.proofs.lemmas.runs.Places.{begins, read_is}
 
@@ -20,19 +16,13 @@ use Rattle.gf_tree.proofs.lemmas.runs.Places.{begins, read_is}
 
 pub within : (end from : ℕ) (ls : List Lexeme) → AreInOrder end from ls → from ≤ end
 within end from [] h = h
-within end from (l ∷ ls) h =
-    let last = within end l.end ls h.2 in
-    let near = h.0 in let some = h.1 in omega (arith, last, near, some)
+within end from (l ∷ ls) h = grind (arith, within end l.end ls h.2)
 
 -- a token before another begins before it
 begins_before : (end from : ℕ) (before after : List Lexeme) (l : Lexeme)
     → AreInOrder end from (before ++ l ∷ after) → from ≤ l.start
 begins_before end from [] after l h = h.0
-begins_before end from (z ∷ zs) after l h =
-    let far = begins_before end z.end zs after l h.2 in
-    let near = h.0 in
-    let some = h.1 in
-    omega (arith, far, near, some)
+begins_before end from (z ∷ zs) after l h = grind (arith, begins_before end z.end zs after l h.2)
 
 from_there : (end from : ℕ) (before ls : List Lexeme) → AreInOrder end from (before ++ ls)
     → (at : ℕ) × AreInOrder end at ls
@@ -43,17 +33,8 @@ from_there end from (z ∷ zs) ls h = from_there end z.end zs ls h.2
 place_in : (end from : ℕ) (before after : List Lexeme) (span : Span)
     → AreInOrder end from (before ++ after) → IsSpanOf after end span
     → (from ≤ span.start) × (span.start ≤ end)
-place_in end from before [] span h place =
-    let last = within end from (before ++ []) h in
-    let start = place.0 in
-    (omega (arith, last, start), omega (arith, start))
-place_in end from before (l ∷ ls) span h place =
-    let near = begins_before end from before ls l h in
-    let there = from_there end from before (l ∷ ls) h in
-    let some = there.1.1 in
-    let last = within end l.end ls there.1.2 in
-    let start = place.0 in
-    (omega (arith, near, start), omega (arith, some, last, start))
+place_in end from before [] span h place = grind (arith, within)
+place_in end from before (l ∷ ls) span h place = grind (arith, begins_before, from_there, within)
 
 refused_in : (end from : ℕ) (q : Position) (c : Content) (ls : List Lexeme) (fault : Fault)
     → AreInOrder end from ls → run end q c ls ≡ Err fault
@@ -65,13 +46,7 @@ refused_in end from q c ls fault h e =
 -- so if it goes on after a token, it has passed the token
 pub passed_before : (t : Remaining) (span : Span) → StandsBefore t span
     → (q : Position) (c : Content) → HasPassed (run (length t.input) q c t.ahead) span.start
-passed_before t span h q c = by (run (length t.input) q c t.ahead) refl
-  where
-    by : (o : Result Content Fault) → run (length t.input) q c t.ahead ≡ o → HasPassed o span.start
-    by (Ok r) e = tt
-    by (Err fault) e =
-        let far = (refused_in (length t.input) span.end q c t.ahead fault h.order e).0 in
-        let some = h.some in omega (arith, far, some)
+passed_before t span h q c = grind (arith, refused_in)
 
 -- ---- so some file goes on
 
@@ -109,18 +84,9 @@ stopped_goes_on end from before after l fault order behind h (inl p) =
   where
     cc_first : (x y : Lexeme) (xs ys : List Lexeme) → x ∷ xs ≡ y ∷ ys → x ≡ y
     cc_first x y xs ys e = cc
-stopped_goes_on end from before after l fault order behind h (inr (inl p)) =
-    let same = span_starts end l after h.after fault.span (sym p.1) h.place in
-    absurd (omega (arith, same, behind))
+stopped_goes_on end from before after l fault order behind h (inr (inl p)) = grind arith
 stopped_goes_on end from before after l fault order behind h (inr (inr p)) =
-    let same = span_starts end p.0 (p.1 ++ l ∷ after) h.after fault.span p.3 h.place in
-    let whole : before ++ l ∷ after ≡ h.before ++ p.0 ∷ (p.1 ++ l ∷ after) =
-    ap (λ (x : List Lexeme). x ++ l ∷ after) p.2 ∙ append_assoc h.before (p.0 ∷ p.1) (l ∷ after) in
-    let there = from_there end from h.before (p.0 ∷ (p.1 ++ l ∷ after))
-    (subst (AreInOrder end from) whole order) in
-    let some = there.1.1 in
-    let far = begins_before end p.0.end p.1 after l there.1.2 in
-    absurd (omega (arith, same, behind, some, far))
+    grind (arith, span_starts, append_assoc, from_there, begins_before)
 
 token_passed : (end from : ℕ) (before after : List Lexeme) (l : Lexeme) (o : Result Content Fault)
     → AreInOrder end from (before ++ l ∷ after) → run end Format nothing (before ++ l ∷ after) ≡ o
@@ -137,41 +103,18 @@ end_passed : (end : ℕ) (ls : List Lexeme) (o : Result Content Fault) → AreIn
     → run end Format nothing ls ≡ o → HasPassed o end → IsExtensiveFile (tokens_of ls)
 end_passed end ls (Ok r) order is h =
     read_is (tokens_of ls) r ((run_reads end Format nothing ls r).0 is)
-end_passed end ls (Err fault) order is h =
-    let last = (refused_in end 0 Format nothing ls fault order is).1 in
-    absurd (omega (arith, last, h))
+end_passed end ls (Err fault) order is h = grind (arith, refused_in)
 
 passed_at : (bytes : List ℕ) (before after : List Lexeme) (span : Span)
     → AreInOrder (length bytes) 0 (before ++ after) → IsSpanOf after (length bytes) span
     → HasPassed (run (length bytes) Format nothing (before ++ after)) span.start
     → IsAccepted IsExtensiveFile (tokens_of before) (tokens_of after)
-passed_at bytes before [] span order place h =
-    let all : before ++ [] ≡ before = append-nil before in
-    let passed : HasPassed (run (length bytes) Format nothing before) (length bytes) =
-    subst (λ (n : ℕ). HasPassed (run (length bytes) Format nothing before) n) place.0
-    (subst (λ (x : List Lexeme). HasPassed (run (length bytes) Format nothing x) span.start) all
-    h) in
-    end_passed (length bytes) before (run (length bytes) Format nothing before)
-    (subst (AreInOrder (length bytes) 0) all order) refl passed
-passed_at bytes before (l ∷ after) span order place h =
-    token_passed (length bytes) 0 before after l
-    (run (length bytes) Format nothing (before ++ l ∷ after)) order refl
-    (subst (λ (n : ℕ). HasPassed (run (length bytes) Format nothing (before ++ l ∷ after)) n)
-    place.0 h)
+passed_at bytes before [] span order place h = grind (arith, append-nil, end_passed)
+passed_at bytes before (l ∷ after) span order place h = grind (arith, token_passed)
 
 -- a place of the bytes that the machine has passed
 pub accepted : (bytes : List ℕ) (before after : List Lexeme) (span : Span)
     → Spells 0 bytes (before ++ after) → IsSpanOf after (length bytes) span
     → HasPassed (run (length bytes) Format nothing (before ++ after)) span.start
     → IsAcceptedThrough IsExtensiveFile bytes span
-accepted bytes before after span spelled place h =
-    let none : 0 + length bytes ≡ length bytes = omega arith in
-    let order = subst (λ (n : ℕ). AreInOrder n 0 (before ++ after)) none
-    (in_order 0 bytes (before ++ after) spelled) in
-    record {
-      before = before;
-      after = after;
-      spelled = spelled;
-      place = place;
-      accepted = passed_at bytes before after span order place h;
-    }
+accepted bytes before after span spelled place h = grind (arith, in_order, passed_at)

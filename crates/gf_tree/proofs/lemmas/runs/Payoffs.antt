@@ -1,25 +1,14 @@
 -- Runs over the payoffs of an outcome in braces, for a new outcome and for a known one.
-use Rattle.std.proofs.Common.{◌≡◌, ℕ, zero, suc, Bool, true, false, List, [], ◌∷◌, ◌++◌, length}
-use Rattle.std.proofs.Common.{Some, Result, Ok, Err, refl, sym, ap, subst, ◌∙◌, append_assoc}
-use Rattle.std.proofs.Common.{append-nil, inl, inr, arith}
-use Rattle.std.specs.Prelude.{◌⊎◌}
-use Rattle.gf_token.specs.Token.{Token}
-use Rattle.gf_token.specs.Token.Token.{Closing, Comma, Bare}
-use Rattle.gf_token.specs.Grammar.{Each, IsPayoffInBraces}
-use Rattle.gf_token.specs.declared.fault.Why.{Why}
-use Rattle.gf_fraction.specs.Ratio.{Ratio}
-use Rattle.gf_fraction.specs.NumberSpelling.{IsNumber}
+use Rattle.gf_tree.proofs.Common.{◌≡◌, ℕ, zero, suc, Bool, true, false, List, [], ◌∷◌, ◌++◌, length}
+use Rattle.gf_tree.proofs.Common.{Some, Result, Ok, Err, refl, sym, ap, ◌∙◌, append_assoc}
+use Rattle.gf_tree.proofs.Common.{append-nil, inl, inr, arith, ◌⊎◌, Token, Closing, Comma, Bare}
+use Rattle.gf_tree.proofs.Common.{Each, IsPayoffInBraces, Why, Ratio, IsNumber, NumberFault}
+use Rattle.gf_tree.proofs.Common.{number_is, number_again, Outcome, run_tokens, then_run}
+use Rattle.gf_tree.proofs.Common.{AfterKnownPayoff, NodeDue, NewPayoff, AfterNewPayoff, KnownPayoff}
+use Rattle.gf_tree.proofs.Common.{Begun, Content, Position, State, at, paid, with_node}
 use Rattle.gf_fraction.specs.Computed.{number_of}
-use Rattle.gf_fraction.specs.declared.fraction.NumberFault.{NumberFault}
-use Rattle.gf_fraction.proofs.ComputedAnswers.{number_is, number_again}
-use Rattle.gf_tree.specs.Description.{Outcome}
-use Rattle.gf_tree.specs.inner.ReadGame.{run_tokens, then_run}
-use Rattle.gf_tree.specs.inner.Probability.{same_ratio}
-use Rattle.gf_tree.specs.inner.Machine.Position.{AfterKnownPayoff, NodeDue, NewPayoff}
-use Rattle.gf_tree.specs.inner.Machine.Position.{AfterNewPayoff, KnownPayoff}
-use Rattle.gf_tree.specs.inner.Machine.{Begun, Content, Position, State, at, paid, same_number}
-use Rattle.gf_tree.specs.inner.Machine.{with_node, with_outcome, with_payoff}
-use Rattle.gf_tree.proofs.lemmas.runs.Tokens.{Reads, run_on, guard_ok, ratio_is, ratio_same}
+use Rattle.gf_tree.specs.inner.Machine.{same_number, with_outcome, with_payoff}
+use Rattle.gf_tree.proofs.lemmas.runs.Tokens.{Reads, run_on, ratio_same}
 
 -- ---- numbers in braces
 
@@ -41,8 +30,7 @@ pub record Numbers (may : Bool) (ts : List Token) (numbers : List Ratio)
   pub each : Each IsPayoffInBraces inner numbers
 
 no_numbers : (may : Bool) (rest : List Token) → Numbers may (Closing ∷ rest) [] rest
-no_numbers may rest =
-    record { comma = []; inner = []; parts = refl; is_comma = no_comma may; each = refl }
+no_numbers may rest = grind arith
 
 more_numbers : (may : Bool) (b : List ℕ) (p : Ratio) (ts : List Token) (numbers : List Ratio)
     (rest : List Token)
@@ -108,8 +96,7 @@ new_end may ts b n outcome c r e = record {
   rest = ts;
   are = no_numbers may ts;
   count = refl;
-  goes_on =
-      subst (λ (o : Outcome). Reads NodeDue (new_result c b n o) ts r) (sym (no_payoffs outcome)) e;
+  goes_on = cc (no_payoffs outcome);
 }
 
 new_more : (may : Bool) (t : List ℕ) (p : Ratio) (ts : List Token)
@@ -206,18 +193,13 @@ same_found : (wanted : Ratio) (s : State)
     → then_run (same_number wanted s o) (run_on ts) ≡ Ok r
     → (o ≡ Ok wanted) × Reads s.position s.content ts r
 same_found wanted s (Err fault) ts r e = absurd cc
-same_found wanted s (Ok found) ts r e =
-    let h = guard_ok (same_ratio found wanted) s _ ts r e in
-    let is = ratio_is found wanted h.0 in
-    (ap (λ (x : Ratio). Ok x) is, h.1)
+same_found wanted s (Ok found) ts r e = grind arith
 
 -- a number that was to be this one
 pub number_found : (wanted : Ratio) (s : State) (t : List ℕ) (ts : List Token) (r : Content)
     → then_run (same_number wanted s (number_of t)) (run_on ts) ≡ Ok r
     → IsNumber t wanted × Reads s.position s.content ts r
-number_found wanted s t ts r e =
-    let h = same_found wanted s (number_of t) ts r e in
-    (number_is t wanted h.0, h.1)
+number_found wanted s t ts r e = grind (arith, same_found, number_is)
 
 pub number_same : (p : Ratio) (s : State) (t : List ℕ) → IsNumber t p
     → same_number p s (number_of t) ≡ Ok s

@@ -1,14 +1,11 @@
 -- Where tokens lead the machine of the reader, and what may follow them: where it goes on, some
 -- extensive file does, and where it refuses, none does.
-use Rattle.std.proofs.Common.{◌≡◌, Bool, true, false, cond, List, [], ◌∷◌, ◌++◌, Result, Ok, Err}
-use Rattle.std.proofs.Common.{refl, sym, ap, subst, ◌∙◌, append_assoc, append-nil}
-use Rattle.gf_token.specs.Token.{Token}
-use Rattle.gf_token.specs.Place.{Begins, MayFollow}
-use Rattle.gf_token.specs.declared.fault.Why.{Why}
-use Rattle.gf_tree.specs.Front.{IsExtensiveFile}
-use Rattle.gf_tree.specs.inner.Machine.Position.{Format}
-use Rattle.gf_tree.specs.inner.Machine.{Content, Position, State, at, due, may_end, nothing, step}
-use Rattle.gf_tree.specs.inner.ReadGame.{game_of, run_tokens, then_run}
+use Rattle.gf_tree.proofs.Common.{◌≡◌, Bool, true, false, cond, List, [], ◌∷◌, ◌++◌, Result, Ok}
+use Rattle.gf_tree.proofs.Common.{Err, refl, sym, ap, subst, ◌∙◌, append_assoc, append-nil, Token}
+use Rattle.gf_tree.proofs.Common.{Begins, Why, IsExtensiveFile, Format, Content, Position, State}
+use Rattle.gf_tree.proofs.Common.{at, nothing, step, game_of, run_tokens, then_run}
+use Rattle.gf_token.specs.Place.{MayFollow}
+use Rattle.gf_tree.specs.inner.Machine.{due, may_end}
 use Rattle.gf_tree.proofs.lemmas.games.Consistent.{some_game}
 use Rattle.gf_tree.proofs.lemmas.games.Learned.{game_learned_once}
 use Rattle.gf_tree.proofs.lemmas.runs.Tokens.{Reads, run_on, ok_read}
@@ -111,8 +108,7 @@ not_follows ts t s why h e = λ file.
 -- the answer at the end
 at_end : (ts : List Token) (s : State) → Leads ts s
     → run_tokens Format nothing ts ≡ run_tokens s.position s.content []
-at_end ts s h =
-    ap (run_tokens Format nothing) (sym (append-nil ts)) ∙ walk_run ts [] Format nothing s h
+at_end ts s h = cc (append-nil ts, walk_run ts [] Format nothing s h)
 
 pub is_file : (ts : List Token) (s : State) → Leads ts s → may_end s.position s.content.due ≡ true
     → IsExtensiveFile ts

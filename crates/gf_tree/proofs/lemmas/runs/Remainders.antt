@@ -1,14 +1,11 @@
 -- Each sum of probabilities that the machine goes on with can be completed to one.
-use Rattle.std.proofs.Common.{◌≡◌, ◌<◌, ◌≤◌, ◌-◌, ℕ, refl, sym, ap, subst, arith}
-use Rattle.std.specs.Prelude.{ℤ, pos, negsuc, ◌≤ℤ◌, ◌+ℤ◌}
+use Rattle.gf_tree.proofs.Common.{◌≡◌, ◌<◌, ◌≤◌, ◌-◌, ℕ, refl, sym, ap, subst, arith, pos, ◌≤ℤ◌}
+use Rattle.gf_tree.proofs.Common.{ints, Ratio, IsFraction, whole, IsSum, AddsTo, whole_fraction}
+use Rattle.std.specs.Prelude.{ℤ, negsuc, ◌+ℤ◌}
 use Rattle.std.specs.Int.{IsGcd}
 use Rattle.std.proofs.Math.Nat.{one-dvd, dvd-sub_iff_right}
 use Rattle.std.proofs.Math.IntN.{*ℤ_comm}
-use Rattle.std.proofs.lemmas.Int.{ints}
-use Rattle.gf_fraction.specs.Ratio.{Ratio, IsFraction, whole}
-use Rattle.gf_fraction.specs.Fits.{IsSum, AddsTo}
 use Rattle.gf_fraction.proofs.Products.{mul_above}
-use Rattle.gf_fraction.proofs.WholeNumbers.{whole_fraction}
 use Rattle.gf_fraction.proofs.Sums.{Adding-equal, equal_parts, equal_value, sum_fits}
 use Rattle.gf_tree.proofs.lemmas.runs.Shares.{no_sign}
 

@@ -1,33 +1,20 @@
 -- Runs over the outcome of a node: its number, and its description.
-use Rattle.std.proofs.Common.{◌≡◌, ℕ, zero, suc, ◌<◌, false, List, [], ◌∷◌, ◌++◌, length}
-use Rattle.std.proofs.Common.{option_map, Option, Some, None, Ok, refl, sym, ap, ◌∙◌, append_assoc}
-use Rattle.std.proofs.Common.{arith, inl, inr, nat_eq}
-use Rattle.std.specs.Prelude.{◌⊎◌}
-use Rattle.std.specs.List.{AllByRecursion}
-use Rattle.std.proofs.lemmas.Bool.Decides.{Decides-eqb}
-use Rattle.gf_token.specs.Token.{Token}
-use Rattle.gf_token.specs.Grammar.{braced}
-use Rattle.gf_token.specs.Index.{IsIndex}
+use Rattle.gf_tree.proofs.Common.{◌≡◌, ℕ, zero, suc, ◌<◌, false, List, [], ◌∷◌, ◌++◌, length}
+use Rattle.gf_tree.proofs.Common.{option_map, Option, Some, None, Ok, refl, ap, append_assoc, arith}
+use Rattle.gf_tree.proofs.Common.{inl, inr, nat_eq, ◌⊎◌, AllByRecursion, Decides-eqb, Token, braced}
+use Rattle.gf_tree.proofs.Common.{IsIndex, Opening, Closing, Text, Bare, index_again, Ratio}
+use Rattle.gf_tree.proofs.Common.{Outcome, IsOutcome, Use, Learns, Described, description_at}
+use Rattle.gf_tree.proofs.Common.{IsDescription, IsOutcomeDescription, IsResult, Begun, Content, at}
+use Rattle.gf_tree.proofs.Common.{behind_outcome, outcome_number, with_node, run_tokens, then_run}
+use Rattle.gf_tree.proofs.Common.{NodeDue, OutcomeNumber, NewOutcomeName, NewOutcomeOpening}
+use Rattle.gf_tree.proofs.Common.{NewPayoff, KnownOutcomeName, KnownOutcomeOpening, KnownPayoff}
 use Rattle.gf_token.specs.Indices.{index_of}
-use Rattle.gf_token.specs.Token.Token.{Opening, Closing, Text, Bare}
-use Rattle.gf_token.proofs.ReadingIndices.{index_is, index_again}
-use Rattle.gf_fraction.specs.Ratio.{Ratio}
-use Rattle.gf_tree.specs.Description.{Outcome, IsOutcome}
-use Rattle.gf_tree.specs.FileTree.{Use}
-use Rattle.gf_tree.specs.Learned.{Learns}
-use Rattle.gf_tree.specs.FiniteMap.{Described, description_at}
-use Rattle.gf_tree.specs.Sentence.{IsDescription, IsOutcomeDescription, IsResult}
-use Rattle.gf_tree.specs.inner.Machine.{Begun, Content, at, behind_outcome, outcome_number}
-use Rattle.gf_tree.specs.inner.Machine.{with_node}
-use Rattle.gf_tree.specs.inner.ReadGame.{run_tokens, then_run}
-use Rattle.gf_tree.specs.inner.Machine.Position.{NodeDue, OutcomeNumber, NewOutcomeName}
-use Rattle.gf_tree.specs.inner.Machine.Position.{NewOutcomeOpening, NewPayoff, KnownOutcomeName}
-use Rattle.gf_tree.specs.inner.Machine.Position.{KnownOutcomeOpening, KnownPayoff}
+use Rattle.gf_token.proofs.ReadingIndices.{index_is}
 use Rattle.gf_tree.proofs.lemmas.fronts.Groups.{NoText}
 use Rattle.gf_tree.proofs.lemmas.games.Members.{all_more}
 use Rattle.gf_tree.proofs.lemmas.runs.Tokens.{Reads, run_on, text_found, text_again}
-use Rattle.gf_tree.proofs.lemmas.runs.Payoffs.{Numbers, new_result, new_found, new_again}
-use Rattle.gf_tree.proofs.lemmas.runs.Payoffs.{known_found, known_again}
+use Rattle.gf_tree.proofs.lemmas.runs.Payoffs.{Numbers, new_found, new_again, known_found}
+use Rattle.gf_tree.proofs.lemmas.runs.Payoffs.{known_again}
 use Rattle.gf_tree.proofs.lemmas.runs.Learned.{one, use_of, uses_of, learns_new, learns_again}
 use Rattle.gf_tree.proofs.lemmas.runs.Learned.{one_use, IsNew, IsKnown, found_has}
 
@@ -125,17 +112,7 @@ not_again (_ ∷ ts) outcome c none = refl
 known_without : (ts : List Token) (b : Begun) (n : ℕ) (outcome : Outcome) (c r : Content)
     → AreOutcomes (length c.players) c.outcomes → description_at nat_eq c.outcomes n ≡ Some outcome
     → Reads NodeDue (with_node c b (Some n)) ts r → Behind ts b n c r
-known_without ts b n outcome c r are known e = record {
-  description = None;
-  tokens = [];
-  rest = ts;
-  outcomes = c.outcomes;
-  parts = refl;
-  is_description = refl;
-  learns = learns_again nat_eq c.outcomes n outcome None known (inl refl);
-  are = are;
-  goes_on = e;
-}
+known_without ts b n outcome c r are known e = grind arith
 
 known_behind : (ts : List Token) (b : Begun) (n : ℕ) (outcome : Outcome) (c r : Content)
     → AreOutcomes (length c.players) c.outcomes → description_at nat_eq c.outcomes n ≡ Some outcome
@@ -160,8 +137,7 @@ known_behind (Text label ∷ ts) b n outcome c r are known e =
       goes_on = k.2;
     }
 known_behind [] b n outcome c r are known e = known_without [] b n outcome c r are known e
-known_behind (Bare t ∷ ts) b n outcome c r are known e =
-    known_without (Bare t ∷ ts) b n outcome c r are known e
+known_behind (Bare t ∷ ts) b n outcome c r are known e = grind arith
 known_behind (_ ∷ ts) b n outcome c r are known e = absurd cc
 
 behind_found : (ts : List Token) (b : Begun) (n : ℕ) (o : Option Outcome) (c r : Content)
@@ -226,17 +202,9 @@ behind_again tokens rest b u outcomes c is none (inl h) = by u.description is h.
     by (Some d) is told =
         let same : d ≡ h.description = cc in
         let text : tokens ++ rest ≡ Text d.name ∷ Opening ∷ (is.0 ++ Closing ∷ rest) =
-        ap (λ (x : List Token). x ++ rest) is.1 ∙ ap (λ (x : List Token). Text d.name ∷ Opening ∷ x)
-        (append_assoc is.0 (Closing ∷ []) rest) in
-        ap (λ o. run_on (tokens ++ rest) (behind_outcome c b u.key o)) h.unknown
-        ∙ ap (run_tokens (NewOutcomeName b u.key) c) text
-        ∙ ap (λ (k : ℕ). run_tokens (NewPayoff b u.key (record { name = d.name; payoffs = [] }) k) c
-        (is.0 ++ Closing ∷ rest)) (sym is.3)
-        ∙ new_again d.payoffs is.0 rest b u.key (record { name = d.name; payoffs = [] }) c is.2
-        false ∙ ap (λ (x : Outcome). run_tokens NodeDue (new_result c b u.key x) rest) same
-        ∙ ap (λ (x : List (Described ℕ Outcome)).
-        run_tokens NodeDue (with_node (with_outcomes c x) b (Some u.key)) rest)
-        (sym h.more)
+        cc (append_assoc is.0 (Closing ∷ []) rest) in
+        cc (new_again d.payoffs is.0 rest b u.key (record { name = d.name; payoffs = [] }) c is.2
+        false)
 behind_again tokens rest b u outcomes c is none (inr h) =
     cc (h.is_known, by u.description is h.told, h.no_more)
   where
@@ -249,8 +217,7 @@ behind_again tokens rest b u outcomes c is none (inr h) =
     by (Some d) is (inr told) =
         let same : d ≡ h.description = cc in
         let text : tokens ++ rest ≡ Text d.name ∷ Opening ∷ (is.0 ++ Closing ∷ rest) =
-        ap (λ (x : List Token). x ++ rest) is.1 ∙ ap (λ (x : List Token). Text d.name ∷ Opening ∷ x)
-        (append_assoc is.0 (Closing ∷ []) rest) in
+        cc (append_assoc is.0 (Closing ∷ []) rest) in
         cc (
           same,
           text,

@@ -1,29 +1,19 @@
 -- Runs over the information set of a node: its number, and its description.
-use Rattle.std.proofs.Common.{◌≡◌, ℕ, ◌<◌, ◌≤◌, List, [], ◌∷◌, ◌++◌, length, Option, Some, None, Ok}
-use Rattle.std.proofs.Common.{refl, sym, ap, subst, ◌∙◌, append_assoc, arith, inl, inr}
-use Rattle.std.specs.Prelude.{◌⊎◌, pos}
-use Rattle.std.specs.List.{AllByRecursion}
-use Rattle.gf_token.specs.Token.{Token}
-use Rattle.gf_token.specs.Grammar.{braced}
-use Rattle.gf_token.specs.Indices.{count_of}
-use Rattle.gf_token.specs.Token.Token.{Opening, Closing, Text, Bare}
-use Rattle.gf_token.proofs.ReadingIndices.{count_is, count_again}
-use Rattle.gf_fraction.specs.Ratio.{IsFraction, whole}
-use Rattle.gf_fraction.proofs.WholeNumbers.{whole_fraction}
-use Rattle.gf_tree.specs.Description.{Action, InformationSet, SetKey, set_of, same_set, IsSet}
-use Rattle.gf_tree.specs.FiniteMap.{Described, description_at}
-use Rattle.gf_tree.specs.FileTree.{Use}
-use Rattle.gf_tree.specs.Learned.{Learns}
-use Rattle.gf_tree.specs.inner.Machine.Position.{OutcomeNumber, SetNumber, NewSetName}
-use Rattle.gf_tree.specs.inner.Machine.Position.{NewSetOpening, NewAction, KnownSetName}
-use Rattle.gf_tree.specs.inner.Machine.Position.{KnownSetOpening, KnownAction}
-use Rattle.gf_tree.specs.Sentence.{IsPositive, IsDescription, IsInformationSet}
-use Rattle.gf_tree.specs.inner.Machine.{Content, at, begun, behind_set, set_number}
-use Rattle.gf_tree.specs.inner.ReadGame.{run_tokens, then_run}
+use Rattle.gf_tree.proofs.Common.{◌≡◌, ℕ, ◌<◌, ◌≤◌, List, [], ◌∷◌, ◌++◌, length, Option, Some, None}
+use Rattle.gf_tree.proofs.Common.{Ok, refl, sym, ap, subst, ◌∙◌, append_assoc, arith, inl, inr, ◌⊎◌}
+use Rattle.gf_tree.proofs.Common.{pos, AllByRecursion, Token, braced, count_of, Opening, Closing}
+use Rattle.gf_tree.proofs.Common.{Text, Bare, count_again, IsFraction, whole, whole_fraction}
+use Rattle.gf_tree.proofs.Common.{Action, InformationSet, SetKey, set_of, same_set, IsSet}
+use Rattle.gf_tree.proofs.Common.{Described, description_at, Use, Learns, OutcomeNumber, SetNumber}
+use Rattle.gf_tree.proofs.Common.{NewSetName, NewSetOpening, NewAction, KnownSetName}
+use Rattle.gf_tree.proofs.Common.{KnownSetOpening, KnownAction, IsPositive, IsDescription}
+use Rattle.gf_tree.proofs.Common.{IsInformationSet, Content, at, begun, behind_set, set_number}
+use Rattle.gf_tree.proofs.Common.{run_tokens, then_run}
+use Rattle.gf_token.proofs.ReadingIndices.{count_is}
 use Rattle.gf_tree.proofs.lemmas.games.TreesOnce.{same_set_equality}
 use Rattle.gf_tree.proofs.lemmas.games.Members.{all_more}
 use Rattle.gf_tree.proofs.lemmas.runs.Tokens.{Reads, run_on, text_found, text_again}
-use Rattle.gf_tree.proofs.lemmas.runs.Actions.{others_are, are_others, new_found, new_again}
+use Rattle.gf_tree.proofs.lemmas.runs.Actions.{are_others, new_found, new_again}
 use Rattle.gf_tree.proofs.lemmas.runs.KnownActions.{probabilities, known_found, known_again}
 use Rattle.gf_tree.proofs.lemmas.runs.Learned.{one, use_of, learns_new, learns_again, one_use}
 use Rattle.gf_tree.proofs.lemmas.runs.Learned.{IsNew, IsKnown, at_new, found_has}
@@ -39,18 +29,18 @@ AreSets players sets = AllByRecursion (λ s. IsSet players s.key s.description) 
 -- ---- after the number
 
 -- the description of a set, or none, and what follows
-record Behind (ts : List Token) (name : List ℕ) (player n : ℕ) (c r : Content) : Type 0 where
-  description : Option InformationSet
-  tokens : List Token
-  rest : List Token
-  sets : List (Described SetKey InformationSet)
-  set : InformationSet
-  parts : ts ≡ tokens ++ rest
-  is_description : IsDescription (IsInformationSet player) tokens description
-  learns : Learns same_set c.sets (use_of (set_of player n) description ∷ []) sets
-  is_known : description_at same_set sets (set_of player n) ≡ Some set
-  are : AreSets (length c.players) sets
-  goes_on : Reads (OutcomeNumber (begun name (set_of player n) set)) (with_sets c sets) rest r
+pub record Behind (ts : List Token) (name : List ℕ) (player n : ℕ) (c r : Content) : Type 0 where
+  pub description : Option InformationSet
+  pub tokens : List Token
+  pub rest : List Token
+  pub sets : List (Described SetKey InformationSet)
+  pub set : InformationSet
+  pub parts : ts ≡ tokens ++ rest
+  pub is_description : IsDescription (IsInformationSet player) tokens description
+  pub learns : Learns same_set c.sets (use_of (set_of player n) description ∷ []) sets
+  pub is_known : description_at same_set sets (set_of player n) ≡ Some set
+  pub are : AreSets (length c.players) sets
+  pub goes_on : Reads (OutcomeNumber (begun name (set_of player n) set)) (with_sets c sets) rest r
 
 name_found : (ts : List Token) (name : List ℕ) (key : SetKey) (c r : Content)
     → Reads (NewSetName name key) c ts r
@@ -90,12 +80,7 @@ new_behind ts name player n c r among some are unknown e =
     let h = new_found y.0 name player n (record { name = x.0; actions = [] }) (whole (pos 0)) c r
     zero_fraction y.2 in
     let set : InformationSet = record { name = x.0; actions = h.actions } in
-    let is : IsSet (length c.players) key set = record {
-      player = among;
-      number = some;
-      some_action = h.some;
-      actions = others_are player h.actions h.are;
-    } in
+    let is : IsSet (length c.players) key set = grind arith in
     record {
       description = Some set;
       tokens = Text x.0 ∷ braced h.inner;
@@ -138,19 +123,7 @@ known_behind (Text label ∷ ts) name player n set c r are known e =
       are = are;
       goes_on = k.goes_on;
     }
-known_behind (Bare t ∷ ts) name player n set c r are known e = record {
-  description = None;
-  tokens = [];
-  rest = Bare t ∷ ts;
-  sets = c.sets;
-  set = set;
-  parts = refl;
-  is_description = refl;
-  learns = learns_again same_set c.sets (set_of player n) set None known (inl refl);
-  is_known = known;
-  are = are;
-  goes_on = e;
-}
+known_behind (Bare t ∷ ts) name player n set c r are known e = grind arith
 known_behind _ name player n set c r are known e = absurd cc
 
 behind_found : (ts : List Token) (name : List ℕ)
@@ -169,18 +142,11 @@ behind_found ts name player n (Some set) c r among some are is e =
 pub record SetRead (ts : List Token) (name : List ℕ) (player : ℕ) (c r : Content) : Type 0 where
   pub number : List ℕ
   pub n : ℕ
-  pub description : Option InformationSet
-  pub tokens : List Token
-  pub rest : List Token
-  pub sets : List (Described SetKey InformationSet)
-  pub set : InformationSet
-  pub parts : ts ≡ Bare number ∷ (tokens ++ rest)
+  pub others : List Token
+  pub first : ts ≡ Bare number ∷ others
   pub is_number : IsPositive number n
-  pub is_description : IsDescription (IsInformationSet player) tokens description
-  pub learns : Learns same_set c.sets (use_of (set_of player n) description ∷ []) sets
-  pub is_known : description_at same_set sets (set_of player n) ≡ Some set
-  pub are : AreSets (length c.players) sets
-  pub goes_on : Reads (OutcomeNumber (begun name (set_of player n) set)) (with_sets c sets) rest r
+  pub behind : Behind others name player n c r
+  pub open behind use {description, tokens, rest, sets, set, is_description, learns, goes_on}
 
 number_by : (ts : List Token) (t : List ℕ) (o : Option ℕ)
     (name : List ℕ) (player : ℕ) (c r : Content)
@@ -190,23 +156,14 @@ number_by : (ts : List Token) (t : List ℕ) (o : Option ℕ)
 number_by ts t None name player c r among are is e = absurd cc
 number_by ts t (Some n) name player c r among are is e =
     let k = count_is t n is in
-    let h = behind_found ts name player n (description_at same_set c.sets (set_of player n)) c r
-    among k.0 are refl e in
     record {
       number = t;
       n = n;
-      description = h.description;
-      tokens = h.tokens;
-      rest = h.rest;
-      sets = h.sets;
-      set = h.set;
-      parts = ap (λ (x : List Token). Bare t ∷ x) h.parts;
+      others = ts;
+      first = refl;
       is_number = (k.1, k.0);
-      is_description = h.is_description;
-      learns = h.learns;
-      is_known = h.is_known;
-      are = h.are;
-      goes_on = h.goes_on;
+      behind = behind_found ts name player n (description_at same_set c.sets (set_of player n)) c r
+          among k.0 are refl e;
     }
 
 pub set_found : (ts : List Token) (name : List ℕ) (player : ℕ) (c r : Content)
@@ -238,27 +195,18 @@ behind_again tokens rest t name u sets set c is good known (inl h) = by u.descri
     by (Some d) is told =
         let first : d ≡ h.description = cc in
         let there : description_at same_set sets u.key ≡ Some h.description =
-        ap (λ x. description_at same_set x u.key) h.more
-        ∙ at_new same_set same_set_equality c.sets u.key h.description h.unknown in
+        cc (at_new same_set same_set_equality c.sets u.key h.description h.unknown) in
         let same : d ≡ set =
         first ∙ one_some (description_at same_set sets u.key) h.description set there known in
         let good_set = subst (IsSet (length c.players) u.key) (sym same) good in
         let behind : List Token = is.0 ++ Closing ∷ (Bare t ∷ rest) in
         let text : tokens ++ Bare t ∷ rest ≡ Text d.name ∷ Opening ∷ behind =
-        ap (λ (x : List Token). x ++ Bare t ∷ rest) is.1
-        ∙ ap (λ (x : List Token). Text d.name ∷ Opening ∷ x)
-        (append_assoc is.0 (Closing ∷ []) (Bare t ∷ rest)) in
-        let all : c.sets ++ one u.key d ∷ [] ≡ sets =
-        ap (λ (x : InformationSet). c.sets ++ one u.key x ∷ []) first ∙ sym h.more in
-        ap (λ o. run_tokens (behind_set name u.key o) c (tokens ++ Bare t ∷ rest)) h.unknown
-        ∙ ap (run_tokens (NewSetName name u.key) c) text
-        ∙ new_again d.actions u.key.player is.0 (Bare t ∷ rest) name u.key.number
+        cc (append_assoc is.0 (Closing ∷ []) (Bare t ∷ rest)) in
+        let all : c.sets ++ one u.key d ∷ [] ≡ sets = cc in
+        let again = new_again d.actions u.key.player is.0 (Bare t ∷ rest) name u.key.number
         (record { name = d.name; actions = [] }) (whole (pos 0)) c zero_fraction is.2
-        (are_others u.key.player d.actions good_set.actions) good_set.some_action
-        ∙ ap (λ x. run_tokens (OutcomeNumber (begun name u.key d)) (with_sets c x) (Bare t ∷ rest))
-        all ∙ ap (λ (x : InformationSet).
-        run_tokens (OutcomeNumber (begun name u.key x)) (with_sets c sets) (Bare t ∷ rest))
-        same
+        (are_others u.key.player d.actions good_set.actions) good_set.some_action in
+        cc
 behind_again tokens rest t name u sets set c is good known (inr h) =
     ap (λ o. run_tokens (behind_set name u.key o) c (tokens ++ Bare t ∷ rest)) h.is_known
     ∙ by u.description is h.told ∙ ap (λ x.
@@ -268,8 +216,7 @@ behind_again tokens rest t name u sets set c is good known (inr h) =
     same
   where
     same : h.description ≡ set
-    same = one_some (description_at same_set sets u.key) h.description set
-        (ap (λ x. description_at same_set x u.key) h.no_more ∙ h.is_known) known
+    same = grind arith
 
     by : (o : Option InformationSet) → IsDescription (IsInformationSet u.key.player) tokens o
         → (o ≡ None) ⊎ (o ≡ Some h.description)

@@ -1,21 +1,19 @@
 -- Probabilities as the machine adds them: each is judged by itself, and the sums are those of a
 -- lottery.
-use Rattle.std.proofs.Common.{◌≡◌, ◌<◌, ◌≤◌, ◌*◌, ◌+◌, ℕ, Bool, true, false, cond, List, refl}
-use Rattle.std.proofs.Common.{ap, ◌∙◌, arith, Result, Ok, Err, Option, Some, None}
-use Rattle.std.specs.Prelude.{ℤ, pos, negsuc, ◌≤ℤ◌, ◌*ℤ◌, ◌+ℤ◌, int_lt, MatchOption}
+use Rattle.gf_tree.proofs.Common.{◌≡◌, ◌<◌, ◌≤◌, ◌+◌, ℕ, Bool, true, false, cond, List, refl, ap}
+use Rattle.gf_tree.proofs.Common.{◌∙◌, arith, Result, Ok, Err, Option, Some, None, pos, ◌≤ℤ◌, ints}
+use Rattle.gf_tree.proofs.Common.{Ratio, IsFraction, IsNumber, IsSum, AddsTo, NumberFault}
+use Rattle.gf_tree.proofs.Common.{number_is, number_again, Why, NegativeProbability, Share}
+use Rattle.gf_tree.proofs.Common.{share_of}
+use Rattle.std.proofs.Common.{◌*◌}
+use Rattle.std.specs.Prelude.{ℤ, negsuc, ◌*ℤ◌, ◌+ℤ◌, int_lt, MatchOption}
 use Rattle.std.proofs.Math.Nat.{mul-le-mul_right, le_of_mul-le-mul_right}
-use Rattle.std.proofs.lemmas.Int.{ints}
-use Rattle.gf_fraction.specs.Ratio.{Ratio, IsFraction}
-use Rattle.gf_fraction.specs.NumberSpelling.{IsNumber}
-use Rattle.gf_fraction.specs.Fits.{SumFits, IsSum, AddsTo}
-use Rattle.gf_fraction.specs.declared.fraction.NumberFault.{NumberFault}
+use Rattle.gf_fraction.specs.Fits.{SumFits}
 use Rattle.gf_fraction.specs.Computed.{number_of, sum_of}
 use Rattle.gf_fraction.proofs.ComputedArithmetic.{sum_is_computed, sum_of-some}
-use Rattle.gf_fraction.proofs.ComputedAnswers.{number_is, number_again}
 use Rattle.gf_fraction.proofs.Products.{mul_above}
-use Rattle.gf_token.specs.declared.fault.Why.{Why}
-use Rattle.gf_token.specs.declared.fault.Why.TheVariants.{SumAboveOne, NegativeProbability}
-use Rattle.gf_tree.specs.inner.Probability.{Share, share_of, share_by, up_to_one}
+use Rattle.gf_token.specs.declared.fault.Why.TheVariants.{SumAboveOne}
+use Rattle.gf_tree.specs.inner.Probability.{share_by, up_to_one}
 
 abbrev pub ok_share : Share → Result Share Why
 ok_share s = Ok s
@@ -47,19 +45,7 @@ by_bound : (sum p next : Ratio) (b : List ℕ) (s : Share) (above : Bool)
     → cond above (Err SumAboveOne) (Ok (record { probability = p; sum = next })) ≡ ok_share s
     → Shared sum b s
 by_bound sum p next b s true number low adds test e = absurd cc
-by_bound sum p next b s false number low adds test e =
-    let is : record { probability = p; sum = next } ≡ s = cc in
-    let found : Shared sum b (record { probability = p; sum = next }) =
-    record {
-      number = number;
-      not_below = low;
-      adds = adds;
-      not_above = not_above next.num next.den test;
-    } in
-    subst_share is found
-  where
-    subst_share : {t u : Share} → t ≡ u → Shared sum b t → Shared sum b u
-    subst_share q x = rw (← q) x
+by_bound sum p next b s false number low adds test e = grind arith
 
 by_sum : (sum p : Ratio) (b : List ℕ) (s : Share) (o : Option Ratio)
     → MatchOption o (¬ (SumFits sum p)) (λ r. SumFits sum p × IsFraction r × IsSum r sum p)
@@ -123,8 +109,4 @@ sum_high sum p next above some low adds high = by sum.num p.num next.num low hig
     by (pos a) (negsuc b) z l h e = absurd (omega (arith, ints))
     by (pos a) (pos b) (negsuc z) l h e = absurd (no_sign z (sum.den * p.den) a b p.den sum.den
         next.den (mul_above sum.den p.den some above) e)
-    by (pos a) (pos b) (pos z) l h e =
-        let sizes : z * (sum.den * p.den) ≡ (a * p.den + b * sum.den) * next.den = cc in
-        let small : z ≤ next.den = omega (arith, ints, h) in
-        let least = naturals z sum.den p.den a b next.den adds.1.den_above_zero above sizes small in
-        omega (arith, ints, least)
+    by (pos a) (pos b) (pos z) l h e = grind (arith, naturals)

@@ -1,21 +1,14 @@
 -- The machine of the reader over lexemes: what it reads from bytes, and where it refuses them.
-use Rattle.std.proofs.Common.{◌≡◌, ◌↔◌, ℕ, Bool, true, false, cond, List, [], ◌∷◌, ◌++◌, length}
-use Rattle.std.proofs.Common.{Result, Ok, Err, refl, ap, subst, ◌∙◌, arith}
-use Rattle.gf_token.specs.Token.{Token, Lexeme}
-use Rattle.gf_token.specs.TokenSpelling.{Spells}
-use Rattle.gf_token.specs.Place.{tokens_of, IsSpanOf, IsAccepted}
-use Rattle.gf_token.specs.declared.fault.Fault.{Fault}
-use Rattle.gf_token.specs.declared.fault.Why.{Why}
-use Rattle.gf_tree.specs.Game.{Game}
-use Rattle.gf_tree.specs.GameOf.{SpellsGame}
-use Rattle.gf_tree.specs.Front.{IsExtensiveFile}
-use Rattle.gf_tree.specs.inner.Machine.{Content, Position, State, at, due, may_end, nothing}
-use Rattle.gf_tree.specs.inner.Machine.{refused, run, step, then_on}
-use Rattle.gf_tree.specs.inner.Machine.Position.{Format}
-use Rattle.gf_tree.specs.inner.ReadGame.{game_of, then_run}
+use Rattle.gf_tree.proofs.Common.{◌≡◌, ◌↔◌, ℕ, Bool, true, false, cond, List, [], ◌∷◌, ◌++◌, length}
+use Rattle.gf_tree.proofs.Common.{Result, Ok, Err, refl, ap, subst, arith, Token, Lexeme, Spells}
+use Rattle.gf_tree.proofs.Common.{tokens_of, IsAccepted, Fault, Why, Game, SpellsGame}
+use Rattle.gf_tree.proofs.Common.{IsExtensiveFile, Content, Position, State, at, nothing, run, step}
+use Rattle.gf_tree.proofs.Common.{Format, game_of, then_run}
+use Rattle.gf_token.specs.Place.{IsSpanOf}
+use Rattle.gf_tree.specs.inner.Machine.{due, may_end, refused, then_on}
 use Rattle.gf_tree.proofs.lemmas.runs.Tokens.{Reads, run_on, ok_read}
 use Rattle.gf_tree.proofs.lemmas.runs.Games.{machine_means}
-use Rattle.gf_tree.proofs.lemmas.runs.Places.{Leads, walk, then_walk, not_follows, no_file}
+use Rattle.gf_tree.proofs.lemmas.runs.Places.{Leads, walk, not_follows, no_file}
 
 -- ---- a run over lexemes reads their tokens
 
@@ -24,8 +17,7 @@ ok_run r = Ok r
 
 end_alike : (end : ℕ) (b : Bool) (c r : Content) (why : Why)
     → cond b (Ok c) (refused end end why) ≡ ok_run r ↔ cond b (Ok c) (Err why) ≡ ok_read r
-end_alike end true c r why =
-    (λ e. let same : c ≡ r = cc in ap ok_read same, λ e. let same : c ≡ r = cc in ap ok_run same)
+end_alike end true c r why = grind arith
 end_alike end false c r why = (λ e. absurd cc, λ e. absurd cc)
 
 step_alike : (l : Lexeme) (o : Result State Why) (f : State → Result Content Fault)
@@ -125,8 +117,7 @@ stopped_at_token end q c l ls fault (Ok s) is e later =
       parts = ap (λ (x : List Lexeme). l ∷ x) h.parts;
       place = h.place;
       state = h.state;
-      leads =
-          ap (λ o. then_walk o (λ x. walk x.position x.content (tokens_of h.before))) is ∙ h.leads;
+      leads = cc;
       stops = h.stops;
     }
 stopped_at_token end q c l ls fault (Err why) is e later =

@@ -1,17 +1,13 @@
 -- What the lemmas on runs of the machine share.
-use Rattle.std.proofs.Common.{◌≡◌, ℕ, Bool, true, false, cond, List, Result, Ok, Err, refl, nat_eq}
-use Rattle.std.specs.Prelude.{◌==◌}
+use Rattle.gf_tree.proofs.Common.{◌≡◌, ℕ, Bool, true, false, cond, List, Result, Ok, Err, refl}
+use Rattle.gf_tree.proofs.Common.{nat_eq, ◌==◌, pointwise, Decides-eqb, Ratio, Token, Why}
+use Rattle.gf_tree.proofs.Common.{run_tokens, then_run, Content, Position, State}
 use Rattle.std.specs.Ordering.{int_eq}
-use Rattle.std.specs.Cmp.Lexicographic.{pointwise}
 use Rattle.std.proofs.lemmas.Bool.{and_parts}
 use Rattle.std.proofs.lemmas.Slice.Eq.{slice_eq-Decides}
-use Rattle.std.proofs.lemmas.Bool.Decides.{Decides-eqb, Decides-int_eq}
-use Rattle.gf_fraction.specs.Ratio.{Ratio}
-use Rattle.gf_token.specs.Token.{Token}
-use Rattle.gf_token.specs.declared.fault.Why.{Why}
+use Rattle.std.proofs.lemmas.Bool.Decides.{Decides-int_eq}
 use Rattle.gf_tree.specs.inner.Probability.{same_ratio}
-use Rattle.gf_tree.specs.inner.ReadGame.{run_tokens, then_run}
-use Rattle.gf_tree.specs.inner.Machine.{Content, Position, State, same_text}
+use Rattle.gf_tree.specs.inner.Machine.{same_text}
 
 -- from a position and what was read before, the tokens to come are read, and this is what was read
 abbrev pub Reads : Position → Content → List Token → Content → Type 0

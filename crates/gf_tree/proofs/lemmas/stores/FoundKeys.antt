@@ -1,12 +1,10 @@
 -- A key's place among descriptions, and what is there.
-use Rattle.std.proofs.Common.{◌≡◌, ℕ, suc, ◌+◌, Bool, true, false, List, [], ◌∷◌, map, Some, None}
-use Rattle.std.proofs.Common.{Option, option_map, slice_get, refl, sym, ◌∙◌, arith}
-use Rattle.std.specs.Prelude.{position}
-use Rattle.std.specs.List.{find, position_from}
-use Rattle.std.proofs.lemmas.Iterator.Adapters.{position_from-zero}
-use Rattle.gf_fraction.specs.Ratio.{Ratio}
-use Rattle.gf_tree.specs.Description.{Action, InformationSet, Outcome, outcome_with, set_with}
-use Rattle.gf_tree.specs.FiniteMap.{Described, description_at}
+use Rattle.gf_tree.proofs.Common.{◌≡◌, ℕ, suc, ◌+◌, Bool, true, false, List, [], ◌∷◌, map, Some}
+use Rattle.gf_tree.proofs.Common.{None, Option, option_map, slice_get, refl, arith, position}
+use Rattle.gf_tree.proofs.Common.{position_from, position_from-zero, Ratio, Action, InformationSet}
+use Rattle.gf_tree.proofs.Common.{Outcome, set_with, Described, description_at}
+use Rattle.std.specs.List.{find}
+use Rattle.gf_tree.specs.Description.{outcome_with}
 use Rattle.gf_tree.proofs.lemmas.games.Uses.{IsEquality, either_way}
 
 module _ {K D : Type 0} (same : K → K → Bool) (tells : IsEquality same) (key : K) where
@@ -20,9 +18,7 @@ module _ {K D : Type 0} (same : K → K → Bool) (tells : IsEquality same) (key
       → IsFirst es (start + 1) place) → (b : Bool) → same key e.key ≡ b
       → position_from (same key) start (map (λ e. e.key) (e ∷ es)) ≡ Some place
       → IsFirst (e ∷ es) start place
-  first_of_more e es start place later true q h =
-      let here : start ≡ place = cc in
-      (0, omega (arith, here), rw (either_way same tells key e.key, q) refl)
+  first_of_more e es start place later true q h = grind arith
   first_of_more e es start place later false q h =
       let r = later (rw q at h) in
       (suc r.0, omega (arith, r.1), rw (either_way same tells key e.key, q) r.2)
@@ -49,11 +45,7 @@ module _ {K D : Type 0} (same : K → K → Bool) (tells : IsEquality same) (key
   pub described_at : (es : List (Described K D)) (place : ℕ)
       → position (same key) (map (λ e. e.key) es) ≡ Some place
       → description_at same es key ≡ option_map (λ e. e.description) (slice_get es place)
-  described_at es place h =
-      let r =
-      found_from es 0 place (sym (position_from-zero (same key) (map (λ e. e.key) es)) ∙ h) in
-      let k : r.0 ≡ place = omega (arith, r.1) in
-      cc r.2
+  described_at es place h = grind (arith, found_from, position_from-zero)
 
   pub not_described : (es : List (Described K D)) → position (same key) (map (λ e. e.key) es) ≡ None
       → description_at same es key ≡ None

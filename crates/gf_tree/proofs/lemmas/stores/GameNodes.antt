@@ -1,25 +1,19 @@
 -- The nodes of a game as they are kept are those of its tree.
-use Rattle.std.proofs.Common.{◌≡◌, ℕ, zero, suc, ◌+◌, ◌<◌, List, [], ◌∷◌, ◌++◌, length, map, drop}
-use Rattle.std.proofs.Common.{get_or, slice_get, refl, sym, ap, subst, ◌∙◌, arith}
-use Rattle.std.proofs.lemmas.List.{length-map, drop-map, get_or-map, map-append}
+use Rattle.gf_tree.proofs.Common.{◌≡◌, ℕ, zero, suc, ◌+◌, ◌<◌, List, [], ◌∷◌, ◌++◌, length, map}
+use Rattle.gf_tree.proofs.Common.{drop, get_or, slice_get, refl, sym, ap, subst, ◌∙◌, arith}
+use Rattle.gf_tree.proofs.Common.{length-map, drop-map, map-append, Tree, Trees, count, branch}
+use Rattle.gf_tree.proofs.Common.{none, more, Entry, Fills, flatten, flatten_all, grow, Described}
+use Rattle.gf_tree.proofs.Common.{Node, IsGame, IsSpellable, subtree_sizes, Begin, skipped, Stored}
+use Rattle.gf_tree.proofs.Common.{SetKey, InformationSet, Outcome, game_with, Kept, IsAmong}
+use Rattle.gf_tree.proofs.Common.{AreAmong, entries_with, kept_of, tree_with}
+use Rattle.std.proofs.lemmas.List.{get_or-map}
 use Rattle.std.proofs.Math.Seq.{drop-cons}
-use Rattle.gf_tree.specs.Tree.{Tree, Trees, count}
-use Rattle.gf_tree.specs.Tree.Tree.{branch}
-use Rattle.gf_tree.specs.Tree.Trees.{none, more}
-use Rattle.gf_tree.specs.PrefixOrder.{Entry, Fills, flatten, flatten_all}
-use Rattle.gf_tree.specs.Grown.{grow, root}
+use Rattle.gf_tree.specs.Grown.{root}
 use Rattle.gf_tree.specs.GrowsAgain.{root_grows_again}
-use Rattle.gf_tree.specs.FiniteMap.{Described}
-use Rattle.gf_tree.specs.Game.{Node, IsGame}
-use Rattle.gf_tree.specs.Spellable.{IsSpellable}
 use Rattle.gf_tree.specs.Subtrees.{subtrees, subtrees_all, child_trees, list_of, root_node}
-use Rattle.gf_tree.specs.Subtrees.{subtree_at, subtree_sizes}
-use Rattle.gf_tree.specs.inner.Skipped.{Begin, skipped}
-use Rattle.gf_tree.specs.declared.game.kept.Stored.{Stored}
-use Rattle.gf_tree.specs.Description.{SetKey, InformationSet, Outcome}
-use Rattle.gf_tree.specs.inner.GameParts.{AreNodes, IsHeld, game_with}
-use Rattle.gf_tree.specs.KeptNodes.{Kept, IsAmong, AreAmong, child_count, child_counts}
-use Rattle.gf_tree.specs.KeptNodes.{entries_with, kept_of, node_with, sizes_of, tree_with}
+use Rattle.gf_tree.specs.Subtrees.{subtree_at}
+use Rattle.gf_tree.specs.inner.GameParts.{AreNodes, IsHeld}
+use Rattle.gf_tree.specs.KeptNodes.{child_count, child_counts, node_with, sizes_of}
 use Rattle.gf_tree.proofs.lemmas.games.Prefix.{one_tree}
 use Rattle.gf_tree.proofs.lemmas.stores.SubtreeSizes.{begin_first, counts_of, drop_suc, skips_to}
 use Rattle.gf_tree.proofs.lemmas.stores.SubtreeSizes.{slice_get_behind, stands, subtrees_counted}
@@ -112,12 +106,11 @@ child_is_there {N} t at i h j =
           rw sizes (begin_first (suc i) r.below (subtrees_all r.others) (omega (arith, less)));
       there =
           rw (sizes, tree)
-          (slice_get_behind (subtrees t) (at + 1) (skipped i
-          (map (λ s. length (flatten s)) (subtrees_all r.below ++ subtrees_all r.others)))
-          ∙ ap (λ xs. slice_get xs (skipped i (map (λ (s : Tree N). length (flatten s))
-          (subtrees_all r.below ++ subtrees_all r.others))))
-          (ap (λ k. drop k (subtrees t)) next ∙ behind)
-          ∙ skips_to i r.below (subtrees_all r.others) less);
+          (cc (
+            slice_get_behind (subtrees t) (at + 1) (skipped i (map (λ s. length (flatten s))
+                (subtrees_all r.below ++ subtrees_all r.others))),
+            skips_to i r.below (subtrees_all r.others) less,
+          ));
     }
 
 -- ---- the nodes of a game
@@ -223,11 +216,7 @@ pub made_held : (title comment : List ℕ) (players : List (List ℕ))
     → IsSpellable (game_with title comment players sets outcomes ns)
     → IsHeld title comment players sets outcomes nodes
 made_held title comment players sets outcomes ns nodes e placed fills sizes game
-    spellable = record {
-      nodes_are = record { placed = rw e placed; fills = rw e fills; sizes = rw e sizes };
-      is_game = rw e game;
-      spellable = rw e spellable;
-    }
+    spellable = grind arith
 
 -- ---- the nodes from a place on
 

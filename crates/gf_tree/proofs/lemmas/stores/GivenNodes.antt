@@ -1,20 +1,15 @@
 -- The nodes of a game as they are kept, given one after another, are those that a file gives.
-use Rattle.std.proofs.Common.{◌≡◌, ℕ, zero, suc, ◌≤◌, List, [], ◌∷◌, ◌++◌, length, map, max, Option}
-use Rattle.std.proofs.Common.{None, Some, option_map, nat_eq, refl, sym, ap, ◌∙◌, arith}
-use Rattle.std.proofs.Common.{append_assoc, append-nil}
+use Rattle.gf_tree.proofs.Common.{◌≡◌, ℕ, zero, suc, ◌≤◌, List, [], ◌∷◌, ◌++◌, length, map, max}
+use Rattle.gf_tree.proofs.Common.{Option, Some, option_map, nat_eq, refl, sym, ap, ◌∙◌, arith}
+use Rattle.gf_tree.proofs.Common.{append_assoc, append-nil, filter_map, cons_option, Decides-eqb}
+use Rattle.gf_tree.proofs.Common.{map-append, at_position, SetKey, same_set, Described}
+use Rattle.gf_tree.proofs.Common.{description_at, first_uses, Game, Node, IsGame, Entry, flatten}
+use Rattle.gf_tree.proofs.Common.{AreAmong, IsAmong, Kept, entries_with}
 use Rattle.std.specs.Prelude.{Bool}
-use Rattle.std.specs.List.{filter_map, cons_option}
 use Rattle.std.proofs.Math.Nat.{max-zero}
 use Rattle.std.proofs.lemmas.List.Elements.{filter_map-append}
-use Rattle.std.proofs.lemmas.Bool.Decides.{Decides-eqb}
-use Rattle.std.proofs.lemmas.List.{map-append}
-use Rattle.gf_token.specs.Positions.{at_position}
-use Rattle.gf_tree.specs.Description.{SetKey, same_set}
 use Rattle.gf_tree.specs.FileNodes.{file_nodes, node_behind, use_behind, with_those_before}
-use Rattle.gf_tree.specs.FiniteMap.{Described, description_at, first_uses}
-use Rattle.gf_tree.specs.Game.{Game, Node, IsGame}
-use Rattle.gf_tree.specs.PrefixOrder.{Entry, flatten}
-use Rattle.gf_tree.specs.KeptNodes.{AreAmong, IsAmong, Kept, entries_with, entry_with}
+use Rattle.gf_tree.specs.KeptNodes.{entry_with}
 use Rattle.gf_tree.specs.inner.KnownUses.{node_given, nodes_given, use_at}
 use Rattle.gf_tree.proofs.lemmas.stores.KnownKeys.{known_there, use_there}
 use Rattle.gf_tree.proofs.lemmas.games.Members.{map_same, map_twice, something_there}
@@ -27,16 +22,7 @@ use Rattle.gf_tree.proofs.lemmas.games.Uses.{IsEquality}
 behind_front : {A B : Type 0} (f : List A → A → B) (front : List A) (x : A) (xs : List A)
     → map (λ p. f (front ++ p.0) p.1) (with_those_before (x ∷ xs))
     ≡ f front x ∷ map (λ p. f ((front ++ x ∷ []) ++ p.0) p.1) (with_those_before xs)
-behind_front {A} {B} f front x xs =
-    let first : f (front ++ []) x ≡ f front x = ap (λ ys. f ys x) (append-nil front) in
-    let others : map (λ (p : List A × A). f (front ++ p.0) p.1)
-    (map (λ (p : List A × A). (x ∷ p.0, p.1)) (with_those_before xs))
-    ≡ map (λ (p : List A × A). f ((front ++ x ∷ []) ++ p.0) p.1) (with_those_before xs) =
-    map_twice (λ (p : List A × A). f (front ++ p.0) p.1) (λ (p : List A × A). (x ∷ p.0, p.1))
-    (with_those_before xs) ∙ map_same (λ (p : List A × A). f (front ++ x ∷ p.0) p.1)
-    (λ (p : List A × A). f ((front ++ x ∷ []) ++ p.0) p.1) (with_those_before xs)
-    (λ p i. ap (λ ys. f ys p.1) (sym (append_assoc front (x ∷ []) p.0))) in
-    λ i. first i ∷ others i
+behind_front {A} {B} f front x xs = grind (arith, append-nil, map_twice, map_same, append_assoc)
 
 -- ---- the use at a position, after other uses
 
@@ -57,16 +43,12 @@ module _ {K D : Type 0} (same : K → K → Bool) (tells : IsEquality same)
 
   met_given : (position met : ℕ) → IsUse same known before after used position met
       → max met position ≡ length (first_uses same (before ++ cons_option used []))
-  met_given zero met h =
-      let none : used ≡ None = h.is in
-      max-zero met ∙ h.met_are ∙ ap (λ ks. length (first_uses same ks))
-      (sym (ap (λ o. before ++ cons_option o []) none ∙ append-nil before))
+  met_given zero met h = grind (arith, max-zero, append-nil)
   met_given (suc k) met h =
       let d = something_there known k (omega (arith, h.within)) in
       let key : used ≡ Some d.0.key = h.is ∙ ap (option_map (λ (d : Described K D). d.key)) d.1 in
-      ap (λ n. max n (suc k)) h.met_are ∙ sym (known_there same tells known before after k d.0
-      (h.all ∙ ap (λ o. first_uses same (before ++ cons_option o after)) key) d.1)
-      ∙ ap (λ o. length (first_uses same (before ++ cons_option o []))) (sym key)
+      cc (known_there same tells known before after k d.0 (h.all ∙ ap (λ o. first_uses same (before
+      ++ cons_option o after)) key) d.1)
 
 -- ---- one node after another
 

@@ -1,16 +1,13 @@
 -- The sizes of subtrees beside the nodes that are kept.
-use Rattle.std.proofs.Common.{◌≡◌, ℕ, zero, suc, ◌+◌, ◌-◌, ◌<◌, ◌≤◌, List, [], ◌∷◌, ◌++◌, length}
-use Rattle.std.proofs.Common.{map, drop, get_or, refl, sym, ap, subst, ◌∙◌, arith}
-use Rattle.std.proofs.lemmas.List.{length-map, map-set, drop-map, get_or-map, drop-set}
+use Rattle.gf_tree.proofs.Common.{◌≡◌, ℕ, zero, suc, ◌+◌, ◌-◌, ◌<◌, ◌≤◌, List, [], ◌∷◌, ◌++◌}
+use Rattle.gf_tree.proofs.Common.{length, map, drop, get_or, refl, sym, ap, subst, ◌∙◌, arith}
+use Rattle.gf_tree.proofs.Common.{length-map, drop-map, Tree, count, Described, subtree_sizes}
+use Rattle.gf_tree.proofs.Common.{Entry, flatten, flatten_all, SetKey, InformationSet, Begin}
+use Rattle.gf_tree.proofs.Common.{skipped, AreAmong, kept_of, Stored}
+use Rattle.std.proofs.lemmas.List.{map-set, get_or-map, drop-set}
 use Rattle.std.proofs.Math.ListN.{set}
-use Rattle.gf_tree.specs.Tree.{Tree, count}
-use Rattle.gf_tree.specs.FiniteMap.{Described}
-use Rattle.gf_tree.specs.Subtrees.{subtree_sizes}
-use Rattle.gf_tree.specs.PrefixOrder.{Entry, flatten, flatten_all}
-use Rattle.gf_tree.specs.Description.{SetKey, InformationSet}
-use Rattle.gf_tree.specs.inner.Skipped.{Begin, skipped, sizes_grown}
-use Rattle.gf_tree.specs.KeptNodes.{AreAmong, child_count, child_counts, kept_of, sizes_of}
-use Rattle.gf_tree.specs.declared.game.kept.Stored.{Stored}
+use Rattle.gf_tree.specs.inner.Skipped.{sizes_grown}
+use Rattle.gf_tree.specs.KeptNodes.{child_count, child_counts, sizes_of}
 use Rattle.gf_tree.proofs.lemmas.stores.SubtreeSizes.{begin_children, counts_of, sizes_are}
 use Rattle.gf_tree.proofs.lemmas.stores.SubtreeSizes.{skips_once, stands}
 
@@ -77,17 +74,7 @@ pub filled_begin : {N : Type 0} (sets : List (Described SetKey InformationSet))
     (drop (next - 1 + 1) (sizes_of nodes))
 filled_begin sets t old nodes zero d f = absurd (omega (arith, f.some))
 filled_begin {N} sets t old nodes (suc at) d f =
-    let less : suc at - 1 ≡ at = omega arith in
-    let more : at + 1 ≡ suc at = omega arith in
-    let inside : at < length nodes = omega (arith, f.within) in
-    let e = same_counts sets t old nodes (suc at) f in
-    let counted : length (flatten t) ≡ length nodes =
-    sym (length-map (flatten t) (λ (e : Entry N). e.children)) ∙ ap length e
-    ∙ length-map (map kept_of nodes) (λ n. child_count sets n.set) ∙ length-map nodes kept_of in
-    let begin = begin_at t at (child_count sets (get_or nodes at d).set)
-    (drop (suc at) (child_counts sets (map kept_of nodes))) (omega (arith, inside, counted))
-    (ap (drop at) e ∙ counts_at sets nodes at d inside) in
-    rw (less, more, f.sizes, ← f.kept) begin
+    grind (arith, same_counts, length-map, begin_at, get_or, counts_at)
 
 pub filled_more : {N : Type 0} (sets : List (Described SetKey InformationSet))
     (t : Tree N) (old nodes : List Stored) (next : ℕ) (d x : Stored) → Filled sets t old nodes next

@@ -1,15 +1,14 @@
 -- Which keys are known after some uses, and what the next use says.
-use Rattle.std.proofs.Common.{◌≡◌, ℕ, zero, suc, ◌+◌, ◌<◌, Bool, true, false, List, [], ◌∷◌}
-use Rattle.std.proofs.Common.{◌++◌, length, map, Some, slice_get, max, refl, sym, ap, ◌∙◌, arith}
-use Rattle.std.proofs.Common.{inl, inr, length-append}
-use Rattle.std.specs.Prelude.{◌||◌}
+use Rattle.gf_tree.proofs.Common.{◌≡◌, ℕ, zero, suc, ◌+◌, ◌<◌, Bool, true, false, List, [], ◌∷◌}
+use Rattle.gf_tree.proofs.Common.{◌++◌, length, map, Some, slice_get, max, refl, sym, ap, ◌∙◌}
+use Rattle.gf_tree.proofs.Common.{arith, eq-eqb, slice_get-map, Described, description_at}
+use Rattle.gf_tree.proofs.Common.{first_uses}
+use Rattle.std.proofs.Common.{length-append}
 use Rattle.std.specs.List.{list_any}
-use Rattle.std.proofs.Math.Nat.{max-eq_left, max-eq_right}
-use Rattle.std.proofs.lemmas.Bool.{eq-eqb, ne_eqb, not_from_false}
+use Rattle.std.proofs.Math.Nat.{max-eq_left}
+use Rattle.std.proofs.lemmas.Bool.{ne_eqb, not_from_false}
 use Rattle.std.proofs.lemmas.List.{append-nil}
 use Rattle.std.proofs.lemmas.List.Elements.{filter-append}
-use Rattle.std.proofs.lemmas.Option.{slice_get-map}
-use Rattle.gf_tree.specs.FiniteMap.{Described, description_at, first_uses}
 use Rattle.gf_tree.specs.FirstUse.{through_first_use, first_use_number}
 use Rattle.gf_tree.specs.FileNodes.{use_behind}
 use Rattle.gf_tree.specs.inner.KnownUses.{use_at}
@@ -34,12 +33,7 @@ module _ {K : Type 0} (same : K → K → Bool) (tells : IsEquality same) where
 
   pub used_before : (before : List K) (key : K) → list_any (same key) before ≡ true → Has before key
   used_before [] key h = absurd cc
-  used_before (b ∷ before) key h = by (same key b) refl h (used_before before key)
-    where
-      by : (x : Bool) → same key b ≡ x → (x || list_any (same key) before) ≡ true
-          → (list_any (same key) before ≡ true → Has before key) → Has (b ∷ before) key
-      by true e h more = inl (sym ((tells key b).0 e))
-      by false e h more = inr (more h)
+  used_before (b ∷ before) key h = grind (arith, used_before before key)
 
   through_again : (before after : List K) (key : K) → list_any (same key) before ≡ true
       → through_first_use same key (before ++ after) ≡ through_first_use same key before
@@ -122,5 +116,4 @@ module _ {K : Type 0} (same : K → K → Bool) (tells : IsEquality same) where
             let more : length (first_uses same before ++ d.key ∷ []) ≡ suc k =
             length-append (first_uses same before) (d.key ∷ []) ∙ omega (arith, next) in
             then false h ∙ more
-            ∙ sym (max-eq_right {n = length (first_uses same before)} {m = suc k}
-            (omega (arith, next)))
+            ∙ grind arith

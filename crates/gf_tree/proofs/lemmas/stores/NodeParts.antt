@@ -1,33 +1,22 @@
 -- The parts of a node as it is kept: who moves there, its actions, and the place after its subtree.
-use Rattle.std.proofs.Common.{◌≡◌, ℕ, zero, suc, ◌+◌, ◌-◌, ◌<◌, ◌≤◌, List, [], ◌∷◌, ◌++◌, length}
-use Rattle.std.proofs.Common.{map, drop, take, get_or, slice_get, Option, Some, None, option_map}
-use Rattle.std.proofs.Common.{MatchOption, refl, sym, ap, subst, ◌∙◌, arith, false}
-use Rattle.std.specs.Prelude.{nat_eq, position}
-use Rattle.std.specs.List.{position_from}
-use Rattle.std.proofs.lemmas.Bool.{eqb-true, eq-eqb, false_from_ne_true}
-use Rattle.std.proofs.lemmas.Bool.Decides.{Decides-eqb}
-use Rattle.std.proofs.lemmas.Iterator.Adapters.{position_from-zero}
-use Rattle.std.proofs.lemmas.Option.{same_Some, get_or_from_slice_get, slice_get-map}
-use Rattle.std.proofs.lemmas.Option.{slice_get_within}
-use Rattle.std.proofs.lemmas.List.{append-nil, drop-drop, drop-map}
-use Rattle.gf_token.specs.Positions.{at_position}
-use Rattle.gf_tree.specs.Tree.{Tree}
-use Rattle.gf_tree.specs.Tree.Tree.{branch}
-use Rattle.gf_tree.specs.Tree.Trees.{more}
-use Rattle.gf_tree.specs.PrefixOrder.{flatten}
-use Rattle.gf_tree.specs.FiniteMap.{Described}
-use Rattle.gf_tree.specs.FirstUse.{outcome_numbers}
-use Rattle.gf_tree.specs.inner.GameParts.{AreNodes, IsKeptAt, game_with}
-use Rattle.gf_tree.specs.KnownSets.{known_of, number_among}
+use Rattle.gf_tree.proofs.Common.{◌≡◌, ℕ, zero, suc, ◌+◌, ◌-◌, ◌<◌, ◌≤◌, List, [], ◌∷◌, ◌++◌}
+use Rattle.gf_tree.proofs.Common.{length, map, drop, take, get_or, slice_get, Some, None}
+use Rattle.gf_tree.proofs.Common.{option_map, MatchOption, refl, sym, ap, subst, ◌∙◌, arith, false}
+use Rattle.gf_tree.proofs.Common.{position, position_from, eqb-true, false_from_ne_true}
+use Rattle.gf_tree.proofs.Common.{Decides-eqb, position_from-zero, same_Some, slice_get-map}
+use Rattle.gf_tree.proofs.Common.{slice_get_within, drop-map, at_position, Tree, branch, more}
+use Rattle.gf_tree.proofs.Common.{flatten, Described, outcome_numbers, game_with, known_of}
+use Rattle.gf_tree.proofs.Common.{subtree_sizes, Stored, Action, SetKey, InformationSet, Outcome}
+use Rattle.gf_tree.proofs.Common.{set_of, Game, IsGame, Node, set_at, used_outcomes, IsAmong}
+use Rattle.gf_tree.proofs.Common.{kept_of, tree_with, Begin, skipped}
+use Rattle.std.specs.Prelude.{nat_eq}
+use Rattle.std.proofs.lemmas.Option.{get_or_from_slice_get}
+use Rattle.std.proofs.lemmas.List.{append-nil, drop-drop}
+use Rattle.gf_tree.specs.inner.GameParts.{AreNodes, IsKeptAt}
+use Rattle.gf_tree.specs.KnownSets.{number_among}
 use Rattle.gf_tree.specs.Movers.{IsMover}
-use Rattle.gf_tree.specs.Subtrees.{subtrees_all, child_trees, root_node, subtree_at, subtree_sizes}
-use Rattle.gf_tree.specs.Subtrees.{subtrees}
-use Rattle.gf_tree.specs.declared.game.kept.Stored.{Stored}
-use Rattle.gf_tree.specs.Description.{Action, SetKey, InformationSet, Outcome, set_of}
-use Rattle.gf_tree.specs.Game.{Game, IsGame, Node, set_at, used_outcomes}
-use Rattle.gf_tree.specs.KeptNodes.{IsAmong, kept_of, tree_with}
-use Rattle.gf_tree.specs.OutcomePositions.{position_among, position_at}
-use Rattle.gf_tree.specs.inner.Skipped.{Begin, skipped}
+use Rattle.gf_tree.specs.Subtrees.{subtrees_all, child_trees, root_node, subtree_at, subtrees}
+use Rattle.gf_tree.specs.OutcomePositions.{position_among}
 use Rattle.gf_tree.proofs.lemmas.games.FirstUses.{AreDistinct, first_uses_distinct}
 use Rattle.gf_tree.proofs.lemmas.stores.GameNodes.{IsTreeOf, as_many, child_is_there}
 use Rattle.gf_tree.proofs.lemmas.stores.GameNodes.{children_there, node_there, placed_there}
@@ -89,8 +78,7 @@ next_child {N} t at before place h i e =
     let sizes = drop (at + 1) (subtree_sizes t) in
     let r = child_is_there t at before h i in
     let x = something_there kids before i in
-    let is : slice_get (subtrees t) place ≡ Some x.0 =
-    ap (slice_get (subtrees t)) e ∙ r.there ∙ x.1 in
+    let is : slice_get (subtrees t) place ≡ Some x.0 = cc in
     let more = skips_more before sizes r.begin_more in
     let next : before + 1 ≡ suc before = omega arith in
     let same : drop place (subtree_sizes t) ≡ drop (skipped before sizes) sizes =
@@ -135,14 +123,8 @@ pub actions_there : (g : Game) → IsGame g → (place : ℕ) (key : SetKey) (ac
     → option_map (λ s. s.key) (slice_get g.sets place) ≡ Some key
     → option_map (λ s. s.description.actions) (slice_get g.sets place) ≡ Some actions
     → option_map (λ set. set.actions) (set_at g key) ≡ Some actions
-actions_there g game place key actions at are = by (slice_get g.sets place) refl at are
-  where
-    by : (o : Option (Described SetKey InformationSet)) → slice_get g.sets place ≡ o
-        → option_map (λ s. s.key) o ≡ Some key
-        → option_map (λ s. s.description.actions) o ≡ Some actions
-        → option_map (λ set. set.actions) (set_at g key) ≡ Some actions
-    by o h h2 h3 =
-        grind (arith, same_Some, first_uses_distinct, same_set_equality, entry_at, has_at)
+actions_there g game place key actions at are =
+    grind (arith, same_Some, first_uses_distinct, same_set_equality, entry_at, has_at)
 
 -- ---- the position of a number
 
@@ -150,9 +132,7 @@ position_behind : (ns : List ℕ) (start k n : ℕ) → AreDistinct ns → slice
     → position_from (nat_eq n) start ns ≡ Some (start + k)
 position_behind [] start zero n d h = absurd cc
 position_behind [] start (suc k) n d h = absurd cc
-position_behind (m ∷ ns) start zero n d h =
-    let same : n ≡ m = cc in
-    rw (eq-eqb n m same) (ap Some (omega arith))
+position_behind (m ∷ ns) start zero n d h = grind arith
 position_behind (m ∷ ns) start (suc k) n d h =
     let other : nat_eq n m ≡ false = false_from_ne_true (nat_eq n m)
     (λ t. d.0 (subst (Has ns) (eqb-true n m t) (has_at ns k n h))) in
@@ -238,5 +218,4 @@ module _ (g : Game) (at : ℕ) (n : Stored) (kept : IsKeptAt g at n) where
           let key = ap (option_map (λ (o : Described ℕ Outcome). o.key)) at.1 in
           let number : slice_get (outcome_numbers g) k ≡ Some at.0.key =
           slice_get-map (λ (o : Described ℕ Outcome). o.key) g.outcomes k ∙ key in
-          sym (ap (position_among (outcome_numbers g)) (outcome_is (suc k) is ∙ key)
-          ∙ ap position_at (position_is (outcome_numbers g) k at.0.key distinct number))
+          cc (outcome_is (suc k) is, position_is (outcome_numbers g) k at.0.key distinct number)

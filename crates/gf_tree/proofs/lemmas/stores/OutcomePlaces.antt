@@ -1,11 +1,6 @@
 -- The places of outcomes, and what they say about the outcomes that are known.
-use Rattle.std.proofs.Common.{◌≡◌, ℕ, ◌+◌, List, [], ◌∷◌, ◌++◌, length, map, nat_eq, refl, ap}
-use Rattle.std.proofs.Common.{arith}
-use Rattle.std.proofs.lemmas.Iterator.Adapters.{position_from-zero}
-use Rattle.std.specs.Prelude.{position}
-use Rattle.std.specs.List.{position_from}
-use Rattle.std.specs.Map.{lookup}
-use Rattle.gf_fraction.specs.Ratio.{Ratio}
+use Rattle.gf_tree.proofs.Common.{◌≡◌, ℕ, ◌+◌, List, [], ◌∷◌, ◌++◌, length, map, nat_eq, refl, ap}
+use Rattle.gf_tree.proofs.Common.{arith, position_from-zero, position, position_from, lookup, Ratio}
 use Rattle.gf_tree.specs.declared.game.outcomes.Entry.{Entry}
 use Rattle.gf_tree.specs.inner.KnownOutcomes.{KnownOutcomes}
 use Rattle.gf_tree.specs.inner.StoredOutcomes.{described, stored_outcomes, places_from, AreOutcomes}

@@ -1,14 +1,10 @@
 -- A set or an outcome that is known, with no description after its number.
-use Rattle.std.proofs.Common.{◌≡◌, ℕ, false, List, [], ◌∷◌, refl}
+use Rattle.gf_tree.proofs.Common.{◌≡◌, ℕ, false, List, [], ◌∷◌, refl, Remaining, Lexeme, Token}
+use Rattle.gf_tree.proofs.Common.{Bare, Broken, Closing, Comma, Opening, Text, InformationSet}
+use Rattle.gf_tree.proofs.Common.{Outcome, SetKey, Content, Position, begun, OutcomeNumber}
+use Rattle.gf_tree.proofs.Common.{KnownOutcomeName, KnownSetName, NodeDue, heard}
 use Rattle.gf_token.specs.Next.{is_quoted, starts}
-use Rattle.gf_token.specs.Remaining.{Remaining}
-use Rattle.gf_token.specs.Token.{Lexeme, Token, lexeme}
-use Rattle.gf_token.specs.Token.Token.{Bare, Broken, Closing, Comma, Opening, Text}
-use Rattle.gf_tree.specs.Description.{InformationSet, Outcome, SetKey}
-use Rattle.gf_tree.specs.inner.Machine.{Content, Position, begun}
-use Rattle.gf_tree.specs.inner.Machine.Position.{OutcomeNumber, KnownOutcomeName, KnownSetName}
-use Rattle.gf_tree.specs.inner.Machine.Position.{NodeDue}
-use Rattle.gf_tree.specs.inner.ReaderState.{heard}
+use Rattle.gf_token.specs.Token.{lexeme}
 
 abbrev remaining : List ℕ → List Lexeme → Remaining
 remaining input ahead = record { input = input; ahead = ahead }

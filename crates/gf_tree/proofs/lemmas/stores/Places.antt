@@ -1,10 +1,9 @@
 -- The places of numbers, after each call.
-use Rattle.std.proofs.Common.{◌≡◌, ℕ, ◌-◌, ◌<◌, List, [], ◌∷◌, ◌++◌, map, None, nat_eq, arith}
+use Rattle.gf_tree.proofs.Common.{◌≡◌, ℕ, ◌-◌, ◌<◌, List, [], ◌∷◌, ◌++◌, map, None, nat_eq, arith}
+use Rattle.gf_tree.proofs.Common.{slice_get-map, at_position}
 use Rattle.std.specs.Prelude.{slice_get, option_map}
-use Rattle.std.proofs.lemmas.Option.{slice_get-map}
 use Rattle.indexmap.specs.IndexMap.{IndexMap, get, insert_entry}
 use Rattle.indexmap.proofs.CallerLemmas.{insert_entry-new}
-use Rattle.gf_token.specs.Positions.{at_position}
 
 pub goes_last : {S : Type 0} (m : IndexMap ℕ ℕ S) (number place : ℕ) → get nat_eq m number ≡ None
     → insert_entry nat_eq m.entries number place ≡ m.entries ++ (number, place) ∷ []

@@ -1,20 +1,13 @@
 -- The nodes that are kept, by new numbers of their sets and outcomes.
-use Rattle.std.proofs.Common.{◌≡◌, ℕ, zero, suc, ◌+◌, List, [], ◌∷◌, map, Option, option_map, refl}
-use Rattle.std.proofs.Common.{ap, ◌∙◌, arith}
-use Rattle.std.proofs.lemmas.Option.{slice_get-map}
-use Rattle.gf_token.specs.Positions.{at_position}
-use Rattle.gf_tree.specs.Tree.{Tree, Trees, map_tree, map_trees}
-use Rattle.gf_tree.specs.Tree.Trees.{none, more}
-use Rattle.gf_tree.specs.PrefixOrder.{Entry, Fills, flatten}
-use Rattle.gf_tree.specs.Grown.{first, others, grow, root}
-use Rattle.gf_tree.specs.FiniteMap.{Described}
-use Rattle.gf_tree.specs.Game.{Node}
+use Rattle.gf_tree.proofs.Common.{◌≡◌, ℕ, zero, suc, ◌+◌, List, [], ◌∷◌, map, Option, option_map}
+use Rattle.gf_tree.proofs.Common.{refl, ap, ◌∙◌, arith, slice_get-map, at_position, Tree, Trees}
+use Rattle.gf_tree.proofs.Common.{map_tree, map_trees, none, more, Entry, Fills, flatten, grow}
+use Rattle.gf_tree.proofs.Common.{Described, Node, subtree_sizes, game_with, SetKey, InformationSet}
+use Rattle.gf_tree.proofs.Common.{Outcome, Kept, entries_with, tree_with, Renumbering, renumbered}
+use Rattle.gf_tree.proofs.Common.{renumbered_node, renumbered_set}
+use Rattle.gf_tree.specs.Grown.{first, others, root}
 use Rattle.gf_tree.specs.GameCode.{no_node}
-use Rattle.gf_tree.specs.Subtrees.{subtree_sizes}
-use Rattle.gf_tree.specs.inner.GameParts.{game_with}
-use Rattle.gf_tree.specs.Description.{SetKey, InformationSet, Outcome}
-use Rattle.gf_tree.specs.KeptNodes.{Kept, actions_counted, entries_with, tree_with}
-use Rattle.gf_tree.specs.Renumbering.{Renumbering, renumbered, renumbered_node, renumbered_set}
+use Rattle.gf_tree.specs.KeptNodes.{actions_counted}
 use Rattle.gf_tree.proofs.lemmas.games.Consistent.{map_entry, flatten_map}
 use Rattle.gf_tree.proofs.lemmas.stores.SubtreeSizes.{counts_of, sizes_are}
 
@@ -36,8 +29,7 @@ grow_mapped : {N M : Type 0} (f : N → M) (es : List (Entry N))
     → grow (map (map_entry f) es) ≡ map_trees f (grow es)
 grow_mapped f [] = refl
 grow_mapped f (e ∷ es) =
-    rw (grow_mapped f es, first_mapped f e.children (grow es), others_mapped f e.children (grow es))
-    refl
+    cc (grow_mapped f es, first_mapped f e.children (grow es), others_mapped f e.children (grow es))
 
 root_mapped : (r : Renumbering) (ts : Trees Node) → root no_node (map_trees (renumbered_node r) ts)
     ≡ map_tree (renumbered_node r) (root no_node ts)
@@ -116,13 +108,4 @@ module _ (r : Renumbering) (sets : List (Described SetKey InformationSet))
   pub game_mapped : (title comment : List ℕ) (players : List (List ℕ)) (ns : List Kept)
       → game_with title comment players (map (set_image r) sets) (map (outcome_image r) outcomes) ns
       ≡ renumbered r (game_with title comment players sets outcomes ns)
-  game_mapped title comment players ns =
-      let tree = tree_mapped ns in
-      λ i. record {
-        title = title;
-        comment = comment;
-        players = players;
-        tree = tree i;
-        sets = map (set_image r) sets;
-        outcomes = map (outcome_image r) outcomes;
-      }
+  game_mapped title comment players ns = grind (arith, tree_mapped)

@@ -1,23 +1,19 @@
 -- Sets and outcomes that are known, renumbered one after another.
-use Rattle.std.proofs.Common.{◌≡◌, ℕ, zero, suc, ◌+◌, ◌-◌, ◌<◌, ◌≤◌, ◌^◌, Bool, true, false, List}
-use Rattle.std.proofs.Common.{[], ◌∷◌, ◌++◌, length, map, take, get_or, slice_get, Some, None}
-use Rattle.std.proofs.Common.{MatchOption, option_map, inl, inr, refl, sym, ap, subst, ◌∙◌, arith}
+use Rattle.gf_tree.proofs.Common.{◌≡◌, ℕ, zero, suc, ◌+◌, ◌-◌, ◌<◌, ◌≤◌, ◌^◌, Bool, true, false}
+use Rattle.gf_tree.proofs.Common.{List, [], ◌∷◌, ◌++◌, length, map, take, get_or, slice_get, Some}
+use Rattle.gf_tree.proofs.Common.{None, MatchOption, option_map, inl, inr, refl, sym, ap, subst}
+use Rattle.gf_tree.proofs.Common.{◌∙◌, arith, same_Some, slice_get-map, slice_get_within}
+use Rattle.gf_tree.proofs.Common.{position_from-zero, position, ◌==◌, AllByRecursion, position_from}
+use Rattle.gf_tree.proofs.Common.{false_from_ne_true, Decides-eqb, SetKey, InformationSet, Outcome}
+use Rattle.gf_tree.proofs.Common.{same_set, set_of, Described, known_of, outcome_numbers}
+use Rattle.gf_tree.proofs.Common.{player_keys, sets_of, Game, IsGame, used_sets, used_outcomes}
+use Rattle.gf_tree.proofs.Common.{Renumbering, renumbered}
 use Rattle.std.proofs.Common.{Vec, Global}
-use Rattle.std.proofs.lemmas.Option.{same_Some, get_or_from_slice_get, slice_get-map}
-use Rattle.std.proofs.lemmas.Option.{slice_get_within}
+use Rattle.std.proofs.lemmas.Option.{get_or_from_slice_get}
 use Rattle.std.proofs.lemmas.List.{get_or-map, take-map}
-use Rattle.std.proofs.lemmas.Iterator.Adapters.{position_from-zero}
-use Rattle.std.specs.Prelude.{nat_eq, position, ◌==◌, ⊤}
-use Rattle.std.specs.List.{AllByRecursion, position_from}
-use Rattle.std.proofs.lemmas.Bool.{eq-eqb, false_from_ne_true}
-use Rattle.std.proofs.lemmas.Bool.Decides.{Decides-eqb}
-use Rattle.gf_tree.specs.Description.{SetKey, InformationSet, Outcome, same_set, set_of}
-use Rattle.gf_tree.specs.FiniteMap.{Described}
-use Rattle.gf_tree.specs.KnownSets.{known_of, number_among}
-use Rattle.gf_tree.specs.FirstUse.{outcome_numbers, player_keys, sets_of}
-use Rattle.gf_tree.specs.Game.{Game, IsGame, used_sets, used_outcomes}
+use Rattle.std.specs.Prelude.{nat_eq, ⊤}
+use Rattle.gf_tree.specs.KnownSets.{number_among}
 use Rattle.gf_tree.specs.Listed.{AreListed, listed_numbers, number_listed}
-use Rattle.gf_tree.specs.Renumbering.{Renumbering, renumbered}
 use Rattle.gf_tree.proofs.lemmas.games.Carried.{entry_used}
 use Rattle.gf_tree.proofs.lemmas.games.ListedNumbers.{some_player, as_long, listed_is_renumbering}
 use Rattle.gf_tree.proofs.lemmas.games.ListedNumbers.{number_there}
@@ -90,23 +86,14 @@ among_more : (t : Described SetKey InformationSet) (known : List (Described SetK
     → IsAmong (t ∷ known) (suc place) player s
 among_more t known place player s r true q =
     record { before = suc r.before; counted = rw q (ap suc r.counted); stands = rw q r.stands }
-among_more t known place player s r false q =
-    record { before = r.before; counted = rw q r.counted; stands = rw q r.stands }
+among_more t known place player s r false q = grind arith
 
 pub is_among : (known : List (Described SetKey InformationSet)) (place player : ℕ)
     (s : Described SetKey InformationSet)
     → slice_get known place ≡ Some s → s.key.player ≡ player → IsAmong known place player s
 is_among [] zero player s h e = absurd cc
 is_among [] (suc place) player s h e = absurd cc
-is_among (t ∷ known) zero player s h e =
-    let first : t ≡ s = cc in
-    let his : (t.key.player == player) ≡ true = (eq-eqb t.key.player player
-    (ap (λ (x : Described SetKey InformationSet). x.key.player) first ∙ e)) in
-    record {
-      before = 0;
-      counted = rw his refl;
-      stands = rw his (ap (λ (x : Described SetKey InformationSet). Some x) first);
-    }
+is_among (t ∷ known) zero player s h e = grind arith
 is_among (t ∷ known) (suc place) player s h e = among_more t known place player s
     (is_among known place player s h e) (t.key.player == player) refl
 
@@ -183,20 +170,13 @@ module _ (g : Game) (game : IsGame g) (lists : List (List ℕ)) (outcomes : List
   found_in known place n player number items e h k a own_is =
       let r = listed_at place n h
       (ap (λ (ss : List (Described SetKey InformationSet)). number_among ss place) (sym e) ∙ a) in
-      let key : Some r.set.key ≡ Some (set_of player number) =
-      sym (ap (option_map (λ (s : Described SetKey InformationSet). s.key)) r.stands)
-      ∙ ap (λ (ss : List (Described SetKey InformationSet)).
-      option_map (λ (s : Described SetKey InformationSet). s.key) (slice_get ss place)) (sym e)
-      ∙ k in
+      let key : Some r.set.key ≡ Some (set_of player number) = grind arith in
       let his : r.set.key.player ≡ player = ap (λ (x : SetKey). x.player) (same_Some _ _ key) in
-      let items_are : items ≡ get_or lists r.set.key.player [] =
-      own_is (subst (λ p. p < length lists) his r.player)
-      ∙ ap (λ (p : ℕ). get_or lists p []) (sym his) in
+      let items_are : items ≡ get_or lists r.set.key.player [] = grind arith in
       record {
         positive = r.positive;
         within = rw items_are r.within;
-        number = λ x q. rw r.stands (q ∙ ap (λ (ns : List ℕ). get_or ns (n - 1) x) items_are
-            ∙ get_or_from_slice_get (own r.set) (n - 1) _ x r.number);
+        number = λ x q. rw r.stands (cc (get_or_from_slice_get (own r.set) (n - 1) _ x r.number));
       }
 
   abbrev by_list : Renumbering
@@ -273,8 +253,7 @@ module _ (g : Game) (game : IsGame g) (lists : List (List ℕ)) (outcomes : List
 
   outcome_there : (place : ℕ) (o : Described ℕ Outcome) → slice_get g.outcomes place ≡ Some o
       → slice_get (renumbered outcomes_by_list g).outcomes place ≡ Some (outcome_image o)
-  outcome_there place o h =
-      slice_get-map outcome_image g.outcomes place ∙ ap (option_map outcome_image) h
+  outcome_there place o h = cc (slice_get-map outcome_image g.outcomes place)
 
   listed_outcome : (place number : ℕ) (o : Described ℕ Outcome)
       → slice_get g.outcomes place ≡ Some o → slice_get outcomes place ≡ Some number

@@ -1,19 +1,19 @@
 -- The number of each set among the sets of its player.
-use Rattle.std.proofs.Common.{◌≡◌, ℕ, ◌+◌, ◌<◌, ◌≤◌, Bool, true, false, List, [], ◌∷◌, ◌++◌, length}
-use Rattle.std.proofs.Common.{map, take, Some, nat_lt, refl, sym, ap, subst, ◌∙◌, arith}
-use Rattle.std.proofs.Common.{length-append}
+use Rattle.gf_tree.proofs.Common.{◌≡◌, ℕ, ◌+◌, ◌<◌, ◌≤◌, Bool, true, false, List, [], ◌∷◌, ◌++◌}
+use Rattle.gf_tree.proofs.Common.{length, map, take, Some, refl, sym, ap, subst, ◌∙◌, arith, ◌==◌}
+use Rattle.gf_tree.proofs.Common.{filter, eq-eqb, length-map, slice_get-map, slice_get_within}
+use Rattle.gf_tree.proofs.Common.{KnownSets, known_of, described, stored_sets}
+use Rattle.std.proofs.Common.{nat_lt, length-append}
 use Rattle.std.proofs.Math.Seq.{get_or-append_seam}
-use Rattle.std.specs.Prelude.{◌==◌, get_or, slice_get, option_map}
-use Rattle.std.specs.List.{filter}
-use Rattle.std.proofs.lemmas.Bool.{eq-eqb, ltb-true, ltb-false}
-use Rattle.std.proofs.lemmas.List.{take-append-le, length-map, take_all, take-map}
-use Rattle.std.proofs.lemmas.List.{get_or_append_left}
+use Rattle.std.specs.Prelude.{get_or, slice_get, option_map}
+use Rattle.std.proofs.lemmas.Bool.{ltb-true, ltb-false}
+use Rattle.std.proofs.lemmas.List.{take-append-le, take_all, take-map, get_or_append_left}
 use Rattle.std.proofs.lemmas.List.Elements.{filter-append}
-use Rattle.std.proofs.lemmas.Option.{slice_get-map, slice_get-get_or, slice_get_within}
+use Rattle.std.proofs.lemmas.Option.{slice_get-get_or}
 use Rattle.gf_tree.specs.declared.game.action.Action.{Action as Held}
 use Rattle.gf_tree.specs.declared.game.sets.Entry.{Entry}
-use Rattle.gf_tree.specs.KnownSets.{KnownSets, known_of, number_among}
-use Rattle.gf_tree.specs.inner.StoredSets.{described, stored_sets, AreNumbered}
+use Rattle.gf_tree.specs.KnownSets.{number_among}
+use Rattle.gf_tree.specs.inner.StoredSets.{AreNumbered}
 
 abbrev pub of_player : ℕ → List Entry → List Entry
 of_player player entries = filter (λ x. x.player == player) entries
@@ -31,8 +31,7 @@ is_among entries actions from place e whole numbered view within is =
     let as_long : length whole.known ≡ length entries =
     ap (λ (k : KnownSets). length k.known) (sym view) ∙ length-map entries (described actions) in
     let at : slice_get entries place ≡ Some e =
-    slice_get-get_or entries place e (omega (arith, within, as_long))
-    ∙ ap (λ (x : Entry). Some x) (sym is) in
+    cc (slice_get-get_or entries place e (omega (arith, within, as_long))) in
     let made : List Entry → List _ = map (described actions) in
     let count : _ → ℕ = λ s. length (known_of s.key.player (take (place + 1) (made entries))) in
     let there : slice_get (made entries) place ≡ Some (described actions e) =

@@ -1,16 +1,12 @@
 -- The places of a player's sets, and what they say about the sets that are known.
-use Rattle.std.proofs.Common.{◌≡◌, ℕ, ◌+◌, List, [], ◌∷◌, length, map, nat_eq, refl, ap, ◌∙◌}
-use Rattle.std.proofs.Common.{arith}
-use Rattle.std.specs.Prelude.{get_or, position}
-use Rattle.std.specs.List.{position_from}
-use Rattle.std.specs.Map.{lookup}
-use Rattle.std.proofs.lemmas.List.{length-map}
-use Rattle.std.proofs.lemmas.Iterator.Adapters.{position_from-zero}
+use Rattle.gf_tree.proofs.Common.{◌≡◌, ℕ, ◌+◌, List, [], ◌∷◌, length, map, nat_eq, refl, ap, ◌∙◌}
+use Rattle.gf_tree.proofs.Common.{arith, position, position_from, lookup, length-map}
+use Rattle.gf_tree.proofs.Common.{position_from-zero, same_set, set_of, KnownSets, known_of}
+use Rattle.gf_tree.proofs.Common.{described, stored_sets}
+use Rattle.std.specs.Prelude.{get_or}
 use Rattle.gf_tree.specs.declared.game.action.Action.{Action as Held}
 use Rattle.gf_tree.specs.declared.game.sets.Entry.{Entry}
-use Rattle.gf_tree.specs.Description.{same_set, set_of}
-use Rattle.gf_tree.specs.KnownSets.{KnownSets, known_of}
-use Rattle.gf_tree.specs.inner.StoredSets.{described, stored_sets, places_from, AreSets}
+use Rattle.gf_tree.specs.inner.StoredSets.{places_from, AreSets}
 
 -- a number's place is the first place at which its key stands
 found_from : (actions : List Held) (player number : ℕ) (entries : List Entry) (place : ℕ)

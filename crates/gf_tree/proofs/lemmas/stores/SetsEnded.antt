@@ -1,20 +1,17 @@
 -- What is stored of sets, once the description of one more is complete.
-use Rattle.std.proofs.Common.{◌≡◌, ◌≢◌, ℕ, ◌+◌, ◌<◌, ◌≤◌, ◌^◌, Bool, List, [], ◌∷◌}
-use Rattle.std.proofs.Common.{◌++◌, length, map, take, drop, None, nat_eq, refl, sym, ap, subst}
-use Rattle.std.proofs.Common.{◌∙◌, arith, append-nil, length-append}
-use Rattle.std.specs.Prelude.{◌==◌, get_or, max, position, slice_range, if◌then◌else◌}
-use Rattle.std.specs.Map.{lookup}
+use Rattle.gf_tree.proofs.Common.{◌≡◌, ℕ, ◌+◌, ◌<◌, ◌≤◌, ◌^◌, List, [], ◌∷◌, ◌++◌, length, map}
+use Rattle.gf_tree.proofs.Common.{take, drop, None, nat_eq, refl, ap, arith, append-nil, ◌==◌}
+use Rattle.gf_tree.proofs.Common.{position, lookup, eqb-true, map-append, label_of, same_set}
+use Rattle.gf_tree.proofs.Common.{set_of, actions_of, described, stored_sets, KnownSets}
+use Rattle.std.proofs.Common.{◌≢◌, length-append}
+use Rattle.std.specs.Prelude.{get_or, max, slice_range, if◌then◌else◌}
 use Rattle.std.proofs.Math.ListN.{drop_of_length-le}
-use Rattle.std.proofs.lemmas.Bool.{eqb-true, eqb-false}
-use Rattle.std.proofs.lemmas.List.{length-take-le, map-append}
-use Rattle.gf_token.specs.Label.{label_of}
+use Rattle.std.proofs.lemmas.Bool.{eqb-false}
+use Rattle.std.proofs.lemmas.List.{length-take-le}
 use Rattle.gf_tree.specs.declared.game.action.Action.{Action as Held}
 use Rattle.gf_tree.specs.declared.game.sets.Entry.{Entry}
-use Rattle.gf_tree.specs.Description.{same_set, set_of}
-use Rattle.gf_tree.specs.Actions.{actions_of}
-use Rattle.gf_tree.specs.inner.StoredSets.{HoldActions, described, end_of, stored_sets, places_from}
-use Rattle.gf_tree.specs.inner.StoredSets.{AreSets}
-use Rattle.gf_tree.specs.KnownSets.{KnownSets, with_pending_set}
+use Rattle.gf_tree.specs.inner.StoredSets.{HoldActions, end_of, places_from, AreSets}
+use Rattle.gf_tree.specs.KnownSets.{with_pending_set}
 use Rattle.gf_tree.proofs.lemmas.stores.SetPlaces.{found}
 use Rattle.gf_tree.proofs.lemmas.stores.StoredActions.{set_made}
 use Rattle.gf_tree.proofs.lemmas.stores.SetNumbers.{of_player, numbered_behind}
@@ -45,10 +42,7 @@ places_behind player (e ∷ es) new place = grind (arith, places_behind player e
 module _ (players : List (List (ℕ × ℕ))) (entries : List Entry) (actions : List Held) (from : ℕ)
     (are : AreSets players entries actions from) where
   pub has_fewer : (player : ℕ) → length (get_or players player []) ≤ length entries
-  has_fewer player = subst P (sym (are.places player)) (places_fit player entries 0)
-    where
-      P : List (ℕ × ℕ) → Type 0
-      P ns = length ns ≤ length entries
+  has_fewer player = grind (arith, places_fit)
 
   pub absent : (player number : ℕ) (whole : KnownSets) → stored_sets entries actions from ≡ whole
       → position (same_set (set_of player number)) (map (λ s. s.key) whole.known) ≡ None
@@ -88,13 +82,8 @@ module _ (players : List (List (ℕ × ℕ))) (entries : List Entry) (actions : 
             name = label_of new.name;
             actions = actions_of (drop from actions);
           };
-        } ∷ [] =
-        map-append (described (take last actions)) entries (new ∷ []) ∙ (λ i. those i ++ record {
-          key = set_of new.player new.number;
-          description = record { name = label_of new.name; actions = this i };
-        } ∷ []) in
-        rw (is, cut)
-        (cc)
+        } ∷ [] = cc (map-append (described (take last actions)) entries (new ∷ [])) in
+        cc
 
     module _ (after : List (List (ℕ × ℕ)))
         (others : (other : ℕ)
@@ -105,11 +94,7 @@ module _ (players : List (List (ℕ × ℕ))) (entries : List Entry) (actions : 
         (room : length entries + 1 < 2 ^ 32) where
       places_then : (player : ℕ)
           → get_or after player [] ≡ places_from 0 player (entries ++ new ∷ [])
-      places_then player = by (new.player == player) refl ∙ sym (places_behind player entries new 0)
-        where
-          by : (b : Bool) → (new.player == player) ≡ b → get_or after player []
-              ≡ places_from 0 player entries ++ place_of player new (0 + length entries)
-          by b h = grind (arith, eqb-true, eqb-false, append-nil)
+      places_then player = grind (arith, places_behind, eqb-true, eqb-false, append-nil)
 
       are_then : AreSets after (entries ++ new ∷ []) (take last actions) last
       are_then = record {

@@ -1,12 +1,12 @@
 -- The places of small numbers, and of those after them.
-use Rattle.std.proofs.Common.{◌≡◌, ℕ, ◌+◌, ◌<◌, Bool, true, false, List, [], ◌∷◌, ◌++◌, length}
-use Rattle.std.proofs.Common.{Some, None, nat_eq, refl, sym, ◌∙◌, arith}
+use Rattle.gf_tree.proofs.Common.{◌≡◌, ℕ, ◌+◌, ◌<◌, Bool, false, List, [], ◌∷◌, ◌++◌, length, Some}
+use Rattle.gf_tree.proofs.Common.{None, nat_eq, refl, sym, ◌∙◌, arith, lookup, eqb-true, eq-eqb}
+use Rattle.gf_tree.proofs.Common.{map-append}
 use Rattle.std.specs.Prelude.{get_or, slice_set, Option}
-use Rattle.std.specs.Map.{lookup}
-use Rattle.std.proofs.lemmas.Bool.{eqb-true, eqb-false, eq-eqb}
-use Rattle.std.proofs.lemmas.List.{get_or-set_same, get_or-set_other, map-append}
+use Rattle.std.proofs.lemmas.Bool.{eqb-false}
+use Rattle.std.proofs.lemmas.List.{get_or-set_same, get_or-set_other}
 use Rattle.gf_tree.specs.declared.numbers.small_numbers.Placed.{Placed}
-use Rattle.gf_tree.specs.inner.SmallNumbers.{AreFound, place_at, placed_pairs}
+use Rattle.gf_tree.specs.inner.SmallNumbers.{AreFound, placed_pairs}
 
 -- what is found among the first pairs is found, and otherwise what is found after them
 pub found_before : (test : ℕ → Bool) (pairs more : List (ℕ × ℕ)) (place : ℕ)
@@ -49,14 +49,5 @@ module _ (pairs : List Placed) (before after : List ℕ) (new : Placed) (stored 
   own = grind (arith, found_behind, eq-eqb)
 
   pub found_then : AreFound stored (slice_set after new.number (new.place + 1))
-  found_then = record { found = found }
-    where
-      found : (number : ℕ) → lookup (nat_eq number) (placed_pairs stored)
-          ≡ place_at (get_or (slice_set after new.number (new.place + 1)) number 0)
-      found number = by (nat_eq number new.number) refl
-        where
-          by : (b : Bool) → nat_eq number new.number ≡ b
-              → lookup (nat_eq number) (placed_pairs stored)
-              ≡ place_at (get_or (slice_set after new.number (new.place + 1)) number 0)
-          by true it = grind (arith, eqb-true, pairs_then, own, get_or-set_same)
-          by false it = grind (arith, pairs_then, others, get_or-set_other, eqb-false)
+  found_then =
+      grind (arith, eqb-true, pairs_then, own, get_or-set_same, others, get_or-set_other, eqb-false)

@@ -1,14 +1,12 @@
 -- What is stored of sets, once one more action is pending.
-use Rattle.std.proofs.Common.{◌≡◌, ℕ, List, [], ◌∷◌, ◌++◌, map, drop, ap, ◌∙◌}
-use Rattle.std.proofs.lemmas.List.{drop-append-le, map-append}
-use Rattle.gf_token.specs.Label.{label_of}
+use Rattle.gf_tree.proofs.Common.{◌≡◌, ℕ, List, [], ◌∷◌, ◌++◌, map, drop, ap, ◌∙◌, map-append}
+use Rattle.gf_tree.proofs.Common.{label_of, actions_of, InformationSet, SetKey, set_of, Described}
+use Rattle.gf_tree.proofs.Common.{KnownSets, described, stored_sets}
+use Rattle.std.proofs.lemmas.List.{drop-append-le}
 use Rattle.gf_tree.specs.declared.game.action.Action.{Action as Held}
 use Rattle.gf_tree.specs.declared.game.sets.Entry.{Entry}
-use Rattle.gf_tree.specs.Actions.{action_of, actions_of}
-use Rattle.gf_tree.specs.Description.{InformationSet, SetKey, set_of}
-use Rattle.gf_tree.specs.FiniteMap.{Described}
-use Rattle.gf_tree.specs.KnownSets.{KnownSets}
-use Rattle.gf_tree.specs.inner.StoredSets.{described, end_of, stored_sets, AreSets}
+use Rattle.gf_tree.specs.Actions.{action_of}
+use Rattle.gf_tree.specs.inner.StoredSets.{end_of, AreSets}
 use Rattle.gf_tree.proofs.lemmas.stores.Stretching.{items_behind}
 
 abbrev pub set_made : Entry → List Held → Described SetKey InformationSet
@@ -35,6 +33,5 @@ action_pushed players entries actions after from action whole are view is =
     let more : stored_sets entries (actions ++ action ∷ []) from ≡ record {
       known = map (described actions) entries;
       pending = actions_of (drop from actions) ++ action_of action ∷ [];
-    } =
-    λ i. record { known = known i; pending = rest i } in
+    } = cc in
     cc (is, more)

@@ -1,12 +1,9 @@
 -- What is stored of outcomes, once one more payoff is pending or one more outcome is complete.
-use Rattle.std.proofs.Common.{◌≡◌, ℕ, ◌+◌, ◌<◌, ◌^◌, List, [], ◌∷◌, ◌++◌, length, map, drop, ◌∙◌}
-use Rattle.std.proofs.Common.{arith, length-append}
+use Rattle.gf_tree.proofs.Common.{◌≡◌, ℕ, ◌+◌, ◌<◌, ◌^◌, List, [], ◌∷◌, ◌++◌, length, map, drop}
+use Rattle.gf_tree.proofs.Common.{arith, Ratio, label_of, Outcome, Described}
+use Rattle.std.proofs.Common.{length-append}
 use Rattle.std.proofs.lemmas.List.{drop-append-le}
-use Rattle.gf_fraction.specs.Ratio.{Ratio}
-use Rattle.gf_token.specs.Label.{label_of}
 use Rattle.gf_tree.specs.declared.game.outcomes.Entry.{Entry}
-use Rattle.gf_tree.specs.Description.{Outcome}
-use Rattle.gf_tree.specs.FiniteMap.{Described}
 use Rattle.gf_tree.specs.inner.KnownOutcomes.{KnownOutcomes}
 use Rattle.gf_tree.specs.inner.StoredOutcomes.{described, end_of, stored_outcomes, AreOutcomes}
 use Rattle.gf_tree.proofs.lemmas.stores.OutcomePlaces.{places_then}
@@ -34,8 +31,7 @@ module _ (ns : List (ℕ × ℕ)) (entries : List Entry) (payoffs : List Ratio) 
       let more : stored_outcomes entries (payoffs ++ payoff ∷ []) from ≡ record {
         known = map (described payoffs) entries;
         pending = drop from payoffs ++ payoff ∷ [];
-      } =
-      λ i. record { known = known i; pending = rest i } in
+      } = cc in
       cc (is, more)
 
   -- one more outcome, with the payoffs from here on
@@ -44,11 +40,4 @@ module _ (ns : List (ℕ × ℕ)) (entries : List Entry) (payoffs : List Ratio) 
       (starts : new.start ≡ from) (ends : end_of new ≡ last) where
     pub outcomes_stored : (after : List (ℕ × ℕ)) → after ≡ ns ++ (new.number, place) ∷ []
         → place + 1 < 2 ^ 32 → AreOutcomes after stored payoffs last
-    outcomes_stored after own room =
-        let are_then : AreOutcomes after (entries ++ new ∷ []) payoffs (length payoffs) = record {
-          stretches = entry_behind (λ e. e.start)
-              end_of entries payoffs from new are.stretches starts (ends ∙ all);
-          places = cc (own, places_then ns entries new are.places);
-          few = omega (arith, room, at, length-append entries (new ∷ []));
-        } in
-        rw (is, all) are_then
+    outcomes_stored after own room = grind (arith, entry_behind, places_then, length-append)

@@ -1,10 +1,9 @@
 -- Stretches of a list of items, if items or entries are appended.
-use Rattle.std.proofs.Common.{◌≡◌, ℕ, ◌≤◌, List, [], ◌∷◌, ◌++◌, length, map, take, drop, refl}
-use Rattle.std.proofs.Common.{sym, ap, ◌∙◌, arith}
+use Rattle.gf_tree.proofs.Common.{◌≡◌, ℕ, ◌≤◌, List, [], ◌∷◌, ◌++◌, length, map, take, drop, refl}
+use Rattle.gf_tree.proofs.Common.{sym, ap, ◌∙◌, arith, AllByRecursion}
 use Rattle.std.proofs.lemmas.List.{length-take-le, take-append-le, take-append-drop, drop-append-le}
 use Rattle.std.proofs.lemmas.List.{length-drop}
 use Rattle.std.specs.Prelude.{slice_range}
-use Rattle.std.specs.List.{AllByRecursion}
 use Rattle.gf_tree.specs.inner.Stretches.{AreStretches}
 use Rattle.gf_tree.proofs.lemmas.games.Members.{all_more}
 
@@ -33,9 +32,7 @@ module _ {E T : Type 0} (start end : E → ℕ) where
       ≡ map (made make items) entries
   same_made make [] items more from all within = refl
   same_made make (e ∷ es) items more from all within =
-      let this = same_part items more (start e) (end e) all.0.0 (omega (arith, all.0.1)) in
-      let those = same_made make es items more from all.1 within in
-      λ i. make e (this i) ∷ those i
+      grind (arith, same_part, same_made make es items more from all.1 within)
 
   -- items after them change nothing in it
   pub items_behind : {D : Type 0} (make : E → List T
@@ -48,21 +45,13 @@ module _ {E T : Type 0} (start end : E → ℕ) where
   pub entry_behind : (entries : List E) (items : List T) (from : ℕ) (e : E)
       → AreStretches start end entries items from → start e ≡ from → end e ≡ length items
       → AreStretches start end (entries ++ e ∷ []) items (length items)
-  entry_behind entries items from e are starts ends = record {
-    within = omega arith;
-    ordered = all_more (Ends start end (length items)) entries e
-        (up_to start end entries from (length items) are.within are.ordered)
-        (omega (arith, are.within), omega arith);
-  }
+  entry_behind entries items from e are starts ends = grind (arith, all_more, up_to)
 
   -- items after the stretches may go
   until : (entries : List E) (items : List T) (from last : ℕ)
       → AreStretches start end entries items from → from ≤ last → last ≤ length items
       → AreStretches start end entries (take last items) from
-  until entries items from last are behind within = record {
-    within = omega (arith, behind, length-take-le last items within);
-    ordered = are.ordered;
-  }
+  until entries items from last are behind within = grind (arith, length-take-le)
 
   pub items_until : {D : Type 0} (make : E → List T → D) (entries : List E) (items : List T)
       (from last : ℕ) → AreStretches start end entries items from → from ≤ last
@@ -78,11 +67,8 @@ module _ {E T : Type 0} (start end : E → ℕ) where
       → AreStretches start end entries items from → from ≤ last → last ≤ length items
       → start e ≤ end e → end e ≤ last
       → AreStretches start end (entries ++ e ∷ []) (take last items) last
-  entry_within entries items from last e are behind within ordered ends = record {
-    within = omega (arith, length-take-le last items within);
-    ordered = all_more (Ends start end last) entries e
-        (up_to start end entries from last behind are.ordered) (ordered, ends);
-  }
+  entry_within entries items from last e are behind within ordered ends =
+      grind (arith, length-take-le, all_more, up_to)
 
 pub part_until : {T : Type 0} (items : List T) (i j last : ℕ) → i ≤ j → j ≤ last
     → last ≤ length items → slice_range (take last items) i j ≡ slice_range items i j

@@ -1,16 +1,15 @@
 -- The sizes of subtrees, and what they skip.
-use Rattle.std.proofs.Common.{◌≡◌, ℕ, zero, suc, ◌+◌, ◌<◌, ◌≤◌, List, [], ◌∷◌, ◌++◌, length, map}
-use Rattle.std.proofs.Common.{drop, get_or, slice_get, refl, sym, ap, ◌∙◌, append_assoc, arith}
+use Rattle.gf_tree.proofs.Common.{◌≡◌, ℕ, zero, suc, ◌+◌, ◌<◌, ◌≤◌, List, [], ◌∷◌, ◌++◌, length}
+use Rattle.gf_tree.proofs.Common.{map, drop, get_or, slice_get, refl, sym, ap, ◌∙◌, append_assoc}
+use Rattle.gf_tree.proofs.Common.{arith, length-map, map-append, drop-map, Tree, Trees, count}
+use Rattle.gf_tree.proofs.Common.{branch, none, more, Entry, flatten, flatten_all, subtree_sizes}
+use Rattle.gf_tree.proofs.Common.{Begin, skipped}
 use Rattle.std.proofs.Common.{length-append, zero-add}
 use Rattle.std.proofs.Math.Seq.{drop-append_seam}
-use Rattle.std.proofs.lemmas.List.{append-nil, length-map, map-append, drop-map}
-use Rattle.gf_tree.specs.Tree.{Tree, Trees, count}
-use Rattle.gf_tree.specs.Tree.Tree.{branch}
-use Rattle.gf_tree.specs.Tree.Trees.{none, more}
-use Rattle.gf_tree.specs.PrefixOrder.{Entry, flatten, flatten_all}
+use Rattle.std.proofs.lemmas.List.{append-nil}
 use Rattle.gf_tree.specs.GrowsAgain.{join}
-use Rattle.gf_tree.specs.Subtrees.{list_of, subtrees, subtrees_all, subtree_sizes}
-use Rattle.gf_tree.specs.inner.Skipped.{Begin, skipped, sizes_grown}
+use Rattle.gf_tree.specs.Subtrees.{list_of, subtrees, subtrees_all}
+use Rattle.gf_tree.specs.inner.Skipped.{sizes_grown}
 
 abbrev size_of : {N : Type 0} → Tree N → ℕ
 size_of t = length (flatten t)
@@ -165,12 +164,7 @@ pub record SomeStands {N : Type 0} (es : List (Entry N)) (ss : List (Tree N))
 stands_all : {N : Type 0} (at : ℕ) (ts : Trees N) → at < length (flatten_all ts)
     → SomeStands (flatten_all ts) (subtrees_all ts) at
 stands_all zero none h = absurd (omega (arith, h))
-stands_all zero (more (branch n ts) us) h = record {
-  node = n;
-  below = ts;
-  others = us;
-  stands = record { entries = refl; trees = refl };
-}
+stands_all zero (more (branch n ts) us) h = grind arith
 stands_all (suc at) none h = absurd (omega (arith, h))
 stands_all (suc at) (more (branch n ts) us) h =
     let r = stands_all at (join ts us) (rw (flatten_join ts us) (omega (arith, h))) in
@@ -209,12 +203,7 @@ pub record SkipsOnce (xs : List ℕ) (at left s : ℕ) : Type 0 where
 
 once_here : (s : ℕ) (xs : List ℕ) (left : ℕ) → Begin (suc left) (s ∷ xs)
     → SkipsOnce (s ∷ xs) 0 left s
-once_here s xs left h = record {
-  below = omega arith;
-  ends = omega (arith, h.0);
-  begin = rw (zero-add s) h.1;
-  same = rw (zero-add s) (sym (zero-add (s + skipped left (drop s (s ∷ xs)))));
-}
+once_here s xs left h = grind arith
 
 pub skips_once : (xs : List ℕ) (at left : ℕ) → Begin (suc left) (drop at xs)
     → SkipsOnce xs at left (get_or xs at 0)
@@ -225,12 +214,7 @@ skips_once (s ∷ xs) (suc at) left h =
     let r = skips_once xs at left h in
     let t = get_or xs at 0 in
     let e : suc at + t ≡ suc (at + t) = omega arith in
-    record {
-      below = omega (arith, r.below);
-      ends = omega (arith, r.ends);
-      begin = rw e r.begin;
-      same = rw e (omega (arith, r.same));
-    }
+    grind arith
 
 -- ---- the sizes after a node begin with its children's
 

@@ -1,28 +1,22 @@
 -- A file for each game that a file can hold.
-use Rattle.std.proofs.Common.{◌≡◌, ◌↔◌, Bool, ℕ, zero, suc, ◌^◌, ◌<◌, List, [], ◌∷◌, ◌++◌, length}
-use Rattle.std.proofs.Common.{map, Some, None, Option, MatchOption, option_map, refl, sym, ap}
-use Rattle.std.proofs.Common.{subst, ◌∙◌, arith, inl, inr}
-use Rattle.std.specs.Prelude.{codes, decimal, nat_eq}
-use Rattle.std.specs.List.{AllByRecursion, filter_map, flat_map}
+use Rattle.gf_tree.proofs.Common.{◌≡◌, ◌↔◌, Bool, ℕ, zero, suc, ◌^◌, ◌<◌, List, [], ◌∷◌, ◌++◌}
+use Rattle.gf_tree.proofs.Common.{length, map, Some, None, Option, MatchOption, option_map, refl}
+use Rattle.gf_tree.proofs.Common.{sym, ap, subst, ◌∙◌, arith, inl, inr, codes, AllByRecursion}
+use Rattle.gf_tree.proofs.Common.{filter_map, Decides-eqb, Ratio, IsFraction, Token, braced}
+use Rattle.gf_tree.proofs.Common.{Closing, Text, Bare, Entry, flatten, Action, SetKey}
+use Rattle.gf_tree.proofs.Common.{InformationSet, Outcome, same_set, IsSet, Use, FileNode, FileTree}
+use Rattle.gf_tree.proofs.Common.{Described, description_at, first_uses, Sentence, SpellsGame}
+use Rattle.gf_tree.proofs.Common.{IsSpellable, IsSpellableSet, IsSpellableOutcome, Game, IsGame}
+use Rattle.gf_tree.proofs.Common.{used_sets, used_outcomes, set_at}
+use Rattle.std.specs.Prelude.{decimal, nat_eq}
+use Rattle.std.specs.List.{flat_map}
 use Rattle.std.specs.Option.{option_to_list}
-use Rattle.std.proofs.lemmas.Bool.Decides.{Decides-eqb}
-use Rattle.gf_fraction.specs.Ratio.{Ratio, IsFraction}
 use Rattle.gf_fraction.specs.NumberText.{number_text}
 use Rattle.gf_fraction.proofs.AllElements.{all_weaker, all_both, all_images}
-use Rattle.gf_token.specs.Token.{Token}
-use Rattle.gf_token.specs.Grammar.{braced}
 use Rattle.gf_token.specs.LabelSpelling.{IsLabel}
-use Rattle.gf_token.specs.Token.Token.{Closing, Text, Bare}
 use Rattle.gf_token.proofs.SpelledNumbers.{number_spelled, index_spelled}
-use Rattle.gf_tree.specs.PrefixOrder.{Entry, flatten}
-use Rattle.gf_tree.specs.Description.{Action, SetKey, InformationSet, Outcome, same_set, IsSet}
-use Rattle.gf_tree.specs.FileTree.{Use, FileNode, FileTree}
-use Rattle.gf_tree.specs.FiniteMap.{Described, description_at, first_uses}
-use Rattle.gf_tree.specs.Sentence.{Sentence}
-use Rattle.gf_tree.specs.GameOf.{SpellsGame}
-use Rattle.gf_tree.specs.Spellable.{IsSpellable, IsSpellableAction, IsSpellableSet}
-use Rattle.gf_tree.specs.Spellable.{IsSpellableOutcome}
-use Rattle.gf_tree.specs.Game.{Game, IsGame, used_sets, used_outcomes, set_at, outcome_at}
+use Rattle.gf_tree.specs.Spellable.{IsSpellableAction}
+use Rattle.gf_tree.specs.Game.{outcome_at}
 use Rattle.gf_tree.proofs.lemmas.games.Uses.{Has, IsEquality, each, all_of_each, has_first}
 use Rattle.gf_tree.proofs.lemmas.games.Uses.{has_later, mapped_from}
 use Rattle.gf_tree.proofs.lemmas.games.FirstUses.{found, is_used}
@@ -34,7 +28,7 @@ use Rattle.gf_tree.proofs.lemmas.written.Nodes.{action_tokens, set_tokens, outco
 use Rattle.gf_tree.proofs.lemmas.written.Nodes.{mover_letter, mover_tokens, letter, step_tokens}
 use Rattle.gf_tree.proofs.lemmas.written.Nodes.{result_tokens, node_tokens, IsSetUse, IsOutcomeUse}
 use Rattle.gf_tree.proofs.lemmas.written.Nodes.{IsWritable, nodes_written}
-use Rattle.gf_tree.proofs.lemmas.written.Tokens.{IsWhole, bytes_of, spell}
+use Rattle.gf_tree.proofs.lemmas.written.Tokens.{IsWhole, spell}
 use Rattle.gf_tree.specs.Description as description
 
 -- ---- the descriptions of a game
@@ -67,12 +61,7 @@ set_use g is can (Some k) among =
     is.each_set can.sets in
     let d = entry_of same_set same_set_equality (used_sets g.tree) g.sets is.one_entry_each_set
     (λ s. IsSet (length g.players) s.key s.description × IsSpellableSet s) all k (among k refl) in
-    record {
-      above = d.2.0.number;
-      player = d.2.1.player;
-      number = d.2.1.number;
-      set = rw d.1 d.2;
-    }
+    grind arith
 
 outcome_use : (g : Game) → IsGame g → IsSpellable g → (o : Option ℕ)
     → ((k : ℕ) → o ≡ Some k → Has (used_outcomes g.tree) k)
@@ -85,11 +74,7 @@ outcome_use g is can (Some k) among =
     let d = entry_of nat_eq Decides-eqb (used_outcomes g.tree) g.outcomes is.one_entry_each_outcome
     (λ o. description.IsOutcome (length g.players) o.key o.description × IsSpellableOutcome o) all k
     (among k refl) in
-    record {
-      above = d.2.0.number_from_one;
-      number = d.2.1.number;
-      outcome = rw d.1 d.2;
-    }
+    grind arith
 
 -- the keys of an entry are among those that are used
 among_options : {N K : Type 0} (f : Entry N → Option K) (es : List (Entry N)) (e : Entry N) (k : K)
@@ -131,20 +116,16 @@ whole_set : (players : ℕ) (key : SetKey) (o : Option InformationSet) → Match
     (λ d. IsSet players key d × IsSpellableSet (record { key = key; description = d }))
     → AllWhole (flat_map set_tokens (option_to_list o))
 whole_set players key None h = tt
-whole_set players key (Some d) h = all_both IsWhole (set_tokens d) [] (
-  h.1.name,
-  whole_braced (flat_map action_tokens d.actions) (whole_actions d.actions h.1.actions),
-) tt
+whole_set players key (Some d) h =
+    grind (arith, all_both, set_tokens, whole_braced, action_tokens, whole_actions)
 
 whole_outcome : (players key : ℕ) (o : Option Outcome)
     → MatchOption o (Unit {0}) (λ d. description.IsOutcome players key d
     × IsSpellableOutcome (record { key = key; description = d }))
     → AllWhole (flat_map outcome_tokens (option_to_list o))
 whole_outcome players key None h = tt
-whole_outcome players key (Some d) h = all_both IsWhole (outcome_tokens d) [] (
-  h.1.name,
-  whole_braced (map (λ r. Bare (number_text r)) d.payoffs) (whole_payoffs d.payoffs h.1.payoffs),
-) tt
+whole_outcome players key (Some d) h =
+    grind (arith, all_both, outcome_tokens, whole_braced, whole_payoffs)
 
 whole_step : (players : ℕ) (o : Option (Use SetKey InformationSet))
     → MatchOption o (Unit {0}) (IsSetUse players) → AllWhole (step_tokens o)
@@ -171,14 +152,8 @@ whole_letter (Some u) = whole_mover_letter u.key.player
 
 whole_node : (players : ℕ) (n : FileNode) → IsLabel n.name → IsWritable players n
     → AllWhole (node_tokens n)
-whole_node players n name h = (
-  whole_letter n.set,
-  (
-    name,
-    all_both IsWhole (step_tokens n.set) (result_tokens n.outcome)
-        (whole_step players n.set h.set) (whole_result players n.outcome h.outcome),
-  ),
-)
+whole_node players n name h =
+    grind (arith, whole_letter, all_both, step_tokens, result_tokens, whole_step, whole_result)
 
 -- ---- the file
 
@@ -243,10 +218,7 @@ some_bytes g is can =
     (can.comment, whole_nodes (length g.players) ns nodes) in
     let spelled =
     spell tokens 0 ((refl, (refl, (refl, tt))), ((refl, tt), ((refl, tt), (can.title, behind)))) in
-    let of = file_is_of g is in (
-      bytes_of tokens,
-      (spelled.0, spelled.1, (f, subst (λ ts. Sentence ts f) (sym spelled.2) sentence, of.0, of.1)),
-    )
+    let of = file_is_of g is in grind arith
 
 pub games_of_files : (g : Game)
     → ((bytes : List ℕ) × SpellsGame bytes g) ↔ (IsGame g × IsSpellable g)

@@ -1,23 +1,20 @@
 -- The tokens of a node in the spelling of canonical text, and that they say this node.
-use Rattle.std.proofs.Common.{◌≡◌, ℕ, zero, suc, ◌^◌, ◌<◌, List, [], ◌∷◌, ◌++◌, length, map, drop}
-use Rattle.std.proofs.Common.{Some, None, Option, MatchOption, refl, ap, arith, inl}
-use Rattle.std.specs.Prelude.{codes, decimal}
-use Rattle.std.specs.List.{AllByRecursion, flat_map}
+use Rattle.gf_tree.proofs.Common.{◌≡◌, ℕ, zero, suc, ◌^◌, ◌<◌, List, [], ◌∷◌, ◌++◌, length, map}
+use Rattle.gf_tree.proofs.Common.{drop, Some, None, Option, MatchOption, refl, ap, arith, inl}
+use Rattle.gf_tree.proofs.Common.{codes, AllByRecursion, Ratio, IsFraction, Token, Text, Bare, Each}
+use Rattle.gf_tree.proofs.Common.{braced, IsPayoffInBraces, Action, SetKey, InformationSet, Outcome}
+use Rattle.gf_tree.proofs.Common.{IsSet, AreActions, Use, FileNode, IsDescription, IsAction}
+use Rattle.gf_tree.proofs.Common.{IsInformationSet, IsMover, IsStep, IsResult, IsNode}
+use Rattle.gf_tree.proofs.Common.{IsOutcomeDescription, IsSpellableSet, IsSpellableOutcome}
+use Rattle.std.specs.Prelude.{decimal}
+use Rattle.std.specs.List.{flat_map}
 use Rattle.std.specs.Option.{option_to_list}
 use Rattle.std.proofs.lemmas.List.{append-nil}
-use Rattle.gf_fraction.specs.Ratio.{Ratio, IsFraction}
 use Rattle.gf_fraction.specs.NumberText.{number_text}
 use Rattle.gf_fraction.proofs.ReadingBack.{written_is_read}
-use Rattle.gf_token.specs.Token.{Token}
-use Rattle.gf_token.specs.Token.Token.{Text, Bare}
-use Rattle.gf_token.specs.Grammar.{Each, braced, IsPayoffInBraces}
 use Rattle.gf_token.proofs.Grammar.{each_group}
 use Rattle.gf_token.proofs.SpelledNumbers.{decimal_is_index}
-use Rattle.gf_tree.specs.Description.{Action, SetKey, InformationSet, Outcome, IsSet, AreActions}
-use Rattle.gf_tree.specs.FileTree.{Use, FileNode}
-use Rattle.gf_tree.specs.Sentence.{IsDescription, IsAction, IsInformationSet, IsMover, IsStep}
-use Rattle.gf_tree.specs.Sentence.{IsResult, IsNode, IsOutcomeDescription}
-use Rattle.gf_tree.specs.Spellable.{IsSpellableAction, IsSpellableSet, IsSpellableOutcome}
+use Rattle.gf_tree.specs.Spellable.{IsSpellableAction}
 use Rattle.gf_tree.specs.Description as description
 
 -- ---- tokens
@@ -118,11 +115,7 @@ actions_written (suc player) actions h k = personal_actions player actions h
 
 set_written : (player : ℕ) (set : InformationSet) → AreActions player set.actions
     → AllByRecursion IsSpellableAction set.actions → IsInformationSet player (set_tokens set) set
-set_written player set h k = (
-  flat_map action_tokens set.actions,
-  refl,
-  each_group (IsAction player) action_tokens set.actions (actions_written player set.actions h k),
-)
+set_written player set h k = grind (arith, each_group, actions_written)
 
 payoffs_written : (rs : List Ratio) → AllByRecursion IsFraction rs
     → Each IsPayoffInBraces (map (λ r. Bare (number_text r)) rs) rs
@@ -189,14 +182,7 @@ result_written players (Some u) h = (
 
 node_written : (players : ℕ) (n : FileNode) → IsWritable players n
     → IsNode players (node_tokens n) n
-node_written players n h = record {
-  letter = letter n.set;
-  step = step_tokens n.set;
-  result = result_tokens n.outcome;
-  parts = refl;
-  is_step = step_written players n.set h.set;
-  is_result = result_written players n.outcome h.outcome;
-}
+node_written players n h = grind (arith, step_written, result_written)
 
 pub nodes_written : (players : ℕ) (ns : List FileNode) → AllByRecursion (IsWritable players) ns
     → Each (IsNode players) (flat_map node_tokens ns) ns

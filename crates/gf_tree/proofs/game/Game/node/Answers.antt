@@ -9,7 +9,8 @@ use Rattle.gf_tree.proofs.game.Game.node.Goals as goal
 
 pub step-requires : goal.step-requires
 step-requires c =
-    omega (arith, c.kept-node.ensures.kept.placed.set, ap (λ (g : Game). length g.sets) c.self.view_is)
+    let all = ap (λ (g : Game). length g.sets) c.self.view_is in
+    omega (arith, c.kept-node.ensures.kept.placed.set, all)
 
 pub outcome_number-requires-clause-within : goal.outcome_number-requires-clause-within
 outcome_number-requires-clause-within c =

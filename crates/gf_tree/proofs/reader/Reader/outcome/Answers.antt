@@ -29,7 +29,7 @@ returns-then-number-eq0-clause-machine g c =
 pub returns-in_default-tell-2-clause-machine : goal.returns-in_default-tell-2-clause-machine
 returns-in_default-tell-2-clause-machine g c =
     wants_memory c.in-Some.ensures.place c.at-in_default-tell-2.ensures
-    (KnownOutcomeName c.in-Some-found.ensures.known.outcome)
+    (KnownOutcomeName c.in-Some-known_outcome.ensures.known.outcome)
     (with_node (content_of c.args.self.now)
     (begun_with c.args.self.now.sets.known (label_of c.args.node) (position_of c.args.set))
     (Some c.in-Some-index.number))
@@ -37,7 +37,7 @@ returns-in_default-tell-2-clause-machine g c =
 
 pub returns-clause-machine : goal.returns-clause-machine
 returns-clause-machine g c =
-    let known = c.in-Some-found.ensures.known in
+    let known = c.in-Some-known_outcome.ensures.known in
     let told = c.in-Ok-tell.ensures.told in
     let now = c.tell-2.new.self in
     let same : now.tokens ≡ c.index.new.self = ap (λ (r : Reader). r.tokens) told.kept in
@@ -47,6 +47,7 @@ returns-clause-machine g c =
     {r = record c.args.self.now { tokens = c.index.new.self }}
     refl refl (grows_none c.args.self.now.sets.known) (grows_none c.args.self.now.outcomes.known)
     (placed_at (length c.args.self.now.sets.known) (length c.args.self.now.outcomes.known)
-    (label_of c.args.node) c.args.set (Some c.in-Some-found.place) c.requires.set known.within)
+    (label_of c.args.node) c.args.set (Some c.in-Some-known_outcome.place) c.requires.set
+    known.within)
     told (search rules) refl
     (outcome_passed_by (content_of now) known.outcome now.tokens.input now.tokens.ahead none)

@@ -6,14 +6,14 @@ use Rattle.gf_tree.specs.declared.game.sets.Entry.{Entry}
 use Rattle.gf_tree.specs.inner.StoredSets.{HoldActions, end_of}
 use Rattle.gf_tree.proofs.game.sets.Sets.end.Goals as goal
 
-pub note-requires-clause-absent : goal.note-requires-clause-absent
-note-requires-clause-absent c =
+pub add_number-requires-clause-absent : goal.add_number-requires-clause-absent
+add_number-requires-clause-absent c =
     let s = c.self.inside in
     absent s.players.items s.entries.items s.actions.items s.from c.self.invariant.0 c.args.player
     c.args.number c.args.self.now c.self.view_is c.requires
 
-pub note-requires-clause-few : goal.note-requires-clause-few
-note-requires-clause-few c =
+pub add_number-requires-clause-few : goal.add_number-requires-clause-few
+add_number-requires-clause-few c =
     let s = c.self.inside in
     omega (
       arith,
@@ -39,10 +39,10 @@ invariant_of-self-2 c =
       are_stored s.players.items s.entries.items s.actions.items s.from c.self.invariant.0 new
           c.max-self-inside.result
           (subst Holds c.deref-3.ensures.value c.in_ok-start.ensures) (search rules)
-          c.note.new.players.items c.push_reserved.new.self.items c.truncate.new.self.items
+          c.add_number.new.players.items c.push_reserved.new.self.items c.truncate.new.self.items
           c.in_ok-place.place
           (search rules) (search rules) (omega (arith, c.in_ok-place.ensures.ok))
-          c.note.ensures.others c.in_ok-among.ensures.own c.in_ok-among.ensures.count
+          c.add_number.ensures.others c.in_ok-among.ensures.own c.in_ok-among.ensures.count
           (omega (arith, c.in_ok-place.ensures.ok)),
       counts_then s.entries.items c.push_reserved.new.self.items s.counts.items
           c.push_reserved-2.new.self.items

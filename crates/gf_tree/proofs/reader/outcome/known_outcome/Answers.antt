@@ -3,7 +3,7 @@ use Rattle.std.proofs.lemmas.Bool.Decides.{Decides-eqb}
 use Rattle.std.specs.Prelude.{nat_eq}
 use Rattle.gf_tree.proofs.lemmas.stores.FoundKeys.{not_described}
 use Rattle.gf_tree.proofs.lemmas.reader.Steps.{found_outcome}
-use Rattle.gf_tree.proofs.reader.outcome.found.Goals as goal
+use Rattle.gf_tree.proofs.reader.outcome.known_outcome.Goals as goal
 
 pub returns-in-Some-clause-known : goal.returns-in-Some-clause-known
 returns-in-Some-clause-known c = found_outcome c.args.outcomes.now.known c.args.number
