@@ -90,7 +90,7 @@ fn tell_sets<P: ReceivePairs>(
     Ok(())
 }
 
-/// Those of a player by any number; he has no sets if the number is too large.
+/// Tells a pair for each set of a player. A player whose number does not fit in 32 bits has none.
 fn tell_player<P: ReceivePairs>(
     g: &Game<'_>,
     h: &Game<'_>,
@@ -162,7 +162,9 @@ fn tell_pairs<P: ReceivePairs>(g: &Game<'_>, h: &Game<'_>, to: &mut P) -> Result
 /// do the outcomes (this project's profile). Tables have no numbers. If the files do not mean the
 /// same, nothing is told.
 ///
-/// `AllocError` if memory runs out.
+/// # Errors
+///
+/// `AllocError` if memory is refused.
 pub fn pairs_between<P: ReceivePairs>(
     alloc: Global,
     a: &Meaning<'_>,
