@@ -23,8 +23,7 @@ use Rattle.gf_tree.proofs.lemmas.due.Answers.{personal_name, terminal_name}
 use Rattle.gf_tree.proofs.lemmas.due.Rows.{Stands, Answers, EndLaw, Law}
 use Rattle.gf_tree.proofs.lemmas.fronts.Codes.{BeginsBare, ReadsOn, Split, begins_number, begins_on}
 use Rattle.gf_tree.proofs.lemmas.fronts.Codes.{new_is, split}
-use Rattle.gf_tree.proofs.lemmas.fronts.Runs.{to_player, behind_number, due_is, goes_before}
-use Rattle.gf_tree.proofs.lemmas.fronts.Runs.{to_number}
+use Rattle.gf_tree.proofs.lemmas.fronts.Runs.{to_player, behind_number, goes_before, to_number}
 use Rattle.gf_tree.proofs.lemmas.fronts.Groups.{regroup}
 use Rattle.gf_tree.proofs.lemmas.runs.Places.{is_read}
 use Rattle.gf_tree.proofs.lemmas.runs.Tokens.{run_on, same_bytes, text_again, text_found}
@@ -89,7 +88,6 @@ node_name f h =
     let s = parts f (h.0, [], h.1) in
     let c = s.content in
     let g = s.goes_on in
-    let due = due_is c f.front [] h.0 g h.1 in
     let letter : (us : List Token) → run_tokens NodeDue c (f.front ++ us)
     ≡ then_run (node_letter c h.0) (run_on us) = grind arith in
     let k = node_named c g.read h.0 g.more (sym (letter g.more) ∙ g.reads) in

@@ -104,8 +104,6 @@ module _ (f : FileFront) (letter name : List ℕ) (more result : List Token)
     numbered (t ∷ u ∷ ts) description (Some d) is e parts here =
         let whole : t ∷ u ∷ (ts ++ more)
         ≡ Text d.name ∷ Opening ∷ ((is.0 ++ Closing ∷ []) ++ result) = cc (parts, is.1) in
-        let first = first_is t (Text d.name) (u ∷ (ts ++ more)) _ whole in
-        let second = first_is u Opening (ts ++ more) _ (ap (drop 1) whole) in
         let opened : f.front ≡ behind ++ Text d.name ∷ Opening ∷ ts = cc in
         elim (cut ts more is.0 (Closing ∷ result)
         (ap (drop 2) whole ∙ append_assoc is.0 (Closing ∷ []) result)) [
@@ -120,7 +118,6 @@ module _ (f : FileFront) (letter name : List ℕ) (more result : List Token)
         by opened [] k m = actions_place f bare behind ts [] is.0 player n d behind_is opened
             (append-nil ts ∙ k ∙ append-nil is.0) is.2 here
         by opened (v ∷ vs) k m =
-            let third = first_is v Closing (vs ++ more) result m in
             described (Text d.name ∷ Opening ∷ (is.0 ++ Closing ∷ [])) (Some d) vs
             (is.0, refl, is.2)
             (cc (append_assoc is.0 (Closing ∷ []) vs))
@@ -140,7 +137,6 @@ module _ (f : FileFront) (letter name : List ℕ) (more result : List Token)
       moves,
     )
     to_number (t ∷ ts) description o is e parts here =
-        let first = first_is t (Bare number) (ts ++ more) _ parts in
         numbered ts description o is
         (cc (append_assoc mover (Bare number ∷ []) ts))
         (ap (drop 1) parts) here
@@ -374,7 +370,6 @@ module _ (before more : List Token) (file : IsExtensiveFile (before ++ more)) wh
           (sym (e ∙ (λ i. headed says.letter tree.title (Opening ∷ (k ∙ append-nil names) i))))
           opened))
       all (t ∷ r) k m =
-          let first = first_is t Closing (r ++ more) (says.comment ++ says.nodes) m in
           behind_players r says.comment says.is_comment
           (cc (append_assoc names (Closing ∷ []) r)) (ap (drop 1) m)
 

@@ -194,8 +194,6 @@ module _ (f : FileFront) (bare : BeginsBare f.front) where
       IsInNode.OutcomeOpening n (behind, d.name, h, e ∙ (λ i. behind ++ first i ∷ []))
   outcome_place behind (t ∷ u ∷ ts) more description n (Some d) h e parts is here =
       let whole : t ∷ u ∷ (ts ++ more) ≡ Text d.name ∷ Opening ∷ (is.0 ++ Closing ∷ []) = cc in
-      let first = first_is t (Text d.name) (u ∷ (ts ++ more)) _ whole in
-      let second = first_is u Opening (ts ++ more) _ (ap (drop 1) whole) in
       let opened : f.front ≡ behind ++ Text d.name ∷ Opening ∷ ts = cc in
       elim (cut ts more is.0 (Closing ∷ []) (ap (drop 2) whole)) [
         | inl k ↦ payoffs_place behind ts k.0 is.0 n d h opened (sym k.1) is.2 here
@@ -207,7 +205,6 @@ module _ (f : FileFront) (bare : BeginsBare f.front) where
       by opened [] k m = payoffs_place behind ts [] is.0 n d h opened
           (append-nil ts ∙ k ∙ append-nil is.0) is.2 here
       by opened (v ∷ vs) k m =
-          let third = first_is v Closing (vs ++ more) [] m in
           let end = none_left vs more (ap (drop 1) m) in
           let listed = behind ++ Text d.name ∷ Opening ∷ is.0 in
           IsInNode.AfterNode (inr (

@@ -66,8 +66,6 @@ nodes_plain : (players : ℕ) (nodes : List FileNode) (tokens us : List Token)
 nodes_plain players [] tokens us h plain l others e =
     plain l others (ap (λ (ts : List Token). ts ++ us) (sym h) ∙ e)
 nodes_plain players (n ∷ nodes) tokens us h plain l others e =
-    let whole : tokens ++ us
-    ≡ Bare h.3.letter ∷ (Text n.name ∷ ((h.3.step ++ h.3.result) ++ h.1)) ++ us = cc in
     absurd cc
 
 module _ (n : FileNode) (nodes : List FileNode) (tokens first others rest : List Token)

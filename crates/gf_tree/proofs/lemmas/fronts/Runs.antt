@@ -175,7 +175,6 @@ new_front (a ∷ actions) zero inner more name n set sum c r fraction high each 
     let all : with_actions (with_action set a.label (Some s.probability)) actions
     ≡ with_actions set (a ∷ actions) =
     cc (more_actions set a.label (Some s.probability) actions, same, is) in
-    let given : a.probability ≡ Some s.probability = cc (each.3.4, same) in
     grind arith
 new_front (a ∷ actions) (suc player) inner more name n set sum c r fraction high each e =
     let key = set_of (suc player) n in

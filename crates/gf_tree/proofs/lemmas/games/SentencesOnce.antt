@@ -84,7 +84,6 @@ steps_once letter letter' (Some u) (Some v) first first' rest rest' l h k n m e 
     (cc (append_assoc h.0 (Bare h.1 ∷ h.2) rest, whole, append_assoc k.0 (Bare k.1 ∷ k.2) rest')) in
     let behind = mover.1 in
     let bytes : h.1 ≡ k.1 = cc in
-    let number = indices_once h.1 k.1 u.key.number v.key.number bytes h.5.0 k.5.0 in
     let described = subst (λ p. IsDescription (IsInformationSet p) h.2 u.description) mover.0 h.6 in
     let d = descriptions_once (IsInformationSet v.key.player) (sets_agree v.key.player)
     (sets_begin v.key.player) u.description v.description h.2 k.2 rest rest' described k.6 n m

@@ -132,8 +132,6 @@ found_set known key place name actions at named acts = by (slice_get known place
     by None is = let none : None ≡ Some name = rw is at named in absurd cc
     by (Some s) is =
         let parts = set_in_parts (slice_get known place) name actions named acts in
-        let set : Some s.description ≡ Some (set_with name actions) = cc (is, parts) in
-        let one : s.description ≡ set_with name actions = cc in
         let key_is = key_at same_set same_set_equality key known place s at is in
         record {
           described = described_at same_set same_set_equality key known place at ∙ parts;

@@ -221,7 +221,6 @@ new_again (a ∷ actions) (suc player) inner rest name n set sum c fraction each
     λ i. record { label = a.label; probability = each.3.1 i } in
     let all : with_actions (with_action set a.label None) actions ≡ with_actions set (a ∷ actions) =
     cc (more_actions set a.label None actions) in
-    let first : inner ++ Closing ∷ rest ≡ Text a.label ∷ (each.1 ++ Closing ∷ rest) = cc in
     let more = subst (λ (t : InformationSet). 0 < length t.actions) (sym all) some in
     cc (new_again actions (suc player) each.1 rest name n (with_action set a.label None) sum c
     fraction each.4 h.1 more)

@@ -1,6 +1,6 @@
 -- Where the machine of the reader has refused nothing, some extensive file goes on.
-use Rattle.gf_tree.proofs.Common.{◌≡◌, ℕ, ◌<◌, ◌≤◌, List, [], ◌∷◌, ◌++◌, length, Result, Ok}
-use Rattle.gf_tree.proofs.Common.{Err, sym, subst, ◌∙◌, append_assoc, append-nil, arith, inl, inr}
+use Rattle.gf_tree.proofs.Common.{◌≡◌, ℕ, ◌<◌, ◌≤◌, List, [], ◌∷◌, ◌++◌, length, Result, Ok, Err}
+use Rattle.gf_tree.proofs.Common.{sym, subst, ◌∙◌, append_assoc, append-nil, arith, inl, inr}
 use Rattle.gf_tree.proofs.Common.{Lexeme, Spells, tokens_of, Begins, IsAccepted, Fault, Span}
 use Rattle.gf_tree.proofs.Common.{Remaining, IsExtensiveFile, Content, Position, nothing, run}
 use Rattle.gf_tree.proofs.Common.{Format}

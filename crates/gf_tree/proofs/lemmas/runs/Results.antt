@@ -200,7 +200,6 @@ behind_again tokens rest b u outcomes c is none (inl h) = by u.description is h.
         ≡ run_tokens NodeDue (with_node (with_outcomes c outcomes) b (Some u.key)) rest
     by None is told = absurd cc
     by (Some d) is told =
-        let same : d ≡ h.description = cc in
         let text : tokens ++ rest ≡ Text d.name ∷ Opening ∷ (is.0 ++ Closing ∷ rest) =
         cc (append_assoc is.0 (Closing ∷ []) rest) in
         cc (new_again d.payoffs is.0 rest b u.key (record { name = d.name; payoffs = [] }) c is.2

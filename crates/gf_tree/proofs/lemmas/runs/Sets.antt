@@ -202,7 +202,6 @@ behind_again tokens rest t name u sets set c is good known (inl h) = by u.descri
         let behind : List Token = is.0 ++ Closing ∷ (Bare t ∷ rest) in
         let text : tokens ++ Bare t ∷ rest ≡ Text d.name ∷ Opening ∷ behind =
         cc (append_assoc is.0 (Closing ∷ []) (Bare t ∷ rest)) in
-        let all : c.sets ++ one u.key d ∷ [] ≡ sets = cc in
         let again = new_again d.actions u.key.player is.0 (Bare t ∷ rest) name u.key.number
         (record { name = d.name; actions = [] }) (whole (pos 0)) c zero_fraction is.2
         (are_others u.key.player d.actions good_set.actions) good_set.some_action in

@@ -171,7 +171,6 @@ module _ (g : Game) (game : IsGame g) (lists : List (List ℕ)) (outcomes : List
       let r = listed_at place n h
       (ap (λ (ss : List (Described SetKey InformationSet)). number_among ss place) (sym e) ∙ a) in
       let key : Some r.set.key ≡ Some (set_of player number) = grind arith in
-      let his : r.set.key.player ≡ player = ap (λ (x : SetKey). x.player) (same_Some _ _ key) in
       let items_are : items ≡ get_or lists r.set.key.player [] = grind arith in
       record {
         positive = r.positive;
