@@ -71,30 +71,30 @@ fn paid_nodes(
     Ok(nodes)
 }
 
-/// Nodes in order of demands, with neighbours that differ in weight alone as one.
-fn summed(alloc: Global, nodes: &[Reached]) -> Result<Vec<Reached>, AllocError>
-    requires { IsNonDecreasingBy (λ (r : Reached). r.path.demands) nodes.now }
-    ensures shares { IfOk result (λ sums. HaveSharesOf nodes.now sums.items) }
-    ensures ordered { IfOk result
-        (λ sums. IsNonDecreasingBy (λ (r : Reached). r.path.demands) sums.items) }
+/// Adds up neighbours that differ in weight alone, among nodes in order of demands.
+fn add_up(nodes: &mut Vec<Reached>)
+    requires { IsNonDecreasingBy (λ (r : Reached). r.path.demands) nodes.old.items }
+    ensures shares { HaveSharesOf nodes.old.items nodes.new.items }
+    ensures ordered { IsNonDecreasingBy (λ (r : Reached). r.path.demands) nodes.new.items }
 {
-    let mut sums = Vec::new(alloc);
     if nodes.is_empty() {
-        return Ok(sums);
+        return;
     }
     let mut last = nodes[0];
+    let mut count = 0;
     for place in 1..nodes.len() {
         let node = nodes[place];
         match last.joined(node) {
             Some(sum) => last = sum,
             None => {
-                sums.push(last)?;
+                nodes[count] = last;
+                count += 1;
                 last = node;
             }
         }
     }
-    sums.push(last)?;
-    Ok(sums)
+    nodes[count] = last;
+    nodes.truncate(count + 1);
 }
 
 /// These nodes in order of demands, with those that differ in weight alone as one.
@@ -111,5 +111,6 @@ pub(crate) fn paid_sums(
 {
     let mut nodes = paid_nodes(alloc, game, digits, payoffs)?;
     nodes.sort_unstable_by_key(|node| node.order());
-    summed(alloc, &nodes)
+    add_up(&mut nodes);
+    Ok(nodes)
 }

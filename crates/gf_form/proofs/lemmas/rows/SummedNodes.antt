@@ -1,13 +1,14 @@
 -- Nodes that differ in weight alone have the shares of their sum.
 use Rattle.std.proofs.Common.{◌≡◌, ℕ, ℤ, pos, ◌+◌, ◌-◌, ◌*◌, ◌<◌, ◌≤◌, ◌*ℤ◌, Bool, true, false}
 use Rattle.std.proofs.Common.{List, [], ◌∷◌, ◌++◌, arith, refl, ap, sym, subst, ◌∙◌, get_or, length}
-use Rattle.std.proofs.Common.{suc, take}
+use Rattle.std.proofs.Common.{set, suc, take}
 use Rattle.std.specs.Prelude.{◌+ℤ◌, if◌then◌else◌, unsigned_abs}
 use Rattle.std.specs.List.Sorted.{IsNonDecreasingBy, IsPermutation}
 use Rattle.std.proofs.Math.Nat.{mod-lt}
-use Rattle.std.proofs.Math.Seq.{get_or-append_seam}
+use Rattle.std.proofs.Math.Seq.{get_or-append_seam, take-length}
 use Rattle.std.proofs.lemmas.Int.{ints}
-use Rattle.std.proofs.lemmas.List.{append_assoc, length-append, take_more}
+use Rattle.std.proofs.lemmas.List.{append_assoc, get_or_default, get_or-set_other, length-append}
+use Rattle.std.proofs.lemmas.List.{length-set, take_more, take_more_set}
 use Rattle.std.proofs.lemmas.List.Elements.{All-from_recursion, recursion_from_All}
 use Rattle.std.proofs.lemmas.List.Sorted.{All-permutation, IsNonDecreasingBy-push}
 use Rattle.std.proofs.lemmas.List.Sorted.{IsPermutation-sym}
@@ -185,6 +186,78 @@ module _ (rs : List Reached) (sorted : IsNonDecreasingBy demands_of rs) where
           omega (arith, before.next less, ap demands_of there);
       next = up at;
     }
+
+-- the same, where the sums but the last are kept in place of the nodes that are done
+pub record AddingUp (rs : List Reached) (at count : ℕ) (now : List Reached) (last : Reached)
+    : Type 0 where
+  pub summing : Summing rs at (take count now) last
+  pub left : (k : ℕ) (d : Reached) → at ≤ k → get_or now k d ≡ get_or rs k d
+  pub room : count < at
+  pub within : at ≤ length rs
+  pub length_is : length now ≡ length rs
+
+take_none : (rs : List Reached) → take 0 rs ≡ []
+take_none [] = refl
+take_none (r ∷ rs) = refl
+
+module _ (rs : List Reached) (sorted : IsNonDecreasingBy demands_of rs) where
+  pub first_adding : 0 < length rs → (r : Reached) → r ≡ get_or rs 0 r → AddingUp rs 1 0 rs r
+  first_adding some r is = record {
+    summing = subst (λ (ns : List Reached). Summing rs 1 ns r) (sym (take_none rs))
+        (subst (Summing rs 1 []) (sym (is ∙ get_or_default rs 0 r no_node some))
+        (first_summed rs sorted some));
+    left = λ k d more. refl;
+    room = omega arith;
+    within = omega (arith, some);
+    length_is = refl;
+  }
+
+  module _ (at : ℕ) (less : at < length rs) (count : ℕ) (now : List Reached)
+      (last : Reached) (before : AddingUp rs at count now last)
+      (node : Reached) (read : node ≡ get_or now at node) where
+    there : node ≡ node_at rs at
+    there = read ∙ before.left at node (omega arith) ∙ get_or_default rs at node no_node less
+
+    pub last_grows : (sum : Reached) → IsNodeSum last node sum → AddingUp rs (at + 1) count now sum
+    last_grows sum h = record {
+      summing = one_added rs sorted at less (take count now) last before.summing sum
+          (subst (λ (n : Reached). IsNodeSum last n sum) there h);
+      left = λ k d more. before.left k d (omega (arith, more));
+      room = omega (arith, before.room);
+      within = omega (arith, less);
+      length_is = before.length_is;
+    }
+
+    pub last_is_kept : AddingUp rs (at + 1) (count + 1) (set now count last) node
+    last_is_kept = record {
+      summing = subst (λ (ns : List Reached). Summing rs (at + 1) ns node)
+          (sym (take_more_set now count last (omega (arith, before.room, less, before.length_is))))
+          (subst (Summing rs (at + 1) (take count now ++ last ∷ [])) (sym there)
+          (one_apart rs sorted at less (take count now) last before.summing));
+      left = λ k d more. get_or-set_other now count k last d
+          (λ e. omega (arith, e, more, before.room)) ∙ before.left k d (omega (arith, more));
+      room = omega (arith, before.room);
+      within = omega (arith, less);
+      length_is = length-set now count last ∙ before.length_is;
+    }
+
+pub all_added : (rs : List Reached) (at count : ℕ) (now : List Reached) (last : Reached)
+    → AddingUp rs at count now last → length rs ≤ at
+    → HaveSharesOf rs (take (count + 1) (set now count last))
+    × IsNonDecreasingBy demands_of (take (count + 1) (set now count last))
+all_added rs at count now last done end =
+    let kept : take (count + 1) (set now count last) ≡ take count now ++ last ∷ [] =
+    take_more_set now count last (omega (arith, done.room, done.within, done.length_is)) in
+    let whole : take at rs ≡ rs =
+    (let all : at ≡ length rs = omega (arith, done.within, end) in
+    ap (λ (n : ℕ). take n rs) all ∙ take-length rs) in
+    let s = done.summing in (
+      subst (HaveSharesOf rs) (sym kept)
+          (subst (λ (ns : List Reached). HaveSharesOf ns (take count now ++ last ∷ [])) whole
+          s.shares),
+      subst (IsNonDecreasingBy demands_of) (sym kept)
+          (IsNonDecreasingBy-push demands_of (take count now) last s.ordered s.ends),
+    )
 
 -- ---- terms
 
