@@ -20,6 +20,18 @@ fn are_zero(numbers: &[i128]) -> bool
 }
 
 impl Terms {
+    /// Whether some of these terms add nothing.
+    fn have_zeros(&self) -> bool
+        requires shaped { IsShaped self.now }
+    {
+        for place in 0..self.heads.len() {
+            if are_zero(self.row(place)) {
+                return true;
+            }
+        }
+        false
+    }
+
     /// Those of these terms that add something, if all fit together over one denominator; else all.
     pub(crate) fn paying(self, alloc: Global) -> Result<Terms, AllocError>
         requires shaped { IsShaped self }
@@ -29,7 +41,7 @@ impl Terms {
         ensures ordered { IfOk result AreOrdered }
         ensures players { IfOk result (λ left. left.players ≡ self.players) }
     {
-        if self.heads.is_empty() || !self.fit_over(self.heads[0].den) {
+        if !self.have_zeros() || self.heads.is_empty() || !self.fit_over(self.heads[0].den) {
             return Ok(self);
         }
         let mut left = Terms::new(alloc, self.players);
