@@ -14,8 +14,9 @@ use Rattle.std.proofs.lemmas.Nat.Gcd.{dvd_trans}
 use Rattle.gf_fraction.proofs.AllElements.{all_both, all_parts}
 use Rattle.gf_fraction.proofs.Integers.{*ℤ_assoc, add-*ℤ}
 use Rattle.gf_form.specs.inner.rows.Demands.{meets}
-use Rattle.gf_form.specs.inner.rows.Entries.{AreExactAt, AreMerged, Entry, IsExactAt, IsSumOf}
-use Rattle.gf_form.specs.inner.rows.Entries.{lowered, number_at, size_of_entries, sum_of_entries}
+use Rattle.gf_form.specs.inner.rows.Entries.{AreExactAt, AreMerged, ComeTo, Entry, IsExactAt}
+use Rattle.gf_form.specs.inner.rows.Entries.{IsSumOf, lowered, number_at, size_of_entries}
+use Rattle.gf_form.specs.inner.rows.Entries.{sum_of_entries}
 use Rattle.gf_form.proofs.lemmas.rows.OverOneDenominator.{quotient_through}
 
 and_false : (b : Bool) → (b && false) ≡ false
@@ -243,6 +244,16 @@ abbrev pub IsOther : ℕ → ℕ → Entry → Type 0
 IsOther step action e = (step ≤ e.head.demands)
     × (e.head.demands < action * step ⊎ action * step + step ≤ e.head.demands)
 
+abbrev demanding : (Entry → ℕ) → Entry → Entry
+demanding d e = record {
+  head = record { demands = d e; den = e.head.den; size = e.head.size };
+  row = e.row;
+}
+
+map_same : (es : List Entry) → map (demanding (λ e. e.head.demands)) es ≡ es
+map_same [] = refl
+map_same (e ∷ es) = ap (λ (xs : List Entry). e ∷ xs) (map_same es)
+
 module _ (step action : ℕ) (steps choices : List ℕ) where
   free_met : (e : Entry) → IsFree step e
       → meets (step ∷ steps) (action ∷ choices) e.head.demands
@@ -275,77 +286,41 @@ module _ (step action : ℕ) (steps choices : List ℕ) where
       le-ltb e.head.demands (action * step + step) after in
       rw (far, past, and_false (nat_le (action * step) e.head.demands)) refl
 
-  module _ (den : ℕ) where
-    free_exact : (es : List Entry) → AllByRecursion (IsFree step) es
-        → AreExactAt den steps choices es
-        → AreExactAt den (step ∷ steps) (action ∷ choices) es
-    free_exact [] free h = tt
-    free_exact (e ∷ es) free h =
-        (λ met. h.0 (sym (free_met e free.0) ∙ met), free_exact es free.1 h.1)
+  module _ (den : ℕ) (P : Entry → Type 0) where
+    abbrev Come : List Entry → List Entry → Type 0
+    Come es others = ComeTo den (step ∷ steps) (action ∷ choices) es steps choices others
 
-    free_sum : (k : ℕ) (es : List Entry) → AllByRecursion (IsFree step) es
-        → sum_of_entries k den (step ∷ steps) (action ∷ choices) es
-        ≡ sum_of_entries k den steps choices es
-    free_sum k [] free = refl
-    free_sum k (e ∷ es) free =
-        λ i. (if free_met e free.0 i then number_at k e *ℤ pos (den / e.head.den) else pos 0)
-        +ℤ free_sum k es free.1 i
+    -- the same terms with other demands that are met as theirs are
+    come_same : (d : Entry → ℕ)
+        → ((e : Entry) → P e → meets (step ∷ steps) (action ∷ choices) e.head.demands
+        ≡ meets steps choices (d e)) → (es : List Entry) → AllByRecursion P es
+        → AreExactAt den steps choices (map (demanding d) es) → Come es (map (demanding d) es)
+    come_same d met [] all h = record { exact = tt; sums = λ k. refl; sizes = omega arith }
+    come_same d met (e ∷ es) all h =
+        let same = met e all.0 in
+        let rest = come_same d met es all.1 h.1 in
+        let size = ap (λ (b : Bool). if b then e.head.size * (den / e.head.den) else 0) same in
+        record {
+          exact = ((λ is. h.0 (sym same ∙ is)), rest.exact);
+          sums = λ k i. (if same i then number_at k e *ℤ pos (den / e.head.den) else pos 0)
+              +ℤ rest.sums k i;
+          sizes = omega (arith, size, rest.sizes);
+        }
 
-    free_size : (es : List Entry) → AllByRecursion (IsFree step) es
-        → size_of_entries den (step ∷ steps) (action ∷ choices) es
-        ≡ size_of_entries den steps choices es
-    free_size [] free = refl
-    free_size (e ∷ es) free =
-        λ i. (if free_met e free.0 i then e.head.size * (den / e.head.den) else 0)
-        + free_size es free.1 i
-
-    abbrev low : List Entry → List Entry
-    low es = map (lowered (action * step)) es
-
-    own_exact : 1 ≤ action → (es : List Entry) → AllByRecursion (IsOwn step action) es
-        → AreExactAt den steps choices (map (lowered (action * step)) es)
-        → AreExactAt den (step ∷ steps) (action ∷ choices) es
-    own_exact some [] own h = tt
-    own_exact some (e ∷ es) own h =
-        (λ met. h.0 (sym (own_met e some own.0) ∙ met), own_exact some es own.1 h.1)
-
-    own_sum : 1 ≤ action → (k : ℕ) (es : List Entry) → AllByRecursion (IsOwn step action) es
-        → sum_of_entries k den (step ∷ steps) (action ∷ choices) es
-        ≡ sum_of_entries k den steps choices (map (lowered (action * step)) es)
-    own_sum some k [] own = refl
-    own_sum some k (e ∷ es) own =
-        λ i. (if own_met e some own.0 i then number_at k e *ℤ pos (den / e.head.den) else pos 0)
-        +ℤ own_sum some k es own.1 i
-
-    own_size : 1 ≤ action → (es : List Entry) → AllByRecursion (IsOwn step action) es
-        → size_of_entries den (step ∷ steps) (action ∷ choices) es
-        ≡ size_of_entries den steps choices (map (lowered (action * step)) es)
-    own_size some [] own = refl
-    own_size some (e ∷ es) own =
-        λ i. (if own_met e some own.0 i then e.head.size * (den / e.head.den) else 0)
-        + own_size some es own.1 i
-
-    other_exact : (es : List Entry) → AllByRecursion (IsOther step action) es
-        → AreExactAt den (step ∷ steps) (action ∷ choices) es
-    other_exact [] other = tt
-    other_exact (e ∷ es) other = (
-      λ met. let no = other_unmet e other.0 in absurd (false_true (sym no ∙ met)),
-      other_exact es other.1,
-    )
-
-    other_sum : (k : ℕ) (es : List Entry) → AllByRecursion (IsOther step action) es
-        → sum_of_entries k den (step ∷ steps) (action ∷ choices) es ≡ pos 0
-    other_sum k [] other = refl
-    other_sum k (e ∷ es) other =
-        λ i. (if other_unmet e other.0 i
-        then number_at k e *ℤ pos (den / e.head.den) else pos 0) +ℤ other_sum k es other.1 i
-
-    other_size : (es : List Entry) → AllByRecursion (IsOther step action) es
-        → size_of_entries den (step ∷ steps) (action ∷ choices) es ≡ 0
-    other_size [] other = refl
-    other_size (e ∷ es) other =
-        λ i. (if other_unmet e other.0 i then e.head.size * (den / e.head.den) else 0)
-        + other_size es other.1 i
+    come_none : ((e : Entry) → P e
+        → meets (step ∷ steps) (action ∷ choices) e.head.demands ≡ false) → (es : List Entry)
+        → AllByRecursion P es → Come es []
+    come_none unmet [] all = record { exact = tt; sums = λ k. refl; sizes = omega arith }
+    come_none unmet (e ∷ es) all =
+        let no = unmet e all.0 in
+        let rest = come_none unmet es all.1 in
+        let size = ap (λ (b : Bool). if b then e.head.size * (den / e.head.den) else 0) no in
+        record {
+          exact = ((λ is. absurd (false_true (sym no ∙ is))), rest.exact);
+          sums = λ k i. (if no i then number_at k e *ℤ pos (den / e.head.den) else pos 0)
+              +ℤ rest.sums k i;
+          sizes = omega (arith, size, rest.sizes);
+        }
 
 -- the four ranges of the terms
 pub record Ranges (step action : ℕ) (terms free between own rest : List Entry) : Type 0 where
@@ -360,37 +335,43 @@ pub first_parts : (step action : ℕ) (terms free between own rest : List Entry)
     → Merging step action terms [] free (map (lowered (action * step)) own)
 first_parts step action terms free between own rest some ranges den steps choices none exact_free
     exact_own =
-    let all = free ++ (between ++ (own ++ rest)) in
+    let both = all_both (IsExactAt den (step ∷ steps) (action ∷ choices)) in
+    let sum = λ (k : ℕ). sum_append den (step ∷ steps) (action ∷ choices) k in
+    let size = size_append den (step ∷ steps) (action ∷ choices) in
+    let come = come_same step action steps choices den in
+    let other = come_none step action steps choices den (IsOther step action)
+    (other_unmet step action steps choices) in
+    let frees = subst (Come step action steps choices den (IsFree step) free) (map_same free)
+    (come (IsFree step) (λ e. e.head.demands) (free_met step action steps choices) free
+    ranges.are_free (subst (AreExactAt den steps choices) (sym (map_same free)) exact_free)) in
+    let betweens = other between ranges.are_between in
+    let owns = come (IsOwn step action) (λ e. e.head.demands - action * step)
+    (λ e. own_met step action steps choices e some) own ranges.are_own exact_own in
+    let rests = other rest ranges.are_rest in
     subst (λ (es : List Entry). Parts den step action steps choices es [] free
     (map (lowered (action * step)) own)) (sym ranges.joined) (record {
-      exact = all_both (IsExactAt den (step ∷ steps) (action ∷ choices)) free
-          (between ++ (own ++ rest))
-          (free_exact step action steps choices den free ranges.are_free exact_free)
-          (all_both (IsExactAt den (step ∷ steps) (action ∷ choices)) between (own ++ rest)
-          (other_exact step action steps choices den between ranges.are_between)
-          (all_both (IsExactAt den (step ∷ steps) (action ∷ choices)) own rest
-          (own_exact step action steps choices den some own ranges.are_own exact_own)
-          (other_exact step action steps choices den rest ranges.are_rest)));
+      exact = both free (between ++ (own ++ rest)) frees.exact
+          (both between (own ++ rest) betweens.exact (both own rest owns.exact rests.exact));
       sums = λ k. omega (
         arith,
         ints,
-        sum_append den (step ∷ steps) (action ∷ choices) k free (between ++ (own ++ rest)),
-        sum_append den (step ∷ steps) (action ∷ choices) k between (own ++ rest),
-        sum_append den (step ∷ steps) (action ∷ choices) k own rest,
-        free_sum step action steps choices den k free ranges.are_free,
-        other_sum step action steps choices den k between ranges.are_between,
-        own_sum step action steps choices den some k own ranges.are_own,
-        other_sum step action steps choices den k rest ranges.are_rest,
+        sum k free (between ++ (own ++ rest)),
+        sum k between (own ++ rest),
+        sum k own rest,
+        frees.sums k,
+        betweens.sums k,
+        owns.sums k,
+        rests.sums k,
       );
       sizes = omega (
         arith,
-        size_append den (step ∷ steps) (action ∷ choices) free (between ++ (own ++ rest)),
-        size_append den (step ∷ steps) (action ∷ choices) between (own ++ rest),
-        size_append den (step ∷ steps) (action ∷ choices) own rest,
-        free_size step action steps choices den free ranges.are_free,
-        other_size step action steps choices den between ranges.are_between,
-        own_size step action steps choices den some own ranges.are_own,
-        other_size step action steps choices den rest ranges.are_rest,
+        size free (between ++ (own ++ rest)),
+        size between (own ++ rest),
+        size own rest,
+        frees.sizes,
+        betweens.sizes,
+        owns.sizes,
+        rests.sizes,
       );
     })
 

@@ -218,12 +218,60 @@ module _ (from : Terms) (step action lowest free_end own_end free own : ℕ) (to
     (sorted : AreOrdered from)
     (before : Merges from step action lowest free_end own_end free own to)
     (players : after.players ≡ to.players) (shaped : IsShaped after) where
+  abbrev frees : ℕ → List Entry
+  frees i = part i free_end (entries from)
+
+  abbrev owns : ℕ → List Entry
+  owns i = map (lowered lowest) (part i own_end (entries from))
+
+  abbrev Made : List Entry → List Entry → List Entry → Type 0
+  Made = Merging step action (entries from)
+
   count_from : length (entries from) ≡ length from.heads.items
   count_from = entries_count from.players from.heads.items from.numbers.items
 
-  rises : (k n : ℕ) → k ≤ n → n < length from.heads.items
-      → (head_at from k).demands ≤ (head_at from n).demands
-  rises k n le less = sorted k n no_head le less
+  rises : (k end : ℕ) → k + 1 < end → end ≤ length from.heads.items
+      → (head_at from k).demands ≤ (head_at from (k + 1)).demands
+  rises k end less within = sorted k (k + 1) no_head (omega arith) (omega (arith, less, within))
+
+  first_free : free < free_end → frees free ≡ entry_at from free ∷ frees (free + 1)
+  first_free less =
+      part_next (entries from) free free_end less (omega (arith, count_from, before.free_within))
+
+  first_own : own < own_end → owns own ≡ lowered lowest (entry_at from own) ∷ owns (own + 1)
+  first_own less =
+      ap (map (lowered lowest))
+      (part_next (entries from) own own_end less (omega (arith, count_from, before.own_within)))
+
+  free_demands : free < free_end
+      → (entry_at from free).head.demands ≡ (head_at from free).demands
+  free_demands less = ap (λ (h : Head). h.demands)
+      (entry_head from free (omega (arith, less, before.free_within)))
+
+  own_demands : own < own_end → (entry_at from own).head.demands ≡ (head_at from own).demands
+  own_demands less = ap (λ (h : Head). h.demands)
+      (entry_head from own (omega (arith, less, before.own_within)))
+
+  -- one more term, and the places of those that are next
+  one_more : (next_free next_own : ℕ) (h : Head) → own ≤ next_own
+      → after.heads.items ≡ to.heads.items ++ h ∷ []
+      → Made (entries after) (frees next_free) (owns next_own) → EndsBelow to.heads.items h.demands
+      → (next_free < free_end → h.demands ≤ (head_at from next_free).demands)
+      → (next_own < own_end → h.demands ≤ (head_at from next_own).demands - lowest)
+      → Merges from step action lowest free_end own_end next_free next_own after
+  one_more next_free next_own h on heads merging ends below_free below_own = record {
+    merging = merging;
+    shaped = shaped;
+    players = players ∙ before.players;
+    ordered = ordered_more to.heads.items after.heads.items h heads before.ordered ends;
+    free_next = λ next. below_more to.heads.items after.heads.items h
+        (head_at from next_free).demands heads (below_free next);
+    own_next = λ next. below_more to.heads.items after.heads.items h
+        ((head_at from next_own).demands - lowest) heads (below_own next);
+    own_least = λ k at. before.own_least k (omega (arith, at, on));
+    free_within = before.free_within;
+    own_within = before.own_within;
+  }
 
   pub free_goes : free < free_end
       → (own < own_end → (head_at from free).demands ≤ (head_at from own).demands - lowest)
@@ -232,40 +280,16 @@ module _ (from : Terms) (step action lowest free_end own_end free own : ℕ) (to
       → Merges from step action lowest free_end own_end (free + 1) own after
   free_goes less first is heads =
       let t = entry_at from free in
-      let there : free < length from.heads.items = omega (arith, less, before.free_within) in
-      let h : t.head ≡ head_at from free = entry_head from free there in
-      let low : (lowered 0 t).head ≡ head_at from free =
-      ap (λ (e : Entry). e.head) (lowered_none t) ∙ h in
-      let demands : (lowered 0 t).head.demands ≡ (head_at from free).demands =
-      ap (λ (g : Head). g.demands) low in
-      record {
-        merging = subst (λ (left : List Entry). Merging step action (entries from) left
-            (part (free + 1) free_end (entries from))
-            (map (lowered lowest) (part own own_end (entries from))))
-            (sym (is ∙ ap (λ (e : Entry). entries to ++ e ∷ []) (lowered_none t)))
-            (take_free step action (entries from) (entries to)
-            (part (free + 1) free_end (entries from))
-            (map (lowered lowest) (part own own_end (entries from))) t
-            (subst (λ (more : List Entry). Merging step action (entries from) (entries to) more
-            (map (lowered lowest) (part own own_end (entries from))))
-            (part_next (entries from) free free_end less
-            (omega (arith, count_from, before.free_within))) before.merging));
-        shaped = shaped;
-        players = players ∙ before.players;
-        ordered = ordered_more to.heads.items after.heads.items (lowered 0 t).head heads
-            before.ordered
-            (λ d some. let le = before.free_next less d some in omega (arith, le, demands));
-        free_next = λ next. below_more to.heads.items after.heads.items (lowered 0 t).head
-            (head_at from (free + 1)).demands heads
-            (let le = rises free (free + 1) (omega arith)
-            (omega (arith, next, before.free_within)) in omega (arith, le, demands));
-        own_next = λ next. below_more to.heads.items after.heads.items (lowered 0 t).head
-            ((head_at from own).demands - lowest) heads
-            (let le = first next in omega (arith, le, demands));
-        own_least = before.own_least;
-        free_within = before.free_within;
-        own_within = before.own_within;
-      }
+      let demands = free_demands less in
+      one_more (free + 1) own (lowered 0 t).head (omega arith) heads
+      (subst (λ (made : List Entry). Made made (frees (free + 1)) (owns own))
+      (sym (is ∙ ap (λ (e : Entry). entries to ++ e ∷ []) (lowered_none t)))
+      (take_free step action (entries from) (entries to) (frees (free + 1)) (owns own) t
+      (subst (λ (more : List Entry). Made (entries to) more (owns own)) (first_free less)
+      before.merging)))
+      (λ d some. let le = before.free_next less d some in omega (arith, le, demands))
+      (λ next. let le = rises free free_end next before.free_within in omega (arith, le, demands))
+      (λ next. let le = first next in omega (arith, le, demands))
 
   pub own_goes : own < own_end
       → (free < free_end → (head_at from own).demands - lowest ≤ (head_at from free).demands)
@@ -273,38 +297,15 @@ module _ (from : Terms) (step action lowest free_end own_end free own : ℕ) (to
       → after.heads.items ≡ to.heads.items ++ (lowered lowest (entry_at from own)).head ∷ []
       → Merges from step action lowest free_end own_end free (own + 1) after
   own_goes less first is heads =
-      let t = entry_at from own in
-      let there : own < length from.heads.items = omega (arith, less, before.own_within) in
-      let h : t.head ≡ head_at from own = entry_head from own there in
-      let demands : (lowered lowest t).head.demands ≡ (head_at from own).demands - lowest =
-      ap (λ (g : Head). g.demands - lowest) h in
-      record {
-        merging = subst (λ (left : List Entry). Merging step action (entries from) left
-            (part free free_end (entries from))
-            (map (lowered lowest) (part (own + 1) own_end (entries from)))) (sym is)
-            (take_own step action (entries from) (entries to)
-            (part free free_end (entries from))
-            (map (lowered lowest) (part (own + 1) own_end (entries from))) (lowered lowest t)
-            (subst (λ (others : List Entry). Merging step action (entries from) (entries to)
-            (part free free_end (entries from)) (map (lowered lowest) others))
-            (part_next (entries from) own own_end less
-            (omega (arith, count_from, before.own_within))) before.merging));
-        shaped = shaped;
-        players = players ∙ before.players;
-        ordered = ordered_more to.heads.items after.heads.items (lowered lowest t).head heads
-            before.ordered
-            (λ d some. let le = before.own_next less d some in omega (arith, le, demands));
-        free_next = λ next. below_more to.heads.items after.heads.items (lowered lowest t).head
-            (head_at from free).demands heads
-            (let le = first next in omega (arith, le, demands));
-        own_next = λ next. below_more to.heads.items after.heads.items (lowered lowest t).head
-            ((head_at from (own + 1)).demands - lowest) heads
-            (let le = rises own (own + 1) (omega arith)
-            (omega (arith, next, before.own_within)) in omega (arith, le, demands));
-        own_least = λ k at. before.own_least k (omega (arith, at));
-        free_within = before.free_within;
-        own_within = before.own_within;
-      }
+      let t = lowered lowest (entry_at from own) in
+      let demands = own_demands less in
+      one_more free (own + 1) t.head (omega arith) heads
+      (subst (λ (made : List Entry). Made made (frees free) (owns (own + 1))) (sym is)
+      (take_own step action (entries from) (entries to) (frees free) (owns (own + 1)) t
+      (subst (Made (entries to) (frees free)) (first_own less) before.merging)))
+      (λ d some. let le = before.own_next less d some in omega (arith, le, demands))
+      (λ next. let le = first next in omega (arith, le, demands))
+      (λ next. let le = rises own own_end next before.own_within in omega (arith, le, demands))
 
   pub both_go : free < free_end → own < own_end
       → (head_at from free).demands ≡ (head_at from own).demands - lowest
@@ -312,58 +313,31 @@ module _ (from : Terms) (step action lowest free_end own_end free own : ℕ) (to
       → (h : Head) → after.heads.items ≡ to.heads.items ++ h ∷ []
       → h.demands ≡ (entry_at from free).head.demands
       → Merges from step action lowest free_end own_end (free + 1) (own + 1) after
-  both_go free_less own_less same has h heads demands_are =
+  both_go free_less own_less same has h heads is =
       let t = entry_at from free in
-      let u = entry_at from own in
-      let there : free < length from.heads.items = omega (arith, free_less, before.free_within) in
-      let other : own < length from.heads.items = omega (arith, own_less, before.own_within) in
-      let first : t.head ≡ head_at from free = entry_head from free there in
-      let second : u.head ≡ head_at from own = entry_head from own other in
-      let demands : h.demands ≡ (head_at from free).demands =
-      demands_are ∙ ap (λ (g : Head). g.demands) first in
-      record {
-        merging = subst (λ (left : List Entry). Merging step action (entries from) left
-            (part (free + 1) free_end (entries from))
-            (map (lowered lowest) (part (own + 1) own_end (entries from)))) (sym has.is)
-            (take_both step action (entries from) (entries to)
-            (part (free + 1) free_end (entries from))
-            (map (lowered lowest) (part (own + 1) own_end (entries from))) t (lowered lowest u)
-            has.sum has.demands
-            (has.demands ∙ ap (λ (g : Head). g.demands) first ∙ same
-            ∙ sym (ap (λ (g : Head). g.demands - lowest) second))
-            (λ above. let s = has.adds above in record {
-              first = s.first;
-              first_divides = s.first_divides;
-              second = s.second;
-              second_divides = s.second_divides;
-              size = s.size;
-              numbers = s.numbers;
-            })
-            (subst (λ (more : List Entry). Merging step action (entries from) (entries to) more
-            (map (lowered lowest)
-            (get_or (entries from) own no_entry ∷ part (own + 1) own_end (entries from))))
-            (part_next (entries from) free free_end free_less
-            (omega (arith, count_from, before.free_within)))
-            (subst (λ (others : List Entry). Merging step action (entries from) (entries to)
-            (part free free_end (entries from)) (map (lowered lowest) others))
-            (part_next (entries from) own own_end own_less
-            (omega (arith, count_from, before.own_within))) before.merging)));
-        shaped = shaped;
-        players = players ∙ before.players;
-        ordered = ordered_more to.heads.items after.heads.items h heads before.ordered
-            (λ d some. let le = before.free_next free_less d some in omega (arith, le, demands));
-        free_next = λ next. below_more to.heads.items after.heads.items h
-            (head_at from (free + 1)).demands heads
-            (let le = rises free (free + 1) (omega arith)
-            (omega (arith, next, before.free_within)) in omega (arith, le, demands));
-        own_next = λ next. below_more to.heads.items after.heads.items h
-            ((head_at from (own + 1)).demands - lowest) heads
-            (let le = rises own (own + 1) (omega arith)
-            (omega (arith, next, before.own_within)) in omega (arith, le, demands, same));
-        own_least = λ k at. before.own_least k (omega (arith, at));
-        free_within = before.free_within;
-        own_within = before.own_within;
-      }
+      let u = lowered lowest (entry_at from own) in
+      let first = free_demands free_less in
+      let second = own_demands own_less in
+      let demands : h.demands ≡ (head_at from free).demands = is ∙ first in
+      one_more (free + 1) (own + 1) h (omega arith) heads
+      (subst (λ (made : List Entry). Made made (frees (free + 1)) (owns (own + 1))) (sym has.is)
+      (take_both step action (entries from) (entries to) (frees (free + 1)) (owns (own + 1)) t u
+      has.sum has.demands (omega (arith, has.demands, first, second, same))
+      (λ above. let s = has.adds above in record {
+        first = s.first;
+        first_divides = s.first_divides;
+        second = s.second;
+        second_divides = s.second_divides;
+        size = s.size;
+        numbers = s.numbers;
+      })
+      (subst (λ (more : List Entry). Made (entries to) more (u ∷ owns (own + 1)))
+      (first_free free_less)
+      (subst (Made (entries to) (frees free)) (first_own own_less) before.merging))))
+      (λ d some. let le = before.free_next free_less d some in omega (arith, le, demands))
+      (λ next. let le = rises free free_end next before.free_within in omega (arith, le, demands))
+      (λ next. let le = rises own own_end next before.own_within in
+      omega (arith, le, demands, same))
 
 pub last_merge : (from : Terms) (step action lowest free_end own_end free own : ℕ) (to : Terms)
     → Merges from step action lowest free_end own_end free own to → free_end ≤ free
