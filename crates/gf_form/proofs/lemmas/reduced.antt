@@ -1,4 +1,3 @@
-pub mod AlikeStrategies
 pub mod Apart
 pub mod Coming
 pub mod FirstNumbers
@@ -18,5 +17,6 @@ pub mod ReducedValues
 pub mod Reducing
 pub mod RelevantSets
 pub mod SameReduced
+pub mod Skips
 pub mod Surveys
 pub mod VisitsMet

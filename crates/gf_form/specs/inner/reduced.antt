@@ -1,9 +1,9 @@
-pub mod AlikeStrategies
 pub mod Comes
 pub mod Firsts
 pub mod Levels
 pub mod Relevance
 pub mod Shown
+pub mod Skips
 pub mod Survey
 pub mod TellsRelevance
 pub mod Visits

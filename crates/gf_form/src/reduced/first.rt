@@ -1,13 +1,11 @@
 //! The reduced strategies of a player. Among the strategies that reduce to the same one, only the
 //! first has the first action at each set that is not relevant under it.
 
-ghost use Rattle.std.specs.Prelude.{◌≡◌, ◌<◌, ◌≤◌, ◌^◌, IfOk, length, map};
+ghost use Rattle.std.specs.Prelude.{◌≡◌, ◌≤◌, IfOk, length, map};
 ghost use Rattle.gf_nfg.specs.Profiles.{product};
-ghost use Rattle.gf_form.specs.inner.reduced.AlikeStrategies.{AreAlike};
 ghost use Rattle.gf_form.specs.inner.strategies.Counted.{AreCounts};
 ghost use Rattle.gf_form.specs.inner.reduced.Firsts.{AreFirsts, AreFirstsOf};
 ghost use Rattle.gf_form.specs.Reduced.{reduced_labels};
-ghost use Rattle.gf_form.specs.inner.reduced.Shown.{chooses_first};
 ghost use Rattle.gf_form.specs.Strategies.{action_counts, players_of};
 
 use crate::reduced::labels::write_reduced_label;
@@ -18,38 +16,6 @@ use gf_nfg::Labels;
 use gf_token::Label;
 use gf_tree::Game;
 use std::alloc::{AllocError, Global};
-
-/// Whether a strategy has the first action at each set that is not relevant.
-fn is_first(relevant: &[bool], strategy: &[u32]) -> bool
-    requires { length relevant.now ≡ length strategy.now }
-    ensures { result ≡ chooses_first relevant.now strategy.now }
-{
-    for before in 0..strategy.len() {
-        if !relevant[before] && strategy[before] != 1 {
-            return false;
-        }
-    }
-    true
-}
-
-/// How many strategies, from this one on, have the same actions except at the last sets, if it has
-/// the first action there and these are not relevant under it. The same sets are relevant under all
-/// of them, so none of the others is the first of those that reduce to the same one.
-fn strategies_alike(counts: &[u32], relevant: &[bool], strategy: &[u32]) -> u32
-    requires flags { length relevant.now ≡ length counts.now }
-    requires actions { length strategy.now ≡ length counts.now }
-    requires some { 0 < product counts.now }
-    requires within { product counts.now < 2 ^ 32 }
-    ensures { AreAlike counts.now relevant.now strategy.now result }
-{
-    let mut alike = 1;
-    let mut from = counts.len();
-    while from > 0 && !relevant[from - 1] && strategy[from - 1] == 1 {
-        from -= 1;
-        alike *= counts[from];
-    }
-    alike
-}
 
 /// The numbers of the first strategies that reduce to each reduced strategy of a player, from 0,
 /// and the labels of the reduced ones. Each of his sets has this many actions, and he has `whole`
@@ -67,7 +33,7 @@ fn first_strategies(
     ensures labels { IfOk result (λ own. own.1 ≡ reduced_labels game.now player) }
 {
     let _players = game.players();
-    let mut relevance = Relevance::of_player(alloc, game, player, counts)?;
+    let mut relevance = Relevance::of_player(alloc, game, player, counts, whole)?;
     let mut strategy = Vec::with_capacity(alloc, counts.len())?;
     let mut relevant = Vec::with_capacity(alloc, counts.len())?;
     let mut text = Vec::new(alloc);
@@ -76,13 +42,15 @@ fn first_strategies(
     let mut number = 0;
     while number < whole {
         write_strategy(counts, whole, number, &mut strategy)?;
-        relevance.write_relevant(alloc, &strategy, &mut relevant)?;
-        if is_first(&relevant, &strategy) {
-            write_reduced_label(&relevant, &strategy, &mut text)?;
-            labels.push(Label::of_spelling(&text))?;
-            firsts.push(number)?;
+        match relevance.write_relevant(alloc, number, &strategy, &mut relevant)? {
+            Some(next) => number = next,
+            None => {
+                write_reduced_label(&relevant, &strategy, &mut text)?;
+                labels.push(Label::of_spelling(&text))?;
+                firsts.push(number)?;
+                number += 1;
+            }
         }
-        number += strategies_alike(counts, &relevant, &strategy);
     }
     Ok((firsts, labels))
 }

@@ -1,13 +1,14 @@
 //! Which visits of a player are left after his choices, level by level.
 
-ghost use Rattle.std.specs.Prelude.{◌≡◌, ◌≤◌, ◌<◌, ◌-◌, ◌^◌, ◌||◌, ◌⊎◌, suc, ℕ, [], false, true};
-ghost use Rattle.std.specs.Prelude.{IfOk, OnOk, get_or, length};
+ghost use Rattle.std.specs.Prelude.{◌≡◌, ◌≤◌, ◌<◌, ◌-◌, ◌^◌, ◌||◌, ◌⊎◌, suc, ℕ, List, [], false};
+ghost use Rattle.std.specs.Prelude.{IfOk, MatchOption, OnOk, get_or, length, true};
 ghost use Rattle.std.specs.List.{list_any};
-ghost use Rattle.gf_nfg.specs.Profiles.{numbers_from};
+ghost use Rattle.gf_nfg.specs.Profiles.{numbers_from, product};
 ghost use Rattle.gf_form.specs.inner.reduced.Levels.{AreHighest, AreLeft, AreLevels, IsLevels};
-ghost use Rattle.gf_form.specs.inner.reduced.Levels.{TellsMet};
+ghost use Rattle.gf_form.specs.inner.reduced.Levels.{IsFirst, IsShut, MovesMet, MovesUnmet};
 ghost use Rattle.gf_form.specs.inner.reduced.Levels.{is_made_at, is_made_to, is_settled_at};
-ghost use Rattle.gf_form.specs.inner.reduced.Levels.{is_unknown, last_known};
+ghost use Rattle.gf_form.specs.inner.reduced.Levels.{is_unknown};
+ghost use Rattle.gf_form.specs.inner.reduced.Skips.{AreAllAlike, SkipsTo};
 ghost use Rattle.gf_form.specs.inner.reduced.Visits.{AreNumbers, AreOrdered, chosen};
 ghost use Rattle.gf_form.specs.declared.reduced.visits.Visit.{Visit};
 
@@ -23,6 +24,8 @@ pub(crate) struct Levels {
     /// The level of each set, by its position from 1; at 0, that of no set.
     of_sets: Vec<usize>,
     count: usize,
+    /// How many strategies in turn have the same choices up to each level, from level 0 on.
+    alike: Vec<u32>,
     /// The choices.
     strategy: Vec<u32>,
     /// The highest level of a move before each visit, by its number.
@@ -45,22 +48,34 @@ fn level_of(levels: &[usize], position: usize) -> usize
     }
 }
 
-/// The levels of sets with this many actions, and how many levels there are.
-fn levels_of(alloc: Global, counts: &[u32]) -> Result<(Vec<usize>, usize), AllocError>
-    ensures { IfOk result (λ made. AreLevels made.0.items made.1) }
+/// The levels of sets with this many actions, and how many of the `whole` strategies in turn have
+/// the same choices up to each level.
+fn levels_of(
+    alloc: Global,
+    counts: &[u32],
+    whole: u32,
+) -> Result<(Vec<usize>, Vec<u32>), AllocError>
+    requires whole { whole ≡ product counts.now }
+    requires some { 0 < whole }
+    ensures levels { IfOk result (λ made. AreLevels made.0.items (length made.1.items - 1)) }
+    ensures alike { IfOk result (λ made. AreAllAlike counts.now made.0.items made.1.items) }
 {
     let mut levels = Vec::with_capacity(alloc, counts.len() + 1)?;
+    let mut alike = Vec::new(alloc);
     levels.push(1)?;
-    let mut count = 1;
+    alike.push(whole)?;
+    alike.push(whole)?;
+    let mut rest = whole;
     for actions in counts {
+        rest /= *actions;
         if *actions > 1 {
-            count += 1;
-            levels.push(count)?;
+            levels.push(alike.len())?;
+            alike.push(rest)?;
         } else {
             levels.push(1)?;
         }
     }
-    Ok((levels, count))
+    Ok((levels, alike))
 }
 
 /// The numbers of this many visits.
@@ -163,32 +178,32 @@ fn highest_levels(
     Ok(highest)
 }
 
-/// Whether each set is known to be met, from what was known on the levels before this one, and the
-/// visits that are left on it.
-fn known_on(
-    alloc: Global,
+/// Replaces flags by whether each set is known to be met, from what was known before, and those of
+/// the visits that are left before which no move is on a level after this one.
+fn write_known(
     visits: &[Visit],
     highest: &[usize],
     level: usize,
     numbers: &[usize],
     before: &[bool],
-) -> Result<Vec<bool>, AllocError>
+    known: &mut Vec<bool>,
+) -> Result<(), AllocError>
     requires ordered { AreOrdered (length before.now) 1 visits.now }
     requires within { AreNumbers visits.now numbers.now }
     requires highest { length highest.now ≡ suc (length visits.now) }
-    ensures count { IfOk result (λ known. length known.items ≡ length before.now) }
-    ensures known { IfOk result (λ known. (place : ℕ) → get_or known.items place false
+    ensures count { OnOk result (length known.new.items ≡ length before.now) }
+    ensures known { OnOk result ((place : ℕ) → get_or known.new.items place false
         ≡ (get_or before.now place false
         || list_any (is_settled_at visits.now highest.now level place) numbers.now)) }
 {
-    let mut known = Vec::with_capacity(alloc, before.len())?;
+    known.clear();
     known.extend_from_slice(before)?;
     for number in numbers {
         if highest[*number] <= level {
             known[visits[*number - 1].set as usize - 1] = true;
         }
     }
-    Ok(known)
+    Ok(())
 }
 
 /// Whether one of the visits with these numbers is to a set that is not known to be met.
@@ -205,14 +220,40 @@ fn any_unknown(visits: &[Visit], numbers: &[usize], known: &[bool]) -> bool
     false
 }
 
+/// Whether a strategy has another action than the first at a set that is on one of the levels up to
+/// this one, and that cannot be met.
+fn is_shut(levels: &[usize], level: usize, strategy: &[u32], in_reach: &[bool]) -> bool
+    requires { length in_reach.now ≡ length strategy.now }
+    ensures shut { result ≡ true → MovesUnmet levels.now level strategy.now in_reach.now }
+    ensures met { result ≡ false
+        → MovesMet levels.now level strategy.now in_reach.now (length strategy.now) }
+{
+    for before in 0..strategy.len() {
+        if strategy[before] != 1 && !in_reach[before] && level_of(levels, before + 1) <= level {
+            return true;
+        }
+    }
+    false
+}
+
 impl Levels {
     /// The levels of a player with these visits and this many actions at each set, before any
-    /// choice.
-    pub(crate) fn new(alloc: Global, counts: &[u32], visits: &[Visit]) -> Result<Levels, AllocError>
-        requires { AreOrdered (length counts.now) 1 visits.now }
-        ensures { IfOk result (IsLevels (length counts.now) visits.now) }
+    /// choice. He has `whole` strategies.
+    pub(crate) fn new(
+        alloc: Global,
+        counts: &[u32],
+        whole: u32,
+        visits: &[Visit],
+    ) -> Result<Levels, AllocError>
+        requires ordered { AreOrdered (length counts.now) 1 visits.now }
+        requires whole { whole ≡ product counts.now }
+        requires some { 0 < whole }
+        ensures levels { IfOk result (IsLevels (length counts.now) visits.now) }
+        ensures alike { IfOk result
+            (λ l. AreAllAlike counts.now l.of_sets.items l.alike.items) }
     {
-        let (of_sets, count) = levels_of(alloc, counts)?;
+        let (of_sets, alike) = levels_of(alloc, counts, whole)?;
+        let count = alike.len() - 1;
         let of_visits = highest_levels(alloc, visits, &of_sets)?;
         let left = all_left(alloc, visits.len())?;
         let all = all_numbers(alloc, visits.len())?;
@@ -224,6 +265,7 @@ impl Levels {
         Ok(Levels {
             of_sets,
             count,
+            alike,
             strategy: Vec::new(alloc),
             of_visits,
             lists,
@@ -232,18 +274,20 @@ impl Levels {
         })
     }
 
-    /// On how many levels a strategy makes the same choices as were made before.
+    /// On how many of the levels before the last one a strategy makes the same choices as were made
+    /// before.
     fn kept(&self, strategy: &[u32]) -> usize
         requires some { 0 < length self.now.lists.items }
         requires levels { AreLevels self.now.of_sets.items self.now.count }
         ensures within { result < length self.now.lists.items }
+        ensures last { result < self.now.count }
         ensures same { (set : ℕ) → get_or self.now.of_sets.items set 1 ≤ result
             → chosen self.now.strategy.items set ≡ chosen strategy.now set }
     {
         if self.strategy.len() != strategy.len() {
             return 0;
         }
-        let mut kept = self.lists.len() - 1;
+        let mut kept = (self.lists.len() - 1).min(self.count - 1);
         for before in 0..strategy.len() {
             let level = level_of(&self.of_sets, before + 1);
             if self.strategy[before] != strategy[before] && level <= kept {
@@ -258,7 +302,9 @@ impl Levels {
         requires sets { (sets : ℕ) × AreOrdered sets 1 visits.now
             × IsLevels sets visits.now self.old }
         requires more { length self.old.lists.items ≤ self.old.count }
+        ensures levels_of { self.new.of_sets ≡ self.old.of_sets }
         ensures count { self.new.count ≡ self.old.count }
+        ensures alike { self.new.alike ≡ self.old.alike }
         ensures strategy { self.new.strategy.items ≡ self.old.strategy.items }
         ensures more { OnOk result
             (length self.new.lists.items ≡ suc (length self.old.lists.items)) }
@@ -275,13 +321,14 @@ impl Levels {
             &self.lists[level - 1],
             &mut self.left,
         )?;
-        let known = known_on(
-            alloc,
+        let mut known = Vec::new(alloc);
+        write_known(
             visits,
             &self.of_visits,
             level,
             &list,
             &self.known[level - 1],
+            &mut known,
         )?;
         if !any_unknown(visits, &list, &known) {
             list.clear();
@@ -291,20 +338,53 @@ impl Levels {
         Ok(())
     }
 
-    /// Makes the choices of a strategy.
+    /// Whether the choices so far have another action than the first at a set that cannot be met,
+    /// whatever is chosen on the later levels. Replaces flags by whether each set can.
+    fn is_shut(&self, visits: &[Visit], in_reach: &mut Vec<bool>) -> Result<bool, AllocError>
+        requires sets { (sets : ℕ) × AreOrdered sets 1 visits.now
+            × IsLevels sets visits.now self.now × (length self.now.strategy.items ≡ sets) }
+        ensures shut { IfOk result (λ shut. shut ≡ true → (sets : ℕ)
+            → AreOrdered sets 1 visits.now → IsLevels sets visits.now self.now
+            → IsShut sets visits.now self.now.of_sets.items (length self.now.lists.items - 1)
+            self.now.strategy.items) }
+        ensures met { IfOk result (λ shut. shut ≡ false → (sets : ℕ)
+            → AreOrdered sets 1 visits.now → IsLevels sets visits.now self.now
+            → self.now.count < length self.now.lists.items
+            → IsFirst sets visits.now self.now.strategy.items in_reach.new.items) }
+    {
+        let level = self.lists.len() - 1;
+        write_known(
+            visits,
+            &self.of_visits,
+            self.count,
+            &self.lists[level],
+            &self.known[level],
+            in_reach,
+        )?;
+        Ok(is_shut(&self.of_sets, level, &self.strategy, in_reach))
+    }
+
+    /// Makes the choices of a strategy, level by level, as long as each set at which it has another
+    /// action than the first can be met. Then the flags say of each set whether it is met.
+    /// Otherwise returns the level after which one cannot be, whatever the later choices.
     pub(crate) fn choose(
         &mut self,
         alloc: Global,
         visits: &[Visit],
         strategy: &[u32],
-    ) -> Result<(), AllocError>
+        in_reach: &mut Vec<bool>,
+    ) -> Result<Option<usize>, AllocError>
         requires sets { (sets : ℕ) × AreOrdered sets 1 visits.now
-            × IsLevels sets visits.now self.old }
+            × IsLevels sets visits.now self.old × (length strategy.now ≡ sets) }
+        ensures levels_of { self.new.of_sets ≡ self.old.of_sets }
+        ensures alike { self.new.alike ≡ self.old.alike }
         ensures levels { OnOk result ((sets : ℕ) → AreOrdered sets 1 visits.now
             → IsLevels sets visits.now self.old → IsLevels sets visits.now self.new) }
-        ensures known { OnOk result ((sets : ℕ) → AreOrdered sets 1 visits.now
+        ensures first { IfOk result (λ level. (sets : ℕ) → AreOrdered sets 1 visits.now
             → IsLevels sets visits.now self.old
-            → TellsMet sets visits.now strategy.now (last_known self.new)) }
+            → MatchOption level (IsFirst sets visits.now strategy.now in_reach.new.items)
+            (λ level. (level < length self.new.alike.items)
+            × IsShut sets visits.now self.new.of_sets.items level strategy.now)) }
     {
         let kept = self.kept(strategy);
         self.lists.truncate(kept + 1);
@@ -313,15 +393,23 @@ impl Levels {
         self.strategy.extend_from_slice(strategy)?;
         while self.lists.len() <= self.count {
             self.go_on(alloc, visits)?;
+            if self.is_shut(visits, in_reach)? {
+                return Ok(Some(self.lists.len() - 1));
+            }
         }
-        Ok(())
+        Ok(None)
     }
 
-    /// Whether each set is met, first set first, after the choices of a strategy are made.
-    pub(crate) fn met(&self) -> &[bool]
-        requires { 0 < length self.now.known.items }
-        ensures { result.now ≡ last_known self.now }
+    /// The first number after this one of a strategy with other choices up to a level.
+    pub(crate) fn after(&self, level: usize, number: u32) -> u32
+        requires level { level < length self.now.alike.items }
+        requires counts { (counts : List ℕ)
+            × AreAllAlike counts self.now.of_sets.items self.now.alike.items
+            × (number < product counts) × (product counts < 2 ^ 32) }
+        ensures { (counts : List ℕ) → AreAllAlike counts self.now.of_sets.items self.now.alike.items
+            → number < product counts → SkipsTo counts self.now.of_sets.items level number result }
     {
-        &self.known[self.known.len() - 1]
+        let alike = self.alike[level];
+        number - number % alike + alike
     }
 }

@@ -2,14 +2,17 @@
 //! whatever the strategy, finds the visits to his sets; the choices of the strategy then show which
 //! of them are left.
 
-ghost use Rattle.std.specs.Prelude.{◌≡◌, ◌<◌, ◌≤◌, ◌&&◌, ◌+◌, ◌*◌, ℕ, IfOk, OnOk, length};
+ghost use Rattle.std.specs.Prelude.{◌≡◌, ◌<◌, ◌≤◌, ◌&&◌, ◌+◌, ◌*◌, ℕ, IfOk, MatchOption, OnOk};
+ghost use Rattle.std.specs.Prelude.{length, true};
+ghost use Rattle.gf_nfg.specs.Profiles.{product};
 ghost use Rattle.gf_tree.specs.Branches.{game_of, tree_of};
 ghost use Rattle.gf_tree.specs.BranchesLeft.{branches_given, game_of_branches};
 ghost use Rattle.gf_tree.specs.Game.{Game};
 ghost use Rattle.gf_tree.specs.PrefixOrder.{flatten};
 ghost use Rattle.gf_form.specs.inner.reduced.Comes.{tree_comes};
 ghost use Rattle.gf_form.specs.inner.reduced.Relevance.{FindRelevance};
-ghost use Rattle.gf_form.specs.inner.reduced.Shown.{relevant_sets};
+ghost use Rattle.gf_form.specs.inner.reduced.Shown.{is_first, relevant_sets};
+ghost use Rattle.gf_form.specs.inner.reduced.Skips.{IsNumbered, PassesTo};
 ghost use Rattle.gf_form.specs.Strategies.{action_counts};
 ghost use Rattle.gf_form.specs.inner.reduced.Survey.{FindsMore, IsSurvey, last_move, open_comes};
 ghost use Rattle.gf_form.specs.inner.reduced.Survey.{open_size, survey_size};
@@ -147,37 +150,47 @@ pub(crate) struct Relevance {
 }
 
 impl Relevance {
-    /// That of a player with this many actions at each of his sets.
+    /// That of a player with this many actions at each of his sets, and `whole` strategies.
     pub(crate) fn of_player(
         alloc: Global,
         game: &Game<'_>,
         player: u32,
         counts: &[u32],
+        whole: u32,
     ) -> Result<Relevance, AllocError>
-        requires { counts.now ≡ action_counts game.now player }
+        requires counts { counts.now ≡ action_counts game.now player }
+        requires whole { whole ≡ product counts.now }
+        requires some { 0 < whole }
         ensures { IfOk result (TellsRelevance game.now player) }
     {
         let visits = visits_in(alloc, game, player)?;
-        let levels = Levels::new(alloc, counts, visits.all())?;
+        let levels = Levels::new(alloc, counts, whole, visits.all())?;
         Ok(Relevance { visits, levels })
     }
 
-    /// Writes whether each set, first set first, is relevant under a strategy.
+    /// Replaces flags by whether each set, first set first, is relevant under the strategy with
+    /// this number, if that is the first of those that reduce to the same one. Otherwise returns a
+    /// later number, and no strategy before that one is one.
     pub(crate) fn write_relevant(
         &mut self,
         alloc: Global,
+        number: u32,
         strategy: &[u32],
         relevant: &mut Vec<bool>,
-    ) -> Result<(), AllocError>
-        requires { (g : Game) × (player : ℕ) × TellsRelevance g player self.old }
+    ) -> Result<Option<u32>, AllocError>
+        requires { (g : Game) × (player : ℕ) × TellsRelevance g player self.old
+            × IsNumbered g player number strategy.now }
         ensures tells { OnOk result ((g : Game) (player : ℕ) → TellsRelevance g player self.old
             → TellsRelevance g player self.new) }
-        ensures relevant { OnOk result ((g : Game) (player : ℕ) → TellsRelevance g player self.old
-            → relevant.new.items ≡ relevant_sets g player strategy.now) }
+        ensures relevant { IfOk result (λ next. (g : Game) (player : ℕ)
+            → TellsRelevance g player self.old → IsNumbered g player number strategy.now
+            → MatchOption next ((relevant.new.items ≡ relevant_sets g player strategy.now)
+            × (is_first g player strategy.now ≡ true))
+            (λ next. PassesTo g player number next)) }
     {
-        self.levels.choose(alloc, self.visits.all(), strategy)?;
-        relevant.clear();
-        relevant.extend_from_slice(self.levels.met())?;
-        Ok(())
+        match self.levels.choose(alloc, self.visits.all(), strategy, relevant)? {
+            Some(level) => Ok(Some(self.levels.after(level, number))),
+            None => Ok(None),
+        }
     }
 }

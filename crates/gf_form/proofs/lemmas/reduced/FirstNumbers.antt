@@ -1,34 +1,43 @@
--- The numbers of the first strategies, one after another.
-use Rattle.std.proofs.Common.{◌≡◌, ℕ, zero, suc, ◌+◌, ◌<◌, Bool, true, false, List, [], ◌∷◌}
-use Rattle.std.proofs.Common.{◌++◌, length, map, get_or, drop, take, refl, sym, ap, subst, ◌∙◌}
+-- The numbers of the first strategies, one after another, and flags that say which are first.
+use Rattle.std.proofs.Common.{◌≡◌, ℕ, zero, suc, ◌+◌, ◌<◌, ◌≤◌, Bool, true, false, List, [], ◌∷◌}
+use Rattle.std.proofs.Common.{◌++◌, length, map, get_or, take, refl, sym, ap, subst, ◌∙◌}
 use Rattle.std.proofs.Common.{add-one, arith}
-use Rattle.std.specs.Prelude.{◌==◌, ◌||◌, ◌&&◌, filter}
+use Rattle.std.specs.Prelude.{◌==◌, ◌||◌, filter}
 use Rattle.std.specs.List.{AllByRecursion}
 use Rattle.std.proofs.Math.Seq.{take-suc}
+use Rattle.std.proofs.lemmas.Bool.{and_from, and_parts, eq-eqb, eqb-true}
 use Rattle.std.proofs.lemmas.List.{append-nil, map-append}
 use Rattle.std.proofs.lemmas.List.Elements.{filter-append}
 use Rattle.gf_fraction.proofs.AllElements.{all_both}
 use Rattle.gf_form.specs.inner.reduced.Shown.{chooses_first}
 
--- what a strategy chooses from one set on
-chooses_next : (flags : List Bool) (s : List ℕ) (i : ℕ) → i < length flags → i < length s
-    → chooses_first (drop i flags) (drop i s)
-    ≡ ((get_or flags i false || get_or s i 0 == 1)
-    && chooses_first (drop (i + 1) flags) (drop (i + 1) s))
-chooses_next [] s i hf hs = absurd (omega (arith, hf))
-chooses_next (f ∷ flags) [] i hf hs = absurd (omega (arith, hs))
-chooses_next (f ∷ flags) (a ∷ s) zero hf hs = refl
-chooses_next (f ∷ flags) (a ∷ s) (suc i) hf hs =
-    let next : suc i + 1 ≡ suc (i + 1) = omega arith in
-    chooses_next flags s i (omega (arith, hf)) (omega (arith, hs))
-    ∙ ap (λ (n : ℕ). (get_or flags i false || get_or s i 0 == 1)
-    && chooses_first (drop n (f ∷ flags)) (drop n (a ∷ s))) (sym next)
+-- ---- by flags
 
-pub chooses_on : (flags : List Bool) (s : List ℕ) (i : ℕ) → i < length flags → i < length s
-    → (get_or flags i false || get_or s i 0 == 1) ≡ true
-    → chooses_first (drop (i + 1) flags) (drop (i + 1) s) ≡ chooses_first (drop i flags) (drop i s)
-chooses_on flags s i hf hs e = sym (chooses_next flags s i hf hs
-    ∙ ap (λ b. b && chooses_first (drop (i + 1) flags) (drop (i + 1) s)) e)
+-- the first action is chosen if it is chosen wherever the flag is not set
+pub chooses_all : (flags : List Bool) (s : List ℕ)
+    → ((k : ℕ) → k < length s → get_or flags k false ≡ false → get_or s k 0 ≡ 1)
+    → chooses_first flags s ≡ true
+chooses_all [] s h = refl
+chooses_all (flag ∷ flags) [] h = refl
+chooses_all (true ∷ flags) (a ∷ s) h =
+    chooses_all flags s (λ k less. h (suc k) (omega (arith, less)))
+chooses_all (false ∷ flags) (a ∷ s) h =
+    and_from (a == 1) (chooses_first flags s) (eq-eqb a 1 (h 0 (omega arith) refl))
+    (chooses_all flags s (λ k less. h (suc k) (omega (arith, less))))
+
+pub first_where : (flags : List Bool) (s : List ℕ) (k : ℕ) → length s ≡ length flags
+    → chooses_first flags s ≡ true → k < length flags → get_or flags k false ≡ false
+    → get_or s k 0 ≡ 1
+first_where [] s k es h less f = absurd (omega (arith, less))
+first_where (flag ∷ flags) [] k es h less f = absurd (omega (arith, es))
+first_where (flag ∷ flags) (a ∷ s) zero es h less f =
+    let here = (and_parts (flag || a == 1) (chooses_first flags s) h).0 in
+    eqb-true a 1 (subst (λ b. (b || a == 1) ≡ true) f here)
+first_where (flag ∷ flags) (a ∷ s) (suc k) es h less f =
+    first_where flags s k (omega (arith, es))
+    (and_parts (flag || a == 1) (chooses_first flags s) h).1 (omega (arith, less)) f
+
+-- ---- numbers
 
 -- the numbers of those of the first i items that pass the test
 pub record AreFirst {A : Type 0} (test : A → Bool) (all : List A) (d : A) (numbers : List ℕ) (i : ℕ)
@@ -66,6 +75,21 @@ module _ {A : Type 0} (test : A → Bool) (all : List A) (d : A) (i : ℕ) (less
     are = h.are ∙ sym (next_item ∙ rw fails (append-nil (filter test (take i all))));
     within = wider numbers h.within;
   }
+
+-- items that do not pass are left out
+pub passed_by : {A : Type 0} (test : A → Bool) (all : List A) (d : A) (numbers : List ℕ) (i m : ℕ)
+    → AreFirst test all d numbers i → i + m ≤ length all
+    → ((k : ℕ) → i ≤ k → k < i + m → test (get_or all k d) ≡ false)
+    → AreFirst test all d numbers (i + m)
+passed_by test all d numbers i zero h within fails =
+    let same : i ≡ i + 0 = omega arith in subst (AreFirst test all d numbers) same h
+passed_by test all d numbers i (suc m) h within fails =
+    let next : i + m + 1 ≡ i + suc m = omega arith in
+    subst (AreFirst test all d numbers) next
+    (first_left test all d (i + m) (omega (arith, within)) numbers
+    (passed_by test all d numbers i m h (omega (arith, within))
+    (λ k from before. fails k from (omega (arith, before))))
+    (fails (i + m) (omega arith) (omega arith)))
 
 -- the image of one more is kept too
 pub one_image_more : {A : Type 0} (f : ℕ → A) (numbers next : List ℕ) (images more : List A) (n : ℕ)

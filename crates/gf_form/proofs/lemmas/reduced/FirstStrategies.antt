@@ -22,7 +22,8 @@ use Rattle.gf_tree.proofs.lemmas.games.Members.{in_left, in_right, map_same}
 use Rattle.gf_tree.proofs.lemmas.games.TreesOnce.{same_set_equality}
 use Rattle.gf_tree.proofs.lemmas.games.Uses.{Has, IsEquality, each, has, has_map, mapped_from}
 use Rattle.gf_form.specs.Reduced.{is_relevant, reduced, reduced_strategies, same_choice}
-use Rattle.gf_form.specs.inner.reduced.Shown.{chooses_first, relevant_sets, shown}
+use Rattle.gf_form.specs.inner.reduced.Shown.{chooses_first, is_first, relevant_sets}
+use Rattle.gf_form.specs.inner.reduced.Shown.{shown}
 use Rattle.gf_form.specs.Strategies.{action_counts, all_choices, choice_at, strategies}
 use Rattle.gf_form.proofs.lemmas.strategies.Choices.{IsChoice, are_choices, every_choice, place}
 use Rattle.gf_form.proofs.lemmas.strategies.Choices.{places_are}
@@ -241,10 +242,6 @@ filter_fewer test (x ∷ xs) = by_test (test x) (filter_fewer test xs)
     by_test true h = omega (arith, h)
     by_test false h = omega (arith, h)
 
--- the strategy chooses the first action wherever no choice matters
-abbrev pub is_first : Game → ℕ → List ℕ → Bool
-is_first g player s = chooses_first (relevant_sets g player s) s
-
 module _ (g : Game) (game : IsGame g) (player : ℕ) where
   abbrev keys : List SetKey
   keys = player_keys g player
@@ -252,11 +249,11 @@ module _ (g : Game) (game : IsGame g) (player : ℕ) where
   abbrev counts : List ℕ
   counts = action_counts g player
 
-  pub keys_counted : length keys ≡ length counts
+  keys_counted : length keys ≡ length counts
   keys_counted = length-map (player_sets g player) (λ s. s.key)
       ∙ sym (length-map (player_sets g player) (λ s. length s.description.actions))
 
-  pub flags_counted : (s : List ℕ) → length (relevant_sets g player s) ≡ length counts
+  flags_counted : (s : List ℕ) → length (relevant_sets g player s) ≡ length counts
   flags_counted s = length-map keys (is_relevant g (choice_at keys s)) ∙ keys_counted
 
   pub reduced_shown : (s : List ℕ) → IsChoice counts s

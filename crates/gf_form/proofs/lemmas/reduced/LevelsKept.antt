@@ -3,8 +3,8 @@ use Rattle.std.proofs.Common.{◌≡◌, ℕ, zero, suc, ◌+◌, ◌-◌, ◌<�
 use Rattle.std.proofs.Common.{Global, []}
 use Rattle.std.proofs.Common.{◌∷◌, ◌++◌, length, map, get_or, take, refl, sym, ap, subst}
 use Rattle.std.proofs.Common.{◌∙◌, arith, append-nil, inl, inr}
-use Rattle.std.specs.Prelude.{◌⊎◌}
-use Rattle.std.specs.List.{AllByRecursion}
+use Rattle.std.specs.Prelude.{◌⊎◌, ◌||◌}
+use Rattle.std.specs.List.{AllByRecursion, list_any}
 use Rattle.std.specs.Vec.{with_items}
 use Rattle.std.proofs.Math.ListN.{drop_of_length-le, get_or-eq_default}
 use Rattle.std.proofs.lemmas.Bool.{cases_lt}
@@ -14,12 +14,15 @@ use Rattle.std.proofs.lemmas.List.{get_or_append_left, take-map}
 use Rattle.std.proofs.Math.Seq.{get_or-append_seam}
 use Rattle.gf_fraction.proofs.AllElements.{all_both}
 use Rattle.gf_nfg.specs.Profiles.{numbers_from}
-use Rattle.gf_form.specs.inner.reduced.Levels.{AreHighest, AreLevels, IsLevel, IsLevels, TellsMet}
-use Rattle.gf_form.specs.inner.reduced.Levels.{known_to, last_known, left_to}
+use Rattle.gf_form.specs.inner.reduced.Levels.{AreHighest, AreLevels, IsFirst, IsLevel, IsLevels}
+use Rattle.gf_form.specs.inner.reduced.Levels.{IsShut, MovesMet, MovesUnmet, is_settled_at}
+use Rattle.gf_form.specs.inner.reduced.Levels.{known_to, left_to}
 use Rattle.gf_form.specs.inner.reduced.Visits.{AreOrdered, chosen}
 use Rattle.gf_form.specs.declared.reduced.levels.Levels.{Levels}
 use Rattle.gf_form.specs.declared.reduced.visits.Visit.{Visit}
-use Rattle.gf_form.proofs.lemmas.reduced.MetSets.{level_kept, level_tells, none_chosen}
+use Rattle.gf_form.proofs.lemmas.reduced.FirstNumbers.{chooses_all}
+use Rattle.gf_form.proofs.lemmas.reduced.LeftVisits.{level_within}
+use Rattle.gf_form.proofs.lemmas.reduced.MetSets.{all_met, level_kept, none_chosen, shut}
 
 -- ---- lists
 
@@ -90,6 +93,7 @@ module _ (sets : ℕ) (vs : List Visit) (old : Levels) (lists : Lists) (known : 
       → IsLevels sets vs (record {
         of_sets = old.of_sets;
         count = old.count;
+        alike = old.alike;
         strategy = strategy;
         of_visits = old.of_visits;
         lists = lists;
@@ -98,6 +102,7 @@ module _ (sets : ℕ) (vs : List Visit) (old : Levels) (lists : Lists) (known : 
       })
   levels_kept strategy kept inside is is_known agree = record {
     levels = h.levels;
+    counts = h.counts;
     highest = h.highest;
     flags = h.flags;
     first = h.first;
@@ -139,6 +144,7 @@ module _ (sets : ℕ) (vs : List Visit) (old : Levels) (lists : Lists) (known : 
       → IsLevels sets vs (record {
         of_sets = old.of_sets;
         count = old.count;
+        alike = old.alike;
         strategy = old.strategy;
         of_visits = old.of_visits;
         lists = lists;
@@ -147,6 +153,7 @@ module _ (sets : ℕ) (vs : List Visit) (old : Levels) (lists : Lists) (known : 
       })
   level_more left list flags some is is_known long first wide more = record {
     levels = h.levels;
+    counts = h.counts;
     highest = h.highest;
     flags = long;
     first = first;
@@ -223,8 +230,10 @@ level_pushed levels next count more level h upto above within is = record {
 
 -- before any choice
 pub none_reached : (sets : ℕ) (vs : List Visit) (of_sets : Vec ℕ Global) (count : ℕ)
-    (strategy of_visits : Vec ℕ Global) (lists : Lists) (known : Flags) (left : Vec Bool Global)
-    (all : Vec ℕ Global) (none : Vec Bool Global) → AreLevels of_sets.items count
+    (alike strategy of_visits : Vec ℕ Global) (lists : Lists) (known : Flags)
+    (left : Vec Bool Global) (all : Vec ℕ Global) (none : Vec Bool Global)
+    → AreLevels of_sets.items count
+    → length alike.items ≡ suc count
     → AreHighest vs of_sets.items of_visits.items → length left.items ≡ suc (length vs)
     → get_or left.items 0 false ≡ true → lists.items ≡ all ∷ []
     → all.items ≡ numbers_from 1 (length vs) → known.items ≡ none ∷ [] → length none.items ≡ sets
@@ -232,15 +241,17 @@ pub none_reached : (sets : ℕ) (vs : List Visit) (of_sets : Vec ℕ Global) (co
     → IsLevels sets vs (record {
       of_sets = of_sets;
       count = count;
+      alike = alike;
       strategy = strategy;
       of_visits = of_visits;
       lists = lists;
       known = known;
       left = left;
     })
-none_reached sets vs of_sets count strategy of_visits lists known left all none levels highest flags
-    first is numbers is_known wide nothing = record {
+none_reached sets vs of_sets count alike strategy of_visits lists known left all none levels counts
+    highest flags first is numbers is_known wide nothing = record {
       levels = levels;
+      counts = counts;
       highest = highest;
       flags = flags;
       first = first;
@@ -272,21 +283,41 @@ none_reached sets vs of_sets count strategy of_visits lists known left all none 
           levels highest numbers nothing)));
     }
 
--- after all choices
-pub all_told : (sets : ℕ) (vs : List Visit) (l : Levels) (strategy : List ℕ) → AreOrdered sets 1 vs
-    → IsLevels sets vs l → l.strategy.items ≡ strategy → l.count < length l.lists.items
-    → TellsMet sets vs strategy (last_known l)
-all_told sets vs l strategy ordered h is past =
-    let end : l.count ≡ length l.known.items - 1 = omega (arith, past, h.within, h.as_many) in
-    subst (λ (s : List ℕ). TellsMet sets vs s (last_known l)) is
-    (subst (λ (n : ℕ). TellsMet sets vs l.strategy.items (known_to l n)) end
-    (level_tells sets vs ordered l.of_sets.items l.of_visits.items h.highest l.count h.levels
-    l.strategy.items (left_to l l.count) (known_to l l.count) (h.each l.count past)))
+-- ---- what can be met on the last level that is reached
 
-pub told_wide : (sets : ℕ) (vs : List Visit) (l : Levels) → IsLevels sets vs l
-    → length (last_known l) ≡ sets
-told_wide sets vs l h =
-    h.counted (length l.known.items - 1) (omega (arith, h.some, h.as_many))
+module _ (sets : ℕ) (vs : List Visit) (ordered : AreOrdered sets 1 vs) (l : Levels)
+    (h : IsLevels sets vs l) (in_reach : List Bool)
+    (reach_is : (place : ℕ) → get_or in_reach place false
+    ≡ (get_or (known_to l (length l.lists.items - 1)) place false
+    || list_any (is_settled_at vs l.of_visits.items l.count place)
+    (left_to l (length l.lists.items - 1)))) where
+  abbrev last : ℕ
+  last = length l.lists.items - 1
+
+  reached : IsLevel sets vs l.of_sets.items l.of_visits.items last l.strategy.items
+      (left_to l last) (known_to l last)
+  reached = h.each last (omega (arith, h.some))
+
+  pub shut_after : length l.strategy.items ≡ sets
+      → MovesUnmet l.of_sets.items last l.strategy.items in_reach
+      → IsShut sets vs l.of_sets.items last l.strategy.items
+  shut_after fits m =
+      shut sets vs ordered l.of_sets.items l.of_visits.items h.highest l.count h.levels last
+      l.strategy.items (left_to l last) (known_to l last) in_reach reach_is reached fits m
+
+  pub first_after : length in_reach ≡ sets → l.count < length l.lists.items
+      → MovesMet l.of_sets.items last l.strategy.items in_reach (length l.strategy.items)
+      → IsFirst sets vs l.strategy.items in_reach
+  first_after counted past m =
+      let end : last ≡ l.count = omega (arith, past, h.within) in record {
+        counted = counted;
+        tells = all_met sets vs ordered l.of_sets.items l.of_visits.items h.highest l.count h.levels
+            l.strategy.items (left_to l last) (known_to l last) in_reach reach_is
+            (subst (λ (n : ℕ). IsLevel sets vs l.of_sets.items l.of_visits.items n l.strategy.items
+            (left_to l last) (known_to l last)) end reached);
+        first = chooses_all in_reach l.strategy.items (λ k less unmet. m k less
+            (omega (arith, end, (level_within l.of_sets.items l.count (suc k) h.levels).1)) unmet);
+      }
 
 -- ---- choices that stay
 
@@ -319,7 +350,7 @@ agree_less levels old new before kept less h upto above is =
     (λ k early known. h k early (omega (arith, known, upto, is)))
     (inr (omega (arith, above, is)))
 
-chosen_at : (strategy : List ℕ) (k : ℕ) → chosen strategy (suc k) ≡ get_or strategy k 0
+pub chosen_at : (strategy : List ℕ) (k : ℕ) → chosen strategy (suc k) ≡ get_or strategy k 0
 chosen_at [] k = refl
 chosen_at (a ∷ strategy) zero = refl
 chosen_at (a ∷ strategy) (suc k) = chosen_at strategy k

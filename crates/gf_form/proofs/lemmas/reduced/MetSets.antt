@@ -7,17 +7,19 @@ use Rattle.std.specs.Prelude.{◌==◌, ◌||◌, ◌&&◌, ◌⊎◌, filter, n
 use Rattle.std.specs.List.{list_any}
 use Rattle.std.proofs.lemmas.Bool.{and_from, and_parts, cases_lt, eq-eqb, eqb-true, false≢true}
 use Rattle.std.proofs.Math.Bool.{or-false, or-true, or_assoc}
-use Rattle.std.proofs.lemmas.Bool.{le-leb, le-ltb, leb-true, lt-leb, lt-ltb}
+use Rattle.std.proofs.lemmas.Bool.{false_from_ne_true, le-leb, le-ltb, leb-true, lt-leb, lt-ltb}
+use Rattle.std.proofs.lemmas.Bool.{or_left, or_right}
 use Rattle.std.proofs.lemmas.List.{length-set}
 use Rattle.std.proofs.lemmas.Option.{slice_get-get_or}
 use Rattle.gf_nfg.specs.Profiles.{numbers_from}
 use Rattle.gf_tree.proofs.lemmas.games.FirstUses.{in_filter, of_filter}
 use Rattle.gf_tree.proofs.lemmas.games.Uses.{Has, all_of_each, each}
 use Rattle.gf_form.specs.inner.reduced.Levels.{AreHighest, AreLeft, AreLevels, AreOpen, IsLevel}
-use Rattle.gf_form.specs.inner.reduced.Levels.{IsSettled}
+use Rattle.gf_form.specs.inner.reduced.Levels.{IsSettled, IsShut, MovesUnmet}
 use Rattle.gf_form.specs.inner.reduced.Levels.{TellsAll, TellsMet, is_made_to, is_settled_at}
 use Rattle.gf_form.specs.inner.reduced.Levels.{is_unknown}
-use Rattle.gf_form.specs.inner.reduced.Visits.{AreOrdered, chosen, is_met, is_taken, visit_at}
+use Rattle.gf_form.specs.inner.reduced.Visits.{AreOrdered, Reaches, chosen, is_met, is_taken}
+use Rattle.gf_form.specs.inner.reduced.Visits.{visit_at}
 use Rattle.gf_form.specs.declared.reduced.visits.Move.{Move}
 use Rattle.gf_form.specs.declared.reduced.visits.Visit.{Visit}
 use Rattle.gf_form.proofs.lemmas.reduced.LeftVisits.{comes_earlier, filter_none, has_number}
@@ -83,6 +85,56 @@ module _ (sets : ℕ) (vs : List Visit) (ordered : AreOrdered sets 1 vs) (levels
           (omega (arith, are.visit k v at, settled)) parts.0)
           (weak v.last (omega (arith, are.move k v at, settled)) parts.1)
 
+  module _ (later : List ℕ) (reached : ℕ → Bool) (reaches : Reaches (chosen later) reached vs) where
+    comes : (k : ℕ) (v : Visit) → slice_get vs k ≡ Some v
+        → reached (suc k) ≡ is_taken (chosen later) reached v.last
+    comes k v at =
+        let next : suc k ≡ 1 + k = omega arith in
+        ap reached next ∙ reached_there (chosen later) reached vs v k 1 reaches.1 at
+
+    met : (place : ℕ) → is_met reached (suc place) 1 vs
+        ≡ list_any (λ n. (visit_at vs n).set == suc place)
+        (filter reached (numbers_from 1 (length vs)))
+    met place = sym (met_left reached (suc place) (visit_at vs) 1 vs (λ k v at.
+        let next : 1 + k ≡ suc k = omega arith in
+        ap (visit_at vs) next ∙ visit_is vs k v at))
+
+    -- what is met later is met on a visit that is left now
+    left_now : (count : ℕ) → AreLevels levels count → (level : ℕ) (strategy numbers : List ℕ)
+        → AreLeft vs (is_made_to levels level (chosen strategy)) numbers
+        → ((set : ℕ) → get_or levels set 1 ≤ level → chosen strategy set ≡ chosen later set)
+        → (place : ℕ) → is_met reached (suc place) 1 vs ≡ true
+        → (number : ℕ) × Has numbers number × ((visit_at vs number).set ≡ suc place)
+    left_now count counted level strategy numbers h agree place e =
+        let f = any_from (λ n. (visit_at vs n).set == suc place)
+        (filter reached (numbers_from 1 (length vs))) (sym (met place) ∙ e) in
+        let number = f.0 in
+        let passed = of_filter reached (numbers_from 1 (length vs)) number f.1 in
+        let inside = left_within reached 1 (length vs) number f.1 in
+        let there : h.left number ≡ true =
+        carried count reached h.left (λ m. chosen later m.set == m.action)
+        (is_made_to levels level (chosen strategy)) h.first comes h.behind
+        (λ m known made. by m made (cases_lt level (get_or levels m.set 1)))
+        (suc number) number (omega arith) (omega (arith, inside.1))
+        (are.within count counted number)
+        passed.1 in (
+          number,
+          subst (λ (ns : List ℕ). Has ns number) (sym h.are)
+              (in_filter h.left (numbers_from 1 (length vs)) number passed.0 there),
+          eqb-true (visit_at vs number).set (suc place) f.2,
+        )
+      where
+        by : (m : Move) → (chosen later m.set == m.action) ≡ true
+            → (level < get_or levels m.set 1) ⊎ (get_or levels m.set 1 ≤ level)
+            → is_made_to levels level (chosen strategy) m ≡ true
+        by m made (inl past) =
+            ap (λ b. b || chosen strategy m.set == m.action)
+            (lt-ltb level (get_or levels m.set 1) past)
+        by m made (inr upto) =
+            ap (λ b. b || chosen strategy m.set == m.action)
+            (le-ltb level (get_or levels m.set 1) upto)
+            ∙ ap (λ (n : ℕ). n == m.action) (agree m.set upto) ∙ made
+
   -- what is met if all visits that are left are to known sets
   pub open_settles : (count : ℕ) → AreLevels levels count → (level : ℕ) (strategy numbers : List ℕ)
       (known : List Bool) → AreOpen vs levels highest level strategy numbers known
@@ -97,31 +149,19 @@ module _ (sets : ℕ) (vs : List Visit) (ordered : AreOrdered sets 1 vs) (levels
       left : ℕ → Bool
       left = h.left.left
 
-      comes : (k : ℕ) (v : Visit) → slice_get vs k ≡ Some v
-          → reached (suc k) ≡ is_taken (chosen later) reached v.last
-      comes k v at =
-          let next : suc k ≡ 1 + k = omega arith in
-          ap reached next ∙ reached_there (chosen later) reached vs v k 1 reaches.1 at
-
-      met : is_met reached (suc place) 1 vs
-          ≡ list_any (λ n. (visit_at vs n).set == suc place)
-          (filter reached (numbers_from 1 (length vs)))
-      met = sym (met_left reached (suc place) (visit_at vs) 1 vs (λ k v at.
-          let next : 1 + k ≡ suc k = omega arith in
-          ap (visit_at vs) next ∙ visit_is vs k v at))
-
       forth : IsSettled vs highest level left place → is_met reached (suc place) 1 vs ≡ true
       forth s =
           let there : reached s.number ≡ true =
           carried level left reached (is_made_to levels level (chosen strategy))
-          (λ m. chosen later m.set == m.action) reaches.0 h.left.behind comes
+          (λ m. chosen later m.set == m.action) reaches.0 h.left.behind
+          (comes later reached reaches)
           (λ m known made.
           ap (λ (n : ℕ). n == m.action) (sym (agree m.set known))
           ∙ sym (ap (λ b. b || chosen strategy m.set == m.action)
           (le-ltb level (get_or levels m.set 1) known))
           ∙ made)
           (suc s.number) s.number (omega arith) s.within s.settled s.is_left in
-          met
+          met later reached reaches place
           ∙ any_has (λ n. (visit_at vs n).set == suc place)
           (filter reached (numbers_from 1 (length vs))) s.number
           (in_filter reached (numbers_from 1 (length vs)) s.number
@@ -130,35 +170,10 @@ module _ (sets : ℕ) (vs : List Visit) (ordered : AreOrdered sets 1 vs) (levels
 
       back : is_met reached (suc place) 1 vs ≡ true → get_or known place false ≡ true
       back e =
-          let f = any_from (λ n. (visit_at vs n).set == suc place)
-          (filter reached (numbers_from 1 (length vs))) (sym met ∙ e) in
-          let number = f.0 in
-          let passed = of_filter reached (numbers_from 1 (length vs)) number f.1 in
-          let inside = left_within reached 1 (length vs) number f.1 in
-          let there : left number ≡ true =
-          carried count reached left (λ m. chosen later m.set == m.action)
-          (is_made_to levels level (chosen strategy)) h.left.first comes h.left.behind
-          (λ m known made. by m made (cases_lt level (get_or levels m.set 1)))
-          (suc number) number (omega arith) (omega (arith, inside.1))
-          (are.within count counted number)
-          passed.1 in
-          let has : Has numbers number =
-          subst (λ (ns : List ℕ). Has ns number) (sym h.left.are)
-          (in_filter left (numbers_from 1 (length vs)) number passed.0 there) in
-          let is = eqb-true (visit_at vs number).set (suc place) f.2 in
-          let at : (visit_at vs number).set - 1 ≡ place = omega (arith, is) in
-          ap (λ (n : ℕ). get_or known n false) (sym at) ∙ all number has
-        where
-          by : (m : Move) → (chosen later m.set == m.action) ≡ true
-              → (level < get_or levels m.set 1) ⊎ (get_or levels m.set 1 ≤ level)
-              → is_made_to levels level (chosen strategy) m ≡ true
-          by m made (inl past) =
-              ap (λ b. b || chosen strategy m.set == m.action)
-              (lt-ltb level (get_or levels m.set 1) past)
-          by m made (inr upto) =
-              ap (λ b. b || chosen strategy m.set == m.action)
-              (le-ltb level (get_or levels m.set 1) upto)
-              ∙ ap (λ (n : ℕ). n == m.action) (agree m.set upto) ∙ made
+          let f = left_now later reached reaches count counted level strategy numbers h.left agree
+          place e in
+          let at : (visit_at vs f.0).set - 1 ≡ place = omega (arith, f.2) in
+          ap (λ (n : ℕ). get_or known n false) (sym at) ∙ all f.0 f.1
 
   -- on the last level all is known
   pub level_tells : (count : ℕ) → AreLevels levels count → (strategy numbers : List ℕ)
@@ -171,6 +186,81 @@ module _ (sets : ℕ) (vs : List Visit) (ordered : AreOrdered sets 1 vs) (levels
       → get_or known ((visit_at vs n).set - 1) false ≡ true) numbers number h.complete has
       (are.within count counted number))
       strategy (λ set upto. refl)
+
+  -- ---- what can be met
+
+  -- flags of the sets that are known to be met, or that a visit which is left is to
+  module _ (count : ℕ) (counted : AreLevels levels count) (level : ℕ) (strategy numbers : List ℕ)
+      (known in_reach : List Bool)
+      (reach_is : (place : ℕ) → get_or in_reach place false
+      ≡ (get_or known place false || list_any (is_settled_at vs highest count place) numbers))
+      (h : IsLevel sets vs levels highest level strategy numbers known) where
+    can_be_met : (later : List ℕ)
+        → ((set : ℕ) → get_or levels set 1 ≤ level → chosen strategy set ≡ chosen later set)
+        → (reached : ℕ → Bool) → Reaches (chosen later) reached vs → (place : ℕ) → place < sets
+        → is_met reached (suc place) 1 vs ≡ true → get_or in_reach place false ≡ true
+    can_be_met later agree reached reaches place less met = reach_is place ∙ by h
+      where
+        by : IsLevel sets vs levels highest level strategy numbers known
+            → (get_or known place false || list_any (is_settled_at vs highest count place) numbers)
+            ≡ true
+        by (inl told) =
+            or_left (get_or known place false)
+            (list_any (is_settled_at vs highest count place) numbers)
+            (told.1 later agree reached reaches place less ∙ met)
+        by (inr o) =
+            let f = left_now later reached reaches count counted level strategy numbers o.left agree
+            place met in
+            or_right (get_or known place false)
+            (list_any (is_settled_at vs highest count place) numbers)
+            (any_has (is_settled_at vs highest count place) numbers f.0 f.1
+            (and_from (nat_le (get_or highest f.0 0) count) ((visit_at vs f.0).set == suc place)
+            (le-leb (get_or highest f.0 0) count (are.within count counted f.0))
+            (eq-eqb (visit_at vs f.0).set (suc place) f.2)))
+
+    pub shut : length strategy ≡ sets
+        → MovesUnmet levels level strategy in_reach → IsShut sets vs levels level strategy
+    shut fits m =
+        let within : m.place < sets = omega (arith, m.within, fits) in record {
+          place = m.place;
+          within = within;
+          early = m.early;
+          moved = m.moved;
+          unmet = λ later agree reached reaches.
+              false_from_ne_true (is_met reached (suc m.place) 1 vs) (λ met. false≢true (sym m.unmet
+              ∙ can_be_met later agree reached reaches m.place within met));
+        }
+
+  -- on the last level they are those of the sets that are met
+  pub all_met : (count : ℕ) → AreLevels levels count → (strategy numbers : List ℕ)
+      (known in_reach : List Bool) → ((place : ℕ) → get_or in_reach place false
+      ≡ (get_or known place false || list_any (is_settled_at vs highest count place) numbers))
+      → IsLevel sets vs levels highest count strategy numbers known
+      → TellsMet sets vs strategy in_reach
+  all_met count counted strategy numbers known in_reach reach_is h reached reaches place less =
+      same_answer (get_or in_reach place false) (is_met reached (suc place) 1 vs)
+      (λ e. sym (level_tells count counted strategy numbers known h reached reaches place less)
+      ∙ elim (either (get_or known place false)
+      (list_any (is_settled_at vs highest count place) numbers) (sym (reach_is place) ∙ e)) [
+        | inl old ↦ old
+        | inr new ↦ by h (any_from (is_settled_at vs highest count place) numbers new)
+      ])
+      (can_be_met count counted count strategy numbers known in_reach reach_is h strategy
+      (λ set upto. refl) reached reaches place less)
+    where
+      by : IsLevel sets vs levels highest count strategy numbers known
+          → (n : ℕ) × Has numbers n × (is_settled_at vs highest count place n ≡ true)
+          → get_or known place false ≡ true
+      by (inl told) f = absurd (subst (λ (ns : List ℕ). Has ns f.0) told.0 f.1)
+      by (inr o) f =
+          let parts = and_parts (nat_le (get_or highest f.0 0) count)
+          ((visit_at vs f.0).set == suc place) f.2 in
+          let is = eqb-true (visit_at vs f.0).set (suc place) parts.1 in
+          let at : (visit_at vs f.0).set - 1 ≡ place = omega (arith, is) in
+          ap (λ (n : ℕ). get_or known n false) (sym at)
+          ∙ each (λ n. get_or highest n 0 ≤ count
+          → get_or known ((visit_at vs n).set - 1) false ≡ true) numbers f.0 o.complete f.1
+          (are.within count counted f.0)
 
   -- ---- one more level
 

@@ -28,13 +28,14 @@ use Rattle.gf_form.specs.inner.reduced.Firsts.{AreFirstsOf}
 use Rattle.gf_form.specs.Reduced.{is_own_choice, is_relevant, reduced, reduced_label}
 use Rattle.gf_form.specs.Reduced.{reduced_labels}
 use Rattle.gf_form.specs.Reduced.{reduced_strategies}
-use Rattle.gf_form.specs.inner.reduced.Shown.{chooses_first, relevant_sets, shown}
+use Rattle.gf_form.specs.inner.reduced.Shown.{chooses_first, is_first, relevant_sets}
+use Rattle.gf_form.specs.inner.reduced.Shown.{shown}
 use Rattle.gf_form.specs.Strategies.{action_counts, all_choices, choice_at, strategies}
 use Rattle.gf_form.specs.Strategies.{strategy_label}
 use Rattle.gf_form.proofs.lemmas.strategies.Choices.{length-all_choices}
 use Rattle.gf_form.proofs.lemmas.strategies.Chosen.{among_his, his_actions}
 use Rattle.gf_form.proofs.lemmas.reduced.Coming.{relevant_is}
-use Rattle.gf_form.proofs.lemmas.reduced.FirstStrategies.{flags_fit, is_first, reduced_shown_at}
+use Rattle.gf_form.proofs.lemmas.reduced.FirstStrategies.{flags_fit, reduced_shown_at}
 use Rattle.gf_form.proofs.lemmas.reduced.FirstStrategies.{reduced_strategies_are}
 use Rattle.gf_form.proofs.lemmas.values.Following.{in_either}
 use Rattle.gf_form.proofs.lemmas.strategies.KnownSets.{own_set}

@@ -5,6 +5,7 @@ use Rattle.std.specs.Prelude.{suc}
 use Rattle.std.specs.Prelude.{Bool, true, false, List, [], Some, get_or, length, map, slice_get}
 use Rattle.std.specs.List.{AllByRecursion, filter}
 use Rattle.gf_nfg.specs.Profiles.{numbers_from}
+use Rattle.gf_form.specs.inner.reduced.Shown.{chooses_first}
 use Rattle.gf_form.specs.inner.reduced.Visits.{Reaches, chosen, is_met, visit_at}
 use Rattle.gf_form.specs.declared.reduced.levels.Levels.{Levels}
 use Rattle.gf_form.specs.declared.reduced.visits.Move.{Move}
@@ -91,6 +92,43 @@ IsLevel sets visits levels highest level strategy numbers known =
     ((numbers ≡ []) × TellsAll sets visits levels level strategy known)
     ⊎ AreOpen visits levels highest level strategy numbers known
 
+-- It has another action than the first at a set on one of the levels so far, which is not met
+-- whatever the choices on later levels.
+pub record IsShut (sets : ℕ) (visits : List Visit) (levels : List ℕ) (level : ℕ)
+    (strategy : List ℕ)
+    : Type 0 where
+  pub place : ℕ
+  pub within : place < sets
+  pub early : get_or levels (suc place) 1 ≤ level
+  pub moved : ¬ (get_or strategy place 0 ≡ 1)
+  pub unmet : (later : List ℕ)
+      → ((set : ℕ) → get_or levels set 1 ≤ level → chosen strategy set ≡ chosen later set)
+      → (reached : ℕ → Bool) → Reaches (chosen later) reached visits
+      → is_met reached (suc place) 1 visits ≡ false
+
+-- these sets are met by a strategy, and it has the first action at each other one
+pub record IsFirst (sets : ℕ) (visits : List Visit) (strategy : List ℕ) (met : List Bool)
+    : Type 0 where
+  pub counted : length met ≡ sets
+  pub tells : TellsMet sets visits strategy met
+  pub first : chooses_first met strategy ≡ true
+
+-- another action than the first at a set on one of the levels so far, of which the flags say that
+-- it cannot be met
+pub record MovesUnmet (levels : List ℕ) (level : ℕ) (strategy : List ℕ) (in_reach : List Bool)
+    : Type 0 where
+  pub place : ℕ
+  pub within : place < length strategy
+  pub early : get_or levels (suc place) 1 ≤ level
+  pub moved : ¬ (get_or strategy place 0 ≡ 1)
+  pub unmet : get_or in_reach place false ≡ false
+
+-- none at the first sets, as many as are given
+abbrev pub MovesMet : List ℕ → ℕ → List ℕ → List Bool → ℕ → Type 0
+MovesMet levels level strategy in_reach sets = (place : ℕ) → place < sets
+    → get_or levels (suc place) 1 ≤ level → get_or in_reach place false ≡ false
+    → get_or strategy place 0 ≡ 1
+
 -- what is left on this many levels, and what is known
 abbrev pub left_to : Levels → ℕ → List ℕ
 left_to l level = get_or (map (λ list. list.items) l.lists.items) level []
@@ -98,13 +136,10 @@ left_to l level = get_or (map (λ list. list.items) l.lists.items) level []
 abbrev pub known_to : Levels → ℕ → List Bool
 known_to l level = get_or (map (λ known. known.items) l.known.items) level []
 
--- what is known on the last one that is reached
-abbrev pub last_known : Levels → List Bool
-last_known l = known_to l (length l.known.items - 1)
-
 -- what is left of the visits to this many sets, and what is known, on the levels that are reached
 pub record IsLevels (sets : ℕ) (visits : List Visit) (l : Levels) : Type 0 where
   pub levels : AreLevels l.of_sets.items l.count
+  pub counts : length l.alike.items ≡ suc l.count
   pub highest : AreHighest visits l.of_sets.items l.of_visits.items
   pub flags : length l.left.items ≡ suc (length visits)
   pub first : get_or l.left.items 0 false ≡ true

@@ -22,3 +22,7 @@ abbrev pub chooses_first : List Bool → List ℕ → Bool
 chooses_first (flag ∷ flags) (action ∷ strategy) =
     (flag || action == 1) && chooses_first flags strategy
 chooses_first _ _ = true
+
+-- it is so under a strategy: of those that reduce to the same one, it is the first
+abbrev pub is_first : Game → ℕ → List ℕ → Bool
+is_first g player strategy = chooses_first (relevant_sets g player strategy) strategy

@@ -3,7 +3,7 @@ use Rattle.gf_form.specs.Reduced.{reduced, reduced_label}
 use Rattle.gf_form.specs.Strategies.{strategies}
 use Rattle.gf_form.specs.inner.reduced.TellsRelevance.{TellsRelevance}
 use Rattle.gf_form.proofs.lemmas.reduced.FirstNumbers.{AreFirst}
-use Rattle.gf_form.proofs.lemmas.reduced.FirstStrategies.{is_first}
+use Rattle.gf_form.specs.inner.reduced.Shown.{is_first}
 use Rattle.gf_form.proofs.reduced.first.first_strategies.Given as goal
 
 abbrev pub invariant-loop-number : goal.invariant-loop-number

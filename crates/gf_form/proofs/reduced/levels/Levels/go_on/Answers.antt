@@ -47,8 +47,8 @@ left_on-requires-clause-numbers c =
     (level_left c.requires.sets.0 c.args.visits.now l.of_sets.items l.of_visits.items before
     l.strategy.items (left_to l before) (known_to l before) (h.each before less))))
 
-pub known_on-requires-clause-ordered : goal.known_on-requires-clause-ordered
-known_on-requires-clause-ordered c =
+pub write_known-requires-clause-ordered : goal.write_known-requires-clause-ordered
+write_known-requires-clause-ordered c =
     let l = c.args.self.now in
     let h = c.requires.sets.2 in
     let before = c.len-level.result - 1 in
@@ -59,8 +59,8 @@ known_on-requires-clause-ordered c =
     subst (λ (sets : ℕ). AreOrdered sets 1 c.args.visits.now)
     (sym (ap length flags ∙ h.counted before less)) c.requires.sets.1
 
-pub known_on-requires-clause-within : goal.known_on-requires-clause-within
-known_on-requires-clause-within c =
+pub write_known-requires-clause-within : goal.write_known-requires-clause-within
+write_known-requires-clause-within c =
     subst (AreNumbers c.args.visits.now) (sym c.deref-5.ensures.value)
     (list_numbers c.args.visits.now _ c.deref-3.result.now c.in_ok-list.list.items
     c.in_ok-list.ensures.none c.in_ok-list.ensures.numbers)
@@ -75,7 +75,7 @@ any_unknown-requires-clause-ordered c =
     let flags = list_read l.known before c.index-2.result.now c.deref-6.result.now
     (omega (arith, less, h.as_many)) c.index-2.ensures c.deref-6.ensures.value in
     subst (λ (sets : ℕ). AreOrdered sets 1 c.args.visits.now)
-    (sym (ap length c.deref-8.ensures.value ∙ c.in_ok-known.ensures.count ∙ ap length flags
+    (sym (ap length c.deref-8.ensures.value ∙ c.in_ok-write_known.ensures.count ∙ ap length flags
     ∙ h.counted before less))
     c.requires.sets.1
 
@@ -94,7 +94,7 @@ returns-clause-levels c = λ sets ordered h.
     let before = c.len-level.result - 1 in
     let less : before < length l.lists.items = omega (arith, long, h.some) in
     let list = c.in_ok-list.list.items in
-    let known = c.in_ok-known.known in
+    let known = c.write_known.new.known in
     let rest = c.if-not-any_unknown.list in
     let flags = list_read l.known before c.index-2.result.now c.deref-6.result.now
     (omega (arith, less, h.as_many)) c.index-2.ensures c.deref-6.ensures.value in
@@ -104,7 +104,7 @@ returns-clause-levels c = λ sets ordered h.
     let left = c.left_on.new.left in
     let same : (with_items l.left left).items ≡ left =
     refilled l.left left (c.in_ok-list.ensures.flags ∙ sym h.flags) in
-    let is_known = λ (place : ℕ). c.in_ok-known.ensures.known place
+    let is_known = λ (place : ℕ). c.in_ok-write_known.ensures.known place
     ∙ (λ i. get_or (flags i) place false || list_any (is_settled_at vs (c.deref-4.ensures.value i)
     c.len-level.result place) (c.deref-5.ensures.value i)) in
     let some : c.any_unknown.result ≡ list_any (is_unknown vs known.items) list =
@@ -136,7 +136,7 @@ returns-clause-levels c = λ sets ordered h.
     c.requires.more c.in_ok-push.ensures.items c.in_ok-push-2.ensures.items
     (ap length same ∙ c.in_ok-list.ensures.flags)
     (ap (λ (f : List Bool). get_or f 0 false) same ∙ c.in_ok-list.ensures.first)
-    (c.in_ok-known.ensures.count ∙ ap length flags ∙ h.counted before less)
+    (c.in_ok-write_known.ensures.count ∙ ap length flags ∙ h.counted before less)
     (subst (λ (n : ℕ). IsLevel sets vs l.of_sets.items l.of_visits.items n l.strategy.items
     rest.items
     known.items) long next)

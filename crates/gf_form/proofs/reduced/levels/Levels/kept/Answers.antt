@@ -31,15 +31,17 @@ loop-before-preserved c =
     elim c.if-index-strategy.branch [
       | then-index-strategy+then-level-kept w ↦ (
         omega (arith, w.kept-is, w.if-level-kept.true, c.loop-before.invariant.0),
-        agree_less levels old new before kept c.if-index-strategy.kept c.loop-before.invariant.1
+        omega (arith, w.kept-is, w.if-level-kept.true, c.loop-before.invariant.1),
+        agree_less levels old new before kept c.if-index-strategy.kept c.loop-before.invariant.2
             (omega (arith, level, w.if-level-kept.true))
             (level_within levels c.args.self.now.count (before + 1) c.requires.levels).0
             (omega (arith, w.kept-is, level)),
       )
       | else-index-strategy w ↦ (
         omega (arith, w.kept-is, c.loop-before.invariant.0),
+        omega (arith, w.kept-is, c.loop-before.invariant.1),
         subst (Agree levels old new (before + 1)) (sym w.kept-is)
-            (agree_more levels old new before kept c.loop-before.invariant.1
+            (agree_more levels old new before kept c.loop-before.invariant.2
             (elim w.else-index-strategy.branch [
               | else-index-strategy-via-then-index-strategy+else-level-kept v ↦
                   inr (omega (arith, level, v.if-level-kept.false))
@@ -59,5 +61,5 @@ returns-clause-same c = λ set known.
     let end : c.loop-before.before ≡ length new =
     omega (arith, c.loop-before-test.false, c.loop-before.auto.before-end) in
     agree_all levels old new c.loop-before.kept same
-    (subst (λ (n : ℕ). Agree levels old new n c.loop-before.kept) end c.loop-before.invariant.1) set
+    (subst (λ (n : ℕ). Agree levels old new n c.loop-before.kept) end c.loop-before.invariant.2) set
     known

@@ -1,11 +1,13 @@
-use Rattle.std.proofs.Common.{◌≡◌, ◌++◌, ◌∙◌, ℕ, Bool, List, ap, arith, false, get_or, length}
-use Rattle.std.proofs.Common.{subst, sym}
+use Rattle.std.proofs.Common.{◌≡◌, ◌∙◌, ◌<◌, ℕ, Bool, List, Option, Vec, Global, MatchOption, ap}
+use Rattle.std.proofs.Common.{length, subst, sym}
 use Rattle.gf_tree.specs.FirstUse.{player_keys}
-use Rattle.gf_form.specs.inner.reduced.Levels.{IsLevels, TellsMet, last_known}
+use Rattle.gf_form.specs.inner.reduced.Levels.{IsFirst, IsLevels, IsShut}
+use Rattle.gf_form.specs.inner.reduced.Shown.{chooses_first}
+use Rattle.gf_form.specs.inner.reduced.Skips.{AreAllAlike}
 use Rattle.gf_form.specs.inner.reduced.Visits.{AreOrdered, chosen, visits_of}
+use Rattle.gf_form.specs.Strategies.{action_counts}
 use Rattle.gf_form.specs.declared.reduced.visits.Visit.{Visit}
-use Rattle.gf_form.proofs.lemmas.reduced.LevelsKept.{told_wide}
-use Rattle.gf_form.proofs.lemmas.reduced.RelevantSets.{relevant_met}
+use Rattle.gf_form.proofs.lemmas.reduced.RelevantSets.{none_first, numbered_wide, relevant_met}
 use Rattle.gf_form.proofs.lemmas.reduced.VisitsMet.{some_reached}
 use Rattle.gf_form.proofs.reduced.relevance.Relevance.write_relevant.Goals as goal
 
@@ -13,49 +15,55 @@ pub choose-requires : goal.choose-requires
 choose-requires c =
     let sets = length (player_keys c.requires.0 c.requires.1) in record {
       sets = subst (λ (vs : List Visit). (sets : ℕ) × AreOrdered sets 1 vs
-          × IsLevels sets vs c.args.self.now.levels) (sym c.all.ensures)
-          (sets, c.requires.2.visits.ordered, c.requires.2.levels);
+          × IsLevels sets vs c.args.self.now.levels × (length c.args.strategy.now ≡ sets))
+          (sym c.all.ensures)
+          (
+            sets,
+            c.requires.2.visits.ordered,
+            c.requires.2.levels,
+            numbered_wide c.requires.0 c.requires.1 c.args.number c.args.strategy.now c.requires.3,
+          );
     }
 
-pub met-requires : goal.met-requires
-met-requires c =
-    let sets = length (player_keys c.requires.0 c.requires.1) in
-    let levels =
-    subst (λ (vs : List Visit). AreOrdered sets 1 vs → IsLevels sets vs c.args.self.now.levels
-    → IsLevels sets vs c.choose.new.self) c.all.ensures (c.in_ok-choose.ensures.levels sets)
-    c.requires.2.visits.ordered c.requires.2.levels in
-    omega (arith, levels.some, levels.as_many)
-
-pub returns-clause-tells : goal.returns-clause-tells
-returns-clause-tells c = λ g player tells.
-    let sets = length (player_keys g player) in record {
-      visits = tells.visits;
-      levels = subst
-          (λ (vs : List Visit). AreOrdered sets 1 vs → IsLevels sets vs c.args.self.now.levels
-          → IsLevels sets vs c.choose.new.self) c.all.ensures (c.in_ok-choose.ensures.levels sets)
-          tells.visits.ordered tells.levels;
-    }
-
-pub returns-clause-relevant : goal.returns-clause-relevant
-returns-clause-relevant c = λ g player tells.
+pub returns-in-Some-clause-relevant : goal.returns-in-Some-clause-relevant
+returns-in-Some-clause-relevant c = λ g player tells numbered.
     let sets = length (player_keys g player) in
     let vs = visits_of c.args.self.now.visits in
-    let choices = chosen c.args.strategy.now in
-    let known = last_known c.choose.new.self in
-    let levels =
-    subst (λ (vs : List Visit). AreOrdered sets 1 vs → IsLevels sets vs c.args.self.now.levels
-    → IsLevels sets vs c.choose.new.self) c.all.ensures (c.in_ok-choose.ensures.levels sets)
-    tells.visits.ordered tells.levels in
-    let told = subst
-    (λ (vs : List Visit). AreOrdered sets 1 vs → IsLevels sets vs c.args.self.now.levels
-    → TellsMet sets vs c.args.strategy.now known) c.all.ensures (c.in_ok-choose.ensures.known sets)
-    tells.visits.ordered tells.levels in
-    let some = some_reached choices sets vs tells.visits.ordered in
-    let written : c.extend_from_slice.new.self.items ≡ known =
-    c.in_ok-extend_from_slice.ensures.items
-    ∙ (λ i. c.clear.ensures.items i ++ c.met.ensures i) in
-    relevant_met g player c.args.strategy.now vs some.0 c.extend_from_slice.new.self.items
-    tells.visits
-    some.1 (ap length written ∙ told_wide sets vs c.choose.new.self levels)
-    (λ before less. ap (λ (f : List Bool). get_or f before false) written
-    ∙ told some.0 some.1 before less)
+    let old = c.args.self.now.levels in
+    let new = c.choose.new.self in
+    let counts = action_counts g player in
+    let strategy = c.args.strategy.now in
+    let first = subst (λ (vs : List Visit). AreOrdered sets 1 vs → IsLevels sets vs old
+    → MatchOption c.in_ok-level.field-0 (IsFirst sets vs strategy c.choose.new.in_reach.items)
+    (λ level. (level < length new.alike.items) × IsShut sets vs new.of_sets.items level strategy))
+    c.all.ensures (c.in_ok-level.ensures.first sets) tells.visits.ordered tells.levels in
+    let shut = subst
+    (λ (o : Option ℕ). MatchOption o (IsFirst sets vs strategy c.choose.new.in_reach.items)
+    (λ level. (level < length new.alike.items) × IsShut sets vs new.of_sets.items level strategy))
+    c.in-Some.is first in
+    let alike = subst (λ (v : Vec ℕ Global). AreAllAlike counts v.items new.alike.items)
+    (sym c.choose.ensures.levels_of)
+    (subst (λ (v : Vec ℕ Global). AreAllAlike counts old.of_sets.items v.items)
+    (sym c.choose.ensures.alike) tells.alike) in
+    none_first g player c.args.number c.after.result vs new.of_sets.items c.in-Some.level strategy
+    tells.visits numbered shut.1 (c.after.ensures counts alike numbered.within)
+
+pub returns-in-None-clause-relevant : goal.returns-in-None-clause-relevant
+returns-in-None-clause-relevant c = λ g player tells numbered.
+    let sets = length (player_keys g player) in
+    let vs = visits_of c.args.self.now.visits in
+    let old = c.args.self.now.levels in
+    let new = c.choose.new.self in
+    let strategy = c.args.strategy.now in
+    let flags = c.choose.new.in_reach.items in
+    let told = subst (λ (vs : List Visit). AreOrdered sets 1 vs → IsLevels sets vs old
+    → MatchOption c.in_ok-level.field-0 (IsFirst sets vs strategy flags)
+    (λ level. (level < length new.alike.items) × IsShut sets vs new.of_sets.items level strategy))
+    c.all.ensures (c.in_ok-level.ensures.first sets) tells.visits.ordered tells.levels in
+    let first = subst (λ (o : Option ℕ). MatchOption o (IsFirst sets vs strategy flags)
+    (λ level. (level < length new.alike.items) × IsShut sets vs new.of_sets.items level strategy))
+    c.in-None.is told in
+    let some = some_reached (chosen strategy) sets vs tells.visits.ordered in
+    let are = relevant_met g player strategy vs some.0 flags tells.visits some.1 first.counted
+    (λ before less. first.tells some.0 some.1 before less) in
+    (are, ap (λ (flags : List Bool). chooses_first flags strategy) (sym are) ∙ first.first)

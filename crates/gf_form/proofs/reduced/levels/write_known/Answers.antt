@@ -8,8 +8,8 @@ use Rattle.gf_form.specs.inner.reduced.Levels.{is_settled_at}
 use Rattle.gf_form.specs.inner.reduced.Visits.{visit_at}
 use Rattle.gf_form.proofs.lemmas.reduced.LeftVisits.{number_at}
 use Rattle.gf_form.proofs.lemmas.reduced.MetSets.{KnownTo, known_more, known_still}
-use Rattle.gf_form.proofs.reduced.levels.known_on.Goals as goal
-use Rattle.gf_form.proofs.reduced.levels.known_on.Goals.{then-highest-number, else-highest-number}
+use Rattle.gf_form.proofs.reduced.levels.write_known.Goals as goal
+use Rattle.gf_form.proofs.reduced.levels.write_known.Goals.{then-highest-number, else-highest-number}
 
 pub overflow_sub-visits : goal.overflow_sub-visits
 overflow_sub-visits c =

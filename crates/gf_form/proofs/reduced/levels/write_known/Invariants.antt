@@ -1,5 +1,5 @@
 use Rattle.gf_form.proofs.lemmas.reduced.MetSets.{KnownTo}
-use Rattle.gf_form.proofs.reduced.levels.known_on.Given as goal
+use Rattle.gf_form.proofs.reduced.levels.write_known.Given as goal
 
 abbrev pub invariant-loop-number : goal.invariant-loop-number
 invariant-loop-number l =
