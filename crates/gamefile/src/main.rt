@@ -4,32 +4,15 @@
 
 use arguments::job_asked;
 use gf_run::{
-    Asked, Collection, Counted, Erasing, Job, Kept, Notes, Shown, answer, duplicates_at,
-    hash_paths, perform, perform_explained,
+    Asked, Collection, Counted, Erasing, Shown, answer, duplicates_at, hash_paths, perform,
+    perform_explained,
 };
-use std::io::{IsTerminal, Stderr, Stdout};
+use std::io::{IsTerminal, Stdout};
 use std::process::ExitCode;
 
 mod arguments;
 mod help;
 mod words;
-
-fn explained(
-    rt: &HostRuntime,
-    job: &Job,
-    output: &mut Counted<Stdout>,
-    errors: &mut Counted<Stderr>,
-) -> u8 {
-    let notes = Notes::new(rt.alloc());
-    perform_explained(
-        rt.alloc(),
-        &Kept::new(rt, &notes),
-        &notes,
-        job,
-        output,
-        errors,
-    )
-}
 
 /// Whether standard error is a terminal on which it is shown how many files are done.
 fn is_told(rt: &HostRuntime, files: &Collection) -> bool {
@@ -79,7 +62,7 @@ fn main(rt: HostRuntime) -> ExitCode {
     ExitCode::from(match job_asked(&rt) {
         Ok(Asked::Job { job, explain }) => {
             if explain {
-                explained(&rt, &job, &mut output, &mut errors)
+                perform_explained(rt.alloc(), &rt, &job, &mut output, &mut errors)
             } else {
                 perform(rt.alloc(), &rt, &job, &mut output, &mut errors)
             }

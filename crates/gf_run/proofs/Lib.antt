@@ -7,12 +7,11 @@ pub mod Grouped
 pub mod GroupsText
 pub mod Hashed
 pub mod Interruptions
-pub mod JobFaults
 pub mod MapLines
 pub mod MoreRead
 pub mod MoreWritten
 pub mod OneGroup
 pub mod Places
 pub mod Refusals
-pub mod RunsOfTwo
+pub mod TwoFiles
 pub mod WeakerRequests

@@ -1,6 +1,6 @@
 -- The lines of the pairs of two files that are the same.
 use Rattle.std.proofs.Common.{◌≡◌, ℕ, Bool, true, false, List, [], ◌∷◌, ◌++◌, sym, ap, ◌∙◌}
-use Rattle.std.proofs.Common.{append_assoc, refl, subst}
+use Rattle.std.proofs.Common.{append_assoc, subst}
 use Rattle.std.proofs.lemmas.Grind.{flat_map-append}
 use Rattle.std.proofs.lemmas.List.{append-nil}
 use Rattle.std.specs.List.{flat_map}
@@ -9,7 +9,6 @@ use Rattle.gf_canon.specs.GameFile.{GameFile, SameFile}
 use Rattle.gf_canon.specs.GameFile.GameFile.{extensive, strategic}
 use Rattle.gf_canon.specs.Pairs.{ArePairs}
 use Rattle.gf_canon.specs.declared.numbering.pairs.NumberPair.{NumberPair}
-use Rattle.gf_run.specs.AnswerText.{text_from}
 use Rattle.gf_run.specs.SameText.{IsLineAndMap, answer_line, pair_line}
 
 -- the answer after these pairs
@@ -32,23 +31,12 @@ no_lines : (text : List ℕ) (pairs : List NumberPair) → pairs ≡ [] → text
 no_lines text pairs none is =
     is ∙ ap (λ (ps : List NumberPair). lines ps) none ∙ append-nil (answer_line true)
 
--- these lines are written, since there are some
-kept : (text rest : List ℕ) → text ≡ answer_line true ++ rest → text ≡ text_from true text
-kept text rest is = rw is refl
-
-is_same : (x y : GameFile) (text : List ℕ) → SameFile x y → (pairs : List NumberPair)
-    → ArePairs x y pairs → text ≡ lines pairs → IsLineAndMap x y true text
-is_same (extensive g) (extensive h) text same pairs are is =
-    (same, λ r carries. is ∙ ap (λ (ps : List NumberPair). lines ps) (are r carries))
-is_same (extensive g) (strategic u) text same pairs are is = no_lines text pairs are is
-is_same (strategic t) y text same pairs are is = no_lines text pairs are is
-
 pub same_text : (x y : GameFile) (text : List ℕ) → SameFile x y → (pairs : List NumberPair)
-    → ArePairs x y pairs → text ≡ answer_line true ++ flat_map pair_line pairs
-    → IsLineAndMap x y true (text_from true text)
-same_text x y text same pairs are is =
-    subst (λ (bytes : List ℕ). IsLineAndMap x y true bytes)
-    (kept text (flat_map pair_line pairs) is) (is_same x y text same pairs are is)
+    → ArePairs x y pairs → text ≡ lines pairs → IsLineAndMap x y true text
+same_text (extensive g) (extensive h) text same pairs are is =
+    (same, λ r carries. is ∙ ap (λ (ps : List NumberPair). lines ps) (are r carries))
+same_text (extensive g) (strategic u) text same pairs are is = no_lines text pairs are is
+same_text (strategic t) y text same pairs are is = no_lines text pairs are is
 
 pub different_text : (x y : GameFile) (same : Bool) (text : List ℕ) → same ≡ false
     → text ≡ answer_line false → IsLineAndMap x y same text

@@ -1,12 +1,8 @@
--- What is written for an answer about two files.
-use Rattle.std.specs.Prelude.{ℕ, Bool, List, [], ◌∷◌}
-use Rattle.gf_run.specs.SameText.{answer_line}
-use Rattle.gf_run.specs.declared.texts.comparison.Answer.{Answer}
+-- What is written.
+use Rattle.std.specs.Prelude.{ℕ, List}
+use Rattle.gf_run.specs.declared.texts.text.Text.{Text}
+use Rattle.gf_run.specs.declared.texts.text.Text.TheVariants.{Line, Made}
 
--- the lines that were made, or if there are none the line of the answer
-abbrev pub text_from : Bool → List ℕ → List ℕ
-text_from same [] = answer_line same
-text_from same (byte ∷ bytes) = byte ∷ bytes
-
-abbrev pub text_of : Answer → List ℕ
-text_of answer = text_from answer.same answer.lines.items
+abbrev pub bytes_of : Text → List ℕ
+bytes_of (Line line) = line.now
+bytes_of (Made text) = text.items

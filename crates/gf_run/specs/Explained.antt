@@ -1,13 +1,16 @@
 -- How a run ends whose fault is explained in words.
-use Rattle.std.specs.Prelude.{◌≡◌, ◌⊎◌, ℕ, Bool, true, false, ◌<◌, List, [], ◌++◌, codes, decimal}
-use Rattle.std.specs.Prelude.{length, take, Option, Result}
+use Rattle.std.specs.Prelude.{◌≡◌, ◌≢◌, ◌⊎◌, ℕ, Bool, true, false, List, [], ◌++◌, codes, decimal}
+use Rattle.std.specs.Prelude.{take, Option, Result}
 use Rattle.std.specs.String.{string_bytes}
 use Rattle.std.specs.declared.io.Error.{Error}
 use Rattle.gf_token.specs.declared.fault.Fault.{Fault}
+use Rattle.gf_token.specs.declared.fault.Why.TheVariants.{TooLong}
 use Rattle.gf_run.specs.Ending.{IsTold}
+use Rattle.gf_run.specs.FaultInput.{is_of_second, is_second, of_second}
 use Rattle.gf_run.specs.FaultLine.{fault_line, short_line}
 use Rattle.gf_run.specs.FaultStatus.{status_of}
-use Rattle.gf_run.specs.Input.{limit}
+use Rattle.gf_run.specs.Input.{too_long}
+use Rattle.gf_run.specs.JobRun.{AreRead, IsFaultOf}
 use Rattle.gf_run.specs.Place.{IsPlaceAfter}
 use Rattle.gf_run.specs.declared.asked.Input.{Input}
 use Rattle.gf_run.specs.declared.asked.Input.TheVariants as input
@@ -15,9 +18,7 @@ use Rattle.gf_run.specs.declared.asked.Job.{Job}
 use Rattle.gf_run.specs.declared.asked.Job.TheVariants.{Canon, Check, Table, Same}
 use Rattle.gf_run.specs.declared.explain.place.Place.{Place}
 use Rattle.gf_run.specs.declared.fault.RunFault.{RunFault}
-use Rattle.gf_run.specs.declared.fault.RunFault.TheVariants.{Refused, Read}
-use Rattle.gf_run.specs.declared.fault.Which.{Which}
-use Rattle.gf_run.specs.declared.fault.Which.TheVariants.{Second}
+use Rattle.gf_run.specs.declared.fault.RunFault.TheVariants.{Refused}
 
 -- the name of a file, and a line and a column in it
 abbrev pub placed_text : List ℕ → Place → List ℕ
@@ -31,10 +32,9 @@ unplaced_text name = name ++ codes ": "
 -- where a refusal is: the place after the bytes before it; for a file that is too long, only its
 -- name
 pub data IsWhere (fault : Fault) (name bytes text : List ℕ) : Type 0 where
-  placed : (place : Place) → IsPlaceAfter (take fault.span.start bytes) place
+  placed : (place : Place) → fault.why ≢ TooLong → IsPlaceAfter (take fault.span.start bytes) place
       → text ≡ placed_text name place → IsWhere fault name bytes text
-  unplaced : (length bytes < fault.span.start) ⊎ (limit < length bytes) → text ≡ unplaced_text name
-      → IsWhere fault name bytes text
+  unplaced : fault.why ≡ TooLong → text ≡ unplaced_text name → IsWhere fault name bytes text
 
 -- what an explanation begins with
 abbrev pub IsHead : RunFault → List ℕ → List ℕ → List ℕ → Type 0
@@ -63,27 +63,31 @@ called (Table input reduced) second = called_input input
 called (Same a b map names) false = string_bytes a
 called (Same a b map names) true = string_bytes b
 
--- whether a fault is about the second of two inputs
-abbrev pub is_second : Which → Bool
-is_second Second = true
-is_second which = false
+-- what is written about a fault: an explanation; or its line, if memory for that ran out
+abbrev pub IsToldBy : RunFault → List ℕ → List ℕ → List ℕ → Type 0
+IsToldBy fault name bytes text = (text ≡ fault_line fault) ⊎ IsExplained fault name bytes text
 
-abbrev pub is_of_second : RunFault → Bool
-is_of_second (Refused which fault) = is_second which
-is_of_second (Read which) = is_second which
-is_of_second fault = false
+-- for what opens inputs: what standard input may be, and what opening the file of a name may
+-- answer; and for the inputs: the bytes that each has left, if it reports them, and what a pull
+-- gives
+module _ {S : Type 0} (standard : S → Type 0) (opens : List ℕ → Result S Error → Type 0)
+    (remaining : S → Option (List ℕ)) (gives : S → List ℕ → Result ℕ Error → S → Type 0) where
+  -- what a fault of a job is about: if a file is refused that is not too long, these are its bytes,
+  -- which were read and are refused with this fault
+  abbrev pub IsAbout : Job → RunFault → List ℕ → Type 0
+  IsAbout job (Refused which fault) bytes = (fault ≡ too_long) ⊎ ((a b : List ℕ)
+      × AreRead standard opens remaining gives job a b × IsFaultOf job a b (Refused which fault)
+      × (bytes ≡ of_second (is_second which) a b))
+  IsAbout job fault bytes = Unit {0}
 
--- what is written about a fault of a job: an explanation; or its line, if memory for that ran out
-abbrev pub IsToldInWords : Job → RunFault → List ℕ → Type 0
-IsToldInWords job fault text = (text ≡ fault_line fault)
-    ⊎ ((bytes : List ℕ) × IsExplained fault (called job (is_of_second fault)) bytes text)
-
--- for standard error: what is asked for is done with this status, and nothing was reported; or it
--- failed with a fault, this is the status of the fault, and it was explained in words
-module _ {S : Type 0} (contents : S → Option (List ℕ)) (count : S → ℕ)
-    (gives : S → List ℕ → Result ℕ Error → S → Type 0) where
-  abbrev pub EndsInWords : (Done : ℕ → Type 0) (Fails : RunFault → Type 0) → Job → ℕ → S → S
-      → Type 0
-  EndsInWords Done Fails job status old new = (Done status × (new ≡ old))
-      ⊎ ((fault : RunFault) × Fails fault × (status ≡ status_of fault)
-      × ((text : List ℕ) × IsToldInWords job fault text × IsTold contents count gives text old new))
+  -- for standard error: what is asked for is done with this status, and nothing was reported; or it
+  -- failed with a fault, this is the status of the fault, and it was explained in words
+  module _ {E : Type 0} (contents : E → Option (List ℕ)) (count : E → ℕ)
+      (takes : E → List ℕ → Result ℕ Error → E → Type 0) where
+    abbrev pub EndsInWords : (Done : ℕ → Type 0) (Fails : RunFault → Type 0) → Job → ℕ → E → E
+        → Type 0
+    EndsInWords Done Fails job status old new = (Done status × (new ≡ old))
+        ⊎ ((fault : RunFault) × Fails fault × (status ≡ status_of fault)
+        × ((bytes text : List ℕ) × IsAbout job fault bytes
+        × IsToldBy fault (called job (is_of_second fault)) bytes text
+        × IsTold contents count takes text old new))

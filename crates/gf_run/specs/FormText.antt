@@ -1,7 +1,6 @@
 -- What is written for a file as a table: the strategic form of a tree, or its reduced form, and a
 -- table as it is.
-use Rattle.std.specs.Prelude.{◌≡◌, ℕ, List, Option, Result}
-use Rattle.std.specs.declared.io.Error.{Error}
+use Rattle.std.specs.Prelude.{◌≡◌, ℕ, List}
 use Rattle.gf_nfg.specs.Table.{Table}
 use Rattle.gf_nfg.specs.TableText.{table_text}
 use Rattle.gf_canon.specs.GameFile.{GameFile}
@@ -12,9 +11,8 @@ use Rattle.gf_form.specs.declared.fault.FormFault.{FormFault}
 use Rattle.gf_form.specs.declared.fault.FormFault.TheVariants as form
 use Rattle.gf_form.specs.declared.forms.Strategies.{Strategies}
 use Rattle.gf_run.specs.declared.fault.RunFault.{RunFault}
-use Rattle.gf_run.specs.declared.fault.RunFault.TheVariants.{Refused, Write, Form, Memory}
+use Rattle.gf_run.specs.declared.fault.RunFault.TheVariants.{Refused, Form, Memory}
 use Rattle.gf_run.specs.declared.fault.Which.TheVariants.{Only}
-use Rattle.gf_run.specs.Input.{IsNotRead, IsReadWhole}
 
 -- why a file has no table; a file that is a table always has one
 abbrev pub IsWithoutForm : Strategies → GameFile → FormFault → Type 0
@@ -40,10 +38,9 @@ pub record IsFormText (strategies : Strategies) (bytes text : List ℕ) : Type 0
   pub is_form : IsFormOf strategies file table
   pub is_text : text ≡ table_text table
 
--- why a valid file has no answer: its game has no table, or memory or the writer failed
+-- why a valid file has no answer: its game has no table, or memory ran out
 abbrev pub IsFormFault : Strategies → GameFile → RunFault → Type 0
 IsFormFault strategies x (Form fault) = IsWithoutForm strategies x fault
-IsFormFault strategies x Write = Unit {0}
 IsFormFault strategies x Memory = Unit {0}
 IsFormFault strategies _ _ = ⊥
 
@@ -53,15 +50,3 @@ IsFaultOfBytes strategies bytes (Refused which fault) =
     (which ≡ Only) × IsRefusedWith bytes fault
 IsFaultOfBytes strategies bytes fault =
     (x : GameFile) × SpellsWithin bytes x × IsFormFault strategies x fault
-
--- for a reader: the bytes that it has left, if it reports them, its count of failures, and what a
--- pull gives
-module _ {S : Type 0} (remaining : S → Option (List ℕ)) (count : S → ℕ)
-    (gives : S → List ℕ → Result ℕ Error → S → Type 0) where
-  -- how far a run that has no answer read its input: not to the end, or whole
-  pub data ReadsFormUntil (strategies : Strategies) (fault : RunFault) (old new : S)
-      : Type 0 where
-    not_read : IsNotRead remaining count gives Only fault old new
-        → ReadsFormUntil strategies fault old new
-    read : (bytes : List ℕ) → IsReadWhole remaining gives old new bytes
-        → IsFaultOfBytes strategies bytes fault → ReadsFormUntil strategies fault old new

@@ -1,22 +1,21 @@
--- What a job does: the text that it writes and its exit status, or the fault that it ends with.
-use Rattle.std.specs.Prelude.{◌≡◌, ◌⊎◌, ℕ, Bool, true, false, List, MatchResult, Option, Result}
+-- What a job does: it reads its inputs, and writes the text that answers their bytes; or the fault
+-- that it ends with.
+use Rattle.std.specs.Prelude.{◌≡◌, ◌⊎◌, ℕ, Bool, true, false, List, [], Option, Result}
 use Rattle.std.specs.declared.io.Error.{Error}
 use Rattle.gf_canon.specs.GameFile.{SameFile}
-use Rattle.gf_canon.specs.Judgement.{IsRefusedWith, IsTextBy}
+use Rattle.gf_canon.specs.Judgement.{IsTextBy}
 use Rattle.gf_canon.specs.SameBy.{SameBy}
 use Rattle.gf_canon.specs.declared.sameness.Names.{Names}
 use Rattle.gf_form.specs.declared.forms.Strategies.{Strategies}
 use Rattle.gf_form.specs.declared.forms.Strategies.TheVariants.{Pure, Reduced}
 use Rattle.gf_run.specs.FaultStatus.{answer_status}
 use Rattle.gf_run.specs.FileKinds.{IsKindLine}
-use Rattle.gf_run.specs.FormText.{IsFormText, ReadsFormUntil}
-use Rattle.gf_run.specs.Input.{IsReadWhole}
+use Rattle.gf_run.specs.FormText.{IsFaultOfBytes, IsFormText}
+use Rattle.gf_run.specs.Input.{IsNotRead, IsReadWhole}
 use Rattle.gf_run.specs.Opening.{IsNotOpened, IsOpened, RunsOver, RunsOverTwo}
-use Rattle.gf_run.specs.Output.{IsWriteFault, IsWritten}
-use Rattle.gf_run.specs.Run.{Answers, ReadsUntil}
-use Rattle.gf_run.specs.RunOfTwo.{AnswersTwo, ReadsTwoUntil}
+use Rattle.gf_run.specs.Run.{IsRefusal}
+use Rattle.gf_run.specs.RunOfTwo.{AreNotRead, IsFaultOfFiles}
 use Rattle.gf_run.specs.SameText.{IsAnswer, IsLine, IsLineAndMap}
-use Rattle.gf_run.specs.declared.jobs.check.FileKind.{FileKind}
 use Rattle.gf_run.specs.declared.fault.RunFault.{RunFault}
 use Rattle.gf_run.specs.declared.fault.RunFault.TheVariants.{Read, Write}
 use Rattle.gf_run.specs.declared.fault.Which.TheVariants.{Only, First, Second}
@@ -24,6 +23,8 @@ use Rattle.gf_run.specs.declared.asked.Input.{Input}
 use Rattle.gf_run.specs.declared.asked.Input.TheVariants.{File}
 use Rattle.gf_run.specs.declared.asked.Job.{Job}
 use Rattle.gf_run.specs.declared.asked.Job.TheVariants.{Canon, Check, Table, Same}
+
+-- ---- answers
 
 -- the strategies of a form, or the reduced ones if they are asked for
 abbrev pub strategies_of : Bool → Strategies
@@ -35,26 +36,56 @@ abbrev pub IsAnswerBy : Bool → Names → Bool → List ℕ → List ℕ → Li
 IsAnswerBy true names = IsAnswer SameFile IsLineAndMap
 IsAnswerBy false names = IsAnswer (SameBy names) IsLine
 
+-- the exit status and the text that answer a job over the bytes of its inputs
+abbrev pub IsAnswerOf : Job → List ℕ → List ℕ → ℕ → List ℕ → Type 0
+IsAnswerOf (Canon input names) a b status text = (status ≡ 0) × IsTextBy names a text
+IsAnswerOf (Check input) a b status text = (status ≡ 0) × IsKindLine a text
+IsAnswerOf (Table input reduced) a b status text =
+    (status ≡ 0) × IsFormText (strategies_of reduced) a text
+IsAnswerOf (Same first second map names) a b status text =
+    (same : Bool) × (status ≡ answer_status same) × IsAnswerBy map names same a b text
+
+-- why the bytes of its inputs have no answer
+abbrev pub IsFaultOf : Job → List ℕ → List ℕ → RunFault → Type 0
+IsFaultOf (Canon input names) a b fault = IsRefusal a fault
+IsFaultOf (Check input) a b fault = IsRefusal a fault
+IsFaultOf (Table input reduced) a b fault = IsFaultOfBytes (strategies_of reduced) a fault
+IsFaultOf (Same first second map names) a b fault = IsFaultOfFiles a b fault
+
+-- ---- what a job does
+
 -- for what opens inputs: what standard input may be, and what opening the file of a name may
 -- answer; and for the inputs: the bytes that each has left, if it reports them, and what a pull
 -- gives
 module _ {S : Type 0} (standard : S → Type 0) (opens : List ℕ → Result S Error → Type 0)
     (remaining : S → Option (List ℕ)) (gives : S → List ℕ → Result ℕ Error → S → Type 0) where
-  -- the inputs of a job were opened and read whole, the text that answers them was `written`, and
-  -- this is the exit status
-  abbrev pub Does : (written : List ℕ → Type 0) → Job → ℕ → Type 0
-  Does written (Canon input names) status = (status ≡ 0) × RunsOver standard opens
-      (λ old new. Answers (IsTextBy names) (IsReadWhole remaining gives old new) written) input
-  Does written (Check input) status = (status ≡ 0) × RunsOver standard opens
-      (λ old new. (kind : FileKind)
-      × Answers (IsKindLine kind) (IsReadWhole remaining gives old new) written) input
-  Does written (Table input reduced) status = (status ≡ 0) × RunsOver standard opens
-      (λ old new. Answers (IsFormText (strategies_of reduced))
-      (IsReadWhole remaining gives old new) written) input
-  Does written (Same a b map names) status = (same : Bool) × (status ≡ answer_status same)
-      × RunsOverTwo standard opens (λ old new old' new'. AnswersTwo (IsAnswerBy map names same)
-      (IsReadWhole remaining gives old new) (IsReadWhole remaining gives old' new') written)
-      (File a) (File b)
+  -- an input was opened and read whole, and these are its bytes
+  abbrev pub IsReadFrom : Input → List ℕ → Type 0
+  IsReadFrom input bytes =
+      RunsOver standard opens (λ old new. IsReadWhole remaining gives old new bytes) input
+
+  -- two inputs were
+  abbrev pub AreReadFrom : Input → Input → List ℕ → List ℕ → Type 0
+  AreReadFrom first second a b = RunsOverTwo standard opens (λ old new old' new'.
+      IsReadWhole remaining gives old new a × IsReadWhole remaining gives old' new' b) first second
+
+  -- the inputs of a job were, and these are their bytes; if it has one input, there are none of a
+  -- second
+  abbrev pub AreRead : Job → List ℕ → List ℕ → Type 0
+  AreRead (Canon input names) a b = IsReadFrom input a × (b ≡ [])
+  AreRead (Check input) a b = IsReadFrom input a × (b ≡ [])
+  AreRead (Table input reduced) a b = IsReadFrom input a × (b ≡ [])
+  AreRead (Same first second map names) a b = AreReadFrom (File first) (File second) a b
+
+  -- the inputs of a job were read, the text that answers them was `written`, and this is the exit
+  -- status
+  pub record Does (written : List ℕ → Type 0) (job : Job) (status : ℕ) : Type 0 where
+    pub first : List ℕ
+    pub second : List ℕ
+    pub text : List ℕ
+    pub read : AreRead job first second
+    pub answer : IsAnswerOf job first second status text
+    pub output : written text
 
 -- for the inputs: their counts of failures too
 module _ {S : Type 0} (standard : S → Type 0) (opens : List ℕ → Result S Error → Type 0)
@@ -71,18 +102,20 @@ module _ {S : Type 0} (standard : S → Type 0) (opens : List ℕ → Result S E
   EndsOverTwo fault a b = ((fault ≡ Read First) × IsNotOpened standard opens a)
       ⊎ ((fault ≡ Read Second) × ((first : S) × IsOpened standard opens a first)
       × IsNotOpened standard opens b)
-      ⊎ RunsOverTwo standard opens
-      (ReadsTwoUntil remaining count gives remaining count gives fault) a b
+      ⊎ RunsOverTwo standard opens (AreNotRead remaining count gives fault) a b
 
-  -- how a job came to this fault
+  -- the inputs of a job were not read, because of this fault
+  abbrev pub AreUnread : Job → RunFault → Type 0
+  AreUnread (Canon input names) fault = EndsOver (IsNotRead remaining count gives Only) fault input
+  AreUnread (Check input) fault = EndsOver (IsNotRead remaining count gives Only) fault input
+  AreUnread (Table input reduced) fault =
+      EndsOver (IsNotRead remaining count gives Only) fault input
+  AreUnread (Same first second map names) fault = EndsOverTwo fault (File first) (File second)
+
+  -- how a job came to this fault: its inputs were not read; or they were, and have no answer
   abbrev pub EndsWith : Job → RunFault → Type 0
-  EndsWith (Canon input names) fault =
-      EndsOver (ReadsUntil remaining count gives IsRefusedWith Only) fault input
-  EndsWith (Check input) fault =
-      EndsOver (ReadsUntil remaining count gives IsRefusedWith Only) fault input
-  EndsWith (Table input reduced) fault =
-      EndsOver (ReadsFormUntil remaining count gives (strategies_of reduced)) fault input
-  EndsWith (Same a b map names) fault = EndsOverTwo fault (File a) (File b)
+  EndsWith job fault = AreUnread job fault ⊎ ((a b : List ℕ)
+      × AreRead standard opens remaining gives job a b × IsFaultOf job a b fault)
 
   -- why a job was not done: a prefix of the text that answers it was written, and then the output
   -- failed; or it came to a fault before anything was asked of the output
@@ -90,22 +123,3 @@ module _ {S : Type 0} (standard : S → Type 0) (opens : List ℕ → Result S E
   Fails untouched cut_off job Write =
       (status : ℕ) × Does standard opens remaining gives cut_off job status
   Fails untouched cut_off job fault = untouched × EndsWith job fault
-
--- for the inputs, and for an output: the bytes that it holds, if it reports them, its count of
--- failures, and what a push gives
-module _ {S W : Type 0} (standard : S → Type 0) (opens : List ℕ → Result S Error → Type 0)
-    (remaining : S → Option (List ℕ)) (count : S → ℕ)
-    (gives : S → List ℕ → Result ℕ Error → S → Type 0) (contents : W → Option (List ℕ))
-    (count' : W → ℕ) (takes : W → List ℕ → Result ℕ Error → W → Type 0) where
-  -- a job was done, and its text written
-  abbrev pub IsDone : Job → W → W → ℕ → Type 0
-  IsDone job old new = Does standard opens remaining gives (IsWritten contents takes old new) job
-
-  -- a job was not done
-  abbrev pub IsNotDone : Job → W → W → RunFault → Type 0
-  IsNotDone job old new = Fails standard opens remaining count gives (new ≡ old)
-      (IsWriteFault contents count' takes old new) job
-
-  -- one or the other
-  abbrev pub HasEnded : Job → W → W → Result ℕ RunFault → Type 0
-  HasEnded job old new result = MatchResult result (IsDone job old new) (IsNotDone job old new)

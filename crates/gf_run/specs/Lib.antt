@@ -5,6 +5,7 @@ pub mod DuplicatesRun
 pub mod Ending
 pub mod Explained
 pub mod Failures
+pub mod FaultInput
 pub mod FaultLine
 pub mod FaultStatus
 pub mod FileKinds
@@ -14,7 +15,6 @@ pub mod HashText
 pub mod Hashes
 pub mod Input
 pub mod JobRun
-pub mod Kept
 pub mod Opened
 pub mod Opening
 pub mod Output

@@ -1,6 +1,7 @@
 //! How a run may fail, and its exit status.
 
 ghost use Rattle.std.specs.Prelude.{◌≡◌};
+ghost use Rattle.gf_run.specs.FaultInput.{is_of_second};
 ghost use Rattle.gf_run.specs.FaultStatus.{answer_status, status_of};
 ghost use Rattle.gf_run.specs.FormFaults.{form_fault};
 ghost use Rattle.gf_run.specs.SameFaults.{fault_of};
@@ -10,6 +11,7 @@ use gf_canon::SameFault;
 use gf_form::FormFault;
 use gf_token::{Fault, Why};
 use std::alloc::AllocError;
+use std::io;
 use thiserror::Error;
 
 /// The input that a fault is about.
@@ -80,6 +82,24 @@ impl From<FormFault> for RunFault {
     }
 }
 
+/// A fault, and what is known about it.
+#[derive(Drop)]
+pub struct Failure {
+    pub fault: RunFault,
+    /// Whether the input that it is about was opened.
+    pub is_open: bool,
+    /// The last error of this input, or of the output.
+    pub error: Option<io::Error>,
+}
+
+impl From<Failure> for RunFault {
+    ghost from_gives = { λ failure fault. fault ≡ failure.fault };
+
+    fn from(failure: Failure) -> RunFault {
+        failure.fault
+    }
+}
+
 /// The writer failed.
 #[derive(Clone, Copy, Debug, PartialEq, Eq, Error)]
 #[error("the text could not be written")]
@@ -106,6 +126,19 @@ pub fn status(fault: &RunFault) -> u8
         RunFault::Form(FormFault::TooManyProfiles | FormFault::Overflow { .. }) => 2,
         RunFault::Read(_) | RunFault::Write => 4,
         RunFault::Form(FormFault::Memory) | RunFault::Memory => 5,
+    }
+}
+
+/// Whether a fault is about the second of two inputs.
+pub fn is_of_second(fault: &RunFault) -> bool
+    ensures { result ≡ is_of_second fault.now }
+{
+    match fault {
+        RunFault::Refused { which, .. } | RunFault::Read(which) => match which {
+            Which::Second => true,
+            Which::Only | Which::First => false,
+        },
+        RunFault::Write | RunFault::Form(_) | RunFault::Memory => false,
     }
 }
 

@@ -1,5 +1,5 @@
-//! How the inputs of a job are opened, and what is noted of them.
+//! How the inputs of a job are opened and read.
 
 pub mod inputs;
-pub mod kept;
 pub mod opened;
+pub mod read;

@@ -5,3 +5,4 @@ pub mod comparison;
 pub mod line;
 pub mod renumbering;
 pub mod report;
+pub mod text;

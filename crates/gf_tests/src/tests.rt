@@ -4,6 +4,4 @@ mod faults;
 mod forms;
 mod jobs;
 mod library;
-mod runs;
-mod same;
 mod trees;

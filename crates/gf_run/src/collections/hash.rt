@@ -30,7 +30,7 @@ fn hash_of(alloc: Global, bytes: &[u8], names: Names) -> Result<[u8; 32], RunFau
 
 /// Reads a file whole, and returns the hash of its canonical text, with names or without.
 ///
-/// - `Refused`, `Read`: as `run_canon` has them.
+/// - `Refused`, `Read`: as `perform` has them.
 /// - `Memory`: memory ran out while the input was read.
 pub fn read_hash<R: Source>(
     alloc: Global,
@@ -77,7 +77,7 @@ fn line_of(alloc: Global, name: &str, bytes: &[u8], names: Names) -> Result<Stri
 ///
 /// # Errors
 ///
-/// - `Refused`, `Read`, `Write`: as `run_canon` has them.
+/// - `Refused`, `Read`, `Write`: as `perform` has them.
 /// - `Memory`: memory ran out while the input was read, or for the line of a valid file.
 pub fn run_hash<R: Source, W: Sink>(
     alloc: Global,

@@ -1,17 +1,16 @@
 //! The text of an explanation.
 
-ghost use Rattle.std.specs.Prelude.{◌≡◌, ◌++◌, IfOk, OnOk, codes, decimal};
+ghost use Rattle.std.specs.Prelude.{◌≡◌, ◌++◌, ◌≤◌, IfOk, OnOk, codes, decimal, length};
 ghost use Rattle.gf_run.specs.Explained.{IsExplained, IsHead, IsWhere, placed_text, unplaced_text};
+ghost use Rattle.gf_run.specs.Input.{limit};
 
 use crate::explain::excerpt::push_excerpt;
 use crate::explain::place::{Place, place_after};
 use crate::explain::sentence::{hint, push_form, push_sentence};
 use crate::explain::shown::push_shown;
-use crate::fault::RunFault;
-use crate::opening::kept::Note;
-use crate::streams::source::LIMIT;
+use crate::fault::{Failure, RunFault};
 use crate::texts::report::short_line_of;
-use gf_token::Fault;
+use gf_token::{Fault, Why};
 use itoa::Buffer;
 use std::alloc::{AllocError, Global};
 use std::io;
@@ -49,17 +48,19 @@ fn unplaced(alloc: Global, name: &str) -> Result<Vec<u8>, AllocError>
 /// Where a refusal is: the name of the file, the line and the column. For a file that is too long,
 /// only its name.
 fn where_of(alloc: Global, fault: &Fault, name: &str, bytes: &[u8]) -> Result<Vec<u8>, AllocError>
+    requires { length bytes.now ≤ limit }
     ensures { IfOk result (λ text. IsWhere fault.now name.now bytes.now text.items) }
 {
-    if fault.span.start <= bytes.len() && bytes.len() <= LIMIT {
-        placed(alloc, name, place_after(&bytes[..fault.span.start]))
-    } else {
-        unplaced(alloc, name)
+    if fault.why == Why::TooLong {
+        return unplaced(alloc, name);
     }
+    let before = &bytes[..fault.span.start.min(bytes.len())];
+    placed(alloc, name, place_after(before))
 }
 
 /// What an explanation begins with.
 fn head_of(alloc: Global, fault: &RunFault, name: &str, bytes: &[u8]) -> Result<Vec<u8>, AllocError>
+    requires { length bytes.now ≤ limit }
     ensures { IfOk result (λ head. IsHead fault.now name.now bytes.now head.items) }
 {
     match fault {
@@ -69,13 +70,15 @@ fn head_of(alloc: Global, fault: &RunFault, name: &str, bytes: &[u8]) -> Result<
 }
 
 /// Appends what is wrong with a file, the line of the place, and a hint.
-fn push_refusal(text: &mut String, fault: &Fault, bytes: &[u8]) -> Result<(), AllocError> {
+fn push_refusal(text: &mut String, fault: &Fault, bytes: &[u8]) -> Result<(), AllocError>
+    requires { length bytes.now ≤ limit }
+{
     let start = fault.span.start.min(bytes.len());
     let end = fault.span.end.min(bytes.len()).max(start);
     let found = &bytes[start..end];
     push_sentence(text, fault.why, found)?;
     text.push('\n')?;
-    if bytes.len() <= LIMIT {
+    if fault.why != Why::TooLong {
         push_excerpt(text, bytes, fault.span, place_after(&bytes[..start]).line)?;
     }
     if let Some(words) = hint(fault.why, found) {
@@ -100,28 +103,24 @@ fn push_reason(
 }
 
 /// What comes after the head.
-fn rest_of(
-    alloc: Global,
-    fault: &RunFault,
-    name: &str,
-    note: &Note,
-    written: &Option<io::Error>,
-) -> Result<String, AllocError> {
+fn rest_of(alloc: Global, failure: &Failure, name: &str, bytes: &[u8]) -> Result<String, AllocError>
+    requires { length bytes.now ≤ limit }
+{
     let mut text = String::new(alloc);
-    match fault {
-        RunFault::Refused { fault, .. } => push_refusal(&mut text, fault, note.bytes.as_slice())?,
+    match &failure.fault {
+        RunFault::Refused { fault, .. } => push_refusal(&mut text, fault, bytes)?,
         RunFault::Read(_) => {
-            text.push_str(if note.is_open {
+            text.push_str(if failure.is_open {
                 "cannot read "
             } else {
                 "cannot open "
             })?;
             push_shown(&mut text, name.as_bytes())?;
-            push_reason(alloc, &mut text, &note.error)?;
+            push_reason(alloc, &mut text, &failure.error)?;
         }
         RunFault::Write => {
             text.push_str("cannot write the output")?;
-            push_reason(alloc, &mut text, written)?;
+            push_reason(alloc, &mut text, &failure.error)?;
         }
         RunFault::Form(fault) => {
             push_form(&mut text, fault)?;
@@ -136,16 +135,17 @@ fn rest_of(
 /// the line of the file with marks under the place, and a hint.
 pub fn explanation(
     alloc: Global,
-    fault: &RunFault,
+    failure: &Failure,
     name: &str,
-    note: &Note,
-    written: &Option<io::Error>,
+    bytes: &[u8],
 ) -> Result<Vec<u8>, AllocError>
-    ensures { IfOk result (λ text. IsExplained fault.now name.now note.now.bytes.items text.items) }
+    requires { length bytes.now ≤ limit }
+    ensures { IfOk result (λ text.
+        IsExplained failure.now.fault name.now bytes.now text.items) }
 {
-    let mut text = head_of(alloc, fault, name, note.bytes.as_slice())?;
-    text.extend_from_slice(short_line_of(fault).as_slice())?;
+    let mut text = head_of(alloc, &failure.fault, name, bytes)?;
+    text.extend_from_slice(short_line_of(&failure.fault).as_slice())?;
     text.extend_from_slice(b": ")?;
-    text.extend_from_slice(rest_of(alloc, fault, name, note, written)?.as_bytes())?;
+    text.extend_from_slice(rest_of(alloc, failure, name, bytes)?.as_bytes())?;
     Ok(text)
 }

@@ -1,158 +1,131 @@
 //! What the program does for a job.
 
-ghost use Rattle.std.specs.Prelude.{◌≡◌, Ok, Err, MatchResult};
-ghost use Rattle.std.specs.declared.io.Error.{Error};
+ghost use Rattle.std.specs.Prelude.{◌≡◌, ◌⊎◌, ◌≤◌, ℕ, List, IfErr, IfOk, MatchResult, length};
+ghost use Rattle.gf_run.specs.AnswerText.{bytes_of};
 ghost use Rattle.gf_run.specs.Ending.{EndsBy};
-ghost use Rattle.gf_run.specs.JobRun.{Does, Fails, HasEnded, strategies_of};
-ghost use Rattle.gf_run.specs.Opening.{IsNotOpened, IsOpened};
+ghost use Rattle.gf_run.specs.Explained.{IsAbout};
+ghost use Rattle.gf_run.specs.Input.{limit};
+ghost use Rattle.gf_run.specs.JobRun.{Does, Fails, IsAnswerOf, IsFaultOf};
 ghost use Rattle.gf_run.specs.Output.{IsWriteFault, IsWritten};
 
-use crate::asked::{Input, Job};
-use crate::fault::{RunFault, Which, answer_status};
-use crate::jobs::check::run_check;
+use crate::asked::Job;
+use crate::fault::{Failure, RunFault, WriteFault, is_of_second};
+use crate::jobs::answer::answer_of;
 use crate::jobs::ending::tell;
-use crate::jobs::run::run_canon;
-use crate::jobs::same::run_compare;
-use crate::jobs::table::run_form;
 use crate::opening::inputs::Inputs;
-use crate::streams::sink::Sink;
-use crate::streams::source::Source;
-use gf_canon::Names;
-use gf_form::Strategies;
+use crate::opening::read::{Texts, read_inputs};
+use crate::streams::sink::{Sink, push_all};
 use std::alloc::Global;
 
-/// Opens a file. If it cannot be opened, that is a read fault of this input.
-fn open_file<I: Inputs>(inputs: &I, name: &str, which: Which) -> Result<I::Opened, RunFault>
-    ensures { MatchResult result (λ input. I.open_gives inputs.now name.now (Ok input))
-        (λ fault. (fault ≡ RunFault.Read which)
-        × ((error : Error) × I.open_gives inputs.now name.now (Err error))) }
+/// Writes the answer of a job over the bytes of its inputs, and returns its exit status.
+///
+/// The text is made whole before its first byte is written.
+fn write_answer<W: Sink>(
+    alloc: Global,
+    job: &Job,
+    texts: &Texts,
+    output: &mut W,
+) -> Result<u8, RunFault>
+    requires { length texts.now.first.items ≤ limit }
+    ensures done { IfOk result (λ status. (text : List ℕ)
+        × IsAnswerOf job.now texts.now.first.items texts.now.second.items status text
+        × IsWritten W.contents W.push_gives output.old output.new text) }
+    ensures failed { IfErr result (λ fault. ((fault ≡ RunFault.Write)
+        × ((status : ℕ) × (text : List ℕ)
+        × IsAnswerOf job.now texts.now.first.items texts.now.second.items status text
+        × IsWriteFault W.contents W.count W.push_gives output.old output.new text))
+        ⊎ ((output.new ≡ output.old)
+        × IsFaultOf job.now texts.now.first.items texts.now.second.items fault)) }
 {
-    match inputs.open(name) {
-        Ok(input) => Ok(input),
-        Err(_) => Err(RunFault::Read(which)),
+    match answer_of(alloc, job, texts) {
+        Ok(answer) => match push_all(output, answer.text.as_slice()) {
+            Ok(()) => Ok(answer.status),
+            Err(WriteFault) => Err(RunFault::Write),
+        },
+        Err(fault) => Err(fault),
     }
 }
 
-/// Opens the one input of a job.
-pub(crate) fn open_input<I: Inputs>(inputs: &I, input: &Input) -> Result<I::Opened, RunFault>
-    ensures { MatchResult result
-        (IsOpened (I.standard_gives inputs.now) (I.open_gives inputs.now) input.now)
-        (λ fault. (fault ≡ RunFault.Read Which.Only)
-        × IsNotOpened (I.standard_gives inputs.now) (I.open_gives inputs.now) input.now) }
-{
-    match input {
-        Input::Standard => Ok(inputs.standard()),
-        Input::File(name) => open_file(inputs, name.as_str(), Which::Only),
-        Input::NotText(_) => Err(RunFault::Read(Which::Only)),
-    }
+/// A job that was not done.
+#[derive(Drop)]
+pub(crate) struct Undone {
+    pub(crate) failure: Failure,
+    /// The bytes of the input that the fault is about, if it was read whole.
+    pub(crate) bytes: Vec<u8>,
 }
 
-/// All pure strategies, or the reduced ones.
-fn strategies_of(reduced: bool) -> Strategies
-    ensures { result ≡ strategies_of reduced }
-{
-    if reduced {
-        Strategies::Reduced
-    } else {
-        Strategies::Pure
-    }
-}
-
-fn canon<I: Inputs, W: Sink>(
-    alloc: Global,
-    inputs: &I,
-    input: &Input,
-    names: Names,
-    output: &mut W,
-) -> Result<u8, RunFault>
-    ensures { HasEnded (I.standard_gives inputs.now) (I.open_gives inputs.now)
-        I.Opened.remaining I.Opened.count I.Opened.pull_gives W.contents W.count W.push_gives
-        (Job.Canon input.now names) output.old output.new result }
-{
-    let mut input = open_input(inputs, input)?;
-    run_canon(alloc, &mut input, names, output)?;
-    Ok(0)
-}
-
-fn check<I: Inputs, W: Sink>(
-    alloc: Global,
-    inputs: &I,
-    input: &Input,
-    output: &mut W,
-) -> Result<u8, RunFault>
-    ensures { HasEnded (I.standard_gives inputs.now) (I.open_gives inputs.now)
-        I.Opened.remaining I.Opened.count I.Opened.pull_gives W.contents W.count W.push_gives
-        (Job.Check input.now) output.old output.new result }
-{
-    let mut input = open_input(inputs, input)?;
-    run_check(alloc, &mut input, output)?;
-    Ok(0)
-}
-
-fn table<I: Inputs, W: Sink>(
-    alloc: Global,
-    inputs: &I,
-    input: &Input,
-    reduced: bool,
-    output: &mut W,
-) -> Result<u8, RunFault>
-    ensures { HasEnded (I.standard_gives inputs.now) (I.open_gives inputs.now)
-        I.Opened.remaining I.Opened.count I.Opened.pull_gives W.contents W.count W.push_gives
-        (Job.Table input.now reduced) output.old output.new result }
-{
-    let mut input = open_input(inputs, input)?;
-    run_form(alloc, &mut input, output, strategies_of(reduced))?;
-    Ok(0)
-}
-
-fn same<I: Inputs, W: Sink>(
-    alloc: Global,
-    inputs: &I,
-    a: &String,
-    b: &String,
-    map: bool,
-    names: Names,
-    output: &mut W,
-) -> Result<u8, RunFault>
-    ensures { HasEnded (I.standard_gives inputs.now) (I.open_gives inputs.now)
-        I.Opened.remaining I.Opened.count I.Opened.pull_gives W.contents W.count W.push_gives
-        (Job.Same a.now b.now map names) output.old output.new result }
-{
-    let mut first = open_file(inputs, a.as_str(), Which::First)?;
-    let mut second = open_file(inputs, b.as_str(), Which::Second)?;
-    let same = run_compare(alloc, &mut first, &mut second, map, names, output)?;
-    Ok(answer_status(same))
-}
-
-/// Opens the inputs of a job, does the job, and returns the exit status of its answer.
+/// Opens the inputs of a job, reads them, and writes the answer; returns its exit status.
 pub(crate) fn run_job<I: Inputs, W: Sink>(
     alloc: Global,
     inputs: &I,
     job: &Job,
     output: &mut W,
-) -> Result<u8, RunFault>
-    ensures { HasEnded (I.standard_gives inputs.now) (I.open_gives inputs.now)
-        I.Opened.remaining I.Opened.count I.Opened.pull_gives W.contents W.count W.push_gives
-        job.now output.old output.new result }
+) -> Result<u8, Undone>
+    ensures ended { MatchResult result
+        (Does (I.standard_gives inputs.now) (I.open_gives inputs.now)
+        I.Opened.remaining I.Opened.pull_gives
+        (IsWritten W.contents W.push_gives output.old output.new) job.now)
+        (λ undone. Fails (I.standard_gives inputs.now) (I.open_gives inputs.now)
+        I.Opened.remaining I.Opened.count I.Opened.pull_gives (output.new ≡ output.old)
+        (IsWriteFault W.contents W.count W.push_gives output.old output.new) job.now
+        undone.failure.fault) }
+    ensures about { IfErr result (λ undone. IsAbout (I.standard_gives inputs.now)
+        (I.open_gives inputs.now) I.Opened.remaining I.Opened.pull_gives job.now
+        undone.failure.fault undone.bytes.items) }
+    ensures within { IfErr result (λ undone. length undone.bytes.items ≤ limit) }
 {
-    match job {
-        Job::Canon { input, names } => canon(alloc, inputs, input, *names, output),
-        Job::Check(input) => check(alloc, inputs, input, output),
-        Job::Table { input, reduced } => table(alloc, inputs, input, *reduced, output),
-        Job::Same { a, b, map, names } => same(alloc, inputs, a, b, *map, *names, output),
+    match read_inputs(alloc, inputs, job) {
+        Ok(texts) => match write_answer(alloc, job, &texts, output) {
+            Ok(status) => Ok(status),
+            Err(fault) => Err(Undone {
+                failure: Failure {
+                    fault,
+                    is_open: true,
+                    error: output.last_error(),
+                },
+                bytes: texts.into_one(is_of_second(&fault)),
+            }),
+        },
+        Err(failure) => Err(Undone {
+            failure,
+            bytes: Vec::new(alloc),
+        }),
     }
 }
 
 /// Does a job, and returns the exit status.
 ///
-/// The inputs that the job names are opened, both before either is read. Then the job reads, writes
-/// and fails as `run_canon`, `run_check`, `run_table`, `run_table_reduced`, `run_same`,
-/// `run_same_by` or `run_same_map` does. The status is 0, or 1 if two files are compared and
-/// differ.
+/// The inputs that the job names are opened, both before either is read. The first is read whole,
+/// and then the second; only then is the first judged, and then the second. The answer is made
+/// whole before its first byte is written. So a prefix of it has been written only after `Write`;
+/// before any other fault, nothing is asked of the output.
 ///
-/// A fault is reported in one line on standard error, and has its own status: 2 for a refusal and
-/// for a game without a table, 4 if an input could not be opened or read or the output could not be
-/// written, and 5 if memory ran out. The status stays the same if the line cannot be written.
+/// - `Canon` writes the canonical text of a file, with names or without.
+/// - `Check` writes what a file holds: `tree` or `table`, and a line feed.
+/// - `Table` writes the strategic form of a tree, or its reduced form, as a strategic file in
+///   canonical text; for a strategic file, its canonical text.
+/// - `Same` writes `same` or `different`, and a line feed; files are compared with names or
+///   without. If `map` is true, they are compared with names, and after `same`, if both are trees,
+///   come the lines of the only renumbering that carries the first to the second: `set P X Y` for
+///   each information set of the first tree, where P is its player, X its number and Y its number
+///   in the second tree, and then `outcome X Y` for each outcome except the null outcome. The sets
+///   of chance, which is player 0, come first, and then those of each player in turn. Each player's
+///   sets, and the outcomes, are in order of first use (this project's profile).
+///
+/// The status is 0, or 1 if two files are compared and differ. A fault is reported in one line on
+/// standard error, and has its own status; the status stays the same if the line cannot be written:
+///
+/// - 2, `Refused`: a file is refused as `canonical_by` refuses it, or it has a byte past the first
+///   16,777,216, which is the last one that is read. With E19, memory ran out for the game, the
+///   table or the text, and there was nothing else to refuse; then the status is 5.
+/// - 2, `Form`: a tree has no table. `TooManyProfiles`: its strategic form has more than 1,048,576
+///   profiles. `Overflow`: it has no more, and this profile of the form that is asked for, counted
+///   from 1, is the first at which the bottom-up value of some player is not defined.
+/// - 4, `Read`: an input could not be opened, or its reader failed, or was interrupted sixteen
+///   times in a row. If the first of two fails, the second is not read.
+/// - 4, `Write`: the writer failed, or was interrupted sixteen times in a row, or took nothing.
+/// - 5, `Memory`: memory ran out while an input was read, or although both files are accepted, or
+///   for a form.
 pub fn perform<I: Inputs, W: Sink, E: Sink>(
     alloc: Global,
     inputs: &I,
@@ -171,6 +144,6 @@ pub fn perform<I: Inputs, W: Sink, E: Sink>(
 {
     match run_job(alloc, inputs, job, output) {
         Ok(status) => status,
-        Err(fault) => tell(&fault, errors),
+        Err(undone) => tell(&undone.failure.fault, errors),
     }
 }

@@ -58,14 +58,19 @@ impl<R: Read> Source for Counted<R> {
 
     fn pull(&mut self, to: &mut [u8]) -> Result<usize, io::Error> {
         let answer = self.inner.read(to);
-        if answer.is_err() {
+        if let Err(error) = &answer {
             self.failures = self.failures.saturating_add(1);
+            self.last_error = Some(*error);
         }
         answer
     }
 
     fn failures(&self) -> u64 {
         self.failures
+    }
+
+    fn last_error(&self) -> Option<io::Error> {
+        self.last_error
     }
 }
 

@@ -43,6 +43,9 @@ pub trait Source: Read {
     /// How many errors `pull` has returned, up to `u64::MAX`.
     fn failures(&self) -> u64
         ensures { result ≡ count self.now };
+
+    /// The last error that `pull` has returned.
+    fn last_error(&self) -> Option<io::Error>;
 }
 
 /// A pull that is repeated after an interruption. The sixteenth interruption in a row is a read

@@ -5,11 +5,12 @@ ghost use Rattle.gf_canon.specs.GameFile.{SameFile};
 ghost use Rattle.gf_canon.specs.Judgement.{SpellsWithin};
 ghost use Rattle.gf_canon.specs.MeaningOf.{file_of};
 ghost use Rattle.gf_canon.specs.Sameness.{AreRefusedWith};
-ghost use Rattle.gf_run.specs.AnswerText.{text_of};
+ghost use Rattle.gf_run.specs.AnswerText.{bytes_of};
 ghost use Rattle.gf_run.specs.JobRun.{IsAnswerBy};
 ghost use Rattle.gf_run.specs.SameText.{IsAnswer, IsLineAndMap, answer_line};
 
 use crate::texts::renumbering::pair_line;
+use crate::texts::text::Text;
 use gf_canon::{
     Meaning, Names, NumberPair, ReceivePairs, SameFault, pairs_between, read_file, same_by,
 };
@@ -17,34 +18,9 @@ use std::alloc::{AllocError, Global};
 
 /// Whether two files are the same, and what is written about it.
 #[derive(Drop)]
-pub struct Answer {
+pub struct Compared {
     pub same: bool,
-    /// What is written, if it is more than a line.
-    lines: Vec<u8>,
-}
-
-impl Answer {
-    /// An answer of one line.
-    fn line(alloc: Global, same: bool) -> Answer
-        ensures same { result.same ≡ same }
-        ensures text { text_of result ≡ answer_line same }
-    {
-        Answer {
-            same,
-            lines: Vec::new(alloc),
-        }
-    }
-
-    /// What is written.
-    pub fn text(&self) -> &[u8]
-        ensures { result.now ≡ text_of self.now }
-    {
-        if self.lines.is_empty() {
-            answer_line(self.same)
-        } else {
-            self.lines.as_slice()
-        }
-    }
+    pub text: Text,
 }
 
 /// The line of an answer.
@@ -52,6 +28,17 @@ fn answer_line(same: bool) -> &'static [u8]
     ensures { result.now ≡ answer_line same }
 {
     if same { b"same\n" } else { b"different\n" }
+}
+
+/// An answer of one line.
+fn in_a_line(same: bool) -> Compared
+    ensures same { result.same ≡ same }
+    ensures text { bytes_of result.text ≡ answer_line same }
+{
+    Compared {
+        same,
+        text: Text::Line(answer_line(same)),
+    }
 }
 
 /// The answer about two files that are the same, while their pairs are told: its line, and then a
@@ -86,37 +73,37 @@ impl ReceivePairs for PairLines {
 }
 
 /// The answer about two files that were read.
-fn answer_of(alloc: Global, a: &Meaning<'_>, b: &Meaning<'_>) -> Result<Answer, AllocError>
+fn answer_of(alloc: Global, a: &Meaning<'_>, b: &Meaning<'_>) -> Result<Compared, AllocError>
     ensures same { IfOk result (λ answer.
         IsTrue answer.same ↔ SameFile (file_of a.now) (file_of b.now)) }
     ensures text { IfOk result (λ answer.
-        IsLineAndMap (file_of a.now) (file_of b.now) answer.same (text_of answer)) }
+        IsLineAndMap (file_of a.now) (file_of b.now) answer.same (bytes_of answer.text)) }
 {
     let mut lines = PairLines::new(alloc)?;
     if pairs_between(alloc, a, b, &mut lines)? {
-        Ok(Answer {
+        Ok(Compared {
             same: true,
-            lines: lines.text,
+            text: Text::Made(lines.text),
         })
     } else {
-        Ok(Answer::line(alloc, false))
+        Ok(in_a_line(false))
     }
 }
 
 /// The answer about two files that were read; the second is not needed any more.
-fn answer_at_end(alloc: Global, a: &Meaning<'_>, b: Meaning<'_>) -> Result<Answer, AllocError>
+fn answer_at_end(alloc: Global, a: &Meaning<'_>, b: Meaning<'_>) -> Result<Compared, AllocError>
     ensures same { IfOk result (λ answer.
         IsTrue answer.same ↔ SameFile (file_of a.now) (file_of b.entry)) }
     ensures text { IfOk result (λ answer.
-        IsLineAndMap (file_of a.now) (file_of b.entry) answer.same (text_of answer)) }
+        IsLineAndMap (file_of a.now) (file_of b.entry) answer.same (bytes_of answer.text)) }
 {
     answer_of(alloc, a, &b)
 }
 
 /// The answer about bytes whose meaning was read, and those of the second file.
-fn answer_beside(alloc: Global, first: &Meaning<'_>, b: &[u8]) -> Result<Answer, SameFault>
+fn answer_beside(alloc: Global, first: &Meaning<'_>, b: &[u8]) -> Result<Compared, SameFault>
     ensures answer { IfOk result (λ answer. (a : List ℕ) → SpellsWithin a (file_of first.now)
-        → IsAnswer SameFile IsLineAndMap answer.same a b.now (text_of answer)) }
+        → IsAnswer SameFile IsLineAndMap answer.same a b.now (bytes_of answer.text)) }
     ensures refused { IfErr result (λ fault. (a : List ℕ) → SpellsWithin a (file_of first.now)
         → AreRefusedWith a b.now fault) }
 {
@@ -134,9 +121,9 @@ fn answer_beside(alloc: Global, first: &Meaning<'_>, b: &[u8]) -> Result<Answer,
 /// carries the first to the second.
 ///
 /// Refused as by `same`.
-fn answer_with_map(alloc: Global, a: &[u8], b: &[u8]) -> Result<Answer, SameFault>
+fn answer_with_map(alloc: Global, a: &[u8], b: &[u8]) -> Result<Compared, SameFault>
     ensures answer { IfOk result (λ answer.
-        IsAnswer SameFile IsLineAndMap answer.same a.now b.now (text_of answer)) }
+        IsAnswer SameFile IsLineAndMap answer.same a.now b.now (bytes_of answer.text)) }
     ensures refused { IfErr result (AreRefusedWith a.now b.now) }
 {
     match read_file(alloc, a) {
@@ -154,16 +141,16 @@ pub fn answer_by(
     b: &[u8],
     map: bool,
     names: Names,
-) -> Result<Answer, SameFault>
+) -> Result<Compared, SameFault>
     ensures answer { IfOk result (λ answer.
-        IsAnswerBy map names answer.same a.now b.now (text_of answer)) }
+        IsAnswerBy map names answer.same a.now b.now (bytes_of answer.text)) }
     ensures refused { IfErr result (AreRefusedWith a.now b.now) }
 {
     if map {
         return answer_with_map(alloc, a, b);
     }
     match same_by(alloc, a, b, names) {
-        Ok(same) => Ok(Answer::line(alloc, same)),
+        Ok(same) => Ok(in_a_line(same)),
         Err(fault) => Err(fault),
     }
 }

@@ -1,9 +1,9 @@
 //! Jobs, hashes and duplicates of files that are texts, on their happy paths.
 
-use super::trees::{FIVE, FIVE_BY_OTHER_NUMBERS, FIVE_HASH_LINE};
+use super::trees::{FIVE, FIVE_BY_OTHER_NUMBERS, FIVE_HASH_LINE, FIVE_TEXT};
 use gf_canon::Names;
 use gf_run::{
-    Counted, Input, Inputs, Job, Kept, Notes, Progress, perform, perform_explained, run_duplicates,
+    Counted, Input, Inputs, Job, Progress, perform, perform_explained, run_duplicates, run_hash,
     run_hashes,
 };
 use std::alloc::{AllocError, Global};
@@ -11,7 +11,15 @@ use std::io;
 use std::io::ErrorKind;
 use std::test::Fail;
 
-/// Standard input and two files, which are the same game.
+/// A table of nobody, and its canonical text.
+const NOBODY: &[u8] = b"NFG 1 R \"\" { } { }";
+
+const NOBODY_TEXT: &[u8] = b"NFG 1 R \"\" { }\n{ }\n\"\"\n\n\n";
+
+/// What is written about the two trees, with the numbers that correspond.
+const MAP: &[u8] = b"same\nset 0 9 2\nset 1 7 3\nset 1 3 8\noutcome 4 2\n";
+
+/// Standard input, which is a table, and two files, which are the same game.
 #[derive(Drop)]
 struct Texts;
 
@@ -19,7 +27,7 @@ impl Inputs for Texts {
     type Opened = Counted<&'static [u8]>;
 
     fn standard(&self) -> Counted<&'static [u8]> {
-        Counted::new(FIVE)
+        Counted::new(NOBODY)
     }
 
     fn open(&self, name: &str) -> Result<Counted<&'static [u8]>, io::Error> {
@@ -54,12 +62,83 @@ fn file(alloc: Global, name: &str) -> Result<Input, AllocError> {
     Ok(Input::File(String::from_str(alloc, name)?))
 }
 
+/// Whether a job writes this text, and nothing about a fault.
+fn writes(alloc: Global, job: &Job, text: &[u8]) -> bool {
+    let (mut output, mut errors) = (Vec::new(alloc), Vec::new(alloc));
+    let status = perform(
+        alloc,
+        &Texts,
+        job,
+        &mut Counted::new(&mut output),
+        &mut Counted::new(&mut errors),
+    );
+    status == 0 && output.as_slice() == text && errors.is_empty()
+}
+
+/// A job that compares the two trees.
+fn comparison(alloc: Global, map: bool, names: Names) -> Result<Job, AllocError> {
+    Ok(Job::Same {
+        a: String::from_str(alloc, "a.efg")?,
+        b: String::from_str(alloc, "b.efg")?,
+        map,
+        names,
+    })
+}
+
 #[test]
-fn performs_a_job(rt: HostRuntime) -> Result<(), Fail> {
+fn writes_canonical_text(rt: HostRuntime) -> Result<(), Fail> {
+    let input = file(rt.alloc(), "a.efg")?;
+    let names = Names::Kept;
+    assert!(rt; writes(rt.alloc(), &Job::Canon { input, names }, FIVE_TEXT));
+    Ok(())
+}
+
+#[test]
+fn writes_what_a_file_holds(rt: HostRuntime) -> Result<(), Fail> {
+    let job = Job::Check(file(rt.alloc(), "a.efg")?);
+    assert!(rt; writes(rt.alloc(), &job, b"tree\n"));
+    Ok(())
+}
+
+#[test]
+fn writes_a_table(rt: HostRuntime) {
+    let (input, reduced) = (Input::Standard, false);
+    assert!(rt; writes(rt.alloc(), &Job::Table { input, reduced }, NOBODY_TEXT));
+}
+
+#[test]
+fn writes_a_reduced_table(rt: HostRuntime) {
+    let (input, reduced) = (Input::Standard, true);
+    assert!(rt; writes(rt.alloc(), &Job::Table { input, reduced }, NOBODY_TEXT));
+}
+
+#[test]
+fn compares_two_files(rt: HostRuntime) -> Result<(), Fail> {
+    let job = comparison(rt.alloc(), false, Names::Kept)?;
+    assert!(rt; writes(rt.alloc(), &job, b"same\n"));
+    Ok(())
+}
+
+#[test]
+fn compares_two_files_without_names(rt: HostRuntime) -> Result<(), Fail> {
+    let job = comparison(rt.alloc(), false, Names::Aside)?;
+    assert!(rt; writes(rt.alloc(), &job, b"same\n"));
+    Ok(())
+}
+
+#[test]
+fn writes_which_numbers_correspond(rt: HostRuntime) -> Result<(), Fail> {
+    let job = comparison(rt.alloc(), true, Names::Kept)?;
+    assert!(rt; writes(rt.alloc(), &job, MAP));
+    Ok(())
+}
+
+#[test]
+fn performs_a_job_whose_fault_is_explained(rt: HostRuntime) -> Result<(), Fail> {
     let alloc = rt.alloc();
     let job = Job::Check(file(alloc, "a.efg")?);
     let (mut output, mut errors) = (Vec::new(alloc), Vec::new(alloc));
-    let status = perform(
+    let status = perform_explained(
         alloc,
         &Texts,
         &job,
@@ -71,21 +150,16 @@ fn performs_a_job(rt: HostRuntime) -> Result<(), Fail> {
 }
 
 #[test]
-fn performs_a_job_whose_fault_is_explained(rt: HostRuntime) -> Result<(), Fail> {
-    let alloc = rt.alloc();
-    let job = Job::Check(file(alloc, "a.efg")?);
-    let notes = Notes::new(alloc);
-    let (mut output, mut errors) = (Vec::new(alloc), Vec::new(alloc));
-    let status = perform_explained(
-        alloc,
-        &Kept::new(&Texts, &notes),
-        &notes,
-        &job,
+fn writes_the_hash_of_the_canonical_text(rt: HostRuntime) {
+    let (mut input, mut output) = (FIVE, Vec::new(rt.alloc()));
+    let answer = run_hash(
+        rt.alloc(),
+        &mut Counted::new(&mut input),
+        "a.efg",
+        Names::Kept,
         &mut Counted::new(&mut output),
-        &mut Counted::new(&mut errors),
     );
-    assert!(rt; status == 0 && output.as_slice() == b"tree\n".as_slice() && errors.is_empty());
-    Ok(())
+    assert!(rt; answer.is_ok() && output.as_slice() == FIVE_HASH_LINE);
 }
 
 #[test]

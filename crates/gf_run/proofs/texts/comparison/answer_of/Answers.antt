@@ -11,8 +11,8 @@ returns-then-branch-clause-text c =
 
 pub returns-else-branch-clause-same : goal.returns-else-branch-clause-same
 returns-else-branch-clause-same c = differs (file_of c.args.a.now) (file_of c.args.b.now) _ _
-    c.in_ok-pairs_between.ensures.same c.if-branch.false c.line.ensures.same
+    c.in_ok-pairs_between.ensures.same c.if-branch.false c.in_a_line.ensures.same
 
 pub returns-else-branch-clause-text : goal.returns-else-branch-clause-text
 returns-else-branch-clause-text c = different_text (file_of c.args.a.now) (file_of c.args.b.now)
-    _ _ c.line.ensures.same c.line.ensures.text
+    _ _ c.in_a_line.ensures.same c.in_a_line.ensures.text

@@ -1,7 +1,0 @@
-use Rattle.gf_run.proofs.jobs.same.run_same.Goals as goal
-
-pub returns-clause-done : goal.returns-clause-done
-returns-clause-done g c = c.run_compare.ensures.done
-
-pub returns-clause-cut_off : goal.returns-clause-cut_off
-returns-clause-cut_off g c = c.run_compare.ensures.cut_off
