@@ -5,7 +5,6 @@ ghost use Rattle.std.specs.Prelude.{◌≡◌, ◌+◌, ◌*◌, ◌<◌, ◌≤
 ghost use Rattle.std.specs.Prelude.{IfOk, List, OnOk, get_or, length, pos, true};
 ghost use Rattle.std.specs.List.{AllByRecursion};
 ghost use Rattle.gf_fraction.specs.Ratio.{IsWithin};
-ghost use Rattle.gf_form.specs.declared.rows.terms.Head.{Head};
 ghost use Rattle.gf_form.specs.inner.rows.Entries.{HasNumbers, HasSum, IsShaped, entries, entry_at};
 ghost use Rattle.gf_form.specs.inner.rows.Entries.{lowered};
 
@@ -76,8 +75,6 @@ impl Terms {
         requires less { less ≤ (entry_at from.now place).head.demands }
         ensures pushed { OnOk result (entries self.new
             ≡ entries self.old ++ lowered less (entry_at from.now place) ∷ []) }
-        ensures heads { OnOk result (self.new.heads.items
-            ≡ self.old.heads.items ++ (lowered less (entry_at from.now place)).head ∷ []) }
         ensures players { self.new.players ≡ self.old.players }
         ensures shaped { OnOk result (IsShaped self.new) }
     {
@@ -138,9 +135,6 @@ impl Terms {
         requires second { second < length from.now.heads.items }
         ensures sum { OnOk result (HasSum (entry_at from.now first) (entry_at from.now second)
             (entries self.old) (entries self.new)) }
-        ensures heads { OnOk result ((h : Head) × (self.new.heads.items
-            ≡ self.old.heads.items ++ h ∷ []) × (h.demands
-            ≡ (entry_at from.now first).head.demands)) }
         ensures players { self.new.players ≡ self.old.players }
         ensures shaped { OnOk result (IsShaped self.new) }
     {

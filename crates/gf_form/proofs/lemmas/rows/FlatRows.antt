@@ -2,7 +2,7 @@
 use Rattle.std.proofs.Common.{◌≡◌, ℕ, ℤ, zero, suc, ◌+◌, ◌-◌, ◌*◌, ◌<◌, ◌≤◌, ◌/◌, ◌+ℤ◌, ◌*ℤ◌, List}
 use Rattle.std.proofs.Common.{[], ◌∷◌, ◌++◌}
 use Rattle.std.proofs.Common.{Bool, true, false, pos, inl, inr, ◌⊎◌, length, get_or, take, drop}
-use Rattle.std.proofs.Common.{refl, ap, sym, subst, ◌∙◌, arith}
+use Rattle.std.proofs.Common.{refl, ap, sym, subst, ◌∙◌, arith, map}
 use Rattle.std.proofs.Math.Seq.{take-length}
 use Rattle.std.specs.Int.{◌∣◌}
 use Rattle.std.proofs.Math.IntN.{zero-*ℤ}
@@ -12,7 +12,7 @@ use Rattle.std.proofs.lemmas.Bool.{cases_lt}
 use Rattle.std.proofs.lemmas.List.{get_or_append_left, length-take-le}
 use Rattle.std.proofs.lemmas.Nat.Gcd.{dvd_refl}
 use Rattle.std.proofs.lemmas.List.{append_assoc, get_or_default, drop-append-le, drop-drop}
-use Rattle.std.proofs.lemmas.List.{take-append-drop, length-append, length-drop}
+use Rattle.std.proofs.lemmas.List.{take-append-drop, length-append, length-drop, map-append}
 use Rattle.std.proofs.lemmas.List.{take-append-le}
 use Rattle.gf_fraction.specs.Ratio.{IsWithin}
 use Rattle.gf_fraction.proofs.AllElements.{all_both, all_parts}
@@ -66,6 +66,19 @@ pub entries_count : (p : ℕ) (hs : List Head) (ns : List ℤ)
     → length (entries_of p hs ns) ≡ length hs
 entries_count p [] ns = refl
 entries_count p (h ∷ hs) ns = ap suc (entries_count p hs (drop p ns))
+
+heads_in : (p : ℕ) (hs : List Head) (ns : List ℤ)
+    → map (λ (e : Entry). e.head) (entries_of p hs ns) ≡ hs
+heads_in p [] ns = refl
+heads_in p (h ∷ hs) ns = ap (λ (gs : List Head). h ∷ gs) (heads_in p hs (drop p ns))
+
+pub heads_more : (after : Terms) (p : ℕ) (hs : List Head) (ns : List ℤ) (e : Entry)
+    → entries after ≡ entries_of p hs ns ++ e ∷ [] → after.heads.items ≡ hs ++ e.head ∷ []
+heads_more after p hs ns e is =
+    sym (heads_in after.players after.heads.items after.numbers.items)
+    ∙ ap (map (λ (f : Entry). f.head)) is
+    ∙ map-append (λ (f : Entry). f.head) (entries_of p hs ns) (e ∷ [])
+    ∙ ap (λ (gs : List Head). gs ++ e.head ∷ []) (heads_in p hs ns)
 
 pub shaped_more : (p : ℕ) (hs : List Head) (ns row : List ℤ) (h : Head)
     → length ns ≡ length hs * p → length row ≡ p
@@ -294,21 +307,21 @@ pub head_read : (t : Terms) (place : ℕ) (h : Head) → place < length t.heads.
 head_read t place h within is = is ∙ get_or_default t.heads.items place h no_head within
 
 pub has_sum : (to from : Terms) (first second den size : ℕ) (own : Head) (row : List ℤ)
-    (heads : List Head) (numbers : List ℤ) → IsShaped to → first < length from.heads.items
-    → AllByRecursion IsWithin row → own ≡ head_at from first → length row ≡ to.players
-    → heads ≡ to.heads.items ++ record { demands = own.demands; den = den; size = size } ∷ []
-    → numbers ≡ to.numbers.items ++ row
+    (heads : List Head) (numbers : List ℤ) → first < length from.heads.items
+    → own ≡ head_at from first
+    → Pushed to (record {
+      head = record { demands = own.demands; den = den; size = size };
+      row = row;
+    }) heads numbers
     → (0 < den → IsSumOf (entry_at from first) (entry_at from second) (record {
       head = record { demands = own.demands; den = den; size = size };
       row = row;
     }))
     → HasSum (entry_at from first) (entry_at from second) (entries to)
     (entries_of to.players heads numbers)
-has_sum to from first second den size own row heads numbers shaped within all is one_each heads_are
-    numbers_are adds = record {
-      sum = record { head = record { demands = own.demands; den = den; size = size }; row = row };
-      is = (is_pushed to (record { demands = own.demands; den = den; size = size }) row heads
-          numbers shaped all one_each heads_are numbers_are).pushed;
-      demands = ap (λ (h : Head). h.demands) (is ∙ sym (entry_head from first within));
-      adds = adds;
-    }
+has_sum to from first second den size own row heads numbers within is made adds = record {
+  sum = record { head = record { demands = own.demands; den = den; size = size }; row = row };
+  is = made.pushed;
+  demands = ap (λ (h : Head). h.demands) (is ∙ sym (entry_head from first within));
+  adds = adds;
+}

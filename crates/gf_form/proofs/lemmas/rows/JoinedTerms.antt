@@ -11,7 +11,7 @@ use Rattle.gf_form.specs.inner.rows.ListedNodes.{AreTermsOf}
 use Rattle.gf_form.specs.declared.rows.paths.Reached.{Reached}
 use Rattle.gf_form.specs.declared.rows.terms.Head.{Head}
 use Rattle.gf_form.specs.declared.rows.terms.Terms.{Terms}
-use Rattle.gf_form.proofs.lemmas.rows.FlatRows.{entries_count, entry_head, head_at}
+use Rattle.gf_form.proofs.lemmas.rows.FlatRows.{entries_count, entry_head, head_at, heads_more}
 use Rattle.gf_form.proofs.lemmas.rows.ListedEntries.{one_term_less}
 use Rattle.gf_form.proofs.lemmas.rows.Merges.{below_more, lowered_none, ordered_more}
 
@@ -66,9 +66,7 @@ module _ (old spare sums after : Terms) (n last : ℕ) (two : length old.heads.i
     (none : spare.heads.items ≡ [])
     (has : HasSum (entry_at old n) (entry_at old last) (entries spare) (entries sums))
     (is : entries after ≡ entries_of old.players (take n old.heads.items)
-    (take (n * old.players) old.numbers.items) ++ lowered 0 (entry_at sums 0) ∷ [])
-    (heads : after.heads.items
-    ≡ take n old.heads.items ++ (lowered 0 (entry_at sums 0)).head ∷ []) where
+    (take (n * old.players) old.numbers.items) ++ lowered 0 (entry_at sums 0) ∷ []) where
   sum_is : lowered 0 (entry_at sums 0) ≡ has.sum
   sum_is =
       lowered_none (entry_at sums 0)
@@ -81,7 +79,10 @@ module _ (old spare sums after : Terms) (n last : ℕ) (two : length old.heads.i
       is ∙ (λ i. entries_cut old.players old.heads.items old.numbers.items n i ++ sum_is i ∷ [])
 
   heads_are : after.heads.items ≡ take n old.heads.items ++ has.sum.head ∷ []
-  heads_are = heads ∙ ap (λ (e : Entry). take n old.heads.items ++ e.head ∷ []) sum_is
+  heads_are =
+      heads_more after old.players (take n old.heads.items)
+      (take (n * old.players) old.numbers.items) (lowered 0 (entry_at sums 0)) is
+      ∙ ap (λ (e : Entry). take n old.heads.items ++ e.head ∷ []) sum_is
 
   first : has.sum.head.demands ≡ (head_at old n).demands
   first = has.demands ∙ ap (λ (h : Head). h.demands) (entry_head old n (omega (arith, two)))

@@ -17,7 +17,7 @@ use Rattle.gf_form.specs.inner.rows.Entries.{entries_of, entry_at, lowered, no_e
 use Rattle.gf_form.specs.declared.rows.chosen.Chosen.{Chosen}
 use Rattle.gf_form.specs.declared.rows.terms.Head.{Head}
 use Rattle.gf_form.specs.declared.rows.terms.Terms.{Terms}
-use Rattle.gf_form.proofs.lemmas.rows.FlatRows.{entries_count, entry_head, head_at}
+use Rattle.gf_form.proofs.lemmas.rows.FlatRows.{entries_count, entry_head, head_at, heads_more}
 use Rattle.gf_form.proofs.lemmas.rows.MergedEntries.{IsFree, IsOther, IsOwn, Merging, Ranges}
 use Rattle.gf_form.proofs.lemmas.rows.MergedEntries.{all_merged}
 use Rattle.gf_form.proofs.lemmas.rows.MergedEntries.{first_parts, take_both, take_free, take_own}
@@ -253,40 +253,41 @@ module _ (from : Terms) (step action lowest free_end own_end free own : ℕ) (to
       (entry_head from own (omega (arith, less, before.own_within)))
 
   -- one more term, and the places of those that are next
-  one_more : (next_free next_own : ℕ) (h : Head) → own ≤ next_own
-      → after.heads.items ≡ to.heads.items ++ h ∷ []
-      → Made (entries after) (frees next_free) (owns next_own) → EndsBelow to.heads.items h.demands
-      → (next_free < free_end → h.demands ≤ (head_at from next_free).demands)
-      → (next_own < own_end → h.demands ≤ (head_at from next_own).demands - lowest)
+  one_more : (next_free next_own : ℕ) (e : Entry) → own ≤ next_own
+      → entries after ≡ entries to ++ e ∷ []
+      → Made (entries to ++ e ∷ []) (frees next_free) (owns next_own)
+      → EndsBelow to.heads.items e.head.demands
+      → (next_free < free_end → e.head.demands ≤ (head_at from next_free).demands)
+      → (next_own < own_end → e.head.demands ≤ (head_at from next_own).demands - lowest)
       → Merges from step action lowest free_end own_end next_free next_own after
-  one_more next_free next_own h on heads merging ends below_free below_own = record {
-    merging = merging;
-    shaped = shaped;
-    players = players ∙ before.players;
-    ordered = ordered_more to.heads.items after.heads.items h heads before.ordered ends;
-    free_next = λ next. below_more to.heads.items after.heads.items h
-        (head_at from next_free).demands heads (below_free next);
-    own_next = λ next. below_more to.heads.items after.heads.items h
-        ((head_at from next_own).demands - lowest) heads (below_own next);
-    own_least = λ k at. before.own_least k (omega (arith, at, on));
-    free_within = before.free_within;
-    own_within = before.own_within;
-  }
+  one_more next_free next_own e on is merging ends below_free below_own =
+      let heads = heads_more after to.players to.heads.items to.numbers.items e is in record {
+        merging = subst (λ (made : List Entry). Made made (frees next_free) (owns next_own))
+            (sym is) merging;
+        shaped = shaped;
+        players = players ∙ before.players;
+        ordered = ordered_more to.heads.items after.heads.items e.head heads before.ordered ends;
+        free_next = λ next. below_more to.heads.items after.heads.items e.head
+            (head_at from next_free).demands heads (below_free next);
+        own_next = λ next. below_more to.heads.items after.heads.items e.head
+            ((head_at from next_own).demands - lowest) heads (below_own next);
+        own_least = λ k at. before.own_least k (omega (arith, at, on));
+        free_within = before.free_within;
+        own_within = before.own_within;
+      }
 
   pub free_goes : free < free_end
       → (own < own_end → (head_at from free).demands ≤ (head_at from own).demands - lowest)
       → entries after ≡ entries to ++ lowered 0 (entry_at from free) ∷ []
-      → after.heads.items ≡ to.heads.items ++ (lowered 0 (entry_at from free)).head ∷ []
       → Merges from step action lowest free_end own_end (free + 1) own after
-  free_goes less first is heads =
+  free_goes less first is =
       let t = entry_at from free in
       let demands = free_demands less in
-      one_more (free + 1) own (lowered 0 t).head (omega arith) heads
-      (subst (λ (made : List Entry). Made made (frees (free + 1)) (owns own))
-      (sym (is ∙ ap (λ (e : Entry). entries to ++ e ∷ []) (lowered_none t)))
+      one_more (free + 1) own t (omega arith)
+      (is ∙ ap (λ (e : Entry). entries to ++ e ∷ []) (lowered_none t))
       (take_free step action (entries from) (entries to) (frees (free + 1)) (owns own) t
       (subst (λ (more : List Entry). Made (entries to) more (owns own)) (first_free less)
-      before.merging)))
+      before.merging))
       (λ d some. let le = before.free_next less d some in omega (arith, le, demands))
       (λ next. let le = rises free free_end next before.free_within in omega (arith, le, demands))
       (λ next. let le = first next in omega (arith, le, demands))
@@ -294,15 +295,13 @@ module _ (from : Terms) (step action lowest free_end own_end free own : ℕ) (to
   pub own_goes : own < own_end
       → (free < free_end → (head_at from own).demands - lowest ≤ (head_at from free).demands)
       → entries after ≡ entries to ++ lowered lowest (entry_at from own) ∷ []
-      → after.heads.items ≡ to.heads.items ++ (lowered lowest (entry_at from own)).head ∷ []
       → Merges from step action lowest free_end own_end free (own + 1) after
-  own_goes less first is heads =
+  own_goes less first is =
       let t = lowered lowest (entry_at from own) in
       let demands = own_demands less in
-      one_more free (own + 1) t.head (omega arith) heads
-      (subst (λ (made : List Entry). Made made (frees free) (owns (own + 1))) (sym is)
+      one_more free (own + 1) t (omega arith) is
       (take_own step action (entries from) (entries to) (frees free) (owns (own + 1)) t
-      (subst (Made (entries to) (frees free)) (first_own less) before.merging)))
+      (subst (Made (entries to) (frees free)) (first_own less) before.merging))
       (λ d some. let le = before.own_next less d some in omega (arith, le, demands))
       (λ next. let le = first next in omega (arith, le, demands))
       (λ next. let le = rises own own_end next before.own_within in omega (arith, le, demands))
@@ -310,17 +309,14 @@ module _ (from : Terms) (step action lowest free_end own_end free own : ℕ) (to
   pub both_go : free < free_end → own < own_end
       → (head_at from free).demands ≡ (head_at from own).demands - lowest
       → HasSum (entry_at from free) (entry_at from own) (entries to) (entries after)
-      → (h : Head) → after.heads.items ≡ to.heads.items ++ h ∷ []
-      → h.demands ≡ (entry_at from free).head.demands
       → Merges from step action lowest free_end own_end (free + 1) (own + 1) after
-  both_go free_less own_less same has h heads is =
+  both_go free_less own_less same has =
       let t = entry_at from free in
       let u = lowered lowest (entry_at from own) in
       let first = free_demands free_less in
       let second = own_demands own_less in
-      let demands : h.demands ≡ (head_at from free).demands = is ∙ first in
-      one_more (free + 1) (own + 1) h (omega arith) heads
-      (subst (λ (made : List Entry). Made made (frees (free + 1)) (owns (own + 1))) (sym has.is)
+      let demands : has.sum.head.demands ≡ (head_at from free).demands = has.demands ∙ first in
+      one_more (free + 1) (own + 1) has.sum (omega arith) has.is
       (take_both step action (entries from) (entries to) (frees (free + 1)) (owns (own + 1)) t u
       has.sum has.demands (omega (arith, has.demands, first, second, same))
       (λ above. let s = has.adds above in record {
@@ -333,7 +329,7 @@ module _ (from : Terms) (step action lowest free_end own_end free own : ℕ) (to
       })
       (subst (λ (more : List Entry). Made (entries to) more (u ∷ owns (own + 1)))
       (first_free free_less)
-      (subst (Made (entries to) (frees free)) (first_own own_less) before.merging))))
+      (subst (Made (entries to) (frees free)) (first_own own_less) before.merging)))
       (λ d some. let le = before.free_next free_less d some in omega (arith, le, demands))
       (λ next. let le = rises free free_end next before.free_within in omega (arith, le, demands))
       (λ next. let le = rises own own_end next before.own_within in

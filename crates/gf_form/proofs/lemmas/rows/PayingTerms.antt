@@ -26,7 +26,8 @@ use Rattle.gf_form.specs.inner.rows.SettledRows.{SettlesAt}
 use Rattle.gf_form.specs.Strategies.{all_choices}
 use Rattle.gf_form.specs.declared.rows.terms.Head.{Head}
 use Rattle.gf_form.specs.declared.rows.terms.Terms.{Terms}
-use Rattle.gf_form.proofs.lemmas.rows.FlatRows.{entries_count, entry_head, head_at, itself}
+use Rattle.gf_form.proofs.lemmas.rows.FlatRows.{entries_count, entry_head, head_at, heads_more}
+use Rattle.gf_form.proofs.lemmas.rows.FlatRows.{itself}
 use Rattle.gf_form.proofs.lemmas.rows.MergedEntries.{sum_append}
 use Rattle.gf_form.proofs.lemmas.rows.Merges.{below_more, lowered_none, ordered_more}
 
@@ -216,10 +217,11 @@ module _ (from : Terms) (i : ℕ) (left : Terms) (sorted : AreOrdered from)
 
   pub more_paying : (after : Terms) → entries after ≡ entries left
       ++ lowered 0 (entry_at from i) ∷ []
-      → after.heads.items ≡ left.heads.items ++ (lowered 0 (entry_at from i)).head ∷ []
       → after.players ≡ left.players → IsShaped after → Paying from (i + 1) after
-  more_paying after is heads players shaped =
+  more_paying after is players shaped =
       let e = entry_at from i in
+      let heads = heads_more after left.players left.heads.items left.numbers.items (lowered 0 e)
+      is in
       let demands : (lowered 0 e).head.demands ≡ (head_at from i).demands =
       ap (λ (f : Entry). f.head.demands) (lowered_none e)
       ∙ ap (λ (h : Head). h.demands) (entry_head from i less) in

@@ -11,6 +11,14 @@ use Rattle.gf_form.specs.declared.strategies.counts.Counts.{Counts}
 use Rattle.gf_form.proofs.lemmas.strategies.Choices.{length-all_choices}
 use Rattle.gf_form.proofs.lemmas.strategies.CountedActions.{as_many_players, of_player}
 
+-- what is read at a place of a list of lists
+pub own_read : (all : List (Vec ℕ Global)) (i : ℕ) (own : Vec ℕ Global) (held : List ℕ)
+    → i < length all → own ≡ get_or all i own → held ≡ own.items
+    → held ≡ get_or (map (λ own. own.items) all) i []
+own_read all i own held less is held_is =
+    held_is ∙ ap (λ (own : Vec ℕ Global). own.items) is
+    ∙ sym (get_or-map (λ (own : Vec ℕ Global). own.items) all i own [] less)
+
 -- the numbers of actions of each player
 abbrev pub actions_in : Counts → List (List ℕ)
 actions_in c = map (λ own. own.items) c.actions.items
@@ -49,9 +57,7 @@ pub record Read (c : Counts) (i whole : ℕ) (own : Vec ℕ Global) (actions : L
 module _ (g : Game) (c : Counts) (counts : AreCounts g c) (i whole : ℕ) (own : Vec ℕ Global)
     (actions : List ℕ) (read : Read c i whole own actions) where
   pub read_actions : actions ≡ get_or (actions_in c) i []
-  read_actions =
-      read.actions_are ∙ ap (λ (own : Vec ℕ Global). own.items) read.own_is
-      ∙ sym (get_or-map (λ own. own.items) c.actions.items i own [] read.within)
+  read_actions = own_read c.actions.items i own actions read.within read.own_is read.actions_are
 
   pub read_count : whole ≡ length (strategies g (i + 1))
   read_count =

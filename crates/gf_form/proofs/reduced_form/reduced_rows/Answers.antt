@@ -4,14 +4,12 @@ use Rattle.std.proofs.lemmas.List.{length-map}
 use Rattle.std.proofs.lemmas.Result.{IfOk-weaker, on_ok_weaker}
 use Rattle.std.specs.List.{AllByRecursion}
 use Rattle.gf_nfg.specs.Limit.{profile_limit}
-use Rattle.gf_tree.specs.Game.{Game, IsGame}
-use Rattle.gf_form.specs.inner.reduced.Firsts.{AreFirsts}
+use Rattle.gf_tree.specs.Game.{Game}
 use Rattle.gf_form.specs.inner.rows.ProfileRows.{AreRowsAt}
-use Rattle.gf_form.specs.inner.strategies.Counted.{AreCounts}
 use Rattle.gf_nfg.specs.Profiles.{product}
 use Rattle.gf_nfg.proofs.lemmas.tables.Profiles.{length-profiles}
 use Rattle.gf_form.specs.inner.strategies.ProfileNumbers.{AreBelow, AreProfileNumbers}
-use Rattle.gf_form.specs.inner.strategies.ProfileNumbers.{numbered_profiles, numbers_with}
+use Rattle.gf_form.specs.inner.strategies.ProfileNumbers.{numbered_profiles}
 use Rattle.gf_form.specs.Strategies.{full_profiles, players_of, strategies}
 use Rattle.gf_form.proofs.lemmas.form.FormTables.{as_many}
 use Rattle.gf_form.proofs.lemmas.strategies.CountedActions.{product_positive, strategies_positive}
@@ -19,12 +17,12 @@ use Rattle.gf_form.proofs.lemmas.strategies.CountedActions.{strategy_counts}
 use Rattle.gf_form.proofs.lemmas.strategies.PickedProfiles.{below}
 use Rattle.gf_form.specs.Refusal.{HasValues, IsFirstWithout}
 use Rattle.gf_form.specs.StrategicForm.{ArePayoffsAt}
-use Rattle.gf_form.specs.declared.strategies.counts.Counts.{Counts}
 use Rattle.gf_form.proofs.lemmas.reduced.FirstsPicked.{are_numbers, few_firsts, reduced_overflow}
 use Rattle.gf_form.proofs.lemmas.reduced.FirstsPicked.{reduced_rows, reduced_values}
 use Rattle.gf_form.proofs.lemmas.strategies.PickedProfiles.{are_profile_numbers, counted_profiles}
 use Rattle.gf_form.proofs.lemmas.strategies.PickedProfiles.{picked_profiles, profiles_are}
 use Rattle.gf_form.proofs.reduced_form.reduced_rows.Goals as goal
+use Rattle.gf_form.proofs.reduced_form.reduced_rows.Goals.{After-deref-2}
 
 abbrev lists : List (Vec ℕ Global) → List (List ℕ)
 lists all = map (λ own. own.items) all
@@ -35,24 +33,26 @@ record AreTheirs (g : Game) (firsts : List (List ℕ)) (numbers : List ℕ) : Ty
   profiles : numbered_profiles g numbers ≡ picked_profiles firsts
   few : length numbers ≤ profile_limit
 
-theirs : (g : Game) → IsGame g → (counts : Counts) → AreCounts g counts
-    → (firsts : List (List ℕ)) → AreFirsts g firsts → (held given numbers : List ℕ)
-    → held ≡ counts.strategies.items → given ≡ numbers → numbers ≡ numbers_with held firsts
-    → AreTheirs g firsts given
-theirs g game counts h firsts are held given numbers held_is same is =
-    let own = are_numbers g firsts are in
-    let all = held_is ∙ h.strategies in
-    let profiles = ap (numbered_profiles g) (same ∙ is) ∙ profiles_are g held firsts own all in
+all : (c : goal.After-deref-2)
+    → AreTheirs c.args.game.now (lists c.args.firsts.now) c.deref-2.result.now
+all c =
+    let g = c.args.game.now in
+    let firsts = lists c.args.firsts.now in
+    let held = c.deref.result.now in
+    let own = are_numbers g firsts c.requires.firsts in
+    let counted = c.deref.ensures.value ∙ c.requires.counts.strategies in
+    let is = c.deref-2.ensures.value ∙ c.in_ok-numbers.ensures in
+    let profiles = ap (numbered_profiles g) is ∙ profiles_are g held firsts own counted in
     record {
-      are = subst (AreProfileNumbers g) (sym (same ∙ is))
-          (are_profile_numbers g held firsts own all);
+      are = subst (AreProfileNumbers g) (sym is) (are_profile_numbers g held firsts own counted);
       profiles = profiles;
       few = omega (
         arith,
         ap length profiles,
-        length-map given (λ (number : ℕ). get_or (full_profiles g) number []),
+        length-map c.deref-2.result.now (λ (number : ℕ). get_or (full_profiles g) number []),
         counted_profiles firsts,
-        few_firsts g game firsts are h.within,
+        few_firsts g c.players-players.ensures.is_game firsts c.requires.firsts
+            c.requires.counts.within,
       );
     }
 
@@ -92,53 +92,34 @@ profile_numbers-requires-clause-few c =
 
 pub profile_rows-requires-clause-numbers : goal.profile_rows-requires-clause-numbers
 profile_rows-requires-clause-numbers c =
-    let g = c.args.game.now in
-    let firsts = lists c.args.firsts.now in
-    let h = theirs g c.players-players.ensures.is_game c.args.counts.now c.requires.counts firsts
-    c.requires.firsts c.deref.result.now c.deref-2.result.now c.in_ok-numbers.numbers.items
-    c.deref.ensures.value c.deref-2.ensures.value c.in_ok-numbers.ensures in
-    h.are
+    (all (goal.at.profile_rows-requires-clause-numbers c).After-deref-2).are
 
 pub profile_rows-requires-clause-few : goal.profile_rows-requires-clause-few
 profile_rows-requires-clause-few c =
-    let g = c.args.game.now in
-    let firsts = lists c.args.firsts.now in
-    let h = theirs g c.players-players.ensures.is_game c.args.counts.now c.requires.counts firsts
-    c.requires.firsts c.deref.result.now c.deref-2.result.now c.in_ok-numbers.numbers.items
-    c.deref.ensures.value c.deref-2.ensures.value c.in_ok-numbers.ensures in
-    h.few
+    (all (goal.at.profile_rows-requires-clause-few c).After-deref-2).few
 
 pub returns-clause-rows : goal.returns-clause-rows
 returns-clause-rows c =
     let g = c.args.game.now in
-    let firsts = lists c.args.firsts.now in
-    let h = theirs g c.players-players.ensures.is_game c.args.counts.now c.requires.counts firsts
-    c.requires.firsts c.deref.result.now c.deref-2.result.now c.in_ok-numbers.numbers.items
-    c.deref.ensures.value c.deref-2.ensures.value c.in_ok-numbers.ensures in
+    let h = all (goal.at.returns-clause-rows c).After-deref-2 in
     IfOk-weaker c.profile_rows.result _ _
-    (λ rows right. reduced_rows g firsts c.requires.firsts rows.items
+    (λ rows right. reduced_rows g (lists c.args.firsts.now) c.requires.firsts rows.items
     (subst (λ (ps : List (List ℕ)). AreRowsAt (ArePayoffsAt g) ps rows.items) h.profiles right))
     c.profile_rows.ensures.rows
 
 pub returns-clause-values : goal.returns-clause-values
 returns-clause-values c =
     let g = c.args.game.now in
-    let firsts = lists c.args.firsts.now in
-    let h = theirs g c.players-players.ensures.is_game c.args.counts.now c.requires.counts firsts
-    c.requires.firsts c.deref.result.now c.deref-2.result.now c.in_ok-numbers.numbers.items
-    c.deref.ensures.value c.deref-2.ensures.value c.in_ok-numbers.ensures in
+    let h = all (goal.at.returns-clause-values c).After-deref-2 in
     on_ok_weaker c.profile_rows.result
-    (λ values. reduced_values g firsts c.requires.firsts
+    (λ values. reduced_values g (lists c.args.firsts.now) c.requires.firsts
     (subst (AllByRecursion (HasValues g)) h.profiles values))
     c.profile_rows.ensures.values
 
 pub returns-clause-overflow : goal.returns-clause-overflow
 returns-clause-overflow c position is =
     let g = c.args.game.now in
-    let firsts = lists c.args.firsts.now in
-    let h = theirs g c.players-players.ensures.is_game c.args.counts.now c.requires.counts firsts
-    c.requires.firsts c.deref.result.now c.deref-2.result.now c.in_ok-numbers.numbers.items
-    c.deref.ensures.value c.deref-2.ensures.value c.in_ok-numbers.ensures in
-    reduced_overflow g firsts c.requires.firsts position
+    let h = all (goal.at.returns-clause-overflow c).After-deref-2 in
+    reduced_overflow g (lists c.args.firsts.now) c.requires.firsts position
     (subst (λ (ps : List (List ℕ)). IsFirstWithout (HasValues g) ps position) h.profiles
     (c.profile_rows.ensures.overflow position is))

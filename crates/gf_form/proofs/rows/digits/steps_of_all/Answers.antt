@@ -1,9 +1,9 @@
 use Rattle.std.proofs.Common.{◌≡◌, ◌<◌, ◌≤◌, ◌*◌, ◌^◌, ◌∷◌, ◌∙◌, ℕ, List, [], Vec, Global}
-use Rattle.std.proofs.Common.{ap, arith, get_or, length, map, subst, sym}
-use Rattle.std.proofs.lemmas.List.{get_or-map, length-map, map-append}
+use Rattle.std.proofs.Common.{ap, arith, get_or, length, map, refl, subst, sym}
+use Rattle.std.proofs.lemmas.List.{length-map, map-append}
 use Rattle.gf_nfg.specs.Profiles.{product}
 use Rattle.gf_form.specs.inner.rows.DigitSteps.{all_steps, steps_behind, width}
-use Rattle.gf_form.proofs.lemmas.strategies.CountsGiven.{actions_in}
+use Rattle.gf_form.proofs.lemmas.strategies.CountsGiven.{actions_in, own_read}
 use Rattle.gf_form.proofs.lemmas.rows.DigitsMade.{all_player_steps, all_player_values, player_steps}
 use Rattle.gf_form.proofs.lemmas.rows.DigitsMade.{player_values}
 use Rattle.gf_form.proofs.rows.digits.steps_of_all.Goals as goal
@@ -20,11 +20,9 @@ loop-own-preserved c =
     let inside : i < length (actions_in counts) =
     omega (arith, less, length-map counts.actions.items (λ (own : Vec ℕ Global). own.items)) in
     let is : own ≡ get_or (actions_in counts) i [] =
-    ap (λ (own : Vec ℕ Global). own.items) (c.own-item.is
-    ∙ ap (λ (xs : List (Vec ℕ Global)). get_or xs i c.own-item.result)
-    c.deref-own-items.ensures.value)
-    ∙ sym (get_or-map (λ (own : Vec ℕ Global). own.items) counts.actions.items i
-    c.own-item.result [] less) in
+    own_read counts.actions.items i c.own-item.result own less
+    (c.own-item.is ∙ ap (λ (xs : List (Vec ℕ Global)). get_or xs i c.own-item.result)
+    c.deref-own-items.ensures.value) refl in
     let more_is : c.in-Some.more ≡ width own * values =
     c.in-Some.ensures.0 ∙ ap (λ (xs : List ℕ). width xs * values) c.deref.ensures.value in
     let steps_are : steps.items ≡ steps_behind values own =

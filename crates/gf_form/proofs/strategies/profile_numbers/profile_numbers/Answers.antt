@@ -3,22 +3,15 @@ use Rattle.std.proofs.Common.{Global, ap, arith, drop, get_or, length, map, subs
 use Rattle.std.specs.List.{AllByRecursion, flat_map}
 use Rattle.std.proofs.Math.ListN.{drop_of_length-le}
 use Rattle.std.proofs.Math.Seq.{drop-cons}
-use Rattle.std.proofs.lemmas.List.{get_or-map}
 use Rattle.gf_nfg.specs.Profiles.{product}
 use Rattle.gf_form.specs.inner.strategies.ProfileNumbers.{numbers_with}
+use Rattle.gf_form.proofs.lemmas.strategies.CountsGiven.{own_read}
 use Rattle.gf_form.proofs.lemmas.strategies.PickedProfiles.{no_less, numbers_next, numbers_within}
 use Rattle.gf_form.proofs.lemmas.strategies.PickedProfiles.{player_at}
 use Rattle.gf_form.proofs.strategies.profile_numbers.profile_numbers.Goals as goal
 
 abbrev lists : List (Vec ℕ Global) → List (List ℕ)
 lists all = map (λ own. own.items) all
-
--- what is read at a place
-read : (all : List (Vec ℕ Global)) (i : ℕ) (own : Vec ℕ Global) (held : List ℕ) → i < length all
-    → own ≡ get_or all i own → held ≡ own.items → held ≡ get_or (lists all) i []
-read all i own held less is held_is =
-    held_is ∙ ap (λ (own : Vec ℕ Global). own.items) is
-    ∙ sym (get_or-map (λ (own : Vec ℕ Global). own.items) all i own [] less)
 
 pub loop-place-init : goal.loop-place-init
 loop-place-init c =
@@ -32,7 +25,7 @@ with_player-requires-clause-own c =
     let i = c.loop-place.place - 1 in
     let less : i < length counts = omega (arith, c.loop-place.auto.place, c.loop-place-test.true) in
     subst (λ (own : List ℕ). AllByRecursion (λ number. number < get_or counts i 0) own)
-    (sym (read c.args.picked.now i c.index-picked-place.result c.deref.result.now
+    (sym (own_read c.args.picked.now i c.index-picked-place.result c.deref.result.now
     (omega (arith, less, c.requires.as_many)) c.index-picked-place.is c.deref.ensures.value))
     (player_at counts (lists c.args.picked.now) i c.requires.below less).0
 
@@ -66,7 +59,7 @@ loop-place-preserved c =
     let i = place - 1 in
     let less : i < length counts = omega (arith, c.loop-place.auto.place, c.loop-place-test.true) in
     let next : place ≡ suc i = omega (arith, c.loop-place-test.true) in
-    let own = read c.args.picked.now i c.index-picked-place.result c.deref.result.now
+    let own = own_read c.args.picked.now i c.index-picked-place.result c.deref.result.now
     (omega (arith, less, c.requires.as_many)) c.index-picked-place.is c.deref.ensures.value in
     let numbers = c.deref-in-loop-place.ensures.value ∙ c.loop-place.invariant
     ∙ ap (λ (n : ℕ). numbers_with (drop n counts) (drop n picked)) next in

@@ -2,13 +2,13 @@ use Rattle.std.proofs.Common.{◌≡◌, ◌+◌, ◌-◌, ◌<◌, ◌≤◌, �
 use Rattle.std.proofs.Common.{Option, Some, Vec, Global, ap, arith, drop, get_or, length, map}
 use Rattle.std.proofs.Common.{subst, sym}
 use Rattle.std.specs.Prelude.{IfSome}
-use Rattle.std.proofs.lemmas.List.{get_or-map, length-map}
+use Rattle.std.proofs.lemmas.List.{length-map}
 use Rattle.gf_nfg.specs.Profiles.{product}
 use Rattle.gf_form.specs.inner.rows.DigitSteps.{all_steps, at_digits, width}
 use Rattle.gf_form.specs.declared.strategies.counts.Counts.{Counts}
 use Rattle.gf_form.specs.declared.rows.digits.Digit.{Digit}
 use Rattle.gf_form.specs.declared.rows.digits.Digits.{Digits}
-use Rattle.gf_form.proofs.lemmas.strategies.CountsGiven.{actions_in}
+use Rattle.gf_form.proofs.lemmas.strategies.CountsGiven.{actions_in, own_read}
 use Rattle.gf_form.proofs.lemmas.rows.DigitPlaces.{steps_have_shape}
 use Rattle.gf_form.proofs.lemmas.rows.DigitsMade.{as_many_steps, digits_more, no_digits, shape_at}
 use Rattle.gf_form.proofs.lemmas.rows.GameDigits.{AreMade, has_digits}
@@ -34,14 +34,6 @@ as_many counts steps h =
     sym (length-map steps.items (λ (own : Vec ℕ Global). own.items)) ∙ ap length h.0
     ∙ as_many_steps (actions_in counts) 1
     ∙ length-map counts.actions.items (λ (own : Vec ℕ Global). own.items)
-
--- what is read at a place
-at : (all : List (Vec ℕ Global)) (i : ℕ) (own : Vec ℕ Global) (held : List ℕ) → i < length all
-    → own ≡ get_or all i own → held ≡ own.items
-    → held ≡ get_or (map (λ own. own.items) all) i []
-at all i own held less is held_is =
-    held_is ∙ ap (λ (own : Vec ℕ Global). own.items) is
-    ∙ sym (get_or-map (λ (own : Vec ℕ Global). own.items) all i own [] less)
 
 pub loop-place-init : goal.loop-place-init
 loop-place-init c =
@@ -83,12 +75,13 @@ push_digits-requires c =
     let inside : i < length steps.items = omega (arith, less, as_many counts steps h) in
     let within : i < length (actions_in counts) =
     omega (arith, less, length-map counts.actions.items (λ (own : Vec ℕ Global). own.items)) in
-    ap length (at steps.items i c.index-in-loop-place.result.now c.deref-in-loop-place.result.now
-    inside c.index-in-loop-place.ensures c.deref-in-loop-place.ensures.value)
+    ap length (own_read steps.items i c.index-in-loop-place.result.now
+    c.deref-in-loop-place.result.now inside c.index-in-loop-place.ensures
+    c.deref-in-loop-place.ensures.value)
     ∙ ap (λ (all : List (List ℕ)). length (get_or all i [])) h.0
     ∙ shape_at (actions_in counts) (all_steps 1 (actions_in counts))
     (steps_have_shape (actions_in counts) 1) i within
-    ∙ sym (ap length (at counts.actions.items i c.index.result.now c.deref.result.now less
+    ∙ sym (ap length (own_read counts.actions.items i c.index.result.now c.deref.result.now less
     c.index.ensures c.deref.ensures.value))
 
 pub loop-place-preserved : goal.loop-place-preserved
@@ -110,9 +103,9 @@ loop-place-preserved c =
     omega (arith, less, length-map counts.actions.items (λ (own : Vec ℕ Global). own.items)) in
     let behind : i < length (steps_in steps) =
     omega (arith, inside, length-map steps.items (λ (own : Vec ℕ Global). own.items)) in
-    let is = at counts.actions.items i c.index.result.now own less c.index.ensures
+    let is = own_read counts.actions.items i c.index.result.now own less c.index.ensures
     c.deref.ensures.value in
-    let there = at steps.items i c.index-in-loop-place.result.now x inside
+    let there = own_read steps.items i c.index-in-loop-place.result.now x inside
     c.index-in-loop-place.ensures c.deref-in-loop-place.ensures.value in
     let next : place ≡ i + 1 = omega (arith, c.loop-place-test.true) in (
       digits_more (actions_in counts) (steps_in steps) i own x

@@ -23,12 +23,9 @@ all c =
     let is = c.in_ok-push.ensures.pushed
     ∙ (λ i. entries_of old.players (c.truncate.ensures.items i) (c.truncate-2.ensures.items i)
     ++ lowered 0 (entry_at c.push_sum.new.self 0) ∷ []) in
-    let heads = c.in_ok-push.ensures.heads
-    ∙ ap (λ (hs : List Head). hs ++ (lowered 0 (entry_at c.push_sum.new.self 0)).head ∷ [])
-    c.truncate.ensures.items in
     joined old c.clear.new.self c.push_sum.new.self c.push.new.self (count - 2) (count - 1)
     two next
-    same c.clear.ensures.none c.in_ok-push_sum.ensures.sum is heads
+    same c.clear.ensures.none c.in_ok-push_sum.ensures.sum is
 
 pub returns-clause-terms : goal.returns-clause-terms
 returns-clause-terms c = (all c).terms

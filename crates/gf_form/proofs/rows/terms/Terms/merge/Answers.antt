@@ -21,7 +21,6 @@ overflow_sub-goes c =
 pub loop-free-preserved-then-stays-goes : goal.loop-free-preserved-then-stays-goes
 loop-free-preserved-then-stays-goes c =
     let inv = c.loop-free.invariant in
-    let more = c.in_ok-push_sum.ensures.heads in
     let free = head_read c.args.from.now c.loop-free.free c.index.result.now
     (omega (arith, c.loop-free-test.true, inv.free_within)) c.index.ensures in
     let own = head_read c.args.from.now c.loop-free.own c.index-in-loop-free.result.now
@@ -37,7 +36,7 @@ loop-free-preserved-then-stays-goes c =
       ap (λ (h : Head). h.demands) free,
       ap (λ (h : Head). h.demands) own,
     ))
-    c.in_ok-push_sum.ensures.sum more.0 more.1 more.2
+    c.in_ok-push_sum.ensures.sum
 
 pub loop-free-preserved-then-stays-goes-2 : goal.loop-free-preserved-then-stays-goes-2
 loop-free-preserved-then-stays-goes-2 c =
@@ -56,7 +55,7 @@ loop-free-preserved-then-stays-goes-2 c =
       ap (λ (h : Head). h.demands) free,
       ap (λ (h : Head). h.demands) own,
     ))
-    c.in_ok-push.ensures.pushed c.in_ok-push.ensures.heads
+    c.in_ok-push.ensures.pushed
 
 pub push-requires-else-stays-goes-2-clause-less : goal.push-requires-else-stays-goes-2-clause-less
 push-requires-else-stays-goes-2-clause-less c =
@@ -84,7 +83,7 @@ loop-free-preserved c =
       ap (λ (h : Head). h.demands) free,
       ap (λ (h : Head). h.demands) own,
     ))
-    c.in_ok-push-2.ensures.pushed c.in_ok-push-2.ensures.heads
+    c.in_ok-push-2.ensures.pushed
 
 pub loop-free-2-preserved : goal.loop-free-2-preserved
 loop-free-2-preserved c =
@@ -96,7 +95,7 @@ loop-free-2-preserved c =
           c.requires.ordered inv c.in_ok-push-3.ensures.players c.in_ok-push-3.ensures.shaped
           c.loop-free-2-test.true
           (λ less. absurd (omega (arith, less, past)))
-          c.in_ok-push-3.ensures.pushed c.in_ok-push-3.ensures.heads,
+          c.in_ok-push-3.ensures.pushed,
       λ _. past,
     )
 
@@ -117,7 +116,7 @@ loop-own-preserved c =
     c.requires.ordered inv c.in_ok-push-4.ensures.players c.in_ok-push-4.ensures.shaped
     c.loop-own-test.true
     (λ less. absurd (omega (arith, less, c.loop-free-2-test.false)))
-    c.in_ok-push-4.ensures.pushed c.in_ok-push-4.ensures.heads
+    c.in_ok-push-4.ensures.pushed
 
 pub returns-clause-merged : goal.returns-clause-merged
 returns-clause-merged c =

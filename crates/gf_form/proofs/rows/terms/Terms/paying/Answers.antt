@@ -18,7 +18,7 @@ loop-place-preserved c =
       | then-not-are_zero+in_ok-push w ↦ rw w.left-is
           (more_paying c.args.self place c.loop-place.left c.requires.ordered less
           c.loop-place.invariant w.push.new.self w.in_ok-push.ensures.pushed
-          w.in_ok-push.ensures.heads w.in_ok-push.ensures.players w.in_ok-push.ensures.shaped)
+          w.in_ok-push.ensures.players w.in_ok-push.ensures.shaped)
       | else-not-are_zero w ↦ rw w.left-is
           (same_paying c.args.self place c.loop-place.left c.requires.ordered less
           c.loop-place.invariant

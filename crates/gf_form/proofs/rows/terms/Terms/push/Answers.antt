@@ -1,7 +1,7 @@
-use Rattle.std.proofs.Common.{◌≡◌, ◌∙◌, subst, ap, arith, length, ◌++◌, ◌∷◌, [], sym}
+use Rattle.std.proofs.Common.{◌∙◌, subst, ap, arith, length, ◌++◌, ◌∷◌, [], sym}
 use Rattle.gf_form.specs.inner.rows.Entries.{Entry, entries}
 use Rattle.gf_form.specs.declared.rows.terms.Head.{Head}
-use Rattle.gf_form.proofs.lemmas.rows.FlatRows.{entry_head, head_read, is_pushed, less_head}
+use Rattle.gf_form.proofs.lemmas.rows.FlatRows.{Pushed, entry_head, head_read, is_pushed, less_head}
 use Rattle.gf_form.proofs.lemmas.rows.FlatRows.{lowered_is, row_in_bound}
 use Rattle.gf_form.proofs.lemmas.rows.FlatRows.{row_length}
 use Rattle.gf_fraction.specs.Ratio.{IsWithin}
@@ -21,43 +21,28 @@ overflow_sub-head c =
           c.index-head.ensures),
     )
 
+made : (c : goal.In_ok-push) → Pushed c.args.self.now
+    (record { head = less_head c.index-head.result.now c.args.less; row = c.row.result.now })
+    c.push.new.self.items c.extend_from_slice.new.self.items
+made c =
+    let from = c.args.from.now in
+    is_pushed c.args.self.now (less_head c.index-head.result.now c.args.less) c.row.result.now
+    c.push.new.self.items c.extend_from_slice.new.self.items c.requires.shaped.0
+    (subst (AllByRecursion IsWithin) (sym c.row.ensures)
+    (row_in_bound from c.args.place c.requires.shaped.1 c.requires.within))
+    (ap length c.row.ensures ∙ row_length from c.args.place c.requires.shaped.1 c.requires.within
+    ∙ sym c.requires.players)
+    c.in_ok-push.ensures.items c.in_ok-extend_from_slice.ensures.items
+
 pub returns-clause-pushed : goal.returns-clause-pushed
 returns-clause-pushed c =
     let from = c.args.from.now in
-    let one_each : length c.row.result.now ≡ c.args.self.now.players =
-    ap length c.row.ensures ∙ row_length from c.args.place c.requires.shaped.1 c.requires.within
-    ∙ sym c.requires.players in
-    let all = subst (AllByRecursion IsWithin) (sym c.row.ensures)
-    (row_in_bound from c.args.place c.requires.shaped.1 c.requires.within) in
-    (is_pushed c.args.self.now (less_head c.index-head.result.now c.args.less) c.row.result.now
-    c.push.new.self.items c.extend_from_slice.new.self.items c.requires.shaped.0 all one_each
-    c.in_ok-push.ensures.items c.in_ok-extend_from_slice.ensures.items).pushed
+    (made c).pushed
     ∙ ap (λ (e : Entry). entries c.args.self.now ++ e ∷ [])
     (lowered_is from c.args.place c.args.less c.index-head.result.now c.row.result.now
     c.requires.within
     (head_read from c.args.place c.index-head.result.now c.requires.within c.index-head.ensures)
     c.row.ensures)
 
-pub returns-clause-heads : goal.returns-clause-heads
-returns-clause-heads c =
-    let from = c.args.from.now in
-    c.in_ok-push.ensures.items
-    ∙ ap (λ (e : Entry). c.args.self.now.heads.items ++ e.head ∷ [])
-    (lowered_is from c.args.place c.args.less c.index-head.result.now c.row.result.now
-    c.requires.within
-    (head_read from c.args.place c.index-head.result.now c.requires.within c.index-head.ensures)
-    c.row.ensures)
-
 pub returns-clause-shaped : goal.returns-clause-shaped
-returns-clause-shaped c =
-    let from = c.args.from.now in
-    let one_each : length c.row.result.now ≡ c.args.self.now.players =
-    ap length c.row.ensures ∙ row_length from c.args.place c.requires.shaped.1 c.requires.within
-    ∙ sym c.requires.players in
-    let all = subst (AllByRecursion IsWithin) (sym c.row.ensures)
-    (row_in_bound from c.args.place c.requires.shaped.1 c.requires.within) in
-    let made = is_pushed c.args.self.now (less_head c.index-head.result.now c.args.less)
-    c.row.result.now
-    c.push.new.self.items c.extend_from_slice.new.self.items c.requires.shaped.0 all one_each
-    c.in_ok-push.ensures.items c.in_ok-extend_from_slice.ensures.items in
-    record { count = made.count; within = made.within }
+returns-clause-shaped c = let m = made c in record { count = m.count; within = m.within }
