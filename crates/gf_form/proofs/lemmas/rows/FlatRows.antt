@@ -31,6 +31,10 @@ past [] (suc k) h = refl
 past (x ∷ xs) zero h = absurd (omega (arith, h))
 past (x ∷ xs) (suc k) h = past xs k (omega (arith, h))
 
+pub none_taken : {X : Type 0} (xs : List X) → take 0 xs ≡ []
+none_taken [] = refl
+none_taken (x ∷ xs) = refl
+
 one_row : (row : List ℤ) (p : ℕ) → length row ≡ p → take p row ≡ row
 one_row row p one_each = ap (λ (n : ℕ). take n row) (sym one_each) ∙ take-length row
 

@@ -1,6 +1,6 @@
 -- Two ranges of terms while they are merged by the code.
 use Rattle.std.proofs.Common.{◌≡◌, ℕ, zero, suc, ◌+◌, ◌-◌, ◌*◌, ◌<◌, ◌≤◌, List, [], ◌∷◌, ◌++◌}
-use Rattle.std.proofs.Common.{length, get_or, take, drop, map, refl, ap, sym, subst, ◌∙◌, arith}
+use Rattle.std.proofs.Common.{length, get_or, take, drop, map, ap, sym, subst, ◌∙◌, arith}
 use Rattle.std.proofs.Common.{add-one}
 use Rattle.std.proofs.Common.{inl, inr}
 use Rattle.std.specs.List.{AllByRecursion}
@@ -18,6 +18,7 @@ use Rattle.gf_form.specs.declared.rows.chosen.Chosen.{Chosen}
 use Rattle.gf_form.specs.declared.rows.terms.Head.{Head}
 use Rattle.gf_form.specs.declared.rows.terms.Terms.{Terms}
 use Rattle.gf_form.proofs.lemmas.rows.FlatRows.{entries_count, entry_head, head_at, heads_more}
+use Rattle.gf_form.proofs.lemmas.rows.FlatRows.{none_taken}
 use Rattle.gf_form.proofs.lemmas.rows.MergedEntries.{IsFree, IsOther, IsOwn, Merging, Ranges}
 use Rattle.gf_form.proofs.lemmas.rows.MergedEntries.{all_merged}
 use Rattle.gf_form.proofs.lemmas.rows.MergedEntries.{first_parts, take_both, take_free, take_own}
@@ -32,20 +33,16 @@ part_next es i end less within =
     rw (add-one) (drop-cons es i no_entry (omega (arith, less, within))) in
     λ k. take (n k) (d k)
 
-take_none : (es : List Entry) → take 0 es ≡ []
-take_none [] = refl
-take_none (e ∷ es) = refl
-
 pub part_past : (es : List Entry) (i end : ℕ) → end ≤ i → part i end es ≡ []
 part_past es i end past =
     let none : end - i ≡ 0 = omega arith in
-    ap (λ (n : ℕ). take n (drop i es)) none ∙ take_none (drop i es)
+    ap (λ (n : ℕ). take n (drop i es)) none ∙ none_taken (drop i es)
 
 -- all of a range, by the places of all
 all_in : (P : Entry → Type 0) (es : List Entry) (n i : ℕ) → i + n ≤ length es
     → ((k : ℕ) → i ≤ k → k < i + n → P (get_or es k no_entry))
     → AllByRecursion P (take n (drop i es))
-all_in P es zero i within each = subst (AllByRecursion P) (sym (take_none (drop i es))) tt
+all_in P es zero i within each = subst (AllByRecursion P) (sym (none_taken (drop i es))) tt
 all_in P es (suc n) i within each =
     let d : drop i es ≡ get_or es i no_entry ∷ drop (suc i) es =
     drop-cons es i no_entry (omega (arith, within)) in

@@ -27,7 +27,7 @@ use Rattle.gf_form.specs.Strategies.{all_choices}
 use Rattle.gf_form.specs.declared.rows.terms.Head.{Head}
 use Rattle.gf_form.specs.declared.rows.terms.Terms.{Terms}
 use Rattle.gf_form.proofs.lemmas.rows.FlatRows.{entries_count, entry_head, head_at, heads_more}
-use Rattle.gf_form.proofs.lemmas.rows.FlatRows.{itself}
+use Rattle.gf_form.proofs.lemmas.rows.FlatRows.{itself, none_taken}
 use Rattle.gf_form.proofs.lemmas.rows.MergedEntries.{sum_append}
 use Rattle.gf_form.proofs.lemmas.rows.Merges.{below_more, lowered_none, ordered_more}
 
@@ -180,17 +180,13 @@ pub record Paying (from : Terms) (i : ℕ) (left : Terms) : Type 0 where
   pub ordered : AreOrdered left
   pub next : i < length from.heads.items → EndsBelow left.heads.items (head_at from i).demands
 
-take_zero : (es : List Entry) → take 0 es ≡ []
-take_zero [] = refl
-take_zero (e ∷ es) = refl
-
 pub first_paying : (from left : Terms) → entries left ≡ [] → IsShaped left
     → left.players ≡ from.players → Paying from 0 left
 first_paying from left none shaped players =
     let no_heads : length left.heads.items ≡ 0 =
     sym (entries_count left.players left.heads.items left.numbers.items) ∙ ap length none in
     record {
-      kept = subst (λ (es : List Entry). Kept es (entries left)) (sym (take_zero (entries from)))
+      kept = subst (λ (es : List Entry). Kept es (entries left)) (sym (none_taken (entries from)))
           (subst (Kept []) (sym none) (record {
             sums = λ k den steps choices. refl;
             among = λ den all. tt;
@@ -272,14 +268,10 @@ sizes_append : (xs ys : List Head) → sizes_of (xs ++ ys) ≡ sizes_of xs + siz
 sizes_append [] ys = omega arith
 sizes_append (x ∷ xs) ys = omega (arith, sizes_append xs ys)
 
-no_heads_taken : (heads : List Head) → take 0 heads ≡ []
-no_heads_taken [] = refl
-no_heads_taken (h ∷ hs) = refl
-
 pub first_fitting : (den : ℕ) (heads : List Head) → Fitting den 0 heads 0
 first_fitting den heads = record {
-  dens = subst (AllByRecursion (λ (h : Head). h.den ≡ den)) (sym (no_heads_taken heads)) tt;
-  sizes = ap sizes_of (no_heads_taken heads);
+  dens = subst (AllByRecursion (λ (h : Head). h.den ≡ den)) (sym (none_taken heads)) tt;
+  sizes = ap sizes_of (none_taken heads);
   within = lit< tt;
 }
 

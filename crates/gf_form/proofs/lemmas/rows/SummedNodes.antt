@@ -21,6 +21,7 @@ use Rattle.gf_form.specs.inner.rows.ListedNodes.{AreTermsOf}
 use Rattle.gf_form.specs.inner.rows.Shares.{IsExactIfMet, over, pay_at, scale}
 use Rattle.gf_form.specs.inner.rows.SummedNodes.{HaveSharesOf, IsNodeSum, order_of, weighing}
 use Rattle.gf_form.specs.declared.rows.paths.Reached.{Reached}
+use Rattle.gf_form.proofs.lemmas.rows.FlatRows.{none_taken}
 use Rattle.gf_form.proofs.lemmas.rows.ListedEntries.{no_node, node_at}
 use Rattle.gf_form.proofs.lemmas.rows.OrderedShares.{bounds_permuted, shares_permuted}
 use Rattle.gf_form.proofs.lemmas.rows.ShareSums.{bounds_append, shares_append}
@@ -196,14 +197,10 @@ pub record AddingUp (rs : List Reached) (at count : ℕ) (now : List Reached) (l
   pub within : at ≤ length rs
   pub length_is : length now ≡ length rs
 
-take_none : (rs : List Reached) → take 0 rs ≡ []
-take_none [] = refl
-take_none (r ∷ rs) = refl
-
 module _ (rs : List Reached) (sorted : IsNonDecreasingBy demands_of rs) where
   pub first_adding : 0 < length rs → (r : Reached) → r ≡ get_or rs 0 r → AddingUp rs 1 0 rs r
   first_adding some r is = record {
-    summing = subst (λ (ns : List Reached). Summing rs 1 ns r) (sym (take_none rs))
+    summing = subst (λ (ns : List Reached). Summing rs 1 ns r) (sym (none_taken rs))
         (subst (Summing rs 1 []) (sym (is ∙ get_or_default rs 0 r no_node some))
         (first_summed rs sorted some));
     left = λ k d more. refl;
