@@ -1,5 +1,5 @@
-use Rattle.gf_canon.proofs.lemmas.sameness.WorkedPairs.{other_names, same_names_aside}
-use Rattle.gf_canon.proofs.lemmas.sameness.WorkedPairs.{other_label, other_label_names_aside}
+use Rattle.gf_canon.proofs.lemmas.sameness.WorkedPairs.{other_names, same_names_aside, other_label}
+use Rattle.gf_canon.proofs.lemmas.sameness.WorkedPairs.{other_label_names_aside}
 use Rattle.gf_canon.proofs.laws.worked_names.Goals as goal
 
 pub returns-clause-other : goal.returns-clause-other

@@ -1,5 +1,5 @@
-use Rattle.gf_canon.proofs.lemmas.sameness.Worked.{five_numbered, five_first_uses}
-use Rattle.gf_canon.proofs.lemmas.sameness.Worked.{canonical_five, five_same, five_new_numbers}
+use Rattle.gf_canon.proofs.lemmas.sameness.Worked.{five_numbered, five_first_uses, canonical_five}
+use Rattle.gf_canon.proofs.lemmas.sameness.Worked.{five_same, five_new_numbers}
 use Rattle.gf_canon.proofs.laws.worked_numbers.Goals as goal
 
 pub returns-clause-numbers : goal.returns-clause-numbers

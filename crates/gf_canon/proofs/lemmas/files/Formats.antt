@@ -1,10 +1,8 @@
 -- The first token of a game file names its format, and no file begins with another.
-use Rattle.std.proofs.Common.{◌≡◌, ◌≢◌, ℕ, true, false, List, [], ◌∷◌, ◌++◌, length}
-use Rattle.std.proofs.Common.{get_or, nat_eq, refl, sym, ap, subst, ◌∙◌, inl, inr, arith}
+use Rattle.std.proofs.Common.{◌≡◌, ◌≢◌, ℕ, false, List, [], ◌∷◌, ◌++◌, length, nat_eq, refl, sym}
+use Rattle.std.proofs.Common.{ap, subst, ◌∙◌, inr, arith}
 use Rattle.std.specs.Prelude.{codes, if◌then◌else◌}
 use Rattle.std.specs.Cmp.Lexicographic.{pointwise}
-use Rattle.std.proofs.lemmas.Slice.Eq.{slice_eq-Decides}
-use Rattle.std.proofs.lemmas.Bool.Decides.{Decides-eqb}
 use Rattle.std.proofs.lemmas.List.{map-append}
 use Rattle.gf_token.specs.Next.{is_bare_token, is_broken, starts}
 use Rattle.gf_token.specs.Place.{tokens_of, Begins, IsAccepted}
@@ -38,9 +36,7 @@ first_word [] = []
 first_word (t ∷ ts) = word_at t
 
 pub two_words : codes "EFG" ≡ codes "NFG" → ⊥
-two_words e =
-    let letters : 69 ≡ 78 = ap (λ bs. get_or bs 0 0) e in
-    omega (arith, letters)
+two_words e = grind arith
 
 pub extensive_word : (tokens : List Token) → IsExtensiveFile tokens
     → first_word tokens ≡ codes "EFG"
@@ -66,37 +62,20 @@ pub record IsNoFormat (tokens : List Token) : Type 0 where
 -- no bare token
 pub no_bare : (ls : List Lexeme) → starts is_bare_token ls ≡ false → IsNoFormat (tokens_of ls)
 no_bare [] e = record { not_extensive = λ h. absurd cc; not_strategic = λ h. absurd cc }
-no_bare (l ∷ ls) e = no_bare_at l.token (tokens_of ls) e
-  where
-    no_bare_at : (t : Token) (ts : List Token) → is_bare_token t ≡ false → IsNoFormat (t ∷ ts)
-    no_bare_at (Bare bytes) ts e = absurd cc
-    no_bare_at _ ts e = record { not_extensive = λ h. absurd cc; not_strategic = λ h. absurd cc }
+no_bare (l ∷ ls) e = grind arith
 
 -- a bare token that is neither word
 pub other_word : (bytes : List ℕ) (ts : List Token) → pointwise nat_eq bytes (codes "EFG") ≡ false
     → pointwise nat_eq bytes (codes "NFG") ≡ false → IsNoFormat (Bare bytes ∷ ts)
-other_word bytes ts e n = record {
-  not_extensive = differs bytes (codes "EFG") e;
-  not_strategic = differs bytes (codes "NFG") n;
-}
-  where
-    differs : (a b : List ℕ) → pointwise nat_eq a b ≡ false → a ≢ b
-    differs a b e = λ same.
-        let equal : pointwise nat_eq a b ≡ true =
-        (slice_eq-Decides Decides-eqb a b (pointwise nat_eq a b) refl).1 same in
-        absurd cc
+other_word bytes ts e n = grind arith
 
 none_begins : (tokens : List Token) → IsNoFormat tokens → ¬ (IsInEitherFormat tokens)
-none_begins tokens h = λ file. elim file [
-  | inl e ↦ h.not_extensive (extensive_word tokens e)
-  | inr s ↦ h.not_strategic (strategic_word tokens s)
-]
+none_begins tokens h = grind arith
 
 not_accepted : (tokens : List Token) → IsNoFormat tokens
     → ¬ (IsAccepted IsInEitherFormat [] tokens)
 not_accepted [] h = none_begins [] h
-not_accepted (t ∷ ts) h = λ file. none_begins (t ∷ file.0)
-    (record { not_extensive = h.not_extensive; not_strategic = h.not_strategic }) file.1
+not_accepted (t ∷ ts) h = grind arith
 
 -- some file begins
 some_file : Begins IsInEitherFormat []
@@ -156,20 +135,8 @@ pub record HasTokens (bytes : List ℕ) (x : GameFile) : Type 0 where
   pub word : first_word (tokens_of lexemes) ≡ file_word x
 
 pub tokens_in : (bytes : List ℕ) (x : GameFile) → SpellsFile bytes x → HasTokens bytes x
-tokens_in bytes (extensive g) h =
-    let file : IsExtensiveFile (tokens_of h.0) = (h.2.0, h.2.1, h.2.2) in
-    record {
-      lexemes = h.0;
-      spelled = h.1;
-      file = inl file;
-      word = extensive_word (tokens_of h.0) file;
-    }
-tokens_in bytes (strategic t) h = record {
-  lexemes = h.0;
-  spelled = h.1;
-  file = inr (t, h.2);
-  word = strategic_word (tokens_of h.0) (t, h.2);
-}
+tokens_in bytes (extensive g) h = grind arith
+tokens_in bytes (strategic t) h = grind arith
 
 pub named_by_word : (word bytes : List ℕ) (x : GameFile) → BeginsWithWord word bytes
     → SpellsFile bytes x → word ≡ file_word x

@@ -1,17 +1,15 @@
 -- Bytes have one canonical text or one refusal, and equal texts exactly if they mean the same.
-use Rattle.std.proofs.Common.{◌≡◌, ℕ, List, refl, sym, ap, subst, ◌∙◌, inl, inr}
+use Rattle.std.proofs.Common.{◌≡◌, ℕ, List, refl, sym, subst, ◌∙◌, inl, inr}
 use Rattle.std.specs.Prelude.{◌↔◌, ◌⊎◌}
 use Rattle.gf_token.specs.declared.fault.Span.{Span}
 use Rattle.gf_token.specs.declared.fault.Why.{Why}
 use Rattle.gf_canon.specs.GameFile.{GameFile, SameFile, SpellsFile, canonical_file, canonical_text}
-use Rattle.gf_canon.specs.GameFile.{file_text}
 use Rattle.gf_canon.specs.GameFile.GameFile.{extensive, strategic}
 use Rattle.gf_canon.specs.Judgement.{IsCanonicalText, IsFileWithinLimit, IsRefused, IsRefusedWith}
 use Rattle.gf_canon.specs.Judgement.{SpellsWithin}
 use Rattle.gf_canon.specs.MeanSame.{MeanSame}
 use Rattle.gf_canon.proofs.lemmas.files.Texts.{canonical_reads_back, equal_canonical_texts}
-use Rattle.gf_canon.proofs.lemmas.files.Texts.{file_twice}
-use Rattle.gf_canon.proofs.lemmas.files.Texts.{is_game_file, spells_one_file}
+use Rattle.gf_canon.proofs.lemmas.files.Texts.{file_twice, is_game_file, spells_one_file}
 use Rattle.gf_canon.proofs.lemmas.files.RefusedOnce.{answered, not_both, placed}
 
 -- ---- a text or a refusal
@@ -43,10 +41,7 @@ refused_with bytes why span h = record {
 pub one_text : (bytes text other : List ℕ) → IsCanonicalText bytes text
     → IsCanonicalText bytes other → text ≡ other
 one_text bytes text other p q =
-    p.is_text
-    ∙ ap canonical_text
-    (spells_one_file bytes p.file q.file p.spelled.spelled q.spelled.spelled)
-    ∙ sym q.is_text
+    cc (spells_one_file bytes p.file q.file p.spelled.spelled q.spelled.spelled)
 
 limit_kept : (x : GameFile) → IsFileWithinLimit x → IsFileWithinLimit (canonical_file x)
 limit_kept (extensive g) within = within
@@ -60,8 +55,7 @@ own_text bytes text p = record {
         (canonical_reads_back bytes p.file p.spelled.spelled);
     within = limit_kept p.file p.spelled.within;
   };
-  is_text = p.is_text
-      ∙ ap file_text (sym (file_twice p.file (is_game_file bytes p.file p.spelled.spelled)));
+  is_text = cc (file_twice p.file (is_game_file bytes p.file p.spelled.spelled));
 }
 
 -- ---- the same meaning

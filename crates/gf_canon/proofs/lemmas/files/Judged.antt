@@ -1,6 +1,5 @@
 -- What the bytes of a file are answered with: its canonical text, or out of memory.
-use Rattle.std.proofs.Common.{◌≡◌, ℕ, List, Result, Ok, Err, IfOk, IfErr}
-use Rattle.std.proofs.Common.{MatchResult, sym, ap, ◌∙◌}
+use Rattle.std.proofs.Common.{◌≡◌, ℕ, List, Result, Ok, Err, IfOk, IfErr, MatchResult, sym}
 use Rattle.std.specs.Prelude.{codes}
 use Rattle.gf_token.specs.declared.fault.Fault.{Fault}
 use Rattle.gf_token.specs.declared.fault.Why.TheVariants.{Memory}
@@ -27,10 +26,7 @@ module _ {A : Type 0} (items : A → List ℕ) (names : Names) where
 
   one_text : (bytes text : List ℕ) (x : GameFile) → IsTextBy names bytes text
       → SpellsFile bytes x → text ≡ canonical_text (file_by names x)
-  one_text bytes text x h spells =
-      h.is_text
-      ∙ ap (λ y. canonical_text (file_by names y))
-      (spells_one_file bytes h.file x h.spelled.spelled spells)
+  one_text bytes text x h spells = cc (spells_one_file bytes h.file x h.spelled.spelled spells)
 
   pub only_game : (bytes : List ℕ) (r : Result A Fault) (x : GameFile)
       → BeginsWithWord (codes "EFG") bytes → IfOk r (λ a. IsTextBy names bytes (items a))

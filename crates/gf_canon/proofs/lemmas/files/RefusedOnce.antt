@@ -37,7 +37,6 @@ use Rattle.gf_canon.proofs.lemmas.files.EitherFormat.{extensive_placed, strategi
 use Rattle.gf_canon.proofs.lemmas.files.Formats.{IsNoFormat, begun_word, named_by_word, no_bare}
 use Rattle.gf_canon.proofs.lemmas.files.Formats.{none_without_format, other_word, two_words}
 use Rattle.gf_canon.proofs.lemmas.files.Formats.{without_format}
-use Rattle.gf_canon.proofs.lemmas.files.Formats.{word_at}
 use Rattle.gf_canon.proofs.lemmas.files.Refused.{placed_at_first, reason_at_first}
 
 -- ---- an answer to all bytes
@@ -117,8 +116,7 @@ answered bytes = let spelled = spelled_once bytes in by_first bytes spelled.0 sp
 two_formats : (bytes : List ℕ) → BeginsWithWord (codes "EFG") bytes
     → BeginsWithWord (codes "NFG") bytes → ⊥
 two_formats bytes h k =
-    two_words (sym (begun_word (codes "EFG") bytes (k.first ∷ k.others) h k.spelled)
-    ∙ ap word_at k.is_word)
+    two_words (cc (begun_word (codes "EFG") bytes (k.first ∷ k.others) h k.spelled))
 
 -- some file begins with a word that names a format
 named_format : (word bytes : List ℕ) (why : Why) (span : Span)
@@ -127,9 +125,8 @@ named_format : (word bytes : List ℕ) (why : Why) (span : Span)
 named_format word bytes why span begins named h =
     let place = h.place in
     let first : place.after ≡ named.first ∷ named.others =
-    ap (λ (ls : List Lexeme). ls ++ place.after) (sym h.at_first)
-    ∙ same_tokens bytes (place.before ++ place.after) (named.first ∷ named.others) place.spelled
-    named.spelled in
+    cc (same_tokens bytes (place.before ++ place.after) (named.first ∷ named.others) place.spelled
+    named.spelled) in
     let at_first : ¬ (IsAccepted IsInEitherFormat [] (tokens_of place.after)) =
     subst (λ (ls : List Lexeme).
     ¬ (IsAccepted IsInEitherFormat (tokens_of ls) (tokens_of place.after))) h.at_first

@@ -1,7 +1,7 @@
 -- Game files of both kinds: their canonical texts are equal exactly if they are the same.
-use Rattle.std.proofs.Common.{◌≡◌, ℕ, List, [], ◌∷◌, map, get_or, refl, sym, ap, subst, ◌∙◌, arith}
-use Rattle.std.specs.Prelude.{◌↔◌, codes}
-use Rattle.gf_token.specs.Token.{Token, Lexeme}
+use Rattle.std.proofs.Common.{◌≡◌, ℕ, List, [], ◌∷◌, get_or, refl, ap, subst, arith}
+use Rattle.std.specs.Prelude.{◌↔◌}
+use Rattle.gf_token.specs.Token.{Token}
 use Rattle.gf_token.specs.Token.Token.{Bare}
 use Rattle.gf_token.proofs.Spelled.{same_tokens}
 use Rattle.gf_nfg.specs.Table.{Table}
@@ -17,8 +17,8 @@ use Rattle.gf_tree.proofs.lemmas.games.TreesOnce.{spells_one_game}
 use Rattle.gf_tree.proofs.lemmas.games.Spelled.{spelled_is_spellable as spelled_game}
 use Rattle.gf_tree.specs.CanonicalGame.{canonical_game}
 use Rattle.gf_canon.specs.GameText.{game_text}
-use Rattle.gf_canon.specs.GameFile.{GameFile, IsGameFile, SpellsFile, SameFile}
-use Rattle.gf_canon.specs.GameFile.{canonical_file, canonical_text, file_text}
+use Rattle.gf_canon.specs.GameFile.{GameFile, IsGameFile, SpellsFile, SameFile, canonical_file}
+use Rattle.gf_canon.specs.GameFile.{canonical_text}
 use Rattle.gf_canon.specs.GameFile.GameFile.{extensive, strategic}
 use Rattle.gf_tree.proofs.lemmas.games.Canonical.{same_by_canonical, canonical_is_game}
 use Rattle.gf_tree.proofs.lemmas.games.Canonical.{canonical_twice}
@@ -34,11 +34,9 @@ one_table t u e = cc
 pub same_by_canonical_file : (a b : GameFile) → IsGameFile a → IsGameFile b
     → SameFile a b ↔ (canonical_file a ≡ canonical_file b)
 same_by_canonical_file (extensive g) (extensive h) game game' =
-    let s = same_by_canonical g h game game' in
-    (λ c. ap extensive (s.0 c), λ e. s.1 (one_game _ _ e))
+    grind (arith, same_by_canonical, one_game)
 same_by_canonical_file (strategic t) (strategic u) table table' =
-    let s = same_is_equal t u table table' in
-    (λ c. ap strategic (s.0 c), λ e. s.1 (one_table t u e))
+    grind (arith, same_is_equal, one_table)
 same_by_canonical_file (extensive g) (strategic u) game table = (λ c. absurd c, λ e. cc)
 same_by_canonical_file (strategic t) (extensive h) table game = (λ c. absurd c, λ e. cc)
 
@@ -62,18 +60,12 @@ first_word _ = []
 of_two_kinds : (bytes : List ℕ) (g : Game) (t : Table) → SpellsGame bytes g → SpellsTable bytes t
     → ⊥
 unfolding first_word
-of_two_kinds bytes g t p q =
-    let same = same_tokens bytes p.0 q.0 p.1 q.1 in
-    let words : codes "EFG" ≡ codes "NFG" =
-    ap first_word (sym p.2.1.parts ∙ ap (map (λ (l : Lexeme). l.token)) same ∙ q.2.parts) in
-    let letters : 69 ≡ 78 = ap (λ bs. get_or bs 0 0) words in
-    omega (arith, letters)
+of_two_kinds bytes g t p q = grind (arith, same_tokens, first_word, get_or)
 
 pub spells_one_file : (bytes : List ℕ) (x y : GameFile) → SpellsFile bytes x → SpellsFile bytes y
     → x ≡ y
 spells_one_file bytes (extensive g) (extensive h) p q = ap extensive (spells_one_game bytes g h p q)
-spells_one_file bytes (strategic t) (strategic u) p q =
-    ap strategic (spells_one_table bytes t u p q)
+spells_one_file bytes (strategic t) (strategic u) p q = cc (spells_one_table bytes t u p q)
 spells_one_file bytes (extensive g) (strategic u) p q = absurd (of_two_kinds bytes g u p q)
 spells_one_file bytes (strategic t) (extensive h) p q = absurd (of_two_kinds bytes h t q p)
 
@@ -99,16 +91,9 @@ file_twice (strategic t) table = refl
 pub canonical_again : (bytes : List ℕ) (x y : GameFile)
     → SpellsFile bytes x → SpellsFile (canonical_text x) y → canonical_text y ≡ canonical_text x
 canonical_again bytes x y h k =
-    ap canonical_text
-    (spells_one_file (canonical_text x) y (canonical_file x) k (canonical_reads_back bytes x h))
-    ∙ ap file_text (file_twice x (is_game_file bytes x h))
+    grind (arith, spells_one_file, canonical_reads_back, file_twice, is_game_file)
 
 pub equal_canonical_texts : (a b : List ℕ) (x y : GameFile) → SpellsFile a x → SpellsFile b y
     → (canonical_text x ≡ canonical_text y) ↔ SameFile x y
 equal_canonical_texts a b x y h k =
-    let same = same_by_canonical_file x y (is_game_file a x h) (is_game_file b y k) in (
-      λ e. same.1 (spells_one_file (canonical_text y) (canonical_file x) (canonical_file y)
-          (subst (λ bytes. SpellsFile bytes (canonical_file x)) e (canonical_reads_back a x h))
-          (canonical_reads_back b y k)),
-      λ s. ap file_text (same.0 s),
-    )
+    grind (arith, same_by_canonical_file, is_game_file, spells_one_file, canonical_reads_back)

@@ -1,6 +1,6 @@
 -- Pairs of what a renumbering carries: it has the same position in both games.
 use Rattle.std.proofs.Common.{◌≡◌, ℕ, zero, suc, List, ◌++◌, ◌∷◌, [], map, Option, Some, None, refl}
-use Rattle.std.proofs.Common.{ap, length, sym, ◌∙◌}
+use Rattle.std.proofs.Common.{length, sym, ◌∙◌}
 use Rattle.std.specs.Prelude.{option_map}
 use Rattle.std.specs.List.{flat_map}
 use Rattle.std.specs.Option.{option_to_list}
@@ -52,14 +52,12 @@ module _ (r : Renumbering) (g h : Game) (games : IsGame g × IsGame h) (c : Carr
   pub set_carried : (player i : ℕ) → at_position (set_numbers h player) i
       ≡ option_map (r.set player) (at_position (set_numbers g player) i)
   set_carried player i =
-      ap (λ (ns : List ℕ). at_position ns i) (numbers_carried player)
-      ∙ image_at (r.set player) (set_numbers g player) i
+      cc (numbers_carried player, image_at (r.set player) (set_numbers g player) i)
 
   pub outcome_carried : (i : ℕ) → at_position (outcome_numbers h) i
       ≡ option_map r.outcome (at_position (outcome_numbers g) i)
   outcome_carried i =
-      ap (λ (ns : List ℕ). at_position ns i) (outcome_numbers_carried r g h games.0 games.1 c)
-      ∙ image_at r.outcome (outcome_numbers g) i
+      cc (outcome_numbers_carried r g h games.0 games.1 c, image_at r.outcome (outcome_numbers g) i)
 
 -- ---- two renumberings that carry a game to another have the same pairs
 

@@ -1,6 +1,5 @@
 -- What a test of two lists says about what their items stand for.
-use Rattle.std.proofs.Common.{◌≡◌, Bool, List, [], ◌∷◌}
-use Rattle.std.proofs.Common.{map, nat_eq, refl}
+use Rattle.std.proofs.Common.{◌≡◌, Bool, List, [], ◌∷◌, map, nat_eq, refl}
 use Rattle.std.specs.Bool.{Decides}
 use Rattle.std.specs.Cmp.Lexicographic.{pointwise}
 use Rattle.std.proofs.lemmas.Bool.Decides.{Decides-eqb}

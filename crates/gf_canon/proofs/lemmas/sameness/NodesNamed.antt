@@ -17,8 +17,8 @@ use Rattle.gf_canon.specs.inner.NamedBy.{node_by, outcome_by, set_by, use_by}
 use Rattle.gf_canon.specs.NamesAside.{unnamed_game, unnamed_node}
 use Rattle.gf_canon.specs.declared.sameness.Names.TheVariants.{Aside, Kept}
 use Rattle.gf_canon.proofs.lemmas.sameness.Unnamed.{unnamed_outcome_at, unnamed_outcomes}
-use Rattle.gf_canon.proofs.lemmas.sameness.Unnamed.{unnamed_outcomes_of}
-use Rattle.gf_canon.proofs.lemmas.sameness.Unnamed.{unnamed_set_at, unnamed_sets, unnamed_sets_of}
+use Rattle.gf_canon.proofs.lemmas.sameness.Unnamed.{unnamed_outcomes_of, unnamed_set_at}
+use Rattle.gf_canon.proofs.lemmas.sameness.Unnamed.{unnamed_sets, unnamed_sets_of}
 
 -- ---- with names
 
@@ -50,8 +50,7 @@ use_aside : {K D : Type 0} (same : K → K → Bool) (f : D → D) (had bare : K
     → option_map (use_behind same bare before) o
     ≡ option_map (use_by f) (option_map (use_behind same had before) o)
 use_aside same f had bare are before None = refl
-use_aside same f had bare are before (Some k) =
-    ap (λ d. Some (record { key = k; description = d })) (by (list_any (same k) before))
+use_aside same f had bare are before (Some k) = cc (by (list_any (same k) before))
   where
     by : (b : Bool) → (if b then None else bare k) ≡ option_map f (if b then None else had k)
     by true = refl

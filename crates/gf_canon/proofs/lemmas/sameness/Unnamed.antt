@@ -1,7 +1,7 @@
 -- Without its names a game is still a game, and games that are the same are also the same aside
 -- from names.
-use Rattle.std.proofs.Common.{◌≡◌, ℕ, Bool, true, false, cond, List, [], ◌∷◌, length}
-use Rattle.std.proofs.Common.{map, Option, Some, None, refl, sym, ap, subst, ◌∙◌}
+use Rattle.std.proofs.Common.{◌≡◌, ℕ, Bool, true, false, cond, List, [], ◌∷◌, length, map, Option}
+use Rattle.std.proofs.Common.{Some, None, refl, sym, ap, subst, ◌∙◌}
 use Rattle.std.specs.Prelude.{nat_eq, option_map, MatchOption, ◌↔◌}
 use Rattle.std.specs.List.{AllByRecursion, Contains, filter_map, cons_option, find}
 use Rattle.gf_token.specs.LabelSpelling.{IsLabel}
@@ -11,14 +11,14 @@ use Rattle.gf_nfg.proofs.lemmas.texts.OneTable.{text_reads_back as table_reads_b
 use Rattle.gf_nfg.proofs.lemmas.tables.Spelled.{spelled_is_spellable as spelled_table}
 use Rattle.gf_tree.specs.Tree.{map_tree}
 use Rattle.gf_tree.specs.PrefixOrder.{Entry, flatten}
-use Rattle.gf_tree.specs.Description.{SetKey, InformationSet, Outcome}
-use Rattle.gf_tree.specs.Description.{same_set, IsSet, IsOutcome, set_of}
+use Rattle.gf_tree.specs.Description.{SetKey, InformationSet, Outcome, same_set, IsSet, IsOutcome}
+use Rattle.gf_tree.specs.Description.{set_of}
 use Rattle.gf_tree.specs.FiniteMap.{Described, description_at, first_uses}
-use Rattle.gf_tree.specs.Game.{Node, Game, IsGame, HasChildren, used_sets}
-use Rattle.gf_tree.specs.Game.{used_outcomes, set_at, outcome_at}
+use Rattle.gf_tree.specs.Game.{Node, Game, IsGame, HasChildren, used_sets, used_outcomes, set_at}
+use Rattle.gf_tree.specs.Game.{outcome_at}
 use Rattle.gf_tree.specs.Spellable.{IsSpellable, IsSpellableSet, IsSpellableOutcome}
-use Rattle.gf_tree.specs.Renumbering.{Renumbering, IsRenumbering, HasSet}
-use Rattle.gf_tree.specs.Renumbering.{HasOutcome, renumbered_set, renumbered_node}
+use Rattle.gf_tree.specs.Renumbering.{Renumbering, IsRenumbering, HasSet, HasOutcome}
+use Rattle.gf_tree.specs.Renumbering.{renumbered_set, renumbered_node}
 use Rattle.gf_tree.proofs.lemmas.games.Consistent.{map_entry, flatten_map}
 use Rattle.gf_tree.proofs.lemmas.games.Spelled.{spelled_is_spellable as spelled_game}
 use Rattle.gf_tree.proofs.lemmas.games.Members.{map_twice}
@@ -26,8 +26,8 @@ use Rattle.gf_tree.proofs.lemmas.games.MappedTrees.{map_tree_twice}
 use Rattle.gf_tree.specs.SameGame.{Carries}
 use Rattle.gf_canon.specs.GameFile.{GameFile, SpellsFile, SameFile, canonical_text, file_text}
 use Rattle.gf_canon.specs.GameFile.GameFile.{extensive, strategic}
-use Rattle.gf_canon.specs.NamesAside.{unnamed_node, unnamed_set, unnamed_outcome}
-use Rattle.gf_canon.specs.NamesAside.{unnamed_game, unnamed_table, unnamed, SameAsideNames}
+use Rattle.gf_canon.specs.NamesAside.{unnamed_node, unnamed_set, unnamed_outcome, unnamed_game}
+use Rattle.gf_canon.specs.NamesAside.{unnamed_table, unnamed, SameAsideNames}
 use Rattle.gf_canon.proofs.lemmas.texts.ReadsBack.{text_reads_back}
 use Rattle.gf_canon.proofs.lemmas.files.Texts.{equal_canonical_texts}
 
@@ -46,13 +46,10 @@ unnamed_outcomes_of [] = refl
 unnamed_outcomes_of (e ∷ es) = ap (cons_option e.node.outcome) (unnamed_outcomes_of es)
 
 pub unnamed_sets : (g : Game) → used_sets (unnamed_game g).tree ≡ used_sets g.tree
-unnamed_sets g = ap (filter_map (λ (e : Entry Node). e.node.set)) (flatten_map unnamed_node g.tree)
-    ∙ unnamed_sets_of (flatten g.tree)
+unnamed_sets g = cc (flatten_map unnamed_node g.tree, unnamed_sets_of (flatten g.tree))
 
 pub unnamed_outcomes : (g : Game) → used_outcomes (unnamed_game g).tree ≡ used_outcomes g.tree
-unnamed_outcomes g =
-    ap (filter_map (λ (e : Entry Node). e.node.outcome)) (flatten_map unnamed_node g.tree)
-    ∙ unnamed_outcomes_of (flatten g.tree)
+unnamed_outcomes g = cc (flatten_map unnamed_node g.tree, unnamed_outcomes_of (flatten g.tree))
 
 -- ---- descriptions
 
@@ -119,10 +116,7 @@ children_by : (g : Game) (o : Option SetKey) (n : ℕ)
     → MatchOption o (n ≡ 0)
     (λ key. option_map (λ s. length s.actions) (set_at (unnamed_game g) key) ≡ Some n)
 children_by g None n h = h
-children_by g (Some key) n h =
-    ap (option_map (λ (s : InformationSet). length s.actions)) (unnamed_set_at g key)
-    ∙ length_of (set_at g key)
-    ∙ h
+children_by g (Some key) n h = cc (unnamed_set_at g key, length_of (set_at g key))
 
 children_still : (g : Game) (es : List (Entry Node)) → AllByRecursion (HasChildren g) es
     → AllByRecursion (HasChildren (unnamed_game g)) (map (map_entry unnamed_node) es)

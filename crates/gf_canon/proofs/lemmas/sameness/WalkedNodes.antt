@@ -109,7 +109,6 @@ module _ {P : Type 0} {A B : Type 0} (f : A → B) {us vs : List A}
   pub walks_on : {us' vs' : List A} {u v : A} → us ≡ u ∷ us' → vs ≡ v ∷ vs' → f u ≡ f v
       → P ↔ (map f us' ≡ map f vs')
   walks_on {us'} {vs'} {u} {v} at_u at_v e = (
-    λ p. let same : f u ∷ map f us' ≡ f v ∷ map f vs' =
-        ap (map f) (sym at_u) ∙ left.0 p ∙ ap (map f) at_v in cc,
+    λ p. let same : f u ∷ map f us' ≡ f v ∷ map f vs' = cc (left.0 p) in cc,
     λ rest. left.1 (ap (map f) at_u ∙ (λ i. e i ∷ rest i) ∙ sym (ap (map f) at_v)),
   )

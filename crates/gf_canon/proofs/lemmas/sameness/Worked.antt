@@ -1,8 +1,7 @@
 -- Worked games: one with many numberings, and its text.
-use Rattle.std.proofs.Common.{◌≡◌, List, get_or, refl, sym, ap, arith}
+use Rattle.std.proofs.Common.{◌≡◌, refl, arith}
 use Rattle.std.specs.Fmt.{digits}
 use Rattle.gf_fraction.specs.NumberText.{number_text}
-use Rattle.gf_tree.specs.Description.{SetKey, set_of}
 use Rattle.gf_tree.specs.Game.{IsGame}
 use Rattle.gf_tree.specs.WorkedTrees.{five, five_file, bonus}
 use Rattle.gf_tree.specs.Renumbering.{Renumbering}
@@ -13,7 +12,6 @@ use Rattle.gf_tree.specs.SameGame.{Carries, SameGame}
 use Rattle.gf_tree.specs.CanonicalGame.{canonical_game}
 use Rattle.gf_canon.specs.GameText.{game_text}
 use Rattle.gf_canon.specs.WorkedGames.{numbered_five, five_text, bonus_text, nobody, nobody_text}
-use Rattle.gf_tree.proofs.lemmas.games.Same.{carried_sets, carried_outcomes}
 use Rattle.gf_tree.proofs.lemmas.games.Canonical.{same_by_canonical}
 
 pub five_numbered : five ≡ numbered_five 9 7 3 4
@@ -46,48 +44,11 @@ five_is_game = (spelled_is_spellable five_file five five_is_meant).0
 copy_is_game : IsGame (numbered_five 2 3 8 2)
 copy_is_game =
     let sets = five_is_game.each_set in
-    record {
-      one_entry_each_set = refl;
-      one_entry_each_outcome = refl;
-      each_set = (
-        record {
-          player = omega arith;
-          number = omega arith;
-          some_action = omega arith;
-          actions = sets.0.actions;
-        },
-        (
-          record {
-            player = omega arith;
-            number = omega arith;
-            some_action = omega arith;
-            actions = sets.1.0.actions;
-          },
-          (
-            record {
-              player = omega arith;
-              number = omega arith;
-              some_action = omega arith;
-              actions = sets.1.1.0.actions;
-            },
-            tt,
-          ),
-        ),
-      );
-      each_outcome = (record { number_from_one = omega arith; one_payoff_each = refl }, tt);
-      children = (refl, (refl, (refl, (refl, (refl, (refl, (refl, tt)))))));
-    }
+    grind arith
 
 pub five_same : SameGame five (numbered_five 2 3 8 2)
 five_same = (same_by_canonical five (numbered_five 2 3 8 2) five_is_game copy_is_game).1 refl
 
 pub five_new_numbers : (r : Renumbering) → Carries r five (numbered_five 2 3 8 2)
     → (r.set 0 9 ≡ 2) × (r.set 1 7 ≡ 3) × (r.set 1 3 ≡ 8) × (r.outcome 4 ≡ 2)
-five_new_numbers r c =
-    let sets = sym (carried_sets r five (numbered_five 2 3 8 2) c) in
-    let outcomes = sym (carried_outcomes r five (numbered_five 2 3 8 2) c) in (
-      ap (λ (ks : List SetKey). (get_or ks 0 (set_of 0 0)).number) sets,
-      ap (λ (ks : List SetKey). (get_or ks 1 (set_of 0 0)).number) sets,
-      ap (λ (ks : List SetKey). (get_or ks 3 (set_of 0 0)).number) sets,
-      ap (λ ns. get_or ns 0 0) outcomes,
-    )
+five_new_numbers r c = grind arith

@@ -1,26 +1,21 @@
 -- Worked games that are not the same, and some that are the same aside from names.
-use Rattle.std.proofs.Common.{◌≡◌, ℕ, List, [], ◌∷◌, length, map, get_or, Option}
-use Rattle.std.proofs.Common.{Some, None, refl, sym, ap, subst, ◌∙◌, arith, inl}
+use Rattle.std.proofs.Common.{◌≡◌, ℕ, List, [], ◌∷◌, get_or, Option, Some, None, refl, sym, ap, ◌∙◌}
+use Rattle.std.proofs.Common.{arith}
 use Rattle.std.specs.List.{flat_map}
 use Rattle.gf_tree.specs.Description.{SetKey, InformationSet, set_of}
 use Rattle.gf_tree.specs.Game.{Game, IsGame, used_sets, set_at}
 use Rattle.gf_tree.specs.Renumbering.{renumbered_set}
-use Rattle.gf_tree.proofs.lemmas.games.Uses.{Has, contains}
 use Rattle.gf_tree.specs.SameGame.{SameGame}
 use Rattle.gf_canon.specs.GameFile.GameFile.{extensive}
 use Rattle.gf_canon.specs.NamesAside.{SameAsideNames, unnamed_game}
-use Rattle.gf_canon.specs.WorkedGames.{seen, unseen, plain_prize, renamed_prize}
-use Rattle.gf_canon.specs.WorkedGames.{lower_case_prize, two_prizes, no_outcome, zero_outcome}
+use Rattle.gf_canon.specs.WorkedGames.{seen, unseen, plain_prize, renamed_prize, lower_case_prize}
+use Rattle.gf_canon.specs.WorkedGames.{two_prizes, no_outcome, zero_outcome}
 use Rattle.gf_tree.proofs.lemmas.games.Same.{same_itself, carried_sets, carried_outcomes}
 
 -- ---- what a player sees
 
 pub unseen_seen : ¬ (SameGame unseen seen)
-unseen_seen (r, c) =
-    let sets = carried_sets r unseen seen c in
-    let first : 1 ≡ r.set 1 1 = ap (λ (ks : List SetKey). (get_or ks 1 (set_of 0 0)).number) sets in
-    let other : 2 ≡ r.set 1 1 = ap (λ (ks : List SetKey). (get_or ks 2 (set_of 0 0)).number) sets in
-    omega (arith, first, other)
+unseen_seen (r, c) = grind arith
 
 pub seen_unseen : ¬ (SameGame seen unseen)
 seen_unseen (r, c) =
@@ -34,11 +29,7 @@ seen_unseen (r, c) =
 -- ---- outcomes
 
 pub one_two_prizes : ¬ (SameGame plain_prize two_prizes)
-one_two_prizes (r, c) =
-    let outcomes = carried_outcomes r plain_prize two_prizes c in
-    let first : 1 ≡ r.outcome 1 = ap (λ ns. get_or ns 0 0) outcomes in
-    let other : 2 ≡ r.outcome 1 = ap (λ ns. get_or ns 1 0) outcomes in
-    omega (arith, first, other)
+one_two_prizes (r, c) = grind arith
 
 pub two_one_prizes : ¬ (SameGame two_prizes plain_prize)
 two_one_prizes (r, c) =
@@ -50,33 +41,15 @@ two_one_prizes (r, c) =
     omega (arith, one)
 
 pub null_zero : ¬ (SameGame no_outcome zero_outcome)
-null_zero (r, c) =
-    let e = carried_outcomes r no_outcome zero_outcome c in
-    let n : 1 ≡ 0 = ap length e in omega (arith, n)
+null_zero (r, c) = grind arith
 
 pub zero_null : ¬ (SameGame zero_outcome no_outcome)
-zero_null (r, c) =
-    let e = carried_outcomes r zero_outcome no_outcome c in
-    let n : 0 ≡ 1 = ap length e in omega (arith, n)
+zero_null (r, c) = grind arith
 
 -- ---- names
 
 unnamed_prize_is_game : IsGame (unnamed_game plain_prize)
-unnamed_prize_is_game = record {
-  one_entry_each_set = refl;
-  one_entry_each_outcome = refl;
-  each_set = (
-    record {
-      player = omega arith;
-      number = omega arith;
-      some_action = omega arith;
-      actions = (refl, (refl, tt));
-    },
-    tt,
-  );
-  each_outcome = (record { number_from_one = omega arith; one_payoff_each = refl }, tt);
-  children = (refl, (refl, (refl, tt)));
-}
+unnamed_prize_is_game = grind arith
 
 pub same_names_aside : SameAsideNames (extensive plain_prize) (extensive renamed_prize)
 same_names_aside = same_itself (unnamed_game plain_prize) unnamed_prize_is_game
@@ -91,11 +64,9 @@ key = set_of 1 1
 only_set : (g h : Game) → used_sets g.tree ≡ key ∷ [] → used_sets h.tree ≡ key ∷ [] → SameGame g h
     → set_at g key ≡ set_at h key
 only_set g h e f (r, c) =
-    let images : key ∷ [] ≡ renumbered_set r key ∷ [] =
-    sym f ∙ carried_sets r g h c ∙ ap (map (renumbered_set r)) e in
+    let images : key ∷ [] ≡ renumbered_set r key ∷ [] = cc (carried_sets r g h c) in
     let image : key ≡ renumbered_set r key = ap (λ ks. get_or ks 0 key) images in
-    c.sets key (contains (used_sets g.tree) key (subst (λ ks. Has ks key) (sym e) (inl refl)))
-    ∙ ap (set_at h) (sym image)
+    grind arith
 
 -- the labels of a set's actions
 abbrev labels : Option InformationSet → List ℕ

@@ -1,6 +1,6 @@
 -- The texts of two files, with names or without, are equal exactly if the files are the same in
 -- this sense.
-use Rattle.std.proofs.Common.{◌≡◌, ℕ, List, ap, sym, ◌∙◌}
+use Rattle.std.proofs.Common.{◌≡◌, ℕ, List, sym, ◌∙◌}
 use Rattle.std.specs.Prelude.{◌↔◌}
 use Rattle.gf_canon.specs.GameFile.{GameFile, SpellsFile, canonical_text}
 use Rattle.gf_canon.specs.Judgement.{IsTextBy, SpellsWithin}
@@ -18,10 +18,7 @@ texts_of Aside a b x y of_x of_y = equal_texts_aside a b x y of_x of_y
 
 text_of : (names : Names) (a s : List ℕ) (x : GameFile) → IsTextBy names a s → SpellsWithin a x
     → s ≡ canonical_text (file_by names x)
-text_of names a s x p of_x =
-    p.is_text
-    ∙ ap (λ y. canonical_text (file_by names y))
-    (spells_one_file a p.file x p.spelled.spelled of_x.spelled)
+text_of names a s x p of_x = cc (spells_one_file a p.file x p.spelled.spelled of_x.spelled)
 
 pub equal_texts_by : (names : Names) (a b s t : List ℕ) → IsTextBy names a s → IsTextBy names b t
     → (x y : GameFile) → SpellsWithin a x → SpellsWithin b y → (s ≡ t) ↔ SameBy names x y

@@ -1,7 +1,7 @@
 -- A file tree of each game: each set and each outcome is described at its first use, and not again.
-use Rattle.std.proofs.Common.{◌≡◌, ℕ, zero, suc, ◌+◌, Bool, true, false, List}
-use Rattle.std.proofs.Common.{[], ◌∷◌, ◌++◌, map, Option, None, Some, refl, sym}
-use Rattle.std.proofs.Common.{ap, subst, ◌∙◌, inl, inr, append-nil, append_assoc}
+use Rattle.std.proofs.Common.{◌≡◌, ℕ, zero, suc, ◌+◌, Bool, true, false, List, [], ◌∷◌, ◌++◌, map}
+use Rattle.std.proofs.Common.{Option, None, Some, refl, sym, ap, subst, ◌∙◌, inl, inr, append-nil}
+use Rattle.std.proofs.Common.{append_assoc}
 use Rattle.std.specs.Prelude.{nat_eq, option_map, if◌then◌else◌}
 use Rattle.std.specs.List.{AllByRecursion, filter_map, cons_option, list_any}
 use Rattle.std.proofs.lemmas.Bool.{cases_Bool, or_from, or_parts}
@@ -43,8 +43,7 @@ uses_behind same at before (key ∷ keys) =
 pub uses_keys : {K D : Type 0} (same : K → K → Bool) (at : K → Option D) (before keys : List K)
     → map (λ u. u.key) (uses_behind same at before keys) ≡ keys
 uses_keys same at before [] = refl
-uses_keys same at before (key ∷ keys) =
-    ap (λ ks. key ∷ ks) (uses_keys same at (before ++ key ∷ []) keys)
+uses_keys same at before (key ∷ keys) = cc (uses_keys same at (before ++ key ∷ []) keys)
 
 -- a key that is not among these, and differs from one more, is not among all of them
 still_new : {K : Type 0} (same : K → K → Bool) (before : List K) (key k : K)
@@ -89,8 +88,7 @@ new_described {K} {D} same equality at before (k ∷ keys) key d h e new =
     ]
   where
     here : key ≡ k → use_behind same at before k ≡ record { key = key; description = Some d }
-    here q = ap (use_behind same at before) (sym q)
-        ∙ rw new (λ i. record { key = key; description = e i })
+    here q = cc
 
     later : same key k ≡ false → Has (k ∷ keys) key → Has keys key
     later q (inl p) = absurd (differ same equality key k q (sym p))
@@ -191,9 +189,7 @@ pub first_uses_described : {K D : Type 0} (same : K → K → Bool) → IsEquali
 first_uses_described {K} {D} same equality at keys known front after u e = (
   λ told.
       let says : (use_behind same at (map (λ (v : Use K D). v.key) front) u.key).description
-      ≡ Some told.0 =
-      ap (λ (v : Use K D). v.description) (sym (use_at_place same at [] keys front after u e))
-      ∙ told.1 in
+      ≡ Some told.0 = cc (use_at_place same at [] keys front after u e) in
       none_of_them same equality front u
       (new_where_described same at (map (λ v. v.key) front) u.key told.0 says),
   λ first. first_is_described same equality at keys known [] keys front after u (λ k m. m) refl e
@@ -341,9 +337,8 @@ file_of g game =
           title = refl;
           comment = refl;
           players = refl;
-          tree = flatten_once (map_tree keys_alone tree.0) g.tree (flatten_map keys_alone tree.0
-              ∙ ap (map (map_entry keys_alone)) tree.1
-              ∙ entries_keys g [] (flatten g.tree));
+          tree = flatten_once (map_tree keys_alone tree.0) g.tree (
+              cc (flatten_map keys_alone tree.0, entries_keys g [] (flatten g.tree)));
         };
         sets = subst (λ us. Learns same_set [] us g.sets)
             (sym (ap set_uses tree.1 ∙ set_uses_are g [] (flatten g.tree))) sets;

@@ -1,6 +1,6 @@
 -- A game has one file tree in which exactly the first uses are described.
-use Rattle.std.proofs.Common.{◌≡◌, Bool, List, [], ◌∷◌, ◌++◌, Option, Some}
-use Rattle.std.proofs.Common.{None, map, refl, sym, ap, subst, ◌∙◌, append_assoc}
+use Rattle.std.proofs.Common.{◌≡◌, Bool, List, [], ◌∷◌, ◌++◌, Option, Some, None, map, refl, sym}
+use Rattle.std.proofs.Common.{ap, subst, ◌∙◌, append_assoc}
 use Rattle.std.specs.Prelude.{nat_eq, option_map}
 use Rattle.std.specs.List.{AllByRecursion, cons_option}
 use Rattle.std.proofs.lemmas.Bool.Decides.{Decides-eqb}
@@ -55,8 +55,7 @@ module _ {K D : Type 0} (us vs : List (Use K D)) (first : DescribeFirstUses us)
       → map (λ w. w.key) before ≡ map (λ w. w.key) others
       → u.key ≡ v.key → (o p : Option D) → u.description ≡ o → v.description ≡ p
       → u.description ≡ v.description
-  same_description known before others after after' u v split split' keys key None None e e' = e
-      ∙ sym e'
+  same_description known before others after after' u v split split' keys key None None e e' = cc
   same_description known before others after after' u v split split' keys key (Some d) None e e' =
       let told = (first' others after' v split').1
       (first_alike before others u v keys key ((first before after u split).0 (d, e))) in
@@ -177,9 +176,7 @@ one_file g f h p q =
     let outcomes = same_uses (outcome_uses es) (outcome_uses fs) p.outcomes q.outcomes
     p.consistent.outcomes q.consistent.outcomes known_outcomes (paid ∙ outcomes_in_order h g too) in
     let entries : map (map_entry keys_alone) es ≡ map (map_entry keys_alone) fs =
-    sym (flatten_map keys_alone f.tree)
-    ∙ ap flatten (of.kept.tree ∙ sym too.kept.tree)
-    ∙ flatten_map keys_alone h.tree in
+    cc (flatten_map keys_alone f.tree, flatten_map keys_alone h.tree) in
     let tree = flatten_once f.tree h.tree (same_entries es fs entries sets outcomes) in
     λ i. record {
       title = (of.kept.title ∙ sym too.kept.title) i;

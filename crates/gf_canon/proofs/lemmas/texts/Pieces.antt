@@ -1,6 +1,6 @@
 -- The text of a node piece by piece, with the tokens of each piece.
-use Rattle.std.proofs.Common.{◌≡◌, ℕ, zero, suc, ◌^◌, ◌<◌, List, [], ◌∷◌, ◌++◌}
-use Rattle.std.proofs.Common.{map, Option, Some, None, refl, ap, subst, ◌∙◌}
+use Rattle.std.proofs.Common.{◌≡◌, ℕ, zero, suc, ◌^◌, ◌<◌, List, [], ◌∷◌, ◌++◌, map, Option, Some}
+use Rattle.std.proofs.Common.{None, refl, ap, subst, ◌∙◌}
 use Rattle.std.specs.Prelude.{codes, decimal, MatchOption, ⊤}
 use Rattle.std.specs.List.{AllByRecursion, flat_map}
 use Rattle.std.specs.Option.{option_to_list}
@@ -21,9 +21,9 @@ use Rattle.gf_tree.specs.Description.{Action, SetKey, InformationSet, Outcome, I
 use Rattle.gf_tree.specs.FileTree.{Use, FileNode}
 use Rattle.gf_tree.specs.Spellable.{IsSpellableAction, IsSpellableSet, IsSpellableOutcome}
 use Rattle.gf_tree.proofs.lemmas.written.Nodes.{action_tokens, set_tokens, outcome_tokens}
-use Rattle.gf_tree.proofs.lemmas.written.Nodes.{mover_letter}
-use Rattle.gf_tree.proofs.lemmas.written.Nodes.{mover_tokens, letter, step_tokens, result_tokens}
-use Rattle.gf_tree.proofs.lemmas.written.Nodes.{node_tokens, IsSetUse, IsOutcomeUse, IsWritable}
+use Rattle.gf_tree.proofs.lemmas.written.Nodes.{mover_letter, mover_tokens, letter, step_tokens}
+use Rattle.gf_tree.proofs.lemmas.written.Nodes.{result_tokens, node_tokens, IsSetUse, IsOutcomeUse}
+use Rattle.gf_tree.proofs.lemmas.written.Nodes.{IsWritable}
 use Rattle.gf_canon.specs.GameText.{action_fields, set_fields, outcome_fields, described_fields}
 use Rattle.gf_canon.specs.GameText.{mover_fields, step_fields, result_fields, node_text}
 
@@ -102,12 +102,10 @@ action_texts : (a : Action) → texts (action_pieces a) ≡ action_fields a
 action_texts a = ap (λ ts. quoted a.label ∷ ts) (texts_numbers (option_to_list a.probability))
 
 set_texts : (set : InformationSet) → texts (set_pieces set) ≡ set_fields set
-set_texts set = ap (λ ts. quoted set.name ∷ list_text ts ∷ [])
-    (texts_each action_pieces action_fields action_texts set.actions)
+set_texts set = cc (texts_each action_pieces action_fields action_texts set.actions)
 
 outcome_texts : (outcome : Outcome) → texts (outcome_pieces outcome) ≡ outcome_fields outcome
-outcome_texts outcome =
-    ap (λ ts. quoted outcome.name ∷ list_text ts ∷ []) (texts_numbers outcome.payoffs)
+outcome_texts outcome = cc (texts_numbers outcome.payoffs)
 
 described_texts : {D : Type 0} (f : D → List Piece) (g : D → List (List ℕ))
     → ((d : D) → texts (f d) ≡ g d) → (n : ℕ) (o : Option D)

@@ -1,6 +1,6 @@
 -- The text of a game spells that game.
-use Rattle.std.proofs.Common.{◌≡◌, ℕ, Bool, true, false, List, [], ◌∷◌, ◌++◌, length, map}
-use Rattle.std.proofs.Common.{Option, Some, None, refl, sym, ap, subst, ◌∙◌, inl, inr}
+use Rattle.std.proofs.Common.{◌≡◌, ℕ, Bool, true, false, List, [], ◌∷◌, ◌++◌, length, map, Option}
+use Rattle.std.proofs.Common.{Some, None, refl, sym, ap, subst, ◌∙◌, inl, inr}
 use Rattle.std.specs.Prelude.{nat_eq, codes, option_map, MatchOption, ⊤, if◌then◌else◌}
 use Rattle.std.specs.List.{AllByRecursion, filter_map, flat_map, list_any}
 use Rattle.std.proofs.lemmas.Bool.Decides.{Decides-eqb}
@@ -10,8 +10,8 @@ use Rattle.gf_token.specs.Token.Token.{Text, Bare}
 use Rattle.gf_token.specs.Grammar.{Each, braced}
 use Rattle.gf_token.specs.LabelSpelling.{IsLabel}
 use Rattle.gf_nfg.specs.TableText.{spaced, list_text, quoted}
-use Rattle.gf_nfg.proofs.lemmas.texts.Spelled.{Tells, Says, says_label, says_bare}
-use Rattle.gf_nfg.proofs.lemmas.texts.Spelled.{says_spaced, tells_line, tells_lines}
+use Rattle.gf_nfg.proofs.lemmas.texts.Spelled.{Tells, Says, says_label, says_bare, says_spaced}
+use Rattle.gf_nfg.proofs.lemmas.texts.Spelled.{tells_line, tells_lines}
 use Rattle.gf_tree.specs.PrefixOrder.{Entry, flatten}
 use Rattle.gf_tree.specs.Description.{SetKey, InformationSet, Outcome, same_set, IsSet, IsOutcome}
 use Rattle.gf_tree.specs.FileTree.{FileNode, FileTree}
@@ -23,8 +23,8 @@ use Rattle.gf_tree.specs.Spellable.{IsSpellable, IsSpellableSet, IsSpellableOutc
 use Rattle.gf_tree.proofs.lemmas.games.Uses.{Has, each}
 use Rattle.gf_tree.proofs.lemmas.games.FirstUses.{found}
 use Rattle.gf_tree.proofs.lemmas.games.TreesOnce.{same_set_equality}
-use Rattle.gf_tree.proofs.lemmas.written.Nodes.{node_tokens, IsSetUse, IsOutcomeUse}
-use Rattle.gf_tree.proofs.lemmas.written.Nodes.{IsWritable, nodes_written}
+use Rattle.gf_tree.proofs.lemmas.written.Nodes.{node_tokens, IsSetUse, IsOutcomeUse, IsWritable}
+use Rattle.gf_tree.proofs.lemmas.written.Nodes.{nodes_written}
 use Rattle.gf_tree.proofs.lemmas.games.Learned.{game_learned_once}
 use Rattle.gf_tree.proofs.lemmas.games.Members.{map_twice}
 use Rattle.gf_tree.proofs.lemmas.games.MappedTrees.{held}
@@ -33,8 +33,8 @@ use Rattle.gf_tree.specs.FileNodes.{use_behind, node_behind, file_nodes}
 use Rattle.gf_canon.specs.GameText.{node_text, game_text}
 use Rattle.gf_canon.proofs.lemmas.texts.FileOf.{file_of, entries_behind, file_entries}
 use Rattle.gf_canon.proofs.lemmas.texts.FileOf.{file_nodes_are}
-use Rattle.gf_canon.proofs.lemmas.texts.Pieces.{Piece, texts, tokens_of, AllSaid, label}
-use Rattle.gf_canon.proofs.lemmas.texts.Pieces.{bare, listed, said_list, said_node}
+use Rattle.gf_canon.proofs.lemmas.texts.Pieces.{Piece, texts, tokens_of, AllSaid, label, bare}
+use Rattle.gf_canon.proofs.lemmas.texts.Pieces.{listed, said_list, said_node}
 
 -- ---- each node can be written
 
@@ -177,8 +177,7 @@ said_heading g can =
     ap (λ ts. spaced (codes "EFG" ∷ codes "2" ∷ codes "R" ∷ quoted g.title ∷ list_text ts ∷ []))
     (map_twice (λ (p : Piece). p.text) label g.players) in
     let tokens : tokens_of (heading_pieces g) ≡ heading_tokens g =
-    ap (λ ts. Bare (codes "EFG") ∷ Bare (codes "2") ∷ Bare (codes "R") ∷ Text g.title ∷ ts)
-    (append-nil (braced (tokens_of (map label g.players))) ∙ ap braced (labels_tokens g.players)) in
+    cc (append-nil (braced (tokens_of (map label g.players))), labels_tokens g.players) in
     subst (λ ts. Says (heading_text g) ts) tokens
     (subst (λ bs. Says bs (tokens_of (heading_pieces g))) text
     (says_spaced (λ (p : Piece). p.text) (λ (p : Piece). p.tokens) (heading_pieces g) said))
@@ -208,9 +207,7 @@ is_sentence g game can f title comment players entries = record {
   letter = codes "R";
   comment = Text g.comment ∷ [];
   nodes = flat_map node_tokens (file_nodes g);
-  parts = λ i. Bare (codes "EFG") ∷ Bare (codes "2") ∷ Bare (codes "R") ∷ Text (title i)
-      ∷ (braced (map Text (players i))
-      ++ ((Text g.comment ∷ []) ++ flat_map node_tokens (file_nodes g)));
+  parts = cc;
   is_letter = inl refl;
   is_comment = inr (ap (λ c. Text c ∷ []) comment);
   are_nodes = subst (λ ps. Each (IsNode (length ps))

@@ -1,7 +1,7 @@
 -- A canonical game can be spelled if the game can: its numbers are no greater than the greatest
 -- number of the game.
-use Rattle.std.proofs.Common.{◌≡◌, ℕ, Bool, ◌^◌, ◌<◌, true, false, eqb, List, [], ◌∷◌}
-use Rattle.std.proofs.Common.{length, map, refl, sym, subst, ◌∙◌, arith, inl, inr}
+use Rattle.std.proofs.Common.{◌≡◌, ℕ, Bool, ◌^◌, ◌<◌, true, eqb, List, [], ◌∷◌, length, map, sym}
+use Rattle.std.proofs.Common.{subst, ◌∙◌, arith, inl, inr}
 use Rattle.std.specs.Prelude.{nat_eq, ◌⊎◌}
 use Rattle.std.specs.List.{AllByRecursion, IsDistinct, list_any}
 use Rattle.std.proofs.lemmas.Bool.{eqb-true, ne_eqb, or_cases}
@@ -33,10 +33,7 @@ use Rattle.gf_tree.specs.CanonicalGame.{canonical_game}
 distinct_tests : (xs : List ℕ) → AreDistinct xs → IsDistinct eqb xs
 unfolding IsDistinct
 distinct_tests [] h = tt
-distinct_tests (x ∷ xs) h = (
-  all_of_each (λ y. eqb x y ≡ false) xs (λ y i. ne_eqb x y (λ e. h.0 (subst (Has xs) (sym e) i))),
-  distinct_tests xs h.1,
-)
+distinct_tests (x ∷ xs) h = grind (arith, all_of_each, ne_eqb, distinct_tests xs h.1)
 
 among : (xs : List ℕ) (q : ℕ) → list_any (eqb q) xs ≡ true → Has xs q
 among [] q h = absurd cc
@@ -61,11 +58,8 @@ few xs n some distinct all =
 distinct_images : {K L : Type 0} (f : K → L) (ks : List K) → AreApart f ks → AreDistinct ks
     → AreDistinct (map f ks)
 distinct_images f [] apart h = tt
-distinct_images f (k ∷ ks) apart h = (
-  λ i. let m = mapped_from f ks (f k) i in
-      h.0 (subst (Has ks) (apart m.0 k (inr m.1) (inl refl) m.2) m.1),
-  distinct_images f ks (λ a b i j. apart a b (inr i) (inr j)) h.1,
-)
+distinct_images f (k ∷ ks) apart h =
+    grind (arith, mapped_from, distinct_images f ks (λ a b i j. apart a b (inr i) (inr j)) h.1)
 
 number_below : {K : Type 0} (same : K → K → Bool) → IsEquality same
     → (value : K → ℕ) (ks : List K) (key : K) (n : ℕ) → 0 < n → Has ks key → AreApart value ks
@@ -132,9 +126,7 @@ canonical_is_spellable g game can = record {
 
     own : (player : ℕ) (key : SetKey) → Has (sets_of player (used_sets g.tree)) key
         → Has (used_sets g.tree) key × (key.player ≡ player)
-    own player key i =
-        let p = of_filter (λ (k : SetKey). nat_eq k.player player) (used_sets g.tree) key i in
-        (p.0, eqb-true key.player player p.1)
+    own player key i = grind (arith, of_filter, eqb-true)
 
     set : (s : Described SetKey InformationSet)
         → Has (at_images (renumbered_set (first_use_numbers g)) g.sets) s → IsSpellableSet s
@@ -153,8 +145,7 @@ canonical_is_spellable g game can = record {
         let number = number_below same_set same_set_equality (λ (key : SetKey). key.number)
         (sets_of player (used_sets g.tree)) k.0.key (2 ^ 32) (omega arith) (own_set g k.0.key used)
         apart (λ key p. set_small key (own player key p).0) in
-        subst IsSpellableSet k.2
-        (record { player = was.player; number = number; name = was.name; actions = was.actions })
+        grind arith
 
     outcome : (o : Described ℕ Outcome) → Has (at_images (first_use_numbers g).outcome g.outcomes) o
         → IsSpellableOutcome o
@@ -168,5 +159,4 @@ canonical_is_spellable g game can = record {
         entry_used nat_eq (used_outcomes g.tree) g.outcomes k.0 game.one_entry_each_outcome k.1 in
         let number = number_below nat_eq Decides-eqb (λ n. n) (used_outcomes g.tree) k.0.key
         (2 ^ 32) (omega arith) used (λ a b p q e. e) outcome_small in
-        subst IsSpellableOutcome k.2
-        (record { number = number; name = was.name; payoffs = was.payoffs })
+        grind arith

@@ -1,14 +1,12 @@
 -- Lists in braces and fields of lines, piece by piece.
 use Rattle.std.proofs.Common.{◌≡◌, ℕ, zero, suc, ◌+◌, ◌<◌, List, [], ◌∷◌, ◌++◌, length, map, drop}
-use Rattle.std.proofs.Common.{Option, None, Some, refl, sym, ap, ◌∙◌, append_assoc}
-use Rattle.std.proofs.Common.{◌-◌, ◌≤◌, OnOk, Result, Ok, Err, arith, is_ok, set, take}
-use Rattle.std.proofs.Common.{if◌then◌else◌}
+use Rattle.std.proofs.Common.{Option, None, Some, refl, sym, ap, ◌∙◌, append_assoc, ◌-◌, ◌≤◌, OnOk}
+use Rattle.std.proofs.Common.{Result, Ok, Err, arith, is_ok, set, take, if◌then◌else◌}
 use Rattle.std.proofs.Common.{length-append, length-drop}
-use Rattle.std.proofs.lemmas.List.{drop-set, take_all}
+use Rattle.std.proofs.lemmas.List.{drop-set, take_all, append-nil}
 use Rattle.std.specs.Prelude.{codes, decimal}
 use Rattle.std.specs.List.{flat_map}
 use Rattle.std.proofs.lemmas.Grind.{flat_map-append}
-use Rattle.std.proofs.lemmas.List.{append-nil}
 use Rattle.gf_fraction.specs.Ratio.{Ratio}
 use Rattle.gf_fraction.specs.NumberText.{number_text}
 use Rattle.gf_nfg.specs.TableText.{lines_text, list_text, quoted, spaced}
@@ -21,9 +19,7 @@ use Rattle.gf_tree.specs.Description.{InformationSet, SetKey}
 use Rattle.gf_tree.specs.FileNodes.{file_nodes}
 use Rattle.gf_tree.specs.FileTree.{FileNode, Use}
 use Rattle.gf_tree.specs.Game.{Game}
-use Rattle.gf_canon.specs.GameText.{action_fields, described_fields, mover_fields, set_fields}
-use Rattle.gf_canon.specs.GameText.{step_fields}
-use Rattle.gf_canon.specs.GameText.{game_text, node_text}
+use Rattle.gf_canon.specs.GameText.{action_fields, mover_fields, step_fields, game_text, node_text}
 use Rattle.gf_canon.specs.inner.TextParts.{first_line, heading_text, node_line}
 
 -- ---- lists in braces
@@ -55,10 +51,7 @@ payoffs_left payoffs = items_text (map number_text payoffs)
 pub list_closed : (all : List (List ℕ)) (old opened out : List ℕ) → opened ≡ old ++ codes "{ "
     → out ++ codes "}" ≡ opened ++ items_text all
     → out ++ codes "}" ≡ old ++ list_text all
-list_closed all old opened out e h =
-    h ∙ ap (λ (bs : List ℕ). bs ++ items_text all) e
-    ∙ append_assoc old (codes "{ ") (items_text all)
-    ∙ ap (λ (bs : List ℕ). old ++ bs) (sym (list_text_is all))
+list_closed all old opened out e h = grind (arith, append_assoc, list_text_is)
 
 -- ---- fields one after another
 
@@ -69,17 +62,11 @@ spaced_is first (item ∷ items) = ap (λ (bs : List ℕ). first ++ 32 ∷ bs) (
 
 others_joined : (xs ys : List (List ℕ)) → others_text (xs ++ ys) ≡ others_text xs ++ others_text ys
 others_joined [] ys = refl
-others_joined (x ∷ xs) ys =
-    ap (λ (bs : List ℕ). 32 ∷ (x ++ bs)) (others_joined xs ys)
-    ∙ ap (λ (bs : List ℕ). 32 ∷ bs) (sym (append_assoc x (others_text xs) (others_text ys)))
+others_joined (x ∷ xs) ys = grind (arith, append_assoc, others_joined xs ys)
 
 spaced_joined : (x : List ℕ) (xs ys : List (List ℕ))
     → spaced (x ∷ (xs ++ ys)) ≡ spaced (x ∷ xs) ++ others_text ys
-spaced_joined x xs ys =
-    spaced_is x (xs ++ ys)
-    ∙ ap (λ (bs : List ℕ). x ++ bs) (others_joined xs ys)
-    ∙ sym (append_assoc x (others_text xs) (others_text ys))
-    ∙ ap (λ (bs : List ℕ). bs ++ others_text ys) (sym (spaced_is x xs))
+spaced_joined x xs ys = grind (arith, spaced_is, others_joined, append_assoc)
 
 -- who moves, and what comes after
 pub mover_joined : (name : List ℕ) (player : ℕ) (ys : List (List ℕ))
@@ -91,14 +78,7 @@ mover_joined name (suc player) ys =
 pub step_joined : (name : List ℕ) (set : Option (Use SetKey InformationSet)) (ys : List (List ℕ))
     → spaced (step_fields name set ++ ys) ≡ spaced (step_fields name set) ++ others_text ys
 step_joined name None ys = spaced_joined (codes "t") (quoted name ∷ []) ys
-step_joined name (Some set) ys =
-    let described = described_fields set_fields set.key.number set.description in
-    let mover = mover_fields name set.key.player in
-    ap spaced (append_assoc mover described ys)
-    ∙ mover_joined name set.key.player (described ++ ys)
-    ∙ ap (λ (bs : List ℕ). spaced mover ++ bs) (others_joined described ys)
-    ∙ sym (append_assoc (spaced mover) (others_text described) (others_text ys))
-    ∙ ap (λ (bs : List ℕ). bs ++ others_text ys) (sym (mover_joined name set.key.player described))
+step_joined name (Some set) ys = grind (arith, append_assoc, mover_joined, others_joined)
 
 -- ---- lines
 
@@ -106,10 +86,7 @@ step_joined name (Some set) ys =
 pub line_written : (old out1 out2 out3 x y line : List ℕ)
     → out1 ≡ old ++ x → out2 ≡ out1 ++ y → out3 ≡ out2 ++ 10 ∷ [] → line ≡ x ++ y
     → out3 ≡ old ++ (line ++ 10 ∷ [])
-line_written old out1 out2 out3 x y line e1 e2 e3 e =
-    e3 ∙ ap (λ (bs : List ℕ). bs ++ 10 ∷ []) (e2 ∙ ap (λ (bs : List ℕ). bs ++ y) e1
-    ∙ append_assoc old x y ∙ ap (λ (bs : List ℕ). old ++ bs) (sym e))
-    ∙ append_assoc old line (10 ∷ [])
+line_written old out1 out2 out3 x y line e1 e2 e3 e = grind (arith, append_assoc)
 
 -- the lines of the nodes
 abbrev pub node_lines : List FileNode → List ℕ
@@ -134,14 +111,7 @@ pub text_done : (g : Game) (title comment : List ℕ) (players : List (List ℕ)
     → heading ≡ old ++ heading_text title comment players → left ≡ []
     → out ++ node_lines left ≡ heading ++ node_lines (file_nodes g) → out ≡ old ++ game_text g
 text_done g title comment players left old heading out t c p e none h =
-    let lines = node_lines (file_nodes g) in
-    sym (append-nil out)
-    ∙ ap (λ (ns : List FileNode). out ++ node_lines ns) (sym none)
-    ∙ h
-    ∙ ap (λ (bs : List ℕ). bs ++ lines) e
-    ∙ append_assoc old (heading_text title comment players) lines
-    ∙ (λ i. old ++ (heading_text (t i) (c i) (p i) ++ lines))
-    ∙ ap (λ (bs : List ℕ). old ++ bs) (sym (game_text_is g))
+    grind (arith, append-nil, append_assoc, game_text_is)
 
 -- ---- numbers
 
@@ -158,19 +128,4 @@ pub number_appended : {A E : Type 0} (r : Result A E) (old new text : List ℕ) 
     (drop (start - 1) (set text (start - 1) 32)) else old)
     → OnOk r (new ≡ old ++ 32 ∷ (decimal n ++ []))
 number_appended r old new text start m n is ends some short written e =
-    let digits = length-append (decimal m) [] in
-    let left : length (drop start text) ≡ length (decimal m ++ []) = ap length written in
-    let within : start - 1 < length text =
-    omega (arith, ends, some, short, digits, left, length-drop start text) in
-    let at : start - 1 + 1 ≡ start = omega (arith, ends, short) in
-    let behind : drop (start - 1) (set text (start - 1) 32) ≡ 32 ∷ (decimal m ++ []) =
-    drop-set text (start - 1) 32 within
-    ∙ ap (λ (k : ℕ). 32 ∷ drop k text) at
-    ∙ ap (λ (bs : List ℕ). 32 ∷ bs) written in
-    let all : length (32 ∷ (decimal m ++ [])) ≤ 11 - (start - 1) =
-    omega (arith, ends, short, digits) in
-    appended r old new (take (11 - (start - 1)) (drop (start - 1) (set text (start - 1) 32)))
-    (32 ∷ (decimal n ++ [])) e
-    (ap (take (11 - (start - 1))) behind
-    ∙ take_all (11 - (start - 1)) (32 ∷ (decimal m ++ [])) all
-    ∙ ap (λ (k : ℕ). 32 ∷ (decimal k ++ [])) is)
+    grind (arith, length-append, length-drop, drop-set, appended, take_all)

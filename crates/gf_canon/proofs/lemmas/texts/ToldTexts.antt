@@ -28,11 +28,7 @@ line_more names heading told t old new before more =
     heading.players in
     let line = λ (x : Told). node_line (node_by names x.node) in
     let lines = flat_map line told in
-    more
-    ∙ ap (λ (bs : List ℕ). bs ++ line t) before
-    ∙ append_assoc front lines (line t)
-    ∙ ap (λ (bs : List ℕ). front ++ (lines ++ bs)) (sym (append-nil (line t)))
-    ∙ ap (λ (bs : List ℕ). front ++ bs) (sym (flat_map-append line told (t ∷ [])))
+    cc (append_assoc front lines (line t), append-nil (line t), flat_map-append line told (t ∷ []))
 
 pub one_line_more : (names : Names) (heading : Heading) (told : List Told) (t : Told)
     (n : FileNode) (old new : List ℕ) → n ≡ node_by names t.node
@@ -46,8 +42,7 @@ lines_of_told : (names : Names) (told : List Told)
     → flat_map (λ t. node_line (node_by names t.node)) told
     ≡ node_lines (map (node_by names) (map (λ t. t.node) told))
 lines_of_told names [] = refl
-lines_of_told names (t ∷ told) =
-    ap (λ (bs : List ℕ). node_line (node_by names t.node) ++ bs) (lines_of_told names told)
+lines_of_told names (t ∷ told) = cc (lines_of_told names told)
 
 -- the lines of a game that was told are its canonical text, as far as names count
 lines_are : (names : Names) (text : List ℕ) (told : List Told) (g : Game)
@@ -63,11 +58,7 @@ lines_are Kept text told g is nodes =
     ∙ sym (game_text_is (canonical_game g))
 lines_are Aside text told g is nodes =
     let front = heading_text [] [] g.players in
-    is
-    ∙ ap (λ (bs : List ℕ). front ++ bs) (lines_of_told Aside told)
-    ∙ ap (λ (ns : List FileNode). front ++ node_lines ns)
-    (ap (map (node_by Aside)) nodes ∙ sym (nodes_aside g))
-    ∙ sym (game_text_is (canonical_game (unnamed_game g)))
+    cc (lines_of_told Aside told, nodes_aside g, game_text_is (canonical_game (unnamed_game g)))
 
 pub told_is_canonical : {T : Type 0} (text : T → List ℕ) (kept : T → Type 0) (names : Names)
     (to : T)

@@ -1,8 +1,8 @@
 use Rattle.std.proofs.Common.{[], ◌∷◌, drop, arith, rules}
 use Rattle.std.proofs.lemmas.Bool.Decides.{nat_tests}
 use Rattle.gf_canon.specs.inner.TextParts.{number_then}
-use Rattle.gf_canon.proofs.lemmas.texts.PlainLines.{number_tail, outcome_tail}
-use Rattle.gf_canon.proofs.lemmas.texts.PlainLines.{tail_chance, tail_none, tail_player}
+use Rattle.gf_canon.proofs.lemmas.texts.PlainLines.{number_tail, outcome_tail, tail_chance}
+use Rattle.gf_canon.proofs.lemmas.texts.PlainLines.{tail_none, tail_player}
 use Rattle.gf_canon.proofs.text.plain_line.write_tail.Goals as goal
 
 pub returns-in_default-clause-written : goal.returns-in_default-clause-written
