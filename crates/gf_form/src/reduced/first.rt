@@ -33,7 +33,7 @@ fn first_strategies(
     ensures labels { IfOk result (λ own. own.1 ≡ reduced_labels game.now player) }
 {
     let _players = game.players();
-    let mut relevance = Relevance::of_player(alloc, game, player, counts, whole)?;
+    let mut relevance = Relevance::of_player(alloc, game, player, counts)?;
     let mut strategy = Vec::with_capacity(alloc, counts.len())?;
     let mut relevant = Vec::with_capacity(alloc, counts.len())?;
     let mut text = Vec::new(alloc);
@@ -42,7 +42,7 @@ fn first_strategies(
     let mut number = 0;
     while number < whole {
         write_strategy(counts, whole, number, &mut strategy)?;
-        match relevance.write_relevant(alloc, number, &strategy, &mut relevant)? {
+        match relevance.write_relevant(alloc, counts, number, &strategy, &mut relevant)? {
             Some(next) => number = next,
             None => {
                 write_reduced_label(&relevant, &strategy, &mut text)?;

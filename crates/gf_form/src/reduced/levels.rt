@@ -1,6 +1,6 @@
 //! Which visits of a player are left after his choices, level by level.
 
-ghost use Rattle.std.specs.Prelude.{◌≡◌, ◌≤◌, ◌<◌, ◌-◌, ◌^◌, ◌||◌, ◌⊎◌, suc, ℕ, List, [], false};
+ghost use Rattle.std.specs.Prelude.{◌≡◌, ◌≤◌, ◌<◌, ◌-◌, ◌^◌, ◌||◌, ◌⊎◌, suc, ℕ, [], false};
 ghost use Rattle.std.specs.Prelude.{IfOk, MatchOption, OnOk, get_or, length, true};
 ghost use Rattle.std.specs.List.{list_any};
 ghost use Rattle.gf_nfg.specs.Profiles.{numbers_from, product};
@@ -8,7 +8,7 @@ ghost use Rattle.gf_form.specs.inner.reduced.Levels.{AreHighest, AreLeft, AreLev
 ghost use Rattle.gf_form.specs.inner.reduced.Levels.{IsFirst, IsShut, MovesMet, MovesUnmet};
 ghost use Rattle.gf_form.specs.inner.reduced.Levels.{is_made_at, is_made_to, is_settled_at};
 ghost use Rattle.gf_form.specs.inner.reduced.Levels.{is_unknown};
-ghost use Rattle.gf_form.specs.inner.reduced.Skips.{AreAllAlike, SkipsTo};
+ghost use Rattle.gf_form.specs.inner.reduced.Skips.{AreAlike, SkipsTo};
 ghost use Rattle.gf_form.specs.inner.reduced.Visits.{AreNumbers, AreOrdered, chosen};
 ghost use Rattle.gf_form.specs.declared.reduced.visits.Visit.{Visit};
 
@@ -24,8 +24,6 @@ pub(crate) struct Levels {
     /// The level of each set, by its position from 1; at 0, that of no set.
     of_sets: Vec<usize>,
     count: usize,
-    /// How many strategies in turn have the same choices up to each level, from level 0 on.
-    alike: Vec<u32>,
     /// The choices.
     strategy: Vec<u32>,
     /// The highest level of a move before each visit, by its number.
@@ -48,34 +46,22 @@ fn level_of(levels: &[usize], position: usize) -> usize
     }
 }
 
-/// The levels of sets with this many actions, and how many of the `whole` strategies in turn have
-/// the same choices up to each level.
-fn levels_of(
-    alloc: Global,
-    counts: &[u32],
-    whole: u32,
-) -> Result<(Vec<usize>, Vec<u32>), AllocError>
-    requires whole { whole ≡ product counts.now }
-    requires some { 0 < whole }
-    ensures levels { IfOk result (λ made. AreLevels made.0.items (length made.1.items - 1)) }
-    ensures alike { IfOk result (λ made. AreAllAlike counts.now made.0.items made.1.items) }
+/// The levels of sets with this many actions, and how many levels there are.
+fn levels_of(alloc: Global, counts: &[u32]) -> Result<(Vec<usize>, usize), AllocError>
+    ensures { IfOk result (λ made. AreLevels made.0.items made.1) }
 {
     let mut levels = Vec::with_capacity(alloc, counts.len() + 1)?;
-    let mut alike = Vec::new(alloc);
     levels.push(1)?;
-    alike.push(whole)?;
-    alike.push(whole)?;
-    let mut rest = whole;
+    let mut count = 1;
     for actions in counts {
-        rest /= *actions;
         if *actions > 1 {
-            levels.push(alike.len())?;
-            alike.push(rest)?;
+            count += 1;
+            levels.push(count)?;
         } else {
             levels.push(1)?;
         }
     }
-    Ok((levels, alike))
+    Ok((levels, count))
 }
 
 /// The numbers of this many visits.
@@ -236,24 +222,40 @@ fn is_shut(levels: &[usize], level: usize, strategy: &[u32], in_reach: &[bool]) 
     false
 }
 
+/// Whether the set at this place has another action than the first, and is on one of the levels up
+/// to this one.
+fn is_chosen(counts: &[u32], levels: &[usize], level: usize, place: usize) -> bool
+    requires { place < length counts.now }
+    ensures { result ≡ false
+        → (get_or counts.now place 0 ≤ 1) ⊎ (level < get_or levels.now (suc place) 1) }
+{
+    counts[place] > 1 && level_of(levels, place + 1) <= level
+}
+
+/// How many strategies in turn have the same choices up to a level, if each set has this many
+/// actions.
+fn strategies_alike(counts: &[u32], levels: &[usize], level: usize) -> u32
+    requires some { 0 < product counts.now }
+    requires within { product counts.now < 2 ^ 32 }
+    ensures { AreAlike counts.now levels.now level result }
+{
+    let mut alike = 1;
+    let mut from = counts.len();
+    while from > 0 && !is_chosen(counts, levels, level, from - 1) {
+        from -= 1;
+        alike *= counts[from];
+    }
+    alike
+}
+
 impl Levels {
     /// The levels of a player with these visits and this many actions at each set, before any
-    /// choice. He has `whole` strategies.
-    pub(crate) fn new(
-        alloc: Global,
-        counts: &[u32],
-        whole: u32,
-        visits: &[Visit],
-    ) -> Result<Levels, AllocError>
-        requires ordered { AreOrdered (length counts.now) 1 visits.now }
-        requires whole { whole ≡ product counts.now }
-        requires some { 0 < whole }
-        ensures levels { IfOk result (IsLevels (length counts.now) visits.now) }
-        ensures alike { IfOk result
-            (λ l. AreAllAlike counts.now l.of_sets.items l.alike.items) }
+    /// choice.
+    pub(crate) fn new(alloc: Global, counts: &[u32], visits: &[Visit]) -> Result<Levels, AllocError>
+        requires { AreOrdered (length counts.now) 1 visits.now }
+        ensures { IfOk result (IsLevels (length counts.now) visits.now) }
     {
-        let (of_sets, alike) = levels_of(alloc, counts, whole)?;
-        let count = alike.len() - 1;
+        let (of_sets, count) = levels_of(alloc, counts)?;
         let of_visits = highest_levels(alloc, visits, &of_sets)?;
         let left = all_left(alloc, visits.len())?;
         let all = all_numbers(alloc, visits.len())?;
@@ -265,7 +267,6 @@ impl Levels {
         Ok(Levels {
             of_sets,
             count,
-            alike,
             strategy: Vec::new(alloc),
             of_visits,
             lists,
@@ -304,7 +305,6 @@ impl Levels {
         requires more { length self.old.lists.items ≤ self.old.count }
         ensures levels_of { self.new.of_sets ≡ self.old.of_sets }
         ensures count { self.new.count ≡ self.old.count }
-        ensures alike { self.new.alike ≡ self.old.alike }
         ensures strategy { self.new.strategy.items ≡ self.old.strategy.items }
         ensures more { OnOk result
             (length self.new.lists.items ≡ suc (length self.old.lists.items)) }
@@ -377,14 +377,12 @@ impl Levels {
         requires sets { (sets : ℕ) × AreOrdered sets 1 visits.now
             × IsLevels sets visits.now self.old × (length strategy.now ≡ sets) }
         ensures levels_of { self.new.of_sets ≡ self.old.of_sets }
-        ensures alike { self.new.alike ≡ self.old.alike }
         ensures levels { OnOk result ((sets : ℕ) → AreOrdered sets 1 visits.now
             → IsLevels sets visits.now self.old → IsLevels sets visits.now self.new) }
         ensures first { IfOk result (λ level. (sets : ℕ) → AreOrdered sets 1 visits.now
             → IsLevels sets visits.now self.old
             → MatchOption level (IsFirst sets visits.now strategy.now in_reach.new.items)
-            (λ level. (level < length self.new.alike.items)
-            × IsShut sets visits.now self.new.of_sets.items level strategy.now)) }
+            (λ level. IsShut sets visits.now self.new.of_sets.items level strategy.now)) }
     {
         let kept = self.kept(strategy);
         self.lists.truncate(kept + 1);
@@ -400,16 +398,14 @@ impl Levels {
         Ok(None)
     }
 
-    /// The first number after this one of a strategy with other choices up to a level.
-    pub(crate) fn after(&self, level: usize, number: u32) -> u32
-        requires level { level < length self.now.alike.items }
-        requires counts { (counts : List ℕ)
-            × AreAllAlike counts self.now.of_sets.items self.now.alike.items
-            × (number < product counts) × (product counts < 2 ^ 32) }
-        ensures { (counts : List ℕ) → AreAllAlike counts self.now.of_sets.items self.now.alike.items
-            → number < product counts → SkipsTo counts self.now.of_sets.items level number result }
+    /// The first number after this one of a strategy with other choices up to a level, if each set
+    /// has this many actions.
+    pub(crate) fn after(&self, counts: &[u32], level: usize, number: u32) -> u32
+        requires within { number < product counts.now }
+        requires few { product counts.now < 2 ^ 32 }
+        ensures { SkipsTo counts.now self.now.of_sets.items level number result }
     {
-        let alike = self.alike[level];
+        let alike = strategies_alike(counts, &self.of_sets, level);
         number - number % alike + alike
     }
 }

@@ -3,7 +3,7 @@
 //! of them are left.
 
 ghost use Rattle.std.specs.Prelude.{◌≡◌, ◌<◌, ◌≤◌, ◌&&◌, ◌+◌, ◌*◌, ℕ, IfOk, MatchOption, OnOk};
-ghost use Rattle.std.specs.Prelude.{length, true};
+ghost use Rattle.std.specs.Prelude.{◌^◌, length, true};
 ghost use Rattle.gf_nfg.specs.Profiles.{product};
 ghost use Rattle.gf_tree.specs.Branches.{game_of, tree_of};
 ghost use Rattle.gf_tree.specs.BranchesLeft.{branches_given, game_of_branches};
@@ -150,46 +150,47 @@ pub(crate) struct Relevance {
 }
 
 impl Relevance {
-    /// That of a player with this many actions at each of his sets, and `whole` strategies.
+    /// That of a player with this many actions at each of his sets.
     pub(crate) fn of_player(
         alloc: Global,
         game: &Game<'_>,
         player: u32,
         counts: &[u32],
-        whole: u32,
     ) -> Result<Relevance, AllocError>
-        requires counts { counts.now ≡ action_counts game.now player }
-        requires whole { whole ≡ product counts.now }
-        requires some { 0 < whole }
+        requires { counts.now ≡ action_counts game.now player }
         ensures { IfOk result (TellsRelevance game.now player) }
     {
         let visits = visits_in(alloc, game, player)?;
-        let levels = Levels::new(alloc, counts, whole, visits.all())?;
+        let levels = Levels::new(alloc, counts, visits.all())?;
         Ok(Relevance { visits, levels })
     }
 
     /// Replaces flags by whether each set, first set first, is relevant under the strategy with
     /// this number, if that is the first of those that reduce to the same one. Otherwise returns a
-    /// later number, and no strategy before that one is one.
+    /// later number, and no strategy before that one is one. Each set has this many actions.
     pub(crate) fn write_relevant(
         &mut self,
         alloc: Global,
+        counts: &[u32],
         number: u32,
         strategy: &[u32],
         relevant: &mut Vec<bool>,
     ) -> Result<Option<u32>, AllocError>
-        requires { (g : Game) × (player : ℕ) × TellsRelevance g player self.old
+        requires within { number < product counts.now }
+        requires few { product counts.now < 2 ^ 32 }
+        requires numbered { (g : Game) × (player : ℕ) × TellsRelevance g player self.old
             × IsNumbered g player number strategy.now }
         ensures tells { OnOk result ((g : Game) (player : ℕ) → TellsRelevance g player self.old
             → TellsRelevance g player self.new) }
         ensures relevant { IfOk result (λ next. (g : Game) (player : ℕ)
-            → TellsRelevance g player self.old → IsNumbered g player number strategy.now
+            → counts.now ≡ action_counts g player → TellsRelevance g player self.old
+            → IsNumbered g player number strategy.now
             → MatchOption next ((relevant.new.items ≡ relevant_sets g player strategy.now)
             × (is_first g player strategy.now ≡ true))
             (λ next. PassesTo g player number next)) }
     {
         match self.levels.choose(alloc, self.visits.all(), strategy, relevant)? {
-            Some(level) => Ok(Some(self.levels.after(level, number))),
+            Some(level) => Ok(Some(self.levels.after(counts, level, number))),
             None => Ok(None),
         }
     }

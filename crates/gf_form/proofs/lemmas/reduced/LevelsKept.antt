@@ -93,7 +93,6 @@ module _ (sets : ℕ) (vs : List Visit) (old : Levels) (lists : Lists) (known : 
       → IsLevels sets vs (record {
         of_sets = old.of_sets;
         count = old.count;
-        alike = old.alike;
         strategy = strategy;
         of_visits = old.of_visits;
         lists = lists;
@@ -102,7 +101,6 @@ module _ (sets : ℕ) (vs : List Visit) (old : Levels) (lists : Lists) (known : 
       })
   levels_kept strategy kept inside is is_known agree = record {
     levels = h.levels;
-    counts = h.counts;
     highest = h.highest;
     flags = h.flags;
     first = h.first;
@@ -144,7 +142,6 @@ module _ (sets : ℕ) (vs : List Visit) (old : Levels) (lists : Lists) (known : 
       → IsLevels sets vs (record {
         of_sets = old.of_sets;
         count = old.count;
-        alike = old.alike;
         strategy = old.strategy;
         of_visits = old.of_visits;
         lists = lists;
@@ -153,7 +150,6 @@ module _ (sets : ℕ) (vs : List Visit) (old : Levels) (lists : Lists) (known : 
       })
   level_more left list flags some is is_known long first wide more = record {
     levels = h.levels;
-    counts = h.counts;
     highest = h.highest;
     flags = long;
     first = first;
@@ -230,10 +226,8 @@ level_pushed levels next count more level h upto above within is = record {
 
 -- before any choice
 pub none_reached : (sets : ℕ) (vs : List Visit) (of_sets : Vec ℕ Global) (count : ℕ)
-    (alike strategy of_visits : Vec ℕ Global) (lists : Lists) (known : Flags)
-    (left : Vec Bool Global) (all : Vec ℕ Global) (none : Vec Bool Global)
-    → AreLevels of_sets.items count
-    → length alike.items ≡ suc count
+    (strategy of_visits : Vec ℕ Global) (lists : Lists) (known : Flags) (left : Vec Bool Global)
+    (all : Vec ℕ Global) (none : Vec Bool Global) → AreLevels of_sets.items count
     → AreHighest vs of_sets.items of_visits.items → length left.items ≡ suc (length vs)
     → get_or left.items 0 false ≡ true → lists.items ≡ all ∷ []
     → all.items ≡ numbers_from 1 (length vs) → known.items ≡ none ∷ [] → length none.items ≡ sets
@@ -241,17 +235,15 @@ pub none_reached : (sets : ℕ) (vs : List Visit) (of_sets : Vec ℕ Global) (co
     → IsLevels sets vs (record {
       of_sets = of_sets;
       count = count;
-      alike = alike;
       strategy = strategy;
       of_visits = of_visits;
       lists = lists;
       known = known;
       left = left;
     })
-none_reached sets vs of_sets count alike strategy of_visits lists known left all none levels counts
-    highest flags first is numbers is_known wide nothing = record {
+none_reached sets vs of_sets count strategy of_visits lists known left all none levels highest flags
+    first is numbers is_known wide nothing = record {
       levels = levels;
-      counts = counts;
       highest = highest;
       flags = flags;
       first = first;

@@ -1,24 +1,23 @@
 -- How many strategies in turn have the same choices up to a level, and which numbers these have.
 use Rattle.std.proofs.Common.{◌≡◌, ◌∙◌, ◌⊎◌, ℕ, zero, suc, ◌+◌, ◌-◌, ◌*◌, ◌/◌, ◌%◌, ◌<◌, ◌≤◌}
-use Rattle.std.proofs.Common.{List, [], ◌∷◌, ◌++◌, length, get_or, drop, take, refl, ap, sym, subst}
-use Rattle.std.proofs.Common.{add-one, arith, inl, inr}
-use Rattle.std.proofs.Math.ListN.{get_or-eq_default}
-use Rattle.std.proofs.Math.Nat.{div-eq_of_lt-le, div-lt_iff_lt-mul, mod-le, mod-lt, mul_assoc}
-use Rattle.std.proofs.Math.Nat.{mul-add-div_right, mul-div_cancel_left, mul-le-mul_right}
-use Rattle.std.proofs.Math.Seq.{drop-cons, get_or-append_seam}
+use Rattle.std.proofs.Common.{List, [], ◌∷◌, length, get_or, drop, take, refl, ap, sym, subst}
+use Rattle.std.proofs.Common.{arith, inl, inr}
+use Rattle.std.proofs.Math.ListN.{drop_of_length-le, get_or-eq_default}
+use Rattle.std.proofs.Math.Nat.{div-eq_of_lt-le, div-lt_iff_lt-mul, eq-or-lt_of_le, mod-le, mod-lt}
+use Rattle.std.proofs.Math.Nat.{mul-add-div_right, mul-le-mul_right, mul_assoc, mul_comm}
+use Rattle.std.proofs.Math.Seq.{drop-cons}
 use Rattle.std.proofs.lemmas.Bool.{cases_lt}
-use Rattle.std.proofs.lemmas.List.{get_or_append_left, length-append}
 use Rattle.std.proofs.lemmas.Nat.{div-add-mod', div-mul-add}
 use Rattle.gf_nfg.specs.Profiles.{product}
-use Rattle.gf_form.specs.inner.reduced.Levels.{AreLevels}
 use Rattle.gf_form.specs.inner.reduced.Skips.{AreAlike, SkipsTo}
 use Rattle.gf_form.specs.inner.reduced.Visits.{chosen}
 use Rattle.gf_form.specs.Strategies.{all_choices}
 use Rattle.gf_form.proofs.lemmas.strategies.Choices.{IsChoice, are_choices, length-all_choices}
 use Rattle.gf_form.proofs.lemmas.strategies.Choices.{place, place_at}
+use Rattle.gf_form.proofs.lemmas.strategies.PickedProfiles.{no_less}
 use Rattle.gf_form.proofs.lemmas.strategies.StrategiesByNumber.{all_at, positive_parts}
 use Rattle.gf_form.proofs.lemmas.reduced.FirstStrategies.{choice_length}
-use Rattle.gf_form.proofs.lemmas.reduced.LevelsKept.{chosen_at, level_pushed}
+use Rattle.gf_form.proofs.lemmas.reduced.LevelsKept.{chosen_at}
 
 -- ---- choices at the first sets
 
@@ -102,7 +101,7 @@ same_choices (c ∷ counts) (suc from) (a ∷ s) (b ∷ t) hs ht e k less =
 -- ---- numbers that are passed
 
 module _ (counts levels : List ℕ) (level alike number : ℕ)
-    (h : AreAlike counts levels level alike (length counts)) (less : number < product counts) where
+    (h : AreAlike counts levels level alike) (less : number < product counts) where
   inside : (n : ℕ) → n < product counts → n < length (all_choices counts)
   inside n below = omega (arith, below, length-all_choices counts)
 
@@ -165,17 +164,21 @@ module _ (counts levels : List ℕ) (level alike number : ℕ)
 
           by : (k < length counts) ⊎ (length counts ≤ k) → get_or s k 0 ≡ get_or t k 0
           by (inl within) =
-              elim (h.before k within early) [
+              elim (cases_lt k h.from) [
                 | inl first ↦
                     same_choices counts h.from s t (choice number less) (choice other there)
                     (placed number less ∙ sym quotient ∙ sym (placed other there)) k first
-                | inr one ↦
-                    omega (
-                      arith,
-                      one,
-                      choice_within counts s k (choice number less) within,
-                      choice_within counts t k (choice other there) within,
-                    )
+                | inr past ↦
+                    elim (h.later k past within) [
+                      | inl one ↦
+                          omega (
+                            arith,
+                            one,
+                            choice_within counts s k (choice number less) within,
+                            choice_within counts t k (choice other there) within,
+                          )
+                      | inr later ↦ absurd (omega (arith, later, early))
+                    ]
               ]
           by (inr past) =
               get_or-eq_default s 0
@@ -183,144 +186,48 @@ module _ (counts levels : List ℕ) (level alike number : ℕ)
               ∙ sym (get_or-eq_default t 0
               (omega (arith, past, choice_length counts t (choice other there))))
 
--- ---- how many, level by level
+-- ---- how many
 
--- the levels of the first sets, as many as are given, and how many strategies are alike up to each
-pub record LevelsTo (counts levels alike : List ℕ) (rest sets : ℕ) : Type 0 where
-  pub counted : length levels ≡ suc sets
-  pub are : AreLevels levels (length alike - 1)
-  pub rest_is : rest ≡ product (drop sets counts)
-  pub some : 0 < rest
-  pub each : (level : ℕ) → level < length alike
-      → AreAlike counts levels level (get_or alike level 0) sets
+pub alike_at_end : (counts levels : List ℕ) (level : ℕ)
+    → (h : AreAlike counts levels level 1) × (h.from ≡ length counts)
+alike_at_end counts levels level = (
+  record {
+    from = length counts;
+    within = omega arith;
+    as_many = sym (ap product (drop_of_length-le counts (omega arith)));
+    later = λ place past less. absurd (omega (arith, past, less));
+  },
+  refl,
+)
 
-pub levels_begun : (counts levels alike : List ℕ) (whole : ℕ) → whole ≡ product counts → 0 < whole
-    → levels ≡ 1 ∷ [] → alike ≡ whole ∷ whole ∷ [] → LevelsTo counts levels alike whole 0
-levels_begun counts levels alike whole is some levels_are alike_are =
-    subst (λ (ls : List ℕ). LevelsTo counts ls alike whole 0) (sym levels_are)
-    (subst (λ (ns : List ℕ). LevelsTo counts (1 ∷ []) ns whole 0) (sym alike_are) (record {
-      counted = refl;
-      are = record { some = omega arith; each = ((omega arith, omega arith), tt) };
-      rest_is = is;
-      some = some;
-      each = each;
-    }))
+pub alike_before : (counts levels : List ℕ) (level alike from : ℕ)
+    → (h : AreAlike counts levels level alike) × (h.from ≡ from) → 0 < from
+    → (get_or counts (from - 1) 0 ≤ 1) ⊎ (level < get_or levels (suc (from - 1)) 1)
+    → (h : AreAlike counts levels level (alike * get_or counts (from - 1) 0))
+    × (h.from ≡ from - 1)
+alike_before counts levels level alike from h some here = (
+  record {
+    from = from - 1;
+    within = omega (arith, h.0.within, h.1);
+    as_many = mul_comm alike (get_or counts (from - 1) 0)
+        ∙ ap (λ (n : ℕ). get_or counts (from - 1) 0 * n)
+        (h.0.as_many ∙ ap (λ (n : ℕ). product (drop n counts)) (sym on))
+        ∙ sym (ap product (drop-cons counts (from - 1) 0 (omega (arith, on, h.0.within))));
+    later = λ place past less. by place less (eq-or-lt_of_le past);
+  },
+  refl,
+)
   where
-    none : (level : ℕ) → AreAlike counts (1 ∷ []) level whole 0
-    none level = record {
-      from = 0;
-      as_many = is;
-      before = λ place less early. absurd (omega (arith, less));
-    }
+    on : suc (from - 1) ≡ h.0.from
+    on = omega (arith, some, h.1)
 
-    each : (level : ℕ) → level < 2
-        → AreAlike counts (1 ∷ []) level (get_or (whole ∷ whole ∷ []) level 0) 0
-    each zero less = none 0
-    each (suc zero) less = none 1
-    each (suc (suc level)) less = absurd (omega (arith, less))
+    by : (place : ℕ) → place < length counts → (from - 1 ≡ place) ⊎ (from - 1 < place)
+        → (get_or counts place 0 ≤ 1) ⊎ (level < get_or levels (suc place) 1)
+    by place less (inl e) =
+        subst (λ (k : ℕ). (get_or counts k 0 ≤ 1) ⊎ (level < get_or levels (suc k) 1)) e here
+    by place less (inr past) = h.0.later place (omega (arith, past, on)) less
 
--- what is left of the number of all strategies
-pub rest_next : (counts : List ℕ) (i rest count : ℕ) → rest ≡ product (drop i counts) → 0 < rest
-    → i < length counts → count ≡ get_or counts i 0
-    → (0 < count) × (0 < rest / count) × (rest / count ≡ product (drop (i + 1) counts))
-rest_next counts i rest count is some less count_is =
-    let others = product (drop (suc i) counts) in
-    let whole : rest ≡ count * others =
-    is ∙ ap product (drop-cons counts i 0 less ∙ ap (λ (c : ℕ). c ∷ drop (suc i) counts)
-    (sym count_is)) in
-    let both = positive_parts count others 0 (omega (arith, some, whole)) in
-    let divided : rest / count ≡ others =
-    ap (λ (n : ℕ). n / count) whole ∙ mul-div_cancel_left others both.0 in (
-      both.0,
-      omega (arith, divided, both.1),
-      divided ∙ ap (λ (n : ℕ). product (drop n counts)) (sym (add-one i)),
-    )
-
-module _ (counts levels alike : List ℕ) (rest i : ℕ) (h : LevelsTo counts levels alike rest i)
-    (less : i < length counts) where
-  abbrev count : ℕ
-  count = get_or counts i 0
-
-  next : (0 < count) × (0 < rest / count) × (rest / count ≡ product (drop (i + 1) counts))
-  next = rest_next counts i rest count h.rest_is h.some less refl
-
-  -- up to a level, if the next set is on a later one or has one action
-  kept : (level new n : ℕ) → (level < new) ⊎ (count ≤ 1) → AreAlike counts levels level n i
-      → AreAlike counts (levels ++ new ∷ []) level n (i + 1)
-  kept level new n here old = record {
-    from = old.from;
-    as_many = old.as_many;
-    before = λ place within early. by place within early (cases_lt place i);
-  }
-    where
-      by : (place : ℕ) → place < i + 1 → get_or (levels ++ new ∷ []) (suc place) 1 ≤ level
-          → (place < i) ⊎ (i ≤ place) → (place < old.from) ⊎ (get_or counts place 0 ≤ 1)
-      by place within early (inl before) =
-          old.before place before
-          (omega (
-            arith,
-            early,
-            get_or_append_left levels (new ∷ []) 1 (suc place) (omega (arith, before, h.counted)),
-          ))
-      by place within early (inr past) =
-          let last : i ≡ place = omega (arith, within, past) in
-          elim here [
-            | inl later ↦
-                let end : length levels ≡ suc place = omega (arith, h.counted, last) in
-                absurd (omega (
-                  arith,
-                  later,
-                  early,
-                  get_or-append_seam levels new [] 1,
-                  ap (λ (n : ℕ). get_or (levels ++ new ∷ []) n 1) end,
-                ))
-            | inr one ↦ inr (subst (λ (n : ℕ). get_or counts n 0 ≤ 1) last one)
-          ]
-
-  pub one_alone : (more : List ℕ) → count ≤ 1 → more ≡ levels ++ 1 ∷ []
-      → LevelsTo counts more alike (rest / count) (i + 1)
-  one_alone more one is = subst (λ (ls : List ℕ). LevelsTo counts ls alike (rest / count) (i + 1))
-      (sym is) (record {
-        counted = omega (arith, length-append levels (1 ∷ []), h.counted);
-        are = level_pushed levels (levels ++ 1 ∷ []) (length alike - 1) (length alike - 1) 1 h.are
-            (omega arith) (omega arith) h.are.some refl;
-        rest_is = next.2;
-        some = next.1;
-        each = λ level within. kept level 1 (get_or alike level 0) (inr one) (h.each level within);
-      })
-
-  pub one_level_more : (more next_alike : List ℕ) → more ≡ levels ++ length alike ∷ []
-      → next_alike ≡ alike ++ rest / count ∷ []
-      → LevelsTo counts more next_alike (rest / count) (i + 1)
-  one_level_more more next_alike is alike_is =
-      subst (λ (ls : List ℕ). LevelsTo counts ls next_alike (rest / count) (i + 1)) (sym is)
-      (subst (λ (ns : List ℕ). LevelsTo counts (levels ++ length alike ∷ []) ns (rest / count)
-      (i + 1)) (sym alike_is) (record {
-        counted = omega (arith, length-append levels (length alike ∷ []), h.counted);
-        are = level_pushed levels (levels ++ length alike ∷ []) (length alike - 1)
-            (length (alike ++ rest / count ∷ []) - 1) (length alike) h.are
-            (omega (arith, wider)) (omega (arith, h.are.some)) (omega (arith, wider)) refl;
-        rest_is = next.2;
-        some = next.1;
-        each = λ level within. by level (cases_lt level (length alike)) within;
-      }))
-    where
-      wider : length (alike ++ rest / count ∷ []) ≡ length alike + 1
-      wider = length-append alike (rest / count ∷ [])
-
-      by : (level : ℕ) → (level < length alike) ⊎ (length alike ≤ level)
-          → level < length (alike ++ rest / count ∷ [])
-          → AreAlike counts (levels ++ length alike ∷ []) level
-          (get_or (alike ++ rest / count ∷ []) level 0) (i + 1)
-      by level (inl before) within =
-          subst (λ (n : ℕ). AreAlike counts (levels ++ length alike ∷ []) level n (i + 1))
-          (sym (get_or_append_left alike (rest / count ∷ []) 0 level before))
-          (kept level (length alike) (get_or alike level 0) (inl before) (h.each level before))
-      by level (inr past) within =
-          let end : length alike ≡ level = omega (arith, past, within, wider) in
-          record {
-            from = i + 1;
-            as_many = ap (λ (n : ℕ). get_or (alike ++ rest / count ∷ []) n 0) (sym end)
-                ∙ get_or-append_seam alike (rest / count) [] 0 ∙ next.2;
-            before = λ place upto early. inl upto;
-          }
+pub none_passed : (counts levels : List ℕ) (level alike : ℕ)
+    → AreAlike counts levels level alike → 0 < product counts → alike ≤ product counts
+none_passed counts levels level alike h some =
+    omega (arith, h.as_many, no_less counts h.from some)

@@ -139,7 +139,6 @@ known_to l level = get_or (map (λ known. known.items) l.known.items) level []
 -- what is left of the visits to this many sets, and what is known, on the levels that are reached
 pub record IsLevels (sets : ℕ) (visits : List Visit) (l : Levels) : Type 0 where
   pub levels : AreLevels l.of_sets.items l.count
-  pub counts : length l.alike.items ≡ suc l.count
   pub highest : AreHighest visits l.of_sets.items l.of_visits.items
   pub flags : length l.left.items ≡ suc (length visits)
   pub first : get_or l.left.items 0 false ≡ true

@@ -7,18 +7,14 @@ use Rattle.gf_form.specs.inner.reduced.Shown.{is_first}
 use Rattle.gf_form.specs.inner.reduced.Visits.{chosen}
 use Rattle.gf_form.specs.Strategies.{action_counts, all_choices, strategies}
 
--- There are so many choices from some set on, and of the first sets, as many as are given, those on
--- the levels up to this one are before it or have one action. Each set has this many actions.
-pub record AreAlike (counts levels : List ℕ) (level alike sets : ℕ) : Type 0 where
+-- There are so many choices from some set on, and there the sets with more than one action are on
+-- later levels. Each set has this many actions.
+pub record AreAlike (counts levels : List ℕ) (level alike : ℕ) : Type 0 where
   pub from : ℕ
+  pub within : from ≤ length counts
   pub as_many : alike ≡ product (drop from counts)
-  pub before : (place : ℕ) → place < sets → get_or levels (suc place) 1 ≤ level
-      → (place < from) ⊎ (get_or counts place 0 ≤ 1)
-
--- so many for each level, from level 0 on
-abbrev pub AreAllAlike : List ℕ → List ℕ → List ℕ → Type 0
-AreAllAlike counts levels alike = (level : ℕ) → level < length alike
-    → AreAlike counts levels level (get_or alike level 0) (length counts)
+  pub later : (place : ℕ) → from ≤ place → place < length counts
+      → (get_or counts place 0 ≤ 1) ⊎ (level < get_or levels (suc place) 1)
 
 -- Strategies with numbers from this one on and before the next one have the same choices up to a
 -- level.

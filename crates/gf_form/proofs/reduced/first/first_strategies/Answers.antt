@@ -1,5 +1,5 @@
-use Rattle.std.proofs.Common.{◌≡◌, ◌<◌, ◌≤◌, ◌∙◌, ◌-◌, [], ◌+◌, ℕ, List, MatchOption, Option}
-use Rattle.std.proofs.Common.{ap, arith, filter, get_or, length, map, subst, sym, true}
+use Rattle.std.proofs.Common.{◌≡◌, ◌<◌, ◌≤◌, ◌∙◌, ◌-◌, [], ◌+◌, ℕ, Bool, List, MatchOption}
+use Rattle.std.proofs.Common.{Option, ap, arith, filter, get_or, length, map, subst, sym, true}
 use Rattle.std.proofs.lemmas.List.{length-map}
 use Rattle.std.specs.List.{AllByRecursion}
 use Rattle.gf_token.specs.Label.{label_of}
@@ -13,7 +13,6 @@ use Rattle.gf_form.specs.inner.reduced.Shown.{is_first, relevant_sets, shown}
 use Rattle.gf_form.specs.inner.reduced.Skips.{IsNumbered, PassesTo}
 use Rattle.gf_form.specs.Strategies.{action_counts, all_choices, choice_at, strategies}
 use Rattle.gf_form.proofs.lemmas.strategies.Choices.{length-all_choices}
-use Rattle.gf_form.proofs.lemmas.strategies.CountedActions.{actions_positive, product_positive}
 use Rattle.gf_form.proofs.lemmas.strategies.CountedActions.{take_past}
 use Rattle.gf_form.proofs.lemmas.reduced.FirstNumbers.{AreFirst, first_kept, one_image_more}
 use Rattle.gf_form.proofs.lemmas.reduced.FirstNumbers.{passed_by}
@@ -30,20 +29,16 @@ here g player counts whole n strategy held counts_are whole_is less is held_is =
   is = held_is ∙ is ∙ ap (λ (own : List ℕ). get_or (all_choices own) n []) counts_are;
 }
 
+-- what is said of it
+abbrev Said : Game → ℕ → ℕ → List ℕ → List Bool → Option ℕ → Type 0
+Said g player n strategy flags next = MatchOption next
+    ((flags ≡ relevant_sets g player strategy) × (is_first g player strategy ≡ true))
+    (λ next. PassesTo g player n next)
+
 inside : (g : Game) (player n : ℕ) (strategy : List ℕ) → IsNumbered g player n strategy
     → n < length (strategies g player)
 inside g player n strategy h =
     omega (arith, h.within, length-all_choices (action_counts g player))
-
-pub of_player-requires-clause-some : goal.of_player-requires-clause-some
-of_player-requires-clause-some c =
-    let counts = action_counts c.args.game.now c.args.player in
-    omega (
-      arith,
-      product_positive counts
-          (actions_positive c.args.game.now c.players-players.ensures.is_game c.args.player),
-      c.requires.whole ∙ ap product c.requires.counts,
-    )
 
 pub loop-number-preserved-in-Some : goal.loop-number-preserved-in-Some
 loop-number-preserved-in-Some c =
@@ -55,10 +50,8 @@ loop-number-preserved-in-Some c =
     let h = here g player c.args.counts.now c.args.whole n c.write_strategy.new.strategy.items
     strategy c.requires.counts c.requires.whole c.loop-number-test.true
     c.in_ok-write_strategy.ensures c.deref.ensures.value in
-    let passes = subst (λ (o : Option ℕ). MatchOption o
-    ((c.write_relevant.new.relevant.items ≡ relevant_sets g player strategy)
-    × (is_first g player strategy ≡ true)) (λ next. PassesTo g player n next)) c.in-Some.is
-    (c.in_ok-next.ensures.relevant g player c.loop-number.invariant.3 h) in
+    let passes = subst (Said g player n strategy c.write_relevant.new.relevant.items) c.in-Some.is
+    (c.in_ok-next.ensures.relevant g player c.requires.counts c.loop-number.invariant.3 h) in
     let end : n + (next - n) ≡ next = omega (arith, passes.more) in (
       subst (AreFirst (is_first g player) (strategies g player) [] c.loop-number.firsts.items) end
           (passed_by (is_first g player) (strategies g player) [] c.loop-number.firsts.items n
@@ -79,10 +72,8 @@ write_reduced_label-requires c =
     let h = here g player c.args.counts.now c.args.whole n c.write_strategy.new.strategy.items
     strategy c.requires.counts c.requires.whole c.loop-number-test.true
     c.in_ok-write_strategy.ensures c.deref.ensures.value in
-    let first = subst (λ (o : Option ℕ). MatchOption o
-    ((c.write_relevant.new.relevant.items ≡ relevant_sets g player strategy)
-    × (is_first g player strategy ≡ true)) (λ next. PassesTo g player n next)) c.in-None.is
-    (c.in_ok-next.ensures.relevant g player c.loop-number.invariant.3 h) in
+    let first = subst (Said g player n strategy c.write_relevant.new.relevant.items) c.in-None.is
+    (c.in_ok-next.ensures.relevant g player c.requires.counts c.loop-number.invariant.3 h) in
     let keys = player_keys g player in
     ap length (c.deref-in-None.ensures.value ∙ first.0)
     ∙ length-map keys (is_relevant g (choice_at keys strategy))
@@ -98,10 +89,8 @@ loop-number-preserved c =
     let h = here g player c.args.counts.now c.args.whole n c.write_strategy.new.strategy.items
     strategy c.requires.counts c.requires.whole c.loop-number-test.true
     c.in_ok-write_strategy.ensures c.deref.ensures.value in
-    let first = subst (λ (o : Option ℕ). MatchOption o
-    ((c.write_relevant.new.relevant.items ≡ relevant_sets g player strategy)
-    × (is_first g player strategy ≡ true)) (λ next. PassesTo g player n next)) c.in-None.is
-    (c.in_ok-next.ensures.relevant g player c.loop-number.invariant.3 h) in
+    let first = subst (Said g player n strategy c.write_relevant.new.relevant.items) c.in-None.is
+    (c.in_ok-next.ensures.relevant g player c.requires.counts c.loop-number.invariant.3 h) in
     let all = strategies g player in
     let numbers = c.loop-number.firsts.items in
     let kept = c.in_ok-push-in-None-2.ensures.items in

@@ -21,7 +21,6 @@ loop-self-init c =
           ∙ ap (λ (s : List ℕ). chosen s set) (sym made)),
       made,
       refl,
-      refl,
       inl (omega (
         arith,
         ap length c.truncate.ensures.items,
@@ -40,3 +39,7 @@ go_on-requires-clause-sets c = (
 pub go_on-requires-clause-more : goal.go_on-requires-clause-more
 go_on-requires-clause-more c =
     omega (arith, c.loop-self-test.true, c.len.ensures, c.loop-self.self.lists.ok.0)
+
+pub returns-then-branch-clause-levels : goal.returns-then-branch-clause-levels
+returns-then-branch-clause-levels c = λ sets ordered levels.
+    c.in_ok-go_on.ensures.levels sets ordered (c.loop-self.invariant.0 sets ordered levels)

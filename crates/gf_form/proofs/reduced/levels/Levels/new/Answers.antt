@@ -1,23 +1,16 @@
-use Rattle.std.proofs.Common.{◌≡◌, ◌-◌, ◌∙◌, ◌++◌, ◌∷◌, [], Bool, List, Vec, Global, ℕ, ap, arith}
-use Rattle.std.proofs.Common.{length, subst}
-use Rattle.gf_form.specs.inner.reduced.Levels.{AreHighest, AreLevels}
+use Rattle.std.proofs.Common.{◌∙◌, ◌++◌, ◌∷◌, [], Bool, List, Vec, Global, ℕ, ap, length, subst}
+use Rattle.gf_form.specs.inner.reduced.Levels.{AreHighest}
 use Rattle.gf_form.proofs.lemmas.reduced.LevelsKept.{none_reached}
 use Rattle.gf_form.proofs.reduced.levels.Levels.new.Goals as goal
 
 pub highest_levels-requires : goal.highest_levels-requires
-highest_levels-requires c = (length c.args.counts.now, c.requires.ordered)
+highest_levels-requires c = (length c.args.counts.now, c.requires)
 
-pub returns-clause-levels : goal.returns-clause-levels
-returns-clause-levels c =
-    let alike = c.in_ok-of_sets.alike in
-    let levels = c.in_ok-of_sets.ensures.levels in
-    let count : length alike.items - 1 ≡ c.len-count.result - 1 =
-    omega (arith, c.len-count.ensures, alike.ok.0) in
+pub returns : goal.returns
+returns c =
     none_reached (length c.args.counts.now) c.args.visits.now c.in_ok-of_sets.of_sets
-    (c.len-count.result - 1) alike c.new.result c.in_ok-of_visits.of_visits c.push.new.self
-    c.push-2.new.self c.in_ok-left.left c.in_ok-all.all c.in_ok-none.none
-    (subst (AreLevels c.in_ok-of_sets.of_sets.items) count levels)
-    (omega (arith, levels.some, count))
+    c.in_ok-of_sets.count c.new.result c.in_ok-of_visits.of_visits c.push.new.self c.push-2.new.self
+    c.in_ok-left.left c.in_ok-all.all c.in_ok-none.none c.in_ok-of_sets.ensures
     (subst (λ (levels : List ℕ). AreHighest c.args.visits.now levels
     c.in_ok-of_visits.of_visits.items)
     c.deref.ensures.value c.in_ok-of_visits.ensures)
