@@ -9,7 +9,8 @@ use Rattle.gf_form.specs.inner.reduced.Visits.{visit_at}
 use Rattle.gf_form.proofs.lemmas.reduced.LeftVisits.{number_at}
 use Rattle.gf_form.proofs.lemmas.reduced.MetSets.{KnownTo, known_more, known_still}
 use Rattle.gf_form.proofs.reduced.levels.write_known.Goals as goal
-use Rattle.gf_form.proofs.reduced.levels.write_known.Goals.{then-highest-number, else-highest-number}
+use Rattle.gf_form.proofs.reduced.levels.write_known.Goals.{then-highest-number}
+use Rattle.gf_form.proofs.reduced.levels.write_known.Goals.{else-highest-number}
 
 pub overflow_sub-visits : goal.overflow_sub-visits
 overflow_sub-visits c =

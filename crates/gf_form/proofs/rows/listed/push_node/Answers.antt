@@ -55,7 +55,8 @@ loop-place-preserved c =
           })
       | in_default+in_ok-push-2 w ↦ rw (w.terms-is, w.fits-is, w.size-is) (record {
         filling = none_known path pays times size place fits old now
-            w.push-in_default.new.self.items (pos 0) (lit< tt) w.in_ok-push-2.ensures.items inv.filling size;
+            w.push-in_default.new.self.items (pos 0) (lit< tt) w.in_ok-push-2.ensures.items
+            inv.filling size;
         heads = inv.heads;
         players = inv.players;
       })
