@@ -189,7 +189,10 @@ impl Relevance {
             × (is_first g player strategy.now ≡ true))
             (λ next. PassesTo g player number next)) }
     {
-        match self.levels.choose(alloc, self.visits.all(), strategy, relevant)? {
+        match self
+            .levels
+            .choose(alloc, self.visits.all(), strategy, relevant)?
+        {
             Some(level) => Ok(Some(self.levels.after(counts, level, number))),
             None => Ok(None),
         }

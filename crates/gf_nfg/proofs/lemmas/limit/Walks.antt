@@ -153,8 +153,12 @@ labels_walk : (labels : List (List ℕ)) (due from outcomes : ℕ) (c : Content)
     → walk (at p.InList due from outcomes c) (map Text labels)
     ≡ Ok (at p.InList due from outcomes (with_labels c labels))
 labels_walk [] due from outcomes c = cc (with_no_labels c)
-labels_walk (label ∷ labels) due from outcomes c = grind (arith, with_more_labels, labels_walk
-    labels due from outcomes (with_labels c (label ∷ [])))
+labels_walk (label ∷ labels) due from outcomes c = grind (
+  arith,
+  with_more_labels,
+  labels_walk
+      labels due from outcomes (with_labels c (label ∷ [])),
+)
 
 close_step : (s : State) (n k : ℕ) → n ≡ k → 0 < k
     → listed s n ≡ Ok (at p.BeforeList s.due 0 s.outcomes (with_count s.content k))

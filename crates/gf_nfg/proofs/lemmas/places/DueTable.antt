@@ -101,8 +101,11 @@ no_texts_follow p.Title s e f = (Expected what.Opening, refl)
 no_texts_follow p.InPlayers s e f = absurd cc
 no_texts_follow p.InList s e f = absurd (some_or_unfilled (listed_in s) e f)
 no_texts_follow p.AfterStrategies s e f = grind (arith, broken_refused (to p.AfterComment s))
-no_texts_follow p.OutcomeName s e f = grind (arith, broken_refused (at p.BracedPayoff (length
-    s.content.players) s.list_start s.outcomes s.content))
+no_texts_follow p.OutcomeName s e f = grind (
+  arith,
+  broken_refused (at p.BracedPayoff (length
+      s.content.players) s.list_start s.outcomes s.content),
+)
 no_texts_follow q s e f = let b = broken_refused (to q s) in (b.0, rw b.1 refl)
 
 -- ---- what may follow

@@ -119,9 +119,13 @@ numbered_again : (list numbers : List Token) (outcomes : List (List Ratio)) (cho
     → run (at p.InOutcomes 0 0 0 c) ((list ++ Closing ∷ []) ++ numbers)
     ≡ Ok (with_choices (with_payoffs c (joined outcomes)) choices)
 numbered_again list numbers outcomes choices c listed each known count =
-    cc (append_assoc list (Closing ∷ []) numbers, outcomes_again outcomes list numbers c
-    listed, choices_again choices numbers (greatest (length outcomes))
-    (with_payoffs c (joined outcomes)) each known)
+    cc (
+      append_assoc list (Closing ∷ []) numbers,
+      outcomes_again outcomes list numbers c
+          listed,
+      choices_again choices numbers (greatest (length outcomes))
+          (with_payoffs c (joined outcomes)) each known,
+    )
 
 pub outcome_body_again : (comment list numbers : List Token) (outcomes : List (List Ratio))
     (choices : List ℕ) (said : List ℕ) (c : Content) → c.comment ≡ [] → IsComment comment said
@@ -132,5 +136,8 @@ pub outcome_body_again : (comment list numbers : List Token) (outcomes : List (L
 outcome_body_again comment list numbers outcomes choices said c none (inl h) listed each known
     count = grind (arith, numbered_again)
 outcome_body_again comment list numbers outcomes choices said c none (inr h) listed each known
-    count = grind (arith, numbered_again list numbers outcomes choices
-    (with_comment c said) listed each known count)
+    count = grind (
+      arith,
+      numbered_again list numbers outcomes choices
+          (with_comment c said) listed each known count,
+    )

@@ -236,8 +236,11 @@ settled_or_not _ = inl tt
 ends_by : (s : State) → IsSettled s.position ⊎ (s.position ≡ p.InList)
     → (more : List Token) × (r : Content) × (run s more ≡ Ok r)
 ends_by s (inl h) = let e = settled_ends s h in (e.0, e.1, e.2)
-ends_by s (inr h) = grind (arith, list_ends (s.list_start + 1) s.due s.list_start s.outcomes
-    s.content (omega arith))
+ends_by s (inr h) = grind (
+  arith,
+  list_ends (s.list_start + 1) s.due s.list_start s.outcomes
+      s.content (omega arith),
+)
 
 pub ends : (s : State) → (more : List Token) × (r : Content) × (run s more ≡ Ok r)
 ends s = ends_by s (settled_or_not s.position)

@@ -41,9 +41,12 @@ either_letter b is_r is_d h h2 h3 = grind (arith, same_bytes)
 only_letter : (ts : List Token) (r : Content) → run (at p.Letter 0 0 0 nothing) ts ≡ Ok r
     → (letter : List ℕ) × (rest : List Token) × (ts ≡ Bare letter ∷ rest)
     × ((letter ≡ codes "R") ⊎ (letter ≡ codes "D")) × (run (at p.Title 0 0 0 nothing) rest ≡ Ok r)
-only_letter (Bare b ∷ rest) r e = grind (arith, either_letter b (pointwise nat_eq b (codes "R"))
-    (pointwise nat_eq b (codes "D")) refl refl (guard_ok (pointwise nat_eq b (codes "R") ||
-    pointwise nat_eq b (codes "D")) (at p.Title 0 0 0 nothing) (Expected what.Letter) rest r e).0)
+only_letter (Bare b ∷ rest) r e = grind (
+  arith,
+  either_letter b (pointwise nat_eq b (codes "R"))
+      (pointwise nat_eq b (codes "D")) refl refl (guard_ok (pointwise nat_eq b (codes "R") ||
+      pointwise nat_eq b (codes "D")) (at p.Title 0 0 0 nothing) (Expected what.Letter) rest r e).0,
+)
 only_letter _ r e = absurd cc
 
 only_title : (ts : List Token) (r : Content) → run (at p.Title 0 0 0 nothing) ts ≡ Ok r
@@ -138,5 +141,9 @@ pub heading_again : (letter title : List ℕ) (players : List (List ℕ)) (rest 
     ∷ Text title ∷ (braced (map Text players) ++ rest))
     ≡ run (at p.BeforeStrategies (length players) 0 0 (heading title players)) rest
 heading_again letter title players rest h =
-    cc (letter_again letter (Text title ∷ (braced (map Text players) ++ rest)) h, append_assoc
-    (map Text players) (Closing ∷ []) rest, players_again players (with_title nothing title) rest)
+    cc (
+      letter_again letter (Text title ∷ (braced (map Text players) ++ rest)) h,
+      append_assoc
+          (map Text players) (Closing ∷ []) rest,
+      players_again players (with_title nothing title) rest,
+    )

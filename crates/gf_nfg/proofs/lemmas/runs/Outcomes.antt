@@ -69,8 +69,11 @@ outcome_more name inner rest payoffs before c r each count h =
       list = braced (Text name ∷ inner) ++ h.list;
       numbers = h.numbers;
       outcomes = payoffs ∷ h.outcomes;
-      parts = cc (append_assoc inner (Closing ∷ []) h.list, append_assoc inner (Closing ∷ h.list)
-          (Closing ∷ h.numbers));
+      parts = cc (
+        append_assoc inner (Closing ∷ []) h.list,
+        append_assoc inner (Closing ∷ h.list)
+            (Closing ∷ h.numbers),
+      );
       each = (braced (Text name ∷ inner), h.list, refl, (name, inner, refl, each, count), h.each);
       goes_on = cc (with_more_payoffs c payoffs (joined h.outcomes));
     }
@@ -117,9 +120,12 @@ outcomes_more (payoffs ∷ outcomes) list rest before c h =
     (greatest before) c) (inner ++ Closing ∷ after) = cc in
     let more : greatest ((before + 1) + length outcomes)
     ≡ greatest (before + length (payoffs ∷ outcomes)) = omega arith in
-    cc (braces_again payoffs inner after (greatest before) c h.3.3 false, greatest_next before,
-    outcomes_more outcomes h.1 rest (before + 1) (with_payoffs c payoffs) h.4,
-    with_more_payoffs c payoffs (joined outcomes))
+    cc (
+      braces_again payoffs inner after (greatest before) c h.3.3 false,
+      greatest_next before,
+      outcomes_more outcomes h.1 rest (before + 1) (with_payoffs c payoffs) h.4,
+      with_more_payoffs c payoffs (joined outcomes),
+    )
 
 pub outcomes_again : (outcomes : List (List Ratio)) (list rest : List Token) (c : Content)
     → Each (IsOutcomeInBraces (length c.players)) list outcomes

@@ -191,6 +191,11 @@ braces_again (n ∷ numbers) inner rest outcomes c h may =
     let comma = h.3.1 in
     let after = h.1 ++ Closing ∷ rest in
     let d = with_payoffs c (n ∷ []) in
-    cc (append_assoc comma h.1 (Closing ∷ rest), braced_step may b (length numbers) outcomes n c
-    (comma ++ after) (number_again b n h.3.3), comma_step comma after (length numbers) outcomes d _
-    h.3.4 (braces_again numbers h.1 rest outcomes d h.4), with_more_payoffs c (n ∷ []) numbers)
+    cc (
+      append_assoc comma h.1 (Closing ∷ rest),
+      braced_step may b (length numbers) outcomes n c
+          (comma ++ after) (number_again b n h.3.3),
+      comma_step comma after (length numbers) outcomes d _
+          h.3.4 (braces_again numbers h.1 rest outcomes d h.4),
+      with_more_payoffs c (n ∷ []) numbers,
+    )

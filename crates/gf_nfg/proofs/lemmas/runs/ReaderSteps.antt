@@ -56,9 +56,12 @@ later_opens due c t new s some next input = grind arith
 pub list_closes : (due before n : ℕ) (c : Content) (t new : Remaining) (s : Span) → 0 < n
     → n ≡ length c.labels - before → t.ahead ≡ lexeme s.start s.end Closing ∷ new.ahead
     → new.input ≡ t.input
-    → heard (at p.InList due before 0 c) t ≡ record { input = new.input; machine = then_on s.start
-    s.end (within (settled (at p.BeforeList due 0 0 c) n))
-    (λ after. read_on (length new.input) after new.ahead); }
+    → heard (at p.InList due before 0 c) t ≡ record {
+      input = new.input;
+      machine = then_on s.start
+          s.end (within (settled (at p.BeforeList due 0 0 c) n))
+          (λ after. read_on (length new.input) after new.ahead);
+    }
 list_closes due before n c t new s some is next input = grind arith
 
 -- ---- outcomes

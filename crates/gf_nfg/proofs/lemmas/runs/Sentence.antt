@@ -360,8 +360,11 @@ parts_of ts t letter inner comment body parts is_letter h k body_of =
     let b = body_of k in
     record {
       content = whole t.title t.comment t.players k.counts k.labels b.payoffs b.choices;
-      read = cc (heading_again letter t.title t.players (braced inner ++ (comment ++ body))
-          is_letter, append_assoc inner (Closing ∷ []) (comment ++ body));
+      read = cc (
+        heading_again letter t.title t.players (braced inner ++ (comment ++ body))
+            is_letter,
+        append_assoc inner (Closing ∷ []) (comment ++ body),
+      );
       means = table_again t k.counts k.labels b.payoffs b.choices h k.means b.means;
     }
 

@@ -203,8 +203,11 @@ list_more labels ts rest due c r e some h =
       inner = braced (map Text labels) ++ h.inner;
       rest = h.rest;
       more = labels ∷ h.more;
-      parts = cc (append_assoc (map Text labels) (Closing ∷ []) h.inner, append_assoc
-          (map Text labels) (Closing ∷ h.inner) (Closing ∷ h.rest));
+      parts = cc (
+        append_assoc (map Text labels) (Closing ∷ []) h.inner,
+        append_assoc
+            (map Text labels) (Closing ∷ h.inner) (Closing ∷ h.rest),
+      );
       each = (braced (map Text labels), h.inner, refl, refl, h.each);
       count = ap suc h.count;
       positive = (some, h.positive);
@@ -295,9 +298,12 @@ counts_again (labels ∷ strategies) inner rest c h some =
     let e : inner ++ Closing ∷ rest ≡ Bare k.bytes ∷ (h.1 ++ Closing ∷ rest) =
     ap (λ (x : List Token). x ++ Closing ∷ rest)
     (h.2 ∙ ap (λ (x : List Token). x ++ h.1) k.token) in
-    cc (counted_step k.bytes (length labels) (length strategies) c (h.1 ++ Closing ∷ rest)
-    k.counted, counts_again strategies h.1 rest (with_count c (length labels)) h.4 some.1,
-    with_one_count c (length labels) (map length strategies))
+    cc (
+      counted_step k.bytes (length labels) (length strategies) c (h.1 ++ Closing ∷ rest)
+          k.counted,
+      counts_again strategies h.1 rest (with_count c (length labels)) h.4 some.1,
+      with_one_count c (length labels) (map length strategies),
+    )
 
 pub first_counts_again : (strategies : List (List (List ℕ))) (inner rest : List Token)
     (c : Content) → Each IsCount inner strategies → AllSome strategies
@@ -307,8 +313,10 @@ first_counts_again [] inner rest c h some = rw h (counts_again [] [] rest c refl
 first_counts_again (labels ∷ strategies) inner rest c h some =
     let b = h.3.0 in
     let e : inner ++ Closing ∷ rest ≡ Bare b ∷ (h.1 ++ Closing ∷ rest) = cc in
-    cc (first_bare b (h.1 ++ Closing ∷ rest) (length strategies) c,
-    counts_again (labels ∷ strategies) inner rest c h some)
+    cc (
+      first_bare b (h.1 ++ Closing ∷ rest) (length strategies) c,
+      counts_again (labels ∷ strategies) inner rest c h some,
+    )
 
 list_again : (labels before : List (List ℕ)) (rest : List Token) (due : ℕ) (c : Content)
     → 0 < length (before ++ labels)
@@ -318,8 +326,12 @@ list_again : (labels before : List (List ℕ)) (rest : List Token) (due : ℕ) (
 list_again [] before rest due c some = grind (arith, append-nil, behind_front)
 list_again (label ∷ labels) before rest due c some =
     let whole = append_assoc before (label ∷ []) labels in
-    cc (with_more_labels c before (label ∷ []), list_again labels (before ++ label ∷ []) rest due c
-    (rw whole some), whole)
+    cc (
+      with_more_labels c before (label ∷ []),
+      list_again labels (before ++ label ∷ []) rest due c
+          (rw whole some),
+      whole,
+    )
 
 open_step : (due : ℕ) (c : Content) (ts : List Token)
     → run (at p.BeforeList (suc due) 0 0 c) (Opening ∷ ts)
@@ -338,10 +350,14 @@ lists_again : (lists : List (List (List ℕ))) (inner rest : List Token) (c : Co
 lists_again [] inner rest c h some = rw h (cc (with_no_counts c))
 lists_again (labels ∷ lists) inner rest c h some =
     let after = h.1 ++ Closing ∷ rest in
-    cc (braced_parts labels inner h.0 h.1 rest h.2 h.3, open_step (length lists) c
-    (map Text labels ++ Closing ∷ after), list_again labels [] after (length lists) c some.0,
-    lists_again lists h.1 rest (with_count (with_labels c labels) (length labels)) h.4 some.1,
-    with_more_counts c (length labels) labels (map length lists) (joined lists))
+    cc (
+      braced_parts labels inner h.0 h.1 rest h.2 h.3,
+      open_step (length lists) c
+          (map Text labels ++ Closing ∷ after),
+      list_again labels [] after (length lists) c some.0,
+      lists_again lists h.1 rest (with_count (with_labels c labels) (length labels)) h.4 some.1,
+      with_more_counts c (length labels) labels (map length lists) (joined lists),
+    )
 
 pub first_lists_again : (lists : List (List (List ℕ))) (inner rest : List Token) (c : Content)
     → Each IsLabelList inner lists → AllSome lists
@@ -350,5 +366,8 @@ pub first_lists_again : (lists : List (List (List ℕ))) (inner rest : List Toke
 first_lists_again [] inner rest c h some = rw h (lists_again [] [] rest c refl tt)
 first_lists_again (labels ∷ lists) inner rest c h some =
     let e = braced_parts labels inner h.0 h.1 rest h.2 h.3 in
-    cc (e, first_open (map Text labels ++ Closing ∷ (h.1 ++ Closing ∷ rest)) (length lists) c,
-    lists_again (labels ∷ lists) inner rest c h some)
+    cc (
+      e,
+      first_open (map Text labels ++ Closing ∷ (h.1 ++ Closing ∷ rest)) (length lists) c,
+      lists_again (labels ∷ lists) inner rest c h some,
+    )

@@ -53,9 +53,14 @@ pub same_by_parts : (named : Bool) (t u : Table) (m n : Names) (rs qs : List (Li
     → SameTable (named_by named t) (named_by named u)
     ↔ ((names_by named m ≡ names_by named n) × (rs ≡ qs))
 same_by_parts named t u m n rs qs ht hu of_t of_u rows_t rows_u =
-    grind (arith, same_is_equal (named_by named t) (named_by named u) (named_table named t ht)
-    (named_table named u hu), table_again (named_by named t) (named_table named t ht), table_again
-    (named_by named u) (named_table named u hu))
+    grind (
+      arith,
+      same_is_equal (named_by named t) (named_by named u) (named_table named t ht)
+          (named_table named u hu),
+      table_again (named_by named t) (named_table named t ht),
+      table_again
+          (named_by named u) (named_table named u hu),
+    )
 
 -- ---- the whole
 
@@ -67,8 +72,13 @@ rows_counted t h = cc (length-map t.entries (λ e. e.payoffs), length-map t.entr
 rows_parted : (t u : Table) → IsTable t → IsTable u → t.players ≡ u.players
     → t.strategies ≡ u.strategies → joined (rows t) ≡ joined (rows u) → rows t ≡ rows u
 rows_parted t u ht hu players strategies same =
-    cc (rows_counted t ht, rows_counted u hu, rows_again (length t.players) (rows t)
-    ht.one_payoff_each, rows_again (length u.players) (rows u) hu.one_payoff_each)
+    cc (
+      rows_counted t ht,
+      rows_counted u hu,
+      rows_again (length t.players) (rows t)
+          ht.one_payoff_each,
+      rows_again (length u.players) (rows u) hu.one_payoff_each,
+    )
 
 payoffs_told : (c : Content) → IsComplete c → c.choices ≡ []
     → joined (rows (table_of c)) ≡ c.payoffs

@@ -22,8 +22,16 @@ pieces_size : {A : Type 0} (from : ℕ) (ends : List ℕ) (items : List A)
     → RisesTo (length items) from ends
     → from + sum (map length (pieces from ends items)) ≡ length items
 pieces_size from [] items h = omega (arith, h)
-pieces_size from (end ∷ ends) items h = grind (arith, length-take, drop, length-drop, rises_within,
-    sum-cons, take, pieces_size end ends items h.1)
+pieces_size from (end ∷ ends) items h = grind (
+  arith,
+  length-take,
+  drop,
+  length-drop,
+  rises_within,
+  sum-cons,
+  take,
+  pieces_size end ends items h.1,
+)
 
 pub labels_size : (ends bytes : List ℕ) → RisesTo (length bytes) 0 ends
     → sum (map length (pieces 0 ends bytes)) ≡ length bytes
@@ -77,8 +85,14 @@ one_joined_more (y ∷ z ∷ labels) x some =
 pub one_added : (old labels next others : List (List ℕ)) (at : ℕ) (x : List ℕ)
     → at < length others → slice_get others at ≡ Some x → labels ≡ old ++ take at others
     → next ≡ labels ++ x ∷ [] → next ≡ old ++ take (at + 1) others
-one_added old labels next others at x within found h e = grind (arith, append_assoc old
-    (take at others) (x ∷ []), take, get_or_from_slice_get others, take_more others)
+one_added old labels next others at x within found h e = grind (
+  arith,
+  append_assoc old
+      (take at others) (x ∷ []),
+  take,
+  get_or_from_slice_get others,
+  take_more others,
+)
 
 pub where_ok : {T E P : Type 0} (r : Result T E) → is_ok r ≡ true → OnOk r P → P
 where_ok (Ok x) e h = h
@@ -105,6 +119,11 @@ pub more_joined : (old bytes dashed next more : List ℕ) (labels : List Label) 
 more_joined old bytes dashed next more labels at x d some is within h dash m e =
     let before = map label_of (take at labels) in
     let counted : length before ≡ at = grind (arith, length-map, take, length-take) in
-    grind (arith, append_assoc (old ++ join_with_byte 45 before) (45 ∷ []) (label_of x),
-    append_assoc old (join_with_byte 45 before) (45 ∷ label_of x), one_joined_more before
-    (label_of x) (omega (arith, some, counted)), one_taken labels)
+    grind (
+      arith,
+      append_assoc (old ++ join_with_byte 45 before) (45 ∷ []) (label_of x),
+      append_assoc old (join_with_byte 45 before) (45 ∷ label_of x),
+      one_joined_more before
+          (label_of x) (omega (arith, some, counted)),
+      one_taken labels,
+    )

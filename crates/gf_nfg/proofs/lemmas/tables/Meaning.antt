@@ -25,8 +25,14 @@ use Rattle.gf_nfg.proofs.lemmas.tables.Rows as kept
 length-groups : {A : Type 0} (sizes : List ℕ) (items : List A) → length items ≡ sum sizes
     → map length (groups sizes items) ≡ sizes
 length-groups [] items e = refl
-length-groups (n ∷ sizes) items e = grind (arith, sum-cons, length-take, drop, length-drop,
-    length-groups sizes (drop n items) (omega (arith, e, (sum-cons n sizes), length-drop n items)))
+length-groups (n ∷ sizes) items e = grind (
+  arith,
+  sum-cons,
+  length-take,
+  drop,
+  length-drop,
+  length-groups sizes (drop n items) (omega (arith, e, (sum-cons n sizes), length-drop n items)),
+)
 
 -- the strategies are as many as the counts say
 pub counts-strategies_of : (counts : List ℕ) (labels : List (List ℕ)) → HasLabels counts labels
@@ -65,8 +71,11 @@ rows_of-joined : (players : ℕ) (rs : List (List Ratio))
     → AllByRecursion (λ row. length row ≡ players) rs → rows_of players (length rs) (joined rs) ≡ rs
 rows_of-joined players [] h = refl
 rows_of-joined players (row ∷ rs) h =
-    let rest : rows_of players (length rs) (drop players (row ++ joined rs)) ≡ rs = cc (drop-by
-    players row (joined rs) h.0, rows_of-joined players rs h.1) in
+    let rest : rows_of players (length rs) (drop players (row ++ joined rs)) ≡ rs = cc (
+      drop-by
+          players row (joined rs) h.0,
+      rows_of-joined players rs h.1,
+    ) in
     (λ i. take-by players row (joined rs) h.0 i ∷ rest i)
 
 pub rows_again : (players : ℕ) (rs : List (List Ratio))

@@ -229,8 +229,13 @@ pub strategy_out : {names : Names} {profile : List ℕ} {at place count : ℕ}
     → AtPlayer names profile at place count
     → (get_or profile at 0 ≡ 0) ⊎ (count < get_or profile at 0)
     → place_of (map length names.strategies) profile ≡ None
-strategy_out {names} {profile} {at} {place} {count} a out = grind (arith, at_count a, none_before
-    (map length names.strategies) profile, place_none (map length names.strategies) profile)
+strategy_out {names} {profile} {at} {place} {count} a out = grind (
+  arith,
+  at_count a,
+  none_before
+      (map length names.strategies) profile,
+  place_none (map length names.strategies) profile,
+)
 
 pub strategy_in : {names : Names} {profile : List ℕ} {at place count : ℕ}
     → AtPlayer names profile at place count → 0 < get_or profile at 0 → get_or profile at 0 ≤ count
@@ -254,5 +259,8 @@ pub payoffs_found : (names : Names) (rs : List (List Ratio)) (t : Table) (profil
     → payoffs_at profile t.entries
     ≡ option_and_then (λ k. slice_get rs k) (place_of (map length names.strategies) profile)
 payoffs_found names rs t profile one view =
-    cc (payoffs_at_position profile (profiles (map length names.strategies)) rs
-    (matched names rs one), position_of-profiles profile (map length names.strategies))
+    cc (
+      payoffs_at_position profile (profiles (map length names.strategies)) rs
+          (matched names rs one),
+      position_of-profiles profile (map length names.strategies),
+    )

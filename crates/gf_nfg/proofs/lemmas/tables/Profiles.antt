@@ -59,8 +59,12 @@ length-profiles (count ∷ counts) = grind (arith, length-firsts, length-profile
 places_are : (counts : List ℕ)
     → map (place counts) (profiles counts) ≡ numbers_from 0 (length (profiles counts))
 places_are [] = refl
-places_are (count ∷ counts) = grind (arith, places_all count counts (profiles counts) 0
-    (places_are counts), length-firsts count (profiles counts))
+places_are (count ∷ counts) = grind (
+  arith,
+  places_all count counts (profiles counts) 0
+      (places_are counts),
+  length-firsts count (profiles counts),
+)
 
 pub profiles_in_order : (counts : List ℕ)
     → map (place counts) (profiles counts) ≡ numbers_from 0 (product counts)
@@ -68,8 +72,12 @@ profiles_in_order counts = places_are counts ∙ ap (numbers_from 0) (length-pro
 
 pub place_at : (counts : List ℕ) (i : ℕ) (d : List ℕ) → i < length (profiles counts)
     → place counts (get_or (profiles counts) i d) ≡ i
-place_at counts i d h = grind (arith, get_or-map (place counts) (profiles counts) i d 0 h,
-    places_are counts, get_or-numbers_from 0 (length (profiles counts)) i 0 h)
+place_at counts i d h = grind (
+  arith,
+  get_or-map (place counts) (profiles counts) i d 0 h,
+  places_are counts,
+  get_or-numbers_from 0 (length (profiles counts)) i 0 h,
+)
 
 -- no profile stands twice
 pub profiles_distinct : (counts : List ℕ) (i j : ℕ) (d : List ℕ) → i < length (profiles counts)
@@ -90,9 +98,14 @@ profile_in (count ∷ counts) (s ∷ others) h =
     let g = flat_map (firsts count) in
     let first : firsts count others ≡ map f n.0 ++ (s ∷ others) ∷ map f n.1 =
     grind (arith, map-append) in
-    grind (arith, flat_map-append (firsts count) r.0 (others ∷ r.1), append_assoc (map f n.0)
-    ((s ∷ others) ∷ map f n.1) (g r.1), append_assoc (g r.0) (map f n.0)
-    ((s ∷ others) ∷ (map f n.1 ++ g r.1)))
+    grind (
+      arith,
+      flat_map-append (firsts count) r.0 (others ∷ r.1),
+      append_assoc (map f n.0)
+          ((s ∷ others) ∷ map f n.1) (g r.1),
+      append_assoc (g r.0) (map f n.0)
+          ((s ∷ others) ∷ (map f n.1 ++ g r.1)),
+    )
 
 all_first : (count : ℕ) (counts others : List ℕ)
     → IsProfile counts others → (s n : ℕ) → 1 ≤ s → s + n ≤ count + 1

@@ -136,15 +136,24 @@ numbered_from : (players : ℕ) (payoffs : List Ratio) (k n : ℕ)
     → flat_map (λ row. row) (map (row_of players payoffs) (numbers_from (suc k) n))
     ≡ take (n * players) (drop (k * players) payoffs)
 numbered_from players payoffs k zero = let none : 0 * players ≡ 0 = omega arith in rw none refl
-numbered_from players payoffs k (suc n) = grind (arith, take players (drop (k * players) payoffs),
-    numbered_from players payoffs (suc k) n, drop-drop players (k * players) payoffs, take_two
-    players (n * players) (drop (k * players) payoffs))
+numbered_from players payoffs k (suc n) = grind (
+  arith,
+  take players (drop (k * players) payoffs),
+  numbered_from players payoffs (suc k) n,
+  drop-drop players (k * players) payoffs,
+  take_two
+      players (n * players) (drop (k * players) payoffs),
+)
 
 -- rows of the profiles in turn are the payoffs
 pub rows_in_turn : (players count : ℕ) (payoffs : List Ratio) → length payoffs ≡ count * players
     → flat_map (λ row. row) (map (row_of players payoffs) (positions count)) ≡ payoffs
-rows_in_turn players count payoffs h = grind (arith, numbered_from players payoffs 0 count, take_all
-    (count * players) payoffs (omega (arith, h)))
+rows_in_turn players count payoffs h = grind (
+  arith,
+  numbered_from players payoffs 0 count,
+  take_all
+      (count * players) payoffs (omega (arith, h)),
+)
 
 -- ---- one row
 
@@ -208,8 +217,11 @@ pub count_at_most : (strategies : List (List (List ℕ))) (k : ℕ) (own : List 
 count_at_most [] k own h e = absurd (cc)
 count_at_most (first ∷ others) zero own h e =
     grind (arith, mul-le-mul_left (length first) (product_above others h.1))
-count_at_most (first ∷ others) (suc k) own h e = grind (arith, count_at_most others k own h.1 e,
-    mul-le-mul_right (product (map length others)) h.0)
+count_at_most (first ∷ others) (suc k) own h e = grind (
+  arith,
+  count_at_most others k own h.1 e,
+  mul-le-mul_right (product (map length others)) h.0,
+)
 
 -- ---- a table made from its parts
 
@@ -265,7 +277,11 @@ numbered players count payoffs zeros choices rs place number kept view h e =
 
 pub made_of_parts : (t : Table) (names : Names) (title comment : List ℕ) (players : List (List ℕ))
     (strategies : List (List (List ℕ))) (rs : List (List Ratio)) (given : List Ratio)
-    → names ≡ record { title = title; comment = comment; players = players; strategies = strategies
+    → names ≡ record {
+      title = title;
+      comment = comment;
+      players = players;
+      strategies = strategies;
     } → IsNamed names (length rs) → AllByRecursion (λ row. length row ≡ length names.players) rs
     → flat_map (λ row. row) rs ≡ given → t ≡ table_with names rs
     → IsTableOf t title comment players strategies given

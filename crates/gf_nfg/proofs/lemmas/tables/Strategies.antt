@@ -146,7 +146,12 @@ label_at {labels} {lists} {at} {k} {start} {end} s h =
     record {
       before = omega (arith, some, size);
       within = inside;
-      is = cc (slice_get-get_or own k [] some, get_or-take (end - start) (drop start labels) k []
-          (omega (arith, some, size)), get_or-drop start labels k [], slice_get-get_or labels
-          (start + k) [] inside);
+      is = cc (
+        slice_get-get_or own k [] some,
+        get_or-take (end - start) (drop start labels) k []
+            (omega (arith, some, size)),
+        get_or-drop start labels k [],
+        slice_get-get_or labels
+            (start + k) [] inside,
+      );
     }

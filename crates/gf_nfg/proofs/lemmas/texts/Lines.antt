@@ -32,8 +32,12 @@ line_more : (full : List (List Ratio)) (row : List Ratio)
     → lines_text (map row_text full) ++ (row_text row ++ 10 ∷ [])
     ≡ lines_text (map row_text (full ++ row ∷ []))
 line_more full row =
-    cc (append-nil (row_text row ++ 10 ∷ []), flat_map-append (λ (line : List ℕ). line ++ 10 ∷ [])
-    (map row_text full) (row_text row ∷ []), map-append row_text full (row ∷ []))
+    cc (
+      append-nil (row_text row ++ 10 ∷ []),
+      flat_map-append (λ (line : List ℕ). line ++ 10 ∷ [])
+          (map row_text full) (row_text row ∷ []),
+      map-append row_text full (row ∷ []),
+    )
 
 module _ (players left : ℕ) (bytes out : List ℕ) (payoffs : List Ratio) (n : Ratio) where
   -- a row gets longer
@@ -52,8 +56,11 @@ module _ (players left : ℕ) (bytes out : List ℕ) (payoffs : List Ratio) (n :
         are_full = l.are_full;
         left_is = omega (arith, size, fits, more);
         some = omega (arith, more);
-        bytes_are = cc (append_assoc before (begun_text l.part) last, append-nil last,
-            flat_map-append (λ (p : Ratio). number_text p ++ 32 ∷ []) l.part (n ∷ []));
+        bytes_are = cc (
+          append_assoc before (begun_text l.part) last,
+          append-nil last,
+          flat_map-append (λ (p : Ratio). number_text p ++ 32 ∷ []) l.part (n ∷ []),
+        );
       }
 
   -- a row ends
@@ -68,9 +75,14 @@ module _ (players left : ℕ) (bytes out : List ℕ) (payoffs : List Ratio) (n :
       record {
         full = l.full ++ row ∷ [];
         part = [];
-        parts = cc (append_assoc (joined l.full) l.part (n ∷ []), append-nil row, flat_map-append
-            (λ (row : List Ratio). row) l.full (row ∷ []), append-nil
-            (joined (l.full ++ row ∷ [])));
+        parts = cc (
+          append_assoc (joined l.full) l.part (n ∷ []),
+          append-nil row,
+          flat_map-append
+              (λ (row : List Ratio). row) l.full (row ∷ []),
+          append-nil
+              (joined (l.full ++ row ∷ [])),
+        );
         are_full = all_more (λ row. length row ≡ players) l.full row l.are_full whole;
         left_is = omega arith;
         some = omega (arith, fits, last);

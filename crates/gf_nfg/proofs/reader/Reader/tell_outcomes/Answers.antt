@@ -13,8 +13,14 @@ returns-in_err-outcomes g c = grind (arith, length-map, ends_back, c.in_err-outc
 
 pub returns-in_err-numbers : goal.returns-in_err-numbers
 returns-in_err-numbers g c =
-    grind (arith, length-map, ends_back, carried, c.in_ok-outcomes.ensures,
-    c.in_err-numbers.ensures)
+    grind (
+      arith,
+      length-map,
+      ends_back,
+      carried,
+      c.in_ok-outcomes.ensures,
+      c.in_err-numbers.ensures,
+    )
 
 pub returns : goal.returns
 returns g c = λ untold holding.

@@ -16,8 +16,7 @@ choose-requires c =
     let sets = length (player_keys r.0 r.1) in record {
       sets = subst (λ (vs : List Visit). (sets : ℕ) × AreOrdered sets 1 vs
           × IsLevels sets vs c.args.self.now.levels × (length c.args.strategy.now ≡ sets))
-          (sym c.all.ensures)
-          (
+          (sym c.all.ensures) (
             sets,
             r.2.visits.ordered,
             r.2.levels,
