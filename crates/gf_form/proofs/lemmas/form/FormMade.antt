@@ -1,6 +1,6 @@
 -- A table of labels and of rows that are right at its profiles is a form of a game.
-use Rattle.std.proofs.Common.{◌≡◌, ℕ, ◌*◌, ◌<◌, ◌≤◌, List, [], ◌∷◌, length, map, sym, ap}
-use Rattle.std.proofs.Common.{subst, ◌∙◌, arith}
+use Rattle.std.proofs.Common.{◌≡◌, ℕ, ◌*◌, ◌<◌, ◌≤◌, List, [], ◌∷◌, length, map, sym, ap, ◌∙◌}
+use Rattle.std.proofs.Common.{arith}
 use Rattle.std.specs.List.{AllByRecursion, AllZip}
 use Rattle.gf_fraction.specs.Ratio.{Ratio, IsFraction}
 use Rattle.gf_nfg.specs.Limit.{profile_limit}
@@ -23,15 +23,13 @@ use Rattle.gf_form.proofs.lemmas.rows.RowsMade.{form_by_rows, rows_counted, rows
 
 all_first : {A B : Type 0} (P : A → Type 0) (Q : A → B → Type 0) (xs : List A) (ys : List B)
     → AllZip (λ x y. P x × Q x y) xs ys → AllByRecursion P xs
-all_first P Q [] [] h = tt
-all_first P Q [] (y ∷ ys) h = absurd h
+all_first P Q [] ys h = grind arith
 all_first P Q (x ∷ xs) [] h = absurd h
 all_first P Q (x ∷ xs) (y ∷ ys) h = (h.0.0, all_first P Q xs ys h.1)
 
 pub full_row : (g : Game) (profile : List ℕ) (row : List Ratio) → ArePayoffsAt g profile row
     → length row ≡ length g.players
-full_row g profile row h =
-    as_many _ row (players_of g) h ∙ length-numbers_from 1 (length g.players)
+full_row g profile row h = grind (arith, as_many, length-numbers_from)
 
 pub row_fractions : (g : Game) (profile : List ℕ) (row : List Ratio) → ArePayoffsAt g profile row
     → AllByRecursion IsFraction row
@@ -44,8 +42,7 @@ module _ (labels : ℕ → List (List ℕ)) (R : List ℕ → List Ratio → Typ
     (each : (p : List ℕ) (row : List Ratio) → R p row → length row ≡ length g.players)
     (right : AreRowsAt R (form_profiles labels g) payoffs) where
   profiles_counted : product (map length all) ≡ length (form_profiles labels g)
-  profiles_counted = ap (λ (own : List (List (List ℕ))). product (map length own)) named
-      ∙ sym (length-profiles (map length (map labels (players_of g))))
+  profiles_counted = cc (named, length-profiles (map length (map labels (players_of g))))
 
   pub fits_table : ((player : ℕ) → 0 < length (labels player))
       → length (form_profiles labels g) ≤ profile_limit
@@ -53,8 +50,7 @@ module _ (labels : ℕ → List (List ℕ)) (R : List ℕ → List Ratio → Typ
       → FitsTable (length g.players) all payoffs
   fits_table some few fractions = record {
     one_list_each = ap length named ∙ as_many_players g labels;
-    some_strategy = subst (AllByRecursion (λ own. 0 < length own)) (sym named)
-        (some_labels labels some (players_of g));
+    some_strategy = grind (arith, some_labels labels some (players_of g));
     profiles = omega (arith, profiles_counted, few);
     fractions = rows_fractions R fractions (form_profiles labels g) payoffs right;
     rows = rows_counted R (length g.players) each (form_profiles labels g) payoffs right
@@ -64,7 +60,4 @@ module _ (labels : ℕ → List (List ℕ)) (R : List ℕ → List Ratio → Typ
   pub form_made : (t : Table) → IsTableOf t g.title g.comment g.players all payoffs
       → IsFormBy labels R g t
   form_made t made =
-      form_by_rows R labels g t payoffs each
-      (subst (λ (own : List (List (List ℕ))). IsTableOf t g.title g.comment g.players own payoffs)
-      named made)
-      right
+      grind (arith, form_by_rows R labels g t payoffs each (grind arith) right)

@@ -1,6 +1,6 @@
 -- A form of a game is a table; the strategic form.
-use Rattle.std.proofs.Common.{◌≡◌, ℕ, suc, ◌<◌, Bool, true, false, List, [], ◌∷◌}
-use Rattle.std.proofs.Common.{cond, length, map, refl, sym, ap, ◌∙◌, subst, arith}
+use Rattle.std.proofs.Common.{◌≡◌, ℕ, suc, ◌<◌, Bool, true, false, List, [], ◌∷◌, cond, length, map}
+use Rattle.std.proofs.Common.{sym, ap, ◌∙◌, subst, arith}
 use Rattle.std.specs.Prelude.{◌==◌, filter}
 use Rattle.std.specs.List.{AllByRecursion, AllZip}
 use Rattle.std.proofs.lemmas.List.{length-map}
@@ -14,15 +14,13 @@ use Rattle.gf_tree.specs.Description.{SetKey, InformationSet, IsSet}
 use Rattle.gf_tree.specs.FiniteMap.{Described}
 use Rattle.gf_tree.specs.Game.{Game, IsGame}
 use Rattle.gf_tree.proofs.lemmas.games.Uses.{Has, all_of_each, each}
-use Rattle.gf_form.specs.Strategies.{action_counts, strategies, strategy_label}
-use Rattle.gf_form.specs.Strategies.{players_of}
+use Rattle.gf_form.specs.Strategies.{action_counts, strategies, players_of}
 use Rattle.gf_form.specs.StrategicForm.{ArePayoffsAt, IsFormBy, IsStrategicForm, strategy_labels}
 use Rattle.gf_form.proofs.lemmas.strategies.Choices.{length-all_choices}
 
 pub as_many : {A B : Type 0} (R : A → B → Type 0) (xs : List A) (ys : List B) → AllZip R xs ys
     → length xs ≡ length ys
-as_many R [] [] h = refl
-as_many R [] (y ∷ ys) h = absurd h
+as_many R [] ys h = grind arith
 as_many R (x ∷ xs) [] h = absurd h
 as_many R (x ∷ xs) (y ∷ ys) h = ap suc (as_many R xs ys h.1)
 
@@ -62,8 +60,7 @@ module _ (labels : ℕ → List (List ℕ)) (R : List ℕ → List Ratio → Typ
       → ((e : Entry) → Has t.entries e → length e.payoffs ≡ length (players_of g)) → IsTable t
   table_by some each_row = record {
     one_list_each = ap length form.strategies ∙ length-map (players_of g) labels ∙ as_players;
-    some_strategy = subst (AllByRecursion (λ own. 0 < length own)) (sym form.strategies)
-        (some_labels labels some (players_of g));
+    some_strategy = grind (arith, some_labels labels some (players_of g));
     one_entry_each = form.profiles;
     one_payoff_each = all_images (λ row. length row ≡ length t.players) (λ e. e.payoffs) t.entries
         (all_of_each (λ e. length e.payoffs ≡ length t.players) t.entries
@@ -73,7 +70,6 @@ module _ (labels : ℕ → List (List ℕ)) (R : List ℕ → List Ratio → Typ
 pub form_is_table : (g : Game) → IsGame g → (t : Table) → IsStrategicForm g t → IsTable t
 form_is_table g game t form =
     table_by (strategy_labels g) (ArePayoffsAt g) g t form
-    (λ player. subst (λ n. 0 < n) (sym (length-map (strategies g player) strategy_label))
-    (some_strategy g game player))
+    (λ player. grind (arith, length-map, some_strategy))
     (λ e i. as_many _ e.payoffs (players_of g)
     (each (λ (d : Entry). ArePayoffsAt g d.profile d.payoffs) t.entries e form.payoffs i))

@@ -1,6 +1,6 @@
 -- Forms of a game: there is at most one, and one exists if there are payoffs at each profile.
-use Rattle.std.proofs.Common.{◌≡◌, ℕ, List, [], ◌∷◌, length, map}
-use Rattle.std.proofs.Common.{refl, sym, ap, ◌∙◌, subst, inl, inr}
+use Rattle.std.proofs.Common.{◌≡◌, ℕ, List, [], ◌∷◌, length, map, arith, refl, sym, ap, ◌∙◌, subst}
+use Rattle.std.proofs.Common.{inl, inr}
 use Rattle.std.specs.Prelude.{◌↔◌}
 use Rattle.std.specs.List.{AllByRecursion, AllZip}
 use Rattle.std.proofs.lemmas.List.{length-map}
@@ -11,13 +11,13 @@ use Rattle.gf_nfg.specs.Profiles.{profiles}
 use Rattle.gf_nfg.specs.Table.{Entry, Table}
 use Rattle.gf_tree.specs.Description.{SetKey}
 use Rattle.gf_tree.specs.Game.{Game}
-use Rattle.gf_tree.proofs.lemmas.games.Members.{map_same, map_twice}
+use Rattle.gf_tree.proofs.lemmas.games.Members.{map_twice}
 use Rattle.gf_tree.proofs.lemmas.games.Uses.{Has, contains, has, each, mapped_from}
 use Rattle.gf_form.specs.Payoff.{payoff}
-use Rattle.gf_form.specs.StrategicForm.{ArePayoffsAt, IsFormBy, IsStrategicForm}
-use Rattle.gf_form.specs.StrategicForm.{PaysFraction, PaysFractions, strategy_labels}
-use Rattle.gf_form.specs.Strategies.{choices_by, full_profiles, players_of}
-use Rattle.gf_form.specs.Strategies.{strategies, strategies_at, strategy_label}
+use Rattle.gf_form.specs.StrategicForm.{ArePayoffsAt, IsFormBy, IsStrategicForm, PaysFraction}
+use Rattle.gf_form.specs.StrategicForm.{PaysFractions, strategy_labels}
+use Rattle.gf_form.specs.Strategies.{choices_by, full_profiles, players_of, strategies}
+use Rattle.gf_form.specs.Strategies.{strategies_at}
 
 -- ---- forms by any labels
 
@@ -49,19 +49,12 @@ pub one_form_by : (labels : ℕ → List (List ℕ)) (R : List ℕ → List Rati
     → (t u : Table) → IsFormBy labels R g t → IsFormBy labels R g u → t ≡ u
 one_form_by labels R g one t u h k =
     let strategies = h.strategies ∙ sym k.strategies in
-    let listed : map (λ e. e.profile) t.entries ≡ form_profiles labels g =
-    h.profiles ∙ ap (λ s. profiles (map length s)) h.strategies in
+    let listed : map (λ e. e.profile) t.entries ≡ form_profiles labels g = cc in
     let entries =
     same_entries R t.entries u.entries
     (h.profiles ∙ ap (λ s. profiles (map length s)) strategies ∙ sym k.profiles)
     (λ p i. one p (subst (λ ps. Has ps p) listed i)) h.payoffs k.payoffs in
-    λ i. record {
-      title = (h.title ∙ sym k.title) i;
-      comment = (h.comment ∙ sym k.comment) i;
-      players = (h.players ∙ sym k.players) i;
-      strategies = strategies i;
-      entries = entries i;
-    }
+    grind arith
 
 some_entries : (R : List ℕ → List Ratio → Type 0) (ps : List (List ℕ))
     → ((p : List ℕ) → Has ps p → (row : List Ratio) × R p row)
@@ -89,29 +82,14 @@ some_form_by labels R g rows =
         strategies = map labels (players_of g);
         entries = es.0;
       },
-      record {
-        title = refl;
-        comment = refl;
-        players = refl;
-        strategies = refl;
-        profiles = es.1;
-        payoffs = es.2;
-      },
+      grind arith,
     )
 
 pub rows_of_form : (labels : ℕ → List (List ℕ))
     (R : List ℕ → List Ratio → Type 0) (g : Game) (t : Table)
     → IsFormBy labels R g t
     → (p : List ℕ) → Has (form_profiles labels g) p → (row : List Ratio) × R p row
-rows_of_form labels R g t form p i =
-    let listed : map (λ e. e.profile) t.entries ≡ form_profiles labels g =
-    form.profiles ∙ ap (λ s. profiles (map length s)) form.strategies in
-    let m =
-    mapped_from (λ (e : Entry). e.profile) t.entries p (subst (λ ps. Has ps p) (sym listed) i) in (
-      m.0.payoffs,
-      subst (λ q. R q m.0.payoffs) m.2
-          (each (λ (e : Entry). R e.profile e.payoffs) t.entries m.0 form.payoffs m.1),
-    )
+rows_of_form labels R g t form p i = grind (arith, mapped_from, each, length-map, map_twice)
 
 -- ---- rows of payoffs
 
@@ -126,9 +104,7 @@ one_row g choices (a ∷ row) others [] h k = absurd h
 one_row g choices [] others (player ∷ players) h k = absurd h
 one_row g choices (a ∷ row) [] (player ∷ players) h k = absurd k
 one_row g choices (a ∷ row) (b ∷ others) (player ∷ players) h k =
-    let sum = payoff g choices player in
-    let first : a ≡ b =
-    one_fraction a b sum.num sum.den h.0.0 k.0.0 h.0.1.right h.0.1.crosswise k.0.1.crosswise in
+    let first : a ≡ b = grind (arith, one_fraction) in
     λ i. first i ∷ one_row g choices row others players h.1 k.1 i
 
 pub row_of : (g : Game) (choices : SetKey → ℕ) (players : List ℕ)
@@ -142,11 +118,9 @@ row_of g choices (player ∷ players) h =
 pub of_row : (g : Game) (choices : SetKey → ℕ) (row : List Ratio) (players : List ℕ)
     → AllZip (λ paid player. IsFraction paid × IsEqual paid (payoff g choices player)) row players
     → AllByRecursion (PaysFraction g choices) players
-of_row g choices [] [] h = tt
-of_row g choices (paid ∷ row) [] h = absurd h
+of_row g choices row [] h = cc
 of_row g choices [] (player ∷ players) h = absurd h
-of_row g choices (paid ∷ row) (player ∷ players) h =
-    ((paid, h.0.0, h.0.1), of_row g choices row players h.1)
+of_row g choices (paid ∷ row) (player ∷ players) h = grind (arith, of_row g choices row players h.1)
 
 -- ---- the strategic form
 
@@ -158,11 +132,7 @@ one_strategic_form g =
 
 pub labels_counted : (g : Game) → map length (map (strategy_labels g) (players_of g))
     ≡ map (λ player. length (strategies g player)) (players_of g)
-labels_counted g =
-    map_twice length (strategy_labels g) (players_of g)
-    ∙ map_same (λ player. length (strategy_labels g player))
-    (λ player. length (strategies g player))
-    (players_of g) (λ player i. length-map (strategies g player) strategy_label)
+labels_counted g = grind (arith, length-map, map_twice)
 
 pub all_profiles : (g : Game) → form_profiles (strategy_labels g) g ≡ full_profiles g
 all_profiles g = ap profiles (labels_counted g)

@@ -1,9 +1,9 @@
 -- Games that a renumbering carries to each other have the same payoffs, bottom-up values and
 -- strategic form.
-use Rattle.std.proofs.Common.{◌≡◌, ℕ, true, List, [], ◌∷◌, Option, Some, None}
-use Rattle.std.proofs.Common.{MatchOption, length, map, refl, sym, ap, ◌∙◌, subst, inl, inr}
-use Rattle.std.specs.Prelude.{◌↔◌, ◌==◌, ◌||◌, zip, option_map}
-use Rattle.std.specs.Prelude.{option_and_then, unwrap_or, if◌then◌else◌}
+use Rattle.std.proofs.Common.{◌≡◌, ℕ, true, List, [], ◌∷◌, Option, Some, None, arith, MatchOption}
+use Rattle.std.proofs.Common.{map, refl, ap, ◌∙◌, subst, inl, inr}
+use Rattle.std.specs.Prelude.{◌↔◌, ◌==◌, ◌||◌, option_map, option_and_then, unwrap_or}
+use Rattle.std.specs.Prelude.{if◌then◌else◌}
 use Rattle.std.specs.List.{AllZip}
 use Rattle.std.specs.Option.{option_map_or}
 use Rattle.gf_fraction.specs.Ratio.{Ratio, IsFraction}
@@ -15,8 +15,8 @@ use Rattle.gf_tree.specs.PrefixOrder.{Entry, flatten}
 use Rattle.gf_tree.specs.Description.{SetKey, InformationSet, same_set}
 use Rattle.gf_tree.specs.FiniteMap.{Described}
 use Rattle.gf_tree.specs.Game.{Node, Game, IsGame, used_sets, set_at, outcome_at}
-use Rattle.gf_tree.specs.Renumbering.{Renumbering, IsRenumbering, renumbered_set}
-use Rattle.gf_tree.specs.Renumbering.{renumbered_node, renumbered}
+use Rattle.gf_tree.specs.Renumbering.{Renumbering, IsRenumbering, renumbered_set, renumbered_node}
+use Rattle.gf_tree.specs.Renumbering.{renumbered}
 use Rattle.gf_tree.specs.FirstUse.{player_sets, player_keys}
 use Rattle.gf_tree.proofs.lemmas.games.TreesOnce.{same_set_equality}
 use Rattle.gf_tree.proofs.lemmas.games.Uses.{Has, all_of_each}
@@ -29,8 +29,8 @@ use Rattle.gf_tree.proofs.lemmas.games.Renumbered.{set_at_image, outcome_at_imag
 use Rattle.gf_tree.specs.SameGame.{SameGame}
 use Rattle.gf_tree.proofs.lemmas.games.Same.{same_back}
 use Rattle.gf_tree.proofs.lemmas.games.Canonical.{carried_is_renumbered}
-use Rattle.gf_form.specs.Strategies.{action_counts, strategies, all_choices, strategy_label}
-use Rattle.gf_form.specs.Strategies.{players_of, choice_at, choices_by, strategies_at, strategy_at}
+use Rattle.gf_form.specs.Strategies.{action_counts, strategies, all_choices, players_of, choice_at}
+use Rattle.gf_form.specs.Strategies.{choices_by, strategies_at}
 use Rattle.gf_form.specs.Payoff.{payoff}
 use Rattle.gf_form.specs.BottomUp.{IsValue}
 use Rattle.gf_form.specs.StrategicForm.{ArePayoffs, IsStrategicForm}
@@ -54,28 +54,18 @@ module _ (g : Game) (r : Renumbering) (game : IsGame g) (is : IsRenumbering g r)
   image s = record { key = renumbered_set r s.key; description = s.description }
 
   sets_carried : (player : ℕ) → player_sets h player ≡ map image (player_sets g player)
-  sets_carried player = filter_of_map (λ s. s.key.player == player) (λ s. s.key.player == player)
-      image g.sets (λ s i. refl)
+  sets_carried player = grind (arith, filter_of_map)
 
   pub keys_carried : (player : ℕ)
       → player_keys h player ≡ map (renumbered_set r) (player_keys g player)
-  keys_carried player =
-      ap (map (λ s. s.key)) (sets_carried player)
-      ∙ map_twice (λ (s : Described SetKey InformationSet). s.key) image (player_sets g player)
-      ∙ sym (map_twice (renumbered_set r) (λ (s : Described SetKey InformationSet). s.key)
-      (player_sets g player))
+  keys_carried player = grind (arith, sets_carried, map_twice)
 
   pub key_used : (player : ℕ) (key : SetKey) → Has (player_keys g player) key
       → Has (used_sets g.tree) key
-  key_used player key i =
-      let own = own_set g player key i in
-      subst (Has (used_sets g.tree)) own.2
-      (entry_used same_set (used_sets g.tree) g.sets own.0 game.one_entry_each_set own.1)
+  key_used player key i = grind (arith, own_set, entry_used)
 
   counts_carried : (player : ℕ) → action_counts h player ≡ action_counts g player
-  counts_carried player = ap (map (λ s. length s.description.actions)) (sets_carried player)
-      ∙ map_twice (λ (s : Described SetKey InformationSet). length s.description.actions) image
-      (player_sets g player)
+  counts_carried player = grind (arith, sets_carried, map_twice)
 
   -- what a player's strategy chooses at a set
   pub strategy_carried : (player : ℕ) (strategy : List ℕ) (key : SetKey)
@@ -90,8 +80,7 @@ module _ (g : Game) (r : Renumbering) (game : IsGame g) (is : IsRenumbering g r)
 
   choices_carried : (all : List (List ℕ)) (key : SetKey) → Has (used_sets g.tree) key
       → choices_by h all (renumbered_set r key) ≡ choices_by g all key
-  choices_carried all key used =
-      strategy_carried key.player (strategy_at all key.player) key used
+  choices_carried all key used = grind (arith, strategy_carried)
 
   -- ---- nodes
 
@@ -99,8 +88,7 @@ module _ (g : Game) (r : Renumbering) (game : IsGame g) (is : IsRenumbering g r)
       → ((key : SetKey) → o ≡ Some key → d (renumbered_set r key) ≡ c key)
       → option_map_or (λ key. key.player == 0 || d key == k) (option_map (renumbered_set r) o) true
       ≡ option_map_or (λ key. key.player == 0 || c key == k) o true
-  chosen_carried c d k None same = refl
-  chosen_carried c d k (Some key) same = λ i. key.player == 0 || same key refl i == k
+  chosen_carried c d k o same = grind arith
 
   chance_carried : (k : ℕ) (o : Option SetKey)
       → ((key : SetKey) → o ≡ Some key → set_at h (renumbered_set r key) ≡ set_at g key)
@@ -110,10 +98,7 @@ module _ (g : Game) (r : Renumbering) (game : IsGame g) (is : IsRenumbering g r)
       ≡ unwrap_or (option_and_then (λ a. a.probability) (option_and_then
       (λ key. option_and_then (λ set. at_position set.actions k) (set_at g key)) o))
       one_ratio
-  chance_carried k None same = refl
-  chance_carried k (Some key) same = ap (λ o. unwrap_or
-      (option_and_then (λ a. a.probability) (option_and_then (λ set. at_position set.actions k) o))
-      one_ratio) (same key refl)
+  chance_carried k o same = grind arith
 
   pays_carried : (player : ℕ) (o : Option ℕ)
       → ((number : ℕ) → o ≡ Some number → outcome_at h (r.outcome number) ≡ outcome_at g number)
@@ -123,18 +108,14 @@ module _ (g : Game) (r : Renumbering) (game : IsGame g) (is : IsRenumbering g r)
       ≡ unwrap_or (option_and_then (λ number.
       option_and_then (λ outcome. at_position outcome.payoffs player) (outcome_at g number)) o)
       zero_ratio
-  pays_carried player None same = refl
-  pays_carried player (Some number) same = ap (λ o.
-      unwrap_or (option_and_then (λ outcome. at_position outcome.payoffs player) o) zero_ratio)
-      (same number refl)
+  pays_carried player o same = grind arith
 
   moves_carried : (c d : SetKey → ℕ) (o : Option SetKey)
       → ((key : SetKey) → o ≡ Some key → d (renumbered_set r key) ≡ c key)
       → MatchOption o (option_map (renumbered_set r) o ≡ None)
       (λ key. (other : SetKey) × (option_map (renumbered_set r) o ≡ Some other)
       × ((other.player == 0) ≡ (key.player == 0)) × (d other ≡ c key))
-  moves_carried c d None same = refl
-  moves_carried c d (Some key) same = (renumbered_set r key, refl, refl, same key refl)
+  moves_carried c d o same = grind arith
 
   node_alike : (all : List (List ℕ)) (player : ℕ) (e : Entry Node) → Has (flatten g.tree) e
       → IsAlike g h (choices_by g all) (choices_by h all) player (renumbered_node r) e.node
@@ -176,8 +157,7 @@ module _ (g : Game) (r : Renumbering) (game : IsGame g) (is : IsRenumbering g r)
   strategies_carried player = ap all_choices (counts_carried player)
 
   strategies_at_carried : (profile : List ℕ) → strategies_at h profile ≡ strategies_at g profile
-  strategies_at_carried profile =
-      λ i. map (λ p. strategy_at (strategies_carried p.0 i) p.1) (zip (players_of g) profile)
+  strategies_at_carried profile = grind (arith, strategies_carried)
 
   payoffs_carried : (profile : List ℕ) (payoffs : List Ratio) (players : List ℕ)
       → AllZip (λ paid player.
@@ -186,15 +166,12 @@ module _ (g : Game) (r : Renumbering) (game : IsGame g) (is : IsRenumbering g r)
       → AllZip (λ paid player.
       IsFraction paid × IsEqual paid (payoff h (choices_by h (strategies_at h profile)) player))
       payoffs players
-  payoffs_carried profile [] [] all = tt
-  payoffs_carried profile [] (player ∷ players) all = absurd all
+  payoffs_carried profile [] players all = grind arith
   payoffs_carried profile (paid ∷ payoffs) [] all = absurd all
   payoffs_carried profile (paid ∷ payoffs) (player ∷ players) all =
       let same : payoff g (choices_by g (strategies_at g profile)) player
       ≡ payoff h (choices_by h (strategies_at h profile)) player =
-      sym (payoff_carried (strategies_at g profile) player)
-      ∙ ap (λ chosen. payoff h (choices_by h chosen) player)
-      (sym (strategies_at_carried profile)) in
+      cc (payoff_carried (strategies_at g profile) player, strategies_at_carried profile) in
       ((all.0.0, subst (IsEqual paid) same all.0.1), payoffs_carried profile payoffs players all.1)
 
   form_carried : (t : Table) → IsStrategicForm g t → IsStrategicForm h t
@@ -202,8 +179,7 @@ module _ (g : Game) (r : Renumbering) (game : IsGame g) (is : IsRenumbering g r)
     title = form.title;
     comment = form.comment;
     players = form.players;
-    strategies = form.strategies ∙ (λ i.
-        map (λ player. map strategy_label (sym (strategies_carried player) i)) (players_of g));
+    strategies = grind (arith, strategies_carried);
     profiles = form.profiles;
     payoffs = all_weaker (λ e. ArePayoffs g (choices_by g (strategies_at g e.profile)) e.payoffs)
         (λ e. ArePayoffs h (choices_by h (strategies_at h e.profile)) e.payoffs)
@@ -215,39 +191,28 @@ module _ (g : Game) (r : Renumbering) (game : IsGame g) (is : IsRenumbering g r)
 pub same_payoffs : (g h : Game)
     → IsGame g → IsGame h → SameGame g h → (all : List (List ℕ)) (player : ℕ)
     → payoff g (choices_by g all) player ≡ payoff h (choices_by h all) player
-same_payoffs g h game game' same all player =
-    subst (λ k. payoff g (choices_by g all) player ≡ payoff k (choices_by k all) player)
-    (carried_is_renumbered same.0 g h game game' same.1)
-    (sym (payoff_carried g same.0 game same.1.renumbering all player))
+same_payoffs g h game game' same all player = grind (arith, carried_is_renumbered, payoff_carried)
 
 value_on : (g h : Game)
     → IsGame g → IsGame h → SameGame g h → (all : List (List ℕ)) (player : ℕ) (value : Ratio)
     → IsValue g (choices_by g all) player g.tree value
     → IsValue h (choices_by h all) player h.tree value
 value_on g h game game' same all player value v =
-    subst (λ k. IsValue k (choices_by k all) player k.tree value)
-    (carried_is_renumbered same.0 g h game game' same.1)
-    (value_carried g same.0 game same.1.renumbering all player value v)
+    grind (arith, carried_is_renumbered, value_carried)
 
 form_on : (g h : Game) → IsGame g → IsGame h → SameGame g h → (t : Table) → IsStrategicForm g t
     → IsStrategicForm h t
-form_on g h game game' same t form =
-    subst (λ k. IsStrategicForm k t) (carried_is_renumbered same.0 g h game game' same.1)
-    (form_carried g same.0 game same.1.renumbering t form)
+form_on g h game game' same t form = grind (arith, carried_is_renumbered, form_carried)
 
 pub same_strategies : (g h : Game) → IsGame g → IsGame h → SameGame g h → (player : ℕ)
     → strategies g player ≡ strategies h player
 same_strategies g h game game' same player =
-    subst (λ k. strategies g player ≡ strategies k player)
-    (carried_is_renumbered same.0 g h game game' same.1)
-    (sym (strategies_carried g same.0 game same.1.renumbering player))
+    grind (arith, carried_is_renumbered, strategies_carried)
 
 pub same_strategies_at : (g h : Game) → IsGame g → IsGame h → SameGame g h → (profile : List ℕ)
     → strategies_at g profile ≡ strategies_at h profile
 same_strategies_at g h game game' same profile =
-    subst (λ k. strategies_at g profile ≡ strategies_at k profile)
-    (carried_is_renumbered same.0 g h game game' same.1)
-    (sym (strategies_at_carried g same.0 game same.1.renumbering profile))
+    grind (arith, carried_is_renumbered, strategies_at_carried)
 
 pub same_values : (g h : Game)
     → IsGame g → IsGame h → SameGame g h → (all : List (List ℕ)) (player : ℕ) (value : Ratio)

@@ -1,20 +1,18 @@
 -- Games that are the same have the same profiles, and no table for the same reason.
-use Rattle.std.proofs.Common.{◌≡◌, ℕ, ◌<◌, List, length, map, sym, ap, ◌∙◌, subst}
+use Rattle.std.proofs.Common.{◌≡◌, ℕ, List, length, ap, subst, arith}
 use Rattle.std.specs.Prelude.{◌↔◌}
 use Rattle.std.specs.List.{AllByRecursion}
 use Rattle.gf_fraction.proofs.AllElements.{all_weaker}
-use Rattle.gf_token.specs.Positions.{at_position}
-use Rattle.gf_nfg.specs.Limit.{profile_limit}
-use Rattle.gf_nfg.specs.Profiles.{positions, profiles}
+use Rattle.gf_nfg.specs.Profiles.{positions}
 use Rattle.gf_tree.specs.Game.{Game, IsGame}
 use Rattle.gf_tree.proofs.lemmas.games.Members.{map_same}
 use Rattle.gf_tree.specs.SameGame.{SameGame}
 use Rattle.gf_tree.proofs.lemmas.games.Same.{same_back}
 use Rattle.gf_form.specs.BottomUp.{IsValue}
-use Rattle.gf_form.specs.Refusal.{HasBottomUpValue, HasTooManyProfiles, HasValues}
-use Rattle.gf_form.specs.Refusal.{IsFirstWithout, OverflowsAt}
-use Rattle.gf_form.specs.Strategies.{choices_by, full_profiles, players_of}
-use Rattle.gf_form.specs.Strategies.{strategies, strategies_at}
+use Rattle.gf_form.specs.Refusal.{HasBottomUpValue, HasTooManyProfiles, HasValues, IsFirstWithout}
+use Rattle.gf_form.specs.Refusal.{OverflowsAt}
+use Rattle.gf_form.specs.Strategies.{choices_by, full_profiles, players_of, strategies}
+use Rattle.gf_form.specs.Strategies.{strategies_at}
 use Rattle.gf_form.proofs.lemmas.form.SameForms.{same_strategies, same_strategies_at, same_values}
 
 module _ (g h : Game) (game : IsGame g) (game' : IsGame h) (same : SameGame g h) where
@@ -23,11 +21,8 @@ module _ (g h : Game) (game : IsGame g) (game' : IsGame h) (same : SameGame g h)
 
   pub same_profiles : full_profiles g ≡ full_profiles h
   same_profiles =
-      ap profiles
-      (map_same (λ player. length (strategies g player)) (λ player. length (strategies h player))
-      (players_of g)
-      (λ player i. ap length (same_strategies g h game game' same player))
-      ∙ ap (map (λ player. length (strategies h player))) players_too)
+      cc (map_same (λ player. length (strategies g player)) (λ player. length (strategies h player))
+      (players_of g) (λ player i. ap length (same_strategies g h game game' same player)))
 
   value_too : (profile : List ℕ) (player : ℕ) → HasBottomUpValue g profile player
       → HasBottomUpValue h profile player
@@ -48,13 +43,7 @@ module _ (g h : Game) (game : IsGame g) (game' : IsGame h) (same : SameGame g h)
 pub first_too : (P Q : List ℕ → Type 0) (ps qs : List (List ℕ)) (position : ℕ) → ps ≡ qs
     → ((profile : List ℕ) → P profile → Q profile) → ((profile : List ℕ) → Q profile → P profile)
     → IsFirstWithout P ps position → IsFirstWithout Q qs position
-first_too P Q ps qs position same to from o = record {
-  profile = o.profile;
-  there = ap (λ all. at_position all position) (sym same) ∙ o.there;
-  overflows = λ holds. o.overflows (from o.profile holds);
-  first = λ earlier other before is.
-      to other (o.first earlier other before (ap (λ all. at_position all earlier) same ∙ is));
-}
+first_too P Q ps qs position same to from o = grind arith
 
 overflow_on : (g h : Game) → IsGame g → IsGame h → SameGame g h → (position : ℕ)
     → OverflowsAt g position → OverflowsAt h position
@@ -72,8 +61,4 @@ same_overflow g h game game' same position = (
 
 pub same_count : (g h : Game) → IsGame g → IsGame h → SameGame g h
     → HasTooManyProfiles g ↔ HasTooManyProfiles h
-same_count g h game game' same =
-    let profiles_too = same_profiles g h game game' same in (
-      subst (λ ps. profile_limit < length ps) profiles_too,
-      subst (λ ps. profile_limit < length ps) (sym profiles_too),
-    )
+same_count g h game game' same = grind (arith, same_profiles g h game game' same)

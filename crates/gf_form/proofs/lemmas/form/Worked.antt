@@ -1,11 +1,10 @@
 -- Worked games: their plays and payoffs, and what is left out of their strategies.
-use Rattle.std.proofs.Common.{◌≡◌, ℕ, ℤ, pos, ◌+◌, ◌-◌, ◌*◌, ◌^◌, ◌<◌, true, false, Option}
-use Rattle.std.proofs.Common.{None, List, [], ◌∷◌, map, get_or, refl, ap, ◌∙◌, subst, arith}
+use Rattle.std.proofs.Common.{◌≡◌, ℕ, ℤ, pos, ◌+◌, ◌-◌, ◌*◌, ◌^◌, ◌<◌, true, false, Option, None}
+use Rattle.std.proofs.Common.{List, [], ◌∷◌, map, get_or, refl, ap, ◌∙◌, subst, arith}
 use Rattle.std.specs.Prelude.{codes, nat_eq, nat_lt, unwrap_or, unsigned_abs, ◌*ℤ◌}
 use Rattle.std.specs.List.{AllByRecursion, Contains}
 use Rattle.std.specs.Fmt.{digits}
-use Rattle.std.proofs.lemmas.List.Elements.{All-contains, All-from_recursion}
-use Rattle.std.proofs.lemmas.Bool.{ltb-true, eqb-false}
+use Rattle.std.proofs.lemmas.Bool.{eqb-false}
 use Rattle.gf_fraction.specs.Ratio.{Ratio, IsFraction, whole}
 use Rattle.gf_fraction.specs.Fits.{AddsTo, MultipliesTo, SumFits}
 use Rattle.gf_fraction.specs.Computed.{lowest_of, gcd_within, sum_of}
@@ -19,8 +18,8 @@ use Rattle.gf_form.specs.Plays.{plays}
 use Rattle.gf_form.specs.Payoff.{payoff}
 use Rattle.gf_form.specs.BottomUp.{IsValue}
 use Rattle.gf_form.specs.StrategicForm.{ArePayoffs, IsStrategicForm}
-use Rattle.gf_form.specs.Reduced.{reduced_at, reduced_by, reduced_label}
-use Rattle.gf_form.specs.Reduced.{reduced_strategies, IsReducedForm}
+use Rattle.gf_form.specs.Reduced.{reduced_at, reduced_by, reduced_label, reduced_strategies}
+use Rattle.gf_form.specs.Reduced.{IsReducedForm}
 use Rattle.gf_form.specs.WorkedForms.{greatest, bonus_form, overflowing, second, unlikely, only}
 use Rattle.gf_form.specs.WorkedForms.{balancing, ending, ending_form, ending_reduced, contradicted}
 
@@ -35,8 +34,7 @@ small n h = whole_fraction n (omega arith)
 
 equal : (x y : Ratio) → nat_lt 0 x.den ≡ true → nat_lt 0 y.den ≡ true
     → x.num *ℤ pos y.den ≡ y.num *ℤ pos x.den → IsEqual x y
-equal x y left right crosswise =
-    record { left = ltb-true _ _ left; right = ltb-true _ _ right; crosswise = crosswise }
+equal x y left right crosswise = grind arith
 
 three_halves : IsFraction (record { num = pos 3; den = 2 })
 unfolding lowest_of gcd_within
@@ -56,19 +54,7 @@ form_of_bonus = record {
   players = refl;
   strategies = refl;
   profiles = refl;
-  payoffs = (
-    (
-      (three_halves, equal _ _ refl refl refl),
-      ((small 0 (omega arith), equal _ _ refl refl refl), tt),
-    ),
-    (
-      (
-        (small 2 (omega arith), equal _ _ refl refl refl),
-        ((part_fraction 2 (omega arith) (omega arith), equal _ _ refl refl refl), tt),
-      ),
-      tt,
-    ),
-  );
+  payoffs = grind (arith, three_halves, equal, small, part_fraction);
 }
 
 -- ---- the overflow
@@ -144,8 +130,7 @@ no_balanced_value h =
     (subst (λ y. AddsTo (whole (pos 0)) y first.2) left first.5) half_of_greatest_is refl in
     let right = one_product half next second.1 half_of_next (omega arith)
     (subst (λ x. MultipliesTo half x second.1) second.3 second.4) half_of_next_is refl in
-    no_sum_of_halves (subst (λ x. SumFits x half_of_next) sum
-    (subst (SumFits first.2) right second.5.0))
+    grind (arith, no_sum_of_halves)
 
 -- ---- the action that ends the play
 
@@ -188,8 +173,7 @@ other a b h e = absurd (eqb-false _ _ h (ap code e))
 of_each : (profile : List ℕ) (payoffs : List Ratio)
     → AllByRecursion (Pays profile payoffs) (full_profiles ending) → (full : List ℕ)
     → Contains (full_profiles ending) full → Pays profile payoffs full
-of_each profile payoffs h full c = All-contains (Pays profile payoffs) (full_profiles ending) full
-    (All-from_recursion (Pays profile payoffs) (full_profiles ending) h) c
+of_each profile payoffs h full c = grind arith
 
 pub reduced_of_ending : IsReducedForm ending ending_reduced
 unfolding digits

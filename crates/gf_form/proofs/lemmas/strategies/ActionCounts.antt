@@ -1,12 +1,11 @@
 -- How many actions there are at a player's set, by its position among his.
 use Rattle.std.proofs.Common.{◌≡◌, ℕ, zero, suc, ◌+◌, ◌<◌, List, [], ◌∷◌, length, map, get_or}
-use Rattle.std.proofs.Common.{Option, Some, None, refl, sym, ap, subst, ◌∙◌, arith}
+use Rattle.std.proofs.Common.{Option, Some, None, refl, sym, subst, arith}
 use Rattle.std.specs.Prelude.{◌==◌, option_map, slice_get}
 use Rattle.std.specs.List.{AllZip}
 use Rattle.std.proofs.lemmas.Slice.Zip.{AllZip-long}
 use Rattle.gf_nfg.proofs.lemmas.tables.NumbersInTurn.{get_or-numbers_from, length-numbers_from}
 use Rattle.gf_nfg.specs.Profiles.{positions}
-use Rattle.std.proofs.lemmas.Bool.{eqb-true}
 use Rattle.std.proofs.lemmas.Option.{slice_get-map}
 use Rattle.gf_token.specs.Positions.{at_position}
 use Rattle.gf_tree.specs.Description.{SetKey, InformationSet, same_set, set_of}
@@ -29,12 +28,9 @@ his_set : (g : Game) → IsGame g → (player : ℕ) (s : Known) (k : ℕ)
 his_set g game player s k is =
     let his = λ (s : Known). s.key.player == player in
     let there = of_filter his g.sets s (has_at (player_sets g player) k s is) in
-    let owner : s.key.player ≡ player = eqb-true s.key.player player there.1 in
-    let distinct : AreDistinct (map (λ (s : Known). s.key) g.sets) =
-    subst AreDistinct (sym game.one_entry_each_set)
-    (first_uses_distinct same_set same_set_equality (used_sets g.tree)) in
-    ap (λ (p : ℕ). set_at g (set_of p s.key.number)) (sym owner)
-    ∙ entry_at same_set same_set_equality g.sets s distinct there.0
+    let distinct = subst AreDistinct (sym game.one_entry_each_set) (first_uses_distinct same_set
+    same_set_equality (used_sets g.tree)) in
+    grind (arith, entry_at same_set same_set_equality g.sets s distinct there.0)
 
 -- the set at a position, by its number, and how many actions it has
 pub record IsThere (g : Game) (player position number : ℕ) : Type 0 where
@@ -48,9 +44,7 @@ pub set_there : (g : Game) → IsGame g → (player position number : ℕ)
 set_there g game player zero number h = absurd cc
 set_there g game player (suc k) number h =
     by (slice_get (player_sets g player) k) refl
-    (sym (slice_get-map (λ (s : SetKey). s.number) (player_keys g player) k
-    ∙ ap (option_map (λ (s : SetKey). s.number))
-    (slice_get-map (λ (s : Known). s.key) (player_sets g player) k)) ∙ h)
+    (grind (arith, slice_get-map))
   where
     by : (o : Option Known) → slice_get (player_sets g player) k ≡ o
         → option_map (λ (s : SetKey). s.number) (option_map (λ (s : Known). s.key) o) ≡ Some number
@@ -60,29 +54,14 @@ set_there g game player (suc k) number h =
         let same : s.key.number ≡ number = cc in
         record {
           set = s.description;
-          found = ap (λ (n : ℕ). set_at g (set_of player n)) (sym same)
-              ∙ his_set g game player s k is;
-          count = slice_get-map (λ (s : Known). length s.description.actions) (player_sets g player)
-              k
-              ∙ ap (option_map (λ (s : Known). length s.description.actions)) is;
+          found = cc (same, his_set g game player s k is);
+          count = grind (arith, slice_get-map, is);
         }
 
 pub none_there : (g : Game) (player position : ℕ)
     → at_position (map (λ key. key.number) (player_keys g player)) position ≡ None
     → at_position (action_counts g player) position ≡ None
-none_there g player zero h = refl
-none_there g player (suc k) h =
-    slice_get-map (λ (s : Known). length s.description.actions) (player_sets g player) k
-    ∙ by (slice_get (player_sets g player) k)
-    (sym (slice_get-map (λ (s : SetKey). s.number) (player_keys g player) k
-    ∙ ap (option_map (λ (s : SetKey). s.number))
-    (slice_get-map (λ (s : Known). s.key) (player_sets g player) k)) ∙ h)
-  where
-    by : (o : Option Known)
-        → option_map (λ (s : SetKey). s.number) (option_map (λ (s : Known). s.key) o) ≡ None
-        → option_map (λ (s : Known). length s.description.actions) o ≡ None
-    by None e = refl
-    by (Some s) e = absurd cc
+none_there g player position h = grind (arith, slice_get-map)
 
 -- ---- lists place by place
 

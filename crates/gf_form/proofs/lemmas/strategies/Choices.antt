@@ -70,13 +70,10 @@ pub places_are : (counts : List ℕ)
 places_are [] = refl
 places_are (count ∷ counts) =
     let e : (1 - 1) * product counts ≡ 0 = omega arith in
-    places_all count counts (all_choices counts) (places_are counts) 1 count (omega arith)
-    ∙ ap (λ (k : ℕ). numbers_from k (count * product counts)) e
+    cc (places_all count counts (all_choices counts) (places_are counts) 1 count (omega arith), e)
 
 pub length-all_choices : (counts : List ℕ) → length (all_choices counts) ≡ product counts
-length-all_choices counts = sym (length-map (all_choices counts) (place counts))
-    ∙ ap length (places_are counts)
-    ∙ length-numbers_from 0 (product counts)
+length-all_choices counts = grind (arith, length-map, places_are, length-numbers_from)
 
 pub place_at : (counts : List ℕ) (i : ℕ) (d : List ℕ) → i < length (all_choices counts)
     → place counts (get_or (all_choices counts) i d) ≡ i
@@ -91,8 +88,7 @@ place_at counts i d h =
 pub choices_distinct : (counts : List ℕ) (i j : ℕ) (d : List ℕ)
     → i < length (all_choices counts) → j < length (all_choices counts)
     → get_or (all_choices counts) i d ≡ get_or (all_choices counts) j d → i ≡ j
-choices_distinct counts i j d hi hj e =
-    sym (place_at counts i d hi) ∙ ap (place counts) e ∙ place_at counts j d hj
+choices_distinct counts i j d hi hj e = cc (place_at counts i d hi, e, place_at counts j d hj)
 
 -- ---- every choice
 
@@ -109,17 +105,13 @@ choice_in (count ∷ counts) (action ∷ others) h =
     let n = number_in 1 count action h.0.0 (omega (arith, h.0.1)) in
     let all = all_choices counts in
     let f = λ (a : ℕ). behind a all in
-    let here : f action ≡ behind action r.0 ++ (action ∷ others) ∷ behind action r.1 =
-    ap (behind action) r.2 ∙ map-append (λ rest. action ∷ rest) r.0 (others ∷ r.1) in (
-      flat_map f n.0 ++ behind action r.0,
-      behind action r.1 ++ flat_map f n.1,
-      ap (flat_map f) n.2
-          ∙ flat_map-append f n.0 (action ∷ n.1)
-          ∙ ap (λ (cs : List (List ℕ)). flat_map f n.0 ++ (cs ++ flat_map f n.1)) here
-          ∙ ap (λ (cs : List (List ℕ)). flat_map f n.0 ++ cs) (append_assoc (behind action r.0)
-          ((action ∷ others) ∷ behind action r.1) (flat_map f n.1))
-          ∙ sym (append_assoc (flat_map f n.0) (behind action r.0)
-          ((action ∷ others) ∷ (behind action r.1 ++ flat_map f n.1))),
+    grind (
+      arith,
+      map-append (λ rest. action ∷ rest) r.0 (others ∷ r.1),
+      flat_map-append f n.0 (action ∷ n.1),
+      append_assoc (behind action r.0) ((action ∷ others) ∷ behind action r.1) (flat_map f n.1),
+      append_assoc (flat_map f n.0) (behind action r.0) ((action ∷ others) ∷ (behind action r.1 ++
+          flat_map f n.1)),
     )
 
 all_behind : (count : ℕ) (counts : List ℕ) (action : ℕ) (all : List (List ℕ))

@@ -1,10 +1,9 @@
 -- The strategies of a profile choose an action at each set.
-use Rattle.std.proofs.Common.{◌≡◌, ℕ, zero, suc, ◌+◌, ◌-◌, ◌<◌, ◌≤◌, Bool, true}
-use Rattle.std.proofs.Common.{false, cond, List, [], ◌∷◌, Some, length, map}
-use Rattle.std.proofs.Common.{get_or, refl, sym, ap, ◌∙◌, subst, arith, true≢false}
-use Rattle.std.specs.Prelude.{◌==◌, option_map, unwrap_or, zip, filter, find, if◌then◌else◌}
+use Rattle.std.proofs.Common.{◌≡◌, ℕ, zero, suc, ◌+◌, ◌-◌, ◌<◌, ◌≤◌, Bool, true, false, cond, List}
+use Rattle.std.proofs.Common.{[], ◌∷◌, Some, length, map, get_or, refl, sym, ap, ◌∙◌, subst, arith}
+use Rattle.std.proofs.Common.{true≢false}
+use Rattle.std.specs.Prelude.{option_map, zip, filter, find, if◌then◌else◌}
 use Rattle.std.specs.List.{AllZip, Contains}
-use Rattle.std.proofs.lemmas.Bool.{and_parts}
 use Rattle.std.proofs.lemmas.List.{get_or_default}
 use Rattle.std.proofs.lemmas.Option.{none-some}
 use Rattle.gf_nfg.specs.Profiles.{numbers_from}
@@ -34,11 +33,7 @@ within : (key : SetKey) (s : Described SetKey InformationSet)
     ≡ Some set
     → (1 ≤ (if b then action else choice_at (map (λ e. e.key) ss) others key))
     × ((if b then action else choice_at (map (λ e. e.key) ss) others key) ≤ length set.actions)
-within key s ss action others set true here later is =
-    let same : length s.description.actions ≡ length set.actions =
-    ap (λ o. length (unwrap_or o s.description).actions) is in
-    (here.0, omega (arith, here.1, same))
-within key s ss action others set false here later is = later is
+within key s ss action others set b here later is = grind arith
 
 choice_within : (key : SetKey) (ss : List (Described SetKey InformationSet))
     (strategy : List ℕ) (set : InformationSet)
@@ -62,17 +57,14 @@ find_kept {X} own test owned (x ∷ xs) =
         → (b ≡ true → a ≡ true) → test x ≡ b → find test (filter own xs) ≡ find test xs
         → find test (cond a (x ∷ filter own xs) (filter own xs)) ≡ cond b (Some x) (find test xs)
     by_tests true true h e others = ap (λ t. cond t (Some x) (find test (filter own xs))) e
-    by_tests true false h e others =
-        ap (λ t. cond t (Some x) (find test (filter own xs))) e ∙ others
+    by_tests true false h e others = cc (e, others)
     by_tests false true h e others = absurd (true≢false (sym (h refl)))
     by_tests false false h e others = others
 
 pub among_his : (g : Game) (key : SetKey)
     → description_at same_set (player_sets g key.player) key ≡ set_at g key
 among_his g key = ap (option_map (λ e. e.description))
-    (find_kept (λ (s : Described SetKey InformationSet). s.key.player == key.player)
-    (λ s. same_set s.key key)
-    (λ s e. (and_parts (s.key.player == key.player) (s.key.number == key.number) e).0) g.sets)
+    (grind (arith, find_kept))
 
 -- ---- a strategy for each player
 
@@ -84,12 +76,9 @@ strategy_of : (g : Game) (all : List (List ℕ)) (k n i : ℕ) → AreStrategies
     → i < n → Contains (strategies g (k + i)) (get_or all i [])
 strategy_of g all k zero i h less = absurd (omega arith)
 strategy_of g [] k (suc n) i h less = absurd h
-strategy_of g (strategy ∷ all) k (suc n) zero h less =
-    let e : k ≡ k + 0 = omega arith in subst (λ p. Contains (strategies g p) strategy) e h.0
+strategy_of g (strategy ∷ all) k (suc n) zero h less = grind arith
 strategy_of g (strategy ∷ all) k (suc n) (suc i) h less =
-    let e : k + 1 + i ≡ k + suc i = omega arith in
-    subst (λ p. Contains (strategies g p) (get_or all i [])) e
-    (strategy_of g all (k + 1) n i h.1 (omega arith))
+    grind (arith, strategy_of g all (k + 1) n i h.1 (omega arith))
 
 module _ (g : Game) (game : IsGame g) where
   pub his_actions : (strategy : List ℕ) (key : SetKey) (set : InformationSet)
@@ -105,9 +94,8 @@ module _ (g : Game) (game : IsGame g) where
   have_actions all h key set is above =
       let known = (set_is g game key set is).player in
       let player : 1 + (key.player - 1) ≡ key.player = omega arith in
-      let his : Contains (strategies g key.player) (strategy_at all key.player) =
-      subst (Contains (strategies g key.player)) (sym (strategy_before all key.player above))
-      (subst (λ p. Contains (strategies g p) (get_or all (key.player - 1) [])) player
+      let his = subst (Contains (strategies g key.player)) (sym (strategy_before all key.player
+      above)) (subst (λ p. Contains (strategies g p) (get_or all (key.player - 1) [])) player
       (strategy_of g all 1 (length g.players) (key.player - 1) h (omega arith))) in
       his_actions (strategy_at all key.player) key set his is
 
@@ -122,8 +110,7 @@ got xs s above within =
 are_strategies : (g : Game) (players profile : List ℕ)
     → IsProfile (map (λ player. length (strategies g player)) players) profile
     → AreStrategies g (map (λ p. strategy_at (strategies g p.0) p.1) (zip players profile)) players
-are_strategies g [] [] h = tt
-are_strategies g [] (s ∷ profile) h = absurd h
+are_strategies g [] profile h = grind arith
 are_strategies g (player ∷ players) [] h = absurd h
 are_strategies g (player ∷ players) (s ∷ profile) h =
     (got (strategies g player) s h.0.0 h.0.1, are_strategies g players profile h.1)

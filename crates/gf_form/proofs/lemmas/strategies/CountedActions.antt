@@ -1,8 +1,7 @@
 -- Numbers of actions, multiplied one after another.
-use Rattle.std.proofs.Common.{◌≡◌, ℕ, zero, suc, ◌+◌, ◌*◌, ◌<◌, ◌≤◌, Bool, true, false, cond}
-use Rattle.std.proofs.Common.{List, [], ◌∷◌, ◌++◌, length, map, get_or, take}
-use Rattle.std.proofs.Common.{refl, sym, ap, ◌∙◌, add-one, arith}
-use Rattle.std.proofs.Common.{Option, Some, None, MatchOption, Vec, Global}
+use Rattle.std.proofs.Common.{◌≡◌, ℕ, zero, suc, ◌+◌, ◌*◌, ◌<◌, ◌≤◌, Bool, true, false, cond, List}
+use Rattle.std.proofs.Common.{[], ◌∷◌, ◌++◌, length, map, get_or, take, refl, sym, ap, ◌∙◌, add-one}
+use Rattle.std.proofs.Common.{arith, Option, Some, None, MatchOption, Vec, Global}
 use Rattle.std.specs.Prelude.{◌==◌, filter, unwrap_or}
 use Rattle.std.specs.List.{AllByRecursion}
 use Rattle.std.proofs.Math.Nat.{mul_assoc, mul-le-mul, mul-le-mul_left}
@@ -18,7 +17,7 @@ use Rattle.gf_nfg.proofs.lemmas.tables.Profiles.{length-profiles}
 use Rattle.gf_nfg.proofs.lemmas.tables.NumbersInTurn.{get_or-numbers_from, length-numbers_from}
 use Rattle.gf_tree.specs.Description.{SetKey, InformationSet, IsSet}
 use Rattle.gf_tree.specs.FiniteMap.{Described}
-use Rattle.gf_tree.specs.FirstUse.{player_keys, player_sets}
+use Rattle.gf_tree.specs.FirstUse.{player_keys}
 use Rattle.gf_tree.specs.Game.{Game, IsGame}
 use Rattle.gf_form.specs.Strategies.{action_counts, players_of, strategies}
 use Rattle.gf_form.specs.Refusal.{HasTooManyProfiles}
@@ -52,25 +51,14 @@ pub one_more : (counts kept next : List ℕ) (i own made more : ℕ) → i < len
     → own ≡ get_or counts i 0 → kept ≡ take i counts → made ≡ product (take i counts)
     → more ≡ made * own → next ≡ kept ++ own ∷ []
     → (next ≡ take (i + 1) counts) × (more ≡ product (take (i + 1) counts))
-one_more counts kept next i own made more h is kept_is made_is more_is next_is = (
-  next_is
-      ∙ (λ j. kept_is j ++ is j ∷ [])
-      ∙ sym (take-suc counts i 0 h)
-      ∙ ap (λ (n : ℕ). take n counts) (sym (add-one i)),
-  more_is
-      ∙ (λ j. made_is j * is j)
-      ∙ sym (product_more counts i h)
-      ∙ ap (λ (n : ℕ). product (take n counts)) (sym (add-one i)),
-)
+one_more counts kept next i own made more h is kept_is made_is more_is next_is =
+    grind (arith, take-suc counts i 0 h, add-one i, product_more counts i h)
 
 pub past_limit : (counts : List ℕ) (i own made : ℕ) → ArePositive counts → i < length counts
     → own ≡ get_or counts i 0 → made ≡ product (take i counts) → profile_limit < made * own
     → profile_limit < product counts
 past_limit counts i own made positive h is made_is past =
-    let part = product_part counts (suc i) positive in
-    let whole : made * own ≡ product (take (suc i) counts) =
-    (λ j. made_is j * is j) ∙ sym (product_more counts i h) in
-    omega (arith, part, whole, past)
+    grind (arith, product_part counts (suc i) positive, product_more counts i h, length-map)
 
 -- one of the numbers is above the limit
 pub past_alone : (counts : List ℕ) (i own made : ℕ) → ArePositive counts → i < length counts
@@ -103,9 +91,7 @@ actions_positive g game player = positive_of (length g.players) player g.sets ga
 pub count_at : (g : Game) (player before : ℕ)
     → unwrap_or (at_position (action_counts g player) (before + 1)) 0
     ≡ get_or (action_counts g player) before 0
-count_at g player before =
-    ap (λ (n : ℕ). unwrap_or (at_position (action_counts g player) n) 0) (add-one before)
-    ∙ unwrap_or-slice_get (action_counts g player) before 0
+count_at g player before = grind (arith, add-one, unwrap_or-slice_get)
 
 pub positive_at : (counts : List ℕ) (i : ℕ) → ArePositive counts → i < length counts
     → 0 < get_or counts i 0
@@ -138,38 +124,21 @@ of_player g f before d less =
 
 pub as_many_players : {A : Type 0} (g : Game) (f : ℕ → A)
     → length (map f (players_of g)) ≡ length g.players
-as_many_players g f =
-    length-map (players_of g) f ∙ length-numbers_from 1 (length g.players)
+as_many_players g f = cc (length-map (players_of g) f, length-numbers_from 1 (length g.players))
 
 -- a list is kept item by item
 pub one_item_more : {A : Type 0} (all kept next : List A) (i : ℕ) (item d : A) → i < length all
     → item ≡ get_or all i d → kept ≡ take i all → next ≡ kept ++ item ∷ []
     → next ≡ take (i + 1) all
-one_item_more all kept next i item d h is kept_is next_is =
-    next_is ∙ (λ j. kept_is j ++ is j ∷ []) ∙ sym (take-suc all i d h)
-    ∙ ap (λ (n : ℕ). take n all) (sym (add-one i))
+one_item_more all kept next i item d h is kept_is next_is = cc (take-suc all i d h, add-one i)
 
 pub counted_sets : (g : Game) (player before count : ℕ) → count ≡ length (player_keys g player)
     → before < count → before < length (action_counts g player)
-counted_sets g player before count is less =
-    omega (
-      arith,
-      is,
-      less,
-      length-map (player_sets g player) (λ s. s.key),
-      length-map (player_sets g player) (λ s. length s.description.actions),
-    )
+counted_sets g player before count is less = grind (arith, is, less, length-map)
 
 pub no_more_sets : (g : Game) (player before count : ℕ) → count ≡ length (player_keys g player)
     → count ≤ before → length (action_counts g player) ≤ before
-no_more_sets g player before count is past =
-    omega (
-      arith,
-      is,
-      past,
-      length-map (player_sets g player) (λ s. s.key),
-      length-map (player_sets g player) (λ s. length s.description.actions),
-    )
+no_more_sets g player before count is past = grind (arith, is, past, length-map)
 
 pub take_past : {A : Type 0} (i : ℕ) (xs : List A) → length xs ≤ i → take i xs ≡ xs
 take_past zero [] h = refl
@@ -186,19 +155,13 @@ OwnCounts g player o = MatchOption o (profile_limit < product (action_counts g p
 
 pub no_counts : (g : Game) (player : ℕ) (o : Option (Vec ℕ Global × ProfileCount))
     → OwnCounts g player o → o ≡ None → profile_limit < length (strategies g player)
-no_counts g player None h e = omega (arith, h, length-all_choices (action_counts g player))
-no_counts g player (Some x) h e = absurd cc
+no_counts g player o h e = grind (arith, length-all_choices)
 
 pub some_counts : (g : Game) (player : ℕ) (o : Option (Vec ℕ Global × ProfileCount))
     (own : Vec ℕ Global) (count : ProfileCount) → OwnCounts g player o → o ≡ Some (own, count)
     → (own.items ≡ action_counts g player) × (count.count ≡ length (strategies g player))
 some_counts g player None own count h e = absurd cc
-some_counts g player (Some x) own count h e =
-    let same : x ≡ (own, count) = cc in (
-      ap (λ (p : Vec ℕ Global × ProfileCount). p.0.items) (sym same) ∙ h.0,
-      ap (λ (p : Vec ℕ Global × ProfileCount). p.1.count) (sym same) ∙ h.1
-          ∙ sym (length-all_choices (action_counts g player)),
-    )
+some_counts g player (Some x) own count h e = grind (arith, length-all_choices, length-map)
 
 pub too_many : (g : Game) → profile_limit < product (strategy_counts g) → HasTooManyProfiles g
 too_many g past = omega (arith, past, length-profiles (strategy_counts g))

@@ -1,6 +1,6 @@
 -- What is counted for each player, by his place from 0.
-use Rattle.std.proofs.Common.{◌≡◌, ◌+◌, ◌<◌, ℕ, List, [], Vec, Global, length, map, get_or}
-use Rattle.std.proofs.Common.{sym, ap, ◌∙◌, arith}
+use Rattle.std.proofs.Common.{◌≡◌, ◌+◌, ◌<◌, ℕ, List, [], Vec, Global, length, map, get_or, ap, ◌∙◌}
+use Rattle.std.proofs.Common.{arith}
 use Rattle.std.proofs.lemmas.Grind.{get_or_default_zero}
 use Rattle.std.proofs.lemmas.List.{get_or-map, length-map}
 use Rattle.gf_nfg.specs.Profiles.{product}
@@ -15,9 +15,7 @@ use Rattle.gf_form.proofs.lemmas.strategies.CountedActions.{as_many_players, of_
 pub own_read : (all : List (Vec ℕ Global)) (i : ℕ) (own : Vec ℕ Global) (held : List ℕ)
     → i < length all → own ≡ get_or all i own → held ≡ own.items
     → held ≡ get_or (map (λ own. own.items) all) i []
-own_read all i own held less is held_is =
-    held_is ∙ ap (λ (own : Vec ℕ Global). own.items) is
-    ∙ sym (get_or-map (λ (own : Vec ℕ Global). own.items) all i own [] less)
+own_read all i own held less is held_is = grind (arith, held_is, is, get_or-map)
 
 -- the numbers of actions of each player
 abbrev pub actions_in : Counts → List (List ℕ)
@@ -25,19 +23,14 @@ actions_in c = map (λ own. own.items) c.actions.items
 
 module _ (g : Game) (c : Counts) (counts : AreCounts g c) where
   pub all_counted : length c.actions.items ≡ length g.players
-  all_counted =
-      sym (length-map c.actions.items (λ own. own.items)) ∙ ap length counts.actions
-      ∙ as_many_players g (action_counts g)
+  all_counted = grind (arith, length-map, as_many_players)
 
   pub strategies_counted : length c.strategies.items ≡ length g.players
-  strategies_counted =
-      ap length counts.strategies ∙ as_many_players g (λ player. length (strategies g player))
+  strategies_counted = cc (as_many_players g (λ player. length (strategies g player)))
 
   pub actions_of : (i : ℕ) → i < length c.actions.items
       → get_or (actions_in c) i [] ≡ action_counts g (i + 1)
-  actions_of i less =
-      ap (λ (all : List (List ℕ)). get_or all i []) counts.actions
-      ∙ of_player g (action_counts g) i [] (omega (arith, less, all_counted))
+  actions_of i less = cc (of_player g (action_counts g) i [] (omega (arith, less, all_counted)))
 
   count_of : (i : ℕ) → i < length c.actions.items
       → get_or c.strategies.items i 0 ≡ length (strategies g (i + 1))
@@ -60,14 +53,8 @@ module _ (g : Game) (c : Counts) (counts : AreCounts g c) (i whole : ℕ) (own :
   read_actions = own_read c.actions.items i own actions read.within read.own_is read.actions_are
 
   pub read_count : whole ≡ length (strategies g (i + 1))
-  read_count =
-      read.whole_is
-      ∙ get_or_default_zero c.strategies.items i whole
-      (omega (arith, read.within, all_counted g c counts, strategies_counted g c counts))
-      ∙ count_of g c counts i read.within
+  read_count = grind (arith, get_or_default_zero, count_of, length-map)
 
   -- as many strategies as choices of actions
   pub read_whole : whole ≡ product actions
-  read_whole =
-      read_count ∙ length-all_choices (action_counts g (i + 1))
-      ∙ ap product (sym (actions_of g c counts i read.within) ∙ sym read_actions)
+  read_whole = grind (arith, read_count, length-all_choices, actions_of, read_actions)

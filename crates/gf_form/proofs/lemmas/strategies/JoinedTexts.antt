@@ -1,6 +1,6 @@
 -- Texts without a dash can be recovered from the text that joins them by dashes.
-use Rattle.std.proofs.Common.{◌≡◌, ℕ, ◌+◌, ◌%◌, ◌^◌, ◌<◌, ◌≤◌, List, [], ◌∷◌}
-use Rattle.std.proofs.Common.{◌++◌, length, map, get_or, drop, refl, sym, ap, ◌∙◌, arith}
+use Rattle.std.proofs.Common.{◌≡◌, ℕ, ◌+◌, ◌%◌, ◌^◌, ◌<◌, ◌≤◌, List, [], ◌∷◌, ◌++◌, length, map}
+use Rattle.std.proofs.Common.{get_or, drop, refl, sym, ap, ◌∙◌, arith}
 use Rattle.std.specs.Prelude.{decimal}
 use Rattle.std.specs.List.{AllByRecursion, join_with_byte}
 use Rattle.std.proofs.lemmas.Fmt.{decimal_by_steps}
@@ -43,8 +43,7 @@ same_texts : (xs ys : List (List ℕ)) → length xs ≡ length ys → AllByRecu
 same_texts [] [] n hx hy e = refl
 same_texts [] (y ∷ ys) n hx hy e = absurd (omega (arith, n))
 same_texts (x ∷ xs) [] n hx hy e = absurd (omega (arith, n))
-same_texts (x ∷ []) (y ∷ []) n hx hy e = ap (λ (z : List ℕ). z ∷ []) e
-same_texts (x ∷ []) (y ∷ v ∷ ys) n hx hy e = absurd (omega (arith, n))
+same_texts (x ∷ []) ys n hx hy e = grind arith
 same_texts (x ∷ u ∷ xs) (y ∷ []) n hx hy e = absurd (omega (arith, n))
 same_texts (x ∷ u ∷ xs) (y ∷ v ∷ ys) n hx hy e =
     let parts = cut x y (join_with_byte 45 (u ∷ xs)) (join_with_byte 45 (v ∷ ys)) hx.0 hy.0 e in

@@ -1,6 +1,6 @@
 -- The information sets of a game by their keys: what holds for each, and whose they are.
-use Rattle.std.proofs.Common.{◌≡◌, ℕ, true, Some, length, subst}
-use Rattle.std.specs.Prelude.{◌==◌, find}
+use Rattle.std.proofs.Common.{◌≡◌, ℕ, true, Some, length, subst, arith}
+use Rattle.std.specs.Prelude.{find}
 use Rattle.std.proofs.lemmas.Bool.{eqb-true}
 use Rattle.gf_tree.specs.Description.{SetKey, InformationSet, same_set, IsSet}
 use Rattle.gf_tree.specs.FiniteMap.{Described}
@@ -33,9 +33,4 @@ pub own_set : (g : Game) (player : ℕ) (key : SetKey) → Has (player_keys g pl
 own_set g player key i =
     let m =
     mapped_from (λ (s : Described SetKey InformationSet). s.key) (player_sets g player) key i in
-    let there = of_filter (λ s. s.key.player == player) g.sets m.0 m.1 in (
-      m.0,
-      there.0,
-      m.2,
-      subst (λ (k : SetKey). k.player ≡ player) m.2 (eqb-true m.0.key.player player there.1),
-    )
+    grind (arith, of_filter, eqb-true)

@@ -1,7 +1,7 @@
 -- Labels of strategies, made from labels at the first sets and at the others.
-use Rattle.std.proofs.Common.{◌≡◌, ◌∙◌, ℕ, zero, suc, ◌+◌, ◌-◌, ◌*◌, ◌<◌}
-use Rattle.std.proofs.Common.{List, [], ◌∷◌, ◌++◌, Some, map, length, get_or, take, refl, ap}
-use Rattle.std.proofs.Common.{sym, subst, add-one, arith, append_assoc}
+use Rattle.std.proofs.Common.{◌≡◌, ◌∙◌, ℕ, zero, suc, ◌+◌, ◌-◌, ◌*◌, ◌<◌, List, [], ◌∷◌, ◌++◌, Some}
+use Rattle.std.proofs.Common.{map, length, get_or, take, refl, ap, sym, subst, add-one, arith}
+use Rattle.std.proofs.Common.{append_assoc}
 use Rattle.std.specs.Prelude.{decimal, slice_get, unwrap_or}
 use Rattle.std.proofs.lemmas.List.{get_or_default, length-map}
 use Rattle.std.proofs.Math.Seq.{take-suc}
@@ -9,8 +9,7 @@ use Rattle.std.proofs.Math.Nat.{mul_assoc}
 use Rattle.gf_nfg.specs.Profiles.{product}
 use Rattle.gf_form.specs.Strategies.{all_choices, strategy_label}
 use Rattle.gf_form.proofs.lemmas.strategies.Choices.{IsChoice, are_choices, every_choice}
-use Rattle.gf_form.proofs.lemmas.strategies.Choices.{length-all_choices, place}
-use Rattle.gf_form.proofs.lemmas.strategies.Choices.{place_at}
+use Rattle.gf_form.proofs.lemmas.strategies.Choices.{length-all_choices, place, place_at}
 use Rattle.gf_form.proofs.lemmas.strategies.CountedActions.{take_past}
 use Rattle.gf_form.proofs.lemmas.rows.DigitPlaces.{product_joined}
 use Rattle.gf_form.proofs.lemmas.reduced.FirstStrategies.{choice_length}
@@ -37,9 +36,8 @@ both_choices [] ys (a ∷ f) b hf hb = absurd hf
 both_choices (c ∷ xs) ys [] b hf hb = absurd hf
 both_choices (c ∷ xs) ys (a ∷ f) b hf hb =
     let others = both_choices xs ys f b hf.1 hb in
-    let top : (a - 1) * product (xs ++ ys) ≡ (a - 1) * product xs * product ys =
-    ap (λ (n : ℕ). (a - 1) * n) (product_joined xs ys)
-    ∙ sym (mul_assoc (a - 1) (product xs) (product ys)) in
+    let top = ap (λ (n : ℕ). (a - 1) * n) (product_joined xs ys) ∙ sym (mul_assoc (a - 1) (product
+    xs) (product ys)) in
     let sums : ((a - 1) * product xs + place xs f) * product ys
     ≡ (a - 1) * product xs * product ys + place xs f * product ys = omega arith in
     ((hf.0, others.0), omega (arith, top, others.1, sums))
@@ -47,13 +45,7 @@ both_choices (c ∷ xs) ys (a ∷ f) b hf hb =
 at_its_place : (counts s : List ℕ) → IsChoice counts s
     → (place counts s < product counts) × (get_or (all_choices counts) (place counts s) [] ≡ s)
 at_its_place counts s h =
-    let there = (every_choice counts s).1 h in
-    let place_is : place counts s ≡ there.0 =
-    ap (place counts) (sym there.2) ∙ place_at counts there.0 s there.1 in (
-      omega (arith, place_is, there.1, length-all_choices counts),
-      ap (λ (n : ℕ). get_or (all_choices counts) n []) place_is
-          ∙ get_or_default (all_choices counts) there.0 [] s there.1 ∙ there.2,
-    )
+    grind (arith, every_choice, place_at, ap, length-all_choices, get_or_default)
 
 -- the strategy with this number
 pub joined_at : (xs ys : List ℕ) (i j : ℕ) → i < product xs → j < product ys
@@ -68,12 +60,8 @@ joined_at xs ys i j hi hj =
     let both = both_choices xs ys f b
     (all_at (IsChoice xs) (all_choices xs) i [] (are_choices xs) in_xs)
     (all_at (IsChoice ys) (all_choices ys) j [] (are_choices ys) in_ys) in
-    let number : place (xs ++ ys) (f ++ b) ≡ i * product ys + j =
-    both.1 ∙ (λ k. place_at xs i [] in_xs k * product ys + place_at ys j [] in_ys k) in
-    let at = at_its_place (xs ++ ys) (f ++ b) both.0 in (
-      omega (arith, at.0, number),
-      ap (λ (n : ℕ). get_or (all_choices (xs ++ ys)) n []) (sym number) ∙ at.1,
-    )
+    let number = both.1 ∙ (λ k. place_at xs i [] in_xs k * product ys + place_at ys j [] in_ys k) in
+    grind (arith, at_its_place, number)
 
 got : (xs : List (List ℕ)) (i : ℕ) (v : List ℕ)
     → slice_get (map strategy_label xs) i ≡ Some v → i < length xs
@@ -98,8 +86,7 @@ AreJoined firsts others labels i j = (xs ys : List ℕ) → 0 < length xs → 0 
 
 counted : (labels : List (List ℕ)) (counts : List ℕ)
     → labels ≡ map strategy_label (all_choices counts) → length labels ≡ product counts
-counted labels counts is =
-    ap length is ∙ length-map (all_choices counts) strategy_label ∙ length-all_choices counts
+counted labels counts is = grind (arith, is, length-map, length-all_choices)
 
 pub one_joined_more : (firsts others labels next : List (List ℕ)) (i j : ℕ)
     (first other label : List ℕ) → i < length firsts → j < length others
@@ -120,23 +107,16 @@ one_joined_more firsts others labels next i j first other label hi hj at_i at_j 
     (subst (λ (l : List (List ℕ)). slice_get l j ≡ Some other) o at_j)
     (omega (arith, less_j, length-all_choices ys)) in
     let at = joined_at xs ys i j less_i less_j in
-    let label_is : label ≡ strategy_label (front ++ back) =
-    is ∙ (λ k. first_is k ++ 45 ∷ other_is k)
-    ∙ sym (label_of_both front back (omega (arith, hx, long xs i less_i))
-    (omega (arith, hy, long ys j less_j))) in
+    let label_is = is ∙ (λ k. first_is k ++ 45 ∷ other_is k) ∙ sym (label_of_both front back (omega
+    (arith, hx, long xs i less_i)) (omega (arith, hy, long ys j less_j))) in
     let next_number : i * product ys + j + 1 ≡ i * product ys + (j + 1) = omega arith in
-    one_label_more (xs ++ ys) labels next (i * product ys + j) label (front ++ back) at.0 (sym at.1)
-    label_is (h xs ys hx hy f o) more
-    ∙ ap (λ (n : ℕ). map strategy_label (take n (all_choices (xs ++ ys)))) next_number
+    grind (arith, one_label_more, next_number)
 
 pub row_joined : (firsts others labels : List (List ℕ)) (i j : ℕ) → j ≡ length others
     → AreJoined firsts others labels i j → AreJoined firsts others labels (i + 1) 0
 row_joined firsts others labels i j end h xs ys hx hy f o =
     let next : i * product ys + product ys ≡ (i + 1) * product ys + 0 = omega arith in
-    h xs ys hx hy f o
-    ∙ ap (λ (n : ℕ). map strategy_label (take (i * product ys + n) (all_choices (xs ++ ys))))
-    (end ∙ counted others ys o)
-    ∙ ap (λ (n : ℕ). map strategy_label (take n (all_choices (xs ++ ys)))) next
+    cc (h xs ys hx hy f o, end, counted others ys o, next)
 
 pub all_joined : (firsts others labels : List (List ℕ)) (i : ℕ) → i ≡ length firsts
     → AreJoined firsts others labels i 0 → (xs ys : List ℕ) → 0 < length xs → 0 < length ys

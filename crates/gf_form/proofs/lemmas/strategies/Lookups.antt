@@ -1,6 +1,6 @@
 -- What is found in a list whose elements all have a property.
 use Rattle.std.proofs.Common.{◌≡◌, ℕ, zero, suc, Bool, true, false, cond, List, [], ◌∷◌, Option}
-use Rattle.std.proofs.Common.{Some, None, MatchOption, refl, ap, ◌∙◌, ◌≤◌, ◌-◌, ◌+◌, get_or, arith}
+use Rattle.std.proofs.Common.{Some, MatchOption, refl, ap, ◌∙◌, ◌≤◌, ◌-◌, ◌+◌, get_or, arith}
 use Rattle.std.specs.Prelude.{option_map, unwrap_or, option_and_then, slice_get, ⊤}
 use Rattle.std.specs.List.{AllByRecursion, find}
 use Rattle.std.proofs.lemmas.Option.{unwrap_or-slice_get}
@@ -19,8 +19,7 @@ each_got P (x ∷ xs) (suc i) h = each_got P xs i h.1
 
 pub each_at : {A : Type 0} (P : A → Type 0) (xs : List A) (position : ℕ) → AllByRecursion P xs
     → Each P (at_position xs position)
-each_at P xs zero h = tt
-each_at P xs (suc i) h = each_got P xs i h
+each_at P xs position h = grind (arith, each_got)
 
 pub each_found : {A : Type 0} (P : A → Type 0) (test : A → Bool) (xs : List A) → AllByRecursion P xs
     → Each (λ x. P x × (test x ≡ true)) (find test xs)
@@ -34,27 +33,22 @@ each_found {A} P test (x ∷ xs) h = by_test (test x) refl (each_found P test xs
 
 pub each_mapped : {A B : Type 0} (P : B → Type 0) (f : A → B) (o : Option A) → Each (λ x. P (f x)) o
     → Each P (option_map f o)
-each_mapped P f None h = tt
-each_mapped P f (Some x) h = h
+each_mapped P f o h = grind arith
 
 pub each_then : {A B : Type 0} (P : A → Type 0) (Q : B → Type 0) (f : A → Option B) (o : Option A)
     → ((x : A) → P x → Each Q (f x)) → Each P o → Each Q (option_and_then f o)
-each_then P Q f None each h = tt
-each_then P Q f (Some x) each h = each x h
+each_then P Q f o each h = grind arith
 
 pub each_weaker : {A : Type 0} (P Q : A → Type 0) (o : Option A) → ((x : A) → P x → Q x) → Each P o
     → Each Q o
-each_weaker P Q None weaker h = tt
-each_weaker P Q (Some x) weaker h = weaker x h
+each_weaker P Q o weaker h = grind arith
 
 pub each_or : {A : Type 0} (P : A → Type 0) (o : Option A) (default : A) → P default → Each P o
     → P (unwrap_or o default)
-each_or P None default d h = d
-each_or P (Some x) default d h = h
+each_or P o default d h = grind arith
 
 pub each_any : {A : Type 0} (o : Option A) → Each (λ _. ⊤) o
-each_any None = tt
-each_any (Some x) = tt
+each_any o = grind arith
 
 -- ---- positions
 

@@ -1,6 +1,6 @@
 -- The strategies of the profile with a number: those of one player after another, each by what is
 -- left of the number.
-use Rattle.std.proofs.Common.{◌≡◌, ℕ, ◌+◌, ◌*◌, ◌/◌, ◌%◌, ◌<◌, List, [], ◌∷◌, length, map, get_or}
+use Rattle.std.proofs.Common.{◌≡◌, ℕ, ◌/◌, ◌%◌, ◌<◌, List, [], ◌∷◌, length, map, get_or, arith}
 use Rattle.std.proofs.Common.{refl, sym, ap, subst, ◌∙◌, add-one}
 use Rattle.std.specs.Prelude.{zip}
 use Rattle.std.proofs.Math.Nat.{div-lt_iff_lt-mul, mul_comm}
@@ -30,12 +30,9 @@ numbered_strategies g (player ∷ players) number less =
     let counts = map (λ player. length (strategies g player)) players in
     let is : product own ≡ length all = sym (length-all_choices own) in
     let parts = positive_parts (length all) (product counts) number less in
-    let swapped : number < product counts * length all =
-    subst (λ (n : ℕ). number < n) (mul_comm (length all) (product counts)) less in
+    let swapped = subst (λ (n : ℕ). number < n) (mul_comm (length all) (product counts)) less in
     let later : number / length all < product counts = (div-lt_iff_lt-mul parts.0).1 swapped in
-    let first : get_or all (number % length all) [] ≡ strategy_at all (number % length all + 1) =
-    sym (ap (strategy_at all) (add-one (number % length all))
-    ∙ unwrap_or-slice_get all (number % length all) []) in
+    let first = sym (grind (arith, add-one, unwrap_or-slice_get)) in
     (λ i. get_or all (number % is i) [] ∷ numbered (map (action_counts g) players) (number / is i))
     ∙ (λ i. first i ∷ numbered_strategies g players (number / length all) later i)
     ∙ ap (λ (profile : List ℕ). map (λ p. strategy_at (strategies g p.0) p.1)

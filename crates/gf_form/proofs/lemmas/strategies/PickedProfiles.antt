@@ -3,8 +3,7 @@ use Rattle.std.proofs.Common.{◌≡◌, ℕ, suc, ◌+◌, ◌-◌, ◌*◌, �
 use Rattle.std.proofs.Common.{length, map, get_or, refl, sym, ap, subst, ◌∙◌, arith, zero, drop}
 use Rattle.std.specs.Prelude.{zip}
 use Rattle.std.specs.List.{AllByRecursion, AllZip, Contains, flat_map}
-use Rattle.std.proofs.Math.Nat.{div-lt_iff_lt-mul, mod-add-div, mod-lt, mul_comm}
-use Rattle.std.proofs.Math.Nat.{mul-le-mul_left, mul-le-mul_right}
+use Rattle.std.proofs.Math.Nat.{mod-add-div, mul_comm, mul-le-mul_right}
 use Rattle.std.proofs.lemmas.List.{get_or-map, get_or_default, length-map, map-append}
 use Rattle.std.proofs.lemmas.List.Folds.{flat_map-map}
 use Rattle.gf_fraction.proofs.AllElements.{all_both, all_weaker}
@@ -15,8 +14,8 @@ use Rattle.gf_nfg.proofs.lemmas.tables.Profiles.{place_at}
 use Rattle.gf_tree.specs.Game.{Game}
 use Rattle.gf_form.specs.inner.strategies.ProfileNumbers.{AreBelow, AreProfileNumbers}
 use Rattle.gf_form.specs.inner.strategies.ProfileNumbers.{numbered_profiles, numbers_with}
-use Rattle.gf_form.specs.Strategies.{AreStrategies, action_counts, full_profiles}
-use Rattle.gf_form.specs.Strategies.{players_of, strategies, strategies_at}
+use Rattle.gf_form.specs.Strategies.{AreStrategies, action_counts, full_profiles, players_of}
+use Rattle.gf_form.specs.Strategies.{strategies, strategies_at}
 use Rattle.gf_form.proofs.lemmas.strategies.Choices.{IsChoice, every_choice}
 use Rattle.gf_form.proofs.lemmas.strategies.Chosen.{profile_strategies}
 use Rattle.gf_form.proofs.lemmas.strategies.CountedActions.{strategy_counts}
@@ -37,8 +36,7 @@ picked_profiles numbers = map (full_at numbers) (profiles (map length numbers))
 
 pub counted_profiles : (picked : List (List ℕ))
     → length (picked_profiles picked) ≡ product (map length picked)
-counted_profiles picked =
-    length-map (profiles (map length picked)) (full_at picked) ∙ length-profiles (map length picked)
+counted_profiles picked = grind (arith, length-map, length-profiles)
 
 -- ---- the profile with a number
 
@@ -58,22 +56,15 @@ profile_at count counts number rest less below =
       all_at (IsProfile counts) (profiles counts) rest [] (are_profiles counts) inside,
     ) in
     let here : number + 1 - 1 ≡ number = omega arith in
-    let at : number + count * rest ≡ there.0 =
-    sym (λ i. here i + count * place_at counts rest [] inside i)
-    ∙ sym (ap (place (count ∷ counts)) there.2)
-    ∙ place_at (count ∷ counts) there.0 profile there.1 in
+    let at = sym (λ i. here i + count * place_at counts rest [] inside i) ∙ sym (ap (place (count ∷
+    counts)) there.2) ∙ place_at (count ∷ counts) there.0 profile there.1 in
     ap (λ (n : ℕ). get_or all n []) at ∙ get_or_default all there.0 [] profile there.1 ∙ there.2
 
 pub profiles_next : (count : ℕ) (counts : List ℕ) (rest : ℕ) → 0 < count
     → rest < count * product counts
     → get_or (profiles (count ∷ counts)) rest []
     ≡ (rest % count + 1) ∷ get_or (profiles counts) (rest / count) []
-profiles_next count counts rest some below =
-    let swapped : rest < product counts * count =
-    subst (λ (n : ℕ). rest < n) (mul_comm count (product counts)) below in
-    ap (λ (n : ℕ). get_or (profiles (count ∷ counts)) n []) (sym (mod-add-div rest count))
-    ∙ profile_at count counts (rest % count) (rest / count) (mod-lt rest some)
-    ((div-lt_iff_lt-mul some).1 swapped)
+profiles_next count counts rest some below = grind (arith, mul_comm, below, mod-add-div, profile_at)
 
 -- what the factors of a number that is above another are
 pub some_factor : (counts : List ℕ) (number i : ℕ) → number < product counts → i < length counts
@@ -90,8 +81,7 @@ full_profile : (g : Game) (players : List ℕ) (picked : List (List ℕ)) (profi
     picked players
     → IsProfile (map length picked) profile
     → IsProfile (map (λ player. length (strategies g player)) players) (full_at picked profile)
-full_profile g [] [] [] h k = tt
-full_profile g [] [] (s ∷ profile) h k = absurd k
+full_profile g [] [] profile h k = grind arith
 full_profile g [] (own ∷ picked) profile h k = absurd h
 full_profile g (player ∷ players) [] profile h k = absurd h
 full_profile g (player ∷ players) (own ∷ picked) [] h k = absurd k
@@ -113,8 +103,7 @@ picked_full g picked numbers profile there =
 chosen : (g : Game) (all : List (List ℕ)) (players : List ℕ)
     → AllZip (λ strategy player. Contains (strategies g player) strategy) all players
     → AllZip (λ strategy player. IsChoice (action_counts g player) strategy) all players
-chosen g [] [] h = tt
-chosen g [] (player ∷ players) h = absurd h
+chosen g [] players h = grind arith
 chosen g (strategy ∷ all) [] h = absurd h
 chosen g (strategy ∷ all) (player ∷ players) h =
     ((every_choice (action_counts g player) strategy).0 h.0, chosen g all players h.1)
@@ -130,10 +119,7 @@ are_strategies g number within =
 
 sum_below : (count rest size number : ℕ) → rest < size → number < count
     → number + count * rest < count * size
-sum_below count rest size number less below =
-    let room : count * suc rest ≤ count * size = mul-le-mul_left count (omega (arith, less)) in
-    let more : count * suc rest ≡ count * rest + count = omega arith in
-    omega (arith, below, room, more)
+sum_below count rest size number less below = grind arith
 
 sums_below : (count rest size : ℕ) (own : List ℕ) → rest < size
     → AllByRecursion (λ number. number < count) own
@@ -154,8 +140,7 @@ all_sums_below count size own (rest ∷ rests) h k =
 
 pub numbers_within : (counts : List ℕ) (picked : List (List ℕ)) → AreBelow counts picked
     → AllByRecursion (λ number. number < product counts) (numbers_with counts picked)
-numbers_within [] [] h = (omega arith, tt)
-numbers_within [] (own ∷ picked) h = absurd h
+numbers_within [] picked h = grind arith
 numbers_within (count ∷ counts) [] h = absurd h
 numbers_within (count ∷ counts) (own ∷ picked) h =
     all_sums_below count (product counts) own (numbers_with counts picked) h.0
@@ -195,8 +180,7 @@ by_positions : (all : List ℕ) (picked : List (List ℕ)) (others own : List �
 by_positions all picked others [] k h = refl
 by_positions all picked others (number ∷ own) k h =
     let here : k + 1 - 1 ≡ k + 0 = omega arith in
-    let first : get_or all (k + 1 - 1) 0 ≡ number =
-    ap (λ (n : ℕ). get_or all n 0) here ∙ h 0 in
+    let first = ap (λ (n : ℕ). get_or all n 0) here ∙ h 0 in
     λ i. ((first i + 1) ∷ full_at picked others)
     ∷ by_positions all picked others own (k + 1)
     (λ j. let next : k + 1 + j ≡ k + suc j = omega arith in
@@ -281,8 +265,7 @@ sums_fit count rest size most own less fits h =
 module _ (g : Game) (counts : List ℕ) (picked : List (List ℕ)) (are : AreNumbers g picked)
     (counts_are : counts ≡ strategy_counts g) where
   pub below : AreBelow counts picked
-  below = subst (λ (own : List ℕ). AreBelow own picked) (sym counts_are)
-      (are_below g (players_of g) picked are)
+  below = grind (arith, are_below g (players_of g) picked are)
 
   pub are_profile_numbers : AreProfileNumbers g (numbers_with counts picked)
   are_profile_numbers =
@@ -291,9 +274,7 @@ module _ (g : Game) (counts : List ℕ) (picked : List (List ℕ)) (are : AreNum
       (numbers_within counts picked below)
 
   pub profiles_are : numbered_profiles g (numbers_with counts picked) ≡ picked_profiles picked
-  profiles_are =
-      ap (λ (own : List ℕ). numbered_profiles g (numbers_with own picked)) counts_are
-      ∙ by_numbers (strategy_counts g) picked (are_below g (players_of g) picked are)
+  profiles_are = cc (by_numbers (strategy_counts g) picked (are_below g (players_of g) picked are))
 
 -- ---- all
 
@@ -303,8 +284,7 @@ all_from : (profiles : List (List ℕ)) (k : ℕ) (rest : List (List ℕ))
 all_from profiles k [] h = refl
 all_from profiles k (profile ∷ rest) h =
     let here : k ≡ k + 0 = omega arith in
-    let first : get_or profiles k [] ≡ profile =
-    ap (λ (n : ℕ). get_or profiles n []) here ∙ h 0 in
+    let first = ap (λ (n : ℕ). get_or profiles n []) here ∙ h 0 in
     λ i. first i ∷ all_from profiles (k + 1) rest
     (λ j. let next : k + 1 + j ≡ k + suc j = omega arith in
     ap (λ (n : ℕ). get_or profiles n []) next ∙ h (suc j)) i
@@ -319,19 +299,15 @@ all_numbered g =
 all_below : (first n last : ℕ) → first + n ≤ last
     → AllByRecursion (λ number. number < last) (numbers_from first n)
 all_below first zero last h = tt
-all_below first (suc n) last h =
-    (omega (arith, h), all_below (first + 1) n last (omega (arith, h)))
+all_below first (suc n) last h = grind (arith, all_below (first + 1) n last (omega (arith, h)))
 
 pub all_are_numbers : (g : Game)
     → AreProfileNumbers g (numbers_from 0 (length (full_profiles g)))
-all_are_numbers g =
-    all_below 0 (length (full_profiles g)) (length (full_profiles g)) (omega arith)
+all_are_numbers g = grind (arith, all_below)
 
 -- the profile at a place
 pub numbered_at : (g : Game) (numbers : List ℕ) (i : ℕ) → i < length numbers
     → (i < length (numbered_profiles g numbers))
     × (get_or (numbered_profiles g numbers) i []
     ≡ get_or (full_profiles g) (get_or numbers i 0) [])
-numbered_at g numbers i less =
-    let f = λ (number : ℕ). get_or (full_profiles g) number [] in
-    (omega (arith, less, length-map numbers f), get_or-map f numbers i 0 [] less)
+numbered_at g numbers i less = grind (arith, less, length-map, get_or-map)

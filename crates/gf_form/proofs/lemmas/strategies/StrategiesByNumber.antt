@@ -1,8 +1,7 @@
 -- The strategy with a number: one action after another, each by what is left of the number.
 use Rattle.std.proofs.Common.{◌≡◌, ℕ, zero, suc, ◌+◌, ◌-◌, ◌*◌, ◌/◌, ◌%◌, ◌<◌, ◌≤◌, List, [], ◌∷◌}
 use Rattle.std.proofs.Common.{◌++◌, length, map, get_or, take, drop, refl, sym, ap, subst, ◌∙◌}
-use Rattle.std.proofs.Common.{append_assoc, add-one, arith}
-use Rattle.std.proofs.Common.{true, false, ◌^◌}
+use Rattle.std.proofs.Common.{append_assoc, add-one, arith, true, false, ◌^◌}
 use Rattle.std.specs.Prelude.{decimal, ◌==◌}
 use Rattle.std.specs.List.{AllByRecursion, flat_map}
 use Rattle.std.specs.Str.Parse.{AllDigits}
@@ -12,14 +11,13 @@ use Rattle.std.proofs.lemmas.Grind.{flat_map-append}
 use Rattle.gf_token.specs.LabelSpelling.{is_spelling_after, IsLabel}
 use Rattle.std.proofs.Math.Nat.{div-add-mod, div-le_self, div-lt_iff_lt-mul, mod-lt}
 use Rattle.std.proofs.Math.Nat.{mul-div_cancel_left, mul_comm}
-use Rattle.std.proofs.Math.Seq.{drop-cons, take-append_seam, take-nil, take-suc}
+use Rattle.std.proofs.Math.Seq.{drop-cons, take-append_seam, take-suc}
 use Rattle.std.proofs.lemmas.List.{append-nil, get_or_default, length-append, map-append}
 use Rattle.gf_nfg.specs.Profiles.{product}
 use Rattle.gf_form.specs.inner.strategies.LabelTexts.{IsPlain}
 use Rattle.gf_form.specs.Strategies.{all_choices, strategy_label}
 use Rattle.gf_form.proofs.lemmas.strategies.Choices.{IsChoice, are_choices, every_choice}
-use Rattle.gf_form.proofs.lemmas.strategies.Choices.{length-all_choices}
-use Rattle.gf_form.proofs.lemmas.strategies.Choices.{place, place_at}
+use Rattle.gf_form.proofs.lemmas.strategies.Choices.{length-all_choices, place, place_at}
 
 pub all_at : {A : Type 0} (P : A → Type 0) (xs : List A) (i : ℕ) (d : A) → AllByRecursion P xs
     → i < length xs → P (get_or xs i d)
@@ -51,11 +49,8 @@ choices_next count counts rest some below =
     (λ i. less i * p + place_at counts (rest % p) [] inside i)
     ∙ (let swap : rest / p * p + rest % p ≡ p * (rest / p) + rest % p =
     ap (λ (n : ℕ). n + rest % p) (mul_comm (rest / p) p) in swap) ∙ div-add-mod rest p in
-    let at : there.0 ≡ rest =
-    sym (place_at (count ∷ counts) there.0 choice there.1) ∙ ap (place (count ∷ counts)) there.2
-    ∙ placed in
-    ap (λ (n : ℕ). get_or all n []) (sym at)
-    ∙ get_or_default all there.0 [] choice there.1 ∙ there.2
+    let at : there.0 ≡ rest = grind (arith, place_at (count ∷ counts) there.0 choice there.1) in
+    cc (at, get_or_default all there.0 [] choice there.1, there.2)
 
 -- what is written, and what is left to be
 pub record Goes (counts : List ℕ) (number i stride rest : ℕ) (strategy : List ℕ) : Type 0 where
@@ -73,22 +68,18 @@ pub record GoesOn (counts : List ℕ) (number i stride rest count : ℕ) (strate
       (strategy ++ (rest / (stride / count) + 1) ∷ [])
 
 pub positive_parts : (m n k : ℕ) → k < m * n → (0 < m) × (0 < n)
-positive_parts zero n k h = absurd (omega (arith, h))
-positive_parts (suc m) zero k h = absurd (omega (arith, h))
-positive_parts (suc m) (suc n) k h = (omega arith, omega arith)
+positive_parts m n k h = grind arith
 
 pub goes_on : (counts : List ℕ) (number i stride rest count : ℕ) (strategy : List ℕ)
     → Goes counts number i stride rest strategy → i < length counts
     → count ≡ get_or counts i 0 → GoesOn counts number i stride rest count strategy
 goes_on counts number i stride rest count strategy h less is =
     let others = drop (suc i) counts in
-    let next : drop i counts ≡ count ∷ others =
-    drop-cons counts i 0 less ∙ ap (λ (c : ℕ). c ∷ others) (sym is) in
+    let next = drop-cons counts i 0 less ∙ ap (λ (c : ℕ). c ∷ others) (sym is) in
     let whole : stride ≡ count * product others = h.stride_is ∙ ap product next in
     let below : rest < count * product others = subst (λ (n : ℕ). rest < n) whole h.below in
     let parts = positive_parts count (product others) rest below in
-    let divided : stride / count ≡ product others =
-    ap (λ (n : ℕ). n / count) whole ∙ mul-div_cancel_left (product others) parts.0 in
+    let divided = ap (λ (n : ℕ). n / count) whole ∙ mul-div_cancel_left (product others) parts.0 in
     let some : 0 < stride / count = subst (λ (n : ℕ). 0 < n) (sym divided) parts.1 in
     record {
       some_action = parts.0;
@@ -97,14 +88,7 @@ goes_on counts number i stride rest count strategy h less is =
       goes = record {
         stride_is = divided ∙ ap (λ (n : ℕ). product (drop n counts)) (sym (add-one i));
         below = mod-lt rest some;
-        choice = append_assoc strategy ((rest / (stride / count) + 1) ∷ [])
-            (get_or (all_choices (drop (i + 1) counts)) (rest % (stride / count)) [])
-            ∙ (λ j. strategy ++ (rest / divided j + 1)
-            ∷ get_or (all_choices (drop (add-one i j) counts)) (rest % divided j) [])
-            ∙ ap (λ (xs : List ℕ). strategy ++ xs)
-            (sym (ap (λ (cs : List ℕ). get_or (all_choices cs) rest []) next
-            ∙ choices_next count others rest parts.1 below))
-            ∙ h.choice;
+        choice = grind (arith, append_assoc, next, choices_next);
       };
     }
 
@@ -138,13 +122,11 @@ dash_last action (next ∷ strategy) =
 -- without that dash it is the label
 pub dash_removed : (strategy bytes new : List ℕ) (n : ℕ) → bytes ≡ dashed strategy
     → n ≡ length bytes → new ≡ take (n - 1) bytes → new ≡ strategy_label strategy
-dash_removed [] bytes new n is counted rest =
-    rest ∙ ap (take (n - 1)) is ∙ take-nil (n - 1)
+dash_removed [] bytes new n is counted rest = grind arith
 dash_removed (action ∷ strategy) bytes new n is counted rest =
     let label = strategy_label (action ∷ strategy) in
     let whole : bytes ≡ label ++ 45 ∷ [] = is ∙ dash_last action strategy in
-    let front : n - 1 ≡ length label =
-    omega (arith, counted, ap length whole, length-append label (45 ∷ [])) in
+    let front : n - 1 ≡ length label = grind (arith, length-append label (45 ∷ [])) in
     rest ∙ (λ i. take (front i) (whole i)) ∙ take-append_seam label (45 ∷ [])
 
 pub all_taken : {A : Type 0} (P : A → Type 0) (n : ℕ) (xs : List A) → AllByRecursion P xs
@@ -187,8 +169,7 @@ plain_number n h =
 plain_behind : (before : ℕ) (bytes : List ℕ) → (before == 92) ≡ false
     → AllByRecursion IsPlain bytes → is_spelling_after before bytes ≡ true
 plain_behind before [] e h = rw e refl
-plain_behind before (b ∷ bytes) e h =
-    let no_quote = h.0.0 in rw no_quote (plain_behind b bytes h.0.1 h.1)
+plain_behind before (b ∷ bytes) e h = grind (arith, plain_behind b bytes h.0.1 h.1)
 
 pub plain_label : (bytes : List ℕ) → AllByRecursion IsPlain bytes → IsLabel bytes
 plain_label bytes h = plain_behind 34 bytes refl h

@@ -1,8 +1,7 @@
 -- The strategies of the profile with a number, written one player's after another's.
-use Rattle.std.proofs.Common.{◌≡◌, ℕ, suc, ◌+◌, ◌/◌, ◌%◌, ◌<◌, ◌≤◌, List, [], ◌∷◌, ◌++◌}
-use Rattle.std.proofs.Common.{add-one, ap, append_assoc, arith, drop, get_or, length, refl, subst}
-use Rattle.std.proofs.Common.{sym}
-use Rattle.std.proofs.Common.{take, ◌∙◌}
+use Rattle.std.proofs.Common.{◌≡◌, ℕ, suc, ◌+◌, ◌/◌, ◌%◌, ◌<◌, ◌≤◌, List, [], ◌∷◌, ◌++◌, add-one}
+use Rattle.std.proofs.Common.{ap, append_assoc, arith, drop, get_or, length, refl, subst, sym, take}
+use Rattle.std.proofs.Common.{◌∙◌}
 use Rattle.std.proofs.Math.ListN.{drop_of_length-le, set}
 use Rattle.std.proofs.Math.Seq.{drop-cons}
 use Rattle.std.proofs.lemmas.Grind.{get_or_default_zero}
@@ -54,10 +53,7 @@ one_written actions number i rest whole all next own less whole_is own_is next_i
 pub last_written : (actions : List (List ℕ)) (number i rest : ℕ) (all : List (List ℕ))
     → Written actions number i rest all → length actions ≤ i → all ≡ numbered actions number
 last_written actions number i rest all h past =
-    sym (take_past i all (omega (arith, h.as_long, past))) ∙ sym (append-nil (take i all))
-    ∙ ap (λ (lists : List (List ℕ)). take i all ++ numbered lists rest)
-    (sym (drop_of_length-le actions past))
-    ∙ h.wanted
+    grind (arith, take_past, append-nil, drop_of_length-le)
 
 -- each player has a strategy, if there is a profile
 pub some_strategy : (g : Game) (c : Counts) → AreCounts g c → (number i whole : ℕ)

@@ -1,13 +1,13 @@
 -- Trees whose nodes are alike, each to its image, in what is chosen, how probable it is and what it
 -- pays: they have the same payoff, and the same bottom-up value.
-use Rattle.std.proofs.Common.{◌≡◌, ℕ, zero, suc, ◌+◌, Bool, true, false, List, [], ◌∷◌, ◌++◌}
-use Rattle.std.proofs.Common.{Option, Some, None, map, refl, sym, ap, ◌∙◌, subst, true≢false}
+use Rattle.std.proofs.Common.{◌≡◌, ℕ, zero, suc, ◌+◌, Bool, List, ◌++◌, arith, Option, Some, None}
+use Rattle.std.proofs.Common.{map, refl, sym, ap, ◌∙◌, subst}
 use Rattle.std.specs.Prelude.{◌==◌, ◌&&◌, filter, MatchOption}
 use Rattle.std.specs.Bool.{MatchBool}
 use Rattle.std.specs.List.{AllByRecursion}
 use Rattle.std.proofs.lemmas.List.{map-append}
 use Rattle.gf_fraction.specs.Ratio.{Ratio}
-use Rattle.gf_fraction.specs.Rational.{plus, times, total, zero_ratio, one_ratio}
+use Rattle.gf_fraction.specs.Rational.{plus, times, total, zero_ratio}
 use Rattle.gf_fraction.specs.Fits.{AddsTo, MultipliesTo}
 use Rattle.gf_fraction.proofs.AllElements.{all_parts}
 use Rattle.gf_tree.specs.Tree.{Tree, Trees, map_tree, map_trees}
@@ -74,8 +74,7 @@ module _ (g h : Game) (c d : SetKey → ℕ) (player : ℕ) (f : Node → Node) 
   leaf_view : (n : Node) → IsAlike n → map (view h d player) (plays (map_tree f (branch n none)))
       ≡ map (view g c player) (plays (branch n none))
   unfolding view
-  leaf_view n a =
-      λ i. record { followed = true; chance = one_ratio; paid = plus (a.pays i) zero_ratio } ∷ []
+  leaf_view n a = cc a.pays
 
   mutual
     tree_views : (t : Tree Node) → AreAlike (flatten t)
@@ -108,11 +107,7 @@ payoff_by_views g c player =
 pub same_payoff : (g h : Game) (c d : SetKey → ℕ) (player : ℕ) (f : Node → Node)
     → h.tree ≡ map_tree f g.tree → AreAlike g h c d player f (flatten g.tree)
     → payoff h d player ≡ payoff g c player
-same_payoff g h c d player f tree a =
-    payoff_by_views h d player
-    ∙ ap (λ t. pays_by (map (view h d player) (plays t))) tree
-    ∙ ap pays_by (tree_views g h c d player f g.tree a)
-    ∙ sym (payoff_by_views g c player)
+same_payoff g h c d player f tree a = grind (arith, payoff_by_views, tree, tree_views)
 
 -- ---- bottom-up values
 
@@ -134,32 +129,12 @@ module _ (g h : Game) (c d : SetKey → ℕ) (player : ℕ) (f : Node → Node) 
   ChildGoes ts = (position : ℕ) (value : Ratio) → IsChildValue g c player position ts value
       → IsChildValue h d player position (map_trees f ts) value
 
-  below_goes : (n : Node) (ts : Trees Node) (a b : Bool) (position place : ℕ) (value : Ratio)
-      → b ≡ a → place ≡ position → ChanceGoes n ts → ChildGoes ts
-      → MatchBool a (IsChanceValue g c player n 1 zero_ratio ts value)
-      (IsChildValue g c player position ts value)
-      → MatchBool b (IsChanceValue h d player (f n) 1 zero_ratio (map_trees f ts) value)
-      (IsChildValue h d player place (map_trees f ts) value)
-  below_goes n ts true true position place value e p chance child v = chance value v
-  below_goes n ts false false position place value e p chance child v =
-      subst (λ k. IsChildValue h d player k (map_trees f ts) value) (sym p) (child position value v)
-  below_goes n ts true false position place value e p chance child v = absurd (true≢false (sym e))
-  below_goes n ts false true position place value e p chance child v = absurd (true≢false e)
-
   node_goes : (n : Node) (ts : Trees Node) (value : Ratio)
       → IsAlike g h c d player f n → ChanceGoes n ts → ChildGoes ts → (o : Option SetKey)
       → MatchOption o ((f n).set ≡ None) (λ key. (other : SetKey) × ((f n).set ≡ Some other)
       × ((other.player == 0) ≡ (key.player == 0)) × (d other ≡ c key))
       → ValueAt g c n ts value o → ValueAt h d (f n) (map_trees f ts) value (f n).set
-  node_goes n ts value a chance child None m v =
-      subst (ValueAt h d (f n) (map_trees f ts) value) (sym m) (v ∙ sym a.pays)
-  node_goes n ts value a chance child (Some key) m v =
-      subst (ValueAt h d (f n) (map_trees f ts) value) (sym m.1) (
-        v.0,
-        below_goes n ts (key.player == 0) (m.0.player == 0)
-            (c key) (d m.0) v.0 m.2 m.3 chance child v.1,
-        subst (λ own. AddsTo own v.0 value) (sym a.pays) v.2,
-      )
+  node_goes n ts value a chance child o m v = grind arith
 
   mutual
     value_goes : (t : Tree Node) (value : Ratio) → AreAlike g h c d player f (flatten t)
@@ -202,5 +177,4 @@ module _ (g h : Game) (c d : SetKey → ℕ) (player : ℕ) (f : Node → Node) 
 pub same_value : (g h : Game) (c d : SetKey → ℕ) (player : ℕ) (f : Node → Node) (value : Ratio)
     → h.tree ≡ map_tree f g.tree → AreAlike g h c d player f (flatten g.tree)
     → IsValue g c player g.tree value → IsValue h d player h.tree value
-same_value g h c d player f value tree a v = subst (λ t. IsValue h d player t value) (sym tree)
-    (value_goes g h c d player f g.tree value a v)
+same_value g h c d player f value tree a v = grind (arith, tree, value_goes)

@@ -1,6 +1,6 @@
 -- If the bottom-up value is defined, it is the payoff by plays.
-use Rattle.std.proofs.Common.{◌≡◌, ℕ, zero, suc, ◌+◌, Bool, true, false, List, ◌++◌, Option}
-use Rattle.std.proofs.Common.{Some, None, MatchOption, length, map, refl, sym, subst, arith}
+use Rattle.std.proofs.Common.{◌≡◌, ℕ, zero, suc, ◌+◌, Bool, true, false, List, ◌++◌, Option, Some}
+use Rattle.std.proofs.Common.{None, MatchOption, length, map, refl, sym, subst, arith}
 use Rattle.std.specs.Prelude.{◌==◌, option_map}
 use Rattle.std.specs.Bool.{MatchBool}
 use Rattle.std.specs.List.{AllByRecursion}
@@ -9,11 +9,11 @@ use Rattle.gf_fraction.specs.Rational.{IsEqual, zero_ratio, one_ratio, plus, tim
 use Rattle.gf_fraction.specs.Fits.{AddsTo, MultipliesTo}
 use Rattle.gf_fraction.proofs.LowestTerms.{mul_pos_right, one_fraction}
 use Rattle.gf_fraction.proofs.AllElements.{all_parts}
-use Rattle.gf_fraction.proofs.Rationals.{equal_refl, plus_both, plus_zero, plus_comm, plus_assoc}
-use Rattle.gf_fraction.proofs.Rationals.{times_comm, times_assoc, times_plus, times_zero}
-use Rattle.gf_fraction.proofs.Rationals.{times_one, IsAbove, plus_above, times_above}
-use Rattle.gf_fraction.proofs.Chains.{◌then◌, back, plus_left, plus_right}
-use Rattle.gf_fraction.proofs.Chains.{times_left, times_right, plus_across}
+use Rattle.gf_fraction.proofs.Rationals.{equal_refl, plus_both, plus_zero, plus_assoc, times_comm}
+use Rattle.gf_fraction.proofs.Rationals.{times_assoc, times_plus, times_zero, times_one, IsAbove}
+use Rattle.gf_fraction.proofs.Rationals.{plus_above, times_above}
+use Rattle.gf_fraction.proofs.Chains.{◌then◌, back, plus_left, plus_right, times_left, times_right}
+use Rattle.gf_fraction.proofs.Chains.{plus_across}
 use Rattle.gf_nfg.specs.Profiles.{numbers_from}
 use Rattle.gf_tree.specs.Tree.{Tree, Trees, count}
 use Rattle.gf_tree.specs.Tree.Tree.{branch}
@@ -26,25 +26,23 @@ use Rattle.gf_form.specs.Plays.{Play, from_node, is_chosen}
 use Rattle.gf_form.specs.Payoff.{probability, payoff_at, payoff, play_probability, play_payoff}
 use Rattle.gf_form.specs.BottomUp.{IsValue, IsChanceValue, IsChildValue}
 use Rattle.gf_form.proofs.lemmas.values.Denominators.{probability_above, payoff_above}
-use Rattle.gf_form.proofs.lemmas.values.Denominators.{payoff_fraction}
-use Rattle.gf_form.proofs.lemmas.values.Denominators.{play_probability_above, worth_above}
+use Rattle.gf_form.proofs.lemmas.values.Denominators.{payoff_fraction, play_probability_above}
+use Rattle.gf_form.proofs.lemmas.values.Denominators.{worth_above}
 use Rattle.gf_form.proofs.lemmas.values.Lotteries.{no_chance}
-use Rattle.gf_form.proofs.lemmas.values.Followed.{followed, followed_in, in_children}
-use Rattle.gf_form.proofs.lemmas.values.Followed.{each_chosen, first_chosen, only_this, not_this}
-use Rattle.gf_form.proofs.lemmas.values.Whole.{one_of, by_one, leaf_whole, first_whole}
-use Rattle.gf_form.proofs.lemmas.values.Whole.{this_whole, chance_whole, some_child}
+use Rattle.gf_form.proofs.lemmas.values.Followed.{followed, followed_in, in_children, each_chosen}
+use Rattle.gf_form.proofs.lemmas.values.Followed.{first_chosen, only_this, not_this}
+use Rattle.gf_form.proofs.lemmas.values.Whole.{one_of, by_one, first_whole, this_whole}
+use Rattle.gf_form.proofs.lemmas.values.Whole.{chance_whole, some_child}
 use Rattle.gf_form.proofs.lemmas.values.PlaySums.{sum_joined, weight_above, all_worth_above}
 use Rattle.gf_form.proofs.lemmas.values.PlaySums.{weight_after, worth_after}
 
 -- ---- what the arithmetic of values says
 
 sum_equal : (x y r : Ratio) → IsAbove x → IsAbove y → AddsTo x y r → IsEqual r (plus x y)
-sum_equal x y r hx hy h =
-    record { left = h.1.den_above_zero; right = plus_above x y hx hy; crosswise = h.2 }
+sum_equal x y r hx hy h = grind arith
 
 product_equal : (x y r : Ratio) → IsAbove x → IsAbove y → MultipliesTo x y r → IsEqual r (times x y)
-product_equal x y r hx hy h =
-    record { left = h.0.den_above_zero; right = times_above x y hx hy; crosswise = h.1 }
+product_equal x y r hx hy h = grind arith
 
 module _ (g : Game) (game : IsGame g) (spellable : IsSpellable g) (player : ℕ)
     (choices : SetKey → ℕ) where
@@ -93,8 +91,7 @@ module _ (g : Game) (game : IsGame g) (spellable : IsSpellable g) (player : ℕ)
   no_more n k sum value above h = record {
     rest = zero_ratio;
     above = omega arith;
-    added = subst (λ r. IsEqual r (plus sum zero_ratio)) (sym h)
-        (back (plus_comm sum zero_ratio above (omega arith) then plus_zero sum above));
+    added = grind arith;
     chances = equal_refl zero_ratio (omega arith);
     paid = back (plus_left zero_ratio (omega arith) (times_zero (own n) (own_above n))
         then plus_zero zero_ratio (omega arith));
@@ -160,8 +157,7 @@ module _ (g : Game) (game : IsGame g) (spellable : IsSpellable g) (player : ℕ)
       → Pays (plus (own n) value) (followed choices n k (more t ts))
   this_child n key k value t ts at personal same pays =
       let ps = followed_in choices t in
-      let sure : IsEqual (q n k) one_ratio =
-      one_of (q n k) (no_chance g game spellable n key k at personal) in
+      let sure = one_of (q n k) (no_chance g game spellable n key k at personal) in
       let times_w = times_above (own n) (w ps) (own_above n) (w_above ps) in
       record {
         whole = this_whole g game spellable choices n key k t ts at personal same pays.whole;
@@ -178,27 +174,13 @@ module _ (g : Game) (game : IsGame g) (spellable : IsSpellable g) (player : ℕ)
   other_child : (n : Node) (key : SetKey) (k : ℕ) (value : Ratio) (t : Tree Node) (ts : Trees Node)
       → n.set ≡ Some key → (key.player == 0) ≡ false → ¬ (choices key ≡ k)
       → Pays value (followed choices n (k + 1) ts) → Pays value (followed choices n k (more t ts))
-  other_child n key k value t ts at personal differs pays =
-      subst (Pays value) (sym (not_this choices n key at personal k t ts differs)) pays
+  other_child n key k value t ts at personal differs pays = grind (arith, not_this, pays)
 
   -- ---- a node
 
   leaf_pays : (n : Node) (value : Ratio) → value ≡ own n
       → Pays value (followed_in choices (branch n none))
-  leaf_pays n value is =
-      let plus_none : (x : Ratio) → IsAbove x → IsEqual (plus x zero_ratio) x =
-      λ x hx. plus_comm x zero_ratio hx (omega arith) then plus_zero x hx in
-      let paid : IsAbove (plus (own n) zero_ratio) =
-      plus_above (own n) zero_ratio (own_above n) (omega arith) in
-      record {
-        whole = leaf_whole g game spellable choices n;
-        paid = subst (λ r. IsEqual r (e (followed_in choices (branch n none)))) (sym is)
-            (back (plus_none (times one_ratio (plus (own n) zero_ratio))
-            (times_above one_ratio (plus (own n) zero_ratio) (omega arith) paid)
-            then by_one one_ratio (plus (own n) zero_ratio)
-            paid (equal_refl one_ratio (omega arith))
-            then plus_none (own n) (own_above n)));
-      }
+  leaf_pays n value is = grind (arith, plus_above (own n) zero_ratio (own_above n) (omega arith))
 
   abbrev ChanceAdds : Node → Trees Node → Type 0
   ChanceAdds n ts =
@@ -218,7 +200,6 @@ module _ (g : Game) (game : IsGame g) (spellable : IsSpellable g) (player : ℕ)
   chance_pays n ts key below value at chance children chances h adds =
       let a = chances zero_ratio below (each_chosen choices n key at chance) (omega arith) h in
       let some = some_child g game spellable choices n ts key children in
-      let ps = followed choices n 1 ts in
       let one = chance_whole g game spellable choices n ts key at chance children a.chances in
       let is_rest : IsEqual below a.rest = a.added then plus_zero a.rest a.above in
       subst (Pays value) (sym (in_children choices n ts some)) (record {
@@ -317,8 +298,7 @@ module _ (g : Game) (game : IsGame g) (spellable : IsSpellable g) (player : ℕ)
       × MatchBool (key.player == 0) (IsChanceValue g choices player n 1 zero_ratio ts below)
       (IsChildValue g choices player (choices key) ts below) × AddsTo (own n) below value)
       → IsFraction value
-  fraction_at n ts value None h = subst IsFraction (sym h) (payoff_fraction g spellable player n)
-  fraction_at n ts value (Some key) h = h.2.1
+  fraction_at n ts value o h = grind (arith, payoff_fraction)
 
   value_is_fraction : (t : Tree Node) (value : Ratio) → IsValue g choices player t value
       → IsFraction value

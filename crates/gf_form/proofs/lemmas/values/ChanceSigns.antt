@@ -1,14 +1,13 @@
 -- No probability of a chance move is negative.
-use Rattle.std.proofs.Common.{◌≡◌, ℕ, ℤ, suc, pos, List, [], ◌∷◌, length, map, Option}
-use Rattle.std.proofs.Common.{Some, None, ap, drop, get_or, sym, subst, arith}
+use Rattle.std.proofs.Common.{◌≡◌, ℕ, ℤ, pos, List, [], ◌∷◌, length, map, Option, Some, ap, drop}
+use Rattle.std.proofs.Common.{sym, subst, arith}
 use Rattle.std.specs.Prelude.{◌≤ℤ◌, option_and_then, unsigned_abs}
 use Rattle.std.specs.List.{AllByRecursion}
 use Rattle.std.proofs.lemmas.Int.{ints}
 use Rattle.gf_fraction.specs.Ratio.{Ratio}
 use Rattle.gf_fraction.specs.Rational.{one_ratio}
 use Rattle.gf_token.specs.Positions.{at_position}
-use Rattle.gf_tree.specs.Description.{Action, AddToOne, AreActions, IsLottery, IsSet}
-use Rattle.gf_tree.specs.Description.{SetKey}
+use Rattle.gf_tree.specs.Description.{Action, AddToOne, AreActions, IsLottery, IsSet, SetKey}
 use Rattle.gf_tree.specs.Game.{Game, IsGame, Node, set_at}
 use Rattle.gf_form.specs.Payoff.{action_at}
 use Rattle.gf_form.specs.inner.values.Values.{chances_at}
@@ -25,14 +24,9 @@ lottery_signs : (actions : List Action) (ps : List Ratio) (sum : Ratio)
     → map (λ a. a.probability) actions ≡ map Some ps → AddToOne sum ps
     → AllByRecursion HasSign actions
 lottery_signs [] ps sum e adds = tt
-lottery_signs (a ∷ actions) [] sum e adds =
-    let f : suc (length (map (λ a. a.probability) actions)) ≡ 0 = ap length e in
-    absurd (omega arith)
+lottery_signs (a ∷ actions) [] sum e adds = grind arith
 lottery_signs (a ∷ actions) (p ∷ ps) sum e adds =
-    let here : a.probability ≡ Some p = ap (λ o. get_or o 0 None) e in (
-      subst (Each IsNotNegative) (sym here) adds.0,
-      lottery_signs actions ps adds.1.0 (ap (drop 1) e) adds.1.2,
-    )
+    grind (arith, lottery_signs actions ps adds.1.0 (ap (drop 1) e) adds.1.2, ints)
 
 size_is : (z : ℤ) → pos 0 ≤ℤ z → z ≡ pos (unsigned_abs z)
 size_is z h = omega (arith, ints, h)

@@ -10,8 +10,8 @@ use Rattle.gf_token.specs.Positions.{at_position}
 use Rattle.gf_tree.specs.Description.{SetKey, InformationSet, Outcome, same_set}
 use Rattle.gf_tree.specs.FiniteMap.{Described}
 use Rattle.gf_tree.specs.Game.{Node, Game, set_at, outcome_at}
-use Rattle.gf_tree.specs.Spellable.{IsSpellable, IsSpellableAction}
-use Rattle.gf_tree.specs.Spellable.{IsSpellableSet, IsSpellableOutcome}
+use Rattle.gf_tree.specs.Spellable.{IsSpellable, IsSpellableAction, IsSpellableSet}
+use Rattle.gf_tree.specs.Spellable.{IsSpellableOutcome}
 use Rattle.gf_form.specs.Plays.{Step, Play, nodes_of}
 use Rattle.gf_form.specs.Payoff.{action_at, probability, payoff_at, play_probability, play_payoff}
 use Rattle.gf_form.proofs.lemmas.strategies.Lookups.{Each, each_at, each_found, each_mapped}
@@ -39,17 +39,16 @@ module _ (g : Game) (spellable : IsSpellable g) where
 
   pub probability_fraction : (s : Step) → IsFraction (probability g s)
   probability_fraction s =
-      let taken : Each IsSpellableAction (action_at g s) =
-      each_then (λ _. ⊤) IsSpellableAction
-      (λ key. option_and_then (λ set. at_position set.actions s.taken) (set_at g key)) s.node.set
-      (λ key _. each_then (λ set. AllByRecursion IsSpellableAction set.actions) IsSpellableAction
-      (λ set. at_position set.actions s.taken) (set_at g key)
-      (λ set h. each_at IsSpellableAction set.actions s.taken h) (actions_of key))
+      let taken = each_then (λ _. ⊤) IsSpellableAction (λ key. option_and_then (λ set. at_position
+      set.actions s.taken) (set_at g key)) s.node.set (λ key _. each_then (λ set. AllByRecursion
+      IsSpellableAction set.actions) IsSpellableAction (λ set. at_position set.actions s.taken)
+      (set_at g key) (λ set h. each_at IsSpellableAction set.actions s.taken h) (actions_of key))
       (each_any s.node.set) in
-      each_or IsFraction (option_and_then (λ a. a.probability) (action_at g s)) one_ratio
-      (whole_fraction 1 (omega arith))
-      (each_then IsSpellableAction IsFraction (λ a. a.probability) (action_at g s) (λ a h. h.1)
-      taken)
+      grind (
+        arith,
+        each_or IsFraction (option_and_then (λ a. a.probability) (action_at g s))
+            one_ratio (whole_fraction 1 (omega arith)) (grind arith),
+      )
 
   pub probability_above : (s : Step) → IsAbove (probability g s)
   probability_above s = (probability_fraction s).den_above_zero

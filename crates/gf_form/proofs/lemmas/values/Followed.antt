@@ -1,9 +1,7 @@
 -- The plays that follow choices, child by child.
-use Rattle.std.proofs.Common.{◌≡◌, ℕ, ◌+◌, ◌<◌, Bool, true, false, List, []}
-use Rattle.std.proofs.Common.{◌++◌, Some, map, refl, ap, ◌∙◌, arith, append-nil}
+use Rattle.std.proofs.Common.{◌≡◌, ℕ, ◌+◌, ◌<◌, Bool, true, false, List, [], ◌++◌, Some, map, refl}
+use Rattle.std.proofs.Common.{◌∙◌, arith, append-nil}
 use Rattle.std.specs.Prelude.{◌==◌, ◌||◌, filter}
-use Rattle.std.specs.Option.{option_map_or}
-use Rattle.std.proofs.lemmas.Bool.{eq-eqb, ne_eqb}
 use Rattle.std.proofs.lemmas.List.Elements.{filter-append}
 use Rattle.gf_tree.specs.Tree.{Tree, Trees, count}
 use Rattle.gf_tree.specs.Tree.Tree.{branch}
@@ -23,21 +21,18 @@ module _ (choices : SetKey → ℕ) where
 
   pub in_children : (n : Node) (ts : Trees Node) → 0 < count ts
       → followed_in (branch n ts) ≡ followed n 1 ts
-  in_children n none some = absurd (omega arith)
-  in_children n (more t ts) some = refl
+  in_children n ts some = grind arith
 
   -- whether this step is chosen, at a node of this set
   chosen_at : (n : Node) (k : ℕ) (key : SetKey) (b : Bool)
       → n.set ≡ Some key → (key.player == 0 || choices key == k) ≡ b
       → is_chosen choices (record { node = n; taken = k }) ≡ b
-  chosen_at n k key b at h =
-      ap (λ o. option_map_or (λ key. key.player == 0 || choices key == k) o true) at ∙ h
+  chosen_at n k key b at h = cc (at, h)
 
   -- the plays of the children are those of the first and those of the others
   parts : (n : Node) (k : ℕ) (t : Tree Node) (ts : Trees Node) → followed n k (more t ts)
       ≡ filter (follows choices) (map (from_node n k) (plays t)) ++ followed n (k + 1) ts
-  parts n k t ts =
-      filter-append (follows choices) (map (from_node n k) (plays t)) (plays_from n (k + 1) ts)
+  parts n k t ts = grind (arith, filter-append)
 
   -- chance moves
 
@@ -48,8 +43,7 @@ module _ (choices : SetKey → ℕ) where
   pub first_chosen : (n : Node) (k : ℕ) (t : Tree Node) (ts : Trees Node)
       → is_chosen choices (record { node = n; taken = k }) ≡ true
       → followed n k (more t ts) ≡ map (from_node n k) (followed_in t) ++ followed n (k + 1) ts
-  first_chosen n k t ts chosen = parts n k t ts
-      ∙ ap (λ l. l ++ followed n (k + 1) ts) (followed_chosen choices n k chosen (plays t))
+  first_chosen n k t ts chosen = cc (parts n k t ts, followed_chosen choices n k chosen (plays t))
 
   -- a player moves
 
@@ -57,8 +51,7 @@ module _ (choices : SetKey → ℕ) where
       (personal : (key.player == 0) ≡ false) where
     is_other : (k : ℕ) → ¬ (choices key ≡ k)
         → is_chosen choices (record { node = n; taken = k }) ≡ false
-    is_other k differs =
-        chosen_at n k key false at (λ i. personal i || ne_eqb (choices key) k differs i)
+    is_other k differs = grind arith
 
     none_later : (k : ℕ) (ts : Trees Node) → choices key < k → followed n k ts ≡ []
     none_later k none less = refl
@@ -69,13 +62,8 @@ module _ (choices : SetKey → ℕ) where
 
     pub only_this : (k : ℕ) (t : Tree Node) (ts : Trees Node) → choices key ≡ k
         → followed n k (more t ts) ≡ map (from_node n k) (followed_in t)
-    only_this k t ts same =
-        let chosen = chosen_at n k key true at (λ i. personal i || eq-eqb (choices key) k same i) in
-        first_chosen n k t ts chosen
-        ∙ ap (λ l. map (from_node n k) (followed_in t) ++ l) (none_later (k + 1) ts (omega arith))
-        ∙ append-nil (map (from_node n k) (followed_in t))
+    only_this k t ts same = grind (arith, chosen_at, first_chosen, none_later, append-nil)
 
     pub not_this : (k : ℕ) (t : Tree Node) (ts : Trees Node) → ¬ (choices key ≡ k)
         → followed n k (more t ts) ≡ followed n (k + 1) ts
-    not_this k t ts differs = parts n k t ts ∙ ap (λ l. l ++ followed n (k + 1) ts)
-        (followed_other choices n k (is_other k differs) (plays t))
+    not_this k t ts differs = grind (arith, parts, followed_other)

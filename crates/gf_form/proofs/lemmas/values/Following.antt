@@ -1,12 +1,11 @@
 -- Which plays follow the same choices.
-use Rattle.std.proofs.Common.{◌≡◌, ℕ, suc, ◌+◌, ◌<◌, ◌≤◌, Bool, true, false, List}
-use Rattle.std.proofs.Common.{[], ◌∷◌, ◌++◌, Option, Some, None, MatchOption, length}
-use Rattle.std.proofs.Common.{map, refl, sym, ap, ◌∙◌, subst, arith, inl, inr}
-use Rattle.std.specs.Prelude.{◌⊎◌, ◌↔◌, ◌==◌, ◌||◌, option_map, unwrap_or}
+use Rattle.std.proofs.Common.{◌≡◌, ℕ, suc, ◌+◌, ◌<◌, ◌≤◌, Bool, true, false, List, [], ◌∷◌, ◌++◌}
+use Rattle.std.proofs.Common.{Option, Some, MatchOption, length, map, refl, sym, ap, ◌∙◌, subst}
+use Rattle.std.proofs.Common.{arith, inl, inr}
+use Rattle.std.specs.Prelude.{◌⊎◌, ◌↔◌, ◌==◌, ◌||◌, option_map}
 use Rattle.std.specs.List.{AllByRecursion, list_all}
 use Rattle.std.specs.Option.{option_map_or}
-use Rattle.std.proofs.lemmas.Bool.{and_parts, and_from, eqb-true, eqb-false, eq-eqb}
-use Rattle.std.proofs.lemmas.Option.{none-some}
+use Rattle.std.proofs.lemmas.Bool.{eqb-true}
 use Rattle.gf_fraction.proofs.AllElements.{all_parts}
 use Rattle.gf_tree.specs.Tree.{Tree, Trees, count}
 use Rattle.gf_tree.specs.Tree.Tree.{branch}
@@ -15,19 +14,10 @@ use Rattle.gf_tree.specs.PrefixOrder.{flatten, flatten_all}
 use Rattle.gf_tree.specs.Description.{SetKey}
 use Rattle.gf_tree.specs.Game.{Node, Game, HasChildren, set_at}
 use Rattle.gf_tree.proofs.lemmas.games.Uses.{Has, mapped_from}
-use Rattle.gf_form.specs.Plays.{Step, Play, from_node, plays, plays_from}
-use Rattle.gf_form.specs.Plays.{is_chosen, follows, PartAtChance}
+use Rattle.gf_form.specs.Plays.{Step, Play, from_node, plays, plays_from, is_chosen, follows}
+use Rattle.gf_form.specs.Plays.{PartAtChance}
 
 -- ---- a play's moves are the choices
-
-chosen_number : (p a k : ℕ) (b : Bool) → (p == 0) ≡ b → (p == 0 || a == k) ≡ true → 0 < p → a ≡ k
-chosen_number p a k true e h above = let none = eqb-true p 0 e in absurd (omega arith)
-chosen_number p a k false e h above = eqb-true a k (subst (λ b. (b || a == k) ≡ true) e h)
-
-number_chosen : (p a k : ℕ) (b : Bool) → (p == 0) ≡ b → (0 < p → a ≡ k) → (p == 0 || a == k) ≡ true
-number_chosen p a k true e h = λ i. e i || a == k
-number_chosen p a k false e h =
-    let some = eqb-false p 0 e in λ i. e i || eq-eqb a k (h (omega (arith, some))) i
 
 -- the choice at this set is this child
 abbrev Chooses : (SetKey → ℕ) → Option SetKey → ℕ → Type 0
@@ -36,17 +26,7 @@ Chooses choices o k = (key : SetKey) → o ≡ Some key → 0 < key.player → c
 chosen_move : (choices : SetKey → ℕ) (o : Option SetKey) (k : ℕ)
     → (option_map_or (λ key. key.player == 0 || choices key == k) o true ≡ true)
     ↔ Chooses choices o k
-chosen_move choices None k = (λ h key e above. absurd (none-some key e), λ h. refl)
-chosen_move choices (Some own) k = (
-  to,
-  λ h. number_chosen own.player (choices own) k (own.player == 0) refl (λ above. h own refl above),
-)
-  where
-    to : (own.player == 0 || choices own == k) ≡ true → Chooses choices (Some own) k
-    to h key e above =
-        let same : key ≡ own = sym (ap (λ o. unwrap_or o own) e) in
-        ap choices same ∙ chosen_number own.player (choices own) k (own.player == 0) refl h
-        (subst (λ s. 0 < s.player) same above)
+chosen_move choices o k = grind arith
 
 abbrev pub ChoosesMoves : (SetKey → ℕ) → List Step → Type 0
 ChoosesMoves choices steps = AllByRecursion
@@ -56,14 +36,7 @@ chosen_moves : (choices : SetKey → ℕ) (steps : List Step)
     → (list_all (is_chosen choices) steps ≡ true) ↔ ChoosesMoves choices steps
 chosen_moves choices [] = (λ h. tt, λ h. refl)
 chosen_moves choices (s ∷ steps) =
-    let first = chosen_move choices s.node.set s.taken in
-    let others = chosen_moves choices steps in (
-      λ h. (
-        first.0 (and_parts (is_chosen choices s) (list_all (is_chosen choices) steps) h).0,
-        others.0 (and_parts (is_chosen choices s) (list_all (is_chosen choices) steps) h).1,
-      ),
-      λ h. and_from _ _ (first.1 h.0) (others.1 h.1),
-    )
+    grind (arith, chosen_move choices s.node.set s.taken, chosen_moves choices steps)
 
 pub follows_moves : (choices : SetKey → ℕ) (play : Play)
     → (follows choices play ≡ true) ↔ ChoosesMoves choices play.steps
@@ -128,12 +101,7 @@ module _ (choices : SetKey → ℕ) where
         first_steps = refl;
         second_steps = refl;
       }
-      by_kind false e =
-          let personal = eqb-false key.player 0 e in
-          let above : 0 < key.player = omega (arith, personal) in
-          let to_j = ((follows_moves choices (from_node n j p)).0 hp).0 key at above in
-          let to_k = ((follows_moves choices (from_node n k q)).0 hq).0 key at above in
-          absurd (differ (sym to_j ∙ to_k))
+      by_kind false e = grind arith
 
   part_behind : (n : Node) (k : ℕ) (p q : Play) → PartAtChance p q
       → PartAtChance (from_node n k p) (from_node n k q)
@@ -152,31 +120,24 @@ module _ (choices : SetKey → ℕ) where
   }
 
   follows_below : (n : Node) (k : ℕ) (p : Play) → Follows (from_node n k p) → Follows p
-  follows_below n k p h =
-      (and_parts (is_chosen choices (record { node = n; taken = k })) (follows choices p) h).1
+  follows_below n k p h = grind arith
 
   different : (n : Node) (key : SetKey) (j k : ℕ) (below above p q : Play) → n.set ≡ Some key
       → ¬ (j ≡ k) → from_node n j below ≡ p → from_node n k above ≡ q → Follows p → Follows q
       → SameOrPart p q
-  different n key j k below above p q at differ ep eq hp hq =
-      let part = part_here n key j k below above at differ (subst Follows (sym ep) hp)
-      (subst Follows (sym eq) hq) in
-      inr (subst (λ x. PartAtChance x q) ep
-      (subst (λ x. PartAtChance (from_node n j below) x) eq part))
+  different n key j k below above p q at differ ep eq hp hq = grind (arith, part_here)
 
   alike_child : (n : Node) (k : ℕ) (below above p q : Play)
       → from_node n k below ≡ p → from_node n k above ≡ q → SameOrPart below above → SameOrPart p q
   alike_child n k below above p q ep eq (inl e) = inl (sym ep ∙ ap (from_node n k) e ∙ eq)
-  alike_child n k below above p q ep eq (inr part) = inr (subst (λ x. PartAtChance x q) ep
-      (subst (λ x. PartAtChance (from_node n k below) x) eq (part_behind n k below above part)))
+  alike_child n k below above p q ep eq (inr part) = inr (grind (arith, ep, eq, part_behind))
 
   module _ (g : Game) where
     has_set : (o : Option SetKey) (n : ℕ) → 0 < n
         → MatchOption o (n ≡ 0)
         (λ key. option_map (λ set. length set.actions) (set_at g key) ≡ Some n)
         → (key : SetKey) × (o ≡ Some key)
-    has_set None n above e = absurd (omega arith)
-    has_set (Some key) n above e = (key, refl)
+    has_set o n above e = grind arith
 
     mutual
       pub same_or_part : (t : Tree Node) → AllByRecursion (HasChildren g) (flatten t) → (p q : Play)

@@ -1,20 +1,17 @@
 -- The probabilities of an information set: those of chance add up to one, and a player's actions
 -- have none.
-use Rattle.std.proofs.Common.{◌≡◌, ℕ, zero, suc, ◌+◌, ◌<◌, false, List, []}
-use Rattle.std.proofs.Common.{◌∷◌, Option, Some, None, length, map, get_or, drop}
-use Rattle.std.proofs.Common.{refl, sym, ap, subst, ◌∙◌, arith, true≢false}
+use Rattle.std.proofs.Common.{◌≡◌, ℕ, zero, suc, ◌+◌, ◌<◌, false, List, [], ◌∷◌, Option, Some, None}
+use Rattle.std.proofs.Common.{length, map, get_or, drop, refl, ap, subst, ◌∙◌, arith}
 use Rattle.std.specs.Prelude.{◌==◌, option_and_then, unwrap_or, slice_get}
 use Rattle.std.specs.List.{AllByRecursion}
 use Rattle.std.proofs.lemmas.List.{length-map}
 use Rattle.gf_fraction.specs.Ratio.{Ratio}
 use Rattle.gf_fraction.specs.Rational.{IsEqual, zero_ratio, one_ratio, plus, total}
-use Rattle.gf_fraction.proofs.Rationals.{equal_refl, plus_zero, plus_comm}
-use Rattle.gf_fraction.proofs.Rationals.{plus_assoc, IsAbove, plus_above}
-use Rattle.gf_fraction.proofs.Chains.{◌then◌, back, plus_left}
+use Rattle.gf_fraction.proofs.Rationals.{plus_zero, plus_assoc, IsAbove, plus_above}
+use Rattle.gf_fraction.proofs.Chains.{◌then◌, plus_left}
 use Rattle.gf_token.specs.Positions.{at_position}
 use Rattle.gf_nfg.specs.Profiles.{numbers_from}
-use Rattle.gf_tree.specs.Description.{Action, SetKey, InformationSet}
-use Rattle.gf_tree.specs.Description.{AddToOne, IsLottery, AreActions, IsSet}
+use Rattle.gf_tree.specs.Description.{Action, SetKey, InformationSet, AddToOne, AreActions, IsSet}
 use Rattle.gf_tree.specs.Game.{Node, Game, IsGame, set_at}
 use Rattle.gf_tree.specs.Spellable.{IsSpellable}
 use Rattle.gf_form.specs.Payoff.{action_at, probability}
@@ -28,20 +25,19 @@ total_list (p ∷ ps) h = plus_above p (total ps) h.0 (total_list ps h.1)
 
 adds_to_one : (sum : Ratio) (ps : List Ratio) → IsAbove sum → AllByRecursion IsAbove ps
     → AddToOne sum ps → IsEqual one_ratio (plus sum (total ps))
-adds_to_one sum [] above h adds =
-    back (plus_comm sum zero_ratio above (omega arith)
-    then plus_zero sum above
-    then subst (λ r. IsEqual r one_ratio) (sym adds) (equal_refl one_ratio (omega arith)))
+adds_to_one sum [] above h adds = grind arith
 adds_to_one sum (p ∷ ps) above h adds =
     let next = adds.1.0 in
     let others = total_list ps h.1 in
-    adds_to_one next ps adds.1.1.1.den_above_zero h.1 adds.1.2
-    then plus_left (total ps) others (record {
-      left = adds.1.1.1.den_above_zero;
-      right = plus_above sum p above h.0;
-      crosswise = adds.1.1.2;
-    })
-    then plus_assoc sum p (total ps) above h.0 others
+    grind (
+      arith,
+      adds_to_one next ps adds.1.1.1.den_above_zero h.1 adds.1.2 then plus_left (total
+          ps) others (record {
+            left = adds.1.1.1.den_above_zero;
+            right = plus_above sum p above h.0;
+            crosswise = adds.1.1.2;
+          }) then plus_assoc sum p (total ps) above h.0 others,
+    )
 
 -- numbers in turn give the elements of a list in turn
 in_turn : (f : ℕ → Ratio) (k : ℕ) (ps : List Ratio)
@@ -60,18 +56,10 @@ each_probability : (actions : List Action) (ps : List Ratio) (i : ℕ)
     → unwrap_or (option_and_then (λ a. a.probability) (slice_get actions i)) one_ratio
     ≡ get_or ps i one_ratio
 each_probability [] [] i e = refl
-each_probability [] (p ∷ ps) i e =
-    let f : 0 ≡ suc (length (map Some ps)) = ap length e in absurd (omega arith)
-each_probability (a ∷ actions) [] i e =
-    let f : suc (length (map (λ a. a.probability) actions)) ≡ 0 = ap length e in
-    absurd (omega arith)
+each_probability [] (p ∷ ps) i e = grind arith
+each_probability (a ∷ actions) [] i e = grind arith
 each_probability (a ∷ actions) (p ∷ ps) zero e = ap (λ o. unwrap_or (get_or o 0 None) one_ratio) e
 each_probability (a ∷ actions) (p ∷ ps) (suc i) e = each_probability actions ps i (ap (drop 1) e)
-
-personal_actions : (player : ℕ) (actions : List Action) → (player == 0) ≡ false
-    → AreActions player actions → AllByRecursion (λ a. a.probability ≡ None) actions
-personal_actions zero actions personal h = absurd (true≢false personal)
-personal_actions (suc player) actions personal h = h
 
 all_above : (f : ℕ → Ratio) → ((i : ℕ) → IsAbove (f i)) → (ns : List ℕ)
     → AllByRecursion IsAbove (map f ns)
@@ -90,37 +78,30 @@ module _ (g : Game) (game : IsGame g) (spellable : IsSpellable g) where
   -- what is so of each set is so of this one
   pub actions_at : (key : SetKey) (set : InformationSet) → set_at g key ≡ Some set
       → AreActions key.player set.actions × (0 < length set.actions)
-  actions_at key set e =
-      subst (Each (λ set. AreActions key.player set.actions × (0 < length set.actions))) e
-      (sets_have key)
+  actions_at key set e = grind (arith, sets_have key)
 
   pub chances_add : (n : Node) (key : SetKey) (set : InformationSet)
       → n.set ≡ Some key → key.player ≡ 0 → set_at g key ≡ Some set
       → IsEqual one_ratio (total (map (λ k. probability g (record { node = n; taken = k }))
       (numbers_from 1 (length set.actions))))
   chances_add n key set at chance is =
-      let lottery : IsLottery set.actions =
-      subst (λ p. AreActions p set.actions) chance (actions_at key set is).0 in
+      let lottery = subst (λ p. AreActions p set.actions) chance (actions_at key set is).0 in
       let ps = lottery.0 in
       let f = λ (k : ℕ). probability g (record { node = n; taken = k }) in
-      let size : length ps ≡ length set.actions = sym (length-map ps Some)
-      ∙ sym (ap length lottery.1)
-      ∙ length-map set.actions (λ a. a.probability) in
+      let size : length ps ≡ length set.actions = cc (
+        length-map ps Some,
+        lottery.1,
+        length-map set.actions (λ a. a.probability),
+      ) in
       let taken : (i : ℕ) → f (1 + i) ≡ get_or ps i one_ratio =
       λ i.
       let at_set : action_at g (record { node = n; taken = 1 + i }) ≡ slice_get set.actions i =
-      ap (option_and_then
-      (λ key. option_and_then (λ set. at_position set.actions (1 + i)) (set_at g key))) at
-      ∙ ap (option_and_then (λ set. at_position set.actions (1 + i))) is
-      ∙ next_position set.actions i in
-      ap (λ o. unwrap_or (option_and_then (λ a. a.probability) o) one_ratio) at_set
-      ∙ each_probability set.actions ps i lottery.1 in
+      cc (at, is, next_position set.actions i) in
+      cc (at_set, each_probability set.actions ps i lottery.1) in
       let list : map f (numbers_from 1 (length ps)) ≡ ps = in_turn f 1 ps (λ i _. taken i) in
-      let above : AllByRecursion IsAbove ps = subst (AllByRecursion IsAbove) list
-      (all_above f (λ k. probability_above g spellable (record { node = n; taken = k }))
-      (numbers_from 1 (length ps))) in
-      let all : ps ≡ map f (numbers_from 1 (length set.actions)) =
-      sym list ∙ ap (λ m. map f (numbers_from 1 m)) size in
+      let above = subst (AllByRecursion IsAbove) list (all_above f (λ k. probability_above g
+      spellable (record { node = n; taken = k })) (numbers_from 1 (length ps))) in
+      let all : ps ≡ map f (numbers_from 1 (length set.actions)) = cc (list, size) in
       subst (λ rs. IsEqual one_ratio (total rs)) all
       (adds_to_one zero_ratio ps (omega arith) above lottery.2
       then plus_zero (total ps) (total_list ps above))
@@ -128,11 +109,7 @@ module _ (g : Game) (game : IsGame g) (spellable : IsSpellable g) where
   -- a player's move takes no part in the probability of a play
   pub no_chance : (n : Node) (key : SetKey) (k : ℕ) → n.set ≡ Some key → (key.player == 0) ≡ false
       → probability g (record { node = n; taken = k }) ≡ one_ratio
-  no_chance n key k at personal =
-      ap (λ o. unwrap_or (option_and_then (λ a. a.probability) (option_and_then
-      (λ key. option_and_then (λ set. at_position set.actions k) (set_at g key)) o)) one_ratio)
-      at
-      ∙ by_set (set_at g key) (sets_have key)
+  no_chance n key k at personal = cc (at, by_set (set_at g key) (sets_have key))
     where
       by_action : (o : Option Action) → Each (λ a. a.probability ≡ None) o
           → unwrap_or (option_and_then (λ a. a.probability) o) one_ratio ≡ one_ratio
@@ -146,5 +123,4 @@ module _ (g : Game) (game : IsGame g) (spellable : IsSpellable g) where
           ≡ one_ratio
       by_set None h = refl
       by_set (Some set) h =
-          by_action (at_position set.actions k) (each_at (λ a. a.probability ≡ None) set.actions k
-          (personal_actions key.player set.actions personal h.0))
+          by_action (at_position set.actions k) (grind (arith, each_at))

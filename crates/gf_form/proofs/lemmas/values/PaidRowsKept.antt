@@ -1,7 +1,7 @@
 -- The rows of payoffs that are kept, each at its position.
-use Rattle.std.proofs.Common.{◌≡◌, ℕ, zero, suc, ◌+◌, ◌-◌, ◌<◌, ◌≤◌, true, List, [], ◌∷◌}
-use Rattle.std.proofs.Common.{◌++◌, length, map, get_or, slice_get, inl, inr, subst}
-use Rattle.std.proofs.Common.{Some, None, option_map, Bor, refl, sym, ap, ◌∙◌, arith}
+use Rattle.std.proofs.Common.{◌≡◌, ℕ, zero, suc, ◌+◌, ◌-◌, ◌<◌, ◌≤◌, true, List, [], ◌∷◌, ◌++◌}
+use Rattle.std.proofs.Common.{length, map, get_or, slice_get, inl, inr, subst, Some, Bor, refl, sym}
+use Rattle.std.proofs.Common.{arith}
 use Rattle.std.specs.Prelude.{◌==◌, unwrap_or}
 use Rattle.std.specs.List.{AllByRecursion, find}
 use Rattle.std.proofs.lemmas.Bool.{cases_lt}
@@ -27,23 +27,13 @@ pub row_there : (rows held : List (Bor (List Ratio))) (position : ℕ) (row : Bo
     → row ≡ get_or held (position - 1) row
     → row.now ≡ row_at (map (λ row. row.now) rows) position
 row_there rows held position row same some within is =
-    sym (ap (λ (rs : List (Bor (List Ratio))). row_at (map (λ row. row.now) rs) position) (sym same)
-    ∙ ap (λ o. unwrap_or o [])
-    (at_index (map (λ row. row.now) held) position (omega (arith, some))
-    ∙ slice_get-map (λ (row : Bor (List Ratio)). row.now) held (position - 1)
-    ∙ ap (option_map (λ (row : Bor (List Ratio)). row.now))
-    (slice_get-get_or held (position - 1) row within))
-    ∙ ap (λ (row : Bor (List Ratio)). row.now) (sym is))
+    grind (arith, same, at_index, slice_get-map, slice_get-get_or, is)
 
 pub no_row : (rows held : List (Bor (List Ratio))) (position : ℕ)
     → held ≡ rows → ¬ (position ≡ 0) → length held ≤ position - 1
     → [] ≡ row_at (map (λ row. row.now) rows) position
 no_row rows held position same some past =
-    sym (ap (λ (rs : List (Bor (List Ratio))). row_at (map (λ row. row.now) rs) position) (sym same)
-    ∙ ap (λ o. unwrap_or o [])
-    (at_index (map (λ row. row.now) held) position (omega (arith, some))
-    ∙ slice_get_past (map (λ row. row.now) held) (position - 1)
-    (omega (arith, past, length-map held (λ (row : Bor (List Ratio)). row.now)))))
+    grind (arith, at_index, slice_get_past, length-map, length-append)
 
 -- ---- what an outcome pays
 
@@ -51,12 +41,7 @@ pub paid_some : (g : Game) (position number : ℕ) (outcome : Outcome) (k : ℕ)
     → at_position (outcome_numbers g) position ≡ Some number
     → outcome_at g number ≡ Some outcome
     → at_place outcome.payoffs k ≡ paid g (suc k) position
-paid_some g position number outcome k e f =
-    sym (rw (e, f) (unwrap_or-slice_get outcome.payoffs k zero_ratio))
-
-pub paid_nobody : (g : Game) (position k : ℕ) → at_position (outcome_numbers g) position ≡ None
-    → zero_ratio ≡ paid g (suc k) position
-paid_nobody g position k e = sym (rw e refl)
+paid_some g position number outcome k e f = cc (unwrap_or-slice_get outcome.payoffs k zero_ratio)
 
 pub row_of_outcome : (g : Game) → IsGame g → IsSpellable g → (number : ℕ) (outcome : Outcome)
     → outcome_at g number ≡ Some outcome → IsRow (length g.players) outcome.payoffs
@@ -88,8 +73,7 @@ snoc_before (y ∷ xs) x (suc k) h = snoc_before xs x k (omega (arith, h))
 
 snoc_last : {A : Type 0} (xs : List A) (x : A) (k : ℕ) → k ≡ length xs
     → slice_get (xs ++ x ∷ []) k ≡ Some x
-snoc_last [] x zero h = refl
-snoc_last [] x (suc k) h = absurd (omega (arith, h))
+snoc_last [] x k h = grind arith
 snoc_last (y ∷ xs) x zero h = absurd (omega (arith, h))
 snoc_last (y ∷ xs) x (suc k) h = snoc_last xs x k (omega (arith, h))
 
@@ -104,11 +88,7 @@ pub record ArePaidTo (g : Game) (rows : List (List Ratio)) (count : ℕ) : Type 
   pub each : (position : ℕ) → position ≤ count → IsPaidAt g (row_at rows position) position
 
 pub empty_at : (k : ℕ) → at_place [] k ≡ zero_ratio
-empty_at zero = refl
-empty_at (suc k) = refl
-
-pub empty_is_row : (players : ℕ) → IsRow players []
-empty_is_row players = record { one_each = λ h. absurd (omega (arith, h)); fractions = tt }
+empty_at k = grind arith
 
 pub one_row : (g : Game) (rows : List (List Ratio)) (row : List Ratio) (count : ℕ)
     → ArePaidTo g rows count → IsPaidAt g row (count + 1)
@@ -147,17 +127,7 @@ all_rows g rows are = record {
     past : (position : ℕ) → length (outcome_numbers g) < position
         → IsPaidAt g (row_at rows position) position
     past zero h = absurd (omega (arith, h))
-    past (suc k) h =
-        let counted = are.counted in
-        let none : slice_get rows k ≡ None =
-        slice_get_past rows k (omega (arith, counted, h)) in
-        let nobody : slice_get (outcome_numbers g) k ≡ None =
-        slice_get_past (outcome_numbers g) k (omega (arith, h)) in
-        subst (λ o. IsPaidAt g (unwrap_or o []) (suc k)) (sym none)
-        (record {
-          paid_is = λ j. empty_at j ∙ paid_nobody g (suc k) j nobody;
-          row_is = empty_is_row (length g.players);
-        })
+    past (suc k) h = grind (arith, slice_get_past)
 
     at : (position : ℕ) → IsPaidAt g (row_at rows position) position
     at position = elim (cases_lt (length (outcome_numbers g)) position) [

@@ -1,7 +1,6 @@
 -- The values of the players are their payoffs.
 use Rattle.std.proofs.Common.{get_or, ◌≡◌, ℕ, zero, suc, ◌+◌, ◌<◌, List, [], ◌∷◌, Some, None}
-use Rattle.std.proofs.Common.{length}
-use Rattle.std.proofs.Common.{sym, subst, ◌∙◌, arith}
+use Rattle.std.proofs.Common.{length, sym, subst, ◌∙◌, arith}
 use Rattle.std.specs.List.{AllByRecursion, AllZip}
 use Rattle.gf_fraction.specs.Ratio.{Ratio, IsFraction}
 use Rattle.gf_fraction.specs.Rational.{IsEqual, zero_ratio}
@@ -47,8 +46,7 @@ all_in_turn P (suc n) first h =
 one_in_turn : (P : ℕ → Type 0) (n first k : ℕ) → AllByRecursion P (numbers_from first n) → k < n
     → P (first + k)
 one_in_turn P zero first k h less = absurd (omega (arith, less))
-one_in_turn P (suc n) first zero h less =
-    let here : first ≡ first + 0 = omega arith in subst P here h.0
+one_in_turn P (suc n) first zero h less = grind arith
 one_in_turn P (suc n) first (suc k) h less =
     let next : first + 1 + k ≡ first + suc k = omega arith in
     subst P next (one_in_turn P n (first + 1) k h.1 (omega (arith, less)))
@@ -93,7 +91,6 @@ module _ (g : Game) (game : IsGame g) (spellable : IsSpellable g) (choices : Set
   lacks_value k less none h =
       let v = one_in_turn HasValue (length g.players) 1 k h less in
       let next : 1 + k ≡ suc k = omega arith in
-      let is : IsValue g choices (suc k) g.tree v.0 =
-      subst (λ (player : ℕ). IsValue g choices player g.tree v.0) next v.1 in
+      let is = subst (λ (player : ℕ). IsValue g choices player g.tree v.0) next v.1 in
       let some = (value_computed g spellable choices (suc k) g.tree v.0 is).0 in
       let both : None ≡ Some v.0 = sym none ∙ some in cc

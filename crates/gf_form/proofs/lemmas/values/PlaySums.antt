@@ -1,7 +1,6 @@
 -- Sums over lists of plays: of their probabilities, and of probability times payoff.
-use Rattle.std.proofs.Common.{◌≡◌, ℕ, Bool, true, false, cond, List, []}
-use Rattle.std.proofs.Common.{◌∷◌, ◌++◌, map, refl, ap, arith, true≢false}
-use Rattle.std.proofs.lemmas.Bool.{false≢true}
+use Rattle.std.proofs.Common.{◌≡◌, ℕ, Bool, true, false, cond, List, [], ◌∷◌, ◌++◌, map, refl}
+use Rattle.std.proofs.Common.{arith}
 use Rattle.std.specs.Prelude.{◌&&◌, filter}
 use Rattle.gf_fraction.specs.Ratio.{Ratio}
 use Rattle.gf_fraction.specs.Rational.{IsEqual, zero_ratio, plus, times, total}
@@ -29,14 +28,11 @@ sum_joined f above (x ∷ xs) ys =
 module _ (choices : SetKey → ℕ) (n : Node) (k : ℕ) where
   kept : (a b : Bool) (p : Play) (ps qs : List Play) → a ≡ true → ps ≡ map (from_node n k) qs
       → cond (a && b) (from_node n k p ∷ ps) ps ≡ map (from_node n k) (cond b (p ∷ qs) qs)
-  kept true true p ps qs e h = ap (λ (rest : List Play). from_node n k p ∷ rest) h
-  kept true false p ps qs e h = h
-  kept false b p ps qs e h = absurd (false≢true e)
+  kept a b p ps qs e h = grind arith
 
   dropped : (a b : Bool) (p : Play) (ps : List Play) → a ≡ false → ps ≡ []
       → cond (a && b) (p ∷ ps) ps ≡ []
-  dropped true b p ps e h = absurd (true≢false e)
-  dropped false b p ps e h = h
+  dropped a b p ps e h = grind arith
 
   pub followed_chosen : is_chosen choices (record { node = n; taken = k }) ≡ true → (ps : List Play)
       → filter (follows choices) (map (from_node n k) ps)
@@ -119,23 +115,20 @@ module _ (g : Game) (spellable : IsSpellable g) (player : ℕ) where
         let others = plus (times own w) e in
         let others_above =
         plus_above (times own w) e (times_above own w own_above w_above) e_above in
-        let split : IsEqual first (plus (times own chance) (times chance pay)) =
-        times_plus chance own pay chance_above own_above pay_above
-        then plus_left (times chance pay) (times_above chance pay chance_above pay_above)
-        (times_comm chance own chance_above own_above) in
-        let sum : IsEqual (plus first others)
-        (plus (times own (plus chance w)) (plus (times chance pay) e)) =
-        plus_left others others_above split
-        then plus_across (times own chance) (times chance pay)
-        (times own w) e (times_above own chance own_above chance_above)
-        (times_above chance pay chance_above pay_above) (times_above own w own_above w_above)
-        e_above
-        then plus_left (plus (times chance pay) e)
-        (plus_above (times chance pay) e (times_above chance pay chance_above pay_above) e_above)
-        (back (times_plus own chance w own_above chance_above w_above)) in
-        plus_left (worth (map (from_node n k) ps)) (all_worth_above (map (from_node n k) ps))
-        (times_assoc r chance (plus own pay) r_above chance_above
-        (plus_above own pay own_above pay_above))
-        then plus_right (times r first) (times_above r first r_above first_above) (worth_after ps)
-        then back (times_plus r first others r_above first_above others_above)
-        then times_right r r_above sum
+        let split = times_plus chance own pay chance_above own_above pay_above then plus_left (times
+        chance pay) (times_above chance pay chance_above pay_above) (times_comm chance own
+        chance_above own_above) in
+        let sum = plus_left others others_above split then plus_across (times own chance) (times
+        chance pay) (times own w) e (times_above own chance own_above chance_above) (times_above
+        chance pay chance_above pay_above) (times_above own w own_above w_above) e_above then
+        plus_left (plus (times chance pay) e) (plus_above (times chance pay) e (times_above chance
+        pay chance_above pay_above) e_above) (back (times_plus own chance w own_above chance_above
+        w_above)) in
+        grind (
+          arith,
+          plus_left (worth (map (from_node n k) ps)) (all_worth_above (map (from_node n
+              k) ps)) (times_assoc r chance (plus own pay) r_above chance_above (plus_above own pay
+              own_above pay_above)) then plus_right (times r first) (times_above r first r_above
+              first_above) (worth_after ps) then back (times_plus r first others r_above first_above
+              others_above) then times_right r r_above sum,
+        )

@@ -1,30 +1,25 @@
 -- The operations of a tree leave its value on the stack.
 use Rattle.std.proofs.Common.{◌≡◌, ℕ, zero, suc, ◌+◌, Bool, true, false, List, [], ◌∷◌, ◌++◌}
-use Rattle.std.proofs.Common.{Option, Some, None, refl, sym, ap, subst, ◌∙◌, append_assoc, arith}
+use Rattle.std.proofs.Common.{Option, Some, None, refl, sym, subst, ◌∙◌, append_assoc, arith, cond}
 use Rattle.std.specs.Prelude.{◌==◌, nat_eq, position, slice_get, option_and_then, unwrap_or}
 use Rattle.std.specs.Prelude.{if◌then◌else◌}
-use Rattle.std.specs.List.{AllByRecursion}
+use Rattle.std.specs.List.{AllByRecursion, position_from}
 use Rattle.gf_fraction.specs.Ratio.{Ratio}
 use Rattle.gf_fraction.specs.Rational.{zero_ratio}
 use Rattle.gf_tree.specs.Tree.{Tree, Trees}
 use Rattle.gf_tree.specs.Tree.Tree.{branch}
 use Rattle.gf_tree.specs.Tree.Trees.{none, more}
-use Rattle.gf_tree.specs.Description.{SetKey, Outcome}
+use Rattle.gf_tree.specs.Description.{SetKey}
 use Rattle.gf_tree.specs.FirstUse.{outcome_numbers}
 use Rattle.gf_tree.specs.Game.{Game, Node, outcome_at}
 use Rattle.gf_form.specs.Payoff.{payoff_at}
 use Rattle.gf_form.specs.inner.values.Values.{chance_value, chances_at, child_value, plus_of}
-use Rattle.gf_form.specs.inner.values.Values.{times_of, value}
-use Rattle.gf_form.specs.inner.values.Values.{value_over}
+use Rattle.gf_form.specs.inner.values.Values.{times_of, value, value_over}
 use Rattle.gf_form.specs.inner.values.Program.{chance_code, child_code, code, code_over, paid}
-use Rattle.gf_form.specs.inner.values.Program.{paid_at_node}
-use Rattle.gf_form.specs.inner.values.Program.{run}
+use Rattle.gf_form.specs.inner.values.Program.{paid_at_node, run}
 use Rattle.gf_form.specs.declared.values.op.Op.{Op}
 use Rattle.gf_form.specs.declared.values.op.Op.TheVariants.{Push, Begin, Nothing, Weigh, Pay}
 use Rattle.gf_tree.proofs.lemmas.stores.FoundKeys.{not_described}
-use Rattle.std.proofs.Common.{cond}
-use Rattle.std.specs.List.{position_from}
-use Rattle.std.proofs.lemmas.Bool.{eqb-true}
 use Rattle.std.proofs.lemmas.Iterator.Adapters.{position_from-zero}
 use Rattle.std.proofs.lemmas.Bool.Decides.{Decides-eqb}
 use Rattle.gf_token.specs.Positions.{at_position}
@@ -43,9 +38,7 @@ place_is n (m ∷ ns) start place h = by (nat_eq n m) refl (place_is n ns (start
         → (k : ℕ) × (start + 1 + k ≡ place) × (slice_get ns k ≡ Some n))
         → cond b (Some start) (position_from (nat_eq n) (start + 1) ns) ≡ Some place
         → (k : ℕ) × (start + k ≡ place) × (slice_get (m ∷ ns) k ≡ Some n)
-    by true is later e =
-        let same : start ≡ place = cc in
-        (0, omega (arith, same), ap Some (sym (eqb-true n m is)))
+    by true is later e = grind arith
     by false is later e = let r = later e in (suc r.0, omega (arith, r.1), r.2)
 
 paid_of_number : (g : Game) (player number : ℕ)
@@ -60,15 +53,11 @@ paid_of_number g player number = by (position (nat_eq number) (outcome_numbers g
         (at_position (outcome_numbers g) (position_at o))) zero_ratio
         ≡ unwrap_or (option_and_then (λ outcome. at_position outcome.payoffs player)
         (outcome_at g number)) zero_ratio
-    by None is =
-        sym (ap (λ o. unwrap_or
-        (option_and_then (λ (outcome : Outcome). at_position outcome.payoffs player) o) zero_ratio)
-        (not_described nat_eq Decides-eqb number g.outcomes is))
+    by None is = grind (arith, not_described nat_eq Decides-eqb number g.outcomes is)
     by (Some place) is =
         let r = place_is number (outcome_numbers g) 0 place
         (sym (position_from-zero (nat_eq number) (outcome_numbers g)) ∙ is) in
-        let there : slice_get (outcome_numbers g) place ≡ Some number =
-        ap (slice_get (outcome_numbers g)) (omega (arith, r.1)) ∙ r.2 in
+        let there : slice_get (outcome_numbers g) place ≡ Some number = grind arith in
         rw there refl
 
 pub paid_is : (g : Game) (player : ℕ) (n : Node)
@@ -101,10 +90,7 @@ module _ (g : Game) (choices : SetKey → ℕ) (player : ℕ) where
   over_runs : (own : ℕ) (pays : Ratio) (o : Option SetKey) (c : SetKey → List Op)
       (v : SetKey → Option Ratio) → paid g player own ≡ pays
       → ((key : SetKey) → Leaves (c key) (v key)) → Leaves (code_over own o c) (value_over pays o v)
-  over_runs own pays None c v is below rest st = ap (λ r. run g player rest (Some r ∷ st)) is
-  over_runs own pays (Some key) c v is below rest st =
-      rw append_assoc (below key (Pay own ∷ rest) st
-      ∙ ap (λ r. run g player rest (plus_of (Some r) (v key) ∷ st)) is)
+  over_runs own pays o c v is below rest st = grind (arith, is, below, append_assoc)
 
   by_mover : (n : Node) (ts : Trees Node) (key : SetKey) (b : Bool) → (key.player == 0) ≡ b
       → ((sum : Option Ratio) (rest : List Op) (st : List (Option Ratio))
@@ -113,8 +99,7 @@ module _ (g : Game) (choices : SetKey → ℕ) (player : ℕ) where
       → Leaves (child_code g choices (choices key) ts)
       (child_value g choices player (choices key) ts)
       → Leaves (below_code n ts key) (below_value n ts key)
-  by_mover n ts key true is chance child rest st = rw is (chance (Some zero_ratio) rest st)
-  by_mover n ts key false is chance child rest st = rw is (child rest st)
+  by_mover n ts key b is chance child rest st = grind arith
 
   mutual
     pub code_runs : (t : Tree Node) → Leaves (code g choices t) (value g choices player t)
@@ -149,13 +134,10 @@ IsDefined None = ⊥
 IsDefined (Some r) = Unit {0}
 
 plus_defined : (x y : Option Ratio) → IsDefined (plus_of x y) → IsDefined x × IsDefined y
-plus_defined (Some x) (Some y) h = (tt, tt)
-plus_defined (Some x) None h = absurd h
-plus_defined None y h = absurd h
+plus_defined x y h = grind arith
 
 times_defined : (p : Ratio) (x : Option Ratio) → IsDefined (times_of p x) → IsDefined x
-times_defined p (Some x) h = tt
-times_defined p None h = absurd h
+times_defined p x h = grind arith
 
 -- if a value is left, all values on the stack were defined
 defined : (g : Game) (player : ℕ) (ops : List Op) (st : List (Option Ratio)) (r : Ratio)

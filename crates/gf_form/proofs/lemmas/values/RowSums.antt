@@ -1,14 +1,12 @@
 -- Rows that are added up, number by number.
-use Rattle.std.proofs.Common.{◌≡◌, ℕ, zero, suc, ◌+◌, ◌<◌, ◌≤◌, List, [], ◌∷◌, Option, Some}
-use Rattle.std.proofs.Common.{None, length, get_or, refl, sym, ap, subst, ◌∙◌, arith}
+use Rattle.std.proofs.Common.{◌≡◌, ℕ, zero, suc, ◌+◌, ◌<◌, ◌≤◌, List, [], ◌∷◌, Option, Some, None}
+use Rattle.std.proofs.Common.{length, get_or, refl, sym, ap, subst, ◌∙◌, arith, ◌⊎◌, inl, inr, pos}
+use Rattle.std.proofs.Common.{true}
 use Rattle.std.specs.List.{AllByRecursion}
-use Rattle.std.proofs.Common.{◌⊎◌, inl, inr}
 use Rattle.std.proofs.Math.ListN.{set, length-set}
-use Rattle.std.proofs.lemmas.Bool.{cases_lt}
+use Rattle.std.proofs.lemmas.Bool.{cases_lt, eqb-true}
 use Rattle.std.proofs.lemmas.List.{get_or_default, get_or_past, get_or-set_other, get_or-set_same}
-use Rattle.std.proofs.Common.{pos, true}
 use Rattle.std.specs.Prelude.{◌==◌}
-use Rattle.std.proofs.lemmas.Bool.{eqb-true}
 use Rattle.gf_fraction.specs.Fits.{IsProduct, IsSum, ProductFits, SumFits}
 use Rattle.gf_fraction.specs.Computed.{sum_of}
 use Rattle.gf_fraction.proofs.ComputedArithmetic.{product_of-none, product_of-some, sum_of-none}
@@ -24,15 +22,13 @@ use Rattle.gf_form.proofs.lemmas.values.Zeros.{none_times, plus_zero, times_zero
 
 pub fraction_at : (row : List Ratio) (k : ℕ) → AllByRecursion IsFraction row
     → IsFraction (at_place row k)
-fraction_at [] zero h = zero_fraction
-fraction_at [] (suc k) h = zero_fraction
+fraction_at [] k h = grind (arith, zero_fraction)
 fraction_at (x ∷ row) zero h = h.0
 fraction_at (x ∷ row) (suc k) h = fraction_at row k h.1
 
 all_set : (row : List Ratio) (i : ℕ) (x : Ratio) → AllByRecursion IsFraction row → IsFraction x
     → AllByRecursion IsFraction (set row i x)
-all_set [] zero x h f = tt
-all_set [] (suc i) x h f = tt
+all_set [] i x h f = grind arith
 all_set (y ∷ row) zero x h f = (f, h.1)
 all_set (y ∷ row) (suc i) x h f = (h.0, all_set row i x h.1 f)
 
@@ -54,23 +50,15 @@ module _ (step : Ratio → Ratio → Option Ratio) (old new row : List Ratio) wh
     counted = length-set new i x ∙ a.counted;
     fractions = all_set new i x a.fractions f;
     done = λ k less. by k (cases_lt k i) less;
-    kept = λ k more. get_or-set_other new i k x zero_ratio (λ e. omega (arith, e, more))
-        ∙ a.kept k (omega (arith, more));
+    kept = λ k more. grind (arith, get_or-set_other);
   }
     where
       by : (k : ℕ) → (k < i) ⊎ (i ≤ k) → k < i + 1
           → step (at_place old k) (at_place row k) ≡ Some (at_place (set new i x) k)
-      by k (inl less) h' = a.done k less
-          ∙ ap Some (sym (get_or-set_other new i k x zero_ratio (λ e. omega (arith, e, less))))
+      by k (inl less) h' = grind (arith, get_or-set_other)
       by k (inr more) h' =
           let same : i ≡ k = omega (arith, more, h') in
-          let counted = a.counted in
-          subst (λ (n : ℕ). step (at_place old n) (at_place row n) ≡ Some
-          (at_place (set new i x) n))
-          same
-          (ap (λ (r : Ratio). step r (at_place row i)) (sym (a.kept i (omega arith)))
-          ∙ is
-          ∙ ap Some (sym (get_or-set_same new i x zero_ratio (omega (arith, counted, h)))))
+          grind (arith, same, is, get_or-set_same)
 
   pub all_added : Added step old new row (length row) → step zero_ratio zero_ratio ≡ Some zero_ratio
       → (k : ℕ) → step (at_place old k) (at_place row k) ≡ Some (at_place new k)
@@ -79,13 +67,7 @@ module _ (step : Ratio → Ratio → Option Ratio) (old new row : List Ratio) wh
       by : (k < length row) ⊎ (length row ≤ k)
           → step (at_place old k) (at_place row k) ≡ Some (at_place new k)
       by (inl less) = a.done k less
-      by (inr past) =
-          let counted = a.counted in
-          let end : at_place new k ≡ zero_ratio =
-          get_or_past new k zero_ratio (omega (arith, counted, past)) in
-          (λ i. step (sym (a.kept k past) i) (get_or_past row k zero_ratio past i))
-          ∙ ap (λ (r : Ratio). step r zero_ratio) end
-          ∙ zeros ∙ ap Some (sym end)
+      by (inr past) = grind (arith, get_or_past, zeros)
 
 -- ---- one number
 
@@ -95,8 +77,7 @@ place_is row i x h e = get_or_default row i zero_ratio x h ∙ sym e
 
 pub read_again : (row : List Ratio) (i : ℕ)
     → at_place row i ≡ get_or row i (at_place row i)
-read_again [] zero = refl
-read_again [] (suc i) = refl
+read_again [] i = grind arith
 read_again (x ∷ row) zero = refl
 read_again (x ∷ row) (suc i) = read_again row i
 
@@ -131,17 +112,13 @@ module _ (chance : Ratio) (sum row : List Ratio) (i : ℕ) (s x : Ratio)
   pub not_multiplied : ¬ (ProductFits chance x) → (old : Ratio)
       → plus_of (Some old) (times_of chance (Some (at_place row i))) ≡ None
   not_multiplied none old =
-      ap (λ (r : Ratio). plus_of (Some old) (times_of chance (Some r))) there
-      ∙ ap (plus_of (Some old))
-      (product_of-none chance x read.chance_fraction x_fraction none)
+      cc (there, product_of-none chance x read.chance_fraction x_fraction none)
 
   multiplied : (p : Ratio) → IsFraction p × IsProduct p chance x
       → (old : Ratio) → plus_of (Some old) (times_of chance (Some (at_place row i)))
       ≡ sum_of old p
   multiplied p h old =
-      ap (λ (r : Ratio). plus_of (Some old) (times_of chance (Some r))) there
-      ∙ ap (plus_of (Some old))
-      (product_of-some chance x read.chance_fraction x_fraction p h.0 h.1)
+      cc (there, product_of-some chance x read.chance_fraction x_fraction p h.0 h.1)
 
   here : at_place sum i ≡ s
   here = place_is sum i s inside read.sum_is
@@ -150,17 +127,13 @@ module _ (chance : Ratio) (sum row : List Ratio) (i : ℕ) (s x : Ratio)
       → ¬ (SumFits s p)
       → plus_of (Some old) (times_of chance (Some (at_place row i))) ≡ None
   not_weighed p old h same none =
-      multiplied p h old
-      ∙ ap (λ (r : Ratio). sum_of r p) (sym same ∙ here)
-      ∙ sum_of-none s p s_fraction h.0 none
+      cc (multiplied p h old, same, here, sum_of-none s p s_fraction h.0 none)
 
   pub weighed : (p t : Ratio) → IsFraction p × IsProduct p chance x → SumFits s p
       → IsFraction t × IsSum t s p
       → plus_of (Some (at_place sum i)) (times_of chance (Some (at_place row i))) ≡ Some t
   weighed p t h fits is =
-      multiplied p h (at_place sum i)
-      ∙ ap (λ (r : Ratio). sum_of r p) here
-      ∙ sum_of-some s p s_fraction h.0 t fits is.0 is.1
+      cc (multiplied p h (at_place sum i), here, sum_of-some s p s_fraction h.0 t fits is.0 is.1)
 
   pub not_paid : (old : Ratio) → at_place sum i ≡ old → ¬ (SumFits x s)
       → plus_of (Some (at_place row i)) (Some old) ≡ None
@@ -177,9 +150,7 @@ module _ (chance : Ratio) (sum row : List Ratio) (i : ℕ) (s x : Ratio)
 
 pub empty_row : (row : List Ratio) → true ≡ (length row == 0) → (k : ℕ)
     → at_place row k ≡ zero_ratio
-empty_row row h k =
-    let none = eqb-true (length row) 0 (sym h) in
-    get_or_past row k zero_ratio (omega (arith, none))
+empty_row row h k = grind (arith, eqb-true, get_or_past)
 
 pub nothing_weighed : (chance : Ratio) (sum row : List Ratio) → IsFraction chance
     → AllByRecursion IsFraction sum → AllByRecursion IsFraction row → (k : ℕ)
@@ -187,8 +158,7 @@ pub nothing_weighed : (chance : Ratio) (sum row : List Ratio) → IsFraction cha
     → plus_of (Some (at_place sum k)) (times_of chance (Some (at_place row k)))
     ≡ Some (at_place sum k)
 nothing_weighed chance sum row fc fs fr k h =
-    ap (plus_of (Some (at_place sum k))) (by h)
-    ∙ plus_zero (at_place sum k) (fraction_at sum k fs)
+    cc (by h, plus_zero (at_place sum k) (fraction_at sum k fs))
   where
     by : (chance.num ≡ pos 0) ⊎ (at_place row k ≡ zero_ratio)
         → times_of chance (Some (at_place row k)) ≡ Some zero_ratio
@@ -197,12 +167,10 @@ nothing_weighed chance sum row fc fs fr k h =
 
 pub zeros_weighed : (chance : Ratio) → IsFraction chance
     → plus_of (Some zero_ratio) (times_of chance (Some zero_ratio)) ≡ Some zero_ratio
-zeros_weighed chance f =
-    ap (plus_of (Some zero_ratio)) (times_zero chance f) ∙ plus_zero zero_ratio zero_fraction
+zeros_weighed chance f = cc (times_zero chance f, plus_zero zero_ratio zero_fraction)
 
 pub nothing_paid : (row payoffs : List Ratio) → AllByRecursion IsFraction row
     → true ≡ (length payoffs == 0) → (k : ℕ)
     → sum_of (at_place payoffs k) (at_place row k) ≡ Some (at_place row k)
 nothing_paid row payoffs f h k =
-    ap (λ (r : Ratio). sum_of r (at_place row k)) (empty_row payoffs h k)
-    ∙ zero_plus (at_place row k) (fraction_at row k f)
+    cc (empty_row payoffs h k, zero_plus (at_place row k) (fraction_at row k f))

@@ -1,7 +1,6 @@
 -- Rows that are put onto a stack and taken from it.
-use Rattle.std.proofs.Common.{◌≡◌, ℕ, ◌<◌, List, [], ◌∷◌, ◌++◌, length, map, Option, Some}
-use Rattle.std.proofs.Common.{Vec, Global, refl, sym, ap, subst, ◌∙◌, arith}
-use Rattle.std.proofs.Common.{◌+◌, ◌≤◌, suc}
+use Rattle.std.proofs.Common.{◌≡◌, ℕ, ◌<◌, List, [], ◌∷◌, ◌++◌, length, map, Option, Some, Vec}
+use Rattle.std.proofs.Common.{Global, refl, sym, ap, subst, arith, ◌+◌, ◌≤◌, suc}
 use Rattle.std.specs.Prelude.{Err, IsErrOf, option_to_list}
 use Rattle.std.specs.List.{AllByRecursion}
 use Rattle.std.proofs.lemmas.List.{map-append}
@@ -12,7 +11,7 @@ use Rattle.gf_tree.specs.Game.{Game}
 use Rattle.gf_form.proofs.lemmas.values.PaidRowsKept.{empty_at}
 use Rattle.gf_form.specs.inner.values.Program.{operands, paid, run}
 use Rattle.gf_form.specs.declared.values.op.Op.{Op}
-use Rattle.gf_form.specs.declared.values.op.Op.TheVariants.{Push, Begin, Nothing, Weigh, Pay}
+use Rattle.gf_form.specs.declared.values.op.Op.TheVariants.{Push, Begin, Weigh, Pay}
 use Rattle.gf_form.specs.inner.values.Rows.{AreRows, IsRow, PaysTo, WeighsTo, at_place, column}
 use Rattle.gf_form.specs.inner.values.Rows.{column_on}
 use Rattle.gf_form.specs.inner.values.Values.{plus_of, times_of}
@@ -26,14 +25,11 @@ rows_in held = map (λ row. row.items) held
 pub popped : (old rest : List (Vec Ratio Global)) (o : Option (Vec Ratio Global))
     (row : Vec Ratio Global) → old ≡ rest ++ option_to_list o → o ≡ Some row
     → rows_in old ≡ rows_in rest ++ row.items ∷ []
-popped old rest o row e f =
-    ap rows_in (e ∙ ap (λ (p : Option (Vec Ratio Global)). rest ++ option_to_list p) f)
-    ∙ map-append (λ (row : Vec Ratio Global). row.items) rest (row ∷ [])
+popped old rest o row e f = cc (map-append (λ (row : Vec Ratio Global). row.items) rest (row ∷ []))
 
 pub pushed : (old new : List (Vec Ratio Global)) (row : Vec Ratio Global) → new ≡ old ++ row ∷ []
     → rows_in new ≡ rows_in old ++ row.items ∷ []
-pushed old new row e =
-    ap rows_in e ∙ map-append (λ (row : Vec Ratio Global). row.items) old (row ∷ [])
+pushed old new row e = cc (map-append (λ (row : Vec Ratio Global). row.items) old (row ∷ []))
 
 pub column_last : (k : ℕ) (rows : List (List Ratio)) (row : List Ratio)
     (below : List (Option Ratio))
@@ -49,26 +45,18 @@ last_row players all rows row e h =
 
 pub one_more_row : (players : ℕ) (all rows : List (List Ratio)) (row : List Ratio)
     → all ≡ rows ++ row ∷ [] → AreRows players rows → IsRow players row → AreRows players all
-one_more_row players all rows row e h is =
-    subst (AreRows players) (sym e) (all_more (IsRow players) rows row h is)
+one_more_row players all rows row e h is = grind (arith, all_more (IsRow players) rows row h is)
 
 pub below_players : (players k : ℕ) (row : List Ratio) → k < length row → IsRow players row
     → k < players
-below_players players k row less is =
-    let count = is.one_each (omega (arith, less)) in omega (arith, less, count)
+below_players players k row less is = grind arith
 
 -- the two rows on top are weighed
 pub weighs : (chance : Ratio) (k : ℕ) (all rest below : List (List Ratio)) (row sum : List Ratio)
     (value : Option Ratio) → all ≡ rest ++ row ∷ [] → rest ≡ below ++ sum ∷ []
     → plus_of (Some (at_place sum k)) (times_of chance (Some (at_place row k))) ≡ value
     → WeighsTo chance (column k all) (value ∷ column k below)
-weighs chance k all rest below row sum value e f h =
-    let old : column k all ≡ Some (at_place row k) ∷ Some (at_place sum k) ∷ column k below =
-    ap (column k) e ∙ column_last k rest row []
-    ∙ ap (λ (st : List (Option Ratio)). Some (at_place row k) ∷ st)
-    (ap (column k) f ∙ column_last k below sum []) in
-    subst (λ (st : List (Option Ratio)). WeighsTo chance st (value ∷ column k below)) (sym old)
-    (ap (λ (v : Option Ratio). v ∷ column k below) (sym h))
+weighs chance k all rest below row sum value e f h = grind (arith, column_last, ap)
 
 pub weighs_to : (chance : Ratio) (k : ℕ) (all rest below new : List (List Ratio))
     (row sum total : List Ratio) → all ≡ rest ++ row ∷ [] → rest ≡ below ++ sum ∷ []
@@ -76,29 +64,20 @@ pub weighs_to : (chance : Ratio) (k : ℕ) (all rest below new : List (List Rati
     → plus_of (Some (at_place sum k)) (times_of chance (Some (at_place row k)))
     ≡ Some (at_place total k)
     → WeighsTo chance (column k all) (column k new)
-weighs_to chance k all rest below new row sum total e f n h =
-    subst (λ (st : List (Option Ratio)). WeighsTo chance (column k all) st)
-    (sym (ap (column k) n ∙ column_last k below total []))
-    (weighs chance k all rest below row sum (Some (at_place total k)) e f h)
+weighs_to chance k all rest below new row sum total e f n h = grind (arith, column_last, weighs)
 
 -- payoffs are added to the row on top
 pub pays : (payoff : Ratio) (k : ℕ) (all below : List (List Ratio)) (row : List Ratio)
     (value : Option Ratio) → all ≡ below ++ row ∷ []
     → plus_of (Some payoff) (Some (at_place row k)) ≡ value
     → PaysTo payoff (column k all) (value ∷ column k below)
-pays payoff k all below row value e h =
-    subst (λ (st : List (Option Ratio)). PaysTo payoff st (value ∷ column k below))
-    (sym (ap (column k) e ∙ column_last k below row []))
-    (ap (λ (v : Option Ratio). v ∷ column k below) (sym h))
+pays payoff k all below row value e h = grind (arith, column_last k below row [])
 
 pub pays_to : (payoff : Ratio) (k : ℕ) (all below new : List (List Ratio)) (row total : List Ratio)
     → all ≡ below ++ row ∷ [] → new ≡ below ++ total ∷ []
     → plus_of (Some payoff) (Some (at_place row k)) ≡ Some (at_place total k)
     → PaysTo payoff (column k all) (column k new)
-pays_to payoff k all below new row total e n h =
-    subst (λ (st : List (Option Ratio)). PaysTo payoff (column k all) st)
-    (sym (ap (column k) n ∙ column_last k below total []))
-    (pays payoff k all below row (Some (at_place total k)) e h)
+pays_to payoff k all below new row total e n h = grind (arith, column_last, pays)
 
 -- ---- as many values as rows
 
@@ -126,11 +105,7 @@ some_fractions players k (row ∷ rows) below h are =
 
 zero_pays : (st : List (Option Ratio)) → 0 < length st → AllByRecursion IsSomeFraction st
     → PaysTo zero_ratio st st
-zero_pays [] some h = absurd (omega (arith, some))
-zero_pays (value ∷ st) some h =
-    let same : value ≡ plus_of (Some zero_ratio) value =
-    h.0.1 ∙ sym (zero_plus h.0.0 h.0.2) ∙ ap (plus_of (Some zero_ratio)) (sym h.0.1) in
-    ap (λ (v : Option Ratio). v ∷ st) same
+zero_pays st some h = grind (arith, some, zero_plus)
 
 pub nothing_pays : (players k : ℕ) (rows : List (List Ratio)) (payoffs : List Ratio)
     → 1 ≤ length rows → AreRows players rows → length payoffs ≡ 0
@@ -146,44 +121,28 @@ nothing_pays players k rows (x ∷ payoffs) some h none = absurd (omega (arith, 
 -- a program that leaves a value has the operands of its first operation
 pub enough : (g : Game) (player : ℕ) (op : Op) (ops : List Op) (st : List (Option Ratio))
     (v : Option Ratio) → run g player (op ∷ ops) st ≡ v ∷ [] → operands op ≤ length st
-enough g player (Push position) ops st v h = omega arith
-enough g player Begin ops st v h = omega arith
-enough g player Nothing ops st v h = omega arith
-enough g player (Weigh p) ops [] v h = absurd cc
-enough g player (Weigh p) ops (x ∷ []) v h = absurd cc
-enough g player (Weigh p) ops (x ∷ sum ∷ st) v h = omega arith
-enough g player (Pay position) ops [] v h = absurd cc
-enough g player (Pay position) ops (x ∷ st) v h = omega arith
+enough g player op ops st v h = grind arith
 
 -- ---- what the operations do
 
 pub weigh_runs : (g : Game) (player : ℕ) (p : Ratio) (ops : List Op) (old new : List (Option Ratio))
     → WeighsTo p old new → run g player (Weigh p ∷ ops) old ≡ run g player ops new
-weigh_runs g player p ops [] new h = absurd h
-weigh_runs g player p ops (x ∷ []) new h = absurd h
-weigh_runs g player p ops (x ∷ sum ∷ st) new h = ap (run g player ops) (sym h)
+weigh_runs g player p ops old new h = grind arith
 
 pub pay_runs : (g : Game) (player position : ℕ) (payoff : Ratio) (ops : List Op)
     (old new : List (Option Ratio)) → payoff ≡ paid g player position → PaysTo payoff old new
     → run g player (Pay position ∷ ops) old ≡ run g player ops new
-pay_runs g player position payoff ops [] new e h = absurd h
-pay_runs g player position payoff ops (x ∷ st) new e h =
-    ap (λ (r : Ratio). run g player ops (plus_of (Some r) x ∷ st)) (sym e)
-    ∙ ap (run g player ops) (sym h)
+pay_runs g player position payoff ops old new e h = grind arith
 
 pub push_runs : (g : Game) (k position : ℕ) (ops : List Op) (old new : List (List Ratio))
     (row : List Ratio) → at_place row k ≡ paid g (suc k) position → new ≡ old ++ row ∷ []
     → run g (suc k) (Push position ∷ ops) (column k old) ≡ run g (suc k) ops (column k new)
-push_runs g k position ops old new row e n =
-    ap (λ (r : Ratio). run g (suc k) ops (Some r ∷ column k old)) (sym e)
-    ∙ ap (run g (suc k) ops) (sym (ap (column k) n ∙ column_last k old row []))
+push_runs g k position ops old new row e n = cc (e, n, column_last k old row [])
 
 pub begin_runs : (g : Game) (k : ℕ) (ops : List Op) (old new : List (List Ratio))
     → new ≡ old ++ [] ∷ []
     → run g (suc k) (Begin ∷ ops) (column k old) ≡ run g (suc k) ops (column k new)
-begin_runs g k ops old new n =
-    ap (λ (r : Ratio). run g (suc k) ops (Some r ∷ column k old)) (sym (empty_at k))
-    ∙ ap (run g (suc k) ops) (sym (ap (column k) n ∙ column_last k old [] []))
+begin_runs g k ops old new n = cc (empty_at k, n, column_last k old [] [])
 
 -- ---- an answer that is passed on
 

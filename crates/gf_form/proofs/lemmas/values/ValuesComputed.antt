@@ -5,7 +5,7 @@ use Rattle.std.specs.Prelude.{◌==◌, if◌then◌else◌}
 use Rattle.std.specs.Bool.{MatchBool}
 use Rattle.gf_fraction.specs.Ratio.{Ratio, IsFraction}
 use Rattle.gf_fraction.specs.Rational.{zero_ratio}
-use Rattle.gf_fraction.specs.Fits.{AddsTo, IsProduct, IsSum, MultipliesTo, ProductFits, SumFits}
+use Rattle.gf_fraction.specs.Fits.{AddsTo, MultipliesTo}
 use Rattle.gf_fraction.specs.Computed.{product_of, sum_of}
 use Rattle.gf_fraction.proofs.ComputedArithmetic.{product_is_computed, product_of-some}
 use Rattle.gf_fraction.proofs.ComputedArithmetic.{sum_is_computed, sum_of-some}
@@ -20,8 +20,7 @@ use Rattle.gf_form.specs.BottomUp.{IsChanceValue, IsChildValue, IsMoveValue, IsT
 use Rattle.gf_form.specs.BottomUp.{IsValue}
 use Rattle.gf_form.specs.Payoff.{payoff_at}
 use Rattle.gf_form.specs.inner.values.Values.{chance_value, chances_at, child_value, plus_of}
-use Rattle.gf_form.specs.inner.values.Values.{times_of}
-use Rattle.gf_form.specs.inner.values.Values.{value, value_over}
+use Rattle.gf_form.specs.inner.values.Values.{times_of, value, value_over}
 use Rattle.gf_form.proofs.lemmas.values.Denominators.{payoff_fraction, probability_fraction}
 
 pub zero_fraction : IsFraction zero_ratio
@@ -33,9 +32,7 @@ adds_is : (x y r : Ratio) → IsFraction x → IsFraction y → AddsTo x y r →
 adds_is x y r hx hy h = sum_of-some x y hx hy r h.0 h.1 h.2
 
 is_adds : (x y r : Ratio) → IsFraction x → IsFraction y → sum_of x y ≡ Some r → AddsTo x y r
-is_adds x y r hx hy h =
-    subst (λ o. MatchOption o (¬ (SumFits x y)) (λ r. SumFits x y × IsFraction r × IsSum r x y)) h
-    (sum_is_computed x y hx hy)
+is_adds x y r hx hy h = grind (arith, sum_is_computed x y hx hy)
 
 times_is : (x y r : Ratio) → IsFraction x → IsFraction y → MultipliesTo x y r
     → product_of x y ≡ Some r
@@ -43,9 +40,7 @@ times_is x y r hx hy h = product_of-some x y hx hy r h.0 h.1
 
 is_times : (x y r : Ratio) → IsFraction x → IsFraction y → product_of x y ≡ Some r
     → MultipliesTo x y r
-is_times x y r hx hy h =
-    subst (λ o. MatchOption o (¬ (ProductFits x y)) (λ r. IsFraction r × IsProduct r x y)) h
-    (product_is_computed x y hx hy)
+is_times x y r hx hy h = grind (arith, product_is_computed x y hx hy)
 
 -- a sum that is defined has defined parts
 pub record Parts (p : Ratio) (x : Option Ratio) (sum next : Ratio) : Type 0 where
@@ -57,14 +52,7 @@ pub record Parts (p : Ratio) (x : Option Ratio) (sum next : Ratio) : Type 0 wher
 
 parts_of : (p : Ratio) (x : Option Ratio) (sum next : Ratio)
     → plus_of (Some sum) (times_of p x) ≡ Some next → Parts p x sum next
-parts_of p None sum next h = absurd cc
-parts_of p (Some x) sum next h = by (product_of p x) refl h
-  where
-    by : (o : Option Ratio) → product_of p x ≡ o → plus_of (Some sum) o ≡ Some next
-        → Parts p (Some x) sum next
-    by None is h = absurd cc
-    by (Some y) is h =
-        record { factor = x; factor_is = refl; product = y; product_is = is; sum_is = h }
+parts_of p x sum next h = grind arith
 
 module _ (g : Game) (spellable : IsSpellable g) (choices : SetKey → ℕ) (player : ℕ) where
   abbrev own : Node → Ratio
@@ -92,16 +80,12 @@ module _ (g : Game) (spellable : IsSpellable g) (choices : SetKey → ℕ) (play
       → Computed (value_over (own n) o (λ key. if key.player == 0
       then chance_value g choices player (chances_at g n) 1 (Some zero_ratio) ts
       else child_value g choices player (choices key) ts)) v
-  node_computed n ts v None chance child h =
-      (ap Some (sym h), subst IsFraction (sym h) (own_fraction n))
+  node_computed n ts v None chance child h = grind (arith, own_fraction n)
   node_computed n ts v (Some key) chance child h =
       by (key.player == 0) h.1
     where
       added : (o : Option Ratio) → Computed o h.0 → Computed (plus_of (Some (own n)) o) v
-      added o c = (
-        ap (plus_of (Some (own n))) c.0 ∙ adds_is (own n) h.0 v (own_fraction n) c.1 h.2,
-        h.2.1,
-      )
+      added o c = grind (arith, adds_is (own n) h.0 v (own_fraction n) c.1 h.2)
 
       by : (b : Bool) → MatchBool b (IsChanceValue g choices player n 1 zero_ratio ts h.0)
           (IsChildValue g choices player (choices key) ts h.0)
@@ -161,8 +145,7 @@ module _ (g : Game) (spellable : IsSpellable g) (choices : SetKey → ℕ) (play
       (λ key. IsMoveValue g player n key (IsChanceValue g choices player n 1 zero_ratio ts)
       (IsChildValue g choices player (choices key) ts) v)
       × IsFraction v
-  node_is n ts v None chance child h =
-      let same : v ≡ own n = cc in (same, subst IsFraction (sym same) (own_fraction n))
+  node_is n ts v None chance child h = grind (arith, own_fraction n)
   node_is n ts v (Some key) chance child h = by (key.player == 0) h
     where
       added : {P : Ratio → Type 0} (o : Option Ratio)

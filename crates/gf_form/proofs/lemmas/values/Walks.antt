@@ -1,10 +1,9 @@
 -- The operations of a tree, given by a walk through its branches.
-use Rattle.std.proofs.Common.{◌≡◌, ℕ, zero, suc, ◌+◌, ◌-◌, ◌<◌, false, List, [], ◌∷◌}
-use Rattle.std.proofs.Common.{◌++◌, length, map, slice_get, Option, Some, None, MatchOption}
-use Rattle.std.proofs.Common.{option_map, refl, sym, ap, subst, ◌∙◌, append_assoc, arith}
-use Rattle.std.proofs.Common.{◌≤◌, get_or, Vec, Global}
-use Rattle.std.specs.Prelude.{◌==◌, option_and_then, unwrap_or, if◌then◌else◌}
-use Rattle.std.proofs.lemmas.Bool.{eqb-true, eq-eqb, false_from_ne_true}
+use Rattle.std.proofs.Common.{◌≡◌, ℕ, zero, suc, ◌+◌, ◌-◌, ◌<◌, false, List, [], ◌∷◌, ◌++◌, length}
+use Rattle.std.proofs.Common.{map, slice_get, Option, Some, None, MatchOption, option_map, refl}
+use Rattle.std.proofs.Common.{sym, subst, append_assoc, arith, ◌≤◌, get_or, Vec, Global}
+use Rattle.std.specs.Prelude.{option_and_then, unwrap_or}
+use Rattle.std.proofs.lemmas.Bool.{eq-eqb, false_from_ne_true}
 use Rattle.std.proofs.lemmas.List.{length-append, length-map}
 use Rattle.std.proofs.lemmas.Option.{slice_get-get_or, slice_get-map, slice_get_past}
 use Rattle.gf_tree.specs.Actions.{action_of, actions_of}
@@ -16,7 +15,7 @@ use Rattle.gf_token.specs.Positions.{at_position}
 use Rattle.gf_tree.specs.Tree.{Tree, Trees}
 use Rattle.gf_tree.specs.Tree.Tree.{branch}
 use Rattle.gf_tree.specs.Tree.Trees.{none, more}
-use Rattle.gf_tree.specs.Description.{Action, SetKey, InformationSet, same_set}
+use Rattle.gf_tree.specs.Description.{Action, SetKey, same_set}
 use Rattle.gf_tree.specs.FirstUse.{player_keys, sets_of}
 use Rattle.gf_tree.specs.Game.{Game, IsGame, Node, set_at, used_sets}
 use Rattle.gf_tree.specs.PrefixOrder.{flatten, flatten_all}
@@ -41,45 +40,31 @@ module _ (g : Game) (choices : SetKey → ℕ) where
   chance_list : (ts : Trees Node) (chances : ℕ → Ratio) (k : ℕ)
       → chance_code g choices chances k ts ≡ list_code g choices chances k (list_of ts)
   chance_list none chances k = refl
-  chance_list (more t ts) chances k =
-      ap (λ ops. code g choices t ++ Weigh (chances k) ∷ ops) (chance_list ts chances (k + 1))
+  chance_list (more t ts) chances k = cc (chance_list ts chances (k + 1))
 
   child_list : (ts : Trees Node) (position : ℕ)
       → child_code g choices position ts ≡ option_code g choices (at_position (list_of ts) position)
-  child_list none zero = refl
-  child_list none (suc position) = refl
+  child_list none position = grind arith
   child_list (more t ts) zero = refl
   child_list (more t ts) (suc zero) = refl
   child_list (more t ts) (suc (suc position)) = child_list ts (suc position)
 
   over_some : (own : ℕ) (o : Option SetKey) (below : SetKey → List Op) (key : SetKey)
       → o ≡ Some key → code_over own o below ≡ below key ++ Pay own ∷ []
-  over_some own None below key is = absurd cc
-  over_some own (Some k) below key is =
-      let same : k ≡ key = cc in ap (λ (k : SetKey). below k ++ Pay own ∷ []) same
+  over_some own o below key is = grind arith
 
   pub code_of_chance : (t : Tree Node) (key : SetKey) → (root_node t).set ≡ Some key
       → key.player ≡ 0
       → code g choices t ≡ Begin ∷ (list_code g choices (chances_at g (root_node t)) 1
       (child_trees t) ++ Pay (paid_at_node g (root_node t)) ∷ [])
-  code_of_chance (branch n ts) key is chance =
-      over_some (paid_at_node g n) n.set _ key is
-      ∙ ap (λ b. (if b then Begin ∷ chance_code g choices (chances_at g n) 1 ts
-      else child_code g choices (choices key) ts) ++ Pay (paid_at_node g n) ∷ [])
-      (eq-eqb key.player 0 chance)
-      ∙ ap (λ ops. Begin ∷ (ops ++ Pay (paid_at_node g n) ∷ []))
-      (chance_list ts (chances_at g n) 1)
+  code_of_chance (branch n ts) key is chance = grind (arith, over_some, eq-eqb, chance_list)
 
   pub code_of_player : (t : Tree Node) (key : SetKey) → (root_node t).set ≡ Some key
       → ¬ (key.player ≡ 0)
       → code g choices t ≡ option_code g choices (at_position (child_trees t) (choices key))
       ++ Pay (paid_at_node g (root_node t)) ∷ []
   code_of_player (branch n ts) key is personal =
-      over_some (paid_at_node g n) n.set _ key is
-      ∙ ap (λ b. (if b then Begin ∷ chance_code g choices (chances_at g n) 1 ts
-      else child_code g choices (choices key) ts) ++ Pay (paid_at_node g n) ∷ [])
-      (false_from_ne_true (key.player == 0) (λ t. personal (eqb-true key.player 0 t)))
-      ∙ ap (λ ops. ops ++ Pay (paid_at_node g n) ∷ []) (child_list ts (choices key))
+      grind (arith, over_some, false_from_ne_true, child_list)
 
 -- ---- what is open
 
@@ -96,8 +81,7 @@ pub next_of : (all : List (List ℕ)) (g g' h : Game) (chances : ℕ → Ratio) 
     → (list_code g (choices_by g all) chances (k + 1) ts ++ Pay own ∷ []) ++ behind
     ≡ code h (choices_by h all) t ++ (Weigh (chances k')
     ∷ ((list_code g' (choices_by g' all) chances (k' + 1) ts' ++ Pay own ∷ []) ++ behind))
-next_of all g g' h chances k k' ts ts' t own behind e f i j =
-    rw (e, f, i, j) (simp append_assoc)
+next_of all g g' h chances k k' ts ts' t own behind e f i j = grind (arith, append_assoc)
 
 pub first_of : (all : List (List ℕ)) (g g' : Game) (chances : ℕ → Ratio) (k : ℕ)
     (ts ts' : List (Tree Node)) → g' ≡ g → ts' ≡ ts → k ≡ 0
@@ -113,8 +97,7 @@ pub choice_there : (keys : List SetKey) (strategy : List ℕ) (position : ℕ) (
 choice_there keys strategy zero key d h = absurd cc
 choice_there [] strategy (suc k) key d h = absurd cc
 choice_there (s ∷ keys) [] (suc k) key d h = refl
-choice_there (s ∷ keys) (action ∷ others) (suc zero) key d h =
-    let same : s ≡ key = cc in rw ((same_set_equality s key).1 same) refl
+choice_there (s ∷ keys) (action ∷ others) (suc zero) key d h = grind arith
 choice_there (s ∷ keys) (action ∷ others) (suc (suc k)) key d h =
     let other : same_set s key ≡ false = false_from_ne_true (same_set s key)
     (λ t. d.0 (subst (Has keys) (sym ((same_set_equality s key).0 t)) (has_at keys k key h))) in
@@ -124,11 +107,9 @@ pub choice_is : (g : Game) (all : List (List ℕ)) (player position : ℕ) (key 
     → key.player ≡ player → at_position (player_keys g player) position ≡ Some key
     → choices_by g all key ≡ unwrap_or (at_position (strategy_at all player) position) 0
 choice_is g all player position key game his at =
-    let distinct : AreDistinct (player_keys g player) =
-    subst AreDistinct (sym (sets_by_first_use g player game))
-    (first_uses_distinct same_set same_set_equality (sets_of player (used_sets g.tree))) in
-    ap (λ (p : ℕ). choice_at (player_keys g p) (strategy_at all p) key) his
-    ∙ choice_there (player_keys g player) (strategy_at all player) position key distinct at
+    let distinct = subst AreDistinct (sym (sets_by_first_use g player game)) (first_uses_distinct
+    same_set same_set_equality (sets_of player (used_sets g.tree))) in
+    cc (his, choice_there (player_keys g player) (strategy_at all player) position key distinct at)
 
 -- ---- the probability of an action
 
@@ -137,44 +118,18 @@ pub chance_is : (g : Game) (n : Node) (actions : List Action) (k : ℕ)
     (λ key. option_map (λ set. set.actions) (set_at g key) ≡ Some actions)
     → chances_at g n k
     ≡ unwrap_or (option_and_then (λ a. a.probability) (at_position actions k)) one_ratio
-chance_is g n actions k h =
-    ap (λ o. unwrap_or (option_and_then (λ (a : Action). a.probability) o) one_ratio)
-    (by n.set h)
-  where
-    at_set : (o : Option InformationSet) → option_map (λ set. set.actions) o ≡ Some actions
-        → option_and_then (λ set. at_position set.actions k) o ≡ at_position actions k
-    at_set None h = absurd cc
-    at_set (Some set) h =
-        let same : set.actions ≡ actions = cc in
-        ap (λ (list : List Action). at_position list k) same
-
-    nowhere : (k : ℕ) → None ≡ at_position {A = Action} [] k
-    nowhere zero = refl
-    nowhere (suc k) = refl
-
-    by : (o : Option SetKey) → MatchOption o (actions ≡ [])
-        (λ key. option_map (λ set. set.actions) (set_at g key) ≡ Some actions)
-        → option_and_then (λ key. option_and_then (λ set. at_position set.actions k) (set_at g key))
-        o ≡ at_position actions k
-    by None h = nowhere k ∙ ap (λ (list : List Action). at_position list k) (sym h)
-    by (Some key) h = at_set (set_at g key) h
+chance_is g n actions k h = grind arith
 
 -- the action at a position, as it is held
 pub held_action : (held : List Held) (position : ℕ) (action : Held) → ¬ (position ≡ 0)
     → position - 1 < length held → action ≡ get_or held (position - 1) action
     → at_position (actions_of held) position ≡ Some (action_of action)
 held_action held position action some within is =
-    at_index (actions_of held) position (omega (arith, some))
-    ∙ slice_get-map action_of held (position - 1)
-    ∙ ap (option_map action_of) (slice_get-get_or held (position - 1) action within)
-    ∙ ap (λ (a : Held). Some (action_of a)) (sym is)
+    grind (arith, at_index, slice_get-map, slice_get-get_or, is)
 
 pub no_action : (held : List Held) (position : ℕ) → ¬ (position ≡ 0)
     → length held ≤ position - 1 → at_position (actions_of held) position ≡ None
-no_action held position some past =
-    at_index (actions_of held) position (omega (arith, some))
-    ∙ slice_get-map action_of held (position - 1)
-    ∙ ap (option_map action_of) (slice_get_past held (position - 1) past)
+no_action held position some past = grind (arith, at_index, slice_get-map, slice_get_past)
 
 -- ---- if a player has no strategy
 
@@ -182,26 +137,13 @@ pub no_strategy : (choices : List (Vec ℕ Global)) (player position : ℕ) → 
     → length choices ≤ player - 1
     → 0 ≡ unwrap_or (at_position (strategy_at (map (λ own. own.items) choices) player) position) 0
 no_strategy choices player position some past =
-    let none : at_position (map (λ own. own.items) choices) player ≡ None =
-    at_index (map (λ own. own.items) choices) player (omega (arith, some))
-    ∙ slice_get_past (map (λ own. own.items) choices) (player - 1)
-    (omega (arith, past, length-map choices (λ (own : Vec ℕ Global). own.items))) in
-    sym (ap (λ o. unwrap_or (at_position (unwrap_or o []) position) 0) none ∙ nowhere position)
-  where
-    nowhere : (position : ℕ) → unwrap_or (at_position {A = ℕ} [] position) 0 ≡ 0
-    nowhere zero = refl
-    nowhere (suc k) = refl
+    grind (arith, at_index, slice_get_past, append_assoc, length-map, length-append, eq-eqb)
 
 strategy_there : (choices : List (Vec ℕ Global)) (player : ℕ) (own : Vec ℕ Global)
     → ¬ (player ≡ 0) → player - 1 < length choices → own ≡ get_or choices (player - 1) own
     → strategy_at (map (λ own. own.items) choices) player ≡ own.items
 strategy_there choices player own some within is =
-    ap (λ o. unwrap_or o [])
-    (at_index (map (λ own. own.items) choices) player (omega (arith, some))
-    ∙ slice_get-map (λ (own : Vec ℕ Global). own.items) choices (player - 1)
-    ∙ ap (option_map (λ (own : Vec ℕ Global). own.items))
-    (slice_get-get_or choices (player - 1) own within)
-    ∙ ap (λ (own : Vec ℕ Global). Some own.items) (sym is))
+    grind (arith, at_index, slice_get-map, slice_get-get_or, is)
 
 pub action_there : (choices : List (Vec ℕ Global)) (player position : ℕ) (own : Vec ℕ Global)
     (items : List ℕ) (action : ℕ) → ¬ (player ≡ 0) → ¬ (position ≡ 0)
@@ -210,11 +152,7 @@ pub action_there : (choices : List (Vec ℕ Global)) (player position : ℕ) (ow
     → action
     ≡ unwrap_or (at_position (strategy_at (map (λ own. own.items) choices) player) position) 0
 action_there choices player position own items action some at within is are inside here =
-    sym (ap (λ (xs : List ℕ). unwrap_or (at_position xs position) 0)
-    (strategy_there choices player own some within is ∙ sym are)
-    ∙ ap (λ o. unwrap_or o 0) (at_index items position (omega (arith, at))
-    ∙ slice_get-get_or items (position - 1) action inside)
-    ∙ sym here)
+    grind (arith, strategy_there, are, at_index, slice_get-get_or, here)
 
 pub nothing_there : (choices : List (Vec ℕ Global)) (player position : ℕ) (own : Vec ℕ Global)
     (items : List ℕ) → ¬ (player ≡ 0) → ¬ (position ≡ 0)
@@ -222,10 +160,7 @@ pub nothing_there : (choices : List (Vec ℕ Global)) (player position : ℕ) (o
     → length items ≤ position - 1
     → 0 ≡ unwrap_or (at_position (strategy_at (map (λ own. own.items) choices) player) position) 0
 nothing_there choices player position own items some at within is are past =
-    sym (ap (λ (xs : List ℕ). unwrap_or (at_position xs position) 0)
-    (strategy_there choices player own some within is ∙ sym are)
-    ∙ ap (λ o. unwrap_or o 0) (at_index items position (omega (arith, at))
-    ∙ slice_get_past items (position - 1) past))
+    grind (arith, strategy_there, are, at_index, slice_get_past)
 
 -- ---- the child that is followed
 
@@ -246,13 +181,7 @@ not_followed all g o own behind e = rw e refl
 listed_smaller : (ts : Trees Node) (k : ℕ) (t : Tree Node) → slice_get (list_of ts) k ≡ Some t
     → length (flatten t) < suc (length (flatten_all ts))
 listed_smaller none k t h = absurd cc
-listed_smaller (more u ts) zero t h =
-    let same : u ≡ t = cc in
-    omega (
-      arith,
-      length-append (flatten u) (flatten_all ts),
-      ap (λ (t : Tree Node). length (flatten t)) same,
-    )
+listed_smaller (more u ts) zero t h = grind (arith, length-append (flatten u) (flatten_all ts))
 listed_smaller (more u ts) (suc k) t h =
     let less = listed_smaller ts k t h in
     omega (arith, less, length-append (flatten u) (flatten_all ts))
@@ -260,5 +189,4 @@ listed_smaller (more u ts) (suc k) t h =
 pub child_smaller : (t child : Tree Node) (position : ℕ)
     → at_position (child_trees t) position ≡ Some child
     → length (flatten child) < length (flatten t)
-child_smaller (branch n ts) child zero h = absurd cc
-child_smaller (branch n ts) child (suc k) h = listed_smaller ts k child h
+child_smaller (branch n ts) child position h = grind (arith, listed_smaller)

@@ -1,16 +1,13 @@
 -- The plays that follow choices of actions have probability one in all, so there are some.
-use Rattle.std.proofs.Common.{◌≡◌, ℕ, zero, suc, pos, ◌+◌, ◌<◌, ◌≤◌, Bool, true}
-use Rattle.std.proofs.Common.{false, List, [], ◌∷◌, Option, Some, None, MatchOption}
-use Rattle.std.proofs.Common.{length, map, refl, sym, ap, subst, arith, inl}
-use Rattle.std.specs.Prelude.{◌==◌, option_map, unwrap_or, unsigned_abs}
+use Rattle.std.proofs.Common.{◌≡◌, ℕ, zero, suc, pos, ◌+◌, ◌<◌, ◌≤◌, Bool, true, false, List, []}
+use Rattle.std.proofs.Common.{◌∷◌, Option, Some, None, MatchOption, length, map, refl, sym, ap}
+use Rattle.std.proofs.Common.{subst, arith, inl}
+use Rattle.std.specs.Prelude.{◌==◌, option_map, unsigned_abs}
 use Rattle.std.specs.List.{AllByRecursion, Contains}
-use Rattle.std.proofs.lemmas.Bool.{eqb-true, eqb-false}
-use Rattle.std.proofs.lemmas.Option.{none-some}
 use Rattle.gf_fraction.specs.Ratio.{Ratio}
 use Rattle.gf_fraction.specs.Rational.{IsEqual, zero_ratio, one_ratio, times, total}
 use Rattle.gf_fraction.proofs.AllElements.{all_parts}
-use Rattle.gf_fraction.proofs.Rationals.{equal_refl, plus_zero, plus_comm}
-use Rattle.gf_fraction.proofs.Rationals.{times_comm, times_one, IsAbove}
+use Rattle.gf_fraction.proofs.Rationals.{equal_refl, times_comm, times_one, IsAbove}
 use Rattle.gf_fraction.proofs.Chains.{◌then◌, back, plus_left, plus_right, times_left, times_right}
 use Rattle.gf_nfg.specs.Profiles.{numbers_from}
 use Rattle.gf_tree.specs.Tree.{Tree, Trees, count}
@@ -27,8 +24,8 @@ use Rattle.gf_form.specs.Payoff.{probability, play_probability}
 use Rattle.gf_form.proofs.lemmas.values.Denominators.{probability_above, play_probability_above}
 use Rattle.gf_form.proofs.lemmas.values.Lotteries.{actions_at, chances_add, no_chance}
 use Rattle.gf_form.proofs.lemmas.values.PlaySums.{sum_joined, weight, weight_above, weight_after}
-use Rattle.gf_form.proofs.lemmas.values.Followed.{followed, followed_in, in_children}
-use Rattle.gf_form.proofs.lemmas.values.Followed.{each_chosen, first_chosen, only_this, not_this}
+use Rattle.gf_form.proofs.lemmas.values.Followed.{followed, followed_in, in_children, first_chosen}
+use Rattle.gf_form.proofs.lemmas.values.Followed.{only_this, not_this}
 
 -- equal to one, and times it
 pub one_of : (x : Ratio) → x ≡ one_ratio → IsEqual x one_ratio
@@ -40,8 +37,7 @@ by_one x y hy h = times_left y hy h then times_comm one_ratio y (omega arith) hy
 -- the set with this number of actions
 pub known : (o : Option InformationSet) (m : ℕ) → option_map (λ set. length set.actions) o ≡ Some m
     → (set : InformationSet) × (o ≡ Some set) × (length set.actions ≡ m)
-known None m h = absurd (none-some m h)
-known (Some set) m h = (set, refl, ap (λ o. unwrap_or o 0) h)
+known o m h = grind arith
 
 module _ (g : Game) (game : IsGame g) (spellable : IsSpellable g) (choices : SetKey → ℕ) where
   abbrev w : List Play → Ratio
@@ -65,8 +61,7 @@ module _ (g : Game) (game : IsGame g) (spellable : IsSpellable g) (choices : Set
       (map (λ k. probability g (record { node = n; taken = k })) (numbers_from k (count ts))))
 
   pub leaf_whole : (n : Node) → IsWhole (followed_in choices (branch n none))
-  leaf_whole n = plus_comm one_ratio zero_ratio (omega arith) (omega arith)
-      then plus_zero one_ratio (omega arith)
+  leaf_whole n = grind arith
 
   pub first_whole : (n : Node) (k : ℕ) (t : Tree Node) (ts : Trees Node)
       → is_chosen choices (record { node = n; taken = k }) ≡ true → IsWhole (followed_in choices t)
@@ -105,8 +100,7 @@ module _ (g : Game) (game : IsGame g) (spellable : IsSpellable g) (choices : Set
       → IsChanceOf n 1 ts → IsWhole (followed choices n 1 ts)
   chance_whole n ts key at chance children h =
       let set = known (set_at g key) (count ts) children in
-      h then back (subst (λ m. IsEqual one_ratio (total (map (q n) (numbers_from 1 m)))) set.2
-      (chances_add g game spellable n key set.0 at (eqb-true _ _ chance) set.1))
+      h then back (grind (arith, chances_add))
 
   -- ---- if each set has a choice of one of its actions
 
@@ -125,13 +119,8 @@ module _ (g : Game) (game : IsGame g) (spellable : IsSpellable g) (choices : Set
       by_kind : (key : SetKey) (b : Bool) → n.set ≡ Some key → (key.player == 0) ≡ b
           → option_map (λ set. length set.actions) (set_at g key) ≡ Some (count ts)
           → IsWhole (followed choices n 1 ts)
-      by_kind key true at is c =
-          chance_whole n ts key at is c (chances (each_chosen choices n key at is))
-      by_kind key false at is c =
-          let set = known (set_at g key) (count ts) c in
-          let personal = eqb-false key.player 0 is in
-          let a = actions key set.0 set.1 (omega (arith, personal)) in
-          child key at is a.0 (omega (arith, a.1, set.2))
+      by_kind key true at is c = grind (arith, chance_whole)
+      by_kind key false at is c = grind arith
 
       by_set : (o : Option SetKey) → n.set ≡ o
           → MatchOption o (count ts ≡ 0)
@@ -198,6 +187,4 @@ module _ (g : Game) (game : IsGame g) (spellable : IsSpellable g) (choices : Set
 
   pub some_play : HasActions g choices
       → (play : Play) × Contains (plays g.tree) play × (follows choices play ≡ true)
-  some_play actions =
-      let one = some_play_in actions g.tree game.children in
-      (one.0, contains (plays g.tree) one.0 one.1, one.2)
+  some_play actions = grind (arith, some_play_in, contains)

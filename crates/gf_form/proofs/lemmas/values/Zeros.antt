@@ -1,7 +1,7 @@
 -- Zero added to a fraction, and its multiples.
 use Rattle.std.proofs.Common.{◌≡◌, ℕ, pos, ◌*◌, ◌/◌, sym, ap, subst, ◌∙◌, arith, Some}
-use Rattle.std.specs.Prelude.{ℤ, ◌*ℤ◌, ◌+ℤ◌}
-use Rattle.std.proofs.Math.IntN.{*ℤ_comm, *ℤ-zero, +ℤ_comm, +ℤ_idl}
+use Rattle.std.specs.Prelude.{ℤ, ◌*ℤ◌}
+use Rattle.std.proofs.Math.IntN.{*ℤ_comm, *ℤ-zero}
 use Rattle.std.proofs.Math.Nat.{div_self}
 use Rattle.gf_fraction.specs.Ratio.{Ratio, IsFraction, IsWithin}
 use Rattle.gf_fraction.specs.Rational.{zero_ratio}
@@ -16,13 +16,9 @@ use Rattle.gf_form.proofs.lemmas.values.ValuesComputed.{zero_fraction}
 zero_by : (z : ℤ) → pos 0 *ℤ z ≡ pos 0
 zero_by z = *ℤ_comm (pos 0) z ∙ *ℤ-zero z
 
-right_zero : (z : ℤ) → z +ℤ pos 0 ≡ z
-right_zero z = +ℤ_comm z (pos 0) ∙ +ℤ_idl z
-
 -- a numerator over its own denominator
 own_scale : (x : Ratio) → IsFraction x → scaled_num x x.den ≡ x.num
-own_scale x f =
-    ap (λ k. x.num *ℤ pos k) (div_self f.den_above_zero) ∙ *ℤ-one x.num
+own_scale x f = cc (div_self f.den_above_zero, *ℤ-one x.num)
 
 zero_scale : (m : ℕ) → scaled_num zero_ratio m ≡ pos 0
 zero_scale m = zero_by (pos (m / 1))
@@ -50,8 +46,7 @@ module _ (x : Ratio) (f : IsFraction x) where
     den_within = f.den_within;
     left_within = subst IsWithin (sym (own_scale x f)) f.num_within;
     right_within = subst IsWithin (sym (zero_scale x.den)) zero_within;
-    sum_within = subst IsWithin
-        (sym ((λ i. own_scale x f i +ℤ zero_scale x.den i) ∙ right_zero x.num)) f.num_within;
+    sum_within = grind arith;
   }
 
   fits_left : SumFits zero_ratio x
@@ -61,23 +56,14 @@ module _ (x : Ratio) (f : IsFraction x) where
     den_within = f.den_within;
     left_within = subst IsWithin (sym (zero_scale x.den)) zero_within;
     right_within = subst IsWithin (sym (own_scale x f)) f.num_within;
-    sum_within = subst IsWithin
-        (sym ((λ i. zero_scale x.den i +ℤ own_scale x f i) ∙ +ℤ_idl x.num)) f.num_within;
+    sum_within = grind arith;
   }
 
   sum_right : IsSum x x zero_ratio
-  sum_right =
-      let num : x.num *ℤ pos 1 +ℤ pos 0 *ℤ pos x.den ≡ x.num =
-      (λ i. *ℤ-one x.num i +ℤ zero_by (pos x.den) i) ∙ right_zero x.num in
-      let den : x.den * 1 ≡ x.den = omega arith in
-      (λ i. x.num *ℤ pos (den i)) ∙ (λ i. sym num i *ℤ pos x.den)
+  sum_right = grind arith
 
   sum_left : IsSum x zero_ratio x
-  sum_left =
-      let num : pos 0 *ℤ pos x.den +ℤ x.num *ℤ pos 1 ≡ x.num =
-      (λ i. zero_by (pos x.den) i +ℤ *ℤ-one x.num i) ∙ +ℤ_idl x.num in
-      let den : 1 * x.den ≡ x.den = omega arith in
-      (λ i. x.num *ℤ pos (den i)) ∙ (λ i. sym num i *ℤ pos x.den)
+  sum_left = grind arith
 
   pub plus_zero : sum_of x zero_ratio ≡ Some x
   plus_zero = sum_of-some x zero_ratio f zero_fraction x fits_right f sum_right
@@ -88,9 +74,7 @@ module _ (x : Ratio) (f : IsFraction x) where
   -- no numerator, no product
   pub none_times : x.num ≡ pos 0 → (y : Ratio) → IsFraction y → product_of x y ≡ Some zero_ratio
   none_times none y g =
-      let num : x.num *ℤ y.num ≡ pos 0 = ap (λ z. z *ℤ y.num) none ∙ zero_by y.num in
-      product_of-some x y f g zero_ratio zero_fraction
-      (zero_by (pos (x.den * y.den)) ∙ sym (ap (λ z. z *ℤ pos 1) num))
+      grind (arith, zero_by y.num, product_of-some x y f g zero_ratio zero_fraction (grind arith))
 
   pub times_zero : product_of x zero_ratio ≡ Some zero_ratio
   times_zero =
